@@ -1,0 +1,2 @@
+pub mod EnvironmentLemmas
+pub mod BodyLemmas
