@@ -1,6 +1,9 @@
+pub mod Causes
 pub mod Values
 pub mod Runs
 pub mod Environments
 pub mod Outcomes
 pub mod Unknowns
 pub mod Limits
+pub mod Answers
+pub mod Replies

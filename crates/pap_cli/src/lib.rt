@@ -1,6 +1,7 @@
 //! The program's commands, over the outside that the caller hands in.
 #![tactic(auto)]
 
+mod answer;
 mod environment;
 mod evaluation;
 mod failure;
