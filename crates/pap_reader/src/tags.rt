@@ -1,0 +1,94 @@
+// The tags of a text.
+ghost use Rattle.std.specs.Prelude.{◌≡◌, ◌==◌, ◌<◌, ◌-◌, ℕ, List, [], ◌∷◌, ◌++◌, length, Option, Some, None, MatchOption, IfSome, MatchResult, IsTrue};
+ghost use Rattle.std.specs.List.{list_all, position_or_len};
+ghost use Rattle.pap_tree.specs.Names.{is_name};
+ghost use Rattle.pap_tree.specs.White.{is_white};
+ghost use Rattle.pap_reader.specs.SmallPlans.{output_tag, eval_tag, is_plain, is_plain_byte};
+ghost use Rattle.pap_reader.specs.Decisions.{before_tag, without_white_end, tags_in};
+
+use crate::fault::ReadFault;
+use crate::limits::LONGEST_EXPRESSION;
+use pap_tree::{Name, is_white};
+
+/// Whether nothing but white space stands before the first tag.
+pub(crate) fn starts_white(bytes: &[u8]) -> bool
+    ensures { result ≡ list_all is_white (before_tag bytes.now) }
+{
+    bytes[..bytes_before_tag(bytes)]
+        .iter()
+        .all(|b| is_white(*b))
+}
+
+/// The first tag of a text, without the white space after it, and what stands after the tag from the next one on.
+pub(crate) fn next_tag(bytes: &[u8]) -> Option<(&[u8], &[u8])>
+    ensures found { MatchOption result (tags_in bytes.now ≡ []) (λ r. tags_in bytes.now ≡ r.0.now ∷ tags_in r.1.now) }
+    ensures shorter { IfSome result (λ r. length r.1.now < length bytes.now) }
+{
+    let from_tag = &bytes[bytes_before_tag(bytes)..];
+    let (_, inner) = from_tag.split_first()?;
+    let inside = bytes_before_tag(inner);
+    Some((without_white_end(&from_tag[..inside + 1]), &inner[inside..]))
+}
+
+/// What stands after a tag that has to come first.
+pub(crate) fn expect_tag<'a>(bytes: &'a [u8], tag: &[u8]) -> Result<&'a [u8], ReadFault>
+    ensures { MatchResult result (λ rest. tags_in bytes.now ≡ tag.now ∷ tags_in rest.now) (λ fault. (fault ≡ ReadFault.Unbuilt) × ((tags : List (List ℕ)) → ¬ (tags_in bytes.now ≡ tag.now ∷ tags))) }
+{
+    match next_tag(bytes) {
+        Some((found, rest)) if found == tag => Ok(rest),
+        _ => Err(ReadFault::Unbuilt),
+    }
+}
+
+/// The name that an OUTPUT tag declares.
+pub(crate) fn output_name(tag: &[u8]) -> Option<Name>
+    ensures { MatchOption result ((name : List ℕ) → IsTrue (is_name name) → ¬ (tag.now ≡ output_tag name)) (λ name. tag.now ≡ output_tag name) }
+{
+    let text = between(tag, b"<OUTPUT name=\"", b"\" type=\"int\"/>")?;
+    Name::read(text)
+}
+
+/// The text of an EVAL tag's attribute `exec`.
+pub(crate) fn eval_text(tag: &[u8]) -> Option<&[u8]>
+    ensures { MatchOption result ((exec : List ℕ) → IsTrue (is_plain exec) → ¬ (tag.now ≡ eval_tag exec)) (λ exec. (tag.now ≡ eval_tag exec.now) × IsTrue (is_plain exec.now)) }
+{
+    let text = between(tag, b"<EVAL exec=\"", b"\"/>")?;
+    if is_plain(text) { Some(text) } else { None }
+}
+
+fn between<'a>(text: &'a [u8], front: &[u8], back: &[u8]) -> Option<&'a [u8]>
+    ensures { MatchOption result ((middle : List ℕ) → ¬ (text.now ≡ front.now ++ (middle ++ back.now))) (λ middle. text.now ≡ front.now ++ (middle.now ++ back.now)) }
+{
+    text.strip_prefix(front)?.strip_suffix(back)
+}
+
+fn is_plain(text: &[u8]) -> bool
+    ensures { result ≡ is_plain text.now }
+{
+    text.len() <= LONGEST_EXPRESSION && text.iter().all(|b| is_plain_byte(*b))
+}
+
+fn is_plain_byte(byte: u8) -> bool
+    ensures { result ≡ is_plain_byte byte }
+{
+    byte.is_ascii() && byte != b'"' && byte != b'<' && byte != b'&'
+}
+
+fn bytes_before_tag(bytes: &[u8]) -> usize
+    ensures { result ≡ position_or_len (λ b. b == 60) bytes.now }
+{
+    bytes.iter().take_while(|b| **b != b'<').count()
+}
+
+fn without_white_end(bytes: &[u8]) -> &[u8]
+    ensures { result.now ≡ without_white_end bytes.now }
+{
+    let mut kept = bytes;
+    while let [front @ .., last] = kept {
+        if !is_white(*last) {
+            break;
+        }
+        kept = front;
+    }
+    kept
+}
