@@ -1,2 +1,3 @@
 pub mod TagLemmas
 pub mod PlanLemmas
+pub mod TextLemmas

@@ -37,12 +37,12 @@ pub record IsMaking (test : List ℕ → Bool) (text make : List ℕ → List �
 making : (text make : List ℕ → List ℕ) (good : List ℕ → Bool) → ((x : List ℕ) → text (make x) ≡ x) → IsMaking (λ tag. bytes_eq tag (make (text tag)) && good (text tag)) text make good
 making text make good back = record {
   made = λ x e.
-    subst (λ y. (bytes_eq (make x) (make y) && good y) ≡ true) (sym (back x))
+      subst (λ y. (bytes_eq (make x) (make y) && good y) ≡ true) (sym (back x))
       (and_from (bytes_eq (make x) (make x)) (good x) ((bytes_eq-Decides (make x) (make x)).1 refl) e);
   back = back;
   sound = λ tag e.
-    let h = and_parts (bytes_eq tag (make (text tag))) (good (text tag)) e in
-    ((bytes_eq-Decides tag (make (text tag))).0 h.0, h.1);
+      let h = and_parts (bytes_eq tag (make (text tag))) (good (text tag)) e in
+      ((bytes_eq-Decides tag (make (text tag))).0 h.0, h.1);
 }
 
 pub outputs_made : IsMaking is_output name_in output_tag is_name
@@ -86,17 +86,17 @@ led_by {test} {text} {make} {good} m tag tags true e h =
     let s = m.sound tag e in
     record {
       whole =
-        ap (λ ys. tag ∷ ys) h.whole
-        ∙ (ap (λ y. y ∷ (map make (leading test text tags) ++ after_leading test tags)) s.0
-        ∙ (ap (λ ys. map make ys ++ after_leading test tags) (sym (leading-yes test text tag tags e))
-        ∙ ap (λ ys. map make (leading test text (tag ∷ tags)) ++ ys) (sym (after_leading-yes test tag tags e))));
+          ap (λ ys. tag ∷ ys) h.whole
+          ∙ (ap (λ y. y ∷ (map make (leading test text tags) ++ after_leading test tags)) s.0
+          ∙ (ap (λ ys. map make ys ++ after_leading test tags) (sym (leading-yes test text tag tags e))
+          ∙ ap (λ ys. map make (leading test text (tag ∷ tags)) ++ ys) (sym (after_leading-yes test tag tags e))));
       all_good = ap (list_all good) (leading-yes test text tag tags e) ∙ and_from (good (text tag)) (list_all good (leading test text tags)) s.1 h.all_good;
     }
 led_by {test} {text} {make} {good} m tag tags false e h =
     record {
       whole =
-        ap (λ ys. map make ys ++ (tag ∷ tags)) (sym (leading-no test text tag tags e))
-        ∙ ap (λ ys. map make (leading test text (tag ∷ tags)) ++ ys) (sym (after_leading-no test tag tags e));
+          ap (λ ys. map make ys ++ (tag ∷ tags)) (sym (leading-no test text tag tags e))
+          ∙ ap (λ ys. map make (leading test text (tag ∷ tags)) ++ ys) (sym (after_leading-no test tag tags e));
       all_good = ap (list_all good) (leading-no test text tag tags e);
     }
 
@@ -132,12 +132,12 @@ tag_between front text back f t b w e = record {
   inner = front ++ (text ++ back);
   opens = refl;
   inside =
-    list_all-append is_inside front (text ++ back)
-    ∙ and_from (list_all is_inside front) (list_all is_inside (text ++ back)) f
+      list_all-append is_inside front (text ++ back)
+      ∙ and_from (list_all is_inside front) (list_all is_inside (text ++ back)) f
       (list_all-append is_inside text back ∙ and_from (list_all is_inside text) (list_all is_inside back) t b);
   ends =
-    let joined : 60 ∷ (front ++ (text ++ back)) ≡ (60 ∷ (front ++ text)) ++ back = sym (append_assoc (60 ∷ front) text back) in
-    ap without_white_end joined ∙ (without_white_end-append (60 ∷ (front ++ text)) back w ∙ (ap (λ zs. (60 ∷ (front ++ text)) ++ zs) e ∙ sym joined));
+      let joined : 60 ∷ (front ++ (text ++ back)) ≡ (60 ∷ (front ++ text)) ++ back = sym (append_assoc (60 ∷ front) text back) in
+      ap without_white_end joined ∙ (without_white_end-append (60 ∷ (front ++ text)) back w ∙ (ap (λ zs. (60 ∷ (front ++ text)) ++ zs) e ∙ sym joined));
 }
 
 output_is_tag : (name : List ℕ) → is_name name ≡ true → IsTag (output_tag name)
@@ -178,9 +178,9 @@ closing_are_tags = (fixed (codes "/MAIN>") refl refl, (fixed (codes "/METHODS>")
 plan_are_tags : (p : RawPlan) → list_all is_name p.outputs ≡ true → list_all is_plain p.execs ≡ true → AreTags (tags_of p)
 plan_are_tags p n e =
     are_tags-append opening (map output_tag p.outputs ++ (middle ++ (map eval_tag p.execs ++ closing))) opening_are_tags
-      (are_tags-append (map output_tag p.outputs) (middle ++ (map eval_tag p.execs ++ closing)) (outputs_are_tags p.outputs n)
-        (are_tags-append middle (map eval_tag p.execs ++ closing) middle_are_tags
-          (are_tags-append (map eval_tag p.execs) closing (evals_are_tags p.execs e) closing_are_tags)))
+    (are_tags-append (map output_tag p.outputs) (middle ++ (map eval_tag p.execs ++ closing)) (outputs_are_tags p.outputs n)
+    (are_tags-append middle (map eval_tag p.execs ++ closing) middle_are_tags
+    (are_tags-append (map eval_tag p.execs) closing (evals_are_tags p.execs e) closing_are_tags)))
 
 -- ---- the plan that tags are those of
 
@@ -271,9 +271,9 @@ pub pairs_distinct : (names : List (List ℕ)) → AllPairs ◌≢◌ names → 
 pairs_distinct [] h = refl
 pairs_distinct (x ∷ xs) h =
     and_from (not (list_any (λ other. bytes_eq other x) xs)) (are_distinct xs)
-      (not_from_false (list_any (λ other. bytes_eq other x) xs)
-        (any_none (λ other. bytes_eq other x) xs (λ k l. false_from_differ x (get_or xs k []) (h 0 (suc k) [] (omega arith) (omega arith)))))
-      (pairs_distinct xs (λ i j d l k. h (suc i) (suc j) d (omega arith) (omega arith)))
+    (not_from_false (list_any (λ other. bytes_eq other x) xs)
+    (any_none (λ other. bytes_eq other x) xs (λ k l. false_from_differ x (get_or xs k []) (h 0 (suc k) [] (omega arith) (omega arith)))))
+    (pairs_distinct xs (λ i j d l k. h (suc i) (suc j) d (omega arith) (omega arith)))
 
 -- ---- small plans
 
@@ -324,9 +324,9 @@ tests_from_small bytes p h =
       short = h.short;
       read = record { same = f.same; named = h.named; plain = h.plain };
       within =
-        and_from (nat_lt 0 (length p.outputs)) (nat_le (length p.outputs) MOST_OUTPUTS && (nat_le (length p.execs) MOST_STATEMENTS && are_distinct p.outputs)) (lt-ltb 0 (length p.outputs) h.some)
+          and_from (nat_lt 0 (length p.outputs)) (nat_le (length p.outputs) MOST_OUTPUTS && (nat_le (length p.execs) MOST_STATEMENTS && are_distinct p.outputs)) (lt-ltb 0 (length p.outputs) h.some)
           (and_from (nat_le (length p.outputs) MOST_OUTPUTS) (nat_le (length p.execs) MOST_STATEMENTS && are_distinct p.outputs) (le-leb (length p.outputs) MOST_OUTPUTS h.few_outputs)
-            (and_from (nat_le (length p.execs) MOST_STATEMENTS) (are_distinct p.outputs) (le-leb (length p.execs) MOST_STATEMENTS h.few_statements) (pairs_distinct p.outputs h.distinct)));
+          (and_from (nat_le (length p.execs) MOST_STATEMENTS) (are_distinct p.outputs) (le-leb (length p.execs) MOST_STATEMENTS h.few_statements) (pairs_distinct p.outputs h.distinct)));
     }
 
 pub small_plan_one : (bytes : List ℕ) (p q : RawPlan) → IsSmallPlan bytes p → IsSmallPlan bytes q → p ≡ q
@@ -359,7 +359,7 @@ read_from_test tags p e =
 test_from_read : (tags : List (List ℕ)) (p : RawPlan) → IsReadAs tags p → is_read_as tags p ≡ true
 test_from_read tags p r =
     and_from (pointwise bytes_eq tags (tags_of p)) (list_all is_name p.outputs && list_all is_plain p.execs) ((same_tags tags (tags_of p)).1 r.same)
-      (and_from (list_all is_name p.outputs) (list_all is_plain p.execs) (list_all-from_AllPass is_name p.outputs r.named) (list_all-from_AllPass is_plain p.execs r.plain))
+    (and_from (list_all is_name p.outputs) (list_all is_plain p.execs) (list_all-from_AllPass is_name p.outputs r.named) (list_all-from_AllPass is_plain p.execs r.plain))
 
 small_from_test : (bytes : List ℕ) (p : RawPlan) → is_small bytes p ≡ true → IsSmallPlan bytes p
 small_from_test bytes p e =
@@ -377,15 +377,15 @@ test_from_small : (bytes : List ℕ) (p : RawPlan) → IsSmallPlan bytes p → i
 test_from_small bytes p h =
     let t = tests_from_small bytes p h in
     and_from (list_all is_white (before_tag bytes)) (nat_le (length bytes) LONGEST_PLAN && (is_read_as (tags_in bytes) p && is_within_limits p)) t.first
-      (and_from (nat_le (length bytes) LONGEST_PLAN) (is_read_as (tags_in bytes) p && is_within_limits p) (le-leb (length bytes) LONGEST_PLAN t.short)
-        (and_from (is_read_as (tags_in bytes) p) (is_within_limits p) (test_from_read (tags_in bytes) p t.read) t.within))
+    (and_from (nat_le (length bytes) LONGEST_PLAN) (is_read_as (tags_in bytes) p && is_within_limits p) (le-leb (length bytes) LONGEST_PLAN t.short)
+    (and_from (is_read_as (tags_in bytes) p) (is_within_limits p) (test_from_read (tags_in bytes) p t.read) t.within))
 
 decided_by : (bytes : List ℕ) (t : Bool) → is_small bytes (plan_in (tags_in bytes)) ≡ t → ((p : RawPlan) × IsSmallPlan bytes p) ⊎ ((p : RawPlan) → ¬ (IsSmallPlan bytes p))
 decided_by bytes true e = inl (plan_in (tags_in bytes), small_from_test bytes (plan_in (tags_in bytes)) e)
 decided_by bytes false e =
     inr (λ p h.
-      let here : is_small bytes (plan_in (tags_in bytes)) ≡ true = ap (is_small bytes) (plan_in-read (tags_in bytes) p (tests_from_small bytes p h).read) ∙ test_from_small bytes p h in
-      absurd (false≢true (sym e ∙ here)))
+    let here : is_small bytes (plan_in (tags_in bytes)) ≡ true = ap (is_small bytes) (plan_in-read (tags_in bytes) p (tests_from_small bytes p h).read) ∙ test_from_small bytes p h in
+    absurd (false≢true (sym e ∙ here)))
 
 pub small_plan_decided : (bytes : List ℕ) → ((p : RawPlan) × IsSmallPlan bytes p) ⊎ ((p : RawPlan) → ¬ (IsSmallPlan bytes p))
 small_plan_decided bytes = decided_by bytes (is_small bytes (plan_in (tags_in bytes))) refl

@@ -1,9 +1,10 @@
 -- The tags that stand in a text are the tags that are found in it.
-use Rattle.std.proofs.Common.{◌≡◌, ℕ, zero, suc, ◌+◌, ◌<◌, ◌≤◌, Bool, true, false, cond, not, ◌&&◌, eqb, List, [], ◌∷◌, ◌++◌, length, take, drop, IsTrue, refl, sym, ap, ◌∙◌, subst, append_assoc, append-nil, arith}
+use Rattle.std.proofs.Common.{◌≡◌, ℕ, zero, suc, ◌+◌, ◌-◌, ◌<◌, ◌≤◌, Bool, true, false, cond, not, ◌&&◌, eqb, List, [], ◌∷◌, ◌++◌, length, take, drop, IsTrue, refl, sym, ap, ◌∙◌, subst, append_assoc, append-nil, add-one, arith}
 use Rattle.std.specs.Prelude.{◌==◌}
 use Rattle.std.specs.List.{list_all, before_first, position_or_len, take_while}
 use Rattle.std.proofs.lemmas.Bool.{and_parts, and_from, and_cases, false≢true, eqb-true}
 use Rattle.std.proofs.lemmas.Bool.Decides.{nat_tests}
+use Rattle.std.proofs.lemmas.List.{nil_from_length, take_rest}
 use Rattle.std.proofs.lemmas.List.Folds.{list_all-append}
 use Rattle.std.proofs.lemmas.List.Sums.{take_while-cons}
 use Rattle.pap_tree.specs.White.{is_white}
@@ -142,12 +143,13 @@ found (tag ∷ tags) bytes t s = found_more bytes s.0 tag s.1 tags s.2 s.3 t.0 (
 
 stand_white : (tags : List (List ℕ)) (white bytes : List ℕ) → IsWhite white → Stand tags bytes → Stand tags (white ++ bytes)
 stand_white [] white bytes w s = list_all-append is_white white bytes ∙ and_from (list_all is_white white) (list_all is_white bytes) w s
-stand_white (tag ∷ tags) white bytes w s =
-    (white ++ s.0,
-     s.1,
-     ap (λ zs. white ++ zs) s.2 ∙ sym (append_assoc white s.0 (tag ++ s.1)),
-     list_all-append is_white white s.0 ∙ and_from (list_all is_white white) (list_all is_white s.0) w s.3,
-     s.4)
+stand_white (tag ∷ tags) white bytes w s = (
+  white ++ s.0,
+  s.1,
+  ap (λ zs. white ++ zs) s.2 ∙ sym (append_assoc white s.0 (tag ++ s.1)),
+  list_all-append is_white white s.0 ∙ and_from (list_all is_white white) (list_all is_white s.0) w s.3,
+  s.4,
+)
 
 pub record IsCut (bytes : List ℕ) : Type 0 where
   pub rest : List ℕ
@@ -157,12 +159,13 @@ pub record IsCut (bytes : List ℕ) : Type 0 where
 cut_tag : (b : ℕ) (bytes : List ℕ) → b ≡ 60 → IsCut bytes → IsCut (b ∷ bytes)
 cut_tag b bytes e h =
     let t = trimmed (60 ∷ before_tag bytes) in
-    let stands : Stand (tags_in (60 ∷ bytes)) (60 ∷ bytes) =
-      ([],
-       t.white ++ h.rest,
-       ap (λ zs. 60 ∷ zs) h.whole ∙ (ap (λ zs. zs ++ h.rest) t.whole ∙ append_assoc (without_white_end (60 ∷ before_tag bytes)) t.white h.rest),
-       refl,
-       stand_white (tags_in bytes) t.white h.rest t.is_white h.stand) in
+    let stands : Stand (tags_in (60 ∷ bytes)) (60 ∷ bytes) = (
+      [],
+      t.white ++ h.rest,
+      ap (λ zs. 60 ∷ zs) h.whole ∙ (ap (λ zs. zs ++ h.rest) t.whole ∙ append_assoc (without_white_end (60 ∷ before_tag bytes)) t.white h.rest),
+      refl,
+      stand_white (tags_in bytes) t.white h.rest t.is_white h.stand,
+    ) in
     let made : IsCut (60 ∷ bytes) = record { rest = 60 ∷ bytes; whole = refl; stand = stands } in
     subst (λ x. IsCut (x ∷ bytes)) (sym e) made
 
@@ -186,3 +189,69 @@ pub stands : (bytes : List ℕ) → IsWhite (before_tag bytes) → Stand (tags_i
 stands bytes e =
     let h = cut bytes in
     subst (Stand (tags_in bytes)) (sym h.whole) (stand_white (tags_in bytes) (before_tag bytes) h.rest e h.stand)
+
+-- ---- from one tag to the next
+
+-- how many bytes stand before the first `<`
+abbrev pub place : List ℕ → ℕ
+place bytes = position_or_len (λ b. b == 60) bytes
+
+place-inside : (b : ℕ) (bytes : List ℕ) → is_inside b ≡ true → place (b ∷ bytes) ≡ suc (place bytes)
+place-inside b bytes e = let one : place (b ∷ bytes) ≡ 1 + place bytes = ap (λ t. cond t (1 + place bytes) 0) e in omega arith
+
+place-tag : (b : ℕ) (bytes : List ℕ) → is_inside b ≡ false → place (b ∷ bytes) ≡ 0
+place-tag b bytes e = ap (λ t. cond t (1 + place bytes) 0) e
+
+-- what stands from the first `<` on has the same tags, and begins with a `<`
+pub record IsReached (bytes rest : List ℕ) : Type 0 where
+  pub same : tags_in rest ≡ tags_in bytes
+  pub opens : (c : ℕ) (inner : List ℕ) → rest ≡ c ∷ inner → c ≡ 60
+
+reached_by : (b : ℕ) (bytes : List ℕ) (t : Bool) → (b == 60) ≡ t → IsReached bytes (drop (place bytes) bytes) → IsReached (b ∷ bytes) (drop (place (b ∷ bytes)) (b ∷ bytes))
+reached_by b bytes true e h =
+    let stays : IsReached (b ∷ bytes) (drop 0 (b ∷ bytes)) = record {
+      same = refl;
+      opens = λ c inner s. let head : b ≡ c = cc in sym head ∙ eqb-true b 60 e;
+    } in
+    subst (λ n. IsReached (b ∷ bytes) (drop n (b ∷ bytes))) (sym (place-tag b bytes (ap not e))) stays
+reached_by b bytes false e h =
+    let more : IsReached (b ∷ bytes) (drop (suc (place bytes)) (b ∷ bytes)) = record {
+      same = h.same ∙ sym (tags_in-cons b bytes (ap not e));
+      opens = h.opens;
+    } in
+    subst (λ n. IsReached (b ∷ bytes) (drop n (b ∷ bytes))) (sym (place-inside b bytes (ap not e))) more
+
+pub reached : (bytes : List ℕ) → IsReached bytes (drop (place bytes) bytes)
+reached [] = record { same = refl; opens = λ c inner s. absurd cc }
+reached (b ∷ bytes) = reached_by b bytes (b == 60) refl (reached bytes)
+
+pub next_none : (bytes : List ℕ) (n : ℕ) → n ≡ place bytes → drop n bytes ≡ [] → tags_in bytes ≡ []
+next_none bytes n e none = sym (reached bytes).same ∙ (ap (λ k. tags_in (drop k bytes)) (sym e) ∙ ap tags_in none)
+
+pub next_found : (bytes inner : List ℕ) (first n m : ℕ) → n ≡ place bytes → drop n bytes ≡ first ∷ inner → m ≡ place inner → tags_in bytes ≡ without_white_end (take (m + 1) (drop n bytes)) ∷ tags_in (drop m inner)
+next_found bytes inner first n m e f g =
+    let at_first : drop (place bytes) bytes ≡ first ∷ inner = ap (λ k. drop k bytes) (sym e) ∙ f in
+    let opens : first ≡ 60 = (reached bytes).opens first inner at_first in
+    let whole : tags_in bytes ≡ tags_in (60 ∷ inner) = sym (reached bytes).same ∙ (ap tags_in at_first ∙ ap (λ b. tags_in (b ∷ inner)) opens) in
+    let cut : take (m + 1) (drop n bytes) ≡ 60 ∷ before_tag inner =
+      ap (take (m + 1)) f ∙ (ap (λ k. take k (first ∷ inner)) (add-one m) ∙ (ap (λ b. b ∷ take m inner) opens ∙ ap (λ k. 60 ∷ take k inner) g)) in
+    let rest : tags_in (drop m inner) ≡ tags_in inner = ap (λ k. tags_in (drop k inner)) g ∙ (reached inner).same in
+    whole ∙ (ap (λ tag. without_white_end tag ∷ tags_in inner) (sym cut) ∙ ap (λ tags. without_white_end (take (m + 1) (drop n bytes)) ∷ tags) (sym rest))
+
+pub end_kept : (front : List ℕ) (last : ℕ) → is_white last ≡ false → without_white_end (front ++ last ∷ []) ≡ front ++ last ∷ []
+end_kept front last e =
+    let no : list_all is_white (last ∷ []) ≡ false = ap (λ t. t && true) e in
+    without_white_end-append front (last ∷ []) no ∙ ap (λ t. front ++ cond (t && true) [] (last ∷ [])) e
+
+pub end_dropped : (front : List ℕ) (last : ℕ) → is_white last ≡ true → without_white_end (front ++ last ∷ []) ≡ without_white_end front
+end_dropped front last e = without_white_end-white front (last ∷ []) (ap (λ t. t && true) e)
+
+-- the two lemmas, at the slices of the code
+pub slices_none : (bytes : List ℕ) (n : ℕ) → n ≡ place bytes → length (take (length bytes - n) (drop n bytes)) ≡ 0 → tags_in bytes ≡ []
+slices_none bytes n e none = next_none bytes n e (sym (take_rest bytes n) ∙ nil_from_length (take (length bytes - n) (drop n bytes)) none)
+
+pub slices_found : (bytes inner : List ℕ) (first n m : ℕ) (tag : List ℕ) → n ≡ place bytes → take (length bytes - n) (drop n bytes) ≡ first ∷ inner → m ≡ place inner → tag ≡ without_white_end (take (m + 1) (take (length bytes - n) (drop n bytes))) → tags_in bytes ≡ tag ∷ tags_in (take (length inner - m) (drop m inner))
+slices_found bytes inner first n m tag e f g t =
+    next_found bytes inner first n m e (sym (take_rest bytes n) ∙ f) g
+    ∙ (ap (λ xs. without_white_end (take (m + 1) xs) ∷ tags_in (drop m inner)) (sym (take_rest bytes n))
+    ∙ (ap (λ x. x ∷ tags_in (drop m inner)) (sym t) ∙ ap (λ xs. tag ∷ tags_in xs) (sym (take_rest inner m))))

@@ -1,9 +1,12 @@
 // The limits of a plan, and the test that a plan is within them.
 ghost use Rattle.std.specs.Prelude.{◌≡◌};
+ghost use Rattle.std.specs.List.{list_any};
+ghost use Rattle.std.specs.Str.{bytes_eq};
 ghost use Rattle.pap_reader.specs.Elements.{raw_plan_of, names_of};
 ghost use Rattle.pap_reader.specs.Decisions.{is_within_limits, are_distinct};
 
 use crate::elements::{Elements, RawDeclared};
+use pap_tree::Name;
 
 /// The most bytes of a plan's text.
 pub const LONGEST_PLAN: usize = 1_048_576;
@@ -31,11 +34,17 @@ fn are_distinct(outputs: &[RawDeclared]) -> bool
     ensures { result ≡ are_distinct (names_of outputs.now) }
 {
     let mut left = outputs;
-    while let [first, rest @ ..] = left {
-        if rest.iter().any(|other| other.name == first.name) {
+    while let Some((first, rest)) = left.split_first() {
+        if declares(rest, &first.name) {
             return false;
         }
         left = rest;
     }
     true
+}
+
+fn declares(outputs: &[RawDeclared], name: &Name) -> bool
+    ensures { result ≡ list_any (λ other. bytes_eq other name.now) (names_of outputs.now) }
+{
+    outputs.iter().any(|output| output.name == *name)
 }

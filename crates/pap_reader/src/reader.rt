@@ -10,7 +10,7 @@ ghost use Rattle.pap_reader.specs.Clauses.{IsReadAs};
 use crate::elements::{Elements, RawDeclared, RawStmt};
 use crate::fault::ReadFault;
 use crate::limits::{LONGEST_PLAN, is_within_limits};
-use crate::tags::{eval_text, expect_tag, next_tag, output_name, starts_white};
+use crate::tags::{expect_tag, next_eval, next_output, next_tag, starts_white};
 use std::alloc::{AllocError, Global};
 
 /// What is written in a plan's file. `Unbuilt` where the text is no small plan.
@@ -81,9 +81,7 @@ fn read_outputs(alloc: Global, bytes: &[u8]) -> Result<(Vec<RawDeclared>, &[u8])
 {
     let mut outputs = Vec::new(alloc);
     let mut rest = bytes;
-    while let Some((tag, after)) = next_tag(rest)
-        && let Some(name) = output_name(tag)
-    {
+    while let Some((name, after)) = next_output(rest) {
         outputs.push(RawDeclared { name })?;
         rest = after;
     }
@@ -95,9 +93,7 @@ fn read_statements(alloc: Global, bytes: &[u8]) -> Result<(Vec<RawStmt>, &[u8]),
 {
     let mut main = Vec::new(alloc);
     let mut rest = bytes;
-    while let Some((tag, after)) = next_tag(rest)
-        && let Some(exec) = eval_text(tag)
-    {
+    while let Some((exec, after)) = next_eval(rest) {
         let exec = exec.to_vec(alloc)?;
         main.push(RawStmt::Eval { exec })?;
         rest = after;

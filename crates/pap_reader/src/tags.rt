@@ -1,10 +1,10 @@
 // The tags of a text.
-ghost use Rattle.std.specs.Prelude.{◌≡◌, ◌==◌, ◌<◌, ◌-◌, ℕ, List, [], ◌∷◌, ◌++◌, length, Option, Some, None, MatchOption, IfSome, MatchResult, IsTrue};
+ghost use Rattle.std.specs.Prelude.{◌≡◌, ◌==◌, ◌<◌, ◌≤◌, ℕ, true, false, List, [], ◌∷◌, ◌++◌, length, MatchOption, IfSome, MatchResult};
 ghost use Rattle.std.specs.List.{list_all, position_or_len};
-ghost use Rattle.pap_tree.specs.Names.{is_name};
 ghost use Rattle.pap_tree.specs.White.{is_white};
-ghost use Rattle.pap_reader.specs.SmallPlans.{output_tag, eval_tag, is_plain, is_plain_byte};
-ghost use Rattle.pap_reader.specs.Decisions.{before_tag, without_white_end, tags_in};
+ghost use Rattle.pap_reader.specs.SmallPlans.{is_plain, is_plain_byte};
+ghost use Rattle.pap_reader.specs.Decisions.{before_tag, without_white_end, tags_in, name_in, is_output, exec_in, is_eval};
+ghost use Rattle.pap_reader.specs.Clauses.{ReadsNone, ReadsFirst};
 
 use crate::fault::ReadFault;
 use crate::limits::LONGEST_EXPRESSION;
@@ -40,17 +40,35 @@ pub(crate) fn expect_tag<'a>(bytes: &'a [u8], tag: &[u8]) -> Result<&'a [u8], Re
     }
 }
 
-/// The name that an OUTPUT tag declares.
-pub(crate) fn output_name(tag: &[u8]) -> Option<Name>
-    ensures { MatchOption result ((name : List ℕ) → IsTrue (is_name name) → ¬ (tag.now ≡ output_tag name)) (λ name. tag.now ≡ output_tag name) }
+/// The output that comes first, by its name, and what stands after its tag. `None` where another tag comes first, or none.
+pub(crate) fn next_output(bytes: &[u8]) -> Option<(Name, &[u8])>
+    ensures found { MatchOption result (ReadsNone is_output name_in (tags_in bytes.now)) (λ r. ReadsFirst is_output name_in (tags_in bytes.now) r.0 (tags_in r.1.now)) }
+    ensures shorter { IfSome result (λ r. length r.1.now < length bytes.now) }
+{
+    let (tag, rest) = next_tag(bytes)?;
+    let name = output_name(tag)?;
+    Some((name, rest))
+}
+
+/// The text of the EVAL that comes first, and what stands after its tag. `None` where another tag comes first, or none.
+pub(crate) fn next_eval(bytes: &[u8]) -> Option<(&[u8], &[u8])>
+    ensures found { MatchOption result (ReadsNone is_eval exec_in (tags_in bytes.now)) (λ r. ReadsFirst is_eval exec_in (tags_in bytes.now) r.0.now (tags_in r.1.now)) }
+    ensures shorter { IfSome result (λ r. length r.1.now < length bytes.now) }
+{
+    let (tag, rest) = next_tag(bytes)?;
+    let exec = eval_text(tag)?;
+    Some((exec, rest))
+}
+
+fn output_name(tag: &[u8]) -> Option<Name>
+    ensures { MatchOption result (is_output tag.now ≡ false) (λ name. (is_output tag.now ≡ true) × (name_in tag.now ≡ name)) }
 {
     let text = between(tag, b"<OUTPUT name=\"", b"\" type=\"int\"/>")?;
     Name::read(text)
 }
 
-/// The text of an EVAL tag's attribute `exec`.
-pub(crate) fn eval_text(tag: &[u8]) -> Option<&[u8]>
-    ensures { MatchOption result ((exec : List ℕ) → IsTrue (is_plain exec) → ¬ (tag.now ≡ eval_tag exec)) (λ exec. (tag.now ≡ eval_tag exec.now) × IsTrue (is_plain exec.now)) }
+fn eval_text(tag: &[u8]) -> Option<&[u8]>
+    ensures { MatchOption result (is_eval tag.now ≡ false) (λ exec. (is_eval tag.now ≡ true) × (exec_in tag.now ≡ exec.now)) }
 {
     let text = between(tag, b"<EVAL exec=\"", b"\"/>")?;
     if is_plain(text) { Some(text) } else { None }
@@ -65,7 +83,13 @@ fn between<'a>(text: &'a [u8], front: &[u8], back: &[u8]) -> Option<&'a [u8]>
 fn is_plain(text: &[u8]) -> bool
     ensures { result ≡ is_plain text.now }
 {
-    text.len() <= LONGEST_EXPRESSION && text.iter().all(|b| is_plain_byte(*b))
+    text.len() <= LONGEST_EXPRESSION && has_plain_bytes(text)
+}
+
+fn has_plain_bytes(text: &[u8]) -> bool
+    ensures { result ≡ list_all is_plain_byte text.now }
+{
+    text.iter().all(|b| is_plain_byte(*b))
 }
 
 fn is_plain_byte(byte: u8) -> bool
@@ -75,7 +99,8 @@ fn is_plain_byte(byte: u8) -> bool
 }
 
 fn bytes_before_tag(bytes: &[u8]) -> usize
-    ensures { result ≡ position_or_len (λ b. b == 60) bytes.now }
+    ensures place { result ≡ position_or_len (λ b. b == 60) bytes.now }
+    ensures within { result ≤ length bytes.now }
 {
     bytes.iter().take_while(|b| **b != b'<').count()
 }
@@ -84,7 +109,7 @@ fn without_white_end(bytes: &[u8]) -> &[u8]
     ensures { result.now ≡ without_white_end bytes.now }
 {
     let mut kept = bytes;
-    while let [front @ .., last] = kept {
+    while let Some((last, front)) = kept.split_last() {
         if !is_white(*last) {
             break;
         }
