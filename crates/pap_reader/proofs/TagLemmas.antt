@@ -234,7 +234,7 @@ next_found bytes inner first n m e f g =
     let opens : first ≡ 60 = (reached bytes).opens first inner at_first in
     let whole : tags_in bytes ≡ tags_in (60 ∷ inner) = sym (reached bytes).same ∙ (ap tags_in at_first ∙ ap (λ b. tags_in (b ∷ inner)) opens) in
     let cut : take (m + 1) (drop n bytes) ≡ 60 ∷ before_tag inner =
-      ap (take (m + 1)) f ∙ (ap (λ k. take k (first ∷ inner)) (add-one m) ∙ (ap (λ b. b ∷ take m inner) opens ∙ ap (λ k. 60 ∷ take k inner) g)) in
+    ap (take (m + 1)) f ∙ (ap (λ k. take k (first ∷ inner)) (add-one m) ∙ (ap (λ b. b ∷ take m inner) opens ∙ ap (λ k. 60 ∷ take k inner) g)) in
     let rest : tags_in (drop m inner) ≡ tags_in inner = ap (λ k. tags_in (drop k inner)) g ∙ (reached inner).same in
     whole ∙ (ap (λ tag. without_white_end tag ∷ tags_in inner) (sym cut) ∙ ap (λ tags. without_white_end (take (m + 1) (drop n bytes)) ∷ tags) (sym rest))
 

@@ -39,15 +39,14 @@ not_made : {test : List ℕ → Bool} {text make : List ℕ → List ℕ} {good 
 not_made {test} {text} {make} {good} m tag h =
     false_from_ne_true (test tag) (λ e. let s = m.sound tag e in h (text tag) s.1 s.0)
 
-
 made_of : {test : List ℕ → Bool} {text make : List ℕ → List ℕ} {good : List ℕ → Bool} → IsMaking test text make good → (tag x : List ℕ) → tag ≡ make x → good x ≡ true → (test tag ≡ true) × (text tag ≡ x)
 made_of {test} {text} {make} {good} m tag x e g = (ap test e ∙ m.made x g, ap text e ∙ m.back x)
 
 not_good : {test : List ℕ → Bool} {text make : List ℕ → List ℕ} {good : List ℕ → Bool} → IsMaking test text make good → (tag x : List ℕ) → tag ≡ make x → good x ≡ false → test tag ≡ false
 not_good {test} {text} {make} {good} m tag x e g =
     not_made m tag (λ y h s.
-      let same : y ≡ x = sym (m.back y) ∙ (ap text (sym s ∙ e) ∙ m.back x) in
-      absurd (false≢true (sym g ∙ (ap good (sym same) ∙ h))))
+    let same : y ≡ x = sym (m.back y) ∙ (ap text (sym s ∙ e) ∙ m.back x) in
+    absurd (false≢true (sym g ∙ (ap good (sym same) ∙ h))))
 
 pub not_eval : (tag : List ℕ) → NotBetween tag (codes "<EVAL exec=\"") (codes "\"/>") → is_eval tag ≡ false
 not_eval tag h = not_made evals_made tag (λ x g s. h x s)
@@ -63,4 +62,4 @@ not_output tag h = not_made outputs_made tag (λ x g s. h x s)
 
 pub output_read : (tag text : List ℕ) → tag ≡ output_tag text → (r : Option (List ℕ)) → (IsSome r ↔ IsTrue (is_name text)) → IfSome r (λ n. n ≡ text) → MatchOption r (is_output tag ≡ false) (λ n. (is_output tag ≡ true) × (name_in tag ≡ n))
 output_read tag text e None h k = not_good outputs_made tag text e (false_from_ne_true (is_name text) (λ g. false≢true (h.1 g)))
-output_read tag text e (Some n) h k = let m = made_of outputs_made tag text e (h.0 tt) in (m.0, m.1 ∙ sym k)
+output_read tag text e (Some n) h k = let m = made_of outputs_made tag text e (h.0 refl) in (m.0, m.1 ∙ sym k)

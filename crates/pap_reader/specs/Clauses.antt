@@ -1,5 +1,5 @@
 -- What the reader of tags promises.
-use Rattle.std.specs.Prelude.{ℕ, ◌≡◌, Bool, List, [], ◌∷◌}
+use Rattle.std.specs.Prelude.{ℕ, ◌≡◌, Bool, List, [], ◌∷◌, ◌++◌}
 use Rattle.std.specs.List.{AllPass}
 use Rattle.pap_tree.specs.Names.{is_name}
 use Rattle.pap_reader.specs.SmallPlans.{RawPlan, tags_of, is_plain}
@@ -10,6 +10,10 @@ pub record IsReadAs (tags : List (List ℕ)) (p : RawPlan) : Type 0 where
   pub same : tags ≡ tags_of p
   pub named : AllPass is_name p.outputs
   pub plain : AllPass is_plain p.execs
+
+-- the tags do not begin with these
+abbrev pub BeginOtherwise : List (List ℕ) → List (List ℕ) → Type 0
+BeginOtherwise tags front = (rest : List (List ℕ)) → ¬ (tags ≡ front ++ rest)
 
 -- none of the tags that pass the test comes first
 pub record ReadsNone (test : List ℕ → Bool) (text : List ℕ → List ℕ) (tags : List (List ℕ)) : Type 0 where

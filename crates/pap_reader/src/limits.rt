@@ -44,7 +44,7 @@ fn are_distinct(outputs: &[RawDeclared]) -> bool
 }
 
 fn declares(outputs: &[RawDeclared], name: &Name) -> bool
-    ensures { result ≡ list_any (λ other. bytes_eq other name.now) (names_of outputs.now) }
+    ensures { result ≡ list_any (λ output. bytes_eq output.name name.now) outputs.now }
 {
     outputs.iter().any(|output| output.name == *name)
 }

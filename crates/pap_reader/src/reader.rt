@@ -1,16 +1,16 @@
 // The reader of small plans.
-ghost use Rattle.std.specs.Prelude.{◌≡◌, ◌++◌, ℕ, List, [], ◌∷◌, ◌⊎◌, IfOk, IsErrOf, MatchResult};
+ghost use Rattle.std.specs.Prelude.{◌≡◌, ◌++◌, ℕ, List, [], ◌∷◌, ◌⊎◌, ◌↔◌, IsTrue, IfOk, IsErrOf, MatchOption};
 ghost use Rattle.std.specs.List.{AllPass};
 ghost use Rattle.pap_tree.specs.Names.{is_name};
 ghost use Rattle.pap_reader.specs.SmallPlans.{RawPlan, IsSmallPlan, opening, middle, closing, tags_of, is_plain};
 ghost use Rattle.pap_reader.specs.Elements.{raw_plan_of, names_of, execs_of};
 ghost use Rattle.pap_reader.specs.Decisions.{tags_in, is_output, names_in, is_eval, execs_in, after_leading};
-ghost use Rattle.pap_reader.specs.Clauses.{IsReadAs};
+ghost use Rattle.pap_reader.specs.Clauses.{IsReadAs, BeginOtherwise};
 
 use crate::elements::{Elements, RawDeclared, RawStmt};
 use crate::fault::ReadFault;
 use crate::limits::{LONGEST_PLAN, is_within_limits};
-use crate::tags::{expect_tag, next_eval, next_output, next_tag, starts_white};
+use crate::tags::{after_tag, next_eval, next_output, next_tag, starts_white};
 use std::alloc::{AllocError, Global};
 
 /// What is written in a plan's file. `Unbuilt` where the text is no small plan.
@@ -39,40 +39,51 @@ fn read_tags(alloc: Global, bytes: &[u8]) -> Result<Elements, ReadFault>
     ensures read { IfOk result (λ elements. IsReadAs (tags_in bytes.now) (raw_plan_of elements)) }
     ensures unbuilt { IsErrOf result ReadFault.Unbuilt → (p : RawPlan) → ¬ (IsReadAs (tags_in bytes.now) p) }
 {
-    let rest = read_opening(bytes)?;
+    let Some(rest) = after_opening(bytes) else {
+        return Err(ReadFault::Unbuilt);
+    };
     let (outputs, rest) = read_outputs(alloc, rest)?;
-    let rest = read_middle(rest)?;
+    let Some(rest) = after_middle(rest) else {
+        return Err(ReadFault::Unbuilt);
+    };
     let (main, rest) = read_statements(alloc, rest)?;
-    read_closing(rest)?;
+    if !is_closing(rest) {
+        return Err(ReadFault::Unbuilt);
+    }
     Ok(Elements { outputs, main })
 }
 
-fn read_opening(bytes: &[u8]) -> Result<&[u8], ReadFault>
-    ensures { MatchResult result (λ rest. tags_in bytes.now ≡ opening ++ tags_in rest.now) (λ fault. (fault ≡ ReadFault.Unbuilt) × ((tags : List (List ℕ)) → ¬ (tags_in bytes.now ≡ opening ++ tags))) }
+fn after_opening(bytes: &[u8]) -> Option<&[u8]>
+    ensures { MatchOption result (BeginOtherwise (tags_in bytes.now) opening) (λ rest. tags_in bytes.now ≡ opening ++ tags_in rest.now) }
 {
-    let rest = expect_tag(bytes, b"<PAP>")?;
-    let rest = expect_tag(rest, b"<INTERFACE>")?;
-    expect_tag(rest, b"<OUTPUTS>")
+    let rest = after_tag(bytes, b"<PAP>")?;
+    let rest = after_tag(rest, b"<INTERFACE>")?;
+    after_tag(rest, b"<OUTPUTS>")
 }
 
-fn read_middle(bytes: &[u8]) -> Result<&[u8], ReadFault>
-    ensures { MatchResult result (λ rest. tags_in bytes.now ≡ middle ++ tags_in rest.now) (λ fault. (fault ≡ ReadFault.Unbuilt) × ((tags : List (List ℕ)) → ¬ (tags_in bytes.now ≡ middle ++ tags))) }
+fn after_middle(bytes: &[u8]) -> Option<&[u8]>
+    ensures { MatchOption result (BeginOtherwise (tags_in bytes.now) middle) (λ rest. tags_in bytes.now ≡ middle ++ tags_in rest.now) }
 {
-    let rest = expect_tag(bytes, b"</OUTPUTS>")?;
-    let rest = expect_tag(rest, b"</INTERFACE>")?;
-    let rest = expect_tag(rest, b"<METHODS>")?;
-    expect_tag(rest, b"<MAIN>")
+    let rest = after_tag(bytes, b"</OUTPUTS>")?;
+    let rest = after_tag(rest, b"</INTERFACE>")?;
+    let rest = after_tag(rest, b"<METHODS>")?;
+    after_tag(rest, b"<MAIN>")
 }
 
-fn read_closing(bytes: &[u8]) -> Result<(), ReadFault>
-    ensures { MatchResult result (λ _. tags_in bytes.now ≡ closing) (λ fault. (fault ≡ ReadFault.Unbuilt) × (¬ (tags_in bytes.now ≡ closing))) }
+fn after_closing(bytes: &[u8]) -> Option<&[u8]>
+    ensures { MatchOption result (BeginOtherwise (tags_in bytes.now) closing) (λ rest. tags_in bytes.now ≡ closing ++ tags_in rest.now) }
 {
-    let rest = expect_tag(bytes, b"</MAIN>")?;
-    let rest = expect_tag(rest, b"</METHODS>")?;
-    let rest = expect_tag(rest, b"</PAP>")?;
-    match next_tag(rest) {
-        None => Ok(()),
-        Some(_) => Err(ReadFault::Unbuilt),
+    let rest = after_tag(bytes, b"</MAIN>")?;
+    let rest = after_tag(rest, b"</METHODS>")?;
+    after_tag(rest, b"</PAP>")
+}
+
+fn is_closing(bytes: &[u8]) -> bool
+    ensures { IsTrue result ↔ (tags_in bytes.now ≡ closing) }
+{
+    match after_closing(bytes) {
+        Some(rest) => next_tag(rest).is_none(),
+        None => false,
     }
 }
 

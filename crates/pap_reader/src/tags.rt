@@ -1,12 +1,11 @@
 // The tags of a text.
-ghost use Rattle.std.specs.Prelude.{◌≡◌, ◌==◌, ◌<◌, ◌≤◌, ℕ, true, false, List, [], ◌∷◌, ◌++◌, length, MatchOption, IfSome, MatchResult};
+ghost use Rattle.std.specs.Prelude.{◌≡◌, ◌==◌, ◌<◌, ◌≤◌, ℕ, true, false, List, [], ◌∷◌, ◌++◌, length, MatchOption, IfSome};
 ghost use Rattle.std.specs.List.{list_all, position_or_len};
 ghost use Rattle.pap_tree.specs.White.{is_white};
 ghost use Rattle.pap_reader.specs.SmallPlans.{is_plain, is_plain_byte};
 ghost use Rattle.pap_reader.specs.Decisions.{before_tag, without_white_end, tags_in, name_in, is_output, exec_in, is_eval};
-ghost use Rattle.pap_reader.specs.Clauses.{ReadsNone, ReadsFirst};
+ghost use Rattle.pap_reader.specs.Clauses.{BeginOtherwise, ReadsNone, ReadsFirst};
 
-use crate::fault::ReadFault;
 use crate::limits::LONGEST_EXPRESSION;
 use pap_tree::{Name, is_white};
 
@@ -30,13 +29,13 @@ pub(crate) fn next_tag(bytes: &[u8]) -> Option<(&[u8], &[u8])>
     Some((without_white_end(&from_tag[..inside + 1]), &inner[inside..]))
 }
 
-/// What stands after a tag that has to come first.
-pub(crate) fn expect_tag<'a>(bytes: &'a [u8], tag: &[u8]) -> Result<&'a [u8], ReadFault>
-    ensures { MatchResult result (λ rest. tags_in bytes.now ≡ tag.now ∷ tags_in rest.now) (λ fault. (fault ≡ ReadFault.Unbuilt) × ((tags : List (List ℕ)) → ¬ (tags_in bytes.now ≡ tag.now ∷ tags))) }
+/// What stands after a tag, from the next one on. `None` where another tag comes first, or none.
+pub(crate) fn after_tag<'a>(bytes: &'a [u8], tag: &[u8]) -> Option<&'a [u8]>
+    ensures { MatchOption result (BeginOtherwise (tags_in bytes.now) (tag.now ∷ [])) (λ rest. tags_in bytes.now ≡ tag.now ∷ tags_in rest.now) }
 {
     match next_tag(bytes) {
-        Some((found, rest)) if found == tag => Ok(rest),
-        _ => Err(ReadFault::Unbuilt),
+        Some((found, rest)) if found == tag => Some(rest),
+        _ => None,
     }
 }
 
