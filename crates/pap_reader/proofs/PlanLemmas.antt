@@ -1,22 +1,22 @@
 -- A text is a small plan exactly where the tags that are found in it are those of a plan within the limits.
-use Rattle.std.proofs.Common.{◌≡◌, ◌≢◌, ℕ, zero, suc, ◌+◌, ◌-◌, ◌<◌, ◌≤◌, Bool, true, false, cond, not, ◌&&◌, eqb, List, [], ◌∷◌, ◌++◌, map, length, take, drop, get_or, IsTrue, ◌⊎◌, inl, inr, refl, sym, ap, ◌∙◌, subst, append_assoc, append-nil, arith, length-append, leb-true, le-leb, ltb-true, lt-ltb}
-use Rattle.std.specs.Prelude.{◌==◌, nat_le, nat_lt, codes, AllPairs}
-use Rattle.std.specs.List.{list_all, list_any, AllPass}
+use Rattle.std.proofs.Common.{◌≡◌, ◌≢◌, ℕ, zero, suc, ◌-◌, ◌<◌, ◌≤◌, Bool, true, false, cond, not, ◌&&◌, List, [], ◌∷◌, ◌++◌, map, length, take, drop, get_or, ◌⊎◌, inl, inr, refl, sym, ap, ◌∙◌, subst, append_assoc, arith, length-append, leb-true, le-leb, ltb-true, lt-ltb}
+use Rattle.std.specs.Prelude.{nat_le, nat_lt, codes, AllPairs}
+use Rattle.std.specs.List.{list_all, list_any}
 use Rattle.std.specs.Str.{bytes_eq}
 use Rattle.std.specs.Cmp.Lexicographic.{pointwise}
 use Rattle.std.proofs.Math.Seq.{take-append_seam, drop-append_seam}
-use Rattle.std.proofs.lemmas.Bool.{and_parts, and_from, false≢true, or_parts, or_from, not_from_true, not_from_false, false_from_ne_true, cases_Bool}
+use Rattle.std.proofs.lemmas.Bool.{and_parts, and_from, false≢true, or_parts, or_from, not_from_false, false_from_ne_true}
 use Rattle.std.proofs.lemmas.Bool.Decides.{nat_tests}
 use Rattle.std.proofs.lemmas.List.Folds.{list_all-append}
 use Rattle.std.proofs.lemmas.List.Sums.{AllPass-from_list_all, list_all-from_AllPass}
 use Rattle.std.proofs.lemmas.Slice.Eq.{bytes_eq-Decides, slice_eq-Decides}
-use Rattle.pap_tree.specs.Names.{is_name, is_letter, is_word, is_reserved}
+use Rattle.pap_tree.specs.Names.{is_name, is_word}
 use Rattle.pap_tree.specs.White.{is_white}
 use Rattle.pap_reader.specs.declared.limits.TheConstants.{LONGEST_PLAN, LONGEST_EXPRESSION, MOST_OUTPUTS, MOST_STATEMENTS}
 use Rattle.pap_reader.specs.SmallPlans.{RawPlan, IsWhite, Stand, output_tag, eval_tag, opening, middle, closing, tags_of, is_plain_byte, is_plain, IsSmallPlan}
 use Rattle.pap_reader.specs.Decisions.{before_tag, without_white_end, tags_in, within, name_in, is_output, exec_in, is_eval, leading, after_leading, names_in, execs_in, are_distinct, is_within_limits}
 use Rattle.pap_reader.specs.Clauses.{IsReadAs}
-use Rattle.pap_reader.proofs.TagLemmas.{is_inside, without_white_end-append, IsTag, AreTags, IsFound, found, stands}
+use Rattle.pap_reader.proofs.TagLemmas.{is_inside, without_white_end-append, IsTag, AreTags, found, stands}
 
 -- ---- a text between a front and a back
 

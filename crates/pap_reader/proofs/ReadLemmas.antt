@@ -1,5 +1,5 @@
 -- What the code reads of the tags in order.
-use Rattle.std.proofs.Common.{◌≡◌, ℕ, ◌<◌, ◌≤◌, Bool, true, false, not, ◌&&◌, ◌||◌, cond, List, [], ◌∷◌, ◌++◌, length, drop, subst, MatchOption, Option, Some, None, Bor, refl, sym, ap, ◌∙◌, arith}
+use Rattle.std.proofs.Common.{◌≡◌, ℕ, ◌<◌, ◌≤◌, Bool, true, false, not, ◌&&◌, ◌||◌, List, [], ◌∷◌, ◌++◌, length, drop, subst, MatchOption, Option, Some, None, Bor, refl, sym, ap, ◌∙◌, arith}
 use Rattle.std.specs.List.{list_all, list_any}
 use Rattle.std.specs.Str.{bytes_eq}
 use Rattle.std.proofs.lemmas.Bool.{false≢true}
@@ -10,7 +10,7 @@ use Rattle.pap_reader.specs.SmallPlans.{RawPlan, opening, middle, closing, IsSma
 use Rattle.pap_reader.specs.Elements.{names_of}
 use Rattle.pap_reader.specs.Decisions.{before_tag, tags_in, is_output, names_in, is_eval, execs_in, after_leading, are_distinct, is_within_limits}
 use Rattle.pap_reader.specs.Clauses.{IsReadAs, BeginOtherwise}
-use Rattle.pap_reader.proofs.PlanLemmas.{outputs_of, statements_of, outputs_read, statements_read, plan_in, plan_in-read, read_whole, IsSmallByTests, small_from_tests, tests_from_small}
+use Rattle.pap_reader.proofs.PlanLemmas.{statements_of, outputs_read, statements_read, plan_in-read, read_whole, small_from_tests, tests_from_small}
 
 -- ---- fixed tags
 
@@ -60,7 +60,7 @@ no_closing tags t u after o m a h p r =
 pub read_as : (tags t u names execs : List (List ℕ)) → tags ≡ opening ++ t → names ≡ names_in t → after_leading is_output t ≡ middle ++ u → execs ≡ execs_in u → after_leading is_eval u ≡ closing → IsReadAs tags (record { outputs = names; execs = execs })
 read_as tags t u names execs o n m e c =
     subst (λ xs. IsReadAs tags (record { outputs = xs; execs = execs })) (sym n)
-      (subst (λ xs. IsReadAs tags (record { outputs = names_in t; execs = xs })) (sym e) (read_whole tags t u o m c))
+    (subst (λ xs. IsReadAs tags (record { outputs = names_in t; execs = xs })) (sym e) (read_whole tags t u o m c))
 
 -- ---- the tests before and after
 

@@ -1,6 +1,6 @@
 -- What the code reads of one tag.
-use Rattle.std.proofs.Common.{◌≡◌, ◌≢◌, ℕ, ◌+◌, ◌-◌, ◌≤◌, Bool, true, false, ◌&&◌, eqb, List, [], ◌∷◌, ◌++◌, length, take, drop, Option, Some, None, MatchOption, IsTrue, ◌↔◌, refl, sym, ap, ◌∙◌, le-leb, Bor, append_assoc}
-use Rattle.std.specs.Prelude.{nat_le, codes, IsSome, IfSome}
+use Rattle.std.proofs.Common.{◌≡◌, ◌≢◌, ℕ, ◌+◌, ◌-◌, ◌≤◌, Bool, true, false, ◌&&◌, eqb, List, [], ◌∷◌, ◌++◌, length, take, drop, Option, Some, None, MatchOption, IsTrue, ◌↔◌, refl, sym, ap, ◌∙◌, le-leb, Bor}
+use Rattle.std.specs.Prelude.{codes, IsSome, IfSome}
 use Rattle.std.specs.List.{list_all}
 use Rattle.std.specs.Cmp.Lexicographic.{pointwise}
 use Rattle.std.proofs.lemmas.Bool.{false≢true, false_from_ne_true}

@@ -20,18 +20,18 @@ returns-in_err-rest c =
 pub returns-in_err-rest-2 : goal.returns-in_err-rest-2
 returns-in_err-rest-2 c =
     rw c.from_residual-in_err-rest-2.ensures
-      (otherwise_more (tags_in c.args.bytes.now) (tags_in c.in_ok-rest.rest.now) (codes "</OUTPUTS>") after_1 c.in_ok-rest.ensures
-        (otherwise_first (tags_in c.in_ok-rest.rest.now) (codes "</INTERFACE>") after_2 c.in_err-rest-2.ensures))
+    (otherwise_more (tags_in c.args.bytes.now) (tags_in c.in_ok-rest.rest.now) (codes "</OUTPUTS>") after_1 c.in_ok-rest.ensures
+    (otherwise_first (tags_in c.in_ok-rest.rest.now) (codes "</INTERFACE>") after_2 c.in_err-rest-2.ensures))
 
 pub returns-in_err-rest-3 : goal.returns-in_err-rest-3
 returns-in_err-rest-3 c =
     rw c.from_residual-in_err-rest-3.ensures
-      (otherwise_more (tags_in c.args.bytes.now) (tags_in c.in_ok-rest.rest.now) (codes "</OUTPUTS>") after_1 c.in_ok-rest.ensures
-        (otherwise_more (tags_in c.in_ok-rest.rest.now) (tags_in c.in_ok-rest-2.rest.now) (codes "</INTERFACE>") after_2 c.in_ok-rest-2.ensures
-          (otherwise_first (tags_in c.in_ok-rest-2.rest.now) (codes "<METHODS>") after_3 c.in_err-rest-3.ensures)))
+    (otherwise_more (tags_in c.args.bytes.now) (tags_in c.in_ok-rest.rest.now) (codes "</OUTPUTS>") after_1 c.in_ok-rest.ensures
+    (otherwise_more (tags_in c.in_ok-rest.rest.now) (tags_in c.in_ok-rest-2.rest.now) (codes "</INTERFACE>") after_2 c.in_ok-rest-2.ensures
+    (otherwise_first (tags_in c.in_ok-rest-2.rest.now) (codes "<METHODS>") after_3 c.in_err-rest-3.ensures)))
 
 pub returns : goal.returns
 returns c =
     found_more (tags_in c.args.bytes.now) (tags_in c.in_ok-rest.rest.now) (codes "</OUTPUTS>") after_1 c.after_tag-4.result c.in_ok-rest.ensures
-      (found_more (tags_in c.in_ok-rest.rest.now) (tags_in c.in_ok-rest-2.rest.now) (codes "</INTERFACE>") after_2 c.after_tag-4.result c.in_ok-rest-2.ensures
-        (found_more (tags_in c.in_ok-rest-2.rest.now) (tags_in c.in_ok-rest-3.rest.now) (codes "<METHODS>") after_3 c.after_tag-4.result c.in_ok-rest-3.ensures c.after_tag-4.ensures))
+    (found_more (tags_in c.in_ok-rest.rest.now) (tags_in c.in_ok-rest-2.rest.now) (codes "</INTERFACE>") after_2 c.after_tag-4.result c.in_ok-rest-2.ensures
+    (found_more (tags_in c.in_ok-rest-2.rest.now) (tags_in c.in_ok-rest-3.rest.now) (codes "<METHODS>") after_3 c.after_tag-4.result c.in_ok-rest-3.ensures c.after_tag-4.ensures))

@@ -18,7 +18,7 @@ returns-in_err-elements-clause-unbuilt c =
     λ e. not_read c.args.bytes.now (c.in_err-elements.ensures.unbuilt (ap Err (sym q.2) ∙ (sym q.1 ∙ e)))
 
 pub returns-then-not-is_within_limits-clause-unbuilt : goal.returns-then-not-is_within_limits-clause-unbuilt
-returns-then-not-is_within_limits-clause-unbuilt c = 
+returns-then-not-is_within_limits-clause-unbuilt c =
     λ _. not_within c.args.bytes.now (raw_plan_of c.in_ok-elements.elements) c.in_ok-elements.ensures.read (sym c.if-not-is_within_limits.ensures)
 
 pub returns-clause-read : goal.returns-clause-read

@@ -1,4 +1,3 @@
-use Rattle.std.proofs.Common.{◌≡◌, ◌++◌}
 use Rattle.pap_reader.proofs.TextLemmas.{between_not, between_read}
 use Rattle.pap_reader.proofs.tags.between.Goals as goal
 

@@ -1,4 +1,4 @@
-use Rattle.std.proofs.Common.{sym, ◌∙◌}
+use Rattle.std.proofs.Common.{sym}
 use Rattle.pap_reader.proofs.TextLemmas.{not_eval, not_plain_eval, eval_read}
 use Rattle.pap_reader.proofs.tags.eval_text.Goals as goal
 
