@@ -1,0 +1,4 @@
+pub mod TagLemmas
+pub mod PlanLemmas
+pub mod TextLemmas
+pub mod ReadLemmas

@@ -1,0 +1,4 @@
+pub mod SmallPlans
+pub mod Elements
+pub mod Decisions
+pub mod Clauses
