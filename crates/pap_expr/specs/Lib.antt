@@ -1,0 +1,4 @@
+pub mod Tokens
+pub mod Assignments
+pub mod Decisions
+pub mod Laws
