@@ -1,5 +1,5 @@
 -- What a text is read as, by functions that compute it.
-use Rattle.std.specs.Prelude.{◌≡◌, ℕ, ◌==◌, ◌&&◌, nat_le, if◌then◌else◌, List, [], ◌∷◌, length, pos, Option, Some, None, Result, Ok, Err, map}
+use Rattle.std.specs.Prelude.{◌≡◌, ℕ, ◌==◌, ◌&&◌, nat_le, if◌then◌else◌, List, [], ◌∷◌, pos, Option, Some, None, Result, Ok, Err, map}
 use Rattle.std.specs.Option.{option_and_then, option_map}
 use Rattle.std.specs.Str.Parse.{digits_value}
 use Rattle.pap_tree.specs.declared.tree.Binary.{Binary}
@@ -10,8 +10,8 @@ use Rattle.pap_expr.specs.declared.fault.ExprFault.{ExprFault}
 use Rattle.pap_expr.specs.declared.fault.ExprFault.TheVariants.{Unbuilt, Memory}
 use Rattle.pap_expr.specs.declared.tokens.Token.{Token as Lexeme}
 use Rattle.pap_expr.specs.declared.tokens.Token.TheVariants as lexemes
-use Rattle.pap_expr.specs.Tokens.{Token, word, sign, tokens}
-use Rattle.pap_expr.specs.Assignments.{is_numeral, most_tokens}
+use Rattle.pap_expr.specs.Tokens.{Token, word, sign}
+use Rattle.pap_expr.specs.Assignments.{is_numeral}
 
 -- a token of the program
 abbrev pub token_of : Lexeme → Token
@@ -33,27 +33,51 @@ term_read w = if is_name w then Some (named w) else option_map (λ n. whole (pos
 abbrev pub operator_of : ℕ → Option Binary
 operator_of b = if b == 43 then Some Plus else (if b == 45 then Some Sub else None)
 
+-- the word, the sign, the term or the operator that stands first, and the tokens after it
+abbrev pub first_word : List Token → Option (List ℕ × List Token)
+first_word [] = None
+first_word (word w ∷ ts) = Some (w, ts)
+first_word (sign b ∷ ts) = None
+
+abbrev pub first_sign : List Token → Option (ℕ × List Token)
+first_sign [] = None
+first_sign (word w ∷ ts) = None
+first_sign (sign b ∷ ts) = Some (b, ts)
+
+abbrev pub first_term : List Token → Option (Term × List Token)
+first_term ts = option_and_then (λ f. option_map (λ x. (x, f.1)) (term_read f.0)) (first_word ts)
+
+abbrev pub first_operator : List Token → Option (Binary × List Token)
+first_operator ts = option_and_then (λ f. option_map (λ op. (op, f.1)) (operator_of f.0)) (first_sign ts)
+
+-- the tokens after an `=` that stands first
+abbrev pub after_equals : List Token → Option (List Token)
+after_equals ts = option_and_then (λ f. if f.0 == 61 then Some f.1 else None) (first_sign ts)
+
 -- the sum that goes on from a term with these tokens
 abbrev pub sum_on : Term → List Token → Option Term
 sum_on x [] = Some x
+sum_on x (word w ∷ ts) = None
+sum_on x (sign b ∷ []) = None
+sum_on x (sign b ∷ sign c ∷ ts) = None
 sum_on x (sign b ∷ word w ∷ ts) =
     option_and_then (λ op. option_and_then (λ y. sum_on (two op x y) ts) (term_read w)) (operator_of b)
-sum_on x (t ∷ ts) = None
 
 -- the sum of these tokens
 abbrev pub sum_read : List Token → Option Term
-sum_read (word w ∷ ts) = option_and_then (λ x. sum_on x ts) (term_read w)
-sum_read ts = None
+sum_read ts = option_and_then (λ f. sum_on f.0 f.1) (first_term ts)
+
+-- a target and its value
+abbrev pub assigned : List ℕ → Option Term → Option (List ℕ × Term)
+assigned w None = None
+assigned w (Some x) = Some (w, x)
 
 -- the target and the value that these tokens assign
-abbrev pub assignment_read : List Token → Option (List ℕ × Term)
-assignment_read (word w ∷ sign b ∷ ts) =
-    if b == 61 && is_name w then option_map (λ x. (w, x)) (sum_read ts) else None
-assignment_read ts = None
+abbrev pub target_read : List ℕ → List Token → Option (List ℕ × Term)
+target_read w ts = if is_name w then assigned w (option_and_then sum_read (after_equals ts)) else None
 
--- what a text assigns, within the limit
-abbrev pub text_read : List ℕ → Option (List ℕ × Term)
-text_read text = if nat_le (length (tokens text)) most_tokens then assignment_read (tokens text) else None
+abbrev pub assignment_read : List Token → Option (List ℕ × Term)
+assignment_read ts = option_and_then (λ f. target_read f.0 f.1) (first_word ts)
 
 -- The program answers as the decision does, unless memory ran out.
 abbrev pub Answers : {X Y : Type 0} → (X → Y) → Option Y → Result X ExprFault → Type 0

@@ -4,11 +4,11 @@ ghost use Rattle.pap_tree.specs.Term.{term_of};
 ghost use Rattle.pap_tree.specs.Numbering.{nodes};
 ghost use Rattle.pap_expr.specs.Assignments.{IsAssignment};
 ghost use Rattle.pap_expr.specs.Laws.{OneReading, NoReading, IsDecided};
-ghost use Rattle.pap_expr.specs.Decisions.{tokens_of, sum_read, Answers};
+ghost use Rattle.pap_expr.specs.Decisions.{tokens_of, assignment_read, sum_read, Answers};
 
 use crate::ExprFault;
-use crate::terms::{binary, read_operator, read_term};
-use crate::tokens::{Token, read_tokens};
+use crate::terms::{binary, next_operator, next_term};
+use crate::tokens::{Token, after_equals, next_word, read_tokens};
 use pap_tree::{Expr, Name};
 use std::alloc::Global;
 
@@ -21,12 +21,7 @@ pub fn parse_assign(alloc: Global, text: &[u8]) -> Result<(Name, Expr), ExprFaul
     ensures small { IfOk result (λ assignment. nodes (term_of assignment.1) ≤ 998) }
 {
     let tokens = read_tokens(alloc, text)?;
-    let [Token::Word(target), Token::Sign(b'='), sum @ ..] = tokens.as_slice() else {
-        return Err(ExprFault::Unbuilt);
-    };
-    let target = Name::read(target).ok_or(ExprFault::Unbuilt)?;
-    let value = parse_sum(alloc, sum)?;
-    Ok((target, value))
+    parse_tokens(alloc, &tokens)
 }
 
 /// A text is an assignment in at most one way, and it is decided whether it is one.
@@ -35,24 +30,27 @@ pub fn assignment_laws()
     ensures decided { (text : List ℕ) → IsDecided text }
 {}
 
-/// The value of a sum's tokens.
-fn parse_sum(alloc: Global, sum: &[Token<'_>]) -> Result<Expr, ExprFault>
-    ensures { Answers term_of (sum_read (tokens_of sum.now)) result }
+/// The target and the value of an assignment's tokens.
+fn parse_tokens(alloc: Global, tokens: &[Token<'_>]) -> Result<(Name, Expr), ExprFault>
+    ensures { Answers (λ assignment. (assignment.0, term_of assignment.1)) (assignment_read (tokens_of tokens.now)) result }
 {
-    let [Token::Word(word), rest @ ..] = sum else {
-        return Err(ExprFault::Unbuilt);
-    };
-    let mut value = read_term(word).ok_or(ExprFault::Unbuilt)?;
-    let mut rest = rest;
-    while let [Token::Sign(sign), Token::Word(word), after @ ..] = rest {
-        let op = read_operator(*sign).ok_or(ExprFault::Unbuilt)?;
-        let term = read_term(word).ok_or(ExprFault::Unbuilt)?;
+    let (word, after) = next_word(tokens).ok_or(ExprFault::Unbuilt)?;
+    let target = Name::read(word).ok_or(ExprFault::Unbuilt)?;
+    let sum = after_equals(after).ok_or(ExprFault::Unbuilt)?;
+    let value = parse_sum(alloc, sum)?;
+    Ok((target, value))
+}
+
+/// The value of a sum's tokens.
+fn parse_sum(alloc: Global, tokens: &[Token<'_>]) -> Result<Expr, ExprFault>
+    ensures { Answers term_of (sum_read (tokens_of tokens.now)) result }
+{
+    let (mut value, mut rest) = next_term(tokens).ok_or(ExprFault::Unbuilt)?;
+    while !rest.is_empty() {
+        let (op, after) = next_operator(rest).ok_or(ExprFault::Unbuilt)?;
+        let (term, after) = next_term(after).ok_or(ExprFault::Unbuilt)?;
         value = binary(alloc, op, value, term)?;
         rest = after;
     }
-    if rest.is_empty() {
-        Ok(value)
-    } else {
-        Err(ExprFault::Unbuilt)
-    }
+    Ok(value)
 }

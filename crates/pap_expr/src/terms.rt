@@ -1,10 +1,11 @@
 // The terms of a sum and the operators between them.
-ghost use Rattle.std.specs.Prelude.{◌≡◌, pos, Some, None, MatchOption, MatchResult};
+ghost use Rattle.std.specs.Prelude.{◌≡◌, ◌<◌, length, pos, Some, None, IfSome, MatchOption, MatchResult};
 ghost use Rattle.std.specs.Option.{option_map};
 ghost use Rattle.pap_tree.specs.Term.{term_of, two};
-ghost use Rattle.pap_expr.specs.Decisions.{number_of, term_read, operator_of};
+ghost use Rattle.pap_expr.specs.Decisions.{tokens_of, number_of, term_read, first_term, first_operator};
 
 use crate::ExprFault;
+use crate::tokens::{Token, next_sign, next_word};
 use pap_tree::{Binary, Expr, Name};
 use std::alloc::Global;
 
@@ -32,7 +33,7 @@ fn read_number(word: &[u8]) -> Option<i32>
 }
 
 /// The name or the whole number that a word is.
-pub fn read_term(word: &[u8]) -> Option<Expr>
+fn read_term(word: &[u8]) -> Option<Expr>
     ensures { MatchOption result (term_read word.now ≡ None) (λ term. term_read word.now ≡ Some (term_of term)) }
 {
     match Name::read(word) {
@@ -41,13 +42,23 @@ pub fn read_term(word: &[u8]) -> Option<Expr>
     }
 }
 
-/// The operator that a byte is written for.
-pub fn read_operator(byte: u8) -> Option<Binary>
-    ensures { result ≡ operator_of byte }
+/// The term that stands first, and the tokens after it.
+pub fn next_term<'s, 't>(tokens: &'s [Token<'t>]) -> Option<(Expr, &'s [Token<'t>])>
+    ensures found { MatchOption result (first_term (tokens_of tokens.now) ≡ None) (λ found. first_term (tokens_of tokens.now) ≡ Some (term_of found.0, tokens_of found.1.now)) }
+    ensures shorter { IfSome result (λ found. length found.1.now < length tokens.now) }
 {
-    match byte {
-        b'+' => Some(Binary::Plus),
-        b'-' => Some(Binary::Sub),
+    let (word, after) = next_word(tokens)?;
+    Some((read_term(word)?, after))
+}
+
+/// The operator that stands first, and the tokens after it.
+pub fn next_operator<'s, 't>(tokens: &'s [Token<'t>]) -> Option<(Binary, &'s [Token<'t>])>
+    ensures found { MatchOption result (first_operator (tokens_of tokens.now) ≡ None) (λ found. first_operator (tokens_of tokens.now) ≡ Some (found.0, tokens_of found.1.now)) }
+    ensures shorter { IfSome result (λ found. length found.1.now < length tokens.now) }
+{
+    match next_sign(tokens)? {
+        (b'+', after) => Some((Binary::Plus, after)),
+        (b'-', after) => Some((Binary::Sub, after)),
         _ => None,
     }
 }
