@@ -1,4 +1,5 @@
 use Rattle.std.proofs.Common.{◌≡◌, ◌<◌, Some, None, length, sym, ap, ◌∙◌, arith}
+use Rattle.std.proofs.lemmas.Bool.{eqb-false}
 use Rattle.std.proofs.lemmas.List.{length-map}
 use Rattle.pap_tree.specs.Term.{term_of}
 use Rattle.pap_expr.specs.Decisions.{token_of, tokens_of, first_operator, first_term, sum_on, sum_read}
@@ -8,7 +9,7 @@ use Rattle.pap_expr.proofs.assignment.parse_sum.Goals as goal
 pub returns-in_err-op : goal.returns-in_err-op
 returns-in_err-op c =
     let rest = tokens_of c.loop-rest.rest.now in
-    let some_left : 0 < length rest = rw (length-map c.loop-rest.rest.now token_of) (omega arith) in
+    let some_left : 0 < length rest = rw (length-map c.loop-rest.rest.now token_of) (omega (arith, eqb-false (length c.loop-rest.rest.now) 0 (sym c.is_empty.ensures ∙ c.loop-rest-test.true))) in
     let none : first_operator rest ≡ None = rw c.in_err-op.ensures.ok_part at c.next_operator.ensures.found in
     answers_unbuilt term_of (sum_read (tokens_of c.args.tokens.now)) c.from_residual-in_err-op.result c.next_operator.result c.in_err-op.field-0.0
       c.from_residual-in_err-op.ensures.1 c.in_err-op.ensures.value c.in_err-op.ensures.ok_part
