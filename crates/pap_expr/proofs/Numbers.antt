@@ -34,7 +34,7 @@ padded : (w : List ℕ) → 1 < length w → get_or w 0 0 ≡ 48 → is_numeral 
 padded [] l e = refl
 padded (b ∷ bs) l e =
     ap (λ t. cond t (eqb (length bs) 0) (all_ascii_digits (b ∷ bs))) (eq-eqb b 48 e)
-      ∙ ne_eqb (length bs) 0 (λ z. absurd (omega arith))
+    ∙ ne_eqb (length bs) 0 (λ z. absurd (omega arith))
 
 pub padded_none : (w : List ℕ) → 1 < length w → get_or w 0 0 ≡ 48 → number_of w ≡ None
 padded_none w l e = no_numeral w (padded w l e)

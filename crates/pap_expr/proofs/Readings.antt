@@ -18,8 +18,9 @@ use Rattle.pap_tree.specs.Term.{Term, whole, named, two, term_of}
 use Rattle.pap_expr.specs.declared.fault.ExprFault.{ExprFault}
 use Rattle.pap_expr.specs.Tokens.{Token, word, sign, tokens}
 use Rattle.pap_expr.specs.Assignments.{is_numeral, IsNumber, Reads, name, number, byte_of, Sum, term, more, most_tokens, IsAssignment}
-use Rattle.pap_expr.specs.Decisions.{number_of, term_read, operator_of, first_term, after_equals, sum_on, sum_read, assigned, assignment_read, Answers}
-use Rattle.pap_expr.specs.Laws.{OneReading, NoReading, IsDecided}
+use Rattle.pap_expr.specs.Decisions.{number_of, term_read, operator_of, first_term, after_equals, sum_on, sum_read, assigned, assignment_read}
+use Rattle.pap_expr.specs.Answers.{Answers}
+use Rattle.pap_expr.specs.Laws.{OneReading, IsNoAssignment, IsDecided}
 
 -- ---- choices
 
@@ -69,7 +70,7 @@ reads_complete : (w : List ℕ) (x : Term) → Reads w x → term_read w ≡ Som
 reads_complete w x (name h) = ap (λ t. cond t (Some (named w)) (option_map (λ n. whole (pos n)) (number_of w))) h
 reads_complete w x (number {n = n} h) =
     ap (λ t. cond t (Some (named w)) (option_map (λ n. whole (pos n)) (number_of w))) (numeral_isnt_name w h.numeral)
-      ∙ ap (option_map (λ n. whole (pos n))) (number_complete w n h)
+    ∙ ap (option_map (λ n. whole (pos n))) (number_complete w n h)
 
 -- ---- sums
 
@@ -95,7 +96,7 @@ on_sound front x y (sign b ∷ word w ∷ ts) s e =
     let o = then_some (λ op. option_and_then (λ z. sum_on (two op x z) ts) (term_read w)) (operator_of b) y e in
     let r = then_some (λ z. sum_on (two o.0 x z) ts) (term_read w) y o.2 in
     subst (λ ts. Sum ts y) (append_assoc front (sign b ∷ word w ∷ []) ts)
-      (on_sound (front ++ (sign b ∷ word w ∷ [])) (two o.0 x r.0) y ts (longer_sum front x b w o.0 r.0 s o.1 r.1) r.2)
+    (on_sound (front ++ (sign b ∷ word w ∷ [])) (two o.0 x r.0) y ts (longer_sum front x b w o.0 r.0 s o.1 r.1) r.2)
 
 -- the first term of a sum, and what goes on from it
 first_read : (w : List ℕ) (ts : List Token) (x : Term) → sum_read (word w ∷ ts) ≡ Some x → (y : Term) × (term_read w ≡ Some y) × (sum_on y ts ≡ Some x)
@@ -123,8 +124,8 @@ on_append x y (sign b ∷ word w ∷ ts) us e =
     let o = then_some (λ op. option_and_then (λ z. sum_on (two op x z) ts) (term_read w)) (operator_of b) y e in
     let r = then_some (λ z. sum_on (two o.0 x z) ts) (term_read w) y o.2 in
     ap (option_and_then (λ op. option_and_then (λ z. sum_on (two op x z) (ts ++ us)) (term_read w))) o.1
-      ∙ ap (option_and_then (λ z. sum_on (two o.0 x z) (ts ++ us))) r.1
-      ∙ on_append (two o.0 x r.0) y ts us r.2
+    ∙ ap (option_and_then (λ z. sum_on (two o.0 x z) (ts ++ us))) r.1
+    ∙ on_append (two o.0 x r.0) y ts us r.2
 
 read_append : (ts us : List Token) (x : Term) → sum_read ts ≡ Some x → sum_read (ts ++ us) ≡ sum_on x us
 read_append [] us x e = absurd cc
@@ -137,8 +138,8 @@ sum_complete : (ts : List Token) (x : Term) → Sum ts x → sum_read ts ≡ Som
 sum_complete ts x (term {w = w} r) = from_first w x [] (reads_complete w x r)
 sum_complete ts x (more {ts = front} {w = w} {x = left} {y = right} op s r) =
     read_append front (sign (byte_of op) ∷ word w ∷ []) left (sum_complete front left s)
-      ∙ ap (option_and_then (λ op. option_and_then (λ z. sum_on (two op left z) []) (term_read w))) (operator_complete op)
-      ∙ ap (option_and_then (λ z. sum_on (two op left z) [])) (reads_complete w right r)
+    ∙ ap (option_and_then (λ op. option_and_then (λ z. sum_on (two op left z) []) (term_read w))) (operator_complete op)
+    ∙ ap (option_and_then (λ z. sum_on (two op left z) [])) (reads_complete w right r)
 
 reads_nodes : (w : List ℕ) (x : Term) → Reads w x → nodes x ≡ 1
 reads_nodes w x (name h) = refl
@@ -191,10 +192,10 @@ text_complete text w x h =
 pub few_nodes : (text : List ℕ) (w : List ℕ) (x : Term) → IsAssignment text w x → nodes x ≤ 998
 few_nodes text w x h = omega (arith, sum_nodes h.sum x h.value_spelled, ap length h.tokens_are, h.few)
 
-pub none_of_many : (text : List ℕ) → most_tokens < length (tokens text) → NoReading text
+pub none_of_many : (text : List ℕ) → most_tokens < length (tokens text) → IsNoAssignment text
 none_of_many text many w x h = absurd (omega (arith, h.few))
 
-pub none_read : (text : List ℕ) → assignment_read (tokens text) ≡ None → NoReading text
+pub none_read : (text : List ℕ) → assignment_read (tokens text) ≡ None → IsNoAssignment text
 none_read text e w x h = absurd (cc (sym e ∙ text_complete text w x h))
 
 pub one_reading : (text : List ℕ) → OneReading text

@@ -7,7 +7,8 @@ use Rattle.pap_tree.specs.Term.{Term, two}
 use Rattle.pap_expr.specs.declared.fault.ExprFault.{ExprFault}
 use Rattle.pap_expr.specs.declared.fault.ExprFault.TheVariants.{Unbuilt, Memory}
 use Rattle.pap_expr.specs.Tokens.{Token, word, sign}
-use Rattle.pap_expr.specs.Decisions.{term_read, operator_of, first_operator, first_term, sum_on, Answers}
+use Rattle.pap_expr.specs.Decisions.{term_read, operator_of, first_operator, first_term, sum_on}
+use Rattle.pap_expr.specs.Answers.{Answers}
 
 abbrev pub pair : {A B : Type 0} → A → B → A × B
 pair x y = (x, y)
@@ -35,8 +36,8 @@ on_more x y op ts us vs e f =
     let o = operator_parts ts us op e in
     let t = term_parts us vs y f in
     ap (sum_on x) (o.1 ∙ ap (λ us. sign o.0 ∷ us) t.1)
-      ∙ ap (option_and_then (λ op. option_and_then (λ z. sum_on (two op x z) vs) (term_read t.0))) o.2
-      ∙ ap (option_and_then (λ z. sum_on (two op x z) vs)) t.2
+    ∙ ap (option_and_then (λ op. option_and_then (λ z. sum_on (two op x z) vs) (term_read t.0))) o.2
+    ∙ ap (option_and_then (λ z. sum_on (two op x z) vs)) t.2
 
 pub no_operator : (x : Term) (ts : List Token) → 0 < length ts → first_operator ts ≡ None → sum_on x ts ≡ None
 no_operator x [] l e = absurd (omega arith)
@@ -51,7 +52,7 @@ no_term_on x b [] op o e = refl
 no_term_on x b (sign c ∷ us) op o e = refl
 no_term_on x b (word w ∷ us) op o e =
     ap (option_and_then (λ op. option_and_then (λ z. sum_on (two op x z) us) (term_read w))) o
-      ∙ ap (option_and_then (λ z. sum_on (two op x z) us)) (mapped_none (λ z. pair z us) (term_read w) e)
+    ∙ ap (option_and_then (λ z. sum_on (two op x z) us)) (mapped_none (λ z. pair z us) (term_read w) e)
 
 pub no_term : (x : Term) (op : Binary) (ts us : List Token) → first_operator ts ≡ Some (pair op us) → first_term us ≡ None → sum_on x ts ≡ None
 no_term x op ts us e f = let o = operator_parts ts us op e in ap (sum_on x) o.1 ∙ no_term_on x o.0 us op o.2 f

@@ -43,13 +43,13 @@ one_byte : (b : ℕ) (bs : List ℕ) → is_word b ≡ true → starts_word bs �
 unfolding by_tests
 one_byte b bs e f n =
     subst (λ n. tokens (b ∷ bs) ≡ after_word n (b ∷ bs)) (sym (prefix_yes is_word b bs e ∙ ap suc n))
-      (tokens_word b bs e ∙ ap (λ t. by_tests false true t b bs) f)
+    (tokens_word b bs e ∙ ap (λ t. by_tests false true t b bs) f)
 
 byte_more : (b : ℕ) (bs : List ℕ) → is_word b ≡ true → starts_word bs ≡ true → tokens bs ≡ after_word (prefix_len is_word bs) bs → tokens (b ∷ bs) ≡ after_word (prefix_len is_word (b ∷ bs)) (b ∷ bs)
 unfolding by_tests
 byte_more b bs e f h =
     subst (λ n. tokens (b ∷ bs) ≡ after_word n (b ∷ bs)) (sym (prefix_yes is_word b bs e))
-      (tokens_word b bs e ∙ ap (λ t. by_tests false true t b bs) f ∙ ap (longer b) h)
+    (tokens_word b bs e ∙ ap (λ t. by_tests false true t b bs) f ∙ ap (longer b) h)
 
 word_first_by : (b c : ℕ) (cs : List ℕ) (t : Bool) → is_word b ≡ true → is_word c ≡ t → (is_word c ≡ true → tokens (c ∷ cs) ≡ after_word (prefix_len is_word (c ∷ cs)) (c ∷ cs)) → tokens (b ∷ c ∷ cs) ≡ after_word (prefix_len is_word (b ∷ c ∷ cs)) (b ∷ c ∷ cs)
 word_first_by b c cs true e f h = byte_more b (c ∷ cs) e f (h f)

@@ -13,7 +13,7 @@ abbrev pub is_numeral : List ℕ → Bool
 is_numeral [] = false
 is_numeral (b ∷ bs) = if b == 48 then length bs == 0 else all_ascii_digits (b ∷ bs)
 
--- a whole number as Java writes the literals of `int` in decimal (The Java Language Specification, 3.10.1)
+-- a whole number, written as a decimal literal of Java's `int` (The Java Language Specification, "Integer Literals")
 pub record IsNumber (text : List ℕ) (value : ℕ) : Type 0 where
   pub numeral : IsTrue (is_numeral text)
   pub value_is : value ≡ digits_value 10 text
@@ -38,8 +38,8 @@ pub data Sum : List Token → Term → Type 0 where
 abbrev pub most_tokens : ℕ
 most_tokens = 1000
 
--- A name, `=` and a sum. Digits that a letter follows, as `12ab`, are one word here, which is neither a name nor a
--- number; read as a number and a name they would stand side by side, which no assignment has either. Likewise `==` is
+-- A name, `=` and a sum. Digits that a letter or `_` follows, as in `12ab`, are one word here, which is neither a name
+-- nor a number; as a number and a name they would stand side by side, which no assignment has either. Likewise `==` is
 -- `=` twice, which no assignment has.
 pub record IsAssignment (text : List ℕ) (target : List ℕ) (value : Term) : Type 0 where
   pub sum : List Token

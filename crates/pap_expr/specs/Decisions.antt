@@ -1,25 +1,13 @@
--- What a text is read as, by functions that compute it.
-use Rattle.std.specs.Prelude.{◌≡◌, ℕ, ◌==◌, ◌&&◌, nat_le, if◌then◌else◌, List, [], ◌∷◌, pos, Option, Some, None, Result, Ok, Err, map}
+-- What tokens are read as, by functions that compute it.
+use Rattle.std.specs.Prelude.{ℕ, ◌==◌, ◌&&◌, nat_le, if◌then◌else◌, List, [], ◌∷◌, pos, Option, Some, None}
 use Rattle.std.specs.Option.{option_and_then, option_map}
 use Rattle.std.specs.Str.Parse.{digits_value}
 use Rattle.pap_tree.specs.declared.tree.Binary.{Binary}
 use Rattle.pap_tree.specs.declared.tree.Binary.TheVariants.{Plus, Sub}
 use Rattle.pap_tree.specs.Names.{is_name}
 use Rattle.pap_tree.specs.Term.{Term, whole, named, two}
-use Rattle.pap_expr.specs.declared.fault.ExprFault.{ExprFault}
-use Rattle.pap_expr.specs.declared.fault.ExprFault.TheVariants.{Unbuilt, Memory}
-use Rattle.pap_expr.specs.declared.tokens.Token.{Token as Lexeme}
-use Rattle.pap_expr.specs.declared.tokens.Token.TheVariants as lexemes
 use Rattle.pap_expr.specs.Tokens.{Token, word, sign}
 use Rattle.pap_expr.specs.Assignments.{is_numeral}
-
--- a token of the program
-abbrev pub token_of : Lexeme → Token
-token_of (lexemes.Word w) = word w.now
-token_of (lexemes.Sign b) = sign b
-
-abbrev pub tokens_of : List Lexeme → List Token
-tokens_of ts = map token_of ts
 
 -- the whole number that a word is
 abbrev pub number_of : List ℕ → Option ℕ
@@ -78,9 +66,3 @@ target_read w ts = if is_name w then assigned w (option_and_then sum_read (after
 
 abbrev pub assignment_read : List Token → Option (List ℕ × Term)
 assignment_read ts = option_and_then (λ f. target_read f.0 f.1) (first_word ts)
-
--- The program answers as the decision does, unless memory ran out.
-abbrev pub Answers : {X Y : Type 0} → (X → Y) → Option Y → Result X ExprFault → Type 0
-Answers view answer (Ok x) = answer ≡ Some (view x)
-Answers view answer (Err Unbuilt) = answer ≡ None
-Answers view answer (Err Memory) = Unit {0}

@@ -8,9 +8,9 @@ abbrev pub OneReading : List ℕ → Type 0
 OneReading text = (target target' : List ℕ) (value value' : Term) → IsAssignment text target value → IsAssignment text target' value' → (target ≡ target') × (value ≡ value')
 
 -- no target and value have this text
-abbrev pub NoReading : List ℕ → Type 0
-NoReading text = (target : List ℕ) (value : Term) → ¬ (IsAssignment text target value)
+abbrev pub IsNoAssignment : List ℕ → Type 0
+IsNoAssignment text = (target : List ℕ) (value : Term) → ¬ (IsAssignment text target value)
 
 -- a text is an assignment, or it is none
 abbrev pub IsDecided : List ℕ → Type 0
-IsDecided text = ((target : List ℕ) × (value : Term) × IsAssignment text target value) ⊎ NoReading text
+IsDecided text = ((target : List ℕ) × (value : Term) × IsAssignment text target value) ⊎ IsNoAssignment text

@@ -1,4 +1,5 @@
 pub mod Tokens
 pub mod Assignments
-pub mod Decisions
 pub mod Laws
+pub mod Decisions
+pub mod Answers

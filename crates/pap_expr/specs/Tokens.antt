@@ -15,9 +15,8 @@ starts_word (b ∷ bs) = is_word b
 
 -- a byte put before the word that stands first
 abbrev pub longer : ℕ → List Token → List Token
-longer b [] = word (b ∷ []) ∷ []
-longer b (sign s ∷ ts) = word (b ∷ []) ∷ sign s ∷ ts
 longer b (word w ∷ ts) = word (b ∷ w) ∷ ts
+longer b ts = word (b ∷ []) ∷ ts
 
 -- The tokens of a text. A word is as long as it can be. White space stands before, between and after the tokens.
 abbrev pub tokens : List ℕ → List Token

@@ -3,8 +3,9 @@ ghost use Rattle.std.specs.Prelude.{◌≡◌, ℕ, ◌≤◌, List, IfOk, IsErr
 ghost use Rattle.pap_tree.specs.Term.{term_of};
 ghost use Rattle.pap_tree.specs.Numbering.{nodes};
 ghost use Rattle.pap_expr.specs.Assignments.{IsAssignment};
-ghost use Rattle.pap_expr.specs.Laws.{OneReading, NoReading, IsDecided};
-ghost use Rattle.pap_expr.specs.Decisions.{tokens_of, assignment_read, sum_read, Answers};
+ghost use Rattle.pap_expr.specs.Laws.{OneReading, IsNoAssignment, IsDecided};
+ghost use Rattle.pap_expr.specs.Decisions.{assignment_read, sum_read};
+ghost use Rattle.pap_expr.specs.Answers.{tokens_of, Answers};
 
 use crate::ExprFault;
 use crate::terms::{binary, next_operator, next_term};
@@ -16,8 +17,8 @@ use std::alloc::Global;
 /// them. At most 1,000 tokens. All other texts are `Unbuilt`.
 pub fn parse_assign(alloc: Global, text: &[u8]) -> Result<(Name, Expr), ExprFault>
     ensures read { IfOk result (λ assignment. IsAssignment text.now assignment.0 (term_of assignment.1)) }
-    ensures unbuilt { IsErrOf result ExprFault.Unbuilt → NoReading text.now }
-    // Each token after the `=` is a node of the value.
+    ensures unbuilt { IsErrOf result ExprFault.Unbuilt → IsNoAssignment text.now }
+    // Each token after the `=` is one node of the value.
     ensures small { IfOk result (λ assignment. nodes (term_of assignment.1) ≤ 998) }
 {
     let tokens = read_tokens(alloc, text)?;

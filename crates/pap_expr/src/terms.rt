@@ -2,7 +2,8 @@
 ghost use Rattle.std.specs.Prelude.{◌≡◌, ◌<◌, length, pos, Some, None, IfSome, MatchOption, MatchResult};
 ghost use Rattle.std.specs.Option.{option_map};
 ghost use Rattle.pap_tree.specs.Term.{term_of, two};
-ghost use Rattle.pap_expr.specs.Decisions.{tokens_of, number_of, term_read, first_term, first_operator};
+ghost use Rattle.pap_expr.specs.Decisions.{number_of, term_read, first_term, first_operator};
+ghost use Rattle.pap_expr.specs.Answers.{tokens_of};
 
 use crate::ExprFault;
 use crate::tokens::{Token, next_sign, next_word};

@@ -4,7 +4,8 @@ ghost use Rattle.std.specs.List.{prefix_len};
 ghost use Rattle.pap_tree.specs.Names.{is_word};
 ghost use Rattle.pap_tree.specs.White.{is_white};
 ghost use Rattle.pap_expr.specs.Tokens.{tokens};
-ghost use Rattle.pap_expr.specs.Decisions.{token_of, tokens_of, first_word, first_sign, after_equals};
+ghost use Rattle.pap_expr.specs.Decisions.{first_word, first_sign, after_equals};
+ghost use Rattle.pap_expr.specs.Answers.{token_of, tokens_of};
 ghost use Rattle.pap_expr.specs.Assignments.{most_tokens};
 
 use crate::ExprFault;

@@ -2,14 +2,15 @@ use Rattle.std.proofs.Common.{IsErrOf}
 use Rattle.pap_tree.specs.Term.{term_of}
 use Rattle.pap_expr.specs.declared.fault.ExprFault.TheVariants.{Unbuilt}
 use Rattle.pap_expr.specs.Tokens.{tokens}
-use Rattle.pap_expr.specs.Decisions.{assignment_read, Answers}
+use Rattle.pap_expr.specs.Decisions.{assignment_read}
+use Rattle.pap_expr.specs.Answers.{Answers}
 use Rattle.pap_expr.proofs.Readings.{ok_is_assignment, ok_is_small, none_read}
 use Rattle.pap_expr.proofs.assignment.parse_assign.Goals as goal
 
 pub returns-clause-read : goal.returns-clause-read
 returns-clause-read c =
     ok_is_assignment c.args.text.now c.parse_tokens.result c.in_ok-tokens.ensures.few
-      (rw (c.deref.ensures.value, c.in_ok-tokens.ensures.read) at c.parse_tokens.ensures)
+    (rw (c.deref.ensures.value, c.in_ok-tokens.ensures.read) at c.parse_tokens.ensures)
 
 pub returns-clause-unbuilt : goal.returns-clause-unbuilt
 returns-clause-unbuilt c = λ e. none_read c.args.text.now (rw (e, c.deref.ensures.value, c.in_ok-tokens.ensures.read) at c.parse_tokens.ensures)

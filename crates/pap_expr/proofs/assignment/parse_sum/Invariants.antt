@@ -1,6 +1,7 @@
 use Rattle.std.proofs.Common.{◌≡◌, length}
 use Rattle.pap_tree.specs.Term.{term_of}
-use Rattle.pap_expr.specs.Decisions.{tokens_of, sum_on, sum_read}
+use Rattle.pap_expr.specs.Decisions.{sum_on, sum_read}
+use Rattle.pap_expr.specs.Answers.{tokens_of}
 use Rattle.pap_expr.proofs.assignment.parse_sum.Given as goal
 
 abbrev pub invariant-loop-rest : goal.invariant-loop-rest

@@ -14,4 +14,4 @@ returns-in-len1-up-clause-some c =
 pub returns-in_default-clause-some : goal.returns-in_default-clause-some
 returns-in_default-clause-some c =
     rw (c.split_at-in_default.ensures.front, c.split_at-in_default.ensures.back, c.word_len.ensures.count)
-      (at_word c.args.text.now c.split_at.result.1.now (rw (← c.white_len.ensures.count) c.split_at.ensures.back) (omega arith) (sym c.is_word.ensures ∙ c.if-not-is_word.false))
+    (at_word c.args.text.now c.split_at.result.1.now (rw (← c.white_len.ensures.count) c.split_at.ensures.back) (omega arith) (sym c.is_word.ensures ∙ c.if-not-is_word.false))

@@ -1,6 +1,6 @@
 use Rattle.std.proofs.Common.{◌≡◌, ◌≤◌, ◌++◌, length, vec_len}
 use Rattle.pap_expr.specs.Tokens.{tokens}
-use Rattle.pap_expr.specs.Decisions.{tokens_of}
+use Rattle.pap_expr.specs.Answers.{tokens_of}
 use Rattle.pap_expr.proofs.tokens.read_tokens.Given as goal
 
 abbrev pub invariant-loop-token : goal.invariant-loop-token
