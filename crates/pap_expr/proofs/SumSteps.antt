@@ -1,13 +1,14 @@
 -- A sum, an operator and a term at a time.
-use Rattle.std.proofs.Common.{◌≡◌, ℕ, ◌<◌, Option, Some, None, Result, Ok, Err, List, [], ◌∷◌, length, refl, sym, ap, ◌∙◌, arith, IsErrAnd}
+use Rattle.std.proofs.Common.{◌≡◌, ℕ, ◌<◌, false, cond, Option, Some, None, Result, Ok, Err, List, [], ◌∷◌, length, refl, ap, ◌∙◌, arith, IsErrAnd}
 use Rattle.std.specs.Option.{option_and_then, option_map, ok_or}
 use Rattle.std.proofs.lemmas.Option.{some_pair_parts}
 use Rattle.pap_tree.specs.declared.tree.Binary.{Binary}
+use Rattle.pap_tree.specs.Names.{is_name}
 use Rattle.pap_tree.specs.Term.{Term, two}
 use Rattle.pap_expr.specs.declared.fault.ExprFault.{ExprFault}
 use Rattle.pap_expr.specs.declared.fault.ExprFault.TheVariants.{Unbuilt, Memory}
 use Rattle.pap_expr.specs.Tokens.{Token, word, sign}
-use Rattle.pap_expr.specs.Decisions.{term_read, operator_of, first_operator, first_term, sum_on}
+use Rattle.pap_expr.specs.Decisions.{term_read, operator_of, first_word, first_operator, first_term, after_equals, sum_on, sum_read, assigned, target_read, assignment_read}
 use Rattle.pap_expr.specs.Answers.{Answers}
 
 abbrev pub pair : {A B : Type 0} → A → B → A × B
@@ -57,7 +58,12 @@ no_term_on x b (word w ∷ us) op o e =
 pub no_term : (x : Term) (op : Binary) (ts us : List Token) → first_operator ts ≡ Some (pair op us) → first_term us ≡ None → sum_on x ts ≡ None
 no_term x op ts us e f = let o = operator_parts ts us op e in ap (sum_on x) o.1 ∙ no_term_on x o.0 us op o.2 f
 
--- where a function goes on from a missing part by `Unbuilt`
+-- what has no name before `=` is no assignment
+pub no_target : (ts us : List Token) (w : List ℕ) → first_word ts ≡ Some (pair w us) → is_name w ≡ false → assignment_read ts ≡ None
+no_target ts us w e f =
+    ap (option_and_then (λ f. target_read f.0 f.1)) e ∙ ap (λ t. cond t (assigned w (option_and_then sum_read (after_equals us))) None) f
+
+-- what a function returns for a part that is missing
 pub answers_unbuilt : {X Y Z : Type 0} (view : X → Y) (answer : Option Y) (r : Result X ExprFault) (o : Option Z) (fault : ExprFault) → IsErrAnd r (λ e. e ≡ fault) → Err fault ≡ ok_or o Unbuilt → o ≡ None → answer ≡ None → Answers view answer r
 answers_unbuilt view answer (Ok x) o fault h e n a = absurd h
 answers_unbuilt view answer (Err Unbuilt) o fault h e n a = a

@@ -23,14 +23,12 @@ operator_of b = if b == 43 then Some Plus else (if b == 45 then Some Sub else No
 
 -- the word, the sign, the term or the operator that stands first, and the tokens after it
 abbrev pub first_word : List Token → Option (List ℕ × List Token)
-first_word [] = None
 first_word (word w ∷ ts) = Some (w, ts)
-first_word (sign b ∷ ts) = None
+first_word ts = None
 
 abbrev pub first_sign : List Token → Option (ℕ × List Token)
-first_sign [] = None
-first_sign (word w ∷ ts) = None
 first_sign (sign b ∷ ts) = Some (b, ts)
+first_sign ts = None
 
 abbrev pub first_term : List Token → Option (Term × List Token)
 first_term ts = option_and_then (λ f. option_map (λ x. (x, f.1)) (term_read f.0)) (first_word ts)
@@ -45,11 +43,9 @@ after_equals ts = option_and_then (λ f. if f.0 == 61 then Some f.1 else None) (
 -- the sum that goes on from a term with these tokens
 abbrev pub sum_on : Term → List Token → Option Term
 sum_on x [] = Some x
-sum_on x (word w ∷ ts) = None
-sum_on x (sign b ∷ []) = None
-sum_on x (sign b ∷ sign c ∷ ts) = None
 sum_on x (sign b ∷ word w ∷ ts) =
     option_and_then (λ op. option_and_then (λ y. sum_on (two op x y) ts) (term_read w)) (operator_of b)
+sum_on x ts = None
 
 -- the sum of these tokens
 abbrev pub sum_read : List Token → Option Term

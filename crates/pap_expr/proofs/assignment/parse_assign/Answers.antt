@@ -1,9 +1,3 @@
-use Rattle.std.proofs.Common.{IsErrOf}
-use Rattle.pap_tree.specs.Term.{term_of}
-use Rattle.pap_expr.specs.declared.fault.ExprFault.TheVariants.{Unbuilt}
-use Rattle.pap_expr.specs.Tokens.{tokens}
-use Rattle.pap_expr.specs.Decisions.{assignment_read}
-use Rattle.pap_expr.specs.Answers.{Answers}
 use Rattle.pap_expr.proofs.Readings.{ok_is_assignment, ok_is_small, none_read}
 use Rattle.pap_expr.proofs.assignment.parse_assign.Goals as goal
 

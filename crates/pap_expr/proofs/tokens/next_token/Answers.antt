@@ -1,5 +1,4 @@
-use Rattle.std.proofs.Common.{sym, ap, ◌∙◌, arith}
-use Rattle.pap_tree.specs.White.{is_white}
+use Rattle.std.proofs.Common.{sym, ◌∙◌, arith}
 use Rattle.pap_expr.proofs.TokenLemmas.{at_nothing, at_sign, at_word}
 use Rattle.pap_expr.proofs.tokens.next_token.Goals as goal
 
