@@ -1,0 +1,4 @@
+pub mod TokenLemmas
+pub mod Readings
+pub mod Numbers
+pub mod SumSteps

@@ -1,0 +1,5 @@
+pub mod Tokens
+pub mod Assignments
+pub mod Laws
+pub mod Decisions
+pub mod Answers
