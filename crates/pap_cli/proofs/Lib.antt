@@ -3,3 +3,8 @@ pub mod BodyLemmas
 pub mod DeclaredLemmas
 pub mod RefusalLemmas
 pub mod UnknownLemmas
+pub mod PlanLemmas
+pub mod OnceLemmas
+pub mod WordLemmas
+pub mod PlanLaws
+pub mod HeadlineLemmas

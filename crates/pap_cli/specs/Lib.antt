@@ -7,3 +7,9 @@ pub mod Unknowns
 pub mod Limits
 pub mod Answers
 pub mod Replies
+pub mod Plans
+pub mod PlanFaults
+pub mod Once
+pub mod Words
+pub mod Statuses
+pub mod Stops

@@ -2,10 +2,17 @@
 #![tactic(auto)]
 
 mod answer;
+mod call;
 mod environment;
 mod evaluation;
 mod failure;
+mod once;
+mod plan;
 mod running;
+mod status;
+mod stop;
 mod unknown;
+mod words;
 
-pub use failure::{Cause, Failure, Fault};
+pub use call::{answer_laws, papcalc};
+pub use status::Status;

@@ -1,0 +1,8 @@
+use Rattle.pap_cli.proofs.PlanLaws.{one_answer, has_answer}
+use Rattle.pap_cli.proofs.call.answer_laws.Goals as goal
+
+pub returns-clause-one : goal.returns-clause-one
+returns-clause-one c = one_answer
+
+pub returns-clause-always : goal.returns-clause-always
+returns-clause-always c = has_answer
