@@ -8,7 +8,7 @@ use Rattle.pap_reader.proofs.PlanLemmas.{small_plan_one, small_plan_decided}
 use Rattle.pap_expr.specs.Assignments.{IsAssignment}
 use Rattle.pap_expr.proofs.Readings.{one_reading, decided}
 use Rattle.pap_cli.specs.Answers.{Answer, refusal, answer_of}
-use Rattle.pap_cli.specs.Plans.{AreStatements, IsPlan, OnePlan, NoPlan, IsDecidedPlan}
+use Rattle.pap_cli.specs.Plans.{AreStatements, IsPlan, OnePlan, IsNoPlan, IsDecidedPlan}
 use Rattle.pap_cli.specs.Once.{IsBuilt, IsUnbuilt, Answers, OneAnswer, HasAnswer}
 use Rattle.pap_cli.proofs.PlanLemmas.{no_statement}
 

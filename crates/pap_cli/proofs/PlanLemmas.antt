@@ -14,11 +14,11 @@ use Rattle.pap_reader.specs.SmallPlans.{RawPlan, IsSmallPlan}
 use Rattle.pap_reader.specs.declared.limits.TheConstants.{MOST_STATEMENTS}
 use Rattle.pap_expr.specs.declared.fault.ExprFault.{ExprFault}
 use Rattle.pap_expr.specs.declared.fault.ExprFault.TheVariants as exprs
-use Rattle.pap_expr.specs.Laws.{OneReading, NoReading, IsDecided}
+use Rattle.pap_expr.specs.Laws.{OneReading, IsNoAssignment}
 use Rattle.pap_cli.specs.declared.plan.PlanFault.TheVariants.{Unbuilt}
 use Rattle.pap_cli.specs.Limits.{SmallTerms, IsWithinLimits}
 use Rattle.pap_cli.specs.PlanFaults.{read_fault, expr_fault}
-use Rattle.pap_cli.specs.Plans.{AreStatements, IsPlan, OnePlan, NoPlan}
+use Rattle.pap_cli.specs.Plans.{AreStatements, IsPlan, OnePlan, IsNoPlan}
 
 pub read_unbuilt : (f : ReadFault) → read_fault f ≡ Unbuilt → f ≡ reads.Unbuilt
 read_unbuilt reads.Unbuilt e = refl
@@ -56,7 +56,7 @@ no_statements (r ∷ raw) (suc i) s is lt none (eval x e rest) h = no_statements
 no_statements (r ∷ raw) (suc i) s is lt none (choose t a b rest) h = h
 no_statements (r ∷ raw) (suc i) s is lt none (execute m rest) h = h
 
-pub no_statement : (t : List ℕ) → NoReading t → (texts : List (List ℕ)) (body : Body) → AreStatements (t ∷ texts) body → ⊥
+pub no_statement : (t : List ℕ) → IsNoAssignment t → (texts : List (List ℕ)) (body : Body) → AreStatements (t ∷ texts) body → ⊥
 no_statement t none texts done h = h
 no_statement t none texts (eval x e rest) h = none x e h.0
 no_statement t none texts (choose c a b rest) h = h

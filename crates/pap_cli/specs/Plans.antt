@@ -27,9 +27,9 @@ abbrev pub OnePlan : List ℕ → Type 0
 OnePlan bytes = (p q : Plan) → IsPlan bytes p → IsPlan bytes q → p ≡ q
 
 -- the bytes are no plan that is built yet
-abbrev pub NoPlan : List ℕ → Type 0
-NoPlan bytes = (p : Plan) → ¬ (IsPlan bytes p)
+abbrev pub IsNoPlan : List ℕ → Type 0
+IsNoPlan bytes = (p : Plan) → ¬ (IsPlan bytes p)
 
 -- the bytes are a plan that is built, or none
 abbrev pub IsDecidedPlan : List ℕ → Type 0
-IsDecidedPlan bytes = ((p : Plan) × IsPlan bytes p) ⊎ NoPlan bytes
+IsDecidedPlan bytes = ((p : Plan) × IsPlan bytes p) ⊎ IsNoPlan bytes

@@ -3,7 +3,7 @@ ghost use Rattle.std.specs.Prelude.{◌≡◌, ◌≤◌, ℕ, List, [], ◌∷�
 ghost use Rattle.pap_tree.specs.Body.{Body, plan_of, body_of, names_of};
 ghost use Rattle.pap_reader.specs.Elements.{exec_of, execs_of, names_of as raw_names_of};
 ghost use Rattle.pap_cli.specs.Limits.{IsWithinLimits, SmallTerms};
-ghost use Rattle.pap_cli.specs.Plans.{IsPlan, NoPlan, AreStatements};
+ghost use Rattle.pap_cli.specs.Plans.{IsPlan, IsNoPlan, AreStatements};
 ghost use Rattle.pap_cli.specs.PlanFaults.{read_fault, expr_fault};
 ghost use Rattle.pap_cli.specs.declared.plan.PlanFault.TheVariants.{Memory};
 
@@ -101,7 +101,7 @@ fn read_statements(alloc: Global, raw: &[RawStmt]) -> Result<Vec<Stmt>, PlanFaul
 pub fn read_plan(alloc: Global, bytes: &[u8]) -> Result<PlanText, PlanFault>
     ensures read { IfOk result (λ plan. IsPlan bytes.now (plan_of plan)) }
     ensures small { IfOk result (λ plan. IsWithinLimits (plan_of plan).main) }
-    ensures unbuilt { IsErrOf result PlanFault.Unbuilt → NoPlan bytes.now }
+    ensures unbuilt { IsErrOf result PlanFault.Unbuilt → IsNoPlan bytes.now }
 {
     let elements = read_elements(alloc, bytes)?;
     let main = read_statements(alloc, &elements.main)?;

@@ -7,7 +7,10 @@ pub fn once_files(words: &[String]) -> Option<(&str, &str)>
     ensures { MatchOption result (IsBad (texts words.now)) (λ files. IsOnce (texts words.now) files.0.now files.1.now) }
 {
     match words {
-        [command, plan, limits] if command.as_str() == "once" => Some((plan.as_str(), limits.as_str())),
+        [command, plan, limits] if command.as_str() == "once" => Some((
+            plan.as_str(),
+            limits.as_str(),
+        )),
         _ => None,
     }
 }

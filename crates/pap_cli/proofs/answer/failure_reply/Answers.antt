@@ -1,8 +1,8 @@
-use Rattle.std.proofs.Common.{rules, ◌≡◌, ◌∷◌, [], ◌++◌, ◌∙◌, ap, sym}
+use Rattle.std.proofs.Common.{rules, ◌≡◌, ◌∷◌, [], ◌++◌, ◌∙◌, ap}
 use Rattle.std.specs.Prelude.{string_bytes, codes}
 use Rattle.pap_tree.specs.Body.{body_of}
 use Rattle.pap_cli.specs.Causes.{cause_name}
-use Rattle.pap_cli.specs.Answers.{text_of, spelling_at}
+use Rattle.pap_cli.specs.Answers.{text_of}
 use Rattle.pap_cli.proofs.RefusalLemmas.{failure_line}
 use Rattle.pap_cli.proofs.answer.failure_reply.Goals as goal
 

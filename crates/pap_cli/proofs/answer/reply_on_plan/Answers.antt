@@ -1,4 +1,4 @@
-use Rattle.std.proofs.Common.{◌∙◌, sym, ap}
+use Rattle.std.proofs.Common.{sym}
 use Rattle.std.specs.Prelude.{codes}
 use Rattle.pap_tree.specs.Body.{names_of, body_of}
 use Rattle.pap_cli.proofs.UnknownLemmas.{all_known}

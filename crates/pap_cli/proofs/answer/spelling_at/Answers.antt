@@ -1,4 +1,4 @@
-use Rattle.std.proofs.Common.{◌≡◌, ◌∙◌, sym, ap, refl, arith}
+use Rattle.std.proofs.Common.{arith}
 use Rattle.pap_tree.specs.Body.{done}
 use Rattle.pap_tree.specs.Term.{term_of}
 use Rattle.pap_cli.proofs.BodyLemmas.{term_at-place, term_at-past, small_at}

@@ -1,4 +1,4 @@
-use Rattle.std.proofs.Common.{◌≡◌, true, ap, ◌∙◌}
+use Rattle.std.proofs.Common.{ap, ◌∙◌}
 use Rattle.pap_cli.specs.Unknowns.{is_declared}
 use Rattle.pap_cli.proofs.DeclaredLemmas.{declared_at}
 use Rattle.pap_cli.proofs.answer.write_outputs.Goals as goal

@@ -1,4 +1,4 @@
-use Rattle.std.proofs.Common.{◌≡◌, true, subst, ap, ◌∙◌, map}
+use Rattle.std.proofs.Common.{subst, map}
 use Rattle.pap_tree.specs.Term.{term_of}
 use Rattle.pap_cli.specs.Unknowns.{Knows}
 use Rattle.pap_cli.proofs.EnvironmentLemmas.{declared_has_value}

@@ -2,7 +2,7 @@ use Rattle.std.proofs.Common.{rules, ◌≡◌, ◌∙◌, sym, ap, subst}
 use Rattle.std.specs.Prelude.{Err}
 use Rattle.std.proofs.lemmas.Result.{err_from_is_err_and}
 use Rattle.pap_reader.specs.Elements.{exec_of}
-use Rattle.pap_expr.specs.Laws.{NoReading}
+use Rattle.pap_expr.specs.Laws.{IsNoAssignment}
 use Rattle.pap_cli.specs.PlanFaults.{expr_fault}
 use Rattle.pap_cli.specs.declared.plan.PlanFault.TheVariants.{Unbuilt}
 use Rattle.pap_cli.proofs.PlanLemmas.{expr_unbuilt, no_statement}
@@ -14,4 +14,4 @@ returns-in_err-target-clause-unbuilt c = λ unbuilt.
     let fault : expr_fault c.in_err-target.field-0.0 ≡ Unbuilt = cc (p.1, p.2, unbuilt) in
     let text : c.deref.result.now ≡ exec_of c.args.s.now = search rules in
     let none = c.in_err-target.ensures.unbuilt (ap (λ f. Err f) (expr_unbuilt c.in_err-target.field-0.0 fault)) in
-    no_statement (exec_of c.args.s.now) (subst NoReading text none)
+    no_statement (exec_of c.args.s.now) (subst IsNoAssignment text none)

@@ -1,4 +1,4 @@
-use Rattle.std.proofs.Common.{◌≡◌, ◌∙◌, [], ◌∷◌, sym, ap}
+use Rattle.std.proofs.Common.{◌∙◌, [], ◌∷◌, sym, ap}
 use Rattle.std.specs.Prelude.{string_bytes, codes}
 use Rattle.pap_cli.specs.Words.{texts}
 use Rattle.pap_cli.proofs.WordLemmas.{three_items, same_word}
