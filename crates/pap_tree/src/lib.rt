@@ -17,3 +17,6 @@ pub use place::Place;
 pub use printing::print_expr;
 pub use tree::{Binary, Declared, Expr, PlanText, Stmt};
 pub use white::is_white;
+
+#[cfg(test)]
+mod tests;
