@@ -16,3 +16,6 @@ mod words;
 
 pub use call::{answer_laws, papcalc};
 pub use status::Status;
+
+#[cfg(test)]
+mod tests;
