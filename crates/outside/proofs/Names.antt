@@ -1,6 +1,6 @@
 -- Files of distinct names.
 use Rattle.std.specs.Prelude.{◌≡◌, ◌≢◌, ◌<◌, ℕ, zero, suc, List, [], ◌∷◌, length, Some, All, AllPairs, slice_index_or}
-use Rattle.std.proofs.Common.{refl, rules, arith, true, false}
+use Rattle.std.proofs.Common.{refl, arith}
 use Rattle.std.specs.Str.{bytes_eq}
 use Rattle.std.proofs.lemmas.Bool.{false_from_ne_true}
 use Rattle.std.proofs.lemmas.Slice.Eq.{bytes_eq-Decides}

@@ -1,4 +1,4 @@
-use Rattle.std.proofs.Common.{◌≡◌, ◌∙◌, sym, ap, rules, arith}
+use Rattle.std.proofs.Common.{◌∙◌, sym, ap}
 use Rattle.outside.specs.Values.{SourceInMemory}
 use Rattle.outside.proofs.Bytes.{given_front, given_nothing}
 use Rattle.outside.proofs.memory.MemSourceSource.take.Goals as goal
