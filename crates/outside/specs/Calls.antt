@@ -9,7 +9,8 @@ files_after_call old = record old { calls = next_count old.calls }
 
 -- the call failed at this name
 abbrev pub files_after_fault : FilesInMemory → List ℕ → FilesInMemory
-files_after_fault old name = record old { calls = next_count old.calls; faults = next_count old.faults; failed = Some name }
+files_after_fault old name =
+    record old { calls = next_count old.calls; faults = next_count old.faults; failed = Some name }
 
 -- the call gave so many bytes
 abbrev pub source_after_take : SourceInMemory → ℕ → SourceInMemory
