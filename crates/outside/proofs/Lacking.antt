@@ -15,10 +15,10 @@ lacking files (Some text) name lacks e = let same : string_bytes text ≡ name =
 pub sure_lacks : (s : SureFiles) (name : List ℕ) → sure_failed s ≡ Some name → file_named (sure_files s) name ≡ None
 sure_lacks s name e = lacking (sure_files s) s.failed name s.lacks e
 
--- a call that left the files as they were and failed at this name failed at one that isn't there
 abbrev told_at : Option (List ℕ → Option (List ℕ)) → List ℕ → Option (List ℕ)
 told_at None name = None
 told_at (Some files) name = files name
 
+-- a call that left the files as they were and failed at this name failed at one that isn't there
 pub sure_lacked : (old new : SureFiles) (name : List ℕ) → ◌≡◌ {A = Option (List ℕ → Option (List ℕ))} (Some (file_named (sure_files new))) (Some (file_named (sure_files old))) → sure_failed new ≡ Some name → file_named (sure_files old) name ≡ None
 sure_lacked old new name same e = sym (ap (λ told. told_at told name) same) ∙ sure_lacks new name e
