@@ -1,18 +1,30 @@
--- What contracts see of the adapters: how many calls failed, and of files the name of the last that failed.
+-- What contracts see of the adapters.
 use Rattle.std.specs.Prelude.{ℕ, List, Option}
 use Rattle.outside.specs.Memory.{name_bytes}
 use Rattle.outside.specs.declared.real.RealFiles.{RealFiles}
 use Rattle.outside.specs.declared.real.StdSource.{StdSource}
 use Rattle.outside.specs.declared.real.StdSink.{StdSink}
 
+-- how many calls failed
 abbrev pub real_faults : {R F D : Type 0} → RealFiles R F D → ℕ
 real_faults s = s.faults
 
+-- the name of the last call that failed
 abbrev pub real_failed : {R F D : Type 0} → RealFiles R F D → Option (List ℕ)
 real_failed s = name_bytes s.failed
 
+-- how many calls failed
 abbrev pub source_faults : {R : Type 0} → StdSource R → ℕ
 source_faults s = s.faults
 
+-- the reader below
+abbrev pub source_reader : {R : Type 0} → StdSource R → R
+source_reader s = s.inner
+
+-- how many calls failed
 abbrev pub sink_faults : {W : Type 0} → StdSink W → ℕ
 sink_faults s = s.faults
+
+-- the writer below
+abbrev pub sink_writer : {W : Type 0} → StdSink W → W
+sink_writer s = s.inner

@@ -1,35 +1,47 @@
 -- What contracts see of the objects that hold their bytes in memory.
 use Rattle.std.specs.Prelude.{ℕ, List, Option}
 
--- the name and the content of each file, the numbers of the calls that fail, how many calls came, how many failed, and
--- the name of the last that failed
+-- of `MemFiles`
 pub record FilesInMemory : Type 0 where
+  -- the name and the content of each file
   pub files : List (List ℕ × List ℕ)
+  -- the numbers of the calls that fail, counted from 1
   pub fails : List ℕ
+  -- how many calls came, and how many of them failed
   pub calls : ℕ
   pub faults : ℕ
+  -- the name that the last failed call asked for
   pub failed : Option (List ℕ)
 
--- the bytes that are left, how many a call gives at most, the numbers of the calls that fail, how many calls came, and
--- how many failed
+-- of `MemSource`
 pub record SourceInMemory : Type 0 where
+  -- the bytes that are left
   pub left : List ℕ
+  -- how many of them a call gives at most
   pub most : ℕ
+  -- the numbers of the calls that fail, counted from 1
   pub fails : List ℕ
+  -- how many calls came, and how many of them failed
   pub calls : ℕ
   pub faults : ℕ
 
--- the bytes that were written, how many more there is room for, how many a call takes at most, the numbers of the calls
--- that fail, how many calls came, and how many failed
+-- of `MemSink`
 pub record SinkInMemory : Type 0 where
+  -- the bytes that were written
   pub written : List ℕ
+  -- how many more there is room for
   pub room : ℕ
+  -- how many a call takes at most
   pub most : ℕ
+  -- the numbers of the calls that fail, counted from 1
   pub fails : List ℕ
+  -- how many calls came, and how many of them failed
   pub calls : ℕ
   pub faults : ℕ
 
--- the bytes that are left, and how many a call gives at most
+-- of `SureSource`
 pub record SureBytes : Type 0 where
+  -- the bytes that are left
   pub left : List ℕ
+  -- how many of them a call gives at most
   pub most : ℕ

@@ -1,0 +1,8 @@
+-- What an answer prints as.
+use Rattle.std.specs.Prelude.{ℕ, List, codes}
+use Rattle.outside.specs.declared.traits.FileAnswer.{FileAnswer}
+use Rattle.outside.specs.declared.traits.FileAnswer.TheVariants.{Failed, Memory}
+
+abbrev pub answer_text : FileAnswer → List ℕ
+answer_text Failed = codes "the file couldn't be read"
+answer_text Memory = codes "out of memory"
