@@ -12,6 +12,7 @@ use Rattle.pap_reader.specs.SmallPlans.{RawPlan, output_tag, eval_tag, is_plain}
 abbrev pub before_tag : List ℕ → List ℕ
 before_tag bytes = before_first (λ b. b == 60) bytes
 
+-- without the white space at its end
 abbrev pub without_white_end : List ℕ → List ℕ
 without_white_end [] = []
 without_white_end (b ∷ bytes) =
@@ -31,6 +32,7 @@ within n m text = take (length text - n - m) (drop n text)
 abbrev pub name_in : List ℕ → List ℕ
 name_in tag = within 14 14 tag
 
+-- whether a tag declares an output
 abbrev pub is_output : List ℕ → Bool
 is_output tag = bytes_eq tag (output_tag (name_in tag)) && is_name (name_in tag)
 
@@ -38,6 +40,7 @@ is_output tag = bytes_eq tag (output_tag (name_in tag)) && is_name (name_in tag)
 abbrev pub exec_in : List ℕ → List ℕ
 exec_in tag = within 12 3 tag
 
+-- whether a tag is an EVAL with a plain text
 abbrev pub is_eval : List ℕ → Bool
 is_eval tag = bytes_eq tag (eval_tag (exec_in tag)) && is_plain (exec_in tag)
 
@@ -59,11 +62,12 @@ names_in tags = leading is_output name_in tags
 abbrev pub execs_in : List (List ℕ) → List (List ℕ)
 execs_in tags = leading is_eval exec_in tags
 
--- no name comes twice
+-- whether no name comes twice
 abbrev pub are_distinct : List (List ℕ) → Bool
 are_distinct [] = true
 are_distinct (name ∷ names) = not (list_any (λ other. bytes_eq other name) names) && are_distinct names
 
+-- one output at least and no two of one name, neither too many outputs nor too many statements
 abbrev pub is_within_limits : RawPlan → Bool
 is_within_limits p =
     nat_lt 0 (length p.outputs)

@@ -1,4 +1,5 @@
 pub mod SmallPlans
 pub mod Elements
+pub mod Faults
 pub mod Decisions
 pub mod Clauses

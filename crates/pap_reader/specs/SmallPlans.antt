@@ -11,6 +11,7 @@ pub record RawPlan : Type 0 where
   pub outputs : List (List ℕ)
   pub execs : List (List ℕ)
 
+-- white space only
 abbrev pub IsWhite : List ℕ → Type 0
 IsWhite bytes = IsTrue (list_all is_white bytes)
 
@@ -20,9 +21,11 @@ Stand [] bytes = IsWhite bytes
 Stand (tag ∷ tags) bytes =
     (white : List ℕ) × (rest : List ℕ) × (bytes ≡ white ++ (tag ++ rest)) × IsWhite white × Stand tags rest
 
+-- a whole number of Java's type int is declared, by its name
 abbrev pub output_tag : List ℕ → List ℕ
 output_tag name = codes "<OUTPUT name=\"" ++ (name ++ codes "\" type=\"int\"/>")
 
+-- an assignment, by the text of its attribute
 abbrev pub eval_tag : List ℕ → List ℕ
 eval_tag exec = codes "<EVAL exec=\"" ++ (exec ++ codes "\"/>")
 
@@ -50,6 +53,7 @@ is_plain_byte b = nat_lt b 128 && not (b == 34) && not (b == 60) && not (b == 38
 abbrev pub is_plain : List ℕ → Bool
 is_plain text = nat_le (length text) LONGEST_EXPRESSION && list_all is_plain_byte text
 
+-- the bytes are the text of a small plan, and p is what is written in it
 pub record IsSmallPlan (bytes : List ℕ) (p : RawPlan) : Type 0 where
   pub tags : Stand (tags_of p) bytes
   pub short : length bytes ≤ LONGEST_PLAN

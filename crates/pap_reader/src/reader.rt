@@ -1,8 +1,6 @@
 // The reader of small plans.
-ghost use Rattle.std.specs.Prelude.{◌≡◌, ◌++◌, ℕ, List, [], ◌∷◌, ◌⊎◌, ◌↔◌, IsTrue, IfOk, IsErrOf, MatchOption};
-ghost use Rattle.std.specs.List.{AllPass};
-ghost use Rattle.pap_tree.specs.Names.{is_name};
-ghost use Rattle.pap_reader.specs.SmallPlans.{RawPlan, IsSmallPlan, opening, middle, closing, tags_of, is_plain};
+ghost use Rattle.std.specs.Prelude.{◌≡◌, ◌++◌, ℕ, List, ◌⊎◌, ◌↔◌, IsTrue, IfOk, IsErrOf, MatchOption};
+ghost use Rattle.pap_reader.specs.SmallPlans.{RawPlan, IsSmallPlan, opening, middle, closing};
 ghost use Rattle.pap_reader.specs.Elements.{raw_plan_of, names_of, execs_of};
 ghost use Rattle.pap_reader.specs.Decisions.{tags_in, is_output, names_in, is_eval, execs_in, after_leading};
 ghost use Rattle.pap_reader.specs.Clauses.{IsReadAs, BeginOtherwise};
@@ -13,7 +11,8 @@ use crate::limits::{LONGEST_PLAN, is_within_limits};
 use crate::tags::{after_tag, next_eval, next_output, next_tag, starts_white};
 use std::alloc::{AllocError, Global};
 
-/// What is written in a plan's file. `Unbuilt` where the text is no small plan.
+/// What is written in a plan's file: its outputs and its statements, each in the order of the text. The error is `Unbuilt`
+/// exactly where the text is no small plan, and `Memory` where memory runs out.
 pub fn read_elements(alloc: Global, bytes: &[u8]) -> Result<Elements, ReadFault>
     ensures read { IfOk result (λ elements. IsSmallPlan bytes.now (raw_plan_of elements)) }
     ensures unbuilt { IsErrOf result ReadFault.Unbuilt → (p : RawPlan) → ¬ (IsSmallPlan bytes.now p) }
@@ -34,7 +33,7 @@ pub fn small_plan_laws()
     ensures decided { (bytes : List ℕ) → ((p : RawPlan) × IsSmallPlan bytes p) ⊎ ((p : RawPlan) → ¬ (IsSmallPlan bytes p)) }
 {}
 
-// The plan whose tags a text has.
+// The plan whose tags a text has, within the limits or not.
 fn read_tags(alloc: Global, bytes: &[u8]) -> Result<Elements, ReadFault>
     ensures read { IfOk result (λ elements. IsReadAs (tags_in bytes.now) (raw_plan_of elements)) }
     ensures unbuilt { IsErrOf result ReadFault.Unbuilt → (p : RawPlan) → ¬ (IsReadAs (tags_in bytes.now) p) }
@@ -53,6 +52,7 @@ fn read_tags(alloc: Global, bytes: &[u8]) -> Result<Elements, ReadFault>
     Ok(Elements { outputs, main })
 }
 
+// What stands after the tags before the outputs.
 fn after_opening(bytes: &[u8]) -> Option<&[u8]>
     ensures { MatchOption result (BeginOtherwise (tags_in bytes.now) opening) (λ rest. tags_in bytes.now ≡ opening ++ tags_in rest.now) }
 {
@@ -61,6 +61,7 @@ fn after_opening(bytes: &[u8]) -> Option<&[u8]>
     after_tag(rest, b"<OUTPUTS>")
 }
 
+// What stands after the tags between the outputs and the statements.
 fn after_middle(bytes: &[u8]) -> Option<&[u8]>
     ensures { MatchOption result (BeginOtherwise (tags_in bytes.now) middle) (λ rest. tags_in bytes.now ≡ middle ++ tags_in rest.now) }
 {
@@ -70,6 +71,7 @@ fn after_middle(bytes: &[u8]) -> Option<&[u8]>
     after_tag(rest, b"<MAIN>")
 }
 
+// What stands after the tags after the statements.
 fn after_closing(bytes: &[u8]) -> Option<&[u8]>
     ensures { MatchOption result (BeginOtherwise (tags_in bytes.now) closing) (λ rest. tags_in bytes.now ≡ closing ++ tags_in rest.now) }
 {
@@ -78,6 +80,7 @@ fn after_closing(bytes: &[u8]) -> Option<&[u8]>
     after_tag(rest, b"</PAP>")
 }
 
+// Whether no tags are left but those after the statements.
 fn is_closing(bytes: &[u8]) -> bool
     ensures { IsTrue result ↔ (tags_in bytes.now ≡ closing) }
 {
@@ -87,6 +90,7 @@ fn is_closing(bytes: &[u8]) -> bool
     }
 }
 
+// The outputs that come first, and what stands after them.
 fn read_outputs(alloc: Global, bytes: &[u8]) -> Result<(Vec<RawDeclared>, &[u8]), AllocError>
     ensures { IfOk result (λ r. (names_of r.0.items ≡ names_in (tags_in bytes.now)) × (tags_in r.1.now ≡ after_leading is_output (tags_in bytes.now))) }
 {
@@ -99,6 +103,7 @@ fn read_outputs(alloc: Global, bytes: &[u8]) -> Result<(Vec<RawDeclared>, &[u8])
     Ok((outputs, rest))
 }
 
+// The EVALs that come first, and what stands after them.
 fn read_statements(alloc: Global, bytes: &[u8]) -> Result<(Vec<RawStmt>, &[u8]), AllocError>
     ensures { IfOk result (λ r. (execs_of r.0.items ≡ execs_in (tags_in bytes.now)) × (tags_in r.1.now ≡ after_leading is_eval (tags_in bytes.now))) }
 {

@@ -59,6 +59,7 @@ pub(crate) fn next_eval(bytes: &[u8]) -> Option<(&[u8], &[u8])>
     Some((exec, rest))
 }
 
+// The name that an OUTPUT tag declares.
 fn output_name(tag: &[u8]) -> Option<Name>
     ensures { MatchOption result (is_output tag.now ≡ false) (λ name. (is_output tag.now ≡ true) × (name_in tag.now ≡ name)) }
 {
@@ -66,6 +67,7 @@ fn output_name(tag: &[u8]) -> Option<Name>
     Name::read(text)
 }
 
+// The text of an EVAL tag's attribute.
 fn eval_text(tag: &[u8]) -> Option<&[u8]>
     ensures { MatchOption result (is_eval tag.now ≡ false) (λ exec. (is_eval tag.now ≡ true) × (exec_in tag.now ≡ exec.now)) }
 {
@@ -73,6 +75,7 @@ fn eval_text(tag: &[u8]) -> Option<&[u8]>
     if is_plain(text) { Some(text) } else { None }
 }
 
+// What stands in a text between a front and a back.
 fn between<'a>(text: &'a [u8], front: &[u8], back: &[u8]) -> Option<&'a [u8]>
     ensures { MatchOption result ((middle : List ℕ) → ¬ (text.now ≡ front.now ++ (middle ++ back.now))) (λ middle. text.now ≡ front.now ++ (middle.now ++ back.now)) }
 {
@@ -97,6 +100,7 @@ fn is_plain_byte(byte: u8) -> bool
     byte.is_ascii() && byte != b'"' && byte != b'<' && byte != b'&'
 }
 
+// How many bytes stand before the first `<`.
 fn bytes_before_tag(bytes: &[u8]) -> usize
     ensures place { result ≡ position_or_len (λ b. b == 60) bytes.now }
     ensures within { result ≤ length bytes.now }
