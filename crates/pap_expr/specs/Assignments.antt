@@ -32,15 +32,16 @@ byte_of Sub = 45
 -- One term, or a sum with an operator and a term after it: `a - b + c` is `(a - b) + c`.
 pub data Sum : List Token → Term → Type 0 where
   term : {w : List ℕ} {x : Term} → Reads w x → Sum (word w ∷ []) x
-  more : {ts : List Token} {w : List ℕ} {x y : Term} (op : Binary) → Sum ts x → Reads w y → Sum (ts ++ (sign (byte_of op) ∷ word w ∷ [])) (two op x y)
+  more : {ts : List Token} {w : List ℕ} {x y : Term} (op : Binary) → Sum ts x → Reads w y
+      → Sum (ts ++ (sign (byte_of op) ∷ word w ∷ [])) (two op x y)
 
 -- how many tokens an assignment may have
 abbrev pub most_tokens : ℕ
 most_tokens = 1000
 
 -- A name, `=` and a sum. Digits that a letter or `_` follows, as in `12ab`, are one word here, which is neither a name
--- nor a number; as a number and a name they would stand side by side, which no assignment has either. Likewise `==` is
--- `=` twice, which no assignment has.
+-- nor a number; as a number and a name they would stand side by side, which no assignment has either. Likewise `==` is the
+-- sign `=` twice, which no assignment has.
 pub record IsAssignment (text : List ℕ) (target : List ℕ) (value : Term) : Type 0 where
   pub sum : List Token
   pub tokens_are : tokens text ≡ word target ∷ sign 61 ∷ sum

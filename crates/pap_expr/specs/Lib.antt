@@ -3,3 +3,4 @@ pub mod Assignments
 pub mod Laws
 pub mod Decisions
 pub mod Answers
+pub mod Faults

@@ -13,7 +13,7 @@ abbrev pub starts_word : List ℕ → Bool
 starts_word [] = false
 starts_word (b ∷ bs) = is_word b
 
--- a byte put before the word that stands first
+-- a byte put before the word that stands first, or as a word of its own where none does
 abbrev pub longer : ℕ → List Token → List Token
 longer b (word w ∷ ts) = word (b ∷ w) ∷ ts
 longer b ts = word (b ∷ []) ∷ ts

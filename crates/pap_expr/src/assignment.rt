@@ -33,7 +33,8 @@ pub fn assignment_laws()
 
 /// The target and the value of an assignment's tokens.
 fn parse_tokens(alloc: Global, tokens: &[Token<'_>]) -> Result<(Name, Expr), ExprFault>
-    ensures { Answers (λ assignment. (assignment.0, term_of assignment.1)) (assignment_read (tokens_of tokens.now)) result }
+    ensures { Answers (λ assignment. (assignment.0, term_of assignment.1))
+        (assignment_read (tokens_of tokens.now)) result }
 {
     let (word, after) = next_word(tokens).ok_or(ExprFault::Unbuilt)?;
     let target = Name::read(word).ok_or(ExprFault::Unbuilt)?;

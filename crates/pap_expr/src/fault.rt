@@ -16,6 +16,11 @@ pub enum ExprFault {
 }
 
 impl fmt::Display for ExprFault {
+    ghost use Rattle.std.specs.Prelude.{Some};
+    ghost use Rattle.pap_expr.specs.Faults.{fault_text};
+
+    ghost output = { λ fault. Some (fault_text fault) };
+
     fn fmt<W: fmt::Write>(&self, f: &mut fmt::Formatter<W>) -> fmt::Result {
         match self {
             ExprFault::Unbuilt => write!(f, "not built yet"),

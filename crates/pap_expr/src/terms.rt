@@ -1,5 +1,5 @@
 // The terms of a sum and the operators between them.
-ghost use Rattle.std.specs.Prelude.{◌≡◌, ◌<◌, length, pos, Some, None, IfSome, MatchOption, MatchResult};
+ghost use Rattle.std.specs.Prelude.{◌≡◌, ◌<◌, length, pos, IfSome, MatchResult};
 ghost use Rattle.std.specs.Option.{option_map};
 ghost use Rattle.pap_tree.specs.Term.{term_of, two};
 ghost use Rattle.pap_expr.specs.Decisions.{number_of, term_read, first_term, first_operator};
@@ -35,7 +35,7 @@ fn read_number(word: &[u8]) -> Option<i32>
 
 /// The name or the whole number that a word is.
 fn read_term(word: &[u8]) -> Option<Expr>
-    ensures { MatchOption result (term_read word.now ≡ None) (λ term. term_read word.now ≡ Some (term_of term)) }
+    ensures { option_map term_of result ≡ term_read word.now }
 {
     match Name::read(word) {
         Some(name) => Some(Expr::Var(name)),
@@ -45,7 +45,8 @@ fn read_term(word: &[u8]) -> Option<Expr>
 
 /// The term that stands first, and the tokens after it.
 pub fn next_term<'s, 't>(tokens: &'s [Token<'t>]) -> Option<(Expr, &'s [Token<'t>])>
-    ensures found { MatchOption result (first_term (tokens_of tokens.now) ≡ None) (λ found. first_term (tokens_of tokens.now) ≡ Some (term_of found.0, tokens_of found.1.now)) }
+    ensures found { option_map (λ found. (term_of found.0, tokens_of found.1.now)) result
+        ≡ first_term (tokens_of tokens.now) }
     ensures shorter { IfSome result (λ found. length found.1.now < length tokens.now) }
 {
     let (word, after) = next_word(tokens)?;
@@ -54,7 +55,8 @@ pub fn next_term<'s, 't>(tokens: &'s [Token<'t>]) -> Option<(Expr, &'s [Token<'t
 
 /// The operator that stands first, and the tokens after it.
 pub fn next_operator<'s, 't>(tokens: &'s [Token<'t>]) -> Option<(Binary, &'s [Token<'t>])>
-    ensures found { MatchOption result (first_operator (tokens_of tokens.now) ≡ None) (λ found. first_operator (tokens_of tokens.now) ≡ Some (found.0, tokens_of found.1.now)) }
+    ensures found { option_map (λ found. (found.0, tokens_of found.1.now)) result
+        ≡ first_operator (tokens_of tokens.now) }
     ensures shorter { IfSome result (λ found. length found.1.now < length tokens.now) }
 {
     match next_sign(tokens)? {
@@ -66,7 +68,9 @@ pub fn next_operator<'s, 't>(tokens: &'s [Token<'t>]) -> Option<(Binary, &'s [To
 
 /// An operator between its operands. Fails only for want of memory.
 pub fn binary(alloc: Global, op: Binary, left: Expr, right: Expr) -> Result<Expr, ExprFault>
-    ensures { MatchResult result (λ e. term_of e ≡ two op (term_of left) (term_of right)) (λ fault. fault ≡ ExprFault.Memory) }
+    ensures { MatchResult result
+        (λ e. term_of e ≡ two op (term_of left) (term_of right))
+        (λ fault. fault ≡ ExprFault.Memory) }
 {
     Ok(Expr::Binary(op, Box::new(alloc, left)?, Box::new(alloc, right)?))
 }

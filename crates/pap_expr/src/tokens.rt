@@ -1,5 +1,6 @@
 // The tokens of an assignment's text.
-ghost use Rattle.std.specs.Prelude.{◌≡◌, ◌<◌, ◌≤◌, [], ◌∷◌, length, Some, None, IfSome, IfNone, MatchOption, IfOk, IsErrOf};
+ghost use Rattle.std.specs.Prelude.{◌≡◌, ◌<◌, ◌≤◌, [], ◌∷◌, length, IfSome, IfNone, IfOk, IsErrOf};
+ghost use Rattle.std.specs.Option.{option_map};
 ghost use Rattle.std.specs.List.{prefix_len};
 ghost use Rattle.pap_tree.specs.Names.{is_word};
 ghost use Rattle.pap_tree.specs.White.{is_white};
@@ -83,7 +84,8 @@ pub fn read_tokens(alloc: Global, text: &[u8]) -> Result<Vec<Token<'_>>, ExprFau
 
 /// The word that stands first, and the tokens after it.
 pub fn next_word<'s, 't>(tokens: &'s [Token<'t>]) -> Option<(&'t [u8], &'s [Token<'t>])>
-    ensures found { MatchOption result (first_word (tokens_of tokens.now) ≡ None) (λ found. first_word (tokens_of tokens.now) ≡ Some (found.0.now, tokens_of found.1.now)) }
+    ensures found { option_map (λ found. (found.0.now, tokens_of found.1.now)) result
+        ≡ first_word (tokens_of tokens.now) }
     ensures shorter { IfSome result (λ found. length found.1.now < length tokens.now) }
 {
     match tokens {
@@ -94,7 +96,8 @@ pub fn next_word<'s, 't>(tokens: &'s [Token<'t>]) -> Option<(&'t [u8], &'s [Toke
 
 /// The sign that stands first, and the tokens after it.
 pub fn next_sign<'s, 't>(tokens: &'s [Token<'t>]) -> Option<(u8, &'s [Token<'t>])>
-    ensures found { MatchOption result (first_sign (tokens_of tokens.now) ≡ None) (λ found. first_sign (tokens_of tokens.now) ≡ Some (found.0, tokens_of found.1.now)) }
+    ensures found { option_map (λ found. (found.0, tokens_of found.1.now)) result
+        ≡ first_sign (tokens_of tokens.now) }
     ensures shorter { IfSome result (λ found. length found.1.now < length tokens.now) }
 {
     match tokens {
@@ -105,7 +108,7 @@ pub fn next_sign<'s, 't>(tokens: &'s [Token<'t>]) -> Option<(u8, &'s [Token<'t>]
 
 /// The tokens after an `=` that stands first.
 pub fn after_equals<'s, 't>(tokens: &'s [Token<'t>]) -> Option<&'s [Token<'t>]>
-    ensures { MatchOption result (after_equals (tokens_of tokens.now) ≡ None) (λ after. after_equals (tokens_of tokens.now) ≡ Some (tokens_of after.now)) }
+    ensures { option_map (λ after. tokens_of after.now) result ≡ after_equals (tokens_of tokens.now) }
 {
     match next_sign(tokens)? {
         (b'=', after) => Some(after),
