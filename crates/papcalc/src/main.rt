@@ -1,0 +1,117 @@
+//! Runs a wage tax flowchart from the command line.
+#![tactic(auto)]
+
+ghost use Rattle.std.specs.Prelude.{◌≡◌};
+
+use outside::{Files, RealFiles, Sink, Source, StdSink, StdSource};
+use pap_cli::{Status, papcalc};
+use std::alloc::Global;
+use std::env;
+use std::io::{self, ErrorKind};
+use std::marker::Brand;
+use std::process::ExitCode;
+use std::sync::ledger::{Blank, Ledger};
+use steps::Steps;
+
+const USAGE: &str = "usage: papcalc once PLAN LIMITS";
+
+const VERSION: &str = "papcalc 0.1.0";
+
+const HELP: &str = "papcalc runs a wage tax flowchart
+
+usage:
+  papcalc once PLAN LIMITS    run the flowchart of the file PLAN once, its inputs within the ranges of the file LIMITS
+  papcalc --help              write this text
+  papcalc --version           write the program's version
+
+It writes a line NAME VALUE for each output and then `steps N`, or one line that begins with `refused`.
+
+It ends with 0 where all was written, 1 where that is a refusal, 2 where the words are none of these, 3 where a file
+can't be read, 5 where the output can't be written, 6 where memory runs out.";
+
+/// Runs the words, and counts the steps of the run.
+fn counted<L: Ledger, F: Files, R: Source, W: Sink>(
+    alloc: Global,
+    words: &[String],
+    files: &mut F,
+    source: &mut R,
+    sink: &mut W,
+    blank: Blank,
+) -> Status
+    requires name { blank.name ≡ L.name }
+    requires parts { blank.parts ≡ L.parts }
+    requires one { blank.parts ≡ 1 }
+{
+    let mut steps = Steps::<L>::new(blank);
+    papcalc(alloc, words, files, source, sink, &mut steps)
+}
+
+/// The words after the program's name.
+fn words_of(rt: &HostRuntime) -> io::Result<Vec<String>> {
+    let mut words = Vec::new(rt.alloc());
+    for word in env::args(rt)?.skip(1) {
+        words.push(word)?;
+    }
+    Ok(words)
+}
+
+/// What the program answers by itself: its help and its version, each as the only word.
+fn own_answer(words: &[String]) -> Option<&'static str> {
+    match words {
+        [word] if word.as_str() == "--help" => Some(HELP),
+        [word] if word.as_str() == "--version" => Some(VERSION),
+        _ => None,
+    }
+}
+
+/// Says on standard error what is wrong, in one line. That this may fail changes nothing.
+fn explain(rt: &HostRuntime, status: Status, failed_name: Option<&str>) {
+    let _ = match status {
+        Status::Done | Status::Refused => Ok(()),
+        Status::BadWords => eprintln!(rt; "{USAGE}"),
+        Status::FileFault => {
+            let name = failed_name.unwrap_or("");
+            eprintln!(rt; "papcalc: the file {name} can't be read")
+        }
+        Status::ReadFault => eprintln!(rt; "papcalc: standard input can't be read"),
+        Status::WriteFault => eprintln!(rt; "papcalc: standard output can't be written"),
+        Status::NoMemory => eprintln!(rt; "papcalc: memory ran out"),
+        Status::ScriptLong => eprintln!(rt; "papcalc: the script is longer than 67108864 bytes"),
+    };
+}
+
+fn main(rt: HostRuntime) -> ExitCode {
+    let words = match words_of(&rt) {
+        Ok(words) => words,
+        Err(error) => {
+            let status = if error.kind() == ErrorKind::OutOfMemory {
+                Status::NoMemory
+            } else {
+                Status::BadWords
+            };
+            explain(&rt, status, None);
+            return ExitCode::from(status.number());
+        }
+    };
+    if let Some(text) = own_answer(&words) {
+        let status = match println!(rt; "{text}") {
+            Ok(()) => Status::Done,
+            Err(_) => Status::WriteFault,
+        };
+        explain(&rt, status, None);
+        return ExitCode::from(status.number());
+    }
+    let mut files = RealFiles::new(&rt);
+    let mut source = StdSource::new(rt.reader());
+    let mut sink = StdSink::new(io::writer(&rt));
+    let status = counted::<Brand, _, _, _>(
+        rt.alloc(),
+        &words,
+        &mut files,
+        &mut source,
+        &mut sink,
+        Blank::new(1),
+    );
+    explain(&rt, status, files.failed_name());
+    ExitCode::from(status.number())
+}
