@@ -8,3 +8,4 @@ pub mod OnceLemmas
 pub mod WordLemmas
 pub mod PlanLaws
 pub mod HeadlineLemmas
+pub mod RunLaws

@@ -1,9 +1,8 @@
 -- The answer on what is read of two files, and what a call leaves.
-use Rattle.std.proofs.Common.{◌≡◌, ◌≢◌, ℕ, zero, suc, ◌+◌, ◌-◌, ◌<◌, ◌≤◌, List, [], ◌∷◌, length, take, refl, sym, ap, subst, ◌∙◌, arith, inl, inr, length-take, Bool, true, false}
-use Rattle.std.specs.Prelude.{◌⊎◌, Option, Some, None, MatchOption, Result, Ok, Err, min}
+use Rattle.std.proofs.Common.{◌≡◌, ◌≢◌, ℕ, zero, suc, ◌+◌, ◌<◌, List, [], ◌∷◌, take, refl, sym, subst, ◌∙◌, arith, inl, inr, length-take, Bool, true, false}
+use Rattle.std.specs.Prelude.{◌⊎◌, Option, Some, None, MatchOption, Result, Err}
 use Rattle.std.proofs.lemmas.List.{take_all}
-use Rattle.std.proofs.lemmas.Result.{err_from_is_err_and}
-use Rattle.outside.specs.Told.{Files, IsFront, IsToldFront, Appends, AppendsPrefix}
+use Rattle.outside.specs.Told.{Files, IsToldFront, Appends, AppendsPrefix}
 use Rattle.outside.proofs.Bytes.{Appends-nothing}
 use Rattle.outside.specs.declared.traits.FileAnswer.{FileAnswer}
 use Rattle.outside.specs.declared.traits.FileAnswer.TheVariants as files
@@ -11,15 +10,13 @@ use Rattle.pap_reader.specs.declared.limits.TheConstants.{LONGEST_PLAN}
 use Rattle.pap_tree.specs.Body.{Plan}
 use Rattle.pap_cli.specs.declared.once.TheConstants.{LONGEST_LIMITS}
 use Rattle.pap_cli.specs.declared.answer.Reply.{Reply}
-use Rattle.pap_cli.specs.declared.status.Status.{Status}
 use Rattle.pap_cli.specs.declared.status.Status.TheVariants as statuses
 use Rattle.pap_cli.specs.declared.stop.Stop.{Stop}
-use Rattle.pap_cli.specs.declared.stop.Stop.TheVariants as stops
 use Rattle.pap_cli.specs.Answers.{Answer}
 use Rattle.pap_cli.specs.Plans.{IsPlan}
 use Rattle.pap_cli.specs.Replies.{reply_of}
 use Rattle.pap_cli.specs.Stops.{stop_of}
-use Rattle.pap_cli.specs.Once.{IsBuilt, IsUnbuilt, Answers, AnswersFiles, IsDone, IsWhole, IsCutShort, OnceMeets, done_status, status_of}
+use Rattle.pap_cli.specs.Once.{Answers, AnswersFiles, OnceMeets, done_status, status_of}
 
 -- a plan within its limit is read whole
 plan_front : (n : ℕ) (bytes : List ℕ) (p : Plan) → LONGEST_PLAN < n → IsPlan (take n bytes) p → take n bytes ≡ bytes

@@ -1,15 +1,13 @@
 -- Bytes are a plan in at most one way, and it is decided whether they are one.
-use Rattle.std.proofs.Common.{◌≡◌, ◌≢◌, ℕ, List, [], ◌∷◌, sym, ap, subst, ◌∙◌, inl, inr, refl}
+use Rattle.std.proofs.Common.{◌≡◌, ℕ, List, [], ◌∷◌, sym, ap, subst, ◌∙◌, inl, inr, refl}
 use Rattle.std.specs.Prelude.{◌⊎◌, codes}
-use Rattle.pap_tree.specs.Term.{Term}
-use Rattle.pap_tree.specs.Body.{Body, Plan, done, eval, choose, execute}
-use Rattle.pap_reader.specs.SmallPlans.{RawPlan, IsSmallPlan}
+use Rattle.pap_tree.specs.Body.{Body, done, eval, choose, execute}
+use Rattle.pap_reader.specs.SmallPlans.{RawPlan}
 use Rattle.pap_reader.proofs.PlanLemmas.{small_plan_one, small_plan_decided}
-use Rattle.pap_expr.specs.Assignments.{IsAssignment}
 use Rattle.pap_expr.proofs.Readings.{one_reading, decided}
-use Rattle.pap_cli.specs.Answers.{Answer, refusal, answer_of}
-use Rattle.pap_cli.specs.Plans.{AreStatements, IsPlan, OnePlan, IsNoPlan, IsDecidedPlan}
-use Rattle.pap_cli.specs.Once.{IsBuilt, IsUnbuilt, Answers, OneAnswer, HasAnswer}
+use Rattle.pap_cli.specs.Answers.{refusal, answer_of}
+use Rattle.pap_cli.specs.Plans.{AreStatements, OnePlan, IsDecidedPlan}
+use Rattle.pap_cli.specs.Laws.{OneAnswer, HasAnswer}
 use Rattle.pap_cli.proofs.PlanLemmas.{no_statement}
 
 statements_one : (texts : List (List ℕ)) (b c : Body) → AreStatements texts b → AreStatements texts c → b ≡ c

@@ -1,13 +1,11 @@
 -- Refusal lines, put together from their parts.
-use Rattle.std.proofs.Common.{◌≡◌, ℕ, List, [], ◌∷◌, ◌++◌, ap, sym, refl, ◌∙◌, append_assoc, true}
+use Rattle.std.proofs.Common.{◌≡◌, ℕ, List, [], ◌∷◌, ◌++◌, ap, sym, ◌∙◌, append_assoc, true}
 use Rattle.std.specs.Prelude.{codes}
-use Rattle.std.specs.Fmt.{decimal}
-use Rattle.pap_tree.specs.Places.{place_text}
 use Rattle.pap_tree.specs.Body.{Body}
 use Rattle.pap_cli.specs.declared.unknown.Unknown.{Unknown}
 use Rattle.pap_cli.specs.declared.failure.Failure.{Failure}
 use Rattle.pap_cli.specs.Causes.{cause_name}
-use Rattle.pap_cli.specs.Answers.{Answer, refusal, text_of, spelling_at, unknown_refusal, failure_refusal}
+use Rattle.pap_cli.specs.Answers.{Answer, text_of, spelling_at, unknown_refusal, failure_refusal}
 
 abbrev refused_text : List ℕ → Answer
 refused_text text = record { text = text; refused = true; steps = 0 }

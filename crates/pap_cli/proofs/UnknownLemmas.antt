@@ -5,7 +5,7 @@ use Rattle.pap_tree.specs.Term.{Term, whole, named, two}
 use Rattle.pap_tree.specs.Body.{Body, done, eval, choose, execute}
 use Rattle.pap_tree.specs.Numbering.{nodes, written}
 use Rattle.pap_cli.specs.Values.{first_of}
-use Rattle.pap_cli.specs.Unknowns.{is_declared, unknown_at, unknown_in, unknown_name, Knows, KnowsAll}
+use Rattle.pap_cli.specs.Unknowns.{is_declared, unknown_in, unknown_name, Knows, KnowsAll}
 
 neither : {A : Type 0} (o p : Option A) → first_of o p ≡ None → (o ≡ None) × (p ≡ None)
 neither None p e = (λ i. None, e)

@@ -1,5 +1,5 @@
 -- What is written on a plan (docs/DEFINITIONS.md).
-use Rattle.std.specs.Prelude.{◌≡◌, ◌⊎◌, ℕ, ◌+◌, ◌∷◌, ◌++◌, pos, map, Bool, true, false, if◌then◌else◌, List, [], codes, Option, Some, None}
+use Rattle.std.specs.Prelude.{ℕ, ◌+◌, ◌∷◌, ◌++◌, pos, map, Bool, true, false, List, [], codes, Option, Some, None}
 use Rattle.std.specs.Option.{option_map_or, option_and_then}
 use Rattle.std.specs.Fmt.{decimal, signed_decimal}
 use Rattle.pap_tree.specs.declared.place.Place.{Place}
@@ -8,7 +8,7 @@ use Rattle.pap_tree.specs.Body.{Body, Plan}
 use Rattle.pap_tree.specs.Places.{place_text}
 use Rattle.pap_tree.specs.Numbering.{node_of, term_at}
 use Rattle.pap_tree.specs.Spelling.{spelling}
-use Rattle.pap_cli.specs.Values.{Num, Env, Entry, whole_num, look}
+use Rattle.pap_cli.specs.Values.{Num, Env, whole_num, look}
 use Rattle.pap_cli.specs.Runs.{no_calls, after, spent, fails}
 use Rattle.pap_cli.specs.Unknowns.{unknown_name}
 use Rattle.pap_cli.specs.Causes.{cause_name}
@@ -32,10 +32,13 @@ text_of p = place_text p.method p.stmt p.node
 abbrev pub unknown_refusal : Unknown → Answer
 unknown_refusal u = refusal (codes "plan Unknown " ++ (u.name ++ (32 ∷ text_of u.place)))
 
--- the canonical spelling of the node of a place in MAIN
+-- the node of a place in MAIN
+abbrev pub node_at : Body → Place → Option Term
+node_at main p = option_and_then (λ t. node_of t p.node) (term_at main p.stmt)
+
+-- its canonical spelling; a place without a node has none, which the law `FailureStands` says of no node that fails
 abbrev pub spelling_at : Body → Place → List ℕ
-spelling_at main p =
-    option_map_or spelling (option_and_then (λ t. node_of t p.node) (term_at main p.stmt)) []
+spelling_at main p = option_map_or spelling (node_at main p) []
 
 -- a node that fails: the cause, the node's place, and the node's spelling
 abbrev pub failure_refusal : Body → Failure → Answer
@@ -75,6 +78,7 @@ first_case (Some x) then_it otherwise = then_it x
 first_case None then_it otherwise = otherwise
 
 -- What is written on a plan: its first undeclared name, else its first node that fails, else its outputs and its steps.
+-- The last line is for a run that leads nowhere; the law `RunEnds` says that none does.
 abbrev pub answer_of : Plan → Answer
 answer_of p =
     first_case (unknown_name p.outputs main_name 0 p.main) unknown_refusal

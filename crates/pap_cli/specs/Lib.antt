@@ -13,3 +13,4 @@ pub mod Once
 pub mod Words
 pub mod Statuses
 pub mod Stops
+pub mod Laws

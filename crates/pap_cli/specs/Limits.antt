@@ -1,5 +1,5 @@
 -- How large a list of statements may be (docs/PROFILE.md, "Limits").
-use Rattle.std.specs.Prelude.{ℕ, ◌≤◌}
+use Rattle.std.specs.Prelude.{◌≤◌}
 use Rattle.pap_tree.specs.Numbering.{nodes, written}
 use Rattle.pap_tree.specs.Body.{Body, done, eval, choose, execute}
 

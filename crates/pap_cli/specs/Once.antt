@@ -99,11 +99,3 @@ pub record IsOnceAnswer (files : Files) (plan limits before : List ℕ) (written
   pub text : written ≡ Some (before ++ answer.text)
   pub cost : steps ≡ began + answer.steps
   pub ended : status ≡ done_status answer.refused
-
--- two answers on the same bytes are one
-abbrev pub OneAnswer : List ℕ → List ℕ → Type 0
-OneAnswer plan limits = (a b : Answer) → Answers plan limits a → Answers plan limits b → a ≡ b
-
--- there is an answer on the bytes
-abbrev pub HasAnswer : List ℕ → List ℕ → Type 0
-HasAnswer plan limits = (a : Answer) × Answers plan limits a

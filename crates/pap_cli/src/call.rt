@@ -3,7 +3,8 @@ ghost use Rattle.std.specs.Prelude.{◌≡◌, ◌≢◌, ◌≤◌, List, ℕ};
 ghost use Rattle.std.specs.Option.{ForSome};
 ghost use Rattle.outside.specs.Causes.{Rose, Still};
 ghost use Rattle.pap_cli.specs.Words.{texts, IsOnce, IsBad, IsUntouched};
-ghost use Rattle.pap_cli.specs.Once.{OnceMeets, IsOnceAnswer, IsDone, OneAnswer, HasAnswer, status_of};
+ghost use Rattle.pap_cli.specs.Once.{OnceMeets, IsOnceAnswer, status_of};
+ghost use Rattle.pap_cli.specs.Laws.{OneAnswer, HasAnswer, RunEnds, FailureStands};
 
 use crate::Status;
 use crate::once::once;
@@ -67,8 +68,11 @@ pub fn papcalc<F: Files, R: Source, W: Sink, L: Ledger>(
     status(once(alloc, plan, limits, files, sink, steps))
 }
 
-/// The bytes of a plan and of a range file have one answer.
+/// The bytes of a plan and of a range file have one answer, and always one. The run of a plan without an undeclared name
+/// leads somewhere, and a node that fails first stands at its place.
 pub fn answer_laws()
     ensures one { (plan limits : List ℕ) → OneAnswer plan limits }
     ensures always { (plan limits : List ℕ) → HasAnswer plan limits }
+    ensures ends { (plan : List ℕ) → RunEnds plan }
+    ensures stands { (plan : List ℕ) → FailureStands plan }
 {}

@@ -1,6 +1,5 @@
-use Rattle.std.proofs.Common.{◌≡◌, ◌∙◌, sym, ap, subst}
+use Rattle.std.proofs.Common.{◌∙◌, sym}
 use Rattle.std.specs.Prelude.{codes}
-use Rattle.pap_cli.specs.Once.{OnceMeets}
 use Rattle.pap_cli.specs.Words.{texts}
 use Rattle.pap_cli.proofs.WordLemmas.{same_files}
 use Rattle.pap_cli.proofs.HeadlineLemmas.{file_stop, write_stop, headline}

@@ -1,9 +1,6 @@
-use Rattle.std.proofs.Common.{◌≡◌, ◌∙◌, ap, inr, refl}
+use Rattle.std.proofs.Common.{ap, inr}
 use Rattle.std.specs.Prelude.{Err}
 use Rattle.std.proofs.lemmas.Result.{IfOk-weaker}
-use Rattle.pap_cli.specs.declared.answer.Reply.{Reply}
-use Rattle.pap_cli.specs.declared.plan.PlanFault.TheVariants.{Unbuilt}
-use Rattle.pap_cli.specs.Answers.{refusal}
 use Rattle.pap_cli.specs.Replies.{reply_of}
 use Rattle.pap_cli.specs.Once.{Answers}
 use Rattle.pap_cli.proofs.once.reply_on_bytes.Goals as goal

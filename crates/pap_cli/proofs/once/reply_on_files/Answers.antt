@@ -1,4 +1,4 @@
-use Rattle.std.proofs.Common.{◌≡◌, ◌∙◌, ap, subst, sym}
+use Rattle.std.proofs.Common.{subst}
 use Rattle.pap_cli.specs.Replies.{reply_of}
 use Rattle.pap_cli.specs.Once.{Answers}
 use Rattle.pap_cli.proofs.OnceLemmas.{answers_files}

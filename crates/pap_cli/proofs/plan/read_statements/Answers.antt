@@ -1,7 +1,6 @@
-use Rattle.std.proofs.Common.{rules, ◌≡◌, ◌∙◌, sym, ap, subst}
+use Rattle.std.proofs.Common.{◌≡◌, ap}
 use Rattle.std.specs.Prelude.{Err}
 use Rattle.std.proofs.lemmas.Result.{err_from_is_err_and}
-use Rattle.pap_reader.specs.Elements.{execs_of}
 use Rattle.pap_cli.specs.declared.plan.PlanFault.TheVariants.{Unbuilt}
 use Rattle.pap_cli.proofs.PlanLemmas.{execs_more, statements_more, small_more, no_statements}
 use Rattle.pap_cli.proofs.plan.read_statements.Goals as goal

@@ -1,4 +1,4 @@
-use Rattle.std.proofs.Common.{◌≡◌, take}
+use Rattle.std.proofs.Common.{take}
 use Rattle.pap_tree.specs.Body.{body_of}
 use Rattle.pap_reader.specs.Elements.{execs_of}
 use Rattle.pap_cli.specs.Limits.{SmallTerms}
