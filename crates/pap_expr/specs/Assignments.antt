@@ -1,4 +1,4 @@
--- Assignments of sums of whole numbers and names.
+-- Assignments of sums of whole numbers and names (docs/PROFILE.md, "Assignments").
 use Rattle.std.specs.Prelude.{◌≡◌, ℕ, ◌≤◌, ◌==◌, Bool, false, if◌then◌else◌, IsTrue, List, [], ◌∷◌, ◌++◌, length, pos}
 use Rattle.std.specs.Str.{all_ascii_digits}
 use Rattle.std.specs.Str.Parse.{digits_value}

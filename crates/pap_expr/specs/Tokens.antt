@@ -1,4 +1,4 @@
--- The tokens of an assignment's text.
+-- The tokens of an assignment's text (docs/PROFILE.md, "Assignments").
 use Rattle.std.specs.Prelude.{ℕ, Bool, false, if◌then◌else◌, List, [], ◌∷◌}
 use Rattle.pap_tree.specs.Names.{is_word}
 use Rattle.pap_tree.specs.White.{is_white}

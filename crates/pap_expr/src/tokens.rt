@@ -10,7 +10,7 @@ ghost use Rattle.pap_expr.specs.Answers.{token_of, tokens_of};
 ghost use Rattle.pap_expr.specs.Assignments.{most_tokens};
 
 use crate::ExprFault;
-use pap_tree::is_white;
+use pap_tree::{is_white, is_word};
 use std::alloc::Global;
 
 /// How many tokens an assignment may have.
@@ -23,12 +23,6 @@ pub enum Token<'t> {
     Word(&'t [u8]),
     /// Another byte that is no white space.
     Sign(u8),
-}
-
-fn is_word(byte: u8) -> bool
-    ensures { result ≡ is_word byte }
-{
-    byte.is_ascii_alphanumeric() || byte == b'_'
 }
 
 /// How many bytes of white space stand first.

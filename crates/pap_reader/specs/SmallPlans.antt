@@ -1,5 +1,5 @@
 -- The small plans: the texts that the reader accepts. Their tags and their attributes are those of the flowchart's XML
--- form, and each is spelled in one way only.
+-- form, and each is spelled in one way only (docs/PROFILE.md, "Small plans").
 use Rattle.std.specs.Prelude.{ℕ, ◌≡◌, ◌≢◌, ◌<◌, ◌≤◌, Bool, not, ◌&&◌, ◌==◌, nat_lt, nat_le, List, [], ◌∷◌, ◌++◌, length, map, codes, AllPairs, IsTrue}
 use Rattle.std.specs.List.{list_all, AllPass}
 use Rattle.pap_tree.specs.Names.{is_name}
