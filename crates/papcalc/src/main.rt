@@ -20,11 +20,14 @@ const VERSION: &str = "papcalc 0.1.0";
 const HELP: &str = "papcalc runs a wage tax flowchart
 
 usage:
-  papcalc once PLAN LIMITS    run the flowchart of the file PLAN once, its inputs within the ranges of the file LIMITS
+  papcalc once PLAN LIMITS    run the flowchart of the file PLAN once, with the ranges of the file LIMITS
   papcalc --help              write this text
   papcalc --version           write the program's version
 
 It writes a line NAME VALUE for each output and then `steps N`, or one line that begins with `refused`.
+
+So far a flowchart has no inputs, outputs of type int, and assignments that add and subtract. Any other is answered with
+`refused plan Unbuilt`, and LIMITS has to be an empty file.
 
 It ends with 0 where all was written, 1 where that is a refusal, 2 where the words are none of these, 3 where a file
 can't be read, 5 where the output can't be written, 6 where memory runs out.";
