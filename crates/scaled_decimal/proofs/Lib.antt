@@ -1,0 +1,2 @@
+pub mod PowerLemmas
+pub mod QuotientLemmas

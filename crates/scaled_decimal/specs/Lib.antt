@@ -1,0 +1,9 @@
+pub mod Decimals
+pub mod IntegerLemmas
+pub mod MonotoneLemmas
+pub mod Rounding
+pub mod RoundingDecision
+pub mod RoundingLaws
+pub mod RoundingLemmas
+pub mod ScaledLemmas
+pub mod WorkingNumbers
