@@ -1,2 +1,4 @@
+pub mod ExactLemmas
+pub mod OrderLemmas
 pub mod PowerLemmas
 pub mod QuotientLemmas

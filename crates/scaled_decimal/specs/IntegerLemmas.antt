@@ -1,5 +1,5 @@
 -- Products of whole numbers.
-use Rattle.std.proofs.Common.{◌≡◌, ℕ, zero, suc, ◌+◌, ◌*◌, ◌<◌, ◌≤◌, ℤ, pos, negsuc, ◌+ℤ◌, ◌-ℤ◌, ◌*ℤ◌, neg_ℤ, ◌≤ℤ◌, ◌<ℤ◌, unsigned_abs, arith, ap, refl}
+use Rattle.std.proofs.Common.{◌≡◌, ℕ, zero, suc, ◌+◌, ◌*◌, ◌<◌, ◌≤◌, ℤ, pos, negsuc, ◌+ℤ◌, ◌-ℤ◌, ◌*ℤ◌, neg_ℤ, ◌≤ℤ◌, ◌<ℤ◌, unsigned_abs, arith, ap, refl, sym, ◌∙◌}
 use Rattle.std.proofs.lemmas.Int.{ints}
 use Rattle.std.proofs.Math.Nat.{mul-le-mul_right}
 use borrow.Author.Differences.{up, down, sum_is_lem, neg_is, product_is, lt_out, le_out}
@@ -73,6 +73,19 @@ pub times_zero : (n : ℤ) (k : ℕ) → 0 < k → n *ℤ pos k ≡ pos 0 → n 
 times_zero (pos zero) k some e = refl
 times_zero (pos (suc a)) k some e = absurd (omega (arith, ints))
 times_zero (negsuc a) k some e = absurd (omega (arith, ints))
+
+-- one factor, not 0, on both sides
+pub times_cancel : (a b : ℤ) (k : ℕ) → 0 < k → a *ℤ pos k ≡ b *ℤ pos k → a ≡ b
+times_cancel a b k some e =
+    let apart : (a -ℤ b) *ℤ pos k ≡ pos 0 = let m = times_sub a b (pos k) in omega (arith, ints) in
+    let same = times_zero (a -ℤ b) k some apart in
+    omega (arith, ints)
+
+-- the last two factors change places
+pub times_swap : (a b c : ℤ) → (a *ℤ b) *ℤ c ≡ (a *ℤ c) *ℤ b
+times_swap a b c = times_assoc a b c ∙ ap (λ t. a *ℤ t) (commute b c) ∙ sym (times_assoc a c b) where
+  commute : (x y : ℤ) → x *ℤ y ≡ y *ℤ x
+  commute x y = omega (arith, ints)
 
 -- the two signs
 pub by_sign : (P : Type 0) (n : ℤ) → (pos 0 ≤ℤ n → P) → (n <ℤ pos 0 → P) → P

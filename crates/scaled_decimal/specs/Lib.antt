@@ -1,4 +1,5 @@
 pub mod Decimals
+pub mod ExactQuotients
 pub mod IntegerLemmas
 pub mod MonotoneLemmas
 pub mod Rounding

@@ -6,6 +6,7 @@
 
 mod compare;
 mod decimal;
+mod exact;
 mod kinds;
 mod powers;
 mod rounding;

@@ -1,4 +1,4 @@
-ghost use Rattle.std.specs.Prelude.{◌≡◌};
+ghost use Rattle.std.specs.Prelude.{◌≡◌, pos, ◌<ℤ◌};
 ghost use Rattle.scaled_decimal.specs.Decimals.{ten_to};
 ghost use Rattle.scaled_decimal.specs.WorkingNumbers.{IsWithinLimit};
 
@@ -47,7 +47,9 @@ const POWERS: [i128; 38] = [
 /// Ten to the power of `k`, which is at most 37.
 pub fn power_of_ten(k: u8) -> i128
     requires { IsWithinLimit (ten_to k) }
-    ensures { result ≡ ten_to k }
+    ensures value { result ≡ ten_to k }
+    ensures positive { pos 0 <ℤ result }
+    ensures kept { IsWithinLimit result }
 {
     POWERS[k as usize]
 }

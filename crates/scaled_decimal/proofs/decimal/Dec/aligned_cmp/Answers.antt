@@ -1,16 +1,23 @@
-use Rattle.std.proofs.Common.{rules, ◌≡◌, ℕ, ◌+◌, ◌-◌, ◌*◌, ◌<◌, ◌≤◌, length, ◌/◌, ◌%◌, Bool, true, false, nat_eq, nat_lt, List, [], ◌∷◌, ◌++◌, slice_index_or, slice_set, bit_and, bit_or, Fits, w8, w32, w64, Bor, MutBor, ℤ, pos, ◌+ℤ◌, ◌-ℤ◌, ◌*ℤ◌, ◌≤ℤ◌, ◌<ℤ◌, FitsSigned, to_z, of_z}
-use Rattle.scaled_decimal.specs.Decimals.{comparison, lesser, greater, value_order}
-use Rattle.scaled_decimal.specs.WorkingNumbers.{ComparisonFits}
+use Rattle.std.proofs.Common.{rules, arith, ◌≡◌, FitsSigned}
+use Rattle.std.specs.Int.{w128}
+use Rattle.std.proofs.lemmas.Int.{to_z-of_z}
+use Rattle.scaled_decimal.specs.Decimals.{numerator_at, greater_scale}
+use Rattle.scaled_decimal.proofs.PowerLemmas.{power_le}
+use Rattle.scaled_decimal.proofs.OrderLemmas.{aligned_order}
 use Rattle.scaled_decimal.proofs.decimal.Dec.aligned_cmp.Goals as goal
 
--- src/compare.rt:48:9
 pub numerator_at-requires-clause-power : goal.numerator_at-requires-clause-power
-numerator_at-requires-clause-power c = ?
+numerator_at-requires-clause-power c = power_le _ (omega arith)
 
--- src/compare.rt:48:39
 pub numerator_at-requires-2-clause-power : goal.numerator_at-requires-2-clause-power
-numerator_at-requires-2-clause-power c = ?
+numerator_at-requires-2-clause-power c = power_le _ (omega arith)
 
--- src/compare.rt:43:5
 pub returns : goal.returns
-returns c = ?
+returns c =
+    let s = c.greater_scale-scale.ensures.value in
+    let left : c.numerator_at.result ≡ numerator_at (greater_scale c.args.self c.args.b) c.args.self = rw (← s) c.numerator_at.ensures in
+    let right : c.numerator_at-2.result ≡ numerator_at (greater_scale c.args.self c.args.b) c.args.b = rw (← s) c.numerator_at-2.ensures in
+    let fl : FitsSigned w128 c.numerator_at.result = search rules in
+    let fr : FitsSigned w128 c.numerator_at-2.result = search rules in
+    let compared = simp to_z-of_z at c.cmp.ensures in
+    cc (compared, left, right, aligned_order c.args.self c.args.b)
