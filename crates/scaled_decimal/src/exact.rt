@@ -1,6 +1,6 @@
-ghost use Rattle.std.specs.Prelude.{◌≤◌};
+ghost use Rattle.std.specs.Prelude.{◌≤◌, ◌↔◌, IsTrue, pos, ◌<ℤ◌};
 ghost use Rattle.scaled_decimal.specs.Decimals.{decimal};
-ghost use Rattle.scaled_decimal.specs.ExactQuotients.{IsPlainDivisor, IsDivisorPlaces, IsExactQuotient, ExactQuotientFits, IsShortened};
+ghost use Rattle.scaled_decimal.specs.ExactQuotients.{Divides, IsPlainDivisor, IsDivisorPlaces, IsExactQuotient, ExactQuotientFits, IsShortened};
 ghost use Rattle.scaled_decimal.specs.WorkingNumbers.{IsWithinLimit, most_places};
 
 use crate::decimal::Dec;
@@ -26,10 +26,17 @@ fn divisor_places(d: i128) -> u8
     ensures few { result ≤ most_places }
 {
     let mut places = 0;
-    while power_of_ten(places) % d != 0 {
+    while !divides(d, power_of_ten(places)) {
         places += 1;
     }
     places
+}
+
+fn divides(d: i128, n: i128) -> bool
+    requires { pos 0 <ℤ d }
+    ensures { IsTrue result ↔ Divides d n }
+{
+    n % d == 0
 }
 
 /// The decimal `n` / 10^`scale` without the zeros that end it, but at scale `least` or more.
@@ -41,7 +48,7 @@ fn shortened(n: i128, scale: u8, least: u8) -> Dec
 {
     let mut numerator = n;
     let mut places = scale;
-    while places > least && numerator % 10 == 0 {
+    while places > least && divides(10, numerator) {
         numerator /= 10;
         places -= 1;
     }
