@@ -1,4 +1,6 @@
+pub mod DigitLemmas
 pub mod ExactLemmas
+pub mod NumberLemmas
 pub mod OrderLemmas
 pub mod PowerLemmas
 pub mod QuotientLemmas

@@ -9,8 +9,10 @@ mod decimal;
 mod exact;
 mod kinds;
 mod powers;
+mod reading;
 mod rounding;
 
 pub use decimal::Dec;
 pub use kinds::{RCeiling, RDown, RFloor, RHalfDown, RHalfEven, RHalfUp, RUp, Rounding};
+pub use reading::{NumFault, read_dec};
 pub use rounding::{Mode, each_quotient_has_one_rounding, round_div};
