@@ -3,4 +3,5 @@ pub mod ExactLemmas
 pub mod NumberLemmas
 pub mod OrderLemmas
 pub mod PowerLemmas
+pub mod ReadingLemmas
 pub mod QuotientLemmas

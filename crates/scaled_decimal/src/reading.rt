@@ -2,9 +2,9 @@ ghost use Rattle.std.specs.Prelude.{◌≡◌, ◌^◌, ◌≤◌, ◌∷◌, �
 ghost use Rattle.std.specs.Option.{SomeIff};
 ghost use Rattle.std.specs.Str.Parse.{AllDigits, digits_value_after};
 ghost use Rattle.scaled_decimal.specs.Decimals.{Decimal};
-ghost use Rattle.scaled_decimal.specs.NumberTexts.{IsNumber, Spells, SpellsNone, IsLongestFront, HasManyPlaces, IsWide};
+ghost use Rattle.scaled_decimal.specs.NumberTexts.{IsNumber, signed, Spells, SpellsNone, IsLongestFront, HasManyPlaces, IsWide};
 ghost use Rattle.scaled_decimal.specs.TextParts.{NoDigitFirst, NotFirst, IsSignSplit, IsDigitSplit};
-ghost use Rattle.scaled_decimal.specs.WorkingNumbers.{IsKept, limit};
+ghost use Rattle.scaled_decimal.specs.WorkingNumbers.{IsKept, IsWithinLimit, limit};
 
 use crate::decimal::Dec;
 use std::error::Error;
@@ -64,8 +64,16 @@ pub fn read_dec(text: &[u8]) -> Result<Dec, NumFault>
     let Some(magnitude) = value_after(whole, parts.places) else {
         return Err(NumFault::Wide);
     };
-    let numerator = if parts.negative { -(magnitude as i128) } else { magnitude as i128 };
-    Ok(Dec::new(numerator, parts.places.len() as u8))
+    Ok(Dec::new(signed(parts.negative, magnitude), parts.places.len() as u8))
+}
+
+/// A magnitude under a sign.
+fn signed(negative: bool, magnitude: u128) -> i128
+    requires { magnitude ≤ limit }
+    ensures value { result ≡ signed negative magnitude }
+    ensures kept { IsWithinLimit result }
+{
+    if negative { -(magnitude as i128) } else { magnitude as i128 }
 }
 
 /// The parts of a number's text.
