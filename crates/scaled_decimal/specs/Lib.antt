@@ -3,6 +3,7 @@ pub mod ExactQuotients
 pub mod IntegerLemmas
 pub mod MonotoneLemmas
 pub mod NumberTexts
+pub mod PlainTexts
 pub mod Rounding
 pub mod RoundingDecision
 pub mod RoundingLaws

@@ -11,8 +11,10 @@ mod kinds;
 mod powers;
 mod reading;
 mod rounding;
+mod writing;
 
 pub use decimal::Dec;
 pub use kinds::{RCeiling, RDown, RFloor, RHalfDown, RHalfEven, RHalfUp, RUp, Rounding};
 pub use reading::{NumFault, read_dec};
 pub use rounding::{Mode, each_quotient_has_one_rounding, round_div};
+pub use writing::write_dec;
