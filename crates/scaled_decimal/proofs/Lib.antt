@@ -6,3 +6,4 @@ pub mod PlainLemmas
 pub mod PowerLemmas
 pub mod ReadingLemmas
 pub mod QuotientLemmas
+pub mod SpellingLemmas

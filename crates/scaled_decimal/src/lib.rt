@@ -17,4 +17,4 @@ pub use decimal::Dec;
 pub use kinds::{RCeiling, RDown, RFloor, RHalfDown, RHalfEven, RHalfUp, RUp, Rounding};
 pub use reading::{NumFault, read_dec};
 pub use rounding::{Mode, each_quotient_has_one_rounding, round_div};
-pub use writing::write_dec;
+pub use writing::{each_plain_text_spells_its_decimal, write_dec};

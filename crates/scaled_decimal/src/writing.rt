@@ -1,11 +1,14 @@
 ghost use Rattle.std.specs.Prelude.{◌≡◌, ◌+◌, ◌/◌, ◌^◌, ◌<◌, ◌≤◌, List, [], ◌∷◌, ◌++◌, length, OnOk, OnErr};
-ghost use Rattle.scaled_decimal.specs.NumberTexts.{sign_text, point_text};
+ghost use Rattle.scaled_decimal.specs.Decimals.{Decimal};
+ghost use Rattle.scaled_decimal.specs.NumberTexts.{Spells, sign_text, point_text};
 ghost use Rattle.scaled_decimal.specs.PlainTexts.{plain_text, whole_text, last_digits};
 ghost use Rattle.scaled_decimal.specs.WorkingNumbers.{most_places};
 
 use crate::decimal::Dec;
 use std::alloc::{AllocError, Global};
+use std::fmt;
 use std::marker::Model;
+use std::str;
 
 /// Appends the plain text of a decimal: a `-` for a number below 0, at least one digit, and a point and a digit for
 /// each place where the scale isn't 0. After a refusal `out` is as before.
@@ -14,6 +17,26 @@ pub fn write_dec(_alloc: Global, d: Dec, out: &mut Vec<u8>) -> Result<(), AllocE
     ensures err { OnErr result (out.new.items ≡ out.old.items) }
 {
     out.extend_from_slice(plain_text(d).as_slice())
+}
+
+/// A law, with nothing to run: the plain text of each decimal spells that decimal.
+pub fn each_plain_text_spells_its_decimal()
+    ensures { (d : Decimal) → Spells (plain_text d) d }
+{
+}
+
+impl fmt::Display for Dec {
+    ghost use Rattle.std.specs.Prelude.{Some};
+    ghost use Rattle.scaled_decimal.specs.PlainTexts.{plain_text};
+
+    ghost output = { λ d. Some (plain_text d) };
+
+    fn fmt<W: fmt::Write>(&self, f: &mut fmt::Formatter<W>) -> fmt::Result {
+        match str::from_utf8(plain_text(*self).as_slice()) {
+            Ok(text) => f.write_str(text),
+            Err(_) => Err(fmt::Error),
+        }
+    }
 }
 
 /// The plain text of a decimal.
