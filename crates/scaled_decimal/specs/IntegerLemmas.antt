@@ -97,3 +97,6 @@ pub some_abs : (d : ℤ) → (d ≡ pos 0 → ⊥) → 0 < unsigned_abs d
 some_abs (pos zero) h = absurd (h refl)
 some_abs (pos (suc d)) h = omega arith
 some_abs (negsuc d) h = omega arith
+
+pub abs_sub : (a b : ℤ) → unsigned_abs (a -ℤ b) ≤ unsigned_abs a + unsigned_abs b
+abs_sub a b = omega (arith, ints)

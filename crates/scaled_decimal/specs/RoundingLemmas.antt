@@ -1,12 +1,12 @@
 -- A quotient that was cut towards zero, and moved by `moves_away`, is the rounding.
 use Rattle.std.proofs.Common.{◌≡◌, ℕ, ◌+◌, ◌-◌, ◌*◌, ◌<◌, ◌≤◌, ◌/◌, ◌%◌, suc, Bool, true, false, cond, ℤ, pos, negsuc, ◌+ℤ◌, ◌-ℤ◌, ◌*ℤ◌, neg_ℤ, ◌≤ℤ◌, ◌<ℤ◌, unsigned_abs, arith, refl}
-use Rattle.std.proofs.lemmas.Int.{ints, to_z-of_z}
+use Rattle.std.proofs.lemmas.Int.{ints, quot-rem}
 use Rattle.std.specs.Prelude.{int_div, int_rem, int_lt}
 use Rattle.std.proofs.Common.{ap, nat_eq, nat_lt, nat_le, ◌||◌, ◌&&◌, ◌==◌}
 use Rattle.std.proofs.lemmas.Bool.Decides.{nat_tests}
 use Rattle.scaled_decimal.specs.declared.rounding.Mode.{Mode}
 use Rattle.scaled_decimal.specs.declared.rounding.Mode.TheVariants.{Down, Up, Floor, Ceiling, HalfUp, HalfDown, HalfEven}
-use native.Mathlib.Nat.{div-le_self}
+use native.Mathlib.Nat.{div-le_self, mod-le}
 use Rattle.scaled_decimal.specs.Rounding.{IsFloor, IsCeiling, IsDown, IsUp, IsNearest, RoundsPositive, Rounds}
 use Rattle.scaled_decimal.specs.RoundingDecision.{moves_away}
 use Rattle.scaled_decimal.specs.IntegerLemmas.{times_more, times_less, times_neg}
@@ -186,6 +186,18 @@ mag_quot (pos a) (pos d) = div-le_self a d
 mag_quot (pos a) (negsuc d) = rw abs_neg (div-le_self a (suc d))
 mag_quot (negsuc a) (pos d) = rw abs_neg (div-le_self (suc a) d)
 mag_quot (negsuc a) (negsuc d) = div-le_self (suc a) (suc d)
+
+-- what is left of a dividend
+pub left_over : (n d : ℤ) → n -ℤ int_div n d *ℤ d ≡ int_rem n d
+left_over n d = let e = quot-rem n d in omega (arith, ints)
+
+pub part_bound : (n d : ℤ) → unsigned_abs (int_div n d *ℤ d) ≤ 2 * unsigned_abs n
+part_bound n d = let e = quot-rem n d in let m = rem_bound n d in omega (arith, ints) where
+  rem_bound : (a b : ℤ) → unsigned_abs (int_rem a b) ≤ unsigned_abs a
+  rem_bound (pos a) (pos b) = mod-le a b
+  rem_bound (pos a) (negsuc b) = mod-le a (suc b)
+  rem_bound (negsuc a) (pos b) = rw abs_neg (mod-le (suc a) b)
+  rem_bound (negsuc a) (negsuc b) = rw abs_neg (mod-le (suc a) (suc b))
 
 -- both signs change
 pub turned : (mode : Mode) (n d q : ℤ) → d <ℤ pos 0 → RoundsPositive mode (neg_ℤ n) (neg_ℤ d) q → Rounds mode n d q

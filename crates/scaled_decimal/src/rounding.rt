@@ -44,7 +44,7 @@ fn round_by_positive(n: i128, d: i128, mode: Mode) -> i128
     ensures { RoundsPositive mode n d result }
 {
     let towards_zero = n / d;
-    let rest = (n % d).unsigned_abs();
+    let rest = (n - towards_zero * d).unsigned_abs();
     let odd = towards_zero.unsigned_abs() % 2 == 1;
     if rest == 0 {
         return towards_zero;
