@@ -1,5 +1,6 @@
 pub mod DigitLemmas
 pub mod ExactLemmas
+pub mod FitLemmas
 pub mod NumberLemmas
 pub mod OrderLemmas
 pub mod PlainLemmas

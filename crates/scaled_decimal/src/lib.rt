@@ -11,6 +11,8 @@ mod kinds;
 mod powers;
 mod reading;
 mod rounding;
+#[cfg(test)]
+mod tests;
 mod writing;
 
 pub use decimal::Dec;
