@@ -46,10 +46,10 @@ exact : (n c m d : ℤ) (s k t : ℕ) → c *ℤ d ≡ ten_to k → t ≤ s + k 
 exact n c m d s k t e h same =
     let u = ten_to (s + k - t) in
     times_cancel ((m *ℤ d) *ℤ ten_to s) (n *ℤ ten_to t) (10 ^ (s + k - t)) (ten_some (s + k - t)) (
-      times_swap (m *ℤ d) (ten_to s) u
-      ∙ ap (λ x. x *ℤ ten_to s) (times_swap m d u ∙ ap (λ x. x *ℤ d) (sym same) ∙ times_assoc n c d ∙ ap (λ x. n *ℤ x) e)
-      ∙ powers n k s (s + k) (omega arith)
-      ∙ sym (powers n t (s + k - t) (s + k) (omega arith)))
+    times_swap (m *ℤ d) (ten_to s) u
+    ∙ ap (λ x. x *ℤ ten_to s) (times_swap m d u ∙ ap (λ x. x *ℤ d) (sym same) ∙ times_assoc n c d ∙ ap (λ x. n *ℤ x) e)
+    ∙ powers n k s (s + k) (omega arith)
+    ∙ sym (powers n t (s + k - t) (s + k) (omega arith)))
 
 -- a numerator that holds the quotient at a lesser scale shows a zero at the end of the other
 zero_at_end : (n m m' : ℤ) (d : ℕ) (s t t' : ℕ) → 0 < d → t' < t → (m *ℤ pos d) *ℤ ten_to s ≡ n *ℤ ten_to t → (m' *ℤ pos d) *ℤ ten_to s ≡ n *ℤ ten_to t' → Divides (pos 10) m
@@ -69,10 +69,10 @@ shortened_quotient a (pos d) c k result positive e h =
       scale = h.low;
       exact = holds;
       least = λ q low other. elim (cases_lt (scale_of q) (scale_of result)) [
-        inl less ↦ absurd (
-          let end = h.short (zero_at_end (numerator_of a) (numerator_of result) (numerator_of q) d (scale_of a) (scale_of result) (scale_of q) (omega (arith, ints)) less holds other) in
-          omega arith)
-      | inr le ↦ le
+        | inl less ↦ absurd (
+            let end = h.short (zero_at_end (numerator_of a) (numerator_of result) (numerator_of q) d (scale_of a) (scale_of result) (scale_of q) (omega (arith, ints)) less holds other) in
+            omega arith)
+        | inr le ↦ le
       ];
     }
 

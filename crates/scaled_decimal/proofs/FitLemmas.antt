@@ -16,7 +16,7 @@ use Rattle.scaled_decimal.proofs.PowerLemmas.{ten_some, ten_add, ten_not_zero, s
 -- a rounding is no greater than its dividend
 pub abs_rounded : (mode : Mode) (n d q : ℤ) → d ≢ pos 0 → Rounds mode n d q → unsigned_abs q ≤ unsigned_abs n
 abs_rounded mode n d q some r = elim (cases_lt (unsigned_abs n) (unsigned_abs q)) [
-  inl less ↦ absurd (
+  | inl less ↦ absurd (
       let near = rounds_near mode n d q some r in
       let d_some = some_abs d some in
       let product = unsigned_abs-mul q d in
@@ -45,11 +45,11 @@ rescale_fits mode a s few kept = record {
 pub rescale_fits_shorter : (mode : Mode) (a : Decimal) (s : ℕ) → IsWithinLimit (numerator_of a) → scale_of a ≤ most_places → s ≤ scale_of a → RescaleFits mode a s
 rescale_fits_shorter mode a s kept few h = record {
   result = λ q r.
-    let direct = (rounds_exactly_one mode (numerator_of a) (ten_to (scale_of a - s)) (ten_not_zero (scale_of a - s))).some in
-    let lifted = shortened mode (numerator_of a) direct.0 (scale_of a) s h direct.1 in
-    let same = (rounds_exactly_one mode (numerator_of a *ℤ ten_to s) (ten_to (scale_of a)) (ten_not_zero (scale_of a))).one q direct.0 r lifted in
-    let le = abs_rounded mode (numerator_of a) (ten_to (scale_of a - s)) direct.0 (ten_not_zero (scale_of a - s)) direct.1 in
-    subst IsWithinLimit (sym same) (omega arith);
+      let direct = (rounds_exactly_one mode (numerator_of a) (ten_to (scale_of a - s)) (ten_not_zero (scale_of a - s))).some in
+      let lifted = shortened mode (numerator_of a) direct.0 (scale_of a) s h direct.1 in
+      let same = (rounds_exactly_one mode (numerator_of a *ℤ ten_to s) (ten_to (scale_of a)) (ten_not_zero (scale_of a))).one q direct.0 r lifted in
+      let le = abs_rounded mode (numerator_of a) (ten_to (scale_of a - s)) direct.0 (ten_not_zero (scale_of a - s)) direct.1 in
+      subst IsWithinLimit (sym same) (omega arith);
   scale = omega arith;
 }
 
@@ -98,18 +98,18 @@ module _ (a : Decimal) (d c j : ℕ) (whole : c * d ≡ 10 ^ j) (kept : unsigned
       let total = mul-le-mul_right (unsigned_abs (numerator_of a)) power in
       let split = pow-add 10 j (scale_of a) in
       bound (unsigned_abs (numerator_of q)) (unsigned_abs (numerator_of a)) (10 ^ scale_of a) (10 ^ j) (10 ^ scale_of q) (10 ^ (j + scale_of a)) sizes total split (ten_some (scale_of a)) kept
-      where
-    turn : (n p s : ℕ) → (p * s) * n ≡ (n * p) * s
-    turn n p s = grind arith
+    where
+      turn : (n p s : ℕ) → (p * s) * n ≡ (n * p) * s
+      turn n p s = grind arith
 
-    bound : (q n s p t u : ℕ) → (q * d) * s ≡ n * t → t * n ≤ u * n → u ≡ p * s → 0 < s → n * p ≤ limit → q ≤ limit
-    bound q n s p t u sizes total split positive kept' =
-        let first : (q * d) * s ≡ t * n = sizes ∙ mul_comm n t in
-        let last : u * n ≡ (n * p) * s = ap (λ x. x * n) split ∙ turn n p s in
-        let below : (q * d) * s ≤ (n * p) * s = omega arith in
-        let le = le_of_mul-le-mul_right below positive in
-        let grown : q ≤ q * d = le-mul_of_pos_right q (some d whole) in
-        omega arith
+      bound : (q n s p t u : ℕ) → (q * d) * s ≡ n * t → t * n ≤ u * n → u ≡ p * s → 0 < s → n * p ≤ limit → q ≤ limit
+      bound q n s p t u sizes total split positive kept' =
+          let first : (q * d) * s ≡ t * n = sizes ∙ mul_comm n t in
+          let last : u * n ≡ (n * p) * s = ap (λ x. x * n) split ∙ turn n p s in
+          let below : (q * d) * s ≤ (n * p) * s = omega arith in
+          let le = le_of_mul-le-mul_right below positive in
+          let grown : q ≤ q * d = le-mul_of_pos_right q (some d whole) in
+          omega arith
 
   pub exact_fits : scale_of a + j ≤ most_places → ExactQuotientFits a (pos d)
   exact_fits few = record {

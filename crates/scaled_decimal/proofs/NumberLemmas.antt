@@ -97,25 +97,31 @@ beyond (x ∷ xs) b tail (suc j) h = let more = beyond xs b tail j (omega arith)
 
 -- a front that no number goes on from like the text
 pub stuck : (front : List ℕ) (b : ℕ) (tail : List ℕ) → IsBeginning front → ((rest : List ℕ) → SpellsNone (front ++ (b ∷ rest))) → SpellsNone (front ++ (b ∷ tail)) × IsLongestFront (front ++ (b ∷ tail)) (length front)
-stuck front b tail begins none = (none tail, record {
-  within = simp length-append (omega arith);
-  begins = subst IsBeginning (sym (take-append_seam front (b ∷ tail))) begins;
-  longest = λ j _ longer. elim (cases_lt (length front) j) [
-    inl less ↦ absurd (
-      let more = beyond front b tail j less in
-      let spelt = subst (λ t. Spells (t ++ longer.rest) longer.number) more.1 longer.spells in
-      none (more.0 ++ longer.rest) longer.number (subst (λ t. Spells t longer.number) (append_assoc front (b ∷ more.0) longer.rest) spelt))
-    | inr le ↦ le
-  ];
-})
+stuck front b tail begins none = (
+  none tail,
+  record {
+    within = simp length-append (omega arith);
+    begins = subst IsBeginning (sym (take-append_seam front (b ∷ tail))) begins;
+    longest = λ j _ longer. elim (cases_lt (length front) j) [
+      | inl less ↦ absurd (
+          let more = beyond front b tail j less in
+          let spelt = subst (λ t. Spells (t ++ longer.rest) longer.number) more.1 longer.spells in
+          none (more.0 ++ longer.rest) longer.number (subst (λ t. Spells t longer.number) (append_assoc front (b ∷ more.0) longer.rest) spelt))
+      | inr le ↦ le
+    ];
+  },
+)
 
 -- a text that ends too early
 pub short : (front : List ℕ) → IsBeginning front → SpellsNone front → SpellsNone front × IsLongestFront front (length front)
-short front begins none = (none, record {
-  within = omega arith;
-  begins = subst IsBeginning (sym (take-all front)) begins;
-  longest = λ j within _. within;
-}) where
+short front begins none = (
+  none,
+  record {
+    within = omega arith;
+    begins = subst IsBeginning (sym (take-all front)) begins;
+    longest = λ j within _. within;
+  },
+) where
   take-all : (xs : List ℕ) → take (length xs) xs ≡ xs
   take-all [] = refl
   take-all (x ∷ xs) = ap (λ l. x ∷ l) (take-all xs)
@@ -126,20 +132,40 @@ zero_digit : AllDigits 10 (48 ∷ [])
 zero_digit = (omega arith, tt)
 
 sign_begins : (neg : Bool) → IsBeginning (sign_text neg)
-sign_begins neg = record { rest = 48 ∷ []; number = spelled neg (48 ∷ []) []; spells = spells (sign_text neg ++ (48 ∷ [])) neg (48 ∷ []) [] (record {
-  parts = refl; some = omega arith; whole_digits = zero_digit; place_digits = tt }) }
+sign_begins neg = record {
+  rest = 48 ∷ [];
+  number = spelled neg (48 ∷ []) [];
+  spells = spells (sign_text neg ++ (48 ∷ [])) neg (48 ∷ []) [] (record {
+    parts = refl;
+    some = omega arith;
+    whole_digits = zero_digit;
+    place_digits = tt;
+  });
+}
 
 whole_begins : (neg : Bool) (whole : List ℕ) → 0 < length whole → AllDigits 10 whole → IsBeginning (sign_text neg ++ whole)
-whole_begins neg whole some h = record { rest = []; number = spelled neg whole []; spells = spells ((sign_text neg ++ whole) ++ []) neg whole [] (record {
-  parts = append_assoc (sign_text neg) whole []; some = some; whole_digits = h; place_digits = tt }) }
+whole_begins neg whole some h = record {
+  rest = [];
+  number = spelled neg whole [];
+  spells = spells ((sign_text neg ++ whole) ++ []) neg whole [] (record {
+    parts = append_assoc (sign_text neg) whole [];
+    some = some;
+    whole_digits = h;
+    place_digits = tt;
+  });
+}
 
 point_begins : (neg : Bool) (whole places : List ℕ) → 0 < length whole → AllDigits 10 whole → AllDigits 10 places → IsBeginning (sign_text neg ++ (whole ++ (46 ∷ places)))
-point_begins neg whole places some h h' = record { rest = 48 ∷ []; number = spelled neg whole (places ++ (48 ∷ [])); spells = spells ((sign_text neg ++ (whole ++ (46 ∷ places))) ++ (48 ∷ [])) neg whole (places ++ (48 ∷ [])) (record {
-  parts = append_assoc (sign_text neg) (whole ++ (46 ∷ places)) (48 ∷ []) ∙ ap (λ l. sign_text neg ++ l) (append_assoc whole (46 ∷ places) (48 ∷ []) ∙ ap (λ l. whole ++ l) (pointed places));
-  some = some;
-  whole_digits = h;
-  place_digits = AllDigits_push places 48 h' (omega arith);
-}) } where
+point_begins neg whole places some h h' = record {
+  rest = 48 ∷ [];
+  number = spelled neg whole (places ++ (48 ∷ []));
+  spells = spells ((sign_text neg ++ (whole ++ (46 ∷ places))) ++ (48 ∷ [])) neg whole (places ++ (48 ∷ [])) (record {
+    parts = append_assoc (sign_text neg) (whole ++ (46 ∷ places)) (48 ∷ []) ∙ ap (λ l. sign_text neg ++ l) (append_assoc whole (46 ∷ places) (48 ∷ []) ∙ ap (λ l. whole ++ l) (pointed places));
+    some = some;
+    whole_digits = h;
+    place_digits = AllDigits_push places 48 h' (omega arith);
+  });
+} where
   pointed : (ps : List ℕ) → (46 ∷ ps) ++ (48 ∷ []) ≡ point_text (ps ++ (48 ∷ []))
   pointed [] = refl
   pointed (p ∷ ps) = refl
@@ -167,52 +193,52 @@ stops_at_sign text neg (b ∷ tail) f = subst (λ t. SpellsNone t × IsLongestFr
 pub stops_at_point : (text : List ℕ) (neg : Bool) (whole : List ℕ) (b : ℕ) (tail : List ℕ) → Found text neg whole (b ∷ tail) → 0 < length whole → (b ≡ 46 → ⊥) → SpellsNone text × IsLongestFront text (length (sign_text neg ++ whole))
 stops_at_point text neg whole b tail f some other =
     subst (λ t. SpellsNone t × IsLongestFront t (length (sign_text neg ++ whole))) (sym (f.parts ∙ sym (append_assoc (sign_text neg) whole (b ∷ tail)))) (stuck (sign_text neg ++ whole) b tail (whole_begins neg whole some f.digits) none) where
-  no_point : (rest places : List ℕ) → b ∷ rest ≡ point_text places → ⊥
-  no_point rest [] e = cc e
-  no_point rest (p ∷ ps) e = other (cc e)
+      no_point : (rest places : List ℕ) → b ∷ rest ≡ point_text places → ⊥
+      no_point rest [] e = cc e
+      no_point rest (p ∷ ps) e = other (cc e)
 
-  none : (rest : List ℕ) → SpellsNone ((sign_text neg ++ whole) ++ (b ∷ rest))
-  none rest d s =
-      let n = s.form in
-      let parts = same_parts ((sign_text neg ++ whole) ++ (b ∷ rest)) neg s.negative whole (b ∷ rest) s.whole s.places (record { parts = append_assoc (sign_text neg) whole (b ∷ rest); minus = λ _ more e. no_minus whole (b ∷ rest) more some f.digits e; digits = f.digits; stops = f.stops }) n in
-      no_point rest s.places parts.2
+      none : (rest : List ℕ) → SpellsNone ((sign_text neg ++ whole) ++ (b ∷ rest))
+      none rest d s =
+          let n = s.form in
+          let parts = same_parts ((sign_text neg ++ whole) ++ (b ∷ rest)) neg s.negative whole (b ∷ rest) s.whole s.places (record { parts = append_assoc (sign_text neg) whole (b ∷ rest); minus = λ _ more e. no_minus whole (b ∷ rest) more some f.digits e; digits = f.digits; stops = f.stops }) n in
+          no_point rest s.places parts.2
 
 -- no digit after the point, or another byte after the places
 pub stops_in_places : (text : List ℕ) (neg : Bool) (whole places left : List ℕ) → Found text neg whole (46 ∷ (places ++ left)) → 0 < length whole → AllDigits 10 places → NoDigitFirst left → (0 < length places → 0 < length left) → SpellsNone text × IsLongestFront text (length (sign_text neg ++ (whole ++ (46 ∷ places))))
 stops_in_places text neg whole places [] f some h stops not =
     subst (λ t. SpellsNone t × IsLongestFront t (length (sign_text neg ++ (whole ++ (46 ∷ places))))) (sym same) (short (sign_text neg ++ (whole ++ (46 ∷ places))) (point_begins neg whole places some f.digits h) none) where
-  same : text ≡ sign_text neg ++ (whole ++ (46 ∷ places))
-  same = f.parts ∙ ap (λ l. sign_text neg ++ (whole ++ (46 ∷ l))) (append-nil places)
+      same : text ≡ sign_text neg ++ (whole ++ (46 ∷ places))
+      same = f.parts ∙ ap (λ l. sign_text neg ++ (whole ++ (46 ∷ l))) (append-nil places)
 
-  no_places : (ps qs : List ℕ) → (0 < length qs → ⊥) → 46 ∷ qs ≡ point_text ps → ⊥
-  no_places [] qs empty e = cc e
-  no_places (p ∷ ps) [] empty e = cc e
-  no_places (p ∷ ps) (q ∷ qs) empty e = empty (omega arith)
+      no_places : (ps qs : List ℕ) → (0 < length qs → ⊥) → 46 ∷ qs ≡ point_text ps → ⊥
+      no_places [] qs empty e = cc e
+      no_places (p ∷ ps) [] empty e = cc e
+      no_places (p ∷ ps) (q ∷ qs) empty e = empty (omega arith)
 
-  none : SpellsNone (sign_text neg ++ (whole ++ (46 ∷ places)))
-  none d s =
-      let parts = same_parts (sign_text neg ++ (whole ++ (46 ∷ places))) neg s.negative whole (46 ∷ places) s.whole s.places (record { parts = refl; minus = λ _ more e. no_minus whole (46 ∷ places) more some f.digits e; digits = f.digits; stops = omega arith }) s.form in
-      no_places s.places places (λ l. absurd (let more = not l in omega arith)) parts.2
+      none : SpellsNone (sign_text neg ++ (whole ++ (46 ∷ places)))
+      none d s =
+          let parts = same_parts (sign_text neg ++ (whole ++ (46 ∷ places))) neg s.negative whole (46 ∷ places) s.whole s.places (record { parts = refl; minus = λ _ more e. no_minus whole (46 ∷ places) more some f.digits e; digits = f.digits; stops = omega arith }) s.form in
+          no_places s.places places (λ l. absurd (let more = not l in omega arith)) parts.2
 stops_in_places text neg whole places (b ∷ tail) f some h stops not =
     subst (λ t. SpellsNone t × IsLongestFront t (length front)) (sym (f.parts ∙ sym (whole_text tail))) (stuck front b tail (point_begins neg whole places some f.digits h) none) where
-  front : List ℕ
-  front = sign_text neg ++ (whole ++ (46 ∷ places))
+      front : List ℕ
+      front = sign_text neg ++ (whole ++ (46 ∷ places))
 
-  whole_text : (rest : List ℕ) → (sign_text neg ++ (whole ++ (46 ∷ places))) ++ (b ∷ rest) ≡ sign_text neg ++ (whole ++ (46 ∷ (places ++ (b ∷ rest))))
-  whole_text rest = append_assoc (sign_text neg) (whole ++ (46 ∷ places)) (b ∷ rest) ∙ ap (λ l. sign_text neg ++ l) (append_assoc whole (46 ∷ places) (b ∷ rest))
+      whole_text : (rest : List ℕ) → (sign_text neg ++ (whole ++ (46 ∷ places))) ++ (b ∷ rest) ≡ sign_text neg ++ (whole ++ (46 ∷ (places ++ (b ∷ rest))))
+      whole_text rest = append_assoc (sign_text neg) (whole ++ (46 ∷ places)) (b ∷ rest) ∙ ap (λ l. sign_text neg ++ l) (append_assoc whole (46 ∷ places) (b ∷ rest))
 
-  no_digit : (ps qs rest : List ℕ) → AllDigits 10 ps → 46 ∷ (qs ++ (b ∷ rest)) ≡ point_text ps → ⊥
-  no_digit [] qs rest h e = cc e
-  no_digit (p ∷ ps) qs rest h e =
-      let digits : qs ++ (b ∷ rest) ≡ p ∷ ps = cc in
-      let all : AllDigits 10 (qs ++ (b ∷ rest)) = subst (λ l. AllDigits 10 l) (sym digits) h in
-      let digit = digit_after qs b rest all in
-      omega arith
+      no_digit : (ps qs rest : List ℕ) → AllDigits 10 ps → 46 ∷ (qs ++ (b ∷ rest)) ≡ point_text ps → ⊥
+      no_digit [] qs rest h e = cc e
+      no_digit (p ∷ ps) qs rest h e =
+          let digits : qs ++ (b ∷ rest) ≡ p ∷ ps = cc in
+          let all : AllDigits 10 (qs ++ (b ∷ rest)) = subst (λ l. AllDigits 10 l) (sym digits) h in
+          let digit = digit_after qs b rest all in
+          omega arith
 
-  none : (rest : List ℕ) → SpellsNone ((sign_text neg ++ (whole ++ (46 ∷ places))) ++ (b ∷ rest))
-  none rest d s =
-      let parts = same_parts ((sign_text neg ++ (whole ++ (46 ∷ places))) ++ (b ∷ rest)) neg s.negative whole (46 ∷ (places ++ (b ∷ rest))) s.whole s.places (record { parts = whole_text rest; minus = λ _ more e. no_minus whole (46 ∷ (places ++ (b ∷ rest))) more some f.digits e; digits = f.digits; stops = omega arith }) s.form in
-      no_digit s.places places rest s.form.place_digits parts.2
+      none : (rest : List ℕ) → SpellsNone ((sign_text neg ++ (whole ++ (46 ∷ places))) ++ (b ∷ rest))
+      none rest d s =
+          let parts = same_parts ((sign_text neg ++ (whole ++ (46 ∷ places))) ++ (b ∷ rest)) neg s.negative whole (46 ∷ (places ++ (b ∷ rest))) s.whole s.places (record { parts = whole_text rest; minus = λ _ more e. no_minus whole (46 ∷ (places ++ (b ∷ rest))) more some f.digits e; digits = f.digits; stops = omega arith }) s.form in
+          no_digit s.places places rest s.form.place_digits parts.2
 
 -- the same, by the code's two splits
 pub found : (text rest : List ℕ) (neg : Bool) (whole after : List ℕ) → IsSignSplit text neg rest → IsDigitSplit rest whole after → Found text neg whole after

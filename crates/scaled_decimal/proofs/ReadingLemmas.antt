@@ -58,7 +58,8 @@ module _ (text : List ℕ) (neg : Bool) (whole places : List ℕ) (form : IsNumb
   kept_number kept = record {
     number = λ d. (
       λ e. (let same : spelled neg whole places ≡ d = cc in subst (λ x. Spells text x × IsKept x) same (spells text neg whole places form, kept)),
-      λ h. ap Ok (sym (spells_once text neg whole places d form h.0)));
+      λ h. ap Ok (sym (spells_once text neg whole places d form h.0)),
+    );
     shape = λ j. (λ e. absurd (cc e), λ h. absurd (h.0 one (spells text neg whole places form)));
     scale = (λ e. absurd (cc e), λ h. absurd (let same = ap scale_of (spells_once text neg whole places h.number form h.spells) in let many = h.many in let few = kept.scale in omega arith));
     wide = (λ e. absurd (cc e), λ h. absurd (h.beyond (subst (λ x. IsWithinLimit (numerator_of x)) (sym (spells_once text neg whole places h.number form h.spells)) kept.numerator)));

@@ -48,7 +48,7 @@ bytes_back (d ∷ ds) h = ap₂ (λ x xs. x ∷ xs) (digit_value_byte d h.0) (by
 
 value_whole : (n : ℕ) → digits_value 10 (whole_text n) ≡ n
 value_whole n = elim (cases_lt 0 n) [
-  inl some ↦
+  | inl some ↦
       let below = all_below_base_digits_of 10 n (omega arith) in
       rw (whole_some n some) (digits_value_is 10 (map digit_byte (digits_of 10 n)) ∙ ap (λ ds. number_from_digits 10 ds) (bytes_back (digits_of 10 n) below) ∙ number_digits_of 10 n (omega arith))
   | inr none ↦ (let e : n ≡ 0 = omega arith in rw e refl)
@@ -56,13 +56,13 @@ value_whole n = elim (cases_lt 0 n) [
 
 digits_whole : (n : ℕ) → AllDigits 10 (whole_text n)
 digits_whole n = elim (cases_lt 0 n) [
-  inl some ↦ rw (whole_some n some) (bytes_below (digits_of 10 n) (all_below_base_digits_of 10 n (omega arith)))
+  | inl some ↦ rw (whole_some n some) (bytes_below (digits_of 10 n) (all_below_base_digits_of 10 n (omega arith)))
   | inr none ↦ (let e : n ≡ 0 = omega arith in rw e (omega arith, tt))
 ]
 
 some_whole : (n : ℕ) → 0 < length (whole_text n)
 some_whole n = elim (cases_lt 0 n) [
-  inl some ↦ rw (whole_some n some) (let more = length-digits_of_step 10 n (omega arith) some in let same = length-map (digits_of 10 n) digit_byte in omega arith)
+  | inl some ↦ rw (whole_some n some) (let more = length-digits_of_step 10 n (omega arith) some in let same = length-map (digits_of 10 n) digit_byte in omega arith)
   | inr none ↦ (let e : n ≡ 0 = omega arith in rw e (omega arith))
 ]
 

@@ -51,8 +51,8 @@ cut mode (negsuc a) d some true e rest = (int_div (negsuc a) (pos d) -ℤ pos 1,
 rounded_positive : (mode : Mode) (n : ℤ) (d : ℕ) → 0 < d → (q : ℤ) × RoundsPositive mode n (pos d) q
 rounded_positive mode n d some =
     elim (cases_lt 0 (unsigned_abs (int_rem n (pos d)))) [
-      inl rest ↦ cut mode n d some (moves_away mode (int_lt n (pos 0)) (is_odd (unsigned_abs (int_div n (pos d)))) (2 * unsigned_abs (int_rem n (pos d))) d) refl rest
-    | inr none ↦ (int_div n (pos d), divides mode n (pos d) (omega (arith, ints)) (omega arith))
+      | inl rest ↦ cut mode n d some (moves_away mode (int_lt n (pos 0)) (is_odd (unsigned_abs (int_div n (pos d)))) (2 * unsigned_abs (int_rem n (pos d))) d) refl rest
+      | inr none ↦ (int_div n (pos d), divides mode n (pos d) (omega (arith, ints)) (omega arith))
     ]
 
 -- a quotient has one rounding and no other

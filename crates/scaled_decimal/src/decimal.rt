@@ -106,7 +106,10 @@ impl Dec {
         if s >= self.scale {
             return Dec::new(self.numerator_at(s), s);
         }
-        Dec::new(round_div(self.numerator, power_of_ten(self.scale - s), mode), s)
+        Dec::new(
+            round_div(self.numerator, power_of_ten(self.scale - s), mode),
+            s,
+        )
     }
 
     /// The quotient by `b`, which isn't zero, rounded to scale `s`.

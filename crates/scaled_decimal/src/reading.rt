@@ -73,7 +73,11 @@ fn signed(negative: bool, magnitude: u128) -> i128
     ensures value { result ≡ signed negative magnitude }
     ensures kept { IsWithinLimit result }
 {
-    if negative { -(magnitude as i128) } else { magnitude as i128 }
+    if negative {
+        -(magnitude as i128)
+    } else {
+        magnitude as i128
+    }
 }
 
 /// The parts of a number's text.

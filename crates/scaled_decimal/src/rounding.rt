@@ -77,5 +77,4 @@ fn moves_away(mode: Mode, negative: bool, odd: bool, twice: u128, whole: u128) -
 /// A law, with nothing to run: whatever the mode, each quotient has one rounding and no other.
 pub fn each_quotient_has_one_rounding()
     ensures { (mode : RoundingMode) (n d : ℤ) → d ≢ pos 0 → HasExactlyOne (Rounds mode n d) }
-{
-}
+{}

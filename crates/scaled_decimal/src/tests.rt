@@ -1,5 +1,6 @@
 use crate::{
-    Dec, Mode, NumFault, RCeiling, RDown, RFloor, RHalfDown, RHalfEven, RHalfUp, RUp, Rounding, read_dec, round_div, write_dec,
+    Dec, Mode, NumFault, RCeiling, RDown, RFloor, RHalfDown, RHalfEven, RHalfUp, RUp, Rounding,
+    read_dec, round_div, write_dec,
 };
 use std::cmp::Ordering;
 use std::test::Fail;
@@ -33,7 +34,11 @@ const DOCUMENTED: [(i16, [i16; 7]); 10] = [
 fn rounds_as_documented(rt: HostRuntime) {
     for (tenths, wanted) in DOCUMENTED.iter() {
         for (mode, rounded) in MODES.iter().zip(wanted.iter()) {
-            assert_eq!(rt; round_div(*tenths as i128, 10, *mode), *rounded as i128, "{tenths} by {mode:?}");
+            assert_eq!(rt;
+                round_div(*tenths as i128, 10, *mode),
+                *rounded as i128,
+                "{tenths} by {mode:?}"
+            );
         }
     }
     for (mode, rounded) in MODES.iter().zip([-4i16, -3, -3, -4, -4, -3, -4].iter()) {
@@ -51,10 +56,22 @@ fn rounds_by_type(rt: HostRuntime) {
     assert_eq!(rt; (RDown::MODE, rounded_half::<RDown>()), (Mode::Down, -3));
     assert_eq!(rt; (RUp::MODE, rounded_half::<RUp>()), (Mode::Up, -4));
     assert_eq!(rt; (RFloor::MODE, rounded_half::<RFloor>()), (Mode::Floor, -4));
-    assert_eq!(rt; (RCeiling::MODE, rounded_half::<RCeiling>()), (Mode::Ceiling, -3));
-    assert_eq!(rt; (RHalfUp::MODE, rounded_half::<RHalfUp>()), (Mode::HalfUp, -4));
-    assert_eq!(rt; (RHalfDown::MODE, rounded_half::<RHalfDown>()), (Mode::HalfDown, -3));
-    assert_eq!(rt; (RHalfEven::MODE, rounded_half::<RHalfEven>()), (Mode::HalfEven, -4));
+    assert_eq!(rt;
+        (RCeiling::MODE, rounded_half::<RCeiling>()),
+        (Mode::Ceiling, -3)
+    );
+    assert_eq!(rt;
+        (RHalfUp::MODE, rounded_half::<RHalfUp>()),
+        (Mode::HalfUp, -4)
+    );
+    assert_eq!(rt;
+        (RHalfDown::MODE, rounded_half::<RHalfDown>()),
+        (Mode::HalfDown, -3)
+    );
+    assert_eq!(rt;
+        (RHalfEven::MODE, rounded_half::<RHalfEven>()),
+        (Mode::HalfEven, -4)
+    );
 }
 
 #[test]
@@ -74,10 +91,20 @@ fn compares(rt: HostRuntime) {
     let two = Dec::new(2, 0);
     let longer = Dec::new(200, 2);
     let three = Dec::new(30, 1);
-    assert_eq!(rt; (two.cmp_value(longer), two.cmp_value(three), three.cmp_value(longer)), (0, -1, 1));
+    assert_eq!(rt;
+        (
+            two.cmp_value(longer),
+            two.cmp_value(three),
+            three.cmp_value(longer)
+        ),
+        (0, -1, 1)
+    );
     assert_eq!(rt; two.compare(longer), Ordering::Equal);
     assert_eq!(rt; two.compare(three), Ordering::Less);
-    assert_eq!(rt; Dec::new(10_000_000_000, 0).compare(Dec::new(1, 30)), Ordering::Greater);
+    assert_eq!(rt;
+        Dec::new(10_000_000_000, 0).compare(Dec::new(1, 30)),
+        Ordering::Greater
+    );
     assert_eq!(rt; (two.min(longer), longer.min(two)), (two, longer));
     assert_eq!(rt; (two.max(longer), longer.max(two)), (two, longer));
     assert_eq!(rt; (three.min(two), three.max(two)), (two, three));
@@ -86,12 +113,26 @@ fn compares(rt: HostRuntime) {
 #[test]
 fn rescales_and_divides(rt: HostRuntime) {
     let value = Dec::new(225, 2);
-    for (mode, rounded) in [(Mode::HalfEven, 22i16), (Mode::HalfUp, 23), (Mode::HalfDown, 22)] {
-        assert_eq!(rt; value.set_scale(1, mode), Dec::new(rounded as i128, 1), "{mode:?}");
+    for (mode, rounded) in [
+        (Mode::HalfEven, 22i16),
+        (Mode::HalfUp, 23),
+        (Mode::HalfDown, 22),
+    ] {
+        assert_eq!(rt;
+            value.set_scale(1, mode),
+            Dec::new(rounded as i128, 1),
+            "{mode:?}"
+        );
     }
     assert_eq!(rt; value.set_scale(4, Mode::Down), Dec::new(22500, 4));
-    assert_eq!(rt; Dec::new(10, 0).div(Dec::new(3, 0), 2, Mode::HalfEven), Dec::new(333, 2));
-    assert_eq!(rt; Dec::new(1000, 3).div(Dec::new(-8, 0), 2, Mode::HalfEven), Dec::new(-12, 2));
+    assert_eq!(rt;
+        Dec::new(10, 0).div(Dec::new(3, 0), 2, Mode::HalfEven),
+        Dec::new(333, 2)
+    );
+    assert_eq!(rt;
+        Dec::new(1000, 3).div(Dec::new(-8, 0), 2, Mode::HalfEven),
+        Dec::new(-12, 2)
+    );
 }
 
 #[test]
@@ -110,9 +151,15 @@ fn reads(rt: HostRuntime) {
         ("-1.5", Ok((-15, 1))),
         ("-0.00", Ok((0, 2))),
         ("10000000000000000000000000000000000000", Ok((limit, 0))),
-        ("10000000000000000000000000000000000001", Err(NumFault::Wide)),
+        (
+            "10000000000000000000000000000000000001",
+            Err(NumFault::Wide),
+        ),
         ("0.0000000000000000000000000000000", Err(NumFault::Scale)),
-        ("100000000000000000000000000000000000000.0000000000000000000000000000000", Err(NumFault::Scale)),
+        (
+            "100000000000000000000000000000000000000.0000000000000000000000000000000",
+            Err(NumFault::Scale),
+        ),
         ("", Err(NumFault::Shape { at: 0 })),
         ("1.", Err(NumFault::Shape { at: 2 })),
         ("-", Err(NumFault::Shape { at: 1 })),
@@ -121,10 +168,17 @@ fn reads(rt: HostRuntime) {
         ("1,5", Err(NumFault::Shape { at: 1 })),
         ("1.5.", Err(NumFault::Shape { at: 3 })),
         ("--1", Err(NumFault::Shape { at: 1 })),
-        ("10000000000000000000000000000000000001 ", Err(NumFault::Shape { at: 38 })),
+        (
+            "10000000000000000000000000000000000001 ",
+            Err(NumFault::Shape { at: 38 }),
+        ),
     ];
     for (text, wanted) in table {
-        assert_eq!(rt; read_dec(text.as_bytes()).map(|d| (d.numerator(), d.scale())), wanted, "{text}");
+        assert_eq!(rt;
+            read_dec(text.as_bytes()).map(|d| (d.numerator(), d.scale())),
+            wanted,
+            "{text}"
+        );
     }
 }
 
@@ -137,14 +191,23 @@ fn writes(rt: HostRuntime) -> Result<(), Fail> {
         (Dec::new(2500, 2), b"25.00"),
         (Dec::new(-120, 0), b"-120"),
         (Dec::new(1, 30), b"0.000000000000000000000000000001"),
-        (Dec::new(10_000_000_000_000_000_000_000_000_000_000_000_000, 0), b"10000000000000000000000000000000000000"),
+        (
+            Dec::new(10_000_000_000_000_000_000_000_000_000_000_000_000, 0),
+            b"10000000000000000000000000000000000000",
+        ),
     ];
     for (value, wanted) in table {
         let mut out = b"x".to_vec(rt.alloc())?;
         write_dec(rt.alloc(), value, &mut out)?;
-        assert_eq!(rt; out.as_slice(), [b"x", wanted].concat(rt.alloc())?.as_slice());
+        assert_eq!(rt;
+            out.as_slice(),
+            [b"x", wanted].concat(rt.alloc())?.as_slice()
+        );
         assert_eq!(rt; value.to_string(rt.alloc())?.as_bytes(), wanted);
     }
-    assert_eq!(rt; NumFault::Shape { at: 3 }.to_string(rt.alloc())?.as_str(), "no number at byte 3");
+    assert_eq!(rt;
+        NumFault::Shape { at: 3 }.to_string(rt.alloc())?.as_str(),
+        "no number at byte 3"
+    );
     Ok(())
 }

@@ -6,9 +6,8 @@ ghost use Rattle.scaled_decimal.specs.WorkingNumbers.{most_places};
 
 use crate::decimal::Dec;
 use std::alloc::{AllocError, Global};
-use std::fmt;
 use std::marker::Model;
-use std::str;
+use std::{fmt, str};
 
 /// Appends the plain text of a decimal: a `-` for a number below 0, at least one digit, and a point and a digit for
 /// each place where the scale isn't 0. After a refusal `out` is as before.
@@ -22,8 +21,7 @@ pub fn write_dec(_alloc: Global, d: Dec, out: &mut Vec<u8>) -> Result<(), AllocE
 /// A law, with nothing to run: the plain text of each decimal spells that decimal.
 pub fn each_plain_text_spells_its_decimal()
     ensures { (d : Decimal) → Spells (plain_text d) d }
-{
-}
+{}
 
 impl fmt::Display for Dec {
     ghost use Rattle.std.specs.Prelude.{Some};
@@ -145,11 +143,11 @@ impl BackText {
         ensures whole { result ≡ n / 10 ^ places }
         ensures room { length self.new ≡ places }
     {
-        let mut left = n;
+        let mut front = n;
         for _ in 0..places {
-            self.put(b'0' + (left % 10) as u8);
-            left /= 10;
+            self.put(b'0' + (front % 10) as u8);
+            front /= 10;
         }
-        left
+        front
     }
 }

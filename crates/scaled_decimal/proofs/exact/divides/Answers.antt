@@ -12,4 +12,5 @@ returns c =
     let fr : FitsSigned w128 (int_rem c.args.n c.args.d) = record { sfits = omega (arith, mag_rem c.args.n c.args.d, fn.sfits) } in
     rw (to_z-of_z w128 c.args.n fn, to_z-of_z w128 c.args.d fd) (
       (λ t. divides_from_rem c.args.d c.args.n (zero_bits (int_rem c.args.n c.args.d) fr t)),
-      (λ h. zero_test (int_rem c.args.n c.args.d) (rem_from_divides c.args.d c.args.n c.requires h)))
+      (λ h. zero_test (int_rem c.args.n c.args.d) (rem_from_divides c.args.d c.args.n c.requires h)),
+    )

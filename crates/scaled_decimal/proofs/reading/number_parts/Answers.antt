@@ -20,7 +20,7 @@ returns-then-is_empty-3-clause-err c =
     let some : 0 < length c.split_digits.result.0.now = grind (arith, nat_tests, c.if-is_empty.false) in
     let not : 0 < length c.split_digits-2.result.0.now → 0 < length c.split_digits-2.result.1.now =
     elim c.then-is_empty-3.branch [
-      then-is_empty-3-via-then-is_empty-3 w ↦ λ h. absurd (grind (arith, nat_tests, w.if-is_empty-3.true))
-    | then-is_empty-3-via-else-is_empty-3+then-not-is_empty w ↦ λ h. grind (arith, nat_tests, w.if-not-is_empty.true)
+      | then-is_empty-3-via-then-is_empty-3 w ↦ λ h. absurd (grind (arith, nat_tests, w.if-is_empty-3.true))
+      | then-is_empty-3-via-else-is_empty-3+then-not-is_empty w ↦ λ h. grind (arith, nat_tests, w.if-not-is_empty.true)
     ] in
     ends_in_places c.args.text.now c.split_sign-negative.result.1.now c.split_sign-negative.result.0 c.split_digits.result.0.now c.split_digits.result.1.now c.in-Some.fraction.now c.split_digits-2.result.0.now c.split_digits-2.result.1.now c.split_sign-negative.ensures c.split_digits.ensures some c.in-Some.ensures c.split_digits-2.ensures not

@@ -7,8 +7,8 @@ put-requires c = rw c.loop.invariant.text (omega (arith, length-last_digits c.lo
 
 pub loop-preserved : goal.loop-preserved
 loop-preserved c = record {
-  text = cc (c.put.ensures, c.loop.invariant.text, c.loop.invariant.left, last_digits_more c.loop.counter c.args.n);
-  left = rw c.loop.invariant.left (quotient_more c.loop.counter c.args.n);
+  text = cc (c.put.ensures, c.loop.invariant.text, c.loop.invariant.front, last_digits_more c.loop.counter c.args.n);
+  front = rw c.loop.invariant.front (quotient_more c.loop.counter c.args.n);
 }
 
 pub returns-clause-room : goal.returns-clause-room

@@ -5,5 +5,5 @@ use Rattle.scaled_decimal.proofs.writing.BackText.put_places.Given as goal
 abbrev pub invariant-loop : goal.invariant-loop
 invariant-loop l = record {
   text : l.self ≡ last_digits l.counter l.n;
-  left : l.left ≡ l.n / 10 ^ l.counter;
+  front : l.front ≡ l.n / 10 ^ l.counter;
 }
