@@ -1,5 +1,5 @@
 -- The exact quotient by a plain divisor.
-use Rattle.std.proofs.Common.{◌≡◌, ℕ, zero, suc, ◌+◌, ◌-◌, ◌*◌, ◌^◌, ◌<◌, ◌≤◌, ℤ, pos, negsuc, ◌+ℤ◌, ◌*ℤ◌, ◌≤ℤ◌, ◌<ℤ◌, neg_ℤ, int_div, int_rem, FitsSigned, of_z, nat_eq, IsTrue, refl, sym, ap, ◌∙◌, subst, inl, inr, arith}
+use Rattle.std.proofs.Common.{◌≡◌, ℕ, suc, ◌+◌, ◌-◌, ◌*◌, ◌^◌, ◌<◌, ◌≤◌, ℤ, pos, negsuc, ◌*ℤ◌, ◌≤ℤ◌, ◌<ℤ◌, neg_ℤ, int_div, int_rem, FitsSigned, of_z, nat_eq, IsTrue, refl, sym, ap, ◌∙◌, subst, inl, inr, arith}
 use Rattle.std.specs.Int.{w128}
 use Rattle.std.proofs.lemmas.Bool.Decides.{nat_tests}
 use Rattle.std.proofs.lemmas.Bool.{cases_lt}
@@ -7,7 +7,7 @@ use Rattle.std.proofs.lemmas.Int.{ints, quot-rem}
 use Rattle.std.proofs.Math.Nat.{mul-mod_left}
 use Rattle.scaled_decimal.specs.IntegerLemmas.{times_assoc, times_swap, times_cancel}
 use Rattle.scaled_decimal.specs.Decimals.{Decimal, decimal, numerator_of, scale_of, ten_to}
-use Rattle.scaled_decimal.specs.ExactQuotients.{Divides, HoldsQuotient, IsDivisorPlaces, IsExactQuotient, ExactQuotientFits, IsShortened}
+use Rattle.scaled_decimal.specs.ExactQuotients.{Divides, IsDivisorPlaces, IsExactQuotient, ExactQuotientFits, IsShortened}
 use Rattle.scaled_decimal.specs.WorkingNumbers.{IsWithinLimit}
 use Rattle.scaled_decimal.proofs.PowerLemmas.{ten_add, ten_some}
 

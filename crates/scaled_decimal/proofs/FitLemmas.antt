@@ -1,5 +1,5 @@
 -- Simple bounds under which the working numbers of an operation fit.
-use Rattle.std.proofs.Common.{◌≡◌, ◌≢◌, ℕ, zero, suc, ◌+◌, ◌-◌, ◌*◌, ◌^◌, ◌<◌, ◌≤◌, ℤ, pos, negsuc, ◌-ℤ◌, ◌*ℤ◌, ◌≤ℤ◌, unsigned_abs, refl, sym, ap, ◌∙◌, subst, inl, inr, arith}
+use Rattle.std.proofs.Common.{◌≡◌, ◌≢◌, ℕ, zero, suc, ◌+◌, ◌-◌, ◌*◌, ◌^◌, ◌<◌, ◌≤◌, ℤ, pos, ◌-ℤ◌, ◌*ℤ◌, unsigned_abs, sym, ap, ◌∙◌, subst, inl, inr, arith}
 use Rattle.std.proofs.lemmas.Bool.{cases_lt}
 use Rattle.std.proofs.lemmas.Int.{ints, unsigned_abs-mul}
 use Rattle.std.proofs.lemmas.Nat.{pow-add}
@@ -9,8 +9,8 @@ use Rattle.scaled_decimal.specs.Rounding.{Rounds}
 use Rattle.scaled_decimal.specs.RoundingLaws.{rounds_near, rounds_exactly_one}
 use Rattle.scaled_decimal.specs.IntegerLemmas.{some_abs, times_assoc}
 use Rattle.scaled_decimal.specs.Decimals.{Decimal, decimal, numerator_of, scale_of, ten_to}
-use Rattle.scaled_decimal.specs.WorkingNumbers.{IsWithinLimit, limit, most_places, RescaleFits, QuotientFits}
-use Rattle.scaled_decimal.specs.ExactQuotients.{Divides, IsDivisorPlaces, IsPlainDivisor, HoldsQuotient, IsExactQuotient, ExactQuotientFits}
+use Rattle.scaled_decimal.specs.WorkingNumbers.{IsWithinLimit, limit, most_places, RescaleFits}
+use Rattle.scaled_decimal.specs.ExactQuotients.{IsDivisorPlaces, IsPlainDivisor, HoldsQuotient, IsExactQuotient, ExactQuotientFits}
 use Rattle.scaled_decimal.proofs.PowerLemmas.{ten_some, ten_add, ten_not_zero, shortened}
 
 -- a rounding is no greater than its dividend

@@ -1,12 +1,12 @@
 -- The texts of numbers: one spelling each, and where a text stops being one.
-use Rattle.std.proofs.Common.{◌≡◌, ℕ, zero, suc, ◌+◌, ◌*◌, ◌<◌, ◌≤◌, ◌-◌, Bool, true, false, List, [], ◌∷◌, ◌++◌, length, take, drop, codes, refl, sym, ap, ◌∙◌, subst, append_assoc, length-append, inl, inr, arith}
+use Rattle.std.proofs.Common.{◌≡◌, ℕ, zero, suc, ◌<◌, ◌-◌, Bool, true, false, List, [], ◌∷◌, ◌++◌, length, take, refl, sym, ap, ◌∙◌, subst, append_assoc, length-append, inl, inr, arith}
 use Rattle.std.specs.Char.{digit_value}
-use Rattle.std.specs.Str.Parse.{AllDigits, digits_value, digits_value_after}
-use Rattle.std.proofs.lemmas.List.{append-nil, take-append-drop}
+use Rattle.std.specs.Str.Parse.{AllDigits}
+use Rattle.std.proofs.lemmas.List.{append-nil}
 use Rattle.std.proofs.Math.Seq.{take-append_seam}
 use Rattle.std.proofs.lemmas.Bool.{cases_lt}
-use Rattle.scaled_decimal.specs.Decimals.{Decimal, decimal}
-use Rattle.scaled_decimal.specs.NumberTexts.{sign_text, point_text, IsNumber, signed, spelled, Spells, SpellsNone, IsBeginning, IsLongestFront}
+use Rattle.scaled_decimal.specs.Decimals.{Decimal}
+use Rattle.scaled_decimal.specs.NumberTexts.{sign_text, point_text, IsNumber, spelled, Spells, SpellsNone, IsBeginning, IsLongestFront}
 use Rattle.scaled_decimal.specs.TextParts.{NoDigitFirst, NotFirst, IsSignSplit, IsDigitSplit}
 
 -- one digit more

@@ -1,11 +1,10 @@
 -- The order of two decimals by their values.
-use Rattle.std.proofs.Common.{◌≡◌, ℕ, ◌+◌, ◌-◌, ◌*◌, ◌^◌, ◌<◌, ◌≤◌, max, ℤ, pos, ◌+ℤ◌, ◌*ℤ◌, ◌<ℤ◌, ◌≤ℤ◌, Ordering, Less, Equal, Greater, refl, sym, ap, ap₂, ◌∙◌, subst, inl, inr, arith}
+use Rattle.std.proofs.Common.{◌≡◌, ℕ, ◌+◌, ◌-◌, ◌^◌, ◌<◌, ◌≤◌, ℤ, pos, ◌+ℤ◌, ◌*ℤ◌, ◌<ℤ◌, Ordering, Less, Equal, Greater, sym, ap, ap₂, ◌∙◌, arith}
 use Rattle.std.specs.Ordering.{int_cmp, MatchOrdering, ordering_then, ordering_reverse}
 use Rattle.std.specs.Prelude.{int_div, int_rem, unsigned_abs}
 use Rattle.std.specs.Cmp.{int_ranks, int_cmp_is, int_cmp_total}
-use Rattle.std.proofs.lemmas.Bool.{cases_lt}
 use Rattle.std.proofs.lemmas.Int.{ints, quot-rem, rem_below}
-use Rattle.scaled_decimal.specs.IntegerLemmas.{times_assoc, times_more, times_less, le_times, lt_times}
+use Rattle.scaled_decimal.specs.IntegerLemmas.{times_assoc, times_more, le_times, lt_times}
 use Rattle.scaled_decimal.specs.Decimals.{Decimal, numerator_of, scale_of, numerator_at, greater_scale, ten_to, value_order}
 use Rattle.scaled_decimal.proofs.PowerLemmas.{ten_add, ten_some}
 

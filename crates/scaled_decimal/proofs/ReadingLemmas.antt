@@ -1,7 +1,7 @@
 -- What each outcome of reading says of the text.
-use Rattle.std.proofs.Common.{◌≡◌, ℕ, ◌<◌, ◌≤◌, ◌↔◌, Bool, true, false, List, ◌++◌, length, Result, Ok, Err, unsigned_abs, ℤ, refl, sym, ap, ◌∙◌, subst, arith}
+use Rattle.std.proofs.Common.{◌≡◌, ℕ, ◌<◌, ◌≤◌, ◌↔◌, Bool, true, false, List, length, Result, Ok, Err, unsigned_abs, refl, sym, ap, ◌∙◌, subst, arith}
 use Rattle.std.proofs.lemmas.Int.{ints}
-use Rattle.std.specs.Str.Parse.{digits_value, digits_value_after}
+use Rattle.std.specs.Str.Parse.{digits_value_after}
 use Rattle.scaled_decimal.specs.declared.reading.NumFault.{NumFault}
 use Rattle.scaled_decimal.specs.declared.reading.NumFault.TheVariants.{Shape, Scale, Wide}
 use Rattle.scaled_decimal.specs.Decimals.{Decimal, numerator_of, scale_of}

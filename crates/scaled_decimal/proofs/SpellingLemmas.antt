@@ -1,7 +1,6 @@
 -- The plain text of a decimal spells it.
-use Rattle.std.proofs.Common.{◌≡◌, ℕ, zero, suc, ◌+◌, ◌*◌, ◌/◌, ◌%◌, ◌^◌, ◌<◌, ◌≤◌, Bool, true, false, cond, ltb, List, [], ◌∷◌, ◌++◌, length, map, ℤ, pos, negsuc, unsigned_abs, int_lt, refl, sym, ap, ap₂, ◌∙◌, subst, inl, inr, arith}
+use Rattle.std.proofs.Common.{◌≡◌, ℕ, zero, suc, ◌+◌, ◌*◌, ◌/◌, ◌%◌, ◌^◌, ◌<◌, false, ltb, List, [], ◌∷◌, ◌++◌, length, map, ℤ, pos, negsuc, unsigned_abs, int_lt, refl, sym, ap, ap₂, ◌∙◌, inl, inr, arith}
 use Rattle.std.specs.Char.{digit_value}
-use Rattle.std.specs.List.{AllByRecursion}
 use Rattle.std.specs.Int.Digits.{digits_of, AllBelowBase, number_from_digits}
 use Rattle.std.specs.Str.Parse.{AllDigits, digits_value, digits_value_after}
 use Rattle.std.proofs.lemmas.Bool.Decides.{nat_tests}
@@ -13,7 +12,7 @@ use Rattle.std.proofs.Math.Nat.{pow-suc, one-le-pow, mul_comm}
 use Rattle.std.proofs.Math.Arith.{mod-mul}
 use Rattle.std.proofs.lemmas.Nat.{div-add-mod'}
 use Rattle.scaled_decimal.specs.Decimals.{Decimal, decimal, numerator_of, scale_of}
-use Rattle.scaled_decimal.specs.NumberTexts.{signed, Spells, IsNumber}
+use Rattle.scaled_decimal.specs.NumberTexts.{signed, Spells}
 use Rattle.scaled_decimal.specs.PlainTexts.{digit_byte, whole_text, last_digits, plain_text}
 use Rattle.scaled_decimal.proofs.DigitLemmas.{digits_value_after-append}
 use Rattle.scaled_decimal.proofs.PlainLemmas.{length-last_digits, whole_some}

@@ -1,13 +1,13 @@
 -- A quotient that is no less is rounded to a number that is no less.
-use Rattle.std.specs.Prelude.{◌≡◌, ◌≢◌, ℕ, zero, suc, ◌+◌, ◌*◌, ◌<◌, ◌≤◌, ◌%◌, ℤ, pos, negsuc, ◌+ℤ◌, ◌-ℤ◌, ◌*ℤ◌, neg_ℤ, ◌≤ℤ◌, ◌<ℤ◌, unsigned_abs}
-use Rattle.std.proofs.Common.{arith, ap, ◌∙◌, sym, subst}
+use Rattle.std.specs.Prelude.{◌≡◌, ℕ, zero, suc, ◌+◌, ◌*◌, ◌<◌, ◌%◌, ℤ, pos, negsuc, ◌+ℤ◌, ◌*ℤ◌, ◌≤ℤ◌, ◌<ℤ◌, unsigned_abs}
+use Rattle.std.proofs.Common.{arith, ap, sym, subst}
 use Rattle.std.proofs.lemmas.Int.{ints, by_lt_z}
 use Rattle.std.proofs.Math.Nat.{mul_comm}
 use Rattle.scaled_decimal.specs.declared.rounding.Mode.{Mode}
 use Rattle.scaled_decimal.specs.declared.rounding.Mode.TheVariants.{Down, Up, Floor, Ceiling, HalfUp, HalfDown, HalfEven}
 use Rattle.scaled_decimal.specs.Rounding.{IsFloor, IsCeiling, IsDown, IsUp, IsNearest, RoundsPositive}
 use Rattle.scaled_decimal.specs.IntegerLemmas.{times_more, times_less, le_times, by_sign}
-use Rattle.scaled_decimal.specs.ScaledLemmas.{scaled, same_back}
+use Rattle.scaled_decimal.specs.ScaledLemmas.{scaled}
 
 -- one and the same positive divisor, and a greater rounding of the smaller number
 module _ (n n' q q' : ℤ) (d : ℕ) (some : 0 < d) (le : n ≤ℤ n') (less : q' <ℤ q) where

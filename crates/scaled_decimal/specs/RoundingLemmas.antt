@@ -1,13 +1,13 @@
 -- A quotient that was cut towards zero, and moved by `moves_away`, is the rounding.
-use Rattle.std.proofs.Common.{◌≡◌, ℕ, ◌+◌, ◌-◌, ◌*◌, ◌<◌, ◌≤◌, ◌/◌, ◌%◌, suc, Bool, true, false, cond, ℤ, pos, negsuc, ◌+ℤ◌, ◌-ℤ◌, ◌*ℤ◌, neg_ℤ, ◌≤ℤ◌, ◌<ℤ◌, unsigned_abs, arith, refl}
+use Rattle.std.proofs.Common.{◌≡◌, ℕ, ◌+◌, ◌-◌, ◌*◌, ◌<◌, ◌≤◌, ◌/◌, ◌%◌, suc, Bool, true, false, ℤ, pos, negsuc, ◌+ℤ◌, ◌-ℤ◌, ◌*ℤ◌, neg_ℤ, ◌≤ℤ◌, ◌<ℤ◌, unsigned_abs, arith}
 use Rattle.std.proofs.lemmas.Int.{ints, quot-rem}
 use Rattle.std.specs.Prelude.{int_div, int_rem, int_lt}
-use Rattle.std.proofs.Common.{ap, nat_eq, nat_lt, nat_le, ◌||◌, ◌&&◌, ◌==◌}
+use Rattle.std.proofs.Common.{nat_eq}
 use Rattle.std.proofs.lemmas.Bool.Decides.{nat_tests}
 use Rattle.scaled_decimal.specs.declared.rounding.Mode.{Mode}
 use Rattle.scaled_decimal.specs.declared.rounding.Mode.TheVariants.{Down, Up, Floor, Ceiling, HalfUp, HalfDown, HalfEven}
 use native.Mathlib.Nat.{div-le_self, mod-le}
-use Rattle.scaled_decimal.specs.Rounding.{IsFloor, IsCeiling, IsDown, IsUp, IsNearest, RoundsPositive, Rounds}
+use Rattle.scaled_decimal.specs.Rounding.{IsFloor, IsCeiling, IsNearest, RoundsPositive, Rounds}
 use Rattle.scaled_decimal.specs.RoundingDecision.{moves_away}
 use Rattle.scaled_decimal.specs.IntegerLemmas.{times_more, times_less, times_neg}
 

@@ -1,4 +1,4 @@
-use Rattle.std.proofs.Common.{rules, arith, FitsSigned, int_rem}
+use Rattle.std.proofs.Common.{arith, FitsSigned, int_rem}
 use Rattle.std.specs.Int.{w128}
 use Rattle.std.proofs.lemmas.Int.{to_z-of_z}
 use lib.Signed.{mag_rem}

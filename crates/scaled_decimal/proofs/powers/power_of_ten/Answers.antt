@@ -1,4 +1,4 @@
-use Rattle.std.proofs.Common.{◌∙◌, ap, pos, ◌^◌, ◌≤◌, to_z, of_z, ℤ, arith}
+use Rattle.std.proofs.Common.{◌∙◌, ap, pos, ◌^◌, to_z, of_z, ℤ, arith}
 use Rattle.std.specs.Int.{w128}
 use Rattle.std.proofs.lemmas.Int.{ints, to_z-of_z}
 use Rattle.scaled_decimal.proofs.PowerLemmas.{power_at, power_fits, power_bound, ten_some}

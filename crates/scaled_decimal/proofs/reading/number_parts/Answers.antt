@@ -1,4 +1,4 @@
-use Rattle.std.proofs.Common.{rules, arith, ◌≡◌, ◌<◌, length}
+use Rattle.std.proofs.Common.{arith, ◌≡◌, ◌<◌, length}
 use Rattle.std.proofs.lemmas.Bool.Decides.{nat_tests}
 use Rattle.scaled_decimal.proofs.NumberLemmas.{ends_at_sign, ends_at_point, ends_in_places}
 use Rattle.scaled_decimal.proofs.reading.number_parts.Goals as goal

@@ -1,5 +1,4 @@
-use Rattle.std.proofs.Common.{rules, arith, ◌+◌, get_or}
-use Rattle.std.specs.Int.{IsInRange}
+use Rattle.std.proofs.Common.{arith, ◌+◌}
 use Rattle.std.proofs.lemmas.Str.{digit_value_digit}
 use Rattle.scaled_decimal.proofs.DigitLemmas.{digit_at, digits_value_after_more, front_le}
 use Rattle.scaled_decimal.proofs.reading.value_after.Goals as goal

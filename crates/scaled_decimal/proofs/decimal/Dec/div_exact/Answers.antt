@@ -1,8 +1,7 @@
-use Rattle.std.proofs.Common.{rules, arith, ◌≡◌, ◌+◌, ◌*ℤ◌, FitsSigned, int_div, refl}
+use Rattle.std.proofs.Common.{rules, arith, ◌+◌, ◌*ℤ◌, FitsSigned, int_div}
 use Rattle.std.specs.Int.{w128}
 use Rattle.std.proofs.lemmas.Int.{to_z-of_z, quot_is, quot_fits}
-use Rattle.scaled_decimal.specs.Decimals.{decimal, scale_of}
-use Rattle.scaled_decimal.specs.WorkingNumbers.{IsWithinLimit}
+use Rattle.scaled_decimal.specs.Decimals.{decimal}
 use Rattle.scaled_decimal.specs.ExactQuotients.{IsDivisorPlaces, IsShortened}
 use Rattle.scaled_decimal.proofs.PowerLemmas.{power_le, kept_fits}
 use Rattle.scaled_decimal.proofs.ExactLemmas.{scaled_kept, factor_times, shortened_quotient, above_zero}

@@ -1,4 +1,4 @@
-use Rattle.std.proofs.Common.{arith, ◌≡◌, length, ap, ◌∙◌, sym}
+use Rattle.std.proofs.Common.{arith, ◌∙◌}
 use Rattle.scaled_decimal.proofs.PlainLemmas.{length-last_digits, last_digits_more, quotient_more}
 use Rattle.scaled_decimal.proofs.writing.BackText.put_places.Goals as goal
 

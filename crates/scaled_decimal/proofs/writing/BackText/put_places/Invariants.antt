@@ -1,4 +1,4 @@
-use Rattle.std.proofs.Common.{◌≡◌, ◌≤◌, ◌/◌, ◌^◌}
+use Rattle.std.proofs.Common.{◌≡◌, ◌/◌, ◌^◌}
 use Rattle.scaled_decimal.specs.PlainTexts.{last_digits}
 use Rattle.scaled_decimal.proofs.writing.BackText.put_places.Given as goal
 

@@ -1,4 +1,4 @@
-use Rattle.std.proofs.Common.{arith, ◌≡◌, ◌<◌, length, ap, ◌∙◌, sym, ◌++◌}
+use Rattle.std.proofs.Common.{arith, length, ap, sym, ◌++◌}
 use Rattle.std.proofs.lemmas.Int.Digits.{length-digits_of_step}
 use Rattle.scaled_decimal.proofs.PlainLemmas.{whole_some, whole_more, few_digits}
 use Rattle.scaled_decimal.proofs.writing.BackText.put_whole.Goals as goal
