@@ -1,0 +1,10 @@
+pub mod DigitLemmas
+pub mod ExactLemmas
+pub mod FitLemmas
+pub mod NumberLemmas
+pub mod OrderLemmas
+pub mod PlainLemmas
+pub mod PowerLemmas
+pub mod ReadingLemmas
+pub mod QuotientLemmas
+pub mod SpellingLemmas

@@ -1,0 +1,13 @@
+pub mod Decimals
+pub mod ExactQuotients
+pub mod IntegerLemmas
+pub mod MonotoneLemmas
+pub mod NumberTexts
+pub mod PlainTexts
+pub mod Rounding
+pub mod RoundingDecision
+pub mod RoundingLaws
+pub mod RoundingLemmas
+pub mod ScaledLemmas
+pub mod TextParts
+pub mod WorkingNumbers

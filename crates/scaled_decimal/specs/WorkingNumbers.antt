@@ -1,0 +1,55 @@
+-- The numbers that each operation on kept decimals meets, and that they are within the limits.
+use Rattle.std.specs.Prelude.{ℕ, ◌+◌, ◌-◌, ◌^◌, ◌<◌, ◌≤◌, ℤ, pos, ◌+ℤ◌, ◌-ℤ◌, ◌*ℤ◌, unsigned_abs}
+use Rattle.scaled_decimal.specs.Rounding.{Rounds}
+use Rattle.scaled_decimal.specs.declared.rounding.Mode.{Mode}
+use Rattle.scaled_decimal.specs.Decimals.{Decimal, numerator_of, scale_of, numerator_at, greater_scale, ten_to}
+
+-- the greatest magnitude of a numerator, and the greatest scale
+abbrev pub limit : ℕ
+limit = 10 ^ 37
+
+abbrev pub most_places : ℕ
+most_places = 30
+
+abbrev pub IsWithinLimit : ℤ → Type 0
+IsWithinLimit n = unsigned_abs n ≤ limit
+
+-- a decimal that 128 bits keep
+pub record IsKept (d : Decimal) : Type 0 where
+  pub numerator : IsWithinLimit (numerator_of d)
+  pub scale : scale_of d ≤ most_places
+
+-- compareTo, min, max: both numerators at the greater scale
+pub record ComparisonFits (a b : Decimal) : Type 0 where
+  pub left : IsWithinLimit (numerator_at (greater_scale a b) a)
+  pub right : IsWithinLimit (numerator_at (greater_scale a b) b)
+
+-- add: both numerators at the greater scale, and their sum
+pub record SumFits (a b : Decimal) : Type 0 where
+  pub left : IsWithinLimit (numerator_at (greater_scale a b) a)
+  pub right : IsWithinLimit (numerator_at (greater_scale a b) b)
+  pub result : IsWithinLimit (numerator_at (greater_scale a b) a +ℤ numerator_at (greater_scale a b) b)
+
+-- subtract: both numerators at the greater scale, and their difference
+pub record DifferenceFits (a b : Decimal) : Type 0 where
+  pub left : IsWithinLimit (numerator_at (greater_scale a b) a)
+  pub right : IsWithinLimit (numerator_at (greater_scale a b) b)
+  pub result : IsWithinLimit (numerator_at (greater_scale a b) a -ℤ numerator_at (greater_scale a b) b)
+
+-- multiply: the product of the numerators, and the sum of the scales
+pub record ProductFits (a b : Decimal) : Type 0 where
+  pub result : IsWithinLimit (numerator_of a *ℤ numerator_of b)
+  pub scale : scale_of a + scale_of b ≤ most_places
+
+-- setScale: the rescaled numerator
+pub record RescaleFits (mode : Mode) (a : Decimal) (s : ℕ) : Type 0 where
+  pub result : (q : ℤ) → Rounds mode (numerator_of a *ℤ ten_to s) (ten_to (scale_of a)) q → IsWithinLimit q
+  pub scale : s ≤ most_places
+
+-- divide: with e the scale asked for plus the divisor's less the receiver's, the power of |e|, the number that it multiplies, and the quotient
+pub record QuotientFits (mode : Mode) (a b : Decimal) (s : ℕ) : Type 0 where
+  pub power : IsWithinLimit (ten_to (unsigned_abs (pos (s + scale_of b) -ℤ pos (scale_of a))))
+  pub dividend : scale_of a ≤ s + scale_of b → IsWithinLimit (numerator_of a *ℤ ten_to (s + scale_of b - scale_of a))
+  pub divisor : s + scale_of b < scale_of a → IsWithinLimit (numerator_of b *ℤ ten_to (scale_of a - (s + scale_of b)))
+  pub result : (q : ℤ) → Rounds mode (numerator_of a *ℤ ten_to (s + scale_of b)) (numerator_of b *ℤ ten_to (scale_of a)) q → IsWithinLimit q
+  pub scale : s ≤ most_places

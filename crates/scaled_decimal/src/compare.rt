@@ -1,0 +1,72 @@
+ghost use Rattle.std.specs.Prelude.{◌≡◌, ◌≤◌, ◌*ℤ◌};
+ghost use Rattle.std.specs.Ordering.{int_cmp};
+ghost use Rattle.scaled_decimal.specs.Decimals.{ten_to, comparison, lesser, greater, value_order};
+ghost use Rattle.scaled_decimal.specs.WorkingNumbers.{most_places, ComparisonFits};
+
+use crate::decimal::Dec;
+use crate::powers::power_of_ten;
+use std::cmp::Ordering;
+
+impl Dec {
+    /// The order of the values, for any two decimals.
+    pub fn compare(self, b: Dec) -> Ordering
+        ensures { result ≡ value_order self b }
+    {
+        if self.scale() < b.scale() {
+            compare_scaled(b.numerator(), self.numerator(), b.scale() - self.scale()).reverse()
+        } else {
+            compare_scaled(self.numerator(), b.numerator(), self.scale() - b.scale())
+        }
+    }
+
+    /// -1, 0 or 1 as the value is less than, equal to or greater than that of `b`.
+    pub fn cmp_value(self, b: Dec) -> i32
+        requires { ComparisonFits self b }
+        ensures { result ≡ comparison self b }
+    {
+        match self.aligned_cmp(b) {
+            Ordering::Less => -1,
+            Ordering::Equal => 0,
+            Ordering::Greater => 1,
+        }
+    }
+
+    /// The one with the lesser value, with its own scale; this one where the values are equal.
+    pub fn min(self, b: Dec) -> Dec
+        requires { ComparisonFits self b }
+        ensures { result ≡ lesser self b }
+    {
+        match self.aligned_cmp(b) {
+            Ordering::Greater => b,
+            Ordering::Less | Ordering::Equal => self,
+        }
+    }
+
+    /// The one with the greater value, with its own scale; this one where the values are equal.
+    pub fn max(self, b: Dec) -> Dec
+        requires { ComparisonFits self b }
+        ensures { result ≡ greater self b }
+    {
+        match self.aligned_cmp(b) {
+            Ordering::Less => b,
+            Ordering::Equal | Ordering::Greater => self,
+        }
+    }
+
+    fn aligned_cmp(self, b: Dec) -> Ordering
+        requires { ComparisonFits self b }
+        ensures { result ≡ value_order self b }
+    {
+        let scale = self.greater_scale(b);
+        self.numerator_at(scale).cmp(&b.numerator_at(scale))
+    }
+}
+
+/// The order of `a` and `b` * 10^`places`, by the quotient, since the product may leave 128 bits.
+fn compare_scaled(a: i128, b: i128, places: u8) -> Ordering
+    requires { places ≤ most_places }
+    ensures { result ≡ int_cmp a (b *ℤ ten_to places) }
+{
+    let power = power_of_ten(places);
+    (a / power).cmp(&b).then((a % power).cmp(&0))
+}

@@ -1,0 +1,155 @@
+ghost use Rattle.std.specs.Prelude.{◌≡◌, ◌≢◌, ◌≤◌, ℤ, pos, ◌≤ℤ◌};
+ghost use Rattle.scaled_decimal.specs.Rounding.{Rounds, IsNear, IsAtMost};
+ghost use Rattle.scaled_decimal.specs.RoundingLaws.{rounds_near, rounds_rising};
+ghost use Rattle.scaled_decimal.specs.WorkingNumbers.{IsWithinLimit};
+ghost use Rattle.scaled_decimal.specs.declared.rounding.Mode.{Mode};
+ghost use Rattle.scaled_decimal.specs.declared.rounding.Mode.TheVariants.{Down, Up, Floor, Ceiling, HalfUp, HalfDown, HalfEven};
+
+use crate::rounding::{Mode, round_div};
+
+/// A rounding as a type, for code that is generic over it.
+pub trait Rounding {
+    /// The mode that the type stands for.
+    const MODE: Mode;
+
+    ghost MODE: { Mode };
+
+    /// The quotient of `n` by `d`, rounded to a whole number. Both are at most 10^37 in magnitude, and `d` isn't 0.
+    fn round(n: i128, d: i128) -> i128
+        requires not_zero { d ≢ pos 0 }
+        requires dividend { IsWithinLimit n }
+        requires divisor { IsWithinLimit d }
+        ensures { Rounds MODE n d result };
+
+    /// The rounding differs from the quotient by less than one.
+    ghost near: { (n d q : ℤ) → d ≢ pos 0 → Rounds MODE n d q → IsNear n d q };
+
+    /// A greater or equal quotient has a greater or equal rounding.
+    ghost rises: { (n d m e q r : ℤ) → d ≢ pos 0 → e ≢ pos 0 → IsAtMost n d m e → Rounds MODE n d q → Rounds MODE m e r → q ≤ℤ r };
+}
+
+/// Towards zero.
+#[derive(Clone, Copy, Debug, PartialEq, Eq)]
+pub struct RDown;
+
+impl Rounding for RDown {
+    const MODE: Mode = Mode::Down;
+
+    ghost MODE = { Down };
+
+    ghost near = { rounds_near Down };
+
+    ghost rises = { rounds_rising Down };
+
+    fn round(n: i128, d: i128) -> i128 {
+        round_div(n, d, Mode::Down)
+    }
+}
+
+/// Away from zero.
+#[derive(Clone, Copy, Debug, PartialEq, Eq)]
+pub struct RUp;
+
+impl Rounding for RUp {
+    const MODE: Mode = Mode::Up;
+
+    ghost MODE = { Up };
+
+    ghost near = { rounds_near Up };
+
+    ghost rises = { rounds_rising Up };
+
+    fn round(n: i128, d: i128) -> i128 {
+        round_div(n, d, Mode::Up)
+    }
+}
+
+/// Towards minus infinity.
+#[derive(Clone, Copy, Debug, PartialEq, Eq)]
+pub struct RFloor;
+
+impl Rounding for RFloor {
+    const MODE: Mode = Mode::Floor;
+
+    ghost MODE = { Floor };
+
+    ghost near = { rounds_near Floor };
+
+    ghost rises = { rounds_rising Floor };
+
+    fn round(n: i128, d: i128) -> i128 {
+        round_div(n, d, Mode::Floor)
+    }
+}
+
+/// Towards plus infinity.
+#[derive(Clone, Copy, Debug, PartialEq, Eq)]
+pub struct RCeiling;
+
+impl Rounding for RCeiling {
+    const MODE: Mode = Mode::Ceiling;
+
+    ghost MODE = { Ceiling };
+
+    ghost near = { rounds_near Ceiling };
+
+    ghost rises = { rounds_rising Ceiling };
+
+    fn round(n: i128, d: i128) -> i128 {
+        round_div(n, d, Mode::Ceiling)
+    }
+}
+
+/// To the nearest, a tie away from zero.
+#[derive(Clone, Copy, Debug, PartialEq, Eq)]
+pub struct RHalfUp;
+
+impl Rounding for RHalfUp {
+    const MODE: Mode = Mode::HalfUp;
+
+    ghost MODE = { HalfUp };
+
+    ghost near = { rounds_near HalfUp };
+
+    ghost rises = { rounds_rising HalfUp };
+
+    fn round(n: i128, d: i128) -> i128 {
+        round_div(n, d, Mode::HalfUp)
+    }
+}
+
+/// To the nearest, a tie towards zero.
+#[derive(Clone, Copy, Debug, PartialEq, Eq)]
+pub struct RHalfDown;
+
+impl Rounding for RHalfDown {
+    const MODE: Mode = Mode::HalfDown;
+
+    ghost MODE = { HalfDown };
+
+    ghost near = { rounds_near HalfDown };
+
+    ghost rises = { rounds_rising HalfDown };
+
+    fn round(n: i128, d: i128) -> i128 {
+        round_div(n, d, Mode::HalfDown)
+    }
+}
+
+/// To the nearest, a tie to the even neighbour.
+#[derive(Clone, Copy, Debug, PartialEq, Eq)]
+pub struct RHalfEven;
+
+impl Rounding for RHalfEven {
+    const MODE: Mode = Mode::HalfEven;
+
+    ghost MODE = { HalfEven };
+
+    ghost near = { rounds_near HalfEven };
+
+    ghost rises = { rounds_rising HalfEven };
+
+    fn round(n: i128, d: i128) -> i128 {
+        round_div(n, d, Mode::HalfEven)
+    }
+}

@@ -1,0 +1,22 @@
+//! Decimals of 128 bits with the arithmetic of `java.math.BigDecimal`, and its seven roundings.
+//!
+//! A kept decimal has a numerator of at most 10^37 in magnitude and a scale of 0 to 30. No operation refuses, rounds
+//! unasked or takes memory: each has the condition that the numbers it works with are within these limits.
+#![tactic(auto)]
+
+mod compare;
+mod decimal;
+mod exact;
+mod kinds;
+mod powers;
+mod reading;
+mod rounding;
+#[cfg(test)]
+mod tests;
+mod writing;
+
+pub use decimal::Dec;
+pub use kinds::{RCeiling, RDown, RFloor, RHalfDown, RHalfEven, RHalfUp, RUp, Rounding};
+pub use reading::{NumFault, read_dec};
+pub use rounding::{Mode, each_quotient_has_one_rounding, round_div};
+pub use writing::{each_plain_text_spells_its_decimal, write_dec};
