@@ -6,6 +6,7 @@ use crate::{Status, papcalc};
 use outside::{Files, MemFiles, MemSink, MemSource, Sink, Source};
 use std::alloc::{AllocError, Global};
 use std::marker::Brand;
+use std::process::Abort;
 use std::sync::ledger::{Blank, Ledger};
 use std::test::Fail;
 use steps::Steps;
@@ -86,76 +87,72 @@ fn answer(alloc: Global, case: &Case) -> Result<(Status, Vec<u8>), AllocError> {
     Ok((status, sink.written().to_vec(alloc)?))
 }
 
+/// Each case is answered with the status and the text.
+fn assert_answers(
+    rt: &impl Abort,
+    alloc: Global,
+    table: &[(Case, Status, &str)],
+) -> Result<(), Fail> {
+    for (case, status, text) in table {
+        let (got, written) = answer(alloc, case)?;
+        assert_eq!(rt; got, *status, "at {text}");
+        assert_eq!(rt; written.as_slice(), text.as_bytes(), "at {text}");
+    }
+    Ok(())
+}
+
 #[test]
-fn statuses_and_lines(rt: HostRuntime) -> Result<(), Fail> {
+fn plans_are_answered(rt: HostRuntime) -> Result<(), Fail> {
     let statements = |first| Case {
         statements: [first, "B= A + A - 1"],
         ..WHOLE
     };
-    let words = |words| Case { words, ..WHOLE };
+    let limits = |limits| Case { limits, ..WHOLE };
+    let refused = |case, text| (case, Status::Refused, text);
     let table = [
         (WHOLE, Status::Done, "A -3\nB -7\nsteps 11\n"),
-        (
+        refused(
             statements("A= 2147483647 + 1"),
-            Status::Refused,
             "refused plan Wide MAIN:0:2 2147483647 + 1\n",
         ),
-        (
+        refused(
             statements("A= 0 - 2147483647"),
-            Status::Refused,
             "refused plan Wide MAIN:1:2 A + A\n",
         ),
-        (
-            statements("A= C + 1"),
-            Status::Refused,
-            "refused plan Unknown C MAIN:0:0\n",
-        ),
-        (
-            statements("C= 1 + 1"),
-            Status::Refused,
-            "refused plan Unknown C MAIN:0:2\n",
-        ),
-        (
-            statements("A= 2 * 3"),
-            Status::Refused,
-            "refused plan Unbuilt\n",
-        ),
-        (
-            Case {
-                limits: "\n",
-                ..WHOLE
-            },
-            Status::Refused,
-            "refused plan Unbuilt\n",
-        ),
+        refused(statements("A= C + 1"), "refused plan Unknown C MAIN:0:0\n"),
+        refused(statements("C= 1 + 1"), "refused plan Unknown C MAIN:0:2\n"),
+        refused(statements("A= 2 * 3"), "refused plan Unbuilt\n"),
+        refused(limits("\n"), "refused plan Unbuilt\n"),
+    ];
+    assert_answers(&rt, rt.alloc(), &table)
+}
+
+#[test]
+fn faults_have_their_status(rt: HostRuntime) -> Result<(), Fail> {
+    let words = |words| Case { words, ..WHOLE };
+    let second_file_fails = Case {
+        file_fails: 2,
+        ..WHOLE
+    };
+    let sink_fails = Case {
+        sink_fails: 1,
+        ..WHOLE
+    };
+    let table = [
         (words("once nofile l.toml"), Status::FileFault, ""),
-        (
-            Case {
-                file_fails: 2,
-                ..WHOLE
-            },
-            Status::FileFault,
-            "",
-        ),
-        (
-            Case {
-                sink_fails: 1,
-                ..WHOLE
-            },
-            Status::WriteFault,
-            "",
-        ),
+        (second_file_fails, Status::FileFault, ""),
+        (sink_fails, Status::WriteFault, ""),
         (words("once a.xml"), Status::BadWords, ""),
         (words("once a.xml l.toml A=1"), Status::BadWords, ""),
         (words("check a.xml l.toml"), Status::BadWords, ""),
         (words(""), Status::BadWords, ""),
     ];
-    for (case, status, text) in &table {
-        let (got, written) = answer(rt.alloc(), case)?;
-        assert_eq!(rt; got, *status, "at {text}");
-        assert_eq!(rt; written.as_slice(), text.as_bytes(), "at {text}");
-    }
-    let numbers = [
+    assert_answers(&rt, rt.alloc(), &table)
+}
+
+#[test]
+fn statuses_have_their_numbers(rt: HostRuntime) -> Result<(), Fail> {
+    let statuses = [
         Status::Done,
         Status::Refused,
         Status::BadWords,
@@ -165,7 +162,7 @@ fn statuses_and_lines(rt: HostRuntime) -> Result<(), Fail> {
         Status::NoMemory,
         Status::ScriptLong,
     ];
-    for (number, status) in numbers.iter().enumerate() {
+    for (number, status) in statuses.iter().enumerate() {
         assert_eq!(rt; status.number() as usize, number);
     }
     Ok(())
