@@ -1,8 +1,7 @@
 -- The numbers that each operation on kept decimals meets, and that they are within the limits.
 use Rattle.std.specs.Prelude.{ℕ, ◌+◌, ◌-◌, ◌^◌, ◌<◌, ◌≤◌, ℤ, pos, ◌+ℤ◌, ◌-ℤ◌, ◌*ℤ◌, unsigned_abs}
-use Rattle.scaled_decimal.specs.Rounding.{Rounds}
 use Rattle.scaled_decimal.specs.declared.rounding.Mode.{Mode}
-use Rattle.scaled_decimal.specs.Decimals.{Decimal, numerator_of, scale_of, numerator_at, greater_scale, ten_to}
+use Rattle.scaled_decimal.specs.Decimals.{Decimal, numerator_of, scale_of, numerator_at, greater_scale, ten_to, RoundsValue, RoundsQuotient}
 
 -- the greatest magnitude of a numerator, and the greatest scale
 abbrev pub limit : ℕ
@@ -43,13 +42,19 @@ pub record ProductFits (a b : Decimal) : Type 0 where
 
 -- setScale: the rescaled numerator
 pub record RescaleFits (mode : Mode) (a : Decimal) (s : ℕ) : Type 0 where
-  pub result : (q : ℤ) → Rounds mode (numerator_of a *ℤ ten_to s) (ten_to (scale_of a)) q → IsWithinLimit q
+  pub result : (q : ℤ) → RoundsValue mode a s q → IsWithinLimit q
   pub scale : s ≤ most_places
 
--- divide: with e the scale asked for plus the divisor's less the receiver's, the power of |e|, the number that it multiplies, and the quotient
+-- how many places the dividend is lengthened by, or where this is below 0 the divisor
+abbrev pub places_moved : Decimal → Decimal → ℕ → ℤ
+places_moved a b s = pos (s + scale_of b) -ℤ pos (scale_of a)
+
+-- divide: the power of ten for these places, the number that it lengthens, and the quotient
 pub record QuotientFits (mode : Mode) (a b : Decimal) (s : ℕ) : Type 0 where
-  pub power : IsWithinLimit (ten_to (unsigned_abs (pos (s + scale_of b) -ℤ pos (scale_of a))))
-  pub dividend : scale_of a ≤ s + scale_of b → IsWithinLimit (numerator_of a *ℤ ten_to (s + scale_of b - scale_of a))
-  pub divisor : s + scale_of b < scale_of a → IsWithinLimit (numerator_of b *ℤ ten_to (scale_of a - (s + scale_of b)))
-  pub result : (q : ℤ) → Rounds mode (numerator_of a *ℤ ten_to (s + scale_of b)) (numerator_of b *ℤ ten_to (scale_of a)) q → IsWithinLimit q
+  pub power : IsWithinLimit (ten_to (unsigned_abs (places_moved a b s)))
+  pub dividend : scale_of a ≤ s + scale_of b
+      → IsWithinLimit (numerator_of a *ℤ ten_to (s + scale_of b - scale_of a))
+  pub divisor : s + scale_of b < scale_of a
+      → IsWithinLimit (numerator_of b *ℤ ten_to (scale_of a - (s + scale_of b)))
+  pub result : (q : ℤ) → RoundsQuotient mode a b s q → IsWithinLimit q
   pub scale : s ≤ most_places
