@@ -6,8 +6,10 @@ use Rattle.std.proofs.Math.Nat.{pow-le-pow_right, mul_assoc, mul_comm}
 use Rattle.scaled_decimal.specs.declared.rounding.Mode.{Mode}
 use Rattle.scaled_decimal.specs.IntegerLemmas.{times_zero, abs_sub}
 use Rattle.scaled_decimal.specs.Decimals.{Decimal, numerator_of, scale_of, numerator_at, greater_scale, ten_to}
-use Rattle.scaled_decimal.specs.WorkingNumbers.{IsWithinLimit, SumFits, DifferenceFits, ComparisonFits, ProductFits, RescaleFits, QuotientFits}
-use Rattle.scaled_decimal.specs.ExactQuotients.{IsPlainDivisor, ExactQuotientFits}
+use Rattle.scaled_decimal.specs.Limits.{IsWithinLimit}
+use Rattle.scaled_decimal.specs.WorkingNumbers.{SumFits, DifferenceFits, ComparisonFits, ProductFits, RescaleFits, QuotientFits}
+use Rattle.scaled_decimal.specs.ExactQuotients.{IsPlainDivisor}
+use Rattle.scaled_decimal.specs.WorkingNumbers.{ExactQuotientFits}
 use Rattle.scaled_decimal.proofs.PowerLemmas.{power_le, ten_some}
 use Rattle.scaled_decimal.proofs.FitLemmas.{abs_rounded, rescale_fits, plain_divisor, exact_fits}
 use Rattle.decimal_tool.specs.Small.{IsSmall}

@@ -7,8 +7,10 @@ use Rattle.std.proofs.lemmas.Int.{ints, quot-rem}
 use Rattle.std.proofs.Math.Nat.{mul-mod_left}
 use Rattle.scaled_decimal.specs.IntegerLemmas.{times_assoc, times_swap, times_cancel}
 use Rattle.scaled_decimal.specs.Decimals.{Decimal, decimal, numerator_of, scale_of, ten_to}
-use Rattle.scaled_decimal.specs.ExactQuotients.{Divides, IsDivisorPlaces, IsExactQuotient, ExactQuotientFits, IsShortened}
-use Rattle.scaled_decimal.specs.WorkingNumbers.{IsWithinLimit}
+use Rattle.scaled_decimal.specs.ExactQuotients.{Divides, IsExactQuotient}
+use Rattle.scaled_decimal.specs.WorkingNumbers.{IsDivisorPlaces, ExactQuotientFits}
+use Rattle.scaled_decimal.specs.Shortening.{IsShortened}
+use Rattle.scaled_decimal.specs.Limits.{IsWithinLimit}
 use Rattle.scaled_decimal.proofs.PowerLemmas.{ten_add, ten_some}
 
 -- a number times two powers

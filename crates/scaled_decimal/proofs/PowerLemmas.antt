@@ -8,7 +8,7 @@ use Rattle.std.proofs.Math.Nat.{one-le-pow, pow-le-pow_right}
 use Rattle.scaled_decimal.specs.declared.rounding.Mode.{Mode}
 use Rattle.scaled_decimal.specs.Rounding.{Rounds}
 use Rattle.scaled_decimal.specs.Decimals.{ten_to}
-use Rattle.scaled_decimal.specs.WorkingNumbers.{IsWithinLimit}
+use Rattle.scaled_decimal.specs.Limits.{IsWithinLimit}
 use Rattle.scaled_decimal.specs.RoundingLemmas.{exact, part_bound}
 use Rattle.scaled_decimal.specs.ScaledLemmas.{rounds_scaled}
 use Rattle.scaled_decimal.specs.IntegerLemmas.{times_assoc, abs_sub}

@@ -68,3 +68,7 @@ RisesWithQuotient rounds =
 pub record HasExactlyOne (P : ℤ → Type 0) : Type 0 where
   pub some : (q : ℤ) × P q
   pub one : (q r : ℤ) → P q → P r → q ≡ r
+
+-- by every mode each quotient has one rounding and no other
+abbrev pub EachQuotientHasOneRounding : Type 0
+EachQuotientHasOneRounding = (mode : Mode) (n d : ℤ) → d ≢ pos 0 → HasExactlyOne (Rounds mode n d)

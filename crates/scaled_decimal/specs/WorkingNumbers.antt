@@ -1,22 +1,9 @@
 -- The numbers that each operation on kept decimals meets, and that they are within the limits.
-use Rattle.std.specs.Prelude.{ℕ, ◌+◌, ◌-◌, ◌^◌, ◌<◌, ◌≤◌, ℤ, pos, ◌+ℤ◌, ◌-ℤ◌, ◌*ℤ◌, unsigned_abs}
+use Rattle.std.specs.Prelude.{◌≡◌, ℕ, ◌+◌, ◌-◌, ◌^◌, ◌<◌, ◌≤◌, ℤ, pos, ◌+ℤ◌, ◌-ℤ◌, ◌*ℤ◌, unsigned_abs}
 use Rattle.scaled_decimal.specs.declared.rounding.Mode.{Mode}
+use Rattle.scaled_decimal.specs.Limits.{IsWithinLimit, most_places}
+use Rattle.scaled_decimal.specs.ExactQuotients.{Divides, IsExactQuotient}
 use Rattle.scaled_decimal.specs.Decimals.{Decimal, numerator_of, scale_of, numerator_at, greater_scale, ten_to, RoundsValue, RoundsQuotient}
-
--- the greatest magnitude of a numerator, and the greatest scale
-abbrev pub limit : ℕ
-limit = 10 ^ 37
-
-abbrev pub most_places : ℕ
-most_places = 30
-
-abbrev pub IsWithinLimit : ℤ → Type 0
-IsWithinLimit n = unsigned_abs n ≤ limit
-
--- a decimal that 128 bits keep
-pub record IsKept (d : Decimal) : Type 0 where
-  pub numerator : IsWithinLimit (numerator_of d)
-  pub scale : scale_of d ≤ most_places
 
 -- compareTo, min, max: both numerators at the greater scale
 pub record ComparisonFits (a b : Decimal) : Type 0 where
@@ -58,3 +45,14 @@ pub record QuotientFits (mode : Mode) (a b : Decimal) (s : ℕ) : Type 0 where
       → IsWithinLimit (numerator_of b *ℤ ten_to (scale_of a - (s + scale_of b)))
   pub result : (q : ℤ) → RoundsQuotient mode a b s q → IsWithinLimit q
   pub scale : s ≤ most_places
+
+-- k is the least number for which d divides 10^k
+pub record IsDivisorPlaces (d : ℤ) (k : ℕ) : Type 0 where
+  pub divides : Divides d (ten_to k)
+  pub least : (j : ℕ) → Divides d (ten_to j) → k ≤ j
+
+-- the working numbers of divide(d): with that k, the numerator times 10^k / d, the scale and k together, and the result
+pub record ExactQuotientFits (a : Decimal) (d : ℤ) : Type 0 where
+  pub scaled : (k : ℕ) (c : ℤ) → IsDivisorPlaces d k → c *ℤ d ≡ ten_to k → IsWithinLimit (numerator_of a *ℤ c)
+  pub scale : (k : ℕ) → IsDivisorPlaces d k → scale_of a + k ≤ most_places
+  pub result : (q : Decimal) → IsExactQuotient a d q → IsWithinLimit (numerator_of q)

@@ -2,7 +2,8 @@ use Rattle.std.proofs.Common.{rules, arith, ◌+◌, ◌*ℤ◌, FitsSigned, int
 use Rattle.std.specs.Int.{w128}
 use Rattle.std.proofs.lemmas.Int.{to_z-of_z, quot_is, quot_fits}
 use Rattle.scaled_decimal.specs.Decimals.{decimal}
-use Rattle.scaled_decimal.specs.ExactQuotients.{IsDivisorPlaces, IsShortened}
+use Rattle.scaled_decimal.specs.WorkingNumbers.{IsDivisorPlaces}
+use Rattle.scaled_decimal.specs.Shortening.{IsShortened}
 use Rattle.scaled_decimal.proofs.PowerLemmas.{power_le, kept_fits}
 use Rattle.scaled_decimal.proofs.ExactLemmas.{scaled_kept, factor_times, shortened_quotient, above_zero}
 use Rattle.scaled_decimal.proofs.decimal.Dec.div_exact.Goals as goal
