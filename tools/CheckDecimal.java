@@ -12,7 +12,7 @@ import java.util.Random;
 /**
  * Compares the answers of decimal_tool with java.math.BigDecimal.
  *
- * "generate SEED COUNT" writes lines of operations; "compare LINES ANSWERS" works out each line and compares.
+ * "generate SEED COUNT" writes lines of operations, "answers LINES" works them out, and "compare LINES ANSWERS" compares.
  */
 final class CheckDecimal {
     private static final RoundingMode[] MODES = {
@@ -28,6 +28,10 @@ final class CheckDecimal {
     public static void main(String[] words) throws IOException {
         if (words[0].equals("generate")) {
             generate(new Random(Long.parseLong(words[1])), Integer.parseInt(words[2]));
+        } else if (words[0].equals("answers")) {
+            for (String line : Files.readAllLines(Path.of(words[1]))) {
+                System.out.println(workedOut(line.split(" ")));
+            }
         } else {
             compare(Path.of(words[1]), Path.of(words[2]));
         }

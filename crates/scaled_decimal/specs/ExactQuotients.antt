@@ -1,7 +1,7 @@
 -- The exact quotient by a plain divisor, as divide of java.math.BigDecimal gives it where it has an end.
-use Rattle.std.specs.Prelude.{◌≡◌, ℕ, ◌+◌, ◌-◌, ◌≤◌, ℤ, pos, ◌*ℤ◌, ◌≤ℤ◌}
+use Rattle.std.specs.Prelude.{◌≡◌, ◌≤◌, ℤ, pos, ◌*ℤ◌, ◌≤ℤ◌}
 use Rattle.scaled_decimal.specs.Decimals.{Decimal, numerator_of, scale_of, ten_to}
-use Rattle.scaled_decimal.specs.Limits.{IsWithinLimit, most_places}
+use Rattle.scaled_decimal.specs.Limits.{most_places}
 
 abbrev pub Divides : ℤ → ℤ → Type 0
 Divides d n = (c : ℤ) × (c *ℤ d ≡ n)
