@@ -3,12 +3,15 @@ use Rattle.std.proofs.Common.{◌≡◌, ℕ, suc, ◌+◌, ◌-◌, ◌*◌, �
 use Rattle.std.specs.Int.{w128}
 use Rattle.std.proofs.lemmas.Bool.Decides.{nat_tests}
 use Rattle.std.proofs.lemmas.Bool.{cases_lt}
-use Rattle.std.proofs.lemmas.Int.{ints, quot-rem}
+use Rattle.std.proofs.lemmas.Int.{ints, quot-rem, to_z-of_z}
 use Rattle.std.proofs.Math.Nat.{mul-mod_left}
 use Rattle.scaled_decimal.specs.IntegerLemmas.{times_assoc, times_swap, times_cancel}
 use Rattle.scaled_decimal.specs.Decimals.{Decimal, decimal, numerator_of, scale_of, ten_to}
-use Rattle.scaled_decimal.specs.ExactQuotients.{Divides, IsDivisorPlaces, IsExactQuotient, ExactQuotientFits, IsShortened}
-use Rattle.scaled_decimal.specs.WorkingNumbers.{IsWithinLimit}
+use Rattle.scaled_decimal.specs.ExactQuotients.{Divides, IsExactQuotient}
+use Rattle.scaled_decimal.specs.WorkingNumbers.{IsDivisorPlaces, ExactQuotientFits}
+use Rattle.scaled_decimal.specs.Shortening.{IsShortened}
+use Rattle.scaled_decimal.specs.Limits.{IsWithinLimit}
+use Rattle.scaled_decimal.proofs.MachineLemmas.{held, quotient_is}
 use Rattle.scaled_decimal.proofs.PowerLemmas.{ten_add, ten_some}
 
 -- a number times two powers
@@ -99,3 +102,20 @@ factor_times d p k positive power h =
 -- the numerator that the code works with is within the limit
 pub scaled_kept : (a : Decimal) (d n p : ℤ) (k : ℕ) → n ≡ numerator_of a → p ≡ ten_to k → pos 1 ≤ℤ d → IsDivisorPlaces d k → ExactQuotientFits a d → IsWithinLimit (n *ℤ int_div p d)
 scaled_kept a d n p k same power positive places fits = rw same (fits.scaled k (int_div p d) places (factor_times d p k positive power places.divides))
+
+-- what the code's product of the numerator and the factor is
+pub record IsWorked (a : Decimal) (d n p : ℤ) (k : ℕ) : Type 0 where
+  pub places : IsDivisorPlaces d k
+  pub product : held n *ℤ held (int_div (held p) (held d)) ≡ n *ℤ int_div p d
+  pub kept : IsWithinLimit (n *ℤ int_div p d)
+  pub factor : int_div p d *ℤ d ≡ ten_to k
+
+pub worked : (a : Decimal) (d n p : ℤ) (k : ℕ) → FitsSigned w128 n → FitsSigned w128 p → FitsSigned w128 d → n ≡ numerator_of a → p ≡ ten_to k → pos 1 ≤ℤ d → IsDivisorPlaces (held d) k → ExactQuotientFits a d → IsWorked a d n p k
+worked a d n p k fn fp fd same power positive at fits =
+    let places = rw (to_z-of_z w128 d fd) at at in
+    record {
+      places = places;
+      product = rw (to_z-of_z w128 n fn, quotient_is p d fp fd (above_zero d positive)) refl;
+      kept = scaled_kept a d n p k same power positive places fits;
+      factor = factor_times d p k positive power places.divides;
+    }

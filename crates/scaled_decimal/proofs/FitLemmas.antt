@@ -9,8 +9,10 @@ use Rattle.scaled_decimal.specs.Rounding.{Rounds}
 use Rattle.scaled_decimal.specs.RoundingLaws.{rounds_near, rounds_exactly_one}
 use Rattle.scaled_decimal.specs.IntegerLemmas.{some_abs, times_assoc}
 use Rattle.scaled_decimal.specs.Decimals.{Decimal, decimal, numerator_of, scale_of, ten_to}
-use Rattle.scaled_decimal.specs.WorkingNumbers.{IsWithinLimit, limit, most_places, RescaleFits}
-use Rattle.scaled_decimal.specs.ExactQuotients.{IsDivisorPlaces, IsPlainDivisor, HoldsQuotient, IsExactQuotient, ExactQuotientFits}
+use Rattle.scaled_decimal.specs.Limits.{IsWithinLimit, limit, most_places}
+use Rattle.scaled_decimal.specs.WorkingNumbers.{RescaleFits}
+use Rattle.scaled_decimal.specs.WorkingNumbers.{IsDivisorPlaces, ExactQuotientFits}
+use Rattle.scaled_decimal.specs.ExactQuotients.{IsPlainDivisor, HoldsQuotient, IsExactQuotient}
 use Rattle.scaled_decimal.proofs.PowerLemmas.{ten_some, ten_add, ten_not_zero, shortened}
 
 -- a rounding is no greater than its dividend

@@ -1,6 +1,7 @@
 pub mod DigitLemmas
 pub mod ExactLemmas
 pub mod FitLemmas
+pub mod MachineLemmas
 pub mod NumberLemmas
 pub mod OrderLemmas
 pub mod PlainLemmas

@@ -1,17 +1,16 @@
 -- Powers of ten, and roundings of numbers that they multiply.
-use Rattle.std.proofs.Common.{◌≡◌, ℕ, zero, suc, ◌+◌, ◌-◌, ◌^◌, ◌<◌, ◌≤◌, ℤ, pos, ◌+ℤ◌, ◌-ℤ◌, ◌*ℤ◌, int_div, List, [], ◌∷◌, get_or, FitsSigned, refl, sym, ap, ◌∙◌, subst, inl, inr, arith}
+use Rattle.std.proofs.Common.{◌≡◌, ℕ, zero, suc, ◌+◌, ◌-◌, ◌^◌, ◌<◌, ◌≤◌, ℤ, pos, ◌*ℤ◌, List, [], ◌∷◌, get_or, FitsSigned, refl, sym, ap, ◌∙◌, subst, inl, inr, arith}
 use Rattle.std.specs.Int.{w128}
-use Rattle.std.proofs.lemmas.Int.{ints, fits_signed_from_abs}
+use Rattle.std.proofs.lemmas.Int.{ints}
 use Rattle.std.proofs.lemmas.Nat.{pow-add}
 use Rattle.std.proofs.lemmas.Bool.{cases_lt}
 use Rattle.std.proofs.Math.Nat.{one-le-pow, pow-le-pow_right}
 use Rattle.scaled_decimal.specs.declared.rounding.Mode.{Mode}
 use Rattle.scaled_decimal.specs.Rounding.{Rounds}
 use Rattle.scaled_decimal.specs.Decimals.{ten_to}
-use Rattle.scaled_decimal.specs.WorkingNumbers.{IsWithinLimit}
-use Rattle.scaled_decimal.specs.RoundingLemmas.{exact, part_bound}
+use Rattle.scaled_decimal.specs.RoundingLemmas.{exact}
 use Rattle.scaled_decimal.specs.ScaledLemmas.{rounds_scaled}
-use Rattle.scaled_decimal.specs.IntegerLemmas.{times_assoc, abs_sub}
+use Rattle.scaled_decimal.specs.IntegerLemmas.{times_assoc}
 
 -- 10 ^ k, 10 ^ (k + 1) and so on, as many as n
 abbrev pub powers_from : ℕ → ℕ → List ℤ
@@ -64,18 +63,3 @@ over mode n d q e k m h r = subst (λ (x : ℤ). Rounds mode x (d *ℤ ten_to k)
 
 pub under : (mode : Mode) (n d q : ℤ) (e m k : ℕ) → e + m ≡ k → Rounds mode n (d *ℤ ten_to e) q → Rounds mode (n *ℤ ten_to m) (d *ℤ ten_to k) q
 under mode n d q e m k h r = subst (λ (x : ℤ). Rounds mode (n *ℤ ten_to m) x q) (times_assoc d (ten_to e) (ten_to m) ∙ ap (λ x. d *ℤ x) (ten_add e m k h)) (rounds_scaled mode n (d *ℤ ten_to e) q (10 ^ m) (ten_some m) r)
-
--- a number within the limit fits 128 bits
-pub kept_fits : (n : ℤ) → IsWithinLimit n → FitsSigned w128 n
-kept_fits n kept = fits_signed_from_abs w128 n (omega arith)
-
--- its neighbours too
-pub next_fits : (n : ℤ) → IsWithinLimit n → FitsSigned w128 (n -ℤ pos 1) × FitsSigned w128 (n +ℤ pos 1)
-next_fits n kept = (fits_signed_from_abs w128 (n -ℤ pos 1) (omega (arith, ints)), fits_signed_from_abs w128 (n +ℤ pos 1) (omega (arith, ints)))
-
--- the part of a dividend that divides, and the rest of it
-pub parts_fit : (n d : ℤ) → IsWithinLimit n → FitsSigned w128 (int_div n d *ℤ d) × FitsSigned w128 (n -ℤ int_div n d *ℤ d)
-parts_fit n d kept =
-    let part = part_bound n d in
-    let rest = abs_sub n (int_div n d *ℤ d) in
-    (fits_signed_from_abs w128 (int_div n d *ℤ d) (omega arith), fits_signed_from_abs w128 (n -ℤ int_div n d *ℤ d) (omega arith))

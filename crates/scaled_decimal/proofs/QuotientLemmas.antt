@@ -4,7 +4,8 @@ use Rattle.scaled_decimal.specs.declared.rounding.Mode.{Mode}
 use Rattle.scaled_decimal.specs.Rounding.{Rounds}
 use Rattle.scaled_decimal.specs.IntegerLemmas.{times_zero}
 use Rattle.scaled_decimal.specs.Decimals.{Decimal, decimal, numerator_of, scale_of, numerator_at, ten_to, IsRescaled, IsQuotient}
-use Rattle.scaled_decimal.specs.WorkingNumbers.{IsWithinLimit, RescaleFits, QuotientFits}
+use Rattle.scaled_decimal.specs.Limits.{IsWithinLimit}
+use Rattle.scaled_decimal.specs.WorkingNumbers.{RescaleFits, QuotientFits}
 use Rattle.scaled_decimal.proofs.PowerLemmas.{exact_longer, shortened, over, under, ten_some}
 
 -- at a scale that is no less, the aligned numerator is the rescaled one

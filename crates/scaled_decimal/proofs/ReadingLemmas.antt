@@ -5,7 +5,7 @@ use Rattle.std.specs.Str.Parse.{digits_value_after}
 use Rattle.scaled_decimal.specs.declared.reading.NumFault.{NumFault}
 use Rattle.scaled_decimal.specs.declared.reading.NumFault.TheVariants.{Shape, Scale, Wide}
 use Rattle.scaled_decimal.specs.Decimals.{Decimal, numerator_of, scale_of}
-use Rattle.scaled_decimal.specs.WorkingNumbers.{IsWithinLimit, IsKept, limit, most_places}
+use Rattle.scaled_decimal.specs.Limits.{IsWithinLimit, IsKept, limit, most_places}
 use Rattle.scaled_decimal.specs.NumberTexts.{IsNumber, signed, spelled, Spells, SpellsNone, IsLongestFront, HasManyPlaces, IsWide}
 use Rattle.scaled_decimal.proofs.NumberLemmas.{spells, spells_once}
 use Rattle.scaled_decimal.proofs.DigitLemmas.{grows, digits_value_after-append}

@@ -71,12 +71,21 @@ lesser a b = if is_gt (value_order a b) then b else a
 abbrev pub greater : Decimal → Decimal → Decimal
 greater a b = if is_lt (value_order a b) then b else a
 
--- setScale: the value rounded to scale s
+-- q is the numerator of the value rounded to scale s
+abbrev pub RoundsValue : Mode → Decimal → ℕ → ℤ → Type 0
+RoundsValue mode a s q = Rounds mode (numerator_of a *ℤ ten_to s) (ten_to (scale_of a)) q
+
+-- q is the numerator of a / b rounded to scale s
+abbrev pub RoundsQuotient : Mode → Decimal → Decimal → ℕ → ℤ → Type 0
+RoundsQuotient mode a b s q =
+    Rounds mode (numerator_of a *ℤ ten_to (s + scale_of b)) (numerator_of b *ℤ ten_to (scale_of a)) q
+
+-- setScale: the value, rounded to the scale that is asked for
 pub record IsRescaled (mode : Mode) (a : Decimal) (s : ℕ) (result : Decimal) : Type 0 where
   pub scale : scale_of result ≡ s
-  pub rounded : Rounds mode (numerator_of a *ℤ ten_to s) (ten_to (scale_of a)) (numerator_of result)
+  pub rounded : RoundsValue mode a s (numerator_of result)
 
 -- divide: the quotient, rounded to the scale that is asked for
 pub record IsQuotient (mode : Mode) (a b : Decimal) (s : ℕ) (result : Decimal) : Type 0 where
   pub scale : scale_of result ≡ s
-  pub rounded : Rounds mode (numerator_of a *ℤ ten_to (s + scale_of b)) (numerator_of b *ℤ ten_to (scale_of a)) (numerator_of result)
+  pub rounded : RoundsQuotient mode a b s (numerator_of result)

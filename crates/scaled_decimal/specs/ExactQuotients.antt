@@ -1,7 +1,7 @@
 -- The exact quotient by a plain divisor, as divide of java.math.BigDecimal gives it where it has an end.
-use Rattle.std.specs.Prelude.{◌≡◌, ℕ, ◌+◌, ◌-◌, ◌≤◌, ℤ, pos, ◌*ℤ◌, ◌≤ℤ◌}
+use Rattle.std.specs.Prelude.{◌≡◌, ◌≤◌, ℤ, pos, ◌*ℤ◌, ◌≤ℤ◌}
 use Rattle.scaled_decimal.specs.Decimals.{Decimal, numerator_of, scale_of, ten_to}
-use Rattle.scaled_decimal.specs.WorkingNumbers.{IsWithinLimit, most_places}
+use Rattle.scaled_decimal.specs.Limits.{most_places}
 
 abbrev pub Divides : ℤ → ℤ → Type 0
 Divides d n = (c : ℤ) × (c *ℤ d ≡ n)
@@ -20,21 +20,3 @@ pub record IsExactQuotient (a : Decimal) (d : ℤ) (result : Decimal) : Type 0 w
   pub scale : scale_of a ≤ scale_of result
   pub exact : HoldsQuotient a d result
   pub least : (q : Decimal) → scale_of a ≤ scale_of q → HoldsQuotient a d q → scale_of result ≤ scale_of q
-
--- k is the least number for which d divides 10^k
-pub record IsDivisorPlaces (d : ℤ) (k : ℕ) : Type 0 where
-  pub divides : Divides d (ten_to k)
-  pub least : (j : ℕ) → Divides d (ten_to j) → k ≤ j
-
--- the working numbers of divide(d): with that k, the numerator times 10^k / d, the scale and k together, and the result
-pub record ExactQuotientFits (a : Decimal) (d : ℤ) : Type 0 where
-  pub scaled : (k : ℕ) (c : ℤ) → IsDivisorPlaces d k → c *ℤ d ≡ ten_to k → IsWithinLimit (numerator_of a *ℤ c)
-  pub scale : (k : ℕ) → IsDivisorPlaces d k → scale_of a + k ≤ most_places
-  pub result : (q : Decimal) → IsExactQuotient a d q → IsWithinLimit (numerator_of q)
-
--- the same value without the zeros that end it, at a scale that is no less than the least one
-pub record IsShortened (a : Decimal) (least : ℕ) (result : Decimal) : Type 0 where
-  pub low : least ≤ scale_of result
-  pub high : scale_of result ≤ scale_of a
-  pub same : numerator_of a ≡ numerator_of result *ℤ ten_to (scale_of a - scale_of result)
-  pub short : Divides (pos 10) (numerator_of result) → scale_of result ≡ least

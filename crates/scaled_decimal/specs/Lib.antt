@@ -1,6 +1,7 @@
 pub mod Decimals
 pub mod ExactQuotients
 pub mod IntegerLemmas
+pub mod Limits
 pub mod MonotoneLemmas
 pub mod NumberTexts
 pub mod PlainTexts
@@ -9,5 +10,6 @@ pub mod RoundingDecision
 pub mod RoundingLaws
 pub mod RoundingLemmas
 pub mod ScaledLemmas
+pub mod Shortening
 pub mod TextParts
 pub mod WorkingNumbers

@@ -2,7 +2,7 @@
 use Rattle.std.specs.Prelude.{◌≡◌, ℕ, ◌<◌, ◌≤◌, Bool, true, false, List, [], ◌∷◌, ◌++◌, length, take, codes, ℤ, pos, neg_ℤ}
 use Rattle.std.specs.Str.Parse.{AllDigits, digits_value}
 use Rattle.scaled_decimal.specs.Decimals.{Decimal, decimal, numerator_of, scale_of}
-use Rattle.scaled_decimal.specs.WorkingNumbers.{IsWithinLimit, most_places}
+use Rattle.scaled_decimal.specs.Limits.{IsWithinLimit, most_places}
 
 -- the sign of a number below 0 is -, and another has none
 abbrev pub sign_text : Bool → List ℕ

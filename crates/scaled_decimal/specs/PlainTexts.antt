@@ -2,7 +2,7 @@
 use Rattle.std.specs.Prelude.{ℕ, zero, suc, ◌+◌, ◌/◌, ◌%◌, ◌^◌, ◌==◌, List, [], ◌∷◌, ◌++◌, map, codes, if◌then◌else◌, pos, int_lt, unsigned_abs}
 use Rattle.std.specs.Int.Digits.{digits_of}
 use Rattle.scaled_decimal.specs.Decimals.{Decimal, numerator_of, scale_of}
-use Rattle.scaled_decimal.specs.NumberTexts.{sign_text, point_text}
+use Rattle.scaled_decimal.specs.NumberTexts.{sign_text, point_text, Spells}
 
 -- the byte of a digit below ten
 abbrev pub digit_byte : ℕ → ℕ
@@ -21,3 +21,7 @@ abbrev pub plain_text : Decimal → List ℕ
 plain_text d =
     let n = unsigned_abs (numerator_of d) in
     sign_text (int_lt (numerator_of d) (pos 0)) ++ (whole_text (n / 10 ^ scale_of d) ++ point_text (last_digits (scale_of d) n))
+
+-- the plain text of each decimal spells that decimal
+abbrev pub EachPlainTextSpellsItsDecimal : Type 0
+EachPlainTextSpellsItsDecimal = (d : Decimal) → Spells (plain_text d) d

@@ -1,5 +1,5 @@
 -- The seven roundings of a quotient over unbounded whole numbers, as java.math.RoundingMode documents them.
-use Rattle.std.specs.Prelude.{◌≡◌, ◌*◌, ◌<◌, ◌≤◌, ◌%◌, ℤ, pos, negsuc, ◌+ℤ◌, ◌-ℤ◌, ◌*ℤ◌, neg_ℤ, ◌≤ℤ◌, ◌<ℤ◌, unsigned_abs}
+use Rattle.std.specs.Prelude.{◌≡◌, ◌≢◌, ◌*◌, ◌<◌, ◌≤◌, ◌%◌, ℤ, pos, negsuc, ◌+ℤ◌, ◌-ℤ◌, ◌*ℤ◌, neg_ℤ, ◌≤ℤ◌, ◌<ℤ◌, unsigned_abs}
 use Rattle.scaled_decimal.specs.declared.rounding.Mode.{Mode}
 use Rattle.scaled_decimal.specs.declared.rounding.Mode.TheVariants.{Down, Up, Floor, Ceiling, HalfUp, HalfDown, HalfEven}
 
@@ -55,7 +55,20 @@ IsNear n d q = unsigned_abs (n -ℤ q *ℤ d) < unsigned_abs d
 abbrev pub IsAtMost : (n d m e : ℤ) → Type 0
 IsAtMost n d m e = (dividend_over d n *ℤ pos (unsigned_abs e)) ≤ℤ (dividend_over e m *ℤ pos (unsigned_abs d))
 
+-- every rounding differs from its quotient by less than one
+abbrev pub StaysNear : (ℤ → ℤ → ℤ → Type 0) → Type 0
+StaysNear rounds = (n d q : ℤ) → d ≢ pos 0 → rounds n d q → IsNear n d q
+
+-- a greater or equal quotient has a greater or equal rounding
+abbrev pub RisesWithQuotient : (ℤ → ℤ → ℤ → Type 0) → Type 0
+RisesWithQuotient rounds =
+    (n d m e q r : ℤ) → d ≢ pos 0 → e ≢ pos 0 → IsAtMost n d m e → rounds n d q → rounds m e r → q ≤ℤ r
+
 -- some number has the property, and no other has it
 pub record HasExactlyOne (P : ℤ → Type 0) : Type 0 where
   pub some : (q : ℤ) × P q
   pub one : (q r : ℤ) → P q → P r → q ≡ r
+
+-- by every mode each quotient has one rounding and no other
+abbrev pub EachQuotientHasOneRounding : Type 0
+EachQuotientHasOneRounding = (mode : Mode) (n d : ℤ) → d ≢ pos 0 → HasExactlyOne (Rounds mode n d)

@@ -5,7 +5,7 @@ use Rattle.std.proofs.lemmas.Bool.{cases_lt}
 use Rattle.std.proofs.lemmas.Int.{ints}
 use Rattle.scaled_decimal.specs.declared.rounding.Mode.{Mode}
 use Rattle.scaled_decimal.specs.declared.rounding.Mode.TheVariants.{Down, Up, Floor, Ceiling, HalfUp, HalfDown, HalfEven}
-use Rattle.scaled_decimal.specs.Rounding.{IsFloor, IsCeiling, IsNearest, RoundsPositive, Rounds, IsNear, IsAtMost, HasExactlyOne, dividend_over}
+use Rattle.scaled_decimal.specs.Rounding.{IsFloor, IsCeiling, IsNearest, RoundsPositive, Rounds, IsNear, IsAtMost, StaysNear, RisesWithQuotient, HasExactlyOne, dividend_over}
 use Rattle.scaled_decimal.specs.RoundingDecision.{moves_away}
 use Rattle.scaled_decimal.specs.RoundingLemmas.{is_odd, stays, moves_up, moves_down, divides}
 use Rattle.scaled_decimal.specs.IntegerLemmas.{times_more, times_less, times_neg_right, by_sign, some_abs}
@@ -30,7 +30,7 @@ positive_near HalfDown n q d some h = half_near _ n q d some h
 positive_near HalfEven n q d some h = half_near _ n q d some h
 
 -- the rounding differs from the quotient by less than one
-pub rounds_near : (mode : Mode) (n d q : ℤ) → d ≢ pos 0 → Rounds mode n d q → IsNear n d q
+pub rounds_near : (mode : Mode) → StaysNear (Rounds mode)
 rounds_near mode n (pos zero) q some h = absurd (some refl)
 rounds_near mode n (pos (suc d)) q some h = positive_near mode n q (suc d) (omega arith) h
 rounds_near mode n (negsuc d) q some h =
@@ -39,7 +39,7 @@ rounds_near mode n (negsuc d) q some h =
     omega (arith, ints)
 
 -- a greater or equal quotient is rounded to a greater or equal number
-pub rounds_rising : (mode : Mode) (n d m e q r : ℤ) → d ≢ pos 0 → e ≢ pos 0 → IsAtMost n d m e → Rounds mode n d q → Rounds mode m e r → q ≤ℤ r
+pub rounds_rising : (mode : Mode) → RisesWithQuotient (Rounds mode)
 rounds_rising mode n d m e q r some some' le f g = rounds_rise mode (dividend_over d n) (dividend_over e m) q r (unsigned_abs d) (unsigned_abs e) (some_abs d some) (some_abs e some') le f g
 
 -- some number is the rounding

@@ -1,7 +1,8 @@
 ghost use Rattle.std.specs.Prelude.{◌≡◌, ◌≤◌, ◌*ℤ◌};
 ghost use Rattle.std.specs.Ordering.{int_cmp};
 ghost use Rattle.scaled_decimal.specs.Decimals.{ten_to, comparison, lesser, greater, value_order};
-ghost use Rattle.scaled_decimal.specs.WorkingNumbers.{most_places, ComparisonFits};
+ghost use Rattle.scaled_decimal.specs.Limits.{most_places};
+ghost use Rattle.scaled_decimal.specs.WorkingNumbers.{ComparisonFits};
 
 use crate::decimal::Dec;
 use crate::powers::power_of_ten;

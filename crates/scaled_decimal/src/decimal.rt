@@ -1,6 +1,7 @@
 ghost use Rattle.std.specs.Prelude.{◌≡◌, ◌≢◌, ◌-◌, ◌≤◌, pos, ◌*ℤ◌};
 ghost use Rattle.scaled_decimal.specs.Decimals.{decimal, numerator_of, scale_of, numerator_at, greater_scale, ten_to, sum, difference, product, negated, magnitude, IsRescaled, IsQuotient};
-ghost use Rattle.scaled_decimal.specs.WorkingNumbers.{IsWithinLimit, most_places, SumFits, DifferenceFits, ProductFits, RescaleFits, QuotientFits};
+ghost use Rattle.scaled_decimal.specs.Limits.{IsWithinLimit, most_places};
+ghost use Rattle.scaled_decimal.specs.WorkingNumbers.{SumFits, DifferenceFits, ProductFits, RescaleFits, QuotientFits};
 
 use crate::powers::power_of_ten;
 use crate::rounding::{Mode, round_div};
@@ -18,7 +19,7 @@ pub struct Dec {
 impl Model for Dec {
     ghost use Rattle.std.specs.Prelude.{◌≤◌};
     ghost use Rattle.scaled_decimal.specs.Decimals.{Decimal, decimal, numerator_of, scale_of};
-    ghost use Rattle.scaled_decimal.specs.WorkingNumbers.{IsWithinLimit, most_places};
+    ghost use Rattle.scaled_decimal.specs.Limits.{IsWithinLimit, most_places};
 
     ghost Value = { Decimal };
 

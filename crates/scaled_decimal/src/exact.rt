@@ -1,7 +1,9 @@
 ghost use Rattle.std.specs.Prelude.{◌≤◌, ◌↔◌, IsTrue, pos, ◌<ℤ◌};
 ghost use Rattle.scaled_decimal.specs.Decimals.{decimal};
-ghost use Rattle.scaled_decimal.specs.ExactQuotients.{Divides, IsPlainDivisor, IsDivisorPlaces, IsExactQuotient, ExactQuotientFits, IsShortened};
-ghost use Rattle.scaled_decimal.specs.WorkingNumbers.{IsWithinLimit, most_places};
+ghost use Rattle.scaled_decimal.specs.ExactQuotients.{Divides, IsPlainDivisor, IsExactQuotient};
+ghost use Rattle.scaled_decimal.specs.WorkingNumbers.{IsDivisorPlaces, ExactQuotientFits};
+ghost use Rattle.scaled_decimal.specs.Shortening.{IsShortened};
+ghost use Rattle.scaled_decimal.specs.Limits.{IsWithinLimit, most_places};
 
 use crate::decimal::Dec;
 use crate::powers::power_of_ten;

@@ -7,16 +7,16 @@
 mod compare;
 mod decimal;
 mod exact;
-mod kinds;
 mod powers;
 mod reading;
 mod rounding;
+mod rounding_types;
 #[cfg(test)]
 mod tests;
 mod writing;
 
 pub use decimal::Dec;
-pub use kinds::{RCeiling, RDown, RFloor, RHalfDown, RHalfEven, RHalfUp, RUp, Rounding};
 pub use reading::{NumFault, read_dec};
 pub use rounding::{Mode, each_quotient_has_one_rounding, round_div};
+pub use rounding_types::{RCeiling, RDown, RFloor, RHalfDown, RHalfEven, RHalfUp, RUp, Rounding};
 pub use writing::{each_plain_text_spells_its_decimal, write_dec};

@@ -1,6 +1,6 @@
 ghost use Rattle.std.specs.Prelude.{◌≡◌, pos, ◌<ℤ◌};
 ghost use Rattle.scaled_decimal.specs.Decimals.{ten_to};
-ghost use Rattle.scaled_decimal.specs.WorkingNumbers.{IsWithinLimit};
+ghost use Rattle.scaled_decimal.specs.Limits.{IsWithinLimit};
 
 /// The powers of ten from 1 on.
 const POWERS: [i128; 38] = [

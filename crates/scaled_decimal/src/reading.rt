@@ -4,7 +4,7 @@ ghost use Rattle.std.specs.Str.Parse.{AllDigits, digits_value_after};
 ghost use Rattle.scaled_decimal.specs.Decimals.{Decimal};
 ghost use Rattle.scaled_decimal.specs.NumberTexts.{IsNumber, signed, Spells, SpellsNone, IsLongestFront, HasManyPlaces, IsWide};
 ghost use Rattle.scaled_decimal.specs.TextParts.{NoDigitFirst, NotFirst, IsSignSplit, IsDigitSplit};
-ghost use Rattle.scaled_decimal.specs.WorkingNumbers.{IsKept, IsWithinLimit, limit};
+ghost use Rattle.scaled_decimal.specs.Limits.{IsKept, IsWithinLimit, limit};
 
 use crate::decimal::Dec;
 use std::error::Error;
@@ -47,7 +47,8 @@ impl Error for NumFault {}
 /// Leading zeros are accepted, and `-0` is 0. The faults are tried in the order of `NumFault`.
 pub fn read_dec(text: &[u8]) -> Result<Dec, NumFault>
     ensures number { (d : Decimal) → (result ≡ Ok d) ↔ (Spells text.now d × IsKept d) }
-    ensures shape { (at : ℕ) → (result ≡ Err (NumFault.Shape at)) ↔ (SpellsNone text.now × IsLongestFront text.now at) }
+    ensures shape { (at : ℕ) → (result ≡ Err (NumFault.Shape at))
+        ↔ (SpellsNone text.now × IsLongestFront text.now at) }
     ensures scale { (result ≡ Err NumFault.Scale) ↔ HasManyPlaces text.now }
     ensures wide { (result ≡ Err NumFault.Wide) ↔ IsWide text.now }
 {
@@ -164,7 +165,7 @@ fn digit_count(text: &[u8]) -> usize
 fn value_after(start: u128, digits: &[u8]) -> Option<u128>
     requires start { start ≤ limit }
     requires digits { AllDigits 10 digits.now }
-    ensures { SomeIff result (digits_value_after 10 start digits.now ≤ limit) (digits_value_after 10 start digits.now) }
+    ensures { let number = digits_value_after 10 start digits.now in SomeIff result (number ≤ limit) number }
 {
     let mut number = start;
     for digit in digits {

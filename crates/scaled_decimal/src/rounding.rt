@@ -1,8 +1,7 @@
-ghost use Rattle.std.specs.Prelude.{◌≡◌, ◌≢◌, ◌≤◌, ℤ, pos, ◌<ℤ◌};
-ghost use Rattle.scaled_decimal.specs.Rounding.{Rounds, RoundsPositive, HasExactlyOne};
+ghost use Rattle.std.specs.Prelude.{◌≡◌, ◌≢◌, ◌≤◌, pos, ◌<ℤ◌};
+ghost use Rattle.scaled_decimal.specs.Rounding.{Rounds, RoundsPositive, EachQuotientHasOneRounding};
 ghost use Rattle.scaled_decimal.specs.RoundingDecision.{moves_away};
-ghost use Rattle.scaled_decimal.specs.WorkingNumbers.{IsWithinLimit};
-ghost use Rattle.scaled_decimal.specs.declared.rounding.Mode.{Mode as RoundingMode};
+ghost use Rattle.scaled_decimal.specs.Limits.{IsWithinLimit};
 
 /// How a quotient that lies between two whole numbers is rounded, as in `java.math.RoundingMode`.
 #[derive(Clone, Copy, Debug, PartialEq, Eq)]
@@ -76,5 +75,5 @@ fn moves_away(mode: Mode, negative: bool, odd: bool, twice: u128, whole: u128) -
 
 /// A law, with nothing to run: whatever the mode, each quotient has one rounding and no other.
 pub fn each_quotient_has_one_rounding()
-    ensures { (mode : RoundingMode) (n d : ℤ) → d ≢ pos 0 → HasExactlyOne (Rounds mode n d) }
+    ensures { EachQuotientHasOneRounding }
 {}

@@ -1,3 +1,6 @@
+ghost use Rattle.std.specs.Prelude.{pos, negsuc};
+ghost use Rattle.scaled_decimal.specs.Rounding.{IsNear};
+
 use crate::{
     Dec, Mode, NumFault, RCeiling, RDown, RFloor, RHalfDown, RHalfEven, RHalfUp, RUp, Rounding,
     read_dec, round_div, write_dec,
@@ -47,7 +50,10 @@ fn rounds_as_documented(rt: HostRuntime) {
     }
 }
 
-fn rounded_half<R: Rounding>() -> i128 {
+/// By a law that each rounding has.
+fn rounded_half<R: Rounding>() -> i128
+    ensures { IsNear (negsuc 6) (pos 2) result }
+{
     R::round(-7, 2)
 }
 

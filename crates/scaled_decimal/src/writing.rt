@@ -1,8 +1,7 @@
 ghost use Rattle.std.specs.Prelude.{◌≡◌, ◌+◌, ◌/◌, ◌^◌, ◌<◌, ◌≤◌, List, [], ◌∷◌, ◌++◌, length, OnOk, OnErr};
-ghost use Rattle.scaled_decimal.specs.Decimals.{Decimal};
-ghost use Rattle.scaled_decimal.specs.NumberTexts.{Spells, sign_text, point_text};
-ghost use Rattle.scaled_decimal.specs.PlainTexts.{plain_text, whole_text, last_digits};
-ghost use Rattle.scaled_decimal.specs.WorkingNumbers.{most_places};
+ghost use Rattle.scaled_decimal.specs.NumberTexts.{sign_text, point_text};
+ghost use Rattle.scaled_decimal.specs.PlainTexts.{EachPlainTextSpellsItsDecimal, plain_text, whole_text, last_digits};
+ghost use Rattle.scaled_decimal.specs.Limits.{most_places};
 
 use crate::decimal::Dec;
 use std::alloc::{AllocError, Global};
@@ -20,7 +19,7 @@ pub fn write_dec(_alloc: Global, d: Dec, out: &mut Vec<u8>) -> Result<(), AllocE
 
 /// A law, with nothing to run: the plain text of each decimal spells that decimal.
 pub fn each_plain_text_spells_its_decimal()
-    ensures { (d : Decimal) → Spells (plain_text d) d }
+    ensures { EachPlainTextSpellsItsDecimal }
 {}
 
 impl fmt::Display for Dec {

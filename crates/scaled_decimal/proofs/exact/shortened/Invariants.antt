@@ -1,6 +1,6 @@
 use Rattle.std.proofs.Common.{◌≡◌, ◌≤◌, ◌-◌, ◌*ℤ◌}
 use Rattle.scaled_decimal.specs.Decimals.{ten_to}
-use Rattle.scaled_decimal.specs.WorkingNumbers.{IsWithinLimit}
+use Rattle.scaled_decimal.specs.Limits.{IsWithinLimit}
 use Rattle.scaled_decimal.proofs.exact.shortened.Given as goal
 
 abbrev pub invariant-loop-places : goal.invariant-loop-places

@@ -4,7 +4,7 @@ use Rattle.std.specs.Str.Parse.{digits_value_after}
 use Rattle.std.proofs.lemmas.Int.{to_z-of_z}
 use Rattle.scaled_decimal.specs.Decimals.{numerator_of}
 use Rattle.scaled_decimal.specs.NumberTexts.{spelled, signed}
-use Rattle.scaled_decimal.specs.WorkingNumbers.{IsWithinLimit, IsKept, limit}
+use Rattle.scaled_decimal.specs.Limits.{IsWithinLimit, IsKept, limit}
 use Rattle.scaled_decimal.proofs.DigitLemmas.{digits_value_after-append}
 use Rattle.scaled_decimal.proofs.ReadingLemmas.{Outcome, no_number, many_places, too_wide, kept_number, wide_whole, wide_all}
 use Rattle.scaled_decimal.proofs.reading.read_dec.Goals as goal

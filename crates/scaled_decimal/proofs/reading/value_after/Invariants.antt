@@ -1,6 +1,6 @@
 use Rattle.std.proofs.Common.{◌≡◌, ◌≤◌, take}
 use Rattle.std.specs.Str.Parse.{digits_value_after}
-use Rattle.scaled_decimal.specs.WorkingNumbers.{limit}
+use Rattle.scaled_decimal.specs.Limits.{limit}
 use Rattle.scaled_decimal.proofs.reading.value_after.Given as goal
 
 abbrev pub invariant-loop-digit : goal.invariant-loop-digit

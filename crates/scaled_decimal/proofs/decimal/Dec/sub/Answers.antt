@@ -2,8 +2,9 @@ use Rattle.std.proofs.Common.{rules, arith, ◌≡◌, FitsSigned, ◌-ℤ◌}
 use Rattle.std.specs.Int.{w128}
 use Rattle.std.proofs.lemmas.Int.{to_z-of_z}
 use Rattle.scaled_decimal.specs.Decimals.{numerator_at, greater_scale}
-use Rattle.scaled_decimal.specs.WorkingNumbers.{IsWithinLimit}
-use Rattle.scaled_decimal.proofs.PowerLemmas.{power_le, kept_fits}
+use Rattle.scaled_decimal.specs.Limits.{IsWithinLimit}
+use Rattle.scaled_decimal.proofs.PowerLemmas.{power_le}
+use Rattle.scaled_decimal.proofs.MachineLemmas.{kept_fits}
 use Rattle.scaled_decimal.proofs.decimal.Dec.sub.Goals as goal
 
 pub numerator_at-requires-clause-power : goal.numerator_at-requires-clause-power

@@ -1,7 +1,7 @@
-ghost use Rattle.std.specs.Prelude.{◌≡◌, ◌≢◌, ◌≤◌, ℤ, pos, ◌≤ℤ◌};
-ghost use Rattle.scaled_decimal.specs.Rounding.{Rounds, IsNear, IsAtMost};
+ghost use Rattle.std.specs.Prelude.{◌≢◌, pos};
+ghost use Rattle.scaled_decimal.specs.Rounding.{Rounds, StaysNear, RisesWithQuotient};
 ghost use Rattle.scaled_decimal.specs.RoundingLaws.{rounds_near, rounds_rising};
-ghost use Rattle.scaled_decimal.specs.WorkingNumbers.{IsWithinLimit};
+ghost use Rattle.scaled_decimal.specs.Limits.{IsWithinLimit};
 ghost use Rattle.scaled_decimal.specs.declared.rounding.Mode.{Mode};
 ghost use Rattle.scaled_decimal.specs.declared.rounding.Mode.TheVariants.{Down, Up, Floor, Ceiling, HalfUp, HalfDown, HalfEven};
 
@@ -22,10 +22,10 @@ pub trait Rounding {
         ensures { Rounds MODE n d result };
 
     /// The rounding differs from the quotient by less than one.
-    ghost near: { (n d q : ℤ) → d ≢ pos 0 → Rounds MODE n d q → IsNear n d q };
+    ghost near: { StaysNear (Rounds MODE) };
 
     /// A greater or equal quotient has a greater or equal rounding.
-    ghost rises: { (n d m e q r : ℤ) → d ≢ pos 0 → e ≢ pos 0 → IsAtMost n d m e → Rounds MODE n d q → Rounds MODE m e r → q ≤ℤ r };
+    ghost rises: { RisesWithQuotient (Rounds MODE) };
 }
 
 /// Towards zero.

@@ -1,0 +1,18 @@
+-- The limits of kept decimals.
+use Rattle.std.specs.Prelude.{ℕ, ◌^◌, ◌≤◌, ℤ, unsigned_abs}
+use Rattle.scaled_decimal.specs.Decimals.{Decimal, numerator_of, scale_of}
+
+-- the greatest magnitude of a numerator, and the greatest scale
+abbrev pub limit : ℕ
+limit = 10 ^ 37
+
+abbrev pub most_places : ℕ
+most_places = 30
+
+abbrev pub IsWithinLimit : ℤ → Type 0
+IsWithinLimit n = unsigned_abs n ≤ limit
+
+-- a decimal that 128 bits keep
+pub record IsKept (d : Decimal) : Type 0 where
+  pub numerator : IsWithinLimit (numerator_of d)
+  pub scale : scale_of d ≤ most_places
