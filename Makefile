@@ -1,5 +1,5 @@
 # `make demo` builds build/papcalc and runs it on an example; `make test` is the whole gate.
-.PHONY: build demo test rows
+.PHONY: build demo test rows decimal-tool bench-decimal check-java
 
 build:
 	cd crates/papcalc && rt run -- --version
@@ -15,3 +15,21 @@ test:
 # The worked examples that lie beside the repository in development, on the built program.
 rows: build
 	python3 ../shared/run_rows.py --bin "$(CURDIR)/build/papcalc" --stage 1
+
+decimal-tool:
+	cd crates/decimal_tool && rt run < stdin > /dev/null
+	mkdir -p build
+	cp crates/decimal_tool/out/decimal_tool build/decimal_tool
+
+# Nanoseconds of each operation on decimals, beside those of java.math.BigDecimal on the same amounts (needs a JDK).
+bench-decimal: decimal-tool
+	javac -d build tools/BenchDecimal.java
+	build/decimal_tool bench 2000
+	java -cp build BenchDecimal 2000
+
+# Generated operations on decimals, each answer compared with that of java.math.BigDecimal (needs a JDK).
+check-java: decimal-tool
+	javac -d build tools/CheckDecimal.java
+	java -cp build CheckDecimal generate 1 300000 > build/operations
+	build/decimal_tool < build/operations > build/answers
+	java -cp build CheckDecimal compare build/operations build/answers
