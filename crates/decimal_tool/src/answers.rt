@@ -7,7 +7,7 @@ use std::fmt;
 
 /// What an operation gives.
 #[derive(Clone, Copy, Debug)]
-pub enum Answer {
+pub(crate) enum Answer {
     /// A decimal, printed as plain text.
     Decimal(Dec),
     /// A whole number.
@@ -24,7 +24,7 @@ impl fmt::Display for Answer {
 }
 
 /// The answer to an operation's name and its words, or none where they are malformed or too great.
-pub fn work_out(line: &str) -> Option<Answer> {
+pub(crate) fn work_out(line: &str) -> Option<Answer> {
     let mut words = line.split(' ');
     let name = words.next()?;
     let first = words.next()?;

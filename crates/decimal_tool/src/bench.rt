@@ -10,7 +10,7 @@ use std::vec::Vec;
 const AMOUNTS: usize = 1024;
 
 /// Times each operation on pairs of neighbouring amounts, and prints nanoseconds for one.
-pub fn run(rt: &HostRuntime, rounds: u32) -> io::Result<()> {
+pub(crate) fn run(rt: &HostRuntime, rounds: u32) -> io::Result<()> {
     let amounts = amounts(rt.alloc())?;
     let cents = amounts.as_slice();
     let sums = [

@@ -6,7 +6,7 @@ use scaled_decimal::{Dec, read_dec};
 const GREATEST: u128 = 1_000_000_000_000_000_000;
 
 /// The decimal of a text, if no operation on two such decimals leaves the limits.
-pub fn read_small(text: &str) -> Option<Dec>
+pub(crate) fn read_small(text: &str) -> Option<Dec>
     ensures { IfSome result (λ d. IsSmall d) }
 {
     let d = read_dec(text.as_bytes()).ok()?;

@@ -9,7 +9,7 @@ use std::marker::Model;
 use std::{fmt, str};
 
 /// Appends the plain text of a decimal: a `-` for a number below 0, at least one digit, and a point and a digit for
-/// each place where the scale isn't 0. After a refusal `out` is as before.
+/// each place where the scale isn't 0. After a refusal `out` is as before. The memory is that of `out`'s own allocator.
 pub fn write_dec(_alloc: Global, d: Dec, out: &mut Vec<u8>) -> Result<(), AllocError>
     ensures ok { OnOk result (out.new.items ≡ out.old.items ++ plain_text d) }
     ensures err { OnErr result (out.new.items ≡ out.old.items) }
