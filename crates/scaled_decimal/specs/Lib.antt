@@ -1,5 +1,6 @@
 pub mod Decimals
 pub mod ExactQuotients
+pub mod Faults
 pub mod IntegerLemmas
 pub mod Limits
 pub mod MonotoneLemmas

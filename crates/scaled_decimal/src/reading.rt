@@ -31,6 +31,11 @@ pub enum NumFault {
 }
 
 impl fmt::Display for NumFault {
+    ghost use Rattle.std.specs.Prelude.{Some};
+    ghost use Rattle.scaled_decimal.specs.Faults.{fault_text};
+
+    ghost output = { λ fault. Some (fault_text fault) };
+
     fn fmt<W: fmt::Write>(&self, f: &mut fmt::Formatter<W>) -> fmt::Result {
         match self {
             NumFault::Shape { at } => write!(f, "no number at byte {at}"),
