@@ -50,7 +50,8 @@ pub fn papcalc<F: Files, R: Source, W: Sink, L: Ledger>(
     ensures read_fault { result ≡ Status.ReadFault → Rose (R.faults source.old) (R.faults source.new) }
     ensures write_fault { result ≡ Status.WriteFault → Rose (W.faults sink.old) (W.faults sink.new) }
 
-    // What each status of `once` says, whether or not the outside tells its content. The source is never touched.
+    // What each status of `once` says: of the text, where the files and the sink tell what they hold; of the counter and of
+    // the failed name, always. The source is never touched.
     ensures once { (plan limits : List ℕ) → IsOnce (texts words.now) plan limits →
         OnceMeets (F.told files.old) plan limits (W.written sink.old) (W.written sink.new) steps.old steps.new (F.failed files.new) result }
     ensures once_source { source.new ≡ source.old }
