@@ -16,3 +16,4 @@ pub mod Shortening
 pub mod TextParts
 pub mod WholeNumbers
 pub mod WorkingNumbers
+pub mod ShortenedDecimals
