@@ -2,5 +2,7 @@
 #![tactic(auto)]
 
 mod fault;
+mod kinds;
 
 pub use fault::TypeFault;
+pub use kinds::NodeKind;
