@@ -11,8 +11,6 @@ mod powers;
 mod reading;
 mod rounding;
 mod rounding_types;
-#[cfg(test)]
-mod tests;
 mod writing;
 
 pub use decimal::Dec;
