@@ -14,6 +14,7 @@ mod rounding_types;
 mod writing;
 
 pub use decimal::Dec;
+pub use exact::divisor_places;
 pub use powers::power_of_ten;
 pub use reading::{NumFault, read_dec};
 pub use rounding::{Mode, each_quotient_has_one_rounding, round_div};
