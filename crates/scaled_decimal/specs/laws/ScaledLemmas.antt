@@ -5,8 +5,8 @@ use Rattle.std.proofs.Math.Nat.{mul-le-mul_right}
 use Rattle.scaled_decimal.specs.declared.rounding.Mode.{Mode}
 use Rattle.scaled_decimal.specs.declared.rounding.Mode.TheVariants.{Down, Up, Floor, Ceiling, HalfUp, HalfDown, HalfEven}
 use Rattle.scaled_decimal.specs.Rounding.{IsFloor, IsCeiling, IsNearest, RoundsPositive, Rounds}
-use Rattle.scaled_decimal.specs.RoundingLemmas.{turned}
-use Rattle.scaled_decimal.specs.IntegerLemmas.{times_assoc, times_neg, times_sub, le_times, lt_times}
+use Rattle.scaled_decimal.specs.laws.RoundingLemmas.{turned}
+use Rattle.scaled_decimal.specs.laws.IntegerLemmas.{times_assoc, times_neg, times_sub, le_times, lt_times}
 
 floor_scaled : (n q : ℤ) (d k : ℕ) → 0 < k → IsFloor n (pos d) q → IsFloor (n *ℤ pos k) (pos (d * k)) q
 floor_scaled n q d k some h = record {

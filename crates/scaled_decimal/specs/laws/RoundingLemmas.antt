@@ -9,7 +9,7 @@ use Rattle.scaled_decimal.specs.declared.rounding.Mode.TheVariants.{Down, Up, Fl
 use native.Mathlib.Nat.{div-le_self, mod-le}
 use Rattle.scaled_decimal.specs.Rounding.{IsFloor, IsCeiling, IsNearest, RoundsPositive, Rounds}
 use Rattle.scaled_decimal.specs.RoundingDecision.{moves_away}
-use Rattle.scaled_decimal.specs.IntegerLemmas.{times_more, times_less, times_neg}
+use Rattle.scaled_decimal.specs.laws.IntegerLemmas.{times_more, times_less, times_neg}
 
 -- a is k times d, and r is left
 pub record Split (a d k r : ℕ) : Type 0 where

@@ -6,8 +6,8 @@ use Rattle.std.proofs.Math.Nat.{mul_comm}
 use Rattle.scaled_decimal.specs.declared.rounding.Mode.{Mode}
 use Rattle.scaled_decimal.specs.declared.rounding.Mode.TheVariants.{Down, Up, Floor, Ceiling, HalfUp, HalfDown, HalfEven}
 use Rattle.scaled_decimal.specs.Rounding.{IsFloor, IsCeiling, IsDown, IsUp, IsNearest, RoundsPositive}
-use Rattle.scaled_decimal.specs.IntegerLemmas.{times_more, times_less, le_times, by_sign}
-use Rattle.scaled_decimal.specs.ScaledLemmas.{scaled}
+use Rattle.scaled_decimal.specs.laws.IntegerLemmas.{times_more, times_less, le_times, by_sign}
+use Rattle.scaled_decimal.specs.laws.ScaledLemmas.{scaled}
 
 -- one and the same positive divisor, and a greater rounding of the smaller number
 module _ (n n' q q' : ℤ) (d : ℕ) (some : 0 < d) (le : n ≤ℤ n') (less : q' <ℤ q) where

@@ -7,9 +7,9 @@ use Rattle.scaled_decimal.specs.declared.rounding.Mode.{Mode}
 use Rattle.scaled_decimal.specs.declared.rounding.Mode.TheVariants.{Down, Up, Floor, Ceiling, HalfUp, HalfDown, HalfEven}
 use Rattle.scaled_decimal.specs.Rounding.{IsFloor, IsCeiling, IsNearest, RoundsPositive, Rounds, IsNear, IsAtMost, StaysNear, RisesWithQuotient, HasExactlyOne, dividend_over}
 use Rattle.scaled_decimal.specs.RoundingDecision.{moves_away}
-use Rattle.scaled_decimal.specs.RoundingLemmas.{is_odd, stays, moves_up, moves_down, divides}
-use Rattle.scaled_decimal.specs.IntegerLemmas.{times_more, times_less, times_neg_right, by_sign, some_abs}
-use Rattle.scaled_decimal.specs.MonotoneLemmas.{rounds_rise}
+use Rattle.scaled_decimal.specs.laws.RoundingLemmas.{is_odd, stays, moves_up, moves_down, divides}
+use Rattle.scaled_decimal.specs.laws.IntegerLemmas.{times_more, times_less, times_neg_right, by_sign, some_abs}
+use Rattle.scaled_decimal.specs.laws.MonotoneLemmas.{rounds_rise}
 
 floor_near : (n q : ℤ) (d : ℕ) → IsFloor n (pos d) q → IsNear n (pos d) q
 floor_near n q d h = let m = times_more q (pos d) in omega (arith, ints, h.low, h.high)
