@@ -40,11 +40,14 @@ abbrev pub is_factor : NodeKind → Bool
 is_factor Factor = true
 is_factor _ = false
 
+abbrev pub is_fraction : NodeKind → Bool
+is_fraction Fraction = true
+is_fraction _ = false
+
 -- the kind of a whole number that comes of two: `int` where both are
 abbrev pub wider : NodeKind → NodeKind → NodeKind
-wider Long k = Long
-wider _ Long = Long
-wider k _ = k
+wider j Long = Long
+wider j _ = j
 
 abbrev pub declared_kind : DeclaredKind → NodeKind
 declared_kind declares.Int = Int
@@ -122,17 +125,17 @@ shown_divisor scope _ = None
 abbrev pub shows_plain_divisor : Scope → Term → Bool
 shows_plain_divisor scope d = option_map_or is_plain_divisor (shown_divisor scope d) false
 
+-- what BigDecimal.valueOf takes
+abbrev pub is_convertible : NodeKind → Bool
+is_convertible k = is_whole k || (is_factor k || is_fraction k)
+
 -- which operands an operation takes
 abbrev pub takes_one : One → NodeKind → Bool
 takes_one (unary Minus) k = is_whole k
 takes_one (unary Not) k = is_truth k
 takes_one (unary Negate) k = is_big k
 takes_one (unary Abs) k = is_big k
-takes_one value_of Int = true
-takes_one value_of Long = true
-takes_one value_of Factor = true
-takes_one value_of Fraction = true
-takes_one value_of _ = false
+takes_one value_of k = is_convertible k
 takes_one (value_of_scaled s) k = is_whole k
 takes_one new_big k = is_whole k
 takes_one (set_scale s m) k = is_big k

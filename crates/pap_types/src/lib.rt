@@ -3,6 +3,7 @@
 
 mod fault;
 mod kinds;
+mod scope;
 
 pub use fault::TypeFault;
 pub use kinds::NodeKind;
