@@ -1,6 +1,6 @@
 -- The kinds of an expression's nodes, and which operands each operation takes (docs/PROFILE.md, "Kinds").
 use Rattle.std.specs.Prelude.{ℕ, ◌^◌, ◌%◌, ◌==◌, Bool, true, false, ◌&&◌, ◌||◌, nat_le, nat_lt, List, Option, Some, None, ℤ, pos, negsuc, unsigned_abs}
-use Rattle.std.specs.Option.{option_map_or}
+use Rattle.std.specs.Option.{option_and_then, option_map_or}
 use Rattle.scaled_decimal.specs.Decimals.{Decimal, decimal, numerator_of, scale_of}
 use Rattle.scaled_decimal.specs.Limits.{limit, most_places}
 use Rattle.pap_tree.specs.declared.declaration.Kind.TheVariants as declares
@@ -10,10 +10,11 @@ use Rattle.pap_tree.specs.declared.expression.Binary.{Binary}
 use Rattle.pap_tree.specs.declared.expression.Binary.TheVariants as binaries
 use Rattle.pap_tree.specs.declared.expression.Call.TheVariants as calls
 use Rattle.pap_tree.specs.Grammar.{known_value}
+use Rattle.pap_tree.specs.Declarations.{Declaration, DeclaredLiteral, big as declared_big}
 use Rattle.pap_tree.specs.Term.{Leaf, whole, long, point, text, known, named, Term, leaf, item, one, two, choice, One, unary, value_of, value_of_scaled, new_big, set_scale, Two, operator, method, divide}
 use Rattle.pap_types.specs.declared.kinds.NodeKind.{NodeKind}
 use Rattle.pap_types.specs.declared.kinds.NodeKind.TheVariants.{Int, Long, Big, Truth, Fraction, Factor, Table}
-use Rattle.pap_types.specs.Scopes.{Scope, declaration_in, constant_in, at_factor_scale, factor_places}
+use Rattle.pap_types.specs.Scopes.{Scope, declared_as, declaration_in, at_factor_scale, factor_places}
 
 abbrev pub is_whole : NodeKind → Bool
 is_whole Int = true
@@ -114,12 +115,24 @@ is_plain_number (negsuc n) = false
 abbrev pub is_plain_divisor : Decimal → Bool
 is_plain_divisor d = (scale_of d == 0) && is_plain_number (numerator_of d)
 
--- the divisor of divide(d) that the text shows: a constant, or an `int` literal as a decimal
+abbrev pub literal_big : DeclaredLiteral → Option Decimal
+literal_big (declared_big d) = Some d
+literal_big _ = None
+
+-- the decimal that a declaration writes
+abbrev pub written_decimal : Declaration → Option Decimal
+written_decimal d = option_and_then literal_big d.value
+
+abbrev pub int_literal : Term → Option Decimal
+int_literal (leaf (whole i)) = Some (decimal i 0)
+int_literal _ = None
+
+-- the divisor of divide(d) that the text shows: a constant's decimal, or an `int` literal as one
 abbrev pub shown_divisor : Scope → Term → Option Decimal
-shown_divisor scope (leaf (named x)) = constant_in scope x
+shown_divisor scope (leaf (named x)) = option_and_then written_decimal (declared_as scope.constants x)
 shown_divisor scope (leaf (known k)) = Some (known_value k)
-shown_divisor scope (one value_of (leaf (whole i))) = Some (decimal i 0)
-shown_divisor scope (one new_big (leaf (whole i))) = Some (decimal i 0)
+shown_divisor scope (one value_of e) = int_literal e
+shown_divisor scope (one new_big e) = int_literal e
 shown_divisor scope _ = None
 
 abbrev pub shows_plain_divisor : Scope → Term → Bool

@@ -9,3 +9,4 @@ pub mod Runs
 pub mod Bounds
 pub mod Meaning
 pub mod ScopeViews
+pub mod CheckViews

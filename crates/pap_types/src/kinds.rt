@@ -1,7 +1,7 @@
 // The kinds of an expression's nodes, and which operands each operation takes.
-ghost use Rattle.std.specs.Prelude.{◌≡◌};
+ghost use Rattle.std.specs.Prelude.{◌≡◌, ◌&&◌};
 ghost use Rattle.pap_tree.specs.Term.{term_of, unary, operator, method};
-ghost use Rattle.pap_types.specs.Kinds.{declared_kind, wider, kind_of_one, kind_of_operator, kind_of_two, is_whole, is_convertible, has_few_places, is_factor_literal, is_plain_divisor, takes_one, takes_operator, are_comparable, are_parts, suits};
+ghost use Rattle.pap_types.specs.Kinds.{declared_kind, wider, kind_of_one, kind_of_operator, kind_of_two, is_int, is_big, is_truth, is_table, is_whole, is_convertible, has_few_places, is_factor_literal, is_plain_divisor, takes_one, takes_operator, are_comparable, are_parts, suits};
 
 use pap_tree::{Binary, Call, Expr, Kind, Unary};
 use scaled_decimal::Dec;
@@ -46,6 +46,55 @@ impl NodeKind {
         matches!(self, NodeKind::Int | NodeKind::Long)
     }
 
+    /// Whether it is that of a whole number of 32 bits.
+    pub fn is_int(self) -> bool
+        ensures { result ≡ is_int self }
+    {
+        self == NodeKind::Int
+    }
+
+    /// Whether it is a decimal's.
+    pub fn is_big(self) -> bool
+        ensures { result ≡ is_big self }
+    {
+        self == NodeKind::Big
+    }
+
+    /// Whether both are a decimal's.
+    pub fn are_big(self, other: NodeKind) -> bool
+        ensures { result ≡ (is_big self && is_big other) }
+    {
+        self.is_big() && other.is_big()
+    }
+
+    /// Whether it is a truth's.
+    pub fn is_truth(self) -> bool
+        ensures { result ≡ is_truth self }
+    {
+        self == NodeKind::Truth
+    }
+
+    /// Whether it is that of a table's name.
+    pub fn is_table(self) -> bool
+        ensures { result ≡ is_table self }
+    {
+        self == NodeKind::Table
+    }
+
+    /// Whether it is a table's, of which an index of a kind names an item.
+    pub fn takes_index(self, index: NodeKind) -> bool
+        ensures { result ≡ (is_table self && is_int index) }
+    {
+        self.is_table() && index.is_int()
+    }
+
+    /// Whether it is a truth's, which chooses between parts of two kinds.
+    pub fn takes_parts(self, first: NodeKind, second: NodeKind) -> bool
+        ensures { result ≡ (is_truth self && are_parts first second) }
+    {
+        self.is_truth() && first.are_parts(second)
+    }
+
     /// Whether `BigDecimal.valueOf` takes it.
     pub fn is_convertible(self) -> bool
         ensures { result ≡ is_convertible self }
@@ -64,7 +113,7 @@ impl NodeKind {
     pub fn are_parts(self, other: NodeKind) -> bool
         ensures { result ≡ are_parts self other }
     {
-        (self == NodeKind::Big && other == NodeKind::Big) || (self.is_whole() && other.is_whole())
+        self.are_big(other) || (self.is_whole() && other.is_whole())
     }
 }
 
@@ -74,8 +123,8 @@ pub fn takes_unary(op: Unary, kind: NodeKind) -> bool
 {
     match op {
         Unary::Minus => kind.is_whole(),
-        Unary::Not => kind == NodeKind::Truth,
-        Unary::Negate | Unary::Abs => kind == NodeKind::Big,
+        Unary::Not => kind.is_truth(),
+        Unary::Negate | Unary::Abs => kind.is_big(),
     }
 }
 
@@ -121,7 +170,7 @@ pub fn takes_operator(
     ensures { result ≡ takes_operator op (term_of left.now) left_kind (term_of right.now) right_kind }
 {
     match op {
-        Binary::And | Binary::Or => left_kind == NodeKind::Truth && right_kind == NodeKind::Truth,
+        Binary::And | Binary::Or => left_kind.is_truth() && right_kind.is_truth(),
         Binary::Mul | Binary::Div | Binary::Rem | Binary::Plus | Binary::Sub => {
             left_kind.is_whole() && right_kind.is_whole()
         }
@@ -172,9 +221,9 @@ pub fn suits(target: Kind, e: &Expr, kind: NodeKind) -> bool
     ensures { result ≡ suits target (term_of e.now) kind }
 {
     match target {
-        Kind::Int => kind == NodeKind::Int,
+        Kind::Int => kind.is_int(),
         Kind::Long => kind.is_whole(),
-        Kind::Big => kind == NodeKind::Big,
+        Kind::Big => kind.is_big(),
         Kind::Factor => is_factor_literal(e),
         Kind::Table => false,
     }

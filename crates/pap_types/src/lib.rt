@@ -3,6 +3,7 @@
 
 mod fault;
 mod kinds;
+mod nodes;
 mod scope;
 
 pub use fault::TypeFault;

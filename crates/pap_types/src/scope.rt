@@ -3,11 +3,15 @@ ghost use Rattle.std.specs.Prelude.{◌≡◌, slice_get};
 ghost use Rattle.std.specs.Option.{option_map};
 ghost use Rattle.pap_tree.specs.Declarations.{declaration_of};
 ghost use Rattle.pap_tree.specs.Flowchart.{flowchart_of};
+ghost use Rattle.pap_tree.specs.Term.{term_of};
+ghost use Rattle.pap_tree.specs.Grammar.{known_value};
+ghost use Rattle.pap_types.specs.Kinds.{shows_plain_divisor, shown_divisor, written_decimal, int_literal, is_plain_divisor};
 ghost use Rattle.pap_types.specs.Scopes.{scope_of, variables_of, declaration_in, declared_as};
 ghost use Rattle.pap_types.specs.ScopeViews.{IsNumbered};
 
 use indexmap::IndexSet;
-use pap_tree::{Declared, Name, PlanText};
+use pap_tree::{Declared, Expr, Known, Literal, Name, PlanText};
+use scaled_decimal::Dec;
 
 /// The declared names of a plan by number, each kind from 0 in declared order: the variables are inputs, outputs and
 /// internals.
@@ -57,6 +61,34 @@ impl<'a> Scope<'a> {
             None => None,
         }
     }
+
+    /// Whether the divisor of `divide(d)` is one that the text shows, a constant or an `int` literal as a decimal, and a plain
+    /// one: a whole number, at least 1, that divides 10^30.
+    pub fn shows_plain_divisor(&self, divisor: &Expr) -> bool
+        requires { IsNumbered self.now.plan.now self.now.names.now }
+        ensures { result ≡ shows_plain_divisor (scope_of (flowchart_of self.now.plan.now)) (term_of divisor.now) }
+    {
+        match self.shown_divisor(divisor) {
+            Some(number) => is_plain_divisor(number),
+            None => false,
+        }
+    }
+
+    /// The divisor of `divide(d)` that the text shows.
+    pub fn shown_divisor(&self, divisor: &Expr) -> Option<Dec>
+        requires { IsNumbered self.now.plan.now self.now.names.now }
+        ensures { result ≡ shown_divisor (scope_of (flowchart_of self.now.plan.now)) (term_of divisor.now) }
+    {
+        match divisor {
+            Expr::Var(name) => match self.constant(name) {
+                Some(declared) => written_decimal(declared),
+                None => None,
+            },
+            Expr::Known(known) => Some(known_value(*known)),
+            Expr::ValueOf(operand) | Expr::NewInt(operand) => int_literal(operand),
+            _ => None,
+        }
+    }
 }
 
 fn constant_at(plan: &PlanText, number: usize) -> Option<&Declared>
@@ -77,4 +109,46 @@ fn variable_at(plan: &PlanText, number: usize) -> Option<&Declared>
         return plan.outputs.get(number - inputs);
     }
     plan.internals.get(number - inputs - outputs)
+}
+
+/// The decimal that a declaration writes.
+fn written_decimal(declared: &Declared) -> Option<Dec>
+    ensures { result ≡ written_decimal (declaration_of declared.now) }
+{
+    match &declared.value {
+        Some(Literal::Big(number)) => Some(*number),
+        _ => None,
+    }
+}
+
+/// An `int` literal as a decimal.
+fn int_literal(e: &Expr) -> Option<Dec>
+    ensures { result ≡ int_literal (term_of e.now) }
+{
+    match e {
+        Expr::Int(number) => Some(Dec::new(*number as i128, 0)),
+        _ => None,
+    }
+}
+
+fn known_value(known: Known) -> Dec
+    ensures { result ≡ known_value known }
+{
+    match known {
+        Known::Zero => Dec::new(0, 0),
+        Known::One => Dec::new(1, 0),
+        Known::Ten => Dec::new(10, 0),
+    }
+}
+
+/// 10^30, which plain divisors divide.
+const TEN_TO_30: u128 = 1_000_000_000_000_000_000_000_000_000_000;
+
+/// Whether a decimal is a whole number, at least 1, that divides 10^30.
+fn is_plain_divisor(number: Dec) -> bool
+    ensures { result ≡ is_plain_divisor number }
+{
+    number.scale() == 0
+        && number.numerator() > 0
+        && TEN_TO_30 % number.numerator().unsigned_abs() == 0
 }
