@@ -1,7 +1,7 @@
 use Rattle.std.proofs.Common.{rules, arith, pos, ◌<ℤ◌, ◌*ℤ◌, ◌≡◌, ◌∙◌, ap, subst, FitsSigned}
 use Rattle.std.specs.Int.{w128}
 use Rattle.std.proofs.lemmas.Int.{ints, to_z-of_z}
-use Rattle.scaled_decimal.specs.Decimals.{numerator_of, ten_to}
+use Rattle.scaled_decimal.specs.Decimals.{numerator_of}
 use Rattle.scaled_decimal.specs.Limits.{IsWithinLimit}
 use Rattle.scaled_decimal.proofs.Laws.{exact_fits_least}
 use Rattle.decimal_tool.proofs.operations.exact_quotient.Goals as goal

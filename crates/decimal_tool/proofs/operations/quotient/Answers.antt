@@ -1,8 +1,7 @@
-use Rattle.std.proofs.Common.{refl, rules, arith, ◌≡◌, ◌≢◌, ◌*ℤ◌, ◌-◌, ◌+◌, pos, FitsSigned, subst}
+use Rattle.std.proofs.Common.{refl, rules, arith, ◌≢◌, pos, FitsSigned}
 use Rattle.std.specs.Int.{w128}
 use Rattle.std.proofs.lemmas.Int.{to_z-of_z}
-use Rattle.scaled_decimal.specs.Decimals.{numerator_of, scale_of, ten_to}
-use Rattle.scaled_decimal.specs.Limits.{IsWithinLimit}
+use Rattle.scaled_decimal.specs.Decimals.{numerator_of}
 use Rattle.scaled_decimal.proofs.Laws.{quotient_fits_longer, quotient_fits_shorter}
 use Rattle.decimal_tool.proofs.operations.quotient.Goals as goal
 
