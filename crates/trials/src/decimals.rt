@@ -153,7 +153,10 @@ fn divides_exactly(rt: HostRuntime) {
         let divisor = divisor as i128;
         assert!(rt; is_plain_divisor(divisor) && divisor_places(divisor) == places);
     }
-    assert_eq!(rt; power_of_ten(MOST_PLACES), 1_000_000_000_000_000_000_000_000_000_000);
+    assert_eq!(rt;
+        power_of_ten(MOST_PLACES),
+        1_000_000_000_000_000_000_000_000_000_000
+    );
 }
 
 #[test]
