@@ -1,10 +1,16 @@
-# `make demo` builds build/papcalc and runs it on an example; `make test` is the whole gate.
-.PHONY: build demo test rows decimal-tool bench-decimal check-java
+# `make look` runs the program on an example without a proof; `make demo` proves and builds build/papcalc and runs that;
+# `make test` is the whole gate.
+.PHONY: build look demo test rows decimal-tool bench-decimal check-java
 
 build:
 	cd crates/papcalc && rt run -- --version
 	mkdir -p build
 	cp crates/papcalc/out/papcalc build/papcalc
+
+# Proves nothing and keeps nothing: the kit compiles the program with tests at run time and prints what it wrote.
+look:
+	cd crates/papcalc && rt try --data first.xml=../../examples/first.xml \
+	    --data no_ranges.toml=../../examples/no_ranges.toml -- once first.xml no_ranges.toml
 
 demo: build
 	build/papcalc once examples/first.xml examples/no_ranges.toml
@@ -21,13 +27,14 @@ decimal-tool:
 	mkdir -p build
 	cp crates/decimal_tool/out/decimal_tool build/decimal_tool
 
-# Nanoseconds of each operation on decimals, beside those of java.math.BigDecimal on the same amounts (needs a JDK).
+# Nanoseconds of each operation on decimals, beside those of java.math.BigDecimal on the same amounts, whose scales and
+# modes vary; the sums of the results must be equal (needs a JDK).
 bench-decimal: decimal-tool
 	javac -d build tools/BenchDecimal.java
 	build/decimal_tool bench 2000
 	java -cp build BenchDecimal 2000
 
-# Generated operations on decimals, each answer compared with that of java.math.BigDecimal (needs a JDK).
+# Generated operations on decimals of the full range, each answer compared with that of java.math.BigDecimal (needs a JDK).
 check-java: decimal-tool
 	javac -d build tools/CheckDecimal.java
 	java -cp build CheckDecimal generate 1 300000 > build/operations

@@ -1,1 +1,1 @@
-pub mod SmallLemmas
+pub mod AmountLemmas

@@ -1,6 +1,5 @@
-ghost use Rattle.decimal_tool.specs.Small.{IsSmall};
-
-use crate::small::read_small;
+//! The answers to lines of operations.
+use crate::operations;
 use scaled_decimal::{Dec, Mode, read_dec, round_div};
 use std::cmp::Ordering;
 use std::fmt;
@@ -23,33 +22,43 @@ impl fmt::Display for Answer {
     }
 }
 
-/// The answer to an operation's name and its words, or none where they are malformed or too great.
+/// The answer to an operation's name and its words, or none where they are malformed or a number leaves the limits.
 pub(crate) fn work_out(line: &str) -> Option<Answer> {
     let mut words = line.split(' ');
     let name = words.next()?;
     let first = words.next()?;
     match name.as_bytes() {
-        b"neg" => Some(Answer::Decimal(read_dec(first.as_bytes()).ok()?.neg())),
-        b"abs" => Some(Answer::Decimal(read_dec(first.as_bytes()).ok()?.abs())),
-        b"read" => Some(Answer::Decimal(read_dec(first.as_bytes()).ok()?)),
-        b"compare" => compared(first, words.next()?),
+        b"neg" => Some(Answer::Decimal(read(first)?.neg())),
+        b"abs" => Some(Answer::Decimal(read(first)?.abs())),
+        b"read" => Some(Answer::Decimal(read(first)?)),
         b"exact" => divided_exactly(first, words.next()?),
         b"round" => rounded(first, words.next()?, words.next()?),
         b"scale" => rescaled(first, words.next()?, words.next()?),
         b"div" => divided(first, words.next()?, words.next()?, words.next()?),
-        _ => of_two(name, read_small(first)?, read_small(words.next()?)?),
+        _ => of_two(name, read(first)?, read(words.next()?)?),
     }
 }
 
+fn read(text: &str) -> Option<Dec> {
+    read_dec(text.as_bytes()).ok()
+}
+
 /// An operation of two decimals.
-fn of_two(name: &str, a: Dec, b: Dec) -> Option<Answer>
-    requires left { IsSmall a }
-    requires right { IsSmall b }
-{
+fn of_two(name: &str, a: Dec, b: Dec) -> Option<Answer> {
     match name.as_bytes() {
-        b"add" => Some(Answer::Decimal(a.add(b))),
-        b"sub" => Some(Answer::Decimal(a.sub(b))),
-        b"mul" => Some(Answer::Decimal(a.mul(b))),
+        b"add" => Some(Answer::Decimal(operations::sum(a, b)?)),
+        b"sub" => Some(Answer::Decimal(operations::difference(a, b)?)),
+        b"mul" => Some(Answer::Decimal(operations::product(a, b)?)),
+        b"compare" => Some(Answer::Whole(number_of(a.compare(b)))),
+        _ => of_comparable(name, a, b),
+    }
+}
+
+fn of_comparable(name: &str, a: Dec, b: Dec) -> Option<Answer> {
+    if !operations::are_comparable(a, b) {
+        return None;
+    }
+    match name.as_bytes() {
         b"min" => Some(Answer::Decimal(a.min(b))),
         b"max" => Some(Answer::Decimal(a.max(b))),
         b"cmp" => Some(Answer::Whole(a.cmp_value(b) as i128)),
@@ -57,31 +66,23 @@ fn of_two(name: &str, a: Dec, b: Dec) -> Option<Answer>
     }
 }
 
-fn compared(first: &str, second: &str) -> Option<Answer> {
-    let a = read_dec(first.as_bytes()).ok()?;
-    let b = read_dec(second.as_bytes()).ok()?;
-    let order = match a.compare(b) {
+fn number_of(order: Ordering) -> i128 {
+    match order {
         Ordering::Less => -1,
         Ordering::Equal => 0,
         Ordering::Greater => 1,
-    };
-    Some(Answer::Whole(order))
+    }
 }
 
-/// The exact quotient, by a divisor of a billion.
 fn divided_exactly(divisor: &str, text: &str) -> Option<Answer> {
-    let d = divisor.parse::<u32>().ok()?;
-    let a = read_small(text)?;
-    if d == 0 || 1_000_000_000 % d != 0 {
-        return None;
-    }
-    Some(Answer::Decimal(a.div_exact(d as i128)))
+    let divisor = divisor.parse::<i128>().ok()?;
+    Some(Answer::Decimal(operations::exact_quotient(read(text)?, divisor)?))
 }
 
 fn rounded(mode: &str, dividend: &str, divisor: &str) -> Option<Answer> {
     let mode = mode_of(mode)?;
-    let n = read_dec(dividend.as_bytes()).ok()?;
-    let d = read_dec(divisor.as_bytes()).ok()?;
+    let n = read(dividend)?;
+    let d = read(divisor)?;
     if n.scale() != 0 || d.scale() != 0 || d.numerator() == 0 {
         return None;
     }
@@ -89,30 +90,14 @@ fn rounded(mode: &str, dividend: &str, divisor: &str) -> Option<Answer> {
 }
 
 fn rescaled(mode: &str, scale: &str, text: &str) -> Option<Answer> {
-    let mode = mode_of(mode)?;
-    let s = scale.parse::<u8>().ok()?;
-    let Ok(d) = read_dec(text.as_bytes()) else {
-        return None;
-    };
-    if s <= d.scale() {
-        return Some(Answer::Decimal(d.set_scale(s, mode)));
-    }
-    let d = read_small(text)?;
-    if s > 9 {
-        return None;
-    }
-    Some(Answer::Decimal(d.set_scale(s, mode)))
+    let scale = scale.parse::<u8>().ok()?;
+    Some(Answer::Decimal(operations::rescaled(read(text)?, scale, mode_of(mode)?)?))
 }
 
 fn divided(mode: &str, scale: &str, dividend: &str, divisor: &str) -> Option<Answer> {
-    let mode = mode_of(mode)?;
-    let s = scale.parse::<u8>().ok()?;
-    let a = read_small(dividend)?;
-    let b = read_small(divisor)?;
-    if s > 9 || b.numerator() == 0 {
-        return None;
-    }
-    Some(Answer::Decimal(a.div(b, s, mode)))
+    let scale = scale.parse::<u8>().ok()?;
+    let quotient = operations::quotient(read(dividend)?, read(divisor)?, scale, mode_of(mode)?)?;
+    Some(Answer::Decimal(quotient))
 }
 
 /// The mode of a name in `java.math.RoundingMode`.

@@ -1,6 +1,6 @@
-ghost use Rattle.decimal_tool.specs.Small.{IsSmall};
-
-use scaled_decimal::{Dec, Mode, read_dec, write_dec};
+//! Times each operation on pairs of neighbouring amounts, whose scales and modes differ.
+use crate::amount::Amount;
+use scaled_decimal::{Mode, read_dec, write_dec};
 use std::alloc::{AllocError, Global};
 use std::io;
 use std::string::{String, ToString};
@@ -9,96 +9,102 @@ use std::vec::Vec;
 
 const AMOUNTS: usize = 1024;
 
-/// Times each operation on pairs of neighbouring amounts, and prints nanoseconds for one.
+const MODES: [Mode; 7] = [
+    Mode::Down,
+    Mode::Up,
+    Mode::Floor,
+    Mode::Ceiling,
+    Mode::HalfUp,
+    Mode::HalfDown,
+    Mode::HalfEven,
+];
+
+/// Prints for each operation the nanoseconds for one and the sum of all results, as the Java program does.
 pub(crate) fn run(rt: &HostRuntime, rounds: u32) -> io::Result<()> {
     let amounts = amounts(rt.alloc())?;
-    let cents = amounts.as_slice();
-    let sums = [
-        timed(rt, "add", cents, rounds, sum)?,
-        timed(rt, "multiply", cents, rounds, product)?,
-        timed(rt, "divide at scale 2 HALF_EVEN", cents, rounds, quotient)?,
-        timed(rt, "setScale 0 HALF_UP", cents, rounds, rescaled)?,
-        timed(rt, "cmp_value", cents, rounds, comparison)?,
-        timed(rt, "compare", cents, rounds, order)?,
-        timed_reading(rt, cents, rounds)?,
-        timed_writing(rt, cents, rounds)?,
-    ];
-    println!(rt;
-        "checksum {}",
-        sums.iter().fold(0i128, |all, sum| all.wrapping_add(*sum))
-    )
+    let all = amounts.as_slice();
+    println!(rt; "decimal_tool: nanoseconds for one operation, and the sum of all results")?;
+    timed(rt, "add", all, rounds, sum)?;
+    timed(rt, "subtract", all, rounds, difference)?;
+    timed(rt, "multiply", all, rounds, product)?;
+    timed(rt, "divide", all, rounds, quotient)?;
+    timed(rt, "setScale", all, rounds, rescaled)?;
+    timed(rt, "compareTo (cmp_value)", all, rounds, comparison)?;
+    timed(rt, "compareTo (compare)", all, rounds, order)?;
+    timed_reading(rt, all, rounds)?;
+    timed_writing(rt, all, rounds)
 }
 
-/// An amount with two places.
-fn amount(cents: i32) -> Dec
-    ensures { IsSmall result }
-{
-    Dec::new(cents as i128, 2)
+fn sum(x: &Amount, y: &Amount) -> i128 {
+    x.value.add(y.value).numerator()
 }
 
-fn sum(x: i32, y: i32) -> i128 {
-    amount(x).add(amount(y)).numerator()
+fn difference(x: &Amount, y: &Amount) -> i128 {
+    x.value.sub(y.value).numerator()
 }
 
-fn product(x: i32, y: i32) -> i128 {
-    amount(x).mul(amount(y)).numerator()
+fn product(x: &Amount, y: &Amount) -> i128 {
+    x.value.mul(y.value).numerator()
 }
 
-fn quotient(x: i32, y: i32) -> i128 {
-    let divisor = amount(y);
-    if divisor.numerator() == 0 {
+/// At the scale of the dividend.
+fn quotient(x: &Amount, y: &Amount) -> i128 {
+    if y.value.numerator() == 0 {
         return 0;
     }
-    amount(x).div(divisor, 2, Mode::HalfEven).numerator()
+    x.value.div(y.value, x.value.scale(), y.mode).numerator()
 }
 
-fn rescaled(x: i32, _y: i32) -> i128 {
-    amount(x).set_scale(0, Mode::HalfUp).numerator()
+/// At the scale of the other amount.
+fn rescaled(x: &Amount, y: &Amount) -> i128 {
+    x.value.set_scale(y.value.scale(), y.mode).numerator()
 }
 
-fn comparison(x: i32, y: i32) -> i128 {
-    amount(x).cmp_value(amount(y)) as i128
+fn comparison(x: &Amount, y: &Amount) -> i128 {
+    x.value.cmp_value(y.value) as i128
 }
 
-fn order(x: i32, y: i32) -> i128 {
-    amount(x).compare(amount(y)) as i128
+fn order(x: &Amount, y: &Amount) -> i128 {
+    x.value.compare(y.value) as i128
 }
 
-/// Amounts from -5,000,000.00 to 4,999,999.99.
-fn amounts(alloc: Global) -> Result<Vec<i32>, AllocError> {
+/// Amounts of up to 500,000,000 units in the last of 0 to 4 places.
+fn amounts(alloc: Global) -> Result<Vec<Amount>, AllocError> {
     let mut amounts = Vec::new(alloc);
     let mut state: u64 = 1;
-    for _ in 0..AMOUNTS {
+    for i in 0..AMOUNTS {
         state = state % 2_147_483_647 * 48_271 % 2_147_483_647;
-        amounts.push((state % 1_000_000_000) as i32 - 500_000_000)?;
+        let numerator = (state % 1_000_000_000) as i32 - 500_000_000;
+        state = state * 48_271 % 2_147_483_647;
+        amounts.push(Amount::new(numerator, (state % 5) as u8, MODES[i % 7]))?;
     }
     Ok(amounts)
 }
 
-fn timed<F: Fn(i32, i32) -> i128>(
+fn timed<F: Fn(&Amount, &Amount) -> i128>(
     rt: &HostRuntime,
     name: &str,
-    cents: &[i32],
+    amounts: &[Amount],
     rounds: u32,
     operation: F,
-) -> io::Result<i128>
+) -> io::Result<()>
     requires { F.IsAlwaysCallable operation }
 {
     let start = Instant::now(rt)?;
     let mut sum: i128 = 0;
     for _ in 0..rounds {
-        for i in 1..cents.len() {
-            sum = sum.wrapping_add(operation(cents[i - 1], cents[i]));
+        for i in 1..amounts.len() {
+            sum = sum.wrapping_add(operation(&amounts[i - 1], &amounts[i]));
         }
     }
-    print_time(rt, name, start.elapsed(rt)?.as_nanos(), rounds, cents.len())?;
-    Ok(sum)
+    let pairs = amounts.len().saturating_sub(1);
+    print_time(rt, name, start.elapsed(rt)?.as_nanos(), rounds, pairs, sum)
 }
 
-fn timed_reading(rt: &HostRuntime, cents: &[i32], rounds: u32) -> io::Result<i128> {
+fn timed_reading(rt: &HostRuntime, amounts: &[Amount], rounds: u32) -> io::Result<()> {
     let mut texts: Vec<String> = Vec::new(rt.alloc());
-    for x in cents {
-        texts.push(amount(*x).to_string(rt.alloc())?)?;
+    for amount in amounts {
+        texts.push(amount.value.to_string(rt.alloc())?)?;
     }
     let start = Instant::now(rt)?;
     let mut sum: i128 = 0;
@@ -109,35 +115,23 @@ fn timed_reading(rt: &HostRuntime, cents: &[i32], rounds: u32) -> io::Result<i12
             }
         }
     }
-    print_time(
-        rt,
-        "read_dec",
-        start.elapsed(rt)?.as_nanos(),
-        rounds,
-        cents.len(),
-    )?;
-    Ok(sum)
+    let nanos = start.elapsed(rt)?.as_nanos();
+    print_time(rt, "read", nanos, rounds, amounts.len(), sum)
 }
 
-fn timed_writing(rt: &HostRuntime, cents: &[i32], rounds: u32) -> io::Result<i128> {
+fn timed_writing(rt: &HostRuntime, amounts: &[Amount], rounds: u32) -> io::Result<()> {
     let mut out = Vec::new(rt.alloc());
     let start = Instant::now(rt)?;
     let mut sum: i128 = 0;
     for _ in 0..rounds {
-        for x in cents {
+        for amount in amounts {
             out.clear();
-            write_dec(rt.alloc(), amount(*x), &mut out)?;
+            write_dec(rt.alloc(), amount.value, &mut out)?;
             sum = sum.wrapping_add(out.len() as i128);
         }
     }
-    print_time(
-        rt,
-        "write_dec",
-        start.elapsed(rt)?.as_nanos(),
-        rounds,
-        cents.len(),
-    )?;
-    Ok(sum)
+    let nanos = start.elapsed(rt)?.as_nanos();
+    print_time(rt, "write", nanos, rounds, amounts.len(), sum)
 }
 
 fn print_time(
@@ -145,12 +139,10 @@ fn print_time(
     name: &str,
     nanos: u128,
     rounds: u32,
-    amounts: usize,
+    pairs: usize,
+    sum: i128,
 ) -> io::Result<()> {
-    let operations = rounds as u128 * amounts as u128;
-    if operations == 0 {
-        return println!(rt; "{name}");
-    }
+    let operations = (rounds as u128 * pairs as u128).max(1);
     let tenths = nanos.min(u64::MAX as u128) * 10 / operations;
-    println!(rt; "{name}: {}.{} ns", tenths / 10, tenths % 10)
+    println!(rt; "{name}: {}.{} ns, {sum}", tenths / 10, tenths % 10)
 }

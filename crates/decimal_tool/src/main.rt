@@ -1,9 +1,10 @@
 //! Answers lines of operations on decimals, for comparison with `java.math.BigDecimal`, or times the operations.
 #![tactic(auto)]
 
+mod amount;
 mod answers;
 mod bench;
-mod small;
+mod operations;
 
 use std::io::{BufRead, BufReader, BufWriter, Write};
 use std::{env, io};

@@ -1,5 +1,5 @@
 -- When the working numbers of an operation fit, by the numbers that the operation itself begins with.
-use Rattle.std.proofs.Common.{◌≡◌, ◌≢◌, ℕ, zero, suc, ◌+◌, ◌-◌, ◌*◌, ◌^◌, ◌<◌, ◌≤◌, ℤ, pos, negsuc, ◌-ℤ◌, ◌*ℤ◌, ◌<ℤ◌, unsigned_abs, sym, ap, ◌∙◌, subst, inl, inr, arith}
+use Rattle.std.proofs.Common.{max, ◌≡◌, ◌≢◌, ℕ, zero, suc, ◌+◌, ◌-◌, ◌*◌, ◌^◌, ◌<◌, ◌≤◌, ℤ, pos, negsuc, ◌-ℤ◌, ◌*ℤ◌, ◌<ℤ◌, unsigned_abs, sym, ap, ◌∙◌, subst, inl, inr, arith}
 use Rattle.std.proofs.lemmas.Bool.{cases_lt}
 use Rattle.std.proofs.lemmas.Int.{ints, unsigned_abs-mul}
 use Rattle.std.proofs.lemmas.Nat.{pow-add}
@@ -60,6 +60,19 @@ rescale_fits_shorter mode a s kept few h = record {
       subst IsWithinLimit (sym same) (omega arith);
   scale = omega arith;
 }
+
+-- setScale, where the numerator fits at the greater of the two scales
+pub rescale_fits_at : (mode : Mode) (a : Decimal) (s : ℕ) → s ≤ most_places → scale_of a ≤ most_places → IsWithinLimit (numerator_at (max s (scale_of a)) a) → RescaleFits mode a s
+rescale_fits_at mode a s few few' kept = elim (cases_lt s (scale_of a)) [
+  | inl less ↦
+      let own : max s (scale_of a) ≡ scale_of a = omega arith in
+      let kept' : IsWithinLimit (numerator_at (scale_of a) a) = subst (λ t. IsWithinLimit (numerator_at t a)) own kept in
+      let same : scale_of a - scale_of a ≡ 0 = omega arith in
+      let times_one : IsWithinLimit (numerator_of a *ℤ ten_to 0) = subst (λ k. IsWithinLimit (numerator_of a *ℤ ten_to k)) same kept' in
+      let one : numerator_of a *ℤ ten_to 0 ≡ numerator_of a = omega (arith, ints) in
+      rescale_fits_shorter mode a s (subst IsWithinLimit one times_one) few' (omega arith)
+  | inr le ↦ let own : max s (scale_of a) ≡ s = omega arith in rescale_fits_longer mode a s le few (subst (λ t. IsWithinLimit (numerator_at t a)) own kept)
+]
 
 -- one quotient by two fractions
 module _ (mode : Mode) (a b : Decimal) (s : ℕ) (some : numerator_of b ≢ pos 0) where

@@ -17,9 +17,10 @@ pub use Rattle.scaled_decimal.proofs.FitLemmas.{abs_rounded}
 -- the order of the values is that of the numerators at the greater scale
 pub use Rattle.scaled_decimal.proofs.OrderLemmas.{aligned_order}
 -- the working numbers of setScale and divide fit where the lengthened numbers do
-pub use Rattle.scaled_decimal.proofs.FitLemmas.{rescale_fits, rescale_fits_longer, rescale_fits_shorter, quotient_fits_longer, quotient_fits_shorter}
--- plain divisors, and the working numbers of the exact quotient: for the least power of ten, and for any
+pub use Rattle.scaled_decimal.proofs.FitLemmas.{rescale_fits, rescale_fits_longer, rescale_fits_shorter, rescale_fits_at, quotient_fits_longer, quotient_fits_shorter}
+-- plain divisors, the cofactor of one, and the working numbers of the exact quotient: for the least power of ten, and for any
 pub use Rattle.scaled_decimal.proofs.FitLemmas.{plain_divisor, exact_fits_least, exact_fits}
+pub use Rattle.scaled_decimal.proofs.ExactLemmas.{factor_times}
 
 -- a text spells at most one decimal
 pub number_once : (text : List ℕ) (d d' : Decimal) → Spells text d → Spells text d' → d ≡ d'

@@ -1,7 +1,11 @@
 -- The order of two decimals by their values.
-use Rattle.std.proofs.Common.{◌≡◌, ℕ, ◌+◌, ◌-◌, ◌^◌, ◌<◌, ◌≤◌, ℤ, pos, ◌*ℤ◌, Ordering, Less, Equal, Greater, sym, ap, ap₂, ◌∙◌, arith}
+use Rattle.std.proofs.Common.{◌≡◌, ◌↔◌, ℕ, ◌+◌, ◌-◌, ◌*◌, ◌^◌, ◌<◌, ◌≤◌, ℤ, pos, ◌*ℤ◌, unsigned_abs, Ordering, Less, Equal, Greater, sym, ap, ap₂, ◌∙◌, arith}
 use Rattle.std.specs.Ordering.{int_cmp, MatchOrdering, ordering_reverse}
 use Rattle.std.specs.Cmp.{int_ranks, int_cmp_is, int_cmp_total}
+use Rattle.std.proofs.lemmas.Int.{unsigned_abs-mul}
+use Rattle.std.proofs.lemmas.Nat.{pow-add}
+use Rattle.std.proofs.Math.Nat.{mul-le-mul_right, le_of_mul-le-mul_right}
+use Rattle.scaled_decimal.specs.Limits.{IsWithinLimit}
 use Rattle.scaled_decimal.specs.laws.IntegerLemmas.{times_assoc, lt_times}
 use Rattle.scaled_decimal.specs.Decimals.{Decimal, numerator_of, scale_of, numerator_at, greater_scale, ten_to, value_order}
 use Rattle.scaled_decimal.proofs.PowerLemmas.{ten_add, ten_some}
@@ -40,3 +44,11 @@ order_longer_left a b h =
     let y = numerator_of b *ℤ ten_to (scale_of a - scale_of b) in
     order_times (numerator_of a) y (10 ^ scale_of b) (ten_some (scale_of b))
     ∙ ap (λ z. int_cmp (numerator_of a *ℤ ten_to (scale_of b)) z) (longer (numerator_of b) (scale_of a - scale_of b) (scale_of b) (scale_of a) (omega arith))
+
+-- a number is within the limit with more zeros exactly where it is small enough
+pub fits_longer : (n : ℤ) (p : ℕ) → p ≤ 37 → (unsigned_abs n ≤ 10 ^ (37 - p)) ↔ IsWithinLimit (n *ℤ ten_to p)
+fits_longer n p few =
+    let size = unsigned_abs-mul n (ten_to p) in
+    let places : 37 - p + p ≡ 37 = omega arith in
+    let whole : 10 ^ (37 - p) * 10 ^ p ≡ 10 ^ 37 = sym (pow-add 10 (37 - p) p) ∙ ap (λ k. 10 ^ k) places in
+    (λ small. (let grown = mul-le-mul_right (10 ^ p) small in omega arith), λ kept. le_of_mul-le-mul_right (omega arith) (ten_some p))

@@ -1,4 +1,4 @@
-ghost use Rattle.std.specs.Prelude.{◌≡◌, ◌≤◌, ◌*ℤ◌};
+ghost use Rattle.std.specs.Prelude.{◌≡◌, ◌≤◌, ◌↔◌, IsTrue, ◌*ℤ◌};
 ghost use Rattle.std.specs.Ordering.{int_cmp};
 ghost use Rattle.scaled_decimal.specs.Decimals.{ten_to, comparison, lesser, greater, value_order};
 ghost use Rattle.scaled_decimal.specs.Limits.{IsWithinLimit, most_places};
@@ -63,14 +63,25 @@ impl Dec {
     }
 }
 
-/// The order of `a` and `b` * 10^`places`. A product beyond 128 bits is beyond `a` too, on the side of `b`'s sign.
+/// The order of `a` and `b` * 10^`places`. A product beyond the limit is beyond `a` too, on the side of `b`'s sign.
 fn compare_scaled(a: i128, b: i128, places: u8) -> Ordering
-    requires kept { IsWithinLimit a }
+    requires left { IsWithinLimit a }
+    requires right { IsWithinLimit b }
     requires places { places ≤ most_places }
     ensures { result ≡ int_cmp a (b *ℤ ten_to places) }
 {
-    match b.checked_mul(power_of_ten(places)) {
-        Some(product) => a.cmp(&product),
-        None => 0.cmp(&b),
+    if fits_longer(b, places) {
+        a.cmp(&(b * power_of_ten(places)))
+    } else {
+        0.cmp(&b)
     }
+}
+
+/// Whether `n` * 10^`places` is within the limit, without the product.
+fn fits_longer(n: i128, places: u8) -> bool
+    requires own { IsWithinLimit n }
+    requires places { places ≤ most_places }
+    ensures { IsTrue result ↔ IsWithinLimit (n *ℤ ten_to places) }
+{
+    n.unsigned_abs() <= power_of_ten(37 - places).unsigned_abs()
 }

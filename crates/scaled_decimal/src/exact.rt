@@ -6,6 +6,7 @@ ghost use Rattle.scaled_decimal.specs.Shortening.{IsShortened};
 ghost use Rattle.scaled_decimal.specs.Limits.{IsWithinLimit, most_places};
 
 use crate::decimal::Dec;
+use crate::limits::MOST_PLACES;
 use crate::powers::power_of_ten;
 
 impl Dec {
@@ -19,6 +20,13 @@ impl Dec {
         let numerator = self.numerator() * (power_of_ten(places) / d);
         shortened(numerator, self.scale() + places, self.scale())
     }
+}
+
+/// Whether `d` is at least 1 and divides 10^30, as `div_exact` needs it.
+pub fn is_plain_divisor(d: i128) -> bool
+    ensures { IsTrue result ↔ IsPlainDivisor d }
+{
+    d >= 1 && divides(d, power_of_ten(MOST_PLACES))
 }
 
 /// The least k for which a divisor `d` of 10^30 divides 10^k.

@@ -7,6 +7,7 @@
 mod compare;
 mod decimal;
 mod exact;
+mod limits;
 mod powers;
 mod reading;
 mod rounding;
@@ -14,7 +15,8 @@ mod rounding_types;
 mod writing;
 
 pub use decimal::Dec;
-pub use exact::divisor_places;
+pub use exact::{divisor_places, is_plain_divisor};
+pub use limits::{LIMIT, MOST_PLACES};
 pub use powers::power_of_ten;
 pub use reading::{NumFault, read_dec};
 pub use rounding::{Mode, each_quotient_has_one_rounding, round_div};

@@ -7,14 +7,9 @@ ghost use Rattle.scaled_decimal.specs.TextParts.{NoDigitFirst, NotFirst, IsSignS
 ghost use Rattle.scaled_decimal.specs.Limits.{IsKept, IsWithinLimit, limit};
 
 use crate::decimal::Dec;
+use crate::limits::{LIMIT, MOST_PLACES};
 use std::error::Error;
 use std::fmt;
-
-/// The greatest magnitude of a numerator.
-const LIMIT: u128 = 10_000_000_000_000_000_000_000_000_000_000_000_000;
-
-/// The most places of a decimal.
-const MOST_PLACES: usize = 30;
 
 /// Why a text is no kept decimal.
 #[derive(Clone, Copy, Debug, PartialEq, Eq)]
@@ -61,7 +56,7 @@ pub fn read_dec(text: &[u8]) -> Result<Dec, NumFault>
         Ok(parts) => parts,
         Err(at) => return Err(NumFault::Shape { at }),
     };
-    if parts.places.len() > MOST_PLACES {
+    if parts.places.len() > MOST_PLACES as usize {
         return Err(NumFault::Scale);
     }
     let Some(whole) = value_after(0, parts.whole) else {

@@ -29,7 +29,6 @@ pub trait Rounding {
 }
 
 /// Towards zero.
-#[derive(Clone, Copy, Debug, PartialEq, Eq)]
 pub struct RDown;
 
 impl Rounding for RDown {
@@ -47,7 +46,6 @@ impl Rounding for RDown {
 }
 
 /// Away from zero.
-#[derive(Clone, Copy, Debug, PartialEq, Eq)]
 pub struct RUp;
 
 impl Rounding for RUp {
@@ -65,7 +63,6 @@ impl Rounding for RUp {
 }
 
 /// Towards minus infinity.
-#[derive(Clone, Copy, Debug, PartialEq, Eq)]
 pub struct RFloor;
 
 impl Rounding for RFloor {
@@ -83,7 +80,6 @@ impl Rounding for RFloor {
 }
 
 /// Towards plus infinity.
-#[derive(Clone, Copy, Debug, PartialEq, Eq)]
 pub struct RCeiling;
 
 impl Rounding for RCeiling {
@@ -101,7 +97,6 @@ impl Rounding for RCeiling {
 }
 
 /// To the nearest, a tie away from zero.
-#[derive(Clone, Copy, Debug, PartialEq, Eq)]
 pub struct RHalfUp;
 
 impl Rounding for RHalfUp {
@@ -119,7 +114,6 @@ impl Rounding for RHalfUp {
 }
 
 /// To the nearest, a tie towards zero.
-#[derive(Clone, Copy, Debug, PartialEq, Eq)]
 pub struct RHalfDown;
 
 impl Rounding for RHalfDown {
@@ -137,7 +131,6 @@ impl Rounding for RHalfDown {
 }
 
 /// To the nearest, a tie to the even neighbour.
-#[derive(Clone, Copy, Debug, PartialEq, Eq)]
 pub struct RHalfEven;
 
 impl Rounding for RHalfEven {

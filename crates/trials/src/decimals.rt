@@ -3,8 +3,8 @@ ghost use Rattle.std.specs.Prelude.{pos, negsuc};
 ghost use Rattle.scaled_decimal.specs.Rounding.{IsNear};
 
 use scaled_decimal::{
-    Dec, Mode, NumFault, RCeiling, RDown, RFloor, RHalfDown, RHalfEven, RHalfUp, RUp, Rounding,
-    read_dec, round_div, write_dec,
+    Dec, MOST_PLACES, Mode, NumFault, RCeiling, RDown, RFloor, RHalfDown, RHalfEven, RHalfUp, RUp,
+    Rounding, divisor_places, is_plain_divisor, power_of_ten, read_dec, round_div, write_dec,
 };
 use std::cmp::Ordering;
 use std::test::Fail;
@@ -148,12 +148,21 @@ fn divides_exactly(rt: HostRuntime) {
     assert_eq!(rt; Dec::new(250000, 0).div_exact(100), Dec::new(2500, 0));
     assert_eq!(rt; Dec::new(170, 2).div_exact(2), Dec::new(85, 2));
     assert_eq!(rt; Dec::new(245, 2).div_exact(2), Dec::new(1225, 3));
+    assert!(rt; !is_plain_divisor(3) && !is_plain_divisor(0));
+    for (divisor, places) in [(1i16, 0u8), (8, 3), (50, 2)] {
+        let divisor = divisor as i128;
+        assert!(rt; is_plain_divisor(divisor) && divisor_places(divisor) == places);
+    }
+    assert_eq!(rt;
+        power_of_ten(MOST_PLACES),
+        1_000_000_000_000_000_000_000_000_000_000
+    );
 }
 
 #[test]
 fn reads(rt: HostRuntime) {
     let limit = 10_000_000_000_000_000_000_000_000_000_000_000_000;
-    let table: [(&str, Result<(i128, u8), NumFault>); 16] = [
+    let table: [(&str, Result<(i128, u8), NumFault>); 17] = [
         ("00.50", Ok((50, 2))),
         ("-1.5", Ok((-15, 1))),
         ("-0.00", Ok((0, 2))),
@@ -162,6 +171,7 @@ fn reads(rt: HostRuntime) {
             "10000000000000000000000000000000000001",
             Err(NumFault::Wide),
         ),
+        ("0.000000000000000000000000000001", Ok((1, 30))),
         ("0.0000000000000000000000000000000", Err(NumFault::Scale)),
         (
             "100000000000000000000000000000000000000.0000000000000000000000000000000",

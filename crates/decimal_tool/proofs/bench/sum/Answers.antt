@@ -1,5 +1,5 @@
-use Rattle.decimal_tool.proofs.SmallLemmas.{sum_small}
+use Rattle.decimal_tool.proofs.AmountLemmas.{amounts_add}
 use Rattle.decimal_tool.proofs.bench.sum.Goals as goal
 
 pub add-requires : goal.add-requires
-add-requires c = sum_small c.amount.result c.amount-2.result c.amount.ensures c.amount-2.ensures
+add-requires c = amounts_add c.args.x.now.value c.args.y.now.value c.args.x.now.small c.args.y.now.small

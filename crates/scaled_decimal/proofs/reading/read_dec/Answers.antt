@@ -15,8 +15,8 @@ returns-in-Err c =
     let o = no_number c.args.text.now c.in-Err.at e.0 e.1 in
     record { number = o.number; shape = o.shape; scale = o.scale; wide = o.wide }
 
-pub returns-then-parts-gt-MOST_PLACES : goal.returns-then-parts-gt-MOST_PLACES
-returns-then-parts-gt-MOST_PLACES c =
+pub returns-then-parts : goal.returns-then-parts
+returns-then-parts c =
     let o = many_places c.args.text.now c.in-Ok.parts.negative c.in-Ok.parts.whole.now c.in-Ok.parts.places.now c.in-Ok.ensures.ok (omega arith) in
     record { number = o.number; shape = o.shape; scale = o.scale; wide = o.wide }
 

@@ -1,6 +1,6 @@
 use Rattle.std.proofs.Common.{pos, ◌*◌, ◌^◌, refl, arith}
 use Rattle.scaled_decimal.specs.Decimals.{decimal}
-use Rattle.scaled_decimal.proofs.FitLemmas.{plain_divisor, exact_fits}
+use Rattle.scaled_decimal.proofs.Laws.{plain_divisor, exact_fits}
 use Rattle.trials.proofs.decimals.divides_exactly.Goals as goal
 
 pub div_exact-requires : goal.div_exact-requires
