@@ -1,8 +1,10 @@
 //! The interval type.
 ghost use Rattle.std.specs.Prelude.{◌≡◌, ◌≤◌, ◌≤ℤ◌};
+ghost use Rattle.scaled_decimal.specs.Decimals.{decimal};
 ghost use Rattle.scaled_decimal.specs.Limits.{IsWithinLimit, most_places};
 ghost use Rattle.interval_num.specs.Intervals.{interval, IsKeptInterval};
 
+use scaled_decimal::Dec;
 use std::marker::Model;
 
 /// An interval of decimals: its ends as numerators at its greatest scale, and its least and greatest scale.
@@ -72,5 +74,21 @@ impl Abs {
         ensures kept { IsKeptInterval self }
     {
         self.s_hi
+    }
+
+    /// The low end.
+    pub(crate) fn low(self) -> Dec
+        ensures value { result ≡ decimal self.lo self.s_hi }
+        ensures kept { IsKeptInterval self }
+    {
+        Dec::new(self.lo, self.s_hi)
+    }
+
+    /// The high end.
+    pub(crate) fn high(self) -> Dec
+        ensures value { result ≡ decimal self.hi self.s_hi }
+        ensures kept { IsKeptInterval self }
+    {
+        Dec::new(self.hi, self.s_hi)
     }
 }
