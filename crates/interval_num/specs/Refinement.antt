@@ -5,7 +5,7 @@ use Rattle.std.specs.Int.{int_min, int_max}
 use Rattle.scaled_decimal.specs.declared.rounding.Mode.TheVariants.{Floor, Ceiling}
 use Rattle.scaled_decimal.specs.Decimals.{decimal, numerator_of}
 use Rattle.scaled_decimal.specs.RoundedDecimals.{rescaled}
-use Rattle.interval_num.specs.declared.signs.SignSet.{SignSet}
+use Rattle.interval_num.specs.declared.sign_set.SignSet.{SignSet}
 use Rattle.interval_num.specs.Intervals.{Interval, interval}
 
 -- whole numbers that must differ differ by at least one

@@ -19,30 +19,54 @@ use Rattle.interval_num.specs.Signs.{signs_at, least_sign, greatest_sign}
 abbrev pub Answer : Type 0
 Answer = Result Interval RangeCause
 
+-- add, of two aligned intervals
+abbrev pub sum_of : Interval → Interval → Answer
+sum_of x y = kept (interval (x.lo +ℤ y.lo) (x.hi +ℤ y.hi) (max x.s_lo y.s_lo) x.s_hi)
+
+-- subtract, of two aligned intervals
+abbrev pub difference_of : Interval → Interval → Answer
+difference_of x y = kept (interval (x.lo -ℤ y.hi) (x.hi -ℤ y.lo) (max x.s_lo y.s_lo) x.s_hi)
+
+-- min, of two aligned intervals
+abbrev pub min_of : Interval → Interval → Answer
+min_of x y = Ok (interval (int_min x.lo y.lo) (int_min x.hi y.hi) (min x.s_lo y.s_lo) x.s_hi)
+
+-- max, of two aligned intervals
+abbrev pub max_of : Interval → Interval → Answer
+max_of x y = Ok (interval (int_max x.lo y.lo) (int_max x.hi y.hi) (min x.s_lo y.s_lo) x.s_hi)
+
+-- compareTo, of two aligned intervals
+abbrev pub comparison_of : Interval → Interval → Answer
+comparison_of x y = Ok (interval (least_sign (signs_at x y)) (greatest_sign (signs_at x y)) 0 0)
+
+-- the least interval that contains both, of two aligned intervals
+abbrev pub join_of : Interval → Interval → Answer
+join_of x y = Ok (interval (int_min x.lo y.lo) (int_max x.hi y.hi) (min x.s_lo y.s_lo) x.s_hi)
+
 abbrev pub sum_row : Interval → Interval → Answer
-sum_row = aligned (λ x y. kept (interval (x.lo +ℤ y.lo) (x.hi +ℤ y.hi) (max x.s_lo y.s_lo) x.s_hi))
+sum_row = aligned sum_of
 
 abbrev pub difference_row : Interval → Interval → Answer
-difference_row = aligned (λ x y. kept (interval (x.lo -ℤ y.hi) (x.hi -ℤ y.lo) (max x.s_lo y.s_lo) x.s_hi))
+difference_row = aligned difference_of
+
+abbrev pub min_row : Interval → Interval → Answer
+min_row = aligned min_of
+
+abbrev pub max_row : Interval → Interval → Answer
+max_row = aligned max_of
+
+abbrev pub comparison_row : Interval → Interval → Answer
+comparison_row = aligned comparison_of
+
+-- where two branches meet
+abbrev pub join_row : Interval → Interval → Answer
+join_row = aligned join_of
 
 abbrev pub product_row : Interval → Interval → Answer
 product_row a b =
     unless (nat_lt most_places (a.s_hi + b.s_hi)) Scale (
     unless (is_beyond (most a *ℤ most b)) Wide (
     Ok (hull (corners (λ m n. m *ℤ n) a b) (a.s_lo + b.s_lo) (a.s_hi + b.s_hi))))
-
-abbrev pub min_row : Interval → Interval → Answer
-min_row = aligned (λ x y. Ok (interval (int_min x.lo y.lo) (int_min x.hi y.hi) (min x.s_lo y.s_lo) x.s_hi))
-
-abbrev pub max_row : Interval → Interval → Answer
-max_row = aligned (λ x y. Ok (interval (int_max x.lo y.lo) (int_max x.hi y.hi) (min x.s_lo y.s_lo) x.s_hi))
-
-abbrev pub comparison_row : Interval → Interval → Answer
-comparison_row = aligned (λ x y. Ok (interval (least_sign (signs_at x y)) (greatest_sign (signs_at x y)) 0 0))
-
--- two branches meet: the least interval that contains both
-abbrev pub join_row : Interval → Interval → Answer
-join_row = aligned (λ x y. Ok (interval (int_min x.lo y.lo) (int_max x.hi y.hi) (min x.s_lo y.s_lo) x.s_hi))
 
 abbrev pub negated_row : Interval → Interval
 negated_row a = interval (neg_ℤ a.hi) (neg_ℤ a.lo) a.s_lo a.s_hi

@@ -3,7 +3,7 @@ use Rattle.std.specs.Prelude.{ℤ, pos, negsuc, int_lt, int_le, ◌&&◌, IsTrue
 use Rattle.std.specs.declared.cmp.Ordering.{Ordering}
 use Rattle.std.specs.declared.cmp.Ordering.TheVariants.{Less, Equal, Greater}
 use Rattle.scaled_decimal.specs.Decimals.{Decimal, value_order}
-use Rattle.interval_num.specs.declared.signs.SignSet.{SignSet}
+use Rattle.interval_num.specs.declared.sign_set.SignSet.{SignSet}
 use Rattle.interval_num.specs.Intervals.{Interval}
 use Rattle.interval_num.specs.Alignment.{at_scale, greater_scale}
 

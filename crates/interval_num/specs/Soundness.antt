@@ -5,7 +5,7 @@ use Rattle.scaled_decimal.specs.Decimals.{Decimal, decimal, numerator_of, sum, d
 use Rattle.scaled_decimal.specs.ExactQuotients.{IsExactQuotient}
 use Rattle.scaled_decimal.specs.WorkingNumbers.{SumFits, DifferenceFits, ProductFits, ComparisonFits, RescaleFits, QuotientFits, ExactQuotientFits}
 use Rattle.scaled_decimal.specs.WholeNumbers.{IsOfBits, whole_quotient, whole_remainder, whole_decimal}
-use Rattle.interval_num.specs.declared.signs.SignSet.{SignSet}
+use Rattle.interval_num.specs.declared.sign_set.SignSet.{SignSet}
 use Rattle.interval_num.specs.Intervals.{Interval, Contains}
 use Rattle.interval_num.specs.Signs.{HasSign}
 

@@ -7,7 +7,7 @@ use crate::alignment::{aligned, has_zero, kept, most, product_is_beyond};
 use crate::cause::RangeCause;
 use crate::hull::hull;
 use crate::interval::Abs;
-use crate::signs::signs_at;
+use crate::sign_set::signs_at;
 
 /// The greatest scale of a decimal.
 const MOST_PLACES: u8 = 30;

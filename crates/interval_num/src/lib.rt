@@ -10,7 +10,7 @@ mod interval;
 mod items;
 mod quotients;
 mod refinement;
-mod signs;
+mod sign_set;
 mod wholes;
 
 pub use cause::RangeCause;
@@ -19,7 +19,7 @@ pub use interval::Abs;
 pub use items::abs_item;
 pub use quotients::{abs_div, abs_div_exact, abs_set_scale};
 pub use refinement::refine;
-pub use signs::{SignSet, signs};
+pub use sign_set::{SignSet, signs};
 pub use wholes::{
     int_add, int_div, int_mul, int_neg, int_rem, int_sub, long_add, long_div, long_mul, long_neg,
     long_rem, long_sub,

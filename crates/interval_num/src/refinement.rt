@@ -1,5 +1,6 @@
 //! The part of an interval that a comparison leaves.
-ghost use Rattle.std.specs.Prelude.{◌≡◌, ℤ, IfSome, IfNone, OnTrue};
+ghost use Rattle.std.specs.Prelude.{◌≡◌, ℤ, IfSome, IfNone};
+ghost use Rattle.std.specs.Bool.{OnTrue};
 ghost use Rattle.interval_num.specs.Intervals.{Interval, IsWhole};
 ghost use Rattle.interval_num.specs.Alignment.{Align};
 ghost use Rattle.interval_num.specs.Refinement.{refined, gap, low_end, high_end, is_apart};
@@ -7,7 +8,7 @@ ghost use Rattle.interval_num.specs.Soundness.{RefinementIsSound, NoneIsAllowed}
 
 use crate::interval::Abs;
 use crate::quotients::rounded_value;
-use crate::signs::SignSet;
+use crate::sign_set::SignSet;
 use scaled_decimal::Mode;
 
 /// The part of `v` whose decimals may have an allowed sign against some decimal of `e`; None where there are none.

@@ -1,0 +1,10 @@
+pub mod NumberLemmas
+pub mod AlignmentLemmas
+pub mod CornerLemmas
+pub mod DivisorLemmas
+pub mod ExactLemmas
+pub mod MachineLemmas
+pub mod OrderLemmas
+pub mod QuotientLemmas
+pub mod SteadyLemmas
+pub mod WholeLemmas
