@@ -3,8 +3,10 @@ pub mod AlignmentLemmas
 pub mod CornerLemmas
 pub mod DivisorLemmas
 pub mod ExactLemmas
+pub mod ItemLemmas
 pub mod MachineLemmas
 pub mod OrderLemmas
 pub mod QuotientLemmas
+pub mod RefinementLemmas
 pub mod SteadyLemmas
 pub mod WholeLemmas

@@ -23,10 +23,10 @@ use Rattle.interval_num.proofs.CornerLemmas.{Between, IsSteady, corners_low, cor
 use Rattle.interval_num.proofs.SteadyLemmas.{Rises, quotient_steady, divisor_some}
 
 -- a whole number in an interval of whole numbers, and in one that is made
-whole_low : (a : Interval) (n : ℤ) → IsWhole a → Contains a (whole_decimal n) → a.lo ≤ℤ n
+pub whole_low : (a : Interval) (n : ℤ) → IsWhole a → Contains a (whole_decimal n) → a.lo ≤ℤ n
 whole_low a n w h = subst (λ t. a.lo ≤ℤ t) (ap (λ k. n *ℤ ten_to (k - 0)) w.greatest_scale ∙ times_one n) h.low
 
-whole_high : (a : Interval) (n : ℤ) → IsWhole a → Contains a (whole_decimal n) → n ≤ℤ a.hi
+pub whole_high : (a : Interval) (n : ℤ) → IsWhole a → Contains a (whole_decimal n) → n ≤ℤ a.hi
 whole_high a n w h = subst (λ t. t ≤ℤ a.hi) (ap (λ k. n *ℤ ten_to (k - 0)) w.greatest_scale ∙ times_one n) h.high
 
 whole_inside : (lo hi n : ℤ) → lo ≤ℤ n → n ≤ℤ hi → Contains (interval lo hi 0 0) (whole_decimal n)
