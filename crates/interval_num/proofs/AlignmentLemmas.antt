@@ -1,6 +1,7 @@
 -- Decimals at a scale that is no less than their own, and what an aligned operation takes for granted.
 use Rattle.std.proofs.Common.{◌≡◌, ℕ, ◌+◌, ◌-◌, ◌^◌, ◌≤◌, max, ℤ, pos, ◌+ℤ◌, ◌-ℤ◌, ◌*ℤ◌, ◌≤ℤ◌, Bool, true, false, ◌||◌, Ok, Err, Result, refl, sym, ap, ◌∙◌, subst, arith}
 use Rattle.std.proofs.lemmas.Int.{ints}
+use Rattle.std.specs.Prelude.{IfOk}
 use Rattle.scaled_decimal.specs.IntegerLemmas.{le_times, times_sub}
 use Rattle.scaled_decimal.specs.Decimals.{Decimal, numerator_of, scale_of, numerator_at, ten_to}
 use Rattle.scaled_decimal.specs.Decimals.{greater_scale as greater_places}
@@ -97,3 +98,12 @@ module _ (a b : Interval) (x y : Decimal) (hx : Contains a x) (hy : Contains b y
         left = kept_shorter (numerator_of x) (greater_places x y - scale_of x) (q - scale_of x) (omega arith) (left_kept al);
         right = kept_shorter (numerator_of y) (greater_places x y - scale_of y) (q - scale_of y) (omega arith) (right_kept al);
       }
+
+-- what an answer promises, where it is there
+pub if_ok : (o : Answer) (P : Interval → Type 0) → ((r : Interval) → o ≡ Ok r → P r) → IfOk o P
+if_ok (Ok r) P f = f r refl
+if_ok (Err cause) P f = tt
+
+pub unless_passes : (t : Bool) (cause : RangeCause) (answer : Answer) → t ≡ false → unless t cause answer ≡ answer
+unless_passes true cause answer e = absurd (cc)
+unless_passes false cause answer e = refl

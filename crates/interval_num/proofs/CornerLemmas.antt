@@ -1,8 +1,9 @@
 -- A result lies between the results at the ends, where it lies between two in each operand.
-use Rattle.std.proofs.Common.{◌≡◌, ℕ, zero, suc, ◌+◌, ◌-◌, ◌*◌, ◌^◌, ◌<◌, ◌≤◌, max, ℤ, pos, negsuc, ◌+ℤ◌, ◌*ℤ◌, ◌≤ℤ◌, neg_ℤ, unsigned_abs, nat_lt, List, [], ◌∷◌, Ok, Result, true, false, refl, sym, ap, ap₂, ◌∙◌, subst, inl, inr, ◌⊎◌, arith}
+use Rattle.std.proofs.Common.{◌≡◌, ℕ, zero, suc, ◌+◌, ◌-◌, ◌*◌, ◌^◌, ◌<◌, ◌≤◌, max, ℤ, pos, negsuc, ◌+ℤ◌, ◌*ℤ◌, ◌≤ℤ◌, neg_ℤ, unsigned_abs, nat_lt, List, [], ◌∷◌, All, Ok, Result, true, false, refl, sym, ap, ap₂, ◌∙◌, subst, inl, inr, ◌⊎◌, arith}
 use Rattle.std.proofs.lemmas.Int.{ints, clamps, unsigned_abs-mul}
 use Rattle.std.proofs.lemmas.Bool.Decides.{nat_tests}
 use Rattle.std.proofs.lemmas.Nat.{mul-le}
+use Rattle.std.proofs.lemmas.List.Elements.{All-nil, All-cons}
 use Rattle.std.proofs.Math.IntN.{*ℤ_comm}
 use Rattle.scaled_decimal.specs.IntegerLemmas.{le_times, times_assoc, times_swap, times_neg_right}
 use Rattle.scaled_decimal.specs.Decimals.{Decimal, numerator_of, scale_of, numerator_at, ten_to, product}
@@ -118,3 +119,29 @@ product_sound a b r e x y hx hy =
         high = rw lengthened (corners_high (λ m n. m *ℤ n) a b u v steady);
       }));
     }
+
+-- the products at the ends are within the limit
+pub record EndsKept (a b : Interval) : Type 0 where
+  pub low_low : IsWithinLimit (a.lo *ℤ b.lo)
+  pub low_high : IsWithinLimit (a.lo *ℤ b.hi)
+  pub high_low : IsWithinLimit (a.hi *ℤ b.lo)
+  pub high_high : IsWithinLimit (a.hi *ℤ b.hi)
+
+pub products_kept : (a b : Interval) → IsWithinLimit (most a *ℤ most b) → a.lo ≤ℤ a.hi → b.lo ≤ℤ b.hi → EndsKept a b
+products_kept a b kept p q =
+    let la = omega_le a.lo in
+    let ha = omega_le a.hi in
+    let lb = omega_le b.lo in
+    let hb = omega_le b.hi in
+    record {
+      low_low = product_kept a b a.lo b.lo kept la p lb q;
+      low_high = product_kept a b a.lo b.hi kept la p q hb;
+      high_low = product_kept a b a.hi b.lo kept p ha lb q;
+      high_high = product_kept a b a.hi b.hi kept p ha q hb;
+    }
+  where
+    omega_le : (z : ℤ) → z ≤ℤ z
+    omega_le z = omega (arith, ints)
+
+pub all_four : (P : ℤ → Type 0) (p q r s : ℤ) → P p → P q → P r → P s → All P (p ∷ (q ∷ (r ∷ (s ∷ []))))
+all_four P p q r s f g h k = All-cons P p (q ∷ (r ∷ (s ∷ []))) f (All-cons P q (r ∷ (s ∷ [])) g (All-cons P r (s ∷ []) h (All-cons P s [] k (All-nil P))))

@@ -16,7 +16,7 @@ use Rattle.interval_num.proofs.AlignmentLemmas.{unless_ok, ok_is}
 use Rattle.interval_num.proofs.WholeLemmas.{whole_low, whole_high}
 
 -- no item is beyond the least and the greatest
-min_below : (n : ℤ) (ns : List ℤ) → fold int_min n ns ≤ℤ n
+pub min_below : (n : ℤ) (ns : List ℤ) → fold int_min n ns ≤ℤ n
 min_below n [] = omega (arith, ints)
 min_below n (m ∷ ms) = let b = min_below (int_min n m) ms in omega (arith, ints, clamps)
 
@@ -25,7 +25,7 @@ min_member n [] k z e = absurd (cc)
 min_member n (m ∷ ms) zero z e = let b = min_below (int_min n m) ms in let same : m ≡ z = cc in rw (← same) (omega (arith, ints, clamps))
 min_member n (m ∷ ms) (suc k) z e = min_member (int_min n m) ms k z e
 
-max_above : (n : ℤ) (ns : List ℤ) → n ≤ℤ fold int_max n ns
+pub max_above : (n : ℤ) (ns : List ℤ) → n ≤ℤ fold int_max n ns
 max_above n [] = omega (arith, ints)
 max_above n (m ∷ ms) = let b = max_above (int_max n m) ms in omega (arith, ints, clamps)
 

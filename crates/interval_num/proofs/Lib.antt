@@ -3,6 +3,7 @@ pub mod AlignmentLemmas
 pub mod CornerLemmas
 pub mod DivisorLemmas
 pub mod ExactLemmas
+pub mod HullLemmas
 pub mod ItemLemmas
 pub mod MachineLemmas
 pub mod OrderLemmas

@@ -1,7 +1,8 @@
--- What numbers of 128 bits hold: z is kept as its bits, `to_z w128 (of_z w128 z)`.
-use Rattle.std.proofs.Common.{◌≡◌, ℤ, ◌+ℤ◌, ◌-ℤ◌, ◌*ℤ◌, FitsSigned, to_z, of_z, refl, arith}
-use Rattle.std.specs.Int.{w128}
-use Rattle.std.proofs.lemmas.Int.{ints, to_z-of_z, fits_signed_from_abs}
+-- What numbers of 128 bits hold: z is kept as its bits, `to_z w128 (of_z w128 z)`. Each lemma takes the code's numbers m
+-- and n beside the definition's u and v.
+use Rattle.std.proofs.Common.{◌≡◌, ℤ, pos, ◌+ℤ◌, ◌-ℤ◌, ◌*ℤ◌, ◌≤ℤ◌, neg_ℤ, unsigned_abs, min, FitsSigned, to_z, of_z, refl, sym, ap, ap₂, ◌∙◌, subst, arith}
+use Rattle.std.specs.Int.{w128, int_min, int_max}
+use Rattle.std.proofs.lemmas.Int.{ints, clamps, to_z-of_z, fits_signed_from_abs}
 use Rattle.scaled_decimal.specs.Limits.{IsWithinLimit}
 
 abbrev pub held : ℤ → ℤ
@@ -13,5 +14,48 @@ kept_fits n kept = fits_signed_from_abs w128 n (omega arith)
 pub held_is : (n : ℤ) → IsWithinLimit n → held n ≡ n
 held_is n kept = to_z-of_z w128 n (kept_fits n kept)
 
-pub held_product : (m n : ℤ) → FitsSigned w128 m → FitsSigned w128 n → IsWithinLimit (m *ℤ n) → held (held m *ℤ held n) ≡ m *ℤ n
-held_product m n f g kept = rw (to_z-of_z w128 m f, to_z-of_z w128 n g) (held_is (m *ℤ n) kept)
+pub held_at : (m u : ℤ) → m ≡ u → IsWithinLimit u → held m ≡ u
+held_at m u e kept = ap held e ∙ held_is u kept
+
+pub held_sum : (m n u v : ℤ) → m ≡ u → n ≡ v → IsWithinLimit u → IsWithinLimit v → held (held m +ℤ held n) ≡ u +ℤ v
+held_sum m n u v e f p q = ap held (ap₂ (λ x y. x +ℤ y) (held_at m u e p) (held_at n v f q)) ∙ to_z-of_z w128 (u +ℤ v) (fits_signed_from_abs w128 (u +ℤ v) (omega (arith, ints)))
+
+pub held_difference : (m n u v : ℤ) → m ≡ u → n ≡ v → IsWithinLimit u → IsWithinLimit v → held (held m -ℤ held n) ≡ u -ℤ v
+held_difference m n u v e f p q = ap held (ap₂ (λ x y. x -ℤ y) (held_at m u e p) (held_at n v f q)) ∙ to_z-of_z w128 (u -ℤ v) (fits_signed_from_abs w128 (u -ℤ v) (omega (arith, ints)))
+
+pub held_product : (m n u v : ℤ) → m ≡ u → n ≡ v → IsWithinLimit u → IsWithinLimit v → IsWithinLimit (u *ℤ v) → held (held m *ℤ held n) ≡ u *ℤ v
+held_product m n u v e f p q kept = ap held (ap₂ (λ x y. x *ℤ y) (held_at m u e p) (held_at n v f q)) ∙ held_is (u *ℤ v) kept
+
+pub kept_min : (m n : ℤ) → IsWithinLimit m → IsWithinLimit n → IsWithinLimit (int_min m n)
+kept_min m n f g = omega (arith, ints, clamps)
+
+pub kept_max : (m n : ℤ) → IsWithinLimit m → IsWithinLimit n → IsWithinLimit (int_max m n)
+kept_max m n f g = omega (arith, ints, clamps)
+
+pub held_min : (r m n u v : ℤ) → r ≡ int_min (held m) (held n) → m ≡ u → n ≡ v → IsWithinLimit u → IsWithinLimit v → held r ≡ int_min u v
+held_min r m n u v is e f p q = held_at r (int_min u v) (is ∙ ap₂ int_min (held_at m u e p) (held_at n v f q)) (kept_min u v p q)
+
+pub held_max : (r m n u v : ℤ) → r ≡ int_max (held m) (held n) → m ≡ u → n ≡ v → IsWithinLimit u → IsWithinLimit v → held r ≡ int_max u v
+held_max r m n u v is e f p q = held_at r (int_max u v) (is ∙ ap₂ int_max (held_at m u e p) (held_at n v f q)) (kept_max u v p q)
+
+pub min_order : (u v w z : ℤ) → u ≤ℤ w → v ≤ℤ z → int_min u v ≤ℤ int_min w z
+min_order u v w z p q = omega (arith, ints, clamps)
+
+pub max_order : (u v w z : ℤ) → u ≤ℤ w → v ≤ℤ z → int_max u v ≤ℤ int_max w z
+max_order u v w z p q = omega (arith, ints, clamps)
+
+pub held_opposite : (m u : ℤ) → m ≡ u → IsWithinLimit u → held (pos 0 -ℤ held m) ≡ neg_ℤ u
+held_opposite m u e p =
+    let zero_less : pos 0 -ℤ u ≡ neg_ℤ u = omega (arith, ints) in
+    ap held (ap (λ x. pos 0 -ℤ x) (held_at m u e p) ∙ zero_less) ∙ to_z-of_z w128 (neg_ℤ u) (fits_signed_from_abs w128 (neg_ℤ u) (omega (arith, ints)))
+
+pub held_magnitude : (r m u : ℤ) → r ≡ pos (unsigned_abs (held m)) → m ≡ u → IsWithinLimit u → held r ≡ pos (unsigned_abs u)
+held_magnitude r m u is e p = held_at r (pos (unsigned_abs u)) (is ∙ ap (λ x. pos (unsigned_abs x)) (held_at m u e p)) p
+
+pub least_magnitude : (r m n u v : ℤ) → r ≡ int_min (held m) (held n) → m ≡ pos (unsigned_abs u) → n ≡ pos (unsigned_abs v) → IsWithinLimit u → IsWithinLimit v → held r ≡ pos (min (unsigned_abs u) (unsigned_abs v))
+least_magnitude r m n u v is e f p q =
+    let same : int_min (pos (unsigned_abs u)) (pos (unsigned_abs v)) ≡ pos (min (unsigned_abs u) (unsigned_abs v)) = omega (arith, ints, clamps) in
+    held_min r m n (pos (unsigned_abs u)) (pos (unsigned_abs v)) is e f p q ∙ same
+
+pub product_fits : (m n u v : ℤ) → m ≡ u → n ≡ v → IsWithinLimit u → IsWithinLimit v → IsWithinLimit (u *ℤ v) → FitsSigned w128 (held m *ℤ held n)
+product_fits m n u v e f p q kept = subst (FitsSigned w128) (sym (ap₂ (λ x y. x *ℤ y) (held_at m u e p) (held_at n v f q))) (kept_fits (u *ℤ v) kept)

@@ -8,6 +8,7 @@ use borrow.Author.Differences.{true_is_lt, true_is_le, lt_out, le_out}
 use Rattle.scaled_decimal.specs.IntegerLemmas.{lt_times}
 use Rattle.scaled_decimal.specs.Decimals.{Decimal, numerator_of, scale_of, numerator_at, ten_to, value_order, lesser, greater, order_number, comparison}
 use Rattle.scaled_decimal.specs.WholeNumbers.{whole_decimal}
+use Rattle.scaled_decimal.specs.Limits.{IsWithinLimit}
 use Rattle.interval_num.specs.declared.sign_set.SignSet.{SignSet}
 use Rattle.interval_num.specs.Intervals.{Interval, interval, Contains}
 use Rattle.interval_num.specs.Alignment.{at_scale, greater_scale}
@@ -165,3 +166,25 @@ max_sound a b r e x y hx hy =
       fits = comparison_fits a b x y hx hy made.align;
       inside = λ z is. subst (λ s. Contains s z) (ok_is _ r made.made) (subst (Contains _) (sym is) (greater_inside a b x y hx hy (value_order x y) ranks));
     }
+
+-- two intervals that aren't empty have a sign
+pub some_sign : (x y : Interval) → x.lo ≤ℤ x.hi → y.lo ≤ℤ y.hi → least_sign (signs_at x y) ≤ℤ greatest_sign (signs_at x y)
+some_sign x y p q =
+    let o = int_cmp x.lo y.lo in
+    let sign = sign_of x y x.lo y.lo o (omega (arith, ints)) p (omega (arith, ints)) q (int_ranks x.lo y.lo) in
+    let l = sign_low (signs_at x y) o sign in
+    let h = sign_high (signs_at x y) o sign in
+    omega (arith, ints)
+
+pub sign_kept : (s : SignSet) → IsWithinLimit (least_sign s) × IsWithinLimit (greatest_sign s)
+sign_kept s = (by_minus s.minus s.zero, by_plus s.plus s.zero)
+  where
+    by_minus : (t u : Bool) → IsWithinLimit (if t then negsuc 0 else if u then pos 0 else pos 1)
+    by_minus true u = omega (arith, ints)
+    by_minus false true = omega (arith, ints)
+    by_minus false false = omega (arith, ints)
+
+    by_plus : (t u : Bool) → IsWithinLimit (if t then pos 1 else if u then pos 0 else negsuc 0)
+    by_plus true u = omega (arith, ints)
+    by_plus false true = omega (arith, ints)
+    by_plus false false = omega (arith, ints)

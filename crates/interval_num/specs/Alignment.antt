@@ -1,5 +1,5 @@
 -- Intervals brought to one scale, and the interval between the least and the greatest of some numbers.
-use Rattle.std.specs.Prelude.{ℕ, ◌-◌, max, Bool, ◌||◌, nat_lt, int_le, ℤ, pos, ◌*ℤ◌, ◌&&◌, unsigned_abs, List, [], ◌∷◌, fold, Result, Ok, Err, if◌then◌else◌}
+use Rattle.std.specs.Prelude.{ℕ, ◌-◌, max, min, Bool, ◌||◌, nat_lt, int_le, ℤ, pos, ◌*ℤ◌, ◌&&◌, unsigned_abs, List, [], ◌∷◌, fold, Result, Ok, Err, if◌then◌else◌}
 use Rattle.std.specs.Int.{int_min, int_max}
 use Rattle.scaled_decimal.specs.Decimals.{ten_to}
 use Rattle.scaled_decimal.specs.Limits.{limit}
@@ -63,3 +63,7 @@ most a = pos (max (unsigned_abs a.lo) (unsigned_abs a.hi))
 
 abbrev pub has_zero : Interval → Bool
 has_zero a = int_le a.lo (pos 0) && int_le (pos 0) a.hi
+
+-- the least magnitude of a number between the ends
+abbrev pub least_magnitude : Interval → ℤ
+least_magnitude a = if has_zero a then pos 0 else pos (min (unsigned_abs a.lo) (unsigned_abs a.hi))

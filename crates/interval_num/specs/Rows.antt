@@ -11,7 +11,7 @@ use Rattle.scaled_decimal.specs.Limits.{most_places}
 use Rattle.interval_num.specs.declared.cause.RangeCause.{RangeCause}
 use Rattle.interval_num.specs.declared.cause.RangeCause.TheVariants.{Wide, Scale, Divisor, Index}
 use Rattle.interval_num.specs.Intervals.{Interval, interval}
-use Rattle.interval_num.specs.Alignment.{unless, is_beyond, kept, aligned, least, greatest, hull, corners, most, has_zero}
+use Rattle.interval_num.specs.Alignment.{unless, is_beyond, kept, aligned, least, greatest, hull, corners, most, has_zero, least_magnitude}
 use Rattle.interval_num.specs.PlainDivisors.{divisor_places, cofactor}
 use Rattle.interval_num.specs.Signs.{signs_at, least_sign, greatest_sign}
 
@@ -72,8 +72,7 @@ abbrev pub negated_row : Interval → Interval
 negated_row a = interval (neg_ℤ a.hi) (neg_ℤ a.lo) a.s_lo a.s_hi
 
 abbrev pub magnitude_row : Interval → Interval
-magnitude_row a =
-    interval (if has_zero a then pos 0 else pos (min (unsigned_abs a.lo) (unsigned_abs a.hi))) (most a) a.s_lo a.s_hi
+magnitude_row a = interval (least_magnitude a) (most a) a.s_lo a.s_hi
 
 -- the greatest power of ten within the limit
 abbrev pub most_power : ℕ

@@ -46,7 +46,9 @@ pub(crate) fn kept(lo: i128, hi: i128, s_lo: u8, s_hi: u8) -> Result<Abs, RangeC
 /// Two intervals with their ends at the greater of their greatest scales.
 pub(crate) fn aligned(a: Abs, b: Abs) -> Result<(Abs, Abs), RangeCause>
     ensures exact { (make : Interval → Interval → Answer) → aligned make a b ≡ with_pair make result }
-    ensures ends { IfOk result (λ p. p.0.s_hi ≡ p.1.s_hi) }
+    ensures scale { IfOk result (λ p. p.0.s_hi ≡ p.1.s_hi) }
+    ensures left { IfOk result (λ p. p.0.lo ≤ℤ p.0.hi) }
+    ensures right { IfOk result (λ p. p.1.lo ≤ℤ p.1.hi) }
 {
     let q = greater_scale(a, b);
     if ends_beyond_at(a, q) || ends_beyond_at(b, q) {
@@ -77,7 +79,8 @@ pub(crate) fn at_scale(a: Abs, q: u8) -> Abs
     requires scale { a.s_hi ≤ q }
     requires places { q ≤ most_places }
     requires fits { HasKeptEnds (at_scale q a) }
-    ensures { result ≡ at_scale q a }
+    ensures value { result ≡ at_scale q a }
+    ensures order { result.lo ≤ℤ result.hi }
 {
     let power = power_of_ten(q - a.s_hi());
     Abs::new(a.lo() * power, a.hi() * power, a.s_lo(), q)

@@ -1,5 +1,7 @@
 //! The operations of decimals whose results are exact.
 ghost use Rattle.std.specs.Prelude.{◌≡◌, ◌≤ℤ◌, IfOk};
+ghost use Rattle.scaled_decimal.specs.Limits.{IsWithinLimit};
+ghost use Rattle.interval_num.specs.Alignment.{most, least_magnitude};
 ghost use Rattle.interval_num.specs.Rows.{sum_row, difference_row, product_row, min_row, max_row, comparison_row, join_row, negated_row, magnitude_row};
 ghost use Rattle.interval_num.specs.Soundness.{SumIsSound, DifferenceIsSound, ProductIsSound, MinIsSound, MaxIsSound, ComparisonIsSound, JoinIsSound, NegationIsSound, MagnitudeIsSound};
 
@@ -108,10 +110,17 @@ pub fn abs_abs(a: Abs) -> Abs
     ensures exact { result ≡ magnitude_row a }
     ensures sound { MagnitudeIsSound a result }
 {
-    let lo = if has_zero(a) {
-        0
-    } else {
-        a.lo().abs().min(a.hi().abs())
-    };
-    Abs::new(lo, most(a), a.s_lo(), a.s_hi())
+    Abs::new(least_magnitude(a), most(a), a.s_lo(), a.s_hi())
+}
+
+/// The least magnitude of a number between the ends.
+fn least_magnitude(a: Abs) -> i128
+    ensures value { result ≡ least_magnitude a }
+    ensures order { result ≤ℤ most a }
+    ensures kept { IsWithinLimit result }
+{
+    if has_zero(a) {
+        return 0;
+    }
+    a.lo().abs().min(a.hi().abs())
 }

@@ -1,7 +1,5 @@
 use Rattle.std.proofs.Common.{arith}
 use Rattle.interval_num.proofs.NumberLemmas.{power_kept}
-use Rattle.interval_num.proofs.ItemLemmas.{item_sound}
-use Rattle.interval_num.proofs.RefinementLemmas.{none_allowed}
 use Rattle.interval_num.proofs.alignment.ends_beyond_at.Goals as goal
 
 pub power_of_ten-power-requires : goal.power_of_ten-power-requires
