@@ -1,9 +1,14 @@
 -- What numbers of 128 bits hold: z is kept as its bits, `to_z w128 (of_z w128 z)`. Each lemma takes the code's numbers m
 -- and n beside the definition's u and v.
-use Rattle.std.proofs.Common.{◌≡◌, ℤ, pos, ◌+ℤ◌, ◌-ℤ◌, ◌*ℤ◌, ◌≤ℤ◌, neg_ℤ, unsigned_abs, min, FitsSigned, to_z, of_z, refl, sym, ap, ap₂, ◌∙◌, subst, arith}
+use Rattle.std.proofs.Common.{◌≡◌, ◌≤◌, ◌^◌, int_div, ℤ, pos, ◌+ℤ◌, ◌-ℤ◌, ◌*ℤ◌, ◌≤ℤ◌, neg_ℤ, unsigned_abs, min, FitsSigned, to_z, of_z, refl, sym, ap, ap₂, ◌∙◌, subst, arith}
 use Rattle.std.specs.Int.{w128, int_min, int_max}
-use Rattle.std.proofs.lemmas.Int.{ints, clamps, to_z-of_z, fits_signed_from_abs}
+use Rattle.std.proofs.lemmas.Int.{ints, clamps, to_z-of_z, fits_signed_from_abs, fits_signed_mul}
 use Rattle.scaled_decimal.specs.Limits.{IsWithinLimit}
+use Rattle.scaled_decimal.specs.RoundingLemmas.{mag_quot}
+use Rattle.scaled_decimal.specs.WholeNumbers.{IsOfBits}
+use Rattle.interval_num.specs.declared.wholes.Width.{Width}
+use Rattle.interval_num.specs.declared.wholes.Width.TheVariants.{Int, Long}
+use Rattle.interval_num.specs.Widths.{bits_of}
 
 abbrev pub held : ℤ → ℤ
 held z = to_z w128 (of_z w128 z)
@@ -59,3 +64,29 @@ least_magnitude r m n u v is e f p q =
 
 pub product_fits : (m n u v : ℤ) → m ≡ u → n ≡ v → IsWithinLimit u → IsWithinLimit v → IsWithinLimit (u *ℤ v) → FitsSigned w128 (held m *ℤ held n)
 product_fits m n u v e f p q kept = subst (FitsSigned w128) (sym (ap₂ (λ x y. x *ℤ y) (held_at m u e p) (held_at n v f q))) (kept_fits (u *ℤ v) kept)
+
+-- a quotient is no greater than its dividend
+pub held_quotient : (m n u v : ℤ) → m ≡ u → n ≡ v → IsWithinLimit u → IsWithinLimit v → held (int_div (held m) (held n)) ≡ int_div u v
+held_quotient m n u v e f p q =
+    let small = mag_quot u v in
+    ap held (ap₂ int_div (held_at m u e p) (held_at n v f q)) ∙ held_is (int_div u v) (omega (arith, p, small))
+
+-- products of numbers of 64 bits
+pub small_fits : (u v : ℤ) → unsigned_abs u ≤ 2 ^ 63 → unsigned_abs v ≤ 2 ^ 63 → FitsSigned w128 (u *ℤ v)
+small_fits u v p q = fits_signed_mul w128 u v (2 ^ 63) (2 ^ 63) p q (omega arith)
+
+pub held_small : (m u : ℤ) → m ≡ u → unsigned_abs u ≤ 2 ^ 63 → held m ≡ u
+held_small m u e p = ap held e ∙ to_z-of_z w128 u (fits_signed_from_abs w128 u (omega arith))
+
+pub held_small_product : (m n u v : ℤ) → m ≡ u → n ≡ v → unsigned_abs u ≤ 2 ^ 63 → unsigned_abs v ≤ 2 ^ 63 → held (held m *ℤ held n) ≡ u *ℤ v
+held_small_product m n u v e f p q = ap held (ap₂ (λ x y. x *ℤ y) (held_small m u e p) (held_small n v f q)) ∙ to_z-of_z w128 (u *ℤ v) (small_fits u v p q)
+
+pub small_product_fits : (m n u v : ℤ) → m ≡ u → n ≡ v → unsigned_abs u ≤ 2 ^ 63 → unsigned_abs v ≤ 2 ^ 63 → FitsSigned w128 (held m *ℤ held n)
+small_product_fits m n u v e f p q = subst (FitsSigned w128) (sym (ap₂ (λ x y. x *ℤ y) (held_small m u e p) (held_small n v f q))) (small_fits u v p q)
+
+pub of_width_small : (width : Width) (n : ℤ) → IsOfBits (bits_of width) n → unsigned_abs n ≤ 2 ^ 63
+of_width_small Int n h = omega (arith, ints, h.low, h.high)
+of_width_small Long n h = omega (arith, ints, h.low, h.high)
+
+pub of_width_kept : (width : Width) (n : ℤ) → IsOfBits (bits_of width) n → IsWithinLimit n
+of_width_kept width n h = let small = of_width_small width n h in omega arith

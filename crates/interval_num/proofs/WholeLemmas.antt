@@ -1,6 +1,6 @@
 -- The results of operations on whole numbers lie in their rows' intervals, and the width holds them.
 use Rattle.std.proofs.Common.{◌≡◌, ◌≢◌, ℕ, zero, suc, ◌+◌, ◌-◌, ◌*◌, ◌^◌, ◌<◌, ◌≤◌, max, ℤ, pos, negsuc, ◌+ℤ◌, ◌-ℤ◌, ◌*ℤ◌, ◌≤ℤ◌, ◌<ℤ◌, neg_ℤ, unsigned_abs, int_le, int_lt, int_div, int_rem, Bool, true, false, not, ◌&&◌, ◌||◌, if◌then◌else◌, List, [], ◌∷◌, fold, All, Ok, refl, sym, ap, ◌∙◌, subst, inl, inr, ◌⊎◌, arith}
-use Rattle.std.specs.List.{list_any}
+use Rattle.std.specs.List.{list_all}
 use Rattle.std.specs.Int.{int_min, int_max}
 use Rattle.std.proofs.lemmas.Int.{ints, clamps, quot-rem, rem_below}
 use borrow.Author.Differences.{true_is_le, le_out}
@@ -15,12 +15,12 @@ use Rattle.scaled_decimal.specs.WholeNumbers.{IsOfBits, is_of_bits, whole_sum, w
 use Rattle.interval_num.specs.declared.cause.RangeCause.TheVariants.{Wide, Divisor}
 use Rattle.interval_num.specs.Intervals.{Interval, interval, Contains, IsWhole, IsWholeOfBits}
 use Rattle.interval_num.specs.Alignment.{unless, least, greatest, hull, corners, most, has_zero}
-use Rattle.interval_num.specs.Rows.{Answer, whole_hull, whole_row, whole_opposite_row, whole_quotient_row, whole_remainder_row}
+use Rattle.interval_num.specs.Rows.{Answer, whole_hull, whole_row, whole_opposite_row, whole_quotient_row, least_remainder, greatest_remainder, whole_remainder_row}
 use Rattle.interval_num.specs.Soundness.{WholeIsSound, WholeQuotientIsSound, WholeOppositeIsSound}
 use Rattle.interval_num.proofs.NumberLemmas.{times_one}
 use Rattle.interval_num.proofs.AlignmentLemmas.{unless_ok, ok_is}
 use Rattle.interval_num.proofs.CornerLemmas.{Between, IsSteady, corners_low, corners_high, times_steady, most_holds}
-use Rattle.interval_num.proofs.SteadyLemmas.{Rises, quotient_steady, divisor_some}
+use Rattle.interval_num.proofs.SteadyLemmas.{Rises, one_sign, quotient_steady, divisor_some}
 
 -- a whole number in an interval of whole numbers, and in one that is made
 pub whole_low : (a : Interval) (n : ℤ) → IsWhole a → Contains a (whole_decimal n) → a.lo ≤ℤ n
@@ -37,16 +37,11 @@ whole_inside lo hi n p q = record {
   high = rw (times_one n) q;
 }
 
-either_false : (s t : Bool) → (s || t) ≡ false → (s ≡ false) × (t ≡ false)
-either_false true t e = absurd (cc)
-either_false false t e = (refl, e)
-
-both_true : (s t : Bool) → not (s && t) ≡ false → (s ≡ true) × (t ≡ true)
-both_true true true e = (refl, refl)
-both_true true false e = absurd (cc)
+both_true : (s t : Bool) → (s && t) ≡ true → (s ≡ true) × (t ≡ true)
+both_true true t e = (refl, e)
 both_true false t e = absurd (cc)
 
-pub of_bits_out : (bits : ℕ) (n : ℤ) → not (is_of_bits bits n) ≡ false → IsOfBits bits n
+pub of_bits_out : (bits : ℕ) (n : ℤ) → is_of_bits bits n ≡ true → IsOfBits bits n
 of_bits_out bits n e =
     let both = both_true (int_le (neg_ℤ (pos (2 ^ (bits - 1)))) n) (int_lt n (pos (2 ^ (bits - 1)))) e in
     let l = both.0 in
@@ -54,11 +49,15 @@ of_bits_out bits n e =
     record { low = omega (arith, ints); high = omega (arith, ints) }
 
 -- all results are of the width
-pub all_of_bits : (bits : ℕ) (ns : List ℤ) → list_any (λ n. not (is_of_bits bits n)) ns ≡ false → All (IsOfBits bits) ns
+pub all_of_bits : (bits : ℕ) (ns : List ℤ) → list_all (is_of_bits bits) ns ≡ true → All (IsOfBits bits) ns
 all_of_bits bits [] e = All-nil (IsOfBits bits)
 all_of_bits bits (n ∷ ns) e =
-    let both = either_false (not (is_of_bits bits n)) (list_any (λ m. not (is_of_bits bits m)) ns) e in
+    let both = both_true (is_of_bits bits n) (list_all (is_of_bits bits) ns) e in
     All-cons (IsOfBits bits) n ns (of_bits_out bits n both.0) (all_of_bits bits ns both.1)
+
+pub not_false : (t : Bool) → not t ≡ false → t ≡ true
+not_false true e = refl
+not_false false e = absurd (cc)
 
 -- the least and the greatest of some numbers are of them
 choose : (P : ℤ → Type 0) (m n : ℤ) (t : Bool) → P m → P n → P (if t then m else n)
@@ -84,8 +83,8 @@ record HullPasses (bits : ℕ) (n : ℤ) (ns : List ℤ) (r : Interval) : Type 0
 
 hull_passes : (bits : ℕ) (n : ℤ) (ns : List ℤ) (r : Interval) → whole_hull bits (n ∷ ns) ≡ Ok r → HullPasses bits n ns r
 hull_passes bits n ns r e =
-    let p = unless_ok (list_any (λ m. not (is_of_bits bits m)) (n ∷ ns)) Wide (Ok (hull (n ∷ ns) 0 0)) r e in
-    let all = all_of_bits bits (n ∷ ns) p.0 in
+    let p = unless_ok (not (list_all (is_of_bits bits) (n ∷ ns))) Wide (Ok (hull (n ∷ ns) 0 0)) r e in
+    let all = all_of_bits bits (n ∷ ns) (not_false _ p.0) in
     record {
       low = fold_min_keeps (IsOfBits bits) n ns (All-head (IsOfBits bits) n ns all) (All-tail (IsOfBits bits) n ns all);
       high = fold_max_keeps (IsOfBits bits) n ns (All-head (IsOfBits bits) n ns all) (All-tail (IsOfBits bits) n ns all);
@@ -257,8 +256,8 @@ rem_of_bits bits m n h = by_sign (int_le (pos 0) m) refl
 pub whole_remainder_sound : (bits : ℕ) (a b r : Interval) → IsWholeOfBits bits a → IsWhole b → whole_remainder_row a b ≡ Ok r → WholeQuotientIsSound bits whole_remainder a b r
 whole_remainder_sound bits a b r wa wb e m n hm hn =
     let k = most b -ℤ pos 1 in
-    let lo = if int_le (pos 0) a.lo then pos 0 else int_max a.lo (neg_ℤ k) in
-    let hi = if int_le a.hi (pos 0) then pos 0 else int_min a.hi k in
+    let lo = least_remainder a.lo k in
+    let hi = greatest_remainder a.hi k in
     let p = unless_ok (has_zero b) Divisor (Ok (interval lo hi 0 0)) r e in
     let lm = whole_low a m wa.whole hm in
     let um = whole_high a m wa.whole hm in
@@ -272,3 +271,24 @@ whole_remainder_sound bits a b r wa wb e m n hm hn =
         inside = λ z is. subst (λ s. Contains s z) (ok_is _ r p.1) (subst (Contains (interval lo hi 0 0)) (sym is) (whole_inside lo hi (int_rem m n) (remainder_low b a.lo m n (int_le (pos 0) a.lo) refl some lm ln un) (remainder_high b a.hi m n (int_le a.hi (pos 0)) refl some um ln un)));
       };
     }
+
+-- the remainders' ends are in order
+pub remainder_order : (lo hi : ℤ) (b : Interval) → lo ≤ℤ hi → has_zero b ≡ false → b.lo ≤ℤ b.hi → least_remainder lo (most b -ℤ pos 1) ≤ℤ greatest_remainder hi (most b -ℤ pos 1)
+remainder_order lo hi b h e o =
+    let l = low_under (int_le (pos 0) lo) refl in
+    let u = high_above (int_le hi (pos 0)) refl in
+    omega (arith, ints)
+  where
+    m : ℤ
+    m = most b -ℤ pos 1
+
+    m_above : pos 0 ≤ℤ m
+    m_above = elim (one_sign b o e) [ inl some ↦ omega (arith, ints) | inr neg ↦ omega (arith, ints) ]
+
+    low_under : (t : Bool) → int_le (pos 0) lo ≡ t → (if t then pos 0 else int_max lo (neg_ℤ (most b -ℤ pos 1))) ≤ℤ pos 0
+    low_under true f = omega (arith, ints)
+    low_under false f = let p = m_above in omega (arith, ints, clamps)
+
+    high_above : (t : Bool) → int_le hi (pos 0) ≡ t → pos 0 ≤ℤ (if t then pos 0 else int_min hi (most b -ℤ pos 1))
+    high_above true f = omega (arith, ints)
+    high_above false f = let p = m_above in omega (arith, ints, clamps)

@@ -1,7 +1,7 @@
 -- What each operation makes of intervals: one row an operation, with its ends, its scales and its causes of refusal in
 -- the order Divisor, Index, Scale, Wide.
 use Rattle.std.specs.Prelude.{ℕ, ◌+◌, ◌-◌, max, min, suc, nat_lt, nat_le, ◌||◌, ℤ, pos, negsuc, ◌+ℤ◌, ◌-ℤ◌, ◌*ℤ◌, neg_ℤ, int_le, int_lt, unsigned_abs, List, [], ◌∷◌, map, fold, length, slice_range, Result, Ok, if◌then◌else◌, not}
-use Rattle.std.specs.List.{list_any}
+use Rattle.std.specs.List.{list_any, list_all}
 use Rattle.std.specs.Int.{int_min, int_max}
 use Rattle.scaled_decimal.specs.declared.rounding.Mode.{Mode}
 use Rattle.scaled_decimal.specs.Decimals.{Decimal, decimal, numerator_of, scale_of, numerator_at, ten_to}
@@ -118,7 +118,7 @@ item_row items index =
 
 -- whole numbers of so many bits: the results at the ends
 abbrev pub whole_hull : ℕ → List ℤ → Answer
-whole_hull bits ends = unless (list_any (λ n. not (is_of_bits bits n)) ends) Wide (Ok (hull ends 0 0))
+whole_hull bits ends = unless (not (list_all (is_of_bits bits) ends)) Wide (Ok (hull ends 0 0))
 
 -- +, - and *
 abbrev pub whole_row : ℕ → (ℤ → ℤ → ℤ) → Interval → Interval → Answer
@@ -130,9 +130,14 @@ whole_opposite_row bits a = whole_hull bits (neg_ℤ a.hi ∷ (neg_ℤ a.lo ∷ 
 abbrev pub whole_quotient_row : ℕ → Interval → Interval → Answer
 whole_quotient_row bits a b = unless (has_zero b) Divisor (whole_hull bits (corners whole_quotient a b))
 
--- the remainder is less than the divisor, no greater than the dividend, and has its sign
+-- a remainder has the dividend's sign, is no greater than it, and is at most m in magnitude
+abbrev pub least_remainder : (low m : ℤ) → ℤ
+least_remainder low m = if int_le (pos 0) low then pos 0 else int_max low (neg_ℤ m)
+
+abbrev pub greatest_remainder : (high m : ℤ) → ℤ
+greatest_remainder high m = if int_le high (pos 0) then pos 0 else int_min high m
+
 abbrev pub whole_remainder_row : Interval → Interval → Answer
 whole_remainder_row a b =
     let m = most b -ℤ pos 1 in
-    unless (has_zero b) Divisor (
-    Ok (interval (if int_le (pos 0) a.lo then pos 0 else int_max a.lo (neg_ℤ m)) (if int_le a.hi (pos 0) then pos 0 else int_min a.hi m) 0 0))
+    unless (has_zero b) Divisor (Ok (interval (least_remainder a.lo m) (greatest_remainder a.hi m) 0 0))

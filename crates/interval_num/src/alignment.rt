@@ -90,6 +90,7 @@ pub(crate) fn at_scale(a: Abs, q: u8) -> Abs
 pub(crate) fn most(a: Abs) -> i128
     ensures value { result ≡ most a }
     ensures kept { IsWithinLimit result }
+    ensures order { a.lo ≤ℤ a.hi }
 {
     a.lo().abs().max(a.hi().abs())
 }

@@ -1,9 +1,11 @@
 //! The operations of whole numbers, Java's `int` of 32 bits and `long` of 64.
 ghost use Rattle.std.specs.Prelude.{◌≡◌, ◌∷◌, [], length, ◌<◌, ℤ, pos, neg_ℤ, IfOk};
+ghost use Rattle.std.specs.List.{list_all};
 ghost use Rattle.scaled_decimal.specs.WholeNumbers.{int_bits, long_bits, is_of_bits, whole_sum, whole_difference, whole_product, whole_quotient, whole_remainder, whole_opposite};
+ghost use Rattle.scaled_decimal.specs.Limits.{IsWithinLimit};
 ghost use Rattle.interval_num.specs.Intervals.{Interval, interval, IsWholeOfBits};
 ghost use Rattle.interval_num.specs.Alignment.{corners};
-ghost use Rattle.interval_num.specs.Rows.{whole_hull, whole_row, whole_opposite_row, whole_quotient_row, whole_remainder_row};
+ghost use Rattle.interval_num.specs.Rows.{whole_hull, whole_row, whole_opposite_row, whole_quotient_row, whole_remainder_row, least_remainder, greatest_remainder};
 ghost use Rattle.interval_num.specs.Soundness.{WholeIsSound, WholeQuotientIsSound, WholeOppositeIsSound};
 ghost use Rattle.interval_num.specs.Widths.{bits_of};
 
@@ -214,14 +216,36 @@ fn rem(width: Width, a: Abs, b: Abs) -> Result<Abs, RangeCause>
     if has_zero(b) {
         return Err(RangeCause::Divisor);
     }
-    let greatest = most(b) - 1;
-    let lo = if a.lo() >= 0 {
-        0
-    } else {
-        a.lo().max(-greatest)
-    };
-    let hi = if a.hi() <= 0 { 0 } else { a.hi().min(greatest) };
+    let m = most(b) - 1;
+    let lo = least_remainder(a.lo(), m);
+    let hi = greatest_remainder(a.hi(), m);
     Ok(Abs::new(lo, hi, 0, 0))
+}
+
+/// The least remainder of a dividend from `lo` on, by a divisor of magnitude `m` + 1 or less.
+fn least_remainder(lo: i128, m: i128) -> i128
+    requires low { IsWithinLimit lo }
+    requires divisor { IsWithinLimit m }
+    ensures value { result ≡ least_remainder lo m }
+    ensures kept { IsWithinLimit result }
+{
+    if lo >= 0 {
+        return 0;
+    }
+    lo.max(-m)
+}
+
+/// The greatest remainder of a dividend up to `hi`, by a divisor of magnitude `m` + 1 or less.
+fn greatest_remainder(hi: i128, m: i128) -> i128
+    requires high { IsWithinLimit hi }
+    requires divisor { IsWithinLimit m }
+    ensures value { result ≡ greatest_remainder hi m }
+    ensures kept { IsWithinLimit result }
+{
+    if hi <= 0 {
+        return 0;
+    }
+    hi.min(m)
 }
 
 fn neg(width: Width, a: Abs) -> Result<Abs, RangeCause>
@@ -237,10 +261,17 @@ fn whole_hull(width: Width, ends: &[i128]) -> Result<Abs, RangeCause>
     requires { 0 < length ends.now }
     ensures { result ≡ whole_hull (bits_of width) ends.now }
 {
-    if ends.iter().any(|n| !is_of_width(width, *n)) {
+    if !are_of_width(width, ends) {
         return Err(RangeCause::Wide);
     }
     Ok(hull(ends, 0, 0))
+}
+
+/// Whether the width holds all of some numbers.
+fn are_of_width(width: Width, numbers: &[i128]) -> bool
+    ensures { result ≡ list_all (is_of_bits (bits_of width)) numbers.now }
+{
+    numbers.iter().all(|n| is_of_width(width, *n))
 }
 
 /// Whether the width holds a number.
