@@ -105,14 +105,14 @@ module _ (d : ℤ) (plain : IsPlainDivisor d) where
       let k = divisor_places d in
       let few = few_places x z h in
       let left : ((m *ℤ ten_to (i + k - t)) *ℤ d) *ℤ ten_to t ≡ n *ℤ ten_to (k + t) =
-          ap (λ v. v *ℤ ten_to t) (times_swap m (ten_to (i + k - t)) d)
-          ∙ longer (m *ℤ d) (i + k - t) t (i + k) (omega arith)
-          ∙ sym (longer (m *ℤ d) i k (i + k) refl)
-          ∙ ap (λ v. v *ℤ ten_to k) h.exact
-          ∙ longer n t k (k + t) (omega arith) in
+      ap (λ v. v *ℤ ten_to t) (times_swap m (ten_to (i + k - t)) d)
+      ∙ longer (m *ℤ d) (i + k - t) t (i + k) (omega arith)
+      ∙ sym (longer (m *ℤ d) i k (i + k) refl)
+      ∙ ap (λ v. v *ℤ ten_to k) h.exact
+      ∙ longer n t k (k + t) (omega arith) in
       let right : ((n *ℤ cofactor d) *ℤ d) *ℤ ten_to t ≡ n *ℤ ten_to (k + t) =
-          ap (λ v. v *ℤ ten_to t) (times_assoc n (cofactor d) d ∙ ap (λ v. n *ℤ v) cofactor_is)
-          ∙ longer n k t (k + t) refl in
+      ap (λ v. v *ℤ ten_to t) (times_assoc n (cofactor d) d ∙ ap (λ v. n *ℤ v) cofactor_is)
+      ∙ longer n k t (k + t) refl in
       cancel_both (m *ℤ ten_to (i + k - t)) (n *ℤ cofactor d) d t plain.positive (left ∙ sym right)
 
 le_factors : (u v c : ℤ) → pos 0 ≤ℤ c → u ≤ℤ v → (u *ℤ c) ≤ℤ (v *ℤ c)
@@ -145,9 +145,9 @@ exact_quotient_sound d a r plain e x hx =
       inside = λ z exact.
           let fewer = few_places d plain x z exact in
           let at : numerator_at (a.s_hi + k) z ≡ u *ℤ c =
-              sym (longer (numerator_of z) (i + k - scale_of z) (a.s_hi - i) (a.s_hi + k - scale_of z) (omega (arith, hx.greatest_scale)))
-              ∙ ap (λ v. v *ℤ ten_to (a.s_hi - i)) (quotient_longer d plain x z exact)
-              ∙ sym swapped in
+          sym (longer (numerator_of z) (i + k - scale_of z) (a.s_hi - i) (a.s_hi + k - scale_of z) (omega (arith, hx.greatest_scale)))
+          ∙ ap (λ v. v *ℤ ten_to (a.s_hi - i)) (quotient_longer d plain x z exact)
+          ∙ sym swapped in
           subst (λ t. Contains t z) ends.1 (record {
             least_scale = omega (arith, hx.least_scale, exact.scale);
             greatest_scale = omega (arith, hx.greatest_scale);

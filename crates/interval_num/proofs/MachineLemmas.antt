@@ -1,9 +1,9 @@
 -- What numbers of 128 bits hold: z is kept as its bits, `to_z w128 (of_z w128 z)`. Each lemma takes the code's numbers m
 -- and n beside the definition's u and v.
-use Rattle.std.proofs.Common.{◌≡◌, ◌≤◌, ◌^◌, int_div, ℤ, pos, ◌+ℤ◌, ◌-ℤ◌, ◌*ℤ◌, ◌≤ℤ◌, neg_ℤ, unsigned_abs, min, FitsSigned, to_z, of_z, refl, sym, ap, ap₂, ◌∙◌, subst, arith}
+use Rattle.std.proofs.Common.{◌≡◌, ◌+◌, ◌≤◌, ◌^◌, int_div, ℤ, pos, ◌+ℤ◌, ◌-ℤ◌, ◌*ℤ◌, ◌≤ℤ◌, neg_ℤ, unsigned_abs, min, FitsSigned, to_z, of_z, refl, sym, ap, ap₂, ◌∙◌, subst, arith}
 use Rattle.std.specs.Int.{w128, int_min, int_max}
 use Rattle.std.proofs.lemmas.Int.{ints, clamps, to_z-of_z, fits_signed_from_abs, fits_signed_mul}
-use Rattle.scaled_decimal.specs.Limits.{IsWithinLimit}
+use Rattle.scaled_decimal.specs.Limits.{IsWithinLimit, limit}
 use Rattle.scaled_decimal.specs.RoundingLemmas.{mag_quot}
 use Rattle.scaled_decimal.specs.WholeNumbers.{IsOfBits}
 use Rattle.interval_num.specs.declared.wholes.Width.{Width}
@@ -90,3 +90,28 @@ of_width_small Long n h = omega (arith, ints, h.low, h.high)
 
 pub of_width_kept : (width : Width) (n : ℤ) → IsOfBits (bits_of width) n → IsWithinLimit n
 of_width_kept width n h = let small = of_width_small width n h in omega arith
+
+-- an end that a gap of at most one moves
+pub near_fits : (u : ℤ) → unsigned_abs u ≤ limit + 1 → FitsSigned w128 u
+near_fits u h = fits_signed_from_abs w128 u (omega arith)
+
+pub held_near : (m u : ℤ) → m ≡ u → unsigned_abs u ≤ limit + 1 → held m ≡ u
+held_near m u e h = ap held e ∙ to_z-of_z w128 u (near_fits u h)
+
+pub record IsNearEnd (r z : ℤ) : Type 0 where
+  pub is : held r ≡ z
+  pub small : unsigned_abs z ≤ limit + 1
+
+pub held_raised : (r m x y u b g : ℤ) → r ≡ int_max (held m) (held (held x +ℤ held y)) → m ≡ u → x ≡ b → y ≡ g → IsWithinLimit u → IsWithinLimit b → unsigned_abs g ≤ 1 → IsNearEnd r (int_max u (b +ℤ g))
+held_raised r m x y u b g is e f h p q one =
+    let gap : IsWithinLimit g = omega arith in
+    let moved = held_sum x y b g f h q gap in
+    let small : unsigned_abs (int_max u (b +ℤ g)) ≤ limit + 1 = omega (arith, ints, clamps) in
+    record { is = held_near r (int_max u (b +ℤ g)) (is ∙ ap₂ int_max (held_at m u e p) moved) small; small = small }
+
+pub held_lowered : (r m x y u b g : ℤ) → r ≡ int_min (held m) (held (held x -ℤ held y)) → m ≡ u → x ≡ b → y ≡ g → IsWithinLimit u → IsWithinLimit b → unsigned_abs g ≤ 1 → IsNearEnd r (int_min u (b -ℤ g))
+held_lowered r m x y u b g is e f h p q one =
+    let gap : IsWithinLimit g = omega arith in
+    let moved = held_difference x y b g f h q gap in
+    let small : unsigned_abs (int_min u (b -ℤ g)) ≤ limit + 1 = omega (arith, ints, clamps) in
+    record { is = held_near r (int_min u (b -ℤ g)) (is ∙ ap₂ int_min (held_at m u e p) moved) small; small = small }

@@ -1,5 +1,6 @@
 -- Refinement keeps every decimal that stands in an allowed sign to one of the other interval.
 use Rattle.std.proofs.Common.{◌≡◌, ◌≢◌, ℕ, zero, suc, ◌+◌, ◌-◌, ◌^◌, ◌<◌, ◌≤◌, ℤ, pos, negsuc, ◌+ℤ◌, ◌-ℤ◌, ◌*ℤ◌, ◌≤ℤ◌, ◌<ℤ◌, int_le, int_lt, Bool, true, false, not, ◌&&◌, if◌then◌else◌, IsTrue, Option, Some, None, Ordering, Less, Equal, Greater, refl, sym, ap, ◌∙◌, subst, arith}
+use Rattle.std.specs.Prelude.{IfSome, IfNone}
 use Rattle.std.specs.Bool.{OnTrue}
 use Rattle.std.specs.Int.{int_min, int_max}
 use Rattle.std.specs.Ordering.{int_eq}
@@ -189,13 +190,16 @@ module _ (v e : Interval) (allowed : SignSet) (whole : Bool) (x y : Decimal) (hx
 
       some : (r : Interval) → r.s_lo ≡ v.s_lo → r.s_hi ≡ v.s_hi → r.lo ≤ℤ m → m ≤ℤ r.hi → (s : Interval) × (unless_empty r ≡ Some s) × Contains s x
       some r sl sh l h =
-          let e : int_le r.lo r.hi ≡ true = is_most r.lo r.hi (omega (arith, ints)) in
-          (r, rw e refl, record {
-            least_scale = omega (arith, hx.least_scale);
-            greatest_scale = omega (arith, hx.greatest_scale);
-            low = rw sh l;
-            high = rw sh h;
-          })
+          let e : int_le r.lo r.hi ≡ true = is_most r.lo r.hi (omega (arith, ints)) in (
+            r,
+            rw e refl,
+            record {
+              least_scale = omega (arith, hx.least_scale);
+              greatest_scale = omega (arith, hx.greatest_scale);
+              low = rw sh l;
+              high = rw sh h;
+            },
+          )
 
       by_apart : (t : Bool) → is_apart e allowed whole ≡ t → (r : Interval) × (unless_empty (if t then without e.lo part else part) ≡ Some r) × Contains r x
       by_apart false f = some part refl refl low high
@@ -219,3 +223,26 @@ none_allowed v e allowed whole wv we is x h =
   where
     apart : (s : Interval) → ◌≡◌ {A = Option Interval} (Some s) None → ⊥
     apart s e = cc
+
+-- what the code has computed, whether the value is single or not
+pub refined_apart : (v e : Interval) (allowed : SignSet) (whole : Bool) → is_apart e allowed whole ≡ true → refined v e allowed whole ≡ unless_empty (without e.lo (interval (low_end v e allowed whole) (high_end v e allowed whole) v.s_lo v.s_hi))
+refined_apart v e allowed whole f = by_test (is_apart e allowed whole) f
+  where
+    by_test : (t : Bool) → t ≡ true → unless_empty (if t then without e.lo (interval (low_end v e allowed whole) (high_end v e allowed whole) v.s_lo v.s_hi) else interval (low_end v e allowed whole) (high_end v e allowed whole) v.s_lo v.s_hi) ≡ unless_empty (without e.lo (interval (low_end v e allowed whole) (high_end v e allowed whole) v.s_lo v.s_hi))
+    by_test true g = refl
+    by_test false g = absurd (cc)
+
+pub refined_part : (v e : Interval) (allowed : SignSet) (whole : Bool) → is_apart e allowed whole ≡ false → refined v e allowed whole ≡ unless_empty (interval (low_end v e allowed whole) (high_end v e allowed whole) v.s_lo v.s_hi)
+refined_part v e allowed whole f = by_test (is_apart e allowed whole) f
+  where
+    by_test : (t : Bool) → t ≡ false → unless_empty (if t then without e.lo (interval (low_end v e allowed whole) (high_end v e allowed whole) v.s_lo v.s_hi) else interval (low_end v e allowed whole) (high_end v e allowed whole) v.s_lo v.s_hi) ≡ unless_empty (interval (low_end v e allowed whole) (high_end v e allowed whole) v.s_lo v.s_hi)
+    by_test true g = absurd (cc)
+    by_test false g = refl
+
+pub if_some : (o : Option Interval) (P : Interval → Type 0) → ((r : Interval) → o ≡ Some r → P r) → IfSome o P
+if_some (Some r) P f = f r refl
+if_some None P f = tt
+
+pub if_none : (o : Option Interval) (P : Type 0) → (o ≡ None → P) → IfNone o P
+if_none (Some r) P f = tt
+if_none None P f = f refl

@@ -28,10 +28,15 @@ high_end v e allowed whole =
 abbrev pub is_apart : Interval → SignSet → Bool → Bool
 is_apart e allowed whole = whole && (allowed.minus && (allowed.plus && (not allowed.zero && int_eq e.lo e.hi)))
 
--- each end that is this number moves one inwards
+-- an end that is this number moves one inwards
+abbrev pub past : ℤ → ℤ → ℤ
+past n low = if int_eq low n then low +ℤ pos 1 else low
+
+abbrev pub short_of : ℤ → ℤ → ℤ
+short_of n high = if int_eq high n then high -ℤ pos 1 else high
+
 abbrev pub without : ℤ → Interval → Interval
-without n v =
-    interval (if int_eq v.lo n then v.lo +ℤ pos 1 else v.lo) (if int_eq v.hi n then v.hi -ℤ pos 1 else v.hi) v.s_lo v.s_hi
+without n v = interval (past n v.lo) (short_of n v.hi) v.s_lo v.s_hi
 
 abbrev pub unless_empty : Interval → Option Interval
 unless_empty v = if int_le v.lo v.hi then Some v else None

@@ -5,6 +5,7 @@ ghost use Rattle.scaled_decimal.specs.Limits.{most_places};
 ghost use Rattle.interval_num.specs.Intervals.{IsWhole};
 ghost use Rattle.interval_num.specs.Alignment.{is_beyond};
 ghost use Rattle.interval_num.specs.Rows.{item_row, decimals_row, least_scale, greatest_scale};
+ghost use Rattle.interval_num.specs.Views.{kept_numerator};
 ghost use Rattle.interval_num.specs.Soundness.{ItemIsSound};
 
 use crate::alignment::product_is_beyond;
@@ -74,6 +75,7 @@ fn greatest_scale(decimals: &[Dec]) -> u8
 fn numerator_at(d: Dec, q: u8) -> Option<i128>
     requires scale { scale_of d ≤ q }
     requires places { q ≤ most_places }
+    ensures { result ≡ kept_numerator (numerator_at q d) }
 {
     let power = power_of_ten(q - d.scale());
     if product_is_beyond(d.numerator(), power) {
