@@ -107,3 +107,7 @@ if_ok (Err cause) P f = tt
 pub unless_passes : (t : Bool) (cause : RangeCause) (answer : Answer) → t ≡ false → unless t cause answer ≡ answer
 unless_passes true cause answer e = absurd (cc)
 unless_passes false cause answer e = refl
+
+pub unless_refuses : (t : Bool) (cause : RangeCause) (answer : Answer) → t ≡ true → unless t cause answer ≡ Err cause
+unless_refuses true cause answer e = refl
+unless_refuses false cause answer e = absurd (cc)

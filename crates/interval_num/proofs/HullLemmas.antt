@@ -39,7 +39,7 @@ is_hull (n ∷ ns) first l h some all f e g =
       order = rw (lo, hi) (omega (arith, ints));
     }
 
-take_whole : (ns : List ℤ) (i : ℕ) → length ns ≤ i → take i ns ≡ ns
+pub take_whole : (ns : List ℤ) (i : ℕ) → length ns ≤ i → take i ns ≡ ns
 take_whole [] zero h = refl
 take_whole [] (suc i) h = refl
 take_whole (n ∷ ns) zero h = absurd (omega arith)

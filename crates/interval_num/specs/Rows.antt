@@ -104,11 +104,15 @@ least_scale (d ∷ ds) = fold min (scale_of d) (map scale_of ds)
 abbrev pub greatest_scale : List Decimal → ℕ
 greatest_scale ds = fold max 0 (map scale_of ds)
 
+-- some decimals, aligned to a scale
+abbrev pub decimals_at : ℕ → List Decimal → Answer
+decimals_at q ds =
+    let numerators = map (numerator_at q) ds in
+    unless (list_any is_beyond numerators) Wide (Ok (hull numerators (least_scale ds) q))
+
 -- some decimals, aligned to their greatest scale
 abbrev pub decimals_row : List Decimal → Answer
-decimals_row ds =
-    let numerators = map (numerator_at (greatest_scale ds)) ds in
-    unless (list_any is_beyond numerators) Wide (Ok (hull numerators (least_scale ds) (greatest_scale ds)))
+decimals_row ds = decimals_at (greatest_scale ds) ds
 
 -- the items of a table from the least index on to the greatest
 abbrev pub item_row : List Decimal → Interval → Answer

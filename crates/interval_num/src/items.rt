@@ -73,11 +73,10 @@ fn greatest_scale(decimals: &[Dec]) -> u8
 
 /// The numerator at scale `q`, which is no less than the decimal's own, where it is within 10^37.
 fn numerator_at(d: Dec, q: u8) -> Option<i128>
-    requires scale { scale_of d ≤ q }
-    requires places { q ≤ most_places }
+    requires { q ≤ most_places }
     ensures { result ≡ kept_numerator (numerator_at q d) }
 {
-    let power = power_of_ten(q - d.scale());
+    let power = power_of_ten(q.saturating_sub(d.scale()));
     if product_is_beyond(d.numerator(), power) {
         return None;
     }
