@@ -1,10 +1,10 @@
 -- Exact quotients by plain divisors.
-use Rattle.std.proofs.Common.{◌≡◌, ◌≢◌, ℕ, zero, suc, ◌+◌, ◌-◌, ◌*◌, ◌^◌, ◌<◌, ◌≤◌, ℤ, pos, negsuc, ◌+ℤ◌, ◌*ℤ◌, ◌≤ℤ◌, neg_ℤ, unsigned_abs, int_div, int_rem, nat_lt, Bool, true, false, if◌then◌else◌, Ok, refl, sym, ap, ◌∙◌, subst, inl, inr, arith}
+use Rattle.std.proofs.Common.{◌≡◌, ◌≢◌, ℕ, zero, suc, ◌+◌, ◌-◌, ◌*◌, ◌^◌, ◌<◌, ◌≤◌, ℤ, pos, negsuc, ◌+ℤ◌, ◌*ℤ◌, ◌≤ℤ◌, neg_ℤ, unsigned_abs, int_div, int_rem, nat_lt, Bool, true, false, if◌then◌else◌, Ok, refl, sym, ap, ap₂, ◌∙◌, subst, inl, inr, arith}
 use Rattle.std.specs.Ordering.{int_eq}
-use Rattle.std.proofs.lemmas.Int.{ints, quot-rem}
+use Rattle.std.proofs.lemmas.Int.{ints, quot-rem, unsigned_abs-mul}
 use Rattle.std.proofs.lemmas.Bool.Decides.{nat_tests}
 use Rattle.std.proofs.lemmas.Bool.{cases_lt}
-use Rattle.std.proofs.Math.Nat.{mul-mod_left}
+use Rattle.std.proofs.Math.Nat.{mul-mod_left, pow-le-pow_right, le-mul_of_pos_right}
 use Rattle.scaled_decimal.specs.IntegerLemmas.{le_times, times_assoc, times_swap, times_cancel}
 use Rattle.scaled_decimal.specs.Decimals.{Decimal, decimal, numerator_of, scale_of, numerator_at, ten_to}
 use Rattle.scaled_decimal.specs.ExactQuotients.{Divides, IsPlainDivisor, HoldsQuotient, IsExactQuotient}
@@ -115,7 +115,7 @@ module _ (d : ℤ) (plain : IsPlainDivisor d) where
       ∙ longer n k t (k + t) refl in
       cancel_both (m *ℤ ten_to (i + k - t)) (n *ℤ cofactor d) d t plain.positive (left ∙ sym right)
 
-le_factors : (u v c : ℤ) → pos 0 ≤ℤ c → u ≤ℤ v → (u *ℤ c) ≤ℤ (v *ℤ c)
+pub le_factors : (u v c : ℤ) → pos 0 ≤ℤ c → u ≤ℤ v → (u *ℤ c) ≤ℤ (v *ℤ c)
 le_factors u v (pos c) p q = le_times u v c q
 le_factors u v (negsuc c) p q = absurd (omega (arith, ints))
 
@@ -155,3 +155,42 @@ exact_quotient_sound d a r plain e x hx =
             high = rw at high;
           });
     }
+
+-- one over a plain divisor
+cofactor_small : (d : ℤ) (plain : IsPlainDivisor d) → unsigned_abs (cofactor d) ≤ 10 ^ most_places
+cofactor_small d plain =
+    let size = unsigned_abs-mul (cofactor d) d in
+    let same = ap unsigned_abs (cofactor_is d plain) in
+    let few = (places_are d plain).least most_places plain.divides in
+    let power : 10 ^ divisor_places d ≤ 10 ^ most_places = pow-le-pow_right {n = 10} (omega arith) few in
+    let positive = plain.positive in
+    let grown : unsigned_abs (cofactor d) ≤ unsigned_abs (cofactor d) * unsigned_abs d = le-mul_of_pos_right (unsigned_abs (cofactor d)) (omega (arith, ints)) in
+    omega arith
+
+pub cofactor_kept : (d : ℤ) → IsPlainDivisor d → IsWithinLimit (cofactor d)
+cofactor_kept d plain = let small = cofactor_small d plain in omega arith
+
+pub few_divisor_places : (d : ℤ) → IsPlainDivisor d → divisor_places d ≤ most_places
+few_divisor_places d plain = (places_are d plain).least most_places plain.divides
+
+one_times : (n : ℤ) → pos 1 *ℤ n ≡ n
+one_times n = omega (arith, ints)
+
+pub reciprocal_fits : (d : ℤ) → IsPlainDivisor d → ExactQuotientFits (decimal (pos 1) 0) d
+reciprocal_fits d plain = record {
+  scaled = λ k c places times. subst IsWithinLimit (sym (one_times c ∙ one_cofactor d plain k c places times)) (cofactor_kept d plain);
+  scale = λ k places. (let same = one_place d plain k places in let few = few_divisor_places d plain in omega arith);
+  result = λ z exact.
+      let longer_is = quotient_longer d plain (decimal (pos 1) 0) z exact ∙ one_times (cofactor d) in
+      subst IsWithinLimit (times_one (numerator_of z)) (kept_shorter (numerator_of z) 0 (0 + divisor_places d - scale_of z) (omega arith) (subst IsWithinLimit (sym longer_is) (cofactor_kept d plain)));
+}
+
+pub reciprocal_is : (d : ℤ) (z : Decimal) → IsPlainDivisor d → IsExactQuotient (decimal (pos 1) 0) d z → z ≡ decimal (cofactor d) (divisor_places d)
+reciprocal_is d z plain exact =
+    let few = few_places d plain (decimal (pos 1) 0) z exact in
+    let divides : Divides d (ten_to (scale_of z)) = (numerator_of z, sym (times_one (numerator_of z *ℤ d)) ∙ exact.exact ∙ one_times (ten_to (scale_of z))) in
+    let more = (places_are d plain).least (scale_of z) divides in
+    let same : scale_of z ≡ divisor_places d = omega arith in
+    let gone : 0 + divisor_places d - scale_of z ≡ 0 = omega arith in
+    let number : numerator_of z ≡ cofactor d = sym (times_one (numerator_of z)) ∙ ap (λ k. numerator_of z *ℤ ten_to k) (sym gone) ∙ quotient_longer d plain (decimal (pos 1) 0) z exact ∙ one_times (cofactor d) in
+    ap₂ decimal number same

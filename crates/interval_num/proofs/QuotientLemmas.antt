@@ -1,5 +1,5 @@
 -- Rounded quotients and values lie in their rows' intervals, and their working numbers fit.
-use Rattle.std.proofs.Common.{◌≡◌, ◌≢◌, ℕ, zero, suc, ◌+◌, ◌-◌, ◌*◌, ◌^◌, ◌<◌, ◌≤◌, ℤ, pos, ◌-ℤ◌, ◌*ℤ◌, ◌≤ℤ◌, unsigned_abs, nat_lt, Bool, true, false, Ok, Err, refl, sym, ap, ap₂, ◌∙◌, subst, arith}
+use Rattle.std.proofs.Common.{◌≡◌, ◌≢◌, ℕ, zero, suc, ◌+◌, ◌-◌, ◌*◌, ◌^◌, ◌<◌, ◌≤◌, ℤ, pos, ◌-ℤ◌, ◌*ℤ◌, ◌≤ℤ◌, unsigned_abs, nat_lt, ◌||◌, Bool, true, false, Ok, Err, refl, sym, ap, ap₂, ◌∙◌, subst, arith}
 use Rattle.std.proofs.lemmas.Int.{ints, unsigned_abs-mul}
 use Rattle.std.proofs.lemmas.Bool.Decides.{nat_tests}
 use Rattle.std.proofs.Math.Nat.{mul-le-mul_right}
@@ -13,9 +13,9 @@ use Rattle.scaled_decimal.specs.RoundedDecimals.{rounded, rounded_is, quotient, 
 use Rattle.scaled_decimal.specs.WorkingNumbers.{QuotientFits, RescaleFits, places_moved}
 use Rattle.scaled_decimal.specs.Limits.{IsWithinLimit, most_places}
 use Rattle.interval_num.specs.declared.cause.RangeCause.TheVariants.{Wide, Divisor}
-use Rattle.interval_num.specs.Intervals.{Interval, interval, Contains}
+use Rattle.interval_num.specs.Intervals.{Interval, interval, Contains, IsKeptInterval}
 use Rattle.interval_num.specs.Alignment.{unless, is_beyond, hull, corners, most, has_zero}
-use Rattle.interval_num.specs.Rows.{Answer, most_power, quotient_row, rescaled_row}
+use Rattle.interval_num.specs.Rows.{Answer, most_power, quotient_is_wide, end_quotient, quotient_row, end_value, rescaled_row}
 use Rattle.interval_num.specs.Soundness.{QuotientIsSound, RescalingIsSound}
 use Rattle.interval_num.proofs.NumberLemmas.{longer, ten_add, ten_some, times_one, power_kept, within_out, kept_shorter}
 use Rattle.interval_num.proofs.AlignmentLemmas.{unless_ok, ok_is}
@@ -85,13 +85,6 @@ one_value mode s x q r =
     let d = ten_to (scale_of x) in
     (rounds_exactly_one mode n d (ten_not_zero (scale_of x))).one q (rounded mode n d) r (rounded_is mode n d (ten_not_zero (scale_of x)))
 
--- the quotient of two numerators at the greatest scales of two intervals
-abbrev pub end_quotient : Mode → ℕ → Interval → Interval → ℤ → ℤ → ℤ
-end_quotient mode s a b m n = numerator_of (quotient mode s (decimal m a.s_hi) (decimal n b.s_hi))
-
-abbrev pub end_value : Mode → ℕ → Interval → ℤ → ℤ
-end_value mode s a m = numerator_of (rescaled mode s (decimal m a.s_hi))
-
 -- a quotient of contained decimals is that of their numerators there
 quotient_longer : (mode : Mode) (s : ℕ) (a b : Interval) (x y : Decimal) (q : ℤ) → scale_of x ≤ a.s_hi → scale_of y ≤ b.s_hi → numerator_at b.s_hi y ≢ pos 0 → RoundsQuotient mode x y s q → q ≡ end_quotient mode s a b (numerator_at a.s_hi x) (numerator_at b.s_hi y)
 quotient_longer mode s a b x y q lx ly some r =
@@ -122,38 +115,46 @@ value_rises mode s a m n h =
     let some = ten_not_zero a.s_hi in
     rounds_rising mode (m *ℤ ten_to s) d (n *ℤ ten_to s) d (rounded mode (m *ℤ ten_to s) d) (rounded mode (n *ℤ ten_to s) d) some some (le_times (m *ℤ ten_to s) (n *ℤ ten_to s) (10 ^ a.s_hi) (le_times m n (10 ^ s) h)) (rounded_is mode (m *ℤ ten_to s) d some) (rounded_is mode (n *ℤ ten_to s) d some)
 
--- what a quotient's row says where it answers
-pub record QuotientPasses (mode : Mode) (s : ℕ) (a b r : Interval) : Type 0 where
+not_more : (m n : ℕ) → nat_lt m n ≡ false → n ≤ m
+not_more m n e = grind (arith, nat_tests)
+
+either_false : (s t : Bool) → (s || t) ≡ false → (s ≡ false) × (t ≡ false)
+either_false true t e = absurd (cc)
+either_false false t e = (refl, e)
+
+-- what the tests before a division say
+pub record CanDivideIntervals (s : ℕ) (a b : Interval) : Type 0 where
   pub some : has_zero b ≡ false
   pub power : s + b.s_hi - a.s_lo ≤ most_power
   pub dividend : IsWithinLimit (most a *ℤ ten_to (s + b.s_hi - a.s_hi))
   pub divisor : IsWithinLimit (most b *ℤ ten_to (a.s_hi - (s + b.s_hi)))
-  pub is : hull (corners (end_quotient mode s a b) a b) s s ≡ r
 
-not_more : (m n : ℕ) → nat_lt m n ≡ false → n ≤ m
-not_more m n e = grind (arith, nat_tests)
+pub tests_pass : (s : ℕ) (a b : Interval) → has_zero b ≡ false → quotient_is_wide s a b ≡ false → CanDivideIntervals s a b
+tests_pass s a b e f =
+    let first = either_false (nat_lt most_power (s + b.s_hi - a.s_lo)) _ f in
+    let second = either_false (is_beyond (most a *ℤ ten_to (s + b.s_hi - a.s_hi))) (is_beyond (most b *ℤ ten_to (a.s_hi - (s + b.s_hi)))) first.1 in
+    record {
+      some = e;
+      power = not_more most_power (s + b.s_hi - a.s_lo) first.0;
+      dividend = within_out (most a *ℤ ten_to (s + b.s_hi - a.s_hi)) second.0;
+      divisor = within_out (most b *ℤ ten_to (a.s_hi - (s + b.s_hi))) second.1;
+    }
+
+-- what a quotient's row says where it answers
+pub record QuotientPasses (mode : Mode) (s : ℕ) (a b r : Interval) : Type 0 where
+  pub tests : CanDivideIntervals s a b
+  pub is : hull (corners (end_quotient mode s a b) a b) s s ≡ r
 
 pub quotient_passes : (mode : Mode) (s : ℕ) (a b r : Interval) → quotient_row mode s a b ≡ Ok r → QuotientPasses mode s a b r
 quotient_passes mode s a b r e =
     let answer : Answer = Ok (hull (corners (end_quotient mode s a b) a b) s s) in
-    let last : Answer = unless (is_beyond (most b *ℤ ten_to (a.s_hi - (s + b.s_hi)))) Wide answer in
-    let third : Answer = unless (is_beyond (most a *ℤ ten_to (s + b.s_hi - a.s_hi))) Wide last in
-    let second : Answer = unless (nat_lt most_power (s + b.s_hi - a.s_lo)) Wide third in
-    let p = unless_ok (has_zero b) Divisor second r e in
-    let q = unless_ok (nat_lt most_power (s + b.s_hi - a.s_lo)) Wide third r p.1 in
-    let t = unless_ok (is_beyond (most a *ℤ ten_to (s + b.s_hi - a.s_hi))) Wide last r q.1 in
-    let u = unless_ok (is_beyond (most b *ℤ ten_to (a.s_hi - (s + b.s_hi)))) Wide answer r t.1 in
-    record {
-      some = p.0;
-      power = not_more most_power (s + b.s_hi - a.s_lo) q.0;
-      dividend = within_out (most a *ℤ ten_to (s + b.s_hi - a.s_hi)) t.0;
-      divisor = within_out (most b *ℤ ten_to (a.s_hi - (s + b.s_hi))) u.0;
-      is = ok_is _ r u.1;
-    }
+    let p = unless_ok (has_zero b) Divisor (unless (quotient_is_wide s a b) Wide answer) r e in
+    let q = unless_ok (quotient_is_wide s a b) Wide answer r p.1 in
+    record { tests = tests_pass s a b p.0 q.0; is = ok_is _ r q.1 }
 
 -- contained decimals can be divided, and so can the ends
-pub can_divide : (mode : Mode) (s : ℕ) (a b r : Interval) (x y : Decimal) → s ≤ most_places → a.s_hi ≤ most_places → QuotientPasses mode s a b r → Contains a x → Contains b y → CanDivide s x y
-can_divide mode s a b r x y few places pass hx hy =
+pub can_divide : (s : ℕ) (a b : Interval) (x y : Decimal) → s ≤ most_places → a.s_hi ≤ most_places → CanDivideIntervals s a b → Contains a x → Contains b y → CanDivide s x y
+can_divide s a b x y few places pass hx hy =
     let i = scale_of x in
     let j = scale_of y in
     let u = numerator_at a.s_hi x in
@@ -172,11 +173,11 @@ can_divide mode s a b r x y few places pass hx hy =
 pub quotient_sound : (mode : Mode) (s : ℕ) (a b r : Interval) → s ≤ most_places → a.s_hi ≤ most_places → quotient_row mode s a b ≡ Ok r → QuotientIsSound mode s a b r
 quotient_sound mode s a b r few places e x y hx hy =
     let pass = quotient_passes mode s a b r e in
-    let can = can_divide mode s a b r x y few places pass hx hy in
+    let can = can_divide s a b x y few places pass.tests hx hy in
     let u = numerator_at a.s_hi x in
     let v = numerator_at b.s_hi y in
-    let some = divisor_some b v hy.low hy.high pass.some in
-    let steady = quotient_steady (end_quotient mode s a b) (rounded_rises mode (10 ^ (s + b.s_hi)) (10 ^ a.s_hi) (ten_some a.s_hi)) a b u v hx.low hx.high hy.low hy.high pass.some in
+    let some = divisor_some b v hy.low hy.high pass.tests.some in
+    let steady = quotient_steady (end_quotient mode s a b) (rounded_rises mode (10 ^ (s + b.s_hi)) (10 ^ a.s_hi) (ten_some a.s_hi)) a b u v hx.low hx.high hy.low hy.high pass.tests.some in
     record {
       not_zero = can.some;
       covers = record {
@@ -228,3 +229,19 @@ rescaling_sound mode s a r few e x hx =
             high = rw at (value_rises mode s a u a.hi hx.high);
           });
     }
+
+-- the ends themselves, as decimals
+pub low_end_inside : (a : Interval) → IsKeptInterval a → Contains a (decimal a.lo a.s_hi)
+low_end_inside a h = record { least_scale = h.scales; greatest_scale = omega arith; low = rw (own a.lo) (omega (arith, ints)); high = rw (own a.lo) h.order }
+  where
+    own : (n : ℤ) → n *ℤ ten_to (a.s_hi - a.s_hi) ≡ n
+    own n = let e : a.s_hi - a.s_hi ≡ 0 = omega arith in ap (λ k. n *ℤ ten_to k) e ∙ times_one n
+
+pub high_end_inside : (a : Interval) → IsKeptInterval a → Contains a (decimal a.hi a.s_hi)
+high_end_inside a h = record { least_scale = h.scales; greatest_scale = omega arith; low = rw (own a.hi) h.order; high = rw (own a.hi) (omega (arith, ints)) }
+  where
+    own : (n : ℤ) → n *ℤ ten_to (a.s_hi - a.s_hi) ≡ n
+    own n = let e : a.s_hi - a.s_hi ≡ 0 = omega arith in ap (λ k. n *ℤ ten_to k) e ∙ times_one n
+
+pub value_order : (mode : Mode) (s : ℕ) (a : Interval) (m n : ℤ) → m ≤ℤ n → end_value mode s a m ≤ℤ end_value mode s a n
+value_order = value_rises

@@ -1,6 +1,6 @@
 -- What each operation makes of intervals: one row an operation, with its ends, its scales and its causes of refusal in
 -- the order Divisor, Index, Scale, Wide.
-use Rattle.std.specs.Prelude.{ℕ, ◌+◌, ◌-◌, max, min, suc, nat_lt, nat_le, ◌||◌, ℤ, pos, negsuc, ◌+ℤ◌, ◌-ℤ◌, ◌*ℤ◌, neg_ℤ, int_le, int_lt, unsigned_abs, List, [], ◌∷◌, map, fold, length, slice_range, Result, Ok, if◌then◌else◌, not}
+use Rattle.std.specs.Prelude.{ℕ, Bool, ◌+◌, ◌-◌, max, min, suc, nat_lt, nat_le, ◌||◌, ℤ, pos, negsuc, ◌+ℤ◌, ◌-ℤ◌, ◌*ℤ◌, neg_ℤ, int_le, int_lt, unsigned_abs, List, [], ◌∷◌, map, fold, length, slice_range, Result, Ok, if◌then◌else◌, not}
 use Rattle.std.specs.List.{list_any, list_all}
 use Rattle.std.specs.Int.{int_min, int_max}
 use Rattle.scaled_decimal.specs.declared.rounding.Mode.{Mode}
@@ -78,13 +78,21 @@ magnitude_row a = interval (least_magnitude a) (most a) a.s_lo a.s_hi
 abbrev pub most_power : ℕ
 most_power = 37
 
+-- whether a power of ten, a lengthened dividend or a lengthened divisor may be beyond the limit
+abbrev pub quotient_is_wide : ℕ → Interval → Interval → Bool
+quotient_is_wide s a b =
+    nat_lt most_power (s + b.s_hi - a.s_lo)
+    || (is_beyond (most a *ℤ ten_to (s + b.s_hi - a.s_hi)) || is_beyond (most b *ℤ ten_to (a.s_hi - (s + b.s_hi))))
+
+-- the quotient of two ends, rounded to scale s
+abbrev pub end_quotient : Mode → ℕ → Interval → Interval → ℤ → ℤ → ℤ
+end_quotient mode s a b m n = numerator_of (quotient mode s (decimal m a.s_hi) (decimal n b.s_hi))
+
 abbrev pub quotient_row : Mode → ℕ → Interval → Interval → Answer
 quotient_row mode s a b =
     unless (has_zero b) Divisor (
-    unless (nat_lt most_power (s + b.s_hi - a.s_lo)) Wide (
-    unless (is_beyond (most a *ℤ ten_to (s + b.s_hi - a.s_hi))) Wide (
-    unless (is_beyond (most b *ℤ ten_to (a.s_hi - (s + b.s_hi)))) Wide (
-    Ok (hull (corners (λ m n. numerator_of (quotient mode s (decimal m a.s_hi) (decimal n b.s_hi))) a b) s s)))))
+    unless (quotient_is_wide s a b) Wide (
+    Ok (hull (corners (end_quotient mode s a b) a b) s s)))
 
 -- d is a plain divisor
 abbrev pub exact_quotient_row : ℤ → Interval → Answer
@@ -92,10 +100,14 @@ exact_quotient_row d a =
     unless (nat_lt most_places (a.s_hi + divisor_places d)) Scale (
     kept (interval (a.lo *ℤ cofactor d) (a.hi *ℤ cofactor d) a.s_lo (a.s_hi + divisor_places d)))
 
+-- an end, rounded to scale s
+abbrev pub end_value : Mode → ℕ → Interval → ℤ → ℤ
+end_value mode s a m = numerator_of (rescaled mode s (decimal m a.s_hi))
+
 abbrev pub rescaled_row : Mode → ℕ → Interval → Answer
 rescaled_row mode s a =
     unless (is_beyond (most a *ℤ ten_to (s - a.s_hi))) Wide (
-    Ok (interval (numerator_of (rescaled mode s (decimal a.lo a.s_hi))) (numerator_of (rescaled mode s (decimal a.hi a.s_hi))) s s))
+    Ok (interval (end_value mode s a a.lo) (end_value mode s a a.hi) s s))
 
 abbrev pub least_scale : List Decimal → ℕ
 least_scale [] = 0

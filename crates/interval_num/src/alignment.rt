@@ -1,5 +1,6 @@
 //! Intervals brought to one scale, and the limits of their ends.
-ghost use Rattle.std.specs.Prelude.{◌≡◌, ◌≤◌, ℤ, ◌≤ℤ◌, ◌*ℤ◌, IfOk, unsigned_abs};
+ghost use Rattle.std.specs.Prelude.{◌≡◌, ◌≤◌, ◌||◌, ℤ, pos, ◌≤ℤ◌, ◌*ℤ◌, IfOk, unsigned_abs};
+ghost use Rattle.scaled_decimal.specs.Decimals.{ten_to};
 ghost use Rattle.scaled_decimal.specs.Limits.{IsWithinLimit, most_places};
 ghost use Rattle.interval_num.specs.Intervals.{Interval, interval, HasKeptEnds, IsKeptInterval};
 ghost use Rattle.interval_num.specs.Alignment.{is_beyond, ends_beyond, kept, at_scale, greater_scale, aligned, most, has_zero, Align};
@@ -70,8 +71,7 @@ fn ends_beyond_at(a: Abs, q: u8) -> bool
     requires places { q ≤ most_places }
     ensures { result ≡ ends_beyond (at_scale q a) }
 {
-    let power = power_of_ten(q - a.s_hi());
-    product_is_beyond(a.lo(), power) || product_is_beyond(a.hi(), power)
+    ends_beyond_times(a, power_of_ten(q - a.s_hi()))
 }
 
 /// The interval with its ends at scale `q`, which is no less than its greatest.
@@ -82,8 +82,36 @@ pub(crate) fn at_scale(a: Abs, q: u8) -> Abs
     ensures value { result ≡ at_scale q a }
     ensures order { result.lo ≤ℤ result.hi }
 {
-    let power = power_of_ten(q - a.s_hi());
-    Abs::new(a.lo() * power, a.hi() * power, a.s_lo(), q)
+    times(a, power_of_ten(q - a.s_hi()), q)
+}
+
+/// Whether an end times a factor is beyond the limit of kept decimals.
+pub(crate) fn ends_beyond_times(a: Abs, factor: i128) -> bool
+    ensures { result ≡ (is_beyond (a.lo *ℤ factor) || is_beyond (a.hi *ℤ factor)) }
+{
+    product_is_beyond(a.lo(), factor) || product_is_beyond(a.hi(), factor)
+}
+
+/// The interval whose ends are multiplied, at another greatest scale.
+pub(crate) fn times(a: Abs, factor: i128, s_hi: u8) -> Abs
+    requires above { pos 0 ≤ℤ factor }
+    requires kept { IsWithinLimit factor }
+    requires low { IsWithinLimit (a.lo *ℤ factor) }
+    requires high { IsWithinLimit (a.hi *ℤ factor) }
+    requires scale { a.s_hi ≤ s_hi }
+    requires places { s_hi ≤ most_places }
+    ensures value { result ≡ interval (a.lo *ℤ factor) (a.hi *ℤ factor) a.s_lo s_hi }
+    ensures order { result.lo ≤ℤ result.hi }
+{
+    Abs::new(a.lo() * factor, a.hi() * factor, a.s_lo(), s_hi)
+}
+
+/// Whether the greatest numerator, lengthened by so many places, is beyond the limit of kept decimals.
+pub(crate) fn lengthened_is_beyond(a: Abs, places: u8) -> bool
+    requires { places ≤ 37 }
+    ensures { result ≡ is_beyond (most a *ℤ ten_to places) }
+{
+    product_is_beyond(most(a), power_of_ten(places))
 }
 
 /// The greatest magnitude of a numerator at the greatest scale.

@@ -1,18 +1,19 @@
 //! Quotients of decimals, and rescaling.
 ghost use Rattle.std.specs.Prelude.{◌≡◌, ◌≤◌, ◌≢◌, pos, IfOk};
-ghost use Rattle.scaled_decimal.specs.Decimals.{numerator_of};
+ghost use Rattle.scaled_decimal.specs.Decimals.{decimal, numerator_of};
 ghost use Rattle.scaled_decimal.specs.RoundedDecimals.{quotient, rescaled};
 ghost use Rattle.scaled_decimal.specs.WorkingNumbers.{QuotientFits, RescaleFits};
 ghost use Rattle.scaled_decimal.specs.ExactQuotients.{IsPlainDivisor};
 ghost use Rattle.scaled_decimal.specs.Limits.{most_places, IsWithinLimit};
-ghost use Rattle.interval_num.specs.Rows.{quotient_row, exact_quotient_row, rescaled_row};
+ghost use Rattle.interval_num.specs.PlainDivisors.{divisor_places, cofactor};
+ghost use Rattle.interval_num.specs.Rows.{quotient_is_wide, quotient_row, exact_quotient_row, rescaled_row};
 ghost use Rattle.interval_num.specs.Soundness.{QuotientIsSound, ExactQuotientIsSound, RescalingIsSound};
 
-use crate::alignment::{has_zero, most, product_is_beyond};
+use crate::alignment::{ends_beyond_times, has_zero, lengthened_is_beyond, times};
 use crate::cause::RangeCause;
 use crate::hull::hull;
 use crate::interval::Abs;
-use scaled_decimal::{Dec, Mode, power_of_ten};
+use scaled_decimal::{Dec, Mode};
 
 /// The greatest scale of a decimal.
 const MOST_PLACES: u8 = 30;
@@ -32,11 +33,7 @@ pub fn abs_div(a: Abs, b: Abs, s: u8, mode: Mode) -> Result<Abs, RangeCause>
     if has_zero(b) {
         return Err(RangeCause::Divisor);
     }
-    let places = s + b.s_hi();
-    if places.saturating_sub(a.s_lo()) > MOST_POWER
-        || product_is_beyond(most(a), power_of_ten(places.saturating_sub(a.s_hi())))
-        || product_is_beyond(most(b), power_of_ten(a.s_hi().saturating_sub(places)))
-    {
+    if quotient_is_wide(a, b, s) {
         return Err(RangeCause::Wide);
     }
     let ends = [
@@ -56,16 +53,16 @@ pub fn abs_div_exact(a: Abs, d: i128) -> Result<Abs, RangeCause>
     ensures exact { result ≡ exact_quotient_row d a }
     ensures sound { IfOk result (ExactQuotientIsSound d a) }
 {
-    let reciprocal = Dec::new(1, 0).div_exact(d);
+    let reciprocal = reciprocal(d);
     let s_hi = a.s_hi() + reciprocal.scale();
     if s_hi > MOST_PLACES {
         return Err(RangeCause::Scale);
     }
     let factor = reciprocal.numerator();
-    if product_is_beyond(a.lo(), factor) || product_is_beyond(a.hi(), factor) {
+    if ends_beyond_times(a, factor) {
         return Err(RangeCause::Wide);
     }
-    Ok(Abs::new(a.lo() * factor, a.hi() * factor, a.s_lo(), s_hi))
+    Ok(times(a, factor, s_hi))
 }
 
 /// The interval of the values rounded to scale `s`, which is at most 30; `Wide` where a lengthened end is beyond 10^37.
@@ -74,12 +71,31 @@ pub fn abs_set_scale(a: Abs, s: u8, mode: Mode) -> Result<Abs, RangeCause>
     ensures exact { result ≡ rescaled_row mode s a }
     ensures sound { IfOk result (RescalingIsSound mode s a) }
 {
-    if product_is_beyond(most(a), power_of_ten(s.saturating_sub(a.s_hi()))) {
+    if lengthened_is_beyond(a, s.saturating_sub(a.s_hi())) {
         return Err(RangeCause::Wide);
     }
     let lo = rounded_value(a.low(), s, mode);
     let hi = rounded_value(a.high(), s, mode);
     Ok(Abs::new(lo, hi, s, s))
+}
+
+/// Whether a power of ten, a lengthened dividend or a lengthened divisor may be beyond the limit of kept decimals.
+fn quotient_is_wide(a: Abs, b: Abs, s: u8) -> bool
+    requires { s ≤ most_places }
+    ensures { result ≡ quotient_is_wide s a b }
+{
+    let places = s + b.s_hi();
+    places.saturating_sub(a.s_lo()) > MOST_POWER
+        || lengthened_is_beyond(a, places.saturating_sub(a.s_hi()))
+        || lengthened_is_beyond(b, a.s_hi().saturating_sub(places))
+}
+
+/// 1 / `d`, without zeros at its end.
+fn reciprocal(d: i128) -> Dec
+    requires { IsPlainDivisor d }
+    ensures { result ≡ decimal (cofactor d) (divisor_places d) }
+{
+    Dec::new(1, 0).div_exact(d)
 }
 
 /// The numerator of a quotient at scale `s`.

@@ -1,0 +1,15 @@
+use Rattle.std.proofs.Common.{◌∙◌, sym}
+use Rattle.interval_num.specs.Soundness.{ItemIsSound}
+use Rattle.interval_num.proofs.AlignmentLemmas.{if_ok}
+use Rattle.interval_num.proofs.ItemLemmas.{item_sound}
+use Rattle.interval_num.proofs.items.abs_item.Goals as goal
+
+pub returns-clause-exact : goal.returns-clause-exact
+returns-clause-exact c =
+    let e = c.least_interval.ensures in
+    let f = c.if-lo-lt0.false in
+    let g = c.if-hi-items.false in
+    ?
+
+pub returns-clause-sound : goal.returns-clause-sound
+returns-clause-sound c = if_ok c.least_interval.result (ItemIsSound c.args.items.now c.args.index) (λ r e. item_sound c.args.items.now c.args.index r c.requires (sym (returns-clause-exact c) ∙ e))
