@@ -1,18 +1,17 @@
 -- Decimals at a scale that is no less than their own, and what an aligned operation takes for granted.
-use Rattle.std.proofs.Common.{◌≡◌, ℕ, ◌+◌, ◌-◌, ◌^◌, ◌≤◌, max, ℤ, pos, ◌+ℤ◌, ◌-ℤ◌, ◌*ℤ◌, ◌≤ℤ◌, Bool, true, false, ◌||◌, Ok, Err, Result, refl, sym, ap, ◌∙◌, subst, arith}
-use Rattle.std.proofs.lemmas.Int.{ints}
+use Rattle.std.proofs.Common.{◌≡◌, ℕ, ◌-◌, ◌^◌, ◌≤◌, ◌*ℤ◌, ◌≤ℤ◌, Bool, true, false, ◌||◌, Ok, Err, refl, subst, arith}
 use Rattle.std.specs.Prelude.{IfOk}
-use Rattle.scaled_decimal.specs.IntegerLemmas.{le_times, times_sub}
+use Rattle.scaled_decimal.specs.IntegerLemmas.{le_times}
 use Rattle.scaled_decimal.specs.Decimals.{Decimal, numerator_of, scale_of, numerator_at, ten_to}
 use Rattle.scaled_decimal.specs.Decimals.{greater_scale as greater_places}
 use Rattle.scaled_decimal.specs.WorkingNumbers.{ComparisonFits}
 use Rattle.scaled_decimal.specs.Limits.{IsWithinLimit}
 use Rattle.interval_num.specs.declared.cause.RangeCause.{RangeCause}
 use Rattle.interval_num.specs.declared.cause.RangeCause.TheVariants.{Wide}
-use Rattle.interval_num.specs.Intervals.{Interval, interval, Contains, HasKeptEnds}
+use Rattle.interval_num.specs.Intervals.{Interval, Contains, HasKeptEnds}
 use Rattle.interval_num.specs.Alignment.{unless, is_beyond, ends_beyond, kept, at_scale, greater_scale, aligned, Align}
 use Rattle.interval_num.specs.Rows.{Answer}
-use Rattle.interval_num.proofs.NumberLemmas.{longer, times_plus, within_out, within_in, kept_shorter, kept_between}
+use Rattle.interval_num.proofs.NumberLemmas.{longer, within_out, kept_shorter, kept_between}
 
 -- a numerator at one scale, at a greater one
 pub at_greater : (x : Decimal) (p q : ℕ) → scale_of x ≤ p → p ≤ q → numerator_at p x *ℤ ten_to (q - p) ≡ numerator_at q x

@@ -1,15 +1,15 @@
 -- A result lies between the results at the ends, where it lies between two in each operand.
-use Rattle.std.proofs.Common.{◌≡◌, ℕ, zero, suc, ◌+◌, ◌-◌, ◌*◌, ◌^◌, ◌<◌, ◌≤◌, max, ℤ, pos, negsuc, ◌+ℤ◌, ◌*ℤ◌, ◌≤ℤ◌, neg_ℤ, unsigned_abs, nat_lt, List, [], ◌∷◌, All, Ok, Result, true, false, refl, sym, ap, ap₂, ◌∙◌, subst, inl, inr, ◌⊎◌, arith}
+use Rattle.std.proofs.Common.{◌≡◌, ℕ, suc, ◌+◌, ◌-◌, ◌≤◌, ℤ, pos, negsuc, ◌*ℤ◌, ◌≤ℤ◌, unsigned_abs, nat_lt, List, [], ◌∷◌, All, Ok, sym, ap, ◌∙◌, subst, inl, inr, ◌⊎◌, arith}
 use Rattle.std.proofs.lemmas.Int.{ints, clamps, unsigned_abs-mul}
 use Rattle.std.proofs.lemmas.Bool.Decides.{nat_tests}
 use Rattle.std.proofs.lemmas.Nat.{mul-le}
 use Rattle.std.proofs.lemmas.List.Elements.{All-nil, All-cons}
 use Rattle.std.proofs.Math.IntN.{*ℤ_comm}
 use Rattle.scaled_decimal.specs.IntegerLemmas.{le_times, times_assoc, times_swap, times_neg_right}
-use Rattle.scaled_decimal.specs.Decimals.{Decimal, numerator_of, scale_of, numerator_at, ten_to, product}
+use Rattle.scaled_decimal.specs.Decimals.{numerator_of, scale_of, numerator_at, ten_to}
 use Rattle.scaled_decimal.specs.Limits.{IsWithinLimit, most_places}
 use Rattle.interval_num.specs.declared.cause.RangeCause.TheVariants.{Wide, Scale}
-use Rattle.interval_num.specs.Intervals.{Interval, interval, Contains}
+use Rattle.interval_num.specs.Intervals.{Interval, Contains}
 use Rattle.interval_num.specs.Alignment.{unless, is_beyond, least, greatest, hull, corners, most}
 use Rattle.interval_num.specs.Rows.{product_row}
 use Rattle.interval_num.specs.Soundness.{ProductIsSound}

@@ -1,9 +1,8 @@
 -- Exact quotients by plain divisors.
-use Rattle.std.proofs.Common.{◌≡◌, ◌≢◌, ℕ, zero, suc, ◌+◌, ◌-◌, ◌*◌, ◌^◌, ◌<◌, ◌≤◌, ℤ, pos, negsuc, ◌+ℤ◌, ◌*ℤ◌, ◌≤ℤ◌, neg_ℤ, unsigned_abs, int_div, int_rem, nat_lt, Bool, true, false, if◌then◌else◌, Ok, refl, sym, ap, ap₂, ◌∙◌, subst, inl, inr, arith}
+use Rattle.std.proofs.Common.{◌≡◌, ◌≢◌, ℕ, zero, suc, ◌+◌, ◌-◌, ◌*◌, ◌^◌, ◌≤◌, ℤ, pos, negsuc, ◌*ℤ◌, ◌≤ℤ◌, neg_ℤ, unsigned_abs, int_div, int_rem, nat_lt, Bool, true, false, if◌then◌else◌, Ok, refl, sym, ap, ap₂, ◌∙◌, subst, arith}
 use Rattle.std.specs.Ordering.{int_eq}
 use Rattle.std.proofs.lemmas.Int.{ints, quot-rem, unsigned_abs-mul}
 use Rattle.std.proofs.lemmas.Bool.Decides.{nat_tests}
-use Rattle.std.proofs.lemmas.Bool.{cases_lt}
 use Rattle.std.proofs.Math.Nat.{mul-mod_left, pow-le-pow_right, le-mul_of_pos_right}
 use Rattle.scaled_decimal.specs.IntegerLemmas.{le_times, times_assoc, times_swap, times_cancel}
 use Rattle.scaled_decimal.specs.Decimals.{Decimal, decimal, numerator_of, scale_of, numerator_at, ten_to}
@@ -11,7 +10,7 @@ use Rattle.scaled_decimal.specs.ExactQuotients.{Divides, IsPlainDivisor, HoldsQu
 use Rattle.scaled_decimal.specs.WorkingNumbers.{IsDivisorPlaces, ExactQuotientFits}
 use Rattle.scaled_decimal.specs.Limits.{IsWithinLimit, most_places}
 use Rattle.interval_num.specs.declared.cause.RangeCause.TheVariants.{Scale}
-use Rattle.interval_num.specs.Intervals.{Interval, interval, Contains, HasKeptEnds}
+use Rattle.interval_num.specs.Intervals.{Interval, interval, Contains}
 use Rattle.interval_num.specs.Alignment.{kept}
 use Rattle.interval_num.specs.PlainDivisors.{first_power, divisor_places, cofactor}
 use Rattle.interval_num.specs.Rows.{exact_quotient_row}

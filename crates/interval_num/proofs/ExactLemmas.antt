@@ -1,17 +1,14 @@
 -- Sums, differences, the lesser and the greater, joins, opposites and magnitudes lie in their rows' intervals.
-use Rattle.std.proofs.Common.{◌≡◌, ℕ, ◌+◌, ◌-◌, ◌^◌, ◌≤◌, max, min, ℤ, pos, negsuc, ◌+ℤ◌, ◌-ℤ◌, ◌*ℤ◌, ◌≤ℤ◌, ◌<ℤ◌, neg_ℤ, unsigned_abs, int_le, int_lt, Bool, true, false, ◌&&◌, if◌then◌else◌, Ok, Result, refl, sym, ap, ap₂, ◌∙◌, subst, arith}
-use Rattle.std.specs.Int.{int_min, int_max}
+use Rattle.std.proofs.Common.{◌≡◌, ℕ, ◌-◌, ◌≤◌, max, min, ℤ, pos, negsuc, ◌+ℤ◌, ◌-ℤ◌, ◌*ℤ◌, ◌≤ℤ◌, unsigned_abs, int_le, Bool, true, false, ◌&&◌, if◌then◌else◌, Ok, refl, sym, ap, ap₂, ◌∙◌, subst, arith}
 use Rattle.std.proofs.lemmas.Int.{ints, clamps, unsigned_abs-mul}
-use Rattle.std.proofs.lemmas.Bool.Decides.{nat_tests}
 use Rattle.scaled_decimal.specs.IntegerLemmas.{times_sub, times_neg}
-use Rattle.scaled_decimal.specs.Decimals.{Decimal, decimal, numerator_of, scale_of, numerator_at, ten_to, sum, difference, negated, magnitude}
+use Rattle.scaled_decimal.specs.Decimals.{Decimal, numerator_of, scale_of, numerator_at, ten_to}
 use Rattle.scaled_decimal.specs.Decimals.{greater_scale as greater_places}
-use Rattle.scaled_decimal.specs.WorkingNumbers.{ComparisonFits, SumFits, DifferenceFits}
 use Rattle.scaled_decimal.specs.Limits.{IsWithinLimit}
-use Rattle.interval_num.specs.Intervals.{Interval, interval, Contains, HasKeptEnds}
-use Rattle.interval_num.specs.Alignment.{at_scale, greater_scale, aligned, Align, has_zero, most}
+use Rattle.interval_num.specs.Intervals.{Interval, Contains}
+use Rattle.interval_num.specs.Alignment.{at_scale, greater_scale, has_zero}
 use Rattle.interval_num.specs.Rows.{sum_of, sum_row, difference_of, difference_row, join_of, join_row, negated_row, magnitude_row}
-use Rattle.interval_num.specs.Soundness.{Covers, SumIsSound, DifferenceIsSound, JoinIsSound, NegationIsSound, MagnitudeIsSound}
+use Rattle.interval_num.specs.Soundness.{SumIsSound, DifferenceIsSound, JoinIsSound, NegationIsSound, MagnitudeIsSound}
 use Rattle.interval_num.proofs.NumberLemmas.{times_plus, times_one, kept_shorter, kept_between}
 use Rattle.interval_num.proofs.AlignmentLemmas.{at_greater, kept_ok, ok_is, IsMade, aligned_ok, low_holds, high_holds, left_low, left_high, right_low, right_high, places_le, comparison_fits}
 

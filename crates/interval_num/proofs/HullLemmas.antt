@@ -1,5 +1,5 @@
 -- The least and the greatest of some numbers, as the code finds them.
-use Rattle.std.proofs.Common.{◌≡◌, ℕ, zero, suc, ◌<◌, ◌≤◌, take, ℤ, pos, ◌≤ℤ◌, List, [], ◌∷◌, length, fold, All, slice_index_or, refl, sym, ap, ◌∙◌, subst, arith}
+use Rattle.std.proofs.Common.{◌≡◌, ℕ, zero, suc, ◌<◌, ◌≤◌, take, ℤ, pos, ◌≤ℤ◌, List, [], ◌∷◌, length, fold, All, slice_index_or, refl, ap, ◌∙◌, arith}
 use Rattle.std.specs.Int.{int_min, int_max}
 use Rattle.std.proofs.lemmas.Int.{ints, clamps}
 use Rattle.std.proofs.lemmas.List.Elements.{All-head, All-tail, All-get_or}

@@ -1,6 +1,6 @@
 -- The items that an index may choose lie in the interval of its row.
-use Rattle.std.proofs.Common.{◌≡◌, ℕ, zero, suc, ◌+◌, ◌-◌, ◌<◌, ◌≤◌, max, min, ℤ, pos, negsuc, ◌≤ℤ◌, ◌<ℤ◌, unsigned_abs, int_le, int_lt, Bool, true, false, ◌||◌, List, [], ◌∷◌, length, map, fold, take, drop, get_or, Some, None, Ok, refl, sym, ap, ◌∙◌, subst, arith}
-use Rattle.std.specs.Prelude.{slice_get, slice_range, Option}
+use Rattle.std.proofs.Common.{◌≡◌, ℕ, zero, suc, ◌+◌, ◌-◌, ◌<◌, ◌≤◌, max, min, ℤ, pos, negsuc, ◌≤ℤ◌, ◌<ℤ◌, unsigned_abs, int_le, int_lt, Bool, true, false, ◌||◌, List, [], ◌∷◌, length, map, fold, take, drop, get_or, Some, Ok, refl, ap, ◌∙◌, subst, arith}
+use Rattle.std.specs.Prelude.{slice_get, slice_range}
 use Rattle.std.specs.List.{list_any}
 use Rattle.std.specs.Int.{int_min, int_max}
 use Rattle.std.proofs.lemmas.Int.{ints, clamps}
@@ -8,10 +8,10 @@ use Rattle.std.proofs.lemmas.Option.{slice_get-get_or, slice_get-map}
 use Rattle.scaled_decimal.specs.Decimals.{Decimal, scale_of, numerator_at}
 use Rattle.scaled_decimal.specs.WholeNumbers.{whole_decimal}
 use Rattle.interval_num.specs.declared.cause.RangeCause.TheVariants.{Wide, Index}
-use Rattle.interval_num.specs.Intervals.{Interval, interval, Contains, IsWhole}
+use Rattle.interval_num.specs.Intervals.{Interval, Contains, IsWhole}
 use Rattle.interval_num.specs.Alignment.{is_beyond, least, greatest, hull}
 use Rattle.interval_num.specs.Rows.{least_scale, greatest_scale, decimals_row, item_row}
-use Rattle.interval_num.specs.Soundness.{HasItem, ItemIsSound}
+use Rattle.interval_num.specs.Soundness.{ItemIsSound}
 use Rattle.interval_num.proofs.AlignmentLemmas.{unless_ok, ok_is}
 use Rattle.interval_num.proofs.WholeLemmas.{whole_low, whole_high}
 

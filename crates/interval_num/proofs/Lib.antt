@@ -5,6 +5,7 @@ pub mod DivisorLemmas
 pub mod ExactLemmas
 pub mod HullLemmas
 pub mod ItemLemmas
+pub mod Laws
 pub mod ListLemmas
 pub mod MachineLemmas
 pub mod OrderLemmas

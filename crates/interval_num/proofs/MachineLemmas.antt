@@ -1,6 +1,6 @@
 -- What numbers of 128 bits hold: z is kept as its bits, `to_z w128 (of_z w128 z)`. Each lemma takes the code's numbers m
 -- and n beside the definition's u and v.
-use Rattle.std.proofs.Common.{◌≡◌, ◌+◌, ◌≤◌, ◌^◌, int_div, ℤ, pos, ◌+ℤ◌, ◌-ℤ◌, ◌*ℤ◌, ◌≤ℤ◌, neg_ℤ, unsigned_abs, min, FitsSigned, to_z, of_z, refl, sym, ap, ap₂, ◌∙◌, subst, arith}
+use Rattle.std.proofs.Common.{◌≡◌, ◌+◌, ◌≤◌, ◌^◌, int_div, ℤ, pos, ◌+ℤ◌, ◌-ℤ◌, ◌*ℤ◌, ◌≤ℤ◌, neg_ℤ, unsigned_abs, min, FitsSigned, to_z, of_z, sym, ap, ap₂, ◌∙◌, subst, arith}
 use Rattle.std.specs.Int.{w128, int_min, int_max}
 use Rattle.std.proofs.lemmas.Int.{ints, clamps, to_z-of_z, fits_signed_from_abs, fits_signed_mul}
 use Rattle.scaled_decimal.specs.Limits.{IsWithinLimit, limit}

@@ -1,22 +1,21 @@
 -- The order of two decimals of aligned intervals: the lesser, the greater, the comparison and the signs.
-use Rattle.std.proofs.Common.{◌≡◌, ℕ, ◌+◌, ◌-◌, ◌^◌, ◌<◌, ◌≤◌, max, min, ℤ, pos, negsuc, ◌+ℤ◌, ◌-ℤ◌, ◌*ℤ◌, ◌≤ℤ◌, ◌<ℤ◌, int_le, int_lt, Bool, true, false, ◌&&◌, if◌then◌else◌, IsTrue, Ok, Result, Ordering, Less, Equal, Greater, refl, sym, ap, ap₂, ◌∙◌, subst, arith}
+use Rattle.std.proofs.Common.{◌≡◌, ℕ, ◌+◌, ◌-◌, ◌^◌, ◌<◌, ◌≤◌, min, ℤ, pos, negsuc, ◌*ℤ◌, ◌≤ℤ◌, ◌<ℤ◌, int_le, int_lt, Bool, true, false, if◌then◌else◌, Ok, Ordering, Less, Equal, Greater, refl, sym, ap, ap₂, ◌∙◌, subst, arith}
 use Rattle.std.specs.Int.{int_min, int_max}
 use Rattle.std.specs.Ordering.{int_cmp, MatchOrdering, is_gt, is_lt}
 use Rattle.std.specs.Cmp.{int_ranks, int_cmp_is}
 use Rattle.std.proofs.lemmas.Int.{ints, clamps}
 use borrow.Author.Differences.{true_is_lt, true_is_le, lt_out, le_out}
 use Rattle.scaled_decimal.specs.IntegerLemmas.{lt_times}
-use Rattle.scaled_decimal.specs.Decimals.{Decimal, numerator_of, scale_of, numerator_at, ten_to, value_order, lesser, greater, order_number, comparison}
-use Rattle.scaled_decimal.specs.WholeNumbers.{whole_decimal}
+use Rattle.scaled_decimal.specs.Decimals.{Decimal, numerator_of, scale_of, numerator_at, ten_to, value_order, order_number, comparison}
 use Rattle.scaled_decimal.specs.Limits.{IsWithinLimit}
 use Rattle.interval_num.specs.declared.sign_set.SignSet.{SignSet}
 use Rattle.interval_num.specs.Intervals.{Interval, interval, Contains}
 use Rattle.interval_num.specs.Alignment.{at_scale, greater_scale}
-use Rattle.interval_num.specs.Signs.{signs_at, signs_of, least_sign, greatest_sign, HasOrder, HasSign}
+use Rattle.interval_num.specs.Signs.{signs_at, signs_of, least_sign, greatest_sign, HasOrder}
 use Rattle.interval_num.specs.Rows.{min_of, min_row, max_of, max_row, comparison_of, comparison_row}
 use Rattle.interval_num.specs.Soundness.{MinIsSound, MaxIsSound, ComparisonIsSound, SignsAreSound}
 use Rattle.interval_num.proofs.NumberLemmas.{longer, ten_some, times_one}
-use Rattle.interval_num.proofs.AlignmentLemmas.{ok_is, aligned_ok, low_holds, high_holds, left_low, left_high, right_low, right_high, comparison_fits}
+use Rattle.interval_num.proofs.AlignmentLemmas.{ok_is, aligned_ok, left_low, left_high, right_low, right_high, comparison_fits}
 
 ranks_map : (r : Ordering) (P Q R P' Q' R' : Type 0) → (P → P') → (Q → Q') → (R → R') → MatchOrdering r P Q R → MatchOrdering r P' Q' R'
 ranks_map Less P Q R P' Q' R' f g h m = f m

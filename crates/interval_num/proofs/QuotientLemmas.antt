@@ -1,16 +1,16 @@
 -- Rounded quotients and values lie in their rows' intervals, and their working numbers fit.
-use Rattle.std.proofs.Common.{◌≡◌, ◌≢◌, ℕ, zero, suc, ◌+◌, ◌-◌, ◌*◌, ◌^◌, ◌<◌, ◌≤◌, ℤ, pos, ◌-ℤ◌, ◌*ℤ◌, ◌≤ℤ◌, unsigned_abs, nat_lt, ◌||◌, Bool, true, false, Ok, Err, refl, sym, ap, ap₂, ◌∙◌, subst, arith}
+use Rattle.std.proofs.Common.{◌≡◌, ◌≢◌, ℕ, ◌+◌, ◌-◌, ◌^◌, ◌≤◌, ℤ, pos, ◌-ℤ◌, ◌*ℤ◌, ◌≤ℤ◌, unsigned_abs, nat_lt, ◌||◌, Bool, true, false, Ok, refl, sym, ap, ◌∙◌, subst, arith}
 use Rattle.std.proofs.lemmas.Int.{ints, unsigned_abs-mul}
 use Rattle.std.proofs.lemmas.Bool.Decides.{nat_tests}
 use Rattle.std.proofs.Math.Nat.{mul-le-mul_right}
 use Rattle.scaled_decimal.specs.declared.rounding.Mode.{Mode}
-use Rattle.scaled_decimal.specs.Rounding.{Rounds, IsAtMost}
+use Rattle.scaled_decimal.specs.Rounding.{Rounds}
 use Rattle.scaled_decimal.specs.RoundingLaws.{rounds_exactly_one, rounds_rising}
 use Rattle.scaled_decimal.specs.ScaledLemmas.{rounds_scaled}
 use Rattle.scaled_decimal.specs.IntegerLemmas.{le_times, times_zero}
-use Rattle.scaled_decimal.specs.Decimals.{Decimal, decimal, numerator_of, scale_of, numerator_at, ten_to, RoundsValue, RoundsQuotient, IsQuotient, IsRescaled}
-use Rattle.scaled_decimal.specs.RoundedDecimals.{rounded, rounded_is, quotient, quotient_is, rescaled, rescaled_is}
-use Rattle.scaled_decimal.specs.WorkingNumbers.{QuotientFits, RescaleFits, places_moved}
+use Rattle.scaled_decimal.specs.Decimals.{Decimal, decimal, numerator_of, scale_of, numerator_at, ten_to, RoundsValue, RoundsQuotient}
+use Rattle.scaled_decimal.specs.RoundedDecimals.{rounded, rounded_is, quotient, rescaled}
+use Rattle.scaled_decimal.specs.WorkingNumbers.{QuotientFits, RescaleFits}
 use Rattle.scaled_decimal.specs.Limits.{IsWithinLimit, most_places}
 use Rattle.interval_num.specs.declared.cause.RangeCause.TheVariants.{Wide, Divisor}
 use Rattle.interval_num.specs.Intervals.{Interval, interval, Contains, IsKeptInterval}

@@ -1,5 +1,5 @@
 -- Refinement keeps every decimal that stands in an allowed sign to one of the other interval.
-use Rattle.std.proofs.Common.{◌≡◌, ◌≢◌, ℕ, zero, suc, ◌+◌, ◌-◌, ◌^◌, ◌<◌, ◌≤◌, ℤ, pos, negsuc, ◌+ℤ◌, ◌-ℤ◌, ◌*ℤ◌, ◌≤ℤ◌, ◌<ℤ◌, int_le, int_lt, Bool, true, false, not, ◌&&◌, if◌then◌else◌, IsTrue, Option, Some, None, Ordering, Less, Equal, Greater, refl, sym, ap, ◌∙◌, subst, arith}
+use Rattle.std.proofs.Common.{◌≡◌, ◌≢◌, ℕ, ◌+◌, ◌-◌, ◌^◌, ℤ, pos, ◌+ℤ◌, ◌-ℤ◌, ◌*ℤ◌, ◌≤ℤ◌, ◌<ℤ◌, int_le, Bool, true, false, not, ◌&&◌, if◌then◌else◌, IsTrue, Option, Some, None, Ordering, Less, Equal, Greater, refl, sym, ap, ◌∙◌, subst, arith}
 use Rattle.std.specs.Prelude.{IfSome, IfNone}
 use Rattle.std.specs.Bool.{OnTrue}
 use Rattle.std.specs.Int.{int_min, int_max}
@@ -7,16 +7,16 @@ use Rattle.std.specs.Ordering.{int_eq}
 use Rattle.std.proofs.lemmas.Int.{ints, clamps, by_lt_z}
 use Rattle.std.proofs.lemmas.Bool.Decides.{nat_tests}
 use Rattle.scaled_decimal.specs.declared.rounding.Mode.TheVariants.{Floor, Ceiling}
-use Rattle.scaled_decimal.specs.IntegerLemmas.{le_times, times_more, times_less}
+use Rattle.scaled_decimal.specs.IntegerLemmas.{le_times}
 use Rattle.scaled_decimal.specs.Rounding.{IsFloor, IsCeiling}
-use Rattle.scaled_decimal.specs.Decimals.{Decimal, decimal, numerator_of, scale_of, numerator_at, ten_to, value_order}
+use Rattle.scaled_decimal.specs.Decimals.{Decimal, decimal, numerator_of, numerator_at, ten_to, value_order}
 use Rattle.scaled_decimal.specs.RoundedDecimals.{rescaled, rescaled_is}
 use Rattle.interval_num.specs.declared.sign_set.SignSet.{SignSet}
 use Rattle.interval_num.specs.Intervals.{Interval, interval, Contains, IsWhole}
 use Rattle.interval_num.specs.Signs.{HasOrder, HasSign}
 use Rattle.interval_num.specs.Refinement.{refined, gap, low_end, high_end, is_apart, without, unless_empty}
-use Rattle.interval_num.specs.Soundness.{IsAllowed, RefinementIsSound, NoneIsAllowed}
-use Rattle.interval_num.proofs.NumberLemmas.{ten_some, times_one}
+use Rattle.interval_num.specs.Soundness.{RefinementIsSound, NoneIsAllowed}
+use Rattle.interval_num.proofs.NumberLemmas.{times_one}
 use Rattle.interval_num.proofs.AlignmentLemmas.{at_greater}
 use Rattle.interval_num.proofs.OrderLemmas.{Ranks, ranked, is_most}
 

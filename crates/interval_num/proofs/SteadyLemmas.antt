@@ -1,11 +1,11 @@
 -- A rounded quotient lies between those at the ends, by the laws that every rounding has.
-use Rattle.std.proofs.Common.{◌≡◌, ◌≢◌, ℕ, zero, suc, ◌+◌, ◌-◌, ◌*◌, ◌^◌, ◌<◌, ◌≤◌, ℤ, pos, negsuc, ◌+ℤ◌, ◌-ℤ◌, ◌*ℤ◌, ◌≤ℤ◌, ◌<ℤ◌, neg_ℤ, unsigned_abs, int_le, Bool, true, false, ◌&&◌, refl, sym, ap, ap₂, ◌∙◌, subst, inl, inr, ◌⊎◌, arith}
+use Rattle.std.proofs.Common.{◌≡◌, ◌≢◌, ℕ, zero, suc, ◌+◌, ◌-◌, ◌*◌, ◌^◌, ◌<◌, ◌≤◌, ℤ, pos, negsuc, ◌-ℤ◌, ◌*ℤ◌, ◌≤ℤ◌, ◌<ℤ◌, neg_ℤ, unsigned_abs, int_le, Bool, true, false, ◌&&◌, refl, sym, ap, ◌∙◌, subst, inl, inr, ◌⊎◌, arith}
 use Rattle.std.proofs.lemmas.Int.{ints, unsigned_abs-mul, by_lt_z}
 use Rattle.std.proofs.lemmas.Bool.{cases_lt}
 use Rattle.std.proofs.Math.Nat.{mul-le-mul_left, mul-le-mul_right, mul_comm, suc-mul, le-mul_of_pos_right, pow-le-pow_right}
-use borrow.Author.Differences.{true_is_lt, true_is_le, lt_out, le_out}
+use borrow.Author.Differences.{true_is_le, le_out}
 use Rattle.scaled_decimal.specs.declared.rounding.Mode.{Mode}
-use Rattle.scaled_decimal.specs.Rounding.{Rounds, IsAtMost, IsNear, dividend_over, StaysNear, RisesWithQuotient}
+use Rattle.scaled_decimal.specs.Rounding.{Rounds, IsAtMost, dividend_over}
 use Rattle.scaled_decimal.specs.RoundingLaws.{rounds_near, rounds_rising}
 use Rattle.scaled_decimal.specs.IntegerLemmas.{le_times, times_assoc, times_neg, times_swap, times_zero, some_abs}
 use Rattle.scaled_decimal.specs.Decimals.{ten_to}

@@ -1,25 +1,24 @@
 -- The results of operations on whole numbers lie in their rows' intervals, and the width holds them.
-use Rattle.std.proofs.Common.{◌≡◌, ◌≢◌, ℕ, zero, suc, ◌+◌, ◌-◌, ◌*◌, ◌^◌, ◌<◌, ◌≤◌, max, ℤ, pos, negsuc, ◌+ℤ◌, ◌-ℤ◌, ◌*ℤ◌, ◌≤ℤ◌, ◌<ℤ◌, neg_ℤ, unsigned_abs, int_le, int_lt, int_div, int_rem, Bool, true, false, not, ◌&&◌, ◌||◌, if◌then◌else◌, List, [], ◌∷◌, fold, All, Ok, refl, sym, ap, ◌∙◌, subst, inl, inr, ◌⊎◌, arith}
+use Rattle.std.proofs.Common.{◌≡◌, ◌≢◌, ℕ, zero, suc, ◌-◌, ◌^◌, ◌≤◌, ℤ, pos, negsuc, ◌-ℤ◌, ◌*ℤ◌, ◌≤ℤ◌, neg_ℤ, unsigned_abs, int_le, int_lt, int_div, int_rem, Bool, true, false, not, ◌&&◌, if◌then◌else◌, List, [], ◌∷◌, fold, All, Ok, refl, sym, ap, ◌∙◌, subst, inl, inr, arith}
 use Rattle.std.specs.List.{list_all}
 use Rattle.std.specs.Int.{int_min, int_max}
 use Rattle.std.proofs.lemmas.Int.{ints, clamps, quot-rem, rem_below}
-use borrow.Author.Differences.{true_is_le, le_out}
 use native.Mathlib.Nat.{mod-le}
 use Rattle.std.proofs.lemmas.List.Elements.{All-nil, All-cons, All-head, All-tail}
 use Rattle.scaled_decimal.specs.declared.rounding.Mode.TheVariants.{Down}
 use Rattle.scaled_decimal.specs.Rounding.{Rounds}
 use Rattle.scaled_decimal.specs.RoundingLaws.{rounds_rising}
 use Rattle.scaled_decimal.specs.IntegerLemmas.{times_more, times_less, times_neg_right, some_abs}
-use Rattle.scaled_decimal.specs.Decimals.{Decimal, decimal, ten_to, numerator_at}
+use Rattle.scaled_decimal.specs.Decimals.{Decimal, ten_to}
 use Rattle.scaled_decimal.specs.WholeNumbers.{IsOfBits, is_of_bits, whole_sum, whole_difference, whole_product, whole_quotient, whole_remainder, whole_opposite, whole_decimal}
 use Rattle.interval_num.specs.declared.cause.RangeCause.TheVariants.{Wide, Divisor}
 use Rattle.interval_num.specs.Intervals.{Interval, interval, Contains, IsWhole, IsWholeOfBits}
-use Rattle.interval_num.specs.Alignment.{unless, least, greatest, hull, corners, most, has_zero}
-use Rattle.interval_num.specs.Rows.{Answer, whole_hull, whole_row, whole_opposite_row, whole_quotient_row, least_remainder, greatest_remainder, whole_remainder_row}
+use Rattle.interval_num.specs.Alignment.{least, greatest, hull, corners, most, has_zero}
+use Rattle.interval_num.specs.Rows.{whole_hull, whole_row, whole_opposite_row, whole_quotient_row, least_remainder, greatest_remainder, whole_remainder_row}
 use Rattle.interval_num.specs.Soundness.{WholeIsSound, WholeQuotientIsSound, WholeOppositeIsSound}
 use Rattle.interval_num.proofs.NumberLemmas.{times_one}
 use Rattle.interval_num.proofs.AlignmentLemmas.{unless_ok, ok_is}
-use Rattle.interval_num.proofs.CornerLemmas.{Between, IsSteady, corners_low, corners_high, times_steady, most_holds}
+use Rattle.interval_num.proofs.CornerLemmas.{IsSteady, corners_low, corners_high, times_steady, most_holds}
 use Rattle.interval_num.proofs.SteadyLemmas.{Rises, one_sign, quotient_steady, divisor_some}
 
 -- a whole number in an interval of whole numbers, and in one that is made

@@ -1,6 +1,6 @@
 -- What each operation makes of intervals: one row an operation, with its ends, its scales and its causes of refusal in
 -- the order Divisor, Index, Scale, Wide.
-use Rattle.std.specs.Prelude.{ℕ, Bool, ◌+◌, ◌-◌, max, min, suc, nat_lt, nat_le, ◌||◌, ℤ, pos, negsuc, ◌+ℤ◌, ◌-ℤ◌, ◌*ℤ◌, neg_ℤ, int_le, int_lt, unsigned_abs, List, [], ◌∷◌, map, fold, length, slice_range, Result, Ok, if◌then◌else◌, not}
+use Rattle.std.specs.Prelude.{ℕ, Bool, ◌+◌, ◌-◌, max, min, suc, nat_lt, ◌||◌, ℤ, pos, ◌+ℤ◌, ◌-ℤ◌, ◌*ℤ◌, neg_ℤ, int_le, int_lt, unsigned_abs, List, [], ◌∷◌, map, fold, length, slice_range, Result, Ok, if◌then◌else◌, not}
 use Rattle.std.specs.List.{list_any, list_all}
 use Rattle.std.specs.Int.{int_min, int_max}
 use Rattle.scaled_decimal.specs.declared.rounding.Mode.{Mode}
@@ -11,7 +11,7 @@ use Rattle.scaled_decimal.specs.Limits.{most_places}
 use Rattle.interval_num.specs.declared.cause.RangeCause.{RangeCause}
 use Rattle.interval_num.specs.declared.cause.RangeCause.TheVariants.{Wide, Scale, Divisor, Index}
 use Rattle.interval_num.specs.Intervals.{Interval, interval}
-use Rattle.interval_num.specs.Alignment.{unless, is_beyond, kept, aligned, least, greatest, hull, corners, most, has_zero, least_magnitude}
+use Rattle.interval_num.specs.Alignment.{unless, is_beyond, kept, aligned, hull, corners, most, has_zero, least_magnitude}
 use Rattle.interval_num.specs.PlainDivisors.{divisor_places, cofactor}
 use Rattle.interval_num.specs.Signs.{signs_at, least_sign, greatest_sign}
 

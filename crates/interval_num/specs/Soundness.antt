@@ -1,10 +1,10 @@
 -- What an interval that an operation answers promises for all decimals of its operands.
 use Rattle.std.specs.Prelude.{◌≡◌, ◌≢◌, ℕ, ℤ, pos, List, Some, slice_get}
 use Rattle.scaled_decimal.specs.declared.rounding.Mode.{Mode}
-use Rattle.scaled_decimal.specs.Decimals.{Decimal, decimal, numerator_of, sum, difference, product, negated, magnitude, comparison, lesser, greater, IsRescaled, IsQuotient}
+use Rattle.scaled_decimal.specs.Decimals.{Decimal, numerator_of, sum, difference, product, negated, magnitude, comparison, lesser, greater, IsRescaled, IsQuotient}
 use Rattle.scaled_decimal.specs.ExactQuotients.{IsExactQuotient}
 use Rattle.scaled_decimal.specs.WorkingNumbers.{SumFits, DifferenceFits, ProductFits, ComparisonFits, RescaleFits, QuotientFits, ExactQuotientFits}
-use Rattle.scaled_decimal.specs.WholeNumbers.{IsOfBits, whole_quotient, whole_remainder, whole_decimal}
+use Rattle.scaled_decimal.specs.WholeNumbers.{IsOfBits, whole_decimal}
 use Rattle.interval_num.specs.declared.sign_set.SignSet.{SignSet}
 use Rattle.interval_num.specs.Intervals.{Interval, Contains}
 use Rattle.interval_num.specs.Signs.{HasSign}

@@ -1,6 +1,5 @@
-use Rattle.std.proofs.Common.{◌≡◌, ◌≤ℤ◌, take, pos, slice_index_or, fold}
+use Rattle.std.proofs.Common.{◌≡◌, take, fold}
 use Rattle.std.specs.Int.{int_min, int_max}
-use Rattle.scaled_decimal.specs.Limits.{IsWithinLimit}
 use Rattle.interval_num.proofs.hull.hull.Given as goal
 
 abbrev pub invariant-loop-n : goal.invariant-loop-n

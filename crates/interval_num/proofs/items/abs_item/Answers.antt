@@ -7,7 +7,7 @@ use Rattle.interval_num.specs.Rows.{decimals_row}
 use Rattle.interval_num.specs.Soundness.{ItemIsSound}
 use Rattle.interval_num.proofs.AlignmentLemmas.{if_ok, unless_passes}
 use Rattle.interval_num.proofs.ItemLemmas.{item_sound}
-use Rattle.interval_num.proofs.MachineLemmas.{held, held_at}
+use Rattle.interval_num.proofs.MachineLemmas.{held_at}
 use Rattle.interval_num.proofs.items.abs_item.Goals as goal
 
 pub returns-clause-exact : goal.returns-clause-exact

@@ -1,4 +1,4 @@
-use Rattle.std.proofs.Common.{◌≡◌, Ok, ◌∙◌, sym, ap, ap₂, subst}
+use Rattle.std.proofs.Common.{Ok, ◌∙◌, sym, ap₂, subst}
 use Rattle.scaled_decimal.specs.Decimals.{decimal, numerator_of}
 use Rattle.scaled_decimal.specs.RoundedDecimals.{quotient}
 use Rattle.scaled_decimal.specs.WorkingNumbers.{QuotientFits}

@@ -1,7 +1,6 @@
-use Rattle.std.proofs.Common.{sym, subst, pos}
+use Rattle.std.proofs.Common.{sym, subst}
 use Rattle.std.specs.Int.{w128}
 use Rattle.std.proofs.lemmas.Int.{to_z-of_z}
-use Rattle.scaled_decimal.specs.Decimals.{decimal}
 use Rattle.scaled_decimal.specs.ExactQuotients.{IsExactQuotient}
 use Rattle.scaled_decimal.specs.WorkingNumbers.{ExactQuotientFits}
 use Rattle.interval_num.proofs.DivisorLemmas.{reciprocal_fits, reciprocal_is}

@@ -1,6 +1,6 @@
 use Rattle.interval_num.proofs.QuotientLemmas.{one_value}
 use Rattle.interval_num.proofs.MachineLemmas.{held_is}
-use Rattle.std.proofs.Common.{◌∙◌, ap}
+use Rattle.std.proofs.Common.{◌∙◌}
 use Rattle.scaled_decimal.specs.Decimals.{numerator_of}
 use Rattle.interval_num.proofs.quotients.rounded_value.Goals as goal
 

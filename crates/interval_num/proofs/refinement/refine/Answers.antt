@@ -1,4 +1,4 @@
-use Rattle.std.proofs.Common.{rules, arith, ◌≡◌, ◌∙◌, sym, FitsSigned}
+use Rattle.std.proofs.Common.{rules, arith, ◌∙◌, sym, FitsSigned}
 use Rattle.std.specs.Int.{w128}
 use Rattle.std.proofs.lemmas.Int.{ints, to_z-of_z}
 use Rattle.interval_num.specs.Soundness.{RefinementIsSound, NoneIsAllowed}

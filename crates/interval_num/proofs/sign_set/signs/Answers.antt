@@ -1,4 +1,4 @@
-use Rattle.std.proofs.Common.{subst, sym, ◌∙◌}
+use Rattle.std.proofs.Common.{subst, sym}
 use Rattle.interval_num.specs.Soundness.{SignsAreSound}
 use Rattle.interval_num.proofs.OrderLemmas.{signs_sound}
 use Rattle.interval_num.proofs.sign_set.signs.Goals as goal
