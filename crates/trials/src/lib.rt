@@ -7,6 +7,8 @@ mod counter;
 #[cfg(test)]
 mod decimals;
 #[cfg(test)]
+mod intervals;
+#[cfg(test)]
 mod names;
 #[cfg(test)]
 mod outside_objects;

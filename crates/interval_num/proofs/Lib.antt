@@ -1,0 +1,15 @@
+pub mod NumberLemmas
+pub mod AlignmentLemmas
+pub mod CornerLemmas
+pub mod DivisorLemmas
+pub mod ExactLemmas
+pub mod HullLemmas
+pub mod ItemLemmas
+pub mod Laws
+pub mod ListLemmas
+pub mod MachineLemmas
+pub mod OrderLemmas
+pub mod QuotientLemmas
+pub mod RefinementLemmas
+pub mod SteadyLemmas
+pub mod WholeLemmas

@@ -1,0 +1,10 @@
+pub mod Alignment
+pub mod Causes
+pub mod Intervals
+pub mod PlainDivisors
+pub mod Refinement
+pub mod Rows
+pub mod Signs
+pub mod Soundness
+pub mod Views
+pub mod Widths

@@ -1,0 +1,159 @@
+-- What each operation makes of intervals: one row an operation, with its ends, its scales and its causes of refusal in
+-- the order Divisor, Index, Scale, Wide.
+use Rattle.std.specs.Prelude.{ℕ, Bool, ◌+◌, ◌-◌, max, min, suc, nat_lt, ◌||◌, ℤ, pos, ◌+ℤ◌, ◌-ℤ◌, ◌*ℤ◌, neg_ℤ, int_le, int_lt, unsigned_abs, List, [], ◌∷◌, map, fold, length, slice_range, Result, Ok, if◌then◌else◌, not}
+use Rattle.std.specs.List.{list_any, list_all}
+use Rattle.std.specs.Int.{int_min, int_max}
+use Rattle.scaled_decimal.specs.declared.rounding.Mode.{Mode}
+use Rattle.scaled_decimal.specs.Decimals.{Decimal, decimal, numerator_of, scale_of, numerator_at, ten_to}
+use Rattle.scaled_decimal.specs.RoundedDecimals.{quotient, rescaled}
+use Rattle.scaled_decimal.specs.WholeNumbers.{is_of_bits, whole_quotient}
+use Rattle.scaled_decimal.specs.Limits.{most_places}
+use Rattle.interval_num.specs.declared.cause.RangeCause.{RangeCause}
+use Rattle.interval_num.specs.declared.cause.RangeCause.TheVariants.{Wide, Scale, Divisor, Index}
+use Rattle.interval_num.specs.Intervals.{Interval, interval}
+use Rattle.interval_num.specs.Alignment.{unless, is_beyond, kept, aligned, hull, corners, most, has_zero, least_magnitude}
+use Rattle.interval_num.specs.PlainDivisors.{divisor_places, cofactor}
+use Rattle.interval_num.specs.Signs.{signs_at, least_sign, greatest_sign}
+
+-- what an operation on one interval or on two answers
+abbrev pub Answer : Type 0
+Answer = Result Interval RangeCause
+
+-- add, of two aligned intervals
+abbrev pub sum_of : Interval → Interval → Answer
+sum_of x y = kept (interval (x.lo +ℤ y.lo) (x.hi +ℤ y.hi) (max x.s_lo y.s_lo) x.s_hi)
+
+-- subtract, of two aligned intervals
+abbrev pub difference_of : Interval → Interval → Answer
+difference_of x y = kept (interval (x.lo -ℤ y.hi) (x.hi -ℤ y.lo) (max x.s_lo y.s_lo) x.s_hi)
+
+-- min, of two aligned intervals
+abbrev pub min_of : Interval → Interval → Answer
+min_of x y = Ok (interval (int_min x.lo y.lo) (int_min x.hi y.hi) (min x.s_lo y.s_lo) x.s_hi)
+
+-- max, of two aligned intervals
+abbrev pub max_of : Interval → Interval → Answer
+max_of x y = Ok (interval (int_max x.lo y.lo) (int_max x.hi y.hi) (min x.s_lo y.s_lo) x.s_hi)
+
+-- compareTo, of two aligned intervals
+abbrev pub comparison_of : Interval → Interval → Answer
+comparison_of x y = Ok (interval (least_sign (signs_at x y)) (greatest_sign (signs_at x y)) 0 0)
+
+-- the least interval that contains both, of two aligned intervals
+abbrev pub join_of : Interval → Interval → Answer
+join_of x y = Ok (interval (int_min x.lo y.lo) (int_max x.hi y.hi) (min x.s_lo y.s_lo) x.s_hi)
+
+abbrev pub sum_row : Interval → Interval → Answer
+sum_row = aligned sum_of
+
+abbrev pub difference_row : Interval → Interval → Answer
+difference_row = aligned difference_of
+
+abbrev pub min_row : Interval → Interval → Answer
+min_row = aligned min_of
+
+abbrev pub max_row : Interval → Interval → Answer
+max_row = aligned max_of
+
+abbrev pub comparison_row : Interval → Interval → Answer
+comparison_row = aligned comparison_of
+
+-- where two branches meet
+abbrev pub join_row : Interval → Interval → Answer
+join_row = aligned join_of
+
+abbrev pub product_row : Interval → Interval → Answer
+product_row a b =
+    unless (nat_lt most_places (a.s_hi + b.s_hi)) Scale (
+    unless (is_beyond (most a *ℤ most b)) Wide (
+    Ok (hull (corners (λ m n. m *ℤ n) a b) (a.s_lo + b.s_lo) (a.s_hi + b.s_hi))))
+
+abbrev pub negated_row : Interval → Interval
+negated_row a = interval (neg_ℤ a.hi) (neg_ℤ a.lo) a.s_lo a.s_hi
+
+abbrev pub magnitude_row : Interval → Interval
+magnitude_row a = interval (least_magnitude a) (most a) a.s_lo a.s_hi
+
+-- the greatest power of ten within the limit
+abbrev pub most_power : ℕ
+most_power = 37
+
+-- whether a power of ten, a lengthened dividend or a lengthened divisor may be beyond the limit
+abbrev pub quotient_is_wide : ℕ → Interval → Interval → Bool
+quotient_is_wide s a b =
+    nat_lt most_power (s + b.s_hi - a.s_lo)
+    || (is_beyond (most a *ℤ ten_to (s + b.s_hi - a.s_hi)) || is_beyond (most b *ℤ ten_to (a.s_hi - (s + b.s_hi))))
+
+-- the quotient of two ends, rounded to scale s
+abbrev pub end_quotient : Mode → ℕ → Interval → Interval → ℤ → ℤ → ℤ
+end_quotient mode s a b m n = numerator_of (quotient mode s (decimal m a.s_hi) (decimal n b.s_hi))
+
+abbrev pub quotient_row : Mode → ℕ → Interval → Interval → Answer
+quotient_row mode s a b =
+    unless (has_zero b) Divisor (
+    unless (quotient_is_wide s a b) Wide (
+    Ok (hull (corners (end_quotient mode s a b) a b) s s)))
+
+-- d is a plain divisor
+abbrev pub exact_quotient_row : ℤ → Interval → Answer
+exact_quotient_row d a =
+    unless (nat_lt most_places (a.s_hi + divisor_places d)) Scale (
+    kept (interval (a.lo *ℤ cofactor d) (a.hi *ℤ cofactor d) a.s_lo (a.s_hi + divisor_places d)))
+
+-- an end, rounded to scale s
+abbrev pub end_value : Mode → ℕ → Interval → ℤ → ℤ
+end_value mode s a m = numerator_of (rescaled mode s (decimal m a.s_hi))
+
+abbrev pub rescaled_row : Mode → ℕ → Interval → Answer
+rescaled_row mode s a =
+    unless (is_beyond (most a *ℤ ten_to (s - a.s_hi))) Wide (
+    Ok (interval (end_value mode s a a.lo) (end_value mode s a a.hi) s s))
+
+abbrev pub least_scale : List Decimal → ℕ
+least_scale [] = 0
+least_scale (d ∷ ds) = fold min (scale_of d) (map scale_of ds)
+
+abbrev pub greatest_scale : List Decimal → ℕ
+greatest_scale ds = fold max 0 (map scale_of ds)
+
+-- some decimals, aligned to a scale
+abbrev pub decimals_at : ℕ → List Decimal → Answer
+decimals_at q ds =
+    let numerators = map (numerator_at q) ds in
+    unless (list_any is_beyond numerators) Wide (Ok (hull numerators (least_scale ds) q))
+
+-- some decimals, aligned to their greatest scale
+abbrev pub decimals_row : List Decimal → Answer
+decimals_row ds = decimals_at (greatest_scale ds) ds
+
+-- the items of a table from the least index on to the greatest
+abbrev pub item_row : List Decimal → Interval → Answer
+item_row items index =
+    unless (int_lt index.lo (pos 0) || int_le (pos (length items)) index.hi) Index (
+    decimals_row (slice_range items (unsigned_abs index.lo) (suc (unsigned_abs index.hi))))
+
+-- whole numbers of so many bits: the results at the ends
+abbrev pub whole_hull : ℕ → List ℤ → Answer
+whole_hull bits ends = unless (not (list_all (is_of_bits bits) ends)) Wide (Ok (hull ends 0 0))
+
+-- +, - and *
+abbrev pub whole_row : ℕ → (ℤ → ℤ → ℤ) → Interval → Interval → Answer
+whole_row bits operation a b = whole_hull bits (corners operation a b)
+
+abbrev pub whole_opposite_row : ℕ → Interval → Answer
+whole_opposite_row bits a = whole_hull bits (neg_ℤ a.hi ∷ (neg_ℤ a.lo ∷ []))
+
+abbrev pub whole_quotient_row : ℕ → Interval → Interval → Answer
+whole_quotient_row bits a b = unless (has_zero b) Divisor (whole_hull bits (corners whole_quotient a b))
+
+-- a remainder has the dividend's sign, is no greater than it, and is at most m in magnitude
+abbrev pub least_remainder : (low m : ℤ) → ℤ
+least_remainder low m = if int_le (pos 0) low then pos 0 else int_max low (neg_ℤ m)
+
+abbrev pub greatest_remainder : (high m : ℤ) → ℤ
+greatest_remainder high m = if int_le high (pos 0) then pos 0 else int_min high m
+
+abbrev pub whole_remainder_row : Interval → Interval → Answer
+whole_remainder_row a b =
+    let m = most b -ℤ pos 1 in
+    unless (has_zero b) Divisor (Ok (interval (least_remainder a.lo m) (greatest_remainder a.hi m) 0 0))

@@ -1,0 +1,106 @@
+-- What an interval that an operation answers promises for all decimals of its operands.
+use Rattle.std.specs.Prelude.{◌≡◌, ◌≢◌, ℕ, ℤ, pos, List, Some, slice_get}
+use Rattle.scaled_decimal.specs.declared.rounding.Mode.{Mode}
+use Rattle.scaled_decimal.specs.Decimals.{Decimal, numerator_of, sum, difference, product, negated, magnitude, comparison, lesser, greater, IsRescaled, IsQuotient}
+use Rattle.scaled_decimal.specs.ExactQuotients.{IsExactQuotient}
+use Rattle.scaled_decimal.specs.WorkingNumbers.{SumFits, DifferenceFits, ProductFits, ComparisonFits, RescaleFits, QuotientFits, ExactQuotientFits}
+use Rattle.scaled_decimal.specs.WholeNumbers.{IsOfBits, whole_decimal}
+use Rattle.interval_num.specs.declared.sign_set.SignSet.{SignSet}
+use Rattle.interval_num.specs.Intervals.{Interval, Contains}
+use Rattle.interval_num.specs.Signs.{HasSign}
+
+-- an operation's working numbers fit, and its result lies in the interval
+pub record Covers (r : Interval) (Fits : Type 0) (IsResult : Decimal → Type 0) : Type 0 where
+  pub fits : Fits
+  pub inside : (z : Decimal) → IsResult z → Contains r z
+
+-- the same of a division, whose divisor isn't 0
+pub record CoversQuotient (r : Interval) (divisor : ℤ) (Fits : Type 0) (IsResult : Decimal → Type 0) : Type 0 where
+  pub not_zero : divisor ≢ pos 0
+  pub covers : Covers r Fits IsResult
+
+abbrev pub SumIsSound : Interval → Interval → Interval → Type 0
+SumIsSound a b r = (x y : Decimal) → Contains a x → Contains b y → Covers r (SumFits x y) (λ z. z ≡ sum x y)
+
+abbrev pub DifferenceIsSound : Interval → Interval → Interval → Type 0
+DifferenceIsSound a b r = (x y : Decimal) → Contains a x → Contains b y → Covers r (DifferenceFits x y) (λ z. z ≡ difference x y)
+
+abbrev pub ProductIsSound : Interval → Interval → Interval → Type 0
+ProductIsSound a b r = (x y : Decimal) → Contains a x → Contains b y → Covers r (ProductFits x y) (λ z. z ≡ product x y)
+
+abbrev pub MinIsSound : Interval → Interval → Interval → Type 0
+MinIsSound a b r = (x y : Decimal) → Contains a x → Contains b y → Covers r (ComparisonFits x y) (λ z. z ≡ lesser x y)
+
+abbrev pub MaxIsSound : Interval → Interval → Interval → Type 0
+MaxIsSound a b r = (x y : Decimal) → Contains a x → Contains b y → Covers r (ComparisonFits x y) (λ z. z ≡ greater x y)
+
+abbrev pub ComparisonIsSound : Interval → Interval → Interval → Type 0
+ComparisonIsSound a b r =
+    (x y : Decimal) → Contains a x → Contains b y → Covers r (ComparisonFits x y) (λ z. z ≡ whole_decimal (comparison x y))
+
+abbrev pub QuotientIsSound : Mode → ℕ → Interval → Interval → Interval → Type 0
+QuotientIsSound mode s a b r =
+    (x y : Decimal) → Contains a x → Contains b y → CoversQuotient r (numerator_of y) (QuotientFits mode x y s) (IsQuotient mode x y s)
+
+abbrev pub ExactQuotientIsSound : ℤ → Interval → Interval → Type 0
+ExactQuotientIsSound d a r = (x : Decimal) → Contains a x → Covers r (ExactQuotientFits x d) (IsExactQuotient x d)
+
+abbrev pub RescalingIsSound : Mode → ℕ → Interval → Interval → Type 0
+RescalingIsSound mode s a r = (x : Decimal) → Contains a x → Covers r (RescaleFits mode x s) (IsRescaled mode x s)
+
+abbrev pub NegationIsSound : Interval → Interval → Type 0
+NegationIsSound a r = (x : Decimal) → Contains a x → Contains r (negated x)
+
+abbrev pub MagnitudeIsSound : Interval → Interval → Type 0
+MagnitudeIsSound a r = (x : Decimal) → Contains a x → Contains r (magnitude x)
+
+-- a join contains what either part contains
+pub record JoinIsSound (a b r : Interval) : Type 0 where
+  pub left : (x : Decimal) → Contains a x → Contains r x
+  pub right : (y : Decimal) → Contains b y → Contains r y
+
+-- an index is one of a table's, and its item lies in the interval
+pub record HasItem (items : List Decimal) (index : ℤ) (r : Interval) : Type 0 where
+  pub place : ℕ
+  pub at : index ≡ pos place
+  pub item : Decimal
+  pub is : slice_get items place ≡ Some item
+  pub inside : Contains r item
+
+abbrev pub ItemIsSound : List Decimal → Interval → Interval → Type 0
+ItemIsSound items index r = (i : ℤ) → Contains index (whole_decimal i) → HasItem items i r
+
+-- an operation on whole numbers of so many bits
+abbrev pub WholeIsSound : ℕ → (ℤ → ℤ → ℤ) → Interval → Interval → Interval → Type 0
+WholeIsSound bits operation a b r =
+    (m n : ℤ) → Contains a (whole_decimal m) → Contains b (whole_decimal n) →
+    Covers r (IsOfBits bits (operation m n)) (λ z. z ≡ whole_decimal (operation m n))
+
+-- / and %
+abbrev pub WholeQuotientIsSound : ℕ → (ℤ → ℤ → ℤ) → Interval → Interval → Interval → Type 0
+WholeQuotientIsSound bits operation a b r =
+    (m n : ℤ) → Contains a (whole_decimal m) → Contains b (whole_decimal n) →
+    CoversQuotient r n (IsOfBits bits (operation m n)) (λ z. z ≡ whole_decimal (operation m n))
+
+abbrev pub WholeOppositeIsSound : ℕ → (ℤ → ℤ) → Interval → Interval → Type 0
+WholeOppositeIsSound bits opposite a r =
+    (m : ℤ) → Contains a (whole_decimal m) → Covers r (IsOfBits bits (opposite m)) (λ z. z ≡ whole_decimal (opposite m))
+
+-- the set has the sign of every pair
+abbrev pub SignsAreSound : Interval → Interval → SignSet → Type 0
+SignsAreSound a b s = (x y : Decimal) → Contains a x → Contains b y → HasSign s x y
+
+-- a decimal of v that stands in an allowed sign to some decimal of e
+pub record IsAllowed (v e : Interval) (allowed : SignSet) (x : Decimal) : Type 0 where
+  pub is : Contains v x
+  pub other : Decimal
+  pub of : Contains e other
+  pub sign : HasSign allowed x other
+
+-- such decimals lie in the part that is kept
+abbrev pub RefinementIsSound : Interval → Interval → SignSet → Interval → Type 0
+RefinementIsSound v e allowed r = (x : Decimal) → IsAllowed v e allowed x → Contains r x
+
+-- there are none
+abbrev pub NoneIsAllowed : Interval → Interval → SignSet → Type 0
+NoneIsAllowed v e allowed = (x : Decimal) → ¬ (IsAllowed v e allowed x)
