@@ -8,7 +8,7 @@ use Rattle.pap_reader.specs.declared.element.Element.{Element}
 use Rattle.pap_reader.specs.declared.element.Element.TheVariants.{Pap, Interface, Variables, Outputs, Output, Methods, Main, If, Then}
 use Rattle.pap_reader.specs.Table.{same, is_complete, all_stand, fits}
 use Rattle.pap_reader.specs.Structure.{Shape, opens, closes, Nodes, none, node, count, opens_internals, IsDocument, IsFront}
-use Rattle.pap_reader.specs.Nesting.{Open, fresh, enters, start}
+use Rattle.pap_reader.specs.NestingDecisions.{Open, fresh, enters, start}
 use Rattle.pap_reader.proofs.Structures.{Spelled, whole, within, adds, closed, nodes-append, more_stand, goes}
 
 -- shapes that hold no INTERNALS and are elements of these kinds

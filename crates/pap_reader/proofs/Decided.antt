@@ -5,11 +5,14 @@ use Rattle.std.specs.List.{prefix_len}
 use Rattle.std.proofs.lemmas.Bool.{cases_Bool, eqb-true, eqb-false}
 use Rattle.std.proofs.lemmas.List.{length-append, length-drop}
 use Rattle.pap_tree.specs.White.{is_white}
-use Rattle.pap_reader.specs.declared.tag.Form.{Form}
-use Rattle.pap_reader.specs.declared.tag.Form.TheVariants as forms
-use Rattle.pap_reader.specs.Tags.{Attribute, Tag}
-use Rattle.pap_reader.specs.Lexical.{is_letter, is_code, is_first, is_inner, begins_with, leading, after, byte_named, Escape, Plain, Quoted, closing_quote, byte, is_quote, Front, IsAttribute, Ending, start, empty, more, IsTag, closing, Past, here, later, IsPassed, white, comment, byte_order_mark, IsAfterMark, IsAfterDeclaration}
-use Rattle.pap_reader.proofs.Lexing.{IsByte, unquoted, reads_next, unended, ClosesAs, an_attribute, no_attribute, attributes_next}
+use Rattle.pap_reader.specs.declared.tags.Form.{Form}
+use Rattle.pap_reader.specs.declared.tags.Form.TheVariants as forms
+use Rattle.pap_reader.specs.Tags.{Attribute, Tag, Front, IsAttribute, Ending, start, empty, more, IsTag, closing}
+use Rattle.pap_reader.specs.Bytes.{is_letter, is_first, is_inner, begins_with, leading, after}
+use Rattle.pap_reader.specs.Values.{is_code, byte_named, Escape, Plain, Quoted, closing_quote, byte, is_quote}
+use Rattle.pap_reader.specs.Views.{IsByte, NoValue, NoAttribute, NoEnding, NoTag}
+use Rattle.pap_reader.specs.Skipped.{Past, here, later, IsPassed, white, comment, byte_order_mark, IsAfterMark, IsAfterDeclaration}
+use Rattle.pap_reader.proofs.Lexing.{unquoted, reads_next, unended, ClosesAs, an_attribute, no_attribute, attributes_next}
 use Rattle.pap_reader.proofs.Passing.{past_here, past_later, past_only, unpast, unpassed, untagged, a_tag, end_tag, an_opening, no_opening, no_letter, slash_no_letter, append_same}
 
 head_of : (b c : ℕ) (x y : List ℕ) → b ∷ x ≡ c ∷ y → b ≡ c
@@ -155,9 +158,6 @@ dec_byte q bytes = elim (dec_plain q bytes) [
 abbrev IsValue : ℕ → List ℕ → Type 0
 IsValue q bytes = (v : List ℕ) × (rest : List ℕ) × Quoted q bytes v rest
 
-abbrev NoValue : ℕ → List ℕ → Type 0
-NoValue q bytes = (v rest : List ℕ) → Quoted q bytes v rest → ⊥
-
 value_after : (q : ℕ) (bytes next : List ℕ) (c : ℕ) → is_quote q ≡ true → IsByte q bytes c next → IsValue q next ⊎ NoValue q next → IsValue q bytes ⊎ NoValue q bytes
 value_after q bytes next c h i (inl v) = inl (c ∷ v.0, v.1, byte i v.2)
 value_after q bytes next c h i (inr n) = inr (λ v rest k. let w = reads_next q bytes next c v rest h i k in n w.0 rest w.1)
@@ -219,9 +219,6 @@ dec_front bytes = elim (cases_Bool (begins_with is_white bytes)) [
 abbrev AnAttribute : List ℕ → Type 0
 AnAttribute bytes = (a : Attribute) × (rest : List ℕ) × IsAttribute bytes a rest
 
-abbrev NoAttribute : List ℕ → Type 0
-NoAttribute bytes = (a : Attribute) (rest : List ℕ) → IsAttribute bytes a rest → ⊥
-
 dec_attribute : (bytes : List ℕ) → AnAttribute bytes ⊎ NoAttribute bytes
 dec_attribute bytes = elim (dec_front bytes) [
   | inr n ↦ inr (λ a rest i. n i.front)
@@ -238,27 +235,24 @@ attribute_shorter bytes a rest i = let f = front_shorter bytes i.front in let q 
 
 -- ---- tags
 
-ending_shorter : {bytes rest : List ℕ} {f : Form} {own : List Attribute} → Ending bytes f own rest → length rest < length bytes
+ending_shorter : {bytes rest : List ℕ} {f : Form} {attributes : List Attribute} → Ending bytes f attributes rest → length rest < length bytes
 ending_shorter (start {bytes} e) = let a = after_shorter is_white bytes in let b = ap length e in omega arith
 ending_shorter (empty {bytes} e) = let a = after_shorter is_white bytes in let b = ap length e in omega arith
 ending_shorter (more {bytes} {next} a h k) = let b = attribute_shorter bytes a next h in let c = ending_shorter k in omega arith
 
 abbrev AnEnding : List ℕ → Type 0
-AnEnding bytes = (f : Form) × (own : List Attribute) × (rest : List ℕ) × Ending bytes f own rest
-
-abbrev NoEnding : List ℕ → Type 0
-NoEnding bytes = (f : Form) (own : List Attribute) (rest : List ℕ) → Ending bytes f own rest → ⊥
+AnEnding bytes = (f : Form) × (attributes : List Attribute) × (rest : List ℕ) × Ending bytes f attributes rest
 
 ending_after : (bytes next : List ℕ) (a : Attribute) → IsAttribute bytes a next → AnEnding next ⊎ NoEnding next → AnEnding bytes ⊎ NoEnding bytes
 ending_after bytes next a i (inl e) = inl (e.0, a ∷ e.1, e.2, more a i e.3)
-ending_after bytes next a i (inr n) = inr (λ f own rest k. let o = attributes_next bytes next a f own rest i k in n f o.0 rest o.1)
+ending_after bytes next a i (inr n) = inr (λ f attributes rest k. let o = attributes_next bytes next a f attributes rest i k in n f o.0 rest o.1)
 
 no_close_here : (bytes : List ℕ) (f : Form) (rest : List ℕ) → ((r : List ℕ) → after is_white bytes ≡ 62 ∷ r → ⊥) → ((r : List ℕ) → after is_white bytes ≡ 47 ∷ 62 ∷ r → ⊥) → ClosesAs bytes f rest → ⊥
 no_close_here bytes f rest n m (inl e) = n rest e.1
 no_close_here bytes f rest n m (inr e) = m rest e.1
 
 no_ending_here : (bytes : List ℕ) → NoAttribute bytes → ((r : List ℕ) → after is_white bytes ≡ 62 ∷ r → ⊥) → ((r : List ℕ) → after is_white bytes ≡ 47 ∷ 62 ∷ r → ⊥) → NoEnding bytes
-no_ending_here bytes a n m f own rest k = elim (unended k) [
+no_ending_here bytes a n m f attributes rest k = elim (unended k) [
   | inl e ↦ no_close_here bytes f rest n m e.1
   | inr g ↦ a g.a g.next g.first
 ]
@@ -287,9 +281,6 @@ dec_ending (suc n) bytes le = elim (dec_attribute bytes) [
 
 abbrev pub ATag : List ℕ → Type 0
 ATag bytes = (t : Tag) × (rest : List ℕ) × IsTag bytes t rest
-
-abbrev pub NoTag : List ℕ → Type 0
-NoTag bytes = (t : Tag) (rest : List ℕ) → IsTag bytes t rest → ⊥
 
 end_only : (bytes inner : List ℕ) (g : Tag) (rest : List ℕ) → bytes ≡ 60 ∷ 47 ∷ inner → IsTag bytes g rest → (begins_with is_letter inner ≡ true → after is_white (after is_letter inner) ≡ 62 ∷ rest → ⊥) → ⊥
 end_only bytes inner g rest e i h = elim (untagged i) [

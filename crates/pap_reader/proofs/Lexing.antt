@@ -3,13 +3,12 @@ use Rattle.std.proofs.Common.{◌≡◌, ℕ, ◌+◌, ◌-◌, ◌≤◌, ◌<�
 use Rattle.std.specs.Prelude.{◌==◌, MatchOption}
 use Rattle.std.proofs.lemmas.List.{append-nil}
 use Rattle.pap_tree.specs.White.{is_white}
-use Rattle.pap_reader.specs.declared.tag.Form.{Form}
-use Rattle.pap_reader.specs.declared.tag.Form.TheVariants as forms
-use Rattle.pap_reader.specs.Tags.{Attribute}
-use Rattle.pap_reader.specs.Lexical.{is_code, is_first, is_inner, begins_with, leading, after, byte_named, Escape, Plain, Quoted, closing_quote, byte, is_quote, Front, IsAttribute, Ending, start, empty, more}
-
-abbrev pub IsByte : ℕ → List ℕ → ℕ → List ℕ → Type 0
-IsByte q bytes c rest = Plain q bytes c rest ⊎ Escape bytes c rest
+use Rattle.pap_reader.specs.declared.tags.Form.{Form}
+use Rattle.pap_reader.specs.declared.tags.Form.TheVariants as forms
+use Rattle.pap_reader.specs.Tags.{Attribute, Front, IsAttribute, Ending, start, empty, more}
+use Rattle.pap_reader.specs.Values.{is_code, byte_named, Escape, Plain, Quoted, closing_quote, byte, is_quote}
+use Rattle.pap_reader.specs.Bytes.{is_first, is_inner, begins_with, leading, after}
+use Rattle.pap_reader.specs.Views.{IsByte, Closing}
 
 head_of : (b c : ℕ) (x y : List ℕ) → b ∷ x ≡ c ∷ y → b ≡ c
 head_of b c x y e = cc
@@ -179,14 +178,11 @@ same_attribute bytes a b x y g h =
 
 -- ---- what follows a tag's name
 
-abbrev pub Closing : List ℕ → List ℕ → Type 0
-Closing bytes rest = (after is_white bytes ≡ 62 ∷ rest) ⊎ (after is_white bytes ≡ 47 ∷ 62 ∷ rest)
-
-pub record FirstAttribute (bytes : List ℕ) (f : Form) (own : List Attribute) (rest : List ℕ) : Type 0 where
+pub record FirstAttribute (bytes : List ℕ) (f : Form) (attributes : List Attribute) (rest : List ℕ) : Type 0 where
   pub a : Attribute
   pub next : List ℕ
   pub left : List Attribute
-  pub is : own ≡ a ∷ left
+  pub is : attributes ≡ a ∷ left
   pub first : IsAttribute bytes a next
   pub others : Ending next f left rest
 
@@ -194,10 +190,10 @@ pub record FirstAttribute (bytes : List ℕ) (f : Form) (own : List Attribute) (
 abbrev pub ClosesAs : List ℕ → Form → List ℕ → Type 0
 ClosesAs bytes f rest = ((f ≡ forms.Start) × (after is_white bytes ≡ 62 ∷ rest)) ⊎ ((f ≡ forms.Empty) × (after is_white bytes ≡ 47 ∷ 62 ∷ rest))
 
-pub unended : {bytes rest : List ℕ} {f : Form} {own : List Attribute} → Ending bytes f own rest → ((own ≡ []) × ClosesAs bytes f rest) ⊎ FirstAttribute bytes f own rest
+pub unended : {bytes rest : List ℕ} {f : Form} {attributes : List Attribute} → Ending bytes f attributes rest → ((attributes ≡ []) × ClosesAs bytes f rest) ⊎ FirstAttribute bytes f attributes rest
 unended (start e) = inl (refl, inl (refl, e))
 unended (empty e) = inl (refl, inr (refl, e))
-unended (more {next} {own} a h k) = inr (record { a = a; next = next; left = own; is = refl; first = h; others = k })
+unended (more {next} {attributes} a h k) = inr (record { a = a; next = next; left = attributes; is = refl; first = h; others = k })
 
 pub attribute_no_close : (bytes : List ℕ) (a : Attribute) (next : List ℕ) (f : Form) (rest : List ℕ) → IsAttribute bytes a next → ClosesAs bytes f rest → ⊥
 attribute_no_close bytes a next f rest h (inl e) = both_ways (begins_with is_first (after is_white bytes)) h.front.named (ap (begins_with is_first) e.1)
@@ -212,12 +208,12 @@ same_close bytes f g x y (inl h) (inr k) = let e = sym h.1 ∙ k.1 in absurd (no
 same_close bytes f g x y (inr h) (inl k) = let e = sym k.1 ∙ h.1 in absurd (no_slash y (62 ∷ x) e)
 same_close bytes f g x y (inr h) (inr k) = (h.0 ∙ sym k.0, tail_of 62 62 x y (tail_of 47 47 (62 ∷ x) (62 ∷ y) (sym h.1 ∙ k.1)))
 
-pub record SameEnding (f g : Form) (own o : List Attribute) (x y : List ℕ) : Type 0 where
+pub record SameEnding (f g : Form) (attributes o : List Attribute) (x y : List ℕ) : Type 0 where
   pub form : f ≡ g
-  pub own_is : own ≡ o
+  pub own_is : attributes ≡ o
   pub rest : x ≡ y
 
-pub same_ending : {bytes x : List ℕ} {f : Form} {own : List Attribute} → Ending bytes f own x → (g : Form) (o : List Attribute) (y : List ℕ) → Ending bytes g o y → SameEnding f g own o x y
+pub same_ending : {bytes x : List ℕ} {f : Form} {attributes : List Attribute} → Ending bytes f attributes x → (g : Form) (o : List Attribute) (y : List ℕ) → Ending bytes g o y → SameEnding f g attributes o x y
 same_ending (start {bytes} {rest} e) g o y k = elim (unended k) [
   | inl h ↦ let s = same_close bytes forms.Start g rest y (inl (refl, e)) h.1 in record { form = s.0; own_is = sym h.0; rest = s.1 }
   | inr h ↦ absurd (attribute_no_close bytes h.a h.next forms.Start rest h.first (inl (refl, e)))
@@ -226,32 +222,32 @@ same_ending (empty {bytes} {rest} e) g o y k = elim (unended k) [
   | inl h ↦ let s = same_close bytes forms.Empty g rest y (inr (refl, e)) h.1 in record { form = s.0; own_is = sym h.0; rest = s.1 }
   | inr h ↦ absurd (attribute_no_close bytes h.a h.next forms.Empty rest h.first (inr (refl, e)))
 ]
-same_ending (more {bytes} {next} {own} a h j) g o y k = elim (unended k) [
+same_ending (more {bytes} {next} {attributes} a h j) g o y k = elim (unended k) [
   | inl e ↦ absurd (attribute_no_close bytes a next g y h e.1)
   | inr f ↦
       let s = same_attribute bytes a f.a next f.next h f.first in
       let t = same_ending j g f.left y (subst (λ z. Ending z g f.left y) (sym s.1) f.others) in
-      record { form = t.form; own_is = ap (λ z. z ∷ own) s.0 ∙ ap (λ z. f.a ∷ z) t.own_is ∙ sym f.is; rest = t.rest }
+      record { form = t.form; own_is = ap (λ z. z ∷ attributes) s.0 ∙ ap (λ z. f.a ∷ z) t.own_is ∙ sym f.is; rest = t.rest }
 ]
 
 -- what the loop over attributes knows
 pub record Attributes (bytes : List ℕ) (seen : List Attribute) (left : List ℕ) : Type 0 where
-  pub leads : (f : Form) (own : List Attribute) (rest : List ℕ) → Ending left f own rest → Ending bytes f (seen ++ own) rest
-  pub only : (f : Form) (own : List Attribute) (rest : List ℕ) → Ending bytes f own rest → (o : List Attribute) × Ending left f o rest
+  pub leads : (f : Form) (attributes : List Attribute) (rest : List ℕ) → Ending left f attributes rest → Ending bytes f (seen ++ attributes) rest
+  pub only : (f : Form) (attributes : List Attribute) (rest : List ℕ) → Ending bytes f attributes rest → (o : List Attribute) × Ending left f o rest
 
 pub attributes_start : (bytes : List ℕ) (seen : List Attribute) → seen ≡ [] → Attributes bytes seen bytes
-attributes_start bytes seen e = record { leads = λ f own rest h. subst (λ s. Ending bytes f (s ++ own) rest) (sym e) h; only = λ f own rest h. (own, h) }
+attributes_start bytes seen e = record { leads = λ f attributes rest h. subst (λ s. Ending bytes f (s ++ attributes) rest) (sym e) h; only = λ f attributes rest h. (attributes, h) }
 
-pub attributes_next : (left next : List ℕ) (a : Attribute) (f : Form) (own : List Attribute) (rest : List ℕ) → IsAttribute left a next → Ending left f own rest → (o : List Attribute) × Ending next f o rest
-attributes_next left next a f own rest i k = elim (unended k) [
+pub attributes_next : (left next : List ℕ) (a : Attribute) (f : Form) (attributes : List Attribute) (rest : List ℕ) → IsAttribute left a next → Ending left f attributes rest → (o : List Attribute) × Ending next f o rest
+attributes_next left next a f attributes rest i k = elim (unended k) [
   | inl e ↦ absurd (attribute_no_close left a next f rest i e.1)
   | inr g ↦ (g.left, subst (λ z. Ending z f g.left rest) (sym (same_attribute left a g.a next g.next i g.first).1) g.others)
 ]
 
 pub attributes_more : (bytes : List ℕ) (seen seen' : List Attribute) (left next : List ℕ) (a : Attribute) → Attributes bytes seen left → IsAttribute left a next → seen' ≡ seen ++ (a ∷ []) → Attributes bytes seen' next
 attributes_more bytes seen seen' left next a r i e = record {
-  leads = λ f own rest k. subst (λ s. Ending bytes f s rest) (sym (ap (λ s. s ++ own) e ∙ append_assoc seen (a ∷ []) own)) (r.leads f (a ∷ own) rest (more a i k));
-  only = λ f own rest k. let o = r.only f own rest k in attributes_next left next a f o.0 rest i o.1;
+  leads = λ f attributes rest k. subst (λ s. Ending bytes f s rest) (sym (ap (λ s. s ++ attributes) e ∙ append_assoc seen (a ∷ []) attributes)) (r.leads f (a ∷ attributes) rest (more a i k));
+  only = λ f attributes rest k. let o = r.only f attributes rest k in attributes_next left next a f o.0 rest i o.1;
 }
 
 pub attributes_end : (bytes : List ℕ) (seen : List Attribute) (left rest : List ℕ) (f : Form) → Attributes bytes seen left → Ending left f [] rest → Ending bytes f seen rest
@@ -262,8 +258,8 @@ no_closing left f rest k (inl e) = k rest (inl e.1)
 no_closing left f rest k (inr e) = k rest (inr e.1)
 
 pub attributes_none : (bytes : List ℕ) (seen : List Attribute) (left : List ℕ) → Attributes bytes seen left → ((a : Attribute) (n : List ℕ) → IsAttribute left a n → ⊥) → ((rest : List ℕ) → Closing left rest → ⊥)
-    → (f : Form) (own : List Attribute) (rest : List ℕ) → Ending bytes f own rest → ⊥
-attributes_none bytes seen left r h k f own rest x = let o = r.only f own rest x in elim (unended o.1) [
+    → (f : Form) (attributes : List Attribute) (rest : List ℕ) → Ending bytes f attributes rest → ⊥
+attributes_none bytes seen left r h k f attributes rest x = let o = r.only f attributes rest x in elim (unended o.1) [
   | inl e ↦ no_closing left f rest k e.1
   | inr g ↦ h g.a g.next g.first
 ]

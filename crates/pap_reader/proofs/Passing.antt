@@ -2,10 +2,11 @@
 use Rattle.std.proofs.Common.{◌≡◌, ℕ, ◌⊎◌, inl, inr, Bool, true, false, Option, Some, None, Bor, List, [], ◌∷◌, ◌++◌, refl, sym, ap, subst, ◌∙◌}
 use Rattle.std.specs.Prelude.{MatchOption, codes}
 use Rattle.pap_tree.specs.White.{is_white}
-use Rattle.pap_reader.specs.declared.tag.Form.{Form}
-use Rattle.pap_reader.specs.declared.tag.Form.TheVariants as forms
-use Rattle.pap_reader.specs.Tags.{Attribute, Tag}
-use Rattle.pap_reader.specs.Lexical.{is_letter, begins_with, leading, after, Ending, IsTag, opening, closing, Past, here, later, IsPassed, white, comment}
+use Rattle.pap_reader.specs.declared.tags.Form.{Form}
+use Rattle.pap_reader.specs.declared.tags.Form.TheVariants as forms
+use Rattle.pap_reader.specs.Tags.{Attribute, Tag, Ending, IsTag, opening, closing}
+use Rattle.pap_reader.specs.Bytes.{is_letter, begins_with, leading, after}
+use Rattle.pap_reader.specs.Skipped.{Past, here, later, IsPassed, white, comment}
 use Rattle.pap_reader.proofs.Lexing.{same_ending}
 
 tail_of : (b c : ℕ) (x y : List ℕ) → b ∷ x ≡ c ∷ y → x ≡ y
@@ -92,21 +93,21 @@ passed_by bytes inside tail b (Some r) e w f h = passed_comment bytes inside r.n
 -- ---- tags
 
 abbrev pub a_tag : Form → List ℕ → List Attribute → Tag
-a_tag f n own = record { form = f; name = n; attributes = own }
+a_tag f n attributes = record { form = f; name = n; attributes = attributes }
 
 abbrev pub end_tag : List ℕ → List Attribute → Tag
-end_tag n own = record { form = forms.End; name = n; attributes = own }
+end_tag n attributes = record { form = forms.End; name = n; attributes = attributes }
 
-pub a_closing : (bytes name left rest : List ℕ) (own : List Attribute) → begins_with is_letter bytes ≡ true → name ≡ leading is_letter bytes → own ≡ [] → left ≡ after is_white (after is_letter bytes) → left ≡ 62 ∷ rest
-    → IsTag (60 ∷ 47 ∷ bytes) (record { form = forms.End; name = name; attributes = own }) rest
-a_closing bytes name left rest own b e f g h =
-    let t : end_tag (leading is_letter bytes) [] ≡ end_tag name own = λ i. record { form = forms.End; name = sym e i; attributes = sym f i } in
+pub a_closing : (bytes name left rest : List ℕ) (attributes : List Attribute) → begins_with is_letter bytes ≡ true → name ≡ leading is_letter bytes → attributes ≡ [] → left ≡ after is_white (after is_letter bytes) → left ≡ 62 ∷ rest
+    → IsTag (60 ∷ 47 ∷ bytes) (record { form = forms.End; name = name; attributes = attributes }) rest
+a_closing bytes name left rest attributes b e f g h =
+    let t : end_tag (leading is_letter bytes) [] ≡ end_tag name attributes = λ i. record { form = forms.End; name = sym e i; attributes = sym f i } in
     subst (λ z. IsTag (60 ∷ 47 ∷ bytes) z rest) t (closing b (sym g ∙ h))
 
-pub an_opening : (bytes inner name left rest : List ℕ) (f : Form) (own : List Attribute) → bytes ≡ 60 ∷ inner → begins_with is_letter inner ≡ true → name ≡ leading is_letter inner → left ≡ after is_letter inner → Ending left f own rest → IsTag bytes (a_tag f name own) rest
-an_opening bytes inner name left rest f own e b i j h =
-    subst (λ z. IsTag z (a_tag f name own) rest) (sym e)
-    (subst (λ z. IsTag (60 ∷ inner) (a_tag f z own) rest) (sym i) (opening b (subst (λ z. Ending z f own rest) j h)))
+pub an_opening : (bytes inner name left rest : List ℕ) (f : Form) (attributes : List Attribute) → bytes ≡ 60 ∷ inner → begins_with is_letter inner ≡ true → name ≡ leading is_letter inner → left ≡ after is_letter inner → Ending left f attributes rest → IsTag bytes (a_tag f name attributes) rest
+an_opening bytes inner name left rest f attributes e b i j h =
+    subst (λ z. IsTag z (a_tag f name attributes) rest) (sym e)
+    (subst (λ z. IsTag (60 ∷ inner) (a_tag f z attributes) rest) (sym i) (opening b (subst (λ z. Ending z f attributes rest) j h)))
 
 -- how a tag begins
 pub record OpeningFirst (bytes : List ℕ) (t : Tag) (rest : List ℕ) : Type 0 where
@@ -130,7 +131,7 @@ untagged (closing {bytes} b h) = inr (record { inner = bytes; is = refl; letter 
 pub slash_no_letter : (inner more : List ℕ) → inner ≡ 47 ∷ more → begins_with is_letter inner ≡ true → ⊥
 slash_no_letter inner more e h = both_ways (begins_with is_letter inner) h (ap (begins_with is_letter) e)
 
-pub no_opening : (bytes inner left : List ℕ) → bytes ≡ 60 ∷ inner → ((r : List ℕ) → inner ≡ 47 ∷ r → ⊥) → left ≡ after is_letter inner → ((f : Form) (own : List Attribute) (rest : List ℕ) → Ending left f own rest → ⊥) → (t : Tag) (rest : List ℕ) → IsTag bytes t rest → ⊥
+pub no_opening : (bytes inner left : List ℕ) → bytes ≡ 60 ∷ inner → ((r : List ℕ) → inner ≡ 47 ∷ r → ⊥) → left ≡ after is_letter inner → ((f : Form) (attributes : List Attribute) (rest : List ℕ) → Ending left f attributes rest → ⊥) → (t : Tag) (rest : List ℕ) → IsTag bytes t rest → ⊥
 no_opening bytes inner left e n j h t rest k = elim (untagged k) [
   | inl g ↦
       let s : g.inner ≡ inner = tail_of 60 60 g.inner inner (sym g.is ∙ e) in

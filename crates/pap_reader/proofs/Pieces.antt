@@ -4,25 +4,27 @@ use Rattle.std.proofs.lemmas.List.{append-nil}
 use Rattle.pap_reader.specs.declared.element.Element.{Element}
 use Rattle.pap_reader.specs.Structure as structure
 use Rattle.pap_reader.specs.Structure.{Shape, opens, closes, foreign, Nodes}
-use Rattle.pap_reader.specs.Tags.{Attribute, Mark, begins, ends, alien, shape}
-use Rattle.pap_reader.specs.Plan.{Body, done, eval, choose, execute, join, Piece, nothing, both, later, says, Says, none, node}
-use Rattle.pap_reader.specs.Answer.{Work, with_piece, build, builds, begun}
+use Rattle.pap_reader.specs.Tags.{Attribute}
+use Rattle.pap_reader.specs.Marks.{Mark, begins, ends, alien, shape}
+use Rattle.pap_reader.specs.Trees.{RawBody, done, eval, branch, execute}
+use Rattle.pap_reader.specs.Meaning.{join, Piece, nothing, both, later, says, Says, none, node}
+use Rattle.pap_reader.specs.VerdictDecisions.{Work, with_piece, build, builds, begun}
 
 -- ---- pieces one after the other
 
-pub join-done : (b : Body) → join b done ≡ b
+pub join-done : (b : RawBody) → join b done ≡ b
 join-done done = refl
 join-done (eval x a) = ap (eval x) (join-done a)
-join-done (choose x y n a) = ap (choose x y n) (join-done a)
+join-done (branch x y n a) = ap (branch x y n) (join-done a)
 join-done (execute x a) = ap (execute x) (join-done a)
 
-pub join-assoc : (a b c : Body) → join (join a b) c ≡ join a (join b c)
+pub join-assoc : (a b c : RawBody) → join (join a b) c ≡ join a (join b c)
 join-assoc done b c = refl
 join-assoc (eval x a) b c = ap (eval x) (join-assoc a b c)
-join-assoc (choose x y n a) b c = ap (choose x y n) (join-assoc a b c)
+join-assoc (branch x y n a) b c = ap (branch x y n) (join-assoc a b c)
 join-assoc (execute x a) b c = ap (execute x) (join-assoc a b c)
 
-pub later-assoc : (a b c : Option Body) → later (later a b) c ≡ later a (later b c)
+pub later-assoc : (a b c : Option RawBody) → later (later a b) c ≡ later a (later b c)
 later-assoc a b None = refl
 later-assoc a b (Some c) = refl
 
@@ -39,7 +41,7 @@ both-nothing p = λ i. record {
   no = p.no;
 }
 
-none_later : (a : Option Body) → later None a ≡ a
+none_later : (a : Option RawBody) → later None a ≡ a
 none_later None = refl
 none_later (Some a) = refl
 
@@ -73,16 +75,16 @@ both-assoc p q r = λ i. record {
 
 pub said : {ms : List Mark} {q : Piece} → Says ms q → (w : Work) (ws : List Work) (rest : List Mark) → builds (w ∷ ws) (ms ++ rest) ≡ builds (with_piece w q ∷ ws) rest
 said none w ws rest = ap (λ p. builds (record { attributes = w.attributes; piece = p } ∷ ws) rest) (sym (both-nothing w.piece))
-said (node {inside} {rest = after} {p} {q} e own i r) w ws rest =
-    let v : Work = record { attributes = own; piece = nothing } in
+said (node {inside} {rest = after} {p} {q} e attributes i r) w ws rest =
+    let v : Work = record { attributes = attributes; piece = nothing } in
     let regroup : builds (v ∷ w ∷ ws) ((inside ++ (ends e ∷ after)) ++ rest) ≡ builds (v ∷ w ∷ ws) (inside ++ (ends e ∷ (after ++ rest)))
     = ap (builds (v ∷ w ∷ ws)) (append_assoc inside (ends e ∷ after) rest) in
     let first = said i v (w ∷ ws) (ends e ∷ (after ++ rest)) in
-    let plain : builds (with_piece w (says e own (both nothing p)) ∷ ws) (after ++ rest) ≡ builds (with_piece w (says e own p) ∷ ws) (after ++ rest)
-    = ap (λ x. builds (with_piece w (says e own x) ∷ ws) (after ++ rest)) (nothing-both p) in
-    let second = said r (with_piece w (says e own p)) ws rest in
-    let last : builds (with_piece (with_piece w (says e own p)) q ∷ ws) rest ≡ builds (with_piece w (both (says e own p) q) ∷ ws) rest
-    = ap (λ x. builds (record { attributes = w.attributes; piece = x } ∷ ws) rest) (both-assoc w.piece (says e own p) q) in
+    let plain : builds (with_piece w (says e attributes (both nothing p)) ∷ ws) (after ++ rest) ≡ builds (with_piece w (says e attributes p) ∷ ws) (after ++ rest)
+    = ap (λ x. builds (with_piece w (says e attributes x) ∷ ws) (after ++ rest)) (nothing-both p) in
+    let second = said r (with_piece w (says e attributes p)) ws rest in
+    let last : builds (with_piece (with_piece w (says e attributes p)) q ∷ ws) rest ≡ builds (with_piece w (both (says e attributes p) q) ∷ ws) rest
+    = ap (λ x. builds (record { attributes = w.attributes; piece = x } ∷ ws) rest) (both-assoc w.piece (says e attributes p) q) in
     regroup ∙ first ∙ plain ∙ second ∙ last
 
 abbrev pub saying : Piece → List Work
@@ -125,13 +127,13 @@ cut (s ∷ a) b (m ∷ ms) e =
     let c = cut a b ms tail in
     record { front = m ∷ c.front; back = c.back; whole = ap (λ x. m ∷ x) c.whole; front_is = ap (λ x. x ∷ map shape c.front) head ∙ ap (λ x. s ∷ x) c.front_is; back_is = c.back_is }
 
-begins_is : (m : Mark) (e : Element) → shape m ≡ opens e → (own : List Attribute) × (m ≡ begins e own)
-begins_is (begins f own) e h = let i : f ≡ e = cc in (own, ap (λ g. begins g own) i)
+begins_is : (m : Mark) (e : Element) → shape m ≡ opens e → (attributes : List Attribute) × (m ≡ begins e attributes)
+begins_is (begins f attributes) e h = let i : f ≡ e = cc in (attributes, ap (λ g. begins g attributes) i)
 begins_is (ends f) e h = absurd cc
 begins_is alien e h = absurd cc
 
 ends_is : (m : Mark) (e : Element) → shape m ≡ closes e → m ≡ ends e
-ends_is (begins f own) e h = absurd cc
+ends_is (begins f attributes) e h = absurd cc
 ends_is (ends f) e h = let i : f ≡ e = cc in ap ends i
 ends_is alien e h = absurd cc
 

@@ -10,18 +10,20 @@ use Rattle.pap_reader.specs.declared.counts.Counts.{Counts}
 use Rattle.pap_reader.specs.declared.fault.Which.{Which}
 use Rattle.pap_reader.specs.declared.fault.Which.TheVariants as which
 use Rattle.pap_reader.specs.declared.fault.ReadFault.TheVariants as faults
-use Rattle.pap_reader.specs.declared.reader.Part.{Part}
+use Rattle.pap_reader.specs.declared.reader.OpenElement.{OpenElement}
 use Rattle.pap_reader.specs.declared.elements.Elements.{Elements}
-use Rattle.pap_reader.specs.declared.attributes.Said.{Said}
+use Rattle.pap_reader.specs.declared.attributes.TagValue.{TagValue}
 use Rattle.pap_reader.specs.Table.{may_stand, is_complete}
 use Rattle.pap_reader.specs.Structure.{Shape, opens, closes, count, opens_internals}
-use Rattle.pap_reader.specs.Nesting.{Open, fresh, with_child, is_inside, enter, is_second, step, start, is_ended}
-use Rattle.pap_reader.specs.Tags.{Attribute, begins, ends}
-use Rattle.pap_reader.specs.Limits.{counts, is_counted, amount, most, tested, deeper, depth_from, IsFew}
-use Rattle.pap_reader.specs.Plan.{Body, later, Piece, nothing, both, outside, adds, or_done, tree_of}
-use Rattle.pap_reader.specs.Answer.{built, begun, Work, build, first_over, within, entered}
-use Rattle.pap_reader.specs.Shows.{HasFlags, Tallies, IsSmall, IsMore, one_if, SaidOf}
-use Rattle.pap_reader.specs.Reading.{one_verdict, ShowsPlan, SaidIn, ShowsPart, Closed, ShowsAll, total, body_of, tree_read}
+use Rattle.pap_reader.specs.NestingDecisions.{Open, fresh, with_child, is_inside, enter, is_second, step, start, is_ended}
+use Rattle.pap_reader.specs.Tags.{Attribute}
+use Rattle.pap_reader.specs.Marks.{begins, ends}
+use Rattle.pap_reader.specs.Limits.{counts, is_counted, amount, most, tested, deeper, depth_from}
+use Rattle.pap_reader.specs.VerdictDecisions.{IsFew, built, begun, Work, build, first_over, within, entered}
+use Rattle.pap_reader.specs.Trees.{RawBody, raw_body_of, tree_of}
+use Rattle.pap_reader.specs.Meaning.{later, Piece, nothing, both, outside, adds, or_done, piece_tree}
+use Rattle.pap_reader.specs.Views.{HasFlags, Tallies, IsSmall, IsMore, one_if, IsValueOf}
+use Rattle.pap_reader.specs.ReaderViews.{one_verdict, ShowsPlan, IsValueIn, ShowsOpen, Closed, ShowsAll, total}
 use Rattle.pap_reader.proofs.Pieces.{both-nothing, later-assoc}
 use Rattle.pap_reader.proofs.Structures.{same_is}
 use Rattle.pap_reader.specs.declared.element.Children.{Children}
@@ -131,7 +133,7 @@ no_list next e = absurd cc
 some_list : (a b : List Open) → Some a ≡ Some b → a ≡ b
 some_list a b e = cc
 
-none_all : (r : Part) (rs : List Part) (ws : List Work) → ShowsAll (r ∷ rs) [] ws → ⊥
+none_all : (r : OpenElement) (rs : List OpenElement) (ws : List Work) → ShowsAll (r ∷ rs) [] ws → ⊥
 none_all r rs [] a = a
 none_all r rs (w ∷ ws) a = a
 
@@ -148,47 +150,47 @@ step_opens before o os next e h = elim (cases_Bool (is_second before (opens e)))
 ]
 
 -- one element more
-pub all_open : (r n p : Part) (rs : List Part) (before : List Shape) (os next : List Open) (ws : List Work) (e : Element) (own : List Attribute)
+pub all_open : (r n p : OpenElement) (rs : List OpenElement) (before : List Shape) (os next : List Open) (ws : List Work) (e : Element) (attributes : List Attribute)
     → ShowsAll (r ∷ rs) os ws → ((children : List Element) → HasFlags r.children.stands children → HasFlags p.children.stands (children ++ (e ∷ [])))
-    → p ≡ record r { children = p.children } → ShowsPart n (fresh (Some e)) (record { attributes = own; piece = nothing }) → step before os (opens e) ≡ Some next
-    → ShowsAll (n ∷ p ∷ rs) next (build ws (begins e own))
-all_open r n p rs before [] next ws e own a f g h s = absurd (none_all r rs ws a)
-all_open r n p rs before (o ∷ os) next [] e own a f g h s = absurd a
-all_open r n p rs before (o ∷ os) next (w ∷ ws) e own a f g h s =
-    subst (λ x. ShowsAll (n ∷ p ∷ rs) x (build (w ∷ ws) (begins e own))) (step_opens before o os next e s) (
+    → p ≡ record r { children = p.children } → ShowsOpen n (fresh (Some e)) (record { attributes = attributes; piece = nothing }) → step before os (opens e) ≡ Some next
+    → ShowsAll (n ∷ p ∷ rs) next (build ws (begins e attributes))
+all_open r n p rs before [] next ws e attributes a f g h s = absurd (none_all r rs ws a)
+all_open r n p rs before (o ∷ os) next [] e attributes a f g h s = absurd a
+all_open r n p rs before (o ∷ os) next (w ∷ ws) e attributes a f g h s =
+    subst (λ x. ShowsAll (n ∷ p ∷ rs) x (build (w ∷ ws) (begins e attributes))) (step_opens before o os next e s) (
       h,
       (
         record {
           inside = ap (λ x. x.element) g ∙ a.0.inside;
           children = f o.children a.0.children;
-          said = subst (SaidIn o.inside w.attributes) (sym (ap (λ x. x.said) g)) a.0.said;
+          value = subst (IsValueIn o.inside w.attributes) (sym (ap (λ x. x.value) g)) a.0.value;
           piece = record {
-            statements = ap (λ x. body_of x.statements.items) g ∙ a.0.piece.statements;
-            yes = ap (λ x. body_of x.yes.items) g ∙ a.0.piece.yes;
-            no = ap (λ x. body_of x.no.items) g ∙ a.0.piece.no;
+            statements = ap (λ x. raw_body_of x.statements.items) g ∙ a.0.piece.statements;
+            yes = ap (λ x. raw_body_of x.yes.items) g ∙ a.0.piece.yes;
+            no = ap (λ x. raw_body_of x.no.items) g ∙ a.0.piece.no;
           };
         },
         a.1,
       ),
     )
 
-pub all_new : (r : Part) (rs : List Part) → ShowsPart r (fresh None) (record { attributes = []; piece = nothing }) → rs ≡ [] → ShowsAll (r ∷ reverse rs) start begun
+pub all_new : (r : OpenElement) (rs : List OpenElement) → ShowsOpen r (fresh None) (record { attributes = []; piece = nothing }) → rs ≡ [] → ShowsAll (r ∷ reverse rs) start begun
 all_new r rs h e = subst (λ l. ShowsAll (r ∷ reverse l) start begun) (sym e) (h, tt)
 
 pub few_start : IsFew [] tested
 few_start = (omega arith, (omega arith, (omega arith, (omega arith, (omega arith, (omega arith, (omega arith, tt)))))))
 
 -- the parts after one element more, from what the calls say
-pub parts_open : (top n res dest : Part) (k : Children) (outer items : List Part) (before : List Shape) (os next : List Open) (ws : List Work) (e : Element) (own : List Attribute)
+pub parts_open : (top n res dest : OpenElement) (k : Children) (outer items : List OpenElement) (before : List Shape) (os next : List Open) (ws : List Work) (e : Element) (attributes : List Attribute)
     → dest ≡ n → res ≡ record top { children = k } → items ≡ outer ++ (res ∷ []) → ((children : List Element) → HasFlags top.children.stands children → HasFlags k.stands (children ++ (e ∷ [])))
-    → ShowsPart n (fresh (Some e)) (record { attributes = own; piece = nothing }) → ShowsAll (top ∷ reverse outer) os ws → step before os (opens e) ≡ Some next
-    → ShowsAll (dest ∷ reverse items) next (build ws (begins e own))
-parts_open top n res dest k outer items before os next ws e own d r i f h a s =
-    let q : Part = record top { children = k } in
-    let all = all_open top n q (reverse outer) before os next ws e own a f refl h s in
+    → ShowsOpen n (fresh (Some e)) (record { attributes = attributes; piece = nothing }) → ShowsAll (top ∷ reverse outer) os ws → step before os (opens e) ≡ Some next
+    → ShowsAll (dest ∷ reverse items) next (build ws (begins e attributes))
+parts_open top n res dest k outer items before os next ws e attributes d r i f h a s =
+    let q : OpenElement = record top { children = k } in
+    let all = all_open top n q (reverse outer) before os next ws e attributes a f refl h s in
     let turned : reverse items ≡ q ∷ reverse outer = ap reverse (i ∙ ap (λ y. outer ++ (y ∷ [])) r) ∙ reverse-append outer (q ∷ []) in
-    subst (λ y. ShowsAll (y ∷ reverse items) next (build ws (begins e own))) (sym d)
-    (subst (λ l. ShowsAll (n ∷ l) next (build ws (begins e own))) (sym turned) all)
+    subst (λ y. ShowsAll (y ∷ reverse items) next (build ws (begins e attributes))) (sym d)
+    (subst (λ l. ShowsAll (n ∷ l) next (build ws (begins e attributes))) (sym turned) all)
 
 or_false : (b : Bool) → b ≡ (b || false)
 or_false true = refl
@@ -205,8 +207,8 @@ internals_more b c before s e f =
 pub internals_kept : (b : Bool) (before : List Shape) (e : Element) → b ≡ list_any opens_internals before → b ≡ list_any opens_internals (before ++ (closes e ∷ []))
 internals_kept b before e f = f ∙ sym (false_or (list_any opens_internals before)) ∙ sym (list_any-append opens_internals before (closes e ∷ []))
 
-pub plan_begun : (x : Elements) (ws : List Work) (e : Element) (own : List Attribute) → ShowsPlan x (total ws) → ShowsPlan x (total (build ws (begins e own)))
-plan_begun x ws e own h = subst (ShowsPlan x) (sym (both-nothing (total ws))) h
+pub plan_begun : (x : Elements) (ws : List Work) (e : Element) (attributes : List Attribute) → ShowsPlan x (total ws) → ShowsPlan x (total (build ws (begins e attributes)))
+plan_begun x ws e attributes h = subst (ShowsPlan x) (sym (both-nothing (total ws))) h
 
 -- ---- refusals
 
@@ -232,21 +234,21 @@ inside_eq : (i : Option Element) (e : Element) → is_inside i e ≡ true → i 
 inside_eq None e h = absurd cc
 inside_eq (Some f) e h = ap Some (same_is f e h)
 
-pub close_none : (top : Part) (rs : List Part) (before : List Shape) (os : List Open) (ws : List Work) (e : Element) (b : Bool)
-    → ((o : Open) (w : Work) → ShowsPart top o w → b ≡ (is_inside o.inside e && is_complete o.inside o.children)) → b ≡ false → ShowsAll (top ∷ rs) os ws → step before os (closes e) ≡ None
+pub close_none : (top : OpenElement) (rs : List OpenElement) (before : List Shape) (os : List Open) (ws : List Work) (e : Element) (b : Bool)
+    → ((o : Open) (w : Work) → ShowsOpen top o w → b ≡ (is_inside o.inside e && is_complete o.inside o.children)) → b ≡ false → ShowsAll (top ∷ rs) os ws → step before os (closes e) ≡ None
 close_none top rs before [] ws e b h f a = refl
 close_none top rs before (o ∷ os) [] e b h f a = absurd a
 close_none top rs before (o ∷ []) (w ∷ ws) e b h f a = refl
 close_none top rs before (o ∷ u ∷ os) (w ∷ ws) e b h f a = ap (λ x. if x then Some (u ∷ os) else None) (sym (h o w a.0) ∙ f)
 
-close_alone : (top : Part) (before : List Shape) (os : List Open) (ws : List Work) (e : Element) → ShowsAll (top ∷ []) os ws → step before os (closes e) ≡ None
+close_alone : (top : OpenElement) (before : List Shape) (os : List Open) (ws : List Work) (e : Element) → ShowsAll (top ∷ []) os ws → step before os (closes e) ≡ None
 close_alone top before [] ws e a = refl
 close_alone top before (o ∷ []) ws e a = refl
 close_alone top before (o ∷ u ∷ os) [] e a = absurd a
 close_alone top before (o ∷ u ∷ os) (w ∷ []) e a = absurd a.1
 close_alone top before (o ∷ u ∷ os) (w ∷ v ∷ ws) e a = absurd a.1
 
-pub close_last : (top : Part) (rs : List Part) (before : List Shape) (os : List Open) (ws : List Work) (e : Element) → rs ≡ [] → ShowsAll (top ∷ reverse rs) os ws → step before os (closes e) ≡ None
+pub close_last : (top : OpenElement) (rs : List OpenElement) (before : List Shape) (os : List Open) (ws : List Work) (e : Element) → rs ≡ [] → ShowsAll (top ∷ reverse rs) os ws → step before os (closes e) ≡ None
 close_last top rs before os ws e f a = close_alone top before os ws e (subst (λ l. ShowsAll (top ∷ reverse l) os ws) f a)
 
 plan_lists : (x : Elements) (p q : Piece) → p.inputs ≡ q.inputs → p.outputs ≡ q.outputs → p.internals ≡ q.internals → p.constants ≡ q.constants → p.main ≡ q.main → p.methods ≡ q.methods → ShowsPlan x p → ShowsPlan x q
@@ -263,7 +265,7 @@ plan_lists x p q a b c d e f h = record {
 thrice : {A : Type 0} (t v p a : List A) → ((t ++ v) ++ p) ++ a ≡ t ++ (v ++ (p ++ a))
 thrice t v p a = append_assoc (t ++ v) p a ∙ append_assoc t v (p ++ a)
 
-later_thrice : (t v p a : Option Body) → later (later (later t v) p) a ≡ later t (later v (later p a))
+later_thrice : (t v p a : Option RawBody) → later (later (later t v) p) a ≡ later t (later v (later p a))
 later_thrice t v p None = later-assoc t v p
 later_thrice t v p (Some b) = refl
 
@@ -273,18 +275,18 @@ plan_closed x t v p a h =
     (thrice t.constants v.constants p.constants a.constants) (later_thrice t.main v.main p.main a.main) (thrice t.methods v.methods p.methods a.methods) h
 
 -- the parts and the plan after an element ended
-pub record AfterClose (before : List Shape) (os : List Open) (ws : List Work) (e : Element) (after : Part) (rs : List Part) (y : Elements) : Type 0 where
+pub record AfterClose (before : List Shape) (os : List Open) (ws : List Work) (e : Element) (after : OpenElement) (rs : List OpenElement) (y : Elements) : Type 0 where
   pub next : List Open
   pub stepped : step before os (closes e) ≡ Some next
   pub parts : ShowsAll (after ∷ rs) next (build ws (ends e))
   pub plan : ShowsPlan y (total (build ws (ends e)))
 
-close_two : (top parent after : Part) (rs : List Part) (x y : Elements) (before : List Shape) (o u : Open) (os : List Open) (w v : Work) (ws : List Work) (e : Element)
-    → (is_inside o.inside e && is_complete o.inside o.children) ≡ true → Closed e top parent after x y → ShowsPart top o w → ShowsPart parent u v → ShowsAll rs os ws → ShowsPlan x (total (w ∷ v ∷ ws))
+close_two : (top parent after : OpenElement) (rs : List OpenElement) (x y : Elements) (before : List Shape) (o u : Open) (os : List Open) (w v : Work) (ws : List Work) (e : Element)
+    → (is_inside o.inside e && is_complete o.inside o.children) ≡ true → Closed e top parent after x y → ShowsOpen top o w → ShowsOpen parent u v → ShowsAll rs os ws → ShowsPlan x (total (w ∷ v ∷ ws))
     → AfterClose before (o ∷ u ∷ os) (w ∷ v ∷ ws) e after rs y
 close_two top parent after rs x y before o u os w v ws e t c a b r p =
     let i = inside_eq o.inside e (and_parts (is_inside o.inside e) (is_complete o.inside o.children) t).0 in
-    let s : SaidOf e w.attributes top.said = subst (λ z. SaidIn z w.attributes top.said) i a.said in
+    let s : IsValueOf e w.attributes top.value = subst (λ z. IsValueIn z w.attributes top.value) i a.value in
     record {
       next = u ∷ os;
       stepped = ap (λ z. if z then Some (u ∷ os) else None) t;
@@ -292,7 +294,7 @@ close_two top parent after rs x y before o u os w v ws e t c a b r p =
         record {
           inside = c.element ∙ b.inside;
           children = subst (λ z. HasFlags z.stands u.children) (sym c.children) b.children;
-          said = subst (SaidIn u.inside v.attributes) (sym c.said) b.said;
+          value = subst (IsValueIn u.inside v.attributes) (sym c.value) b.value;
           piece = c.piece w.attributes w.piece v.piece s a.piece b.piece;
         },
         r,
@@ -300,8 +302,8 @@ close_two top parent after rs x y before o u os w v ws e t c a b r p =
       plan = plan_closed y (total ws) v.piece w.piece (adds e w.attributes w.piece) (c.plan w.attributes w.piece (total (w ∷ v ∷ ws)) s a.piece p);
     }
 
-close_all : (top parent after : Part) (rs : List Part) (x y : Elements) (before : List Shape) (os : List Open) (ws : List Work) (e : Element) (b : Bool)
-    → ((o : Open) (w : Work) → ShowsPart top o w → b ≡ (is_inside o.inside e && is_complete o.inside o.children)) → b ≡ true → Closed e top parent after x y
+close_all : (top parent after : OpenElement) (rs : List OpenElement) (x y : Elements) (before : List Shape) (os : List Open) (ws : List Work) (e : Element) (b : Bool)
+    → ((o : Open) (w : Work) → ShowsOpen top o w → b ≡ (is_inside o.inside e && is_complete o.inside o.children)) → b ≡ true → Closed e top parent after x y
     → ShowsAll (top ∷ parent ∷ rs) os ws → ShowsPlan x (total ws) → AfterClose before os ws e after rs y
 close_all top parent after rs x y before [] [] e b h t c a p = absurd a
 close_all top parent after rs x y before [] (w ∷ ws) e b h t c a p = absurd a
@@ -311,8 +313,8 @@ close_all top parent after rs x y before (o ∷ []) (w ∷ v ∷ ws) e b h t c a
 close_all top parent after rs x y before (o ∷ u ∷ os) (w ∷ []) e b h t c a p = absurd a.1
 close_all top parent after rs x y before (o ∷ u ∷ os) (w ∷ v ∷ ws) e b h t c a p = close_two top parent after rs x y before o u os w v ws e (sym (h o w a.0) ∙ t) c a.0 a.1.0 a.1.1 p
 
-pub parts_close : (top child parent dest after : Part) (outer items : List Part) (x y : Elements) (before : List Shape) (os : List Open) (ws : List Work) (e : Element) (b : Bool)
-    → ((o : Open) (w : Work) → ShowsPart top o w → b ≡ (is_inside o.inside e && is_complete o.inside o.children)) → b ≡ true
+pub parts_close : (top child parent dest after : OpenElement) (outer items : List OpenElement) (x y : Elements) (before : List Shape) (os : List Open) (ws : List Work) (e : Element) (b : Bool)
+    → ((o : Open) (w : Work) → ShowsOpen top o w → b ≡ (is_inside o.inside e && is_complete o.inside o.children)) → b ≡ true
     → child ≡ top → dest ≡ parent → outer ≡ items ++ (parent ∷ []) → Closed e child dest after x y → ShowsAll (top ∷ reverse outer) os ws → ShowsPlan x (total ws)
     → AfterClose before os ws e after (reverse items) y
 parts_close top child parent dest after outer items x y before os ws e b h t f g i c a p =
@@ -327,12 +329,12 @@ at_none (Some x) P Q h e = absurd cc
 pub at_some : {A : Type 0} (o : Option A) (x : A) (P : Type 0) (Q : A → Type 0) → MatchOption o P Q → o ≡ Some x → Q x
 at_some o x P Q h e = subst (λ z. MatchOption z P Q) e h
 
-pub said_inside : (e : Element) (own : List Attribute) (s : Said) → SaidOf e own s → SaidIn (Some e) own s
-said_inside e own s h = h
+pub said_inside : (e : Element) (attributes : List Attribute) (s : TagValue) → IsValueOf e attributes s → IsValueIn (Some e) attributes s
+said_inside e attributes s h = h
 
 -- ---- the end of the text
 
-pub not_ended : (top : Part) (rs : List Part) (os : List Open) (ws : List Work) → ShowsAll (top ∷ rs) os ws → (length rs ≡ 0 → ⊥) → is_ended os ≡ false
+pub not_ended : (top : OpenElement) (rs : List OpenElement) (os : List Open) (ws : List Work) → ShowsAll (top ∷ rs) os ws → (length rs ≡ 0 → ⊥) → is_ended os ≡ false
 not_ended top rs [] ws a h = refl
 not_ended top [] (o ∷ os) ws a h = absurd (h refl)
 not_ended top (r ∷ rs) (o ∷ u ∷ os) ws a h = refl
@@ -340,13 +342,13 @@ not_ended top (r ∷ rs) (o ∷ []) [] a h = absurd a
 not_ended top (r ∷ rs) (o ∷ []) (w ∷ []) a h = absurd a.1
 not_ended top (r ∷ rs) (o ∷ []) (w ∷ v ∷ ws) a h = absurd a.1
 
-none_before : (a : Option Body) → later None a ≡ a
+none_before : (a : Option RawBody) → later None a ≡ a
 none_before None = refl
 none_before (Some b) = refl
 
-tree_of_plan : (x : Elements) (p : Piece) → ShowsPlan x (both nothing p) → tree_of p ≡ tree_read x
+tree_of_plan : (x : Elements) (p : Piece) → ShowsPlan x (both nothing p) → piece_tree p ≡ tree_of x
 tree_of_plan x p h =
-    let main_is : body_of x.main.items ≡ or_done p.main = h.main ∙ ap or_done (none_before p.main) in
+    let main_is : raw_body_of x.main.items ≡ or_done p.main = h.main ∙ ap or_done (none_before p.main) in
     sym (λ i. record {
       inputs = h.inputs i;
       outputs = h.outputs i;
@@ -356,7 +358,7 @@ tree_of_plan x p h =
       methods = h.methods i;
     })
 
-pub tree_built : (top : Part) (rs : List Part) (x : Elements) (os : List Open) (ws : List Work) → ShowsAll (top ∷ rs) os ws → is_ended os ≡ true → ShowsPlan x (total ws) → built ws ≡ tree_read x
+pub tree_built : (top : OpenElement) (rs : List OpenElement) (x : Elements) (os : List Open) (ws : List Work) → ShowsAll (top ∷ rs) os ws → is_ended os ≡ true → ShowsPlan x (total ws) → built ws ≡ tree_of x
 tree_built top rs x [] ws a e h = absurd cc
 tree_built top rs x (o ∷ u ∷ os) ws a e h = absurd cc
 tree_built top rs x (o ∷ []) [] a e h = absurd a

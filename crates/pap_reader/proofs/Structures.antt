@@ -7,7 +7,7 @@ use Rattle.pap_reader.specs.declared.element.Element.{Element}
 use Rattle.pap_reader.specs.declared.element.Element.TheVariants.{Pap, Interface, Variables, Inputs, Outputs, Internals, Constants, Input, Output, Internal, Constant, Methods, Main, Method, Eval, Execute, If, Then, Else}
 use Rattle.pap_reader.specs.Table.{number, same, may_stand, is_complete, all_stand, fits}
 use Rattle.pap_reader.specs.Structure.{Shape, opens, closes, foreign, Nodes, none, node}
-use Rattle.pap_reader.specs.Nesting.{Open, fresh, with_child, is_inside, enter, enters, and_then}
+use Rattle.pap_reader.specs.NestingDecisions.{Open, fresh, with_child, is_inside, enter, enters, and_then}
 
 -- ---- two elements with one number are the same
 
@@ -131,8 +131,8 @@ pub closed : {u o : Open} {os : List Open} {ss : List Shape} (e : Element) → S
 closed e (within {o} {os} {before} {inside} {kinds} f h m n a) i c =
     let same_kind : f ≡ e = cc in
     let fit : fits (Some f) kinds ≡ true = and_from (all_stand (Some f) [] kinds) (is_complete (Some f) kinds) a c in
-    let own : Nodes (opens f ∷ (inside ++ (closes f ∷ []))) (f ∷ []) = node f n fit none in
-    let all = adds h own (and_from (may_stand o.inside o.children f) true m refl) in
+    let attributes : Nodes (opens f ∷ (inside ++ (closes f ∷ []))) (f ∷ []) = node f n fit none in
+    let all = adds h attributes (and_from (may_stand o.inside o.children f) true m refl) in
     subst (λ x. Spelled (with_child o f ∷ os) x) (sym (append_assoc before (opens f ∷ inside) (closes e ∷ [])))
     (subst (λ g. Spelled (with_child o f ∷ os) (before ++ (opens f ∷ (inside ++ (closes g ∷ []))))) same_kind all)
 

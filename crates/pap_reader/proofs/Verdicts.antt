@@ -10,15 +10,17 @@ use Rattle.pap_reader.specs.declared.fault.Which.TheVariants as which
 use Rattle.pap_reader.specs.declared.fault.ReadFault.{ReadFault}
 use Rattle.pap_reader.specs.declared.fault.ReadFault.TheVariants as faults
 use Rattle.pap_reader.specs.declared.reader.Reader.{Reader}
-use Rattle.pap_reader.specs.declared.tag.Form.{Form}
+use Rattle.pap_reader.specs.declared.tags.Form.{Form}
 use Rattle.pap_reader.specs.Table.{is_complete}
 use Rattle.pap_reader.specs.Structure.{Shape, opens, closes, foreign}
-use Rattle.pap_reader.specs.Nesting.{Open, with_child, and_then, is_second, step, steps}
-use Rattle.pap_reader.specs.Tags.{Attribute, Mark, Spot, Tag, begins, ends, alien, element_of, marks_by, marks_of, shape}
-use Rattle.pap_reader.specs.Needs.{mark_is_right, is_right}
-use Rattle.pap_reader.specs.Limits.{amount, most, tested, deeper, depth_from, IsFew}
-use Rattle.pap_reader.specs.Answer.{Work, build, builds, first_over, within, entered, verdict_on, verdict_of}
-use Rattle.pap_reader.specs.Reading.{Stands, Refuses, one_verdict, Took, Judges, Takes}
+use Rattle.pap_reader.specs.NestingDecisions.{Open, with_child, and_then, is_second, step, steps}
+use Rattle.pap_reader.specs.Tags.{Attribute, Tag}
+use Rattle.pap_reader.specs.Marks.{Mark, begins, ends, alien, element_of, marks_by, marks_of, shape}
+use Rattle.pap_reader.specs.Tokens.{PlacedTag}
+use Rattle.pap_reader.specs.Attributes.{mark_is_right, is_right}
+use Rattle.pap_reader.specs.Limits.{amount, most, tested, deeper, depth_from}
+use Rattle.pap_reader.specs.VerdictDecisions.{IsFew, Work, build, builds, first_over, within, entered, verdict_on}
+use Rattle.pap_reader.specs.ReaderViews.{Stands, Refuses, one_verdict, Took, Judges}
 use Rattle.pap_reader.proofs.Structures.{same_refl}
 use Rattle.pap_reader.proofs.ReaderSteps.{step_opens, closes_count, depth-one, few_close}
 
@@ -72,7 +74,7 @@ judges_end at before os ws e x (Err f) h = judges_one at before os ws (ends e) x
 -- ---- an element that begins and ends in one tag
 
 abbrev pair : Element → List Attribute → List Mark
-pair e own = begins e own ∷ ends e ∷ []
+pair e attributes = begins e attributes ∷ ends e ∷ []
 
 abbrev steps_pair : List Shape → List Open → Element → Option (List Open)
 steps_pair before os e = steps before os (opens e ∷ closes e ∷ [])
@@ -101,9 +103,9 @@ pair_none before os e None h f = refl
 pair_none before [] e (Some n) h f = absurd (no_stack before e n h)
 pair_none before (o ∷ os) e (Some n) h f = ap (λ z. and_then z (λ x. Some x)) (closing_fresh before o os n e false h f)
 
-pub pair_incomplete : (at : ℕ) (before : List Shape) (os : List Open) (e : Element) (own : List Attribute) → is_complete (Some e) [] ≡ false → verdict_on before os at (pair e own) ≡ Err (faults.Element at)
-pair_incomplete at before os e own f =
-    ap (entered at (list_all mark_is_right (pair e own)) (first_over (before ++ (opens e ∷ closes e ∷ [])) tested)) (pair_none before os e (step before os (opens e)) refl f)
+pub pair_incomplete : (at : ℕ) (before : List Shape) (os : List Open) (e : Element) (attributes : List Attribute) → is_complete (Some e) [] ≡ false → verdict_on before os at (pair e attributes) ≡ Err (faults.Element at)
+pair_incomplete at before os e attributes f =
+    ap (entered at (list_all mark_is_right (pair e attributes)) (first_over (before ++ (opens e ∷ closes e ∷ [])) tested)) (pair_none before os e (step before os (opens e)) refl f)
 
 deeper_other : (d : ℕ) (e : Element) → is_complete (Some e) [] ≡ true → deeper d (closes e) ≡ d
 deeper_other d elements.If f = absurd cc
@@ -141,12 +143,12 @@ pair_refused_at at before (o ∷ os) e r over (Some n) g h f k =
     ap (λ z. entered at r over (and_then z (λ x. Some x))) (closing_fresh before o os n e true h f)
     ∙ same_refusal at r over n (with_child o e ∷ os) g k
 
-pub pair_refused : (at : ℕ) (before : List Shape) (os : List Open) (e : Element) (own : List Attribute) (g : ReadFault) → is_complete (Some e) [] ≡ true
-    → one_verdict at before os (is_right e own) (opens e) ≡ Err g → verdict_on before os at (pair e own) ≡ Err g
-pair_refused at before os e own g f h =
-    ap (λ b. entered at b (first_over (before ++ (opens e ∷ closes e ∷ [])) tested) (steps_pair before os e)) (and-true (is_right e own))
-    ∙ ap (λ o. entered at (is_right e own) o (steps_pair before os e)) (pair_over before e f)
-    ∙ pair_refused_at at before os e (is_right e own) (first_over (before ++ (opens e ∷ [])) tested) (step before os (opens e)) g refl f h
+pub pair_refused : (at : ℕ) (before : List Shape) (os : List Open) (e : Element) (attributes : List Attribute) (g : ReadFault) → is_complete (Some e) [] ≡ true
+    → one_verdict at before os (is_right e attributes) (opens e) ≡ Err g → verdict_on before os at (pair e attributes) ≡ Err g
+pair_refused at before os e attributes g f h =
+    ap (λ b. entered at b (first_over (before ++ (opens e ∷ closes e ∷ [])) tested) (steps_pair before os e)) (and-true (is_right e attributes))
+    ∙ ap (λ o. entered at (is_right e attributes) o (steps_pair before os e)) (pair_over before e f)
+    ∙ pair_refused_at at before os e (is_right e attributes) (first_over (before ++ (opens e ∷ [])) tested) (step before os (opens e)) g refl f h
 
 pair_steps : (before : List Shape) (os n m : List Open) (e : Element) → step before os (opens e) ≡ Some n → step (before ++ (opens e ∷ [])) n (closes e) ≡ Some m → steps_pair before os e ≡ Some m
 pair_steps before os n m e h k =
@@ -164,19 +166,19 @@ no_error at before [] n e g h f c k = no_stack before e n h
 no_error at before (o ∷ os) n e g h f c k =
     no_err (with_child o e ∷ os) g (sym (ok_one at (before ++ (opens e ∷ [])) n (with_child o e ∷ os) true (closes e) (closing_fresh before o os n e true h c) refl (few_close (before ++ (opens e ∷ [])) e f)) ∙ k)
 
-pub judges_pair : (at : ℕ) (before : List Shape) (os : List Open) (ws : List Work) (e : Element) (own : List Attribute) (y x : Reader) (u : Result (Unit {0}) ReadFault) (t : Took y before os ws (opens e) (begins e own))
-    → is_right e own ≡ true → is_complete (Some e) [] ≡ true
-    → MatchResult u (λ _. Took x (before ++ (opens e ∷ [])) t.next (build ws (begins e own)) (closes e) (ends e)) (λ f. Refuses f (one_verdict at (before ++ (opens e ∷ [])) t.next true (closes e)))
-    → Judges at before os ws (pair e own) x u
-judges_pair at before os ws e own y x (Ok u) t r f h =
+pub judges_pair : (at : ℕ) (before : List Shape) (os : List Open) (ws : List Work) (e : Element) (attributes : List Attribute) (y x : Reader) (u : Result (Unit {0}) ReadFault) (t : Took y before os ws (opens e) (begins e attributes))
+    → is_right e attributes ≡ true → is_complete (Some e) [] ≡ true
+    → MatchResult u (λ _. Took x (before ++ (opens e ∷ [])) t.next (build ws (begins e attributes)) (closes e) (ends e)) (λ f. Refuses f (one_verdict at (before ++ (opens e ∷ [])) t.next true (closes e)))
+    → Judges at before os ws (pair e attributes) x u
+judges_pair at before os ws e attributes y x (Ok u) t r f h =
     let few = subst (λ ss. IsFew ss tested) (append_assoc before (opens e ∷ []) (closes e ∷ [])) h.stands.few in (
       h.next,
-      ap (entered at (list_all mark_is_right (pair e own)) (first_over (before ++ (opens e ∷ closes e ∷ [])) tested)) (pair_steps before os t.next h.next e t.stepped h.stepped)
-          ∙ ap (λ b. if b then within (first_over (before ++ (opens e ∷ closes e ∷ [])) tested) h.next else Err (faults.Attribute at)) (and-true (is_right e own) ∙ r)
+      ap (entered at (list_all mark_is_right (pair e attributes)) (first_over (before ++ (opens e ∷ closes e ∷ [])) tested)) (pair_steps before os t.next h.next e t.stepped h.stepped)
+          ∙ ap (λ b. if b then within (first_over (before ++ (opens e ∷ closes e ∷ [])) tested) h.next else Err (faults.Attribute at)) (and-true (is_right e attributes) ∙ r)
           ∙ ap (λ o. within o h.next) (no_over (before ++ (opens e ∷ closes e ∷ [])) tested few),
-      regroup x before e h.next (builds ws (pair e own)) h.stands,
+      regroup x before e h.next (builds ws (pair e attributes)) h.stands,
     )
-judges_pair at before os ws e own y x (Err f) t r c h = refuses_same f (one_verdict at (before ++ (opens e ∷ [])) t.next true (closes e)) (verdict_on before os at (pair e own)) (λ g k. absurd (no_error at before os t.next e g t.stepped t.stands.few c k)) h
+judges_pair at before os ws e attributes y x (Err f) t r c h = refuses_same f (one_verdict at (before ++ (opens e ∷ [])) t.next true (closes e)) (verdict_on before os at (pair e attributes)) (λ g k. absurd (no_error at before os t.next e g t.stepped t.stands.few c k)) h
 
 -- ---- tags
 
@@ -187,17 +189,17 @@ foreign_none before (o ∷ os) = refl
 pub verdict_foreign : (at : ℕ) (before : List Shape) (os : List Open) → verdict_on before os at (alien ∷ []) ≡ Err (faults.Element at)
 verdict_foreign at before os = ap (λ o. entered at true (first_over (before ++ (foreign ∷ [])) tested) (and_then o (λ x. Some x))) (foreign_none before os)
 
-taken_marks : (before : List Shape) (os : List Open) (ws : List Work) (t : Spot) (g : Tag) (x : Reader) (u : Result (Unit {0}) ReadFault) → t.tag ≡ Some g → Judges t.at before os ws (marks_of (Some g)) x u → Takes before os ws t x u
-taken_marks before os ws t g x (Ok u) h q = (
-  q.0,
-  ap (verdict_of before os t.at) h ∙ q.1,
-  subst (λ o. Stands x (before ++ map shape (marks_of o)) q.0 (builds ws (marks_of o))) (sym h) q.2,
-)
-taken_marks before os ws t g x (Err f) h q = subst (λ o. Refuses f (verdict_of before os t.at o)) (sym h) q
+-- a tag of an element, written in one of the forms
+pub takes_form : (at : ℕ) (before : List Shape) (os : List Open) (ws : List Work) (t : Tag) (f : Form) (n : Option Element) (e : Element) (attributes : List Attribute) (x : Reader) (u : Result (Unit {0}) ReadFault)
+    → n ≡ element_of t.name → n ≡ Some e → t.form ≡ f → attributes ≡ t.attributes
+    → Judges at before os ws (marks_by f (Some e) attributes) x u → Judges at before os ws (marks_of t) x u
+takes_form at before os ws t f n e attributes x u i j k l q =
+    let a : marks_by f (Some e) attributes ≡ marks_of t =
+    ap (λ z. marks_by z (Some e) attributes) (sym k) ∙ ap (λ z. marks_by t.form z attributes) (sym j ∙ i) ∙ ap (λ z. marks_by t.form (element_of t.name) z) l in
+    subst (λ ms. Judges at before os ws ms x u) a q
 
-pub taken_by : (before : List Shape) (os : List Open) (ws : List Work) (t : Spot) (g : Tag) (f : Form) (n : Option Element) (e : Element) (own : List Attribute) (x : Reader) (u : Result (Unit {0}) ReadFault)
-    → t.tag ≡ Some g → n ≡ element_of g.name → n ≡ Some e → g.form ≡ f → own ≡ g.attributes → Judges t.at before os ws (marks_by f (Some e) own) x u → Takes before os ws t x u
-taken_by before os ws t g f n e own x u h i j k l q =
-    let a : marks_by f (Some e) own ≡ marks_of (Some g) =
-    ap (λ z. marks_by z (Some e) own) (sym k) ∙ ap (λ z. marks_by g.form z own) (sym j ∙ i) ∙ ap (λ z. marks_by g.form (element_of g.name) z) l in
-    taken_marks before os ws t g x u h (subst (λ ms. Judges t.at before os ws ms x u) a q)
+-- a tag of no element
+pub foreign_refused : (at : ℕ) (before : List Shape) (os : List Open) (t : Tag) (n : Option Element) → n ≡ element_of t.name → n ≡ None
+    → verdict_on before os at (marks_of t) ≡ Err (faults.Element at)
+foreign_refused at before os t n i j =
+    ap (λ o. verdict_on before os at (marks_by t.form o t.attributes)) (sym i ∙ j) ∙ verdict_foreign at before os

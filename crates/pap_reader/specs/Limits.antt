@@ -1,10 +1,23 @@
--- How much there may be of what.
-use Rattle.std.specs.Prelude.{◌≤◌, ℕ, suc, ◌-◌, Bool, true, false, List, [], ◌∷◌}
+-- How much there may be of what (docs/PROFILE.md, "Limits").
+use Rattle.std.specs.Prelude.{◌≡◌, ◌≤◌, ◌<◌, ◌⊎◌, ℕ, suc, ◌-◌, Bool, true, false, List, [], ◌∷◌, ◌++◌}
 use Rattle.pap_reader.specs.declared.element.Element.{Element}
 use Rattle.pap_reader.specs.declared.element.Element.TheVariants.{Input, Output, Internal, Constant, Method, Eval, Execute, If}
 use Rattle.pap_reader.specs.declared.fault.Which.{Which}
 use Rattle.pap_reader.specs.declared.fault.Which.TheVariants as which
 use Rattle.pap_reader.specs.Structure.{Shape, opens, closes, count}
+use Rattle.pap_reader.specs.Tokens.{PlacedTag}
+use Rattle.pap_reader.specs.Marks.{shapes}
+
+-- how much there may be of it
+abbrev pub most : Which → ℕ
+most which.Bytes = 1048576
+most which.Inputs = 256
+most which.Outputs = 256
+most which.Internals = 1024
+most which.Constants = 512
+most which.Methods = 256
+most which.Statements = 20000
+most which.Depth = 32
 
 -- whether the element counts
 abbrev pub is_counted : Which → Element → Bool
@@ -32,28 +45,30 @@ abbrev pub depth_from : ℕ → List Shape → ℕ
 depth_from d [] = d
 depth_from d (s ∷ ss) = depth_from (deeper d s) ss
 
--- how much there is of it after these shapes
+-- how much there is of it after these shapes: the elements that count, and the open IFs
 abbrev pub amount : Which → List Shape → ℕ
 amount which.Bytes ss = 0
 amount which.Depth ss = depth_from 0 ss
 amount w ss = count (counts w) ss
 
--- how much there may be of it
-abbrev pub most : Which → ℕ
-most which.Bytes = 1048576
-most which.Inputs = 256
-most which.Outputs = 256
-most which.Internals = 1024
-most which.Constants = 512
-most which.Methods = 256
-most which.Statements = 20000
-most which.Depth = 32
+-- Each amount is within its limit, after each of the tags.
+abbrev pub IsWithin : List PlacedTag → Type 0
+IsWithin ts = (a b : List PlacedTag) (w : Which) → ts ≡ a ++ b → amount w (shapes a) ≤ most w
+
+-- ---- the first that is too much
 
 -- the kinds of amounts, in the order in which they are tested
 abbrev pub tested : List Which
-tested = which.Inputs ∷ which.Outputs ∷ which.Internals ∷ which.Constants ∷ which.Methods ∷ which.Statements ∷ which.Depth ∷ []
+tested =
+    which.Inputs ∷ which.Outputs ∷ which.Internals ∷ which.Constants ∷ which.Methods
+    ∷ which.Statements ∷ which.Depth ∷ []
 
--- the amounts are within their limits
-abbrev pub IsFew : List Shape → List Which → Type 0
-IsFew ss [] = Unit {0}
-IsFew ss (w ∷ ws) = (amount w ss ≤ most w) × IsFew ss ws
+-- With the tag there is too much of it.
+abbrev pub Exceeds : List PlacedTag → PlacedTag → Which → Type 0
+Exceeds before t w = most w < amount w (shapes (before ++ (t ∷ [])))
+
+-- the first of these of which there is too much
+abbrev pub IsFirstOver : List PlacedTag → PlacedTag → List Which → Which → Type 0
+IsFirstOver before t [] w = ⊥
+IsFirstOver before t (v ∷ vs) w =
+    ((v ≡ w) × Exceeds before t v) ⊎ ((Exceeds before t v → ⊥) × IsFirstOver before t vs w)

@@ -1,4 +1,4 @@
--- Which tags are nested as the table of elements says, their attributes aside.
+-- Which elements are nested as the table of elements says, their attributes aside.
 use Rattle.std.specs.Prelude.{◌≡◌, ℕ, suc, ◌≤◌, cond, Bool, true, false, Some, None, List, [], ◌∷◌, ◌++◌}
 use Rattle.pap_reader.specs.declared.element.Element.{Element}
 use Rattle.pap_reader.specs.declared.element.Element.TheVariants.{Internals}
@@ -8,10 +8,10 @@ use Rattle.pap_reader.specs.Table.{fits, same}
 pub data Shape : Type 0 where
   opens : Element → Shape
   closes : Element → Shape
-  -- a tag of no element, or no tag
+  -- a tag of no element
   foreign : Shape
 
--- The shapes are elements, one after the other, each with children that it may contain; the list is of the elements' kinds.
+-- The shapes are elements, one after the other, each with children that it may contain; the list says which elements.
 pub data Nodes : List Shape → List Element → Type 0 where
   none : Nodes [] []
   node : {inside rest : List Shape} {children kinds : List Element} (e : Element)
@@ -27,7 +27,7 @@ abbrev pub count : {A : Type 0} → (A → Bool) → List A → ℕ
 count p [] = 0
 count p (s ∷ ss) = cond (p s) (suc (count p ss)) (count p ss)
 
--- the shapes of a whole text
+-- the shapes of a whole text, which has at most one INTERNALS
 pub record IsDocument (ss : List Shape) : Type 0 where
   pub kinds : List Element
   pub nodes : Nodes ss kinds

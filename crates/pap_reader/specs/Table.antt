@@ -1,4 +1,4 @@
--- What may stand in each element, and how often.
+-- The table of elements: what may stand in each of them, and how often (docs/PROFILE.md, "Elements").
 use Rattle.std.specs.Prelude.{ℕ, Bool, true, false, not, ◌&&◌, ◌||◌, ◌==◌, Option, Some, None, List, [], ◌∷◌, ◌++◌}
 use Rattle.std.specs.List.{list_all, list_any}
 use Rattle.pap_reader.specs.declared.element.Element.{Element}
@@ -13,26 +13,31 @@ pub data Times : Type 0 where
 
 -- A part of an element's content: one of these elements, so often, and only where each of the last list stands before it.
 pub record Part : Type 0 where
-  pub kinds : List Element
+  pub elements : List Element
   pub times : Times
   pub after : List Element
 
 -- a part that may stand at any place among the others
 abbrev pub part : List Element → Times → Part
-part kinds times = record { kinds = kinds; times = times; after = [] }
+part elements times = record { elements = elements; times = times; after = [] }
 
 abbrev pub group : List Part
-group = part (Inputs ∷ []) at_most_once ∷ part (Outputs ∷ []) once_or_more ∷ part (Internals ∷ []) at_most_once ∷ []
+group =
+    part (Inputs ∷ []) at_most_once
+    ∷ part (Outputs ∷ []) once_or_more
+    ∷ part (Internals ∷ []) at_most_once ∷ []
 
 abbrev pub statements : List Part
 statements = part (Eval ∷ Execute ∷ If ∷ []) any_number ∷ []
 
--- The table of elements: the parts of each one's content, in any order. The whole text is `None`.
+-- The parts of each element's content, in any order. The whole text is `None`.
 abbrev pub content : Option Element → List Part
 content None = part (Pap ∷ []) once ∷ []
 content (Some Pap) =
-    part (Interface ∷ Variables ∷ []) once ∷ part (Internals ∷ []) at_most_once
-    ∷ part (Constants ∷ []) at_most_once ∷ part (Methods ∷ []) once ∷ []
+    part (Interface ∷ Variables ∷ []) once
+    ∷ part (Internals ∷ []) at_most_once
+    ∷ part (Constants ∷ []) at_most_once
+    ∷ part (Methods ∷ []) once ∷ []
 content (Some Interface) = group
 content (Some Variables) = group
 content (Some Inputs) = part (Input ∷ []) any_number ∷ []
@@ -44,13 +49,17 @@ content (Some Main) = statements
 content (Some Method) = statements
 content (Some Then) = statements
 content (Some Else) = statements
-content (Some If) = part (Then ∷ []) once ∷ record { kinds = Else ∷ []; times = at_most_once; after = Then ∷ [] } ∷ []
+content (Some If) =
+    part (Then ∷ []) once
+    ∷ record { elements = Else ∷ []; times = at_most_once; after = Then ∷ [] } ∷ []
 content (Some Input) = []
 content (Some Output) = []
 content (Some Internal) = []
 content (Some Constant) = []
 content (Some Eval) = []
 content (Some Execute) = []
+
+-- ---- children that fit
 
 -- the place of an element in the list of all of them
 abbrev pub number : Element → ℕ
@@ -77,9 +86,9 @@ number Else = 18
 abbrev pub same : Element → Element → Bool
 same a b = number a == number b
 
--- the element is of one of the kinds
+-- the element is one of these
 abbrev pub is_of : List Element → Element → Bool
-is_of kinds e = list_any (same e) kinds
+is_of elements e = list_any (same e) elements
 
 -- the element is among the children
 abbrev pub has : List Element → Element → Bool
@@ -87,7 +96,7 @@ has children e = list_any (same e) children
 
 -- one of the children is of the part
 abbrev pub stands : Part → List Element → Bool
-stands p children = list_any (has children) p.kinds
+stands p children = list_any (has children) p.elements
 
 abbrev pub may_repeat : Times → Bool
 may_repeat once = false
@@ -104,7 +113,9 @@ is_needed any_number = false
 -- The child may stand after the others before it, as one more of this part.
 abbrev pub may_be : List Element → Element → Part → Bool
 may_be before child p =
-    is_of p.kinds child && (may_repeat p.times || not (stands p before)) && list_all (has before) p.after
+    is_of p.elements child
+    && (may_repeat p.times || not (stands p before))
+    && list_all (has before) p.after
 
 -- The child may stand next in the element, after these children.
 abbrev pub may_stand : Option Element → List Element → Element → Bool
@@ -112,12 +123,14 @@ may_stand parent before child = list_any (may_be before child) (content parent)
 
 -- no needed part is missing
 abbrev pub is_complete : Option Element → List Element → Bool
-is_complete parent children = list_all (λ p. not (is_needed p.times) || stands p children) (content parent)
+is_complete parent children =
+    list_all (λ p. not (is_needed p.times) || stands p children) (content parent)
 
 -- Each of the children may stand after those before it.
 abbrev pub all_stand : Option Element → List Element → List Element → Bool
 all_stand parent before [] = true
-all_stand parent before (child ∷ children) = may_stand parent before child && all_stand parent (before ++ (child ∷ [])) children
+all_stand parent before (child ∷ children) =
+    may_stand parent before child && all_stand parent (before ++ (child ∷ [])) children
 
 -- the children are what the element may contain
 abbrev pub fits : Option Element → List Element → Bool

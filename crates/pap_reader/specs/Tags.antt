@@ -1,11 +1,11 @@
--- The tags of a text, and where they begin and end elements.
-use Rattle.std.specs.Prelude.{ℕ, Bool, Option, Some, None, List, [], ◌∷◌, ◌++◌, map, codes, nat_eq, if◌then◌else◌}
-use Rattle.std.specs.Cmp.Lexicographic.{pointwise}
-use Rattle.pap_reader.specs.declared.element.Element.{Element}
-use Rattle.pap_reader.specs.declared.element.Element.TheVariants as elements
-use Rattle.pap_reader.specs.declared.tag.Form.{Form}
-use Rattle.pap_reader.specs.declared.tag.Form.TheVariants as forms
-use Rattle.pap_reader.specs.Structure.{Shape, opens, closes, foreign}
+-- Tags and their attributes (docs/PROFILE.md, "Tags"). Each relation is between the bytes at a place, what is read there,
+-- and the bytes that are left.
+use Rattle.std.specs.Prelude.{◌≡◌, ℕ, ◌+◌, true, List, [], ◌∷◌, length}
+use Rattle.pap_tree.specs.White.{is_white}
+use Rattle.pap_reader.specs.declared.tags.Form.{Form}
+use Rattle.pap_reader.specs.declared.tags.Form.TheVariants as forms
+use Rattle.pap_reader.specs.Bytes.{is_letter, is_first, is_inner, begins_with, leading, after}
+use Rattle.pap_reader.specs.Values.{Quoted, is_quote}
 
 -- an attribute: its name, how many bytes stand between its quotes, and the text that they stand for
 pub record Attribute : Type 0 where
@@ -18,64 +18,37 @@ pub record Tag : Type 0 where
   pub name : List ℕ
   pub attributes : List Attribute
 
--- a tag and the place of its first byte, or a place where no token begins
-pub record Spot : Type 0 where
-  pub at : ℕ
-  pub tag : Option Tag
+-- What stands before an attribute's value: white space, a name, `=` and a quote, with white space round the `=` where
+-- there is some.
+pub record Front (bytes : List ℕ) : Type 0 where
+  pub apart : begins_with is_white bytes ≡ true
+  pub named : begins_with is_first (after is_white bytes) ≡ true
+  pub value : List ℕ
+  pub equals : after is_white (after is_inner (after is_white bytes)) ≡ 61 ∷ value
+  pub quote : ℕ
+  pub text : List ℕ
+  pub opened : after is_white value ≡ quote ∷ text
+  pub quotes : is_quote quote ≡ true
 
-abbrev pub same_text : List ℕ → List ℕ → Bool
-same_text a b = pointwise nat_eq a b
+-- an attribute
+pub record IsAttribute (bytes : List ℕ) (a : Attribute) (rest : List ℕ) : Type 0 where
+  pub front : Front bytes
+  pub name : a.name ≡ leading is_inner (after is_white bytes)
+  pub quoted : Quoted front.quote front.text a.value rest
+  pub written : a.written + 1 + length rest ≡ length front.text
 
--- the element of a tag's name
-abbrev pub element_of : List ℕ → Option Element
-element_of w =
-    if same_text w (codes "PAP") then Some elements.Pap else
-    (if same_text w (codes "INTERFACE") then Some elements.Interface else
-    (if same_text w (codes "VARIABLES") then Some elements.Variables else
-    (if same_text w (codes "INPUTS") then Some elements.Inputs else
-    (if same_text w (codes "OUTPUTS") then Some elements.Outputs else
-    (if same_text w (codes "INTERNALS") then Some elements.Internals else
-    (if same_text w (codes "CONSTANTS") then Some elements.Constants else
-    (if same_text w (codes "INPUT") then Some elements.Input else
-    (if same_text w (codes "OUTPUT") then Some elements.Output else
-    (if same_text w (codes "INTERNAL") then Some elements.Internal else
-    (if same_text w (codes "CONSTANT") then Some elements.Constant else
-    (if same_text w (codes "METHODS") then Some elements.Methods else
-    (if same_text w (codes "MAIN") then Some elements.Main else
-    (if same_text w (codes "METHOD") then Some elements.Method else
-    (if same_text w (codes "EVAL") then Some elements.Eval else
-    (if same_text w (codes "EXECUTE") then Some elements.Execute else
-    (if same_text w (codes "IF") then Some elements.If else
-    (if same_text w (codes "THEN") then Some elements.Then else
-    (if same_text w (codes "ELSE") then Some elements.Else else None))))))))))))))))))
+-- what follows the name in a start tag or an empty tag: attributes, and `>` or `/>`
+pub data Ending : List ℕ → Form → List Attribute → List ℕ → Type 0 where
+  start : {bytes rest : List ℕ} → after is_white bytes ≡ 62 ∷ rest → Ending bytes forms.Start [] rest
+  empty : {bytes rest : List ℕ} → after is_white bytes ≡ 47 ∷ 62 ∷ rest → Ending bytes forms.Empty [] rest
+  more : {bytes next rest : List ℕ} {f : Form} {attributes : List Attribute} (a : Attribute)
+      → IsAttribute bytes a next → Ending next f attributes rest → Ending bytes f (a ∷ attributes) rest
 
--- where an element begins or ends
-pub data Mark : Type 0 where
-  begins : Element → List Attribute → Mark
-  ends : Element → Mark
-  -- a tag of no element, or no tag
-  alien : Mark
-
-abbrev pub marks_by : Form → Option Element → List Attribute → List Mark
-marks_by f None own = alien ∷ []
-marks_by forms.Start (Some e) own = begins e own ∷ []
-marks_by forms.Empty (Some e) own = begins e own ∷ ends e ∷ []
-marks_by forms.End (Some e) own = ends e ∷ []
-
--- An empty tag is a start tag and its end tag.
-abbrev pub marks_of : Option Tag → List Mark
-marks_of None = alien ∷ []
-marks_of (Some t) = marks_by t.form (element_of t.name) t.attributes
-
-abbrev pub marks : List Spot → List Mark
-marks [] = []
-marks (t ∷ ts) = marks_of t.tag ++ marks ts
-
--- the mark, its attributes aside
-abbrev pub shape : Mark → Shape
-shape (begins e own) = opens e
-shape (ends e) = closes e
-shape alien = foreign
-
-abbrev pub shapes : List Spot → List Shape
-shapes ts = map shape (marks ts)
+-- a tag: `<NAME ..>`, `<NAME ../>` or `</NAME>`, with a name of letters
+pub data IsTag : List ℕ → Tag → List ℕ → Type 0 where
+  opening : {bytes rest : List ℕ} {f : Form} {attributes : List Attribute}
+      → begins_with is_letter bytes ≡ true → Ending (after is_letter bytes) f attributes rest
+      → IsTag (60 ∷ bytes) (record { form = f; name = leading is_letter bytes; attributes = attributes }) rest
+  closing : {bytes rest : List ℕ}
+      → begins_with is_letter bytes ≡ true → after is_white (after is_letter bytes) ≡ 62 ∷ rest
+      → IsTag (60 ∷ 47 ∷ bytes) (record { form = forms.End; name = leading is_letter bytes; attributes = [] }) rest

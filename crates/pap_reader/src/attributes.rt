@@ -1,38 +1,44 @@
-//! The attributes of a tag.
+//! What the attributes of a tag say.
 
-ghost use Rattle.std.specs.Prelude.{◌≡◌, false, true, codes, MatchOption, IfOk};
-ghost use Rattle.std.specs.Option.{option_map};
-ghost use Rattle.pap_reader.specs.Needs.{value_of, kind_of, is_kind, are_distinct, are_short, is_right, is_met_by, a_name, a_type, any_text};
-ghost use Rattle.pap_reader.specs.Plan.{text_of, or_int};
-ghost use Rattle.pap_reader.specs.Shows.{attributes_of, SaidOf, DeclaresOf, IsNamed, IsText, declares, items_of};
+ghost use Rattle.std.specs.Prelude.{◌≡◌, codes, IfOk, option_map, Some};
+ghost use Rattle.pap_reader.specs.Attributes.{value_of, kind_of, is_kind, are_distinct, are_short, is_right, is_met_by, a_name, a_type, any_text};
+ghost use Rattle.pap_reader.specs.Trees.{items_of};
+ghost use Rattle.pap_reader.specs.Meaning.{text_of, or_int};
+ghost use Rattle.pap_reader.specs.Views.{attributes_of, SomeWhere, IsValueOf, DeclaresOf, IsNamed, IsText, declares};
 
 use crate::element::Element;
-use crate::elements::{Kind, RawDeclared};
-use crate::tag::Attribute;
-use indexmap::IndexSet;
-use pap_tree::Name;
+use crate::elements::RawDeclared;
+use crate::tags::Attribute;
+use pap_tree::{Kind, Name};
 use std::alloc::{AllocError, Global};
+use std::collections::BTreeSet;
 
-/// The most bytes of an attribute's value.
-pub const LONGEST_VALUE: usize = 8192;
+/// The most bytes between the quotes of an attribute.
+const LONGEST_VALUE: usize = 8192;
 
 /// What the attributes of a tag say.
 #[derive(Drop)]
-pub enum Said {
+pub(crate) enum TagValue {
+    /// Nothing that is used.
     Nothing,
+    /// The declared name of an INPUT, an OUTPUT, an INTERNAL or a CONSTANT.
     Declared(RawDeclared),
+    /// The expression of an EVAL or an IF.
     Text(Vec<u8>),
+    /// The name of a METHOD, or of the method of an EXECUTE.
     Named(Name),
 }
 
-/// What the attributes of an element's tag say. `None` where one is missing, stands twice, is too long or is not of its form.
-pub fn read_attributes(
+/// What the attributes of an element's tag say. `None` where a needed one is missing, one stands twice, is too long or is
+/// not of its form.
+pub(crate) fn read_attributes(
     alloc: Global,
     element: Element,
     attributes: &[Attribute],
-) -> Result<Option<Said>, AllocError>
-    ensures { IfOk result (λ o. MatchOption o (is_right element (attributes_of attributes.now) ≡ false)
-        (λ s. (is_right element (attributes_of attributes.now) ≡ true) × SaidOf element (attributes_of attributes.now) s)) }
+) -> Result<Option<TagValue>, AllocError>
+    ensures { IfOk result (λ o. SomeWhere o
+        (is_right element (attributes_of attributes.now))
+        (IsValueOf element (attributes_of attributes.now))) }
 {
     if !are_distinct(alloc, attributes)? || !are_short(attributes) {
         return Ok(None);
@@ -57,19 +63,20 @@ pub fn read_attributes(
         Element::Execute => Ok(named(attributes, b"method")),
         Element::Eval => text(alloc, attributes, b"exec"),
         Element::If => text(alloc, attributes, b"expr"),
-        _ => Ok(Some(Said::Nothing)),
+        _ => Ok(Some(TagValue::Nothing)),
     }
 }
 
-// A declared name, of one of the types, with the attribute that gives its value.
+/// A declared name, of one of the types, with the text of the attribute `word` as its value.
 fn declared(
     alloc: Global,
     attributes: &[Attribute],
     kinds: &[Kind],
-    value: &[u8],
-) -> Result<Option<Said>, AllocError>
-    ensures { IfOk result (λ o. MatchOption o (declares kinds.now (attributes_of attributes.now) ≡ false)
-        (λ s. (declares kinds.now (attributes_of attributes.now) ≡ true) × DeclaresOf value.now (attributes_of attributes.now) s)) }
+    word: &[u8],
+) -> Result<Option<TagValue>, AllocError>
+    ensures { IfOk result (λ o. SomeWhere o
+        (declares kinds.now (attributes_of attributes.now))
+        (DeclaresOf word.now (attributes_of attributes.now))) }
 {
     let Some(name) = name_in(attributes, b"name") else {
         return Ok(None);
@@ -77,26 +84,32 @@ fn declared(
     let Some(kind) = kind_in(attributes, kinds) else {
         return Ok(None);
     };
-    let value = copied(alloc, value_of(attributes, value))?;
-    Ok(Some(Said::Declared(RawDeclared { name, kind, value })))
+    let value = copied(alloc, value_of(attributes, word))?;
+    Ok(Some(TagValue::Declared(RawDeclared { name, kind, value })))
 }
 
-// A name that stands in the attribute of that word.
-fn named(attributes: &[Attribute], word: &[u8]) -> Option<Said>
-    ensures { MatchOption result (is_met_by a_name (value_of word.now (attributes_of attributes.now)) ≡ false)
-        (λ s. (is_met_by a_name (value_of word.now (attributes_of attributes.now)) ≡ true) × IsNamed (text_of word.now (attributes_of attributes.now)) s) }
+/// The name in the attribute `word`, as what a tag says.
+fn named(attributes: &[Attribute], word: &[u8]) -> Option<TagValue>
+    ensures { SomeWhere result
+        (is_met_by a_name (value_of word.now (attributes_of attributes.now)))
+        (IsNamed (text_of word.now (attributes_of attributes.now))) }
 {
     let name = name_in(attributes, word)?;
-    Some(Said::Named(name))
+    Some(TagValue::Named(name))
 }
 
-// A text that stands in the attribute of that word.
-fn text(alloc: Global, attributes: &[Attribute], word: &[u8]) -> Result<Option<Said>, AllocError>
-    ensures { IfOk result (λ o. MatchOption o (is_met_by any_text (value_of word.now (attributes_of attributes.now)) ≡ false)
-        (λ s. (is_met_by any_text (value_of word.now (attributes_of attributes.now)) ≡ true) × IsText (text_of word.now (attributes_of attributes.now)) s)) }
+/// The text of the attribute `word`, as what a tag says.
+fn text(
+    alloc: Global,
+    attributes: &[Attribute],
+    word: &[u8],
+) -> Result<Option<TagValue>, AllocError>
+    ensures { IfOk result (λ o. SomeWhere o
+        (is_met_by any_text (value_of word.now (attributes_of attributes.now)))
+        (IsText (text_of word.now (attributes_of attributes.now)))) }
 {
     match value_of(attributes, word) {
-        Some(text) => Ok(Some(Said::Text(text.to_vec(alloc)?))),
+        Some(text) => Ok(Some(TagValue::Text(text.to_vec(alloc)?))),
         None => Ok(None),
     }
 }
@@ -110,18 +123,20 @@ fn copied(alloc: Global, text: Option<&[u8]>) -> Result<Option<Vec<u8>>, AllocEr
     }
 }
 
-// The name in the attribute of that word.
+/// The name in the attribute `word`.
 fn name_in(attributes: &[Attribute], word: &[u8]) -> Option<Name>
-    ensures { MatchOption result (is_met_by a_name (value_of word.now (attributes_of attributes.now)) ≡ false)
-        (λ n. (is_met_by a_name (value_of word.now (attributes_of attributes.now)) ≡ true) × (n ≡ text_of word.now (attributes_of attributes.now))) }
+    ensures { SomeWhere result
+        (is_met_by a_name (value_of word.now (attributes_of attributes.now)))
+        (λ n. n ≡ text_of word.now (attributes_of attributes.now)) }
 {
     Name::read(value_of(attributes, word)?)
 }
 
-// The type in the attribute `type`, where it is one of these.
+/// The type in the attribute `type`, where it is one of these.
 fn kind_in(attributes: &[Attribute], kinds: &[Kind]) -> Option<Kind>
-    ensures { MatchOption result (is_met_by (a_type kinds.now) (value_of (codes "type") (attributes_of attributes.now)) ≡ false)
-        (λ k. (is_met_by (a_type kinds.now) (value_of (codes "type") (attributes_of attributes.now)) ≡ true) × (k ≡ or_int (kind_of (text_of (codes "type") (attributes_of attributes.now))))) }
+    ensures { SomeWhere result
+        (is_met_by (a_type kinds.now) (value_of (codes "type") (attributes_of attributes.now)))
+        (λ k. k ≡ or_int (kind_of (text_of (codes "type") (attributes_of attributes.now)))) }
 {
     let kind = kind_of(value_of(attributes, b"type")?)?;
     if is_kind(kinds, kind) {
@@ -137,7 +152,7 @@ fn is_kind(kinds: &[Kind], kind: Kind) -> bool
     kinds.iter().any(|other| kind == *other)
 }
 
-// The type of that word.
+/// The type of that word.
 fn kind_of(word: &[u8]) -> Option<Kind>
     ensures { result ≡ kind_of word.now }
 {
@@ -156,7 +171,7 @@ fn kind_of(word: &[u8]) -> Option<Kind>
     }
 }
 
-// The value of the first attribute of that name.
+/// The value of the first attribute of that name.
 fn value_of<'t>(attributes: &'t [Attribute], name: &[u8]) -> Option<&'t [u8]>
     ensures { option_map (λ v. v.now) result ≡ value_of name.now (attributes_of attributes.now) }
 {
@@ -168,6 +183,7 @@ fn value_of<'t>(attributes: &'t [Attribute], name: &[u8]) -> Option<&'t [u8]>
     None
 }
 
+/// Whether no value is too long.
 fn are_short(attributes: &[Attribute]) -> bool
     ensures { result ≡ are_short (attributes_of attributes.now) }
 {
@@ -179,16 +195,15 @@ fn are_short(attributes: &[Attribute]) -> bool
     true
 }
 
-// Whether no name stands twice. The names so far are in a set, so that many attributes take no longer each.
+/// Whether no name stands twice. The names so far are kept in order, so a tag of many attributes takes little longer for
+/// each of them, whatever the names are.
 fn are_distinct(alloc: Global, attributes: &[Attribute]) -> Result<bool, AllocError>
     ensures { IfOk result (λ b. b ≡ are_distinct (attributes_of attributes.now)) }
 {
-    let mut seen = IndexSet::new(alloc);
+    let mut seen = BTreeSet::new(alloc);
     for attribute in attributes {
-        match seen.insert_full(attribute.name) {
-            Ok((_, true)) => {}
-            Ok((_, false)) => return Ok(false),
-            Err(_) => return Err(AllocError),
+        if !seen.insert(attribute.name)? {
+            return Ok(false);
         }
     }
     Ok(true)

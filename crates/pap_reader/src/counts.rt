@@ -2,31 +2,31 @@
 
 ghost use Rattle.std.specs.Prelude.{◌≡◌, ◌+◌, ◌-◌, ◌<◌, List, []};
 ghost use Rattle.pap_reader.specs.Limits.{tested, deeper};
-ghost use Rattle.pap_reader.specs.Answer.{first_over};
+ghost use Rattle.pap_reader.specs.VerdictDecisions.{first_over};
 ghost use Rattle.pap_reader.specs.Structure.{Shape, closes};
-ghost use Rattle.pap_reader.specs.Shows.{Tallies, IsMore, IsSmall};
+ghost use Rattle.pap_reader.specs.Views.{Tallies, IsMore, IsSmall};
 
 use crate::element::Element;
 use crate::fault::Which;
 
 /// The most inputs of a plan.
-pub const MOST_INPUTS: u32 = 256;
+const MOST_INPUTS: u32 = 256;
 /// The most outputs of a plan.
-pub const MOST_OUTPUTS: u32 = 256;
+const MOST_OUTPUTS: u32 = 256;
 /// The most internal names of a plan.
-pub const MOST_INTERNALS: u32 = 1024;
+const MOST_INTERNALS: u32 = 1024;
 /// The most constants of a plan.
-pub const MOST_CONSTANTS: u32 = 512;
+const MOST_CONSTANTS: u32 = 512;
 /// The most methods of a plan, without MAIN.
-pub const MOST_METHODS: u32 = 256;
+const MOST_METHODS: u32 = 256;
 /// The most statements that are written in a plan.
-pub const MOST_STATEMENTS: u32 = 20_000;
+const MOST_STATEMENTS: u32 = 20_000;
 /// The most IFs in one another.
-pub const MOST_DEPTH: u32 = 32;
+const MOST_DEPTH: u32 = 32;
 
 /// How much is read so far.
 #[derive(Clone, Copy)]
-pub struct Counts {
+pub(crate) struct Counts {
     inputs: u32,
     outputs: u32,
     internals: u32,
@@ -38,7 +38,7 @@ pub struct Counts {
 
 impl Counts {
     /// Nothing is read.
-    pub fn none() -> Counts
+    pub(crate) fn none() -> Counts
         ensures { Tallies result [] }
     {
         Counts {
@@ -53,7 +53,7 @@ impl Counts {
     }
 
     /// An element begins.
-    pub fn open(&mut self, element: Element)
+    pub(crate) fn open(&mut self, element: Element)
         ensures { IsSmall self.old → IsMore self.old self.new element }
     {
         match element {
@@ -72,7 +72,7 @@ impl Counts {
     }
 
     /// An element ends.
-    pub fn close(&mut self, element: Element)
+    pub(crate) fn close(&mut self, element: Element)
         ensures { self.new ≡ record self.old { depth = deeper self.old.depth (closes element) } }
     {
         if element == Element::If {
@@ -81,7 +81,7 @@ impl Counts {
     }
 
     /// The first of the amounts that is beyond its limit.
-    pub fn first_over(&self) -> Option<Which>
+    pub(crate) fn first_over(&self) -> Option<Which>
         ensures { (shapes : List Shape) → Tallies self.now shapes → result ≡ first_over shapes tested }
     {
         if self.inputs > MOST_INPUTS {

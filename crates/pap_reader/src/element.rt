@@ -1,16 +1,19 @@
-//! The elements of a plan's file, and how they are nested.
+//! The elements of a plan's file, and which of them may stand in one.
 
 ghost use Rattle.std.specs.Prelude.{◌≡◌, ◌<◌, List, ◌∷◌, [], ◌++◌};
 ghost use Rattle.pap_reader.specs.Table.{number, has, may_stand, is_complete};
-ghost use Rattle.pap_reader.specs.Tags.{element_of};
-ghost use Rattle.pap_reader.specs.Shows.{HasFlags};
+ghost use Rattle.pap_reader.specs.Marks.{element_of, declaring_element, running_element};
+ghost use Rattle.pap_reader.specs.Views.{HasFlags, AddsChild};
 ghost use Rattle.pap_reader.specs.declared.element.Element.{Element as Kind};
 
-/// The kinds of elements.
-#[derive(Clone, Copy, Debug, PartialEq, Eq)]
-pub enum Element {
+/// The elements of a plan's file.
+#[derive(Clone, Copy, PartialEq, Eq)]
+pub(crate) enum Element {
+    /// The root.
     Pap,
+    /// The group of declarations.
     Interface,
+    /// Another name of the group.
     Variables,
     Inputs,
     Outputs,
@@ -21,10 +24,14 @@ pub enum Element {
     Internal,
     Constant,
     Methods,
+    /// The method that a run begins with.
     Main,
     Method,
+    /// An assignment.
     Eval,
+    /// The call of a method.
     Execute,
+    /// A test with its branches.
     If,
     Then,
     Else,
@@ -32,8 +39,18 @@ pub enum Element {
 
 impl Element {
     /// The element of a tag's name.
-    pub fn named(name: &[u8]) -> Option<Element>
+    pub(crate) fn named(name: &[u8]) -> Option<Element>
         ensures { result ≡ element_of name.now }
+    {
+        match Element::declaring(name) {
+            Some(element) => Some(element),
+            None => Element::running(name),
+        }
+    }
+
+    /// The element of that name among those of the declarations.
+    fn declaring(name: &[u8]) -> Option<Element>
+        ensures { result ≡ declaring_element name.now }
     {
         if name == b"PAP".as_slice() {
             Some(Element::Pap)
@@ -57,7 +74,16 @@ impl Element {
             Some(Element::Internal)
         } else if name == b"CONSTANT".as_slice() {
             Some(Element::Constant)
-        } else if name == b"METHODS".as_slice() {
+        } else {
+            None
+        }
+    }
+
+    /// The element of that name among those of the methods.
+    fn running(name: &[u8]) -> Option<Element>
+        ensures { result ≡ running_element name.now }
+    {
+        if name == b"METHODS".as_slice() {
             Some(Element::Methods)
         } else if name == b"MAIN".as_slice() {
             Some(Element::Main)
@@ -78,6 +104,7 @@ impl Element {
         }
     }
 
+    /// Its place in the list of all elements.
     fn number(self) -> usize
         ensures place { result ≡ number self }
         ensures within { result < 19 }
@@ -88,13 +115,13 @@ impl Element {
 
 /// Which elements are among the children of an open one.
 #[derive(Clone, Copy)]
-pub struct Children {
+pub(crate) struct Children {
     stands: [bool; 19],
 }
 
 impl Children {
     /// No children.
-    pub fn none() -> Children
+    pub(crate) fn none() -> Children
         ensures { HasFlags result.stands [] }
     {
         Children {
@@ -103,22 +130,23 @@ impl Children {
     }
 
     /// Whether one of them is of this kind.
-    pub fn has(&self, element: Element) -> bool
+    pub(crate) fn has(&self, element: Element) -> bool
         ensures { (children : List Kind) → HasFlags self.now.stands children → result ≡ has children element }
     {
         self.stands[element.number()]
     }
 
     /// One child more.
-    pub fn add(&mut self, element: Element)
-        ensures { (children : List Kind) → HasFlags self.old.stands children → HasFlags self.new.stands (children ++ (element ∷ [])) }
+    pub(crate) fn add(&mut self, element: Element)
+        ensures { AddsChild self.old self.new element }
     {
         self.stands[element.number()] = true;
     }
 
     /// Whether an element may stand next, after these children of the parent. The whole text is `None`.
-    pub fn may_stand(&self, parent: Option<Element>, child: Element) -> bool
-        ensures { (children : List Kind) → HasFlags self.now.stands children → result ≡ may_stand parent children child }
+    pub(crate) fn may_stand(&self, parent: Option<Element>, child: Element) -> bool
+        ensures { (children : List Kind) → HasFlags self.now.stands children
+            → result ≡ may_stand parent children child }
     {
         match (parent, child) {
             (None, Element::Pap)
@@ -146,8 +174,9 @@ impl Children {
     }
 
     /// Whether nothing is missing among these children of the parent.
-    pub fn is_complete(&self, parent: Option<Element>) -> bool
-        ensures { (children : List Kind) → HasFlags self.now.stands children → result ≡ is_complete parent children }
+    pub(crate) fn is_complete(&self, parent: Option<Element>) -> bool
+        ensures { (children : List Kind) → HasFlags self.now.stands children
+            → result ≡ is_complete parent children }
     {
         match parent {
             None => self.has(Element::Pap),

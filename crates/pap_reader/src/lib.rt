@@ -1,24 +1,21 @@
-//! Element text: the text of a plan's file.
+//! Reads the elements of a plan's file, each with the texts of its attributes.
+//!
+//! The file is read once, from left to right, with a stack of open elements. What an element text is stands in
+//! `specs/Elements.antt`: tokens, their nesting after a table of elements, their attributes, and the tree that they say.
 #![tactic(auto)]
 
 mod attributes;
+mod bytes;
 mod counts;
 mod element;
 mod elements;
 mod fault;
-mod lexer;
 mod reader;
-mod tag;
+mod skipped;
+mod tags;
 mod text;
+mod values;
 
-pub use attributes::{LONGEST_VALUE, Said, read_attributes};
-pub use counts::{
-    Counts, MOST_CONSTANTS, MOST_DEPTH, MOST_INPUTS, MOST_INTERNALS, MOST_METHODS, MOST_OUTPUTS,
-    MOST_STATEMENTS,
-};
-pub use element::{Children, Element};
-pub use elements::{Elements, Kind, RawDeclared, RawMethod, RawStmt};
+pub use elements::{Elements, RawDeclared, RawMethod, RawStmt};
 pub use fault::{ReadFault, Which};
-pub use reader::{Part, Reader};
-pub use tag::{Attribute, Form, Spot, Tag};
-pub use text::{LONGEST_PLAN, always_one, one_fault, one_tree, read_elements, tree_or_fault};
+pub use text::{element_laws, read_elements};

@@ -1,48 +1,50 @@
 //! The reader: it goes through the tags of a text with the open elements in hand.
 
-ghost use Rattle.std.specs.Prelude.{◌≡◌, ℕ, Bool, true, List, ◌∷◌, [], ◌++◌, map, is_some, OnOk, MatchResult, ◌&&◌, ◌||◌};
-ghost use Rattle.pap_reader.specs.Structure.{Shape, opens, closes, opens_internals};
-ghost use Rattle.pap_reader.specs.Nesting.{Open, fresh, is_inside, step, start, is_ended};
+ghost use Rattle.std.specs.Prelude.{◌≡◌, ℕ, Bool, true, List, ◌∷◌, [], ◌++◌, map, is_some, OnOk, ◌&&◌, ◌||◌};
+ghost use Rattle.pap_reader.specs.Structure.{Shape, opens, opens_internals};
+ghost use Rattle.pap_reader.specs.NestingDecisions.{Open, fresh, is_inside, step, start, is_ended};
 ghost use Rattle.pap_reader.specs.Table.{is_complete};
-ghost use Rattle.pap_reader.specs.Tags.{Attribute as Owned, begins, ends, marks_of, shape};
-ghost use Rattle.pap_reader.specs.Needs.{is_right};
-ghost use Rattle.pap_reader.specs.Plan.{Piece, nothing, declared};
-ghost use Rattle.pap_reader.specs.Answer.{Work, begun, answer};
-ghost use Rattle.pap_reader.specs.Shows.{attributes_of, spot_of, declaration_of, DeclaresOf};
-ghost use Rattle.pap_reader.specs.Reading.{SaidIn, ShowsPart, Closed, Stands, Refuses, one_verdict, Took, Judges, Takes, Gives};
+ghost use Rattle.pap_reader.specs.Tags.{Attribute as AnyAttribute};
+ghost use Rattle.pap_reader.specs.Marks.{begins, ends, marks_of};
+ghost use Rattle.pap_reader.specs.Trees.{raw_declaration_of};
+ghost use Rattle.pap_reader.specs.Meaning.{declared};
+ghost use Rattle.pap_reader.specs.VerdictDecisions.{Work, begun, ending};
+ghost use Rattle.pap_reader.specs.Views.{attributes_of, tag_of, DeclaresOf};
+ghost use Rattle.pap_reader.specs.ReaderViews.{ShowsOpen, Closed, Stands, IsFresh, BeginsElement, EndsElement, TakesMarks, Gives};
 
-use crate::attributes::{Said, read_attributes};
+use crate::attributes::{TagValue, read_attributes};
 use crate::counts::Counts;
 use crate::element::{Children, Element};
 use crate::elements::{Elements, RawDeclared, RawMethod, RawStmt};
 use crate::fault::ReadFault;
-use crate::tag::{Attribute, Form, Spot};
+use crate::tags::{Attribute, Form, Tag};
 use std::alloc::{AllocError, Global};
 use std::mem;
 
 /// An element that is open, or the whole text, and what is read of it so far.
 #[derive(Drop)]
-pub struct Part {
+struct OpenElement {
     /// The element. `None` is the whole text.
     element: Option<Element>,
     children: Children,
     /// What its attributes say.
-    said: Said,
+    value: TagValue,
     statements: Vec<RawStmt>,
-    /// The branches of a choice.
+    /// The statements of a THEN in it.
     yes: Vec<RawStmt>,
+    /// The statements of an ELSE in it.
     no: Vec<RawStmt>,
 }
 
-impl Part {
+impl OpenElement {
     /// One of which nothing is read.
-    fn new(alloc: Global, element: Option<Element>, said: Said) -> Part
-        ensures { (own : List Owned) → SaidIn element own said → ShowsPart result (fresh element) (record { attributes = own; piece = nothing }) }
+    fn new(alloc: Global, element: Option<Element>, value: TagValue) -> OpenElement
+        ensures { IsFresh result (fresh element) value }
     {
-        Part {
+        OpenElement {
             element,
             children: Children::none(),
-            said,
+            value,
             statements: Vec::new(alloc),
             yes: Vec::new(alloc),
             no: Vec::new(alloc),
@@ -51,18 +53,21 @@ impl Part {
 
     /// Whether this element may end here.
     fn may_end(&self, element: Element) -> bool
-        ensures { (o : Open) (w : Work) → ShowsPart self.now o w → result ≡ (is_inside o.inside element && is_complete o.inside o.children) }
+        ensures { (o : Open) (w : Work) → ShowsOpen self.now o w
+            → result ≡ (is_inside o.inside element && is_complete o.inside o.children) }
     {
         self.element == Some(element) && self.children.is_complete(self.element)
     }
 }
 
 /// One more declared name.
-fn declare(names: &mut Vec<RawDeclared>, said: Said) -> Result<(), AllocError>
-    ensures { OnOk result ((value : List ℕ) (own : List Owned) → DeclaresOf value own said →
-        map declaration_of names.new.items ≡ map declaration_of names.old.items ++ (declared value own ∷ [])) }
+fn declare(names: &mut Vec<RawDeclared>, value: TagValue) -> Result<(), AllocError>
+    ensures { OnOk result ((word : List ℕ) (attributes : List AnyAttribute)
+        → DeclaresOf word attributes value
+        → map raw_declaration_of names.new.items
+        ≡ map raw_declaration_of names.old.items ++ (declared word attributes ∷ [])) }
 {
-    if let Said::Declared(declared) = said {
+    if let TagValue::Declared(declared) = value {
         names.push(declared)?;
     }
     Ok(())
@@ -71,38 +76,38 @@ fn declare(names: &mut Vec<RawDeclared>, said: Said) -> Result<(), AllocError>
 /// The parent takes what the element in it says. What stands outside of both goes to the plan.
 fn close_in(
     element: Element,
-    child: Part,
-    parent: &mut Part,
+    child: OpenElement,
+    parent: &mut OpenElement,
     plan: &mut Elements,
 ) -> Result<(), AllocError>
     ensures { OnOk result (Closed element child parent.old parent.new plan.old plan.new) }
 {
-    let Part {
-        said,
+    let OpenElement {
+        value,
         statements,
         yes,
         no,
         ..
     } = child;
     match element {
-        Element::Input => declare(&mut plan.inputs, said)?,
-        Element::Output => declare(&mut plan.outputs, said)?,
-        Element::Internal => declare(&mut plan.internals, said)?,
-        Element::Constant => declare(&mut plan.constants, said)?,
+        Element::Input => declare(&mut plan.inputs, value)?,
+        Element::Output => declare(&mut plan.outputs, value)?,
+        Element::Internal => declare(&mut plan.internals, value)?,
+        Element::Constant => declare(&mut plan.constants, value)?,
         Element::Eval => {
-            let Said::Text(exec) = said else {
+            let TagValue::Text(exec) = value else {
                 return Ok(());
             };
             parent.statements.push(RawStmt::Eval { exec })?;
         }
         Element::Execute => {
-            let Said::Named(method) = said else {
+            let TagValue::Named(method) = value else {
                 return Ok(());
             };
             parent.statements.push(RawStmt::Execute { method })?;
         }
         Element::If => {
-            let Said::Text(test) = said else {
+            let TagValue::Text(test) = value else {
                 return Ok(());
             };
             parent.statements.push(RawStmt::If { test, yes, no })?;
@@ -111,7 +116,7 @@ fn close_in(
         Element::Else => parent.no = statements,
         Element::Main => plan.main = statements,
         Element::Method => {
-            let Said::Named(name) = said else {
+            let TagValue::Named(name) = value else {
                 return Ok(());
             };
             let body = statements;
@@ -124,12 +129,12 @@ fn close_in(
 
 /// The open elements of a text, and the plan that is read so far.
 #[derive(Drop)]
-pub struct Reader {
+pub(crate) struct Reader {
     alloc: Global,
     /// The inmost open element.
-    top: Part,
+    top: OpenElement,
     /// Those outside of it, the inmost last.
-    outer: Vec<Part>,
+    outer: Vec<OpenElement>,
     /// Whether an INTERNALS was read.
     internals: bool,
     counts: Counts,
@@ -138,12 +143,12 @@ pub struct Reader {
 
 impl Reader {
     /// Nothing is read.
-    pub fn new(alloc: Global) -> Reader
+    pub(crate) fn new(alloc: Global) -> Reader
         ensures { Stands result [] start begun }
     {
         Reader {
             alloc,
-            top: Part::new(alloc, None, Said::Nothing),
+            top: OpenElement::new(alloc, None, TagValue::Nothing),
             outer: Vec::new(alloc),
             internals: false,
             counts: Counts::none(),
@@ -153,7 +158,8 @@ impl Reader {
 
     /// Whether the element may begin here.
     fn may_open(&self, element: Element) -> bool
-        ensures { (before : List Shape) (os : List Open) (ws : List Work) → Stands self.now before os ws → result ≡ is_some (step before os (opens element)) }
+        ensures { (before : List Shape) (os : List Open) (ws : List Work) → Stands self.now before os ws
+            → result ≡ is_some (step before os (opens element)) }
     {
         let is_second = element == Element::Internals && self.internals;
         self.top.children.may_stand(self.top.element, element) && !is_second
@@ -173,14 +179,12 @@ impl Reader {
         attributes: &[Attribute],
         at: usize,
     ) -> Result<(), ReadFault>
-        ensures { (before : List Shape) (os : List Open) (ws : List Work) → Stands self.old before os ws →
-            MatchResult result (λ _. Took self.new before os ws (opens element) (begins element (attributes_of attributes.now)) × (is_right element (attributes_of attributes.now) ≡ true))
-            (λ f. Refuses f (one_verdict at before os (is_right element (attributes_of attributes.now)) (opens element))) }
+        ensures { BeginsElement self.old self.new result element (attributes_of attributes.now) at }
     {
         if !self.may_open(element) {
             return Err(ReadFault::Element { at });
         }
-        let Some(said) = read_attributes(self.alloc, element, attributes)? else {
+        let Some(value) = read_attributes(self.alloc, element, attributes)? else {
             return Err(ReadFault::Attribute { at });
         };
         self.counts.open(element);
@@ -189,7 +193,7 @@ impl Reader {
         }
         self.internals = self.has_internals_with(element);
         self.top.children.add(element);
-        let child = Part::new(self.alloc, Some(element), said);
+        let child = OpenElement::new(self.alloc, Some(element), value);
         let parent = mem::replace(&mut self.top, child);
         self.outer.push(parent)?;
         Ok(())
@@ -197,9 +201,7 @@ impl Reader {
 
     /// An element ends.
     fn close(&mut self, element: Element, at: usize) -> Result<(), ReadFault>
-        ensures { (before : List Shape) (os : List Open) (ws : List Work) → Stands self.old before os ws →
-            MatchResult result (λ _. Took self.new before os ws (closes element) (ends element))
-            (λ f. Refuses f (one_verdict at before os true (closes element))) }
+        ensures { EndsElement self.old self.new result element at }
     {
         if !self.top.may_end(element) {
             return Err(ReadFault::Element { at });
@@ -220,8 +222,8 @@ impl Reader {
         attributes: &[Attribute],
         at: usize,
     ) -> Result<(), ReadFault>
-        ensures { (before : List Shape) (os : List Open) (ws : List Work) → Stands self.old before os ws →
-            Judges at before os ws (begins element (attributes_of attributes.now) ∷ ends element ∷ []) self.new result }
+        ensures { TakesMarks self.old self.new result
+            (begins element (attributes_of attributes.now) ∷ ends element ∷ []) at }
     {
         if !Children::none().is_complete(Some(element)) {
             return Err(ReadFault::Element { at });
@@ -230,14 +232,10 @@ impl Reader {
         self.close(element, at)
     }
 
-    /// One more tag.
-    pub fn take(&mut self, spot: &Spot) -> Result<(), ReadFault>
-        ensures { (before : List Shape) (os : List Open) (ws : List Work) → Stands self.old before os ws → Takes before os ws (spot_of spot.now) self.new result }
+    /// One more tag, whose first byte stands at that place.
+    pub(crate) fn take(&mut self, tag: &Tag, at: usize) -> Result<(), ReadFault>
+        ensures { TakesMarks self.old self.new result (marks_of (tag_of tag.now)) at }
     {
-        let at = spot.at;
-        let Some(tag) = &spot.tag else {
-            return Err(ReadFault::Text { at });
-        };
         let Some(element) = Element::named(tag.name) else {
             return Err(ReadFault::Element { at });
         };
@@ -250,14 +248,16 @@ impl Reader {
 
     /// Whether the text may end here.
     fn is_ended(&self) -> bool
-        ensures { (before : List Shape) (os : List Open) (ws : List Work) → Stands self.now before os ws → result ≡ is_ended os }
+        ensures { (before : List Shape) (os : List Open) (ws : List Work) → Stands self.now before os ws
+            → result ≡ is_ended os }
     {
         self.outer.is_empty() && self.top.children.is_complete(self.top.element)
     }
 
-    /// The plan, where the text may end here.
-    pub fn finish(self, end: usize) -> Result<Elements, ReadFault>
-        ensures { (before : List Shape) (os : List Open) (ws : List Work) → Stands self before os ws → Gives result (answer end before os ws []) }
+    /// The plan, where the text may end here, after so many bytes.
+    pub(crate) fn finish(self, end: usize) -> Result<Elements, ReadFault>
+        ensures { (before : List Shape) (os : List Open) (ws : List Work) → Stands self before os ws
+            → Gives result (ending end os ws) }
     {
         if self.is_ended() {
             Ok(self.plan)

@@ -1,27 +1,27 @@
-//! Plans from their texts.
+//! Plans from the bytes of their files.
 
-ghost use Rattle.std.specs.Prelude.{◌≡◌, ◌⊎◌, ℕ, List, length, IfOk, IfErr};
-ghost use Rattle.pap_reader.specs.Plan.{Tree};
-ghost use Rattle.pap_reader.specs.Reading.{tree_read};
-ghost use Rattle.pap_reader.specs.Elements.{IsElements, IsFault, IsWrong};
+ghost use Rattle.std.specs.Prelude.{◌≡◌, ◌⊎◌, ℕ, List, IfOk, IfErr};
+ghost use Rattle.pap_reader.specs.Trees.{ElementTree, tree_of};
+ghost use Rattle.pap_reader.specs.Elements.{IsElementText, IsElements, IsFault, IsFaultOrMemory};
 ghost use Rattle.pap_reader.specs.declared.fault.ReadFault.{ReadFault as Fault};
 
 use crate::elements::Elements;
 use crate::fault::{ReadFault, Which};
-use crate::lexer::{after_prolog, read_tag, skip};
 use crate::reader::Reader;
-use crate::tag::Spot;
+use crate::skipped::{after_prolog, skip};
+use crate::tags::read_tag;
 use std::alloc::Global;
 
-/// The most bytes of a plan's text.
-pub const LONGEST_PLAN: usize = 1_048_576;
+/// The most bytes of a plan's file.
+const LONGEST_PLAN: usize = 1_048_576;
 
-/// What is written in a plan's text.
+/// Reads the elements of a plan's file (docs/PROFILE.md). The refusal is that of the first token that earns one, and of one
+/// token the first of `Text`, `Element`, `Attribute` and `Many`; too many bytes are refused before all else.
 pub fn read_elements(alloc: Global, bytes: &[u8]) -> Result<Elements, ReadFault>
-    // What is read is the tree of the text, which is within the limits.
-    ensures read { IfOk result (λ e. IsElements bytes.now (tree_read e)) }
-    // The first token that earns a refusal earns this one, unless memory ran out.
-    ensures wrong { IfErr result (λ f. IsWrong bytes.now f) }
+    // The bytes are an element text within the limits, and this is its tree.
+    ensures read { IfOk result (λ e. IsElements bytes.now (tree_of e)) }
+    // The bytes have this fault, or memory ran out.
+    ensures refused { IfErr result (λ f. IsFaultOrMemory bytes.now f) }
 {
     let end = bytes.len();
     if end > LONGEST_PLAN {
@@ -32,9 +32,7 @@ pub fn read_elements(alloc: Global, bytes: &[u8]) -> Result<Elements, ReadFault>
     let mut reader = Reader::new(alloc);
     let mut left = skip(after_prolog(bytes));
     while let Some((tag, rest)) = read_tag(alloc, left)? {
-        let at = end - left.len();
-        let spot = Spot { at, tag: Some(tag) };
-        reader.take(&spot)?;
+        reader.take(&tag, end - left.len())?;
         left = skip(rest);
     }
     if !left.is_empty() {
@@ -45,22 +43,12 @@ pub fn read_elements(alloc: Global, bytes: &[u8]) -> Result<Elements, ReadFault>
     reader.finish(end)
 }
 
-/// A text has one tree, at most.
-pub fn one_tree()
-    ensures { (bytes : List ℕ) (x y : Tree) → IsElements bytes x → IsElements bytes y → x ≡ y }
-{}
-
-/// A text with a tree has no fault.
-pub fn tree_or_fault()
-    ensures { (bytes : List ℕ) (x : Tree) (f : Fault) → IsElements bytes x → IsFault bytes f → ⊥ }
-{}
-
-/// A text has one fault, at most.
-pub fn one_fault()
-    ensures { (bytes : List ℕ) (f g : Fault) → IsFault bytes f → IsFault bytes g → f ≡ g }
-{}
-
-/// A text has a tree or a fault.
-pub fn always_one()
-    ensures { (bytes : List ℕ) → ((x : Tree) × IsElements bytes x) ⊎ ((f : Fault) × IsFault bytes f) }
+/// The laws of element texts. Bytes have either one tree within the limits or one fault, and never both.
+pub fn element_laws()
+    ensures one_tree { (bytes : List ℕ) (x y : ElementTree)
+        → IsElementText bytes x → IsElementText bytes y → x ≡ y }
+    ensures one_fault { (bytes : List ℕ) (f g : Fault) → IsFault bytes f → IsFault bytes g → f ≡ g }
+    ensures never_both { (bytes : List ℕ) (x : ElementTree) (f : Fault) → IsElements bytes x → IsFault bytes f → ⊥ }
+    ensures always_one { (bytes : List ℕ)
+        → ((x : ElementTree) × IsElements bytes x) ⊎ ((f : Fault) × IsFault bytes f) }
 {}

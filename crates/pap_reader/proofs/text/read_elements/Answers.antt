@@ -2,7 +2,7 @@ use Rattle.std.proofs.Common.{arith, sym, ◌∙◌}
 use Rattle.std.proofs.lemmas.Result.{err_from_is_err_and}
 use Rattle.std.proofs.lemmas.Bool.{eqb-true}
 use Rattle.std.proofs.lemmas.List.{nil_from_length}
-use Rattle.pap_reader.specs.Shows.{tag_of}
+use Rattle.pap_reader.specs.Views.{tag_of}
 use Rattle.pap_reader.proofs.ReaderSteps.{at_some}
 use Rattle.pap_reader.proofs.Whole.{going_start, going_more, wrong_tag, ends}
 use Rattle.pap_reader.proofs.text.read_elements.Goals as goal
@@ -14,16 +14,16 @@ loop-reader-init c = record {
   shorter = omega (arith, c.skip-left.ensures.shorter, c.after_prolog.ensures.shorter);
 }
 
-pub returns-in_err-take-clause-wrong : goal.returns-in_err-take-clause-wrong
-returns-in_err-take-clause-wrong c =
+pub returns-in_err-take-clause-refused : goal.returns-in_err-take-clause-refused
+returns-in_err-take-clause-refused c =
     let g = c.loop-reader.invariant.going in
     let i = at_some c.in_ok-tag.field-0 _ _ _ c.in_ok-tag.ensures.found c.in-Some.is in
     let p = err_from_is_err_and c.from_residual-in_err-take.result c.from_residual-in_err-take.ensures.1 in
     rw (p.1, p.2)
     (wrong_tag c.loop-reader.reader c.take.new.self c.args.bytes.now c.loop-reader.left.now c.in-Some.rest.now (tag_of c.in-Some.tag) c.take.result c.in_err-take.field-0.0 g (omega arith) i c.in_err-take.was (c.take.ensures _ g.os g.ws g.stands))
 
-pub loop-reader-preserved-in_ok-take : goal.loop-reader-preserved-in_ok-take
-loop-reader-preserved-in_ok-take c =
+pub loop-reader-preserved : goal.loop-reader-preserved
+loop-reader-preserved c =
     let v = c.loop-reader.invariant in
     let g = v.going in
     let i = at_some c.in_ok-tag.field-0 _ _ _ c.in_ok-tag.ensures.found c.in-Some.is in
@@ -41,8 +41,8 @@ returns-clause-read c =
     let n = nil_from_length c.loop-reader.left.now (eqb-true _ 0 (sym c.is_empty.ensures ∙ c.if-not-is_empty.false)) in
     (ends c.loop-reader.reader c.args.bytes.now c.loop-reader.left.now c.finish.result g (omega arith) n (c.finish.ensures _ g.os g.ws g.stands)).0
 
-pub returns-clause-wrong : goal.returns-clause-wrong
-returns-clause-wrong c =
+pub returns-clause-refused : goal.returns-clause-refused
+returns-clause-refused c =
     let g = c.loop-reader.invariant.going in
     let n = nil_from_length c.loop-reader.left.now (eqb-true _ 0 (sym c.is_empty.ensures ∙ c.if-not-is_empty.false)) in
     (ends c.loop-reader.reader c.args.bytes.now c.loop-reader.left.now c.finish.result g (omega arith) n (c.finish.ensures _ g.os g.ws g.stands)).1

@@ -1,5 +1,5 @@
 use Rattle.std.proofs.Common.{◌≤◌, length, List, ℕ}
-use Rattle.pap_reader.specs.Lexical.{IsPassed}
+use Rattle.pap_reader.specs.Skipped.{IsPassed}
 use Rattle.pap_reader.proofs.Whole.{Going}
 use Rattle.pap_reader.proofs.text.read_elements.Given as goal
 
