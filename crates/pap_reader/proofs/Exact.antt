@@ -1,5 +1,5 @@
 -- What holds after clean tags, and what the verdict on the next one says.
-use Rattle.std.proofs.Common.{◌≡◌, ℕ, ◌≤◌, ◌<◌, Bool, true, false, ◌⊎◌, inl, inr, Option, Some, None, Result, Ok, Err, List, [], ◌∷◌, ◌++◌, length, map, refl, sym, ap, subst, ◌∙◌, append_assoc, arith}
+use Rattle.std.proofs.Common.{◌≡◌, ◌≤◌, ◌<◌, Bool, true, false, ◌⊎◌, inl, inr, Option, Some, None, Result, Ok, Err, List, [], ◌∷◌, ◌++◌, length, map, refl, sym, ap, subst, ◌∙◌, append_assoc, arith}
 use Rattle.std.specs.Prelude.{nat_lt, if◌then◌else◌}
 use Rattle.std.specs.List.{list_all}
 use Rattle.std.proofs.lemmas.Bool.{and_from, cases_Bool, ltb-true, ltb-false}
@@ -15,7 +15,7 @@ use Rattle.pap_reader.specs.Tokens.{PlacedTag}
 use Rattle.pap_reader.specs.Marks.{Mark, marks_of, marks, shape, shapes}
 use Rattle.pap_reader.specs.Attributes.{mark_is_right}
 use Rattle.pap_reader.specs.Limits.{amount, most, tested, IsWithin, IsFirstOver}
-use Rattle.pap_reader.specs.VerdictDecisions.{IsFew, Work, builds, begun, built, first_over, within, entered, verdict_on, verdict}
+use Rattle.pap_reader.specs.VerdictDecisions.{IsFew, Work, builds, begun, built, first_over, within, entered, verdict}
 use Rattle.pap_reader.specs.Elements.{HasTree}
 use Rattle.pap_reader.specs.Faults.{Earns, IsClean}
 use Rattle.pap_reader.proofs.Completion.{Reached, is_front}

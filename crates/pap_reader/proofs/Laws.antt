@@ -5,6 +5,8 @@ use Rattle.pap_reader.specs.Trees.{ElementTree}
 use Rattle.pap_reader.specs.Elements.{IsElementText, IsElements, IsFault}
 use Rattle.pap_reader.proofs.OneReading as reading
 use Rattle.pap_reader.proofs.Total as total
+use Rattle.pap_reader.proofs.SmallTrees as small
+use Rattle.pap_reader.specs.TreeLimits.{IsSmallTree}
 
 -- A text has at most one tree.
 pub one_tree : (bytes : List ℕ) (x y : ElementTree) → IsElementText bytes x → IsElementText bytes y → x ≡ y
@@ -21,3 +23,7 @@ never_both = reading.never_both
 -- They have always one of the two.
 pub always_one : (bytes : List ℕ) → ((x : ElementTree) × IsElements bytes x) ⊎ ((f : ReadFault) × IsFault bytes f)
 always_one = total.always_one
+
+-- The tree of a text within the limits is within them.
+pub small_tree : (bytes : List ℕ) (x : ElementTree) → IsElements bytes x → IsSmallTree x
+small_tree = small.small_tree

@@ -1,16 +1,14 @@
 -- Tags have one tree, those of a tree are clean, and a tag earns one refusal.
-use Rattle.std.proofs.Common.{◌≡◌, ℕ, ◌<◌, Bool, true, false, ◌⊎◌, inl, inr, Some, None, List, [], ◌∷◌, ◌++◌, map, refl, sym, ap, subst, ◌∙◌, append_assoc, arith}
+use Rattle.std.proofs.Common.{◌≡◌, ◌<◌, Bool, true, false, inl, inr, List, [], ◌∷◌, ◌++◌, sym, ap, subst, ◌∙◌, append_assoc, arith}
 use Rattle.std.specs.List.{list_all}
 use Rattle.std.proofs.lemmas.Bool.{and_parts}
-use Rattle.std.proofs.lemmas.List.{append-nil}
 use Rattle.std.proofs.lemmas.List.Folds.{list_all-append}
 use Rattle.pap_reader.specs.declared.fault.Which.{Which}
 use Rattle.pap_reader.specs.declared.fault.ReadFault.{ReadFault}
 use Rattle.pap_reader.specs.declared.fault.ReadFault.TheVariants as faults
-use Rattle.pap_reader.specs.Structure.{Shape, foreign, IsDocument, IsFront}
-use Rattle.pap_reader.specs.NestingDecisions.{Open, start, enter, and_then}
+use Rattle.pap_reader.specs.Structure.{IsDocument, IsFront}
 use Rattle.pap_reader.specs.Tokens.{PlacedTag}
-use Rattle.pap_reader.specs.Marks.{marks_of, marks, shape, shapes}
+use Rattle.pap_reader.specs.Marks.{marks_of, marks, shapes}
 use Rattle.pap_reader.specs.Attributes.{mark_is_right}
 use Rattle.pap_reader.specs.Trees.{ElementTree}
 use Rattle.pap_reader.specs.Meaning.{piece_tree}
@@ -18,7 +16,7 @@ use Rattle.pap_reader.specs.Limits.{amount, most, tested, IsWithin, IsFirstOver}
 use Rattle.pap_reader.specs.Elements.{HasTree}
 use Rattle.pap_reader.specs.Faults.{Earns, IsClean}
 use Rattle.pap_reader.proofs.Pieces.{one_piece}
-use Rattle.pap_reader.proofs.Exact.{marks-append, shapes-append, shapes-one}
+use Rattle.pap_reader.proofs.Exact.{marks-append, shapes-append}
 
 pub one_tree : (ts : List PlacedTag) (x y : ElementTree) → HasTree ts x → HasTree ts y → x ≡ y
 one_tree ts x y h k = sym h.tree ∙ ap piece_tree (one_piece (marks ts) h.piece k.piece h.says k.says) ∙ k.tree

@@ -1,5 +1,5 @@
 -- The verdict on a tag, from what the reader's calls say of its marks.
-use Rattle.std.proofs.Common.{◌≡◌, ℕ, Bool, true, false, ◌&&◌, inl, inr, Option, Some, None, Result, Ok, Err, List, [], ◌∷◌, ◌++◌, map, refl, sym, ap, subst, ◌∙◌, append_assoc, arith}
+use Rattle.std.proofs.Common.{◌≡◌, ℕ, Bool, true, false, ◌&&◌, inl, inr, Option, Some, None, Result, Ok, Err, List, [], ◌∷◌, ◌++◌, refl, sym, ap, subst, ◌∙◌, append_assoc, arith}
 use Rattle.std.specs.Prelude.{if◌then◌else◌, nat_lt, MatchResult}
 use Rattle.std.specs.List.{list_all}
 use Rattle.std.proofs.lemmas.Bool.{cases_Bool, ltb-true}
@@ -16,7 +16,6 @@ use Rattle.pap_reader.specs.Structure.{Shape, opens, closes, foreign}
 use Rattle.pap_reader.specs.NestingDecisions.{Open, with_child, and_then, is_second, step, steps}
 use Rattle.pap_reader.specs.Tags.{Attribute, Tag}
 use Rattle.pap_reader.specs.Marks.{Mark, begins, ends, alien, element_of, marks_by, marks_of, shape}
-use Rattle.pap_reader.specs.Tokens.{PlacedTag}
 use Rattle.pap_reader.specs.Attributes.{mark_is_right, is_right}
 use Rattle.pap_reader.specs.Limits.{amount, most, tested, deeper, depth_from}
 use Rattle.pap_reader.specs.VerdictDecisions.{IsFew, Work, build, builds, first_over, within, entered, verdict_on}

@@ -11,13 +11,12 @@ use Rattle.pap_reader.specs.declared.attributes.TagValue.{TagValue}
 use Rattle.pap_reader.specs.Structure.{Shape, opens, closes, opens_internals}
 use Rattle.pap_reader.specs.NestingDecisions.{Open, step}
 use Rattle.pap_reader.specs.Tags.{Attribute}
-use Rattle.pap_reader.specs.Tokens.{PlacedTag}
-use Rattle.pap_reader.specs.Marks.{Mark, begins, ends, marks_of, shape}
+use Rattle.pap_reader.specs.Marks.{Mark, begins, ends, shape}
 use Rattle.pap_reader.specs.Attributes.{is_right}
 use Rattle.pap_reader.specs.Trees.{raw_declaration_of, raw_body_of, raw_routine_of, tree_of, ElementTree}
 use Rattle.pap_reader.specs.Meaning.{Piece, nothing, both, adds, says, or_done}
 use Rattle.pap_reader.specs.Limits.{tested}
-use Rattle.pap_reader.specs.VerdictDecisions.{Work, build, builds, IsFew, first_over, entered, verdict_on, verdict}
+use Rattle.pap_reader.specs.VerdictDecisions.{Work, build, builds, IsFew, first_over, entered, verdict_on}
 use Rattle.pap_reader.specs.Views.{HasFlags, Tallies, IsValueOf}
 
 -- the statements of an open element so far

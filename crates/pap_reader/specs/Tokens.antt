@@ -1,5 +1,5 @@
 -- The tokens of a text: tags with their places, and between them white space and comments.
-use Rattle.std.specs.Prelude.{◌≡◌, ◌≢◌, ℕ, ◌-◌, List, [], ◌∷◌, length}
+use Rattle.std.specs.Prelude.{◌≢◌, ℕ, ◌-◌, List, [], ◌∷◌, length}
 use Rattle.pap_reader.specs.Tags.{Tag, IsTag}
 use Rattle.pap_reader.specs.Skipped.{IsPassed, IsAfterMark, IsAfterDeclaration}
 

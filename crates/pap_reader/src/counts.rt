@@ -82,7 +82,8 @@ impl Counts {
 
     /// The first of the amounts that is beyond its limit.
     pub(crate) fn first_over(&self) -> Option<Which>
-        ensures { (shapes : List Shape) → Tallies self.now shapes → result ≡ first_over shapes tested }
+        ensures { (shapes : List Shape) → Tallies self.now shapes
+            → result ≡ first_over shapes tested }
     {
         if self.inputs > MOST_INPUTS {
             Some(Which::Inputs)

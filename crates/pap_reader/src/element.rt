@@ -131,7 +131,8 @@ impl Children {
 
     /// Whether one of them is of this kind.
     pub(crate) fn has(&self, element: Element) -> bool
-        ensures { (children : List Kind) → HasFlags self.now.stands children → result ≡ has children element }
+        ensures { (children : List Kind) → HasFlags self.now.stands children
+            → result ≡ has children element }
     {
         self.stands[element.number()]
     }

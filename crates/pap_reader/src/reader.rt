@@ -158,7 +158,8 @@ impl Reader {
 
     /// Whether the element may begin here.
     fn may_open(&self, element: Element) -> bool
-        ensures { (before : List Shape) (os : List Open) (ws : List Work) → Stands self.now before os ws
+        ensures { (before : List Shape) (os : List Open) (ws : List Work)
+            → Stands self.now before os ws
             → result ≡ is_some (step before os (opens element)) }
     {
         let is_second = element == Element::Internals && self.internals;
@@ -248,7 +249,8 @@ impl Reader {
 
     /// Whether the text may end here.
     fn is_ended(&self) -> bool
-        ensures { (before : List Shape) (os : List Open) (ws : List Work) → Stands self.now before os ws
+        ensures { (before : List Shape) (os : List Open) (ws : List Work)
+            → Stands self.now before os ws
             → result ≡ is_ended os }
     {
         self.outer.is_empty() && self.top.children.is_complete(self.top.element)

@@ -102,7 +102,8 @@ fn read_attribute(alloc: Global, bytes: &[u8]) -> Result<Option<(Attribute<'_>, 
 
 /// How a start tag or an empty tag closes, and what is left.
 fn read_close(bytes: &[u8]) -> Option<(Form, &[u8])>
-    ensures found { MatchOption result (NoClosing bytes.now) (λ r. Ending bytes.now r.0 [] r.1.now) }
+    ensures found { MatchOption result (NoClosing bytes.now)
+        (λ r. Ending bytes.now r.0 [] r.1.now) }
     ensures shorter { IfSome result (λ r. length r.1.now < length bytes.now) }
 {
     let (first, rest) = split(after_white(bytes))?;

@@ -3,6 +3,7 @@
 ghost use Rattle.std.specs.Prelude.{◌≡◌, ◌⊎◌, ℕ, List, IfOk, IfErr};
 ghost use Rattle.pap_reader.specs.Trees.{ElementTree, tree_of};
 ghost use Rattle.pap_reader.specs.Elements.{IsElementText, IsElements, IsFault, IsFaultOrMemory};
+ghost use Rattle.pap_reader.specs.TreeLimits.{IsSmallTree};
 ghost use Rattle.pap_reader.specs.declared.fault.ReadFault.{ReadFault as Fault};
 
 use crate::elements::Elements;
@@ -43,12 +44,15 @@ pub fn read_elements(alloc: Global, bytes: &[u8]) -> Result<Elements, ReadFault>
     reader.finish(end)
 }
 
-/// The laws of element texts. Bytes have either one tree within the limits or one fault, and never both.
+/// The laws of element texts: bytes have either one tree within the limits or one fault, and never both; and such a tree
+/// has no more declarations, methods, statements and nested IFs than the limits say.
 pub fn element_laws()
     ensures one_tree { (bytes : List ℕ) (x y : ElementTree)
         → IsElementText bytes x → IsElementText bytes y → x ≡ y }
     ensures one_fault { (bytes : List ℕ) (f g : Fault) → IsFault bytes f → IsFault bytes g → f ≡ g }
-    ensures never_both { (bytes : List ℕ) (x : ElementTree) (f : Fault) → IsElements bytes x → IsFault bytes f → ⊥ }
+    ensures never_both { (bytes : List ℕ) (x : ElementTree) (f : Fault)
+        → IsElements bytes x → IsFault bytes f → ⊥ }
     ensures always_one { (bytes : List ℕ)
         → ((x : ElementTree) × IsElements bytes x) ⊎ ((f : Fault) × IsFault bytes f) }
+    ensures small_tree { (bytes : List ℕ) (x : ElementTree) → IsElements bytes x → IsSmallTree x }
 {}

@@ -166,7 +166,8 @@ fn read_escape(bytes: &[u8]) -> Option<(u8, &[u8])>
 
 /// The byte that comes next in a value, and what is left. `None` at its quote, too.
 fn read_byte(bytes: &[u8], quote: u8) -> Option<(u8, &[u8])>
-    ensures found { MatchOption result (NoByte quote bytes.now) (λ r. IsByte quote bytes.now r.0 r.1.now) }
+    ensures found { MatchOption result (NoByte quote bytes.now)
+        (λ r. IsByte quote bytes.now r.0 r.1.now) }
     ensures shorter { IfSome result (λ r. length r.1.now < length bytes.now) }
 {
     let (first, rest) = split(bytes)?;

@@ -1,4 +1,4 @@
-use Rattle.std.proofs.Common.{◌≡◌, length, take, arith, sym, ap, ◌∙◌}
+use Rattle.std.proofs.Common.{arith, sym, ap, ◌∙◌}
 use Rattle.std.proofs.lemmas.List.{take_all}
 use Rattle.pap_reader.specs.Attributes.{are_different}
 use Rattle.pap_reader.proofs.AttributeNames.{names, distinct_names, not_different, still_different, seen_more, was_there, was_new}
