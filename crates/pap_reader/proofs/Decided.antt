@@ -9,9 +9,10 @@ use Rattle.pap_reader.specs.declared.tags.Form.{Form}
 use Rattle.pap_reader.specs.declared.tags.Form.TheVariants as forms
 use Rattle.pap_reader.specs.Tags.{Attribute, Tag, Front, IsAttribute, Ending, start, empty, more, IsTag, closing}
 use Rattle.pap_reader.specs.Bytes.{is_letter, is_first, is_inner, begins_with, leading, after}
-use Rattle.pap_reader.specs.Values.{is_code, byte_named, Escape, Plain, Quoted, closing_quote, byte, is_quote}
-use Rattle.pap_reader.specs.Views.{IsByte, NoValue, NoAttribute, NoEnding, NoTag}
+use Rattle.pap_reader.specs.Values.{byte_named, Escape, Plain, Quoted, closing_quote, byte, is_quote}
+use Rattle.pap_reader.specs.Views.{is_code, IsByte, NoValue, NoAttribute, NoEnding, NoTag}
 use Rattle.pap_reader.specs.Skipped.{Past, here, later, IsPassed, white, comment, byte_order_mark, IsAfterMark, IsAfterDeclaration}
+use Rattle.pap_reader.proofs.Escapes.{found, escaped}
 use Rattle.pap_reader.proofs.Lexing.{unquoted, reads_next, unended, ClosesAs, an_attribute, no_attribute, attributes_next}
 use Rattle.pap_reader.proofs.Passing.{past_here, past_later, past_only, unpast, unpassed, untagged, a_tag, end_tag, an_opening, no_opening, no_letter, slash_no_letter, append_same}
 
@@ -100,7 +101,12 @@ dec_passed (b ∷ bytes) = elim (cases_Bool (is_white b)) [
 -- ---- values
 
 escape_shorter : (bytes : List ℕ) (c : ℕ) (rest : List ℕ) → Escape bytes c rest → length rest < length bytes
-escape_shorter bytes c rest e = let a = ap length e.amp in let b = ap length e.stop in let d = after_shorter is_code e.word in omega arith
+escape_shorter bytes c rest e =
+    let f = found bytes c rest e in
+    let a = ap length f.amp in
+    let b = ap length f.stop in
+    let d = after_shorter is_code f.inner in
+    omega arith
 
 pub byte_shorter : (q : ℕ) (bytes : List ℕ) (c : ℕ) (rest : List ℕ) → IsByte q bytes c rest → length rest < length bytes
 byte_shorter q bytes c rest (inl p) = let a = ap length p.is in omega arith
@@ -119,12 +125,12 @@ dec_named (Some c) = inl (c, refl)
 
 dec_escape : (bytes : List ℕ) → ((c : ℕ) × (rest : List ℕ) × Escape bytes c rest) ⊎ ((c : ℕ) (rest : List ℕ) → Escape bytes c rest → ⊥)
 dec_escape bytes = elim (dec_stop bytes 38) [
-  | inr n ↦ inr (λ c rest e. n e.word e.amp)
+  | inr n ↦ inr (λ c rest e. let f = found bytes c rest e in n f.inner f.amp)
   | inl w ↦ elim (dec_named (byte_named (leading is_code w.0))) [
-    | inr n ↦ inr (λ c rest e. n c (ap (λ z. byte_named (leading is_code z)) (tail_of 38 38 w.0 e.word (sym w.1 ∙ e.amp)) ∙ e.byte))
+    | inr n ↦ inr (λ c rest e. let f = found bytes c rest e in n c (ap (λ z. byte_named (leading is_code z)) (tail_of 38 38 w.0 f.inner (sym w.1 ∙ f.amp)) ∙ f.byte))
     | inl b ↦ elim (dec_stop (after is_code w.0) 59) [
-      | inr n ↦ inr (λ c rest e. n rest (ap (after is_code) (tail_of 38 38 w.0 e.word (sym w.1 ∙ e.amp)) ∙ e.stop))
-      | inl s ↦ inl (b.0, s.0, record { word = w.0; amp = w.1; byte = b.1; stop = s.1 })
+      | inr n ↦ inr (λ c rest e. let f = found bytes c rest e in n rest (ap (after is_code) (tail_of 38 38 w.0 f.inner (sym w.1 ∙ f.amp)) ∙ f.stop))
+      | inl s ↦ inl (b.0, s.0, escaped bytes b.0 s.0 (record { inner = w.0; amp = w.1; byte = b.1; stop = s.1 }))
     ]
   ]
 ]

@@ -6,9 +6,10 @@ use Rattle.pap_tree.specs.White.{is_white}
 use Rattle.pap_reader.specs.declared.tags.Form.{Form}
 use Rattle.pap_reader.specs.declared.tags.Form.TheVariants as forms
 use Rattle.pap_reader.specs.Tags.{Attribute, Front, IsAttribute, Ending, start, empty, more}
-use Rattle.pap_reader.specs.Values.{is_code, byte_named, Escape, Plain, Quoted, closing_quote, byte, is_quote}
+use Rattle.pap_reader.specs.Values.{byte_named, Escape, Plain, Quoted, closing_quote, byte, is_quote}
 use Rattle.pap_reader.specs.Bytes.{is_first, is_inner, begins_with, leading, after}
-use Rattle.pap_reader.specs.Views.{IsByte, Closing}
+use Rattle.pap_reader.specs.Views.{is_code, FoundEscape, NoFoundEscape, IsByte, NoByte, Closing}
+use Rattle.pap_reader.proofs.Escapes.{found, escaped}
 
 head_of : (b c : ℕ) (x y : List ℕ) → b ∷ x ≡ c ∷ y → b ≡ c
 head_of b c x y e = cc
@@ -24,7 +25,8 @@ both_ways b e f = absurd cc
 
 plain_escape : (q : ℕ) (bytes : List ℕ) (c d : ℕ) (n m : List ℕ) → Plain q bytes c n → Escape bytes d m → ⊥
 plain_escape q bytes c d n m p e =
-    let i : c ≡ 38 = head_of c 38 n e.word (sym p.is ∙ e.amp) in
+    let f = found bytes d m e in
+    let i : c ≡ 38 = head_of c 38 n f.inner (sym p.is ∙ f.amp) in
     both_ways (c == 38) (ap (λ x. x == 38) i) p.no_escape
 
 pub byte_one : (q : ℕ) (bytes : List ℕ) (c d : ℕ) (n m : List ℕ) → IsByte q bytes c n → IsByte q bytes d m → (c ≡ d) × (n ≡ m)
@@ -32,8 +34,10 @@ byte_one q bytes c d n m (inl p) (inl r) = (head_of c d n m (sym p.is ∙ r.is),
 byte_one q bytes c d n m (inl p) (inr r) = absurd (plain_escape q bytes c d n m p r)
 byte_one q bytes c d n m (inr p) (inl r) = absurd (plain_escape q bytes d c m n r p)
 byte_one q bytes c d n m (inr p) (inr r) =
-    let w : p.word ≡ r.word = tail_of 38 38 p.word r.word (sym p.amp ∙ r.amp) in
-    (some_of c d (sym p.byte ∙ ap (λ x. byte_named (leading is_code x)) w ∙ r.byte), tail_of 59 59 n m (sym p.stop ∙ ap (after is_code) w ∙ r.stop))
+    let f = found bytes c n p in
+    let g = found bytes d m r in
+    let w : f.inner ≡ g.inner = tail_of 38 38 f.inner g.inner (sym f.amp ∙ g.amp) in
+    (some_of c d (sym f.byte ∙ ap (λ x. byte_named (leading is_code x)) w ∙ g.byte), tail_of 59 59 n m (sym f.stop ∙ ap (after is_code) w ∙ g.stop))
 
 eq_self : (b c : ℕ) → b ≡ c → (b == c) ≡ true
 eq_self b c e = eq-eqb b c e
@@ -43,7 +47,7 @@ no_amp q e h = both_ways (is_quote q) h (ap is_quote e)
 
 quote_no_byte : (q : ℕ) (rest : List ℕ) (c : ℕ) (n : List ℕ) → is_quote q ≡ true → IsByte q (q ∷ rest) c n → ⊥
 quote_no_byte q rest c n h (inl p) = both_ways (c == q) (eq_self c q (sym (head_of q c rest n p.is))) p.no_quote
-quote_no_byte q rest c n h (inr p) = let i : q ≡ 38 = head_of q 38 rest p.word p.amp in no_amp q i h
+quote_no_byte q rest c n h (inr p) = let f = found (q ∷ rest) c n p in let i : q ≡ 38 = head_of q 38 rest f.inner f.amp in no_amp q i h
 
 no_plain : (q : ℕ) (bytes tail : List ℕ) (c : ℕ) (rest : List ℕ) → bytes ≡ 38 ∷ tail → (Escape bytes c rest → ⊥) → IsByte q bytes c rest → ⊥
 no_plain q bytes tail c rest e h (inl p) = both_ways (c == 38) (eq_self c 38 (head_of c 38 rest tail (sym p.is ∙ e))) p.no_escape
@@ -111,10 +115,10 @@ reads_none q bytes seen left r h k v rest x = let o = r.only v rest x in elim (u
 ]
 
 -- an escape is all that may come after `&`
-pub or_escape : (q : ℕ) (bytes tail : List ℕ) (o : Option (ℕ × Bor (List ℕ))) → bytes ≡ 38 ∷ tail → MatchOption o ((c : ℕ) (rest : List ℕ) → Escape bytes c rest → ⊥) (λ r. Escape bytes r.0 r.1.now)
-    → MatchOption o ((c : ℕ) (rest : List ℕ) → IsByte q bytes c rest → ⊥) (λ r. IsByte q bytes r.0 r.1.now)
-or_escape q bytes tail None e h = λ c rest i. no_plain q bytes tail c rest e (h c rest) i
-or_escape q bytes tail (Some r) e h = inr h
+pub or_escape : (q : ℕ) (bytes tail : List ℕ) (o : Option (ℕ × Bor (List ℕ))) → bytes ≡ 38 ∷ tail → MatchOption o (NoFoundEscape bytes) (λ r. FoundEscape bytes r.0 r.1.now)
+    → MatchOption o (NoByte q bytes) (λ r. IsByte q bytes r.0 r.1.now)
+or_escape q bytes tail None e h = λ c rest i. no_plain q bytes tail c rest e (λ f. h c rest (found bytes c rest f)) i
+or_escape q bytes tail (Some r) e h = inr (escaped bytes r.0 r.1.now h)
 
 -- ---- what stands before a value
 

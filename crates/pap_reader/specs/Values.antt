@@ -1,12 +1,8 @@
 -- The values of attributes (docs/PROFILE.md, "Attributes"). Each relation is between the bytes at a place, what is read
 -- there, and the bytes that are left.
-use Rattle.std.specs.Prelude.{◌≡◌, ℕ, ◌+◌, ◌-◌, ◌*◌, ◌⊎◌, Bool, false, ◌&&◌, ◌||◌, ◌==◌, nat_le, Option, Some, None, List, [], ◌∷◌, codes, if◌then◌else◌}
+use Rattle.std.specs.Prelude.{◌≡◌, ℕ, ◌+◌, ◌-◌, ◌*◌, ◌⊎◌, Bool, false, ◌&&◌, ◌||◌, ◌==◌, nat_le, Option, Some, None, List, [], ◌∷◌, ◌++◌, codes, if◌then◌else◌}
 use Rattle.std.specs.List.{list_all, fold}
-use Rattle.pap_reader.specs.Bytes.{is_letter, is_digit, leading, after, same_text}
-
--- what an escape's word is made of: letters, digits and `#`
-abbrev pub is_code : ℕ → Bool
-is_code b = is_letter b || is_digit b || b == 35
+use Rattle.pap_reader.specs.Bytes.{is_digit, same_text}
 
 abbrev pub is_hex : ℕ → Bool
 is_hex b = is_digit b || (nat_le 97 b && nat_le b 102) || (nat_le 65 b && nat_le b 70)
@@ -56,9 +52,8 @@ byte_named w =
 -- `&`, a word that stands for the byte c, and `;`
 pub record Escape (bytes : List ℕ) (c : ℕ) (rest : List ℕ) : Type 0 where
   pub word : List ℕ
-  pub amp : bytes ≡ 38 ∷ word
-  pub byte : byte_named (leading is_code word) ≡ Some c
-  pub stop : after is_code word ≡ 59 ∷ rest
+  pub is : bytes ≡ 38 ∷ (word ++ (59 ∷ rest))
+  pub byte : byte_named word ≡ Some c
 
 -- a byte that stands for itself in a value with the quote q: neither the quote, nor `<`, nor `&`
 pub record Plain (q : ℕ) (bytes : List ℕ) (c : ℕ) (rest : List ℕ) : Type 0 where

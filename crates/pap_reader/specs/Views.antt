@@ -1,5 +1,5 @@
 -- What the values of the code stand for: bytes, tags, attributes, children and counts.
-use Rattle.std.specs.Prelude.{◌≡◌, ℕ, ◌+◌, ◌<◌, ◌^◌, ◌⊎◌, Bool, true, false, ◌&&◌, Option, MatchOption, codes, List, [], ◌∷◌, ◌++◌, length, map, slice_index_or, if◌then◌else◌}
+use Rattle.std.specs.Prelude.{◌≡◌, ℕ, ◌+◌, ◌<◌, ◌^◌, ◌⊎◌, Bool, true, false, ◌&&◌, Option, MatchOption, codes, List, [], ◌∷◌, ◌++◌, length, map, slice_index_or, if◌then◌else◌, ◌||◌, ◌==◌, Some}
 use Rattle.pap_tree.specs.White.{is_white}
 use Rattle.pap_tree.specs.declared.declaration.Kind.{Kind}
 use Rattle.pap_reader.specs.declared.element.Element.{Element}
@@ -14,8 +14,8 @@ use Rattle.pap_reader.specs.declared.attributes.TagValue.{TagValue}
 use Rattle.pap_reader.specs.declared.attributes.TagValue.TheVariants.{Declared, Text, Named}
 use Rattle.pap_reader.specs.Table.{number, has}
 use Rattle.pap_reader.specs.Structure.{Shape, opens}
-use Rattle.pap_reader.specs.Bytes.{is_inner, leading, after}
-use Rattle.pap_reader.specs.Values.{Escape, Plain, Quoted, is_quote}
+use Rattle.pap_reader.specs.Bytes.{is_letter, is_digit, is_inner, leading, after}
+use Rattle.pap_reader.specs.Values.{byte_named, Escape, Plain, Quoted, is_quote}
 use Rattle.pap_reader.specs.Tags.{Attribute, Tag, Front, IsAttribute, Ending, IsTag}
 use Rattle.pap_reader.specs.Skipped.{Past, IsPassed, IsAfterMark, IsAfterDeclaration}
 use Rattle.pap_reader.specs.Tokens.{PlacedTag}
@@ -30,8 +30,19 @@ use Rattle.pap_reader.specs.Limits.{amount, is_counted, deeper}
 abbrev pub IsByte : ℕ → List ℕ → ℕ → List ℕ → Type 0
 IsByte q bytes c rest = Plain q bytes c rest ⊎ Escape bytes c rest
 
-abbrev pub NoEscape : List ℕ → Type 0
-NoEscape bytes = (c : ℕ) (rest : List ℕ) → Escape bytes c rest → ⊥
+-- what an escape's word is made of: letters, digits and `#`
+abbrev pub is_code : ℕ → Bool
+is_code b = is_letter b || is_digit b || b == 35
+
+-- an escape as it is found: the longest word after `&`
+pub record FoundEscape (bytes : List ℕ) (c : ℕ) (rest : List ℕ) : Type 0 where
+  pub inner : List ℕ
+  pub amp : bytes ≡ 38 ∷ inner
+  pub byte : byte_named (leading is_code inner) ≡ Some c
+  pub stop : after is_code inner ≡ 59 ∷ rest
+
+abbrev pub NoFoundEscape : List ℕ → Type 0
+NoFoundEscape bytes = (c : ℕ) (rest : List ℕ) → FoundEscape bytes c rest → ⊥
 
 abbrev pub NoByte : ℕ → List ℕ → Type 0
 NoByte q bytes = (c : ℕ) (rest : List ℕ) → IsByte q bytes c rest → ⊥

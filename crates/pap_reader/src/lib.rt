@@ -18,4 +18,4 @@ mod values;
 
 pub use elements::{Elements, RawDeclared, RawMethod, RawStmt};
 pub use fault::{ReadFault, Which};
-pub use text::{element_laws, read_elements};
+pub use text::{LONGEST_PLAN, element_laws, read_elements};

@@ -73,7 +73,8 @@ fn declare(names: &mut Vec<RawDeclared>, value: TagValue) -> Result<(), AllocErr
     Ok(())
 }
 
-/// The parent takes what the element in it says. What stands outside of both goes to the plan.
+/// The parent takes what the element in it says. What stands outside of both goes to the plan. What the attributes say is
+/// of the element's own kind (`read_attributes`), so no statement and no method is ever left out.
 fn close_in(
     element: Element,
     child: OpenElement,

@@ -14,7 +14,7 @@ use crate::tags::read_tag;
 use std::alloc::Global;
 
 /// The most bytes of a plan's file.
-const LONGEST_PLAN: usize = 1_048_576;
+pub const LONGEST_PLAN: usize = 1_048_576;
 
 /// Reads the elements of a plan's file (docs/PROFILE.md). The refusal is that of the first token that earns one, and of one
 /// token the first of `Text`, `Element`, `Attribute` and `Many`; too many bytes are refused before all else.

@@ -3,8 +3,8 @@
 ghost use Rattle.std.specs.Prelude.{◌≡◌, ◌-◌, ◌^◌, min, ◌<◌, ◌≤◌, true, length, MatchOption, IfOk, IfSome};
 ghost use Rattle.std.specs.List.{prefix_len, list_all};
 ghost use Rattle.pap_reader.specs.Bytes.{is_digit, leading, after};
-ghost use Rattle.pap_reader.specs.Values.{is_code, is_hex, hex_digit, decimal, hexadecimal, in_range, by_decimal, by_hexadecimal, byte_numbered, byte_named, Escape, is_quote, Quoted};
-ghost use Rattle.pap_reader.specs.Views.{IsByte, NoEscape, NoByte, NoValue};
+ghost use Rattle.pap_reader.specs.Values.{is_hex, hex_digit, decimal, hexadecimal, in_range, by_decimal, by_hexadecimal, byte_numbered, byte_named, is_quote, Quoted};
+ghost use Rattle.pap_reader.specs.Views.{is_code, FoundEscape, NoFoundEscape, IsByte, NoByte, NoValue};
 
 use crate::bytes::{after_byte, is_digit, is_letter, split};
 use std::alloc::{AllocError, Global};
@@ -155,7 +155,7 @@ fn split_word(bytes: &[u8]) -> (&[u8], &[u8])
 
 /// The byte that an escape stands for, and what is left.
 fn read_escape(bytes: &[u8]) -> Option<(u8, &[u8])>
-    ensures found { MatchOption result (NoEscape bytes.now) (λ r. Escape bytes.now r.0 r.1.now) }
+    ensures found { MatchOption result (NoFoundEscape bytes.now) (λ r. FoundEscape bytes.now r.0 r.1.now) }
     ensures shorter { IfSome result (λ r. length r.1.now < length bytes.now) }
 {
     let (word, rest) = split_word(after_byte(bytes, b'&')?);
