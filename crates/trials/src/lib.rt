@@ -7,6 +7,8 @@ mod counter;
 #[cfg(test)]
 mod decimals;
 #[cfg(test)]
+mod element_texts;
+#[cfg(test)]
 mod intervals;
 #[cfg(test)]
 mod names;

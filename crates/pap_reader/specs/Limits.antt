@@ -1,0 +1,74 @@
+-- How much there may be of what (docs/PROFILE.md, "Limits").
+use Rattle.std.specs.Prelude.{◌≡◌, ◌≤◌, ◌<◌, ◌⊎◌, ℕ, suc, ◌-◌, Bool, true, false, List, [], ◌∷◌, ◌++◌}
+use Rattle.pap_reader.specs.declared.element.Element.{Element}
+use Rattle.pap_reader.specs.declared.element.Element.TheVariants.{Input, Output, Internal, Constant, Method, Eval, Execute, If}
+use Rattle.pap_reader.specs.declared.fault.Which.{Which}
+use Rattle.pap_reader.specs.declared.fault.Which.TheVariants as which
+use Rattle.pap_reader.specs.Structure.{Shape, opens, closes, count}
+use Rattle.pap_reader.specs.Tokens.{PlacedTag}
+use Rattle.pap_reader.specs.Marks.{shapes}
+
+-- how much there may be of it
+abbrev pub most : Which → ℕ
+most which.Bytes = 1048576
+most which.Inputs = 256
+most which.Outputs = 256
+most which.Internals = 1024
+most which.Constants = 512
+most which.Methods = 256
+most which.Statements = 20000
+most which.Depth = 32
+
+-- whether the element counts
+abbrev pub is_counted : Which → Element → Bool
+is_counted which.Inputs Input = true
+is_counted which.Outputs Output = true
+is_counted which.Internals Internal = true
+is_counted which.Constants Constant = true
+is_counted which.Methods Method = true
+is_counted which.Statements Eval = true
+is_counted which.Statements Execute = true
+is_counted which.Statements If = true
+is_counted _ _ = false
+
+abbrev pub counts : Which → Shape → Bool
+counts w (opens e) = is_counted w e
+counts w _ = false
+
+-- how many IFs are open after one shape more
+abbrev pub deeper : ℕ → Shape → ℕ
+deeper d (opens If) = suc d
+deeper d (closes If) = d - 1
+deeper d _ = d
+
+abbrev pub depth_from : ℕ → List Shape → ℕ
+depth_from d [] = d
+depth_from d (s ∷ ss) = depth_from (deeper d s) ss
+
+-- how much there is of it after these shapes: the elements that count, and the open IFs
+abbrev pub amount : Which → List Shape → ℕ
+amount which.Bytes ss = 0
+amount which.Depth ss = depth_from 0 ss
+amount w ss = count (counts w) ss
+
+-- Each amount is within its limit, after each of the tags.
+abbrev pub IsWithin : List PlacedTag → Type 0
+IsWithin ts = (a b : List PlacedTag) (w : Which) → ts ≡ a ++ b → amount w (shapes a) ≤ most w
+
+-- ---- the first that is too much
+
+-- the kinds of amounts, in the order in which they are tested
+abbrev pub tested : List Which
+tested =
+    which.Inputs ∷ which.Outputs ∷ which.Internals ∷ which.Constants ∷ which.Methods
+    ∷ which.Statements ∷ which.Depth ∷ []
+
+-- With the tag there is too much of it.
+abbrev pub Exceeds : List PlacedTag → PlacedTag → Which → Type 0
+Exceeds before t w = most w < amount w (shapes (before ++ (t ∷ [])))
+
+-- the first of these of which there is too much
+abbrev pub IsFirstOver : List PlacedTag → PlacedTag → List Which → Which → Type 0
+IsFirstOver before t [] w = ⊥
+IsFirstOver before t (v ∷ vs) w =
+    ((v ≡ w) × Exceeds before t v) ⊎ ((Exceeds before t v → ⊥) × IsFirstOver before t vs w)

@@ -1,0 +1,39 @@
+-- Which elements are nested as the table of elements says, their attributes aside.
+use Rattle.std.specs.Prelude.{◌≡◌, ℕ, suc, ◌≤◌, cond, Bool, true, false, Some, None, List, [], ◌∷◌, ◌++◌}
+use Rattle.pap_reader.specs.declared.element.Element.{Element}
+use Rattle.pap_reader.specs.declared.element.Element.TheVariants.{Internals}
+use Rattle.pap_reader.specs.Table.{fits, same}
+
+-- where an element begins or ends, without its attributes
+pub data Shape : Type 0 where
+  opens : Element → Shape
+  closes : Element → Shape
+  -- a tag of no element
+  foreign : Shape
+
+-- The shapes are elements, one after the other, each with children that it may contain; the list says which elements.
+pub data Nodes : List Shape → List Element → Type 0 where
+  none : Nodes [] []
+  node : {inside rest : List Shape} {children kinds : List Element} (e : Element)
+      → Nodes inside children → fits (Some e) children ≡ true → Nodes rest kinds
+      → Nodes (opens e ∷ (inside ++ (closes e ∷ rest))) (e ∷ kinds)
+
+abbrev pub opens_internals : Shape → Bool
+opens_internals (opens e) = same Internals e
+opens_internals _ = false
+
+-- how many of the shapes pass a test
+abbrev pub count : {A : Type 0} → (A → Bool) → List A → ℕ
+count p [] = 0
+count p (s ∷ ss) = cond (p s) (suc (count p ss)) (count p ss)
+
+-- the shapes of a whole text, which has at most one INTERNALS
+pub record IsDocument (ss : List Shape) : Type 0 where
+  pub kinds : List Element
+  pub nodes : Nodes ss kinds
+  pub root : fits None kinds ≡ true
+  pub once : count opens_internals ss ≤ 1
+
+-- A front of a whole text: some shapes after it make one.
+abbrev pub IsFront : List Shape → Type 0
+IsFront ss = (more : List Shape) × IsDocument (ss ++ more)

@@ -1,0 +1,54 @@
+-- Tags and their attributes (docs/PROFILE.md, "Tags"). Each relation is between the bytes at a place, what is read there,
+-- and the bytes that are left.
+use Rattle.std.specs.Prelude.{◌≡◌, ℕ, ◌+◌, true, List, [], ◌∷◌, length}
+use Rattle.pap_tree.specs.White.{is_white}
+use Rattle.pap_reader.specs.declared.tags.Form.{Form}
+use Rattle.pap_reader.specs.declared.tags.Form.TheVariants as forms
+use Rattle.pap_reader.specs.Bytes.{is_letter, is_first, is_inner, begins_with, leading, after}
+use Rattle.pap_reader.specs.Values.{Quoted, is_quote}
+
+-- an attribute: its name, how many bytes stand between its quotes, and the text that they stand for
+pub record Attribute : Type 0 where
+  pub name : List ℕ
+  pub written : ℕ
+  pub value : List ℕ
+
+pub record Tag : Type 0 where
+  pub form : Form
+  pub name : List ℕ
+  pub attributes : List Attribute
+
+-- What stands before an attribute's value: white space, a name, `=` and a quote, with white space round the `=` where
+-- there is some.
+pub record Front (bytes : List ℕ) : Type 0 where
+  pub apart : begins_with is_white bytes ≡ true
+  pub named : begins_with is_first (after is_white bytes) ≡ true
+  pub value : List ℕ
+  pub equals : after is_white (after is_inner (after is_white bytes)) ≡ 61 ∷ value
+  pub quote : ℕ
+  pub text : List ℕ
+  pub opened : after is_white value ≡ quote ∷ text
+  pub quotes : is_quote quote ≡ true
+
+-- an attribute
+pub record IsAttribute (bytes : List ℕ) (a : Attribute) (rest : List ℕ) : Type 0 where
+  pub front : Front bytes
+  pub name : a.name ≡ leading is_inner (after is_white bytes)
+  pub quoted : Quoted front.quote front.text a.value rest
+  pub written : a.written + 1 + length rest ≡ length front.text
+
+-- what follows the name in a start tag or an empty tag: attributes, and `>` or `/>`
+pub data Ending : List ℕ → Form → List Attribute → List ℕ → Type 0 where
+  start : {bytes rest : List ℕ} → after is_white bytes ≡ 62 ∷ rest → Ending bytes forms.Start [] rest
+  empty : {bytes rest : List ℕ} → after is_white bytes ≡ 47 ∷ 62 ∷ rest → Ending bytes forms.Empty [] rest
+  more : {bytes next rest : List ℕ} {f : Form} {attributes : List Attribute} (a : Attribute)
+      → IsAttribute bytes a next → Ending next f attributes rest → Ending bytes f (a ∷ attributes) rest
+
+-- a tag: `<NAME ..>`, `<NAME ../>` or `</NAME>`, with a name of letters
+pub data IsTag : List ℕ → Tag → List ℕ → Type 0 where
+  opening : {bytes rest : List ℕ} {f : Form} {attributes : List Attribute}
+      → begins_with is_letter bytes ≡ true → Ending (after is_letter bytes) f attributes rest
+      → IsTag (60 ∷ bytes) (record { form = f; name = leading is_letter bytes; attributes = attributes }) rest
+  closing : {bytes rest : List ℕ}
+      → begins_with is_letter bytes ≡ true → after is_white (after is_letter bytes) ≡ 62 ∷ rest
+      → IsTag (60 ∷ 47 ∷ bytes) (record { form = forms.End; name = leading is_letter bytes; attributes = [] }) rest

@@ -1,0 +1,37 @@
+-- How large the tree of an element text within the limits is.
+use Rattle.std.specs.Prelude.{ℕ, ◌+◌, ◌≤◌, max, List, [], ◌∷◌, length}
+use Rattle.pap_reader.specs.Trees.{RawBody, done, eval, branch, execute, RawRoutine, ElementTree}
+
+-- how many statements a list has as it is written
+abbrev pub raw_written : RawBody → ℕ
+raw_written done = 0
+raw_written (eval x rest) = 1 + raw_written rest
+raw_written (branch x a b rest) = 1 + raw_written a + raw_written b + raw_written rest
+raw_written (execute x rest) = 1 + raw_written rest
+
+-- how many of its IFs stand in one another, at most
+abbrev pub raw_nesting : RawBody → ℕ
+raw_nesting done = 0
+raw_nesting (eval x rest) = raw_nesting rest
+raw_nesting (branch x a b rest) = max (1 + max (raw_nesting a) (raw_nesting b)) (raw_nesting rest)
+raw_nesting (execute x rest) = raw_nesting rest
+
+-- the same of the bodies of methods: all statements, and the greatest nesting
+abbrev pub methods_written : List RawRoutine → ℕ
+methods_written [] = 0
+methods_written (m ∷ ms) = raw_written m.body + methods_written ms
+
+abbrev pub methods_nesting : List RawRoutine → ℕ
+methods_nesting [] = 0
+methods_nesting (m ∷ ms) = max (raw_nesting m.body) (methods_nesting ms)
+
+-- the tree is within the limits of plans
+pub record IsSmallTree (x : ElementTree) : Type 0 where
+  pub inputs : length x.inputs ≤ 256
+  pub outputs : length x.outputs ≤ 256
+  pub internals : length x.internals ≤ 1024
+  pub constants : length x.constants ≤ 512
+  pub methods : length x.methods ≤ 256
+  pub statements : raw_written x.main + methods_written x.methods ≤ 20000
+  pub main_nesting : raw_nesting x.main ≤ 32
+  pub nesting : methods_nesting x.methods ≤ 32

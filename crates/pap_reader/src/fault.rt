@@ -1,0 +1,81 @@
+//! Why a text is not read.
+
+ghost use Rattle.std.specs.Prelude.{◌≡◌};
+ghost use Rattle.pap_reader.specs.declared.fault.ReadFault.TheVariants.{Memory};
+
+use std::alloc::{AllocError, AllocFailed};
+use std::fmt;
+use thiserror::Error;
+
+/// What there is too much of.
+#[derive(Clone, Copy, Debug, PartialEq, Eq)]
+pub enum Which {
+    /// More than 1,048,576 bytes.
+    Bytes,
+    /// More than 256 INPUTs.
+    Inputs,
+    /// More than 256 OUTPUTs.
+    Outputs,
+    /// More than 1,024 INTERNALs.
+    Internals,
+    /// More than 512 CONSTANTs.
+    Constants,
+    /// More than 256 METHODs.
+    Methods,
+    /// More than 20,000 statements: EVALs, EXECUTEs and IFs.
+    Statements,
+    /// More than 32 IFs in one another.
+    Depth,
+}
+
+impl fmt::Display for Which {
+    fn fmt<W: fmt::Write>(&self, f: &mut fmt::Formatter<W>) -> fmt::Result {
+        f.pad(match self {
+            Which::Bytes => "1048576 bytes",
+            Which::Inputs => "256 INPUTs",
+            Which::Outputs => "256 OUTPUTs",
+            Which::Internals => "1024 INTERNALs",
+            Which::Constants => "512 CONSTANTs",
+            Which::Methods => "256 METHODs beside MAIN",
+            Which::Statements => "20000 EVALs, EXECUTEs and IFs",
+            Which::Depth => "32 IFs in one another",
+        })
+    }
+}
+
+/// Why a text is not read. A place is that of the token's first byte, counted from the beginning of the file; at the end
+/// of the text it is the number of its bytes.
+#[derive(Clone, Copy, Debug, PartialEq, Eq, Error)]
+pub enum ReadFault {
+    /// No token begins there.
+    #[error("byte {at}: expected a tag, a comment or white space")]
+    Text { at: usize },
+    /// The tag, or the end of the text, is not allowed there.
+    #[error("byte {at}: expected another element or end tag of the flowchart")]
+    Element { at: usize },
+    /// An attribute of the tag is missing, stands twice, is longer than 8,192 bytes or is not of its form.
+    #[error("byte {at}: expected a tag with its needed attributes in their form, none twice and none over 8192 bytes")]
+    Attribute { at: usize },
+    /// There is too much of something.
+    #[error("expected at most {which}")]
+    Many { which: Which },
+    /// Memory ran out.
+    #[error("out of memory")]
+    Memory,
+}
+
+impl From<AllocError> for ReadFault {
+    ghost from_gives = { λ _ fault. fault ≡ Memory };
+
+    fn from(_error: AllocError) -> ReadFault {
+        ReadFault::Memory
+    }
+}
+
+impl<T: Drop> From<AllocFailed<T>> for ReadFault {
+    ghost from_gives = { λ _ fault. fault ≡ Memory };
+
+    fn from(_error: AllocFailed<T>) -> ReadFault {
+        ReadFault::Memory
+    }
+}

@@ -1,0 +1,21 @@
+//! Reads the elements of a plan's file, each with the texts of its attributes.
+//!
+//! The file is read once, from left to right, with a stack of open elements. What an element text is stands in
+//! `specs/Elements.antt`: tokens, their nesting after a table of elements, their attributes, and the tree that they say.
+#![tactic(auto)]
+
+mod attributes;
+mod bytes;
+mod counts;
+mod element;
+mod elements;
+mod fault;
+mod reader;
+mod skipped;
+mod tags;
+mod text;
+mod values;
+
+pub use elements::{Elements, RawDeclared, RawMethod, RawStmt};
+pub use fault::{ReadFault, Which};
+pub use text::{LONGEST_PLAN, element_laws, read_elements};
