@@ -1,0 +1,3 @@
+pub mod Shortened
+pub mod Machine
+pub mod Run
