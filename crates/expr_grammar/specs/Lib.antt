@@ -1,3 +1,4 @@
 pub mod Shortened
 pub mod Machine
+pub mod Holes
 pub mod Run
