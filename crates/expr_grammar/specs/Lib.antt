@@ -2,3 +2,4 @@ pub mod Shortened
 pub mod Machine
 pub mod Holes
 pub mod Run
+pub mod Lines

@@ -270,11 +270,14 @@ ended (Chosen c) Colon x k = Some (Want (Otherwise c x ∷ k))
 ended (Assigning w) Semicolon x k = Some (Done (assignment w x))
 ended _ _ _ _ = None
 
+abbrev pub ended_in : List Frame → Sign → Term → Option State
+ended_in [] s x = None
+ended_in (f ∷ k) s x = ended f s x k
+
 abbrev pub marked : Sign → Term → List Frame → Option State
 marked Dot x k = Some (Member x k)
 marked Question x k = Some (Want (Chosen x ∷ k))
-marked s x [] = None
-marked s x (f ∷ k) = ended f s x k
+marked s x k = ended_in k s x
 
 abbrev pub joined : Token → Term × List Frame → Option State
 joined (Operator o) r = Some (Want (Left o r.0 ∷ r.1))
