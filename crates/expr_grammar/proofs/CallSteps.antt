@@ -94,8 +94,8 @@ class_read line k (constant c) a (p, s, e) =
     (pass_is (λ p. Stack line k p) k (Level 9) _ [] 0 _ a (of_class line k (leaf (known c)) _ p a (grammar.a_known c) s e)))
 class_read line k of_number a (p, s, e) =
     let word_read : (z : Term) (more : List Item) → grammar.Way (Level 9) (word (codes "BigDecimal") ∷ sign Dot ∷ word (codes "valueOf") ∷ opens Open ∷ more) (tree z)
-            → Pending (λ p. Stack line k p) k (Level 9) (opens Open ∷ more) 0 (tree z) (a ++ (Word (codes "valueOf") ∷ []))
-        = λ z more way. pass_is (λ p. Stack line k p) k (Level 9) (Word (codes "valueOf")) (opens Open ∷ more) 0 (tree z) a (of_class line k z _ p a way s e) in
+    → Pending (λ p. Stack line k p) k (Level 9) (opens Open ∷ more) 0 (tree z) (a ++ (Word (codes "valueOf") ∷ []))
+    = λ z more way. pass_is (λ p. Stack line k p) k (Level 9) (Word (codes "valueOf")) (opens Open ∷ more) 0 (tree z) a (of_class line k z _ p a way s e) in
     open_due line k (Level 9) _ _ (Want (InValue ∷ k)) _ (plug_whole line k) (word_read (one value_of some_term) _ (grammar.a_value some_term)) (
       λ y. pass_opens (λ p. Stack line k p) k (Level 9) (Mark Open) _ 0 _ _ (word_read (one value_of y) _ (grammar.a_value y)),
       λ y n g. pass_opens (λ p. Stack line k p) k (Level 9) (Mark Open) _ 0 _ _ (word_read (one (value_of_scaled n) y) _ (grammar.a_scaled_value n y g)),
@@ -179,8 +179,7 @@ moded_steps line h q s k t r a c e = absurd cc
 
 named_due : (line : Line) (w : List ℕ) (a : List Token) → Spelled line Naming a → is_name w ≡ true → Spelled line (Due 0 (Mark tokens.Equals) (Want (Assigning w ∷ []))) (a ++ (Word w ∷ []))
 named_due line w a (e, f) h =
-    let g : a ++ (Word w ∷ []) ≡ Word w ∷ [] = ap (λ a. a ++ (Word w ∷ [])) f in
-    (
+    let g : a ++ (Word w ∷ []) ≡ Word w ∷ [] = ap (λ a. a ++ (Word w ∷ [])) f in (
       placed line (Word w ∷ []) _ 0 _ (sym g) (subst (λ l. Front l (Word w ∷ []) 0 (Some (sign tokens.Equals))) (sym e) (fronts.by _ (grammar.assign w some_term h) (fronts.is fronts.here))),
       (e, refl, h, ap (λ b. b ++ (Mark tokens.Equals ∷ [])) g),
       tt,

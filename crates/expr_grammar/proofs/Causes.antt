@@ -22,7 +22,6 @@ use Rattle.expr_grammar.proofs.Pending.{further}
 use Rattle.expr_grammar.proofs.Spelled.{Spelled, Tells, awaits, class_tokens, scaling_of}
 use Rattle.expr_grammar.proofs.SpelledFronts.{scale_front, place_of}
 use Rattle.expr_grammar.proofs.Reading.{spelled, before_last, front_reaches}
-
 use Rattle.expr_grammar.proofs.Standing.{wants_state, dot_state, fraction_state, setting_state}
 
 -- ---- what a cause needs

@@ -60,21 +60,21 @@ closing whole n le (Assigning w ∷ k) m x a h r = loosened whole (Assigning w �
 closing whole n le (Negating ∷ k) m x a h r =
     either whole n a (nat_le n 7) (close n (one (unary unaries.Minus) x) k) (x, Negating ∷ k)
     (λ e. closing whole n le k 7 (one (unary unaries.Minus) x) a le
-        (finished _ k (Level 7) 1 _ a (taken_part _ k (Negating ∷ k) (Level 7) no_number m 7 x [] 1 (tree (one (unary unaries.Minus) x)) _ a r r.fits.0 (r.context.0 x) r.clear)))
+    (finished _ k (Level 7) 1 _ a (taken_part _ k (Negating ∷ k) (Level 7) no_number m 7 x [] 1 (tree (one (unary unaries.Minus) x)) _ a r r.fits.0 (r.context.0 x) r.clear)))
     (λ e. let f = leb-false n 7 e in absurd (omega (arith, f, le)))
 closing whole n le (Denying ∷ k) m x a h r =
     either whole n a (nat_le n 7) (close n (one (unary unaries.Not) x) k) (x, Denying ∷ k)
     (λ e. closing whole n le k 7 (one (unary unaries.Not) x) a le
-        (finished _ k (Level 7) 1 _ a (taken_part _ k (Denying ∷ k) (Level 7) free m 7 x [] 1 (tree (one (unary unaries.Not) x)) _ a r r.fits.0 (r.context x) refl)))
+    (finished _ k (Level 7) 1 _ a (taken_part _ k (Denying ∷ k) (Level 7) free m 7 x [] 1 (tree (one (unary unaries.Not) x)) _ a r r.fits.0 (r.context x) refl)))
     (λ e. let f = leb-false n 7 e in absurd (omega (arith, f, le)))
 closing whole n le (Left o y ∷ k) m x a h r =
     either whole n a (nat_le n (level_of_operator o)) (close n (two (operator o) y x) k) (x, Left o y ∷ k)
     (λ e. closing whole n le k (level_of_operator o) (two (operator o) y x) a (leb-true n (level_of_operator o) e)
-        (finished _ k (Level (level_of_operator o)) 0 _ a
-        (taken_part _ k (Left o y ∷ k) (Level (level_of_operator o)) free m (suc (level_of_operator o)) x [] 0 (tree (two (operator o) y x)) _ a r r.fits.0 (r.context x) refl)))
+    (finished _ k (Level (level_of_operator o)) 0 _ a
+    (taken_part _ k (Left o y ∷ k) (Level (level_of_operator o)) free m (suc (level_of_operator o)) x [] 0 (tree (two (operator o) y x)) _ a r r.fits.0 (r.context x) refl)))
     (λ e. let f = leb-false n (level_of_operator o) e in loosened whole (Left o y ∷ k) m n x a h (omega (arith, f)) r)
 closing whole n le (Otherwise c y ∷ k) m x a h r =
     either whole n a (nat_le n 0) (close n (choice c y x) k) (x, Otherwise c y ∷ k)
     (λ e. closing whole n le k 0 (choice c y x) a (leb-true n 0 e)
-        (finished _ k (Level 0) 1 _ a (taken_part _ k (Otherwise c y ∷ k) (Level 0) free m 0 x [] 1 (tree (choice c y x)) _ a r r.fits.0 (r.context x) refl)))
+    (finished _ k (Level 0) 1 _ a (taken_part _ k (Otherwise c y ∷ k) (Level 0) free m 0 x [] 1 (tree (choice c y x)) _ a r r.fits.0 (r.context x) refl)))
     (λ e. loosened whole (Otherwise c y ∷ k) m n x a h (omega arith) r)

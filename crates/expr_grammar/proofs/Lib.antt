@@ -21,3 +21,6 @@ pub mod Reading
 pub mod Standing
 pub mod Causes
 pub mod Exact
+pub mod Decided
+pub mod Sizes
+pub mod Places

@@ -84,9 +84,9 @@ fraction_inside : (line : Line) → IsWhole line → (b : List Token) (s : State
     → (point_cause s ≡ binary_fraction) × ((r : State) → step s (Operator binaries.Sub) ≡ Some r → point_cause r ≡ binary_fraction)
 fraction_inside line w b s e =
     let two = before_last line (b ++ (Word (codes "new") ∷ Word (codes "BigDecimal") ∷ [])) (Mark Open) s
-            (ap (steps (start line)) (append_assoc b (Word (codes "new") ∷ Word (codes "BigDecimal") ∷ []) (Mark Open ∷ [])) ∙ e) in
+    (ap (steps (start line)) (append_assoc b (Word (codes "new") ∷ Word (codes "BigDecimal") ∷ []) (Mark Open ∷ [])) ∙ e) in
     let one = before_last line (b ++ (Word (codes "new") ∷ [])) (Word (codes "BigDecimal")) two.state
-            (ap (steps (start line)) (append_assoc b (Word (codes "new") ∷ []) (Word (codes "BigDecimal") ∷ [])) ∙ two.run) in
+    (ap (steps (start line)) (append_assoc b (Word (codes "new") ∷ []) (Word (codes "BigDecimal") ∷ [])) ∙ two.run) in
     let none = before_last line b (Word (codes "new")) one.state one.run in
     let n = new_step line none.state one.state b (spelled line w b none.state none.run) none.last in
     let f : two.state ≡ Due n.second (Mark Open) n.inside = sym (some_is _ _ (ap (λ s. step s (Word (codes "BigDecimal"))) (sym n.is) ∙ one.last)) in

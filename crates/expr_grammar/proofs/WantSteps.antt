@@ -109,8 +109,7 @@ new_begins : (line : Line) (k : List Frame) (a : List Token) → Stack line k a
     → Spelled line (Due (level k) (Word (codes "BigDecimal")) (Due (level k) (Mark Open) (Want (InNew ∷ k)))) (a ++ (Word (codes "new") ∷ []))
 new_begins line k a s =
     let e = append_assoc a (Word (codes "new") ∷ []) (Word (codes "BigDecimal") ∷ []) in
-    let f = further ((a ++ (Word (codes "new") ∷ [])) ++ (Word (codes "BigDecimal") ∷ [])) a new_class (Mark Open ∷ []) e in
-    (
+    let f = further ((a ++ (Word (codes "new") ∷ [])) ++ (Word (codes "BigDecimal") ∷ [])) a new_class (Mark Open ∷ []) e in (
       at_level line _ (0 + level k) (level k) _ (omega arith) (front_here (λ p. Stack line k p) k (Level 9) line (level k) _ _ 0 _ _ (plug_whole line k) refl
           (begun _ k (Level 9) (word (codes "BigDecimal") ∷ grammar.opens Open ∷ Part no_point (Level 0) (tree some_term) ∷ sign Close ∷ []) 0 _ a (Word (codes "new") ∷ []) _ s (high k)
           (λ c f. word_clear k (codes "new") c) (λ c n i f. fronts.by _ (grammar.a_new_big some_term) (fronts.is f)) (λ c f. texts.by _ (grammar.a_new_big some_term) (texts.is f)) refl)),
@@ -160,8 +159,8 @@ want_steps line k (Operator binaries.Sub) r a s e = moved line (Want (Negating �
 )
 want_steps line k (Mark tokens.Bang) r a s e = moved line (Want (Denying ∷ k)) r _ e
     (λ y. begun _ k (Level 7) (at 7 y ∷ []) 1 (tree (one (unary unaries.Not) y)) a (Mark tokens.Bang ∷ []) _ s (hole_high k, omega arith)
-        (λ c f. mark_clear k tokens.Bang c) (λ c n i f. fronts.by _ (grammar.negation y) (fronts.opens f)) (λ c f. texts.by _ (grammar.negation y) (texts.opens f)) refl)
+    (λ c f. mark_clear k tokens.Bang c) (λ c n i f. fronts.by _ (grammar.negation y) (fronts.opens f)) (λ c f. texts.by _ (grammar.negation y) (texts.opens f)) refl)
 want_steps line k (Mark Open) r a s e = moved line (Want (InBrackets ∷ k)) r _ e
     (λ y. begun _ k (Level 9) (at 0 y ∷ sign Close ∷ []) 1 (tree y) a (Mark Open ∷ []) _ s (high k)
-        (λ c f. mark_clear k Open c) (λ c n i f. fronts.by _ (grammar.in_brackets y) (fronts.opens f)) (λ c f. texts.by _ (grammar.in_brackets y) (texts.opens f)) refl)
+    (λ c f. mark_clear k Open c) (λ c n i f. fronts.by _ (grammar.in_brackets y) (fronts.opens f)) (λ c f. texts.by _ (grammar.in_brackets y) (texts.opens f)) refl)
 want_steps line k t r a s e = absurd cc

@@ -3,3 +3,5 @@ pub mod Machine
 pub mod Holes
 pub mod Run
 pub mod Lines
+pub mod Trees
+pub mod GrammarLaws

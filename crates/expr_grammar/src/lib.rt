@@ -1,9 +1,6 @@
-//! The laws of the expression grammar.
-#![tactic(auto, using(crate::proofs::Cases::left, crate::proofs::Handles::never, crate::proofs::Closing::taking, crate::proofs::Words::call_is, crate::proofs::Ways::ways, crate::proofs::Forward::goes, crate::proofs::Forward::reaches, crate::proofs::Begins::begins, crate::proofs::Pending::finished, crate::proofs::Stacks::plug, crate::proofs::Closed::closing, crate::proofs::Starts::started, crate::proofs::SpelledFronts::is_front, crate::proofs::WantSteps::want_steps, crate::proofs::HaveSteps::have_steps, crate::proofs::ConstantSteps::listed_steps, crate::proofs::CallSteps::naming_steps, crate::proofs::Reading::spelled, crate::proofs::Causes::cause_right, crate::proofs::Exact::runs))]
+//! The laws of the expression grammar, and a machine that decides it token by token.
+#![tactic(auto)]
 
-ghost use Rattle.std.specs.Prelude.{◌≡◌};
+mod laws;
 
-/// Nothing.
-pub fn nothing() -> bool
-    ensures { result ≡ result }
-{ true }
+pub use laws::{always_one, decides, keeps_places, one_fault, one_tree, sized, tree_or_fault};
