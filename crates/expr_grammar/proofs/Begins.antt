@@ -1,12 +1,12 @@
 -- How a text of an expression begins.
-use Rattle.std.proofs.Common.{◌≡◌, ℕ, zero, suc, ◌≤◌, Bool, true, false, Option, Some, None, List, [], ◌∷◌, ◌++◌, refl, sym, ap, subst, ◌∙◌, arith}
+use Rattle.std.proofs.Common.{◌≡◌, ℕ, false, Some, None, List, [], ◌∷◌, ◌++◌, refl, sym, ap, ◌∙◌, arith}
 use Rattle.pap_tree.specs.declared.expression.Binary.TheVariants as binaries
 use Rattle.pap_tree.specs.Term.{Term}
 use Rattle.pap_tree.specs.Tokens as tokens
 use Rattle.pap_tree.specs.Tokens.{Sign, Number, Token, Literal, Word, Operator, Mark}
-use Rattle.pap_tree.specs.Grammar.{Guard, free, no_number, no_point, Level, Meaning, tree}
+use Rattle.pap_tree.specs.Grammar.{Guard, free, no_number, no_point, Level, tree}
 use Rattle.pap_tree.specs.Texts.{Text, begins_number, begins_point, forbids}
-use Rattle.expr_grammar.specs.Machine.{Frame, InNew, Negating, State, Want, Have, steps, finish}
+use Rattle.expr_grammar.specs.Machine.{Frame, InNew, Negating, State, Want, Have, finish}
 use Rattle.expr_grammar.specs.Holes.{clashes}
 use Rattle.expr_grammar.proofs.Handles as handles
 use Rattle.expr_grammar.proofs.Forward.{goes, some_is}

@@ -1,5 +1,5 @@
 -- What is read after a token of a call, of a scale or of a mode.
-use Rattle.std.proofs.Common.{◌≡◌, ℕ, suc, ◌+◌, ◌≤◌, Bool, true, false, cond, Option, Some, None, List, [], ◌∷◌, ◌++◌, refl, sym, ap, subst, ◌∙◌, append_assoc, arith}
+use Rattle.std.proofs.Common.{◌≡◌, ℕ, suc, ◌+◌, ◌≤◌, true, Some, List, [], ◌∷◌, ◌++◌, refl, sym, ap, subst, append_assoc, arith}
 use Rattle.std.specs.Prelude.{codes, nat_le}
 use Rattle.std.proofs.lemmas.Bool.{leb-true}
 use Rattle.scaled_decimal.specs.Decimals.{decimal}
@@ -27,9 +27,8 @@ use Rattle.expr_grammar.proofs.Words.{picked, mapped, if_some, token_is}
 use Rattle.expr_grammar.proofs.Pending.{Pending, Plugs, pass_is, pass_opens, pass_scale, pass_part, finished, front_here, front_inside, further}
 use Rattle.expr_grammar.proofs.Levels.{some_term}
 use Rattle.expr_grammar.proofs.Stacks.{Stack}
-use Rattle.expr_grammar.proofs.Closed.{IsRead}
-use Rattle.expr_grammar.proofs.Spelled.{PendingCall, Spelled, class_tokens, scaling_of}
-use Rattle.expr_grammar.proofs.SpelledFronts.{IsAt, at_level, placed, level_is, plug_whole, plug_call, dotted, of_class, scale_front}
+use Rattle.expr_grammar.proofs.Spelled.{PendingCall, Spelled, scaling_of}
+use Rattle.expr_grammar.proofs.SpelledFronts.{at_level, placed, plug_whole, plug_call, dotted, of_class, scale_front}
 use Rattle.expr_grammar.proofs.WantSteps.{moved, have_of, close_due}
 use Rattle.expr_grammar.proofs.ConstantSteps.{big_close_due}
 

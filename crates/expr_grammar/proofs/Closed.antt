@@ -1,5 +1,5 @@
 -- What an expression makes of the frames that it closes.
-use Rattle.std.proofs.Common.{◌≡◌, ℕ, zero, suc, ◌+◌, ◌≤◌, ◌<◌, Bool, true, false, cond, Option, Some, None, List, [], ◌∷◌, ◌++◌, refl, sym, ap, subst, ◌∙◌, arith}
+use Rattle.std.proofs.Common.{◌≡◌, ℕ, suc, ◌≤◌, Bool, true, false, cond, List, [], ◌∷◌, refl, sym, subst, arith}
 use Rattle.std.specs.Prelude.{nat_le}
 use Rattle.std.proofs.lemmas.Bool.{leb-true, leb-false}
 use Rattle.pap_tree.specs.declared.expression.Unary.TheVariants as unaries
@@ -7,9 +7,9 @@ use Rattle.pap_tree.specs.Term.{Term, unary, operator, one, two, choice}
 use Rattle.pap_tree.specs.Words.{level_of_operator}
 use Rattle.pap_tree.specs.Tokens.{Token}
 use Rattle.pap_tree.specs.Grammar.{Item, Part, Guard, free, no_number, Line, Level, Meaning, tree}
-use Rattle.pap_tree.specs.Texts.{Text, forbids}
-use Rattle.expr_grammar.specs.Machine.{Frame, InBrackets, InCall, InItem, InValue, InNew, Negating, Denying, Left, Chosen, Otherwise, Assigning, State, Want, close}
-use Rattle.expr_grammar.specs.Holes.{hole, clashes}
+use Rattle.pap_tree.specs.Texts.{forbids}
+use Rattle.expr_grammar.specs.Machine.{Frame, InBrackets, InCall, InItem, InValue, InNew, Negating, Denying, Left, Chosen, Otherwise, Assigning, close}
+use Rattle.expr_grammar.specs.Holes.{hole}
 use Rattle.expr_grammar.proofs.Begins.{begins, forbids_more}
 use Rattle.expr_grammar.proofs.Pending.{Pending, Read, pass_part, finished}
 use Rattle.expr_grammar.proofs.Levels.{looser}

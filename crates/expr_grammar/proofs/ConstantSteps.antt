@@ -1,5 +1,5 @@
 -- What is read after a token of a constant.
-use Rattle.std.proofs.Common.{◌≡◌, ℕ, suc, ◌+◌, ◌≤◌, Bool, true, false, Option, Some, None, List, [], ◌∷◌, ◌++◌, ℤ, pos, refl, sym, ap, subst, ◌∙◌, append_assoc, arith}
+use Rattle.std.proofs.Common.{◌≡◌, ℕ, ◌+◌, Option, Some, None, List, [], ◌∷◌, ◌++◌, ℤ, pos, refl, sym, ap, subst, ◌∙◌, append_assoc, arith}
 use Rattle.std.specs.Prelude.{codes}
 use Rattle.std.proofs.lemmas.List.{append-nil}
 use Rattle.scaled_decimal.specs.Decimals.{Decimal, decimal}
@@ -17,12 +17,11 @@ use Rattle.pap_tree.specs.Texts as texts
 use Rattle.pap_tree.specs.Texts.{Text}
 use Rattle.pap_tree.specs.Fronts as fronts
 use Rattle.pap_tree.specs.Fronts.{Front}
-use Rattle.pap_tree.specs.Stopping.{new_big_decimal}
 use Rattle.expr_grammar.specs.Shortened.{shortened}
 use Rattle.expr_grammar.specs.Machine.{Room, Alone, InTable, declaring, Slot, OfLine, OfValue, OfNew, Head, the_class, a_new, head_word, head_of, constant, of_number, constancy_word, constancy_of, State, Due, ScaleDue, Signed, Minus, ValuedInt, ValuedPoint, Settling, Listing, Listed, Done, filled, settled, big_begun, big_step, settling, step}
 use Rattle.expr_grammar.proofs.ShortenedLemmas.{is_shortened}
 use Rattle.expr_grammar.proofs.Words.{picked, mapped}
-use Rattle.expr_grammar.proofs.Pending.{Pending, pass_is, pass_part, finished, front_here, front_inside, further, text_front}
+use Rattle.expr_grammar.proofs.Pending.{pass_is, pass_part, finished, front_here, front_inside, further, text_front}
 use Rattle.expr_grammar.proofs.Starts.{begun}
 use Rattle.expr_grammar.proofs.Spelled.{IsTabled, IsListed, Place, PendingBig, IsSlot, Spelled, class_tokens, value_tokens}
 use Rattle.expr_grammar.proofs.SpelledFronts.{IsAt, at_level, plug_big, of_big_class, of_big_value, of_big_new}

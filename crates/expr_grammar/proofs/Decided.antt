@@ -1,17 +1,17 @@
 -- The machine's answer decides what a line's tokens are.
-use Rattle.std.proofs.Common.{◌≡◌, ℕ, suc, ◌+◌, ◌≤◌, ◌<◌, ◌⊎◌, inl, inr, Bool, true, false, cond, Option, Some, None, Result, Ok, Err, List, [], ◌∷◌, ◌++◌, length, take, drop, refl, sym, ap, subst, ◌∙◌, append_assoc, arith}
+use Rattle.std.proofs.Common.{◌≡◌, ℕ, ◌≤◌, ◌<◌, ◌⊎◌, inl, inr, Bool, true, false, cond, Some, Result, Ok, Err, List, [], ◌∷◌, ◌++◌, length, take, drop, refl, sym, ap, subst, ◌∙◌, append_assoc, arith}
 use Rattle.std.specs.Prelude.{IsTrue}
 use Rattle.std.proofs.lemmas.List.{append-nil, take-append-drop, length-take, length-drop}
 use Rattle.pap_tree.specs.Tokens.{Token, Spot, plain}
 use Rattle.pap_tree.specs.Grammar.{Line, Meaning}
 use Rattle.pap_tree.specs.Texts.{Text}
-use Rattle.pap_tree.specs.Stopping.{IsDeep, Stops, IsRead, HasCause, StopsBefore, IsRefused, Cause, syntax, unsupported, binary_fraction, number, deep, rank, Earns, has_limits, most_tokens}
+use Rattle.pap_tree.specs.Stopping.{IsRead, HasCause, StopsBefore, IsRefused, Cause, syntax, unsupported, binary_fraction, number, deep, rank, has_limits, most_tokens}
 use Rattle.expr_grammar.specs.Lines.{IsWhole}
-use Rattle.expr_grammar.specs.Machine.{State, steps, start}
+use Rattle.expr_grammar.specs.Machine.{start}
 use Rattle.expr_grammar.specs.Run.{Refusal, refusal, run, never, cut_answer, answer}
 use Rattle.expr_grammar.specs.GrammarLaws.{IsTaken}
 use Rattle.expr_grammar.proofs.Reading.{text_ends, text_runs}
-use Rattle.expr_grammar.proofs.Exact.{plain_append, length_plain, Halts, Halted, Answers, stopped_deep, runs}
+use Rattle.expr_grammar.proofs.Exact.{plain_append, length_plain, Halts, Answers, stopped_deep, runs}
 
 -- ---- a text has one meaning
 

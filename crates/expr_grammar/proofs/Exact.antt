@@ -4,15 +4,14 @@ use Rattle.std.specs.Prelude.{IsTrue, nat_lt, ◌&&◌}
 use Rattle.std.proofs.lemmas.Bool.{ltb-true, ltb-false}
 use Rattle.std.proofs.lemmas.List.{append-nil, length-append}
 use Rattle.pap_tree.specs.Tokens.{Token, Spot, plain}
-use Rattle.pap_tree.specs.Grammar.{Item, Line, Meaning}
+use Rattle.pap_tree.specs.Grammar.{Line, Meaning}
 use Rattle.pap_tree.specs.Texts.{Text}
-use Rattle.pap_tree.specs.Fronts.{Front, IsFront}
+use Rattle.pap_tree.specs.Fronts.{IsFront}
 use Rattle.pap_tree.specs.Stopping.{IsDeep, Stops, IsRead, HasCause, Cause, syntax, unsupported, binary_fraction, number, deep, rank, Earns, has_limits, most_tokens, most_levels}
 use Rattle.expr_grammar.specs.Lines.{IsWhole}
 use Rattle.expr_grammar.specs.Machine.{State, level_of, step, finish, and_then, steps, start}
 use Rattle.expr_grammar.specs.Run.{Refusal, refusal, cause_of, or_refusal, is_over, next, run}
 use Rattle.expr_grammar.proofs.Forward.{some_is, steps_then}
-use Rattle.expr_grammar.proofs.Spelled.{Spelled}
 use Rattle.expr_grammar.proofs.SpelledFronts.{is_front}
 use Rattle.expr_grammar.proofs.Reading.{finish_text, text_ends, spelled, step_last, machine_front, front_reaches}
 use Rattle.expr_grammar.proofs.Causes.{cause_right}

@@ -1,5 +1,5 @@
 -- The machine goes through each text and each front.
-use Rattle.std.proofs.Common.{◌≡◌, ℕ, zero, suc, ◌+◌, ◌≤◌, Bool, true, false, Option, Some, None, List, [], ◌∷◌, ◌++◌, refl, sym, ap, subst, ◌∙◌, arith}
+use Rattle.std.proofs.Common.{◌≡◌, ℕ, ◌+◌, ◌≤◌, Bool, true, false, Option, Some, None, List, [], ◌∷◌, ◌++◌, refl, ap, ◌∙◌, arith}
 use Rattle.std.specs.Prelude.{⊤}
 use Rattle.std.proofs.lemmas.List.{append-nil}
 use Rattle.pap_tree.specs.declared.expression.Binary.TheVariants as binaries
@@ -7,13 +7,12 @@ use Rattle.pap_tree.specs.Term.{whole, point}
 use Rattle.pap_tree.specs.Declarations.{big}
 use Rattle.pap_tree.specs.Tokens as tokens
 use Rattle.pap_tree.specs.Tokens.{Token, Literal, Operator, int}
-use Rattle.pap_tree.specs.Grammar as grammar
 use Rattle.pap_tree.specs.Grammar.{Item, Scale, Line, Meaning, tree, literal, mode, assignment, declared, decimals}
 use Rattle.pap_tree.specs.Texts as texts
 use Rattle.pap_tree.specs.Texts.{Text, Texts, begins_number, begins_point}
 use Rattle.pap_tree.specs.Fronts as fronts
 use Rattle.pap_tree.specs.Fronts.{Front, Fronts}
-use Rattle.expr_grammar.specs.Machine.{Frame, InNew, Negating, OfLine, OfValue, OfNew, State, Want, Moding, Naming, Signed, Listing, level_of, step, finish, and_then, steps}
+use Rattle.expr_grammar.specs.Machine.{InNew, Negating, OfLine, OfValue, OfNew, State, Want, Moding, Naming, Signed, Listing, level_of, step, and_then, steps}
 use Rattle.expr_grammar.specs.Holes.{clashes, follows}
 use Rattle.expr_grammar.proofs.Handles as handles
 use Rattle.expr_grammar.proofs.Handles.{Suits, after, Same, Follows, wants, never, Handles}

@@ -1,9 +1,9 @@
 -- What is read after a token where an expression is read.
-use Rattle.std.proofs.Common.{◌≡◌, ℕ, suc, ◌+◌, ◌≤◌, Bool, true, false, cond, Option, Some, None, List, [], ◌∷◌, ◌++◌, refl, sym, ap, subst, ◌∙◌, append_assoc, arith}
+use Rattle.std.proofs.Common.{◌≡◌, ℕ, ◌≤◌, Some, List, [], ◌∷◌, ◌++◌, refl, sym, ap, subst, ◌∙◌, arith}
 use Rattle.std.specs.Prelude.{IsTrue}
 use Rattle.std.proofs.lemmas.List.{append-nil}
 use Rattle.pap_tree.specs.declared.expression.Call.TheVariants as calls
-use Rattle.pap_tree.specs.Term.{Term, named, value_of, new_big, operator, method, leaf, item, one, two, choice}
+use Rattle.pap_tree.specs.Term.{Term, named, value_of, new_big, method, leaf, item, one, two}
 use Rattle.pap_tree.specs.Names.{is_name}
 use Rattle.pap_tree.specs.Words.{level_of_operator}
 use Rattle.pap_tree.specs.Tokens as tokens
@@ -13,11 +13,11 @@ use Rattle.pap_tree.specs.Grammar.{Item, Part, free, no_point, Line, Level, Assi
 use Rattle.pap_tree.specs.Texts as texts
 use Rattle.pap_tree.specs.Texts.{Text}
 use Rattle.pap_tree.specs.Fronts as fronts
-use Rattle.expr_grammar.specs.Machine.{Frame, InBrackets, InCall, InItem, InValue, InNew, Negating, Denying, Left, Chosen, Otherwise, Assigning, rounding, dividing, valuing, State, Want, Have, Named, Due, Member, ScaleDue, Done, close, marked, ended, ended_in, step, finish, whole_of}
+use Rattle.expr_grammar.specs.Machine.{Frame, InBrackets, InCall, InItem, InValue, InNew, Negating, Denying, Left, Chosen, Otherwise, Assigning, rounding, dividing, valuing, State, Want, Have, Named, Member, ScaleDue, Done, close, ended, ended_in, step, finish, whole_of}
 use Rattle.expr_grammar.specs.Holes.{hole}
 use Rattle.expr_grammar.proofs.Begins.{word_clear}
 use Rattle.expr_grammar.proofs.Closing.{operator_low, operator_high, stays_whole}
-use Rattle.expr_grammar.proofs.Pending.{Pending, pass_is, pass_opens, finished, further}
+use Rattle.expr_grammar.proofs.Pending.{Pending, pass_is, pass_opens, further}
 use Rattle.expr_grammar.proofs.Starts.{begun, started}
 use Rattle.expr_grammar.proofs.Stacks.{Stack}
 use Rattle.expr_grammar.proofs.Closed.{IsRead, closing, taken_part}

@@ -1,5 +1,5 @@
 -- What stands at a tighter level of an expression stands at each looser one.
-use Rattle.std.proofs.Common.{◌≡◌, ℕ, zero, suc, ◌+◌, ◌-◌, ◌≤◌, ◌<◌, false, Option, Some, None, List, [], ◌∷◌, ◌++◌, refl, sym, ap, subst, ◌∙◌, arith}
+use Rattle.std.proofs.Common.{◌≡◌, ℕ, zero, suc, ◌+◌, ◌-◌, ◌≤◌, Option, List, [], refl, subst, arith}
 use Rattle.std.proofs.lemmas.List.{append-nil}
 use Rattle.pap_tree.specs.Term.{Term, leaf, named}
 use Rattle.pap_tree.specs.Tokens.{Token}

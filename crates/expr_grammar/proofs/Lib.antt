@@ -24,3 +24,5 @@ pub mod Exact
 pub mod Decided
 pub mod Sizes
 pub mod Places
+pub mod Ranges
+pub mod SpelledTexts

@@ -1,15 +1,14 @@
 -- What was read of a way: the tokens of its first items, after what was read before the way.
-use Rattle.std.proofs.Common.{◌≡◌, ℕ, zero, suc, ◌+◌, ◌≤◌, Bool, true, false, Option, Some, None, List, [], ◌∷◌, ◌++◌, refl, sym, ap, subst, ◌∙◌, append_assoc, arith}
+use Rattle.std.proofs.Common.{◌≡◌, ℕ, suc, ◌+◌, ◌≤◌, Bool, false, Option, Some, None, List, [], ◌∷◌, ◌++◌, refl, sym, ap, subst, ◌∙◌, append_assoc}
 use Rattle.std.specs.Prelude.{⊤}
 use Rattle.std.proofs.lemmas.List.{append-nil}
-use Rattle.pap_tree.specs.Term.{Term}
 use Rattle.pap_tree.specs.Tokens.{Token, Literal, int}
-use Rattle.pap_tree.specs.Grammar.{Item, Is, Opens, Scale, Scaling, Part, Guard, free, Line, Level, Meaning, tree, at, Way}
+use Rattle.pap_tree.specs.Grammar.{Item, Is, Opens, Scale, Scaling, Part, Guard, Line, Level, Meaning}
 use Rattle.pap_tree.specs.Texts as texts
 use Rattle.pap_tree.specs.Texts.{Text, Texts, forbids}
 use Rattle.pap_tree.specs.Fronts as fronts
 use Rattle.pap_tree.specs.Fronts.{Front, Fronts}
-use Rattle.expr_grammar.specs.Machine.{Frame, State, Want}
+use Rattle.expr_grammar.specs.Machine.{Frame, Want}
 use Rattle.expr_grammar.specs.Holes.{hole, clashes}
 
 -- what may not begin the items that are left

@@ -1,8 +1,7 @@
 -- The scales of a tree are at most 30, and its literals with a point have a place.
-use Rattle.std.proofs.Common.{◌≡◌, ℕ, zero, suc, ◌+◌, ◌≤◌, ◌<◌, List, [], ◌∷◌, ◌++◌, length, refl, sym, ap, subst, ◌∙◌, arith}
+use Rattle.std.proofs.Common.{◌≡◌, ℕ, ◌+◌, ◌≤◌, List, [], ◌∷◌, ◌++◌, length, ap, arith}
 use Rattle.std.specs.Prelude.{⊤}
 use Rattle.scaled_decimal.specs.Decimals.{Decimal, scale_of}
-use Rattle.scaled_decimal.specs.Limits.{most_places}
 use Rattle.pap_tree.specs.Tokens as tokens
 use Rattle.pap_tree.specs.Tokens.{Number, Token, Literal, Spot, plain, Tokens, IsFirst, IsToken, IsPoint}
 use Rattle.pap_tree.specs.Grammar as grammar

@@ -1,5 +1,5 @@
 -- What is left of a decimal without the zeros that end it is what is computed.
-use Rattle.std.proofs.Common.{◌≡◌, ℕ, zero, suc, ◌+◌, ◌-◌, ◌*◌, ◌^◌, ◌≤◌, ◌<◌, ◌⊎◌, inl, inr, Bool, true, false, cond, Option, Some, None, ℤ, pos, negsuc, ◌*ℤ◌, neg_ℤ, refl, sym, ap, subst, ◌∙◌, arith}
+use Rattle.std.proofs.Common.{◌≡◌, ℕ, zero, suc, ◌+◌, ◌-◌, ◌*◌, ◌^◌, ◌≤◌, ◌<◌, Bool, true, false, cond, Some, ℤ, pos, negsuc, ◌*ℤ◌, neg_ℤ, refl, sym, ap, subst, ◌∙◌, arith}
 use Rattle.std.specs.Prelude.{◌/◌, ◌%◌, ◌==◌}
 use Rattle.std.proofs.lemmas.Bool.Decides.{Decides-eqb}
 use Rattle.std.proofs.lemmas.Int.{ints}
@@ -7,7 +7,7 @@ use Rattle.std.proofs.Math.Nat.{mul-mod_left, mul-div_cancel, div-add-mod, pow-s
 use Rattle.scaled_decimal.specs.Decimals.{Decimal, decimal, numerator_of, scale_of, ten_to}
 use Rattle.scaled_decimal.specs.ExactQuotients.{Divides}
 use Rattle.scaled_decimal.specs.Shortening.{IsShortened}
-use Rattle.expr_grammar.specs.Shortened.{short, with_sign_of, size_of, shortened_at, shortened}
+use Rattle.expr_grammar.specs.Shortened.{short, with_sign_of, shortened_at, shortened}
 
 -- ---- without a sign
 

@@ -1,5 +1,5 @@
 -- What a state has read.
-use Rattle.std.proofs.Common.{◌≡◌, ℕ, ◌≤◌, Bool, true, false, Option, Some, List, [], ◌∷◌, ◌++◌, ℤ}
+use Rattle.std.proofs.Common.{◌≡◌, ℕ, ◌≤◌, Bool, true, false, Option, List, [], ◌∷◌, ◌++◌}
 use Rattle.std.specs.Prelude.{⊤, IsTrue, codes}
 use Rattle.scaled_decimal.specs.Decimals.{Decimal, decimal}
 use Rattle.scaled_decimal.specs.Limits.{most_places}

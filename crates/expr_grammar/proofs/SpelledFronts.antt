@@ -1,15 +1,14 @@
 -- What a state has read is a front, with the state's levels.
-use Rattle.std.proofs.Common.{◌≡◌, ℕ, suc, ◌+◌, ◌≤◌, false, Option, Some, None, List, [], ◌∷◌, ◌++◌, ℤ, pos, refl, sym, ap, subst, ◌∙◌, append_assoc, arith}
+use Rattle.std.proofs.Common.{◌≡◌, ℕ, suc, ◌+◌, ◌≤◌, false, Option, Some, None, List, [], ◌∷◌, ◌++◌, pos, refl, sym, subst, arith}
 use Rattle.std.proofs.lemmas.List.{append-nil}
 use Rattle.scaled_decimal.specs.Decimals.{Decimal, decimal}
 use Rattle.scaled_decimal.specs.Limits.{most_places}
 use Rattle.scaled_decimal.specs.declared.rounding.Mode.TheVariants as modes
 use Rattle.pap_tree.specs.declared.expression.Binary.TheVariants as binaries
 use Rattle.pap_tree.specs.declared.expression.Known.TheVariants as knowns
-use Rattle.pap_tree.specs.declared.expression.Unary.TheVariants as unaries
 use Rattle.pap_tree.specs.Term as terms
 use Rattle.pap_tree.specs.Term.{Term, leaf, known, named}
-use Rattle.pap_tree.specs.Declarations.{big, number}
+use Rattle.pap_tree.specs.Declarations.{big}
 use Rattle.pap_tree.specs.Tokens as tokens
 use Rattle.pap_tree.specs.Tokens.{Token, Word, Operator, Mark, Dot}
 use Rattle.pap_tree.specs.Grammar as grammar
@@ -27,12 +26,12 @@ use Rattle.expr_grammar.specs.Machine.{Frame, Rounded, dividing, setting, Room, 
 use Rattle.expr_grammar.specs.Holes.{hole, clashes}
 use Rattle.expr_grammar.proofs.Begins.{word_clear, empty_clear}
 use Rattle.expr_grammar.proofs.Closing.{operator_high}
-use Rattle.expr_grammar.proofs.Pending.{Pending, Plugs, Read, pass_is, pass_opens, front_here, front_inside, front_read, text_front}
+use Rattle.expr_grammar.proofs.Pending.{Pending, Plugs, pass_is, front_here, front_inside, front_read, text_front}
 use Rattle.expr_grammar.proofs.Starts.{begun, started}
 use Rattle.expr_grammar.proofs.Levels.{some_term}
 use Rattle.expr_grammar.proofs.Stacks.{Stack, plug}
 use Rattle.expr_grammar.proofs.Closed.{IsRead}
-use Rattle.expr_grammar.proofs.Spelled.{IsTabled, IsListed, Place, PendingBig, PendingCall, IsSlot, scaling_of, value_tokens, class_tokens, Spelled}
+use Rattle.expr_grammar.proofs.Spelled.{Place, PendingBig, IsSlot, scaling_of, value_tokens, class_tokens, Spelled}
 
 -- some front with so many levels
 abbrev pub IsAt : Line → List Token → ℕ → Type 0

@@ -1,25 +1,21 @@
 -- Where the machine stands after tokens that a cause speaks of.
-use Rattle.std.proofs.Common.{◌≡◌, ℕ, suc, ◌+◌, ◌≤◌, ◌<◌, ◌⊎◌, inl, inr, Bool, true, false, cond, Option, Some, None, List, [], ◌∷◌, ◌++◌, refl, sym, ap, subst, ◌∙◌, append_assoc, arith}
-use Rattle.std.specs.Prelude.{codes, nat_le, IsTrue}
-use Rattle.std.proofs.lemmas.Bool.{leb-false}
+use Rattle.std.proofs.Common.{◌≡◌, ℕ, true, Some, List, [], ◌∷◌, ◌++◌, refl, sym, ap, subst, ◌∙◌, append_assoc}
+use Rattle.std.specs.Prelude.{codes, nat_le}
 use Rattle.scaled_decimal.specs.Decimals.{Decimal}
 use Rattle.scaled_decimal.specs.Limits.{most_places}
-use Rattle.pap_tree.specs.Names.{is_name}
 use Rattle.pap_tree.specs.declared.expression.Binary.TheVariants as binaries
-use Rattle.pap_tree.specs.Tokens as tokens
-use Rattle.pap_tree.specs.Tokens.{Token, Literal, Quoted, Beyond, Word, Operator, Mark, Alien, Dot, Open, Close, int, long, point}
+use Rattle.pap_tree.specs.Tokens.{Token, Literal, Word, Operator, Mark, Dot, Open, int, point}
 use Rattle.pap_tree.specs.Grammar as grammar
 use Rattle.pap_tree.specs.Grammar.{Line, of_quotient, of_setting}
 use Rattle.pap_tree.specs.Stopping as stopping
 use Rattle.pap_tree.specs.Stopping.{IsDeep, WantsScale, IsGreat, IsFraction, IsForeign, new_big_decimal, Cause, syntax, unsupported, binary_fraction, number, deep, rank, Earns, HasCause}
 use Rattle.expr_grammar.specs.Lines.{IsWhole}
-use Rattle.expr_grammar.specs.Machine.{Frame, InNew, Negating, Rounded, dividing, setting, Job, valuing, rounding, declaring, OfLine, OfValue, OfNew, Holder, the_decimal, the_mode, holder_word, holder_of, State, Want, Have, Named, Due, Member, Static, ScaleDue, Parting, Moding, Moded, Naming, Signed, Minus, ValuedInt, ValuedPoint, Settling, Listing, Listed, Done, level_of, level_of_job, scaled, same_token, step, steps, start}
-use Rattle.expr_grammar.specs.Run.{int_cause, point_cause, name_cause, class_cause, word_cause, close_cause, cause_of}
+use Rattle.expr_grammar.specs.Machine.{Frame, InNew, dividing, setting, valuing, rounding, declaring, OfLine, OfValue, OfNew, the_decimal, the_mode, State, Want, Have, Named, Due, ScaleDue, Parting, Moded, Signed, Listing, same_token, step, steps, start}
+use Rattle.expr_grammar.specs.Run.{point_cause, close_cause}
 use Rattle.expr_grammar.proofs.Handles.{wants}
 use Rattle.expr_grammar.proofs.Forward.{some_is}
-use Rattle.expr_grammar.proofs.Words.{picked, if_some, token_is}
-use Rattle.expr_grammar.proofs.Spelled.{Spelled, Tells, awaits, class_tokens, scaling_of}
-use Rattle.expr_grammar.proofs.SpelledFronts.{scale_front, place_of}
+use Rattle.expr_grammar.proofs.Words.{if_some, token_is}
+use Rattle.expr_grammar.proofs.Spelled.{Spelled, Tells, awaits}
 use Rattle.expr_grammar.proofs.Reading.{spelled, before_last, front_reaches}
 
 -- ---- where the machine stands after some tokens

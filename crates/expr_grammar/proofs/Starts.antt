@@ -1,5 +1,5 @@
 -- How what was read of a way begins.
-use Rattle.std.proofs.Common.{◌≡◌, ℕ, false, Option, List, [], ◌∷◌, ◌++◌, refl}
+use Rattle.std.proofs.Common.{◌≡◌, ℕ, false, Option, List, ◌∷◌, ◌++◌, refl}
 use Rattle.pap_tree.specs.Term.{Term}
 use Rattle.pap_tree.specs.Tokens.{Token}
 use Rattle.pap_tree.specs.Grammar.{Item, Line, Level, Meaning, tree, at, Way}

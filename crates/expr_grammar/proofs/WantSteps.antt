@@ -1,5 +1,5 @@
 -- What is read after a token where an expression is due.
-use Rattle.std.proofs.Common.{◌≡◌, ℕ, suc, ◌+◌, ◌≤◌, ◌⊎◌, inl, inr, Bool, true, false, cond, Option, Some, None, List, [], ◌∷◌, ◌++◌, refl, sym, ap, subst, ◌∙◌, append_assoc, arith}
+use Rattle.std.proofs.Common.{◌≡◌, ℕ, suc, ◌+◌, ◌≤◌, inl, inr, false, Option, Some, None, List, [], ◌∷◌, ◌++◌, refl, sym, subst, append_assoc, arith}
 use Rattle.std.specs.Prelude.{codes}
 use Rattle.scaled_decimal.specs.Decimals.{Decimal}
 use Rattle.pap_tree.specs.Names.{is_name}
@@ -16,7 +16,7 @@ use Rattle.pap_tree.specs.Texts.{Text}
 use Rattle.pap_tree.specs.Fronts as fronts
 use Rattle.pap_tree.specs.Stopping.{new_big_decimal}
 use Rattle.expr_grammar.specs.Machine.{Frame, InBrackets, InNew, Negating, Denying, Head, the_class, a_new, head_word, head_of, State, Want, Have, Named, Due, Static, level, taken, literal_step, quoted_step, begun as begins_with, step}
-use Rattle.expr_grammar.specs.Holes.{hole, clashes}
+use Rattle.expr_grammar.specs.Holes.{clashes}
 use Rattle.expr_grammar.proofs.Begins.{word_clear, mark_clear, minus_clear}
 use Rattle.expr_grammar.proofs.Words.{picked, either_some}
 use Rattle.expr_grammar.proofs.Pending.{Pending, pass_is, finished, front_here, further, Fits}
@@ -25,7 +25,7 @@ use Rattle.expr_grammar.proofs.Levels.{some_term}
 use Rattle.expr_grammar.proofs.Stacks.{Stack, plug}
 use Rattle.expr_grammar.proofs.Closed.{IsRead, loosened}
 use Rattle.expr_grammar.proofs.Spelled.{Spelled}
-use Rattle.expr_grammar.proofs.SpelledFronts.{IsAt, hole_high, fresh, plug_whole, at_level}
+use Rattle.expr_grammar.proofs.SpelledFronts.{hole_high, fresh, plug_whole, at_level}
 
 pub moved : (line : Line) (r s : State) (a : List Token) → Some r ≡ Some s → Spelled line r a → Spelled line s a
 moved line r s a e h = let f : r ≡ s = cc in subst (λ s. Spelled line s a) f h

@@ -1,6 +1,6 @@
 -- The machine goes through each way of the grammar.
-use Rattle.std.proofs.Common.{◌≡◌, ℕ, zero, suc, ◌+◌, ◌≤◌, ◌<◌, Bool, true, false, cond, Option, Some, None, List, [], ◌∷◌, ◌++◌, ℤ, pos, refl, sym, ap, subst, ◌∙◌, append_assoc, arith}
-use Rattle.std.specs.Prelude.{nat_le, if◌then◌else◌, option_map, codes, neg_ℤ}
+use Rattle.std.proofs.Common.{◌≡◌, ℕ, suc, ◌≤◌, Bool, true, false, cond, Some, None, List, [], ◌∷◌, ◌++◌, pos, refl, ap, subst, append_assoc, arith}
+use Rattle.std.specs.Prelude.{option_map, codes, neg_ℤ}
 use Rattle.std.proofs.lemmas.Bool.{leb-true, le-leb}
 use Rattle.scaled_decimal.specs.Decimals.{Decimal, decimal, negated}
 use Rattle.scaled_decimal.specs.Limits.{most_places}
@@ -8,17 +8,15 @@ use Rattle.pap_tree.specs.Names.{is_name}
 use Rattle.pap_tree.specs.declared.expression.Unary.TheVariants as unaries
 use Rattle.pap_tree.specs.declared.expression.Binary.TheVariants as binaries
 use Rattle.pap_tree.specs.declared.expression.Call.TheVariants as calls
-use Rattle.pap_tree.specs.Term.{Leaf, Term, known, named, text, unary, value_of, value_of_scaled, new_big, set_scale, method, divide, leaf, item, one, two, choice}
+use Rattle.pap_tree.specs.Term.{Term, known, named, text, unary, value_of, value_of_scaled, new_big, set_scale, method, divide, leaf, item, one, two}
 use Rattle.pap_tree.specs.Declarations.{number, big, table}
-use Rattle.pap_tree.specs.Words.{level_of_operator, call_word, known_word, mode_word, round_word}
+use Rattle.pap_tree.specs.Words.{level_of_operator}
 use Rattle.pap_tree.specs.Tokens as tokens
 use Rattle.pap_tree.specs.Tokens.{Number, Token, Literal, Word, Operator, Mark, Question, Dot, Open, Close}
 use Rattle.pap_tree.specs.Grammar as grammar
 use Rattle.pap_tree.specs.Grammar.{Item, Line, Level, Meaning, Way, free, leaf_of, negative_of}
-use Rattle.pap_tree.specs.Texts.{forbids}
-use Rattle.expr_grammar.specs.Machine.{Job, Head, the_class, a_new, head_word, head_of, big_begun, settling, of_number, applied, opposite, magnitude, rescaled, held, moded, Frame, InBrackets, InCall, InItem, InValue, InNew, Negating, Denying, Left, Chosen, Otherwise, Assigning, Room, Alone, InTable, rounding, dividing, setting, valuing, declaring, OfLine, OfValue, OfNew, the_decimal, the_mode, State, Want, Have, Named, Due, Member, Static, ScaleDue, Parting, Moding, Moded, Naming, Signed, Minus, ValuedInt, ValuedPoint, Settling, Listing, Listed, Done, level, level_of, close, binds, made, joined, tightness, marked, called, of_class, taken, literal_step, begun, scaled, settled, step, finish}
+use Rattle.expr_grammar.specs.Machine.{Job, Head, the_class, a_new, head_word, head_of, big_begun, settling, of_number, applied, opposite, magnitude, rescaled, held, moded, Frame, InBrackets, InCall, InItem, InValue, InNew, Negating, Denying, Left, Chosen, Otherwise, Assigning, Room, Alone, InTable, rounding, dividing, setting, valuing, declaring, OfLine, OfValue, OfNew, the_decimal, the_mode, State, Want, Have, Named, Due, Member, Static, ScaleDue, Parting, Moding, Moded, Naming, Signed, Minus, ValuedInt, ValuedPoint, Settling, Listing, Listed, Done, level, level_of, binds, made, joined, tightness, called, of_class, taken, literal_step, begun, scaled, settled, step}
 use Rattle.expr_grammar.specs.Holes.{hole, clashes, follows}
-use Rattle.expr_grammar.specs.Shortened.{shortened}
 use Rattle.expr_grammar.proofs.Handles as handles
 use Rattle.expr_grammar.proofs.Handles.{Suits, opening, after, Same, Follows, never, Clear, Handles}
 use Rattle.expr_grammar.proofs.Closing.{operator_low, operator_high, stays, stays_whole, taking, taking_last}

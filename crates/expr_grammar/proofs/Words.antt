@@ -1,6 +1,6 @@
 -- The words that the machine knows.
-use Rattle.std.proofs.Common.{◌≡◌, ℕ, Bool, true, false, cond, ◌⊎◌, inl, inr, Option, Some, None, List, [], ◌∷◌, refl, sym, ap, ◌∙◌}
-use Rattle.std.specs.Prelude.{if◌then◌else◌, option_map}
+use Rattle.std.proofs.Common.{◌≡◌, ℕ, Bool, true, false, cond, ◌⊎◌, inl, inr, Option, Some, None, List, [], ◌∷◌, refl, ap, ◌∙◌}
+use Rattle.std.specs.Prelude.{option_map}
 use Rattle.std.specs.Str.{bytes_eq}
 use Rattle.std.proofs.lemmas.Slice.Eq.{bytes_eq-Decides}
 use Rattle.scaled_decimal.specs.declared.rounding.Mode.{Mode}
@@ -12,7 +12,7 @@ use Rattle.pap_tree.specs.declared.expression.Call.TheVariants as calls
 use Rattle.pap_tree.specs.Words.{call_word, known_word, mode_word, round_word}
 use Rattle.pap_tree.specs.Tokens as tokens
 use Rattle.pap_tree.specs.Tokens.{Sign, Token, Word, Mark, sign_text}
-use Rattle.expr_grammar.specs.Machine.{State, same_token, pick, applied, method_of, constant, constancy_of, Holder, the_decimal, the_mode, mode_of, held_word}
+use Rattle.expr_grammar.specs.Machine.{State, same_token, pick, applied, method_of, constant, constancy_of, the_decimal, the_mode, mode_of}
 
 pub call_is : (c : Call) → method_of (call_word c) ≡ Some (applied c)
 call_is calls.Add = refl

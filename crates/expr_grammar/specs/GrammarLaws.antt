@@ -1,11 +1,13 @@
 -- The laws of the expression grammar, as statements on lists of tokens.
 use Rattle.std.specs.Prelude.{◌≡◌, ℕ, ◌≤◌, ◌⊎◌, ◌↔◌, IsTrue, List, length, Ok, Err}
 use Rattle.pap_tree.specs.Tokens.{Token, Spot, plain}
-use Rattle.pap_tree.specs.Grammar.{Line, Meaning}
+use Rattle.pap_tree.specs.Term.{Term}
+use Rattle.pap_tree.specs.Grammar.{Line, Level, Meaning, tree}
 use Rattle.pap_tree.specs.Texts.{Text}
 use Rattle.pap_tree.specs.Stopping.{Cause, IsRead, IsRefused, has_limits}
 use Rattle.pap_tree.specs.Expressions.{IsText}
 use Rattle.expr_grammar.specs.Run.{Refusal, answer}
+use Rattle.expr_grammar.specs.SpelledTokens.{spelled_tokens}
 use Rattle.expr_grammar.specs.Trees.{size, IsKeeping, ArePlaced}
 
 -- the tokens are a text of the line that stands for this, and none of them stops the reading
@@ -51,3 +53,7 @@ KeepsPlaces l = (ts : List Token) (x : Meaning) → ArePlaced ts → Text l ts x
 -- which they have in each text of bytes
 abbrev pub KeepsPlacesOfBytes : Line → Type 0
 KeepsPlacesOfBytes l = (bytes : List ℕ) (x : Meaning) → IsText l bytes x → IsKeeping x
+
+-- the tokens of a tree's spelling are a text of it, for a tree that some text has
+abbrev pub SpellsItself : Type 0
+SpellsItself = (l : Line) (ts : List Token) (x : Term) → Text l ts (tree x) → Text (Level 0) (spelled_tokens x) (tree x)

@@ -5,3 +5,4 @@ pub mod Run
 pub mod Lines
 pub mod Trees
 pub mod GrammarLaws
+pub mod SpelledTokens

@@ -3,7 +3,7 @@
 
 ghost use Rattle.pap_tree.specs.Grammar.{Line};
 ghost use Rattle.expr_grammar.specs.Lines.{IsWhole};
-ghost use Rattle.expr_grammar.specs.GrammarLaws.{HasOneMeaning, TakesOrRefuses, HasOneRefusal, HasAnswer, GivesMeaning, GivesRefusal, IsSized, IsBounded, KeepsPlaces, KeepsPlacesOfBytes};
+ghost use Rattle.expr_grammar.specs.GrammarLaws.{HasOneMeaning, TakesOrRefuses, HasOneRefusal, HasAnswer, GivesMeaning, GivesRefusal, IsSized, IsBounded, KeepsPlaces, KeepsPlacesOfBytes, SpellsItself};
 
 /// A text of a test, of an assignment or of a declared literal stands for one thing at most.
 pub fn one_tree()
@@ -41,4 +41,9 @@ pub fn sized()
 pub fn keeps_places()
     ensures tokens { (l : Line) → KeepsPlaces l }
     ensures bytes { (l : Line) → KeepsPlacesOfBytes l }
+{}
+
+/// The tokens of the canonical spelling of a tree that some text has are a text of that tree.
+pub fn spells()
+    ensures { SpellsItself }
 {}

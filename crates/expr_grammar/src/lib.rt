@@ -3,4 +3,6 @@
 
 mod laws;
 
-pub use laws::{always_one, decides, keeps_places, one_fault, one_tree, sized, tree_or_fault};
+pub use laws::{
+    always_one, decides, keeps_places, one_fault, one_tree, sized, spells, tree_or_fault,
+};
