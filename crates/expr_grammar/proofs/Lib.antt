@@ -26,3 +26,4 @@ pub mod Sizes
 pub mod Places
 pub mod Ranges
 pub mod SpelledTexts
+pub mod Runs

@@ -4,5 +4,5 @@
 mod laws;
 
 pub use laws::{
-    always_one, decides, keeps_places, one_fault, one_tree, sized, spells, tree_or_fault,
+    always_one, decides, keeps_places, one_fault, one_tree, reads_fronts, sized, spells, tree_or_fault,
 };
