@@ -27,3 +27,5 @@ pub mod Places
 pub mod Ranges
 pub mod SpelledTexts
 pub mod Runs
+pub mod Bytes
+pub mod Laws

@@ -1,13 +1,13 @@
 -- What a parser needs of the machine's run: one step, and the frames that an expression closes.
-use Rattle.std.proofs.Common.{◌≡◌, ℕ, suc, ◌+◌, ◌≤◌, ◌<◌, Bool, true, false, cond, Option, Some, None, Result, Ok, Err, List, [], ◌∷◌, ◌++◌, refl, sym, ap, subst, ◌∙◌, arith}
+use Rattle.std.proofs.Common.{◌≡◌, ℕ, ◌≤◌, ◌<◌, Bool, true, false, cond, Some, None, Err, List, [], ◌∷◌, refl, ap, ◌∙◌}
 use Rattle.std.specs.Prelude.{⊤, IsTrue, nat_lt, ◌&&◌}
 use Rattle.std.proofs.lemmas.Bool.{lt-ltb, le-ltb}
 use Rattle.pap_tree.specs.Term.{Term, leaf, named}
 use Rattle.pap_tree.specs.Tokens as tokens
 use Rattle.pap_tree.specs.Tokens.{Token, Literal, Beyond, Quoted, Word, Operator, Mark, Alien, Close, Spot}
-use Rattle.pap_tree.specs.Grammar.{Line, Level, Meaning}
+use Rattle.pap_tree.specs.Grammar.{Line, Level}
 use Rattle.pap_tree.specs.Stopping.{deep, has_limits, most_levels}
-use Rattle.expr_grammar.specs.Machine.{Frame, State, Have, Named, Due, binds, made, level_of, same_token, step, finish}
+use Rattle.expr_grammar.specs.Machine.{Frame, State, Have, Named, binds, made, level_of, step}
 use Rattle.expr_grammar.specs.Holes.{follows}
 use Rattle.expr_grammar.specs.Run.{Refusal, refusal, cause_of, or_refusal, is_over, next, run}
 use Rattle.expr_grammar.proofs.Closing.{taking, taking_last}

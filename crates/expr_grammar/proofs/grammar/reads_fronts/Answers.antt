@@ -1,5 +1,5 @@
 use Rattle.expr_grammar.proofs.Reading.{machine_front, front_front, text_begins, front_run, most_open, so_open}
-use Rattle.expr_grammar.proofs.laws.reads_fronts.Goals as goal
+use Rattle.expr_grammar.proofs.grammar.reads_fronts.Goals as goal
 
 pub returns-clause-fronts : goal.returns-clause-fronts
 returns-clause-fronts c = λ l w ts. (λ h. machine_front l w ts h.0 h.1, λ h. front_run l w ts h)
