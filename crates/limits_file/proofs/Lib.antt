@@ -1,0 +1,5 @@
+pub mod WalkLemmas
+pub mod EntryLemmas
+pub mod InputLemmas
+pub mod BindingLemmas
+pub mod Laws
