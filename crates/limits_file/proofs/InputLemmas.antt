@@ -1,5 +1,5 @@
 -- An entry of an input says one thing.
-use Rattle.std.proofs.Common.{◌≡◌, ℕ, suc, ◌<◌, ◌≤◌, Bool, true, false, List, [], ◌∷◌, Option, Some, None, Result, Ok, Err, codes, option_map, ℤ, pos, negsuc, unsigned_abs, refl, sym, ap, ap₂, ◌∙◌, subst, arith, ◌⊎◌, inl, inr}
+use Rattle.std.proofs.Common.{◌≡◌, ℕ, ◌<◌, ◌≤◌, List, Option, Some, None, Result, Ok, Err, codes, option_map, pos, negsuc, unsigned_abs, refl, sym, ap, ◌∙◌, subst, arith, ◌⊎◌, inl, inr}
 use Rattle.std.specs.Ordering.{is_gt}
 use Rattle.std.proofs.lemmas.Bool.{cases_lt, cases_Bool}
 use Rattle.toml.specs.Data.{Data, table, string, integer, float, boolean, datetime, array, Members, get_member}
@@ -9,9 +9,9 @@ use Rattle.scaled_decimal.specs.NumberTexts.{Spells}
 use Rattle.scaled_decimal.proofs.Laws.{number_once, number_or_none}
 use Rattle.limits_file.specs.declared.limits.InputLimit.{InputLimit}
 use Rattle.limits_file.specs.Labels.{label_of}
-use Rattle.limits_file.specs.Limits.{HasSoundBounds, IsAtMost}
+use Rattle.limits_file.specs.Limits.{HasSoundBounds}
 use Rattle.limits_file.specs.Faults.{Fault, too_long, no_toml, bad_key, bad_bound}
-use Rattle.limits_file.specs.Entries.{Form, entry_of, failing_key}
+use Rattle.limits_file.specs.Entries.{entry_of, failing_key}
 use Rattle.limits_file.specs.Inputs.{input_form, IsBound, IsBoundAt, IsLimitOf, GivesNoLimit, most_inputs, InputSays}
 use Rattle.limits_file.proofs.WalkLemmas.{SaysOne, SaysSome}
 
@@ -31,10 +31,10 @@ bound_at_once key entry b b' h h' =
     let same : h'.value ≡ h.value = cc in
     bound_once h.value b b' h.is (subst (λ v. IsBound v b') same h'.is)
 
-same_limit : (l m : InputLimit) → l.name ≡ m.name → l.low ≡ m.low → l.high ≡ m.high → l.places ≡ m.places → l ≡ m
+pub same_limit : (l m : InputLimit) → l.name ≡ m.name → l.low ≡ m.low → l.high ≡ m.high → l.places ≡ m.places → l ≡ m
 same_limit l m name low high places = λ i. record { name = name i; low = low i; high = high i; places = places i }
 
-same_places : (p q : ℕ) (value : Option Data) → value ≡ Some (integer (pos p)) → value ≡ Some (integer (pos q)) → p ≡ q
+pub same_places : (p q : ℕ) (value : Option Data) → value ≡ Some (integer (pos p)) → value ≡ Some (integer (pos q)) → p ≡ q
 same_places p q value h h' = cc
 
 pub limit_once : (name : List ℕ) (entry : Members) (l m : InputLimit) → IsLimitOf name entry l → IsLimitOf name entry m → l ≡ m

@@ -3,3 +3,7 @@ pub mod EntryLemmas
 pub mod InputLemmas
 pub mod BindingLemmas
 pub mod Laws
+pub mod LabelLemmas
+pub mod BoundLemmas
+pub mod InputParts
+pub mod AnswerLemmas

@@ -1,5 +1,5 @@
 -- A table says one thing, where each of its keys does.
-use Rattle.std.proofs.Common.{◌≡◌, ℕ, suc, List, [], ◌∷◌, Result, Ok, Err, refl, sym, ap, ap₂, ◌∙◌, ◌⊎◌, inl, inr}
+use Rattle.std.proofs.Common.{◌≡◌, ℕ, suc, List, [], ◌∷◌, Result, Ok, Err, refl, sym, ap, ap₂, ◌∙◌, inl, inr}
 use Rattle.toml.specs.Data.{Data, Members, no_members, member}
 use Rattle.limits_file.specs.Faults.{Fault}
 use Rattle.limits_file.specs.Walks.{AllOrFirstFault, TableSays}

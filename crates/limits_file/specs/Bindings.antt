@@ -19,15 +19,14 @@ abbrev pub is_kind : List ℕ → Bool
 is_kind text = bytes_eq text (codes "sum") || bytes_eq text (codes "last") || bytes_eq text (codes "count")
 
 -- `kind` is one of three words; `output` is a name, and stands only beside a kind that reads an output
-abbrev pub suits_binding : Members → List ℕ → Data → Bool
-suits_binding entry key (string text) =
-    (bytes_eq key (codes "kind") && is_kind text)
-    || (bytes_eq key (codes "output") && (is_name text && not (is_count entry)))
-suits_binding entry key value = false
+abbrev pub suits_binding : Bool → List ℕ → Data → Bool
+suits_binding counts key (string text) =
+    (bytes_eq key (codes "kind") && is_kind text) || (bytes_eq key (codes "output") && (is_name text && not counts))
+suits_binding counts key value = false
 
 abbrev pub binding_form : Form
 binding_form = record {
-  suits = suits_binding;
+  suits = λ entry. suits_binding (is_count entry);
   needed = λ entry. codes "kind" ∷ (if is_count entry then [] else codes "output" ∷ []);
 }
 

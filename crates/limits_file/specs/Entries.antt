@@ -1,8 +1,7 @@
 -- An entry of a range file: a table of its own, under a name.
-use Rattle.std.specs.Prelude.{ℕ, Bool, not, if◌then◌else◌, List, Option, Some, None, codes, is_some, option_and_then}
+use Rattle.std.specs.Prelude.{ℕ, Bool, not, if◌then◌else◌, List, Option, Some, None, is_some, option_and_then}
 use Rattle.std.specs.List.{list_all}
 use Rattle.std.specs.Option.{option_or}
-use Rattle.std.specs.Str.{bytes_eq}
 use Rattle.toml.specs.Data.{Data, table, Members, no_members, member, get_member, as_str}
 use Rattle.pap_tree.specs.Names.{is_name}
 

@@ -6,3 +6,6 @@ pub mod Entries
 pub mod Inputs
 pub mod Bindings
 pub mod RangeFiles
+pub mod AnswerViews
+pub mod InputViews
+pub mod BindingViews

@@ -1,6 +1,6 @@
 -- Which values a range admits.
 use Rattle.std.specs.Prelude.{◌≡◌, ℕ, ◌≤◌, List, Any}
-use Rattle.std.specs.Ordering.{is_gt, is_lt}
+use Rattle.std.specs.Ordering.{is_gt}
 use Rattle.std.specs.Prelude.{IsFalse}
 use Rattle.scaled_decimal.specs.Decimals.{Decimal, numerator_at, scale_of, value_order}
 use Rattle.scaled_decimal.specs.Limits.{IsWithinLimit}
