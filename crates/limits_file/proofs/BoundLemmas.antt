@@ -39,8 +39,7 @@ kept_at d p h =
     let s = scale_of d in
     let test = no_more (value_order (magnitude d) (decimal (pos limit) p)) (pos n *ℤ ten_to p) (pos limit *ℤ ten_to s) (int_ranks (pos n *ℤ ten_to p) (pos limit *ℤ ten_to s)) in
     let abs : unsigned_abs (numerator_at p d) ≡ n * 10 ^ (p - s) = unsigned_abs-mul (numerator_of d) (ten_to (p - s)) in
-    let left : n * 10 ^ p ≡ (n * 10 ^ (p - s)) * 10 ^ s = ap (λ x. n * x) (power s p h) ∙ sym (mul_assoc n (10 ^ (p - s)) (10 ^ s)) in
-    (
+    let left : n * 10 ^ p ≡ (n * 10 ^ (p - s)) * 10 ^ s = ap (λ x. n * x) (power s p h) ∙ sym (mul_assoc n (10 ^ (p - s)) (10 ^ s)) in (
       λ e. (let le : n * 10 ^ p ≤ limit * 10 ^ s = unsigned (n * 10 ^ p) (limit * 10 ^ s) (test.0 e) in rw abs (scaled_back (n * 10 ^ (p - s)) limit (10 ^ s) (one-le-pow s 10 (omega arith)) (rw left at le))),
       λ within. test.1 (signed (n * 10 ^ p) (limit * 10 ^ s) (let small = rw abs at within in rw left (mul-le-mul_right (10 ^ s) small))),
     )

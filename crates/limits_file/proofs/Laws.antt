@@ -168,3 +168,12 @@ file_some bytes = elim (cases_lt most_bytes (length bytes)) [
         file_from bytes file toml says.0 says.1)
     | inr bad ↦ (Err no_toml, record { short = short; refused = λ text. absurd (false≢true (sym bad ∙ is_utf8-from_IsUtf8 bytes text)) })
   ]
+
+-- the faults of a whole text are none of its table's
+pub never_long : (file : Members) → TableSays SectionSays joined file (Err too_long) → ⊥
+unfolding IsInside
+never_long file h = table_fault SectionSays IsInside section_inside 0 file too_long h
+
+pub never_refused : (file : Members) → TableSays SectionSays joined file (Err no_toml) → ⊥
+unfolding IsInside
+never_refused file h = table_fault SectionSays IsInside section_inside 0 file no_toml h

@@ -7,3 +7,6 @@ pub mod LabelLemmas
 pub mod BoundLemmas
 pub mod InputParts
 pub mod AnswerLemmas
+pub mod OrderLemmas
+pub mod LoopLemmas
+pub mod ReadingLemmas

@@ -1,5 +1,6 @@
 -- A table says one thing, where each of its keys does.
-use Rattle.std.proofs.Common.{◌≡◌, ℕ, suc, List, [], ◌∷◌, Result, Ok, Err, refl, sym, ap, ap₂, ◌∙◌, inl, inr}
+use Rattle.std.proofs.Common.{◌≡◌, ℕ, suc, List, [], ◌∷◌, ◌++◌, length, length-append, append_assoc, subst, arith, Result, Ok, Err, refl, sym, ap, ap₂, ◌∙◌, inl, inr}
+use Rattle.std.proofs.lemmas.List.{append-nil}
 use Rattle.toml.specs.Data.{Data, Members, no_members, member}
 use Rattle.limits_file.specs.Faults.{Fault}
 use Rattle.limits_file.specs.Walks.{AllOrFirstFault, TableSays}
@@ -80,3 +81,37 @@ module _ {A : Type 0} (Says : ℕ → List ℕ → Data → Result A Fault → T
     | inl here ↦ each n key value f here
     | inr later ↦ table_fault P each (suc n) rest f later.2
   ]
+
+-- what was said before stands in front
+abbrev pub behind : {A : Type 0} → List A → Result (List A) Fault → Result (List A) Fault
+behind front (Ok said) = Ok (front ++ said)
+behind front (Err fault) = Err fault
+
+pub behind_more : {A : Type 0} (front : List A) (x : A) (answer : Result (List A) Fault) → behind front (behind (x ∷ []) answer) ≡ behind (front ++ x ∷ []) answer
+behind_more front x (Ok said) = ap Ok (sym (append_assoc front (x ∷ []) said))
+behind_more front x (Err fault) = refl
+
+module _ {A : Type 0} (Says : ℕ → List ℕ → Data → Result A Fault → Type 0) where
+  -- the keys so far have said `front`, and what the rest says follows it
+  abbrev pub GoesOn : List A → Members → Members → Type 0
+  GoesOn front rest all = (answer : Result (List A) Fault) → AllOrFirstFault Says (length front) rest answer → AllOrFirstFault Says 0 all (behind front answer)
+
+  pub begins : (all : Members) → GoesOn [] all all
+  begins all (Ok said) h = h
+  begins all (Err fault) h = h
+
+  first_said : (n : ℕ) (key : List ℕ) (value : Data) (rest : Members) (x : A) → Says n key value (Ok x) → (answer : Result (List A) Fault) → AllOrFirstFault Says (suc n) rest answer → AllOrFirstFault Says n (member key value rest) (behind (x ∷ []) answer)
+  first_said n key value rest x h (Ok said) later = (h, later)
+  first_said n key value rest x h (Err fault) later = inr (x, h, later)
+
+  pub goes_on : (front : List A) (key : List ℕ) (value : Data) (rest all : Members) (x : A) → Says (length front) key value (Ok x) → GoesOn front (member key value rest) all → GoesOn (front ++ x ∷ []) rest all
+  goes_on front key value rest all x h before answer later =
+      let longer : length (front ++ x ∷ []) ≡ suc (length front) = simp length-append (omega arith) in
+      let later' = subst (λ n. AllOrFirstFault Says n rest answer) longer later in
+      subst (λ a. AllOrFirstFault Says 0 all a) (behind_more front x answer) (before (behind (x ∷ []) answer) (first_said (length front) key value rest x h answer later'))
+
+  pub stops : (front : List A) (key : List ℕ) (value : Data) (rest all : Members) (fault : Fault) → Says (length front) key value (Err fault) → GoesOn front (member key value rest) all → AllOrFirstFault Says 0 all (Err fault)
+  stops front key value rest all fault h before = before (Err fault) (inl h)
+
+  pub ends : (front : List A) (all : Members) → GoesOn front no_members all → AllOrFirstFault Says 0 all (Ok front)
+  ends front all before = subst (λ said. AllOrFirstFault Says 0 all (Ok said)) (append-nil front) (before (Ok []) refl)

@@ -33,5 +33,5 @@ abbrev pub failing_key : Form → List ℕ → Data → Option (List ℕ)
 failing_key form name (table entry) =
     if not (is_name name) then Some name
     else option_or (first_unsuited (form.suits entry) entry)
-        (if list_all (has_key entry) (form.needed entry) then None else Some name)
+    (if list_all (has_key entry) (form.needed entry) then None else Some name)
 failing_key form name value = Some name

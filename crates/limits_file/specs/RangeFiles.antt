@@ -28,8 +28,8 @@ joined parts = record { inputs = flat_map (λ part. part.inputs) parts; bindings
 abbrev pub SectionSays : ℕ → List ℕ → Data → Result Limits Fault → Type 0
 SectionSays n key (table entries) answer =
     MatchBool (bytes_eq key (codes "bind")) (TableSays BindingSays with_bindings entries answer)
-        (MatchBool (bytes_eq key (codes "input")) (TableSays InputSays with_inputs entries answer)
-            (answer ≡ Err (bad_key (label_of key))))
+    (MatchBool (bytes_eq key (codes "input")) (TableSays InputSays with_inputs entries answer)
+    (answer ≡ Err (bad_key (label_of key))))
 SectionSays n key value answer = answer ≡ Err (bad_key (label_of key))
 
 -- the greatest number of bytes of a range file
@@ -53,7 +53,10 @@ FileSays bytes (Err too_long) = most_bytes < length bytes
 FileSays bytes (Err no_toml) = IsNoToml bytes
 FileSays bytes answer = (file : Members) × IsToml bytes file × TableSays SectionSays joined file answer
 
--- both lists are in byte order of their names, and no name stands twice
+-- the names stand in byte order, and none stands twice
+abbrev pub NamesAscend : List (List ℕ) → Type 0
+NamesAscend = IsStrictlySortedBy (slice_cmp nat_cmp)
+
 pub record AreInOrder (limits : Limits) : Type 0 where
-  pub inputs : IsStrictlySortedBy (slice_cmp nat_cmp) (map (λ limit. limit.name) limits.inputs)
-  pub bindings : IsStrictlySortedBy (slice_cmp nat_cmp) (map (λ binding. binding.input) limits.bindings)
+  pub inputs : NamesAscend (map (λ limit. limit.name) limits.inputs)
+  pub bindings : NamesAscend (map (λ binding. binding.input) limits.bindings)

@@ -1,18 +1,34 @@
 //! `[bind]`: what inputs carry over from earlier runs.
-ghost use Rattle.std.specs.Prelude.{◌≡◌, ℕ, MatchOption, None, false, option_map};
+ghost use Rattle.std.specs.Prelude.{◌≡◌, ℕ, MatchOption, IfOk, map, None, false, option_map};
 ghost use Rattle.toml.specs.View.{view, table_view};
 ghost use Rattle.limits_file.specs.AnswerViews.{Tells};
 ghost use Rattle.limits_file.specs.Entries.{first_unsuited, text_at};
 ghost use Rattle.limits_file.specs.BindingViews.{is_whole, GivesCarry};
+ghost use Rattle.limits_file.specs.RangeFiles.{NamesAscend};
+ghost use Rattle.limits_file.specs.Walks.{AllOrFirstFault};
 ghost use Rattle.limits_file.specs.Bindings.{is_count, is_kind, suits_binding, binding_form, BindingSays};
 
-use crate::entries::{value_at};
-use crate::{Binding, Carry, LimitsFault};
-use pap_tree::{Name};
+use crate::entries::value_at;
+use crate::{Binding, Carry, Items, LimitsFault};
+use pap_tree::Name;
+use std::alloc::Global;
 use toml::{Table, Value};
 
+/// The bindings of `[bind]`.
+pub(crate) fn read_bindings(alloc: Global, entries: &Table) -> Result<Items<Binding>, LimitsFault>
+    ensures says { Tells (AllOrFirstFault BindingSays 0 (table_view entries.now)) result }
+    ensures in_order { IfOk result (λ bindings. NamesAscend (map (λ binding. binding.input) bindings)) }
+{
+    let mut bindings = Vec::new(alloc);
+    for (key, value) in entries {
+        let Binding { input, carry } = read_binding(key, value)?;
+        bindings.push(Binding { input, carry })?;
+    }
+    Ok(Items::from_vec(bindings))
+}
+
 /// What the entry of a binding says.
-pub(crate) fn read_binding(key: &str, value: &Value) -> Result<Binding, LimitsFault>
+fn read_binding(key: &str, value: &Value) -> Result<Binding, LimitsFault>
     ensures { (n : ℕ) → Tells (BindingSays n key.now (view value.now)) result }
 {
     let Value::Table(entry) = value else {
@@ -76,7 +92,8 @@ fn suits(counts: bool, key: &str, value: &Value) -> bool
     let Value::String(text) = value else {
         return false;
     };
-    (key == "kind" && is_kind(text)) || (key == "output" && Name::read(text.as_bytes()).is_some() && !counts)
+    (key == "kind" && is_kind(text))
+        || (key == "output" && Name::read(text.as_bytes()).is_some() && !counts)
 }
 
 /// What the kind and the output say together. `None` where one is missing.

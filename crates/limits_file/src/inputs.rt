@@ -1,5 +1,5 @@
 //! `[input]`: the range of each input.
-ghost use Rattle.std.specs.Prelude.{◌≡◌, ◌≤◌, ◌↔◌, ℕ, IsTrue, MatchOption, Some, not, option_map};
+ghost use Rattle.std.specs.Prelude.{◌≡◌, ◌≤◌, ◌↔◌, ℕ, IsTrue, MatchOption, IfOk, map, Some, not, option_map};
 ghost use Rattle.scaled_decimal.specs.Decimals.{Decimal, numerator_at, scale_of};
 ghost use Rattle.scaled_decimal.specs.Limits.{IsWithinLimit, most_places};
 ghost use Rattle.toml.specs.View.{view, table_view};
@@ -8,12 +8,15 @@ ghost use Rattle.limits_file.specs.InputViews.{HasNoBoundAt, HasPlaces, HasNoPla
 ghost use Rattle.std.specs.List.{list_all};
 ghost use Rattle.limits_file.specs.Entries.{first_unsuited, has_key};
 ghost use Rattle.limits_file.specs.Inputs.{suits_input, is_bound_key, input_form, IsBound, IsBoundAt, IsLimitOf, GivesNoLimit, InputSays};
+ghost use Rattle.limits_file.specs.RangeFiles.{NamesAscend};
+ghost use Rattle.limits_file.specs.Walks.{AllOrFirstFault};
 ghost use Rattle.limits_file.specs.Limits.{HasSoundBounds};
 
 use crate::entries::{has_key, value_at};
-use crate::{InputLimit, LimitsFault};
+use crate::{InputLimit, Items, LimitsFault};
 use pap_tree::Name;
 use scaled_decimal::{Dec, read_dec};
+use std::alloc::Global;
 use std::cmp::Ordering;
 use toml::{Table, Value};
 
@@ -26,8 +29,21 @@ const MOST_PLACES: u8 = 30;
 /// The greatest number of inputs.
 const MOST_INPUTS: usize = 256;
 
+/// The limits of `[input]`.
+pub(crate) fn read_inputs(alloc: Global, entries: &Table) -> Result<Items<InputLimit>, LimitsFault>
+    ensures says { Tells (AllOrFirstFault InputSays 0 (table_view entries.now)) result }
+    ensures in_order { IfOk result (λ inputs. NamesAscend (map (λ limit. limit.name) inputs)) }
+{
+    let mut inputs = Vec::new(alloc);
+    for (key, value) in entries {
+        let limit = read_input(inputs.len(), key, value)?;
+        inputs.push(limit)?;
+    }
+    Ok(Items::from_vec(inputs))
+}
+
 /// What the entry of an input says, which `before` others stand before.
-pub(crate) fn read_input(before: usize, key: &str, value: &Value) -> Result<InputLimit, LimitsFault>
+fn read_input(before: usize, key: &str, value: &Value) -> Result<InputLimit, LimitsFault>
     ensures { Tells (InputSays before key.now (view value.now)) result }
 {
     let Value::Table(entry) = value else {
