@@ -50,14 +50,14 @@ declaration_checks before [] = []
 declaration_checks before (d ∷ ds) =
     check (not (has_name before d.name)) (faults.Twice d.name)
     ∷ (check (option_map_or (is_of_type d.kind) d.value true) (faults.Value d.name)
-    ∷ declaration_checks (d.name ∷ before) ds)
+    ∷ declaration_checks (before ++ (d.name ∷ [])) ds)
 
 -- ---- names of methods, beside that of MAIN
 
 abbrev pub method_checks : List (List ℕ) → List Routine → List Check
 method_checks before [] = []
 method_checks before (m ∷ ms) =
-    check (not (has_name before m.name)) (faults.Twice m.name) ∷ method_checks (m.name ∷ before) ms
+    check (not (has_name before m.name)) (faults.Twice m.name) ∷ method_checks (before ++ (m.name ∷ [])) ms
 
 -- ---- nodes, in the order of their numbers
 

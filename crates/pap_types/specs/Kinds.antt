@@ -11,79 +11,68 @@ use Rattle.pap_tree.specs.declared.expression.Binary.TheVariants as binaries
 use Rattle.pap_tree.specs.declared.expression.Call.TheVariants as calls
 use Rattle.pap_tree.specs.Grammar.{known_value}
 use Rattle.pap_tree.specs.Term.{Leaf, whole, long, point, text, known, named, Term, leaf, item, one, two, choice, One, unary, value_of, value_of_scaled, new_big, set_scale, Two, operator, method, divide}
+use Rattle.pap_types.specs.declared.kinds.NodeKind.{NodeKind}
+use Rattle.pap_types.specs.declared.kinds.NodeKind.TheVariants.{Int, Long, Big, Truth, Fraction, Factor, Table}
 use Rattle.pap_types.specs.Scopes.{Scope, declaration_in, constant_in, at_factor_scale, factor_places}
 
--- the kind of a node: what its value is, or how its name or literal may be used
-pub data NodeKind : Type 0 where
-  -- a whole number of 32 bits
-  int : NodeKind
-  -- a whole number of 64 bits
-  long_int : NodeKind
-  -- a decimal
-  big : NodeKind
-  truth : NodeKind
-  -- a literal with a point
-  fraction : NodeKind
-  -- the name of a `double`
-  factor : NodeKind
-  -- the name of a table
-  table : NodeKind
-
 abbrev pub is_whole : NodeKind → Bool
-is_whole int = true
-is_whole long_int = true
+is_whole Int = true
+is_whole Long = true
 is_whole _ = false
 
 abbrev pub is_int : NodeKind → Bool
-is_int int = true
+is_int Int = true
 is_int _ = false
 
 abbrev pub is_big : NodeKind → Bool
-is_big big = true
+is_big Big = true
 is_big _ = false
 
 abbrev pub is_truth : NodeKind → Bool
-is_truth truth = true
+is_truth Truth = true
 is_truth _ = false
 
 abbrev pub is_table : NodeKind → Bool
-is_table table = true
+is_table Table = true
 is_table _ = false
 
 abbrev pub is_factor : NodeKind → Bool
-is_factor factor = true
+is_factor Factor = true
 is_factor _ = false
+
+abbrev pub is_fraction : NodeKind → Bool
+is_fraction Fraction = true
+is_fraction _ = false
 
 -- the kind of a whole number that comes of two: `int` where both are
 abbrev pub wider : NodeKind → NodeKind → NodeKind
-wider long_int k = long_int
-wider _ long_int = long_int
-wider k _ = k
+wider j Long = Long
+wider j _ = j
 
 abbrev pub declared_kind : DeclaredKind → NodeKind
-declared_kind declares.Int = int
-declared_kind declares.Long = long_int
-declared_kind declares.Big = big
-declared_kind declares.Factor = factor
-declared_kind declares.Table = table
+declared_kind declares.Int = Int
+declared_kind declares.Long = Long
+declared_kind declares.Big = Big
+declared_kind declares.Factor = Factor
+declared_kind declares.Table = Table
 
 -- an unknown name, which no well-formed plan has, counts as an int
 abbrev pub name_kind : Scope → List ℕ → NodeKind
-name_kind scope x = option_map_or (λ d. declared_kind d.kind) (declaration_in scope x) int
+name_kind scope x = option_map_or (λ d. declared_kind d.kind) (declaration_in scope x) Int
 
 abbrev pub leaf_kind : Scope → Leaf → NodeKind
-leaf_kind scope (whole i) = int
-leaf_kind scope (long i) = long_int
-leaf_kind scope (point d) = fraction
-leaf_kind scope (text d) = big
-leaf_kind scope (known k) = big
+leaf_kind scope (whole i) = Int
+leaf_kind scope (long i) = Long
+leaf_kind scope (point d) = Fraction
+leaf_kind scope (text d) = Big
+leaf_kind scope (known k) = Big
 leaf_kind scope (named x) = name_kind scope x
 
 -- what comes of an operation whose operands have these kinds
 abbrev pub kind_of_one : One → NodeKind → NodeKind
 kind_of_one (unary Minus) k = k
-kind_of_one (unary Not) k = truth
-kind_of_one _ k = big
+kind_of_one (unary Not) k = Truth
+kind_of_one _ k = Big
 
 abbrev pub kind_of_operator : Binary → NodeKind → NodeKind → NodeKind
 kind_of_operator binaries.Mul j k = wider j k
@@ -91,17 +80,17 @@ kind_of_operator binaries.Div j k = wider j k
 kind_of_operator binaries.Rem j k = wider j k
 kind_of_operator binaries.Plus j k = wider j k
 kind_of_operator binaries.Sub j k = wider j k
-kind_of_operator _ j k = truth
+kind_of_operator _ j k = Truth
 
 abbrev pub kind_of_two : Two → NodeKind → NodeKind → NodeKind
 kind_of_two (operator o) j k = kind_of_operator o j k
-kind_of_two (method calls.CompareTo) j k = int
-kind_of_two _ j k = big
+kind_of_two (method calls.CompareTo) j k = Int
+kind_of_two _ j k = Big
 
 -- the kind of an expression
 abbrev pub kind_of : Scope → Term → NodeKind
 kind_of scope (leaf l) = leaf_kind scope l
-kind_of scope (item x e) = big
+kind_of scope (item x e) = Big
 kind_of scope (one op e) = kind_of_one op (kind_of scope e)
 kind_of scope (two op e f) = kind_of_two op (kind_of scope e) (kind_of scope f)
 kind_of scope (choice c e f) = wider (kind_of scope e) (kind_of scope f)
@@ -136,17 +125,17 @@ shown_divisor scope _ = None
 abbrev pub shows_plain_divisor : Scope → Term → Bool
 shows_plain_divisor scope d = option_map_or is_plain_divisor (shown_divisor scope d) false
 
+-- what BigDecimal.valueOf takes
+abbrev pub is_convertible : NodeKind → Bool
+is_convertible k = is_whole k || (is_factor k || is_fraction k)
+
 -- which operands an operation takes
 abbrev pub takes_one : One → NodeKind → Bool
 takes_one (unary Minus) k = is_whole k
 takes_one (unary Not) k = is_truth k
 takes_one (unary Negate) k = is_big k
 takes_one (unary Abs) k = is_big k
-takes_one value_of int = true
-takes_one value_of long_int = true
-takes_one value_of factor = true
-takes_one value_of fraction = true
-takes_one value_of _ = false
+takes_one value_of k = is_convertible k
 takes_one (value_of_scaled s) k = is_whole k
 takes_one new_big k = is_whole k
 takes_one (set_scale s m) k = is_big k

@@ -8,3 +8,4 @@ pub mod Safety
 pub mod Runs
 pub mod Bounds
 pub mod Meaning
+pub mod ScopeViews

@@ -10,4 +10,4 @@ main_name = codes "MAIN"
 -- the body of a method other than MAIN
 abbrev pub body_named : List Routine → List ℕ → Option Body
 body_named [] x = None
-body_named (m ∷ ms) x = if bytes_eq m.name x then Some m.body else body_named ms x
+body_named (m ∷ ms) x = if bytes_eq x m.name then Some m.body else body_named ms x

@@ -11,14 +11,16 @@ use Rattle.pap_tree.specs.declared.expression.Binary.TheVariants as binaries
 use Rattle.pap_tree.specs.declared.expression.Call.{Call}
 use Rattle.pap_tree.specs.declared.expression.Call.TheVariants as calls
 use Rattle.pap_tree.specs.Term.{Term, leaf, item, one, two, choice, One, unary, value_of_scaled, set_scale, Two, operator, method, divide}
+use Rattle.pap_types.specs.declared.kinds.NodeKind.{NodeKind}
+use Rattle.pap_types.specs.declared.kinds.NodeKind.TheVariants.{Long}
 use Rattle.pap_types.specs.Scopes.{Scope}
-use Rattle.pap_types.specs.Kinds.{NodeKind, long_int, kind_of}
+use Rattle.pap_types.specs.Kinds.{kind_of}
 use Rattle.pap_types.specs.Operations.{is_zero}
 use Rattle.pap_types.specs.Values.{Env, value, goes_right}
 
 -- how many bits a whole number of a kind has
 abbrev pub bits_of : NodeKind → ℕ
-bits_of long_int = long_bits
+bits_of Long = long_bits
 bits_of _ = int_bits
 
 -- The working numbers of an operation whose result is of a kind fit: those of a whole number are its result.

@@ -1,6 +1,6 @@
 -- What the names of a plan stand for: its variables by kind, its constants by value.
 use Rattle.std.specs.Prelude.{ℕ, if◌then◌else◌, List, [], ◌∷◌, ◌++◌, Option, Some, None, pos}
-use Rattle.std.specs.Option.{option_map}
+use Rattle.std.specs.Option.{option_map, option_or}
 use Rattle.std.specs.Str.{bytes_eq}
 use Rattle.scaled_decimal.specs.Decimals.{Decimal, decimal, numerator_at}
 use Rattle.pap_tree.specs.declared.declaration.Kind.{Kind}
@@ -18,11 +18,11 @@ pub record Scope : Type 0 where
 -- the first declaration of a name
 abbrev pub declared_as : List Declaration → List ℕ → Option Declaration
 declared_as [] x = None
-declared_as (d ∷ ds) x = if bytes_eq d.name x then Some d else declared_as ds x
+declared_as (d ∷ ds) x = if bytes_eq x d.name then Some d else declared_as ds x
 
 -- the declaration of a variable's or a constant's name
 abbrev pub declaration_in : Scope → List ℕ → Option Declaration
-declaration_in scope x = declared_as (scope.variables ++ scope.constants) x
+declaration_in scope x = option_or (declared_as scope.variables x) (declared_as scope.constants x)
 
 -- a `double` is kept with three places
 abbrev pub factor_places : ℕ

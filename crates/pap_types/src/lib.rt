@@ -2,5 +2,8 @@
 #![tactic(auto)]
 
 mod fault;
+mod kinds;
+mod scope;
 
 pub use fault::TypeFault;
+pub use kinds::NodeKind;

@@ -1,4 +1,5 @@
--- What callers may rest on: a text spells at most one decimal, and it is decided whether it spells one.
+-- The laws of decimals that other crates may cite. Those of the texts are shown here: a text spells at most one decimal, and
+-- it is decided whether it spells one. The others are shown in the files that they are taken from.
 use Rattle.std.proofs.Common.{◌≡◌, ℕ, ◌<◌, Bool, true, false, List, [], ◌∷◌, length, refl, ap, arith, ◌⊎◌, inl, inr}
 use Rattle.std.specs.Char.{digit_value}
 use Rattle.std.proofs.lemmas.Bool.{cases_lt, cases_eq}
@@ -6,7 +7,21 @@ use Rattle.scaled_decimal.specs.Decimals.{Decimal}
 use Rattle.scaled_decimal.specs.NumberTexts.{spelled, Spells, SpellsNone}
 use Rattle.scaled_decimal.specs.TextParts.{IsSignSplit, IsDigitSplit}
 use Rattle.scaled_decimal.proofs.NumberLemmas.{spells, spells_once, ends_at_sign, ends_at_point, ends_in_places, whole_number, number_with_places}
+-- powers of ten: up to 10^37, above 0, multiplied
+pub use Rattle.scaled_decimal.proofs.PowerLemmas.{power_le, power_bound, ten_some, ten_not_zero, ten_add}
+-- products of whole numbers
+pub use Rattle.scaled_decimal.specs.laws.IntegerLemmas.{times_more, times_less, times_neg, times_neg_right, times_sub, times_assoc, times_swap, times_zero, times_cancel, le_times, lt_times, by_sign, some_abs, abs_sub}
+-- roundings: less than one from the quotient, rising with it, exactly one, and no greater than the dividend
+pub use Rattle.scaled_decimal.specs.laws.RoundingLaws.{rounds_near, rounds_rising, rounds_exactly_one}
+pub use Rattle.scaled_decimal.proofs.FitLemmas.{abs_rounded}
+-- the order of the values is that of the numerators at the greater scale
+pub use Rattle.scaled_decimal.proofs.OrderLemmas.{aligned_order}
+-- the working numbers of setScale and divide fit where the lengthened numbers do
+pub use Rattle.scaled_decimal.proofs.FitLemmas.{rescale_fits, rescale_fits_longer, rescale_fits_shorter, quotient_fits_longer, quotient_fits_shorter}
+-- plain divisors, and the working numbers of the exact quotient: for the least power of ten, and for any
+pub use Rattle.scaled_decimal.proofs.FitLemmas.{plain_divisor, exact_fits_least, exact_fits}
 
+-- a text spells at most one decimal
 pub number_once : (text : List ℕ) (d d' : Decimal) → Spells text d → Spells text d' → d ≡ d'
 number_once text d d' s s' =
     let value = s.value in
@@ -60,6 +75,7 @@ after_decided text rest neg whole (b ∷ bs) s d some = elim (cases_eq b 46) [
   | inr other ↦ inr (ends_at_point text rest neg whole (b ∷ bs) s d some (omega arith) (λ more e. other (cc e))).0
 ]
 
+-- a text spells a decimal or none
 pub number_or_none : (text : List ℕ) → ((d : Decimal) × Spells text d) ⊎ SpellsNone text
 unfolding Decided
 number_or_none text =

@@ -5,8 +5,8 @@ use Rattle.std.proofs.lemmas.Int.{ints}
 use Rattle.std.proofs.Math.Nat.{one-le-pow}
 use Rattle.scaled_decimal.specs.declared.rounding.Mode.{Mode}
 use Rattle.scaled_decimal.specs.Rounding.{Rounds}
-use Rattle.scaled_decimal.specs.RoundingLaws.{rounds_exactly_one}
-use Rattle.scaled_decimal.specs.IntegerLemmas.{times_zero}
+use Rattle.scaled_decimal.specs.laws.RoundingLaws.{rounds_exactly_one}
+use Rattle.scaled_decimal.specs.laws.IntegerLemmas.{times_zero}
 use Rattle.scaled_decimal.specs.Decimals.{Decimal, decimal, numerator_of, scale_of, ten_to, IsRescaled, IsQuotient}
 
 above_not_zero : (d : ℕ) → pos (suc d) ≢ pos 0
