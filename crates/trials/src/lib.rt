@@ -14,3 +14,5 @@ mod intervals;
 mod names;
 #[cfg(test)]
 mod outside_objects;
+#[cfg(test)]
+mod range_files;
