@@ -16,3 +16,5 @@ mod names;
 mod outside_objects;
 #[cfg(test)]
 mod range_files;
+#[cfg(test)]
+mod spellings;
