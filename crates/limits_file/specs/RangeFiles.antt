@@ -53,6 +53,12 @@ FileSays bytes (Err too_long) = most_bytes < length bytes
 FileSays bytes (Err no_toml) = IsNoToml bytes
 FileSays bytes answer = (file : Members) × IsToml bytes file × TableSays SectionSays joined file answer
 
+-- a text says one thing
+pub record HasOneAnswer (bytes : List ℕ) : Type 0 where
+  pub answer : Result Limits Fault
+  pub says : FileSays bytes answer
+  pub alone : (other : Result Limits Fault) → FileSays bytes other → other ≡ answer
+
 -- the names stand in byte order, and none stands twice
 abbrev pub NamesAscend : List (List ℕ) → Type 0
 NamesAscend = IsStrictlySortedBy (slice_cmp nat_cmp)

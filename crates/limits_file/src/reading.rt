@@ -1,10 +1,9 @@
 //! A range file is read key by key, in byte order of its keys.
-ghost use Rattle.std.specs.Prelude.{◌≡◌, ◌<◌, ◌≤◌, ◌↔◌, ℕ, List, Result, Ok, Err, IfOk, IfErr, length};
+ghost use Rattle.std.specs.Prelude.{◌≡◌, ◌<◌, ◌≤◌, ◌↔◌, ℕ, List, Ok, Err, IfOk, IfErr, length};
 ghost use Rattle.toml.specs.View.{table_view};
-ghost use Rattle.limits_file.specs.declared.limits.Limits.{Limits};
 ghost use Rattle.limits_file.specs.AnswerViews.{Tells, IsRefused};
-ghost use Rattle.limits_file.specs.Faults.{Fault, no_toml, bad_key, bad_bound};
-ghost use Rattle.limits_file.specs.RangeFiles.{SectionSays, joined, IsToml, IsNoToml, FileSays, AreInOrder};
+ghost use Rattle.limits_file.specs.Faults.{no_toml, bad_key, bad_bound};
+ghost use Rattle.limits_file.specs.RangeFiles.{SectionSays, joined, IsToml, IsNoToml, FileSays, AreInOrder, HasOneAnswer, most_bytes};
 ghost use Rattle.limits_file.specs.Walks.{TableSays};
 
 use crate::bindings::read_bindings;
@@ -25,7 +24,7 @@ pub fn read_limits(alloc: Global, bytes: &[u8]) -> Result<Limits, LimitsFault>
     ensures limits { IfOk result (λ limits. FileSays bytes.now (Ok limits)) }
     ensures in_order { IfOk result AreInOrder }
 
-    ensures long { (result ≡ Err LimitsFault.LimitsLong) ↔ (262144 < length bytes.now) }
+    ensures long { (result ≡ Err LimitsFault.LimitsLong) ↔ (most_bytes < length bytes.now) }
     ensures toml { result ≡ Err LimitsFault.Toml → FileSays bytes.now (Err no_toml) }
     ensures key { (label : List ℕ) → result ≡ Err (LimitsFault.Key label)
         → FileSays bytes.now (Err (bad_key label)) }
@@ -39,17 +38,14 @@ pub fn read_limits(alloc: Global, bytes: &[u8]) -> Result<Limits, LimitsFault>
     read_table(alloc, &table)
 }
 
-/// A text says one thing: its limits, or its first fault.
-pub fn each_text_has_one_answer(bytes: &[u8])
-    ensures one { (a b : Result Limits Fault) → FileSays bytes.now a → FileSays bytes.now b → a ≡ b }
-    ensures always { (answer : Result Limits Fault) × FileSays bytes.now answer }
-{
-    let _ = bytes;
-}
+/// A text has one answer: its limits or its first fault, and not both.
+pub fn each_text_has_one_answer()
+    ensures { (bytes : List ℕ) → HasOneAnswer bytes }
+{}
 
 /// The table of a text.
 fn read_toml(alloc: Global, bytes: &[u8]) -> Result<Table, LimitsFault>
-    requires { length bytes.now ≤ 262144 }
+    requires { length bytes.now ≤ most_bytes }
     ensures read { IfOk result (λ table. IsToml bytes.now (table_view table)) }
     ensures refused { IfErr result (IsRefused bytes.now) }
 {
