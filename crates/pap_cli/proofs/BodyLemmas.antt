@@ -1,11 +1,11 @@
 -- A list of statements, taken apart at a place.
 use Rattle.std.proofs.Common.{◌≡◌, ℕ, zero, suc, ◌+◌, ◌-◌, ◌==◌, false, ◌<◌, ◌≤◌, List, [], ◌∷◌, length, drop, get_or, refl, sym, ap, subst, ◌∙◌, add-one, Some, None, arith}
 use Rattle.std.proofs.lemmas.Bool.Decides.{nat_tests}
-use Rattle.pap_tree.specs.declared.tree.Stmt.{Stmt}
-use Rattle.pap_tree.specs.declared.tree.Stmt.TheVariants.{Eval}
-use Rattle.pap_tree.specs.Body.{Body, done, body_of, stmt_then}
-use Rattle.pap_tree.specs.Term.{Term, term_of}
-use Rattle.pap_tree.specs.Numbering.{nodes, written, term_at}
+use Rattle.small_tree.specs.declared.tree.Stmt.{Stmt}
+use Rattle.small_tree.specs.declared.tree.Stmt.TheVariants.{Eval}
+use Rattle.small_tree.specs.Body.{Body, done, body_of, stmt_then}
+use Rattle.small_tree.specs.Term.{Term, term_of}
+use Rattle.small_tree.specs.Numbering.{nodes, written, term_at}
 use Rattle.pap_cli.specs.Limits.{SmallTerms}
 
 body_at-suc : (ss : List Stmt) (i : ℕ) (d : Stmt) → i < length ss → body_of (drop i ss) ≡ stmt_then (get_or ss i d) (body_of (drop (suc i) ss))

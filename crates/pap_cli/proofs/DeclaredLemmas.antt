@@ -3,8 +3,8 @@ use Rattle.std.proofs.Common.{◌≡◌, ℕ, zero, suc, ◌<◌, List, [], ◌�
 use Rattle.std.specs.Str.{bytes_eq}
 use Rattle.std.proofs.lemmas.Slice.Eq.{bytes_eq-Decides}
 use Rattle.std.proofs.lemmas.Bool.Decides.{nat_tests}
-use Rattle.pap_tree.specs.declared.tree.Declared.{Declared}
-use Rattle.pap_tree.specs.Body.{names_of}
+use Rattle.small_tree.specs.declared.tree.Declared.{Declared}
+use Rattle.small_tree.specs.Body.{names_of}
 use Rattle.pap_cli.specs.Unknowns.{is_declared}
 
 same : (x : List ℕ) → bytes_eq x x ≡ true

@@ -6,8 +6,8 @@ use Rattle.outside.specs.Told.{Files, IsToldFront, Appends, AppendsPrefix}
 use Rattle.outside.proofs.Bytes.{Appends-nothing}
 use Rattle.outside.specs.declared.traits.FileAnswer.{FileAnswer}
 use Rattle.outside.specs.declared.traits.FileAnswer.TheVariants as files
-use Rattle.pap_reader.specs.declared.limits.TheConstants.{LONGEST_PLAN}
-use Rattle.pap_tree.specs.Body.{Plan}
+use Rattle.small_reader.specs.declared.limits.TheConstants.{LONGEST_PLAN}
+use Rattle.small_tree.specs.Body.{Plan}
 use Rattle.pap_cli.specs.declared.once.TheConstants.{LONGEST_LIMITS}
 use Rattle.pap_cli.specs.declared.answer.Reply.{Reply}
 use Rattle.pap_cli.specs.declared.status.Status.TheVariants as statuses

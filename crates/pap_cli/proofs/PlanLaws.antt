@@ -1,10 +1,10 @@
 -- Bytes are a plan in at most one way, and it is decided whether they are one.
 use Rattle.std.proofs.Common.{◌≡◌, ℕ, List, [], ◌∷◌, sym, ap, subst, ◌∙◌, inl, inr, refl}
 use Rattle.std.specs.Prelude.{◌⊎◌, codes}
-use Rattle.pap_tree.specs.Body.{Body, done, eval, choose, execute}
-use Rattle.pap_reader.specs.SmallPlans.{RawPlan}
-use Rattle.pap_reader.proofs.PlanLemmas.{small_plan_one, small_plan_decided}
-use Rattle.pap_expr.proofs.Readings.{one_reading, decided}
+use Rattle.small_tree.specs.Body.{Body, done, eval, choose, execute}
+use Rattle.small_reader.specs.SmallPlans.{RawPlan}
+use Rattle.small_reader.proofs.PlanLemmas.{small_plan_one, small_plan_decided}
+use Rattle.small_expr.proofs.Readings.{one_reading, decided}
 use Rattle.pap_cli.specs.Answers.{refusal, answer_of}
 use Rattle.pap_cli.specs.Plans.{AreStatements, OnePlan, IsDecidedPlan}
 use Rattle.pap_cli.specs.Laws.{OneAnswer, HasAnswer}

@@ -1,17 +1,17 @@
 -- Statements read one after another.
 use Rattle.std.proofs.Common.{◌≡◌, ℕ, zero, suc, ◌+◌, ◌<◌, ◌≤◌, List, [], ◌∷◌, ◌++◌, length, take, get_or, refl, sym, ap, subst, add-one, arith}
-use Rattle.pap_tree.specs.declared.tree.Stmt.{Stmt}
-use Rattle.pap_tree.specs.declared.tree.Stmt.TheVariants.{Eval}
-use Rattle.pap_tree.specs.Body.{Body, done, eval, choose, execute, body_of}
-use Rattle.pap_tree.specs.Numbering.{written}
-use Rattle.pap_reader.specs.declared.elements.RawStmt.{RawStmt}
-use Rattle.pap_reader.specs.declared.fault.ReadFault.{ReadFault}
-use Rattle.pap_reader.specs.declared.fault.ReadFault.TheVariants as reads
-use Rattle.pap_reader.specs.Elements.{exec_of, execs_of}
-use Rattle.pap_reader.specs.declared.limits.TheConstants.{MOST_STATEMENTS}
-use Rattle.pap_expr.specs.declared.fault.ExprFault.{ExprFault}
-use Rattle.pap_expr.specs.declared.fault.ExprFault.TheVariants as exprs
-use Rattle.pap_expr.specs.Laws.{IsNoAssignment}
+use Rattle.small_tree.specs.declared.tree.Stmt.{Stmt}
+use Rattle.small_tree.specs.declared.tree.Stmt.TheVariants.{Eval}
+use Rattle.small_tree.specs.Body.{Body, done, eval, choose, execute, body_of}
+use Rattle.small_tree.specs.Numbering.{written}
+use Rattle.small_reader.specs.declared.elements.RawStmt.{RawStmt}
+use Rattle.small_reader.specs.declared.fault.ReadFault.{ReadFault}
+use Rattle.small_reader.specs.declared.fault.ReadFault.TheVariants as reads
+use Rattle.small_reader.specs.Elements.{exec_of, execs_of}
+use Rattle.small_reader.specs.declared.limits.TheConstants.{MOST_STATEMENTS}
+use Rattle.small_expr.specs.declared.fault.ExprFault.{ExprFault}
+use Rattle.small_expr.specs.declared.fault.ExprFault.TheVariants as exprs
+use Rattle.small_expr.specs.Laws.{IsNoAssignment}
 use Rattle.pap_cli.specs.declared.plan.PlanFault.TheVariants.{Unbuilt}
 use Rattle.pap_cli.specs.Limits.{SmallTerms, IsWithinLimits}
 use Rattle.pap_cli.specs.PlanFaults.{read_fault, expr_fault}

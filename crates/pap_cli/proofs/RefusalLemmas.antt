@@ -1,7 +1,7 @@
 -- Refusal lines, put together from their parts.
 use Rattle.std.proofs.Common.{◌≡◌, ℕ, List, [], ◌∷◌, ◌++◌, ap, sym, ◌∙◌, append_assoc, true}
 use Rattle.std.specs.Prelude.{codes}
-use Rattle.pap_tree.specs.Body.{Body}
+use Rattle.small_tree.specs.Body.{Body}
 use Rattle.pap_cli.specs.declared.unknown.Unknown.{Unknown}
 use Rattle.pap_cli.specs.declared.failure.Failure.{Failure}
 use Rattle.pap_cli.specs.Causes.{cause_name}

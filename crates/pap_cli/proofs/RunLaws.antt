@@ -4,11 +4,11 @@ use Rattle.std.specs.Prelude.{◌⊎◌, Option, Some, None, IsSome, nat_lt}
 use Rattle.std.specs.Option.{option_and_then}
 use Rattle.std.specs.Str.{bytes_eq}
 use Rattle.std.proofs.lemmas.Bool.Decides.{nat_tests}
-use Rattle.pap_tree.specs.declared.tree.Binary.{Binary}
-use Rattle.pap_tree.specs.declared.tree.Binary.TheVariants.{Plus, Sub}
-use Rattle.pap_tree.specs.Term.{Term, whole, named, two}
-use Rattle.pap_tree.specs.Body.{Body, Plan, done, eval, choose, execute}
-use Rattle.pap_tree.specs.Numbering.{nodes, node_of, term_at}
+use Rattle.small_tree.specs.declared.tree.Binary.{Binary}
+use Rattle.small_tree.specs.declared.tree.Binary.TheVariants.{Plus, Sub}
+use Rattle.small_tree.specs.Term.{Term, whole, named, two}
+use Rattle.small_tree.specs.Body.{Body, Plan, done, eval, choose, execute}
+use Rattle.small_tree.specs.Numbering.{nodes, node_of, term_at}
 use Rattle.pap_cli.specs.declared.failure.Fault.{Fault}
 use Rattle.pap_cli.specs.declared.failure.Failure.{Failure}
 use Rattle.pap_cli.specs.Values.{Num, Env, look, put, value, of_both, result_of, own_cause, cause_at, first_of, own_fault, fault}

@@ -1,9 +1,9 @@
 -- A plan without an undeclared name.
 use Rattle.std.proofs.Common.{◌≡◌, ℕ, ◌+◌, List, Some, None, Bool, true, false, if◌then◌else◌}
 use Rattle.std.specs.Prelude.{Option}
-use Rattle.pap_tree.specs.Term.{Term, whole, named, two}
-use Rattle.pap_tree.specs.Body.{Body, done, eval, choose, execute}
-use Rattle.pap_tree.specs.Numbering.{nodes, written}
+use Rattle.small_tree.specs.Term.{Term, whole, named, two}
+use Rattle.small_tree.specs.Body.{Body, done, eval, choose, execute}
+use Rattle.small_tree.specs.Numbering.{nodes, written}
 use Rattle.pap_cli.specs.Values.{first_of}
 use Rattle.pap_cli.specs.Unknowns.{is_declared, unknown_in, unknown_name, Knows, KnowsAll}
 

@@ -3,11 +3,11 @@ use Rattle.std.specs.Prelude.{ℕ, ◌+◌, ◌∷◌, ◌++◌, pos, map, Bool,
 use Rattle.std.specs.Option.{option_map_or, option_and_then}
 use Rattle.std.specs.Fmt.{decimal, signed_decimal}
 use Rattle.pap_tree.specs.declared.place.Place.{Place}
-use Rattle.pap_tree.specs.Term.{Term}
-use Rattle.pap_tree.specs.Body.{Body, Plan}
+use Rattle.small_tree.specs.Term.{Term}
+use Rattle.small_tree.specs.Body.{Body, Plan}
 use Rattle.pap_tree.specs.Places.{place_text}
-use Rattle.pap_tree.specs.Numbering.{node_of, term_at}
-use Rattle.pap_tree.specs.Spelling.{spelling}
+use Rattle.small_tree.specs.Numbering.{node_of, term_at}
+use Rattle.small_tree.specs.Spelling.{spelling}
 use Rattle.pap_cli.specs.Values.{Num, Env, whole_num, look}
 use Rattle.pap_cli.specs.Runs.{no_calls, after, spent, fails}
 use Rattle.pap_cli.specs.Unknowns.{unknown_name}

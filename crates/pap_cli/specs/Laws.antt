@@ -1,6 +1,6 @@
 -- What holds of the definitions.
 use Rattle.std.specs.Prelude.{◌≡◌, ℕ, List, Some, None, IsSome}
-use Rattle.pap_tree.specs.Body.{Plan}
+use Rattle.small_tree.specs.Body.{Plan}
 use Rattle.pap_cli.specs.declared.failure.Failure.{Failure}
 use Rattle.pap_cli.specs.Runs.{no_calls, after, fails}
 use Rattle.pap_cli.specs.Unknowns.{unknown_name}

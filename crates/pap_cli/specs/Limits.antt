@@ -1,7 +1,7 @@
 -- How large a list of statements may be (docs/PROFILE.md, "Limits").
 use Rattle.std.specs.Prelude.{◌≤◌}
-use Rattle.pap_tree.specs.Numbering.{nodes, written}
-use Rattle.pap_tree.specs.Body.{Body, done, eval, choose, execute}
+use Rattle.small_tree.specs.Numbering.{nodes, written}
+use Rattle.small_tree.specs.Body.{Body, done, eval, choose, execute}
 
 -- each expression has at most 1,000 nodes
 abbrev pub SmallTerms : Body → Type 0

@@ -2,7 +2,7 @@
 use Rattle.std.specs.Prelude.{◌≡◌, ◌≢◌, ◌⊎◌, ℕ, ◌+◌, ◌-◌, ◌≤◌, ◌<◌, Bool, if◌then◌else◌, List, [], ◌++◌, length, take, codes, Option, Some, Result, Ok, Err}
 use Rattle.std.specs.Option.{ForSome}
 use Rattle.outside.specs.Told.{Files, Appends}
-use Rattle.pap_tree.specs.Body.{Plan}
+use Rattle.small_tree.specs.Body.{Plan}
 use Rattle.pap_cli.specs.Answers.{Answer, refusal, answer_of}
 use Rattle.pap_cli.specs.Plans.{IsPlan}
 use Rattle.pap_cli.specs.declared.status.Status.{Status}

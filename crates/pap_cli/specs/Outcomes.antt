@@ -1,8 +1,8 @@
 -- What an evaluation and a run answer.
 use Rattle.std.specs.Prelude.{◌≡◌, ℕ, ◌+◌, List, Result, Ok, Err, Some, None}
-use Rattle.pap_tree.specs.Term.{Term}
-use Rattle.pap_tree.specs.Numbering.{nodes}
-use Rattle.pap_tree.specs.Body.{Body}
+use Rattle.small_tree.specs.Term.{Term}
+use Rattle.small_tree.specs.Numbering.{nodes}
+use Rattle.small_tree.specs.Body.{Body}
 use Rattle.pap_cli.specs.Values.{Env, whole_num, value, cost, fault}
 use Rattle.pap_cli.specs.Runs.{Calls, after, spent, fails}
 use Rattle.pap_cli.specs.declared.evaluation.Evaluated.{Evaluated}

@@ -1,8 +1,8 @@
 -- A fault of the readers as one of the whole.
-use Rattle.pap_reader.specs.declared.fault.ReadFault.{ReadFault}
-use Rattle.pap_reader.specs.declared.fault.ReadFault.TheVariants as reads
-use Rattle.pap_expr.specs.declared.fault.ExprFault.{ExprFault}
-use Rattle.pap_expr.specs.declared.fault.ExprFault.TheVariants as exprs
+use Rattle.small_reader.specs.declared.fault.ReadFault.{ReadFault}
+use Rattle.small_reader.specs.declared.fault.ReadFault.TheVariants as reads
+use Rattle.small_expr.specs.declared.fault.ExprFault.{ExprFault}
+use Rattle.small_expr.specs.declared.fault.ExprFault.TheVariants as exprs
 use Rattle.pap_cli.specs.declared.plan.PlanFault.{PlanFault}
 use Rattle.pap_cli.specs.declared.plan.PlanFault.TheVariants as plans
 

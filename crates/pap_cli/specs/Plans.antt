@@ -1,8 +1,8 @@
 -- The plan that a file's bytes are (docs/PROFILE.md).
 use Rattle.std.specs.Prelude.{◌≡◌, ◌⊎◌, ℕ, List, [], ◌∷◌}
-use Rattle.pap_tree.specs.Body.{Body, Plan, done, eval, choose, execute}
-use Rattle.pap_reader.specs.SmallPlans.{RawPlan, IsSmallPlan}
-use Rattle.pap_expr.specs.Assignments.{IsAssignment}
+use Rattle.small_tree.specs.Body.{Body, Plan, done, eval, choose, execute}
+use Rattle.small_reader.specs.SmallPlans.{RawPlan, IsSmallPlan}
+use Rattle.small_expr.specs.Assignments.{IsAssignment}
 
 -- the statements whose texts these are, in order
 abbrev pub AreStatements : List (List ℕ) → Body → Type 0

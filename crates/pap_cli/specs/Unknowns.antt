@@ -2,9 +2,9 @@
 use Rattle.std.specs.Prelude.{◌≡◌, ℕ, ◌+◌, ◌-◌, Bool, true, if◌then◌else◌, List, Option, Some, None}
 use Rattle.std.specs.List.{list_any}
 use Rattle.std.specs.Str.{bytes_eq}
-use Rattle.pap_tree.specs.Term.{Term, whole, named, two}
-use Rattle.pap_tree.specs.Numbering.{nodes, written}
-use Rattle.pap_tree.specs.Body.{Body, done, eval, choose, execute}
+use Rattle.small_tree.specs.Term.{Term, whole, named, two}
+use Rattle.small_tree.specs.Numbering.{nodes, written}
+use Rattle.small_tree.specs.Body.{Body, done, eval, choose, execute}
 use Rattle.pap_cli.specs.Values.{first_of}
 use Rattle.pap_cli.specs.declared.unknown.Unknown.{Unknown}
 

@@ -1,10 +1,10 @@
 -- The value of an expression, what its evaluation costs, and its first node that fails (docs/DEFINITIONS.md).
 use Rattle.std.specs.Prelude.{ℕ, ◌+◌, ◌^◌, nat_lt, ℤ, pos, negsuc, ◌+ℤ◌, ◌-ℤ◌, Bool, if◌then◌else◌, List, [], ◌∷◌, Option, Some, None}
 use Rattle.std.specs.Str.{bytes_eq}
-use Rattle.pap_tree.specs.declared.tree.Binary.{Binary}
-use Rattle.pap_tree.specs.declared.tree.Binary.TheVariants.{Plus, Sub}
-use Rattle.pap_tree.specs.Term.{Term, whole, named, two}
-use Rattle.pap_tree.specs.Numbering.{nodes}
+use Rattle.small_tree.specs.declared.tree.Binary.{Binary}
+use Rattle.small_tree.specs.declared.tree.Binary.TheVariants.{Plus, Sub}
+use Rattle.small_tree.specs.Term.{Term, whole, named, two}
+use Rattle.small_tree.specs.Numbering.{nodes}
 use Rattle.pap_cli.specs.declared.failure.Cause.{Cause}
 use Rattle.pap_cli.specs.declared.failure.Cause.TheVariants.{Wide}
 use Rattle.pap_cli.specs.declared.failure.Fault.{Fault}

@@ -1,8 +1,8 @@
 // What is written on a plan.
 ghost use Rattle.std.specs.Prelude.{◌≡◌, ◌≤◌, ◌<◌, ◌+◌, ◌^◌, ◌++◌, ◌∷◌, IfOk, OnOk, Some, None, codes, true};
-ghost use Rattle.pap_tree.specs.Term.{term_of};
-ghost use Rattle.pap_tree.specs.Body.{Body, plan_of, names_of, body_of, stmt_then};
-ghost use Rattle.pap_tree.specs.Numbering.{term_at};
+ghost use Rattle.small_tree.specs.Term.{term_of};
+ghost use Rattle.small_tree.specs.Body.{Body, plan_of, names_of, body_of, stmt_then};
+ghost use Rattle.small_tree.specs.Numbering.{term_at};
 ghost use Rattle.pap_cli.specs.Environments.{env_of, variable_names};
 ghost use Rattle.pap_cli.specs.Unknowns.{is_declared};
 ghost use Rattle.pap_cli.specs.Limits.{IsWithinLimits};
@@ -13,7 +13,8 @@ use crate::environment::{Variable, look};
 use crate::failure::Failure;
 use crate::running::run;
 use crate::unknown::{Unknown, first_unknown};
-use pap_tree::{Declared, Expr, Place, PlanText, Stmt, find_node, print_expr};
+use pap_tree::Place;
+use small_tree::{Declared, Expr, PlanText, Stmt, find_node, print_expr};
 use std::alloc::{AllocError, Global};
 
 /// What is written on a command, whether it is a refusal, and the steps that it took.

@@ -1,7 +1,7 @@
 // The value of an expression.
 ghost use Rattle.std.specs.Prelude.{◌≡◌, ◌≤◌, ◌<◌, ◌+◌, ◌^◌, IfOk, Some, None, MatchOption};
-ghost use Rattle.pap_tree.specs.Term.{term_of};
-ghost use Rattle.pap_tree.specs.Numbering.{nodes};
+ghost use Rattle.small_tree.specs.Term.{term_of};
+ghost use Rattle.small_tree.specs.Numbering.{nodes};
 ghost use Rattle.pap_cli.specs.Values.{result_of, own_cause, whole_num};
 ghost use Rattle.pap_cli.specs.Environments.{env_of, variable_names};
 ghost use Rattle.pap_cli.specs.Outcomes.{IsEvaluated};
@@ -9,7 +9,7 @@ ghost use Rattle.pap_cli.specs.Unknowns.{Knows};
 
 use crate::environment::{Variable, look};
 use crate::failure::{Cause, Fault};
-use pap_tree::{Binary, Expr};
+use small_tree::{Binary, Expr};
 
 /// A value, the steps that it took, and the nodes of its expression.
 #[derive(Clone, Copy)]

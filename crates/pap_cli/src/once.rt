@@ -10,7 +10,7 @@ use crate::answer::{Reply, reply_on_plan};
 use crate::plan::{PlanFault, read_plan};
 use crate::stop::Stop;
 use outside::{FileAnswer, Files, Sink, put_all};
-use pap_reader::LONGEST_PLAN;
+use small_reader::LONGEST_PLAN;
 use std::alloc::{AllocError, Global};
 use std::sync::ledger::Ledger;
 use steps::Steps;

@@ -1,15 +1,15 @@
 // A plan from the bytes of its file.
 ghost use Rattle.std.specs.Prelude.{◌≡◌, ◌≤◌, ℕ, List, [], ◌∷◌, length, IfOk, IsErrOf};
-ghost use Rattle.pap_tree.specs.Body.{Body, plan_of, body_of, names_of};
-ghost use Rattle.pap_reader.specs.Elements.{exec_of, execs_of, names_of as raw_names_of};
+ghost use Rattle.small_tree.specs.Body.{Body, plan_of, body_of, names_of};
+ghost use Rattle.small_reader.specs.Elements.{exec_of, execs_of, names_of as raw_names_of};
 ghost use Rattle.pap_cli.specs.Limits.{IsWithinLimits, SmallTerms};
 ghost use Rattle.pap_cli.specs.Plans.{IsPlan, IsNoPlan, AreStatements};
 ghost use Rattle.pap_cli.specs.PlanFaults.{read_fault, expr_fault};
 ghost use Rattle.pap_cli.specs.declared.plan.PlanFault.TheVariants.{Memory};
 
-use pap_expr::{ExprFault, parse_assign};
-use pap_reader::{RawDeclared, RawStmt, ReadFault, read_elements};
-use pap_tree::{Declared, PlanText, Stmt};
+use small_expr::{ExprFault, parse_assign};
+use small_reader::{RawDeclared, RawStmt, ReadFault, read_elements};
+use small_tree::{Declared, PlanText, Stmt};
 use std::alloc::{AllocError, AllocFailed, Global};
 
 /// Why bytes give no plan.

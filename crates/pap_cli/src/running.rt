@@ -1,7 +1,7 @@
 // The direct run of a plan.
 ghost use Rattle.std.specs.Prelude.{◌≡◌, ◌≤◌, ◌<◌, ◌+◌, ◌*◌, ◌^◌, IfOk, codes};
-ghost use Rattle.pap_tree.specs.Term.{term_of};
-ghost use Rattle.pap_tree.specs.Body.{Body, done, body_of, stmt_then};
+ghost use Rattle.small_tree.specs.Term.{term_of};
+ghost use Rattle.small_tree.specs.Body.{Body, done, body_of, stmt_then};
 ghost use Rattle.pap_cli.specs.Environments.{env_of, variable_names};
 ghost use Rattle.pap_cli.specs.Limits.{SmallTerms, IsWithinLimits};
 ghost use Rattle.pap_cli.specs.Outcomes.{HasGone, HasRun};
@@ -11,7 +11,8 @@ ghost use Rattle.pap_cli.specs.Unknowns.{KnowsAll};
 use crate::environment::{Variable, put};
 use crate::evaluation::evaluate;
 use crate::failure::Failure;
-use pap_tree::{Name, Place, Stmt};
+use pap_tree::{Name, Place};
+use small_tree::Stmt;
 
 /// Runs the statement of a number, and answers its steps or its first node that fails.
 fn run_statement(stmt: u32, s: &Stmt, variables: &mut [Variable]) -> Result<u64, Failure>

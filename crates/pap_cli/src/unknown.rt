@@ -1,13 +1,14 @@
 // Names that aren't declared.
 ghost use Rattle.std.specs.Prelude.{◌≡◌, ◌≤◌, ◌<◌, ◌+◌, ◌^◌, codes};
-ghost use Rattle.pap_tree.specs.Term.{term_of};
-ghost use Rattle.pap_tree.specs.Numbering.{nodes};
-ghost use Rattle.pap_tree.specs.Body.{Body, done, names_of, stmt_then, plan_of};
+ghost use Rattle.small_tree.specs.Term.{term_of};
+ghost use Rattle.small_tree.specs.Numbering.{nodes};
+ghost use Rattle.small_tree.specs.Body.{Body, done, names_of, stmt_then, plan_of};
 ghost use Rattle.pap_cli.specs.Limits.{SmallTerms, IsWithinLimits};
 ghost use Rattle.pap_cli.specs.Values.{first_of};
 ghost use Rattle.pap_cli.specs.Unknowns.{is_declared, unknown_in, unknown_name};
 
-use pap_tree::{Declared, Expr, Name, Place, PlanText, Stmt, node_count};
+use pap_tree::{Name, Place};
+use small_tree::{Declared, Expr, PlanText, Stmt, node_count};
 
 /// A name that isn't declared, and where it stands.
 #[derive(Clone, Copy, Debug, PartialEq, Eq)]

@@ -6,6 +6,7 @@ pub mod Limits
 pub mod MonotoneLemmas
 pub mod NumberTexts
 pub mod PlainTexts
+pub mod RoundedDecimals
 pub mod Rounding
 pub mod RoundingDecision
 pub mod RoundingLaws
@@ -13,4 +14,6 @@ pub mod RoundingLemmas
 pub mod ScaledLemmas
 pub mod Shortening
 pub mod TextParts
+pub mod WholeNumbers
 pub mod WorkingNumbers
+pub mod ShortenedDecimals

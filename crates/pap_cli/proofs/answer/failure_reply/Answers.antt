@@ -1,6 +1,6 @@
 use Rattle.std.proofs.Common.{rules, ◌≡◌, ◌∷◌, [], ◌++◌, ◌∙◌, ap}
 use Rattle.std.specs.Prelude.{string_bytes, codes}
-use Rattle.pap_tree.specs.Body.{body_of}
+use Rattle.small_tree.specs.Body.{body_of}
 use Rattle.pap_cli.specs.Causes.{cause_name}
 use Rattle.pap_cli.specs.Answers.{text_of}
 use Rattle.pap_cli.proofs.RefusalLemmas.{failure_line}

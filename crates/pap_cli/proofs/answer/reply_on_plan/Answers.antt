@@ -1,6 +1,6 @@
 use Rattle.std.proofs.Common.{sym}
 use Rattle.std.specs.Prelude.{codes}
-use Rattle.pap_tree.specs.Body.{names_of, body_of}
+use Rattle.small_tree.specs.Body.{names_of, body_of}
 use Rattle.pap_cli.proofs.UnknownLemmas.{all_known}
 use Rattle.pap_cli.proofs.answer.reply_on_plan.Goals as goal
 

@@ -1,6 +1,6 @@
 use Rattle.std.proofs.Common.{arith}
-use Rattle.pap_tree.specs.Body.{done}
-use Rattle.pap_tree.specs.Term.{term_of}
+use Rattle.small_tree.specs.Body.{done}
+use Rattle.small_tree.specs.Term.{term_of}
 use Rattle.pap_cli.proofs.BodyLemmas.{term_at-place, term_at-past, small_at}
 use Rattle.pap_cli.proofs.answer.spelling_at.Goals as goal
 

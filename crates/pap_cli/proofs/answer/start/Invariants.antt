@@ -1,5 +1,5 @@
 use Rattle.std.proofs.Common.{◌≡◌, take}
-use Rattle.pap_tree.specs.Body.{names_of}
+use Rattle.small_tree.specs.Body.{names_of}
 use Rattle.pap_cli.specs.Environments.{env_of, variable_names}
 use Rattle.pap_cli.specs.Answers.{start}
 use Rattle.pap_cli.proofs.answer.start.Given as goal

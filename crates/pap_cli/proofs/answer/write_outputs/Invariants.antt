@@ -1,5 +1,5 @@
 use Rattle.std.proofs.Common.{◌≡◌, ◌++◌, drop}
-use Rattle.pap_tree.specs.Body.{names_of}
+use Rattle.small_tree.specs.Body.{names_of}
 use Rattle.pap_cli.specs.Environments.{env_of}
 use Rattle.pap_cli.specs.Answers.{outputs_text}
 use Rattle.pap_cli.proofs.answer.write_outputs.Given as goal

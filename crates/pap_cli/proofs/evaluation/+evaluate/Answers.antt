@@ -1,5 +1,5 @@
 use Rattle.std.proofs.Common.{subst, map}
-use Rattle.pap_tree.specs.Term.{term_of}
+use Rattle.small_tree.specs.Term.{term_of}
 use Rattle.pap_cli.specs.Unknowns.{Knows}
 use Rattle.pap_cli.proofs.EnvironmentLemmas.{declared_has_value}
 use Rattle.pap_cli.proofs.evaluation.+evaluate.Goals as goal

@@ -1,10 +1,10 @@
 use Rattle.std.proofs.Common.{◌≡◌, ◌∙◌, sym, ap, subst}
 use Rattle.std.specs.Prelude.{Err}
 use Rattle.std.proofs.lemmas.Result.{err_from_is_err_and}
-use Rattle.pap_tree.specs.Body.{body_of}
-use Rattle.pap_reader.specs.Elements.{execs_of, raw_plan_of}
-use Rattle.pap_reader.specs.SmallPlans.{RawPlan}
-use Rattle.pap_reader.proofs.PlanLemmas.{small_plan_one}
+use Rattle.small_tree.specs.Body.{body_of}
+use Rattle.small_reader.specs.Elements.{execs_of, raw_plan_of}
+use Rattle.small_reader.specs.SmallPlans.{RawPlan}
+use Rattle.small_reader.proofs.PlanLemmas.{small_plan_one}
 use Rattle.pap_cli.specs.declared.plan.PlanFault.TheVariants.{Unbuilt}
 use Rattle.pap_cli.specs.Plans.{AreStatements}
 use Rattle.pap_cli.proofs.PlanLemmas.{within}

@@ -1,8 +1,8 @@
 use Rattle.std.proofs.Common.{rules, ◌≡◌, ap, subst}
 use Rattle.std.specs.Prelude.{Err}
 use Rattle.std.proofs.lemmas.Result.{err_from_is_err_and}
-use Rattle.pap_reader.specs.Elements.{exec_of}
-use Rattle.pap_expr.specs.Laws.{IsNoAssignment}
+use Rattle.small_reader.specs.Elements.{exec_of}
+use Rattle.small_expr.specs.Laws.{IsNoAssignment}
 use Rattle.pap_cli.specs.PlanFaults.{expr_fault}
 use Rattle.pap_cli.specs.declared.plan.PlanFault.TheVariants.{Unbuilt}
 use Rattle.pap_cli.proofs.PlanLemmas.{expr_unbuilt, no_statement}

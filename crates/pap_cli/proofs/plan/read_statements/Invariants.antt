@@ -1,6 +1,6 @@
 use Rattle.std.proofs.Common.{take}
-use Rattle.pap_tree.specs.Body.{body_of}
-use Rattle.pap_reader.specs.Elements.{execs_of}
+use Rattle.small_tree.specs.Body.{body_of}
+use Rattle.small_reader.specs.Elements.{execs_of}
 use Rattle.pap_cli.specs.Limits.{SmallTerms}
 use Rattle.pap_cli.specs.Plans.{AreStatements}
 use Rattle.pap_cli.proofs.plan.read_statements.Given as goal

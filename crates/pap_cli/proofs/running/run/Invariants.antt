@@ -1,7 +1,7 @@
 use Rattle.std.proofs.Common.{◌≡◌, ◌+◌, ◌*◌, ◌≤◌, drop}
 use Rattle.std.specs.Prelude.{codes}
-use Rattle.pap_tree.specs.Body.{body_of}
-use Rattle.pap_tree.specs.Numbering.{written}
+use Rattle.small_tree.specs.Body.{body_of}
+use Rattle.small_tree.specs.Numbering.{written}
 use Rattle.pap_cli.specs.Environments.{env_of, variable_names}
 use Rattle.pap_cli.specs.Limits.{SmallTerms}
 use Rattle.pap_cli.specs.Outcomes.{Went}

@@ -1,7 +1,7 @@
 use Rattle.std.proofs.Common.{◌≡◌, ◌+◌, ◌≤◌, drop}
 use Rattle.std.specs.Prelude.{codes}
-use Rattle.pap_tree.specs.Body.{names_of, body_of}
-use Rattle.pap_tree.specs.Numbering.{written}
+use Rattle.small_tree.specs.Body.{names_of, body_of}
+use Rattle.small_tree.specs.Numbering.{written}
 use Rattle.pap_cli.specs.Limits.{SmallTerms}
 use Rattle.pap_cli.specs.Unknowns.{unknown_name}
 use Rattle.pap_cli.proofs.unknown.first_unknown.Given as goal

@@ -1,5 +1,5 @@
 use Rattle.std.proofs.Common.{◌≡◌, drop}
-use Rattle.pap_tree.specs.Body.{names_of}
+use Rattle.small_tree.specs.Body.{names_of}
 use Rattle.pap_cli.specs.Unknowns.{is_declared}
 use Rattle.pap_cli.proofs.unknown.is_declared.Given as goal
 

@@ -1,0 +1,4 @@
+pub mod Term
+pub mod Body
+pub mod Numbering
+pub mod Spelling
