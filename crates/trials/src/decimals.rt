@@ -1,7 +1,8 @@
+// Decimals: the roundings as documented, the operations, the texts.
 ghost use Rattle.std.specs.Prelude.{pos, negsuc};
 ghost use Rattle.scaled_decimal.specs.Rounding.{IsNear};
 
-use crate::{
+use scaled_decimal::{
     Dec, Mode, NumFault, RCeiling, RDown, RFloor, RHalfDown, RHalfEven, RHalfUp, RUp, Rounding,
     read_dec, round_div, write_dec,
 };

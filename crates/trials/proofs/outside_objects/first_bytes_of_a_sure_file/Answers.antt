@@ -1,6 +1,6 @@
 use Rattle.std.proofs.Common.{◌∙◌, ap, subst, Option, List, ℕ, IsSome, Err}
-use Rattle.outside.proofs.Lacking.{sure_lacked}
-use Rattle.outside.proofs.tests.first_bytes_of_a_sure_file.Goals as goal
+use Rattle.outside.proofs.Laws.{sure_lacked}
+use Rattle.trials.proofs.outside_objects.first_bytes_of_a_sure_file.Goals as goal
 
 pub unreachable-requires : goal.unreachable-requires
 unreachable-requires c =

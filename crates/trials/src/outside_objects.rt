@@ -1,9 +1,9 @@
-// Each public call once with ample memory, and the failing calls.
+// The objects of the outside: each public call once with ample memory, and the calls that fail.
 ghost use Rattle.std.specs.Prelude.{◌≡◌, ◌≢◌, AllPairs, IfOk, IsErrOf, IsSome, Some, codes};
 ghost use Rattle.outside.specs.Memory.{named_files, file_named};
 ghost use Rattle.outside.specs.Sure.{sure_files};
 
-use crate::{
+use outside::{
     FileAnswer, Files, MemFiles, MemSink, MemSource, RealFiles, Sink, Source, StdSink, StdSource,
     SureFiles, SureSink, SureSource, put_all,
 };

@@ -1,7 +1,7 @@
 use Rattle.std.proofs.Common.{pos, ◌*◌, ◌^◌, refl, arith}
 use Rattle.scaled_decimal.specs.Decimals.{decimal}
 use Rattle.scaled_decimal.proofs.FitLemmas.{plain_divisor, exact_fits}
-use Rattle.scaled_decimal.proofs.tests.divides_exactly.Goals as goal
+use Rattle.trials.proofs.decimals.divides_exactly.Goals as goal
 
 pub div_exact-requires : goal.div_exact-requires
 div_exact-requires g c = record { plain = plain_divisor 100 (10 ^ 28) refl; fits = rw c.new.ensures (exact_fits (decimal (pos 250050) 0) 100 1 2 refl (omega arith) (omega arith)) }
