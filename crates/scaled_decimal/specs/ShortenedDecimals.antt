@@ -1,5 +1,5 @@
 -- Shortened decimals and exact quotients as functions.
-use Rattle.std.specs.Prelude.{◌≡◌, ℕ, zero, suc, ◌+◌, ◌-◌, ◌==◌, if◌then◌else◌, ℤ, pos, ◌*ℤ◌, int_div, int_rem}
+use Rattle.std.specs.Prelude.{ℕ, zero, suc, ◌+◌, ◌-◌, if◌then◌else◌, ℤ, pos, ◌*ℤ◌, int_div, int_rem}
 use Rattle.std.specs.Ordering.{int_eq}
 use Rattle.scaled_decimal.specs.Decimals.{Decimal, decimal, numerator_of, scale_of, ten_to}
 use Rattle.scaled_decimal.specs.Limits.{most_places}
