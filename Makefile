@@ -1,6 +1,6 @@
 # `make look` runs the program on an example without a proof; `make demo` proves and builds build/papcalc and runs that;
 # `make test` is the whole gate.
-.PHONY: build look demo test rows decimal-tool bench-decimal check-java
+.PHONY: build look demo test rows decimal-tool bench-decimal bench-machine check-java
 
 build:
 	cd crates/papcalc && rt run -- --version
@@ -40,3 +40,10 @@ check-java: decimal-tool
 	java -cp build CheckDecimal generate 1 300000 > build/operations
 	build/decimal_tool < build/operations > build/answers
 	java -cp build CheckDecimal compare build/operations build/answers
+
+# Nanoseconds a step of the machine on straight-line code, beside the same statements on java.math.BigDecimal (needs a JDK).
+bench-machine:
+	cd crates/machine_bench && rt run -- straight
+	mkdir -p build
+	javac -d build tools/BenchMachine.java
+	java -cp build BenchMachine

@@ -4,7 +4,7 @@ use Rattle.std.specs.Prelude.{ℕ, Bool, false, not, ◌||◌, if◌then◌else�
 use Rattle.std.specs.Ordering.{int_eq, is_lt, is_gt}
 use Rattle.std.specs.declared.cmp.Ordering.{Ordering}
 use Rattle.scaled_decimal.specs.Decimals.{Decimal, decimal, numerator_of, sum, difference, product, negated, magnitude, value_order, comparison, lesser, greater}
-use Rattle.scaled_decimal.specs.WholeNumbers.{whole_sum, whole_difference, whole_product, whole_quotient, whole_remainder, whole_opposite, whole_decimal}
+use Rattle.scaled_decimal.specs.WholeNumbers.{whole_sum, whole_difference, whole_product, whole_quotient, whole_remainder, whole_opposite, whole_decimal, truth}
 use Rattle.scaled_decimal.specs.RoundedDecimals.{quotient, rescaled}
 use Rattle.scaled_decimal.specs.ShortenedDecimals.{shortened, exact_quotient}
 use Rattle.pap_tree.specs.declared.expression.Unary.TheVariants.{Minus, Not, Negate, Abs}
@@ -16,9 +16,6 @@ use Rattle.pap_tree.specs.Term.{point, Term, leaf, One, unary, value_of, value_o
 
 abbrev pub is_zero : Decimal → Bool
 is_zero a = int_eq (numerator_of a) (pos 0)
-
-abbrev pub truth : Bool → Decimal
-truth b = if b then whole_decimal (pos 1) else whole_decimal (pos 0)
 
 -- an operation of two whole numbers
 abbrev pub of_wholes : (ℤ → ℤ → ℤ) → Decimal → Decimal → Decimal
@@ -85,8 +82,3 @@ of_one value_of e a = as_big e a
 of_one (value_of_scaled s) e a = decimal (numerator_of a) s
 of_one new_big e a = a
 of_one (set_scale s mode) e a = rescaled mode s a
-
--- an item of a table by its number from 0
-abbrev pub item_at : List Decimal → ℤ → Option Decimal
-item_at items (pos n) = slice_get items n
-item_at items (negsuc n) = None

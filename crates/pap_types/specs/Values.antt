@@ -7,7 +7,8 @@ use Rattle.pap_tree.specs.declared.expression.Binary.TheVariants as binaries
 use Rattle.pap_tree.specs.Grammar.{known_value}
 use Rattle.pap_tree.specs.Term.{Leaf, whole, long, point, text, known, named, Term, leaf, item, one, two, choice, Two, operator}
 use Rattle.pap_types.specs.Scopes.{Scope, constant_in, table_in}
-use Rattle.pap_types.specs.Operations.{is_zero, of_one, of_two, item_at}
+use Rattle.scaled_decimal.specs.WholeNumbers.{item_at}
+use Rattle.pap_types.specs.Operations.{is_zero, of_one, of_two}
 
 -- an environment: what each variable stands for
 pub record Entry : Type 0 where

@@ -1,9 +1,19 @@
--- The laws of decimals that other crates may cite. Those of the texts are shown here: a text spells at most one decimal, and
--- it is decided whether it spells one. The others are shown in the files that they are taken from.
-use Rattle.std.proofs.Common.{◌≡◌, ℕ, ◌<◌, Bool, true, false, List, [], ◌∷◌, length, refl, ap, arith, ◌⊎◌, inl, inr}
+-- The laws of decimals that other crates may cite: a text spells at most one decimal, and it is decided whether it spells one;
+-- an operation that rounds or shortens gives exactly what its function gives. The others are shown in the files that they are
+-- taken from.
+use Rattle.std.proofs.Common.{◌≡◌, ◌≢◌, ℕ, ◌+◌, ◌-◌, ◌^◌, ◌<◌, ◌≤◌, Bool, true, false, ℤ, pos, negsuc, ◌*ℤ◌, ◌≤ℤ◌, int_div, List, [], ◌∷◌, length, refl, sym, ap, ◌∙◌, subst, arith, ◌⊎◌, inl, inr}
 use Rattle.std.specs.Char.{digit_value}
 use Rattle.std.proofs.lemmas.Bool.{cases_lt, cases_eq}
-use Rattle.scaled_decimal.specs.Decimals.{Decimal}
+use Rattle.std.proofs.lemmas.Int.{ints}
+use Rattle.scaled_decimal.specs.declared.rounding.Mode.{Mode}
+use Rattle.scaled_decimal.specs.Decimals.{Decimal, decimal, numerator_of, scale_of, ten_to, IsRescaled, IsQuotient}
+use Rattle.scaled_decimal.specs.ExactQuotients.{IsPlainDivisor, IsExactQuotient}
+use Rattle.scaled_decimal.specs.Limits.{most_places}
+use Rattle.scaled_decimal.specs.RoundedDecimals.{quotient, quotient_is, rescaled, rescaled_is}
+use Rattle.scaled_decimal.specs.ShortenedDecimals.{shortened, exact_quotient}
+use Rattle.scaled_decimal.specs.Shortening.{IsShortened}
+use Rattle.scaled_decimal.proofs.ExactLemmas.{shortened_quotient}
+use Rattle.scaled_decimal.proofs.ShortenedLemmas.{without_zeros_is}
 use Rattle.scaled_decimal.specs.NumberTexts.{spelled, Spells, SpellsNone}
 use Rattle.scaled_decimal.specs.TextParts.{IsSignSplit, IsDigitSplit}
 use Rattle.scaled_decimal.proofs.NumberLemmas.{spells, spells_once, ends_at_sign, ends_at_point, ends_in_places, whole_number, number_with_places}
@@ -76,7 +86,6 @@ after_decided text rest neg whole (b ∷ bs) s d some = elim (cases_eq b 46) [
   | inr other ↦ inr (ends_at_point text rest neg whole (b ∷ bs) s d some (omega arith) (λ more e. other (cc e))).0
 ]
 
--- a text spells a decimal or none
 pub number_or_none : (text : List ℕ) → ((d : Decimal) × Spells text d) ⊎ SpellsNone text
 unfolding Decided
 number_or_none text =
@@ -86,3 +95,56 @@ number_or_none text =
       | inl some ↦ after_decided text sign.rest sign.negative digits.front digits.rest sign.split digits.split some
       | inr none ↦ inr (ends_at_sign text sign.rest sign.negative digits.front digits.rest sign.split digits.split (omega arith)).0
     ]
+
+-- the same value without the zeros that end it
+pub shortened_is : (least : ℕ) (a : Decimal) → least ≤ scale_of a → IsShortened a least (shortened least a)
+shortened_is least a h =
+    let whole : least + (scale_of a - least) ≡ scale_of a = omega arith in
+    subst (λ s. IsShortened (decimal (numerator_of a) s) least (shortened least a)) whole (without_zeros_is least (scale_of a - least) (numerator_of a))
+
+pub exact_quotient_is : (a : Decimal) (d : ℤ) → IsPlainDivisor d → IsExactQuotient a d (exact_quotient a d)
+exact_quotient_is a d h =
+    let c = int_div (ten_to most_places) d in
+    shortened_quotient a d c most_places (exact_quotient a d) h.positive
+    (factor_times d (ten_to most_places) most_places h.positive refl h.divides)
+    (shortened_is (scale_of a) (decimal (numerator_of a *ℤ c) (scale_of a + most_places)) (omega arith))
+
+same_parts : (d e : Decimal) → numerator_of d ≡ numerator_of e → scale_of d ≡ scale_of e → d ≡ e
+same_parts d e f g = ap (λ n. decimal n (scale_of d)) f ∙ ap (λ s. decimal (numerator_of e) s) g
+
+power_not_zero : (k : ℕ) → ten_to k ≢ pos 0
+power_not_zero k e = let some = ten_some k in omega (arith, ints)
+
+-- a divisor of at least 1 cancels
+divisor_cancels : (x y n : ℤ) → pos 1 ≤ℤ n → x *ℤ n ≡ y *ℤ n → x ≡ y
+divisor_cancels x y (pos k) h e = times_cancel x y k (omega (arith, ints)) e
+divisor_cancels x y (negsuc k) h e = absurd (omega (arith, ints))
+
+exact_once : (a : Decimal) (n : ℤ) (d e : Decimal) → IsPlainDivisor n → IsExactQuotient a n d → IsExactQuotient a n e → d ≡ e
+exact_once a n d e plain f g =
+    let below = f.least e g.scale g.exact in
+    let above = g.least d f.scale f.exact in
+    let scales : scale_of d ≡ scale_of e = omega arith in
+    let same : (numerator_of d *ℤ n) *ℤ ten_to (scale_of a) ≡ (numerator_of e *ℤ n) *ℤ ten_to (scale_of a) =
+    f.exact ∙ ap (λ s. numerator_of a *ℤ ten_to s) scales ∙ sym g.exact in
+    same_parts d e (divisor_cancels (numerator_of d) (numerator_of e) n plain.positive (times_cancel (numerator_of d *ℤ n) (numerator_of e *ℤ n) (10 ^ scale_of a) (ten_some (scale_of a)) same)) scales
+
+-- what is the exact quotient is the function's value
+pub exact_quotient_only : (a : Decimal) (n : ℤ) (d : Decimal) → IsPlainDivisor n → IsExactQuotient a n d → d ≡ exact_quotient a n
+exact_quotient_only a n d plain f = exact_once a n d (exact_quotient a n) plain f (exact_quotient_is a n plain)
+
+-- what is the rounded value is the function's value
+pub rescaled_only : (mode : Mode) (s : ℕ) (a d : Decimal) → IsRescaled mode a s d → d ≡ rescaled mode s a
+rescaled_only mode s a d f =
+    let g = rescaled_is mode s a in
+    let one = (rounds_exactly_one mode (numerator_of a *ℤ ten_to s) (ten_to (scale_of a)) (power_not_zero (scale_of a))).one in
+    same_parts d (rescaled mode s a) (one (numerator_of d) (numerator_of (rescaled mode s a)) f.rounded g.rounded) (f.scale ∙ sym g.scale)
+
+-- what is the rounded quotient is the function's value
+pub quotient_only : (mode : Mode) (s : ℕ) (a b d : Decimal) → numerator_of b ≢ pos 0 → IsQuotient mode a b s d → d ≡ quotient mode s a b
+quotient_only mode s a b d some f =
+    let g = quotient_is mode s a b some in
+    let divisor : numerator_of b *ℤ ten_to (scale_of a) ≢ pos 0 =
+    λ z. some (times_zero (numerator_of b) (10 ^ scale_of a) (ten_some (scale_of a)) z) in
+    let one = (rounds_exactly_one mode (numerator_of a *ℤ ten_to (s + scale_of b)) (numerator_of b *ℤ ten_to (scale_of a)) divisor).one in
+    same_parts d (quotient mode s a b) (one (numerator_of d) (numerator_of (quotient mode s a b)) f.rounded g.rounded) (f.scale ∙ sym g.scale)

@@ -9,4 +9,5 @@ pub mod PlainLemmas
 pub mod PowerLemmas
 pub mod ReadingLemmas
 pub mod QuotientLemmas
+pub mod ShortenedLemmas
 pub mod SpellingLemmas

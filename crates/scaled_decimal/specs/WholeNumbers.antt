@@ -1,6 +1,6 @@
 -- Whole numbers as Java's int and long compute with them, before a width bounds the result (The Java Language
 -- Specification, 15.15.4, 15.17 and 15.18).
-use Rattle.std.specs.Prelude.{ℕ, ◌-◌, ◌^◌, Bool, ◌&&◌, ℤ, pos, ◌+ℤ◌, ◌-ℤ◌, ◌*ℤ◌, neg_ℤ, ◌≤ℤ◌, ◌<ℤ◌, int_le, int_lt, int_div, int_rem}
+use Rattle.std.specs.Prelude.{ℕ, ◌-◌, ◌^◌, Bool, ◌&&◌, if◌then◌else◌, List, Option, None, slice_get, ℤ, pos, negsuc, ◌+ℤ◌, ◌-ℤ◌, ◌*ℤ◌, neg_ℤ, ◌≤ℤ◌, ◌<ℤ◌, int_le, int_lt, int_div, int_rem}
 use Rattle.scaled_decimal.specs.Decimals.{Decimal, decimal}
 
 -- how many bits an int has, and a long
@@ -42,3 +42,12 @@ whole_opposite a = neg_ℤ a
 -- a whole number as a decimal
 abbrev pub whole_decimal : ℤ → Decimal
 whole_decimal n = decimal n 0
+
+-- a truth as a whole number, which is 1 or 0
+abbrev pub truth : Bool → Decimal
+truth b = if b then whole_decimal (pos 1) else whole_decimal (pos 0)
+
+-- an item of a list by its number from 0
+abbrev pub item_at : {A : Type 0} → List A → ℤ → Option A
+item_at items (pos n) = slice_get items n
+item_at items (negsuc n) = None

@@ -142,6 +142,9 @@ impl Dec {
         requires fits { IsWithinLimit (numerator_at s self) }
         ensures { result ≡ numerator_at s self }
     {
+        if s == self.scale {
+            return self.numerator;
+        }
         scaled_up(self.numerator, s - self.scale)
     }
 }

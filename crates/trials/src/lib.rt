@@ -3,6 +3,8 @@
 #![tactic(auto)]
 
 #[cfg(test)]
+mod code;
+#[cfg(test)]
 mod counter;
 #[cfg(test)]
 mod decimals;
