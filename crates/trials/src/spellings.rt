@@ -26,7 +26,10 @@ fn brackets_stand_where_they_are_needed(rt: HostRuntime) -> Result<(), Fail> {
     let a = Name::read(b"A").ok_or("a name")?;
     let right = binary(alloc, Expr::Var(a), Binary::Plus, Expr::Int(1))?;
     let difference = binary(alloc, Expr::Int(7), Binary::Sub, right)?;
-    assert_eq!(rt; print_expr(alloc, &difference)?.as_slice(), b"7 - (A + 1)".as_slice());
+    assert_eq!(rt;
+        print_expr(alloc, &difference)?.as_slice(),
+        b"7 - (A + 1)".as_slice()
+    );
     let minus = unary(alloc, Unary::Minus, Expr::Int(5))?;
     assert_eq!(rt; print_expr(alloc, &minus)?.as_slice(), b"-(5)".as_slice());
     let test = binary(alloc, Expr::Long(1), Binary::Less, Expr::Int(2))?;
@@ -51,7 +54,12 @@ fn methods_are_spelled_with_their_scales_and_modes(rt: HostRuntime) -> Result<()
     let item = Expr::Item(table, Box::new(alloc, Expr::Int(2))?);
     let rounded = Expr::SetScale(Box::new(alloc, item)?, 2, Mode::HalfUp);
     let text = Expr::Text(Dec::new(-5, 1));
-    let quotient = Expr::Divide(Box::new(alloc, rounded)?, Box::new(alloc, text)?, 30, Mode::Down);
+    let quotient = Expr::Divide(
+        Box::new(alloc, rounded)?,
+        Box::new(alloc, text)?,
+        30,
+        Mode::Down,
+    );
     let ten = Expr::ValueOfScaled(Box::new(alloc, Expr::Int(10))?, 1);
     let least = Expr::Call(Call::Min, Box::new(alloc, quotient)?, Box::new(alloc, ten)?);
     let whole = unary(alloc, Unary::Abs, least)?;
