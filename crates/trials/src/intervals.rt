@@ -23,13 +23,30 @@ fn quotients(rt: HostRuntime) {
     let two = Abs::new(2, 2, 0, 0);
     assert_eq!(rt; parts(abs_div(a, two, 0, Mode::Down)), Ok((0, 3, 0, 0)));
     assert_eq!(rt; parts(abs_div(a, two, 0, Mode::HalfUp)), Ok((1, 4, 0, 0)));
-    assert_eq!(rt; abs_div(a, Abs::new(-1, 1, 0, 0), 0, Mode::Down), Err(RangeCause::Divisor));
+    assert_eq!(rt;
+        abs_div(a, Abs::new(-1, 1, 0, 0), 0, Mode::Down),
+        Err(RangeCause::Divisor)
+    );
     let cents = Abs::new(0, 1000, 0, 2);
     assert_eq!(rt; parts(abs_div_exact(cents, 2)), Ok((0, 5000, 0, 3)));
     assert_eq!(rt; parts(abs_div_exact(cents, 100)), Ok((0, 1000, 0, 4)));
-    assert_eq!(rt; parts(abs_div(Abs::new(-7, 7, 0, 0), Abs::new(-3, -2, 0, 0), 1, Mode::HalfEven)), Ok((-35, 35, 1, 1)));
-    assert_eq!(rt; abs_div(Abs::new(0, 1, 0, 0), Abs::new(1, 1, 0, 30), 8, Mode::Down), Err(RangeCause::Wide));
-    assert_eq!(rt; parts(abs_div(Abs::new(0, 1, 0, 0), Abs::new(1, 1, 0, 30), 7, Mode::Down)), Ok((0, LIMIT, 7, 7)));
+    assert_eq!(rt;
+        parts(abs_div(
+            Abs::new(-7, 7, 0, 0),
+            Abs::new(-3, -2, 0, 0),
+            1,
+            Mode::HalfEven
+        )),
+        Ok((-35, 35, 1, 1))
+    );
+    assert_eq!(rt;
+        abs_div(Abs::new(0, 1, 0, 0), Abs::new(1, 1, 0, 30), 8, Mode::Down),
+        Err(RangeCause::Wide)
+    );
+    assert_eq!(rt;
+        parts(abs_div(Abs::new(0, 1, 0, 0), Abs::new(1, 1, 0, 30), 7, Mode::Down)),
+        Ok((0, LIMIT, 7, 7))
+    );
 }
 
 #[test]
@@ -44,9 +61,18 @@ fn sums(rt: HostRuntime) {
     assert_eq!(rt; parts(abs_cmp(a, b)), Ok((-1, -1, 0, 0)));
     assert_eq!(rt; parts(join(a, b)), Ok((-50, 130, 0, 2)));
     let most = Abs::new(LIMIT, LIMIT, 30, 30);
-    assert_eq!(rt; parts(abs_add(most, Abs::new(0, 0, 0, 0))), Ok((LIMIT, LIMIT, 30, 30)));
-    assert_eq!(rt; abs_add(most, Abs::new(1, 1, 30, 30)), Err(RangeCause::Wide));
-    assert_eq!(rt; abs_add(most, Abs::new(100_000_000, 100_000_000, 0, 0)), Err(RangeCause::Wide));
+    assert_eq!(rt;
+        parts(abs_add(most, Abs::new(0, 0, 0, 0))),
+        Ok((LIMIT, LIMIT, 30, 30))
+    );
+    assert_eq!(rt;
+        abs_add(most, Abs::new(1, 1, 30, 30)),
+        Err(RangeCause::Wide)
+    );
+    assert_eq!(rt;
+        abs_add(most, Abs::new(100_000_000, 100_000_000, 0, 0)),
+        Err(RangeCause::Wide)
+    );
     assert_eq!(rt; abs_mul(most, Abs::new(1, 1, 0, 1)), Err(RangeCause::Scale));
     assert_eq!(rt; abs_mul(most, Abs::new(2, 2, 0, 0)), Err(RangeCause::Wide));
     let n = abs_neg(a);
@@ -62,24 +88,57 @@ fn sums(rt: HostRuntime) {
 #[test]
 fn items(rt: HostRuntime) {
     let table = [Dec::new(1, 0), Dec::new(250, 2)];
-    assert_eq!(rt; parts(abs_item(&table, Abs::new(0, 1, 0, 0))), Ok((100, 250, 0, 2)));
-    assert_eq!(rt; abs_item(&table, Abs::new(0, 2, 0, 0)), Err(RangeCause::Index));
-    assert_eq!(rt; abs_item(&table, Abs::new(-1, 1, 0, 0)), Err(RangeCause::Index));
-    assert_eq!(rt; parts(abs_item(&table, Abs::new(0, 0, 0, 0))), Ok((1, 1, 0, 0)));
+    assert_eq!(rt;
+        parts(abs_item(&table, Abs::new(0, 1, 0, 0))),
+        Ok((100, 250, 0, 2))
+    );
+    assert_eq!(rt;
+        abs_item(&table, Abs::new(0, 2, 0, 0)),
+        Err(RangeCause::Index)
+    );
+    assert_eq!(rt;
+        abs_item(&table, Abs::new(-1, 1, 0, 0)),
+        Err(RangeCause::Index)
+    );
+    assert_eq!(rt;
+        parts(abs_item(&table, Abs::new(0, 0, 0, 0))),
+        Ok((1, 1, 0, 0))
+    );
 }
 
 #[test]
 fn refinements(rt: HostRuntime) {
     let v = Abs::new(0, 6, 0, 0);
     let zero = Abs::new(0, 0, 0, 0);
-    let differs = SignSet { minus: true, zero: false, plus: true };
+    let differs = SignSet {
+        minus: true,
+        zero: false,
+        plus: true,
+    };
     assert_eq!(rt; refine(v, zero, differs, true), Some(Abs::new(1, 6, 0, 0)));
     assert_eq!(rt; refine(v, zero, differs, false), Some(v));
     assert_eq!(rt; refine(zero, zero, differs, true), None);
-    let less = SignSet { minus: true, zero: false, plus: false };
-    assert_eq!(rt; refine(v, Abs::new(-5, 45, 0, 1), less, false), Some(Abs::new(0, 4, 0, 0)));
-    assert_eq!(rt; refine(v, Abs::new(2, 4, 0, 0), less, true), Some(Abs::new(0, 3, 0, 0)));
-    assert_eq!(rt; signs(v, zero), SignSet { minus: false, zero: true, plus: true });
+    let less = SignSet {
+        minus: true,
+        zero: false,
+        plus: false,
+    };
+    assert_eq!(rt;
+        refine(v, Abs::new(-5, 45, 0, 1), less, false),
+        Some(Abs::new(0, 4, 0, 0))
+    );
+    assert_eq!(rt;
+        refine(v, Abs::new(2, 4, 0, 0), less, true),
+        Some(Abs::new(0, 3, 0, 0))
+    );
+    assert_eq!(rt;
+        signs(v, zero),
+        SignSet {
+            minus: false,
+            zero: true,
+            plus: true
+        }
+    );
 }
 
 #[test]
@@ -88,20 +147,35 @@ fn whole_numbers(rt: HostRuntime) {
     let minus = Abs::new(-1, -1, 0, 0);
     let a = Abs::new(-7, 7, 0, 0);
     assert_eq!(rt; parts(int_rem(a, Abs::new(3, 3, 0, 0))), Ok((-2, 2, 0, 0)));
-    assert_eq!(rt; parts(int_rem(a, Abs::new(-3, -1, 0, 0))), Ok((-2, 2, 0, 0)));
+    assert_eq!(rt;
+        parts(int_rem(a, Abs::new(-3, -1, 0, 0))),
+        Ok((-2, 2, 0, 0))
+    );
     assert_eq!(rt; int_rem(a, a), Err(RangeCause::Divisor));
     assert_eq!(rt; int_div(least, minus), Err(RangeCause::Wide));
-    assert_eq!(rt; parts(long_div(least, minus)), Ok((2147483648, 2147483648, 0, 0)));
+    assert_eq!(rt;
+        parts(long_div(least, minus)),
+        Ok((2147483648, 2147483648, 0, 0))
+    );
     assert_eq!(rt; int_neg(least), Err(RangeCause::Wide));
     assert_eq!(rt; int_add(least, minus), Err(RangeCause::Wide));
     assert_eq!(rt; parts(int_sub(minus, a)), Ok((-8, 6, 0, 0)));
-    assert_eq!(rt; parts(int_mul(a, Abs::new(-2, 3, 0, 0))), Ok((-21, 21, 0, 0)));
+    assert_eq!(rt;
+        parts(int_mul(a, Abs::new(-2, 3, 0, 0))),
+        Ok((-21, 21, 0, 0))
+    );
     let last = Abs::new(-9223372036854775808, -9223372036854775808, 0, 0);
     assert_eq!(rt; long_neg(last), Err(RangeCause::Wide));
     assert_eq!(rt; long_div(last, minus), Err(RangeCause::Wide));
     assert_eq!(rt; long_add(last, minus), Err(RangeCause::Wide));
-    assert_eq!(rt; parts(long_sub(last, minus)), Ok((-9223372036854775807, -9223372036854775807, 0, 0)));
-    assert_eq!(rt; parts(long_mul(least, least)), Ok((4611686018427387904, 4611686018427387904, 0, 0)));
+    assert_eq!(rt;
+        parts(long_sub(last, minus)),
+        Ok((-9223372036854775807, -9223372036854775807, 0, 0))
+    );
+    assert_eq!(rt;
+        parts(long_mul(least, least)),
+        Ok((4611686018427387904, 4611686018427387904, 0, 0))
+    );
     assert_eq!(rt; parts(long_rem(last, a)), Err(RangeCause::Divisor));
     assert_eq!(rt; parts(int_div(a, Abs::new(2, 3, 0, 0))), Ok((-3, 3, 0, 0)));
 }
