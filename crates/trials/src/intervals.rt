@@ -231,3 +231,53 @@ fn every_small_quotient_is_held(rt: HostRuntime) {
         }
     }
 }
+
+/// Whether the answer is an interval with a whole number between its ends.
+fn holds(answer: Result<Abs, RangeCause>, n: i128) -> bool {
+    match answer {
+        Ok(r) => r.lo() <= n && n <= r.hi(),
+        Err(_) => false,
+    }
+}
+
+/// Whether each exact operation's answer for two intervals holds its result for two small whole numbers.
+fn holds_results(a: Abs, b: Abs, x: i128, y: i128) -> bool {
+    if x < -4 || x > 4 || y < -4 || y > 4 {
+        return false;
+    }
+    holds(abs_add(a, b), x + y)
+        && holds(abs_sub(a, b), x - y)
+        && holds(abs_mul(a, b), x * y)
+        && holds(abs_min(a, b), x.min(y))
+        && holds(abs_max(a, b), x.max(y))
+        && holds(join(a, b), x)
+        && holds(join(a, b), y)
+}
+
+/// Whether that is so of every two whole numbers of the intervals.
+fn holds_all_results(a: Abs, b: Abs) -> bool {
+    for x in ENDS {
+        for y in ENDS {
+            let inside = a.lo() <= x && x <= a.hi() && b.lo() <= y && y <= b.hi();
+            if inside && !holds_results(a, b, x, y) {
+                return false;
+            }
+        }
+    }
+    true
+}
+
+#[test]
+fn every_small_result_is_held(rt: HostRuntime) {
+    for la in ENDS {
+        for ha in ENDS {
+            for lb in ENDS {
+                for hb in ENDS {
+                    if let (Some(a), Some(b)) = (small(la, ha), small(lb, hb)) {
+                        assert!(rt; holds_all_results(a, b));
+                    }
+                }
+            }
+        }
+    }
+}
