@@ -1,4 +1,7 @@
 //! Intervals: worked examples, and small intervals of which every contained pair is tried.
+ghost use Rattle.std.specs.Prelude.{IfSome};
+ghost use Rattle.scaled_decimal.specs.WholeNumbers.{int_bits};
+ghost use Rattle.interval_num.specs.Intervals.{IsWholeOfBits};
 
 use interval_num::{
     Abs, RangeCause, SignSet, abs_abs, abs_add, abs_cmp, abs_div, abs_div_exact, abs_item, abs_max,
@@ -184,7 +187,9 @@ fn whole_numbers(rt: HostRuntime) {
 const ENDS: [i128; 9] = [-4, -3, -2, -1, 0, 1, 2, 3, 4];
 
 /// The interval of whole numbers from one small end to another.
-fn small(lo: i128, hi: i128) -> Option<Abs> {
+fn small(lo: i128, hi: i128) -> Option<Abs>
+    ensures { IfSome result (IsWholeOfBits int_bits) }
+{
     if -4 <= lo && lo <= hi && hi <= 4 {
         return Some(Abs::new(lo, hi, 0, 0));
     }
@@ -275,6 +280,59 @@ fn every_small_result_is_held(rt: HostRuntime) {
                 for hb in ENDS {
                     if let (Some(a), Some(b)) = (small(la, ha), small(lb, hb)) {
                         assert!(rt; holds_all_results(a, b));
+                    }
+                }
+            }
+        }
+    }
+}
+
+/// Whether the answer is an interval with a whole number between its ends, or refuses every divisor.
+fn holds_or_refuses(answer: Result<Abs, RangeCause>, n: i128, b: Abs) -> bool {
+    match answer {
+        Ok(r) => r.lo() <= n && n <= r.hi(),
+        Err(cause) => cause == RangeCause::Divisor && b.lo() <= 0 && 0 <= b.hi(),
+    }
+}
+
+/// Whether the quotient and the remainder of two small whole numbers are of the intervals' answers.
+fn holds_division(a: Abs, b: Abs, x: i128, y: i128) -> bool
+    requires left { IsWholeOfBits int_bits a }
+    requires right { IsWholeOfBits int_bits b }
+{
+    if y == 0 {
+        return int_div(a, b) == Err(RangeCause::Divisor);
+    }
+    if x < -4 || x > 4 || y < -4 || y > 4 {
+        return false;
+    }
+    holds_or_refuses(int_div(a, b), x / y, b) && holds_or_refuses(int_rem(a, b), x % y, b)
+}
+
+/// Whether that is so of every two whole numbers of the intervals.
+fn holds_all_divisions(a: Abs, b: Abs) -> bool
+    requires left { IsWholeOfBits int_bits a }
+    requires right { IsWholeOfBits int_bits b }
+{
+    for x in ENDS {
+        for y in ENDS {
+            let inside = a.lo() <= x && x <= a.hi() && b.lo() <= y && y <= b.hi();
+            if inside && !holds_division(a, b, x, y) {
+                return false;
+            }
+        }
+    }
+    true
+}
+
+#[test]
+fn every_small_division_is_held(rt: HostRuntime) {
+    for la in ENDS {
+        for ha in ENDS {
+            for lb in ENDS {
+                for hb in ENDS {
+                    if let (Some(a), Some(b)) = (small(la, ha), small(lb, hb)) {
+                        assert!(rt; holds_all_divisions(a, b));
                     }
                 }
             }
