@@ -1,11 +1,14 @@
 //! Intervals: worked examples, and small intervals of which every contained pair is tried.
+ghost use Rattle.std.specs.Prelude.{IfSome};
+ghost use Rattle.scaled_decimal.specs.WholeNumbers.{int_bits};
+ghost use Rattle.interval_num.specs.Intervals.{IsWholeOfBits};
 
 use interval_num::{
     Abs, RangeCause, SignSet, abs_abs, abs_add, abs_cmp, abs_div, abs_div_exact, abs_item, abs_max,
     abs_min, abs_mul, abs_neg, abs_set_scale, abs_sub, int_add, int_div, int_mul, int_neg, int_rem,
     int_sub, join, long_add, long_div, long_mul, long_neg, long_rem, long_sub, refine, signs,
 };
-use scaled_decimal::{Dec, Mode};
+use scaled_decimal::{Dec, Mode, round_div};
 
 /// The ends and the scales of an answer.
 fn parts(answer: Result<Abs, RangeCause>) -> Result<(i128, i128, u8, u8), RangeCause> {
@@ -178,4 +181,161 @@ fn whole_numbers(rt: HostRuntime) {
     );
     assert_eq!(rt; parts(long_rem(last, a)), Err(RangeCause::Divisor));
     assert_eq!(rt; parts(int_div(a, Abs::new(2, 3, 0, 0))), Ok((-3, 3, 0, 0)));
+}
+
+/// The whole numbers from -4 to 4, as the ends of small intervals.
+const ENDS: [i128; 9] = [-4, -3, -2, -1, 0, 1, 2, 3, 4];
+
+/// The interval of whole numbers from one small end to another.
+fn small(lo: i128, hi: i128) -> Option<Abs>
+    ensures { IfSome result (IsWholeOfBits int_bits) }
+{
+    if -4 <= lo && lo <= hi && hi <= 4 {
+        return Some(Abs::new(lo, hi, 0, 0));
+    }
+    None
+}
+
+/// Whether every quotient of small whole numbers of two intervals, rounded to one place, is one of their answer.
+fn holds_quotients(a: Abs, b: Abs, mode: Mode) -> bool {
+    let Ok(r) = abs_div(a, b, 1, mode) else {
+        return b.lo() <= 0 && 0 <= b.hi();
+    };
+    for x in ENDS {
+        for y in ENDS {
+            let inside = a.lo() <= x && x <= a.hi() && b.lo() <= y && y <= b.hi();
+            if inside && !is_tenths(r, x, y, mode) {
+                return false;
+            }
+        }
+    }
+    true
+}
+
+/// Whether x / y, rounded to tenths, is one of the interval.
+fn is_tenths(r: Abs, x: i128, y: i128, mode: Mode) -> bool {
+    if y == 0 || x < -4 || x > 4 || y < -4 || y > 4 {
+        return false;
+    }
+    let q = round_div(10 * x, y, mode);
+    r.lo() <= q && q <= r.hi()
+}
+
+#[test]
+fn every_small_quotient_is_held(rt: HostRuntime) {
+    for la in ENDS {
+        for ha in ENDS {
+            for lb in ENDS {
+                for hb in ENDS {
+                    if let (Some(a), Some(b)) = (small(la, ha), small(lb, hb)) {
+                        assert!(rt; holds_quotients(a, b, Mode::HalfEven));
+                        assert!(rt; holds_quotients(a, b, Mode::Up));
+                    }
+                }
+            }
+        }
+    }
+}
+
+/// Whether the answer is an interval with a whole number between its ends.
+fn holds(answer: Result<Abs, RangeCause>, n: i128) -> bool {
+    match answer {
+        Ok(r) => r.lo() <= n && n <= r.hi(),
+        Err(_) => false,
+    }
+}
+
+/// Whether each exact operation's answer for two intervals holds its result for two small whole numbers.
+fn holds_results(a: Abs, b: Abs, x: i128, y: i128) -> bool {
+    if x < -4 || x > 4 || y < -4 || y > 4 {
+        return false;
+    }
+    holds(abs_add(a, b), x + y)
+        && holds(abs_sub(a, b), x - y)
+        && holds(abs_mul(a, b), x * y)
+        && holds(abs_min(a, b), x.min(y))
+        && holds(abs_max(a, b), x.max(y))
+        && holds(join(a, b), x)
+        && holds(join(a, b), y)
+}
+
+/// Whether that is so of every two whole numbers of the intervals.
+fn holds_all_results(a: Abs, b: Abs) -> bool {
+    for x in ENDS {
+        for y in ENDS {
+            let inside = a.lo() <= x && x <= a.hi() && b.lo() <= y && y <= b.hi();
+            if inside && !holds_results(a, b, x, y) {
+                return false;
+            }
+        }
+    }
+    true
+}
+
+#[test]
+fn every_small_result_is_held(rt: HostRuntime) {
+    for la in ENDS {
+        for ha in ENDS {
+            for lb in ENDS {
+                for hb in ENDS {
+                    if let (Some(a), Some(b)) = (small(la, ha), small(lb, hb)) {
+                        assert!(rt; holds_all_results(a, b));
+                    }
+                }
+            }
+        }
+    }
+}
+
+/// Whether the answer is an interval with a whole number between its ends, or refuses every divisor.
+fn holds_or_refuses(answer: Result<Abs, RangeCause>, n: i128, b: Abs) -> bool {
+    match answer {
+        Ok(r) => r.lo() <= n && n <= r.hi(),
+        Err(cause) => cause == RangeCause::Divisor && b.lo() <= 0 && 0 <= b.hi(),
+    }
+}
+
+/// Whether the quotient and the remainder of two small whole numbers are of the intervals' answers.
+fn holds_division(a: Abs, b: Abs, x: i128, y: i128) -> bool
+    requires left { IsWholeOfBits int_bits a }
+    requires right { IsWholeOfBits int_bits b }
+{
+    if y == 0 {
+        return int_div(a, b) == Err(RangeCause::Divisor);
+    }
+    if x < -4 || x > 4 || y < -4 || y > 4 {
+        return false;
+    }
+    holds_or_refuses(int_div(a, b), x / y, b) && holds_or_refuses(int_rem(a, b), x % y, b)
+}
+
+/// Whether that is so of every two whole numbers of the intervals.
+fn holds_all_divisions(a: Abs, b: Abs) -> bool
+    requires left { IsWholeOfBits int_bits a }
+    requires right { IsWholeOfBits int_bits b }
+{
+    for x in ENDS {
+        for y in ENDS {
+            let inside = a.lo() <= x && x <= a.hi() && b.lo() <= y && y <= b.hi();
+            if inside && !holds_division(a, b, x, y) {
+                return false;
+            }
+        }
+    }
+    true
+}
+
+#[test]
+fn every_small_division_is_held(rt: HostRuntime) {
+    for la in ENDS {
+        for ha in ENDS {
+            for lb in ENDS {
+                for hb in ENDS {
+                    if let (Some(a), Some(b)) = (small(la, ha), small(lb, hb)) {
+                        assert!(rt; holds_all_divisions(a, b));
+                    }
+                }
+            }
+        }
+    }
 }
