@@ -60,6 +60,6 @@ impl fmt::Display for Day {
         let year = self.year;
         let month = self.month;
         let day = self.day;
-        write!(f, "{year:04}-{month:02}-{day:02}")
+        write!(f, "{year}-{month:02}-{day:02}")
     }
 }

@@ -76,6 +76,6 @@ impl fmt::Display for Month {
     fn fmt<W: fmt::Write>(&self, f: &mut fmt::Formatter<W>) -> fmt::Result {
         let year = self.year;
         let month = self.month;
-        write!(f, "{year:04}-{month:02}")
+        write!(f, "{year}-{month:02}")
     }
 }
