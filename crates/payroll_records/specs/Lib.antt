@@ -1,1 +1,4 @@
 pub mod Days
+pub mod Employees
+pub mod NamedValues
+pub mod Whens

@@ -2,7 +2,15 @@
 #![tactic(auto)]
 
 mod day;
+mod employee;
 mod month;
+mod record;
+mod values;
+mod when;
 
 pub use day::Day;
+pub use employee::Employee;
 pub use month::Month;
+pub use record::{Key, Record};
+pub use values::{InsertFault, NamedValue, Values};
+pub use when::When;
