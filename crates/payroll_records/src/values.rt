@@ -1,6 +1,6 @@
 // Values under names.
 ghost use Rattle.std.specs.Prelude.{◌≡◌, ◌↔◌, ◌≤◌, [], length, IsSome, IsNone, OnOk, OnErr, IfOk, IfErr, Err, option_map};
-ghost use Rattle.rising_lists.specs.Places.{IsAt, IsGap};
+ghost use Rattle.rising_lists.specs.Places.{Finds, Misses};
 ghost use Rattle.payroll_records.specs.NamedValues.{AreValues, name_cmp, name_of, value_at, with_value};
 
 use pap_tree::Name;
@@ -88,10 +88,10 @@ impl Values {
                 if self.items.len() == 256 {
                     return Err(InsertFault::Full);
                 }
-                match self.items.insert(at, item) {
-                    Ok(()) => Ok(()),
-                    Err(_) => Err(InsertFault::Memory(AllocError)),
+                if self.items.insert(at, item).is_err() {
+                    return Err(InsertFault::Memory(AllocError));
                 }
+                Ok(())
             }
         }
     }
@@ -100,8 +100,8 @@ impl Values {
 /// Where the value of a name stands, or would go.
 fn place(items: &[NamedValue], name: &Name) -> Result<usize, usize>
     requires { AreValues items.now }
-    ensures found { IfOk result (IsAt name_cmp name_of items.now name.now) }
-    ensures absent { IfErr result (IsGap name_cmp name_of items.now name.now) }
+    ensures found { IfOk result (Finds name_cmp name_of items.now name.now) }
+    ensures absent { IfErr result (Misses name_cmp name_of items.now name.now) }
 {
     items.binary_search_by_key(name, |v| v.name)
 }

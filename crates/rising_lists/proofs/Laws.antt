@@ -10,7 +10,7 @@ use Rattle.std.specs.List.Sorted.{IsSearchInRange, IsBinarySearchResult, IsSorte
 use Rattle.std.proofs.lemmas.Cmp.{alike_right}
 use Rattle.std.proofs.lemmas.List.Sorted.{searchable_from_sorted}
 use Rattle.rising_lists.specs.Keyed.{at_key, put, put_by, without, AreAbove, IsRising}
-use Rattle.rising_lists.specs.Places.{IsAt, IsGap}
+use Rattle.rising_lists.specs.Places.{IsAt, IsGap, Finds, Misses}
 
 greater_back : {K : Type 0} {R : K → K → Ordering} → IsTotalOrder R → (x y : K) → R x y ≡ Less → R y x ≡ Greater
 greater_back {R} o x y e = o.antisymm y x ∙ ap ordering_reverse e
@@ -184,3 +184,24 @@ module _ {K X : Type 0} (cmp : K → K → Ordering) (total : IsTotalOrder cmp) 
   without_gap [] k i h = refl
   without_gap (x ∷ xs) k zero h = rw (h.after 0 x (omega arith) (omega arith)) (ap (λ t. x ∷ t) (without_gap xs k zero (gap_first x xs k h)))
   without_gap (x ∷ xs) k (suc i) h = rw (h.before 0 x (omega arith)) (ap (λ t. x ∷ t) (without_gap xs k i (gap_tail x xs k i h)))
+
+  pub finds : (xs : List X) (k : K) (i : ℕ) → IsAt cmp key xs k i → Finds cmp key xs k i
+  finds xs k i h = record {
+    within = h.within;
+    at = λ d. at_key_here xs k i d h;
+    put = λ y e. put_here xs k i y h e;
+    without = without_here xs k i h;
+  }
+
+  pub misses : (xs : List X) (k : K) (i : ℕ) → IsGap cmp key xs k i → Misses cmp key xs k i
+  misses xs k i h = record {
+    within = h.within;
+    at = at_key_gap xs k i h;
+    put = λ y e. put_gap xs k i y h e;
+    without = without_gap xs k i h;
+  }
+
+  -- what a binary search by the key finds
+  pub found : (xs : List X) (k : K) (r : Result ℕ ℕ) → IsRising cmp key xs → IsSearchInRange r (length xs) → IsBinarySearchResult (λ x. cmp (key x) k) xs r → IfOk r (Finds cmp key xs k) × IfErr r (Misses cmp key xs k)
+  found xs k (Ok i) h l at = (finds xs k i (searched xs k (Ok i) h l at).found, tt)
+  found xs k (Err i) h l parted = (tt, misses xs k i (searched xs k (Err i) h l parted).absent)
