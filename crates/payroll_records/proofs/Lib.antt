@@ -1,1 +1,2 @@
 pub mod DayTextLemmas
+pub mod Laws

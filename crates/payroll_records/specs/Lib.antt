@@ -2,3 +2,4 @@ pub mod Days
 pub mod Employees
 pub mod NamedValues
 pub mod Whens
+pub mod Orders

@@ -1,13 +1,6 @@
-// A library with one function.
+//! Plans by the day from which they hold.
 #![tactic(auto)]
 
-ghost use Rattle.std.specs.Prelude.{◌≡◌};
-ghost use Rattle.plan_calendar.specs.Echo.{echo_of};
+mod calendar;
 
-// The `ensures` clause is the contract: what `echo` returns is `echo_of` of its argument, a definition
-// in `specs/Echo.antt`, which a caller's clause can cite too.
-pub fn echo(x: usize) -> usize
-    ensures { result ≡ echo_of x }
-{
-    x
-}
+pub use calendar::{Calendar, PutRefusal, edits_move_picks, picks_are_latest};
