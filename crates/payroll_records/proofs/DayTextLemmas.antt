@@ -1,5 +1,5 @@
 -- What is printed of a month and a day.
-use Rattle.std.proofs.Common.{◌≡◌, ℕ, ◌+◌, ◌-◌, ◌/◌, ◌%◌, ◌^◌, ◌<◌, ◌≤◌, List, [], ◌∷◌, ◌++◌, false, arith, ap, sym, ◌∙◌, inl, inr, ℤ, pos, Bool, true, if◌then◌else◌}
+use Rattle.std.proofs.Common.{◌≡◌, ℕ, ◌+◌, ◌-◌, ◌/◌, ◌%◌, ◌^◌, ◌<◌, ◌≤◌, List, [], ◌∷◌, ◌++◌, false, arith, ap, ◌∙◌, inl, inr, ℤ, pos, Bool, true, if◌then◌else◌}
 use Rattle.std.specs.Fmt.{decimal, padded_integral, format_spec, char_count}
 use Rattle.std.proofs.lemmas.Fmt.{decimal_digit, decimal_step}
 use Rattle.std.proofs.lemmas.Bool.{cases_lt}

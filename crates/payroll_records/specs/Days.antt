@@ -1,7 +1,5 @@
 -- Months and days of the calendar, and their written forms (ISO 8601: YYYY-MM and YYYY-MM-DD).
 use Rattle.std.specs.Prelude.{◌≡◌, ℕ, ◌+◌, ◌*◌, ◌-◌, ◌/◌, ◌%◌, ◌≤◌, List, [], ◌∷◌, ◌++◌, length, slice_index, pos}
-use Rattle.std.specs.declared.cmp.Ordering.{Ordering}
-use Rattle.std.specs.Ordering.{nat_cmp, then_cmp, on}
 use Rattle.jiff.specs.Words.{IsDate}
 
 -- both bytes are decimal digits

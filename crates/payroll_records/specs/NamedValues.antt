@@ -3,7 +3,6 @@ use Rattle.std.specs.Prelude.{◌≤◌, ℕ, List, Option, length}
 use Rattle.std.specs.declared.cmp.Ordering.{Ordering}
 use Rattle.std.specs.Ordering.{nat_cmp}
 use Rattle.std.specs.Cmp.Lexicographic.{slice_cmp}
-use Rattle.scaled_decimal.specs.Decimals.{Decimal}
 use Rattle.rising_lists.specs.Keyed.{at_key, put, IsRising}
 use Rattle.payroll_records.specs.declared.values.NamedValue.{NamedValue}
 

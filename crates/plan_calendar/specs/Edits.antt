@@ -3,7 +3,8 @@ use Rattle.std.specs.Prelude.{◌≡◌, List, Option, Some, None, Bool, true, n
 use Rattle.std.specs.Ordering.{is_gt}
 use Rattle.rising_lists.specs.Keyed.{IsRising}
 use Rattle.payroll_records.specs.declared.day.Day.{Day}
-use Rattle.plan_calendar.specs.Picking.{Entry, day_cmp, day_of, entry_at, with_entry, without_day, serves, pick, pick_before, IsLatest, serves_before}
+use Rattle.payroll_records.specs.Orders.{day_cmp}
+use Rattle.plan_calendar.specs.Picking.{Entry, day_of, entry_at, with_entry, without_day, serves, pick, pick_before, IsLatest, serves_before}
 
 -- the entry, if there is one, isn't after this day
 abbrev pub is_by : {P : Type 0} → Option (Entry P) → Day → Bool

@@ -1,14 +1,10 @@
 -- The plan of a day: plans hold from their day on, within its calendar year.
-use Rattle.std.specs.Prelude.{◌≡◌, List, [], ◌∷◌, Option, Some, None, ◌≤◌, length, Bool, true, false, not, ◌&&◌, ◌==◌, if◌then◌else◌, All}
-use Rattle.std.specs.List.{Contains}
-use Rattle.std.specs.declared.cmp.Ordering.{Ordering}
-use Rattle.std.specs.Ordering.{nat_cmp, then_cmp, on, is_lt, is_gt}
+use Rattle.std.specs.Prelude.{◌≡◌, List, [], ◌∷◌, Option, Some, None, ◌≤◌, length, Bool, true, false, not, ◌&&◌, ◌==◌, if◌then◌else◌}
+use Rattle.std.specs.List.{Contains, AllByRecursion}
+use Rattle.std.specs.Ordering.{is_lt, is_gt}
 use Rattle.rising_lists.specs.Keyed.{at_key, put, without, IsRising}
 use Rattle.payroll_records.specs.declared.day.Day.{Day}
-
--- days in order: by year, then by month, then by the day of the month
-abbrev pub day_cmp : Day → Day → Ordering
-day_cmp = then_cmp (on (λ d. d.year) nat_cmp) (then_cmp (on (λ d. d.month) nat_cmp) (on (λ d. d.day) nat_cmp))
+use Rattle.payroll_records.specs.Orders.{day_cmp}
 
 -- an entry of a calendar: a day and the plan that holds from it on
 abbrev pub Entry : Type 0 → Type 0
@@ -63,7 +59,7 @@ pick_before es d = last_where (λ e. serves_before (day_of e) d) es
 
 -- of the entries whose day passes the test this is the one with the latest day; None where no day passes
 abbrev pub IsLatest : {P : Type 0} → List (Entry P) → (Day → Bool) → Option (Entry P) → Type 0
-IsLatest es test None = All (λ e. test (day_of e) ≡ false) es
+IsLatest es test None = AllByRecursion (λ e. test (day_of e) ≡ false) es
 IsLatest es test (Some e) =
     Contains es e × (test (day_of e) ≡ true)
-    × All (λ f. test (day_of f) ≡ true → is_gt (day_cmp (day_of f) (day_of e)) ≡ false) es
+    × AllByRecursion (λ f. test (day_of f) ≡ true → is_gt (day_cmp (day_of f) (day_of e)) ≡ false) es

@@ -1,7 +1,8 @@
 // The calendar of plans.
-ghost use Rattle.std.specs.Prelude.{◌≡◌, ◌↔◌, [], length, IfOk, IfErr, OnOk, OnErr, Err, IsNone, option_map};
+ghost use Rattle.std.specs.Prelude.{◌≡◌, ◌↔◌, [], length, IfOk, IfErr, OnOk, OnErr, Err, IsNone, IsTrue, option_map};
 ghost use Rattle.rising_lists.specs.Places.{Finds, Misses};
-ghost use Rattle.plan_calendar.specs.Picking.{AreEntries, day_cmp, day_of, plan_of, entry_at, with_entry, without_day};
+ghost use Rattle.payroll_records.specs.Orders.{day_cmp};
+ghost use Rattle.plan_calendar.specs.Picking.{AreEntries, day_of, plan_of, entry_at, with_entry, without_day};
 ghost use Rattle.plan_calendar.specs.Picking.{pick, pick_before, serves, serves_before};
 ghost use Rattle.plan_calendar.specs.Edits.{EditsMovePicks, PicksLatest};
 ghost use Rattle.plan_calendar.specs.Refusals.{refused_plan};
@@ -57,6 +58,13 @@ impl<P> Calendar<P> {
         self.entries.len()
     }
 
+    /// Whether there is no plan.
+    pub fn is_empty(&self) -> bool
+        ensures { IsTrue result ↔ (self.now ≡ []) }
+    {
+        self.entries.is_empty()
+    }
+
     /// The plans with their days, in order of day.
     pub fn entries(&self) -> &[(Day, P)]
         ensures all { result.now ≡ self.now }
@@ -79,9 +87,7 @@ impl<P> Calendar<P> {
     {
         pick_before(self.entries.as_slice(), day)
     }
-}
 
-impl<P: Drop> Calendar<P> {
     /// Puts a plan at its day, and gives the plan that stood there back. After a refusal the calendar is as before.
     pub fn put(&mut self, day: Day, plan: P) -> Result<Option<P>, PutRefusal<P>>
         ensures ok { OnOk result (self.new ≡ with_entry (day, plan) self.old) }
@@ -171,11 +177,9 @@ fn serves_before(entry: Day, day: Day) -> bool
 /// What an edit of a calendar does to the plan of each day.
 pub fn edits_move_picks<P>()
     ensures { EditsMovePicks P }
-{
-}
+{}
 
 /// What `pick` and `pick_before` give is the entry of the latest day that they may give.
 pub fn picks_are_latest<P>()
     ensures { PicksLatest P }
-{
-}
+{}

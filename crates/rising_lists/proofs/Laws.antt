@@ -1,5 +1,5 @@
 -- Laws of lists whose keys rise: what stands at a key after an edit, and what a binary search finds.
-use Rattle.std.specs.Prelude.{ℕ, ◌<◌, ◌≤◌, ◌≡◌, List, [], ◌∷◌, Option, Some, None, Result, Ok, Err, true, false, if◌then◌else◌, length}
+use Rattle.std.specs.Prelude.{ℕ, ◌<◌, ◌≡◌, List, [], ◌∷◌, Option, Some, None, Result, Ok, Err, true, false, if◌then◌else◌, length}
 use Rattle.std.proofs.Common.{zero, suc, refl, sym, ap, ◌∙◌, get_or, set, add-one, arith, IfOk, IfErr}
 use Rattle.std.specs.List.{insert, remove}
 use Rattle.std.specs.declared.cmp.Ordering.{Ordering}
@@ -19,7 +19,7 @@ less_back : {K : Type 0} {R : K → K → Ordering} → IsTotalOrder R → (x y 
 less_back {R} o x y e = o.antisymm y x ∙ ap ordering_reverse e
 
 module _ {K X : Type 0} (cmp : K → K → Ordering) (total : IsTotalOrder cmp) (key : X → K) where
-  above_all : (k : K) (xs : List X) (j : ℕ) (d : X) → AreAbove cmp key k xs → j < length xs → cmp k (key (get_or xs j d)) ≡ Less
+  pub above_all : (k : K) (xs : List X) (j : ℕ) (d : X) → AreAbove cmp key k xs → j < length xs → cmp k (key (get_or xs j d)) ≡ Less
   above_all k [] j d h l = absurd (omega arith)
   above_all k (x ∷ xs) zero d h l = h.0
   above_all k (x ∷ xs) (suc j) d h l = above_all k xs j d h.1 (omega arith)
@@ -28,7 +28,7 @@ module _ {K X : Type 0} (cmp : K → K → Ordering) (total : IsTotalOrder cmp) 
   above_more k m [] l h = tt
   above_more k m (x ∷ xs) l h = (total.trans k m (key x) l h.0, above_more k m xs l h.1)
 
-  above_same : (k m : K) (xs : List X) → cmp k m ≡ Equal → AreAbove cmp key m xs → AreAbove cmp key k xs
+  pub above_same : (k m : K) (xs : List X) → cmp k m ≡ Equal → AreAbove cmp key m xs → AreAbove cmp key k xs
   above_same k m [] e h = tt
   above_same k m (x ∷ xs) e h = (total.congr k m (key x) e ∙ h.0, above_same k m xs e h.1)
 
@@ -134,7 +134,7 @@ module _ {K X : Type 0} (cmp : K → K → Ordering) (total : IsTotalOrder cmp) 
     | false ↦ (without_above (key x) k xs h.0, without_rising k xs h.1)
   ]
 
-  at_key_above : (m k : K) (xs : List X) → AreAbove cmp key m xs → cmp m k ≡ Equal → at_key cmp key xs k ≡ None
+  pub at_key_above : (m k : K) (xs : List X) → AreAbove cmp key m xs → cmp m k ≡ Equal → at_key cmp key xs k ≡ None
   at_key_above m k [] h e = refl
   at_key_above m k (x ∷ xs) h e =
       let l : cmp (key x) k ≡ Greater = sym (alike_right total m k (key x) e) ∙ greater_back total m (key x) h.0 in

@@ -1,5 +1,5 @@
 -- What an edit of a list with rising keys leaves at each key.
-use Rattle.std.specs.Prelude.{List, Option, Some, None, if◌then◌else◌, ◌≡◌}
+use Rattle.std.specs.Prelude.{List, Some, None, if◌then◌else◌, ◌≡◌}
 use Rattle.std.specs.declared.cmp.Ordering.{Ordering}
 use Rattle.std.specs.Ordering.{is_eq}
 use Rattle.rising_lists.specs.Keyed.{at_key, put, without, IsRising}

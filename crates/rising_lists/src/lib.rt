@@ -7,5 +7,4 @@ ghost use Rattle.rising_lists.specs.Edits.{PutsOne, TakesOne};
 pub fn edits_change_one_key<K: Ord, X>()
     ensures put { (key : X → K) → PutsOne K.cmp key }
     ensures without { (key : X → K) → TakesOne K.cmp key }
-{
-}
+{}

@@ -1,5 +1,4 @@
 use Rattle.std.proofs.Common.{arith}
-use Rattle.std.proofs.lemmas.Int.{ints}
 use Rattle.payroll_records.proofs.DayTextLemmas.{with_zero, four_places, day_below_100}
 use Rattle.payroll_records.proofs.day.DayDisplay.fmt.Goals as goal
 

@@ -1,4 +1,4 @@
-use Rattle.std.proofs.Common.{◌≡◌, ◌<◌, ◌≤◌, arith}
+use Rattle.std.proofs.Common.{arith}
 use Rattle.payroll_records.proofs.DayTextLemmas.{with_zero, four_places}
 use Rattle.payroll_records.proofs.month.MonthDisplay.fmt.Goals as goal
 

@@ -1,7 +1,6 @@
-use Rattle.std.proofs.Common.{ap, ◌∙◌, sym, Option}
+use Rattle.std.proofs.Common.{Option}
 use Rattle.std.specs.Prelude.{option_map}
 use Rattle.scaled_decimal.specs.Decimals.{Decimal}
-use Rattle.payroll_records.specs.NamedValues.{value_at}
 use Rattle.payroll_records.specs.declared.values.NamedValue.{NamedValue}
 use Rattle.payroll_records.proofs.values.Values.find.Goals as goal
 

@@ -1,11 +1,11 @@
-use Rattle.std.proofs.Common.{◌≡◌, rules, refl, sym, ◌∙◌, arith, length, true}
+use Rattle.std.proofs.Common.{◌≡◌, rules, refl, sym, arith}
 use Rattle.std.specs.List.{insert}
 use Rattle.std.specs.Cmp.Lexicographic.{nat_list_cmp_total}
 use Rattle.std.proofs.lemmas.Bool.{false≢true}
 use Rattle.std.proofs.lemmas.Cmp.{tied_itself}
 use Rattle.std.proofs.lemmas.List.Edits.{length-insert}
 use Rattle.rising_lists.proofs.Laws.{put_rising}
-use Rattle.payroll_records.specs.NamedValues.{name_cmp, name_of, with_value}
+use Rattle.payroll_records.specs.NamedValues.{name_cmp, name_of}
 use Rattle.payroll_records.proofs.values.Values.insert.Goals as goal
 
 pub invariant_of-self-in-Err : goal.invariant_of-self-in-Err
