@@ -1,2 +1,4 @@
 pub mod DayTextLemmas
 pub mod Laws
+pub mod RowLemmas
+pub mod ReaderLemmas

@@ -3,3 +3,5 @@ pub mod Employees
 pub mod NamedValues
 pub mod Whens
 pub mod Orders
+pub mod CsvRows
+pub mod RowViews

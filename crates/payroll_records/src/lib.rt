@@ -5,6 +5,7 @@ mod day;
 mod employee;
 mod month;
 mod record;
+mod rows;
 mod values;
 mod when;
 
