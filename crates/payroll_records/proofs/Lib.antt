@@ -2,3 +2,5 @@ pub mod DayTextLemmas
 pub mod Laws
 pub mod RowLemmas
 pub mod ReaderLemmas
+pub mod ColumnLemmas
+pub mod HeaderLemmas

@@ -5,3 +5,5 @@ pub mod Whens
 pub mod Orders
 pub mod CsvRows
 pub mod RowViews
+pub mod Tables
+pub mod TableViews

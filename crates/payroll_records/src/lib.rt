@@ -3,9 +3,12 @@
 
 mod day;
 mod employee;
+mod header;
 mod month;
 mod record;
+mod row;
 mod rows;
+mod table;
 mod values;
 mod when;
 
@@ -13,5 +16,6 @@ pub use day::Day;
 pub use employee::Employee;
 pub use month::Month;
 pub use record::{Key, Record};
+pub use table::{TableFault, read_table};
 pub use values::{InsertFault, NamedValue, Values};
 pub use when::When;

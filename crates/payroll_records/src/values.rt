@@ -1,5 +1,6 @@
 // Values under names.
-ghost use Rattle.std.specs.Prelude.{◌≡◌, ◌↔◌, ◌≤◌, [], length, IsSome, IsNone, OnOk, OnErr, IfOk, IfErr, Err, option_map};
+ghost use Rattle.std.specs.Prelude.{◌≡◌, ◌↔◌, ◌<◌, [], ◌∷◌, ◌++◌, length, IsSome, IsNone, OnOk, OnErr, IfOk, IfErr, Err, option_map};
+ghost use Rattle.rising_lists.specs.Keyed.{IsRising};
 ghost use Rattle.rising_lists.specs.Places.{Finds, Misses};
 ghost use Rattle.payroll_records.specs.NamedValues.{AreValues, name_cmp, name_of, value_at, with_value};
 
@@ -72,6 +73,16 @@ impl Values {
             Ok(at) => Some(self.items[at].value),
             Err(_) => None,
         }
+    }
+
+    /// Appends a value whose name is above those that stand.
+    pub(crate) fn push(&mut self, item: NamedValue) -> Result<(), AllocError>
+        requires above { IsRising name_cmp name_of (self.old ++ item ∷ []) }
+        requires few { length self.old < 256 }
+        ensures ok { OnOk result (self.new ≡ self.old ++ item ∷ []) }
+    {
+        self.items.push(item)?;
+        Ok(())
     }
 
     /// Puts a value under its name. After a refusal the values are as before.
