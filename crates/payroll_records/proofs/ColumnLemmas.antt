@@ -9,6 +9,7 @@ use Rattle.std.specs.Cmp.Lexicographic.{nat_list_cmp_total}
 use Rattle.std.proofs.lemmas.Bool.{false≢true}
 use Rattle.std.proofs.lemmas.Bool.{cases_lt}
 use Rattle.std.proofs.lemmas.Cmp.{tied_itself}
+use Rattle.std.proofs.lemmas.List.Edits.{length-insert}
 use Rattle.std.proofs.lemmas.Map.Text.{is_eq-slice_cmp}
 use Rattle.std.proofs.lemmas.Slice.Eq.{bytes_eq-Decides}
 use Rattle.std.proofs.Math.ListN.{get_or-append}
@@ -75,6 +76,7 @@ name_stands names columns name i d h found =
 pub column_added : (names : List Text) (columns : List Column) (name : Text) (i : ℕ) → AreColumns names columns → Misses name_cmp column_name columns name i →
     AreColumns (names ++ name ∷ []) (insert columns i (record { name = name; place = length names }))
 column_added names columns name i h gap = rw (← put_is) (record {
+  same = rw put_is (omega (arith, length-insert columns i new gap.within, length-append names (name ∷ []), h.same));
   rising = put_rising name_cmp nat_list_cmp_total column_name new columns h.rising;
   each = all_put (IsColumnOf (names ++ name ∷ [])) new columns is_new (more_names names (name ∷ []) columns h.each);
   all = λ j l. at j (cases_lt j (length names)) l;

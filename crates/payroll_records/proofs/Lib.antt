@@ -4,3 +4,4 @@ pub mod RowLemmas
 pub mod ReaderLemmas
 pub mod ColumnLemmas
 pub mod HeaderLemmas
+pub mod CellLemmas

@@ -7,3 +7,4 @@ pub mod CsvRows
 pub mod RowViews
 pub mod Tables
 pub mod TableViews
+pub mod CellViews

@@ -20,6 +20,7 @@ pub record IsColumnOf (names : List Text) (c : Column) : Type 0 where
 
 -- the columns of these names, in order of the names
 pub record AreColumns (names : List Text) (columns : List Column) : Type 0 where
+  pub same : length columns ≡ length names
   pub rising : IsRising name_cmp column_name columns
   pub each : AllByRecursion (IsColumnOf names) columns
   pub all : (i : ℕ) → i < length names → at_key name_cmp column_name columns (name_at names i) ≡ Some (record { name = name_at names i; place = i })

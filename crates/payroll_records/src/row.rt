@@ -100,12 +100,13 @@ fn values_of(alloc: Global, header: &Header, row: &ByteRecord) -> Result<Values,
 {
     let mut values = Values::new(alloc);
     for column in &header.columns {
-        if let Some(value) = read_number(field(row, 3 + column.place)) {
-            values.push(NamedValue {
-                name: column.name,
-                value,
-            })?;
-        }
+        let Some(value) = read_number(field(row, 3 + column.place)) else {
+            continue;
+        };
+        values.push(NamedValue {
+            name: column.name,
+            value,
+        })?;
     }
     Ok(values)
 }

@@ -1,7 +1,7 @@
 -- Laws of lists whose keys rise: what stands at a key after an edit, and what a binary search finds.
-use Rattle.std.specs.Prelude.{ℕ, ◌<◌, ◌≡◌, List, [], ◌∷◌, Option, Some, None, Result, Ok, Err, true, false, if◌then◌else◌, length}
+use Rattle.std.specs.Prelude.{◌++◌, ℕ, ◌<◌, ◌≡◌, List, [], ◌∷◌, Option, Some, None, Result, Ok, Err, true, false, if◌then◌else◌, length}
 use Rattle.std.proofs.Common.{zero, suc, refl, sym, ap, ◌∙◌, get_or, set, add-one, arith, IfOk, IfErr}
-use Rattle.std.specs.List.{insert, remove}
+use Rattle.std.specs.List.{insert, remove, AllByRecursion}
 use Rattle.std.specs.declared.cmp.Ordering.{Ordering}
 use Rattle.std.specs.declared.cmp.Ordering.TheVariants.{Less, Equal, Greater}
 use Rattle.std.specs.Ordering.{is_eq, is_lt, ordering_reverse}
@@ -40,7 +40,7 @@ module _ {K X : Type 0} (cmp : K → K → Ordering) (total : IsTotalOrder cmp) 
   pub sorted_of_rising : (xs : List X) → IsRising cmp key xs → IsSortedBy (λ a b. is_lt (cmp (key a) (key b))) xs
   sorted_of_rising xs h i d low l = rw add-one (rising_pair xs i d h (omega arith))
 
-  rising_far : (xs : List X) (j i : ℕ) (d : X) → IsRising cmp key xs → j < i → i < length xs → cmp (key (get_or xs j d)) (key (get_or xs i d)) ≡ Less
+  pub rising_far : (xs : List X) (j i : ℕ) (d : X) → IsRising cmp key xs → j < i → i < length xs → cmp (key (get_or xs j d)) (key (get_or xs i d)) ≡ Less
   rising_far [] j i d h lt l = absurd (omega arith)
   rising_far (x ∷ xs) j zero d h lt l = absurd (omega arith)
   rising_far (x ∷ xs) zero (suc i) d h lt l = above_all (key x) xs i d h.0 (omega arith)
@@ -184,6 +184,15 @@ module _ {K X : Type 0} (cmp : K → K → Ordering) (total : IsTotalOrder cmp) 
   without_gap [] k i h = refl
   without_gap (x ∷ xs) k zero h = rw (h.after 0 x (omega arith) (omega arith)) (ap (λ t. x ∷ t) (without_gap xs k zero (gap_first x xs k h)))
   without_gap (x ∷ xs) k (suc i) h = rw (h.before 0 x (omega arith)) (ap (λ t. x ∷ t) (without_gap xs k i (gap_tail x xs k i h)))
+
+  above_append : (k : K) (xs : List X) (y : X) → AreAbove cmp key k xs → cmp k (key y) ≡ Less → AreAbove cmp key k (xs ++ (y ∷ []))
+  above_append k [] y h l = (l, tt)
+  above_append k (x ∷ xs) y h l = (h.0, above_append k xs y h.1 l)
+
+  -- a list with one more element above all others
+  pub rising_append : (xs : List X) (y : X) → IsRising cmp key xs → AllByRecursion (λ x. cmp (key x) (key y) ≡ Less) xs → IsRising cmp key (xs ++ (y ∷ []))
+  rising_append [] y h l = (tt, tt)
+  rising_append (x ∷ xs) y h l = (above_append (key x) xs y h.0 l.0, rising_append xs y h.1 l.1)
 
   pub finds : (xs : List X) (k : K) (i : ℕ) → IsAt cmp key xs k i → Finds cmp key xs k i
   finds xs k i h = record {
