@@ -1,12 +1,11 @@
 -- The fields of a row and the columns of a header.
-use Rattle.std.proofs.Common.{◌≡◌, ℕ, zero, suc, ◌+◌, ◌<◌, ◌≤◌, List, [], ◌∷◌, ◌++◌, length, Option, Some, None, Bool, true, false, if◌then◌else◌, get_or, refl, sym, ap, subst, ◌⊎◌, ◌∙◌, arith, length-append, inl, inr}
-use Rattle.std.specs.Prelude.{unwrap_or, IsTrue}
+use Rattle.std.proofs.Common.{◌≡◌, ℕ, zero, suc, ◌<◌, ◌≤◌, List, [], ◌∷◌, ◌++◌, length, Option, Some, Bool, true, false, if◌then◌else◌, refl, sym, ap, subst, ◌⊎◌, ◌∙◌, arith, length-append, inl, inr}
+use Rattle.std.specs.Prelude.{unwrap_or}
 use Rattle.std.specs.List.{AllByRecursion, Contains, insert}
 use Rattle.std.specs.declared.cmp.Ordering.TheVariants.{Less, Equal, Greater}
 use Rattle.std.specs.declared.cmp.Ordering.{Ordering}
 use Rattle.std.specs.Ordering.{is_eq}
 use Rattle.std.specs.Cmp.Lexicographic.{nat_list_cmp_total}
-use Rattle.std.proofs.lemmas.Bool.{false≢true}
 use Rattle.std.proofs.lemmas.Bool.{cases_lt}
 use Rattle.std.proofs.lemmas.Cmp.{tied_itself}
 use Rattle.std.proofs.lemmas.List.Edits.{length-insert}
@@ -15,12 +14,12 @@ use Rattle.std.proofs.lemmas.Slice.Eq.{bytes_eq-Decides}
 use Rattle.std.proofs.Math.ListN.{get_or-append}
 use Rattle.std.proofs.Math.Seq.{get_or-append_seam}
 use Rattle.csv.specs.Records.{field_at}
-use Rattle.rising_lists.specs.Keyed.{at_key, put, put_by, IsRising}
+use Rattle.rising_lists.specs.Keyed.{at_key, put, put_by}
 use Rattle.rising_lists.specs.Places.{Misses, Finds}
 use Rattle.rising_lists.proofs.Laws.{put_rising, at_key_put}
 use Rattle.payroll_records.specs.NamedValues.{name_cmp}
 use Rattle.payroll_records.specs.Tables.{Text, name_at, field_of}
-use Rattle.payroll_records.specs.TableViews.{AreColumns, IsColumnOf, AddsColumn, column_name}
+use Rattle.payroll_records.specs.TableViews.{AreColumns, IsColumnOf, column_name}
 use Rattle.payroll_records.specs.declared.header.Column.{Column}
 
 field_or : (row : List Text) (i : ℕ) → unwrap_or (field_at row i) [] ≡ field_of row i

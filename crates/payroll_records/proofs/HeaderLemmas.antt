@@ -1,8 +1,8 @@
 -- A first row and the names that it may be a header of.
-use Rattle.std.proofs.Common.{◌≡◌, ℕ, zero, suc, ◌+◌, ◌-◌, ◌<◌, ◌≤◌, List, [], ◌∷◌, ◌++◌, length, take, get_or, refl, sym, ap, ◌∙◌, arith, length-append}
+use Rattle.std.proofs.Common.{◌≡◌, ℕ, zero, suc, ◌+◌, ◌-◌, ◌<◌, ◌≤◌, List, [], ◌∷◌, length, take, refl, sym, ap, ◌∙◌, arith}
 use Rattle.std.specs.Prelude.{IsTrue, codes}
 use Rattle.std.specs.List.{AllByRecursion, Contains}
-use Rattle.std.proofs.lemmas.List.{get_or-take, take_more, length-take, get_or_default}
+use Rattle.std.proofs.lemmas.List.{get_or-take, length-take, get_or_default}
 use Rattle.pap_tree.specs.Names.{is_name}
 use Rattle.payroll_records.specs.Tables.{Text, IsHeader, name_at, field_of}
 use Rattle.payroll_records.specs.TableViews.{BeginsHeader}

@@ -5,3 +5,4 @@ pub mod ReaderLemmas
 pub mod ColumnLemmas
 pub mod HeaderLemmas
 pub mod CellLemmas
+pub mod TableLemmas

@@ -1,9 +1,9 @@
 -- What the private functions of a table say of its columns and of one row.
-use Rattle.std.specs.Prelude.{◌≡◌, ℕ, ◌<◌, ◌≤◌, List, [], ◌∷◌, ◌++◌, length, codes, Option, Some, None, ⊤, Bool, true, false}
+use Rattle.std.specs.Prelude.{◌≡◌, ℕ, ◌<◌, ◌≤◌, List, [], ◌∷◌, ◌++◌, length, codes, Some, ⊤}
 use Rattle.std.specs.List.{AllByRecursion}
 use Rattle.rising_lists.specs.Keyed.{at_key, IsRising}
 use Rattle.payroll_records.specs.NamedValues.{name_cmp}
-use Rattle.payroll_records.specs.Tables.{Text, name_at, IsHeader, WrongWidth, WrongEmployee, WrongMonth, WrongDay, WrongValue, Repeats, IsFirstFault, field_of, cell_of, IsReadable}
+use Rattle.payroll_records.specs.Tables.{Text, name_at, WrongWidth, WrongEmployee, WrongMonth, WrongDay, WrongValue, Repeats, IsFirstFault, field_of, cell_of, IsReadable}
 use Rattle.payroll_records.specs.declared.header.Column.{Column}
 use Rattle.payroll_records.specs.declared.row.RowFault.{RowFault}
 use Rattle.payroll_records.specs.declared.row.RowFault.TheVariants as fault

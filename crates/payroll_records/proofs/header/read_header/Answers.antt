@@ -1,5 +1,4 @@
-use Rattle.std.proofs.Common.{◌≡◌, ◌<◌, length, arith, sym, ◌∙◌, subst}
-use Rattle.std.specs.List.{Contains}
+use Rattle.std.proofs.Common.{◌≡◌, arith, ◌∙◌}
 use Rattle.csv.specs.Records.{fields_of}
 use Rattle.payroll_records.specs.Tables.{field_of}
 use Rattle.payroll_records.proofs.HeaderLemmas.{name_again}

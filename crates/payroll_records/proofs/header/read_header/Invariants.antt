@@ -13,5 +13,5 @@ invariant-loop-place l = record {
   columns : AreColumns l.header.names.items l.header.columns.items;
   named : AllByRecursion (λ (n : List ℕ). IsTrue (is_name n)) l.header.names.items;
   few : length (fields_of l.row) ≤ 259;
-  same_row : l.row ≡ l.fn.row
+  same_row : l.row ≡ l.fn.row;
 }

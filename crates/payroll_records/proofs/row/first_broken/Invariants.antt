@@ -1,4 +1,4 @@
-use Rattle.std.proofs.Common.{◌≡◌, ◌<◌, ℕ}
+use Rattle.std.proofs.Common.{◌<◌, ℕ}
 use Rattle.csv.specs.Records.{fields_of}
 use Rattle.payroll_records.specs.Tables.{IsReadable, cell_of}
 use Rattle.payroll_records.proofs.row.first_broken.Given as goal

@@ -1,8 +1,6 @@
-use Rattle.std.proofs.Common.{◌≡◌, ◌<◌, ap, arith, length, Some, Option, sym, ◌∙◌}
+use Rattle.std.proofs.Common.{◌≡◌, ◌<◌, ap, arith, length, Some, Option}
 use Rattle.csv.specs.Records.{fields_of}
 use Rattle.scaled_decimal.specs.Decimals.{Decimal}
-use Rattle.payroll_records.specs.CellViews.{AreValuesOf}
-use Rattle.payroll_records.specs.Tables.{IsNumberText}
 use Rattle.payroll_records.proofs.CellLemmas.{value_passed, value_added, values_supplied, supplied_values}
 use Rattle.payroll_records.proofs.row.values_of.Goals as goal
 
@@ -42,5 +40,7 @@ returns c =
     let columns = c.args.header.now.columns.items in
     let last : c.loop-column.column-index ≡ length columns = (let size = ap length items in omega arith) in
     let inv = rw last at c.loop-column.invariant in
-    λ v. (values_supplied _ columns (fields_of c.args.row.now) c.requires.columns c.loop-column.values v inv,
-      supplied_values _ columns (fields_of c.args.row.now) c.requires.columns c.loop-column.values v inv)
+    λ v. (
+      values_supplied _ columns (fields_of c.args.row.now) c.requires.columns c.loop-column.values v inv,
+      supplied_values _ columns (fields_of c.args.row.now) c.requires.columns c.loop-column.values v inv,
+    )

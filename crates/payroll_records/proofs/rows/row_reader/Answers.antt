@@ -1,5 +1,4 @@
 use Rattle.std.proofs.Common.{◌∙◌, inr, refl}
-use Rattle.csv.specs.Reading.{records_from}
 use Rattle.payroll_records.proofs.rows.row_reader.Goals as goal
 
 pub returns-clause-reader : goal.returns-clause-reader
