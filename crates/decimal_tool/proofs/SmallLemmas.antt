@@ -4,7 +4,7 @@ use Rattle.std.proofs.lemmas.Int.{ints, unsigned_abs-mul}
 use Rattle.std.proofs.lemmas.Nat.{mul-le, div-add-mod'}
 use Rattle.std.proofs.Math.Nat.{pow-le-pow_right, mul_assoc, mul_comm}
 use Rattle.scaled_decimal.specs.declared.rounding.Mode.{Mode}
-use Rattle.scaled_decimal.specs.IntegerLemmas.{times_zero, abs_sub}
+use Rattle.scaled_decimal.specs.laws.IntegerLemmas.{times_zero, abs_sub}
 use Rattle.scaled_decimal.specs.Decimals.{Decimal, numerator_of, scale_of, numerator_at, greater_scale, ten_to}
 use Rattle.scaled_decimal.specs.WorkingNumbers.{SumFits, DifferenceFits, ComparisonFits, ProductFits, RescaleFits, QuotientFits}
 use Rattle.scaled_decimal.specs.ExactQuotients.{IsPlainDivisor}

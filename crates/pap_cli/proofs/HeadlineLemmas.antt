@@ -2,7 +2,7 @@
 use Rattle.std.proofs.Common.{◌≡◌, ◌≢◌, List, ◌++◌, ℕ, Bool, true, false, refl, ap, ◌∙◌, subst, arith}
 use Rattle.std.specs.Prelude.{Option, None, Some, Result, Ok, Err}
 use Rattle.outside.specs.Causes.{Rose, Still}
-use Rattle.outside.specs.Told.{Files, Appends}
+use Rattle.outside.specs.Told.{FileMap, Appends}
 use Rattle.pap_cli.specs.declared.status.Status.{Status}
 use Rattle.pap_cli.specs.declared.status.Status.TheVariants.{Done, Refused, BadWords, FileFault, ReadFault, WriteFault, NoMemory, ScriptLong}
 use Rattle.pap_cli.specs.declared.stop.Stop.{Stop}
@@ -40,7 +40,7 @@ is_done WriteFault b f r w m l = w refl
 is_done NoMemory b f r w m l = m refl
 is_done ScriptLong b f r w m l = l refl
 
-pub headline : {told : Option Files} {plan limits : List ℕ} {first written failed : Option (List ℕ)} {began steps : ℕ} {status : Status} (f f' w w' : ℕ) (files : Files) (before : List ℕ) →
+pub headline : {told : Option FileMap} {plan limits : List ℕ} {first written failed : Option (List ℕ)} {began steps : ℕ} {status : Status} (f f' w w' : ℕ) (files : FileMap) (before : List ℕ) →
     OnceMeets told plan limits first written began steps failed status → told ≡ Some files → first ≡ Some before → status ≢ NoMemory →
     (status ≡ FileFault → Rose f f') → (status ≡ WriteFault → Rose w w') → Still f f' → Still w w' →
     IsOnceAnswer files plan limits before written began steps status

@@ -2,8 +2,8 @@
 use Rattle.std.proofs.Common.{◌≡◌, ◌≢◌, ℕ, zero, suc, ◌+◌, ◌<◌, List, [], ◌∷◌, take, refl, sym, subst, ◌∙◌, arith, inl, inr, length-take, Bool, true, false}
 use Rattle.std.specs.Prelude.{◌⊎◌, Option, Some, None, MatchOption, Result, Err}
 use Rattle.std.proofs.lemmas.List.{take_all}
-use Rattle.outside.specs.Told.{Files, IsToldFront, Appends, AppendsPrefix}
-use Rattle.outside.proofs.Bytes.{Appends-nothing}
+use Rattle.outside.specs.Told.{FileMap, IsToldFront, Appends, AppendsPrefix}
+use Rattle.outside.proofs.Laws.{Appends-nothing}
 use Rattle.outside.specs.declared.traits.FileAnswer.{FileAnswer}
 use Rattle.outside.specs.declared.traits.FileAnswer.TheVariants as files
 use Rattle.small_reader.specs.declared.limits.TheConstants.{LONGEST_PLAN}
@@ -48,7 +48,7 @@ there : (o : Option (List ℕ)) (n : ℕ) (bytes : List ℕ) → MatchOption o �
 there None n bytes h = absurd h
 there (Some content) n bytes h = (content, refl, h)
 
-pub answers_files : (told told' : Option Files) (files : Files) (plan limits front front' : List ℕ) (a : Answer) → told ≡ Some files → told' ≡ told →
+pub answers_files : (told told' : Option FileMap) (files : FileMap) (plan limits front front' : List ℕ) (a : Answer) → told ≡ Some files → told' ≡ told →
     IsToldFront told plan (LONGEST_PLAN + 1) front → IsToldFront told' limits (LONGEST_LIMITS + 1) front' → Answers front front' a → AnswersFiles files plan limits a
 answers_files told told' files plan limits front front' a e same first second answers =
     let p = there (files plan) (LONGEST_PLAN + 1) front (subst (λ t. IsToldFront t plan (LONGEST_PLAN + 1) front) e first) in
@@ -85,8 +85,8 @@ not_long : (refused : Bool) → done_status refused ≢ statuses.ScriptLong
 not_long true e = cc
 not_long false e = cc
 
-module _ (told : Option Files) (plan limits : List ℕ) (first written : Option (List ℕ)) (began steps : ℕ) (failed : Option (List ℕ)) (reply : Reply)
-    (is : (files : Files) → told ≡ Some files → AnswersFiles files plan limits (reply_of reply)) (counted : steps ≡ began + reply.steps) where
+module _ (told : Option FileMap) (plan limits : List ℕ) (first written : Option (List ℕ)) (began steps : ℕ) (failed : Option (List ℕ)) (reply : Reply)
+    (is : (files : FileMap) → told ≡ Some files → AnswersFiles files plan limits (reply_of reply)) (counted : steps ≡ began + reply.steps) where
   -- the answer was written whole
   pub meets_whole : Appends first written reply.text.items → OnceMeets told plan limits first written began steps failed (done_status reply.refused)
   meets_whole appended = record {
@@ -120,7 +120,7 @@ module _ (told : Option Files) (plan limits : List ℕ) (first written : Option 
   }
 
 -- a file could not be read, or memory ran out: nothing was written or counted
-pub meets_stop : (told : Option Files) (plan limits : List ℕ) (first : Option (List ℕ)) (began : ℕ) (failed : Option (List ℕ)) (answer : FileAnswer) →
+pub meets_stop : (told : Option FileMap) (plan limits : List ℕ) (first : Option (List ℕ)) (began : ℕ) (failed : Option (List ℕ)) (answer : FileAnswer) →
     (answer ≡ files.Failed → (failed ≡ Some plan) ⊎ (failed ≡ Some limits)) → (r : Result Bool Stop) → r ≡ Err (stop_of answer) → OnceMeets told plan limits first first began began failed (status_of r)
 meets_stop told plan limits first began failed answer named r is =
     subst (λ x. OnceMeets told plan limits first first began began failed (status_of x)) (sym is) (stopped answer named)

@@ -1,7 +1,7 @@
 -- What `once PLAN LIMITS` writes, and what each of its statuses says (docs/DEFINITIONS.md).
 use Rattle.std.specs.Prelude.{◌≡◌, ◌≢◌, ◌⊎◌, ℕ, ◌+◌, ◌-◌, ◌≤◌, ◌<◌, Bool, if◌then◌else◌, List, [], ◌++◌, length, take, codes, Option, Some, Result, Ok, Err}
 use Rattle.std.specs.Option.{ForSome}
-use Rattle.outside.specs.Told.{Files, Appends}
+use Rattle.outside.specs.Told.{FileMap, Appends}
 use Rattle.small_tree.specs.Body.{Plan}
 use Rattle.pap_cli.specs.Answers.{Answer, refusal, answer_of}
 use Rattle.pap_cli.specs.Plans.{IsPlan}
@@ -27,7 +27,7 @@ abbrev pub Answers : List ℕ → List ℕ → Answer → Type 0
 Answers plan limits answer = IsBuilt plan limits answer ⊎ IsUnbuilt plan limits answer
 
 -- the answer on two files that are there
-pub record AnswersFiles (files : Files) (plan limits : List ℕ) (answer : Answer) : Type 0 where
+pub record AnswersFiles (files : FileMap) (plan limits : List ℕ) (answer : Answer) : Type 0 where
   pub plan_bytes : List ℕ
   pub limits_bytes : List ℕ
   pub plan_there : files plan ≡ Some plan_bytes
@@ -57,7 +57,7 @@ IsDone statuses.NoMemory = ⊥
 IsDone statuses.ScriptLong = ⊥
 
 -- the defined text was written, the counter rose by the run's steps, and the status says whether it is a refusal
-pub record IsWhole (files : Files) (plan limits out : List ℕ) (spent : ℕ) (status : Status) : Type 0 where
+pub record IsWhole (files : FileMap) (plan limits out : List ℕ) (spent : ℕ) (status : Status) : Type 0 where
   pub answer : Answer
   pub answers : AnswersFiles files plan limits answer
   pub text : out ≡ answer.text
@@ -65,7 +65,7 @@ pub record IsWhole (files : Files) (plan limits out : List ℕ) (spent : ℕ) (s
   pub ended : status ≡ done_status answer.refused
 
 -- a front of the defined text was written, and not the whole; the counter rose by the run's steps
-pub record IsCutShort (files : Files) (plan limits out : List ℕ) (spent : ℕ) : Type 0 where
+pub record IsCutShort (files : FileMap) (plan limits out : List ℕ) (spent : ℕ) : Type 0 where
   pub answer : Answer
   pub answers : AnswersFiles files plan limits answer
   pub count : ℕ
@@ -79,7 +79,7 @@ pub record IsNothing (out : List ℕ) (spent : ℕ) : Type 0 where
   pub cost : spent ≡ 0
 
 -- What a call with the words `once PLAN LIMITS` leaves, by its status. `told` is the map of the files, where they tell it.
-pub record OnceMeets (told : Option Files) (plan limits : List ℕ) (first written : Option (List ℕ)) (began steps : ℕ) (failed : Option (List ℕ)) (status : Status) : Type 0 where
+pub record OnceMeets (told : Option FileMap) (plan limits : List ℕ) (first written : Option (List ℕ)) (began steps : ℕ) (failed : Option (List ℕ)) (status : Status) : Type 0 where
   pub out : List ℕ
   pub appended : Appends first written out
   pub counted : began ≤ steps
@@ -93,7 +93,7 @@ pub record OnceMeets (told : Option Files) (plan limits : List ℕ) (first writt
   pub takes_no_script : status ≢ statuses.ScriptLong
 
 -- the headline: the defined text was written whole, and the counter rose by the run's steps
-pub record IsOnceAnswer (files : Files) (plan limits before : List ℕ) (written : Option (List ℕ)) (began steps : ℕ) (status : Status) : Type 0 where
+pub record IsOnceAnswer (files : FileMap) (plan limits before : List ℕ) (written : Option (List ℕ)) (began steps : ℕ) (status : Status) : Type 0 where
   pub answer : Answer
   pub answers : AnswersFiles files plan limits answer
   pub text : written ≡ Some (before ++ answer.text)

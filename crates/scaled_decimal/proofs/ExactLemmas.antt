@@ -5,7 +5,7 @@ use Rattle.std.proofs.lemmas.Bool.Decides.{nat_tests}
 use Rattle.std.proofs.lemmas.Bool.{cases_lt}
 use Rattle.std.proofs.lemmas.Int.{ints, quot-rem, to_z-of_z}
 use Rattle.std.proofs.Math.Nat.{mul-mod_left}
-use Rattle.scaled_decimal.specs.IntegerLemmas.{times_assoc, times_swap, times_cancel}
+use Rattle.scaled_decimal.specs.laws.IntegerLemmas.{times_assoc, times_swap, times_cancel}
 use Rattle.scaled_decimal.specs.Decimals.{Decimal, decimal, numerator_of, scale_of, ten_to}
 use Rattle.scaled_decimal.specs.ExactQuotients.{Divides, IsExactQuotient}
 use Rattle.scaled_decimal.specs.WorkingNumbers.{IsDivisorPlaces, ExactQuotientFits}

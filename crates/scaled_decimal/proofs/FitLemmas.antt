@@ -1,19 +1,18 @@
--- Simple bounds under which the working numbers of an operation fit.
-use Rattle.std.proofs.Common.{◌≡◌, ◌≢◌, ℕ, zero, suc, ◌+◌, ◌-◌, ◌*◌, ◌^◌, ◌<◌, ◌≤◌, ℤ, pos, ◌-ℤ◌, ◌*ℤ◌, unsigned_abs, sym, ap, ◌∙◌, subst, inl, inr, arith}
+-- When the working numbers of an operation fit, by the numbers that the operation itself begins with.
+use Rattle.std.proofs.Common.{◌≡◌, ◌≢◌, ℕ, zero, suc, ◌+◌, ◌-◌, ◌*◌, ◌^◌, ◌<◌, ◌≤◌, ℤ, pos, negsuc, ◌-ℤ◌, ◌*ℤ◌, ◌<ℤ◌, unsigned_abs, sym, ap, ◌∙◌, subst, inl, inr, arith}
 use Rattle.std.proofs.lemmas.Bool.{cases_lt}
 use Rattle.std.proofs.lemmas.Int.{ints, unsigned_abs-mul}
 use Rattle.std.proofs.lemmas.Nat.{pow-add}
 use Rattle.std.proofs.Math.Nat.{mul-le-mul_right, mul_comm, le_of_mul-le-mul_right, le-mul_of_pos_right, suc-mul, pow-le-pow_right}
 use Rattle.scaled_decimal.specs.declared.rounding.Mode.{Mode}
 use Rattle.scaled_decimal.specs.Rounding.{Rounds}
-use Rattle.scaled_decimal.specs.RoundingLaws.{rounds_near, rounds_exactly_one}
-use Rattle.scaled_decimal.specs.IntegerLemmas.{some_abs, times_assoc}
-use Rattle.scaled_decimal.specs.Decimals.{Decimal, decimal, numerator_of, scale_of, ten_to}
+use Rattle.scaled_decimal.specs.laws.RoundingLaws.{rounds_near, rounds_exactly_one}
+use Rattle.scaled_decimal.specs.laws.IntegerLemmas.{some_abs, times_assoc, times_swap, times_zero, times_cancel}
+use Rattle.scaled_decimal.specs.Decimals.{Decimal, decimal, numerator_of, scale_of, numerator_at, ten_to, RoundsQuotient}
 use Rattle.scaled_decimal.specs.Limits.{IsWithinLimit, limit, most_places}
-use Rattle.scaled_decimal.specs.WorkingNumbers.{RescaleFits}
-use Rattle.scaled_decimal.specs.WorkingNumbers.{IsDivisorPlaces, ExactQuotientFits}
+use Rattle.scaled_decimal.specs.WorkingNumbers.{RescaleFits, QuotientFits, IsDivisorPlaces, ExactQuotientFits}
 use Rattle.scaled_decimal.specs.ExactQuotients.{IsPlainDivisor, HoldsQuotient, IsExactQuotient}
-use Rattle.scaled_decimal.proofs.PowerLemmas.{ten_some, ten_add, ten_not_zero, shortened}
+use Rattle.scaled_decimal.proofs.PowerLemmas.{power_le, ten_some, ten_add, ten_not_zero, exact_longer, shortened, over, under}
 
 -- a rounding is no greater than its dividend
 pub abs_rounded : (mode : Mode) (n d q : ℤ) → d ≢ pos 0 → Rounds mode n d q → unsigned_abs q ≤ unsigned_abs n
@@ -43,6 +42,13 @@ rescale_fits mode a s few kept = record {
   scale = few;
 }
 
+-- setScale to a scale that is no less, where the numerator fits there
+pub rescale_fits_longer : (mode : Mode) (a : Decimal) (s : ℕ) → scale_of a ≤ s → s ≤ most_places → IsWithinLimit (numerator_at s a) → RescaleFits mode a s
+rescale_fits_longer mode a s h few kept = record {
+  result = λ q r. subst IsWithinLimit (sym ((rounds_exactly_one mode (numerator_of a *ℤ ten_to s) (ten_to (scale_of a)) (ten_not_zero (scale_of a))).one q (numerator_at s a) r (exact_longer mode (numerator_of a) (scale_of a) s h))) kept;
+  scale = few;
+}
+
 -- setScale to a scale that is no greater, for any kept decimal
 pub rescale_fits_shorter : (mode : Mode) (a : Decimal) (s : ℕ) → IsWithinLimit (numerator_of a) → scale_of a ≤ most_places → s ≤ scale_of a → RescaleFits mode a s
 rescale_fits_shorter mode a s kept few h = record {
@@ -54,6 +60,38 @@ rescale_fits_shorter mode a s kept few h = record {
       subst IsWithinLimit (sym same) (omega arith);
   scale = omega arith;
 }
+
+-- one quotient by two fractions
+module _ (mode : Mode) (a b : Decimal) (s : ℕ) (some : numerator_of b ≢ pos 0) where
+  longer_some : (k : ℕ) → numerator_of b *ℤ ten_to k ≢ pos 0
+  longer_some k e = some (times_zero (numerator_of b) (10 ^ k) (ten_some k) e)
+
+  as_direct : (x y : ℤ) → y ≢ pos 0 → IsWithinLimit x → ((r : ℤ) → Rounds mode x y r → RoundsQuotient mode a b s r) → (q : ℤ) → RoundsQuotient mode a b s q → IsWithinLimit q
+  as_direct x y not_zero kept lift q rounded =
+      let direct = (rounds_exactly_one mode x y not_zero).some in
+      let same = (rounds_exactly_one mode (numerator_of a *ℤ ten_to (s + scale_of b)) (numerator_of b *ℤ ten_to (scale_of a)) (longer_some (scale_of a))).one q direct.0 rounded (lift direct.0 direct.1) in
+      let le = abs_rounded mode x y direct.0 not_zero direct.1 in
+      subst IsWithinLimit (sym same) (omega arith)
+
+  -- divide, where the lengthened dividend fits
+  pub quotient_fits_longer : s ≤ most_places → scale_of a ≤ s + scale_of b → s + scale_of b - scale_of a ≤ 37 → IsWithinLimit (numerator_of a *ℤ ten_to (s + scale_of b - scale_of a)) → QuotientFits mode a b s
+  quotient_fits_longer few h power kept = record {
+    power = (let moved : unsigned_abs (pos (s + scale_of b) -ℤ pos (scale_of a)) ≡ s + scale_of b - scale_of a = omega (arith, ints) in rw moved (power_le _ power));
+    dividend = λ _. kept;
+    divisor = λ less. absurd (omega arith);
+    result = as_direct (numerator_of a *ℤ ten_to (s + scale_of b - scale_of a)) (numerator_of b) some kept (λ r direct. over mode (numerator_of a) (numerator_of b) r (s + scale_of b - scale_of a) (scale_of a) (s + scale_of b) (omega arith) direct);
+    scale = few;
+  }
+
+  -- divide, where the lengthened divisor fits
+  pub quotient_fits_shorter : s ≤ most_places → s + scale_of b < scale_of a → scale_of a ≤ 37 → IsWithinLimit (numerator_of a) → IsWithinLimit (numerator_of b *ℤ ten_to (scale_of a - (s + scale_of b))) → QuotientFits mode a b s
+  quotient_fits_shorter few h power dividend kept = record {
+    power = (let moved : unsigned_abs (pos (s + scale_of b) -ℤ pos (scale_of a)) ≡ scale_of a - (s + scale_of b) = omega (arith, ints) in rw moved (power_le _ (omega arith)));
+    dividend = λ le. absurd (omega arith);
+    divisor = λ _. kept;
+    result = as_direct (numerator_of a) (numerator_of b *ℤ ten_to (scale_of a - (s + scale_of b))) (longer_some (scale_of a - (s + scale_of b))) dividend (λ r direct. under mode (numerator_of a) (numerator_of b) r (scale_of a - (s + scale_of b)) (s + scale_of b) (scale_of a) (omega arith) direct);
+    scale = few;
+  }
 
 -- a divisor with a whole cofactor
 pub plain_divisor : (d c : ℕ) → c * d ≡ 10 ^ 30 → IsPlainDivisor (pos d)
@@ -118,4 +156,48 @@ module _ (a : Decimal) (d c j : ℕ) (whole : c * d ≡ 10 ^ j) (kept : unsigned
     scaled = scaled_kept;
     scale = λ k places. (let least = places.least j (pos c, ap pos whole) in omega arith);
     result = result_kept;
+  }
+
+-- divide(d), where the numerator fits times the cofactor of the least power of ten that d divides
+module _ (a : Decimal) (d c : ℤ) (k : ℕ) (positive : pos 0 <ℤ d) (whole : c *ℤ d ≡ ten_to k) (kept : IsWithinLimit (numerator_of a *ℤ c)) where
+  one_factor : (x : ℤ) → x *ℤ d ≡ ten_to k → x ≡ c
+  one_factor x e = by_positive d positive (e ∙ sym whole) where
+    by_positive : (d' : ℤ) → pos 0 <ℤ d' → x *ℤ d' ≡ c *ℤ d' → x ≡ c
+    by_positive (pos m) p f = times_cancel x c m (omega (arith, ints)) f
+    by_positive (negsuc m) p f = absurd (omega (arith, ints))
+
+  longest : HoldsQuotient a d (decimal (numerator_of a *ℤ c) (scale_of a + k))
+  longest =
+      ap (λ x. x *ℤ ten_to (scale_of a)) (times_assoc (numerator_of a) c d ∙ ap (λ x. numerator_of a *ℤ x) whole)
+      ∙ times_assoc (numerator_of a) (ten_to k) (ten_to (scale_of a))
+      ∙ ap (λ x. numerator_of a *ℤ x) (ten_add k (scale_of a) (scale_of a + k) (omega arith))
+
+  -- the exact quotient's numerator is a part of the one at the longest scale
+  least_kept : (q : Decimal) → IsExactQuotient a d q → IsWithinLimit (numerator_of q)
+  least_kept q exact =
+      let few = exact.least (decimal (numerator_of a *ℤ c) (scale_of a + k)) (omega arith) longest in
+      let more : ℕ = scale_of a + k - scale_of q in
+      let lifted : HoldsQuotient a d (decimal (numerator_of q *ℤ ten_to more) (scale_of a + k)) =
+      ap (λ x. x *ℤ ten_to (scale_of a)) (times_swap (numerator_of q) (ten_to more) d)
+      ∙ times_swap (numerator_of q *ℤ d) (ten_to more) (ten_to (scale_of a))
+      ∙ ap (λ x. x *ℤ ten_to more) exact.exact
+      ∙ times_assoc (numerator_of a) (ten_to (scale_of q)) (ten_to more)
+      ∙ ap (λ x. numerator_of a *ℤ x) (ten_add (scale_of q) more (scale_of a + k) (omega arith)) in
+      let same : numerator_of q *ℤ ten_to more ≡ numerator_of a *ℤ c = by_positive d positive (times_cancel _ _ (10 ^ scale_of a) (ten_some (scale_of a)) (lifted ∙ sym longest)) in
+      let size = unsigned_abs-mul (numerator_of q) (ten_to more) in
+      let grown : unsigned_abs (numerator_of q) ≤ unsigned_abs (numerator_of q) * 10 ^ more = le-mul_of_pos_right (unsigned_abs (numerator_of q)) (ten_some more) in
+      let total = ap unsigned_abs same in
+      omega arith
+    where
+      by_positive : {x y : ℤ} (d' : ℤ) → pos 0 <ℤ d' → x *ℤ d' ≡ y *ℤ d' → x ≡ y
+      by_positive {x} {y} (pos m) p f = times_cancel x y m (omega (arith, ints)) f
+      by_positive (negsuc m) p f = absurd (omega (arith, ints))
+
+  pub exact_fits_least : IsDivisorPlaces d k → scale_of a + k ≤ most_places → ExactQuotientFits a d
+  exact_fits_least places few = record {
+    scaled = λ j x at e.
+        let same : j ≡ k = (let up = at.least k places.divides in let down = places.least j at.divides in omega arith) in
+        subst (λ z. IsWithinLimit (numerator_of a *ℤ z)) (sym (one_factor x (e ∙ ap ten_to same))) kept;
+    scale = λ j at. (let up = at.least k places.divides in omega arith);
+    result = least_kept;
   }

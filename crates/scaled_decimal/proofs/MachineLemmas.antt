@@ -3,10 +3,10 @@ use Rattle.std.proofs.Common.{◌≡◌, ℕ, ◌*◌, ◌%◌, Bool, nat_eq, �
 use Rattle.std.specs.Int.{w128}
 use Rattle.std.proofs.lemmas.Int.{ints, to_z-of_z, quot_is, quot_fits, fits_signed_from_abs}
 use Rattle.scaled_decimal.specs.declared.rounding.Mode.{Mode}
-use Rattle.scaled_decimal.specs.IntegerLemmas.{abs_sub}
+use Rattle.scaled_decimal.specs.laws.IntegerLemmas.{abs_sub}
 use Rattle.scaled_decimal.specs.Limits.{IsWithinLimit}
 use Rattle.scaled_decimal.specs.RoundingDecision.{moves_away}
-use Rattle.scaled_decimal.specs.RoundingLemmas.{is_odd, part_bound, left_over}
+use Rattle.scaled_decimal.specs.laws.RoundingLemmas.{is_odd, part_bound, left_over}
 
 -- a number within the limit fits 128 bits
 pub kept_fits : (n : ℤ) → IsWithinLimit n → FitsSigned w128 n

@@ -8,9 +8,9 @@ use Rattle.std.proofs.Math.Nat.{one-le-pow, pow-le-pow_right}
 use Rattle.scaled_decimal.specs.declared.rounding.Mode.{Mode}
 use Rattle.scaled_decimal.specs.Rounding.{Rounds}
 use Rattle.scaled_decimal.specs.Decimals.{ten_to}
-use Rattle.scaled_decimal.specs.RoundingLemmas.{exact}
-use Rattle.scaled_decimal.specs.ScaledLemmas.{rounds_scaled}
-use Rattle.scaled_decimal.specs.IntegerLemmas.{times_assoc}
+use Rattle.scaled_decimal.specs.laws.RoundingLemmas.{exact}
+use Rattle.scaled_decimal.specs.laws.ScaledLemmas.{rounds_scaled}
+use Rattle.scaled_decimal.specs.laws.IntegerLemmas.{times_assoc}
 
 -- 10 ^ k, 10 ^ (k + 1) and so on, as many as n
 abbrev pub powers_from : ℕ → ℕ → List ℤ

@@ -2,7 +2,7 @@
 use Rattle.std.proofs.Common.{◌≡◌, ◌≢◌, ℕ, ◌+◌, ◌-◌, ◌<◌, ◌≤◌, ◌^◌, ℤ, pos, ◌*ℤ◌, refl, subst, arith}
 use Rattle.scaled_decimal.specs.declared.rounding.Mode.{Mode}
 use Rattle.scaled_decimal.specs.Rounding.{Rounds}
-use Rattle.scaled_decimal.specs.IntegerLemmas.{times_zero}
+use Rattle.scaled_decimal.specs.laws.IntegerLemmas.{times_zero}
 use Rattle.scaled_decimal.specs.Decimals.{Decimal, decimal, numerator_of, scale_of, numerator_at, ten_to, IsRescaled, IsQuotient}
 use Rattle.scaled_decimal.specs.Limits.{IsWithinLimit}
 use Rattle.scaled_decimal.specs.WorkingNumbers.{RescaleFits, QuotientFits}

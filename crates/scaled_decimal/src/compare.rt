@@ -1,7 +1,7 @@
 ghost use Rattle.std.specs.Prelude.{◌≡◌, ◌≤◌, ◌*ℤ◌};
 ghost use Rattle.std.specs.Ordering.{int_cmp};
 ghost use Rattle.scaled_decimal.specs.Decimals.{ten_to, comparison, lesser, greater, value_order};
-ghost use Rattle.scaled_decimal.specs.Limits.{most_places};
+ghost use Rattle.scaled_decimal.specs.Limits.{IsWithinLimit, most_places};
 ghost use Rattle.scaled_decimal.specs.WorkingNumbers.{ComparisonFits};
 
 use crate::decimal::Dec;
@@ -63,11 +63,14 @@ impl Dec {
     }
 }
 
-/// The order of `a` and `b` * 10^`places`, by the quotient, since the product may leave 128 bits.
+/// The order of `a` and `b` * 10^`places`. A product beyond 128 bits is beyond `a` too, on the side of `b`'s sign.
 fn compare_scaled(a: i128, b: i128, places: u8) -> Ordering
-    requires { places ≤ most_places }
+    requires kept { IsWithinLimit a }
+    requires places { places ≤ most_places }
     ensures { result ≡ int_cmp a (b *ℤ ten_to places) }
 {
-    let power = power_of_ten(places);
-    (a / power).cmp(&b).then((a % power).cmp(&0))
+    match b.checked_mul(power_of_ten(places)) {
+        Some(product) => a.cmp(&product),
+        None => 0.cmp(&b),
+    }
 }

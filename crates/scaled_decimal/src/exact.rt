@@ -21,8 +21,8 @@ impl Dec {
     }
 }
 
-/// The least k for which `d` divides 10^k, 0 to 30.
-fn divisor_places(d: i128) -> u8
+/// The least k for which a divisor `d` of 10^30 divides 10^k.
+pub fn divisor_places(d: i128) -> u8
     requires { IsPlainDivisor d }
     ensures places { IsDivisorPlaces d result }
     ensures few { result ≤ most_places }

@@ -11,11 +11,11 @@ mod powers;
 mod reading;
 mod rounding;
 mod rounding_types;
-#[cfg(test)]
-mod tests;
 mod writing;
 
 pub use decimal::Dec;
+pub use exact::divisor_places;
+pub use powers::power_of_ten;
 pub use reading::{NumFault, read_dec};
 pub use rounding::{Mode, each_quotient_has_one_rounding, round_div};
 pub use rounding_types::{RCeiling, RDown, RFloor, RHalfDown, RHalfEven, RHalfUp, RUp, Rounding};

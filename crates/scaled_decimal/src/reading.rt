@@ -170,7 +170,8 @@ fn digit_count(text: &[u8]) -> usize
 fn value_after(start: u128, digits: &[u8]) -> Option<u128>
     requires start { start ≤ limit }
     requires digits { AllDigits 10 digits.now }
-    ensures { let number = digits_value_after 10 start digits.now in SomeIff result (number ≤ limit) number }
+    ensures { let number = digits_value_after 10 start digits.now in
+        SomeIff result (number ≤ limit) number }
 {
     let mut number = start;
     for digit in digits {

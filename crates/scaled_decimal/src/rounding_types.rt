@@ -1,6 +1,6 @@
 ghost use Rattle.std.specs.Prelude.{◌≢◌, pos};
 ghost use Rattle.scaled_decimal.specs.Rounding.{Rounds, StaysNear, RisesWithQuotient};
-ghost use Rattle.scaled_decimal.specs.RoundingLaws.{rounds_near, rounds_rising};
+ghost use Rattle.scaled_decimal.specs.laws.RoundingLaws.{rounds_near, rounds_rising};
 ghost use Rattle.scaled_decimal.specs.Limits.{IsWithinLimit};
 ghost use Rattle.scaled_decimal.specs.declared.rounding.Mode.{Mode};
 ghost use Rattle.scaled_decimal.specs.declared.rounding.Mode.TheVariants.{Down, Up, Floor, Ceiling, HalfUp, HalfDown, HalfEven};

@@ -1,3 +1,12 @@
 //! The tests of all crates, by what no clause says: each public call once with ample memory, worked examples, printed text.
 //! They stand in one crate above the others, since a crate with tests is proved twice.
 #![tactic(auto)]
+
+#[cfg(test)]
+mod counter;
+#[cfg(test)]
+mod decimals;
+#[cfg(test)]
+mod names;
+#[cfg(test)]
+mod outside_objects;

@@ -2,7 +2,7 @@ use Rattle.std.proofs.Common.{rules, arith, ◌-◌, ◌*ℤ◌, FitsSigned, pos
 use Rattle.std.specs.Int.{w128}
 use Rattle.std.proofs.lemmas.Int.{ints, to_z-of_z, quot_fits}
 use Rattle.scaled_decimal.specs.Decimals.{ten_to}
-use Rattle.scaled_decimal.specs.RoundingLemmas.{mag_quot}
+use Rattle.scaled_decimal.specs.laws.RoundingLemmas.{mag_quot}
 use Rattle.scaled_decimal.proofs.ExactLemmas.{shortened_more}
 use Rattle.scaled_decimal.proofs.exact.shortened.Goals as goal
 

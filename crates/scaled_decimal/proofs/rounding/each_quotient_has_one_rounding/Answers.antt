@@ -1,4 +1,4 @@
-use Rattle.scaled_decimal.specs.RoundingLaws.{rounds_exactly_one}
+use Rattle.scaled_decimal.specs.laws.RoundingLaws.{rounds_exactly_one}
 use Rattle.scaled_decimal.proofs.rounding.each_quotient_has_one_rounding.Goals as goal
 
 pub returns : goal.returns

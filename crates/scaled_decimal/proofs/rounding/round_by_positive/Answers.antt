@@ -2,7 +2,7 @@ use Rattle.std.proofs.Common.{arith, FitsSigned, pos, ◌+ℤ◌, ◌-ℤ◌, �
 use Rattle.std.specs.Prelude.{int_div}
 use Rattle.std.specs.Int.{w128}
 use Rattle.std.proofs.lemmas.Int.{ints, to_z-of_z, rem_below}
-use Rattle.scaled_decimal.specs.RoundingLemmas.{stays, moves_up, moves_down, divides, mag_quot}
+use Rattle.scaled_decimal.specs.laws.RoundingLemmas.{stays, moves_up, moves_down, divides, mag_quot}
 use Rattle.scaled_decimal.proofs.MachineLemmas.{quotient_is, rest_is, moves_is, next_fits}
 use Rattle.scaled_decimal.proofs.rounding.round_by_positive.Goals as goal
 

@@ -1,0 +1,12 @@
+pub mod WalkLemmas
+pub mod EntryLemmas
+pub mod InputLemmas
+pub mod BindingLemmas
+pub mod Laws
+pub mod LabelLemmas
+pub mod BoundLemmas
+pub mod InputParts
+pub mod AnswerLemmas
+pub mod OrderLemmas
+pub mod LoopLemmas
+pub mod ReadingLemmas

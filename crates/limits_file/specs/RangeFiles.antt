@@ -1,0 +1,62 @@
+-- What a range file says: its limits, or its first fault (docs/PROFILE.md, "The range file").
+use Rattle.std.specs.Prelude.{◌≡◌, ℕ, ◌<◌, ◌≤◌, List, [], length, map, flat_map, Some, None, Result, Err, codes, IsUtf8, MatchBool}
+use Rattle.std.specs.Cmp.Lexicographic.{slice_cmp}
+use Rattle.std.specs.Ordering.{nat_cmp}
+use Rattle.std.specs.List.Sorted.{IsStrictlySortedBy}
+use Rattle.std.specs.Str.{bytes_eq}
+use Rattle.toml.specs.Data.{Data, table, Members}
+use Rattle.toml.specs.Parse.{parse_document}
+use Rattle.limits_file.specs.declared.limits.InputLimit.{InputLimit}
+use Rattle.limits_file.specs.declared.limits.Binding.{Binding}
+use Rattle.limits_file.specs.declared.limits.Limits.{Limits}
+use Rattle.limits_file.specs.Labels.{label_of}
+use Rattle.limits_file.specs.Faults.{Fault, too_long, no_toml, bad_key}
+use Rattle.limits_file.specs.Walks.{TableSays}
+use Rattle.limits_file.specs.Inputs.{InputSays}
+use Rattle.limits_file.specs.Bindings.{BindingSays}
+
+abbrev pub with_inputs : List InputLimit → Limits
+with_inputs inputs = record { inputs = inputs; bindings = [] }
+
+abbrev pub with_bindings : List Binding → Limits
+with_bindings bindings = record { inputs = []; bindings = bindings }
+
+abbrev pub joined : List Limits → Limits
+joined parts = record { inputs = flat_map (λ part. part.inputs) parts; bindings = flat_map (λ part. part.bindings) parts }
+
+-- A key of the file: `bind` and `input` are tables of entries, and any other key is a fault.
+abbrev pub SectionSays : ℕ → List ℕ → Data → Result Limits Fault → Type 0
+SectionSays n key (table entries) answer =
+    MatchBool (bytes_eq key (codes "bind")) (TableSays BindingSays with_bindings entries answer)
+    (MatchBool (bytes_eq key (codes "input")) (TableSays InputSays with_inputs entries answer)
+    (answer ≡ Err (bad_key (label_of key))))
+SectionSays n key value answer = answer ≡ Err (bad_key (label_of key))
+
+-- the greatest number of bytes of a range file
+abbrev pub most_bytes : ℕ
+most_bytes = 262144
+
+-- the text, which isn't too long, is no TOML
+pub record IsNoToml (bytes : List ℕ) : Type 0 where
+  pub short : length bytes ≤ most_bytes
+  pub refused : IsUtf8 bytes → parse_document bytes ≡ None
+
+-- the text, which isn't too long, is this TOML table
+pub record IsToml (bytes : List ℕ) (file : Members) : Type 0 where
+  pub short : length bytes ≤ most_bytes
+  pub text : IsUtf8 bytes
+  pub parsed : parse_document bytes ≡ Some file
+
+-- the limits of a range file, or its first fault
+abbrev pub FileSays : List ℕ → Result Limits Fault → Type 0
+FileSays bytes (Err too_long) = most_bytes < length bytes
+FileSays bytes (Err no_toml) = IsNoToml bytes
+FileSays bytes answer = (file : Members) × IsToml bytes file × TableSays SectionSays joined file answer
+
+-- the names stand in byte order, and none stands twice
+abbrev pub NamesAscend : List (List ℕ) → Type 0
+NamesAscend = IsStrictlySortedBy (slice_cmp nat_cmp)
+
+pub record AreInOrder (limits : Limits) : Type 0 where
+  pub inputs : NamesAscend (map (λ limit. limit.name) limits.inputs)
+  pub bindings : NamesAscend (map (λ binding. binding.input) limits.bindings)

@@ -1,0 +1,17 @@
+//! Range files: the range of each input, and what inputs carry over from earlier runs.
+#![tactic(auto)]
+
+mod bindings;
+mod entries;
+mod fault;
+mod inputs;
+mod items;
+mod label;
+mod limits;
+mod reading;
+
+pub use fault::LimitsFault;
+pub use items::Items;
+pub use label::Label;
+pub use limits::{Binding, Carry, InputLimit, Limits};
+pub use reading::{each_text_has_one_answer, read_limits};

@@ -1,0 +1,36 @@
+-- The texts of the expression language: tests, assignments and declared literals.
+use Rattle.std.specs.Prelude.{ℕ, List, length}
+use Rattle.pap_tree.specs.Term.{Term}
+use Rattle.pap_tree.specs.Tokens.{Spot, plain, Tokens}
+use Rattle.pap_tree.specs.Grammar.{Line, Level, Assignment, Constant, Meaning, tree, assignment, declared}
+use Rattle.pap_tree.specs.Declarations.{DeclaredLiteral}
+use Rattle.pap_tree.specs.Texts.{Text}
+use Rattle.pap_tree.specs.Stopping.{IsRead, IsRefused, Cause}
+
+-- the bytes are a text of the line that stands for this
+pub record IsText (l : Line) (bytes : List ℕ) (x : Meaning) : Type 0 where
+  pub spots : List Spot
+  pub tokens : Tokens 0 bytes spots
+  pub text : Text l (plain spots) x
+
+-- the three relations between bytes and a tree
+abbrev pub IsTest : List ℕ → Term → Type 0
+IsTest bytes x = IsText (Level 0) bytes (tree x)
+
+abbrev pub IsAssignment : List ℕ → List ℕ → Term → Type 0
+IsAssignment bytes name x = IsText Assignment bytes (assignment name x)
+
+abbrev pub IsDeclared : List ℕ → DeclaredLiteral → Type 0
+IsDeclared bytes d = IsText Constant bytes (declared d)
+
+-- the same, and no token stops the reading
+pub record IsAccepted (l : Line) (bytes : List ℕ) (x : Meaning) : Type 0 where
+  pub spots : List Spot
+  pub tokens : Tokens 0 bytes spots
+  pub text : Text l (plain spots) x
+  pub read : IsRead l (plain spots)
+
+pub record IsWrong (l : Line) (bytes : List ℕ) (c : Cause) (at : ℕ) : Type 0 where
+  pub spots : List Spot
+  pub tokens : Tokens 0 bytes spots
+  pub refused : IsRefused l spots (length bytes) c at

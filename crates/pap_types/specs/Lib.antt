@@ -1,0 +1,11 @@
+pub mod Scopes
+pub mod Operations
+pub mod Values
+pub mod Kinds
+pub mod Routines
+pub mod Checks
+pub mod Safety
+pub mod Runs
+pub mod Bounds
+pub mod Meaning
+pub mod ScopeViews

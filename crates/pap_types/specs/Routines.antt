@@ -1,0 +1,13 @@
+-- The methods of a plan by name.
+use Rattle.std.specs.Prelude.{ℕ, if◌then◌else◌, List, [], ◌∷◌, codes, Option, Some, None}
+use Rattle.std.specs.Str.{bytes_eq}
+use Rattle.pap_tree.specs.Flowchart.{Body, Routine}
+
+-- the method that a run begins with
+abbrev pub main_name : List ℕ
+main_name = codes "MAIN"
+
+-- the body of a method other than MAIN
+abbrev pub body_named : List Routine → List ℕ → Option Body
+body_named [] x = None
+body_named (m ∷ ms) x = if bytes_eq x m.name then Some m.body else body_named ms x

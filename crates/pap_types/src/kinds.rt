@@ -1,0 +1,181 @@
+// The kinds of an expression's nodes, and which operands each operation takes.
+ghost use Rattle.std.specs.Prelude.{◌≡◌};
+ghost use Rattle.pap_tree.specs.Term.{term_of, unary, operator, method};
+ghost use Rattle.pap_types.specs.Kinds.{declared_kind, wider, kind_of_one, kind_of_operator, kind_of_two, is_whole, is_convertible, has_few_places, is_factor_literal, is_plain_divisor, takes_one, takes_operator, are_comparable, are_parts, suits};
+
+use pap_tree::{Binary, Call, Expr, Kind, Unary};
+use scaled_decimal::Dec;
+
+/// The kind of a node: what its value is, or how its name or literal may be used (docs/PROFILE.md, "Kinds").
+#[derive(Clone, Copy, Debug, PartialEq, Eq)]
+pub enum NodeKind {
+    /// A whole number of 32 bits.
+    Int,
+    /// A whole number of 64 bits.
+    Long,
+    /// A decimal.
+    Big,
+    /// A truth.
+    Truth,
+    /// A literal with a point.
+    Fraction,
+    /// The name of a `double`.
+    Factor,
+    /// The name of a table.
+    Table,
+}
+
+impl NodeKind {
+    /// The kind of a declared name.
+    pub fn of_declared(kind: Kind) -> NodeKind
+        ensures { result ≡ declared_kind kind }
+    {
+        match kind {
+            Kind::Int => NodeKind::Int,
+            Kind::Long => NodeKind::Long,
+            Kind::Big => NodeKind::Big,
+            Kind::Factor => NodeKind::Factor,
+            Kind::Table => NodeKind::Table,
+        }
+    }
+
+    /// Whether it is a whole number's.
+    pub fn is_whole(self) -> bool
+        ensures { result ≡ is_whole self }
+    {
+        matches!(self, NodeKind::Int | NodeKind::Long)
+    }
+
+    /// Whether `BigDecimal.valueOf` takes it.
+    pub fn is_convertible(self) -> bool
+        ensures { result ≡ is_convertible self }
+    {
+        self.is_whole() || self == NodeKind::Factor || self == NodeKind::Fraction
+    }
+
+    /// The kind of a whole number that comes of two: `int` where both are.
+    pub fn wider(self, other: NodeKind) -> NodeKind
+        ensures { result ≡ wider self other }
+    {
+        if other == NodeKind::Long { other } else { self }
+    }
+
+    /// Whether the parts of a conditional may have these kinds: both decimals, or both whole numbers.
+    pub fn are_parts(self, other: NodeKind) -> bool
+        ensures { result ≡ are_parts self other }
+    {
+        (self == NodeKind::Big && other == NodeKind::Big) || (self.is_whole() && other.is_whole())
+    }
+}
+
+/// Whether an operation takes an operand of a kind.
+pub fn takes_unary(op: Unary, kind: NodeKind) -> bool
+    ensures { result ≡ takes_one (unary op) kind }
+{
+    match op {
+        Unary::Minus => kind.is_whole(),
+        Unary::Not => kind == NodeKind::Truth,
+        Unary::Negate | Unary::Abs => kind == NodeKind::Big,
+    }
+}
+
+/// The kind of an operation on an operand of a kind.
+pub fn kind_of_unary(op: Unary, kind: NodeKind) -> NodeKind
+    ensures { result ≡ kind_of_one (unary op) kind }
+{
+    match op {
+        Unary::Minus => kind,
+        Unary::Not => NodeKind::Truth,
+        Unary::Negate | Unary::Abs => NodeKind::Big,
+    }
+}
+
+/// The kind of an operator between operands of two kinds.
+pub fn kind_of_operator(op: Binary, left: NodeKind, right: NodeKind) -> NodeKind
+    ensures { result ≡ kind_of_operator op left right }
+{
+    match op {
+        Binary::Mul | Binary::Div | Binary::Rem | Binary::Plus | Binary::Sub => left.wider(right),
+        _ => NodeKind::Truth,
+    }
+}
+
+/// The kind of a method's result.
+pub fn kind_of_call(call: Call) -> NodeKind
+    ensures { (left right : NodeKind) → result ≡ kind_of_two (method call) left right }
+{
+    match call {
+        Call::CompareTo => NodeKind::Int,
+        _ => NodeKind::Big,
+    }
+}
+
+/// Whether an operator takes its operands.
+pub fn takes_operator(
+    op: Binary,
+    left: &Expr,
+    left_kind: NodeKind,
+    right: &Expr,
+    right_kind: NodeKind,
+) -> bool
+    ensures { result ≡ takes_operator op (term_of left.now) left_kind (term_of right.now) right_kind }
+{
+    match op {
+        Binary::And | Binary::Or => left_kind == NodeKind::Truth && right_kind == NodeKind::Truth,
+        Binary::Mul | Binary::Div | Binary::Rem | Binary::Plus | Binary::Sub => {
+            left_kind.is_whole() && right_kind.is_whole()
+        }
+        _ => are_comparable(left, left_kind, right, right_kind),
+    }
+}
+
+/// Whole numbers are compared with whole numbers, and the name of a `double` with a literal.
+fn are_comparable(left: &Expr, left_kind: NodeKind, right: &Expr, right_kind: NodeKind) -> bool
+    ensures { result ≡ are_comparable (term_of left.now) left_kind (term_of right.now) right_kind }
+{
+    (left_kind.is_whole() && right_kind.is_whole())
+        || (left_kind == NodeKind::Factor && is_factor_literal(right))
+        || (is_factor_literal(left) && right_kind == NodeKind::Factor)
+}
+
+/// Whether an expression is a literal that may go to a `double` or be compared with one: an `int`, or a literal with a point
+/// of at most three places.
+pub fn is_factor_literal(e: &Expr) -> bool
+    ensures { result ≡ is_factor_literal (term_of e.now) }
+{
+    match e {
+        Expr::Int(_) => true,
+        Expr::Point(number) => has_few_places(*number),
+        _ => false,
+    }
+}
+
+/// The greatest magnitude of a numerator at three places, which brought from scale 0 stays within 10^37.
+const MOST_AT_SCALE_0: u128 = 10_000_000_000_000_000_000_000_000_000_000_000;
+
+/// Whether a decimal has at most three places, and at three places a numerator within 10^37.
+pub fn has_few_places(number: Dec) -> bool
+    ensures { result ≡ has_few_places number }
+{
+    let magnitude = number.numerator().unsigned_abs();
+    match number.scale() {
+        0 => magnitude <= MOST_AT_SCALE_0,
+        1 => magnitude <= MOST_AT_SCALE_0 * 10,
+        2 => magnitude <= MOST_AT_SCALE_0 * 100,
+        3 => true,
+        _ => false,
+    }
+}
+
+/// Whether a variable of a type may get the value of an expression of a kind.
+pub fn suits(target: Kind, e: &Expr, kind: NodeKind) -> bool
+    ensures { result ≡ suits target (term_of e.now) kind }
+{
+    match target {
+        Kind::Int => kind == NodeKind::Int,
+        Kind::Long => kind.is_whole(),
+        Kind::Big => kind == NodeKind::Big,
+        Kind::Factor => is_factor_literal(e),
+        Kind::Table => false,
+    }
+}

@@ -1,0 +1,44 @@
+-- Whole numbers as Java's int and long compute with them, before a width bounds the result (The Java Language
+-- Specification, 15.15.4, 15.17 and 15.18).
+use Rattle.std.specs.Prelude.{ℕ, ◌-◌, ◌^◌, Bool, ◌&&◌, ℤ, pos, ◌+ℤ◌, ◌-ℤ◌, ◌*ℤ◌, neg_ℤ, ◌≤ℤ◌, ◌<ℤ◌, int_le, int_lt, int_div, int_rem}
+use Rattle.scaled_decimal.specs.Decimals.{Decimal, decimal}
+
+-- how many bits an int has, and a long
+abbrev pub int_bits : ℕ
+int_bits = 32
+
+abbrev pub long_bits : ℕ
+long_bits = 64
+
+-- a number that so many bits hold in two's complement
+pub record IsOfBits (bits : ℕ) (n : ℤ) : Type 0 where
+  pub low : neg_ℤ (pos (2 ^ (bits - 1))) ≤ℤ n
+  pub high : n <ℤ pos (2 ^ (bits - 1))
+
+-- the same as a test
+abbrev pub is_of_bits : ℕ → ℤ → Bool
+is_of_bits bits n = int_le (neg_ℤ (pos (2 ^ (bits - 1)))) n && int_lt n (pos (2 ^ (bits - 1)))
+
+abbrev pub whole_sum : ℤ → ℤ → ℤ
+whole_sum a b = a +ℤ b
+
+abbrev pub whole_difference : ℤ → ℤ → ℤ
+whole_difference a b = a -ℤ b
+
+abbrev pub whole_product : ℤ → ℤ → ℤ
+whole_product a b = a *ℤ b
+
+-- a / b, b not 0: the quotient is cut towards zero
+abbrev pub whole_quotient : ℤ → ℤ → ℤ
+whole_quotient a b = int_div a b
+
+-- a % b, b not 0: what that quotient leaves, with the sign of a
+abbrev pub whole_remainder : ℤ → ℤ → ℤ
+whole_remainder a b = int_rem a b
+
+abbrev pub whole_opposite : ℤ → ℤ
+whole_opposite a = neg_ℤ a
+
+-- a whole number as a decimal
+abbrev pub whole_decimal : ℤ → Decimal
+whole_decimal n = decimal n 0
