@@ -11,16 +11,16 @@ use thiserror::Error;
 #[derive(Debug, Drop, Error)]
 pub enum LimitsFault {
     /// The text is no TOML, or isn't UTF-8.
-    #[error("the range file is no TOML")]
+    #[error("range file: the text is no TOML")]
     Toml,
     /// A key that has no place there or whose value is of another type, or an entry that lacks a key.
-    #[error("range file, at {name}: a key that has no place there, a value of another type, or a key is missing below it")]
+    #[error("range file, at {name}: an unknown key, a value of another type, or a missing key")]
     Key { name: Label },
     /// An input whose bounds break their rule, or the 257th input.
-    #[error("range file, input {name}: its places aren't 0 to 30, a bound is no number, has more places or is too large, its low is above its high, or it is the 257th input")]
+    #[error("range file, input {name}: places outside 0 to 30, low above high, an ill-formed or too long bound, or input 257")]
     Bound { name: Label },
     /// The text has more than 262,144 bytes.
-    #[error("the range file has more than 262144 bytes")]
+    #[error("range file: more than 262144 bytes")]
     LimitsLong,
     /// Memory ran out.
     #[error(transparent)]

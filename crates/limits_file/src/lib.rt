@@ -9,9 +9,11 @@ mod items;
 mod label;
 mod limits;
 mod reading;
+mod slots;
 
 pub use fault::LimitsFault;
 pub use items::Items;
 pub use label::Label;
 pub use limits::{Binding, Carry, InputLimit, Limits};
 pub use reading::{each_text_has_one_answer, read_limits};
+pub use slots::{Slot, Spec};

@@ -8,7 +8,7 @@ use scaled_decimal::Dec;
 use std::cmp::Ordering;
 
 /// The range of an input.
-#[derive(Clone, Copy, Debug)]
+#[derive(Clone, Copy)]
 pub struct InputLimit {
     pub name: Name,
     /// The least value.
@@ -20,7 +20,7 @@ pub struct InputLimit {
 }
 
 /// What an input carries over from the employee's earlier runs of the calendar year.
-#[derive(Clone, Copy, Debug)]
+#[derive(Clone, Copy)]
 pub enum Carry {
     /// The sum of an output.
     Sum(Name),
@@ -31,14 +31,14 @@ pub enum Carry {
 }
 
 /// An input that takes its value from earlier runs.
-#[derive(Clone, Copy, Debug)]
+#[derive(Clone, Copy)]
 pub struct Binding {
     pub input: Name,
     pub carry: Carry,
 }
 
 /// What a range file says. Both lists are in byte order of the inputs' names.
-#[derive(Debug, Drop)]
+#[derive(Drop)]
 pub struct Limits {
     pub inputs: Items<InputLimit>,
     pub bindings: Items<Binding>,

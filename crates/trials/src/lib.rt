@@ -10,3 +10,5 @@ mod decimals;
 mod names;
 #[cfg(test)]
 mod outside_objects;
+#[cfg(test)]
+mod range_files;

@@ -28,7 +28,10 @@ fn names_compare_and_print_as_their_text(rt: HostRuntime) -> Result<(), Fail> {
     assert_eq!(rt; name.bytes(), b"LST".as_slice());
     assert_eq!(rt; name.as_str(), "LST");
     assert!(rt; name < Name::main() && name != Name::main());
-    assert_eq!(rt; format!(in rt.alloc(); "{name} {name:?}")?.as_str(), "LST \"LST\"");
+    assert_eq!(rt;
+        format!(in rt.alloc(); "{name} {name:?}")?.as_str(),
+        "LST \"LST\""
+    );
     let place = Place {
         method: Name::main(),
         stmt: 2,
@@ -48,6 +51,9 @@ fn short_texts_have_at_most_32_ascii_bytes(rt: HostRuntime) -> Result<(), Fail> 
     assert!(rt; ShortText::read(b"abcdefghijklmnopqrstuvwxyzABCDEFG").is_none());
     assert!(rt; ShortText::read("M\u{fc}ller".as_bytes()).is_none());
     let dotted = ShortText::read(b"a-b.c").ok_or("a short text")?;
-    assert_eq!(rt; format!(in rt.alloc(); "{dotted} {dotted:?}")?.as_str(), "a-b.c \"a-b.c\"");
+    assert_eq!(rt;
+        format!(in rt.alloc(); "{dotted} {dotted:?}")?.as_str(),
+        "a-b.c \"a-b.c\""
+    );
     Ok(())
 }

@@ -1,0 +1,25 @@
+//! What a plan expects of each of its inputs.
+
+use crate::{Carry, InputLimit, Items};
+use pap_tree::{Kind, Name};
+use scaled_decimal::Dec;
+
+/// An input of an accepted plan.
+#[derive(Clone, Copy)]
+pub struct Slot {
+    pub name: Name,
+    /// The type that the plan declares it with.
+    pub kind: Kind,
+    /// Its range.
+    pub limit: InputLimit,
+    /// The value of an input that isn't given, where the plan declares one.
+    pub value: Option<Dec>,
+    /// What it carries over from earlier runs, where the range file binds it.
+    pub carry: Option<Carry>,
+}
+
+/// The inputs of an accepted plan, in declared order.
+#[derive(Drop)]
+pub struct Spec {
+    pub slots: Items<Slot>,
+}
