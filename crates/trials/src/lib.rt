@@ -3,6 +3,8 @@
 #![tactic(auto)]
 
 #[cfg(test)]
+mod calendars;
+#[cfg(test)]
 mod counter;
 #[cfg(test)]
 mod decimals;
@@ -12,3 +14,5 @@ mod names;
 mod outside_objects;
 #[cfg(test)]
 mod range_files;
+#[cfg(test)]
+mod records;
