@@ -1,5 +1,5 @@
 -- What an input carries over from the employee's earlier runs of the calendar year (docs/PROFILE.md, "Carried values").
-use Rattle.std.specs.Prelude.{ℕ, List, [], ◌∷◌, Option, Some, None, length, option_map, option_and_then, fold, pos}
+use Rattle.std.specs.Prelude.{ℕ, List, Option, length, option_map, option_and_then, fold, pos}
 use Rattle.std.specs.List.{find, filter_map}
 use Rattle.std.specs.Str.{bytes_eq}
 use Rattle.scaled_decimal.specs.Decimals.{Decimal, decimal, sum}

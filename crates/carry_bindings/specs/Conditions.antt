@@ -7,7 +7,6 @@ use Rattle.pap_tree.specs.declared.declaration.Kind.TheVariants.{Factor}
 use Rattle.limits_file.specs.declared.limits.InputLimit.{InputLimit}
 use Rattle.limits_file.specs.declared.slots.Slot.{Slot}
 use Rattle.payroll_records.specs.declared.values.NamedValue.{NamedValue}
-use Rattle.carry_bindings.specs.declared.carried.Earlier.{Earlier}
 
 -- the bound of an output: at most 12 places, and at 12 places a numerator of at most 10^32
 pub record IsBoundedOutput (d : Decimal) : Type 0 where

@@ -1,5 +1,5 @@
 -- The inputs of a run, or what it waits for or lacks: the first answer that applies (docs/PROFILE.md, "The inputs of a run").
-use Rattle.std.specs.Prelude.{ℕ, List, [], ◌∷◌, Option, Some, None, Bool, true, false, not, ◌&&◌, nat_le, if◌then◌else◌, is_some, is_none, option_map, pos}
+use Rattle.std.specs.Prelude.{ℕ, List, Option, Some, None, Bool, true, not, ◌&&◌, nat_le, if◌then◌else◌, is_some, is_none, option_map, pos}
 use Rattle.std.specs.Option.{option_or, option_map_or}
 use Rattle.std.specs.List.{find, filter_map, list_any}
 use Rattle.std.specs.Ordering.{is_gt}

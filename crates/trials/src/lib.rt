@@ -5,6 +5,8 @@
 #[cfg(test)]
 mod calendars;
 #[cfg(test)]
+mod carries;
+#[cfg(test)]
 mod counter;
 #[cfg(test)]
 mod decimals;

@@ -1,6 +1,4 @@
-use Rattle.std.proofs.Common.{◌≡◌, arith, sym, ap, ◌∙◌, rules, None}
-use Rattle.std.specs.Prelude.{fold}
-use Rattle.scaled_decimal.specs.Decimals.{sum}
+use Rattle.std.proofs.Common.{◌≡◌, arith, sym, ◌∙◌, None}
 use Rattle.carry_bindings.specs.Carrying.{amount_of}
 use Rattle.carry_bindings.proofs.AmountLemmas.{sum_fits, sum_partial, partial_more, amount_bounded, amounts_from}
 use Rattle.carry_bindings.proofs.carried.total.Goals as goal

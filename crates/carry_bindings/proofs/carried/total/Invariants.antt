@@ -1,4 +1,4 @@
-use Rattle.std.proofs.Common.{◌≡◌, ◌≤◌, drop}
+use Rattle.std.proofs.Common.{◌≡◌, drop}
 use Rattle.std.specs.Prelude.{fold}
 use Rattle.scaled_decimal.specs.Decimals.{sum}
 use Rattle.carry_bindings.specs.Carrying.{amounts, total}
@@ -8,5 +8,5 @@ use Rattle.carry_bindings.proofs.carried.total.Given as goal
 abbrev pub invariant-loop-e : goal.invariant-loop-e
 invariant-loop-e l = record {
   same : fold sum l.total (amounts l.name (drop l.e-index l.earlier)) ≡ total (amounts l.name l.earlier);
-  bounded : IsPartial l.e-index l.total
+  bounded : IsPartial l.e-index l.total;
 }

@@ -1,4 +1,3 @@
-use Rattle.std.proofs.Common.{ap, sym, ◌∙◌}
 use Rattle.carry_bindings.proofs.AmountLemmas.{double_fits}
 use Rattle.carry_bindings.proofs.filling.input_of.Goals as goal
 
