@@ -15,7 +15,13 @@ fn name(text: &str) -> Result<Name, Fail> {
     Ok(Name::read(text.as_bytes()).ok_or("a name")?)
 }
 
-fn slot(input: &str, kind: Kind, high: &str, places: u8, carry: Option<Carry>) -> Result<Slot, Fail> {
+fn slot(
+    input: &str,
+    kind: Kind,
+    high: &str,
+    places: u8,
+    carry: Option<Carry>,
+) -> Result<Slot, Fail> {
     let limit = InputLimit {
         name: name(input)?,
         low: number("0")?,
@@ -64,7 +70,12 @@ fn run(alloc: Global, day: &str, outputs: &[(&str, &str)]) -> Result<Earlier, Fa
 }
 
 /// The answer as text: the inputs one after another, or why there are none.
-fn answer(alloc: Global, slots: Vec<Slot>, item: &Record, earlier: &[Earlier]) -> Result<String, Fail> {
+fn answer(
+    alloc: Global,
+    slots: Vec<Slot>,
+    item: &Record,
+    earlier: &[Earlier],
+) -> Result<String, Fail> {
     let spec = Spec {
         slots: Items::from_vec(slots),
     };
@@ -106,7 +117,10 @@ fn earlier_runs_are_counted_summed_and_read_back(rt: HostRuntime) -> Result<(), 
         (Carry::Last(zkf), "0/0 "),
     ] {
         let slots = vec![in alloc; slot("N", Kind::Big, "100", 12, Some(carry))?; 1]?;
-        assert_eq!(rt; answer(alloc, slots, &none, runs.as_slice())?.as_str(), wanted);
+        assert_eq!(rt;
+            answer(alloc, slots, &none, runs.as_slice())?.as_str(),
+            wanted
+        );
     }
     let first = vec![in alloc; slot("N", Kind::Int, "12", 0, Some(Carry::Count))?; 1]?;
     assert_eq!(rt; answer(alloc, first, &none, &[])?.as_str(), "0/0 ");

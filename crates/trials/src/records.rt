@@ -1,7 +1,9 @@
 // Pay runs: days against the calendar, records, and tables with their first fault.
 use jiff::civil::Date;
 use pap_tree::Name;
-use payroll_records::{Day, Employee, InsertFault, Month, NamedValue, TableFault, Values, When, read_table};
+use payroll_records::{
+    Day, Employee, InsertFault, Month, NamedValue, TableFault, Values, When, read_table,
+};
 use scaled_decimal::read_dec;
 use std::alloc::Global;
 use std::test::Fail;
@@ -46,7 +48,11 @@ fn employees_months_and_days_are_read_by_form(rt: HostRuntime) -> Result<(), Fai
     let day = Day::read(b"2025-01-09").ok_or("a day")?;
     let month = Month::of_day(day);
     let employee = Employee::read(b"E1").ok_or("an employee")?;
-    let text = format!(in rt.alloc(); "{employee} {month} {day} {} {}", When::Month(month), When::Day(day))?;
+    let text = format!(in rt.alloc();
+        "{employee} {month} {day} {} {}",
+        When::Month(month),
+        When::Day(day)
+    )?;
     assert_eq!(rt; text.as_str(), "E1 2025-01 2025-01-09 2025-01 2025-01-09");
     assert!(rt; day < Day::read(b"2025-01-10").ok_or("a day")?);
     Ok(())
@@ -97,7 +103,8 @@ const HEADER: &str = "employee,month,day,RE4\n";
 
 #[test]
 fn a_table_gives_its_records(rt: HostRuntime) -> Result<(), Fail> {
-    let text = "\u{feff}employee,month,day,STKL,RE4\r\nE2,2025-01,2025-01-31,,250055\r\n\"E1\",2025-01,2025-01-31,1,-0.50\r\n";
+    let text =
+        "\u{feff}employee,month,day,STKL,RE4\r\nE2,2025-01,2025-01-31,,250055\r\n\"E1\",2025-01,2025-01-31,1,-0.50\r\n";
     let Ok(records) = read_table(rt.alloc(), text.as_bytes()) else {
         return Err(Fail::from("a table"));
     };
@@ -117,17 +124,49 @@ fn a_table_gives_its_records(rt: HostRuntime) -> Result<(), Fail> {
 fn a_table_is_refused_with_its_first_fault(rt: HostRuntime) -> Result<(), Fail> {
     let alloc = rt.alloc();
     assert!(rt; matches!(fault(alloc, ""), Some(TableFault::Header)));
-    assert!(rt; matches!(fault(alloc, "employee,month,day,RE4,RE4\n"), Some(TableFault::Header)));
+    assert!(rt;
+        matches!(
+            fault(alloc, "employee,month,day,RE4,RE4\n"),
+            Some(TableFault::Header)
+        )
+    );
     let rows: [(&str, &str); 9] = [
-        ("E2,2025-01,2025-01-31\n", "row 1 has not as many fields as the header"),
-        ("E 2,2025-1,2025-02-01\n", "row 1 has not as many fields as the header"),
-        ("E 2,2025-1,2025-02-01,1.\n", "row 1: the employee is not 1 to 32 letters, digits, `_`, `-` and `.`"),
-        ("E2,2025-1,2025-02-01,1.\n", "row 1: the month is not of the form YYYY-MM"),
-        ("E2,2025-01,2025-02-01,1.\n", "row 1: the day is not of the form YYYY-MM-DD, not in the calendar or not in the month"),
-        ("E2,2025-01,2025-01-31,1.\n", "row 1: the value of RE4 is no number"),
-        ("E2,2025-01,2025-01-31,1\nE2,2025-01,2025-01-31,1\n", "row 2: an earlier row has the same employee and day"),
-        ("E2,2025-01,2025-01-31,1\nE2,2025-13,2025-01-31,1\n", "row 2: the month is not of the form YYYY-MM"),
-        ("E2,2025-13,2025-01-31,1\nE 2,2025-01,2025-01-31,1\n", "row 1: the month is not of the form YYYY-MM"),
+        (
+            "E2,2025-01,2025-01-31\n",
+            "row 1 has not as many fields as the header",
+        ),
+        (
+            "E 2,2025-1,2025-02-01\n",
+            "row 1 has not as many fields as the header",
+        ),
+        (
+            "E 2,2025-1,2025-02-01,1.\n",
+            "row 1: the employee is not 1 to 32 letters, digits, `_`, `-` and `.`",
+        ),
+        (
+            "E2,2025-1,2025-02-01,1.\n",
+            "row 1: the month is not of the form YYYY-MM",
+        ),
+        (
+            "E2,2025-01,2025-02-01,1.\n",
+            "row 1: the day is not of the form YYYY-MM-DD, not in the calendar or not in the month",
+        ),
+        (
+            "E2,2025-01,2025-01-31,1.\n",
+            "row 1: the value of RE4 is no number",
+        ),
+        (
+            "E2,2025-01,2025-01-31,1\nE2,2025-01,2025-01-31,1\n",
+            "row 2: an earlier row has the same employee and day",
+        ),
+        (
+            "E2,2025-01,2025-01-31,1\nE2,2025-13,2025-01-31,1\n",
+            "row 2: the month is not of the form YYYY-MM",
+        ),
+        (
+            "E2,2025-13,2025-01-31,1\nE 2,2025-01,2025-01-31,1\n",
+            "row 1: the month is not of the form YYYY-MM",
+        ),
     ];
     for (text, wanted) in rows {
         let table = format!(in alloc; "{HEADER}{text}")?;
@@ -141,8 +180,18 @@ fn a_table_is_refused_with_its_first_fault(rt: HostRuntime) -> Result<(), Fail> 
 #[test]
 fn a_table_has_at_most_33554432_bytes(rt: HostRuntime) -> Result<(), Fail> {
     let mut bytes = vec![in rt.alloc(); b'\n'; 33_554_432]?;
-    assert!(rt; matches!(read_table(rt.alloc(), bytes.as_slice()), Err(TableFault::Header)));
+    assert!(rt;
+        matches!(
+            read_table(rt.alloc(), bytes.as_slice()),
+            Err(TableFault::Header)
+        )
+    );
     bytes.push(b'\n')?;
-    assert!(rt; matches!(read_table(rt.alloc(), bytes.as_slice()), Err(TableFault::TableLong)));
+    assert!(rt;
+        matches!(
+            read_table(rt.alloc(), bytes.as_slice()),
+            Err(TableFault::TableLong)
+        )
+    );
     Ok(())
 }
