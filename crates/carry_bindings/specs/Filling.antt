@@ -1,0 +1,87 @@
+-- The inputs of a run, or what it waits for or lacks: the first answer that applies (docs/PROFILE.md, "The inputs of a run").
+use Rattle.std.specs.Prelude.{ℕ, List, Option, Some, None, Bool, true, not, ◌&&◌, nat_le, if◌then◌else◌, is_some, is_none, option_map, pos}
+use Rattle.std.specs.Option.{option_or, option_map_or}
+use Rattle.std.specs.List.{find, filter_map, list_any}
+use Rattle.std.specs.Ordering.{is_gt}
+use Rattle.std.specs.Str.{bytes_eq}
+use Rattle.scaled_decimal.specs.Decimals.{Decimal, decimal, scale_of, sum, value_order}
+use Rattle.pap_tree.specs.declared.declaration.Kind.{Kind}
+use Rattle.pap_tree.specs.declared.declaration.Kind.TheVariants as kind
+use Rattle.limits_file.specs.declared.limits.InputLimit.{InputLimit}
+use Rattle.limits_file.specs.declared.slots.Slot.{Slot}
+use Rattle.limits_file.specs.declared.limits.Carry.{Carry}
+use Rattle.payroll_records.specs.declared.day.Day.{Day}
+use Rattle.payroll_records.specs.declared.values.NamedValue.{NamedValue}
+use Rattle.payroll_records.specs.NamedValues.{value_at}
+use Rattle.carry_bindings.specs.Carrying.{carried}
+use Rattle.carry_bindings.specs.declared.carried.Earlier.{Earlier}
+use Rattle.carry_bindings.specs.declared.filling.Blocked.TheVariants as blocked
+use Rattle.carry_bindings.specs.declared.filling.Filled.{Filled}
+use Rattle.carry_bindings.specs.declared.filling.Filled.TheVariants as filled
+
+-- some input carries
+abbrev pub has_carry : List Slot → Bool
+has_carry slots = list_any (λ s. is_some s.carry) slots
+
+-- 1. some input carries, and this is the day of the earliest earlier run that isn't ok
+abbrev pub waits : List Slot → List Earlier → Option Day
+waits slots earlier = if has_carry slots then option_map (λ e. e.day) (find (λ e. is_none e.outputs) earlier) else None
+
+-- an input of this name that doesn't carry
+abbrev pub takes : List Slot → List ℕ → Bool
+takes slots name = list_any (λ s. bytes_eq s.name name && is_none s.carry) slots
+
+-- 2. the first value of the record that names no input, or one that carries
+abbrev pub unknown : List Slot → List NamedValue → Option (List ℕ)
+unknown slots values = option_map (λ v. v.name) (find (λ v. not (takes slots v.name)) values)
+
+-- the record's value of an input, or else its default
+abbrev pub given : List NamedValue → Slot → Option Decimal
+given values s = option_or (option_map (λ v. v.value) (value_at values s.name)) s.value
+
+-- the value of an input: what it carries, or else what is given
+abbrev pub value_by : Option Carry → Option Decimal → List Earlier → Option Decimal
+value_by (Some carry) given earlier = Some (carried carry earlier)
+value_by None given earlier = given
+
+abbrev pub value_of : List NamedValue → List Earlier → Slot → Option Decimal
+value_of values earlier s = value_by s.carry (given values s) earlier
+
+-- 3. the first declared input without a value: it doesn't carry, and the record and the declaration give none
+abbrev pub missing : List Slot → List NamedValue → List Earlier → Option (List ℕ)
+missing slots values earlier = option_map (λ s. s.name) (find (λ s. is_none (value_of values earlier s)) slots)
+
+-- the limit admits the value: it has no more places than the limit, and lies from low to high
+abbrev pub admits : InputLimit → Decimal → Bool
+admits limit v =
+    nat_le (scale_of v) limit.places && not (is_gt (value_order limit.low v)) && not (is_gt (value_order v limit.high))
+
+-- 4. the first declared input whose value its limit doesn't admit
+abbrev pub outside : List Slot → List NamedValue → List Earlier → Option (List ℕ)
+outside slots values earlier =
+    option_map (λ s. s.name) (find (λ s. not (option_map_or (admits s.limit) (value_of values earlier s) true)) slots)
+
+-- a `double` is brought to three places by adding 0.000
+abbrev pub input_of : Kind → Decimal → Decimal
+input_of kind.Factor v = sum v (decimal (pos 0) 3)
+input_of kind.Int v = v
+input_of kind.Long v = v
+input_of kind.Big v = v
+input_of kind.Table v = v
+
+-- 5. the values in declared order
+abbrev pub inputs : List Slot → List NamedValue → List Earlier → List Decimal
+inputs slots values earlier = filter_map (λ s. option_map (input_of s.kind) (value_of values earlier s)) slots
+
+abbrev pub first_of : Option Day → Option (List ℕ) → Option (List ℕ) → Option (List ℕ) → List Decimal → Filled
+first_of (Some day) unknown missing outside values = filled.State (blocked.Waits day)
+first_of None (Some name) missing outside values = filled.State (blocked.Unknown name)
+first_of None None (Some name) outside values = filled.State (blocked.Missing name)
+first_of None None None (Some name) values = filled.State (blocked.Range name)
+first_of None None None None values = filled.Inputs values
+
+-- the first that applies
+abbrev pub filled_by : List Slot → List NamedValue → List Earlier → Filled
+filled_by slots values earlier =
+    first_of (waits slots earlier) (unknown slots values) (missing slots values earlier) (outside slots values earlier)
+    (inputs slots values earlier)

@@ -1,0 +1,10 @@
+pub mod Days
+pub mod Employees
+pub mod NamedValues
+pub mod Whens
+pub mod Orders
+pub mod CsvRows
+pub mod RowViews
+pub mod Tables
+pub mod TableViews
+pub mod CellViews

@@ -1,0 +1,27 @@
+-- The values of a record: what stands under each name.
+use Rattle.std.specs.Prelude.{◌≤◌, ℕ, List, Option, length}
+use Rattle.std.specs.declared.cmp.Ordering.{Ordering}
+use Rattle.std.specs.Ordering.{nat_cmp}
+use Rattle.std.specs.Cmp.Lexicographic.{slice_cmp}
+use Rattle.rising_lists.specs.Keyed.{at_key, put, IsRising}
+use Rattle.payroll_records.specs.declared.values.NamedValue.{NamedValue}
+
+-- names in the order of their bytes
+abbrev pub name_cmp : List ℕ → List ℕ → Ordering
+name_cmp = slice_cmp nat_cmp
+
+abbrev pub name_of : NamedValue → List ℕ
+name_of v = v.name
+
+-- a record's values: their names rise, and there are at most 256
+pub record AreValues (values : List NamedValue) : Type 0 where
+  pub rising : IsRising name_cmp name_of values
+  pub few : length values ≤ 256
+
+-- what stands under a name
+abbrev pub value_at : List NamedValue → List ℕ → Option NamedValue
+value_at values name = at_key name_cmp name_of values name
+
+-- the values with one more
+abbrev pub with_value : NamedValue → List NamedValue → List NamedValue
+with_value v values = put name_cmp name_of v values

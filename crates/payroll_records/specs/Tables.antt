@@ -1,0 +1,176 @@
+-- Tables of pay runs (docs/PROFILE.md, "Tables"): the records of a CSV text, or what is wrong with it first.
+use Rattle.std.specs.Prelude.{◌≡◌, ◌≢◌, ◌↔◌, ◌⊎◌, ℕ, ◌+◌, ◌<◌, ◌≤◌, List, [], ◌∷◌, ◌++◌, length, slice_index_or, codes, IsTrue, ⊤}
+use Rattle.std.specs.List.{AllByRecursion, Contains, list_any}
+use Rattle.std.specs.Ordering.{is_eq}
+use Rattle.scaled_decimal.specs.Decimals.{Decimal}
+use Rattle.scaled_decimal.specs.Limits.{IsKept}
+use Rattle.scaled_decimal.specs.NumberTexts.{Spells}
+use Rattle.pap_tree.specs.Names.{is_name}
+use Rattle.payroll_records.specs.CsvRows.{csv_rows}
+use Rattle.payroll_records.specs.Days.{IsDayText, IsMonthText, IsMonthSpelled}
+use Rattle.payroll_records.specs.Employees.{is_employee}
+use Rattle.payroll_records.specs.Orders.{key_cmp}
+use Rattle.payroll_records.specs.declared.record.Key.{Key}
+use Rattle.payroll_records.specs.declared.record.Record.{Record}
+use Rattle.payroll_records.specs.declared.table.TableFault.{TableFault}
+use Rattle.payroll_records.specs.declared.table.TableFault.TheVariants as fault
+use Rattle.payroll_records.specs.declared.values.NamedValue.{NamedValue}
+
+abbrev pub Text : Type 0
+Text = List ℕ
+
+-- the most bytes of a table, and the most columns of values
+abbrev pub most_bytes : ℕ
+most_bytes = 33554432
+
+abbrev pub most_columns : ℕ
+most_columns = 256
+
+abbrev pub name_at : List Text → ℕ → Text
+name_at names i = slice_index_or names i []
+
+-- the first row: employee,month,day and then names, all different
+pub record IsHeader (row names : List Text) : Type 0 where
+  pub fields : row ≡ codes "employee" ∷ codes "month" ∷ codes "day" ∷ names
+  pub named : AllByRecursion (λ n. IsTrue (is_name n)) names
+  pub different : (i j : ℕ) → i < j → j < length names → name_at names i ≢ name_at names j
+  pub few : length names ≤ most_columns
+
+-- a row's field at a place, and its cell in a column of values
+abbrev pub field_of : List Text → ℕ → Text
+field_of row i = slice_index_or row i []
+
+abbrev pub cell_of : List Text → ℕ → Text
+cell_of row i = field_of row (3 + i)
+
+-- the text spells a decimal that is kept
+abbrev pub IsNumberText : Text → Decimal → Type 0
+IsNumberText text d = Spells text d × IsKept d
+
+-- a cell of values is empty or spells a number
+abbrev pub IsReadable : Text → Type 0
+IsReadable text = (text ≡ []) ⊎ ((d : Decimal) × IsNumberText text d)
+
+-- some cell of the row spells this value, under the name of its column
+pub record Supplies (names row : List Text) (v : NamedValue) : Type 0 where
+  pub column : ℕ
+  pub within : column < length names
+  pub named : name_at names column ≡ v.name
+  pub spelled : IsNumberText (cell_of row column) v.value
+
+-- what stands before the values: the width, an employee, a month, and a day in that month
+abbrev pub IsWide : List Text → List Text → Type 0
+IsWide names row = length row ≡ 3 + length names
+
+abbrev pub HasEmployee : List Text → Type 0
+HasEmployee row = IsTrue (is_employee (field_of row 0))
+
+abbrev pub HasMonth : List Text → Type 0
+HasMonth row = IsMonthSpelled (field_of row 1)
+
+abbrev pub HasDayOf : List Text → ℕ → ℕ → ℕ → Type 0
+HasDayOf row year month day = IsDayText (field_of row 2) year month day × IsMonthText (field_of row 1) year month
+
+abbrev pub HasDay : List Text → Type 0
+HasDay row = (year : ℕ) × (month : ℕ) × (day : ℕ) × HasDayOf row year month day
+
+-- the record of a row
+pub record IsRecordOf (names row : List Text) (r : Record) : Type 0 where
+  pub wide : IsWide names row
+  pub has_employee : HasEmployee row
+  pub employee : r.employee ≡ field_of row 0
+  pub day : HasDayOf row r.day.year r.day.month r.day.day
+  pub readable : (i : ℕ) → i < length names → IsReadable (cell_of row i)
+  pub values : (v : NamedValue) → Contains r.values v ↔ Supplies names row v
+
+abbrev pub key_of : Record → Key
+key_of r = record { employee = r.employee; day = r.day }
+
+-- one of the records is of the same employee and day
+abbrev pub HasKeyOf : List Record → Record → Type 0
+HasKeyOf records r = IsTrue (list_any (λ s. is_eq (key_cmp (key_of r) (key_of s))) records)
+
+-- each row in turn gives its record, and no earlier record has its key
+abbrev pub AreRecordsOf : List Text → List Record → List (List Text) → List Record → Type 0
+AreRecordsOf names before [] [] = ⊤
+AreRecordsOf names before [] (r ∷ rs) = ⊥
+AreRecordsOf names before (row ∷ rows) [] = ⊥
+AreRecordsOf names before (row ∷ rows) (r ∷ rs) =
+    IsRecordOf names row r × (HasKeyOf before r → ⊥) × AreRecordsOf names (before ++ (r ∷ [])) rows rs
+
+-- the records of a table
+pub record IsTable (bytes : List ℕ) (records : List Record) : Type 0 where
+  pub short : length bytes ≤ most_bytes
+  pub header : List Text
+  pub names : List Text
+  pub rows : List (List Text)
+  pub read : csv_rows bytes ≡ header ∷ rows
+  pub is_header : IsHeader header names
+  pub are_records : AreRecordsOf names [] rows records
+
+-- what is wrong with a row, where no earlier fault is
+abbrev pub WrongWidth : List Text → List Record → List Text → Type 0
+WrongWidth names before row = IsWide names row → ⊥
+
+abbrev pub WrongEmployee : List Text → List Record → List Text → Type 0
+WrongEmployee names before row = IsWide names row × (HasEmployee row → ⊥)
+
+abbrev pub WrongMonth : List Text → List Record → List Text → Type 0
+WrongMonth names before row = IsWide names row × HasEmployee row × (HasMonth row → ⊥)
+
+abbrev pub WrongDay : List Text → List Record → List Text → Type 0
+WrongDay names before row = IsWide names row × HasEmployee row × HasMonth row × (HasDay row → ⊥)
+
+-- the leftmost cell of values that isn't readable
+pub record WrongValue (name : Text) (names : List Text) (before : List Record) (row : List Text) : Type 0 where
+  pub wide : IsWide names row
+  pub employee : HasEmployee row
+  pub day : HasDay row
+  pub column : ℕ
+  pub within : column < length names
+  pub named : name_at names column ≡ name
+  pub earlier : (i : ℕ) → i < column → IsReadable (cell_of row i)
+  pub broken : IsReadable (cell_of row column) → ⊥
+
+pub record Repeats (names : List Text) (before : List Record) (row : List Text) : Type 0 where
+  pub of_row : Record
+  pub is_record : IsRecordOf names row of_row
+  pub repeated : HasKeyOf before of_row
+
+-- the row of this number, counted from 1, is the first with a fault, and has this one
+pub record IsFirstFault (names : List Text) (rows : List (List Text)) (number : ℕ) (Fault : List Text → List Record → List Text → Type 0) : Type 0 where
+  pub before : List (List Text)
+  pub row : List Text
+  pub after : List (List Text)
+  pub parts : rows ≡ before ++ (row ∷ after)
+  pub counted : number ≡ length before + 1
+  pub records : List Record
+  pub are_records : AreRecordsOf names [] before records
+  pub faulty : Fault names records row
+
+-- the same of a table's text, its rows counted after the header
+pub record BreaksAt (bytes : List ℕ) (number : ℕ) (Fault : List Text → List Record → List Text → Type 0) : Type 0 where
+  pub short : length bytes ≤ most_bytes
+  pub header : List Text
+  pub names : List Text
+  pub rows : List (List Text)
+  pub read : csv_rows bytes ≡ header ∷ rows
+  pub is_header : IsHeader header names
+  pub first : IsFirstFault names rows number Fault
+
+-- there is no first row, or it is no header
+abbrev pub IsNoHeader : List (List Text) → Type 0
+IsNoHeader [] = ⊤
+IsNoHeader (row ∷ rows) = (names : List Text) → IsHeader row names → ⊥
+
+-- why a table is refused; want of memory is free
+abbrev pub IsRefused : List ℕ → TableFault → Type 0
+IsRefused bytes fault.TableLong = most_bytes < length bytes
+IsRefused bytes fault.Header = (length bytes ≤ most_bytes) × IsNoHeader (csv_rows bytes)
+IsRefused bytes (fault.Width row) = BreaksAt bytes row WrongWidth
+IsRefused bytes (fault.Employee row) = BreaksAt bytes row WrongEmployee
+IsRefused bytes (fault.Month row) = BreaksAt bytes row WrongMonth
+IsRefused bytes (fault.Day row) = BreaksAt bytes row WrongDay
+IsRefused bytes (fault.Value row name) = BreaksAt bytes row (WrongValue name)
+IsRefused bytes (fault.Repeat row) = BreaksAt bytes row Repeats
+IsRefused bytes (fault.Memory error) = ⊤

@@ -1,0 +1,21 @@
+//! Payroll records: who was paid on which day, from which named values, and the tables that list them.
+#![tactic(auto)]
+
+mod day;
+mod employee;
+mod header;
+mod month;
+mod record;
+mod row;
+mod rows;
+mod table;
+mod values;
+mod when;
+
+pub use day::Day;
+pub use employee::Employee;
+pub use month::Month;
+pub use record::{Key, Record};
+pub use table::{TableFault, read_table};
+pub use values::{InsertFault, NamedValue, Values};
+pub use when::When;

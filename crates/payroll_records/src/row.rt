@@ -1,0 +1,112 @@
+// One row of a table.
+ghost use Rattle.std.specs.Prelude.{◌≡◌, ◌↔◌, ◌+◌, ◌<◌, ◌^◌, ℕ, IfOk, IfErr, IsTrue, MatchOption, Some, length};
+ghost use Rattle.std.specs.List.{Contains};
+ghost use Rattle.csv.specs.Records.{fields_of};
+ghost use Rattle.scaled_decimal.specs.Decimals.{Decimal};
+ghost use Rattle.payroll_records.specs.Tables.{IsHeader, IsNumberText, IsReadable, IsRecordOf, Supplies, cell_of};
+ghost use Rattle.payroll_records.specs.TableViews.{AreColumns, IsFirstBroken, IsRowFault};
+ghost use Rattle.payroll_records.specs.declared.values.NamedValue.{NamedValue};
+
+use crate::header::{Header, field};
+use crate::{Day, Employee, Month, NamedValue, Record, Values};
+use csv::ByteRecord;
+use pap_tree::Name;
+use scaled_decimal::{Dec, read_dec};
+use std::alloc::{AllocError, Global};
+
+/// What is wrong with a row by itself.
+#[derive(Drop)]
+pub(crate) enum RowFault {
+    Width,
+    Employee,
+    Month,
+    Day,
+    Value { name: Name },
+    Memory(AllocError),
+}
+
+/// The record of a row, or its first fault.
+pub(crate) fn read_row(alloc: Global, header: &Header, row: &ByteRecord) -> Result<Record, RowFault>
+    requires columns { AreColumns header.now.names.items header.now.columns.items }
+    requires few { length header.now.names.items < 257 }
+    ensures ok { IfOk result (IsRecordOf header.now.names.items (fields_of row.now)) }
+    ensures err { IfErr result (IsRowFault header.now.names.items (fields_of row.now)) }
+{
+    if row.len() != 3 + header.names.len() {
+        return Err(RowFault::Width);
+    }
+    let Some(employee) = Employee::read(field(row, 0)) else {
+        return Err(RowFault::Employee);
+    };
+    let Some(month) = Month::read(field(row, 1)) else {
+        return Err(RowFault::Month);
+    };
+    let Some(day) = Day::read(field(row, 2)) else {
+        return Err(RowFault::Day);
+    };
+    if month.year != day.year || month.month != day.month {
+        return Err(RowFault::Day);
+    }
+    if let Some(place) = first_broken(row, header.names.len()) {
+        return Err(RowFault::Value {
+            name: header.names[place],
+        });
+    }
+    match values_of(alloc, header, row) {
+        Ok(values) => Ok(Record {
+            employee,
+            day,
+            values,
+        }),
+        Err(error) => Err(RowFault::Memory(error)),
+    }
+}
+
+/// The place of the leftmost cell of values that neither is empty nor spells a number.
+fn first_broken(row: &ByteRecord, count: usize) -> Option<usize>
+    requires { count < 257 }
+    ensures { MatchOption result ((i : ℕ) → i < count → IsReadable (cell_of (fields_of row.now) i))
+        (IsFirstBroken (fields_of row.now) count) }
+{
+    for place in 0..count {
+        if !is_readable(field(row, 3 + place)) {
+            return Some(place);
+        }
+    }
+    None
+}
+
+fn is_readable(cell: &[u8]) -> bool
+    ensures { IsTrue result ↔ IsReadable cell.now }
+{
+    cell.is_empty() || read_number(cell).is_some()
+}
+
+fn read_number(cell: &[u8]) -> Option<Dec>
+    ensures { (d : Decimal) → (result ≡ Some d) ↔ IsNumberText cell.now d }
+{
+    match read_dec(cell) {
+        Ok(value) => Some(value),
+        Err(_) => None,
+    }
+}
+
+/// The values that the cells of a row spell.
+fn values_of(alloc: Global, header: &Header, row: &ByteRecord) -> Result<Values, AllocError>
+    requires columns { AreColumns header.now.names.items header.now.columns.items }
+    requires few { length header.now.names.items < 257 }
+    ensures { IfOk result (λ values. (v : NamedValue) →
+        Contains values v ↔ Supplies header.now.names.items (fields_of row.now) v) }
+{
+    let mut values = Values::new(alloc);
+    for column in &header.columns {
+        let Some(value) = read_number(field(row, 3 + column.place)) else {
+            continue;
+        };
+        values.push(NamedValue {
+            name: column.name,
+            value,
+        })?;
+    }
+    Ok(values)
+}

@@ -1,0 +1,131 @@
+// Tables of pay runs.
+ghost use Rattle.std.specs.Prelude.{◌≡◌, ◌↔◌, ◌<◌, [], IfOk, IfErr, Err, MatchResult, length};
+ghost use Rattle.payroll_records.specs.Tables.{AreRecordsOf, IsRefused, IsTable, key_of, most_bytes};
+ghost use Rattle.payroll_records.specs.RowViews.{IsBetweenRows, rows_left};
+ghost use Rattle.payroll_records.specs.TableViews.{AreColumns, BreaksIn, fault_at};
+
+use crate::header::{Header, read_header};
+use crate::row::{RowFault, read_row};
+use crate::rows::{next_row, row_reader};
+use crate::{Key, Record};
+use csv::{ByteRecord, Reader};
+use pap_tree::Name;
+use std::alloc::{AllocError, Global};
+use std::collections::BTreeSet;
+use std::io::Read;
+use thiserror::Error;
+
+/// The most bytes of a table.
+const LONGEST: usize = 33_554_432;
+
+/// Why a table is refused. Rows are counted from 1 after the header.
+#[derive(Debug, Drop, Error)]
+pub enum TableFault {
+    #[error("the table has more than 33554432 bytes")]
+    TableLong,
+    #[error("the first row is not employee,month,day and then at most 256 different names")]
+    Header,
+    #[error("row {row} has not as many fields as the header")]
+    Width { row: u64 },
+    #[error("row {row}: the employee is not 1 to 32 letters, digits, `_`, `-` and `.`")]
+    Employee { row: u64 },
+    #[error("row {row}: the month is not of the form YYYY-MM")]
+    Month { row: u64 },
+    #[error("row {row}: the day is not of the form YYYY-MM-DD, not in the calendar or not in the month")]
+    Day { row: u64 },
+    #[error("row {row}: the value of {name} is no number")]
+    Value { row: u64, name: Name },
+    #[error("row {row}: an earlier row has the same employee and day")]
+    Repeat { row: u64 },
+    #[error("memory ran out")]
+    Memory(AllocError),
+}
+
+/// The pay runs of a table: the records of a CSV text, one for each row after the header, in order. A table is refused by
+/// its length, then by its header, then by the first row with a fault and that row's first fault, in the order of
+/// `TableFault`.
+pub fn read_table(alloc: Global, bytes: &[u8]) -> Result<Vec<Record>, TableFault>
+    ensures ok { IfOk result (λ records. IsTable bytes.now records.items) }
+    ensures err { IfErr result (IsRefused bytes.now) }
+    ensures long { (result ≡ Err TableFault.TableLong) ↔ (most_bytes < length bytes.now) }
+{
+    if bytes.len() > LONGEST {
+        return Err(TableFault::TableLong);
+    }
+    let mut reader = row_reader(alloc, bytes);
+    let mut row = ByteRecord::new(alloc);
+    let Ok(found) = next_row(&mut reader, &mut row) else {
+        return Err(TableFault::Memory(AllocError));
+    };
+    if !found {
+        return Err(TableFault::Header);
+    }
+    match read_header(alloc, &row) {
+        Ok(Some(header)) => read_records(alloc, &header, &mut reader),
+        Ok(None) => Err(TableFault::Header),
+        Err(error) => Err(TableFault::Memory(error)),
+    }
+}
+
+/// The records of the rows that are left, or the first fault.
+fn read_records<R: Read>(
+    alloc: Global,
+    header: &Header,
+    reader: &mut Reader<R>,
+) -> Result<Vec<Record>, TableFault>
+    requires reader { IsBetweenRows R.remaining reader.old }
+    requires columns { AreColumns header.now.names.items header.now.columns.items }
+    requires few { length header.now.names.items < 257 }
+    ensures { let rows = rows_left R.remaining reader.old in MatchResult result
+        (λ records. AreRecordsOf header.now.names.items [] rows records.items)
+        (BreaksIn header.now.names.items rows) }
+{
+    let mut records = Vec::new(alloc);
+    let mut keys = BTreeSet::new(alloc);
+    let mut row = ByteRecord::new(alloc);
+    for number in 1..u64::MAX {
+        let Ok(found) = next_row(reader, &mut row) else {
+            return Err(TableFault::Memory(AllocError));
+        };
+        if !found {
+            return Ok(records);
+        }
+        let record = match read_row(alloc, header, &row) {
+            Ok(record) => record,
+            Err(fault) => return Err(fault_at(fault, number)),
+        };
+        let Ok(new) = keys.insert(key_of(&record)) else {
+            return Err(TableFault::Memory(AllocError));
+        };
+        if !new {
+            return Err(TableFault::Repeat { row: number });
+        }
+        if records.push(record).is_err() {
+            return Err(TableFault::Memory(AllocError));
+        }
+    }
+    Err(TableFault::Memory(AllocError))
+}
+
+fn key_of(run: &Record) -> Key
+    ensures { result ≡ key_of run.now }
+{
+    Key {
+        employee: run.employee,
+        day: run.day,
+    }
+}
+
+/// The fault of the row of this number.
+fn fault_at(fault: RowFault, row: u64) -> TableFault
+    ensures { result ≡ fault_at row fault }
+{
+    match fault {
+        RowFault::Width => TableFault::Width { row },
+        RowFault::Employee => TableFault::Employee { row },
+        RowFault::Month => TableFault::Month { row },
+        RowFault::Day => TableFault::Day { row },
+        RowFault::Value { name } => TableFault::Value { row, name },
+        RowFault::Memory(error) => TableFault::Memory(error),
+    }
+}

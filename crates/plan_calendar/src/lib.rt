@@ -1,0 +1,6 @@
+//! Plans by the day from which they hold.
+#![tactic(auto)]
+
+mod calendar;
+
+pub use calendar::{Calendar, PutRefusal, edits_move_picks, picks_are_latest};
