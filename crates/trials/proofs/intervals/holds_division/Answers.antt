@@ -2,7 +2,7 @@ use Rattle.std.proofs.Common.{◌≤◌, ◌<◌, unsigned_abs, int_div, of_z, F
 use Rattle.std.specs.Int.{w128}
 use Rattle.std.proofs.lemmas.Bool.Decides.{nat_tests}
 use Rattle.std.proofs.lemmas.Int.{ints, to_z-of_z, fits_signed_from_abs}
-use Rattle.scaled_decimal.specs.RoundingLemmas.{mag_quot}
+use Rattle.scaled_decimal.specs.laws.RoundingLemmas.{mag_quot}
 use Rattle.trials.proofs.intervals.holds_division.Goals as goal
 
 pub nonzero_div-x : goal.nonzero_div-x
