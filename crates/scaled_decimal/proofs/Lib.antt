@@ -1,6 +1,7 @@
 pub mod DigitLemmas
 pub mod ExactLemmas
 pub mod FitLemmas
+pub mod Laws
 pub mod MachineLemmas
 pub mod NumberLemmas
 pub mod OrderLemmas
