@@ -1,0 +1,9 @@
+mod FrontLemmas
+mod ClassLemmas
+mod LongestLemmas
+mod WordLemmas
+mod NumberLemmas
+mod StringLemmas
+mod SignLemmas
+mod ValueLemmas
+mod ReadLemmas
