@@ -1,5 +1,5 @@
 -- What the text of a token begins with.
-use Rattle.std.proofs.Common.{◌≡◌, ℕ, ◌<◌, ◌≤◌, ◌⊎◌, inl, inr, Bool, true, false, not, cond, ◌&&◌, ◌||◌, List, [], ◌∷◌, ◌++◌, length, refl, sym, ap, subst, ◌∙◌, arith}
+use Rattle.std.proofs.Common.{◌≡◌, ℕ, ◌<◌, Bool, true, false, ◌&&◌, ◌||◌, List, [], ◌∷◌, ◌++◌, length, refl, sym, ap, subst, ◌∙◌, arith}
 use Rattle.std.specs.Prelude.{codes, ◌==◌}
 use Rattle.std.specs.List.{list_all}
 use Rattle.std.specs.Char.{digit_value, is_ascii_digit}
@@ -7,14 +7,13 @@ use Rattle.std.specs.Str.Parse.{AllDigits}
 use Rattle.std.proofs.lemmas.Bool.{and_parts}
 use Rattle.std.proofs.lemmas.Bool.Decides.{nat_tests}
 use Rattle.scaled_decimal.specs.Decimals.{Decimal}
-use Rattle.scaled_decimal.specs.Limits.{IsKept}
-use Rattle.pap_tree.specs.Names.{is_letter, is_word}
+use Rattle.pap_tree.specs.Names.{is_letter}
 use Rattle.pap_tree.specs.White.{is_white}
 use Rattle.pap_tree.specs.Words.{operator_text}
 use Rattle.pap_tree.specs.declared.expression.Binary.{Binary}
 use Rattle.pap_tree.specs.declared.expression.Binary.TheVariants.{Mul, Div, Rem, Plus, Sub, Less, LessEq, More, MoreEq, Same, Differs, And, Or}
-use Rattle.pap_tree.specs.Tokens.{Sign, Equals, Bang, Question, Colon, Dot, Comma, Semicolon, Open, Close, OpenItem, CloseItem, OpenTable, CloseTable, sign_text, Token, Literal, Quoted, Beyond, Word, Operator, Mark, Alien, int, long, point, greatest_int, greatest_long, is_word_text, IsNumeral, IsLong, IsPoint, IsQuoted, IsBeyondRange, great_int, great_long, great_point, great_quoted, IsToken}
-use Rattle.expr_tokens.specs.Views.{First, is_no_quote, is_sign_byte}
+use Rattle.pap_tree.specs.Tokens.{Sign, Equals, Bang, Question, Colon, Dot, Comma, Semicolon, Open, Close, OpenItem, CloseItem, OpenTable, CloseTable, sign_text, Token, Literal, Quoted, Beyond, Word, Operator, Mark, Alien, int, long, point, is_word_text, IsNumeral, IsLong, IsPoint, IsQuoted, IsBeyondRange, great_int, great_long, great_point, great_quoted, IsToken}
+use Rattle.expr_tokens.specs.Views.{First, Stops, is_sign_byte}
 
 -- the texts of numbers
 pub data IsNumberText : List ℕ → Type 0 where
@@ -140,18 +139,18 @@ sign_first text (two a b o e h k) = subst (First is_sign_byte) (sym e) h
 
 -- ---- what the first byte tells of a front
 
-apart : (p q : ℕ → Bool) → ((b : ℕ) → p b ≡ true → q b ≡ true → ⊥) → (bytes u left : List ℕ) → First p bytes → bytes ≡ u ++ left → First q u → ⊥
+pub apart : (p q : ℕ → Bool) → ((b : ℕ) → p b ≡ true → q b ≡ true → ⊥) → (bytes u left : List ℕ) → First p bytes → bytes ≡ u ++ left → First q u → ⊥
 apart p q differ bytes [] left h e k = absurd k
 apart p q differ [] (b ∷ u) left h e k = absurd h
 apart p q differ (c ∷ bytes) (b ∷ u) left h e k = let same : c ≡ b = cc in differ c h (ap q same ∙ k)
 
-digit_no_quote : (b : ℕ) → is_ascii_digit b ≡ true → is_quote b ≡ true → ⊥
+pub digit_no_quote : (b : ℕ) → is_ascii_digit b ≡ true → is_quote b ≡ true → ⊥
 digit_no_quote b h k = grind (arith, nat_tests)
 
-letter_no_quote : (b : ℕ) → is_letter b ≡ true → is_quote b ≡ true → ⊥
+pub letter_no_quote : (b : ℕ) → is_letter b ≡ true → is_quote b ≡ true → ⊥
 letter_no_quote b h k = grind (arith, nat_tests)
 
-sign_no_quote : (b : ℕ) → is_sign_byte b ≡ true → is_quote b ≡ true → ⊥
+pub sign_no_quote : (b : ℕ) → is_sign_byte b ≡ true → is_quote b ≡ true → ⊥
 sign_no_quote b h k = grind (arith, nat_tests)
 
 pub only_number : (bytes u left : List ℕ) → First is_ascii_digit bytes → bytes ≡ u ++ left → Class u → IsNumberText u
@@ -188,3 +187,26 @@ some_bytes text (number h) = first_some is_ascii_digit text (number_first text h
 some_bytes text (string d h) = first_some is_quote text (string_first text d h)
 some_bytes text (word h) = first_some is_letter text (word_first text h)
 some_bytes text (a_sign h) = first_some is_sign_byte text (sign_first text (spelling text h))
+
+digit_black : (b : ℕ) → is_ascii_digit b ≡ true → is_white b ≡ false
+digit_black b h = grind (arith, nat_tests)
+
+letter_black : (b : ℕ) → is_letter b ≡ true → is_white b ≡ false
+letter_black b h = grind (arith, nat_tests)
+
+quote_black : (b : ℕ) → is_quote b ≡ true → is_white b ≡ false
+quote_black b h = grind (arith, nat_tests)
+
+sign_black : (b : ℕ) → is_sign_byte b ≡ true → is_white b ≡ false
+sign_black b h = grind (arith, nat_tests)
+
+black : (p : ℕ → Bool) → ((b : ℕ) → p b ≡ true → is_white b ≡ false) → (text : List ℕ) → First p text → Stops is_white text
+black p h [] f = absurd f
+black p h (b ∷ bs) f = h b f
+
+-- a token begins with no white space
+pub class_black : (text : List ℕ) → Class text → Stops is_white text
+class_black text (number h) = black is_ascii_digit digit_black text (number_first text h)
+class_black text (string d h) = black is_quote quote_black text (string_first text d h)
+class_black text (word h) = black is_letter letter_black text (word_first text h)
+class_black text (a_sign h) = black is_sign_byte sign_black text (sign_first text (spelling text h))

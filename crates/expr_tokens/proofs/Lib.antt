@@ -7,3 +7,6 @@ mod StringLemmas
 mod SignLemmas
 mod ValueLemmas
 mod ReadLemmas
+mod OneReadingLemmas
+mod AlwaysLemmas
+pub mod Laws

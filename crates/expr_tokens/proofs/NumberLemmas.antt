@@ -1,15 +1,14 @@
 -- The number that stands first.
-use Rattle.std.proofs.Common.{◌≡◌, ℕ, ◌+◌, ◌-◌, ◌<◌, ◌≤◌, ◌⊎◌, inl, inr, Bool, true, false, List, [], ◌∷◌, ◌++◌, length, take, pos, refl, sym, ap, subst, ◌∙◌, append_assoc, length-append, arith}
+use Rattle.std.proofs.Common.{◌≡◌, ℕ, ◌+◌, ◌-◌, ◌<◌, ◌≤◌, ◌⊎◌, inl, inr, true, false, List, [], ◌∷◌, ◌++◌, length, take, pos, refl, sym, ap, subst, ◌∙◌, append_assoc, length-append, arith}
 use Rattle.std.specs.Prelude.{codes}
 use Rattle.std.specs.List.{list_all}
 use Rattle.std.specs.Char.{is_ascii_digit}
 use Rattle.std.specs.Str.Parse.{AllDigits, digits_value}
 use Rattle.std.proofs.lemmas.Bool.{and_parts}
-use Rattle.std.proofs.lemmas.List.{append-nil, append_cancel_right}
-use Rattle.std.proofs.lemmas.List.Folds.{list_all-append}
+use Rattle.std.proofs.lemmas.List.{append_cancel_right}
 use Rattle.std.proofs.Math.Seq.{take-append_seam}
 use Rattle.scaled_decimal.specs.Decimals.{Decimal, decimal}
-use Rattle.pap_tree.specs.Tokens.{Token, IsToken, IsNumeral, IsLong, IsPoint}
+use Rattle.pap_tree.specs.Tokens.{Token, IsToken, IsNumeral, IsPoint}
 use Rattle.expr_tokens.specs.Views.{Begins, First, Stops, IsLongest, NotFirst, IsNumeralSplit, IsAfterPlaces, NoPlaces}
 use Rattle.expr_tokens.proofs.FrontLemmas.{within}
 use Rattle.expr_tokens.proofs.ClassLemmas.{all_digits, digits_all, IsNumberText, whole, whole_long, with_places, class, only_number}
@@ -28,11 +27,11 @@ either (u ∷ a) (v ∷ b) x y e =
     ]
 
 -- a byte among digits is one
-digit_among : (ds : List ℕ) (c : ℕ) (more : List ℕ) → AllDigits 10 (ds ++ (c ∷ more)) → is_ascii_digit c ≡ true
+pub digit_among : (ds : List ℕ) (c : ℕ) (more : List ℕ) → AllDigits 10 (ds ++ (c ∷ more)) → is_ascii_digit c ≡ true
 digit_among [] c more h = (and_parts (is_ascii_digit c) (list_all is_ascii_digit more) (all_digits (c ∷ more) h)).0
 digit_among (d ∷ ds) c more h = digit_among ds c more h.1
 
-differ : (c : ℕ) → is_ascii_digit c ≡ true → is_ascii_digit c ≡ false → ⊥
+pub differ : (c : ℕ) → is_ascii_digit c ≡ true → is_ascii_digit c ≡ false → ⊥
 differ c h k = absurd cc
 
 -- a numeral before a byte that is no digit is the longest one
@@ -79,14 +78,14 @@ digits_stop : (places left : List ℕ) → 0 < length places → list_all is_asc
 digits_stop [] left some h s = absurd (omega arith)
 digits_stop (b ∷ bs) left some h s = differ b (and_parts (is_ascii_digit b) (list_all is_ascii_digit bs) h).0 s
 
-heads : (a b : ℕ) (xs ys : List ℕ) → a ∷ xs ≡ b ∷ ys → a ≡ b
+pub heads : (a b : ℕ) (xs ys : List ℕ) → a ∷ xs ≡ b ∷ ys → a ≡ b
 heads a b xs ys e = cc
 
-tails : (a b : ℕ) (xs ys : List ℕ) → a ∷ xs ≡ b ∷ ys → xs ≡ ys
+pub tails : (a b : ℕ) (xs ys : List ℕ) → a ∷ xs ≡ b ∷ ys → xs ≡ ys
 tails a b xs ys e = cc
 
 -- L is no point
-no_point : (xs ys : List ℕ) → 76 ∷ xs ≡ 46 ∷ ys → ⊥
+pub no_point : (xs ys : List ℕ) → 76 ∷ xs ≡ 46 ∷ ys → ⊥
 no_point xs ys e = let same = heads 76 46 xs ys e in omega arith
 
 int_longest : (after left : List ℕ) → NotFirst 76 after → NoPlaces after → Reaches after left → length after ≤ length left

@@ -1,5 +1,5 @@
 -- The tokens of a text, one after the other.
-use Rattle.std.proofs.Common.{◌≡◌, ℕ, zero, suc, ◌+◌, ◌-◌, ◌<◌, ◌≤◌, Bool, true, false, IsTrue, List, [], ◌∷◌, ◌++◌, length, refl, sym, ap, subst, ◌∙◌, append_assoc, length-append, arith, le-leb}
+use Rattle.std.proofs.Common.{◌≡◌, ℕ, ◌+◌, ◌-◌, ◌<◌, ◌≤◌, true, IsTrue, List, [], ◌∷◌, ◌++◌, length, refl, sym, ap, subst, ◌∙◌, append_assoc, length-append, arith, le-leb}
 use Rattle.std.specs.List.{list_all}
 use Rattle.std.proofs.lemmas.Bool.{and_from}
 use Rattle.std.proofs.lemmas.List.Folds.{list_all-append}
@@ -10,7 +10,7 @@ use Rattle.expr_tokens.specs.declared.token.Token.TheVariants as reads
 use Rattle.expr_tokens.specs.declared.token.Placed.{Placed}
 use Rattle.expr_tokens.specs.Ranges.{is_in_range}
 use Rattle.expr_tokens.specs.Spots.{token_of, spot_of, spots_of}
-use Rattle.expr_tokens.specs.Views.{Begins, First, Stops, IsLongest}
+use Rattle.expr_tokens.specs.Views.{Begins, IsLongest}
 use Rattle.expr_tokens.proofs.ClassLemmas.{class, some_bytes}
 
 -- ---- one token

@@ -1,11 +1,11 @@
 -- The operator or sign that stands first.
-use Rattle.std.proofs.Common.{◌≡◌, ℕ, ◌+◌, ◌≤◌, Bool, true, false, List, [], ◌∷◌, ◌++◌, length, refl, sym, ap, subst, ◌∙◌, length-append, arith}
+use Rattle.std.proofs.Common.{◌≡◌, ℕ, ◌≤◌, true, false, List, [], ◌∷◌, ◌++◌, length, refl, sym, ap, subst, ◌∙◌, arith}
 use Rattle.std.specs.List.{list_all}
 use Rattle.std.proofs.lemmas.Bool.Decides.{nat_tests}
 use Rattle.pap_tree.specs.White.{is_white}
 use Rattle.pap_tree.specs.Words.{operator_text}
 use Rattle.pap_tree.specs.declared.expression.Binary.{Binary}
-use Rattle.pap_tree.specs.Tokens.{Token, Literal, Quoted, Beyond, Word, Operator, Mark, Alien, IsToken, SpellsNoToken}
+use Rattle.pap_tree.specs.Tokens.{Token, Literal, Quoted, Beyond, Word, Operator, Mark, Alien, IsToken}
 use Rattle.expr_tokens.specs.Views.{Begins, is_sign_byte, IsNoPair, IsSingle}
 use Rattle.expr_tokens.proofs.ClassLemmas.{class, Spelling, one, two, only_sign, is_single}
 use Rattle.expr_tokens.proofs.LongestLemmas.{begins, less_left}
@@ -35,7 +35,7 @@ single a bytes u left none e (two b c o f h k) =
 no_white : (b : ℕ) → is_sign_byte b ≡ true → list_all is_white (b ∷ []) ≡ false
 no_white b h = grind (arith, nat_tests)
 
-a_token : (a : ℕ) (bytes : List ℕ) (t : Token) → is_sign_byte a ≡ true → ((b : ℕ) (rest : List ℕ) → bytes ≡ b ∷ rest → IsNoPair a b) → IsToken (a ∷ []) t → Begins (a ∷ bytes) t bytes
+pub a_token : (a : ℕ) (bytes : List ℕ) (t : Token) → is_sign_byte a ≡ true → ((b : ℕ) (rest : List ℕ) → bytes ≡ b ∷ rest → IsNoPair a b) → IsToken (a ∷ []) t → Begins (a ∷ bytes) t bytes
 a_token a bytes t s none h =
     begins (a ∷ bytes) (a ∷ []) bytes t refl h (λ u left t f k.
     let same = single a bytes u left none f (only_sign (a ∷ bytes) u left s f (class u t k)) in

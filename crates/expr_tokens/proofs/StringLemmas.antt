@@ -1,8 +1,8 @@
 -- The number in quotation marks that stands first.
-use Rattle.std.proofs.Common.{◌≡◌, ℕ, ◌+◌, ◌<◌, ◌≤◌, Bool, true, false, ◌&&◌, List, [], ◌∷◌, ◌++◌, length, refl, sym, ap, subst, ◌∙◌, append_assoc, length-append, arith}
+use Rattle.std.proofs.Common.{◌≡◌, ℕ, ◌<◌, ◌≤◌, Bool, true, false, List, [], ◌∷◌, ◌++◌, length, refl, sym, ap, subst, ◌∙◌, append_assoc, length-append, arith}
 use Rattle.std.specs.Prelude.{codes}
 use Rattle.std.specs.List.{list_all}
-use Rattle.std.specs.Char.{digit_value, is_ascii_digit}
+use Rattle.std.specs.Char.{digit_value}
 use Rattle.std.specs.Str.Parse.{AllDigits}
 use Rattle.std.proofs.lemmas.Bool.{and_parts, and_from}
 use Rattle.std.proofs.lemmas.Bool.Decides.{nat_tests}
@@ -10,8 +10,8 @@ use Rattle.std.proofs.lemmas.List.{append-nil}
 use Rattle.std.proofs.lemmas.List.Folds.{list_all-append}
 use Rattle.scaled_decimal.specs.Decimals.{Decimal}
 use Rattle.scaled_decimal.specs.NumberTexts.{sign_text, point_text, Spells, SpellsNone}
-use Rattle.pap_tree.specs.Tokens.{Token, Alien, IsToken, IsQuoted, SpellsNoToken}
-use Rattle.expr_tokens.specs.Views.{Begins, Stops, IsLongest, NotFirst, is_no_quote}
+use Rattle.pap_tree.specs.Tokens.{Token, Alien, IsToken, SpellsNoToken}
+use Rattle.expr_tokens.specs.Views.{Begins, IsLongest, NotFirst, is_no_quote}
 use Rattle.expr_tokens.proofs.FrontLemmas.{within}
 use Rattle.expr_tokens.proofs.ClassLemmas.{digit_is, class, only_string}
 use Rattle.expr_tokens.proofs.LongestLemmas.{begins}

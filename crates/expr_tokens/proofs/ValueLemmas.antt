@@ -1,17 +1,16 @@
 -- What the texts of literals spell as numbers.
-use Rattle.std.proofs.Common.{◌≡◌, ℕ, ◌<◌, ◌≤◌, ◌^◌, ◌↔◌, Result, Ok, Err, List, [], ◌∷◌, ◌++◌, length, pos, refl, sym, ap, subst, ◌∙◌, arith}
-use Rattle.std.specs.Prelude.{false, codes, ℤ, Option, Some, None}
+use Rattle.std.proofs.Common.{◌≡◌, ℕ, ◌<◌, ◌^◌, Result, Ok, Err, List, [], ◌∷◌, ◌++◌, length, pos, refl, sym, ap, subst, ◌∙◌, arith}
+use Rattle.std.specs.Prelude.{false, codes, ℤ, Option}
 use Rattle.std.specs.Int.{w64, FitsUnsigned}
 use Rattle.std.specs.Option.{SomeIff}
 use Rattle.std.specs.Result.{OkIff, result_ok}
 use Rattle.std.proofs.Math.IntN.{nat_abs}
 use Rattle.std.proofs.lemmas.Int.{ints}
-use Rattle.std.specs.Str.Parse.{AllDigits, digits_value}
+use Rattle.std.specs.Str.Parse.{digits_value}
 use Rattle.std.proofs.lemmas.List.{append-nil}
-use Rattle.scaled_decimal.specs.Decimals.{Decimal, decimal, numerator_of}
+use Rattle.scaled_decimal.specs.Decimals.{Decimal, decimal}
 use Rattle.scaled_decimal.specs.Limits.{IsKept, IsWithinLimit}
 use Rattle.scaled_decimal.specs.NumberTexts.{point_text, Spells}
-use Rattle.scaled_decimal.proofs.Laws.{one_number}
 use Rattle.pap_tree.specs.Tokens.{IsNumeral, IsPoint}
 
 -- the whole number that a text spells

@@ -1,12 +1,12 @@
 -- The word that stands first.
-use Rattle.std.proofs.Common.{◌≡◌, ℕ, ◌+◌, ◌-◌, ◌≤◌, Bool, true, false, List, [], ◌∷◌, ◌++◌, length, take, drop, refl, sym, ap, subst, ◌∙◌, append_assoc, length-append, arith}
+use Rattle.std.proofs.Common.{◌≡◌, ℕ, ◌+◌, ◌-◌, ◌≤◌, true, false, List, [], ◌∷◌, ◌++◌, length, take, drop, refl, sym, ap, subst, ◌∙◌, length-append, arith}
 use Rattle.std.specs.List.{list_all, prefix_len}
 use Rattle.std.proofs.lemmas.Bool.Decides.{nat_tests}
 use Rattle.std.proofs.lemmas.List.{take-append-drop, take-append-le, length-take}
 use Rattle.std.proofs.lemmas.List.Sums.{prefix_len-le-length}
 use Rattle.std.proofs.Math.Seq.{take-append-add}
 use Rattle.pap_tree.specs.Names.{is_letter, is_word}
-use Rattle.pap_tree.specs.Tokens.{Token, Word, IsToken, is_word_text}
+use Rattle.pap_tree.specs.Tokens.{Word, is_word_text}
 use Rattle.expr_tokens.specs.Views.{Begins, First, Stops, IsLongest}
 use Rattle.expr_tokens.proofs.FrontLemmas.{longest_at, within}
 use Rattle.expr_tokens.proofs.ClassLemmas.{class, only_word}

@@ -2,7 +2,7 @@
 ghost use Rattle.std.specs.Prelude.{◌≡◌, ◌≤◌, ℕ, List, [], length, IfOk, MatchOption};
 ghost use Rattle.std.specs.List.{prefix_len};
 ghost use Rattle.pap_tree.specs.White.{is_white};
-ghost use Rattle.pap_tree.specs.Tokens.{Tokens};
+ghost use Rattle.pap_tree.specs.Tokens.{Spot, Tokens};
 ghost use Rattle.expr_tokens.specs.Spots.{token_of, spots_of};
 ghost use Rattle.expr_tokens.specs.Views.{Begins, Stops, IsLongest};
 
@@ -27,6 +27,12 @@ pub fn read_tokens(alloc: Global, text: &[u8]) -> Result<Vec<Placed>, AllocError
     }
     Ok(tokens)
 }
+
+/// A law, with nothing to run: each text has one list of tokens and no other.
+pub fn each_text_has_one_list_of_tokens()
+    ensures always { (text : List ℕ) → (ts : List Spot) × Tokens 0 text ts }
+    ensures one { (text : List ℕ) (ts us : List Spot) → Tokens 0 text ts → Tokens 0 text us → ts ≡ us }
+{}
 
 /// What follows the white space that stands first.
 fn skip_white(bytes: &[u8]) -> &[u8]

@@ -7,5 +7,5 @@ mod sign;
 mod token;
 mod word;
 
-pub use lexer::read_tokens;
+pub use lexer::{each_text_has_one_list_of_tokens, read_tokens};
 pub use token::{Keyword, Placed, Sign, Token};

@@ -1,7 +1,7 @@
-use Rattle.std.proofs.Common.{◌≡◌, ◌≤◌, ◌-◌, List, [], ◌∷◌, ◌++◌, length, refl, ap, arith}
+use Rattle.std.proofs.Common.{◌-◌, [], ◌∷◌, length, refl, ap, arith}
 use Rattle.std.proofs.lemmas.List.{append-nil, length-append}
-use Rattle.pap_tree.specs.Tokens.{Spot, Tokens}
-use Rattle.expr_tokens.specs.Spots.{token_of, spots_of}
+use Rattle.pap_tree.specs.Tokens.{Spot}
+use Rattle.expr_tokens.specs.Spots.{token_of}
 use Rattle.expr_tokens.proofs.ReadLemmas.{starts, proceeds, spots_more, at_end, less_after}
 use Rattle.expr_tokens.proofs.lexer.read_tokens.Goals as goal
 

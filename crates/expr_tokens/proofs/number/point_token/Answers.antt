@@ -1,4 +1,4 @@
-use Rattle.std.proofs.Common.{refl, sym, subst}
+use Rattle.std.proofs.Common.{refl, subst}
 use Rattle.scaled_decimal.proofs.Laws.{one_number}
 use Rattle.pap_tree.specs.Tokens.{IsPoint, great_point}
 use Rattle.expr_tokens.proofs.ValueLemmas.{point_spells}

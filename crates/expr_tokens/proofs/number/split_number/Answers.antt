@@ -1,4 +1,3 @@
-use Rattle.std.proofs.Common.{refl}
 use Rattle.expr_tokens.specs.Spots.{token_of}
 use Rattle.expr_tokens.proofs.NumberLemmas.{int_begins, long_begins, point_begins, point_parts, point_text}
 use Rattle.expr_tokens.proofs.number.split_number.Goals as goal

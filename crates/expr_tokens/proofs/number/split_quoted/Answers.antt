@@ -1,4 +1,4 @@
-use Rattle.std.proofs.Common.{refl, ◌≤◌, arith}
+use Rattle.std.proofs.Common.{refl, arith}
 use Rattle.pap_tree.specs.Tokens.{Beyond, Quoted, great_quoted}
 use Rattle.expr_tokens.proofs.StringLemmas.{string_begins, no_end, no_number}
 use Rattle.expr_tokens.proofs.number.split_quoted.Goals as goal
