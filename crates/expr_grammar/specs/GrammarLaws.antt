@@ -1,0 +1,59 @@
+-- The laws of the expression grammar, as statements on lists of tokens.
+use Rattle.std.specs.Prelude.{◌≡◌, ℕ, ◌≤◌, ◌⊎◌, ◌↔◌, IsTrue, List, length, Ok, Err}
+use Rattle.pap_tree.specs.Tokens.{Token, Spot, plain}
+use Rattle.pap_tree.specs.Term.{Term}
+use Rattle.pap_tree.specs.Grammar.{Line, Level, Meaning, tree}
+use Rattle.pap_tree.specs.Texts.{Text}
+use Rattle.pap_tree.specs.Stopping.{Cause, IsRead, IsRefused, has_limits}
+use Rattle.pap_tree.specs.Expressions.{IsText}
+use Rattle.expr_grammar.specs.Run.{Refusal, answer}
+use Rattle.expr_grammar.specs.SpelledTokens.{spelled_tokens}
+use Rattle.expr_grammar.specs.Trees.{size, IsKeeping, ArePlaced}
+
+-- the tokens are a text of the line that stands for this, and none of them stops the reading
+abbrev pub IsTaken : Line → List Spot → Meaning → Type 0
+IsTaken l ts x = Text l (plain ts) x × IsRead l (plain ts)
+
+-- a text of the line stands for one thing
+abbrev pub HasOneMeaning : Line → Type 0
+HasOneMeaning l = (ts : List Token) (x y : Meaning) → Text l ts x → Text l ts y → x ≡ y
+
+-- what is taken isn't refused
+abbrev pub TakesOrRefuses : Line → Type 0
+TakesOrRefuses l = (ts : List Spot) (end : ℕ) (x : Meaning) (c : Cause) (at : ℕ) → IsTaken l ts x → IsRefused l ts end c at → ⊥
+
+-- tokens are refused for one cause, at one place
+abbrev pub HasOneRefusal : Line → Type 0
+HasOneRefusal l = (ts : List Spot) (end : ℕ) (c d : Cause) (m n : ℕ) → IsRefused l ts end c m → IsRefused l ts end d n → (c ≡ d) × (m ≡ n)
+
+-- all tokens are taken or refused
+abbrev pub HasAnswer : Line → Type 0
+HasAnswer l = (ts : List Spot) (end : ℕ) → ((x : Meaning) × IsTaken l ts x) ⊎ ((c : Cause) × (at : ℕ) × IsRefused l ts end c at)
+
+-- the machine gives what the tokens stand for, exactly where they are taken
+abbrev pub GivesMeaning : Line → Type 0
+GivesMeaning l = (ts : List Spot) (end : ℕ) (x : Meaning) → (answer l end ts ≡ Ok x) ↔ IsTaken l ts x
+
+-- and the cause and the place, exactly where they are refused
+abbrev pub GivesRefusal : Line → Type 0
+GivesRefusal l = (ts : List Spot) (end : ℕ) (r : Refusal) → (answer l end ts ≡ Err r) ↔ IsRefused l ts end r.cause r.at
+
+-- a tree has no more nodes than its text has tokens
+abbrev pub IsSized : Line → Type 0
+IsSized l = (ts : List Token) (x : Meaning) → Text l ts x → size x ≤ length ts
+
+-- so it has at most 1,000 where the reading of a line with limits isn't stopped
+abbrev pub IsBounded : Line → Type 0
+IsBounded l = (ts : List Token) (x : Meaning) → IsTrue (has_limits l) → Text l ts x → IsRead l ts → size x ≤ 1000
+
+-- the scales of a tree are at most 30, and its literals with a point have a place where its text's have one
+abbrev pub KeepsPlaces : Line → Type 0
+KeepsPlaces l = (ts : List Token) (x : Meaning) → ArePlaced ts → Text l ts x → IsKeeping x
+
+-- which they have in each text of bytes
+abbrev pub KeepsPlacesOfBytes : Line → Type 0
+KeepsPlacesOfBytes l = (bytes : List ℕ) (x : Meaning) → IsText l bytes x → IsKeeping x
+
+-- the tokens of a tree's spelling are a text of it, for a tree that some text has
+abbrev pub SpellsItself : Type 0
+SpellsItself = (l : Line) (ts : List Token) (x : Term) → Text l ts (tree x) → Text (Level 0) (spelled_tokens x) (tree x)

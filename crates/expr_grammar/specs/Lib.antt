@@ -1,0 +1,8 @@
+pub mod Shortened
+pub mod Machine
+pub mod Holes
+pub mod Run
+pub mod Lines
+pub mod Trees
+pub mod GrammarLaws
+pub mod SpelledTokens

@@ -1,0 +1,78 @@
+-- The tokens of an expression's canonical spelling (`Spelling` of pap_tree gives its bytes).
+use Rattle.std.specs.Prelude.{ℕ, suc, ◌+◌, Bool, true, false, ◌||◌, nat_lt, if◌then◌else◌, List, [], ◌∷◌, ◌++◌, ℤ, pos, negsuc, codes}
+use Rattle.scaled_decimal.specs.Decimals.{Decimal, decimal, numerator_of, scale_of, negated}
+use Rattle.scaled_decimal.specs.declared.rounding.Mode.{Mode}
+use Rattle.pap_tree.specs.declared.expression.Unary.TheVariants.{Minus, Not, Negate, Abs}
+use Rattle.pap_tree.specs.declared.expression.Binary.TheVariants.{Sub}
+use Rattle.pap_tree.specs.Term as terms
+use Rattle.pap_tree.specs.Term.{Leaf, One, unary, value_of, value_of_scaled, new_big, set_scale, Two, operator, method, divide, Term, leaf, item, one, two, choice}
+use Rattle.pap_tree.specs.Words.{level_of_operator, call_word, known_word, round_word}
+use Rattle.pap_tree.specs.Spelling.{level_of}
+use Rattle.pap_tree.specs.Tokens.{Number, Token, Literal, Quoted, Word, Operator, Mark, Bang, Question, Colon, Dot, Comma, Open, Close, OpenItem, CloseItem, int, long, point}
+use Rattle.pap_tree.specs.Texts.{begins_point}
+
+-- in round brackets where they are needed
+abbrev pub bracketed : Bool → List Token → List Token
+bracketed needed ts = if needed then Mark Open ∷ (ts ++ (Mark Close ∷ [])) else ts
+
+abbrev pub at_level : ℕ → ℕ → List Token → List Token
+at_level wanted own ts = bracketed (nat_lt own wanted) ts
+
+-- a number, or a -
+abbrev pub begins_signed : List Token → Bool
+begins_signed (Literal n ∷ ts) = true
+begins_signed (Operator Sub ∷ ts) = true
+begins_signed _ = false
+
+abbrev pub int_tokens : ℤ → List Token
+int_tokens (pos n) = Literal (int n) ∷ []
+int_tokens (negsuc n) = Operator Sub ∷ Literal (int (suc n)) ∷ []
+
+abbrev pub long_tokens : ℤ → List Token
+long_tokens (pos n) = Literal (long n) ∷ []
+long_tokens (negsuc n) = Operator Sub ∷ Literal (long (suc n)) ∷ []
+
+abbrev pub point_tokens : ℤ → ℕ → List Token
+point_tokens (pos n) s = Literal (point (decimal (pos n) s)) ∷ []
+point_tokens (negsuc n) s = Operator Sub ∷ Literal (point (decimal (pos (suc n)) s)) ∷ []
+
+abbrev pub leaf_tokens : Leaf → List Token
+leaf_tokens (terms.whole i) = int_tokens i
+leaf_tokens (terms.long i) = long_tokens i
+leaf_tokens (terms.point d) = point_tokens (numerator_of d) (scale_of d)
+leaf_tokens (terms.text d) = Word (codes "new") ∷ Word (codes "BigDecimal") ∷ Mark Open ∷ Quoted d ∷ Mark Close ∷ []
+leaf_tokens (terms.known k) = Word (codes "BigDecimal") ∷ Mark Dot ∷ Word (known_word k) ∷ []
+leaf_tokens (terms.named x) = Word x ∷ []
+
+-- a scale, a mode and the closing bracket
+abbrev pub rounding_tokens : ℕ → Mode → List Token
+rounding_tokens s m = Literal (int s) ∷ Mark Comma ∷ Word (codes "BigDecimal") ∷ Mark Dot ∷ Word (round_word m) ∷ Mark Close ∷ []
+
+abbrev pub method_tokens : List ℕ → List Token → List Token
+method_tokens w more = Mark Dot ∷ Word w ∷ Mark Open ∷ more
+
+abbrev pub value_of_tokens : List Token → List Token
+value_of_tokens more = Word (codes "BigDecimal") ∷ Mark Dot ∷ Word (codes "valueOf") ∷ Mark Open ∷ more
+
+-- an operation round its operand, which binds at a level and has these tokens
+abbrev pub one_tokens : One → ℕ → List Token → List Token
+one_tokens (unary Minus) n a = Operator Sub ∷ bracketed (nat_lt n 7 || begins_signed a) a
+one_tokens (unary Not) n a = Mark Bang ∷ at_level 7 n a
+one_tokens (unary Negate) n a = at_level 8 n a ++ method_tokens (codes "negate") (Mark Close ∷ [])
+one_tokens (unary Abs) n a = at_level 8 n a ++ method_tokens (codes "abs") (Mark Close ∷ [])
+one_tokens value_of n a = value_of_tokens (a ++ (Mark Close ∷ []))
+one_tokens (value_of_scaled s) n a = value_of_tokens (a ++ (Mark Comma ∷ Literal (int s) ∷ Mark Close ∷ []))
+one_tokens new_big n a = Word (codes "new") ∷ Word (codes "BigDecimal") ∷ Mark Open ∷ (bracketed (begins_point a) a ++ (Mark Close ∷ []))
+one_tokens (set_scale s m) n a = at_level 8 n a ++ method_tokens (codes "setScale") (rounding_tokens s m)
+
+abbrev pub two_tokens : Two → ℕ → List Token → ℕ → List Token → List Token
+two_tokens (operator o) m a n b = at_level (level_of_operator o) m a ++ (Operator o ∷ at_level (level_of_operator o + 1) n b)
+two_tokens (method c) m a n b = at_level 8 m a ++ method_tokens (call_word c) (b ++ (Mark Close ∷ []))
+two_tokens (divide s r) m a n b = at_level 8 m a ++ method_tokens (codes "divide") (b ++ (Mark Comma ∷ rounding_tokens s r))
+
+abbrev pub spelled_tokens : Term → List Token
+spelled_tokens (leaf l) = leaf_tokens l
+spelled_tokens (item x a) = Word x ∷ Mark OpenItem ∷ (spelled_tokens a ++ (Mark CloseItem ∷ []))
+spelled_tokens (one op a) = one_tokens op (level_of a) (spelled_tokens a)
+spelled_tokens (two op a b) = two_tokens op (level_of a) (spelled_tokens a) (level_of b) (spelled_tokens b)
+spelled_tokens (choice c a b) = at_level 1 (level_of c) (spelled_tokens c) ++ (Mark Question ∷ (spelled_tokens a ++ (Mark Colon ∷ spelled_tokens b)))

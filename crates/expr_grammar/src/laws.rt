@@ -1,0 +1,49 @@
+//! The laws: what the definitions of `pap_tree` say of every list of tokens. The functions do nothing; their contracts
+//! are the laws.
+
+ghost use Rattle.pap_tree.specs.Grammar.{Line};
+ghost use Rattle.expr_grammar.specs.Lines.{IsWhole};
+ghost use Rattle.expr_grammar.specs.GrammarLaws.{HasOneMeaning, TakesOrRefuses, HasOneRefusal, HasAnswer, GivesMeaning, GivesRefusal, IsSized, IsBounded, KeepsPlaces, KeepsPlacesOfBytes, SpellsItself};
+
+/// A text of a test, of an assignment or of a declared literal stands for one thing at most.
+pub fn one_tree()
+    ensures { (l : Line) → IsWhole l → HasOneMeaning l }
+{}
+
+/// No tokens are both taken and refused.
+pub fn tree_or_fault()
+    ensures { (l : Line) → IsWhole l → TakesOrRefuses l }
+{}
+
+/// Tokens are refused for one cause and at one place at most.
+pub fn one_fault()
+    ensures { (l : Line) → IsWhole l → HasOneRefusal l }
+{}
+
+/// All tokens are taken or refused.
+pub fn always_one()
+    ensures { (l : Line) → IsWhole l → HasAnswer l }
+{}
+
+/// The machine answers what a line's tokens stand for, or why they are refused and where, and nothing else.
+pub fn decides()
+    ensures meaning { (l : Line) → IsWhole l → GivesMeaning l }
+    ensures refusal { (l : Line) → IsWhole l → GivesRefusal l }
+{}
+
+/// A tree has no more nodes than its text has tokens, and at most 1,000 where the line has limits and keeps them.
+pub fn sized()
+    ensures tokens { (l : Line) → IsSized l }
+    ensures limit { (l : Line) → IsBounded l }
+{}
+
+/// Each scale of a tree is at most 30, and each literal with a point has at least one place.
+pub fn keeps_places()
+    ensures tokens { (l : Line) → KeepsPlaces l }
+    ensures bytes { (l : Line) → KeepsPlacesOfBytes l }
+{}
+
+/// The tokens of the canonical spelling of a tree that some text has are a text of that tree.
+pub fn spells()
+    ensures { SpellsItself }
+{}
