@@ -26,3 +26,6 @@ pub mod Sizes
 pub mod Places
 pub mod Ranges
 pub mod SpelledTexts
+pub mod Runs
+pub mod Bytes
+pub mod Laws

@@ -1,5 +1,5 @@
 -- The names and the scales of a tree that some text has are those of the language.
-use Rattle.std.proofs.Common.{◌≡◌, ℕ, ◌≤◌, List, [], ◌∷◌, ◌++◌}
+use Rattle.std.proofs.Common.{List, [], ◌∷◌}
 use Rattle.std.specs.Prelude.{⊤, IsTrue}
 use Rattle.pap_tree.specs.Names.{is_name}
 use Rattle.pap_tree.specs.Term.{Leaf, named, Term, leaf, item, one, two, choice}

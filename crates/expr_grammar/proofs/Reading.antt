@@ -1,5 +1,5 @@
 -- What the machine has read after some tokens of a line.
-use Rattle.std.proofs.Common.{◌≡◌, ℕ, Option, Some, None, List, [], ◌∷◌, ◌++◌, false, refl, sym, ap, subst, ◌∙◌, append_assoc, arith}
+use Rattle.std.proofs.Common.{◌≡◌, ℕ, ◌+◌, ◌≤◌, Option, Some, None, List, [], ◌∷◌, ◌++◌, false, refl, sym, ap, subst, ◌∙◌, append_assoc, arith}
 use Rattle.std.proofs.lemmas.List.{append-nil}
 use Rattle.pap_tree.specs.Tokens.{Token}
 use Rattle.pap_tree.specs.Grammar as grammar
@@ -138,3 +138,40 @@ machine_front line w a s e = let f = is_front line s a (spelled line w a s e) in
 -- and a front is read by it
 pub front_reaches : (line : Line) → IsWhole line → (a : List Token) (n : ℕ) (i : Option Item) → Front line a n i → Reaches (start line) a n i
 front_reaches line w a n i h = reaches h (start line) (start_suits line w) (start_clear line w a)
+
+-- ---- beginnings
+
+through_first : (o : Option State) (a b : List Token) (r : State) → ((x : State) → steps x (a ++ b) ≡ Some r → (q : State) × (steps x a ≡ Some q)) → and_then o (λ x. steps x (a ++ b)) ≡ Some r
+    → (q : State) × (and_then o (λ x. steps x a) ≡ Some q)
+through_first None a b r h e = absurd cc
+through_first (Some x) a b r h e = h x e
+
+-- what is read of a list is read of its beginning
+steps_first : (a b : List Token) (s r : State) → steps s (a ++ b) ≡ Some r → (q : State) × (steps s a ≡ Some q)
+steps_first [] b s r e = (s, refl)
+steps_first (t ∷ a) b s r e = through_first (step s t) a b r (λ x. steps_first a b x r) e
+
+pub front_front : (line : Line) → IsWhole line → (a b : List Token) → IsFront line (a ++ b) → IsFront line a
+front_front line w a b (n, i, h) =
+    let g = front_reaches line w (a ++ b) n i h in
+    let q = steps_first a b (start line) g.to g.run in
+    machine_front line w a q.0 q.1
+
+pub text_begins : (line : Line) → IsWhole line → (a b : List Token) (x : Meaning) → Text line (a ++ b) x → IsFront line a
+text_begins line w a b x h =
+    let (s, e) = text_runs line w (a ++ b) x h in
+    let q = steps_first a b (start line) s e in
+    machine_front line w a q.0 q.1
+
+pub front_run : (line : Line) → IsWhole line → (a : List Token) → IsFront line a → (s : State) × (steps (start line) a ≡ Some s)
+front_run line w a (n, i, h) = let g = front_reaches line w a n i h in (g.to, g.run)
+
+-- the levels of a state are the most that are open
+pub most_open : (line : Line) → IsWhole line → (a : List Token) (s : State) → steps (start line) a ≡ Some s → (n : ℕ) (i : Option Item) → Front line a n i → n ≤ level_of s
+most_open line w a s e n i h =
+    let g = front_reaches line w a n i h in
+    let d : n + level_of (start line) ≤ level_of s = subst (λ q. n + level_of (start line) ≤ level_of q) (some_is g.to s (sym g.run ∙ e)) g.deep in
+    omega (arith, d)
+
+pub so_open : (line : Line) → IsWhole line → (a : List Token) (s : State) → steps (start line) a ≡ Some s → (i : Option Item) × Front line a (level_of s) i
+so_open line w a s e = is_front line s a (spelled line w a s e)

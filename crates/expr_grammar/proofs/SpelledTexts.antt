@@ -1,10 +1,10 @@
 -- The canonical spelling of a tree is a text of the tree.
-use Rattle.std.proofs.Common.{◌≡◌, ℕ, zero, suc, ◌+◌, ◌≤◌, ◌<◌, Bool, true, false, cond, List, [], ◌∷◌, ◌++◌, ℤ, pos, negsuc, refl, sym, ap, subst, ◌∙◌, arith}
+use Rattle.std.proofs.Common.{◌≡◌, ℕ, suc, ◌+◌, ◌≤◌, Bool, true, false, List, [], ◌∷◌, ◌++◌, ℤ, pos, negsuc, refl, sym, ap, subst, arith}
 use Rattle.std.specs.Prelude.{◌||◌, nat_lt, codes, IsTrue}
 use Rattle.std.proofs.lemmas.Bool.{ltb-false}
 use Rattle.std.proofs.lemmas.List.{append-nil}
 use Rattle.pap_tree.specs.Names.{is_name}
-use Rattle.scaled_decimal.specs.Decimals.{Decimal, decimal, numerator_of, scale_of}
+use Rattle.scaled_decimal.specs.Decimals.{decimal, numerator_of, scale_of}
 use Rattle.scaled_decimal.specs.declared.rounding.Mode.{Mode}
 use Rattle.pap_tree.specs.declared.expression.Unary.TheVariants.{Minus, Not, Negate, Abs}
 use Rattle.pap_tree.specs.declared.expression.Binary.TheVariants.{Sub}
@@ -18,9 +18,9 @@ use Rattle.pap_tree.specs.Grammar as grammar
 use Rattle.pap_tree.specs.Grammar.{Level, Meaning, tree, mode}
 use Rattle.pap_tree.specs.Texts as texts
 use Rattle.pap_tree.specs.Texts.{Text, Texts, begins_number, begins_point}
-use Rattle.expr_grammar.specs.SpelledTokens.{bracketed, at_level, begins_signed, int_tokens, long_tokens, point_tokens, leaf_tokens, rounding_tokens, one_tokens, two_tokens, spelled_tokens}
+use Rattle.expr_grammar.specs.SpelledTokens.{bracketed, at_level, begins_signed, int_tokens, long_tokens, point_tokens, leaf_tokens, one_tokens, two_tokens, spelled_tokens}
 use Rattle.expr_grammar.specs.Trees.{KeepsScale, KeepsQuotientScale}
-use Rattle.expr_grammar.proofs.Closing.{operator_low, operator_high}
+use Rattle.expr_grammar.proofs.Closing.{operator_high}
 use Rattle.expr_grammar.proofs.Levels.{looser}
 use Rattle.expr_grammar.proofs.Ranges.{IsNamed, IsRanged}
 

@@ -75,25 +75,49 @@ new_step line (Moded the_decimal r n k) s b h e = absurd cc
 new_step line (Moded the_mode r n k) s b h e = absurd cc
 new_step line r s b h e = absurd cc
 
+-- where a literal with a point is a fraction, with a - before it or without
+record IsFractional (s : State) : Type 0 where
+  cause : point_cause s ≡ binary_fraction
+  minus : (r : State) → step s (Operator binaries.Sub) ≡ Some r → point_cause r ≡ binary_fraction
+
+-- the bracket of new BigDecimal is due
+record IsNewClass (s : State) : Type 0 where
+  count : ℕ
+  inside : State
+  is : s ≡ Due count (Mark Open) inside
+  fraction : IsFractional inside
+
+class_step : (r s : State) → IsNew r → step r (Word (codes "BigDecimal")) ≡ Some s → IsNewClass s
+class_step r s n e =
+    let f : Some (Due n.second (Mark Open) n.inside) ≡ Some s = ap (λ r. step r (Word (codes "BigDecimal"))) (sym n.is) ∙ e in
+    state_is (Due n.second (Mark Open) n.inside) s IsNewClass f (record { count = n.second; inside = n.inside; is = refl; fraction = record { cause = n.cause; minus = n.minus } })
+
+open_step : (r s : State) → IsNewClass r → step r (Mark Open) ≡ Some s → IsFractional s
+open_step r s n e =
+    let f : Some n.inside ≡ Some s = ap (λ r. step r (Mark Open)) (sym n.is) ∙ e in
+    state_is n.inside s IsFractional f n.fraction
+
+new_state : (line : Line) → IsWhole line → (b : List Token) (s : State) → steps (start line) (b ++ (Word (codes "new") ∷ [])) ≡ Some s → IsNew s
+new_state line w b s e = let p = before_last line b (Word (codes "new")) s e in new_step line p.state s b (spelled line w b p.state p.run) p.last
+
+class_state : (line : Line) → IsWhole line → (b : List Token) (s : State) → steps (start line) (b ++ (Word (codes "new") ∷ Word (codes "BigDecimal") ∷ [])) ≡ Some s → IsNewClass s
+class_state line w b s e =
+    let f = append_assoc b (Word (codes "new") ∷ []) (Word (codes "BigDecimal") ∷ []) in
+    let p = before_last line (b ++ (Word (codes "new") ∷ [])) (Word (codes "BigDecimal")) s (ap (steps (start line)) f ∙ e) in
+    class_step p.state s (new_state line w b p.state p.run) p.last
+
 -- right after new BigDecimal and its bracket
-fraction_inside : (line : Line) → IsWhole line → (b : List Token) (s : State) → steps (start line) (b ++ new_big_decimal) ≡ Some s
-    → (point_cause s ≡ binary_fraction) × ((r : State) → step s (Operator binaries.Sub) ≡ Some r → point_cause r ≡ binary_fraction)
+fraction_inside : (line : Line) → IsWhole line → (b : List Token) (s : State) → steps (start line) (b ++ new_big_decimal) ≡ Some s → IsFractional s
 fraction_inside line w b s e =
-    let two = before_last line (b ++ (Word (codes "new") ∷ Word (codes "BigDecimal") ∷ [])) (Mark Open) s
-    (ap (steps (start line)) (append_assoc b (Word (codes "new") ∷ Word (codes "BigDecimal") ∷ []) (Mark Open ∷ [])) ∙ e) in
-    let one = before_last line (b ++ (Word (codes "new") ∷ [])) (Word (codes "BigDecimal")) two.state
-    (ap (steps (start line)) (append_assoc b (Word (codes "new") ∷ []) (Word (codes "BigDecimal") ∷ [])) ∙ two.run) in
-    let none = before_last line b (Word (codes "new")) one.state one.run in
-    let n = new_step line none.state one.state b (spelled line w b none.state none.run) none.last in
-    let f : two.state ≡ Due n.second (Mark Open) n.inside = sym (some_is _ _ (ap (λ s. step s (Word (codes "BigDecimal"))) (sym n.is) ∙ one.last)) in
-    let g : n.inside ≡ s = some_is n.inside s (ap (λ s. step s (Mark Open)) (sym f) ∙ two.last) in
-    subst (λ s. (point_cause s ≡ binary_fraction) × ((r : State) → step s (Operator binaries.Sub) ≡ Some r → point_cause r ≡ binary_fraction)) g (n.cause, n.minus)
+    let f = append_assoc b (Word (codes "new") ∷ Word (codes "BigDecimal") ∷ []) (Mark Open ∷ []) in
+    let p = before_last line (b ++ (Word (codes "new") ∷ Word (codes "BigDecimal") ∷ [])) (Mark Open) s (ap (steps (start line)) f ∙ e) in
+    open_step p.state s (class_state line w b p.state p.run) p.last
 
 pub fraction_state : (line : Line) → IsWhole line → (a : List Token) (d : Decimal) (s : State) → steps (start line) a ≡ Some s → IsFraction a (Literal (point d)) → point_cause s ≡ binary_fraction
-fraction_state line w a d s e (stopping.plain_fraction b c f) = (fraction_inside line w b s (ap (steps (start line)) (sym f) ∙ e)).0
+fraction_state line w a d s e (stopping.plain_fraction b c f) = (fraction_inside line w b s (ap (steps (start line)) (sym f) ∙ e)).cause
 fraction_state line w a d s e (stopping.signed_fraction b c f) =
     let p = before_last line (b ++ new_big_decimal) (Operator binaries.Sub) s (ap (steps (start line)) (append_assoc b new_big_decimal (Operator binaries.Sub ∷ []) ∙ sym f) ∙ e) in
-    (fraction_inside line w b p.state p.run).1 s p.last
+    (fraction_inside line w b p.state p.run).minus s p.last
 
 -- after the scale of setScale
 int_step : (r s : State) (n : ℕ) → wants r ≡ Some of_setting → step r (Literal (int n)) ≡ Some s → close_cause s ≡ unsupported

@@ -105,32 +105,41 @@ class_begins line k a s = (
 abbrev new_class : List Token
 new_class = Word (codes "new") ∷ Word (codes "BigDecimal") ∷ []
 
+new_opened : (line : Line) (k : List Frame) (a b : List Token) → Stack line k a → b ≡ a ++ new_big_decimal → Stack line (InNew ∷ k) b
+new_opened line k a b s e = (
+  λ y. begun (λ p. Stack line k p) k (Level 9) (Part no_point (Level 0) (tree y) ∷ sign Close ∷ []) 1 (tree (one new_big y)) a new_big_decimal b s (high k)
+      (λ c f. word_clear k (codes "new") (Word (codes "BigDecimal") ∷ Mark Open ∷ c))
+      (λ c n i f. fronts.by _ (grammar.a_new_big y) (fronts.is (fronts.is (fronts.opens f)))) (λ c f. texts.by _ (grammar.a_new_big y) (texts.is (texts.is (texts.opens f)))) e,
+  λ d. begun (λ p. Stack line k p) k (Level 9) (Is (Quoted d) ∷ sign Close ∷ []) 1 (tree (leaf (text d))) a new_big_decimal b s (high k)
+      (λ c f. word_clear k (codes "new") (Word (codes "BigDecimal") ∷ Mark Open ∷ c))
+      (λ c n i f. fronts.by _ (grammar.a_new_text d) (fronts.is (fronts.is (fronts.opens f)))) (λ c f. texts.by _ (grammar.a_new_text d) (texts.is (texts.is (texts.opens f)))) e,
+  (a, e),
+)
+
+new_due : (line : Line) (k : List Frame) (a b : List Token) → Stack line k a → b ≡ a ++ new_class → Spelled line (Due (level k) (Mark Open) (Want (InNew ∷ k))) b
+new_due line k a b s e = (
+  at_level line b (0 + level k) (level k) (Some (grammar.opens Open)) (omega arith) (front_here (λ p. Stack line k p) k (Level 9) line (level k) _ _ 0 _ b (plug_whole line k) refl
+      (begun (λ p. Stack line k p) k (Level 9) (grammar.opens Open ∷ Part no_point (Level 0) (tree some_term) ∷ sign Close ∷ []) 0 (tree (one new_big some_term)) a new_class b s (high k)
+      (λ c f. word_clear k (codes "new") (Word (codes "BigDecimal") ∷ c))
+      (λ c n i f. fronts.by _ (grammar.a_new_big some_term) (fronts.is (fronts.is f))) (λ c f. texts.by _ (grammar.a_new_big some_term) (texts.is (texts.is f))) e)),
+  new_opened line k a (b ++ (Mark Open ∷ [])) s (further b a new_class (Mark Open ∷ []) e),
+  tt,
+)
+
+new_begun : (line : Line) (k : List Frame) (a b : List Token) → Stack line k a → b ≡ a ++ (Word (codes "new") ∷ [])
+    → Spelled line (Due (level k) (Word (codes "BigDecimal")) (Due (level k) (Mark Open) (Want (InNew ∷ k)))) b
+new_begun line k a b s e = (
+  at_level line b (0 + level k) (level k) (Some (word (codes "BigDecimal"))) (omega arith) (front_here (λ p. Stack line k p) k (Level 9) line (level k) _ _ 0 _ b (plug_whole line k) refl
+      (begun (λ p. Stack line k p) k (Level 9) (word (codes "BigDecimal") ∷ grammar.opens Open ∷ Part no_point (Level 0) (tree some_term) ∷ sign Close ∷ []) 0 (tree (one new_big some_term)) a
+      (Word (codes "new") ∷ []) b s (high k) (λ c f. word_clear k (codes "new") c)
+      (λ c n i f. fronts.by _ (grammar.a_new_big some_term) (fronts.is f)) (λ c f. texts.by _ (grammar.a_new_big some_term) (texts.is f)) e)),
+  new_due line k a (b ++ (Word (codes "BigDecimal") ∷ [])) s (further b a (Word (codes "new") ∷ []) (Word (codes "BigDecimal") ∷ []) e),
+  refl,
+)
+
 new_begins : (line : Line) (k : List Frame) (a : List Token) → Stack line k a
     → Spelled line (Due (level k) (Word (codes "BigDecimal")) (Due (level k) (Mark Open) (Want (InNew ∷ k)))) (a ++ (Word (codes "new") ∷ []))
-new_begins line k a s =
-    let e = append_assoc a (Word (codes "new") ∷ []) (Word (codes "BigDecimal") ∷ []) in
-    let f = further ((a ++ (Word (codes "new") ∷ [])) ++ (Word (codes "BigDecimal") ∷ [])) a new_class (Mark Open ∷ []) e in (
-      at_level line _ (0 + level k) (level k) _ (omega arith) (front_here (λ p. Stack line k p) k (Level 9) line (level k) _ _ 0 _ _ (plug_whole line k) refl
-          (begun _ k (Level 9) (word (codes "BigDecimal") ∷ grammar.opens Open ∷ Part no_point (Level 0) (tree some_term) ∷ sign Close ∷ []) 0 _ a (Word (codes "new") ∷ []) _ s (high k)
-          (λ c f. word_clear k (codes "new") c) (λ c n i f. fronts.by _ (grammar.a_new_big some_term) (fronts.is f)) (λ c f. texts.by _ (grammar.a_new_big some_term) (texts.is f)) refl)),
-      (
-        at_level line _ (0 + level k) (level k) _ (omega arith) (front_here (λ p. Stack line k p) k (Level 9) line (level k) _ _ 0 _ _ (plug_whole line k) refl
-            (begun _ k (Level 9) (grammar.opens Open ∷ Part no_point (Level 0) (tree some_term) ∷ sign Close ∷ []) 0 _ a new_class _ s (high k)
-            (λ c f. word_clear k (codes "new") (Word (codes "BigDecimal") ∷ c)) (λ c n i f. fronts.by _ (grammar.a_new_big some_term) (fronts.is (fronts.is f)))
-            (λ c f. texts.by _ (grammar.a_new_big some_term) (texts.is (texts.is f))) e)),
-        (
-          λ y. begun _ k (Level 9) (Part no_point (Level 0) (tree y) ∷ sign Close ∷ []) 1 (tree (one new_big y)) a new_big_decimal _ s (high k)
-              (λ c f. word_clear k (codes "new") (Word (codes "BigDecimal") ∷ Mark Open ∷ c)) (λ c n i f. fronts.by _ (grammar.a_new_big y) (fronts.is (fronts.is (fronts.opens f))))
-              (λ c f. texts.by _ (grammar.a_new_big y) (texts.is (texts.is (texts.opens f)))) f,
-          λ d. begun _ k (Level 9) (Is (Quoted d) ∷ sign Close ∷ []) 1 (tree (leaf (text d))) a new_big_decimal _ s (high k)
-              (λ c f. word_clear k (codes "new") (Word (codes "BigDecimal") ∷ Mark Open ∷ c)) (λ c n i f. fronts.by _ (grammar.a_new_text d) (fronts.is (fronts.is (fronts.opens f))))
-              (λ c f. texts.by _ (grammar.a_new_text d) (texts.is (texts.is (texts.opens f)))) f,
-          (a, f),
-        ),
-        tt,
-      ),
-      refl,
-    )
+new_begins line k a s = new_begun line k a (a ++ (Word (codes "new") ∷ [])) s refl
 
 head_steps : (line : Line) (k : List Frame) (w : List ℕ) (o : Option Head) (r : State) (a : List Token) → head_of w ≡ o → Stack line k a → begins_with k o ≡ Some r
     → Spelled line r (a ++ (Word w ∷ []))

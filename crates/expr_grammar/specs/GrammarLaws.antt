@@ -1,11 +1,13 @@
 -- The laws of the expression grammar, as statements on lists of tokens.
-use Rattle.std.specs.Prelude.{◌≡◌, ℕ, ◌≤◌, ◌⊎◌, ◌↔◌, IsTrue, List, length, Ok, Err}
+use Rattle.std.specs.Prelude.{◌≡◌, ℕ, ◌≤◌, ◌⊎◌, ◌↔◌, IsTrue, Option, Some, List, ◌++◌, length, Ok, Err}
 use Rattle.pap_tree.specs.Tokens.{Token, Spot, plain}
 use Rattle.pap_tree.specs.Term.{Term}
-use Rattle.pap_tree.specs.Grammar.{Line, Level, Meaning, tree}
+use Rattle.pap_tree.specs.Grammar.{Item, Line, Level, Meaning, tree}
 use Rattle.pap_tree.specs.Texts.{Text}
+use Rattle.pap_tree.specs.Fronts.{Front, IsFront}
 use Rattle.pap_tree.specs.Stopping.{Cause, IsRead, IsRefused, has_limits}
 use Rattle.pap_tree.specs.Expressions.{IsText}
+use Rattle.expr_grammar.specs.Machine.{State, level_of, start, steps}
 use Rattle.expr_grammar.specs.Run.{Refusal, answer}
 use Rattle.expr_grammar.specs.SpelledTokens.{spelled_tokens}
 use Rattle.expr_grammar.specs.Trees.{size, IsKeeping, ArePlaced}
@@ -29,6 +31,23 @@ HasOneRefusal l = (ts : List Spot) (end : ℕ) (c d : Cause) (m n : ℕ) → IsR
 -- all tokens are taken or refused
 abbrev pub HasAnswer : Line → Type 0
 HasAnswer l = (ts : List Spot) (end : ℕ) → ((x : Meaning) × IsTaken l ts x) ⊎ ((c : Cause) × (at : ℕ) × IsRefused l ts end c at)
+
+-- the machine reads exactly the fronts
+abbrev pub ReadsFronts : Line → Type 0
+ReadsFronts l = (ts : List Token) → ((s : State) × (steps (start l) ts ≡ Some s)) ↔ IsFront l ts
+
+-- and its levels are the most that are open
+abbrev pub CountsLevels : Line → Type 0
+CountsLevels l = (ts : List Token) (s : State) → steps (start l) ts ≡ Some s
+    → ((i : Option Item) × Front l ts (level_of s) i) × ((n : ℕ) (i : Option Item) → Front l ts n i → n ≤ level_of s)
+
+-- each beginning of a front is a front
+abbrev pub BeginsFronts : Line → Type 0
+BeginsFronts l = (a b : List Token) → IsFront l (a ++ b) → IsFront l a
+
+-- and each beginning of a text
+abbrev pub BeginsTexts : Line → Type 0
+BeginsTexts l = (a b : List Token) (x : Meaning) → Text l (a ++ b) x → IsFront l a
 
 -- the machine gives what the tokens stand for, exactly where they are taken
 abbrev pub GivesMeaning : Line → Type 0

@@ -1,6 +1,6 @@
 -- The tokens of an expression's canonical spelling (`Spelling` of pap_tree gives its bytes).
 use Rattle.std.specs.Prelude.{ℕ, suc, ◌+◌, Bool, true, false, ◌||◌, nat_lt, if◌then◌else◌, List, [], ◌∷◌, ◌++◌, ℤ, pos, negsuc, codes}
-use Rattle.scaled_decimal.specs.Decimals.{Decimal, decimal, numerator_of, scale_of, negated}
+use Rattle.scaled_decimal.specs.Decimals.{decimal, numerator_of, scale_of}
 use Rattle.scaled_decimal.specs.declared.rounding.Mode.{Mode}
 use Rattle.pap_tree.specs.declared.expression.Unary.TheVariants.{Minus, Not, Negate, Abs}
 use Rattle.pap_tree.specs.declared.expression.Binary.TheVariants.{Sub}
@@ -8,7 +8,7 @@ use Rattle.pap_tree.specs.Term as terms
 use Rattle.pap_tree.specs.Term.{Leaf, One, unary, value_of, value_of_scaled, new_big, set_scale, Two, operator, method, divide, Term, leaf, item, one, two, choice}
 use Rattle.pap_tree.specs.Words.{level_of_operator, call_word, known_word, round_word}
 use Rattle.pap_tree.specs.Spelling.{level_of}
-use Rattle.pap_tree.specs.Tokens.{Number, Token, Literal, Quoted, Word, Operator, Mark, Bang, Question, Colon, Dot, Comma, Open, Close, OpenItem, CloseItem, int, long, point}
+use Rattle.pap_tree.specs.Tokens.{Token, Literal, Quoted, Word, Operator, Mark, Bang, Question, Colon, Dot, Comma, Open, Close, OpenItem, CloseItem, int, long, point}
 use Rattle.pap_tree.specs.Texts.{begins_point}
 
 -- in round brackets where they are needed

@@ -1,5 +1,5 @@
 use Rattle.expr_grammar.proofs.Decided.{answer_ok, ok_answer, answer_err, err_answer}
-use Rattle.expr_grammar.proofs.laws.decides.Goals as goal
+use Rattle.expr_grammar.proofs.grammar.decides.Goals as goal
 
 pub returns-clause-meaning : goal.returns-clause-meaning
 returns-clause-meaning c = λ l w ts end x. (answer_ok l w end ts x, λ h. ok_answer l w end ts x h.0 h.1)

@@ -3,7 +3,7 @@
 
 ghost use Rattle.pap_tree.specs.Grammar.{Line};
 ghost use Rattle.expr_grammar.specs.Lines.{IsWhole};
-ghost use Rattle.expr_grammar.specs.GrammarLaws.{HasOneMeaning, TakesOrRefuses, HasOneRefusal, HasAnswer, GivesMeaning, GivesRefusal, IsSized, IsBounded, KeepsPlaces, KeepsPlacesOfBytes, SpellsItself};
+ghost use Rattle.expr_grammar.specs.GrammarLaws.{HasOneMeaning, TakesOrRefuses, HasOneRefusal, HasAnswer, ReadsFronts, CountsLevels, BeginsFronts, BeginsTexts, GivesMeaning, GivesRefusal, IsSized, IsBounded, KeepsPlaces, KeepsPlacesOfBytes, SpellsItself};
 
 /// A text of a test, of an assignment or of a declared literal stands for one thing at most.
 pub fn one_tree()
@@ -23,6 +23,15 @@ pub fn one_fault()
 /// All tokens are taken or refused.
 pub fn always_one()
     ensures { (l : Line) → IsWhole l → HasAnswer l }
+{}
+
+/// The machine reads exactly the fronts of a line, and has the most levels open that the front can have. Each beginning of
+/// a front, or of a text, is a front.
+pub fn reads_fronts()
+    ensures fronts { (l : Line) → IsWhole l → ReadsFronts l }
+    ensures levels { (l : Line) → IsWhole l → CountsLevels l }
+    ensures of_fronts { (l : Line) → IsWhole l → BeginsFronts l }
+    ensures of_texts { (l : Line) → IsWhole l → BeginsTexts l }
 {}
 
 /// The machine answers what a line's tokens stand for, or why they are refused and where, and nothing else.

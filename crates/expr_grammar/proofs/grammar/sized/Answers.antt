@@ -1,5 +1,5 @@
 use Rattle.expr_grammar.proofs.Sizes.{sized, bounded}
-use Rattle.expr_grammar.proofs.laws.sized.Goals as goal
+use Rattle.expr_grammar.proofs.grammar.sized.Goals as goal
 
 pub returns-clause-tokens : goal.returns-clause-tokens
 returns-clause-tokens c = λ l ts x h. sized h
