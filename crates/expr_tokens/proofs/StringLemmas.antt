@@ -36,7 +36,7 @@ sign_no_quote false = refl
 joined : (xs ys : List ℕ) → list_all is_no_quote xs ≡ true → list_all is_no_quote ys ≡ true → list_all is_no_quote (xs ++ ys) ≡ true
 joined xs ys h k = list_all-append is_no_quote xs ys ∙ and_from (list_all is_no_quote xs) (list_all is_no_quote ys) h k
 
-number_no_quote : (text : List ℕ) (d : Decimal) → Spells text d → list_all is_no_quote text ≡ true
+pub number_no_quote : (text : List ℕ) (d : Decimal) → Spells text d → list_all is_no_quote text ≡ true
 number_no_quote text d h =
     let f = h.form in
     ap (list_all is_no_quote) f.parts
