@@ -30,7 +30,7 @@ use Rattle.expr_spelling.proofs.Lexing.{Lex, Any, Cut, one, cut_no_digit, cut_no
 digit_value_byte : (x : ℕ) → x < 10 → digit_value (digit_byte x) ≡ x
 digit_value_byte x small = let e = digit_value_digit (48 + x) (omega arith, omega arith) in omega arith
 
-digits_last : (k n : ℕ) → AllDigits 10 (last_digits k n)
+pub digits_last : (k n : ℕ) → AllDigits 10 (last_digits k n)
 digits_last zero n = tt
 digits_last (suc k) n = (let e = digit_value_byte (n / 10 ^ k % 10) (omega arith) in omega arith, digits_last k n)
 
@@ -63,13 +63,13 @@ value_whole n = elim (cases_lt 0 n) [
   | inr none ↦ (let e : n ≡ 0 = omega arith in rw e refl)
 ]
 
-digits_whole : (n : ℕ) → AllDigits 10 (whole_text n)
+pub digits_whole : (n : ℕ) → AllDigits 10 (whole_text n)
 digits_whole n = elim (cases_lt 0 n) [
   | inl some ↦ rw (whole_some n some) (bytes_below (digits_of 10 n) (all_below_base_digits_of 10 n (omega arith)))
   | inr none ↦ (let e : n ≡ 0 = omega arith in rw e (omega arith, tt))
 ]
 
-some_whole : (n : ℕ) → 0 < length (whole_text n)
+pub some_whole : (n : ℕ) → 0 < length (whole_text n)
 some_whole n = elim (cases_lt 0 n) [
   | inl some ↦ rw (whole_some n some) (let more = length-digits_of_step 10 n (omega arith) some in let same = length-map (digits_of 10 n) digit_byte in omega arith)
   | inr none ↦ (let e : n ≡ 0 = omega arith in rw e (omega arith))
@@ -106,7 +106,7 @@ zero_alone n rest e = elim (cases_lt 0 n) as (λ z. rest ≡ []) [
 pub numeral : (n : ℕ) → IsNumeral (whole_text n) n
 numeral n = record { some = some_whole n; digits = digits_whole n; no_zero_first = zero_alone n; value = sym (value_whole n) }
 
-digit_first : (text rest : List ℕ) → 0 < length text → AllDigits 10 text → First is_ascii_digit (text ++ rest)
+pub digit_first : (text rest : List ℕ) → 0 < length text → AllDigits 10 text → First is_ascii_digit (text ++ rest)
 digit_first [] rest some h = absurd (omega (arith, some))
 digit_first (b ∷ bs) rest some h = (and_parts (is_ascii_digit b) (list_all is_ascii_digit bs) (all_digits (b ∷ bs) h)).0
 
@@ -140,11 +140,10 @@ long_lex n le = one Any (whole_text n ++ codes "L") (Literal (long n)) (λ rest 
     (long_begins (whole_text n ++ (76 ∷ rest)) (whole_text n) (76 ∷ rest) rest (Literal (long n)) (digit_first (whole_text n) (76 ∷ rest) h.some h.digits) (split (whole_text n) (76 ∷ rest) n h refl) refl ((whole_text n, refl, h), le)))
 
 -- the text of a number with places
-pub place_text : ℕ → ℕ → List ℕ
+abbrev pub place_text : ℕ → ℕ → List ℕ
 place_text n s = whole_text (n / 10 ^ s) ++ (codes "." ++ last_digits s n)
 
 is_point : (n s : ℕ) → 1 ≤ s → IsPoint (place_text n s) (decimal (pos n) s)
-unfolding place_text
 is_point n s some = record {
   front = whole_text (n / 10 ^ s);
   places = last_digits s n;
@@ -157,7 +156,6 @@ is_point n s some = record {
 }
 
 pub point_lex : (n s : ℕ) → 1 ≤ s → IsKept (decimal (pos n) s) → Lex Cut (place_text n s) (Literal (point (decimal (pos n) s)) ∷ [])
-unfolding place_text
 point_lex n s some kept = one Cut (place_text n s) (Literal (point (decimal (pos n) s))) (λ rest c.
     let front = whole_text (n / 10 ^ s) in
     let after = 46 ∷ (last_digits s n ++ rest) in
@@ -180,5 +178,5 @@ quoted_lex d kept = one Any (codes "\"" ++ (plain_text d ++ codes "\"")) (Quoted
 
 -- ---- plain texts
 
-no_sign : (n : ℕ) → int_lt (pos n) (pos 0) ≡ false
+pub no_sign : (n : ℕ) → int_lt (pos n) (pos 0) ≡ false
 no_sign n = let test : ltb n 0 ≡ false = grind (arith, nat_tests) in test
