@@ -31,6 +31,10 @@ pub use Rattle.scaled_decimal.proofs.FitLemmas.{rescale_fits, rescale_fits_longe
 -- plain divisors, the cofactor of one, and the working numbers of the exact quotient: for the least power of ten, and for any
 pub use Rattle.scaled_decimal.proofs.FitLemmas.{plain_divisor, exact_fits_least, exact_fits}
 pub use Rattle.scaled_decimal.proofs.ExactLemmas.{factor_times}
+-- digits and plain texts
+pub use Rattle.scaled_decimal.proofs.DigitLemmas.{digits_value_after-append}
+pub use Rattle.scaled_decimal.proofs.PlainLemmas.{length-last_digits, whole_some}
+pub use Rattle.scaled_decimal.proofs.SpellingLemmas.{plain_text_spells}
 
 -- a text spells at most one decimal
 pub number_once : (text : List ℕ) (d d' : Decimal) → Spells text d → Spells text d' → d ≡ d'

@@ -26,3 +26,5 @@ mod range_files;
 mod records;
 #[cfg(test)]
 mod spellings;
+#[cfg(test)]
+mod tokens;

@@ -1,0 +1,7 @@
+pub mod Lexing
+pub mod Numerals
+pub mod Pieces
+pub mod Held
+pub mod Leaves
+pub mod Trees
+pub mod ReadingBack

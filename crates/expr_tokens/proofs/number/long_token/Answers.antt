@@ -1,0 +1,12 @@
+use Rattle.std.proofs.Common.{arith, refl}
+use Rattle.std.specs.Str.Parse.{digits_value}
+use Rattle.pap_tree.specs.Tokens.{great_long}
+use Rattle.expr_tokens.proofs.number.long_token.Goals as goal
+use Rattle.expr_tokens.proofs.number.long_token.Goals.{in_default-via-in-Some+else-n-le-GREATEST_LONG, in_default-via-in_default}
+
+pub returns-in_default : goal.returns-in_default
+returns-in_default c =
+    great_long (digits_value 10 c.args.numeral.now) (c.args.numeral.now, refl, c.requires) (elim c.in_default.branch [
+      | in_default-via-in-Some+else-n-le-GREATEST_LONG w ↦ let same = w.in-Some.ensures.1 in omega arith
+      | in_default-via-in_default w ↦ let beyond = w.in_default.ensures in omega arith
+    ])
