@@ -8,8 +8,8 @@ use Rattle.pap_tree.specs.Grammar.{Level, tree}
 use Rattle.pap_tree.specs.Texts.{Text}
 use Rattle.pap_tree.specs.Expressions.{IsTest}
 use Rattle.expr_grammar.specs.SpelledTokens.{spelled_tokens}
-use Rattle.expr_grammar.proofs.Ranges.{tree_ranged}
-use Rattle.expr_grammar.proofs.SpelledTexts.{spelling_text}
+use Rattle.expr_grammar.proofs.Laws.{tree_ranged}
+use Rattle.expr_grammar.proofs.Laws.{spelling_text}
 use Rattle.expr_spelling.proofs.Lexing.{Lexes, lex_end}
 use Rattle.expr_spelling.proofs.Pieces.{Good}
 use Rattle.expr_spelling.proofs.Held.{tree_held}
