@@ -6,7 +6,6 @@ pub use Rattle.expr_grammar.proofs.ShortenedLemmas.{shortened_is, is_shortened}
 pub use Rattle.expr_grammar.proofs.Decided.{answer_ok, ok_answer, answer_err, err_answer, one_meaning, text_or_refusal, one_refusal, one_of_two}
 pub use Rattle.expr_grammar.proofs.Sizes.{sized, bounded}
 pub use Rattle.expr_grammar.proofs.Places.{keeps, bytes_keep}
-pub use Rattle.expr_grammar.proofs.Bytes.{HasOneReading, HasReading, one_text, accepted_or_wrong, one_wrong, always_said}
--- what the law of spellings rests on
 pub use Rattle.expr_grammar.proofs.Ranges.{tree_ranged}
 pub use Rattle.expr_grammar.proofs.SpelledTexts.{spelling_text}
+pub use Rattle.expr_grammar.proofs.Bytes.{HasOneReading, HasReading, one_text, accepted_or_wrong, one_wrong, always_said}

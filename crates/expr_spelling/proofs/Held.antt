@@ -1,5 +1,5 @@
 -- The names, scales and literals of a tree that a text of bytes has are within their ranges.
-use Rattle.std.proofs.Common.{◌≡◌, ℕ, zero, suc, ◌+◌, ◌≤◌, List, [], ◌∷◌, ◌++◌, length, ℤ, pos, negsuc, refl, sym, ap, subst, ◌∙◌, arith}
+use Rattle.std.proofs.Common.{◌≡◌, ℕ, zero, suc, ◌+◌, ◌≤◌, List, [], ◌∷◌, ◌++◌, length, ℤ, pos, negsuc, ap, arith}
 use Rattle.std.specs.Prelude.{⊤, IsTrue}
 use Rattle.scaled_decimal.specs.Decimals.{Decimal, decimal, numerator_of, scale_of, negated}
 use Rattle.scaled_decimal.specs.Limits.{IsKept}

@@ -1,9 +1,8 @@
 -- The spelled leaves.
-use Rattle.std.proofs.Common.{◌≡◌, ℕ, zero, suc, ◌+◌, ◌-◌, ◌/◌, ◌%◌, ◌^◌, ◌≤◌, ◌<◌, Bool, true, false, cond, List, [], ◌∷◌, ◌++◌, length, ℤ, pos, negsuc, refl, sym, ap, subst, ◌∙◌, append_assoc, arith}
+use Rattle.std.proofs.Common.{◌≡◌, ℕ, zero, suc, ◌/◌, ◌%◌, ◌^◌, ◌≤◌, ◌<◌, Bool, true, false, List, [], ◌∷◌, ◌++◌, length, ℤ, pos, negsuc, refl, sym, ap, subst, ◌∙◌, append_assoc, arith}
 use Rattle.std.specs.Prelude.{codes, not, nat_lt, nat_le, IsTrue, ◌||◌, ◌&&◌, ◌==◌}
 use Rattle.std.specs.List.{list_all}
 use Rattle.std.specs.Char.{is_ascii_digit}
-use Rattle.std.specs.Str.Parse.{AllDigits}
 use Rattle.std.proofs.lemmas.List.{append-nil}
 use Rattle.std.proofs.lemmas.Bool.{and_parts, and_from, leb-true, lt-ltb}
 use Rattle.std.proofs.lemmas.Bool.Decides.{nat_tests, Decides-eqb}
@@ -22,10 +21,10 @@ use Rattle.pap_tree.specs.Spelling as bytes
 use Rattle.pap_tree.specs.Spelling.{spelled_leaf}
 use Rattle.pap_tree.specs.Tokens as tokens
 use Rattle.pap_tree.specs.Tokens.{Token, Literal, Quoted, Word, Operator, Mark, Open, Close, int, long, point, greatest_int, greatest_long, is_word_text}
-use Rattle.expr_tokens.specs.Views.{First, Stops, NotFirst}
+use Rattle.expr_tokens.specs.Views.{First, Stops}
 use Rattle.expr_tokens.proofs.Laws.{all_digits, word_first}
 use Rattle.expr_grammar.specs.SpelledTokens.{leaf_tokens}
-use Rattle.expr_spelling.proofs.Lexing.{Lex, Any, Cut, is_cut, begins_letter, is_closing, join, lead, word_lex, cut_no_digit, cut_no_places, cut_no_long}
+use Rattle.expr_spelling.proofs.Lexing.{Lex, Any, Cut, join, lead, word_lex, cut_no_digit, cut_no_places}
 use Rattle.expr_spelling.proofs.Numerals.{int_lex, long_lex, point_lex, quoted_lex, place_text, digits_whole, some_whole, digits_last, digit_first, no_sign}
 use Rattle.expr_spelling.proofs.Pieces.{Good, NoEquals, sign_then, word_then, point_sign, open_sign, close_sign, minus_sign}
 use Rattle.expr_spelling.proofs.Held.{IsHeldLeaf}

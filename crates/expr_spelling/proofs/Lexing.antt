@@ -1,6 +1,6 @@
 -- The tokens of a text that is put together from texts.
-use Rattle.std.proofs.Common.{◌≡◌, ℕ, suc, ◌+◌, ◌≤◌, ◌<◌, ◌⊎◌, inl, inr, Bool, true, false, cond, List, [], ◌∷◌, ◌++◌, length, length-append, refl, sym, ap, subst, ◌∙◌, append_assoc, arith}
-use Rattle.std.specs.Prelude.{⊤, codes, nat_le, nat_lt, ◌||◌, ◌&&◌, ◌==◌, if◌then◌else◌}
+use Rattle.std.proofs.Common.{◌≡◌, ℕ, ◌+◌, ◌⊎◌, inl, inr, Bool, true, false, List, [], ◌∷◌, ◌++◌, length, length-append, refl, sym, ap, subst, ◌∙◌, append_assoc, arith}
+use Rattle.std.specs.Prelude.{⊤, nat_le, nat_lt, ◌||◌, ◌&&◌, ◌==◌, if◌then◌else◌}
 use Rattle.std.specs.List.{list_all}
 use Rattle.std.specs.Char.{is_ascii_digit}
 use Rattle.std.proofs.lemmas.Bool.{and_from, and_parts}
@@ -8,11 +8,9 @@ use Rattle.std.proofs.lemmas.Bool.Decides.{nat_tests, Decides-eqb}
 use Rattle.std.proofs.lemmas.List.Folds.{list_all-append}
 use Rattle.pap_tree.specs.White.{is_white}
 use Rattle.pap_tree.specs.Names.{is_letter, is_word}
-use Rattle.pap_tree.specs.Words.{operator_text}
-use Rattle.pap_tree.specs.declared.expression.Binary.{Binary}
-use Rattle.pap_tree.specs.Tokens.{Sign, sign_text, Token, Word, Operator, Mark, is_word_text, Spot, plain, Tokens, IsToken}
+use Rattle.pap_tree.specs.Tokens.{Token, Word, is_word_text, Spot, plain, Tokens, IsToken}
 use Rattle.expr_tokens.specs.Views.{Begins, First, Stops, NotFirst, NoPlaces, is_sign_byte, IsNoPair}
-use Rattle.expr_tokens.proofs.Laws.{within, begins, class, only_word, word_first, pair_begins, a_token}
+use Rattle.expr_tokens.proofs.Laws.{within, begins, class, only_word, word_first, a_token}
 
 -- from each place on the bytes have these tokens
 abbrev pub Lexes : List ℕ → List Token → Type 0
@@ -23,8 +21,7 @@ lex_end at = ([], refl, refl)
 
 first_at : (white bytes rest : List ℕ) (t : Token) (us : List Token) → list_all is_white white ≡ true → Begins bytes t rest → Lexes rest us → Lexes (white ++ bytes) (t ∷ us)
 first_at white bytes rest t us w b h at =
-    let more = h (at + length white + length b.text) in
-    (
+    let more = h (at + length white + length b.text) in (
       record { token = t; at = at + length white } ∷ more.0,
       (white, b.text, rest, ap (λ z. white ++ z) b.parts, w, b.first, refl, more.1),
       ap (λ z. t ∷ z) more.2,
@@ -136,7 +133,7 @@ pub cut_no_places : (rest : List ℕ) → Cut rest → NoPlaces rest
 cut_no_places [] h more e = absurd cc
 cut_no_places (b ∷ bs) h more e =
     let s : Stops is_ascii_digit bs = cut_cases (λ b bs. (b ≡ 46 → Stops is_ascii_digit bs)) b bs h (λ f g. letter_first bs f)
-            (λ f g. absurd (differ is_closing b 46 f refl g)) (heads b 46 bs more e) in
+    (λ f g. absurd (differ is_closing b 46 f refl g)) (heads b 46 bs more e) in
     subst (λ bs. Stops is_ascii_digit bs) (tails b 46 bs more e) s
 
 -- ---- words and signs

@@ -1,5 +1,5 @@
 -- The texts of literals.
-use Rattle.std.proofs.Common.{◌≡◌, ℕ, zero, suc, ◌+◌, ◌-◌, ◌*◌, ◌/◌, ◌%◌, ◌^◌, ◌<◌, ◌≤◌, Bool, true, false, ltb, get_or, List, [], ◌∷◌, ◌++◌, length, map, ℤ, pos, negsuc, refl, sym, ap, ap₂, subst, ◌∙◌, append_assoc, inl, inr, arith}
+use Rattle.std.proofs.Common.{◌≡◌, ℕ, zero, suc, ◌+◌, ◌*◌, ◌/◌, ◌%◌, ◌^◌, ◌<◌, ◌≤◌, true, false, ltb, get_or, List, [], ◌∷◌, ◌++◌, length, map, pos, refl, sym, ap, ap₂, subst, ◌∙◌, append_assoc, inl, inr, arith}
 use Rattle.std.specs.Prelude.{codes, int_lt}
 use Rattle.std.specs.List.{list_all}
 use Rattle.std.specs.Char.{digit_value, is_ascii_digit}
@@ -7,7 +7,7 @@ use Rattle.std.specs.Int.Digits.{digits_of, AllBelowBase, number_from_digits}
 use Rattle.std.specs.Str.Parse.{AllDigits, digits_value, digits_value_after}
 use Rattle.std.proofs.lemmas.Bool.Decides.{nat_tests}
 use Rattle.std.proofs.lemmas.Str.{digit_value_digit}
-use Rattle.std.proofs.lemmas.List.{length-map, append-nil}
+use Rattle.std.proofs.lemmas.List.{length-map}
 use Rattle.std.proofs.lemmas.List.Folds.{list_all-append}
 use Rattle.std.proofs.lemmas.Bool.{cases_lt, and_parts}
 use Rattle.std.proofs.lemmas.Int.Digits.{digits_value_is, all_below_base_digits_of, number_digits_of, length-digits_of_step, first_digits_of}
@@ -20,9 +20,9 @@ use Rattle.scaled_decimal.specs.PlainTexts.{digit_byte, whole_text, last_digits,
 use Rattle.scaled_decimal.proofs.Laws.{digits_value_after-append}
 use Rattle.scaled_decimal.proofs.Laws.{length-last_digits, whole_some}
 use Rattle.scaled_decimal.proofs.Laws.{plain_text_spells}
-use Rattle.pap_tree.specs.Tokens.{Token, Literal, Quoted, int, long, point, greatest_int, greatest_long, IsNumeral, IsPoint, IsToken}
-use Rattle.expr_tokens.specs.Views.{Begins, First, Stops, IsLongest, IsNumeralSplit, IsAfterPlaces, is_no_quote}
-use Rattle.expr_tokens.proofs.Laws.{all_digits, int_begins, long_begins, point_begins, string_begins, quoted, number_no_quote}
+use Rattle.pap_tree.specs.Tokens.{Literal, Quoted, int, long, point, greatest_int, greatest_long, IsNumeral, IsPoint}
+use Rattle.expr_tokens.specs.Views.{Begins, First, Stops, IsNumeralSplit}
+use Rattle.expr_tokens.proofs.Laws.{all_digits, int_begins, long_begins, point_begins, string_begins, number_no_quote}
 use Rattle.expr_spelling.proofs.Lexing.{Lex, Any, Cut, one, cut_no_digit, cut_no_long, cut_no_places}
 
 -- ---- the digits of a number
@@ -83,7 +83,6 @@ value_all n s =
     ∙ ap (λ v. digits_value_after 10 v (last_digits s n)) (value_whole (n / 10 ^ s))
     ∙ value_last s n (n / 10 ^ s)
     ∙ div-add-mod' n (10 ^ s)
-
 
 -- ---- numerals
 

@@ -1,10 +1,8 @@
 -- Texts of expressions that are put together: their tokens, and how they begin.
-use Rattle.std.proofs.Common.{◌≡◌, ℕ, suc, Bool, true, false, cond, List, [], ◌∷◌, ◌++◌, refl, sym, ap, ap₂, subst, ◌∙◌, append_assoc, arith}
-use Rattle.std.specs.Prelude.{codes, not, ◌||◌, ◌&&◌, ◌==◌}
-use Rattle.std.specs.List.{list_all}
+use Rattle.std.proofs.Common.{◌≡◌, ℕ, Bool, true, false, List, [], ◌∷◌, ◌++◌, refl, sym, ap, ap₂, subst, ◌∙◌, append_assoc}
+use Rattle.std.specs.Prelude.{codes, not, ◌||◌, ◌==◌}
 use Rattle.std.proofs.lemmas.List.{append-nil}
 use Rattle.std.proofs.lemmas.Bool.Decides.{Decides-eqb}
-use Rattle.pap_tree.specs.White.{is_white}
 use Rattle.pap_tree.specs.Words.{operator_text}
 use Rattle.pap_tree.specs.declared.expression.Binary.{Binary}
 use Rattle.pap_tree.specs.declared.expression.Binary.TheVariants as binaries
@@ -12,11 +10,11 @@ use Rattle.pap_tree.specs.Spelling as bytes
 use Rattle.pap_tree.specs.Tokens as tokens
 use Rattle.pap_tree.specs.Tokens.{Sign, sign_text, Token, Literal, Word, Operator, Mark, Open, Close, is_word_text, IsToken}
 use Rattle.pap_tree.specs.Texts.{begins_point}
-use Rattle.expr_tokens.specs.Views.{Begins, NotFirst, is_sign_byte, IsNoPair}
+use Rattle.expr_tokens.specs.Views.{NotFirst, is_sign_byte, IsNoPair}
 use Rattle.expr_tokens.proofs.Laws.{pair_begins, a_token}
 use Rattle.expr_grammar.specs.SpelledTokens as spelled
 use Rattle.expr_grammar.specs.SpelledTokens.{begins_signed}
-use Rattle.expr_spelling.proofs.Lexing.{Lexes, Lex, Any, Cut, one, join, lead, word_lex}
+use Rattle.expr_spelling.proofs.Lexing.{Lex, Any, Cut, one, join, word_lex}
 
 -- ---- signs
 

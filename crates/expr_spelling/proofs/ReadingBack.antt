@@ -1,15 +1,14 @@
 -- The canonical spelling of a tree is a text of the tree.
-use Rattle.std.proofs.Common.{◌≡◌, ℕ, List, [], ◌∷◌, ◌++◌, refl, sym, ap, subst, ◌∙◌}
+use Rattle.std.proofs.Common.{ℕ, List, [], ◌++◌, refl, sym, subst}
 use Rattle.std.proofs.lemmas.List.{append-nil}
 use Rattle.pap_tree.specs.Term.{Term}
 use Rattle.pap_tree.specs.Spelling.{spelling}
-use Rattle.pap_tree.specs.Tokens.{Token, Spot, plain, Tokens}
+use Rattle.pap_tree.specs.Tokens.{Token, plain}
 use Rattle.pap_tree.specs.Grammar.{Level, tree}
 use Rattle.pap_tree.specs.Texts.{Text}
 use Rattle.pap_tree.specs.Expressions.{IsTest}
 use Rattle.expr_grammar.specs.SpelledTokens.{spelled_tokens}
-use Rattle.expr_grammar.proofs.Laws.{tree_ranged}
-use Rattle.expr_grammar.proofs.Laws.{spelling_text}
+use Rattle.expr_grammar.proofs.Laws.{tree_ranged, spelling_text}
 use Rattle.expr_spelling.proofs.Lexing.{Lexes, lex_end}
 use Rattle.expr_spelling.proofs.Pieces.{Good}
 use Rattle.expr_spelling.proofs.Held.{tree_held}

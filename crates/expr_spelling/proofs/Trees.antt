@@ -1,12 +1,11 @@
 -- The spelled trees.
-use Rattle.std.proofs.Common.{◌≡◌, ℕ, zero, suc, ◌+◌, ◌≤◌, ◌<◌, Bool, true, false, cond, List, [], ◌∷◌, ◌++◌, refl, sym, ap, subst, ◌∙◌, append_assoc, arith}
-use Rattle.std.specs.Prelude.{codes, IsTrue, nat_lt, ◌||◌, ◌&&◌, ◌==◌}
+use Rattle.std.proofs.Common.{◌≡◌, ℕ, ◌+◌, ◌≤◌, Bool, true, false, List, [], ◌∷◌, ◌++◌, refl, sym, ap, subst, ◌∙◌, append_assoc, arith}
+use Rattle.std.specs.Prelude.{codes, nat_lt, ◌||◌, ◌&&◌, ◌==◌}
 use Rattle.std.proofs.lemmas.List.{append-nil}
 use Rattle.scaled_decimal.specs.Limits.{most_places}
 use Rattle.scaled_decimal.specs.PlainTexts.{whole_text}
 use Rattle.scaled_decimal.specs.declared.rounding.Mode.{Mode}
 use Rattle.scaled_decimal.specs.declared.rounding.Mode.TheVariants as modes
-use Rattle.pap_tree.specs.Names.{is_name}
 use Rattle.pap_tree.specs.Words.{level_of_operator, operator_text, call_word, round_word}
 use Rattle.pap_tree.specs.declared.expression.Call.{Call}
 use Rattle.pap_tree.specs.declared.expression.Call.TheVariants as calls
@@ -22,7 +21,7 @@ use Rattle.pap_tree.specs.Texts.{begins_point}
 use Rattle.expr_grammar.specs.SpelledTokens as spelled
 use Rattle.expr_grammar.specs.SpelledTokens.{begins_signed, rounding_tokens, method_tokens, one_tokens, two_tokens, spelled_tokens}
 use Rattle.expr_grammar.specs.Trees.{KeepsScale, KeepsQuotientScale}
-use Rattle.expr_spelling.proofs.Lexing.{Lex, Any, Cut, join, lead, word_lex}
+use Rattle.expr_spelling.proofs.Lexing.{Lex, Cut, join, lead}
 use Rattle.expr_spelling.proofs.Numerals.{int_lex}
 use Rattle.expr_spelling.proofs.Pieces.{Good, NoEquals, Spaced, sign_then, word_then, point_sign, open_sign, close_sign, comma_sign, open_item, close_item, question_sign, colon_sign, minus_sign, bang_sign, operator_lex, more_good, in_brackets, boxed, number_alone, point_alone}
 use Rattle.expr_spelling.proofs.Held.{IsHeld}
