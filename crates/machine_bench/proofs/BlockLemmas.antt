@@ -60,7 +60,7 @@ blocks_run p block slots runs zero pc h =
     let e : pc ≡ pc + 0 * length block = omega arith in
     let none : 0 ≡ 0 * length block = omega arith in
     subst (λ m. Leads p m (state_of pc [] slots []) (state_of (pc + 0 * length block) [] slots [])) none
-        (subst (λ k. Leads p 0 (state_of pc [] slots []) (state_of k [] slots [])) e (leads_none p (state_of pc [] slots [])))
+    (subst (λ k. Leads p 0 (state_of pc [] slots []) (state_of k [] slots [])) e (leads_none p (state_of pc [] slots [])))
 blocks_run p block slots runs (suc n) pc h =
     let m = length block in
     let first = runs pc (front_stands p.instrs pc block (times n block) h) in

@@ -16,6 +16,7 @@ use steps::Steps;
 
 /// How often a block stands in the code, and how often the code runs in a round.
 const BLOCKS: u32 = 100;
+
 const RUNS: u32 = 10_000;
 
 fn sums() -> [Instr; 4]
@@ -125,10 +126,19 @@ fn time_all<L: Ledger>(rt: &HostRuntime, blank: Blank) -> io::Result<()>
     requires one { blank.parts ≡ 1 }
 {
     let mut steps = Steps::<L>::new(blank);
-    let slots = [Dec::new(4_080_012, 2), Dec::new(350_050, 2), Dec::new(4_430_062, 2)];
+    let slots = [
+        Dec::new(4_080_012, 2),
+        Dec::new(350_050, 2),
+        Dec::new(4_430_062, 2),
+    ];
     let code = straight(rt.alloc(), &sums(), &slots, BLOCKS)?;
     time(rt, "sums", &code, &slots[..1], &mut steps)?;
-    let slots = [Dec::new(40_800, 0), Dec::new(2_880_000, 6), Dec::new(19_774_400_000, 7), Dec::new(5_695, 0)];
+    let slots = [
+        Dec::new(40_800, 0),
+        Dec::new(2_880_000, 6),
+        Dec::new(19_774_400_000, 7),
+        Dec::new(5_695, 0),
+    ];
     let code = straight(rt.alloc(), &tariff(), &slots, BLOCKS)?;
     time(rt, "tariff", &code, &slots[..1], &mut steps)
 }

@@ -152,8 +152,13 @@ fn plain_code(
     sizes: (u32, u32),
 ) -> Result<Code, AllocError>
     ensures { IfOk result (λ code. code ≡ record {
-      instrs = instrs.now; tables = []; inputs = inputs; outputs = outputs.now; start = start.now;
-      depth = sizes.0; height = sizes.1;
+      instrs = instrs.now;
+      tables = [];
+      inputs = inputs;
+      outputs = outputs.now;
+      start = start.now;
+      depth = sizes.0;
+      height = sizes.1;
     }) }
 {
     Ok(Code {
@@ -175,8 +180,13 @@ fn code_with_table(
     start: &[Dec],
 ) -> Result<Code, AllocError>
     ensures { IfOk result (λ code. code ≡ record {
-      instrs = instrs.now; tables = items.now ∷ []; inputs = 1; outputs = 1 ∷ 0 ∷ []; start = start.now;
-      depth = 0; height = 2;
+      instrs = instrs.now;
+      tables = items.now ∷ [];
+      inputs = 1;
+      outputs = 1 ∷ 0 ∷ [];
+      start = start.now;
+      depth = 0;
+      height = 2;
     }) }
 {
     let mut tables = Vec::new(alloc);
@@ -224,13 +234,22 @@ fn gives<L: Ledger>(
 fn each_operation_on_decimals(rt: HostRuntime) {
     let start = [Dec::new(0, 0), Dec::new(0, 0)];
     let code = plain_code(rt.alloc(), &decimals(), 1, &[1], &start, (0, 2)).expect(&rt, "memory");
-    let agrees = gives::<Brand>(rt.alloc(), &code, &[Dec::new(1250, 2)], &[Dec::new(13, 2)], 16, Blank::new(1));
+    let agrees = gives::<Brand>(
+        rt.alloc(),
+        &code,
+        &[Dec::new(1250, 2)],
+        &[Dec::new(13, 2)],
+        16,
+        Blank::new(1),
+    );
     assert!(rt; agrees.expect(&rt, "memory"));
 }
 
 #[test]
 fn each_comparison(rt: HostRuntime) {
-    let code = plain_code(rt.alloc(), &orders(), 0, &[0], &[Dec::new(9, 0)], (0, 2)).expect(&rt, "memory");
+    let code = plain_code(rt.alloc(), &orders(), 0, &[0], &[Dec::new(9, 0)], (0, 2)).expect(
+        &rt, "memory",
+    );
     let agrees = gives::<Brand>(rt.alloc(), &code, &[], &[Dec::new(0, 0)], 22, Blank::new(1));
     assert!(rt; agrees.expect(&rt, "memory"));
 }
@@ -241,7 +260,14 @@ fn each_operation_on_whole_numbers(rt: HostRuntime) {
     let start = [Dec::new(0, 0), Dec::new(0, 0)];
     let code = code_with_table(rt.alloc(), &wholes(), &items, &start).expect(&rt, "memory");
     let wanted = [Dec::new(7, 2), Dec::new(-7, 0)];
-    let agrees = gives::<Brand>(rt.alloc(), &code, &[Dec::new(-7, 0)], &wanted, 17, Blank::new(1));
+    let agrees = gives::<Brand>(
+        rt.alloc(),
+        &code,
+        &[Dec::new(-7, 0)],
+        &wanted,
+        17,
+        Blank::new(1),
+    );
     assert!(rt; agrees.expect(&rt, "memory"));
 }
 
@@ -249,7 +275,14 @@ fn each_operation_on_whole_numbers(rt: HostRuntime) {
 fn skips_and_jumps(rt: HostRuntime) {
     let start = [Dec::new(0, 0), Dec::new(0, 0), Dec::new(0, 0)];
     let code = plain_code(rt.alloc(), &branches(), 2, &[2], &start, (0, 1)).expect(&rt, "memory");
-    let agrees = gives::<Brand>(rt.alloc(), &code, &[Dec::new(0, 0), Dec::new(1, 0)], &[Dec::new(10, 0)], 9, Blank::new(1));
+    let agrees = gives::<Brand>(
+        rt.alloc(),
+        &code,
+        &[Dec::new(0, 0), Dec::new(1, 0)],
+        &[Dec::new(10, 0)],
+        9,
+        Blank::new(1),
+    );
     assert!(rt; agrees.expect(&rt, "memory"));
 }
 
@@ -257,7 +290,14 @@ fn skips_and_jumps(rt: HostRuntime) {
 fn jumps_at_a_false_test(rt: HostRuntime) {
     let start = [Dec::new(0, 0), Dec::new(0, 0), Dec::new(0, 0)];
     let code = plain_code(rt.alloc(), &branches(), 2, &[2], &start, (0, 1)).expect(&rt, "memory");
-    let agrees = gives::<Brand>(rt.alloc(), &code, &[Dec::new(1, 0), Dec::new(1, 0)], &[Dec::new(20, 0)], 10, Blank::new(1));
+    let agrees = gives::<Brand>(
+        rt.alloc(),
+        &code,
+        &[Dec::new(1, 0), Dec::new(1, 0)],
+        &[Dec::new(20, 0)],
+        10,
+        Blank::new(1),
+    );
     assert!(rt; agrees.expect(&rt, "memory"));
 }
 
@@ -265,7 +305,14 @@ fn jumps_at_a_false_test(rt: HostRuntime) {
 fn greatest_depth_and_height(rt: HostRuntime) {
     let start = [Dec::new(0, 0), Dec::new(0, 0)];
     let code = plain_code(rt.alloc(), &calls(), 1, &[1], &start, (2, 3)).expect(&rt, "memory");
-    let agrees = gives::<Brand>(rt.alloc(), &code, &[Dec::new(14, 0)], &[Dec::new(42, 0)], 11, Blank::new(1));
+    let agrees = gives::<Brand>(
+        rt.alloc(),
+        &code,
+        &[Dec::new(14, 0)],
+        &[Dec::new(42, 0)],
+        11,
+        Blank::new(1),
+    );
     assert!(rt; agrees.expect(&rt, "memory"));
 }
 
@@ -273,7 +320,14 @@ fn greatest_depth_and_height(rt: HostRuntime) {
 fn each_run_begins_anew(rt: HostRuntime) {
     let start = [Dec::new(0, 0), Dec::new(5, 0)];
     let code = plain_code(rt.alloc(), &sums(), 1, &[1], &start, (0, 2)).expect(&rt, "memory");
-    let agrees = gives::<Brand>(rt.alloc(), &code, &[Dec::new(1, 0)], &[Dec::new(6, 0)], 5, Blank::new(1));
+    let agrees = gives::<Brand>(
+        rt.alloc(),
+        &code,
+        &[Dec::new(1, 0)],
+        &[Dec::new(6, 0)],
+        5,
+        Blank::new(1),
+    );
     assert!(rt; agrees.expect(&rt, "memory"));
 }
 
