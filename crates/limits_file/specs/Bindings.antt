@@ -32,13 +32,17 @@ binding_form = record {
 
 -- what the kind and the output say together
 abbrev pub IsCarryOf : Members → Carry → Type 0
-IsCarryOf entry (Sum output) = (text_at (codes "kind") entry ≡ Some (codes "sum")) × (text_at (codes "output") entry ≡ Some output)
-IsCarryOf entry (Last output) = (text_at (codes "kind") entry ≡ Some (codes "last")) × (text_at (codes "output") entry ≡ Some output)
+IsCarryOf entry (Sum output) =
+    (text_at (codes "kind") entry ≡ Some (codes "sum")) × (text_at (codes "output") entry ≡ Some output)
+IsCarryOf entry (Last output) =
+    (text_at (codes "kind") entry ≡ Some (codes "last")) × (text_at (codes "output") entry ≡ Some output)
 IsCarryOf entry Count = text_at (codes "kind") entry ≡ Some (codes "count")
 
 -- An entry: its binding, or the key at which it fails.
 abbrev pub BindingSays : ℕ → List ℕ → Data → Result Binding Fault → Type 0
 BindingSays n name value (Ok binding) =
-    (failing_key binding_form name value ≡ None) × (binding.input ≡ name) × IsCarryOf (entry_of value) binding.carry
-BindingSays n name value (Err (bad_key label)) = option_map label_of (failing_key binding_form name value) ≡ Some label
+    (failing_key binding_form name value ≡ None) × (binding.input ≡ name)
+    × IsCarryOf (entry_of value) binding.carry
+BindingSays n name value (Err (bad_key label)) =
+    option_map label_of (failing_key binding_form name value) ≡ Some label
 BindingSays n name value (Err other) = ⊥

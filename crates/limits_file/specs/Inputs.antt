@@ -52,8 +52,10 @@ most_inputs = 256
 -- An entry that n others stand before: its limit, the key at which it fails, or else that its bounds break their rule or
 -- that there are too many inputs.
 abbrev pub InputSays : ℕ → List ℕ → Data → Result InputLimit Fault → Type 0
-InputSays n name value (Ok limit) = (failing_key input_form name value ≡ None) × (n < most_inputs) × IsLimitOf name (entry_of value) limit
+InputSays n name value (Ok limit) =
+    (failing_key input_form name value ≡ None) × (n < most_inputs) × IsLimitOf name (entry_of value) limit
 InputSays n name value (Err (bad_key label)) = option_map label_of (failing_key input_form name value) ≡ Some label
 InputSays n name value (Err (bad_bound label)) =
-    (failing_key input_form name value ≡ None) × (label ≡ label_of name) × ((most_inputs ≤ n) ⊎ GivesNoLimit name (entry_of value))
+    (failing_key input_form name value ≡ None) × (label ≡ label_of name)
+    × ((most_inputs ≤ n) ⊎ GivesNoLimit name (entry_of value))
 InputSays n name value (Err other) = ⊥

@@ -22,7 +22,10 @@ abbrev pub with_bindings : List Binding → Limits
 with_bindings bindings = record { inputs = []; bindings = bindings }
 
 abbrev pub joined : List Limits → Limits
-joined parts = record { inputs = flat_map (λ part. part.inputs) parts; bindings = flat_map (λ part. part.bindings) parts }
+joined parts = record {
+  inputs = flat_map (λ part. part.inputs) parts;
+  bindings = flat_map (λ part. part.bindings) parts;
+}
 
 -- A key of the file: `bind` and `input` are tables of entries, and any other key is a fault.
 abbrev pub SectionSays : ℕ → List ℕ → Data → Result Limits Fault → Type 0

@@ -13,9 +13,11 @@ module _ {A : Type 0} (Says : ℕ → List ℕ → Data → Result A Fault → T
   AllOrFirstFault n (member key value rest) (Ok (first ∷ said)) =
       Says n key value (Ok first) × AllOrFirstFault (suc n) rest (Ok said)
   AllOrFirstFault n (member key value rest) (Err fault) =
-      Says n key value (Err fault) ⊎ ((first : A) × Says n key value (Ok first) × AllOrFirstFault (suc n) rest (Err fault))
+      Says n key value (Err fault)
+      ⊎ ((first : A) × Says n key value (Ok first) × AllOrFirstFault (suc n) rest (Err fault))
 
   -- the same of a whole table, with what its keys say put together
   abbrev pub TableSays : {B : Type 0} → (List A → B) → Members → Result B Fault → Type 0
-  TableSays together entries (Ok whole) = (said : List A) × AllOrFirstFault 0 entries (Ok said) × (whole ≡ together said)
+  TableSays together entries (Ok whole) =
+      (said : List A) × AllOrFirstFault 0 entries (Ok said) × (whole ≡ together said)
   TableSays together entries (Err fault) = AllOrFirstFault 0 entries (Err fault)

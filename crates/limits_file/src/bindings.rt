@@ -17,7 +17,8 @@ use toml::{Table, Value};
 /// The bindings of `[bind]`.
 pub(crate) fn read_bindings(alloc: Global, entries: &Table) -> Result<Items<Binding>, LimitsFault>
     ensures says { Tells (AllOrFirstFault BindingSays 0 (table_view entries.now)) result }
-    ensures in_order { IfOk result (λ bindings. NamesAscend (map (λ binding. binding.input) bindings)) }
+    ensures in_order { IfOk result
+        (λ bindings. NamesAscend (map (λ binding. binding.input) bindings)) }
 {
     let mut bindings = Vec::new(alloc);
     for (key, value) in entries {
@@ -48,7 +49,8 @@ fn read_binding(key: &str, value: &Value) -> Result<Binding, LimitsFault>
 
 /// The first key that has no place in a binding's entry, or whose value doesn't suit it.
 fn unsuited_key(entry: &Table) -> Option<&str>
-    ensures { option_map (λ key. key.now) result ≡ first_unsuited (binding_form.suits (table_view entry.now)) (table_view entry.now) }
+    ensures { option_map (λ key. key.now) result
+        ≡ first_unsuited (binding_form.suits (table_view entry.now)) (table_view entry.now) }
 {
     let counts = is_count(entry);
     for (key, value) in entry {
@@ -98,8 +100,10 @@ fn suits(counts: bool, key: &str, value: &Value) -> bool
 
 /// What the kind and the output say together. `None` where one is missing.
 fn carry_of(entry: &Table) -> Option<Carry>
-    requires { first_unsuited (binding_form.suits (table_view entry.now)) (table_view entry.now) ≡ None }
-    ensures { MatchOption result (is_whole (table_view entry.now) ≡ false) (GivesCarry (table_view entry.now)) }
+    requires { first_unsuited (binding_form.suits (table_view entry.now)) (table_view entry.now)
+        ≡ None }
+    ensures { MatchOption result (is_whole (table_view entry.now) ≡ false)
+        (GivesCarry (table_view entry.now)) }
 {
     let kind = text_at(entry, "kind")?;
     if kind == "count" {

@@ -69,7 +69,8 @@ fn read_input(before: usize, key: &str, value: &Value) -> Result<InputLimit, Lim
 
 /// The first key that has no place in an input's entry, or whose value is of another type.
 fn unsuited_key(entry: &Table) -> Option<&str>
-    ensures { option_map (λ key. key.now) result ≡ first_unsuited suits_input (table_view entry.now) }
+    ensures { option_map (λ key. key.now) result
+        ≡ first_unsuited suits_input (table_view entry.now) }
 {
     for (key, value) in entry {
         if !suits(key, value) {
@@ -98,14 +99,16 @@ fn is_bound_key(key: &str) -> bool
 
 /// Whether one of the three keys is missing.
 fn lacks_key(entry: &Table) -> bool
-    ensures { result ≡ not (list_all (has_key (table_view entry.now)) (input_form.needed (table_view entry.now))) }
+    ensures { result
+        ≡ not (list_all (has_key (table_view entry.now)) (input_form.needed (table_view entry.now))) }
 {
     !(has_key(entry, "low") && has_key(entry, "high") && has_key(entry, "places"))
 }
 
 /// The limit of an input, where its bounds are readable and keep their rule.
 fn limit_of(name: Name, entry: &Table) -> Option<InputLimit>
-    ensures { MatchOption result (GivesNoLimit name (table_view entry.now)) (IsLimitOf name (table_view entry.now)) }
+    ensures { MatchOption result (GivesNoLimit name (table_view entry.now))
+        (IsLimitOf name (table_view entry.now)) }
 {
     let low = bound_at(entry, "low")?;
     let high = bound_at(entry, "high")?;
@@ -133,7 +136,8 @@ fn bound_at(entry: &Table, key: &str) -> Option<Dec>
 
 /// The number of places of an entry, where it is a whole number from 0 to 255.
 fn places_at(entry: &Table) -> Option<u8>
-    ensures { MatchOption result (HasNoPlaces (table_view entry.now)) (HasPlaces (table_view entry.now)) }
+    ensures { MatchOption result (HasNoPlaces (table_view entry.now))
+        (HasPlaces (table_view entry.now)) }
 {
     match value_at(entry, "places")? {
         Value::Integer(places) => u8::try_from(*places).ok(),
