@@ -1,4 +1,6 @@
 // The parser of declared literals.
+ghost use Rattle.std.specs.Prelude.{◌<◌, ◌≤◌, length, IsTrue, IfOk};
+ghost use Rattle.expr_tokens.specs.Ranges.{is_in_range};
 
 use crate::fault::ExprFault;
 use crate::parser::{Parser, after_sign, refused};
@@ -9,7 +11,12 @@ use scaled_decimal::Dec;
 
 impl Parser {
     /// A declared literal: a literal with a sign or none, a decimal, or a table of decimals.
-    pub(crate) fn constant<'t>(&self, tokens: &'t [Placed]) -> Result<(Literal, &'t [Placed]), ExprFault> {
+    pub(crate) fn constant<'t>(
+        &self,
+        tokens: &'t [Placed],
+    ) -> Result<(Literal, &'t [Placed]), ExprFault>
+        ensures shorter { IfOk result (λ r. length r.1.now < length tokens.now) }
+    {
         let (first, rest) = self.next(tokens)?;
         match first.token {
             Token::Mark(Sign::OpenTable) => self.table(rest),
@@ -22,7 +29,9 @@ impl Parser {
     }
 
     /// A literal with a sign or none.
-    fn number<'t>(&self, tokens: &'t [Placed]) -> Result<(Literal, &'t [Placed]), ExprFault> {
+    fn number<'t>(&self, tokens: &'t [Placed]) -> Result<(Literal, &'t [Placed]), ExprFault>
+        ensures shorter { IfOk result (λ r. length r.1.now < length tokens.now) }
+    {
         let (negative, first, rest) = self.unsigned(tokens)?;
         let literal = match first.token {
             Token::Int(n) => Literal::Int(whole(negative, n)),
@@ -34,7 +43,9 @@ impl Parser {
     }
 
     /// Decimals with commas between them, in braces.
-    fn table<'t>(&self, tokens: &'t [Placed]) -> Result<(Literal, &'t [Placed]), ExprFault> {
+    fn table<'t>(&self, tokens: &'t [Placed]) -> Result<(Literal, &'t [Placed]), ExprFault>
+        ensures shorter { IfOk result (λ r. length r.1.now < length tokens.now) }
+    {
         let mut items = Vec::new(self.alloc);
         let mut rest = self.item(&mut items, tokens)?;
         while let Some(after) = after_sign(Sign::Comma, rest) {
@@ -45,7 +56,13 @@ impl Parser {
     }
 
     /// The next item of a table, at the end of those before it.
-    fn item<'t>(&self, items: &mut Vec<Dec>, tokens: &'t [Placed]) -> Result<&'t [Placed], ExprFault> {
+    fn item<'t>(
+        &self,
+        items: &mut Vec<Dec>,
+        tokens: &'t [Placed],
+    ) -> Result<&'t [Placed], ExprFault>
+        ensures shorter { IfOk result (λ rest. length rest.now < length tokens.now) }
+    {
         match self.big(tokens) {
             Ok((number, rest)) => {
                 items.push(number)?;
@@ -56,7 +73,9 @@ impl Parser {
     }
 
     /// A decimal.
-    fn big<'t>(&self, tokens: &'t [Placed]) -> Result<(Dec, &'t [Placed]), ExprFault> {
+    fn big<'t>(&self, tokens: &'t [Placed]) -> Result<(Dec, &'t [Placed]), ExprFault>
+        ensures shorter { IfOk result (λ r. length r.1.now < length tokens.now) }
+    {
         let (first, rest) = self.next(tokens)?;
         match first.token {
             Token::Keyword(Keyword::BigDecimal) => {
@@ -75,17 +94,28 @@ impl Parser {
     }
 
     /// The decimal of `BigDecimal.valueOf`, after its bracket.
-    fn value<'t>(&self, tokens: &'t [Placed]) -> Result<(Dec, &'t [Placed]), ExprFault> {
+    fn value<'t>(&self, tokens: &'t [Placed]) -> Result<(Dec, &'t [Placed]), ExprFault>
+        ensures shorter { IfOk result (λ r. length r.1.now < length tokens.now) }
+    {
         let (negative, first, rest) = self.unsigned(tokens)?;
         match first.token {
             Token::Int(n) => self.scaled_value(whole(negative, n), rest),
-            Token::Point(d) => Ok((shortened(signed(negative, d)), self.sign(Sign::Close, rest)?)),
+            Token::Point(d) => Ok((
+                shortened(signed(negative, d)),
+                self.sign(Sign::Close, rest)?,
+            )),
             _ => Err(refused(first)),
         }
     }
 
     /// The rest of `BigDecimal.valueOf` of a whole number.
-    fn scaled_value<'t>(&self, n: i32, tokens: &'t [Placed]) -> Result<(Dec, &'t [Placed]), ExprFault> {
+    fn scaled_value<'t>(
+        &self,
+        n: i32,
+        tokens: &'t [Placed],
+    ) -> Result<(Dec, &'t [Placed]), ExprFault>
+        ensures shorter { IfOk result (λ r. length r.1.now < length tokens.now) }
+    {
         let Some(rest) = after_sign(Sign::Comma, tokens) else {
             return Ok((Dec::new(n as i128, 0), self.sign(Sign::Close, tokens)?));
         };
@@ -94,7 +124,9 @@ impl Parser {
     }
 
     /// The decimal of `new BigDecimal`, after its bracket.
-    fn new_value<'t>(&self, tokens: &'t [Placed]) -> Result<(Dec, &'t [Placed]), ExprFault> {
+    fn new_value<'t>(&self, tokens: &'t [Placed]) -> Result<(Dec, &'t [Placed]), ExprFault>
+        ensures shorter { IfOk result (λ r. length r.1.now < length tokens.now) }
+    {
         let (negative, first, rest) = self.unsigned(tokens)?;
         let number = match first.token {
             Token::Int(n) => Dec::new(whole(negative, n) as i128, 0),
@@ -106,7 +138,13 @@ impl Parser {
     }
 
     /// Whether a `-` stands first, the token after it, and what follows.
-    fn unsigned<'t>(&self, tokens: &'t [Placed]) -> Result<(bool, &'t Placed, &'t [Placed]), ExprFault> {
+    fn unsigned<'t>(
+        &self,
+        tokens: &'t [Placed],
+    ) -> Result<(bool, &'t Placed, &'t [Placed]), ExprFault>
+        ensures shorter { IfOk result (λ r. length r.2.now < length tokens.now) }
+        ensures in_range { IfOk result (λ r. IsTrue (is_in_range r.1.now.token)) }
+    {
         let (first, rest) = self.next(tokens)?;
         if let Token::Operator(Binary::Sub) = first.token {
             let (second, rest) = self.next(rest)?;
@@ -117,12 +155,16 @@ impl Parser {
 }
 
 /// A literal of `int` under its sign.
-fn whole(negative: bool, n: u32) -> i32 {
+fn whole(negative: bool, n: u32) -> i32
+    requires range { n ≤ 2147483647 }
+{
     if negative { -(n as i32) } else { n as i32 }
 }
 
 /// A literal of `long` under its sign.
-fn long(negative: bool, n: u64) -> i64 {
+fn long(negative: bool, n: u64) -> i64
+    requires range { n ≤ 9223372036854775807 }
+{
     if negative { -(n as i64) } else { n as i64 }
 }
 

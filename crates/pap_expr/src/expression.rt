@@ -45,9 +45,16 @@ pub fn parse_constant(alloc: Global, text: &[u8]) -> Result<Literal, ExprFault> 
 
 /// The tokens that may be read of a text of so many bytes, and what is wrong where they end too early.
 fn cut(tokens: &[Placed], len: usize) -> (&[Placed], ExprFault) {
-    match tokens.get(MOST_TOKENS) {
-        Some(extra) => (&tokens[..MOST_TOKENS], ExprFault::Deep { at: extra.at }),
-        None => (tokens, ExprFault::Syntax { at: len }),
+    if tokens.len() > MOST_TOKENS {
+        let (front, _) = tokens.split_at(MOST_TOKENS);
+        (
+            front,
+            ExprFault::Deep {
+                at: tokens[MOST_TOKENS].at,
+            },
+        )
+    } else {
+        (tokens, ExprFault::Syntax { at: len })
     }
 }
 

@@ -118,7 +118,10 @@ pub(crate) struct Parser {
 
 impl Parser {
     /// The next token, and those after it.
-    pub(crate) fn next<'t>(&self, tokens: &'t [Placed]) -> Result<(&'t Placed, &'t [Placed]), ExprFault>
+    pub(crate) fn next<'t>(
+        &self,
+        tokens: &'t [Placed],
+    ) -> Result<(&'t Placed, &'t [Placed]), ExprFault>
         ensures shorter { IfOk result (λ r. length r.1.now < length tokens.now) }
     {
         match tokens.split_first() {
@@ -128,7 +131,11 @@ impl Parser {
     }
 
     /// The tokens after a sign that is due.
-    pub(crate) fn sign<'t>(&self, sign: Sign, tokens: &'t [Placed]) -> Result<&'t [Placed], ExprFault>
+    pub(crate) fn sign<'t>(
+        &self,
+        sign: Sign,
+        tokens: &'t [Placed],
+    ) -> Result<&'t [Placed], ExprFault>
         ensures shorter { IfOk result (λ rest. length rest.now < length tokens.now) }
     {
         let (first, rest) = self.next(tokens)?;
@@ -140,7 +147,11 @@ impl Parser {
     }
 
     /// The tokens after a round bracket that is due, and the depth behind it.
-    fn open<'t>(&self, depth: usize, tokens: &'t [Placed]) -> Result<(usize, &'t [Placed]), ExprFault>
+    fn open<'t>(
+        &self,
+        depth: usize,
+        tokens: &'t [Placed],
+    ) -> Result<(usize, &'t [Placed]), ExprFault>
         ensures shorter { IfOk result (λ r. length r.1.now < length tokens.now) }
     {
         let (first, rest) = self.next(tokens)?;
@@ -176,7 +187,10 @@ impl Parser {
     }
 
     /// What follows `BigDecimal` and a point.
-    pub(crate) fn static_member<'t>(&self, tokens: &'t [Placed]) -> Result<(Static, &'t [Placed]), ExprFault>
+    pub(crate) fn static_member<'t>(
+        &self,
+        tokens: &'t [Placed],
+    ) -> Result<(Static, &'t [Placed]), ExprFault>
         ensures shorter { IfOk result (λ r. length r.1.now < length tokens.now) }
     {
         let (first, rest) = self.next(tokens)?;
@@ -190,6 +204,7 @@ impl Parser {
 
     /// The scale that is due.
     pub(crate) fn scale<'t>(&self, tokens: &'t [Placed]) -> Result<(u8, &'t [Placed]), ExprFault>
+        ensures kept { IfOk result (λ r. r.0 ≤ 30) }
         ensures shorter { IfOk result (λ r. length r.1.now < length tokens.now) }
     {
         let (first, rest) = self.next(tokens)?;
@@ -240,7 +255,11 @@ impl Parser {
     }
 
     /// The mode's word, after its class and a point.
-    fn held_mode<'t>(&self, holder: Holder, tokens: &'t [Placed]) -> Result<(Mode, &'t [Placed]), ExprFault>
+    fn held_mode<'t>(
+        &self,
+        holder: Holder,
+        tokens: &'t [Placed],
+    ) -> Result<(Mode, &'t [Placed]), ExprFault>
         ensures shorter { IfOk result (λ r. length r.1.now < length tokens.now) }
     {
         let (first, rest) = self.next(tokens)?;
@@ -254,7 +273,11 @@ impl Parser {
 
     /// An expression.
     #[cycle(parser)]
-    pub(crate) fn expr<'t>(&self, depth: usize, tokens: &'t [Placed]) -> Result<(Expr, &'t [Placed]), ExprFault>
+    pub(crate) fn expr<'t>(
+        &self,
+        depth: usize,
+        tokens: &'t [Placed],
+    ) -> Result<(Expr, &'t [Placed]), ExprFault>
         ensures shorter { IfOk result (λ r. length r.1.now < length tokens.now) }
     {
         let (test, rest) = self.operation(1, depth, tokens)?;
@@ -275,7 +298,12 @@ impl Parser {
 
     /// Operands with operators of a rank between them.
     #[cycle(parser)]
-    fn operation<'t>(&self, wanted: u8, depth: usize, tokens: &'t [Placed]) -> Result<(Expr, &'t [Placed]), ExprFault>
+    fn operation<'t>(
+        &self,
+        wanted: u8,
+        depth: usize,
+        tokens: &'t [Placed],
+    ) -> Result<(Expr, &'t [Placed]), ExprFault>
         requires rank { wanted ≤ 7 }
         ensures shorter { IfOk result (λ r. length r.1.now < length tokens.now) }
     {
@@ -298,7 +326,11 @@ impl Parser {
 
     /// An operand with the operators before it. A literal takes the `-` before it.
     #[cycle(parser)]
-    fn unary<'t>(&self, depth: usize, tokens: &'t [Placed]) -> Result<(Expr, &'t [Placed]), ExprFault>
+    fn unary<'t>(
+        &self,
+        depth: usize,
+        tokens: &'t [Placed],
+    ) -> Result<(Expr, &'t [Placed]), ExprFault>
         ensures shorter { IfOk result (λ r. length r.1.now < length tokens.now) }
     {
         let (first, rest) = self.next(tokens)?;
@@ -320,7 +352,12 @@ impl Parser {
 
     /// The operand of a prefix operator.
     #[cycle(parser)]
-    fn prefixed<'t>(&self, operator: Unary, depth: usize, tokens: &'t [Placed]) -> Result<(Expr, &'t [Placed]), ExprFault>
+    fn prefixed<'t>(
+        &self,
+        operator: Unary,
+        depth: usize,
+        tokens: &'t [Placed],
+    ) -> Result<(Expr, &'t [Placed]), ExprFault>
         ensures shorter { IfOk result (λ r. length r.1.now < length tokens.now) }
     {
         let (operand, rest) = self.unary(depth, tokens)?;
@@ -329,7 +366,12 @@ impl Parser {
 
     /// The calls of a receiver.
     #[cycle(parser)]
-    fn calls<'t>(&self, depth: usize, receiver: Expr, tokens: &'t [Placed]) -> Result<(Expr, &'t [Placed]), ExprFault>
+    fn calls<'t>(
+        &self,
+        depth: usize,
+        receiver: Expr,
+        tokens: &'t [Placed],
+    ) -> Result<(Expr, &'t [Placed]), ExprFault>
         ensures shorter { IfOk result (λ r. length r.1.now ≤ length tokens.now) }
     {
         match after_sign(Sign::Dot, tokens) {
@@ -343,7 +385,12 @@ impl Parser {
 
     /// A call of a receiver, after the point.
     #[cycle(parser)]
-    fn call<'t>(&self, depth: usize, receiver: Expr, tokens: &'t [Placed]) -> Result<(Expr, &'t [Placed]), ExprFault>
+    fn call<'t>(
+        &self,
+        depth: usize,
+        receiver: Expr,
+        tokens: &'t [Placed],
+    ) -> Result<(Expr, &'t [Placed]), ExprFault>
         ensures shorter { IfOk result (λ r. length r.1.now < length tokens.now) }
     {
         let (method, rest) = self.method(tokens)?;
@@ -355,11 +402,20 @@ impl Parser {
                 let argument = Box::new(self.alloc, argument)?;
                 match call {
                     Call::DivideExact => self.quotient(receiver, argument, rest),
-                    _ => Ok((Expr::Call(call, receiver, argument), self.sign(Sign::Close, rest)?)),
+                    _ => Ok((
+                        Expr::Call(call, receiver, argument),
+                        self.sign(Sign::Close, rest)?,
+                    )),
                 }
             }
-            Method::Negate => Ok((Expr::Unary(Unary::Negate, receiver), self.sign(Sign::Close, rest)?)),
-            Method::Abs => Ok((Expr::Unary(Unary::Abs, receiver), self.sign(Sign::Close, rest)?)),
+            Method::Negate => Ok((
+                Expr::Unary(Unary::Negate, receiver),
+                self.sign(Sign::Close, rest)?,
+            )),
+            Method::Abs => Ok((
+                Expr::Unary(Unary::Abs, receiver),
+                self.sign(Sign::Close, rest)?,
+            )),
             Method::SetScale => {
                 let (scale, rest) = self.scale(rest)?;
                 let rest = self.comma_of_setting(rest)?;
@@ -370,7 +426,12 @@ impl Parser {
     }
 
     /// The rest of a division, after the divisor.
-    fn quotient<'t>(&self, dividend: Box<Expr>, divisor: Box<Expr>, tokens: &'t [Placed]) -> Result<(Expr, &'t [Placed]), ExprFault>
+    fn quotient<'t>(
+        &self,
+        dividend: Box<Expr>,
+        divisor: Box<Expr>,
+        tokens: &'t [Placed],
+    ) -> Result<(Expr, &'t [Placed]), ExprFault>
         ensures shorter { IfOk result (λ r. length r.1.now < length tokens.now) }
     {
         let Some(rest) = after_sign(Sign::Comma, tokens) else {
@@ -385,7 +446,11 @@ impl Parser {
 
     /// A literal, a name, an item, brackets, or a decimal of `BigDecimal`.
     #[cycle(parser)]
-    fn prim<'t>(&self, depth: usize, tokens: &'t [Placed]) -> Result<(Expr, &'t [Placed]), ExprFault>
+    fn prim<'t>(
+        &self,
+        depth: usize,
+        tokens: &'t [Placed],
+    ) -> Result<(Expr, &'t [Placed]), ExprFault>
         ensures shorter { IfOk result (λ r. length r.1.now < length tokens.now) }
     {
         if let Some((literal, rest)) = after_literal(tokens) {
@@ -398,7 +463,10 @@ impl Parser {
                 let (inner, rest) = self.expr(opened(depth, first)?, rest)?;
                 Ok((inner, self.sign(Sign::Close, rest)?))
             }
-            Token::Keyword(Keyword::BigDecimal) => self.of_class(depth, self.sign(Sign::Dot, rest)?),
+            Token::Keyword(Keyword::BigDecimal) => self.of_class(
+                depth,
+                self.sign(Sign::Dot, rest)?,
+            ),
             Token::Keyword(Keyword::New) => self.new_big(depth, self.big_decimal(rest)?),
             _ => Err(refused(first)),
         }
@@ -406,7 +474,12 @@ impl Parser {
 
     /// A variable, or the item of a table.
     #[cycle(parser)]
-    fn named<'t>(&self, depth: usize, name: Name, tokens: &'t [Placed]) -> Result<(Expr, &'t [Placed]), ExprFault>
+    fn named<'t>(
+        &self,
+        depth: usize,
+        name: Name,
+        tokens: &'t [Placed],
+    ) -> Result<(Expr, &'t [Placed]), ExprFault>
         ensures shorter { IfOk result (λ r. length r.1.now ≤ length tokens.now) }
     {
         let Some((first, rest)) = tokens.split_first() else {
@@ -422,7 +495,11 @@ impl Parser {
 
     /// What stands after `BigDecimal` and a point.
     #[cycle(parser)]
-    fn of_class<'t>(&self, depth: usize, tokens: &'t [Placed]) -> Result<(Expr, &'t [Placed]), ExprFault>
+    fn of_class<'t>(
+        &self,
+        depth: usize,
+        tokens: &'t [Placed],
+    ) -> Result<(Expr, &'t [Placed]), ExprFault>
         ensures shorter { IfOk result (λ r. length r.1.now < length tokens.now) }
     {
         let (member, rest) = self.static_member(tokens)?;
@@ -434,7 +511,11 @@ impl Parser {
 
     /// The argument of `BigDecimal.valueOf`, and its scale.
     #[cycle(parser)]
-    fn value_of<'t>(&self, depth: usize, tokens: &'t [Placed]) -> Result<(Expr, &'t [Placed]), ExprFault>
+    fn value_of<'t>(
+        &self,
+        depth: usize,
+        tokens: &'t [Placed],
+    ) -> Result<(Expr, &'t [Placed]), ExprFault>
         ensures shorter { IfOk result (λ r. length r.1.now < length tokens.now) }
     {
         let (inner, rest) = self.open(depth, tokens)?;
@@ -444,12 +525,19 @@ impl Parser {
             return Ok((Expr::ValueOf(number), self.sign(Sign::Close, rest)?));
         };
         let (scale, rest) = self.scale(after)?;
-        Ok((Expr::ValueOfScaled(number, scale), self.sign(Sign::Close, rest)?))
+        Ok((
+            Expr::ValueOfScaled(number, scale),
+            self.sign(Sign::Close, rest)?,
+        ))
     }
 
     /// The argument of `new BigDecimal`.
     #[cycle(parser)]
-    fn new_big<'t>(&self, depth: usize, tokens: &'t [Placed]) -> Result<(Expr, &'t [Placed]), ExprFault>
+    fn new_big<'t>(
+        &self,
+        depth: usize,
+        tokens: &'t [Placed],
+    ) -> Result<(Expr, &'t [Placed]), ExprFault>
         ensures shorter { IfOk result (λ r. length r.1.now < length tokens.now) }
     {
         let (inner, rest) = self.open(depth, tokens)?;

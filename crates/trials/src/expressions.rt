@@ -33,8 +33,12 @@ fn put(rt: &HostRuntime, out: &mut String, e: &Expr) -> Result<(), Fail> {
             put_dec(rt, out, *d)?;
             out.push_str("))")?;
         }
-        Expr::Known(known) => out.push_str(format!(in rt.alloc(); "(leaf (known {known:?}))")?.as_str())?,
-        Expr::Var(name) => out.push_str(format!(in rt.alloc(); "(leaf (named (text {name})))")?.as_str())?,
+        Expr::Known(known) => out.push_str(format!(in rt.alloc();
+            "(leaf (known {known:?}))"
+        )?.as_str())?,
+        Expr::Var(name) => out.push_str(format!(in rt.alloc();
+            "(leaf (named (text {name})))"
+        )?.as_str())?,
         Expr::Item(name, index) => {
             out.push_str(format!(in rt.alloc(); "(item (text {name}) ")?.as_str())?;
             put(rt, out, index)?;
@@ -42,12 +46,45 @@ fn put(rt: &HostRuntime, out: &mut String, e: &Expr) -> Result<(), Fail> {
         }
         Expr::ValueOf(a) => put_one(rt, out, "value_of", a)?,
         Expr::NewInt(a) => put_one(rt, out, "new_big", a)?,
-        Expr::ValueOfScaled(a, s) => put_one(rt, out, format!(in rt.alloc(); "(value_of_scaled {s})")?.as_str(), a)?,
-        Expr::Unary(op, a) => put_one(rt, out, format!(in rt.alloc(); "(unary {op:?})")?.as_str(), a)?,
-        Expr::SetScale(a, s, mode) => put_one(rt, out, format!(in rt.alloc(); "(set_scale {s} {mode:?})")?.as_str(), a)?,
-        Expr::Binary(op, a, b) => put_two(rt, out, format!(in rt.alloc(); "(operator {op:?})")?.as_str(), a, b)?,
-        Expr::Call(call, a, b) => put_two(rt, out, format!(in rt.alloc(); "(method {call:?})")?.as_str(), a, b)?,
-        Expr::Divide(a, b, s, mode) => put_two(rt, out, format!(in rt.alloc(); "(divide {s} {mode:?})")?.as_str(), a, b)?,
+        Expr::ValueOfScaled(a, s) => put_one(
+            rt,
+            out,
+            format!(in rt.alloc(); "(value_of_scaled {s})")?.as_str(),
+            a,
+        )?,
+        Expr::Unary(op, a) => put_one(
+            rt,
+            out,
+            format!(in rt.alloc(); "(unary {op:?})")?.as_str(),
+            a,
+        )?,
+        Expr::SetScale(a, s, mode) => put_one(
+            rt,
+            out,
+            format!(in rt.alloc(); "(set_scale {s} {mode:?})")?.as_str(),
+            a,
+        )?,
+        Expr::Binary(op, a, b) => put_two(
+            rt,
+            out,
+            format!(in rt.alloc(); "(operator {op:?})")?.as_str(),
+            a,
+            b,
+        )?,
+        Expr::Call(call, a, b) => put_two(
+            rt,
+            out,
+            format!(in rt.alloc(); "(method {call:?})")?.as_str(),
+            a,
+            b,
+        )?,
+        Expr::Divide(a, b, s, mode) => put_two(
+            rt,
+            out,
+            format!(in rt.alloc(); "(divide {s} {mode:?})")?.as_str(),
+            a,
+            b,
+        )?,
         Expr::Choose(c, a, b) => {
             out.push_str("(choice ")?;
             put(rt, out, c)?;
@@ -160,33 +197,93 @@ fn answer(rt: &HostRuntime, line: Line, text: &str) -> Result<String, Fail> {
 fn trees_of_tests(rt: HostRuntime) -> Result<(), Fail> {
     let rows: [(&str, &str); 28] = [
         ("A", "(tree (leaf (named (text A))))"),
-        ("A.add(B)", "(tree (two (method Add) (leaf (named (text A))) (leaf (named (text B)))))"),
-        ("-5.add(x)", "(tree (two (method Add) (leaf (whole -5)) (leaf (named (text x)))))"),
-        ("a ? b : c ? d : e", "(tree (choice (leaf (named (text a))) (leaf (named (text b))) (choice (leaf (named (text c))) (leaf (named (text d))) (leaf (named (text e))))))"),
+        (
+            "A.add(B)",
+            "(tree (two (method Add) (leaf (named (text A))) (leaf (named (text B)))))",
+        ),
+        (
+            "-5.add(x)",
+            "(tree (two (method Add) (leaf (whole -5)) (leaf (named (text x)))))",
+        ),
+        (
+            "a ? b : c ? d : e",
+            "(tree (choice (leaf (named (text a))) (leaf (named (text b))) (choice (leaf (named (text c))) (leaf (named (text d))) (leaf (named (text e))))))",
+        ),
         ("(a)", "(tree (leaf (named (text a))))"),
         ("T[1]", "(tree (item (text T) (leaf (whole 1))))"),
         ("BigDecimal.ZERO", "(tree (leaf (known Zero)))"),
-        ("BigDecimal.valueOf(x)", "(tree (one value_of (leaf (named (text x)))))"),
-        ("BigDecimal.valueOf(x, 2)", "(tree (one (value_of_scaled 2) (leaf (named (text x)))))"),
-        ("new BigDecimal(x)", "(tree (one new_big (leaf (named (text x)))))"),
-        ("new BigDecimal(\"-0.40\")", "(tree (leaf (text (dec -40 2))))"),
-        ("A.divide(B)", "(tree (two (method DivideExact) (leaf (named (text A))) (leaf (named (text B)))))"),
-        ("A.divide(B, 2, BigDecimal.ROUND_UP)", "(tree (two (divide 2 Up) (leaf (named (text A))) (leaf (named (text B)))))"),
-        ("A.setScale(0, RoundingMode.HALF_EVEN)", "(tree (one (set_scale 0 HalfEven) (leaf (named (text A)))))"),
-        ("A.negate().abs()", "(tree (one (unary Abs) (one (unary Negate) (leaf (named (text A))))))"),
+        (
+            "BigDecimal.valueOf(x)",
+            "(tree (one value_of (leaf (named (text x)))))",
+        ),
+        (
+            "BigDecimal.valueOf(x, 2)",
+            "(tree (one (value_of_scaled 2) (leaf (named (text x)))))",
+        ),
+        (
+            "new BigDecimal(x)",
+            "(tree (one new_big (leaf (named (text x)))))",
+        ),
+        (
+            "new BigDecimal(\"-0.40\")",
+            "(tree (leaf (text (dec -40 2))))",
+        ),
+        (
+            "A.divide(B)",
+            "(tree (two (method DivideExact) (leaf (named (text A))) (leaf (named (text B)))))",
+        ),
+        (
+            "A.divide(B, 2, BigDecimal.ROUND_UP)",
+            "(tree (two (divide 2 Up) (leaf (named (text A))) (leaf (named (text B)))))",
+        ),
+        (
+            "A.setScale(0, RoundingMode.HALF_EVEN)",
+            "(tree (one (set_scale 0 HalfEven) (leaf (named (text A)))))",
+        ),
+        (
+            "A.negate().abs()",
+            "(tree (one (unary Abs) (one (unary Negate) (leaf (named (text A))))))",
+        ),
         ("-x", "(tree (one (unary Minus) (leaf (named (text x)))))"),
         ("- -5", "(tree (one (unary Minus) (leaf (whole -5))))"),
-        ("!a && b || c", "(tree (two (operator Or) (two (operator And) (one (unary Not) (leaf (named (text a)))) (leaf (named (text b)))) (leaf (named (text c)))))"),
-        ("a == b != c", "(tree (two (operator Differs) (two (operator Same) (leaf (named (text a))) (leaf (named (text b)))) (leaf (named (text c)))))"),
-        ("a < b + c * d", "(tree (two (operator Less) (leaf (named (text a))) (two (operator Plus) (leaf (named (text b))) (two (operator Mul) (leaf (named (text c))) (leaf (named (text d)))))))"),
-        ("a - b - c", "(tree (two (operator Sub) (two (operator Sub) (leaf (named (text a))) (leaf (named (text b)))) (leaf (named (text c)))))"),
+        (
+            "!a && b || c",
+            "(tree (two (operator Or) (two (operator And) (one (unary Not) (leaf (named (text a)))) (leaf (named (text b)))) (leaf (named (text c)))))",
+        ),
+        (
+            "a == b != c",
+            "(tree (two (operator Differs) (two (operator Same) (leaf (named (text a))) (leaf (named (text b)))) (leaf (named (text c)))))",
+        ),
+        (
+            "a < b + c * d",
+            "(tree (two (operator Less) (leaf (named (text a))) (two (operator Plus) (leaf (named (text b))) (two (operator Mul) (leaf (named (text c))) (leaf (named (text d)))))))",
+        ),
+        (
+            "a - b - c",
+            "(tree (two (operator Sub) (two (operator Sub) (leaf (named (text a))) (leaf (named (text b)))) (leaf (named (text c)))))",
+        ),
         ("12L", "(tree (leaf (long 12)))"),
-        ("-9223372036854775807L", "(tree (leaf (long -9223372036854775807)))"),
+        (
+            "-9223372036854775807L",
+            "(tree (leaf (long -9223372036854775807)))",
+        ),
         ("1.50", "(tree (leaf (point (dec 150 2))))"),
-        ("BigDecimal.valueOf(0.40)", "(tree (one value_of (leaf (point (dec 40 2)))))"),
-        ("new BigDecimal((0.4))", "(tree (one new_big (leaf (point (dec 4 1)))))"),
-        ("new BigDecimal(- -0.4)", "(tree (one new_big (one (unary Minus) (leaf (point (dec -4 1))))))"),
-        ("- (0.4)", "(tree (one (unary Minus) (leaf (point (dec 4 1)))))"),
+        (
+            "BigDecimal.valueOf(0.40)",
+            "(tree (one value_of (leaf (point (dec 40 2)))))",
+        ),
+        (
+            "new BigDecimal((0.4))",
+            "(tree (one new_big (leaf (point (dec 4 1)))))",
+        ),
+        (
+            "new BigDecimal(- -0.4)",
+            "(tree (one new_big (one (unary Minus) (leaf (point (dec -4 1))))))",
+        ),
+        (
+            "- (0.4)",
+            "(tree (one (unary Minus) (leaf (point (dec 4 1)))))",
+        ),
     ];
     for (text, expected) in rows {
         assert_eq!(rt; answer(&rt, Line::Test, text)?.as_str(), expected, "{text}");
@@ -243,7 +340,10 @@ fn faults_of_tests(rt: HostRuntime) -> Result<(), Fail> {
 fn assignments(rt: HostRuntime) -> Result<(), Fail> {
     let rows: [(&str, &str); 9] = [
         ("A= 1", "(assignment (text A) (leaf (whole 1)))"),
-        ("A= 2 * 3;", "(assignment (text A) (two (operator Mul) (leaf (whole 2)) (leaf (whole 3))))"),
+        (
+            "A= 2 * 3;",
+            "(assignment (text A) (two (operator Mul) (leaf (whole 2)) (leaf (whole 3))))",
+        ),
         ("A= 1;;", "Syntax 5"),
         ("A=", "Syntax 2"),
         ("A == 1", "Syntax 2"),
@@ -253,7 +353,11 @@ fn assignments(rt: HostRuntime) -> Result<(), Fail> {
         ("", "Syntax 0"),
     ];
     for (text, expected) in rows {
-        assert_eq!(rt; answer(&rt, Line::Assign, text)?.as_str(), expected, "{text}");
+        assert_eq!(rt;
+            answer(&rt, Line::Assign, text)?.as_str(),
+            expected,
+            "{text}"
+        );
     }
     Ok(())
 }
@@ -273,7 +377,10 @@ fn declared_literals(rt: HostRuntime) -> Result<(), Fail> {
         ("BigDecimal.valueOf(-1.0)", "(declared (big (dec -10 1)))"),
         ("new BigDecimal(-3)", "(declared (big (dec -3 0)))"),
         ("new BigDecimal(\"1.50\")", "(declared (big (dec 150 2)))"),
-        ("{BigDecimal.ZERO, BigDecimal.ONE}", "(declared (table ((dec 0 0) (dec 1 0))))"),
+        (
+            "{BigDecimal.ZERO, BigDecimal.ONE}",
+            "(declared (table ((dec 0 0) (dec 1 0))))",
+        ),
         ("{1}", "Syntax 1"),
         ("{}", "Syntax 1"),
         ("{BigDecimal.ZERO", "Syntax 16"),
@@ -290,13 +397,23 @@ fn declared_literals(rt: HostRuntime) -> Result<(), Fail> {
         ("RoundingMode.UP", "Syntax 0"),
     ];
     for (text, expected) in rows {
-        assert_eq!(rt; answer(&rt, Line::Constant, text)?.as_str(), expected, "{text}");
+        assert_eq!(rt;
+            answer(&rt, Line::Constant, text)?.as_str(),
+            expected,
+            "{text}"
+        );
     }
     Ok(())
 }
 
 /// So many copies of a text between two others.
-fn repeated(rt: &HostRuntime, front: &str, middle: &str, times: usize, back: &str) -> Result<String, Fail> {
+fn repeated(
+    rt: &HostRuntime,
+    front: &str,
+    middle: &str,
+    times: usize,
+    back: &str,
+) -> Result<String, Fail> {
     let mut text = String::new(rt.alloc());
     text.push_str(front)?;
     for _ in 0..times {
