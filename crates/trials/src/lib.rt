@@ -15,6 +15,8 @@ mod decimals;
 #[cfg(test)]
 mod element_texts;
 #[cfg(test)]
+mod expressions;
+#[cfg(test)]
 mod intervals;
 #[cfg(test)]
 mod names;

@@ -1,0 +1,45 @@
+// Why a text is refused.
+ghost use Rattle.std.specs.Prelude.{◌≡◌};
+ghost use Rattle.pap_expr.specs.declared.fault.ExprFault.TheVariants.{Memory};
+
+use std::alloc::{AllocError, AllocFailed};
+use thiserror::Error;
+
+/// Why a text is refused, and the byte where the token begins that stops its reading: the text's length where the text
+/// ends too early. The causes are tried from the last to the first.
+#[derive(Clone, Copy, Debug, PartialEq, Eq, Error)]
+pub enum ExprFault {
+    /// The token isn't allowed there.
+    #[error("byte {at}: not allowed here")]
+    Syntax { at: usize },
+    /// The token begins a form that Java has here and the flowchart's profile doesn't.
+    #[error("byte {at}: a form outside the profile")]
+    Unsupported { at: usize },
+    /// A literal with a point is right after `new BigDecimal(`, where Java would take its binary value.
+    #[error("byte {at}: new BigDecimal of a binary fraction")]
+    BinaryFraction { at: usize },
+    /// A number beyond its range.
+    #[error("byte {at}: a number beyond its range")]
+    Number { at: usize },
+    /// More than 1,000 tokens, or more than 64 levels.
+    #[error("byte {at}: more than 1,000 tokens or 64 levels")]
+    Deep { at: usize },
+    #[error("out of memory")]
+    Memory,
+}
+
+impl From<AllocError> for ExprFault {
+    ghost from_gives = { λ _ e. e ≡ Memory };
+
+    fn from(_e: AllocError) -> ExprFault {
+        ExprFault::Memory
+    }
+}
+
+impl<T: Drop> From<AllocFailed<T>> for ExprFault {
+    ghost from_gives = { λ _ e. e ≡ Memory };
+
+    fn from(_e: AllocFailed<T>) -> ExprFault {
+        ExprFault::Memory
+    }
+}

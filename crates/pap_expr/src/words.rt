@@ -1,0 +1,104 @@
+// The words and ranks of the language.
+
+use pap_tree::{Binary, Call, Known, Name};
+use scaled_decimal::Mode;
+
+/// What follows a point after an expression.
+#[derive(Clone, Copy)]
+pub(crate) enum Method {
+    /// A method of one argument.
+    Applied(Call),
+    Negate,
+    Abs,
+    SetScale,
+}
+
+/// What follows `BigDecimal` and a point.
+#[derive(Clone, Copy)]
+pub(crate) enum Static {
+    Known(Known),
+    ValueOf,
+}
+
+/// The class that a rounding mode's word is taken from.
+#[derive(Clone, Copy)]
+pub(crate) enum Holder {
+    BigDecimal,
+    RoundingMode,
+}
+
+/// How tightly an operator binds: 1 is the loosest, 6 the tightest.
+pub(crate) fn rank(operator: Binary) -> u8 {
+    match operator {
+        Binary::Or => 1,
+        Binary::And => 2,
+        Binary::Same | Binary::Differs => 3,
+        Binary::Less | Binary::LessEq | Binary::More | Binary::MoreEq => 4,
+        Binary::Plus | Binary::Sub => 5,
+        Binary::Mul | Binary::Div | Binary::Rem => 6,
+    }
+}
+
+/// The method of a word.
+pub(crate) fn method_of(word: Name) -> Option<Method> {
+    match word.bytes() {
+        b"add" => Some(Method::Applied(Call::Add)),
+        b"subtract" => Some(Method::Applied(Call::Subtract)),
+        b"multiply" => Some(Method::Applied(Call::Multiply)),
+        b"divide" => Some(Method::Applied(Call::DivideExact)),
+        b"compareTo" => Some(Method::Applied(Call::CompareTo)),
+        b"min" => Some(Method::Applied(Call::Min)),
+        b"max" => Some(Method::Applied(Call::Max)),
+        b"negate" => Some(Method::Negate),
+        b"abs" => Some(Method::Abs),
+        b"setScale" => Some(Method::SetScale),
+        _ => None,
+    }
+}
+
+/// What a word is after `BigDecimal` and a point.
+pub(crate) fn static_of(word: Name) -> Option<Static> {
+    match word.bytes() {
+        b"ZERO" => Some(Static::Known(Known::Zero)),
+        b"ONE" => Some(Static::Known(Known::One)),
+        b"TEN" => Some(Static::Known(Known::Ten)),
+        b"valueOf" => Some(Static::ValueOf),
+        _ => None,
+    }
+}
+
+/// The rounding mode of a word.
+pub(crate) fn mode_of(holder: Holder, word: Name) -> Option<Mode> {
+    match holder {
+        Holder::BigDecimal => old_mode(word.bytes()),
+        Holder::RoundingMode => new_mode(word.bytes()),
+    }
+}
+
+/// The mode of a constant of `BigDecimal`.
+fn old_mode(word: &[u8]) -> Option<Mode> {
+    match word {
+        b"ROUND_DOWN" => Some(Mode::Down),
+        b"ROUND_UP" => Some(Mode::Up),
+        b"ROUND_FLOOR" => Some(Mode::Floor),
+        b"ROUND_CEILING" => Some(Mode::Ceiling),
+        b"ROUND_HALF_UP" => Some(Mode::HalfUp),
+        b"ROUND_HALF_DOWN" => Some(Mode::HalfDown),
+        b"ROUND_HALF_EVEN" => Some(Mode::HalfEven),
+        _ => None,
+    }
+}
+
+/// The mode of a constant of `RoundingMode`.
+fn new_mode(word: &[u8]) -> Option<Mode> {
+    match word {
+        b"DOWN" => Some(Mode::Down),
+        b"UP" => Some(Mode::Up),
+        b"FLOOR" => Some(Mode::Floor),
+        b"CEILING" => Some(Mode::Ceiling),
+        b"HALF_UP" => Some(Mode::HalfUp),
+        b"HALF_DOWN" => Some(Mode::HalfDown),
+        b"HALF_EVEN" => Some(Mode::HalfEven),
+        _ => None,
+    }
+}
