@@ -10,3 +10,4 @@ pub mod Bounds
 pub mod Meaning
 pub mod ScopeViews
 pub mod CheckViews
+pub mod DeclarationViews

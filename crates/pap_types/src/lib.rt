@@ -1,6 +1,7 @@
 //! When a plan is well formed, and what a run of it means.
 #![tactic(auto)]
 
+mod declarations;
 mod fault;
 mod kinds;
 mod nodes;

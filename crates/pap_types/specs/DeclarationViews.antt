@@ -1,0 +1,33 @@
+-- What the private functions answer about declarations and their names.
+use Rattle.std.specs.Prelude.{◌≡◌, ℕ, Bool, true, false, List, [], ◌∷◌, ◌++◌, map, Some, None, Result, Ok, Err, ⊤}
+use Rattle.pap_tree.specs.Declarations.{Declaration}
+use Rattle.pap_types.specs.declared.fault.TypeFault.{TypeFault}
+use Rattle.pap_types.specs.declared.fault.TypeFault.TheVariants.{Memory, Twice}
+use Rattle.pap_types.specs.Checks.{Check, first_fault, names_of, has_name, declaration_checks}
+
+-- a name that is new stands behind the others; no other is added
+abbrev pub IsAdded : List (List ℕ) → List (List ℕ) → List ℕ → Result (Unit {0}) TypeFault → Type 0
+IsAdded old new x (Ok u) = (has_name old x ≡ false) × (new ≡ old ++ (x ∷ []))
+IsAdded old new x (Err (Memory e)) = ⊤
+IsAdded old new x (Err f) = (has_name old x ≡ true) × (f ≡ Twice x)
+
+-- a fault, unless memory ran out
+abbrev pub UnlessMemory : TypeFault → Type 0 → Type 0
+UnlessMemory (Memory e) P = ⊤
+UnlessMemory f P = P
+
+-- The checks of a declaration behind earlier names pass, or its fault is the first, whatever follows.
+abbrev pub IsDeclared : List (List ℕ) → List (List ℕ) → List (List ℕ) → Declaration → Result (Unit {0}) TypeFault → Type 0
+IsDeclared earlier old new d (Ok u) =
+    (new ≡ old ++ (d.name ∷ []))
+    × ((rest : List Declaration) → first_fault (declaration_checks (earlier ++ old) (d ∷ rest)) ≡ first_fault (declaration_checks (earlier ++ new) rest))
+IsDeclared earlier old new d (Err f) =
+    UnlessMemory f ((rest : List Declaration) → first_fault (declaration_checks (earlier ++ old) (d ∷ rest)) ≡ Some f)
+
+-- the same of a list of declarations
+abbrev pub AreDeclared : List (List ℕ) → List (List ℕ) → List (List ℕ) → List Declaration → Result (Unit {0}) TypeFault → Type 0
+AreDeclared earlier old new ds (Ok u) =
+    (new ≡ old ++ names_of ds)
+    × ((rest : List Declaration) → first_fault (declaration_checks (earlier ++ old) (ds ++ rest)) ≡ first_fault (declaration_checks (earlier ++ new) rest))
+AreDeclared earlier old new ds (Err f) =
+    UnlessMemory f ((rest : List Declaration) → first_fault (declaration_checks (earlier ++ old) (ds ++ rest)) ≡ Some f)

@@ -1,0 +1,92 @@
+// The checks of a plan's declarations.
+ghost use Rattle.std.specs.Prelude.{◌≡◌, true, map};
+ghost use Rattle.std.specs.Option.{option_map, option_map_or};
+ghost use Rattle.pap_tree.specs.Declarations.{declared_of, declaration_of};
+ghost use Rattle.pap_tree.specs.declared.declaration.Kind.TheVariants.{Factor};
+ghost use Rattle.pap_types.specs.Checks.{is_of_type};
+ghost use Rattle.pap_types.specs.DeclarationViews.{AreDeclared, IsDeclared, IsAdded};
+
+use crate::TypeFault;
+use crate::kinds::has_few_places;
+use indexmap::IndexSet;
+use pap_tree::{Declared, Kind, Literal, Name};
+use std::alloc::AllocError;
+
+/// Adds the names of declarations behind earlier names. Each is new and has a literal of its type, or the first that isn't so
+/// is answered.
+pub(crate) fn declare(
+    names: &mut IndexSet<Name>,
+    earlier: &IndexSet<Name>,
+    declared: &[Declared],
+) -> Result<(), TypeFault>
+    ensures { AreDeclared earlier.now.keys names.old.keys names.new.keys (map declaration_of declared.now) result }
+{
+    for declaration in declared {
+        declare_one(names, earlier, declaration)?;
+    }
+    Ok(())
+}
+
+fn declare_one(
+    names: &mut IndexSet<Name>,
+    earlier: &IndexSet<Name>,
+    declared: &Declared,
+) -> Result<(), TypeFault>
+    ensures { IsDeclared earlier.now.keys names.old.keys names.new.keys (declaration_of declared.now) result }
+{
+    let name = declared.name;
+    if earlier.contains(&name) {
+        return Err(TypeFault::Twice { name });
+    }
+    add(names, name)?;
+    if !has_its_type(declared) {
+        return Err(TypeFault::Value { name });
+    }
+    Ok(())
+}
+
+/// Adds a name, which is new.
+pub(crate) fn add(names: &mut IndexSet<Name>, name: Name) -> Result<(), TypeFault>
+    ensures { IsAdded names.old.keys names.new.keys name result }
+{
+    match names.insert_full(name) {
+        Ok((_, true)) => Ok(()),
+        Ok((_, false)) => Err(TypeFault::Twice { name }),
+        Err(_) => Err(TypeFault::Memory(AllocError)),
+    }
+}
+
+/// Whether a declaration's literal, where one is written, is of its type.
+fn has_its_type(declared: &Declared) -> bool
+    ensures { result ≡ option_map_or (is_of_type declared.now.kind) (option_map declared_of declared.now.value) true }
+{
+    match &declared.value {
+        Some(literal) => is_of_type(declared.kind, literal),
+        None => true,
+    }
+}
+
+/// An `int` takes an `int` literal, a `long` one of either, a `double` a number of at most three places, a `BigDecimal` a
+/// decimal, a table a list.
+fn is_of_type(kind: Kind, literal: &Literal) -> bool
+    ensures { result ≡ is_of_type kind (declared_of literal.now) }
+{
+    match kind {
+        Kind::Int => matches!(literal, Literal::Int(_)),
+        Kind::Long => matches!(literal, Literal::Int(_) | Literal::Long(_)),
+        Kind::Factor => is_factor(literal),
+        Kind::Big => matches!(literal, Literal::Big(_)),
+        Kind::Table => matches!(literal, Literal::Table(_)),
+    }
+}
+
+/// Whether a literal is a number of at most three places.
+fn is_factor(literal: &Literal) -> bool
+    ensures { result ≡ is_of_type Factor (declared_of literal.now) }
+{
+    match literal {
+        Literal::Int(_) => true,
+        Literal::Point(number) => has_few_places(*number),
+        _ => false,
+    }
+}
