@@ -1,0 +1,2 @@
+-- The laws of trees that other crates may cite: what the statements of a program stand for.
+pub use Rattle.pap_tree.proofs.Statements.{stmt_then-If, stmt_at, branch_is}
