@@ -1,4 +1,6 @@
 // The words and ranks of the language.
+ghost use Rattle.std.specs.Prelude.{◌≡◌};
+ghost use Rattle.pap_tree.specs.Words.{level_of_operator};
 
 use pap_tree::{Binary, Call, Known, Name};
 use scaled_decimal::Mode;
@@ -28,7 +30,9 @@ pub(crate) enum Holder {
 }
 
 /// How tightly an operator binds: 1 is the loosest, 6 the tightest.
-pub(crate) fn rank(operator: Binary) -> u8 {
+pub(crate) fn rank(operator: Binary) -> u8
+    ensures { result ≡ level_of_operator operator }
+{
     match operator {
         Binary::Or => 1,
         Binary::And => 2,
