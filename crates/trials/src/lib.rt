@@ -3,6 +3,4 @@
 #![tactic(auto)]
 
 #[cfg(test)]
-mod expressions;
-#[cfg(test)]
 mod tokens;
