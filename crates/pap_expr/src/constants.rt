@@ -1,5 +1,7 @@
 // The parser of declared literals.
-ghost use Rattle.std.specs.Prelude.{◌<◌, ◌≤◌, length, IsTrue, IfOk};
+ghost use Rattle.std.specs.Prelude.{◌≡◌, ◌<◌, ◌≤◌, length, IsTrue, IfOk};
+ghost use Rattle.scaled_decimal.specs.NumberTexts.{signed};
+ghost use Rattle.pap_tree.specs.Grammar.{known_value};
 ghost use Rattle.expr_tokens.specs.Ranges.{is_in_range};
 
 use crate::fault::ExprFault;
@@ -157,6 +159,7 @@ impl Parser {
 /// A literal of `int` under its sign.
 fn whole(negative: bool, n: u32) -> i32
     requires range { n ≤ 2147483647 }
+    ensures value { result ≡ signed negative n }
 {
     if negative { -(n as i32) } else { n as i32 }
 }
@@ -164,6 +167,7 @@ fn whole(negative: bool, n: u32) -> i32
 /// A literal of `long` under its sign.
 fn long(negative: bool, n: u64) -> i64
     requires range { n ≤ 9223372036854775807 }
+    ensures value { result ≡ signed negative n }
 {
     if negative { -(n as i64) } else { n as i64 }
 }
@@ -174,7 +178,9 @@ fn signed(negative: bool, d: Dec) -> Dec {
 }
 
 /// The value of a constant of `BigDecimal`.
-fn known_value(known: Known) -> Dec {
+fn known_value(known: Known) -> Dec
+    ensures { result ≡ known_value known }
+{
     match known {
         Known::Zero => Dec::new(0, 0),
         Known::One => Dec::new(1, 0),

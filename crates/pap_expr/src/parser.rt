@@ -1,6 +1,10 @@
 // The parser of expressions: it descends with one token in hand.
 
-ghost use Rattle.std.specs.Prelude.{◌≡◌, ◌+◌, ◌<◌, ◌≤◌, length, IfOk, IfSome};
+ghost use Rattle.expr_tokens.specs.Spots.{token_of};
+ghost use Rattle.expr_grammar.specs.Run.{refusal};
+ghost use Rattle.pap_expr.specs.declared.fault.ExprFault.TheVariants.{Deep};
+ghost use Rattle.pap_expr.specs.Views.{refusal_of, plain_cause};
+ghost use Rattle.std.specs.Prelude.{◌≡◌, ◌+◌, ◌<◌, ◌≤◌, [], ◌∷◌, length, IfOk, IfErr, IfSome};
 
 use crate::fault::ExprFault;
 use crate::words::{Holder, Method, Static, method_of, mode_of, rank, static_of};
@@ -19,7 +23,9 @@ const MOST_PLACES: u32 = 30;
 const TIGHTEST: u8 = 6;
 
 /// The fault of a token that isn't allowed where it stands.
-pub(crate) fn refused(found: &Placed) -> ExprFault {
+pub(crate) fn refused(found: &Placed) -> ExprFault
+    ensures { refusal_of result ≡ refusal (plain_cause (token_of found.now.token)) found.now.at }
+{
     match found.token {
         Token::Beyond => ExprFault::Number { at: found.at },
         _ => ExprFault::Syntax { at: found.at },
@@ -36,7 +42,8 @@ fn refused_member(found: &Placed) -> ExprFault {
 
 /// The depth behind a token that opens a level.
 fn opened(depth: usize, opener: &Placed) -> Result<usize, ExprFault>
-    ensures deeper { IfOk result (λ inner. inner ≡ depth + 1) }
+    ensures deeper { IfOk result (λ inner. (inner ≡ depth + 1) × (depth < 64)) }
+    ensures deep { IfErr result (λ e. (e ≡ Deep opener.now.at) × (64 ≤ depth)) }
 {
     if depth < MOST_LEVELS {
         Ok(depth + 1)
@@ -122,6 +129,8 @@ impl Parser {
         &self,
         tokens: &'t [Placed],
     ) -> Result<(&'t Placed, &'t [Placed]), ExprFault>
+        ensures some { IfOk result (λ r. tokens.now ≡ r.0.now ∷ r.1.now) }
+        ensures none { IfErr result (λ e. (e ≡ self.now.end) × (tokens.now ≡ [])) }
         ensures shorter { IfOk result (λ r. length r.1.now < length tokens.now) }
     {
         match tokens.split_first() {

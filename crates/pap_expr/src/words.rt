@@ -1,4 +1,8 @@
 // The words and ranks of the language.
+ghost use Rattle.std.specs.Prelude.{◌≡◌, Some, None, MatchOption};
+ghost use Rattle.pap_tree.specs.Words.{level_of_operator};
+ghost use Rattle.expr_grammar.specs.Machine.{method_of, constancy_of};
+ghost use Rattle.pap_expr.specs.Views.{method_view, static_view};
 
 use pap_tree::{Binary, Call, Known, Name};
 use scaled_decimal::Mode;
@@ -28,7 +32,9 @@ pub(crate) enum Holder {
 }
 
 /// How tightly an operator binds: 1 is the loosest, 6 the tightest.
-pub(crate) fn rank(operator: Binary) -> u8 {
+pub(crate) fn rank(operator: Binary) -> u8
+    ensures { result ≡ level_of_operator operator }
+{
     match operator {
         Binary::Or => 1,
         Binary::And => 2,
@@ -40,7 +46,9 @@ pub(crate) fn rank(operator: Binary) -> u8 {
 }
 
 /// The method of a word.
-pub(crate) fn method_of(word: Name) -> Option<Method> {
+pub(crate) fn method_of(word: Name) -> Option<Method>
+    ensures { MatchOption result (method_of word ≡ None) (λ m. method_of word ≡ Some (method_view m)) }
+{
     match word.bytes() {
         b"add" => Some(Method::Applied(Call::Add)),
         b"subtract" => Some(Method::Applied(Call::Subtract)),
@@ -57,7 +65,9 @@ pub(crate) fn method_of(word: Name) -> Option<Method> {
 }
 
 /// What a word is after `BigDecimal` and a point.
-pub(crate) fn static_of(word: Name) -> Option<Static> {
+pub(crate) fn static_of(word: Name) -> Option<Static>
+    ensures { MatchOption result (constancy_of word ≡ None) (λ m. constancy_of word ≡ Some (static_view m)) }
+{
     match word.bytes() {
         b"ZERO" => Some(Static::Known(Known::Zero)),
         b"ONE" => Some(Static::Known(Known::One)),
