@@ -1,6 +1,6 @@
 // The texts of expressions: what they stand for, by its canonical spelling, and their faults.
 use pap_expr::{ExprFault, parse_assign, parse_constant, parse_expr};
-use pap_tree::{Literal, print_expr};
+use pap_tree::{Literal, find_node, print_expr};
 use std::test::Fail;
 
 #[test]
@@ -140,5 +140,26 @@ fn declared_literals_are_read(rt: HostRuntime) -> Result<(), Fail> {
     assert!(rt; matches!(big, Literal::Big(d) if d.numerator() == 4 && d.scale() == 1));
     let table = parse_constant(alloc, b"{BigDecimal.valueOf (0), new BigDecimal(\"1.50\")}")?;
     assert!(rt; matches!(&table, Literal::Table(items) if items.len() == 2));
+    Ok(())
+}
+
+#[test]
+fn nodes_are_numbered_as_their_evaluation_ends(rt: HostRuntime) -> Result<(), Fail> {
+    let alloc = rt.alloc();
+    let e = parse_expr(alloc, b"A > 0 ? 1 : T[2]")?;
+    let nodes: [(u32, &[u8]); 7] = [
+        (0, b"A"),
+        (1, b"0"),
+        (2, b"A > 0"),
+        (3, b"1"),
+        (4, b"2"),
+        (5, b"T[2]"),
+        (6, b"A > 0 ? 1 : T[2]"),
+    ];
+    for (number, spelling) in nodes {
+        let node = find_node(&e, number).ok_or("a node")?;
+        assert_eq!(rt; print_expr(alloc, node)?.as_slice(), spelling);
+    }
+    assert!(rt; find_node(&e, 7).is_none());
     Ok(())
 }

@@ -27,6 +27,4 @@ mod range_files;
 #[cfg(test)]
 mod records;
 #[cfg(test)]
-mod spellings;
-#[cfg(test)]
 mod tokens;
