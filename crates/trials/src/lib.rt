@@ -3,10 +3,6 @@
 #![tactic(auto)]
 
 #[cfg(test)]
-mod calendars;
-#[cfg(test)]
-mod carries;
-#[cfg(test)]
 mod code;
 #[cfg(test)]
 mod counter;
@@ -22,9 +18,5 @@ mod intervals;
 mod names;
 #[cfg(test)]
 mod outside_objects;
-#[cfg(test)]
-mod range_files;
-#[cfg(test)]
-mod records;
 #[cfg(test)]
 mod tokens;
