@@ -1,0 +1,4 @@
+pub mod Graphs
+pub mod Chains
+pub mod Expanded
+pub mod Orders
