@@ -1,8 +1,6 @@
 //! The order of a plan's methods, and how long a plan is once its methods stand in place of what executes them.
 #![tactic(auto)]
 
-ghost use Rattle.pap_types.specs.Meaning.{bound_of};
-ghost use Rattle.call_order.specs.Orders.{IsOrdered};
+mod theorems;
 
-/// To be replaced.
-pub fn nothing_yet() {}
+pub use theorems::chain_laws;
