@@ -12,12 +12,12 @@ use Rattle.pap_types.specs.Runs.{Calls, after, spent, IsSafeBody, calls_of}
 use Rattle.pap_types.specs.Bounds.{body_bound, method_bound}
 use Rattle.pap_types.specs.Meaning.{calls_in}
 use Rattle.pap_types.specs.Checks.{IsWellTyped}
-use Rattle.call_order.specs.Graphs.{Graph, executed, content_of, graph_of, method_number}
+use Rattle.call_order.specs.Graphs.{Graph, executed, content_of, graph_of}
 use Rattle.call_order.specs.Chains.{Executes, BeginsMore, content_at}
 use Rattle.call_order.specs.Expanded.{expanded, expanded_of}
 use Rattle.call_order.specs.Orders.{HasShortChains}
 use Rattle.call_order.specs.ChainLaws.{Names, DoesAsBody, DoTheSame, MainDoesTheSame, AreClosed}
-use Rattle.call_order.proofs.Numbers.{IsMethod, method_of, number_below}
+use Rattle.call_order.proofs.Numbers.{method_number, method_of}
 use Rattle.call_order.proofs.Executed.{EachExecuted, each_weaker, IsNamed, AreNamed, are_named}
 use Rattle.call_order.proofs.ChainLemmas.{begins-more}
 use Rattle.call_order.proofs.Same.{map_or_same, and_then_same, expanded_same, bound_same, Same, turned, after_same, spent_same, safe_same}

@@ -3,4 +3,10 @@ pub mod Executed
 pub mod ChainLemmas
 pub mod Same
 pub mod Closed
+pub mod ContentLemmas
+pub mod LevelLemmas
+pub mod MarkLemmas
+pub mod OrderLemmas
+pub mod LengthLemmas
+pub mod Decides
 pub mod Laws

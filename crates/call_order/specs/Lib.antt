@@ -2,4 +2,11 @@ pub mod Graphs
 pub mod Chains
 pub mod Expanded
 pub mod Orders
+pub mod Faults
+pub mod OrderClauses
+pub mod OrderLaws
 pub mod ChainLaws
+pub mod ContentViews
+pub mod LevelViews
+pub mod MarkViews
+pub mod LengthViews
