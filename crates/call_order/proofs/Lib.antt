@@ -8,5 +8,7 @@ pub mod LevelLemmas
 pub mod MarkLemmas
 pub mod OrderLemmas
 pub mod LengthLemmas
+pub mod WholeLemmas
+pub mod FoundLemmas
 pub mod Decides
 pub mod Laws

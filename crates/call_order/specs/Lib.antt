@@ -10,3 +10,4 @@ pub mod ContentViews
 pub mod LevelViews
 pub mod MarkViews
 pub mod LengthViews
+pub mod OrderViews

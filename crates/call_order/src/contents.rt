@@ -73,9 +73,7 @@ impl Contents {
 fn collect(contents: &mut Contents, t: &Typed, body: &[Stmt]) -> Result<(), AllocError>
     requires methods { length (flowchart_of t.now).methods ≤ 256 }
     requires room { contents.old.statements + written (body_of body.now) < 2 ^ 64 }
-    ensures {
-        OnOk result (IsAdded (flowchart_of t.now).methods (body_of body.now) contents.old contents.new)
-    }
+    ensures { OnOk result (IsAdded (flowchart_of t.now).methods (body_of body.now) contents.old contents.new) }
 {
     for statement in body {
         collect_one(contents, t, statement)?;
@@ -88,10 +86,8 @@ fn collect(contents: &mut Contents, t: &Typed, body: &[Stmt]) -> Result<(), Allo
 fn collect_one(contents: &mut Contents, t: &Typed, statement: &Stmt) -> Result<(), AllocError>
     requires methods { length (flowchart_of t.now).methods ≤ 256 }
     requires room { contents.old.statements + written (stmt_then statement.now done) < 2 ^ 64 }
-    ensures {
-        OnOk result
-        (IsAdded (flowchart_of t.now).methods (stmt_then statement.now done) contents.old contents.new)
-    }
+    ensures { OnOk result
+        (IsAdded (flowchart_of t.now).methods (stmt_then statement.now done) contents.old contents.new) }
 {
     contents.count();
     match statement {
@@ -111,9 +107,7 @@ fn collect_one(contents: &mut Contents, t: &Typed, statement: &Stmt) -> Result<(
 pub(crate) fn content_of(alloc: Global, t: &Typed, body: &[Stmt]) -> Result<Contents, AllocError>
     requires methods { length (flowchart_of t.now).methods ≤ 256 }
     requires room { written (body_of body.now) < 2 ^ 64 }
-    ensures {
-        IfOk result (λ c. c ≡ content_of (flowchart_of t.now).methods (body_of body.now))
-    }
+    ensures { IfOk result (λ c. c ≡ content_of (flowchart_of t.now).methods (body_of body.now)) }
 {
     let mut contents = Contents::new(alloc);
     collect(&mut contents, t, body)?;
@@ -122,7 +116,8 @@ pub(crate) fn content_of(alloc: Global, t: &Typed, body: &[Stmt]) -> Result<Cont
 
 /// What each method has.
 pub(crate) fn graph_of(alloc: Global, t: &Typed) -> Result<Vec<Contents>, AllocError>
-    ensures { IfOk result (λ graph. graph.items ≡ graph_of (flowchart_of t.now).methods) }
+    ensures graph { IfOk result (λ graph. graph.items ≡ graph_of (flowchart_of t.now).methods) }
+    ensures few { IfOk result (λ graph. length graph.items ≤ 256) }
 {
     let mut graph = Vec::new(alloc);
     for method in &t.plan().methods {

@@ -6,6 +6,9 @@ ghost use Rattle.call_order.specs.LevelViews.{AreKnown, AllKnown, AreLevels, IsP
 use crate::contents::Contents;
 use std::alloc::{AllocError, Global};
 
+/// The greatest number of methods in a chain.
+pub(crate) const LONGEST_CHAIN: u32 = 64;
+
 /// Whether each method has a level of at most `longest`.
 fn are_placed(methods: &[u32], levels: &[u32], longest: u32) -> bool
     requires { All (λ j. j < length levels.now) methods.now }
@@ -40,7 +43,7 @@ pub(crate) fn levels_of(alloc: Global, graph: &[Contents]) -> Result<Vec<u32>, A
     ensures { IfOk result (λ levels. AreLevels graph.now 64 levels.items) }
 {
     let mut levels = vec![in alloc; 0u32; graph.len()]?;
-    for longest in 0..64 {
+    for longest in 0..LONGEST_CHAIN {
         raise(graph, longest, &mut levels);
     }
     Ok(levels)

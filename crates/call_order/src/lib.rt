@@ -6,7 +6,9 @@ mod cycles;
 mod fault;
 mod lengths;
 mod levels;
+mod order;
 mod theorems;
 
 pub use fault::OrderFault;
+pub use order::order_methods;
 pub use theorems::chain_laws;
