@@ -1,2 +1,7 @@
--- The laws of orders that other crates may cite: the bound on chains leaves nothing out.
+-- The laws of orders that other crates may cite.
+-- the bound on chains leaves nothing out
 pub use Rattle.call_order.proofs.Closed.{chains_close}
+-- an order or a fault, never both, and one fault
+pub use Rattle.call_order.proofs.AnswerLemmas.{some, never_both, one_fault}
+-- an ordered plan has a small bound
+pub use Rattle.call_order.proofs.BoundLemmas.{bound_small}

@@ -11,4 +11,6 @@ pub mod LengthLemmas
 pub mod WholeLemmas
 pub mod FoundLemmas
 pub mod Decides
+pub mod AnswerLemmas
+pub mod BoundLemmas
 pub mod Laws

@@ -11,4 +11,4 @@ mod theorems;
 
 pub use fault::OrderFault;
 pub use order::order_methods;
-pub use theorems::chain_laws;
+pub use theorems::{bound_laws, chain_laws, order_laws};
