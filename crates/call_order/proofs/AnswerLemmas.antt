@@ -1,8 +1,7 @@
 -- An order or a fault, never both, and one fault.
-use Rattle.std.proofs.Common.{◌≡◌, ℕ, zero, suc, ◌<◌, ◌≤◌, ◌⊎◌, inl, inr, List, [], ◌∷◌, length, map, ap, ◌∙◌, refl, sym, subst, Option, Some, None, arith}
+use Rattle.std.proofs.Common.{◌≡◌, ℕ, zero, suc, ◌<◌, ◌⊎◌, inl, inr, List, [], ◌∷◌, length, ap, ◌∙◌, refl, sym, subst, Some, arith}
 use Rattle.std.specs.Prelude.{min, slice_get}
 use Rattle.std.proofs.lemmas.Bool.{cases_lt}
-use Rattle.std.proofs.lemmas.List.{length-map}
 use Rattle.pap_tree.specs.Flowchart.{Flowchart, Routine}
 use Rattle.pap_types.specs.Routines.{method_names}
 use Rattle.call_order.specs.declared.fault.OrderFault.{OrderFault}
@@ -10,7 +9,7 @@ use Rattle.call_order.specs.declared.fault.OrderFault.TheVariants.{Cycle, Chain,
 use Rattle.call_order.specs.Graphs.{graph_of}
 use Rattle.call_order.specs.Chains.{ReachesItself, BeginsMore}
 use Rattle.call_order.specs.Expanded.{expanded_in}
-use Rattle.call_order.specs.Orders.{HasNone, IsOrdered}
+use Rattle.call_order.specs.Orders.{HasNone}
 use Rattle.call_order.specs.Faults.{IsFirst, IsFirstMethod, IsRefused, last_count}
 use Rattle.call_order.specs.OrderLaws.{HasOrder, HasFault}
 use Rattle.call_order.proofs.OrderLemmas.{is_order}

@@ -1,6 +1,6 @@
 -- The bound of a short plan is small: each expanded statement costs at most 2,002.
-use Rattle.std.proofs.Common.{◌≡◌, ℕ, zero, suc, ◌+◌, ◌*◌, ◌<◌, ◌≤◌, Bool, true, false, List, [], ◌∷◌, length, get_or, Option, Some, None, refl, subst, arith}
-use Rattle.std.specs.Prelude.{All, max, if◌then◌else◌}
+use Rattle.std.proofs.Common.{◌≡◌, ℕ, zero, suc, ◌*◌, ◌≤◌, Bool, true, false, List, [], ◌∷◌, Option, Some, None, refl, subst, arith}
+use Rattle.std.specs.Prelude.{All, if◌then◌else◌}
 use Rattle.std.specs.Option.{option_map_or}
 use Rattle.std.specs.Str.{bytes_eq}
 use Rattle.std.proofs.lemmas.List.Elements.{All-head, All-tail}
@@ -11,7 +11,7 @@ use Rattle.pap_types.specs.Routines.{body_named}
 use Rattle.pap_types.specs.Bounds.{term_bound, body_bound, method_bound}
 use Rattle.pap_types.specs.Counts.{IsWithinCounts, AreSmallTerms}
 use Rattle.pap_types.specs.Meaning.{bound_of}
-use Rattle.call_order.specs.Expanded.{expanded, expanded_of, expanded_in}
+use Rattle.call_order.specs.Expanded.{expanded, expanded_of}
 use Rattle.call_order.specs.Orders.{IsOrdered}
 
 pub term_bound_small : (e : Term) → term_bound e ≤ 2 * nodes e

@@ -1,5 +1,5 @@
 -- The bound on chains leaves nothing out.
-use Rattle.std.proofs.Common.{◌≡◌, ℕ, zero, suc, ◌+◌, ◌<◌, ◌≤◌, true, List, [], ◌∷◌, ◌++◌, length, Option, Some, None, ap, ◌∙◌, refl, sym, subst, arith}
+use Rattle.std.proofs.Common.{◌≡◌, ℕ, zero, suc, ◌≤◌, true, List, [], ◌∷◌, ◌++◌, Option, Some, None, ap, ◌∙◌, refl, sym, subst, arith}
 use Rattle.std.specs.Prelude.{Contains, is_some}
 use Rattle.std.specs.Option.{option_and_then, option_map_or}
 use Rattle.std.specs.List.{cons_option}
@@ -8,19 +8,20 @@ use Rattle.pap_tree.specs.Flowchart.{Body, done, eval, branch, execute, Routine,
 use Rattle.pap_types.specs.Scopes.{Scope, scope_of}
 use Rattle.pap_types.specs.Values.{Env}
 use Rattle.pap_types.specs.Routines.{body_named}
-use Rattle.pap_types.specs.Runs.{Calls, after, spent, IsSafeBody, calls_of}
+use Rattle.pap_types.specs.Runs.{after, spent, IsSafeBody, calls_of}
 use Rattle.pap_types.specs.Bounds.{body_bound, method_bound}
 use Rattle.pap_types.specs.Meaning.{calls_in}
 use Rattle.pap_types.specs.Checks.{IsWellTyped}
-use Rattle.call_order.specs.Graphs.{Graph, executed, content_of, graph_of}
+use Rattle.call_order.specs.Graphs.{executed, content_of, graph_of}
 use Rattle.call_order.specs.Chains.{Executes, BeginsMore, content_at}
 use Rattle.call_order.specs.Expanded.{expanded, expanded_of}
 use Rattle.call_order.specs.Orders.{HasShortChains}
-use Rattle.call_order.specs.ChainLaws.{Names, DoesAsBody, DoTheSame, MainDoesTheSame, AreClosed}
+use Rattle.call_order.specs.ChainLaws.{Names, DoesAsBody, MainDoesTheSame, AreClosed}
 use Rattle.call_order.proofs.Numbers.{method_number, method_of}
-use Rattle.call_order.proofs.Executed.{EachExecuted, each_weaker, IsNamed, AreNamed, are_named}
+use Rattle.call_order.specs.Executed.{EachExecuted}
+use Rattle.call_order.proofs.Executed.{each_weaker, IsNamed, AreNamed, are_named}
 use Rattle.call_order.proofs.ChainLemmas.{begins-more}
-use Rattle.call_order.proofs.Same.{map_or_same, and_then_same, expanded_same, bound_same, Same, turned, after_same, spent_same, safe_same}
+use Rattle.call_order.proofs.Same.{map_or_same, expanded_same, bound_same, Same, turned, after_same, spent_same, safe_same}
 
 named_some : (o : Option Body) → is_some o ≡ true → (b : Body) × (o ≡ Some b)
 named_some None e = absurd (cc)

@@ -1,17 +1,15 @@
 -- What is found of a plan's methods, and what follows.
-use Rattle.std.proofs.Common.{◌≡◌, ℕ, ◌+◌, ◌<◌, ◌≤◌, List, length, Option, Some, None, ap, ◌∙◌, refl, sym, subst, arith}
-use Rattle.std.specs.Prelude.{All, slice_index, min, sum_by}
-use Rattle.std.specs.Option.{option_map_or}
+use Rattle.std.proofs.Common.{◌≡◌, ℕ, ◌<◌, ◌≤◌, List, length, ap, ◌∙◌, refl, sym, subst, arith}
+use Rattle.std.specs.Prelude.{All, slice_index, min}
 use Rattle.std.proofs.lemmas.List.Elements.{All-weaker}
 use Rattle.pap_tree.specs.Flowchart.{Flowchart}
 use Rattle.call_order.specs.Graphs.{Graph, Content, content_of, graph_of, executed}
 use Rattle.call_order.specs.Expanded.{expanded_of, expanded_in}
 use Rattle.call_order.specs.Orders.{IsOrdered}
 use Rattle.call_order.specs.Faults.{IsFirst, last_count, IsTooLong}
-use Rattle.call_order.specs.LevelViews.{AllKnown, AreLevels, AreAllPlaced, IsByLevel}
+use Rattle.call_order.specs.LevelViews.{AreLevels, AreAllPlaced, IsByLevel}
 use Rattle.call_order.specs.LengthViews.{length_of, length_with, AreLengths}
 use Rattle.call_order.specs.OrderViews.{IsLongFault, IsSorted}
-use Rattle.call_order.proofs.Numbers.{method_number}
 use Rattle.call_order.proofs.OrderLemmas.{is_order, counted_there, not_long, not_cyclic, first_chain}
 use Rattle.call_order.proofs.LengthLemmas.{min_sum}
 use Rattle.call_order.proofs.WholeLemmas.{known, body_known, length_graph, expanded_sum, expanded_is}

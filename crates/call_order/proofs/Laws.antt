@@ -5,3 +5,5 @@ pub use Rattle.call_order.proofs.Closed.{chains_close}
 pub use Rattle.call_order.proofs.AnswerLemmas.{some, never_both, one_fault}
 -- an ordered plan has a small bound
 pub use Rattle.call_order.proofs.BoundLemmas.{bound_small}
+-- what a method executes stands before it in an order
+pub use Rattle.call_order.proofs.Standing.{calls_stand}

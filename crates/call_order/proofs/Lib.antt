@@ -13,4 +13,5 @@ pub mod FoundLemmas
 pub mod Decides
 pub mod AnswerLemmas
 pub mod BoundLemmas
+pub mod Standing
 pub mod Laws

@@ -1,5 +1,5 @@
 -- The numbers of methods and their bodies.
-use Rattle.std.proofs.Common.{◌≡◌, ℕ, zero, suc, ◌+◌, ◌<◌, ◌⊎◌, inl, inr, Bool, true, false, cond, List, [], ◌∷◌, length, Option, Some, None, ap, ◌∙◌, refl, sym, subst, arith}
+use Rattle.std.proofs.Common.{◌≡◌, ℕ, suc, ◌+◌, ◌<◌, ◌⊎◌, inl, inr, Bool, true, false, cond, List, [], ◌∷◌, length, Option, Some, None, ap, ◌∙◌, refl, sym, subst, arith}
 use Rattle.std.specs.Prelude.{if◌then◌else◌, nat_lt, not}
 use Rattle.std.specs.Option.{option_map, option_map_or}
 use Rattle.std.specs.Str.{bytes_eq}
@@ -10,7 +10,7 @@ use Rattle.pap_tree.specs.Flowchart.{Body, Routine}
 use Rattle.pap_types.specs.Routines.{body_named, method_names}
 use Rattle.pap_types.specs.Scopes.{number_of}
 use Rattle.call_order.specs.Graphs.{Content, content_of, graph_within}
-use Rattle.call_order.specs.Chains.{content_at, nothing}
+use Rattle.call_order.specs.Chains.{content_at}
 
 -- the number of the method of a name
 abbrev pub method_number : List Routine → List ℕ → Option ℕ

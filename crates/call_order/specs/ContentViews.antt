@@ -1,5 +1,5 @@
 -- What the private functions answer about lists of statements.
-use Rattle.std.specs.Prelude.{◌≡◌, ◌+◌, ◌≤◌, ◌++◌, List, length, All, ◌^◌, ◌<◌}
+use Rattle.std.specs.Prelude.{◌≡◌, ◌+◌, ◌++◌, List}
 use Rattle.pap_tree.specs.Flowchart.{Body, Routine}
 use Rattle.pap_tree.specs.Statements.{written}
 use Rattle.call_order.specs.Graphs.{Content, executed}

@@ -5,6 +5,7 @@ pub mod Orders
 pub mod Faults
 pub mod OrderClauses
 pub mod OrderLaws
+pub mod Executed
 pub mod ChainLaws
 pub mod ContentViews
 pub mod LevelViews

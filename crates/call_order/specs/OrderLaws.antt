@@ -1,7 +1,6 @@
 -- A plan has an order or a fault, never both, and one fault; and an ordered plan has a small bound.
 use Rattle.std.specs.Prelude.{◌≡◌, ℕ, ◌≤◌, ◌⊎◌, List}
 use Rattle.pap_tree.specs.Flowchart.{Flowchart}
-use Rattle.pap_types.specs.Checks.{IsWellTyped}
 use Rattle.pap_types.specs.Counts.{IsWithinCounts}
 use Rattle.pap_types.specs.Meaning.{bound_of}
 use Rattle.call_order.specs.declared.fault.OrderFault.{OrderFault}

@@ -1,5 +1,6 @@
 //! Laws of the order of methods and of the bound on chains.
 ghost use Rattle.call_order.specs.ChainLaws.{ChainsClose};
+ghost use Rattle.call_order.specs.Executed.{OrdersHaveCalls};
 ghost use Rattle.call_order.specs.OrderLaws.{HaveOneAnswer, HaveSmallBounds};
 
 /// Where no chain has more than 64 methods, what a method does, costs at most and how long it is are those of its body, and a
@@ -8,9 +9,10 @@ pub fn chain_laws()
     ensures { ChainsClose }
 {}
 
-/// A plan has an order or a fault, never both, and one fault.
+/// A plan has an order or a fault, never both, and one fault. What a method executes stands before it in an order.
 pub fn order_laws()
-    ensures { HaveOneAnswer }
+    ensures one_answer { HaveOneAnswer }
+    ensures calls { OrdersHaveCalls }
 {}
 
 /// A run of an ordered plan costs at most 10^9 steps.

@@ -1,8 +1,8 @@
-use Rattle.std.proofs.Common.{◌≡◌, ℕ, ◌+◌, ◌++◌, ap, sym, ◌∙◌, arith, append_assoc}
+use Rattle.std.proofs.Common.{◌≡◌, ◌+◌, ap, ◌∙◌, arith}
 use Rattle.std.proofs.lemmas.Result.{on_ok_weaker}
 use Rattle.pap_tree.specs.Flowchart.{body_of, flowchart_of}
 use Rattle.pap_tree.specs.Statements.{written}
-use Rattle.call_order.specs.Graphs.{executed, Content}
+use Rattle.call_order.specs.Graphs.{Content}
 use Rattle.call_order.proofs.ContentLemmas.{written_at, written_if, written_some, executed_at, added_if, regroup}
 use Rattle.call_order.proofs.contents.+collect.Goals as goal
 

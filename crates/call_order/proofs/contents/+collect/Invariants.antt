@@ -1,7 +1,6 @@
-use Rattle.std.proofs.Common.{◌≡◌, ◌+◌, ◌*◌, ◌++◌, ◌≤◌, drop}
+use Rattle.std.proofs.Common.{◌+◌, ◌*◌, drop}
 use Rattle.pap_tree.specs.Flowchart.{body_of, stmt_then, done, flowchart_of}
 use Rattle.pap_tree.specs.Statements.{written}
-use Rattle.call_order.specs.Graphs.{executed}
 use Rattle.call_order.proofs.ContentLemmas.{IsLeft}
 use Rattle.call_order.proofs.contents.+collect.Given as goal
 

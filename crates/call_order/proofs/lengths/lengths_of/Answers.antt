@@ -1,5 +1,5 @@
-use Rattle.std.proofs.Common.{◌≡◌, ℕ, ◌<◌, length, get_or, set, ap, sym, refl, ◌+◌, ◌∙◌, subst}
-use Rattle.std.specs.Prelude.{All, min, sum_by, slice_index}
+use Rattle.std.proofs.Common.{◌≡◌, ℕ, ◌<◌, length, get_or, set, ap, sym, refl, ◌∙◌, subst}
+use Rattle.std.specs.Prelude.{All, min, slice_index}
 use Rattle.call_order.specs.Graphs.{Content}
 use Rattle.call_order.specs.Faults.{last_count}
 use Rattle.call_order.specs.LengthViews.{length_with}

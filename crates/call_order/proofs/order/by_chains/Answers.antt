@@ -1,4 +1,4 @@
-use Rattle.std.proofs.Common.{◌≡◌, ◌∙◌, ℕ, ap, length, subst, sym, arith}
+use Rattle.std.proofs.Common.{◌≡◌, ap, length, subst, arith}
 use Rattle.std.specs.Prelude.{slice_index}
 use Rattle.pap_tree.specs.Flowchart.{flowchart_of}
 use Rattle.call_order.specs.Faults.{IsFirst}

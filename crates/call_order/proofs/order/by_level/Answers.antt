@@ -1,4 +1,4 @@
-use Rattle.std.proofs.Common.{◌+◌, arith}
+use Rattle.std.proofs.Common.{arith}
 use Rattle.call_order.proofs.OrderLemmas.{partly_all}
 use Rattle.call_order.proofs.order.by_level.Goals as goal
 

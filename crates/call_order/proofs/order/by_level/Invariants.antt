@@ -1,4 +1,3 @@
-use Rattle.std.proofs.Common.{◌+◌}
 use Rattle.call_order.specs.LevelViews.{IsPartly}
 use Rattle.call_order.proofs.order.by_level.Given as goal
 

@@ -1,6 +1,4 @@
 use Rattle.pap_tree.specs.Flowchart.{flowchart_of}
-use Rattle.pap_types.specs.Meaning.{longest_chain}
-use Rattle.call_order.specs.Graphs.{Graph}
 use Rattle.call_order.specs.Chains.{ReachesItself}
 use Rattle.call_order.proofs.WholeLemmas.{BeginsTooMany, known, declared_name, first_in, none_in}
 use Rattle.call_order.proofs.order.refusal.Goals as goal
