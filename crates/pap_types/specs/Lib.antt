@@ -4,12 +4,17 @@ pub mod Values
 pub mod Kinds
 pub mod Routines
 pub mod Checks
+pub mod Faults
 pub mod Counts
+pub mod Typing
 pub mod Safety
 pub mod Runs
 pub mod Bounds
 pub mod Meaning
 pub mod ScopeViews
 pub mod CheckViews
+pub mod StatementViews
 pub mod DeclarationViews
 pub mod TypedViews
+pub mod PlanViews
+pub mod MeaningLaws

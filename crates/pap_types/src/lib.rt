@@ -4,10 +4,14 @@
 mod declarations;
 mod fault;
 mod kinds;
+mod meaning;
 mod nodes;
 mod scope;
+mod sizes;
+mod statements;
 mod typed;
 
 pub use fault::TypeFault;
 pub use kinds::NodeKind;
-pub use typed::Typed;
+pub use meaning::{bounded, one_outputs, typed_parts};
+pub use typed::{Typed, check_types};
