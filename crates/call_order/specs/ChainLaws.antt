@@ -1,5 +1,5 @@
--- The bound on chains in the definitions leaves nothing out: where no chain is longer, what a method does, how long it is
--- and what it costs at most are those of its body, and a greater bound changes nothing.
+-- The bound on chains in the definitions leaves nothing out: where no chain is longer, what a method does, how long it
+-- is and what it costs at most are those of its body, and a greater bound changes nothing.
 use Rattle.std.specs.Prelude.{◌≡◌, ℕ, ◌≤◌, List, Some}
 use Rattle.pap_tree.specs.Flowchart.{Body, Flowchart}
 use Rattle.pap_types.specs.Scopes.{Scope, scope_of}
@@ -41,8 +41,10 @@ pub record BodyDoesTheSame (scope : Scope) (one other : Calls) (b : Body) (env :
 pub record IsSameBound (f : Flowchart) (n : ℕ) : Type 0 where
   pub main_does : (env : Env)
       → BodyDoesTheSame (scope_of f) (calls_of (scope_of f) f.methods n) (calls_in f) f.main env
-  pub main_bound : body_bound (method_bound f.methods n) f.main ≡ body_bound (method_bound f.methods longest_chain) f.main
-  pub main_expanded : expanded (expanded_of f.methods n) f.main ≡ expanded (expanded_of f.methods longest_chain) f.main
+  pub main_bound :
+      body_bound (method_bound f.methods n) f.main ≡ body_bound (method_bound f.methods longest_chain) f.main
+  pub main_expanded :
+      expanded (expanded_of f.methods n) f.main ≡ expanded (expanded_of f.methods longest_chain) f.main
   pub does : (m : List ℕ) (b : Body) → Names f m b → (env : Env)
       → DoTheSame (calls_of (scope_of f) f.methods n) (calls_in f) m env
   pub bound : (m : List ℕ) (b : Body) → Names f m b

@@ -48,7 +48,8 @@ impl Contents {
 
     /// One more executed method.
     fn add(&mut self, method: u32) -> Result<(), AllocError>
-        ensures { OnOk result (self.new ≡ record self.old { methods = push self.old.methods method }) }
+        ensures statements { OnOk result (self.new.statements ≡ self.old.statements) }
+        ensures methods { OnOk result (self.new.methods ≡ push self.old.methods method) }
     {
         self.methods.push(method)?;
         Ok(())
