@@ -1,3 +1,5 @@
 pub mod ScopeLemmas
 pub mod CheckLemmas
 pub mod DeclarationLemmas
+pub mod TypingLemmas
+pub mod Laws

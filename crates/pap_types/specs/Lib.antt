@@ -5,6 +5,7 @@ pub mod Kinds
 pub mod Routines
 pub mod Checks
 pub mod Counts
+pub mod Typing
 pub mod Safety
 pub mod Runs
 pub mod Bounds
