@@ -1,3 +1,6 @@
 pub mod RowShapes
 pub mod NodeShapes
 pub mod Laws
+pub mod EnvLemmas
+pub mod NodeSound
+pub mod ScopeLemmas

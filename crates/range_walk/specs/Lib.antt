@@ -6,4 +6,5 @@ pub mod NodeRanges
 pub mod Ranged
 pub mod Ranges
 pub mod Shapes
+pub mod Soundness
 pub mod Walked
