@@ -74,7 +74,7 @@ first_is c d t e =
     let typed : is_of_type c.kind (big d) ≡ true = subst (λ v. option_map_or (is_of_type c.kind) v true ≡ true) e t in
     same ∙ big_kept c.kind d typed
 
-int_literal_is : (e : Term) (d : Decimal) → int_literal e ≡ Some d → (i : ℤ) × (e ≡ leaf (whole i)) × (decimal i 0 ≡ d)
+pub int_literal_is : (e : Term) (d : Decimal) → int_literal e ≡ Some d → (i : ℤ) × (e ≡ leaf (whole i)) × (decimal i 0 ≡ d)
 int_literal_is (leaf (whole i)) d e = let same : decimal i 0 ≡ d = cc in (i, refl, same)
 int_literal_is (leaf (long i)) d e = absurd (cc)
 int_literal_is (leaf (point i)) d e = absurd (cc)
