@@ -1,6 +1,7 @@
 pub mod RowShapes
 pub mod NodeShapes
 pub mod Laws
+pub mod NameLemmas
 pub mod TermSound
 pub mod TestSound
 pub mod BranchSound
