@@ -1,6 +1,7 @@
 pub mod RowShapes
 pub mod NodeShapes
 pub mod Laws
+pub mod WalkSound
 pub mod NameLemmas
 pub mod TermSound
 pub mod TestSound
