@@ -1,6 +1,7 @@
 pub mod RowShapes
 pub mod NodeShapes
 pub mod Laws
+pub mod PlanLemmas
 pub mod WalkSound
 pub mod NameLemmas
 pub mod TermSound

@@ -1,7 +1,14 @@
 -- What the walk promises of the values that a run meets.
-use Rattle.std.specs.Prelude.{◌≡◌, ℕ, true, false, List, [], ◌∷◌, Option, Some, None, ⊤}
-use Rattle.scaled_decimal.specs.Decimals.{Decimal}
+use Rattle.std.specs.Prelude.{◌≡◌, ℕ, ◌≤◌, unsigned_abs, true, false, List, [], ◌∷◌, Option, Some, None, Ok, ⊤}
+use Rattle.scaled_decimal.specs.Decimals.{Decimal, scale_of, numerator_at}
 use Rattle.pap_tree.specs.Term.{Term}
+use Rattle.pap_tree.specs.Flowchart.{Flowchart}
+use Rattle.limits_file.specs.declared.limits.Limits.{Limits}
+use Rattle.pap_types.specs.Checks.{IsWellTyped}
+use Rattle.pap_types.specs.Counts.{IsWithinCounts}
+use Rattle.pap_types.specs.Meaning.{IsSafeFor, outputs_in}
+use Rattle.range_walk.specs.Admission.{HaveLimits, AreAdmitted}
+use Rattle.range_walk.specs.Analysis.{analysed, output_places, output_limit}
 use Rattle.interval_num.specs.Intervals.{Interval, Contains}
 use Rattle.pap_types.specs.Scopes.{Scope, declared_as}
 use Rattle.pap_types.specs.Operations.{is_zero}
@@ -41,3 +48,31 @@ module _ (scope : Scope) where
     pub is : value scope t env ≡ Some gives
     pub holds : is_zero gives ≡ false → Reaches br.holds env
     pub fails : is_zero gives ≡ true → Reaches br.fails env
+
+-- ---- the whole
+
+-- a value within the bound of outputs
+pub record IsWithinBound (d : Decimal) : Type 0 where
+  pub places : scale_of d ≤ output_places
+  pub small : unsigned_abs (numerator_at output_places d) ≤ output_limit
+
+-- an output's value lies in its range and within the bound
+pub record IsOutput (r : Interval) (d : Decimal) : Type 0 where
+  pub inside : Contains r d
+  pub bound : IsWithinBound d
+
+-- one such value for each output, in declared order
+abbrev pub AreOutputs : Ranges → List Decimal → Type 0
+AreOutputs [] [] = ⊤
+AreOutputs (r ∷ rs) (d ∷ ds) = IsOutput r.range d × AreOutputs rs ds
+AreOutputs _ _ = ⊥
+
+-- inputs are safe for a plan, and its outputs lie in these ranges
+pub record RunHolds (f : Flowchart) (ranges : Ranges) (inputs : List Decimal) : Type 0 where
+  pub safe : IsSafeFor f inputs
+  pub outputs : AreOutputs ranges (outputs_in f safe.ends)
+
+-- where the walk of a well-typed plan passes, every list of admitted inputs is so
+abbrev pub AnalysisIsSound : Type 0
+AnalysisIsSound = (f : Flowchart) (limits : Limits) (ranges : Ranges) → IsWellTyped f → IsWithinCounts f → HaveLimits f limits →
+    analysed f limits ≡ Ok ranges → (inputs : List Decimal) → AreAdmitted f limits inputs → RunHolds f ranges inputs
