@@ -1,6 +1,8 @@
 pub mod RowShapes
 pub mod NodeShapes
 pub mod Laws
+pub mod PlanSound
+pub mod StartSound
 pub mod PlanLemmas
 pub mod WalkSound
 pub mod NameLemmas

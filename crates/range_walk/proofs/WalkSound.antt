@@ -48,7 +48,7 @@ use Rattle.range_walk.proofs.NameLemmas.{names_in, StayNamed, tested_named, pass
 -- ---- assignments
 
 -- a value at a greater scale
-at_greater : (x : Decimal) (p q : ℕ) → scale_of x ≤ p → p ≤ q → numerator_at p x *ℤ ten_to (q - p) ≡ numerator_at q x
+pub at_greater : (x : Decimal) (p q : ℕ) → scale_of x ≤ p → p ≤ q → numerator_at p x *ℤ ten_to (q - p) ≡ numerator_at q x
 at_greater x p q h l =
     times_assoc (numerator_of x) (ten_to (p - scale_of x)) (ten_to (q - p))
     ∙ ap (λ t. numerator_of x *ℤ t) (ten_add (p - scale_of x) (q - p) (q - scale_of x) (omega arith))
