@@ -1,16 +1,15 @@
 -- The branch of a comparison that its value takes can be reached, and each range that it refines holds its value.
-use Rattle.std.proofs.Common.{◌≡◌, ℕ, ℤ, pos, negsuc, ◌*ℤ◌, List, [], ◌∷◌, Bool, true, false, not, ◌&&◌, ◌||◌, if◌then◌else◌, Option, Some, None, Ok, Err, Ordering, Less, Equal, Greater, refl, sym, ap, ap₂, ◌∙◌, subst, inl, inr, arith}
-use Rattle.std.specs.Prelude.{◌⊎◌, IsTrue, ⊤, int_le}
+use Rattle.std.proofs.Common.{◌≡◌, ℕ, ℤ, pos, ◌*ℤ◌, List, [], ◌∷◌, Bool, true, false, not, ◌&&◌, ◌||◌, if◌then◌else◌, Option, Some, None, Ordering, Less, Equal, Greater, refl, sym, ap, ◌∙◌, subst, inl, inr}
+use Rattle.std.specs.Prelude.{◌⊎◌, ⊤, int_le}
 use Rattle.std.specs.Bool.{OnTrue}
-use Rattle.std.specs.Option.{option_map, option_and_then, option_or}
+use Rattle.std.specs.Option.{option_map, option_or}
 use Rattle.std.specs.Ordering.{int_cmp, ordering_reverse}
 use Rattle.std.specs.Cmp.{int_cmp_total}
 use Rattle.std.specs.Str.{bytes_eq}
-use Rattle.std.proofs.lemmas.Int.{ints}
-use Rattle.scaled_decimal.specs.Decimals.{Decimal, decimal, numerator_of, scale_of, ten_to, value_order, order_number, comparison}
-use Rattle.scaled_decimal.specs.WholeNumbers.{whole_decimal, truth}
+use Rattle.scaled_decimal.specs.Decimals.{Decimal, numerator_of, scale_of, ten_to, value_order, order_number}
+use Rattle.scaled_decimal.specs.WholeNumbers.{truth}
 use Rattle.pap_tree.specs.declared.expression.Binary.{Binary}
-use Rattle.pap_tree.specs.Term.{Leaf, whole, long, point, text, known, named, Term, leaf, item, one, two, choice}
+use Rattle.pap_tree.specs.Term.{whole, long, point, text, known, named, Term, leaf, item, one, two, choice}
 use Rattle.interval_num.specs.declared.sign_set.SignSet.{SignSet}
 use Rattle.interval_num.specs.Intervals.{Interval, interval, Contains, IsWhole}
 use Rattle.interval_num.specs.Signs.{signs_of, HasOrder, HasSign}
@@ -111,7 +110,7 @@ on_scales true v r k w = record { least_scale = k.least ∙ w.least_scale; great
 on_scales false v r k w = tt
 
 -- what stands at a name after another range was put
-named_put : (rs : Ranges) (x y : List ℕ) (a b : Interval) → range_named (put_range rs x a) y ≡ Some b → (a ≡ b) ⊎ (range_named rs y ≡ Some b)
+pub named_put : (rs : Ranges) (x y : List ℕ) (a b : Interval) → range_named (put_range rs x a) y ≡ Some b → (a ≡ b) ⊎ (range_named rs y ≡ Some b)
 named_put [] x y a b e = inr e
 named_put (r ∷ rs) x y a b e = by_names (bytes_eq r.name x) (bytes_eq r.name y) refl refl e (named_put rs x y a b)
   where
@@ -131,8 +130,8 @@ module _ (t : Bool) (allowed : SignSet) (e : Interval) (rs rs1 : Ranges) where
       by_part (Some a) p q =
           let same : put_range rs x a ≡ rs1 = cc in
           elim (named_put rs x y a v (subst (λ s. range_named s y ≡ Some v) (sym same) h)) [
-            inl is ↦ subst (λ a. OnTrue t (IsWhole a)) is (on_scales t u a (refined_scales u e a allowed t p) (wx u f))
-          | inr is ↦ wy v is
+            | inl is ↦ subst (λ a. OnTrue t (IsWhole a)) is (on_scales t u a (refined_scales u e a allowed t p) (wx u f))
+            | inr is ↦ wy v is
           ]
 
   -- one side's refinement leaves whole numbers at the other

@@ -1,9 +1,9 @@
 -- The values of the variables lie in their ranges.
-use Rattle.std.proofs.Common.{◌≡◌, ℕ, List, [], ◌∷◌, Bool, true, false, if◌then◌else◌, Option, Some, None, refl, sym, ap, ◌∙◌, subst}
+use Rattle.std.proofs.Common.{◌≡◌, ℕ, List, [], ◌∷◌, Bool, true, false, if◌then◌else◌, Some, None, refl, ap, subst}
 use Rattle.std.specs.Str.{bytes_eq}
 use Rattle.scaled_decimal.specs.Decimals.{Decimal}
 use Rattle.interval_num.specs.Intervals.{Interval, Contains}
-use Rattle.pap_types.specs.Scopes.{Scope, declared_as}
+use Rattle.pap_types.specs.Scopes.{Scope}
 use Rattle.pap_types.specs.Values.{Env, look, put}
 use Rattle.range_walk.specs.Ranges.{Ranges, range_named, put_range}
 use Rattle.range_walk.specs.Soundness.{AreWithin, AreVariables}

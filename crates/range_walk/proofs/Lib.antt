@@ -1,6 +1,7 @@
 pub mod RowShapes
 pub mod NodeShapes
-pub mod Laws
+pub mod RowLaws
+pub mod ReachedSound
 pub mod PlanSound
 pub mod StartSound
 pub mod PlanLemmas
@@ -12,3 +13,4 @@ pub mod BranchSound
 pub mod EnvLemmas
 pub mod NodeSound
 pub mod ScopeLemmas
+pub mod Laws

@@ -1,13 +1,13 @@
 -- The walk keeps the names of the variables and their order.
-use Rattle.std.proofs.Common.{◌≡◌, ℕ, zero, suc, ◌+◌, List, [], ◌∷◌, map, Bool, true, false, ◌||◌, if◌then◌else◌, Option, Some, None, Result, Ok, Err, refl, sym, ap, ap₂, ◌∙◌, subst}
+use Rattle.std.proofs.Common.{◌≡◌, ℕ, zero, suc, ◌+◌, List, [], ◌∷◌, map, Bool, true, false, ◌||◌, if◌then◌else◌, Option, Some, None, Result, Ok, Err, refl, sym, ap, ◌∙◌, subst}
 use Rattle.std.specs.Prelude.{is_some}
 use Rattle.std.specs.Option.{option_map, option_and_then}
 use Rattle.std.specs.Str.{bytes_eq}
 use Rattle.scaled_decimal.specs.Decimals.{Decimal}
-use Rattle.pap_tree.specs.declared.expression.Unary.TheVariants.{Minus, Not, Negate, Abs}
+use Rattle.pap_tree.specs.declared.expression.Unary.TheVariants.{Not}
 use Rattle.pap_tree.specs.declared.expression.Binary.{Binary}
 use Rattle.pap_tree.specs.declared.expression.Binary.TheVariants.{And, Or}
-use Rattle.pap_tree.specs.Term.{Leaf, whole, long, point, text, known, named, Term, leaf, item, one, two, choice, unary, value_of, value_of_scaled, new_big, set_scale, Two, operator, method, divide}
+use Rattle.pap_tree.specs.Term.{whole, long, point, text, known, named, Term, leaf, item, one, two, choice, unary, operator}
 use Rattle.pap_tree.specs.Numbering.{nodes}
 use Rattle.pap_tree.specs.Flowchart.{Body, done, eval, branch, execute, Routine}
 use Rattle.pap_tree.specs.Statements.{written}
@@ -22,7 +22,7 @@ use Rattle.pap_types.specs.Scopes.{Scope}
 use Rattle.pap_types.specs.Kinds.{int_literal}
 use Rattle.pap_types.specs.Routines.{body_named}
 use Rattle.pap_types.specs.Checks.{place, last_node}
-use Rattle.range_walk.specs.Ranges.{NamedRange, Ranges, range_named, put_range}
+use Rattle.range_walk.specs.Ranges.{Ranges, range_named, put_range}
 use Rattle.range_walk.specs.Failures.{NodeFault, WalkFault, node_fails, and_then, at_node, at_stmt}
 use Rattle.range_walk.specs.NodeRanges.{comparison_range}
 use Rattle.range_walk.specs.Branches.{Branches, Sides, sides, narrowed_name, narrowed, can_have, exchanged, others, branch_of, branches_of, compared, opposite, no_branch, reached, before, both_hold, one_holds, either_way}

@@ -1,45 +1,37 @@
 -- Where a node's row answers, its working numbers fit and its range holds the value.
-use Rattle.std.proofs.Common.{◌≡◌, ◌≢◌, ℕ, ◌+◌, ◌-◌, ◌≤◌, ℤ, pos, negsuc, ◌*ℤ◌, ◌≤ℤ◌, List, Bool, true, false, ◌&&◌, if◌then◌else◌, Option, Some, None, Ok, Err, refl, sym, ap, ◌∙◌, subst, arith}
-use Rattle.std.specs.Prelude.{IsTrue, ⊤, slice_get}
-use Rattle.std.specs.Option.{option_map, option_and_then, option_or}
-use Rattle.std.specs.Ordering.{int_eq}
+use Rattle.std.proofs.Common.{◌≡◌, ◌≢◌, ℕ, ◌-◌, ◌≤◌, ℤ, pos, ◌*ℤ◌, ◌≤ℤ◌, List, Bool, true, false, ◌&&◌, Some, Ok, refl, sym, ap, ◌∙◌, subst, arith}
 use Rattle.std.proofs.lemmas.Int.{ints}
-use Rattle.std.proofs.lemmas.Bool.Decides.{nat_tests, Decides-int_eq}
+use Rattle.std.proofs.lemmas.Bool.Decides.{Decides-int_eq}
 use Rattle.scaled_decimal.specs.declared.rounding.Mode.{Mode}
 use Rattle.scaled_decimal.specs.Decimals.{Decimal, decimal, numerator_of, scale_of, ten_to, sum, difference, product, negated, magnitude, comparison, lesser, greater}
 use Rattle.scaled_decimal.specs.Limits.{most_places}
 use Rattle.scaled_decimal.specs.ExactQuotients.{IsPlainDivisor}
 use Rattle.scaled_decimal.specs.RoundedDecimals.{quotient, quotient_is, rescaled, rescaled_is}
 use Rattle.scaled_decimal.specs.ShortenedDecimals.{exact_quotient}
-use Rattle.scaled_decimal.specs.WholeNumbers.{item_at, whole_decimal, whole_sum, whole_difference, whole_product, whole_quotient, whole_remainder, whole_opposite, IsOfBits}
+use Rattle.scaled_decimal.specs.WholeNumbers.{item_at, whole_decimal, whole_sum, whole_difference, whole_product, whole_quotient, whole_remainder, whole_opposite}
 use Rattle.scaled_decimal.proofs.Laws.{exact_quotient_is}
 use Rattle.pap_tree.specs.declared.expression.Unary.TheVariants.{Minus, Not, Negate, Abs}
 use Rattle.pap_tree.specs.declared.expression.Binary.{Binary}
 use Rattle.pap_tree.specs.declared.expression.Binary.TheVariants as binaries
 use Rattle.pap_tree.specs.declared.expression.Call.{Call}
 use Rattle.pap_tree.specs.declared.expression.Call.TheVariants as calls
-use Rattle.pap_tree.specs.Grammar.{known_value}
-use Rattle.pap_tree.specs.Term.{Leaf, whole, long, point, text, known, named, Term, leaf, item, one, two, choice, One, unary, value_of, value_of_scaled, new_big, set_scale, Two, operator, method, divide}
-use Rattle.interval_num.specs.declared.cause.RangeCause.TheVariants.{Wide, Divisor}
+use Rattle.pap_tree.specs.Term.{whole, long, point, text, known, named, Term, leaf, item, one, two, choice, One, unary, value_of, value_of_scaled, new_big, set_scale, Two, operator, method, divide}
 use Rattle.interval_num.specs.Intervals.{Interval, interval, Contains, IsWhole, IsWholeOfBits}
-use Rattle.interval_num.specs.Rows.{Answer, item_row, sum_row, difference_row, product_row, min_row, max_row, comparison_row, quotient_row, exact_quotient_row, rescaled_row, whole_row, whole_opposite_row, whole_quotient_row, whole_remainder_row, negated_row, magnitude_row}
-use Rattle.interval_num.specs.Soundness.{Covers, CoversQuotient, WholeIsSound, WholeQuotientIsSound, HasItem}
+use Rattle.interval_num.specs.Rows.{item_row, quotient_row, exact_quotient_row, whole_row, whole_quotient_row, whole_remainder_row, negated_row, magnitude_row}
 use Rattle.interval_num.proofs.Laws.{sum_sound, difference_sound, product_sound, min_sound, max_sound, comparison_sound, negation_sound, magnitude_sound, quotient_sound, exact_quotient_sound, rescaling_sound, item_sound, whole_sum_sound, whole_difference_sound, whole_product_sound, whole_opposite_sound, whole_quotient_sound, whole_remainder_sound}
 use Rattle.pap_types.specs.declared.kinds.NodeKind.{NodeKind}
-use Rattle.pap_types.specs.declared.kinds.NodeKind.TheVariants.{Int, Long, Big}
-use Rattle.pap_types.specs.Scopes.{Scope, constant_in, table_in}
-use Rattle.pap_types.specs.Kinds.{is_whole, kind_of, kind_of_one, kind_of_two, takes_one, takes_two, is_big, shown_divisor, shows_plain_divisor, wider}
-use Rattle.pap_types.specs.Operations.{is_zero, of_one, of_two, as_big, unless_zero, fewest_places}
-use Rattle.pap_types.specs.Values.{Env, look, leaf_value, value, goes_right}
+use Rattle.pap_types.specs.declared.kinds.NodeKind.TheVariants.{Big}
+use Rattle.pap_types.specs.Scopes.{Scope}
+use Rattle.pap_types.specs.Kinds.{is_whole, kind_of_one, kind_of_two, takes_one, takes_two, is_big, shown_divisor, shows_plain_divisor, wider}
+use Rattle.pap_types.specs.Operations.{is_zero, of_one, of_two, as_big, unless_zero}
+use Rattle.pap_types.specs.Values.{goes_right}
 use Rattle.pap_types.specs.Safety.{bits_of, OneFits, TwoFits}
 use Rattle.pap_types.specs.Counts.{OneKeepsScale, TwoKeepsScale}
-use Rattle.range_walk.specs.Ranges.{Ranges, single, range_named}
-use Rattle.range_walk.specs.NodeRanges.{leaf_interval, one_range, two_range, shown_range, item_range, big_range, comparison_range}
+use Rattle.range_walk.specs.Ranges.{single}
+use Rattle.range_walk.specs.NodeRanges.{one_range, two_range, shown_range, item_range, big_range}
 use Rattle.range_walk.specs.Shapes.{HasShape}
-use Rattle.range_walk.specs.Soundness.{AreWithin, AreVariables}
-use Rattle.range_walk.proofs.RowShapes.{both_true, ok_is, unless_ok, shape_bits, wider_left, wider_right, read_item_shape}
-use Rattle.range_walk.proofs.NodeShapes.{IsPointOf}
-use Rattle.range_walk.proofs.ScopeLemmas.{IsSoundScope, shown_value, shown_plain}
+use Rattle.range_walk.proofs.RowShapes.{both_true, ok_is, shape_bits, wider_left, wider_right, read_item_shape}
+use Rattle.range_walk.proofs.ScopeLemmas.{shown_plain}
 
 -- ---- contained values
 

@@ -1,29 +1,24 @@
 -- Where the walk of a plan passes, every list of admitted inputs is safe, and each output lies in its range.
-use Rattle.std.proofs.Common.{◌≡◌, ℕ, zero, suc, ◌+◌, ◌-◌, ◌^◌, ◌≤◌, ℤ, pos, ◌*ℤ◌, ◌≤ℤ◌, List, [], ◌∷◌, ◌++◌, map, length, take, drop, Bool, true, false, not, ◌&&◌, if◌then◌else◌, Option, Some, None, Result, Ok, Err, refl, sym, ap, ◌∙◌, subst, arith}
+use Rattle.std.proofs.Common.{◌≡◌, ℕ, zero, suc, ◌-◌, ◌^◌, ◌≤◌, ℤ, ◌≤ℤ◌, List, [], ◌∷◌, map, length, take, drop, Bool, true, false, not, ◌&&◌, if◌then◌else◌, Option, Some, None, Ok, Err, refl, subst, arith}
 use Rattle.std.specs.Prelude.{nat_le, unsigned_abs}
 use Rattle.std.specs.List.{find}
-use Rattle.std.specs.Option.{option_map, option_map_or}
+use Rattle.std.specs.Option.{option_map_or}
 use Rattle.std.proofs.lemmas.Int.{ints}
 use Rattle.std.proofs.lemmas.Bool.Decides.{nat_tests}
-use Rattle.scaled_decimal.specs.Decimals.{Decimal, scale_of, numerator_at, ten_to}
+use Rattle.scaled_decimal.specs.Decimals.{Decimal, numerator_at}
 use Rattle.scaled_decimal.proofs.Laws.{le_times}
-use Rattle.pap_tree.specs.Flowchart.{Flowchart}
-use Rattle.limits_file.specs.declared.limits.Limits.{Limits}
 use Rattle.interval_num.specs.Intervals.{Interval, Contains}
 use Rattle.interval_num.specs.Alignment.{at_scale}
 use Rattle.pap_types.specs.Scopes.{scope_of}
-use Rattle.pap_types.specs.Checks.{IsWellTyped}
-use Rattle.pap_types.specs.Counts.{IsWithinCounts}
 use Rattle.pap_types.specs.Routines.{main_name}
-use Rattle.pap_types.specs.Values.{Env, Entry}
-use Rattle.pap_types.specs.Meaning.{longest_chain, calls_in, start, outputs_in, IsSafeFor}
+use Rattle.pap_types.specs.Values.{Env}
+use Rattle.pap_types.specs.Meaning.{longest_chain, calls_in, start, outputs_in}
 use Rattle.pap_types.proofs.Laws.{has_types}
 use Rattle.range_walk.specs.Ranges.{NamedRange, Ranges}
-use Rattle.range_walk.specs.Failures.{WalkFault, output_fails, and_then}
+use Rattle.range_walk.specs.Failures.{output_fails}
 use Rattle.range_walk.specs.Walked.{walked}
-use Rattle.range_walk.specs.Admission.{HaveLimits, AreAdmitted}
-use Rattle.range_walk.specs.Analysis.{start_ranges, output_places, output_limit, is_small, is_bounded, output_ranges, unless_unbounded, range_calls_in, analysed}
-use Rattle.range_walk.specs.Soundness.{AreWithin, IsWithinBound, IsOutput, AreOutputs, RunHolds, AnalysisIsSound}
+use Rattle.range_walk.specs.Analysis.{start_ranges, output_places, output_limit, is_small, is_bounded, output_ranges, unless_unbounded, range_calls_in}
+use Rattle.range_walk.specs.Soundness.{AreWithin, IsWithinBound, AreOutputs, AnalysisIsSound}
 use Rattle.range_walk.proofs.RowShapes.{both_true, not_false}
 use Rattle.range_walk.proofs.NodeShapes.{stepped}
 use Rattle.range_walk.proofs.PlanLemmas.{sound_scope}
@@ -80,8 +75,8 @@ bounded a d f h =
     record {
       places = omega (arith, h.greatest_scale);
       small = small_between (at_scale output_places a).lo (numerator_at output_places d) (at_scale output_places a).hi q.0 q.1
-        (subst (λ z. (at_scale output_places a).lo ≤ℤ z) same low)
-        (subst (λ z. z ≤ℤ (at_scale output_places a).hi) same high);
+          (subst (λ z. (at_scale output_places a).lo ≤ℤ z) same low)
+          (subst (λ z. z ≤ℤ (at_scale output_places a).hi) same high);
     }
 
 -- ranges of which none fails

@@ -1,24 +1,21 @@
 -- What the names of a typed plan stand for, and the divisor that its text shows.
-use Rattle.std.proofs.Common.{◌≡◌, ℕ, ◌*◌, ◌/◌, ◌%◌, ◌^◌, ◌<◌, ◌≤◌, ℤ, pos, negsuc, ◌*ℤ◌, ◌≤ℤ◌, nat_lt, List, [], ◌∷◌, Bool, true, false, ◌&&◌, if◌then◌else◌, Option, Some, None, refl, sym, ap, ◌∙◌, subst, arith}
-use Rattle.std.specs.Prelude.{◌==◌, IsTrue, is_some, All}
-use Rattle.std.specs.Option.{option_map_or, option_map, option_and_then, option_or}
-use Rattle.std.specs.Str.{bytes_eq}
+use Rattle.std.proofs.Common.{◌≡◌, ℕ, ◌*◌, ◌/◌, ◌%◌, ◌^◌, ◌<◌, ℤ, pos, negsuc, nat_lt, List, Bool, true, false, ◌&&◌, Option, Some, None, refl, ap, ◌∙◌, subst, arith}
+use Rattle.std.specs.Prelude.{◌==◌}
+use Rattle.std.specs.Option.{option_map_or, option_and_then}
 use Rattle.std.proofs.lemmas.Int.{ints}
 use Rattle.std.proofs.lemmas.Bool.Decides.{nat_tests}
-use Rattle.std.proofs.lemmas.List.Elements.{All-head, All-tail}
 use Rattle.scaled_decimal.specs.Decimals.{Decimal, decimal, numerator_of}
 use Rattle.scaled_decimal.specs.Limits.{most_places}
 use Rattle.scaled_decimal.specs.ExactQuotients.{IsPlainDivisor}
 use Rattle.pap_tree.specs.declared.declaration.Kind.{Kind}
 use Rattle.pap_tree.specs.declared.declaration.Kind.TheVariants as declares
-use Rattle.pap_tree.specs.Grammar.{known_value}
-use Rattle.pap_tree.specs.Term.{Leaf, whole, long, point, text, known, named, Term, leaf, item, one, two, choice, One, unary, value_of, value_of_scaled, new_big, set_scale}
+use Rattle.pap_tree.specs.Term.{whole, long, point, text, known, named, Term, leaf, item, one, two, choice, unary, value_of, value_of_scaled, new_big, set_scale}
 use Rattle.pap_tree.specs.Declarations.{Declaration, DeclaredLiteral, number, big, table}
-use Rattle.pap_types.specs.Scopes.{Scope, declared_as, kept_as, declared_decimal, first_value, constant_in}
+use Rattle.pap_types.specs.Scopes.{Scope, declared_as, kept_as, declared_decimal, first_value}
 use Rattle.pap_types.specs.Kinds.{is_plain_number, is_plain_divisor, literal_big, written_decimal, int_literal, shown_divisor, shows_plain_divisor}
 use Rattle.pap_types.specs.Checks.{is_of_type}
 use Rattle.pap_types.specs.Typing.{HasItsType}
-use Rattle.pap_types.specs.Values.{Env, look, value, named_value}
+use Rattle.pap_types.specs.Values.{Env, value, named_value}
 use Rattle.range_walk.specs.Soundness.{AreVariables}
 
 -- what the soundness of an expression takes of the names of a plan

@@ -1,30 +1,28 @@
 -- The start: admitted inputs lie in the ranges of their limits, and other variables are what they begin with.
-use Rattle.std.proofs.Common.{◌≡◌, ℕ, ◌+◌, ◌-◌, ◌^◌, ◌≤◌, max, ℤ, pos, ◌*ℤ◌, ◌≤ℤ◌, ◌<ℤ◌, List, [], ◌∷◌, ◌++◌, map, Bool, true, false, if◌then◌else◌, Option, Some, None, Ordering, Less, Equal, Greater, refl, sym, ap, ap₂, ◌∙◌, subst, arith}
-use Rattle.std.specs.Prelude.{All, IsFalse, IsTrue}
+use Rattle.std.proofs.Common.{◌≡◌, ℕ, ◌-◌, ◌^◌, ◌≤◌, ℤ, ◌*ℤ◌, ◌≤ℤ◌, ◌<ℤ◌, List, [], ◌∷◌, ◌++◌, map, Bool, true, false, if◌then◌else◌, Option, Some, None, Ordering, Less, Equal, Greater, refl, sym, subst, arith}
+use Rattle.std.specs.Prelude.{All}
 use Rattle.std.specs.Option.{option_map_or}
 use Rattle.std.specs.Ordering.{int_cmp, is_gt, ordering_reverse, MatchOrdering}
 use Rattle.std.specs.Cmp.{int_ranks, int_cmp_total}
 use Rattle.std.specs.Str.{bytes_eq}
 use Rattle.std.proofs.lemmas.Int.{ints}
-use Rattle.std.proofs.lemmas.Bool.Decides.{nat_tests}
 use Rattle.std.proofs.lemmas.List.Elements.{All-head, All-tail}
 use Rattle.std.proofs.lemmas.Slice.Eq.{bytes_eq-Decides}
-use Rattle.scaled_decimal.specs.Decimals.{Decimal, decimal, numerator_of, scale_of, numerator_at, ten_to, value_order, greater_scale}
-use Rattle.scaled_decimal.specs.Limits.{IsKept}
+use Rattle.scaled_decimal.specs.Decimals.{Decimal, numerator_of, scale_of, numerator_at, ten_to, value_order, greater_scale}
 use Rattle.scaled_decimal.proofs.Laws.{aligned_order, le_times}
 use Rattle.pap_tree.specs.declared.declaration.Kind.{Kind}
 use Rattle.pap_tree.specs.declared.declaration.Kind.TheVariants as declares
 use Rattle.pap_tree.specs.Declarations.{Declaration}
 use Rattle.pap_tree.specs.Flowchart.{Flowchart}
-use Rattle.interval_num.specs.Intervals.{Interval, interval, Contains}
+use Rattle.interval_num.specs.Intervals.{interval, Contains}
 use Rattle.limits_file.specs.declared.limits.InputLimit.{InputLimit}
 use Rattle.limits_file.specs.declared.limits.Limits.{Limits}
-use Rattle.limits_file.specs.Limits.{IsAtMost, Fits, HasSoundBounds}
-use Rattle.pap_types.specs.Scopes.{Scope, declared_as, variables_of, scope_of, first_value, factor_places}
-use Rattle.pap_types.specs.Values.{Env, Entry, look}
+use Rattle.limits_file.specs.Limits.{Fits, HasSoundBounds}
+use Rattle.pap_types.specs.Scopes.{declared_as, scope_of, first_value, factor_places}
+use Rattle.pap_types.specs.Values.{look}
 use Rattle.pap_types.specs.Meaning.{first_entry, given, start, SuitsKind, AreInputs}
-use Rattle.range_walk.specs.Ranges.{NamedRange, Ranges, single}
-use Rattle.range_walk.specs.Admission.{limit_named, IsWholeLimit, IsFactorLimit, SuitsLimit, HasLimit, HaveLimits, FitsAsFactor, FitsAs, IsAdmitted, IsAdmittedFor, AllAdmitted, AreAdmitted}
+use Rattle.range_walk.specs.Ranges.{single}
+use Rattle.range_walk.specs.Admission.{IsFactorLimit, SuitsLimit, HasLimit, HaveLimits, FitsAsFactor, FitsAs, IsAdmitted, IsAdmittedFor, AllAdmitted, AreAdmitted}
 use Rattle.range_walk.specs.Analysis.{limit_range, input_range, first_range, start_ranges}
 use Rattle.range_walk.specs.Soundness.{AreWithin, AreVariables}
 use Rattle.range_walk.proofs.NodeSound.{single_inside}

@@ -1,23 +1,22 @@
 -- Where the walk of an expression passes, it is safe and its value lies in its range; and the same of a test.
-use Rattle.std.proofs.Common.{◌≡◌, ℕ, ◌+◌, List, Bool, true, false, ◌&&◌, Option, Some, None, Result, Ok, Err, refl, sym, ap, ◌∙◌, subst}
+use Rattle.std.proofs.Common.{◌≡◌, ℕ, ◌+◌, List, Bool, true, false, Option, Some, None, Result, Ok, Err, refl, subst}
 use Rattle.std.specs.Bool.{OnTrue}
 use Rattle.std.specs.Option.{option_map, option_or}
-use Rattle.scaled_decimal.specs.Decimals.{Decimal, decimal, numerator_of, comparison}
+use Rattle.scaled_decimal.specs.Decimals.{Decimal, decimal, comparison}
 use Rattle.scaled_decimal.specs.WholeNumbers.{whole_decimal}
-use Rattle.pap_tree.specs.declared.expression.Unary.TheVariants.{Minus, Not, Negate, Abs}
-use Rattle.pap_tree.specs.declared.expression.Binary.{Binary}
+use Rattle.pap_tree.specs.declared.expression.Unary.TheVariants.{Not}
 use Rattle.pap_tree.specs.declared.expression.Binary.TheVariants.{And, Or}
-use Rattle.pap_tree.specs.declared.expression.Call.TheVariants.{Add, Subtract, Multiply, DivideExact, CompareTo, Min, Max}
+use Rattle.pap_tree.specs.declared.expression.Call.TheVariants.{CompareTo}
 use Rattle.pap_tree.specs.Grammar.{known_value}
-use Rattle.pap_tree.specs.Term.{Leaf, whole, long, point, text, known, named, Term, leaf, item, one, two, choice, One, unary, value_of, value_of_scaled, new_big, set_scale, Two, operator, method, divide}
+use Rattle.pap_tree.specs.Term.{Leaf, whole, long, point, text, known, named, Term, leaf, item, one, two, choice, One, unary, Two, operator, method}
 use Rattle.pap_tree.specs.Numbering.{nodes}
 use Rattle.interval_num.specs.Intervals.{Interval, Contains, IsWhole}
 use Rattle.interval_num.specs.Rows.{join_row}
 use Rattle.pap_types.specs.declared.kinds.NodeKind.{NodeKind}
 use Rattle.pap_types.specs.Scopes.{Scope, constant_in, table_in}
-use Rattle.pap_types.specs.Kinds.{is_whole, is_int, kind_of, kind_of_one, kind_of_two, int_literal, shown_divisor}
+use Rattle.pap_types.specs.Kinds.{is_whole, is_int, kind_of, kind_of_one, int_literal, shown_divisor}
 use Rattle.pap_types.specs.declared.kinds.NodeKind.TheVariants.{Int, Long, Big, Truth, Fraction, Factor, Table}
-use Rattle.pap_types.specs.Values.{Env, look, leaf_value, value}
+use Rattle.pap_types.specs.Values.{Env, look, leaf_value}
 use Rattle.pap_types.specs.Operations.{of_one}
 use Rattle.pap_types.specs.Safety.{OneFits}
 use Rattle.pap_types.specs.Typing.{IsTypedTerm}
@@ -75,7 +74,7 @@ on_whole false a h = tt
 
 module _ (scope : Scope) (rs : Ranges) where
   -- the variable that a term is has the term's range
-  found_range : (t : Bool) (e : Term) (at : ℕ) (a : Interval) → ranged scope e at rs ≡ Ok a → OnTrue t (IsWhole a) → FoundWhole t e rs
+  pub found_range : (t : Bool) (e : Term) (at : ℕ) (a : Interval) → ranged scope e at rs ≡ Ok a → OnTrue t (IsWhole a) → FoundWhole t e rs
   found_range t (leaf (named x)) at a e w = λ v f. (
       let l = (leaf_shape scope (named x) rs a (passed_node at (leaf_range scope (named x) rs) a e)).0 in
       let found : Some v ≡ Some a = subst (λ o. option_or o (option_map single (constant_in scope x)) ≡ Some a) f l in

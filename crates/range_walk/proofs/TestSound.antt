@@ -1,8 +1,6 @@
 -- Tests and conditionals: each of their parts is safe, and the branch that the value takes can be reached.
-use Rattle.std.proofs.Common.{◌≡◌, ℕ, ◌+◌, ℤ, pos, ◌*ℤ◌, List, Bool, true, false, not, ◌&&◌, ◌||◌, if◌then◌else◌, Option, Some, None, Result, Ok, Err, Ordering, refl, sym, ap, ap₂, ◌∙◌, subst, inl, inr, arith}
-use Rattle.std.specs.Prelude.{IsTrue, ⊤, is_some}
-use Rattle.std.specs.Bool.{OnTrue}
-use Rattle.std.specs.Option.{option_and_then}
+use Rattle.std.proofs.Common.{◌≡◌, ℕ, ℤ, pos, ◌*ℤ◌, Bool, true, false, ◌||◌, if◌then◌else◌, Option, Some, None, Result, Ok, refl, sym, ap, ap₂, ◌∙◌, subst, arith}
+use Rattle.std.specs.Prelude.{is_some}
 use Rattle.std.specs.Ordering.{int_cmp}
 use Rattle.std.proofs.lemmas.Int.{ints}
 use Rattle.scaled_decimal.specs.Decimals.{Decimal, decimal, numerator_of, ten_to, value_order, order_number, comparison}
@@ -12,8 +10,7 @@ use Rattle.pap_tree.specs.declared.expression.Unary.TheVariants.{Not}
 use Rattle.pap_tree.specs.declared.expression.Binary.{Binary}
 use Rattle.pap_tree.specs.declared.expression.Binary.TheVariants as binaries
 use Rattle.pap_tree.specs.declared.expression.Binary.TheVariants.{And, Or}
-use Rattle.pap_tree.specs.Term.{Leaf, whole, long, point, text, known, named, Term, leaf, item, one, two, choice, unary, Two, operator}
-use Rattle.pap_tree.specs.Numbering.{nodes}
+use Rattle.pap_tree.specs.Term.{whole, long, point, text, known, named, Term, leaf, item, one, two, choice, unary, Two, operator}
 use Rattle.interval_num.specs.Intervals.{Interval, Contains}
 use Rattle.interval_num.specs.Rows.{comparison_row, join_row}
 use Rattle.interval_num.proofs.Laws.{comparison_sound, join_sound}
@@ -24,14 +21,14 @@ use Rattle.pap_types.specs.Operations.{holds_of, is_zero, of_operator, of_two}
 use Rattle.pap_types.specs.Values.{Env, value, goes_right}
 use Rattle.pap_types.specs.Safety.{IsSafe, OperatorFits, TwoFits}
 use Rattle.range_walk.specs.Ranges.{Ranges}
-use Rattle.range_walk.specs.Failures.{NodeFault, and_then, at_node, nowhere}
+use Rattle.range_walk.specs.Failures.{NodeFault, and_then, at_node}
 use Rattle.range_walk.specs.NodeRanges.{comparison_range}
 use Rattle.range_walk.specs.Branches.{Branches, Sides, sides, signs_where, compared, opposite, reached, before, both_hold, one_holds, either_way}
-use Rattle.range_walk.specs.Ranged.{ranged, tested, are_whole}
+use Rattle.range_walk.specs.Ranged.{are_whole}
 use Rattle.range_walk.specs.Soundness.{AreWithin, Reaches, TermHolds, TestHolds}
 use Rattle.range_walk.proofs.NodeShapes.{stepped, passed_node}
 use Rattle.range_walk.proofs.ScopeLemmas.{int_literal_is}
-use Rattle.range_walk.proofs.BranchSound.{sign_holds, sign_fails, order_of_number, FoundWhole, SidesHold, SidesWhole, BranchesHold, branches_hold}
+use Rattle.range_walk.proofs.BranchSound.{sign_holds, sign_fails, order_of_number, FoundWhole, SidesHold, SidesWhole, branches_hold}
 
 -- ---- two operands
 

@@ -1,8 +1,8 @@
 -- Where the walk of a plan's statements passes, their run is safe and defined, and ends in the ranges.
-use Rattle.std.proofs.Common.{◌≡◌, ℕ, zero, suc, ◌+◌, ◌-◌, ◌^◌, ◌≤◌, ℤ, pos, ◌*ℤ◌, ◌≤ℤ◌, List, [], ◌∷◌, Bool, true, false, ◌&&◌, if◌then◌else◌, Option, Some, None, Result, Ok, Err, refl, sym, ap, ◌∙◌, subst, arith}
-use Rattle.std.specs.Prelude.{IsTrue, All, nat_le, unsigned_abs}
+use Rattle.std.proofs.Common.{◌≡◌, ℕ, zero, suc, ◌+◌, ◌-◌, ◌^◌, ◌≤◌, ◌*ℤ◌, ◌≤ℤ◌, List, [], ◌∷◌, Bool, true, false, if◌then◌else◌, Option, Some, None, Result, Ok, refl, sym, ap, ◌∙◌, subst, arith}
+use Rattle.std.specs.Prelude.{All, nat_le, unsigned_abs}
 use Rattle.scaled_decimal.specs.Limits.{limit}
-use Rattle.std.specs.Option.{option_map_or, option_and_then}
+use Rattle.std.specs.Option.{option_map_or}
 use Rattle.std.proofs.lemmas.Int.{ints}
 use Rattle.std.proofs.lemmas.Bool.Decides.{nat_tests}
 use Rattle.std.proofs.lemmas.List.Elements.{All-head, All-tail}
@@ -11,9 +11,7 @@ use Rattle.scaled_decimal.specs.Decimals.{Decimal, decimal, numerator_of, scale_
 use Rattle.scaled_decimal.proofs.Laws.{ten_add, times_assoc, le_times}
 use Rattle.pap_tree.specs.declared.declaration.Kind.{Kind}
 use Rattle.pap_tree.specs.declared.declaration.Kind.TheVariants as declares
-use Rattle.pap_tree.specs.Term.{Leaf, whole, long, point, text, known, named, Term, leaf, item, one, two, choice}
-use Rattle.pap_tree.specs.Numbering.{nodes}
-use Rattle.pap_tree.specs.Declarations.{Declaration}
+use Rattle.pap_tree.specs.Term.{whole, long, point, text, known, named, Term, leaf, item, one, two, choice}
 use Rattle.pap_tree.specs.Flowchart.{Body, done, eval, branch, execute, Routine}
 use Rattle.pap_tree.specs.Statements.{written}
 use Rattle.interval_num.specs.declared.cause.RangeCause.TheVariants.{Wide}
@@ -21,8 +19,8 @@ use Rattle.interval_num.specs.Intervals.{Interval, Contains}
 use Rattle.interval_num.specs.Rows.{join_row}
 use Rattle.interval_num.proofs.Laws.{join_sound}
 use Rattle.pap_types.specs.declared.kinds.NodeKind.{NodeKind}
-use Rattle.pap_types.specs.Scopes.{Scope, declared_as, factor_places, at_factor_scale, kept_as}
-use Rattle.pap_types.specs.Kinds.{kind_of, suits, has_few_places, is_factor_literal}
+use Rattle.pap_types.specs.Scopes.{Scope, factor_places, at_factor_scale, kept_as}
+use Rattle.pap_types.specs.Kinds.{kind_of, suits, is_factor_literal}
 use Rattle.pap_types.specs.Routines.{body_named}
 use Rattle.pap_types.specs.Checks.{place, last_node}
 use Rattle.pap_types.specs.Typing.{IsTypedBody, TargetSuits}
@@ -30,14 +28,14 @@ use Rattle.pap_types.specs.Counts.{AreSmallTerms}
 use Rattle.pap_types.specs.Operations.{is_zero}
 use Rattle.pap_types.specs.Values.{Env, value}
 use Rattle.pap_types.specs.Safety.{IsSafe}
-use Rattle.pap_types.specs.Runs.{Calls, no_calls, assigned, after, IsSafeBody, calls_of}
-use Rattle.range_walk.specs.Ranges.{NamedRange, Ranges, single, put_range}
-use Rattle.range_walk.specs.Failures.{NodeFault, WalkFault, node_fails, and_then, at_stmt}
+use Rattle.pap_types.specs.Runs.{Calls, assigned, after, IsSafeBody, calls_of}
+use Rattle.range_walk.specs.Ranges.{NamedRange, Ranges, single}
+use Rattle.range_walk.specs.Failures.{WalkFault, node_fails, and_then, at_stmt}
 use Rattle.range_walk.specs.NodeRanges.{leaf_range}
 use Rattle.range_walk.specs.Branches.{Branches, either_way}
 use Rattle.range_walk.specs.Ranged.{ranged, tested}
 use Rattle.range_walk.specs.Walked.{range_kept_as, assigned_range, joined, RangeCalls, walked, with_body, range_calls_of}
-use Rattle.range_walk.specs.Soundness.{AreWithin, AreVariables, Reaches, TermHolds, TestHolds}
+use Rattle.range_walk.specs.Soundness.{AreWithin, AreVariables, TestHolds}
 use Rattle.range_walk.proofs.RowShapes.{both_true}
 use Rattle.range_walk.proofs.NodeShapes.{stepped, passed_node, leaf_shape}
 use Rattle.range_walk.proofs.ScopeLemmas.{IsSoundScope}
@@ -201,7 +199,8 @@ module _ (scope : Scope) (ok : IsSoundScope scope) (methods : List Routine) wher
           λ e r. (
               let here : (if z then after scope calls b env else after scope calls a env) ≡ Some e = subst (λ k. (if k then after scope calls b env else after scope calls a env) ≡ Some e) q r in
               let same : ends ≡ e = cc in
-              subst (IsSafeBody scope calls rest) same sr))
+              subst (IsSafeBody scope calls rest) same sr),
+        )
 
     -- the branch that a run takes, and what follows
     module _ (t : Term) (a b rest : Body) (rs z : Ranges) (env : Env) (only : AreVariables scope env) (at node : ℕ) (none : WalkFault) (first second : Ranges → Result Ranges WalkFault) (br : Branches) (mid : Ranges) (h : TestHolds scope t env br)
