@@ -14,3 +14,4 @@ pub mod ScopeViews
 pub mod CheckViews
 pub mod DeclarationViews
 pub mod TypedViews
+pub mod MeaningLaws

@@ -11,5 +11,5 @@ mod typed;
 
 pub use fault::TypeFault;
 pub use kinds::NodeKind;
-pub use meaning::typed_parts;
+pub use meaning::{bounded, one_outputs, typed_parts};
 pub use typed::Typed;
