@@ -74,7 +74,7 @@ common_sign a s Greater h k = rw (h, k) (either_last (a.minus && s.minus) (a.zer
 
 -- ---- whole numbers stay whole
 
-unless_same : (v r : Interval) → unless_empty v ≡ Some r → v ≡ r
+pub unless_same : (v r : Interval) → unless_empty v ≡ Some r → v ≡ r
 unless_same v r e = by_order (int_le v.lo v.hi) e
   where
     by_order : (t : Bool) → (if t then Some v else None) ≡ Some r → v ≡ r

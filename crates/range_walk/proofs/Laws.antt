@@ -13,7 +13,7 @@ pub use Rattle.range_walk.proofs.BranchSound.{KeepsScales, refined_scales, Found
 -- the divisor that the text of divide(d) shows is a plain one
 pub use Rattle.range_walk.proofs.ScopeLemmas.{shown_plain}
 -- the walk keeps the names of the variables
-pub use Rattle.range_walk.proofs.NameLemmas.{names_in, BranchesNamed, put_names, tested_named, joined_named, walked_named, calls_named}
+pub use Rattle.range_walk.proofs.NameLemmas.{BranchesNamed, put_names, tested_named, joined_named, walked_named, calls_named}
 -- ---- values
 -- where the walk passes, every admitted input is safe
 pub use Rattle.range_walk.proofs.PlanSound.{analysis_sound}

@@ -13,4 +13,5 @@ pub mod BranchSound
 pub mod EnvLemmas
 pub mod NodeSound
 pub mod ScopeLemmas
+pub mod ShapedWalk
 pub mod Laws

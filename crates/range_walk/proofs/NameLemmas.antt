@@ -22,16 +22,13 @@ use Rattle.pap_types.specs.Scopes.{Scope}
 use Rattle.pap_types.specs.Kinds.{int_literal}
 use Rattle.pap_types.specs.Routines.{body_named}
 use Rattle.pap_types.specs.Checks.{place, last_node}
-use Rattle.range_walk.specs.Ranges.{Ranges, range_named, put_range}
+use Rattle.range_walk.specs.Ranges.{Ranges, names_in, range_named, put_range}
 use Rattle.range_walk.specs.Failures.{NodeFault, WalkFault, node_fails, and_then, at_node, at_stmt}
 use Rattle.range_walk.specs.NodeRanges.{comparison_range}
 use Rattle.range_walk.specs.Branches.{Branches, Sides, sides, narrowed_name, narrowed, can_have, exchanged, others, branch_of, branches_of, compared, opposite, no_branch, reached, before, both_hold, one_holds, either_way}
 use Rattle.range_walk.specs.Ranged.{ranged, compare_sides, tested, are_whole}
 use Rattle.range_walk.specs.Walked.{assigned_range, joined, RangeCalls, walked, with_body, range_calls_of}
 use Rattle.range_walk.proofs.NodeShapes.{stepped}
-
-abbrev pub names_in : Ranges → List (List ℕ)
-names_in rs = map (λ v. v.name) rs
 
 -- ---- refinement
 

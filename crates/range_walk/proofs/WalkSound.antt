@@ -29,7 +29,7 @@ use Rattle.pap_types.specs.Operations.{is_zero}
 use Rattle.pap_types.specs.Values.{Env, value}
 use Rattle.pap_types.specs.Safety.{IsSafe}
 use Rattle.pap_types.specs.Runs.{Calls, assigned, after, IsSafeBody, calls_of}
-use Rattle.range_walk.specs.Ranges.{NamedRange, Ranges, single}
+use Rattle.range_walk.specs.Ranges.{NamedRange, Ranges, names_in, single}
 use Rattle.range_walk.specs.Failures.{WalkFault, node_fails, and_then, at_stmt}
 use Rattle.range_walk.specs.NodeRanges.{leaf_range}
 use Rattle.range_walk.specs.Branches.{Branches, either_way}
@@ -41,7 +41,7 @@ use Rattle.range_walk.proofs.NodeShapes.{stepped, passed_node, leaf_shape}
 use Rattle.range_walk.proofs.ScopeLemmas.{IsSoundScope}
 use Rattle.range_walk.proofs.EnvLemmas.{within_put, variables_put}
 use Rattle.range_walk.proofs.TermSound.{term_sound, test_sound}
-use Rattle.range_walk.proofs.NameLemmas.{names_in, StayNamed, tested_named, passed_stmt, meet, met, CallsStayNamed, walked_named, calls_named}
+use Rattle.range_walk.proofs.NameLemmas.{StayNamed, tested_named, passed_stmt, meet, met, CallsStayNamed, walked_named, calls_named}
 
 -- ---- assignments
 
