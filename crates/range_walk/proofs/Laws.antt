@@ -14,6 +14,9 @@ pub use Rattle.range_walk.proofs.BranchSound.{KeepsScales, refined_scales, Found
 pub use Rattle.range_walk.proofs.ScopeLemmas.{shown_plain}
 -- the walk keeps the names of the variables
 pub use Rattle.range_walk.proofs.NameLemmas.{BranchesNamed, put_names, tested_named, joined_named, walked_named, calls_named}
+-- what has the shape of its kind is read as it is, and the walk keeps the shapes of the variables' ranges
+pub use Rattle.range_walk.proofs.ReadSound.{read_passes, reading_free}
+pub use Rattle.range_walk.proofs.ShapedWalk.{refined_inside, tested_shaped, walked_shaped}
 -- ---- values
 -- where the walk passes, every admitted input is safe
 pub use Rattle.range_walk.proofs.PlanSound.{analysis_sound}

@@ -14,4 +14,5 @@ pub mod EnvLemmas
 pub mod NodeSound
 pub mod ScopeLemmas
 pub mod ShapedWalk
+pub mod ReadSound
 pub mod Laws

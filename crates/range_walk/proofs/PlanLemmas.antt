@@ -13,10 +13,10 @@ use Rattle.range_walk.proofs.ScopeLemmas.{IsSoundScope}
 
 -- ---- distinct names
 
-pairs_tail : {A : Type 0} (R : A → A → Type 0) (x : A) (xs : List A) → AllPairs R (x ∷ xs) → AllPairs R xs
+pub pairs_tail : {A : Type 0} (R : A → A → Type 0) (x : A) (xs : List A) → AllPairs R (x ∷ xs) → AllPairs R xs
 pairs_tail R x xs h i j d l m = h (suc i) (suc j) d (omega arith) (omega arith)
 
-pairs_head : {A : Type 0} (R : A → A → Type 0) (x : A) (xs : List A) → AllPairs R (x ∷ xs) → (j : ℕ) (d : A) → j < length xs → R x (slice_index_or xs j d)
+pub pairs_head : {A : Type 0} (R : A → A → Type 0) (x : A) (xs : List A) → AllPairs R (x ∷ xs) → (j : ℕ) (d : A) → j < length xs → R x (slice_index_or xs j d)
 pairs_head R x xs h j d l = h 0 (suc j) d (omega arith) (omega arith)
 
 pub other_name : (a b : List ℕ) → a ≢ b → bytes_eq a b ≡ false
@@ -43,7 +43,7 @@ not_after (v ∷ vs) cs x e = by_test (bytes_eq x v.name) e (not_after vs cs x)
     by_test true f later = absurd (cc)
     by_test false f later = later f
 
-apart : (vs cs : List Declaration) → AreDistinct (names_of (vs ++ cs)) → (x : List ℕ) (d : Declaration) → declared_as cs x ≡ Some d → declared_as vs x ≡ None
+pub apart : (vs cs : List Declaration) → AreDistinct (names_of (vs ++ cs)) → (x : List ℕ) (d : Declaration) → declared_as cs x ≡ Some d → declared_as vs x ≡ None
 apart [] cs h x d e = refl
 apart (v ∷ vs) cs h x d e = by_test (bytes_eq x v.name) refl (apart vs cs (pairs_tail (λ a b. a ≢ b) v.name (names_of (vs ++ cs)) h) x d e)
   where
@@ -57,11 +57,11 @@ apart (v ∷ vs) cs h x d e = by_test (bytes_eq x v.name) refl (apart vs cs (pai
 
 -- ---- literals
 
-all_after : (P : Declaration → Type 0) (vs cs : List Declaration) → All P (vs ++ cs) → All P cs
+pub all_after : (P : Declaration → Type 0) (vs cs : List Declaration) → All P (vs ++ cs) → All P cs
 all_after P [] cs h = h
 all_after P (v ∷ vs) cs h = all_after P vs cs (All-tail P v (vs ++ cs) h)
 
-all_declared : (P : Declaration → Type 0) (ds : List Declaration) → All P ds → (x : List ℕ) (d : Declaration) → declared_as ds x ≡ Some d → P d
+pub all_declared : (P : Declaration → Type 0) (ds : List Declaration) → All P ds → (x : List ℕ) (d : Declaration) → declared_as ds x ≡ Some d → P d
 all_declared P [] h x d e = absurd (cc)
 all_declared P (c ∷ ds) h x d e = by_test (bytes_eq x c.name) e (all_declared P ds (All-tail P c ds h) x d)
   where
@@ -71,7 +71,7 @@ all_declared P (c ∷ ds) h x d e = by_test (bytes_eq x c.name) e (all_declared 
 
 -- ---- the scope
 
-variables_first : (f : Flowchart) → declarations_of f ≡ variables_of f ++ f.constants
+pub variables_first : (f : Flowchart) → declarations_of f ≡ variables_of f ++ f.constants
 variables_first f =
     ap (λ ds. f.inputs ++ ds) (sym (append_assoc f.outputs f.internals f.constants))
     ∙ sym (append_assoc f.inputs (f.outputs ++ f.internals) f.constants)

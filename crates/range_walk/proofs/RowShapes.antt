@@ -90,7 +90,7 @@ shape_bits Fraction a e h = absurd (cc)
 shape_bits Factor a e h = absurd (cc)
 shape_bits Table a e h = absurd (cc)
 
-longer_bits : (n : ℤ) → IsOfBits int_bits n → IsOfBits long_bits n
+pub longer_bits : (n : ℤ) → IsOfBits int_bits n → IsOfBits long_bits n
 longer_bits n h = let l = h.low in let u = h.high in record { low = omega (arith, ints); high = omega (arith, ints) }
 
 pub longer_whole : (a : Interval) → IsWholeOfBits int_bits a → IsWholeOfBits long_bits a

@@ -1,12 +1,12 @@
 -- The walk keeps the shapes of the variables' ranges.
-use Rattle.std.proofs.Common.{◌≡◌, ℕ, zero, suc, ◌+◌, ◌-◌, ◌^◌, ◌≤◌, ℤ, pos, ◌+ℤ◌, ◌-ℤ◌, ◌≤ℤ◌, neg_ℤ, int_le, List, [], ◌∷◌, Bool, true, false, ◌||◌, if◌then◌else◌, Option, Some, None, Result, Ok, Err, refl, sym, ap, ◌∙◌, subst, arith}
-use Rattle.std.specs.Prelude.{All, IsTrue, is_some, IfSome}
+use Rattle.std.proofs.Common.{◌≡◌, ℕ, ◌+◌, ◌≤◌, ℤ, pos, ◌+ℤ◌, ◌-ℤ◌, ◌≤ℤ◌, int_le, List, [], ◌∷◌, Bool, true, false, ◌||◌, if◌then◌else◌, Option, Some, None, Result, Ok, refl, sym, ◌∙◌, subst, arith}
+use Rattle.std.specs.Prelude.{All, is_some}
 use Rattle.std.specs.Int.{int_min, int_max}
 use Rattle.std.specs.Ordering.{int_eq}
 use Rattle.std.specs.Option.{option_map, option_and_then, option_map_or}
 use Rattle.std.specs.Str.{bytes_eq}
 use Rattle.std.proofs.lemmas.Int.{ints, clamps}
-use Rattle.std.proofs.lemmas.List.Elements.{All-cons, All-nil, All-head, All-tail}
+use Rattle.std.proofs.lemmas.List.Elements.{All-cons, All-head, All-tail}
 use Rattle.std.proofs.lemmas.Slice.Eq.{bytes_eq-Decides}
 use Rattle.scaled_decimal.specs.Decimals.{Decimal}
 use Rattle.scaled_decimal.specs.Limits.{most_places}
@@ -16,21 +16,20 @@ use Rattle.pap_tree.specs.declared.declaration.Kind.TheVariants as declares
 use Rattle.pap_tree.specs.declared.expression.Unary.TheVariants.{Not}
 use Rattle.pap_tree.specs.declared.expression.Binary.{Binary}
 use Rattle.pap_tree.specs.declared.expression.Binary.TheVariants.{And, Or}
-use Rattle.pap_tree.specs.Term.{Leaf, whole, long, point, text, known, named, Term, leaf, item, one, two, choice, unary, operator}
+use Rattle.pap_tree.specs.Term.{whole, long, point, text, known, named, Term, leaf, item, one, two, choice, unary, operator}
 use Rattle.pap_tree.specs.Numbering.{nodes}
 use Rattle.pap_tree.specs.Flowchart.{Body, done, eval, branch, execute, Routine}
 use Rattle.pap_tree.specs.Statements.{written}
 use Rattle.interval_num.specs.declared.cause.RangeCause.TheVariants.{Wide}
 use Rattle.interval_num.specs.declared.sign_set.SignSet.{SignSet}
-use Rattle.interval_num.specs.Intervals.{Interval, interval, IsWhole, IsWholeOfBits}
+use Rattle.interval_num.specs.Intervals.{Interval, interval, IsWholeOfBits}
 use Rattle.interval_num.specs.Rows.{join_row}
 use Rattle.interval_num.specs.Signs.{signs_of}
-use Rattle.interval_num.specs.Refinement.{refined, is_apart, without, unless_empty, low_end, high_end, past, short_of}
+use Rattle.interval_num.specs.Refinement.{refined, is_apart, without, unless_empty, low_end, high_end}
 use Rattle.pap_types.specs.declared.kinds.NodeKind.{NodeKind}
 use Rattle.pap_types.specs.declared.kinds.NodeKind.TheVariants.{Int, Long, Big, Truth, Fraction, Factor, Table}
 use Rattle.pap_types.specs.Scopes.{Scope, declared_as}
-use Rattle.pap_types.specs.Kinds.{declared_kind, name_kind, kind_of, int_literal, is_int, is_whole, is_big, suits}
-use Rattle.pap_types.specs.Routines.{body_named}
+use Rattle.pap_types.specs.Kinds.{declared_kind, name_kind, kind_of, int_literal, suits}
 use Rattle.pap_types.specs.Checks.{place, last_node}
 use Rattle.pap_types.specs.Typing.{IsTypedBody, TargetSuits}
 use Rattle.pap_types.specs.Counts.{AreSmallTerms}
@@ -39,22 +38,22 @@ use Rattle.range_walk.specs.Failures.{NodeFault, WalkFault, node_fails, and_then
 use Rattle.range_walk.specs.NodeRanges.{comparison_range}
 use Rattle.range_walk.specs.Branches.{Branches, Sides, sides, narrowed_name, narrowed, can_have, exchanged, others, branch_of, branches_of, compared, opposite, no_branch, reached, before, both_hold, one_holds, either_way}
 use Rattle.range_walk.specs.Ranged.{ranged, compare_sides, tested, are_whole}
-use Rattle.range_walk.specs.Walked.{range_kept_as, assigned_range, joined, RangeCalls, walked, with_body, range_calls_of}
+use Rattle.range_walk.specs.Walked.{range_kept_as, assigned_range, joined, RangeCalls, walked}
 use Rattle.range_walk.specs.Shapes.{HasShape}
 use Rattle.range_walk.proofs.RowShapes.{bits_shape, longer_whole, join_bits, join_places}
 use Rattle.range_walk.proofs.NodeShapes.{stepped, ranged_shape}
-use Rattle.range_walk.proofs.BranchSound.{unless_same, refined_scales}
-use Rattle.range_walk.proofs.NameLemmas.{StayNamed, tested_named, passed_stmt, meet, met, CallsStayNamed, walked_named, calls_named}
+use Rattle.range_walk.proofs.BranchSound.{unless_same}
+use Rattle.range_walk.proofs.NameLemmas.{StayNamed, tested_named, passed_stmt, meet, met, CallsStayNamed, walked_named}
 
 -- ---- refinement
 
 -- a range within another, and not empty
-record IsInside (v r : Interval) : Type 0 where
-  low : v.lo ≤ℤ r.lo
-  high : r.hi ≤ℤ v.hi
-  order : r.lo ≤ℤ r.hi
-  least_scale : r.s_lo ≡ v.s_lo
-  greatest_scale : r.s_hi ≡ v.s_hi
+pub record IsInside (v r : Interval) : Type 0 where
+  pub low : v.lo ≤ℤ r.lo
+  pub high : r.hi ≤ℤ v.hi
+  pub order : r.lo ≤ℤ r.hi
+  pub least_scale : r.s_lo ≡ v.s_lo
+  pub greatest_scale : r.s_hi ≡ v.s_hi
 
 low_raised : (t : Bool) (l m : ℤ) → l ≤ℤ (if t then l else int_max l m)
 low_raised true l m = omega (arith, ints)
@@ -79,7 +78,7 @@ not_empty v r e = by_order (int_le v.lo v.hi) refl e
     by_order true f g = omega (arith, ints)
     by_order false f g = absurd (cc)
 
-refined_inside : (v e r : Interval) (allowed : SignSet) (t : Bool) → refined v e allowed t ≡ Some r → IsInside v r
+pub refined_inside : (v e r : Interval) (allowed : SignSet) (t : Bool) → refined v e allowed t ≡ Some r → IsInside v r
 refined_inside v e r allowed t f = by_apart (is_apart e allowed t) f
   where
     part : Interval

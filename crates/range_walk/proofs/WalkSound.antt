@@ -161,6 +161,17 @@ module _ (name : List ℕ) (at node : ℕ) (none : WalkFault) (first second : Ra
       let names = nf t x.0 x.1 ∙ ho t refl ∙ sym (ns s y.0 y.1 ∙ hs) in
       record { ends = y.0; is = y.1; holds = λ env w. joined_right x.0 y.0 mid env names (met name at node x.0 y.0 mid y.2) w }
 
+-- ---- methods
+
+-- what holds of the body of each method holds of one that is found
+pub found_method : (P : Body → Type 0) (ms : List Routine) → All (λ m. P m.body) ms → (m : List ℕ) (b : Body) → body_named ms m ≡ Some b → P b
+found_method P [] all m b e = absurd (cc)
+found_method P (r ∷ ms) all m b e = by_name (bytes_eq m r.name) e (found_method P ms (All-tail (λ m. P m.body) r ms all) m b)
+  where
+    by_name : (t : Bool) → (if t then Some r.body else body_named ms m) ≡ Some b → (body_named ms m ≡ Some b → P b) → P b
+    by_name true f later = let same : r.body ≡ b = cc in subst P same (All-head (λ m. P m.body) r ms all)
+    by_name false f later = later f
+
 -- ---- statements
 
 module _ (scope : Scope) (ok : IsSoundScope scope) (methods : List Routine) where
@@ -291,15 +302,6 @@ module _ (scope : Scope) (ok : IsSoundScope scope) (methods : List Routine) wher
           only = k.only;
         }
 
-  -- the body of a method is typed and small where all are
-  found_body : (P : Body → Type 0) (ms : List Routine) → All (λ m. P m.body) ms → (m : List ℕ) (b : Body) → body_named ms m ≡ Some b → P b
-  found_body P [] all m b e = absurd (cc)
-  found_body P (r ∷ ms) all m b e = by_name (bytes_eq m r.name) e (found_body P ms (All-tail (λ m. P m.body) r ms all) m b)
-    where
-      by_name : (t : Bool) → (if t then Some r.body else body_named ms m) ≡ Some b → (body_named ms m ≡ Some b → P b) → P b
-      by_name true f later = let same : r.body ≡ b = cc in subst P same (All-head (λ m. P m.body) r ms all)
-      by_name false f later = later f
-
   -- the methods, whatever their chain
   pub calls_hold : All (λ m. IsTypedBody scope methods m.body) methods → All (λ m. AreSmallTerms m.body) methods → (n : ℕ) → CallsHold (calls_of scope methods n) (range_calls_of scope methods n)
   unfolding calls_of range_calls_of
@@ -309,7 +311,7 @@ module _ (scope : Scope) (ok : IsSoundScope scope) (methods : List Routine) wher
       by_body : (m : List ℕ) (rs z : Ranges) (env : Env) → AreWithin rs env → AreVariables scope env → CallsHold (calls_of scope methods n) (range_calls_of scope methods n) → (o : Option Body) → body_named methods m ≡ o → with_body m o (λ b. walked scope (range_calls_of scope methods n) m 0 b rs) ≡ Ok z → CallHolds (calls_of scope methods (suc n)) m env z
       by_body m rs z env w only hc None f g = absurd (cc)
       by_body m rs z env w only hc (Some b) f g =
-          let k = body_sound (calls_of scope methods n) (range_calls_of scope methods n) hc m b 0 rs z env w only (found_body (IsTypedBody scope methods) methods typed m b f) (found_body AreSmallTerms methods small m b f) g in
+          let k = body_sound (calls_of scope methods n) (range_calls_of scope methods n) hc m b 0 rs z env w only (found_method (IsTypedBody scope methods) methods typed m b f) (found_method AreSmallTerms methods small m b f) g in
           record {
             safe = λ c p. (let same : b ≡ c = cc in subst (λ c. IsSafeBody scope (calls_of scope methods n) c env) same k.safe);
             ends = k.ends;

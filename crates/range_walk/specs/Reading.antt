@@ -5,7 +5,7 @@ use Rattle.scaled_decimal.specs.Decimals.{Decimal, scale_of}
 use Rattle.scaled_decimal.specs.Limits.{most_places}
 use Rattle.scaled_decimal.specs.WholeNumbers.{int_bits, long_bits, IsOfBits}
 use Rattle.pap_tree.specs.Term.{Leaf, whole, long, point, text, Term}
-use Rattle.pap_tree.specs.Declarations.{Declaration, DeclaredLiteral, number, big, table}
+use Rattle.pap_tree.specs.Declarations.{DeclaredLiteral, number, big, table}
 use Rattle.pap_tree.specs.Flowchart.{Flowchart, Body}
 use Rattle.limits_file.specs.declared.limits.Limits.{Limits}
 use Rattle.interval_num.specs.Intervals.{Interval}
@@ -82,5 +82,5 @@ pub record ReadingRefusesNothing (f : Flowchart) : Type 0 where
   -- an item has the range that its row answers
   pub item : (x : List ℕ) (index r : Interval) → item_row (table_in (scope_of f) x) index ≡ Ok r → item_range (table_in (scope_of f) x) index ≡ Ok r
 
-abbrev pub ReadingIsFree : Type 0
-ReadingIsFree = (f : Flowchart) → IsWellTyped f → IsWithinCounts f → HoldsNumbers f → ReadingRefusesNothing f
+abbrev pub NothingIsRefusedAtReading : Type 0
+NothingIsRefusedAtReading = (f : Flowchart) → IsWellTyped f → IsWithinCounts f → HoldsNumbers f → ReadingRefusesNothing f

@@ -4,4 +4,7 @@
 
 mod soundness;
 
-pub use soundness::{admitted_inputs_are_safe, ranges_suit_their_kinds, some_branch_is_reached};
+pub use soundness::{
+    admitted_inputs_are_safe, ranges_suit_their_kinds, reading_refuses_nothing,
+    some_branch_is_reached,
+};
