@@ -78,8 +78,9 @@ pub record RunHolds (f : Flowchart) (ranges : Ranges) (inputs : List Decimal) : 
 
 -- where the walk of a well-typed plan passes, every list of admitted inputs is so
 abbrev pub AnalysisIsSound : Type 0
-AnalysisIsSound = (f : Flowchart) (limits : Limits) (ranges : Ranges) → IsWellTyped f → IsWithinCounts f → HaveLimits f limits →
-    analysed f limits ≡ Ok ranges → (inputs : List Decimal) → AreAdmitted f limits inputs → RunHolds f ranges inputs
+AnalysisIsSound =
+    (f : Flowchart) (limits : Limits) (ranges : Ranges) → IsWellTyped f → IsWithinCounts f → HaveLimits f limits
+    → analysed f limits ≡ Ok ranges → (inputs : List Decimal) → AreAdmitted f limits inputs → RunHolds f ranges inputs
 
 -- ---- tests
 
@@ -96,10 +97,13 @@ pub record AreFilled (scope : Scope) (rs : Ranges) : Type 0 where
 -- a test that the walk passes has a branch that can be reached: some values of the variables lie in their ranges, and the
 -- test of these holds or fails
 abbrev pub SomeBranchIsReached : Type 0
-SomeBranchIsReached = (f : Flowchart) (t : Term) (at : ℕ) (rs : Ranges) (br : Branches) → IsWellTyped f → IsTypedTerm (scope_of f) t → KeepsScales t →
-    AreFilled (scope_of f) rs → tested (scope_of f) t at rs ≡ Ok br → IsTrue (is_some br.holds || is_some br.fails)
+SomeBranchIsReached =
+    (f : Flowchart) (t : Term) (at : ℕ) (rs : Ranges) (br : Branches) → IsWellTyped f → IsTypedTerm (scope_of f) t
+    → KeepsScales t → AreFilled (scope_of f) rs → tested (scope_of f) t at rs ≡ Ok br
+    → IsTrue (is_some br.holds || is_some br.fails)
 
 -- the range of an expression that the walk passes has the shape of its kind, whatever the ranges of the variables
 abbrev pub RangesHaveShape : Type 0
-RangesHaveShape = (scope : Scope) (t : Term) (at : ℕ) (rs : Ranges) (r : Interval) → IsTypedTerm scope t → KeepsScales t →
-    ranged scope t at rs ≡ Ok r → HasShape (kind_of scope t) r
+RangesHaveShape =
+    (scope : Scope) (t : Term) (at : ℕ) (rs : Ranges) (r : Interval) → IsTypedTerm scope t → KeepsScales t
+    → ranged scope t at rs ≡ Ok r → HasShape (kind_of scope t) r
