@@ -15,6 +15,8 @@ mod expressions;
 #[cfg(test)]
 mod intervals;
 #[cfg(test)]
+mod kinds;
+#[cfg(test)]
 mod names;
 #[cfg(test)]
 mod outside_objects;
