@@ -17,6 +17,8 @@ mod intervals;
 #[cfg(test)]
 mod names;
 #[cfg(test)]
+mod orders;
+#[cfg(test)]
 mod outside_objects;
 #[cfg(test)]
 mod tokens;
