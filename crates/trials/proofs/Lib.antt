@@ -1,1 +1,2 @@
 pub mod CodeRuns
+pub mod PlanSizes

@@ -19,6 +19,8 @@ mod kinds;
 #[cfg(test)]
 mod names;
 #[cfg(test)]
+mod orders;
+#[cfg(test)]
 mod outside_objects;
 #[cfg(test)]
 mod tokens;
