@@ -81,7 +81,8 @@ fn step(alloc: Global, state: Due, found: &Placed) -> Result<Due, ExprFault>
 
 /// The state after a sign that is due.
 fn due(sign: Sign, next: Due, found: &Placed) -> Result<Due, ExprFault>
-    ensures { (n : ℕ) → Moves (machine.Due n (pure.Mark (sign_of sign)) (due_of next)) (spot_of found.now) result }
+    ensures { (n : ℕ) → Moves (machine.Due n (pure.Mark (sign_of sign)) (due_of next))
+        (spot_of found.now) result }
 {
     if is_sign(sign, found) {
         Ok(next)
@@ -237,7 +238,8 @@ fn value_point(d: Dec, room: Room, found: &Placed) -> Result<Due, ExprFault>
 
 /// The scale of a whole number.
 fn scale(i: i32, room: Room, found: &Placed) -> Result<Due, ExprFault>
-    ensures { Moves (machine.ScaleDue (machine.declaring i (room_of room))) (spot_of found.now) result }
+    ensures { Moves (machine.ScaleDue (machine.declaring i (room_of room)))
+        (spot_of found.now) result }
 {
     match found.token {
         Token::Int(places) if places <= MOST_PLACES => {
@@ -251,7 +253,8 @@ fn scale(i: i32, room: Room, found: &Placed) -> Result<Due, ExprFault>
 /// The bracket after which a decimal is read.
 fn close(d: Dec, room: Room, found: &Placed) -> Result<Due, ExprFault>
     ensures { (n : ℕ) →
-        Moves (machine.Due n (pure.Mark pure.Close) (settled (room_of room) d)) (spot_of found.now) result }
+        Moves (machine.Due n (pure.Mark pure.Close) (settled (room_of room) d))
+        (spot_of found.now) result }
 {
     if is_sign(Sign::Close, found) {
         settle(room, d)

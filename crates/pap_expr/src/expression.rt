@@ -42,7 +42,8 @@ pub fn parse_expr(alloc: Global, text: &[u8]) -> Result<Expr, ExprFault>
 
 /// The target and the expression of an assignment.
 pub fn parse_assign(alloc: Global, text: &[u8]) -> Result<(Name, Expr), ExprFault>
-    ensures tree { IfOk result (λ r. IsAccepted grammar.Assignment text.now (assignment r.0 (term_of r.1))) }
+    ensures tree { IfOk result
+        (λ r. IsAccepted grammar.Assignment text.now (assignment r.0 (term_of r.1))) }
     ensures fault { IfErr result (IsFaultOf grammar.Assignment text.now) }
     ensures nodes { IfOk result (λ r. nodes (term_of r.1) ≤ 1000) }
     ensures scales { IfOk result (λ r. KeepsScales (term_of r.1)) }
@@ -78,7 +79,8 @@ fn answer(alloc: Global, kind: Kind, tokens: &[Placed], len: usize) -> Result<Re
 
 /// The fault in place of what was read.
 fn never(read: Result<Reading, ExprFault>, fault: ExprFault) -> Result<Reading, ExprFault>
-    ensures { (r : Result Meaning Refusal) → Answers r read → Answers (never (refusal_of fault) r) result }
+    ensures { (r : Result Meaning Refusal) → Answers r read
+        → Answers (never (refusal_of fault) r) result }
 {
     match read {
         Ok(_) => Err(fault),
@@ -88,7 +90,8 @@ fn never(read: Result<Reading, ExprFault>, fault: ExprFault) -> Result<Reading, 
 
 /// What so many tokens as are allowed are read to. `end` is what is wrong where they end too early.
 fn line(alloc: Global, kind: Kind, front: &[Placed], end: ExprFault) -> Result<Reading, ExprFault>
-    ensures { Answers (run (line_of kind) (refusal_of end) (start (line_of kind)) (spots_of front.now)) result }
+    ensures { Answers (run (line_of kind) (refusal_of end) (start (line_of kind))
+        (spots_of front.now)) result }
 {
     match kind {
         Kind::Test => read(alloc, None, front, end),
@@ -118,7 +121,8 @@ fn assigned(alloc: Global, front: &[Placed], end: ExprFault) -> Result<Reading, 
 /// The name that an assignment begins with.
 fn target_of(found: &Placed) -> Option<Name>
     ensures { MatchOption result (naming_step (token_of found.now.token) ≡ None)
-        (λ w. naming_step (token_of found.now.token) ≡ Some (Due 0 (Mark Equals) (Want (base_of (Some w))))) }
+        (λ w. naming_step (token_of found.now.token)
+        ≡ Some (Due 0 (Mark Equals) (Want (base_of (Some w))))) }
 {
     match found.token {
         Token::Name(name) => some_name(name),

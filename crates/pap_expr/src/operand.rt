@@ -8,7 +8,8 @@ ghost use Rattle.pap_tree.specs.Tokens.{Number, Word, Operator, Mark, Quoted};
 ghost use Rattle.pap_tree.specs.Grammar.{leaf_of, negative_of};
 ghost use Rattle.pap_tree.specs.Stopping.{syntax, binary_fraction};
 ghost use Rattle.expr_tokens.specs.Spots.{spot_of, sign_of, keyword_text};
-ghost use Rattle.expr_grammar.specs.Machine.{Frame as Waiting, InNew, Want, Have, level, taken, literal_step, want_step};
+ghost use Rattle.expr_grammar.specs.Machine.{Frame as Waiting, InNew, Want, Have};
+ghost use Rattle.expr_grammar.specs.Machine.{level, taken, literal_step, want_step};
 ghost use Rattle.expr_grammar.specs.Run.{refusal, point_cause};
 ghost use Rattle.pap_expr.specs.declared.state.State.TheVariants.{AfterName};
 ghost use Rattle.pap_expr.specs.Stacks.{stack_of};
@@ -29,7 +30,8 @@ impl Reader {
     /// The beginning of an expression. A literal takes the `-` before it.
     pub(crate) fn operand(&mut self, found: &Placed) -> Result<State, ExprFault>
         requires room { level (stack_of self.old.stack) ≤ 64 }
-        ensures { Steps (Want (stack_of self.old.stack)) (spot_of found.now) (stack_of self.new.stack) result }
+        ensures { Steps (Want (stack_of self.old.stack)) (spot_of found.now)
+            (stack_of self.new.stack) result }
     {
         match found.token {
             Token::Int(n) => Ok(self.int(n)),
@@ -60,7 +62,8 @@ impl Reader {
     /// Whether an argument of `new BigDecimal` begins here.
     fn is_in_new(&self) -> bool
         ensures { MatchBool result ((k : List Waiting) × (stack_of self.now.stack ≡ InNew ∷ k))
-            ((n : Number) (l : Leaf) → taken (stack_of self.now.stack) n l ≡ Some (Have (leaf l) (stack_of self.now.stack))) }
+            ((n : Number) (l : Leaf) → taken (stack_of self.now.stack) n l
+            ≡ Some (Have (leaf l) (stack_of self.now.stack))) }
     {
         match self.stack.top() {
             Some(Frame::NewBig) => true,
@@ -71,7 +74,8 @@ impl Reader {
     /// A literal of `int`.
     fn int(&mut self, n: u32) -> State
         requires range { n ≤ 2147483647 }
-        ensures { literal_step (stack_of self.old.stack) (pure.int n) ≡ Some (state_of result (stack_of self.new.stack)) }
+        ensures { literal_step (stack_of self.old.stack) (pure.int n)
+            ≡ Some (state_of result (stack_of self.new.stack)) }
     {
         let n = n as i32;
         State::After(Expr::Int(if self.takes_minus() { -n } else { n }))
@@ -80,7 +84,8 @@ impl Reader {
     /// A literal of `long`.
     fn long(&mut self, n: u64) -> State
         requires range { n ≤ 9223372036854775807 }
-        ensures { literal_step (stack_of self.old.stack) (pure.long n) ≡ Some (state_of result (stack_of self.new.stack)) }
+        ensures { literal_step (stack_of self.old.stack) (pure.long n)
+            ≡ Some (state_of result (stack_of self.new.stack)) }
     {
         let n = n as i64;
         State::After(Expr::Long(if self.takes_minus() { -n } else { n }))
@@ -89,7 +94,8 @@ impl Reader {
     /// A literal with a point.
     fn point(&mut self, d: Dec, found: &Placed) -> Result<State, ExprFault>
         ensures { Leads (literal_step (stack_of self.old.stack) (pure.point d))
-            (refusal (point_cause (Want (stack_of self.old.stack))) found.now.at) (stack_of self.new.stack) result }
+            (refusal (point_cause (Want (stack_of self.old.stack))) found.now.at)
+            (stack_of self.new.stack) result }
     {
         let d = if self.takes_minus() { d.neg() } else { d };
         if self.is_in_new() {
@@ -100,7 +106,8 @@ impl Reader {
 
     /// A number in quotation marks.
     fn quoted(&mut self, d: Dec, found: &Placed) -> Result<State, ExprFault>
-        ensures { Leads (want_step (stack_of self.old.stack) (Quoted d)) (refusal syntax found.now.at)
+        ensures { Leads (want_step (stack_of self.old.stack) (Quoted d))
+            (refusal syntax found.now.at)
             (stack_of self.new.stack) result }
     {
         match self.stack.pop() {
@@ -112,7 +119,8 @@ impl Reader {
     /// An operator before its operand.
     fn prefix(&mut self, operator: Binary, found: &Placed) -> Result<State, ExprFault>
         requires room { level (stack_of self.old.stack) ≤ 64 }
-        ensures { Leads (want_step (stack_of self.old.stack) (Operator operator)) (refusal syntax found.now.at)
+        ensures { Leads (want_step (stack_of self.old.stack) (Operator operator))
+            (refusal syntax found.now.at)
             (stack_of self.new.stack) result }
     {
         match operator {
@@ -124,7 +132,8 @@ impl Reader {
     /// A `!` or a bracket before what it is for.
     fn prefix_sign(&mut self, sign: Sign, found: &Placed) -> Result<State, ExprFault>
         requires room { level (stack_of self.old.stack) ≤ 64 }
-        ensures { Leads (want_step (stack_of self.old.stack) (Mark (sign_of sign))) (refusal syntax found.now.at)
+        ensures { Leads (want_step (stack_of self.old.stack) (Mark (sign_of sign)))
+            (refusal syntax found.now.at)
             (stack_of self.new.stack) result }
     {
         match sign {

@@ -38,7 +38,8 @@ pub(crate) struct Reader {
 impl Reader {
     /// The frames that bind at least so tightly take the expression.
     pub(crate) fn close(&mut self, tightness: u8, value: Expr) -> Result<Expr, ExprFault>
-        ensures closed { IfOk result (λ e. machine.close tightness (term_of value) (stack_of self.old.stack)
+        ensures closed { IfOk result
+            (λ e. machine.close tightness (term_of value) (stack_of self.old.stack)
             ≡ (term_of e, stack_of self.new.stack)) }
         ensures fewer { level (stack_of self.new.stack) ≤ level (stack_of self.old.stack) }
         ensures memory { IfErr result (λ e. e ≡ Memory) }
@@ -54,7 +55,8 @@ impl Reader {
 
     /// What a frame makes of its operand.
     fn made(&self, frame: Frame, value: Expr) -> Result<Expr, ExprFault>
-        ensures made { IfOk result (λ e. term_of e ≡ machine.made (frame_of frame) (term_of value)) }
+        ensures made { IfOk result
+            (λ e. term_of e ≡ machine.made (frame_of frame) (term_of value)) }
         ensures memory { IfErr result (λ e. e ≡ Memory) }
     {
         match frame {
@@ -79,7 +81,8 @@ impl Reader {
     /// An expression is due, for which the frame waits.
     pub(crate) fn wait(&mut self, frame: Frame) -> Result<State, ExprFault>
         requires room { level (stack_of self.old.stack) ≤ 64 }
-        ensures { Opens (frame_of frame ∷ stack_of self.old.stack) (stack_of self.new.stack) result }
+        ensures { Opens (frame_of frame ∷ stack_of self.old.stack)
+            (stack_of self.new.stack) result }
     {
         self.stack.push(frame)?;
         Ok(State::Operand)
@@ -89,7 +92,8 @@ impl Reader {
     pub(crate) fn opened(&mut self, frame: Frame, found: &Placed) -> Result<State, ExprFault>
         requires room { level (stack_of self.old.stack) ≤ 64 }
         ensures { (n : ℕ) →
-            Steps (machine.Due n (pure.Mark pure.Open) (Want (frame_of frame ∷ stack_of self.old.stack)))
+            Steps (machine.Due n (pure.Mark pure.Open)
+            (Want (frame_of frame ∷ stack_of self.old.stack)))
             (spot_of found.now) (stack_of self.new.stack) result }
     {
         if is_sign(Sign::Open, found) {
@@ -120,7 +124,8 @@ impl Reader {
     fn marked(&mut self, sign: Sign, value: Expr, found: &Placed) -> Result<State, ExprFault>
         requires room { level (stack_of self.old.stack) ≤ 64 }
         ensures { Leads (machine.marked (sign_of sign) (term_of value) (stack_of self.old.stack))
-            (refusal (plain_cause (token_of found.now.token)) found.now.at) (stack_of self.new.stack) result }
+            (refusal (plain_cause (token_of found.now.token)) found.now.at)
+            (stack_of self.new.stack) result }
     {
         match sign {
             Sign::Dot => Ok(State::Member(value)),
@@ -144,8 +149,10 @@ impl Reader {
         found: &Placed,
     ) -> Result<State, ExprFault>
         requires room { level (stack_of self.old.stack) ≤ 64 }
-        ensures { Leads (machine.ended (frame_of frame) (sign_of sign) (term_of value) (stack_of self.old.stack))
-            (refusal (plain_cause (token_of found.now.token)) found.now.at) (stack_of self.new.stack) result }
+        ensures { Leads (machine.ended (frame_of frame) (sign_of sign) (term_of value)
+            (stack_of self.old.stack))
+            (refusal (plain_cause (token_of found.now.token)) found.now.at)
+            (stack_of self.new.stack) result }
     {
         match (frame, sign) {
             (frame, Sign::Close) => self.closed(frame, value, found),
@@ -170,7 +177,8 @@ impl Reader {
 
     /// A closing bracket, which may end what a frame waits for.
     fn closed(&self, frame: Frame, value: Expr, found: &Placed) -> Result<State, ExprFault>
-        ensures { (k : List Waiting) → Leads (machine.ended (frame_of frame) pure.Close (term_of value) k)
+        ensures { (k : List Waiting)
+            → Leads (machine.ended (frame_of frame) pure.Close (term_of value) k)
             (refusal (plain_cause (token_of found.now.token)) found.now.at) k result }
     {
         Ok(State::After(match frame {

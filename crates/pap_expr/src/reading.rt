@@ -82,7 +82,8 @@ impl Reader {
     /// The state after the next token.
     fn step(&mut self, state: State, found: &Placed) -> Result<State, ExprFault>
         requires room { level_of (state_of state (stack_of self.old.stack)) ≤ 64 }
-        ensures { Steps (state_of state (stack_of self.old.stack)) (spot_of found.now) (stack_of self.new.stack) result }
+        ensures { Steps (state_of state (stack_of self.old.stack)) (spot_of found.now)
+            (stack_of self.new.stack) result }
     {
         match state {
             State::Operand => self.operand(found),
@@ -110,7 +111,8 @@ impl Reader {
     /// The bracket after a method's word.
     fn call(&mut self, method: Method, receiver: Expr, found: &Placed) -> Result<State, ExprFault>
         requires room { level (stack_of self.old.stack) ≤ 64 }
-        ensures { Steps (machine.called (term_of receiver) (stack_of self.old.stack) (method_view method))
+        ensures { Steps (machine.called (term_of receiver) (stack_of self.old.stack)
+            (method_view method))
             (spot_of found.now) (stack_of self.new.stack) result }
     {
         let receiver = Box::new(self.alloc, receiver)?;
@@ -125,7 +127,8 @@ impl Reader {
 
     /// Whether more than 64 levels are open.
     fn is_over(&self, state: &State) -> bool
-        ensures { result ≡ nat_lt most_levels (level_of (state_of state.now (stack_of self.now.stack))) }
+        ensures { result
+            ≡ nat_lt most_levels (level_of (state_of state.now (stack_of self.now.stack))) }
     {
         let levels = self.stack.levels();
         match state {
@@ -143,7 +146,8 @@ impl Reader {
     /// What is read, where the tokens end here.
     fn finish(&mut self, state: State) -> Result<Option<Reading>, ExprFault>
         ensures finished { IfOk result
-            (λ o. option_map meaning_of o ≡ machine.finish (state_of state (stack_of self.old.stack))) }
+            (λ o. option_map meaning_of o
+            ≡ machine.finish (state_of state (stack_of self.old.stack))) }
         ensures memory { IfErr result (λ e. e ≡ Memory) }
     {
         match state {

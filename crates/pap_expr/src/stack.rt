@@ -36,14 +36,16 @@ impl Stack {
 
     /// The innermost frame.
     pub(crate) fn top(&self) -> Option<&Frame>
-        ensures { MatchOption result (frames_of self.now.frames.items ≡ []) (λ f. (k : List Waiting) × (frames_of self.now.frames.items ≡ frame_of f.now ∷ k)) }
+        ensures { MatchOption result (frames_of self.now.frames.items ≡ [])
+            (λ f. (k : List Waiting) × (frames_of self.now.frames.items ≡ frame_of f.now ∷ k)) }
     {
         self.frames.last()
     }
 
     pub(crate) fn push(&mut self, frame: Frame) -> Result<(), ExprFault>
         requires room { level (frames_of self.old.frames.items) ≤ 64 }
-        ensures pushed { OnOk result (frames_of self.new.frames.items ≡ frame_of frame ∷ frames_of self.old.frames.items) }
+        ensures pushed { OnOk result (frames_of self.new.frames.items
+            ≡ frame_of frame ∷ frames_of self.old.frames.items) }
         ensures memory { IfErr result (λ e. e ≡ Memory) }
     {
         let levels = self.levels + frame.levels();
@@ -54,8 +56,10 @@ impl Stack {
 
     /// Takes the innermost frame.
     pub(crate) fn pop(&mut self) -> Option<Frame>
-        ensures popped { Pops (frames_of self.old.frames.items) (frames_of self.new.frames.items) result }
-        ensures fewer { level (frames_of self.new.frames.items) ≤ level (frames_of self.old.frames.items) }
+        ensures popped { Pops (frames_of self.old.frames.items)
+            (frames_of self.new.frames.items) result }
+        ensures fewer { level (frames_of self.new.frames.items)
+            ≤ level (frames_of self.old.frames.items) }
     {
         let frame = self.frames.pop()?;
         self.levels -= frame.levels();
@@ -64,8 +68,10 @@ impl Stack {
 
     /// Takes the innermost frame, where it binds at least so tightly.
     pub(crate) fn pop_binding(&mut self, tightness: u8) -> Option<Frame>
-        ensures popped { PopsBinding tightness (frames_of self.old.frames.items) (frames_of self.new.frames.items) result }
-        ensures fewer { level (frames_of self.new.frames.items) ≤ level (frames_of self.old.frames.items) }
+        ensures popped { PopsBinding tightness (frames_of self.old.frames.items)
+            (frames_of self.new.frames.items) result }
+        ensures fewer { level (frames_of self.new.frames.items)
+            ≤ level (frames_of self.old.frames.items) }
     {
         let own = self.top()?.binds()?;
         if own < tightness {

@@ -74,7 +74,8 @@ pub(crate) fn is_sign(sign: Sign, found: &Placed) -> bool
 /// The state after a sign that is due.
 pub(crate) fn due(sign: Sign, next: State, found: &Placed) -> Result<State, ExprFault>
     ensures { (n : ℕ) (k : List Waiting) →
-        Steps (machine.Due n (pure.Mark (sign_of sign)) (state_of next k)) (spot_of found.now) k result }
+        Steps (machine.Due n (pure.Mark (sign_of sign)) (state_of next k))
+        (spot_of found.now) k result }
 {
     if is_sign(sign, found) {
         Ok(next)
@@ -126,7 +127,8 @@ pub(crate) fn after_new(found: &Placed) -> Result<State, ExprFault>
 
 /// A method's word.
 pub(crate) fn member(receiver: Expr, found: &Placed) -> Result<State, ExprFault>
-    ensures { (k : List Waiting) → Steps (machine.Member (term_of receiver) k) (spot_of found.now) k result }
+    ensures { (k : List Waiting)
+        → Steps (machine.Member (term_of receiver) k) (spot_of found.now) k result }
 {
     let Token::Name(word) = found.token else {
         return Err(refused(found));
@@ -139,7 +141,8 @@ pub(crate) fn member(receiver: Expr, found: &Placed) -> Result<State, ExprFault>
 
 /// A scale.
 pub(crate) fn scale(scaled: Scaled, found: &Placed) -> Result<State, ExprFault>
-    ensures { (k : List Waiting) → Steps (machine.ScaleDue (job_of scaled k)) (spot_of found.now) k result }
+    ensures { (k : List Waiting)
+        → Steps (machine.ScaleDue (job_of scaled k)) (spot_of found.now) k result }
 {
     match found.token {
         Token::Int(places) if places <= MOST_PLACES => Ok(match scaled {
@@ -157,7 +160,8 @@ pub(crate) fn scale(scaled: Scaled, found: &Placed) -> Result<State, ExprFault>
 /// The fault of a word in the place of a scale, which may not be left out before the mode.
 fn refused_class(scaled: Scaled, keyword: Keyword, found: &Placed) -> ExprFault
     ensures { (k : List Waiting) → refusal_of result ≡ refusal
-        (cause_of (machine.ScaleDue (job_of scaled k)) (pure.Word (keyword_text keyword))) found.now.at }
+        (cause_of (machine.ScaleDue (job_of scaled k)) (pure.Word (keyword_text keyword)))
+        found.now.at }
 {
     match (scaled, keyword) {
         (_, Keyword::New) => ExprFault::Syntax { at: found.at },
@@ -168,7 +172,8 @@ fn refused_class(scaled: Scaled, keyword: Keyword, found: &Placed) -> ExprFault
 
 /// The comma after a scale. Java takes a new scale without a mode too.
 pub(crate) fn comma(rounded: Rounded, scale: u8, found: &Placed) -> Result<State, ExprFault>
-    ensures { (k : List Waiting) → Steps (machine.Parting (rounded_of rounded) scale k) (spot_of found.now) k result }
+    ensures { (k : List Waiting)
+        → Steps (machine.Parting (rounded_of rounded) scale k) (spot_of found.now) k result }
 {
     if is_sign(Sign::Comma, found) {
         return Ok(State::Mode(rounded, scale));
@@ -183,7 +188,8 @@ pub(crate) fn comma(rounded: Rounded, scale: u8, found: &Placed) -> Result<State
 
 /// The class of a rounding mode.
 pub(crate) fn mode(rounded: Rounded, scale: u8, found: &Placed) -> Result<State, ExprFault>
-    ensures { (k : List Waiting) → Steps (machine.Moding (rounded_of rounded) scale k) (spot_of found.now) k result }
+    ensures { (k : List Waiting)
+        → Steps (machine.Moding (rounded_of rounded) scale k) (spot_of found.now) k result }
 {
     let holder = match keyword(found) {
         Some(Keyword::BigDecimal) => Holder::BigDecimal,
@@ -201,7 +207,8 @@ pub(crate) fn mode_word(
     found: &Placed,
 ) -> Result<State, ExprFault>
     ensures { (k : List Waiting) →
-        Steps (machine.Moded (holder_view holder) (rounded_of rounded) scale k) (spot_of found.now) k result }
+        Steps (machine.Moded (holder_view holder) (rounded_of rounded) scale k)
+        (spot_of found.now) k result }
 {
     let Token::Name(word) = found.token else {
         return Err(refused(found));

@@ -48,7 +48,8 @@ pub(crate) fn rank(operator: Binary) -> u8
 
 /// The method of a word.
 pub(crate) fn method_of(word: Name) -> Option<Method>
-    ensures method { MatchOption result (method_of word ≡ None) (λ m. method_of word ≡ Some (method_view m)) }
+    ensures method { MatchOption result (method_of word ≡ None)
+        (λ m. method_of word ≡ Some (method_view m)) }
     ensures named { IsTrue (is_name word) }
 {
     match word.bytes() {
@@ -68,7 +69,8 @@ pub(crate) fn method_of(word: Name) -> Option<Method>
 
 /// What a word is after `BigDecimal` and a point.
 pub(crate) fn static_of(word: Name) -> Option<Static>
-    ensures constant { MatchOption result (constancy_of word ≡ None) (λ m. constancy_of word ≡ Some (static_view m)) }
+    ensures constant { MatchOption result (constancy_of word ≡ None)
+        (λ m. constancy_of word ≡ Some (static_view m)) }
     ensures named { IsTrue (is_name word) }
 {
     match word.bytes() {
@@ -105,7 +107,8 @@ fn old_mode(word: &[u8]) -> Option<Mode>
 
 /// The mode of a constant of `RoundingMode`.
 fn new_mode(word: &[u8]) -> Option<Mode>
-    ensures { MatchOption result (mode_of the_mode word.now ≡ None) (λ m. mode_of the_mode word.now ≡ Some m) }
+    ensures { MatchOption result (mode_of the_mode word.now ≡ None)
+        (λ m. mode_of the_mode word.now ≡ Some m) }
 {
     if word == b"DOWN".as_slice() {
         Some(Mode::Down)
