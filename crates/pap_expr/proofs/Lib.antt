@@ -1,0 +1,7 @@
+pub mod FrameLemmas
+pub mod WordLemmas
+pub mod SignLemmas
+pub mod RunLemmas
+pub mod TextLemmas
+pub mod ConstantLemmas
+pub mod LawLemmas

@@ -1,10 +1,10 @@
 -- What the parser's answers say of the machine that reads expressions.
-use Rattle.std.specs.Prelude.{◌≡◌, ℕ, List, Result, Ok, Err, ⊤}
-use Rattle.pap_tree.specs.Tokens.{Token, Beyond, Spot}
-use Rattle.pap_tree.specs.Grammar.{Level, Meaning}
+use Rattle.std.specs.Prelude.{IsTrue, ⊤}
+use Rattle.pap_tree.specs.Names.{is_name}
+use Rattle.pap_tree.specs.Tokens.{Token, Beyond, Word}
 use Rattle.pap_tree.specs.Stopping.{Cause, syntax, unsupported, binary_fraction, number, deep}
 use Rattle.expr_grammar.specs.Machine as machine
-use Rattle.expr_grammar.specs.Run.{Refusal, refusal, run}
+use Rattle.expr_grammar.specs.Run.{Refusal, refusal}
 use Rattle.pap_expr.specs.declared.fault.ExprFault.{ExprFault}
 use Rattle.pap_expr.specs.declared.fault.ExprFault.TheVariants as faults
 use Rattle.pap_expr.specs.declared.words.Method.{Method}
@@ -41,3 +41,8 @@ refusal_of faults.Memory = refusal syntax 0
 abbrev pub plain_cause : Token → Cause
 plain_cause Beyond = number
 plain_cause t = syntax
+
+-- a word of it is a name
+abbrev pub IsNoKeyword : Token → Type 0
+IsNoKeyword (Word w) = IsTrue (is_name w)
+IsNoKeyword t = ⊤

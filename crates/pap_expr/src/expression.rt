@@ -1,70 +1,138 @@
 // From a text to its tree.
 
+ghost use Rattle.std.specs.Prelude.{◌≡◌, ◌≤◌, Ok, Result, Some, None, IsTrue, IfOk, IfErr, MatchOption};
+ghost use Rattle.pap_tree.specs.Names.{is_name};
+ghost use Rattle.pap_tree.specs.Term.{term_of};
+ghost use Rattle.pap_tree.specs.Tokens.{Mark, Equals};
+ghost use Rattle.pap_tree.specs.Numbering.{nodes};
+ghost use Rattle.pap_tree.specs.Grammar as grammar;
+ghost use Rattle.pap_tree.specs.Grammar.{Level, Meaning, tree, assignment};
+ghost use Rattle.pap_tree.specs.Expressions.{IsAccepted};
+ghost use Rattle.expr_tokens.specs.Spots.{token_of, spots_of};
+ghost use Rattle.expr_grammar.specs.Machine.{Due, Want, Naming, naming_step, start};
+ghost use Rattle.expr_grammar.specs.Run.{Refusal, run, answer, never};
+ghost use Rattle.expr_grammar.specs.Trees.{KeepsScales};
+ghost use Rattle.pap_expr.specs.Views.{refusal_of};
+ghost use Rattle.pap_expr.specs.Answers.{line_of, base_of, Answers};
+ghost use Rattle.pap_expr.specs.Faults.{IsFaultOf};
+
 use crate::fault::ExprFault;
-use crate::parser::{Parser, after_sign, refused};
+use crate::reading::{Reading, read};
+use crate::steps::{is_sign, refused};
 use expr_tokens::{Placed, Sign, Token, read_tokens};
-use pap_tree::{Expr, Literal, Name};
+use pap_tree::{Expr, Name};
 use std::alloc::Global;
 
 /// How many tokens an expression may have.
 const MOST_TOKENS: usize = 1000;
 
 /// The expression of a test.
-pub fn parse_expr(alloc: Global, text: &[u8]) -> Result<Expr, ExprFault> {
+pub fn parse_expr(alloc: Global, text: &[u8]) -> Result<Expr, ExprFault>
+    ensures tree { IfOk result (λ e. IsAccepted (Level 0) text.now (tree (term_of e))) }
+    ensures fault { IfErr result (IsFaultOf (Level 0) text.now) }
+    ensures nodes { IfOk result (λ e. nodes (term_of e) ≤ 1000) }
+    ensures scales { IfOk result (λ e. KeepsScales (term_of e)) }
+{
     let tokens = read_tokens(alloc, text)?;
-    let (front, end) = cut(&tokens, text.len());
-    let (expr, rest) = Parser { alloc, end }.expr(0, front)?;
-    ended(front, rest, &tokens)?;
+    let Reading::Test(expr) = answer(alloc, Kind::Test, &tokens, text.len())? else {
+        return Err(ExprFault::Syntax { at: text.len() });
+    };
     Ok(expr)
 }
 
 /// The target and the expression of an assignment.
-pub fn parse_assign(alloc: Global, text: &[u8]) -> Result<(Name, Expr), ExprFault> {
+pub fn parse_assign(alloc: Global, text: &[u8]) -> Result<(Name, Expr), ExprFault>
+    ensures tree { IfOk result
+        (λ r. IsAccepted grammar.Assignment text.now (assignment r.0 (term_of r.1))) }
+    ensures fault { IfErr result (IsFaultOf grammar.Assignment text.now) }
+    ensures nodes { IfOk result (λ r. nodes (term_of r.1) ≤ 1000) }
+    ensures scales { IfOk result (λ r. KeepsScales (term_of r.1)) }
+{
     let tokens = read_tokens(alloc, text)?;
-    let (front, end) = cut(&tokens, text.len());
-    let parser = Parser { alloc, end };
-    let (first, rest) = parser.next(front)?;
-    let Token::Name(target) = first.token else {
-        return Err(refused(first));
+    let Reading::Assignment(target, expr) = answer(alloc, Kind::Assignment, &tokens, text.len())?
+    else {
+        return Err(ExprFault::Syntax { at: text.len() });
     };
-    let rest = parser.sign(Sign::Equals, rest)?;
-    let (expr, rest) = parser.expr(0, rest)?;
-    let rest = after_sign(Sign::Semicolon, rest).unwrap_or(rest);
-    ended(front, rest, &tokens)?;
     Ok((target, expr))
 }
 
-/// A declared literal: the value of a constant or a default.
-pub fn parse_constant(alloc: Global, text: &[u8]) -> Result<Literal, ExprFault> {
-    let tokens = read_tokens(alloc, text)?;
-    let end = ExprFault::Syntax { at: text.len() };
-    let (literal, rest) = Parser { alloc, end }.constant(&tokens)?;
-    ended(&tokens, rest, &tokens)?;
-    Ok(literal)
+/// What a text is read as.
+#[derive(Clone, Copy)]
+pub(crate) enum Kind {
+    Test,
+    Assignment,
 }
 
-/// The tokens that may be read of a text of so many bytes, and what is wrong where they end too early.
-fn cut(tokens: &[Placed], len: usize) -> (&[Placed], ExprFault) {
-    if tokens.len() > MOST_TOKENS {
-        let (front, _) = tokens.split_at(MOST_TOKENS);
-        (
-            front,
-            ExprFault::Deep {
-                at: tokens[MOST_TOKENS].at,
-            },
-        )
-    } else {
-        (tokens, ExprFault::Syntax { at: len })
+/// What all tokens of a text of so many bytes are read to: at most 1,000 of them.
+fn answer(alloc: Global, kind: Kind, tokens: &[Placed], len: usize) -> Result<Reading, ExprFault>
+    ensures { Answers (answer (line_of kind) len (spots_of tokens.now)) result }
+{
+    if tokens.len() <= MOST_TOKENS {
+        return line(alloc, kind, tokens, ExprFault::Syntax { at: len });
+    }
+    let deep = ExprFault::Deep {
+        at: tokens[MOST_TOKENS].at,
+    };
+    let (front, _) = tokens.split_at(MOST_TOKENS);
+    never(line(alloc, kind, front, deep), deep)
+}
+
+/// The fault in place of what was read.
+fn never(read: Result<Reading, ExprFault>, fault: ExprFault) -> Result<Reading, ExprFault>
+    ensures { (r : Result Meaning Refusal) → Answers r read
+        → Answers (never (refusal_of fault) r) result }
+{
+    match read {
+        Ok(_) => Err(fault),
+        Err(error) => Err(error),
     }
 }
 
-/// Refuses what is left of the tokens, and those that may not be read.
-fn ended(front: &[Placed], rest: &[Placed], tokens: &[Placed]) -> Result<(), ExprFault> {
-    if let Some(first) = rest.first() {
+/// What so many tokens as are allowed are read to. `end` is what is wrong where they end too early.
+fn line(alloc: Global, kind: Kind, front: &[Placed], end: ExprFault) -> Result<Reading, ExprFault>
+    ensures { Answers (run (line_of kind) (refusal_of end) (start (line_of kind))
+        (spots_of front.now)) result }
+{
+    match kind {
+        Kind::Test => read(alloc, None, front, end),
+        Kind::Assignment => assigned(alloc, front, end),
+    }
+}
+
+/// The tokens of an assignment: a name, `=` and the expression.
+fn assigned(alloc: Global, front: &[Placed], end: ExprFault) -> Result<Reading, ExprFault>
+    ensures { Answers (run grammar.Assignment (refusal_of end) Naming (spots_of front.now)) result }
+{
+    let Some((first, rest)) = front.split_first() else {
+        return Err(end);
+    };
+    let Some(target) = target_of(first) else {
         return Err(refused(first));
+    };
+    let Some((second, rest)) = rest.split_first() else {
+        return Err(end);
+    };
+    if !is_sign(Sign::Equals, second) {
+        return Err(refused(second));
     }
-    match tokens.get(front.len()) {
-        Some(extra) => Err(ExprFault::Deep { at: extra.at }),
-        None => Ok(()),
+    read(alloc, Some(target), rest, end)
+}
+
+/// The name that an assignment begins with.
+fn target_of(found: &Placed) -> Option<Name>
+    ensures { MatchOption result (naming_step (token_of found.now.token) ≡ None)
+        (λ w. naming_step (token_of found.now.token)
+        ≡ Some (Due 0 (Mark Equals) (Want (base_of (Some w))))) }
+{
+    match found.token {
+        Token::Name(name) => some_name(name),
+        _ => None,
     }
+}
+
+fn some_name(name: Name) -> Option<Name>
+    ensures some { result ≡ Some name }
+    ensures named { IsTrue (is_name name) }
+{
+    Some(name)
 }

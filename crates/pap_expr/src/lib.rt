@@ -1,11 +1,21 @@
 //! Expressions of the flowchart: from their text to their tree.
 #![tactic(auto)]
 
+mod constant;
 mod constants;
 mod expression;
 mod fault;
-mod parser;
+mod frame;
+mod laws;
+mod operand;
+mod reader;
+mod reading;
+mod stack;
+mod state;
+mod steps;
 mod words;
 
-pub use expression::{parse_assign, parse_constant, parse_expr};
+pub use constants::parse_constant;
+pub use expression::{parse_assign, parse_expr};
 pub use fault::ExprFault;
+pub use laws::{each_text_has_one_answer, each_text_has_one_tree, spellings_are_read_back};

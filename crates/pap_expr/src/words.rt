@@ -1,8 +1,9 @@
 // The words and ranks of the language.
-ghost use Rattle.std.specs.Prelude.{◌≡◌, Some, None, MatchOption};
+ghost use Rattle.std.specs.Prelude.{◌≡◌, Some, None, MatchOption, IsTrue};
+ghost use Rattle.pap_tree.specs.Names.{is_name};
 ghost use Rattle.pap_tree.specs.Words.{level_of_operator};
-ghost use Rattle.expr_grammar.specs.Machine.{method_of, constancy_of};
-ghost use Rattle.pap_expr.specs.Views.{method_view, static_view};
+ghost use Rattle.expr_grammar.specs.Machine.{method_of, constancy_of, mode_of, the_decimal, the_mode};
+ghost use Rattle.pap_expr.specs.Views.{method_view, static_view, holder_view};
 
 use pap_tree::{Binary, Call, Known, Name};
 use scaled_decimal::Mode;
@@ -47,7 +48,9 @@ pub(crate) fn rank(operator: Binary) -> u8
 
 /// The method of a word.
 pub(crate) fn method_of(word: Name) -> Option<Method>
-    ensures { MatchOption result (method_of word ≡ None) (λ m. method_of word ≡ Some (method_view m)) }
+    ensures method { MatchOption result (method_of word ≡ None)
+        (λ m. method_of word ≡ Some (method_view m)) }
+    ensures named { IsTrue (is_name word) }
 {
     match word.bytes() {
         b"add" => Some(Method::Applied(Call::Add)),
@@ -66,7 +69,9 @@ pub(crate) fn method_of(word: Name) -> Option<Method>
 
 /// What a word is after `BigDecimal` and a point.
 pub(crate) fn static_of(word: Name) -> Option<Static>
-    ensures { MatchOption result (constancy_of word ≡ None) (λ m. constancy_of word ≡ Some (static_view m)) }
+    ensures constant { MatchOption result (constancy_of word ≡ None)
+        (λ m. constancy_of word ≡ Some (static_view m)) }
+    ensures named { IsTrue (is_name word) }
 {
     match word.bytes() {
         b"ZERO" => Some(Static::Known(Known::Zero)),
@@ -78,7 +83,11 @@ pub(crate) fn static_of(word: Name) -> Option<Static>
 }
 
 /// The rounding mode of a word.
-pub(crate) fn mode_of(holder: Holder, word: Name) -> Option<Mode> {
+pub(crate) fn mode_of(holder: Holder, word: Name) -> Option<Mode>
+    ensures mode { MatchOption result (mode_of (holder_view holder) word ≡ None)
+        (λ m. mode_of (holder_view holder) word ≡ Some m) }
+    ensures named { IsTrue (is_name word) }
+{
     match holder {
         Holder::BigDecimal => old_mode(word.bytes()),
         Holder::RoundingMode => new_mode(word.bytes()),
@@ -86,29 +95,36 @@ pub(crate) fn mode_of(holder: Holder, word: Name) -> Option<Mode> {
 }
 
 /// The mode of a constant of `BigDecimal`.
-fn old_mode(word: &[u8]) -> Option<Mode> {
-    match word {
-        b"ROUND_DOWN" => Some(Mode::Down),
-        b"ROUND_UP" => Some(Mode::Up),
-        b"ROUND_FLOOR" => Some(Mode::Floor),
-        b"ROUND_CEILING" => Some(Mode::Ceiling),
-        b"ROUND_HALF_UP" => Some(Mode::HalfUp),
-        b"ROUND_HALF_DOWN" => Some(Mode::HalfDown),
-        b"ROUND_HALF_EVEN" => Some(Mode::HalfEven),
-        _ => None,
-    }
+fn old_mode(word: &[u8]) -> Option<Mode>
+    ensures { MatchOption result (mode_of the_decimal word.now ≡ None)
+        (λ m. mode_of the_decimal word.now ≡ Some m) }
+{
+    let Some(rest) = word.strip_prefix(b"ROUND_") else {
+        return None;
+    };
+    new_mode(rest)
 }
 
 /// The mode of a constant of `RoundingMode`.
-fn new_mode(word: &[u8]) -> Option<Mode> {
-    match word {
-        b"DOWN" => Some(Mode::Down),
-        b"UP" => Some(Mode::Up),
-        b"FLOOR" => Some(Mode::Floor),
-        b"CEILING" => Some(Mode::Ceiling),
-        b"HALF_UP" => Some(Mode::HalfUp),
-        b"HALF_DOWN" => Some(Mode::HalfDown),
-        b"HALF_EVEN" => Some(Mode::HalfEven),
-        _ => None,
+fn new_mode(word: &[u8]) -> Option<Mode>
+    ensures { MatchOption result (mode_of the_mode word.now ≡ None)
+        (λ m. mode_of the_mode word.now ≡ Some m) }
+{
+    if word == b"DOWN".as_slice() {
+        Some(Mode::Down)
+    } else if word == b"UP".as_slice() {
+        Some(Mode::Up)
+    } else if word == b"FLOOR".as_slice() {
+        Some(Mode::Floor)
+    } else if word == b"CEILING".as_slice() {
+        Some(Mode::Ceiling)
+    } else if word == b"HALF_UP".as_slice() {
+        Some(Mode::HalfUp)
+    } else if word == b"HALF_DOWN".as_slice() {
+        Some(Mode::HalfDown)
+    } else if word == b"HALF_EVEN".as_slice() {
+        Some(Mode::HalfEven)
+    } else {
+        None
     }
 }

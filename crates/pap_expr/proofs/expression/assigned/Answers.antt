@@ -1,0 +1,45 @@
+use Rattle.std.proofs.Common.{◌∙◌, Err, refl, sym, ap, subst}
+use Rattle.std.proofs.lemmas.List.{nil_from_length}
+use Rattle.pap_tree.specs.Grammar.{Assignment}
+use Rattle.expr_tokens.specs.Spots.{spot_of, spots_of}
+use Rattle.expr_grammar.specs.Machine.{Naming}
+use Rattle.expr_grammar.specs.Run.{refusal, run}
+use Rattle.pap_expr.specs.Views.{refusal_of, plain_cause}
+use Rattle.pap_expr.specs.Answers.{Answers}
+use Rattle.pap_expr.proofs.RunLemmas.{due, due_cause, targeted, assigned, unassigned, fails}
+use Rattle.pap_expr.proofs.expression.assigned.Goals as goal
+
+pub returns-in_default-split_first : goal.returns-in_default-split_first
+returns-in_default-split_first c =
+    let f = refusal_of c.args.end in
+    let w = c.in-Some-target_of.target in
+    let first = spot_of c.in-Some.first.now in
+    let rest = spots_of c.in-Some.rest.now in
+    let begun = ap (λ ts. run Assignment f Naming (spots_of ts)) c.in-Some.ensures.cases.0 ∙ targeted f first rest w c.in-Some-target_of.ensures in
+    let none = nil_from_length c.in-Some.rest.now c.in_default-split_first.ensures.cases in
+    fails (run Assignment f Naming (spots_of c.args.front.now)) c.args.end f (begun ∙ ap (λ ts. run Assignment f (due w) (spots_of ts)) none) refl
+
+pub returns-then-not-is_sign : goal.returns-then-not-is_sign
+returns-then-not-is_sign c =
+    let f = refusal_of c.args.end in
+    let w = c.in-Some-target_of.target in
+    let first = spot_of c.in-Some.first.now in
+    let rest = spots_of c.in-Some.rest.now in
+    let begun = ap (λ ts. run Assignment f Naming (spots_of ts)) c.in-Some.ensures.cases.0 ∙ targeted f first rest w c.in-Some-target_of.ensures in
+    let second = spot_of c.in-Some-split_first.second.now in
+    let more = spots_of c.in-Some-split_first.rest.now in
+    let ran = begun ∙ ap (λ ts. run Assignment f (due w) (spots_of ts)) c.in-Some-split_first.ensures.cases.0 ∙ unassigned f second more w (sym c.if-not-is_sign.ensures)
+    ∙ ap (λ g. Err (refusal g second.at)) (due_cause w second.token) in
+    fails (run Assignment f Naming (spots_of c.args.front.now)) c.refused-then-not-is_sign.result (refusal (plain_cause second.token) second.at) ran c.refused-then-not-is_sign.ensures
+
+pub returns : goal.returns
+returns c =
+    let f = refusal_of c.args.end in
+    let w = c.in-Some-target_of.target in
+    let first = spot_of c.in-Some.first.now in
+    let rest = spots_of c.in-Some.rest.now in
+    let begun = ap (λ ts. run Assignment f Naming (spots_of ts)) c.in-Some.ensures.cases.0 ∙ targeted f first rest w c.in-Some-target_of.ensures in
+    let second = spot_of c.in-Some-split_first.second.now in
+    let more = spots_of c.in-Some-split_first.rest.now in
+    let ran = begun ∙ ap (λ ts. run Assignment f (due w) (spots_of ts)) c.in-Some-split_first.ensures.cases.0 ∙ assigned f second more w (sym c.if-not-is_sign.ensures) in
+    subst (λ r. Answers r c.read.result) (sym ran) (c.read.ensures Assignment refl)

@@ -1,0 +1,5 @@
+use Rattle.pap_expr.specs.Stacks.{stack_of}
+use Rattle.pap_expr.proofs.reader.Reader.operand.Goals as goal
+
+pub returns-in-Keyword : goal.returns-in-Keyword
+returns-in-Keyword c = rw c.in-Keyword.is (c.class.ensures (stack_of c.args.self.now.stack))

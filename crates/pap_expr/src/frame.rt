@@ -1,0 +1,59 @@
+// What waits for the expression that is read.
+ghost use Rattle.std.specs.Prelude.{◌≡◌, ◌+◌, ◌∷◌, ◌≤◌, List};
+ghost use Rattle.expr_grammar.specs.Machine.{Frame as Waiting, level, binds};
+ghost use Rattle.pap_expr.specs.Frames.{frame_of};
+
+use crate::words::rank;
+use pap_tree::{Binary, Call, Expr, Name};
+
+/// What waits for the expression that is read.
+#[derive(Drop)]
+pub(crate) enum Frame {
+    /// In round brackets.
+    Brackets,
+    /// The argument of a method, after its receiver.
+    Argument(Call, Box<Expr>),
+    /// The index of an item.
+    Index(Name),
+    /// The argument of `BigDecimal.valueOf`.
+    ValueOf,
+    /// The argument of `new BigDecimal`.
+    NewBig,
+    /// The operand of a prefix `-`.
+    Minus,
+    /// The operand of `!`.
+    Not,
+    /// The right operand of an operator, after the left one.
+    Right(Binary, Box<Expr>),
+    /// What a conditional gives where its test holds, after the test.
+    Yes(Box<Expr>),
+    /// What it gives where the test doesn't hold.
+    No(Box<Expr>, Box<Expr>),
+    /// The expression of an assignment, after its target.
+    Target(Name),
+}
+
+impl Frame {
+    /// How tightly the frame binds its operand, where no token ends it.
+    pub(crate) fn binds(&self) -> Option<u8>
+        ensures { result ≡ binds (frame_of self.now) }
+    {
+        match self {
+            Frame::Minus | Frame::Not => Some(7),
+            Frame::Right(operator, _) => Some(rank(*operator)),
+            Frame::No(_, _) => Some(0),
+            _ => None,
+        }
+    }
+
+    /// How many levels the frame opens.
+    pub(crate) fn levels(&self) -> usize
+        ensures opens { (k : List Waiting) → level (frame_of self.now ∷ k) ≡ result + level k }
+        ensures one { result ≤ 1 }
+    {
+        match self {
+            Frame::Right(_, _) | Frame::Target(_) => 0,
+            _ => 1,
+        }
+    }
+}
