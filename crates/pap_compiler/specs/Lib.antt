@@ -1,0 +1,5 @@
+pub mod CodeDecisions
+pub mod Correct
+pub mod Depths
+pub mod Heights
+pub mod Numbers

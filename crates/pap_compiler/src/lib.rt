@@ -1,0 +1,2 @@
+//! From plans to code.
+#![tactic(auto)]
