@@ -15,14 +15,13 @@ use Rattle.pap_tree.specs.Grammar.{known_value}
 use Rattle.pap_tree.specs.Term.{Leaf, whole, long, point, text, known, named, Term, leaf, item, one, two, choice, One, unary, value_of, value_of_scaled, new_big, set_scale, Two, operator, method, divide}
 use Rattle.pap_tree.specs.Declarations.{Declaration}
 use Rattle.pap_tree.specs.Flowchart.{Body, done, eval, branch, execute, Routine, Flowchart}
-use Rattle.pap_types.specs.Scopes.{Scope, scope_of, variables_of, first_value, constant_in, at_factor_scale, zero, declared_table}
+use Rattle.pap_types.specs.Scopes.{Scope, scope_of, variables_of, names_of, number_of, first_value, constant_in, at_factor_scale, zero, declared_table}
 use Rattle.pap_types.specs.Kinds.{shown_divisor}
 use Rattle.pap_types.specs.Operations.{fewest_places}
-use Rattle.pap_types.specs.Checks.{names_of, target_kind}
+use Rattle.pap_types.specs.Checks.{target_kind}
 use Rattle.pap_machine.specs.declared.code.Instr.{Instr}
 use Rattle.pap_machine.specs.declared.code.Instr.TheVariants as i
 use Rattle.pap_machine.specs.Code.{Program}
-use Rattle.pap_compiler.specs.Numbers.{number_of}
 use Rattle.pap_compiler.specs.Heights.{height_of}
 use Rattle.pap_compiler.specs.Depths.{depth_of}
 

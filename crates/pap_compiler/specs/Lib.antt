@@ -2,4 +2,3 @@ pub mod CodeDecisions
 pub mod Correct
 pub mod Depths
 pub mod Heights
-pub mod Numbers
