@@ -1,5 +1,5 @@
 -- Instructions that stand in a code, and how many an expression and a list of statements have.
-use Rattle.std.proofs.Common.{◌≡◌, ℕ, ◌+◌, ◌-◌, ◌<◌, List, [], ◌∷◌, ◌++◌, length, Option, Some, None, refl, ap, ◌∙◌, subst, arith, append_assoc, length-append}
+use Rattle.std.proofs.Common.{◌≡◌, ℕ, ◌+◌, ◌-◌, ◌<◌, List, [], ◌∷◌, ◌++◌, length, Option, Some, None, refl, ap, ◌∙◌, subst, arith, append_assoc, length-append, Bool, true, false, if◌then◌else◌}
 use Rattle.std.specs.Prelude.{slice_get}
 use Rattle.std.proofs.Math.Seq.{get_or-append_seam}
 use Rattle.std.proofs.lemmas.Option.{slice_get-get_or}
@@ -8,7 +8,8 @@ use Rattle.pap_tree.specs.declared.declaration.Kind.TheVariants as declares
 use Rattle.pap_tree.specs.declared.expression.Binary.TheVariants as binaries
 use Rattle.pap_tree.specs.Term.{Leaf, whole, long, point, text, known, named, Term, leaf, item, one, two, choice, One, unary, value_of, value_of_scaled, new_big, set_scale, Two, operator, method, divide}
 use Rattle.pap_tree.specs.Flowchart.{Body, done, eval, branch, execute}
-use Rattle.pap_types.specs.Scopes.{Scope}
+use Rattle.pap_types.specs.Scopes.{Scope, at_factor_scale}
+use Rattle.pap_types.specs.Kinds.{has_few_places}
 use Rattle.pap_types.specs.Checks.{target_kind}
 use Rattle.pap_machine.specs.declared.code.Instr.{Instr}
 use Rattle.pap_machine.specs.declared.code.Instr.TheVariants as i
@@ -74,7 +75,11 @@ module _ (scope : Scope) where
 
   length_factor : (e : Term) (code : List Instr) → length code ≡ term_length e → length (factor_code e code) ≡ term_length e
   length_factor (leaf (whole n)) code l = refl
-  length_factor (leaf (point d)) code l = refl
+  length_factor (leaf (point d)) code l = by_places (has_few_places d)
+    where
+      by_places : (few : Bool) → length (if few then i.Lit (at_factor_scale d) ∷ [] else code) ≡ 1
+      by_places true = refl
+      by_places false = l
   length_factor e code l = l
 
   pub length_assigned : (k : Option Kind) (e : Term) (code : List Instr) → length code ≡ term_length e → length (assigned_code k e code) ≡ term_length e

@@ -1,7 +1,6 @@
 -- The code of a plan: MAIN's, the end, and then that of each method once. An EXECUTE is a call.
-use Rattle.std.specs.Prelude.{ℕ, ◌+◌, ℤ, pos, if◌then◌else◌, List, [], ◌∷◌, ◌++◌, length, map, Option, Some, None, unwrap_or}
+use Rattle.std.specs.Prelude.{ℕ, ◌+◌, ℤ, pos, if◌then◌else◌, List, [], ◌∷◌, ◌++◌, length, map, Option, Some, None, unwrap_or, slice_index}
 use Rattle.std.specs.Option.{option_map, option_map_or, option_or}
-use Rattle.std.specs.Str.{bytes_eq}
 use Rattle.scaled_decimal.specs.Decimals.{Decimal, decimal, numerator_of}
 use Rattle.scaled_decimal.specs.ShortenedDecimals.{shortened}
 use Rattle.pap_tree.specs.declared.declaration.Kind.{Kind}
@@ -16,7 +15,8 @@ use Rattle.pap_tree.specs.Term.{Leaf, whole, long, point, text, known, named, Te
 use Rattle.pap_tree.specs.Declarations.{Declaration}
 use Rattle.pap_tree.specs.Flowchart.{Body, done, eval, branch, execute, Routine, Flowchart}
 use Rattle.pap_types.specs.Scopes.{Scope, scope_of, variables_of, names_of, number_of, first_value, constant_in, at_factor_scale, zero, declared_table}
-use Rattle.pap_types.specs.Kinds.{shown_divisor}
+use Rattle.pap_types.specs.Kinds.{shown_divisor, has_few_places}
+use Rattle.pap_types.specs.Routines.{method_names}
 use Rattle.pap_types.specs.Operations.{fewest_places}
 use Rattle.pap_types.specs.Checks.{target_kind}
 use Rattle.pap_machine.specs.declared.code.Instr.{Instr}
@@ -148,7 +148,7 @@ module _ (scope : Scope) where
 -- a literal that goes to a `double` stands in the code with three places
 abbrev pub factor_code : Term → List Instr → List Instr
 factor_code (leaf (whole n)) code = i.Lit (at_factor_scale (decimal n 0)) ∷ []
-factor_code (leaf (point d)) code = i.Lit (at_factor_scale d) ∷ []
+factor_code (leaf (point d)) code = if has_few_places d then i.Lit (at_factor_scale d) ∷ [] else code
 factor_code _ code = code
 
 abbrev pub assigned_code : Option Kind → Term → List Instr → List Instr
@@ -182,8 +182,7 @@ entries_from at (m ∷ ms) = at ∷ entries_from (at + body_length m.body + 1) m
 
 -- the first instruction of the method of a name
 abbrev pub entry : ℕ → List Routine → List ℕ → ℕ
-entry at [] x = at
-entry at (m ∷ ms) x = if bytes_eq x m.name then at else entry (at + body_length m.body + 1) ms x
+entry at ms x = option_map_or (slice_index (entries_from at ms)) (number_of (method_names ms) x) 0
 
 -- ---- the plan
 
