@@ -144,6 +144,33 @@ pub zero_of_truth : (b : Bool) → is_zero (truth b) ≡ not b
 zero_of_truth true = refl
 zero_of_truth false = refl
 
+-- a declared whole number has no places
+literal_whole : (k : DeclaredKind) (o : Option DeclaredLiteral) → is_whole (declared_kind k) ≡ true → option_map_or (is_of_type k) o true ≡ true → scale_of (kept_as k (declared_decimal o)) ≡ 0
+literal_whole declares.Int None h t = refl
+literal_whole declares.Int (Some (number (whole n))) h t = refl
+literal_whole declares.Int (Some (number (long n))) h t = absurd (cc)
+literal_whole declares.Int (Some (number (point n))) h t = absurd (cc)
+literal_whole declares.Int (Some (number (text n))) h t = absurd (cc)
+literal_whole declares.Int (Some (number (known n))) h t = absurd (cc)
+literal_whole declares.Int (Some (number (named n))) h t = absurd (cc)
+literal_whole declares.Int (Some (big n)) h t = absurd (cc)
+literal_whole declares.Int (Some (table n)) h t = absurd (cc)
+literal_whole declares.Long None h t = refl
+literal_whole declares.Long (Some (number (whole n))) h t = refl
+literal_whole declares.Long (Some (number (long n))) h t = refl
+literal_whole declares.Long (Some (number (point n))) h t = absurd (cc)
+literal_whole declares.Long (Some (number (text n))) h t = absurd (cc)
+literal_whole declares.Long (Some (number (known n))) h t = absurd (cc)
+literal_whole declares.Long (Some (number (named n))) h t = absurd (cc)
+literal_whole declares.Long (Some (big n)) h t = absurd (cc)
+literal_whole declares.Long (Some (table n)) h t = absurd (cc)
+literal_whole declares.Big o h t = absurd (cc)
+literal_whole declares.Factor o h t = absurd (cc)
+literal_whole declares.Table o h t = absurd (cc)
+
+pub first_whole : (d : Declaration) → HasItsType d → is_whole (declared_kind d.kind) ≡ true → scale_of (first_value d) ≡ 0
+first_whole d t h = literal_whole d.kind d.value h t
+
 module _ (scope : Scope) (env : Env) where
   -- the value of && or ||: that of the right operand where it is evaluated, else that of the left one
   joined : (op : Two) (e f : Term) (d : Decimal) → ((a b : Decimal) → of_two op a b ≡ Some b) → ((x : Decimal) → value scope e env ≡ Some x → IsTruthValue x) → ((x : Decimal) → value scope f env ≡ Some x → IsTruthValue x) → value scope (two op e f) env ≡ Some d → IsTruthValue d
@@ -206,32 +233,6 @@ module _ (scope : Scope) (env : Env) where
   truth_of (choice c e f) d h k v = absurd (parts_no_truth (kind_of scope e) (kind_of scope f) h.4 k)
 
   -- ---- whole numbers
-
-  literal_whole : (k : DeclaredKind) (o : Option DeclaredLiteral) → is_whole (declared_kind k) ≡ true → option_map_or (is_of_type k) o true ≡ true → scale_of (kept_as k (declared_decimal o)) ≡ 0
-  literal_whole declares.Int None h t = refl
-  literal_whole declares.Int (Some (number (whole n))) h t = refl
-  literal_whole declares.Int (Some (number (long n))) h t = absurd (cc)
-  literal_whole declares.Int (Some (number (point n))) h t = absurd (cc)
-  literal_whole declares.Int (Some (number (text n))) h t = absurd (cc)
-  literal_whole declares.Int (Some (number (known n))) h t = absurd (cc)
-  literal_whole declares.Int (Some (number (named n))) h t = absurd (cc)
-  literal_whole declares.Int (Some (big n)) h t = absurd (cc)
-  literal_whole declares.Int (Some (table n)) h t = absurd (cc)
-  literal_whole declares.Long None h t = refl
-  literal_whole declares.Long (Some (number (whole n))) h t = refl
-  literal_whole declares.Long (Some (number (long n))) h t = refl
-  literal_whole declares.Long (Some (number (point n))) h t = absurd (cc)
-  literal_whole declares.Long (Some (number (text n))) h t = absurd (cc)
-  literal_whole declares.Long (Some (number (known n))) h t = absurd (cc)
-  literal_whole declares.Long (Some (number (named n))) h t = absurd (cc)
-  literal_whole declares.Long (Some (big n)) h t = absurd (cc)
-  literal_whole declares.Long (Some (table n)) h t = absurd (cc)
-  literal_whole declares.Big o h t = absurd (cc)
-  literal_whole declares.Factor o h t = absurd (cc)
-  literal_whole declares.Table o h t = absurd (cc)
-
-  pub first_whole : (d : Declaration) → HasItsType d → is_whole (declared_kind d.kind) ≡ true → scale_of (first_value d) ≡ 0
-  first_whole d t h = literal_whole d.kind d.value h t
 
   module _ (held : AreHeld scope.variables env) (types : HaveTypes scope.constants) where
     name_whole : (x : List ℕ) (d : Decimal) → is_whole (name_kind scope x) ≡ true → named_value scope x env ≡ Some d → scale_of d ≡ 0

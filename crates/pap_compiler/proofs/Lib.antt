@@ -6,3 +6,4 @@ pub mod DivisorLemmas
 pub mod OperationLemmas
 pub mod TermRuns
 pub mod BodyRuns
+pub mod PlanRuns
