@@ -1,20 +1,21 @@
 -- The code of a list of statements does what it means, in exactly its cost.
 use Rattle.std.proofs.Common.{◌≡◌, ℕ, zero, suc, ◌+◌, ◌<◌, ◌≤◌, max, List, [], ◌∷◌, ◌++◌, length, map, Bool, true, false, Option, Some, None, if◌then◌else◌, refl, sym, ap, ◌∙◌, subst, arith, ◌⊎◌, inl, inr}
 use Rattle.std.specs.Prelude.{slice_get, slice_set, ⊤, unwrap_or}
+use Rattle.std.specs.List.{All}
 use Rattle.std.specs.Option.{option_map, option_map_or, option_and_then}
 use Rattle.scaled_decimal.specs.Decimals.{Decimal, decimal, scale_of}
 use Rattle.scaled_decimal.specs.WholeNumbers.{truth}
 use Rattle.pap_tree.specs.declared.declaration.Kind.{Kind as DeclaredKind}
 use Rattle.pap_tree.specs.declared.declaration.Kind.TheVariants as declares
 use Rattle.pap_tree.specs.Term.{Leaf, whole, long, point, text, known, named, Term, leaf, item, one, two, choice}
-use Rattle.pap_tree.specs.Flowchart.{Body, done, eval, branch, execute}
+use Rattle.pap_tree.specs.Flowchart.{Body, done, eval, branch, execute, Routine}
+use Rattle.pap_tree.specs.Declarations.{Declaration}
 use Rattle.pap_types.specs.Scopes.{Scope, declared_as, kept_as, at_factor_scale, names_of, number_of}
-use Rattle.pap_types.specs.Kinds.{kind_of, is_whole, is_int, is_truth, declared_kind, suits, is_factor_literal, has_few_places}
+use Rattle.pap_types.specs.Kinds.{kind_of, name_kind, is_whole, is_int, is_truth, declared_kind, suits, is_factor_literal, has_few_places}
 use Rattle.pap_types.specs.Operations.{is_zero}
 use Rattle.pap_types.specs.Values.{Env, put, value, cost}
 use Rattle.pap_types.specs.Safety.{IsSafe}
 use Rattle.pap_types.specs.Runs.{Calls, assigned, after, spent, IsSafeBody}
-use Rattle.pap_types.specs.Checks.{target_kind}
 use Rattle.pap_machine.specs.declared.code.Instr.{Instr}
 use Rattle.pap_machine.specs.declared.code.Instr.TheVariants as i
 use Rattle.pap_machine.specs.Code.{Program}
@@ -24,7 +25,7 @@ use Rattle.pap_compiler.specs.Heights.{term_height, body_height}
 use Rattle.pap_compiler.specs.Depths.{body_depth}
 use Rattle.pap_compiler.specs.CodeDecisions.{term_length, body_length, term_code, factor_code, assigned_code, body_code, slot}
 use Rattle.pap_compiler.proofs.CodeLemmas.{HasAt, has_front, has_back, length_term, length_assigned, length_body}
-use Rattle.pap_compiler.proofs.TypedLemmas.{IsTypedTerm, IsSuited, AreTyped, HaveTypes, AreNew}
+use Rattle.pap_types.specs.Typing.{IsTypedTerm, TargetSuits, IsTypedBody, HasItsType, AreDistinct}
 use Rattle.pap_compiler.proofs.NameLemmas.{AreHeld, IsMissing, IsFound, looked, values_of, number_is}
 use Rattle.pap_compiler.proofs.KindLemmas.{and_then_some, some_is, int_whole, truth_of, whole_of, IsTruthValue}
 use Rattle.pap_compiler.proofs.TermRuns.{tables_of, IsReady, term_runs}
@@ -47,13 +48,12 @@ module _ (scope : Scope) (calls : Calls) (env ends : Env) (rest : Body) where
 -- what holds of the code and the plan in every environment
 pub record IsSet (scope : Scope) (p : Program) : Type 0 where
   pub tables : p.tables ≡ tables_of scope
-  pub types : HaveTypes scope.constants
-  pub before : List (List ℕ)
-  pub new : AreNew before (scope.variables ++ scope.constants)
+  pub types : All HasItsType scope.constants
+  pub distinct : AreDistinct (names_of (scope.variables ++ scope.constants))
 
 module _ (scope : Scope) (p : Program) (ready : IsSet scope p) where
   abbrev pub ready_in : (env : Env) → AreHeld scope.variables env → IsReady scope p env
-  ready_in env held = record { tables = ready.tables; held = held; types = ready.types; before = ready.before; new = ready.new }
+  ready_in env held = record { tables = ready.tables; held = held; types = ready.types; distinct = ready.distinct }
 
   -- between two statements
   abbrev pub between : ℕ → Env → List ℕ → State
@@ -70,7 +70,7 @@ module _ (scope : Scope) (p : Program) (ready : IsSet scope p) where
   -- the code of the expression leaves what the target keeps
   abbrev Leaves : DeclaredKind → Term → ℕ → Env → List ℕ → Type 0
   Leaves k e at env cs =
-      (v : Decimal) → term_height e ≤ p.height → IsSafe scope e env → value scope e env ≡ Some v → HasAt p.instrs at (assigned_code (Some k) e (term_code scope at e)) →
+      (v : Decimal) → term_height e ≤ p.height → IsSafe scope e env → value scope e env ≡ Some v → HasAt p.instrs at (assigned_code (declared_kind k) e (term_code scope at e)) →
       Leads p (cost scope e env) (between at env cs) (state_of (at + term_length e) (kept_as k v ∷ []) (values_of env) cs)
 
   literal : (at : ℕ) (env : Env) (cs : List ℕ) (v d : Decimal) → v ≡ d → 1 ≤ p.height → slice_get p.instrs at ≡ Some (i.Lit v) → Leads p 1 (between at env cs) (state_of (at + 1) (d ∷ []) (values_of env) cs)
@@ -116,19 +116,16 @@ module _ (scope : Scope) (p : Program) (ready : IsSet scope p) where
     run : Leads p (cost scope e env + 1) (between at env cs) (between (at + term_length e + 1) (assigned scope x v env) cs)
     held : AreHeld scope.variables (assigned scope x v env)
 
-  no_target : (x : List ℕ) (k : DeclaredKind) → target_kind scope x ≡ Some k → declared_as scope.variables x ≡ None → ⊥
-  no_target x k is none = let e : None ≡ Some k = rw none at is in cc
-
-  assigns : (x : List ℕ) (e : Term) (v : Decimal) (at : ℕ) (env : Env) (cs : List ℕ) (rest : List Instr) → AreHeld scope.variables env → IsTypedTerm scope e → IsSuited scope x e → term_height e ≤ p.height → IsSafe scope e env → value scope e env ≡ Some v →
-      HasAt p.instrs at (assigned_code (target_kind scope x) e (term_code scope at e) ++ i.Store (slot scope x) ∷ rest) → IsAssigned x e v at env cs
+  assigns : (x : List ℕ) (e : Term) (v : Decimal) (at : ℕ) (env : Env) (cs : List ℕ) (rest : List Instr) → AreHeld scope.variables env → IsTypedTerm scope e → TargetSuits scope x e → term_height e ≤ p.height → IsSafe scope e env → value scope e env ≡ Some v →
+      HasAt p.instrs at (assigned_code (name_kind scope x) e (term_code scope at e) ++ i.Store (slot scope x) ∷ rest) → IsAssigned x e v at env cs
   assigns x e v at env cs rest held typed suited room safe is has = elim (looked scope.variables env x held) [
-    | inl m ↦ absurd (no_target x suited.kind suited.is m.declared)
+    | inl m ↦ absurd (let none = m.declared in let some = suited.declared in cc)
     | inr f ↦ (let k = f.declaration.kind in
-        let kind : target_kind scope x ≡ Some k = rw f.declared refl in
-        let fits : suits k e (kind_of scope e) ≡ true = subst (λ k. suits k e (kind_of scope e) ≡ true) (some_is suited.kind k (sym suited.is ∙ kind)) suited.suits in
-        let code = assigned_code (target_kind scope x) e (term_code scope at e) in
-        let front : HasAt p.instrs at (assigned_code (Some k) e (term_code scope at e)) = subst (λ o. HasAt p.instrs at (assigned_code o e (term_code scope at e))) kind (has_front p.instrs at code (i.Store (slot scope x) ∷ rest) has) in
-        let behind = has_back p.instrs at (term_length e) code (i.Store (slot scope x) ∷ rest) (length_assigned scope (target_kind scope x) e (term_code scope at e) (length_term scope e at)) has in
+        let kind : name_kind scope x ≡ declared_kind k = rw f.declared refl in
+        let fits : suits k e (kind_of scope e) ≡ true = subst (λ (d : Declaration). suits d.kind e (kind_of scope e) ≡ true) (some_is suited.declaration f.declaration (sym suited.declared ∙ f.declared)) suited.suits in
+        let code = assigned_code (name_kind scope x) e (term_code scope at e) in
+        let front : HasAt p.instrs at (assigned_code (declared_kind k) e (term_code scope at e)) = subst (λ n. HasAt p.instrs at (assigned_code n e (term_code scope at e))) kind (has_front p.instrs at code (i.Store (slot scope x) ∷ rest) has) in
+        let behind = has_back p.instrs at (term_length e) code (i.Store (slot scope x) ∷ rest) (length_assigned scope (name_kind scope x) e (term_code scope at e) (length_term scope e at)) has in
         let first = assigned_leaves k e at env cs held typed fits v room safe is front in
         let place : slot scope x ≡ f.at = rw (number_is, f.number) refl in
         let stored : Leads p 1 (state_of (at + term_length e) (kept_as k v ∷ []) (values_of env) cs) (state_of (at + term_length e + 1) [] (slice_set (values_of env) f.at (kept_as k v)) cs) =
@@ -151,13 +148,13 @@ module _ (scope : Scope) (p : Program) (ready : IsSet scope p) where
       pub each : (m : List ℕ) (env ends : Env) (r : ℕ) (cs : List ℕ) → AreHeld scope.variables env → length cs + (deep m + 1) ≤ p.depth → calls.IsSafeCall m env → calls.after m env ≡ Some ends →
           Leads p (calls.spent m env + 1) (between (to m) env (r ∷ cs)) (between r ends cs) × AreHeld scope.variables ends
 
-    module _ (calls : Calls) (deep : List ℕ → ℕ) where
+    module _ (ms : List Routine) (calls : Calls) (deep : List ℕ → ℕ) where
       abbrev pub Runs : Body → ℕ → Type 0
       Runs b at =
           (cs : List ℕ) (env ends : Env) → AreHeld scope.variables env → length cs + body_depth deep b ≤ p.depth → body_height b ≤ p.height → IsSafeBody scope calls b env → after scope calls b env ≡ Some ends →
           Leads p (spent scope calls b env) (between at env cs) (between (at + body_length b) ends cs) × AreHeld scope.variables ends
 
-      eval_runs : (x : List ℕ) (e : Term) (rest : Body) (at : ℕ) → IsTypedTerm scope e → IsSuited scope x e → HasAt p.instrs at (body_code scope to at (eval x e rest)) → Runs rest (at + term_length e + 1) → Runs (eval x e rest) at
+      eval_runs : (x : List ℕ) (e : Term) (rest : Body) (at : ℕ) → IsTypedTerm scope e → TargetSuits scope x e → HasAt p.instrs at (body_code scope to at (eval x e rest)) → Runs rest (at + term_length e + 1) → Runs (eval x e rest) at
       eval_runs x e rest at typed suited has later cs env ends held deep_enough high safe is =
           let k = and_then_some (λ v. after scope calls rest (assigned scope x v env)) (value scope e env) ends is in
           let a = assigns x e k.0 at env cs (body_code scope to (at + term_length e + 1) rest) held typed suited (omega (arith, high)) safe.0 k.1.0 has in
@@ -229,16 +226,16 @@ module _ (scope : Scope) (p : Program) (ready : IsSet scope p) where
                 (leads_on p (cost scope t env + 1) (spent scope calls b env) (between at env cs) (between no_at env cs) (between rest_at k.0 cs)
                 (leads_on p (cost scope t env) 1 (between at env cs) tested (between no_at env cs) first off) r1.0) r2.0)), r2.1)
 
-      pub body_runs : CallsRun calls deep → (b : Body) (at : ℕ) → AreTyped scope b → HasAt p.instrs at (body_code scope to at b) → Runs b at
+      pub body_runs : CallsRun calls deep → (b : Body) (at : ℕ) → IsTypedBody scope ms b → HasAt p.instrs at (body_code scope to at b) → Runs b at
       body_runs called done at typed has = λ cs env ends held deep_enough high safe is.
           let same : env ≡ ends = some_is env ends is in
           let n : at ≡ at + 0 = omega arith in
           (subst (λ e. Leads p 0 (between at env cs) (between (at + 0) e cs)) same (as_place 0 (between at env cs) at (at + 0) [] (values_of env) cs n (leads_none p (between at env cs))), subst (AreHeld scope.variables) same held)
       body_runs called (eval x e rest) at typed has =
-          let code = assigned_code (target_kind scope x) e (term_code scope at e) in
-          let behind = has_back p.instrs at (term_length e) code (i.Store (slot scope x) ∷ body_code scope to (at + term_length e + 1) rest) (length_assigned scope (target_kind scope x) e (term_code scope at e) (length_term scope e at)) has in
+          let code = assigned_code (name_kind scope x) e (term_code scope at e) in
+          let behind = has_back p.instrs at (term_length e) code (i.Store (slot scope x) ∷ body_code scope to (at + term_length e + 1) rest) (length_assigned scope (name_kind scope x) e (term_code scope at e) (length_term scope e at)) has in
           eval_runs x e rest at typed.0 typed.1 has (body_runs called rest (at + term_length e + 1) typed.2 behind.1)
-      body_runs called (execute m rest) at typed has = execute_runs m rest at called has.0 (body_runs called rest (at + 1) typed has.1)
+      body_runs called (execute m rest) at typed has = execute_runs m rest at called has.0 (body_runs called rest (at + 1) typed.1 has.1)
       body_runs called (branch t a b rest) at typed has =
           let p1 = at + term_length t + 1 in
           let q1 = p1 + body_length a + 1 in

@@ -3,14 +3,13 @@ use Rattle.std.proofs.Common.{◌≡◌, ℕ, ◌+◌, ◌-◌, ◌<◌, List, [
 use Rattle.std.specs.Prelude.{slice_get}
 use Rattle.std.proofs.Math.Seq.{get_or-append_seam}
 use Rattle.std.proofs.lemmas.Option.{slice_get-get_or}
-use Rattle.pap_tree.specs.declared.declaration.Kind.{Kind}
-use Rattle.pap_tree.specs.declared.declaration.Kind.TheVariants as declares
 use Rattle.pap_tree.specs.declared.expression.Binary.TheVariants as binaries
 use Rattle.pap_tree.specs.Term.{Leaf, whole, long, point, text, known, named, Term, leaf, item, one, two, choice, One, unary, value_of, value_of_scaled, new_big, set_scale, Two, operator, method, divide}
 use Rattle.pap_tree.specs.Flowchart.{Body, done, eval, branch, execute}
 use Rattle.pap_types.specs.Scopes.{Scope, at_factor_scale}
-use Rattle.pap_types.specs.Kinds.{has_few_places}
-use Rattle.pap_types.specs.Checks.{target_kind}
+use Rattle.pap_types.specs.Kinds.{name_kind, has_few_places}
+use Rattle.pap_types.specs.declared.kinds.NodeKind.{NodeKind}
+use Rattle.pap_types.specs.declared.kinds.NodeKind.TheVariants.{Factor}
 use Rattle.pap_machine.specs.declared.code.Instr.{Instr}
 use Rattle.pap_machine.specs.declared.code.Instr.TheVariants as i
 use Rattle.pap_compiler.specs.CodeDecisions.{term_length, body_length, term_code, operand_code, instr_of_one, instr_of_two, table_number, factor_code, assigned_code, body_code, slot}
@@ -82,15 +81,15 @@ module _ (scope : Scope) where
       by_places false = l
   length_factor e code l = l
 
-  pub length_assigned : (k : Option Kind) (e : Term) (code : List Instr) → length code ≡ term_length e → length (assigned_code k e code) ≡ term_length e
-  length_assigned (Some declares.Factor) e code l = length_factor e code l
+  pub length_assigned : (k : NodeKind) (e : Term) (code : List Instr) → length code ≡ term_length e → length (assigned_code k e code) ≡ term_length e
+  length_assigned Factor e code l = length_factor e code l
   length_assigned k e code l = l
 
   pub length_body : (to : List ℕ → ℕ) (b : Body) (at : ℕ) → length (body_code scope to at b) ≡ body_length b
   length_body to done at = refl
   length_body to (eval x e rest) at =
-      let ce = assigned_code (target_kind scope x) e (term_code scope at e) in
-      omega (arith, length-append ce (i.Store (slot scope x) ∷ body_code scope to (at + term_length e + 1) rest), length_assigned (target_kind scope x) e (term_code scope at e) (length_term e at), length_body to rest (at + term_length e + 1))
+      let ce = assigned_code (name_kind scope x) e (term_code scope at e) in
+      omega (arith, length-append ce (i.Store (slot scope x) ∷ body_code scope to (at + term_length e + 1) rest), length_assigned (name_kind scope x) e (term_code scope at e) (length_term e at), length_body to rest (at + term_length e + 1))
   length_body to (branch t a b rest) at =
       let p = at + term_length t + 1 in
       let q = p + body_length a + 1 in

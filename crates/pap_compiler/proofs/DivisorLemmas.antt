@@ -1,6 +1,7 @@
 -- The divisor that the text of a divide(d) shows is the divisor's value, and a plain one.
 use Rattle.std.proofs.Common.{◌≡◌, ℕ, ◌+◌, ◌*◌, ◌/◌, ◌%◌, ◌^◌, ◌<◌, List, [], ◌∷◌, ◌++◌, Bool, true, false, Option, Some, None, if◌then◌else◌, refl, sym, ap, ◌∙◌, subst, arith, ◌⊎◌, inl, inr}
 use Rattle.std.specs.Prelude.{◌&&◌, ◌==◌, nat_lt, ⊤, ℤ, pos, negsuc}
+use Rattle.std.specs.List.{All}
 use Rattle.std.specs.Option.{option_map, option_map_or, option_or, option_and_then}
 use Rattle.std.proofs.lemmas.Bool.Decides.{nat_tests}
 use Rattle.scaled_decimal.specs.Decimals.{Decimal, decimal, scale_of, numerator_of}
@@ -12,15 +13,15 @@ use Rattle.pap_tree.specs.declared.declaration.Kind.TheVariants as declares
 use Rattle.pap_tree.specs.Grammar.{known_value}
 use Rattle.pap_tree.specs.Term.{Leaf, whole, long, point, text, known, named, Term, leaf, item, one, two, choice, One, unary, value_of, value_of_scaled, new_big, set_scale}
 use Rattle.pap_tree.specs.Declarations.{Declaration, DeclaredLiteral, number, big, table}
-use Rattle.pap_types.specs.Scopes.{Scope, declared_as, constant_in, first_value, kept_as, declared_decimal}
+use Rattle.pap_types.specs.Scopes.{Scope, names_of, declared_as, constant_in, first_value, kept_as, declared_decimal}
 use Rattle.pap_types.specs.Kinds.{literal_big, written_decimal, int_literal, shown_divisor, shows_plain_divisor, is_plain_divisor, is_plain_number}
 use Rattle.pap_types.specs.Values.{Env, value, named_value}
 use Rattle.pap_types.specs.Operations.{of_one}
 use Rattle.pap_types.specs.Checks.{is_of_type}
 use Rattle.pap_compiler.specs.CodeDecisions.{shown_number}
-use Rattle.pap_compiler.proofs.TypedLemmas.{HasItsType, HaveTypes, AreNew, both_true}
+use Rattle.pap_types.specs.Typing.{HasItsType, AreDistinct}
 use Rattle.pap_compiler.proofs.NameLemmas.{AreHeld, IsMissing, IsFound, looked, declared_type, apart}
-use Rattle.pap_compiler.proofs.KindLemmas.{and_then_some, map_some, some_is}
+use Rattle.pap_compiler.proofs.KindLemmas.{both_true, and_then_some, map_some, some_is}
 
 cofactor : (m n : ℕ) → 0 < n → m % n ≡ 0 → (m / n) * n ≡ m
 cofactor m n h e = omega arith
@@ -47,7 +48,7 @@ written declares.Long (Some (big d)) s t e = absurd (cc)
 written declares.Factor (Some (big d)) s t e = absurd (cc)
 written declares.Table (Some (big d)) s t e = absurd (cc)
 
-module _ (scope : Scope) (env : Env) (held : AreHeld scope.variables env) (types : HaveTypes scope.constants) (before : List (List ℕ)) (new : AreNew before (scope.variables ++ scope.constants)) where
+module _ (scope : Scope) (env : Env) (held : AreHeld scope.variables env) (types : All HasItsType scope.constants) (distinct : AreDistinct (names_of (scope.variables ++ scope.constants))) where
   of_constant : (x : List ℕ) (s b : Decimal) → option_and_then written_decimal (declared_as scope.constants x) ≡ Some s → named_value scope x env ≡ Some b → b ≡ s
   of_constant x s b e v =
       let k = and_then_some written_decimal (declared_as scope.constants x) s e in
@@ -55,7 +56,7 @@ module _ (scope : Scope) (env : Env) (held : AreHeld scope.variables env) (types
       elim (looked scope.variables env x held) [
         | inl m ↦ (let v' : Some (first_value c) ≡ Some b = rw (m.looks, k.1.0) at v in
             sym (some_is (first_value c) b v') ∙ written c.kind c.value s (declared_type scope.constants x c types k.1.0) k.1.1)
-        | inr f ↦ absurd (apart before scope.variables scope.constants x f.declaration c new f.declared k.1.0)
+        | inr f ↦ absurd (apart scope.variables scope.constants x f.declaration c distinct f.declared k.1.0)
       ]
 
   of_literal : (e : Term) (s b : Decimal) → int_literal e ≡ Some s → value scope e env ≡ Some b → b ≡ s

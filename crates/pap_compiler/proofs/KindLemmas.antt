@@ -2,6 +2,7 @@
 use Rattle.std.proofs.Common.{◌≡◌, ℕ, ◌+◌, List, [], ◌∷◌, ◌++◌, Bool, true, false, Option, Some, None, if◌then◌else◌, refl, sym, ap, ◌∙◌, subst, ◌⊎◌, inl, inr}
 use Rattle.std.specs.Prelude.{◌&&◌, ◌||◌, not, ⊤, is_some, ℤ, pos}
 use Rattle.std.specs.Option.{option_map, option_map_or, option_or, option_and_then}
+use Rattle.std.specs.List.{All}
 use Rattle.std.specs.Ordering.{int_eq}
 use Rattle.scaled_decimal.specs.Decimals.{Decimal, scale_of, numerator_of}
 use Rattle.scaled_decimal.specs.WholeNumbers.{truth, item_at}
@@ -21,8 +22,12 @@ use Rattle.pap_types.specs.Kinds.{kind_of, leaf_kind, name_kind, declared_kind, 
 use Rattle.pap_types.specs.Operations.{is_zero, of_two, of_operator, unless_zero, compared, holds_of}
 use Rattle.pap_types.specs.Values.{Env, look, value, named_value, leaf_value, goes_right}
 use Rattle.pap_types.specs.Checks.{is_of_type}
-use Rattle.pap_compiler.proofs.TypedLemmas.{IsTypedTerm, HasItsType, HaveTypes, both_true}
+use Rattle.pap_types.specs.Typing.{IsTypedTerm, HasItsType}
 use Rattle.pap_compiler.proofs.NameLemmas.{AreHeld, IsMissing, IsFound, looked, declared_type}
+
+pub both_true : (a b : Bool) → (a && b) ≡ true → (a ≡ true) × (b ≡ true)
+both_true true b h = (refl, h)
+both_true false b h = absurd (cc)
 
 -- ---- values that are there
 
@@ -230,11 +235,11 @@ module _ (scope : Scope) (env : Env) where
   truth_of (two (method calls.CompareTo) e f) d h k v = absurd (cc)
   truth_of (two (method m) e f) d h k v = absurd (cc)
   truth_of (two (divide s m) e f) d h k v = absurd (cc)
-  truth_of (choice c e f) d h k v = absurd (parts_no_truth (kind_of scope e) (kind_of scope f) h.4 k)
+  truth_of (choice c e f) d h k v = absurd (parts_no_truth (kind_of scope e) (kind_of scope f) h.3.parts k)
 
   -- ---- whole numbers
 
-  module _ (held : AreHeld scope.variables env) (types : HaveTypes scope.constants) where
+  module _ (held : AreHeld scope.variables env) (types : All HasItsType scope.constants) where
     name_whole : (x : List ℕ) (d : Decimal) → is_whole (name_kind scope x) ≡ true → named_value scope x env ≡ Some d → scale_of d ≡ 0
     name_whole x d h e = elim (looked scope.variables env x held) [
       | inl m ↦ of_constant (declared_as scope.constants x) refl (rw m.declared at h) (rw m.looks at e)
@@ -289,7 +294,7 @@ module _ (scope : Scope) (env : Env) where
     whole_of (two (method m) e f) d h k v = absurd (cc)
     whole_of (two (divide s m) e f) d h k v = absurd (cc)
     whole_of (choice c e f) d h k v =
-        let w = parts_whole (kind_of scope e) (kind_of scope f) h.4 k in
+        let w = parts_whole (kind_of scope e) (kind_of scope f) h.3.parts k in
         let l = and_then_some (λ t. if is_zero t then value scope f env else value scope e env) (value scope c env) d v in
         by_zero (is_zero l.0) (λ g. whole_of e d h.1 w.0 g) (λ g. whole_of f d h.2 w.1 g) l.1.1
       where

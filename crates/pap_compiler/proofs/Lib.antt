@@ -1,5 +1,4 @@
 pub mod CodeLemmas
-pub mod TypedLemmas
 pub mod NameLemmas
 pub mod KindLemmas
 pub mod DivisorLemmas

@@ -1,20 +1,19 @@
 -- Names by number: where a name stands among the variables and in an environment that has their values.
-use Rattle.std.proofs.Common.{◌≡◌, ℕ, zero, suc, ◌+◌, ◌<◌, List, [], ◌∷◌, ◌++◌, length, map, Bool, true, false, Option, Some, None, if◌then◌else◌, refl, sym, ap, ◌∙◌, subst, arith, cond, nat_lt, ◌⊎◌, inl, inr, append_assoc}
-use Rattle.std.specs.Prelude.{slice_get, slice_set, position, ◌||◌, not, ⊤, is_some}
-use Rattle.std.specs.List.{list_any, position_or_len}
+use Rattle.std.proofs.Common.{◌≡◌, ℕ, zero, suc, ◌+◌, ◌<◌, List, [], ◌∷◌, ◌++◌, length, map, Bool, true, false, Option, Some, None, if◌then◌else◌, refl, sym, ap, ◌∙◌, subst, arith, cond, nat_lt, ◌⊎◌, inl, inr, get_or}
+use Rattle.std.specs.Prelude.{slice_get, slice_set, position, not, ⊤}
+use Rattle.std.specs.List.{All, position_or_len}
 use Rattle.std.specs.Option.{option_map, option_or, option_map_or}
 use Rattle.std.specs.Str.{bytes_eq}
 use Rattle.std.proofs.lemmas.Bool.{cases_lt, cases_Bool}
 use Rattle.std.proofs.lemmas.Bool.Decides.{nat_tests, same_from_decides}
-use Rattle.std.proofs.lemmas.List.Folds.{list_any-append}
+use Rattle.std.proofs.lemmas.List.Elements.{All-nil, All-cons, All-head, All-tail}
 use Rattle.std.proofs.lemmas.Slice.Eq.{bytes_eq-Decides}
 use Rattle.scaled_decimal.specs.Decimals.{Decimal, scale_of}
 use Rattle.pap_tree.specs.Declarations.{Declaration}
 use Rattle.pap_types.specs.Scopes.{Scope, declared_as, names_of, number_of, first_value, constant_in}
 use Rattle.pap_types.specs.Kinds.{declared_kind, is_whole}
 use Rattle.pap_types.specs.Values.{Env, Entry, look, put}
-use Rattle.pap_types.specs.Checks.{has_name}
-use Rattle.pap_compiler.proofs.TypedLemmas.{HasItsType, HaveTypes, AreNew}
+use Rattle.pap_types.specs.Typing.{HasItsType, AreDistinct}
 
 -- ---- names that are the same
 
@@ -134,52 +133,49 @@ looked (d ∷ ds) (v ∷ vs) x h = next d ds v vs x h.0 h.1 h.2 (looked ds vs x 
 
 -- ---- declarations
 
--- a name that stands before isn't declared
-stands_before : (before : List (List ℕ)) (ds : List Declaration) (x : List ℕ) → AreNew before ds → has_name before x ≡ true → declared_as ds x ≡ None
-stands_before before [] x h e = refl
-stands_before before (d ∷ ds) x h e = elim (cases_Bool (bytes_eq x d.name)) [
-  | inl s ↦ (let same = same_bytes x d.name s in let e' : has_name before d.name ≡ true = subst (λ n. has_name before n ≡ true) same e in absurd (cc (h.0)))
-  | inr s ↦ rw s (stands_before (before ++ (d.name ∷ [])) ds x h.1 (rw (list_any-append, e) refl))
+-- a declared name stands among the names
+named_at : (ds : List Declaration) (x : List ℕ) (c : Declaration) → declared_as ds x ≡ Some c → (j : ℕ) × ((j < length (names_of ds)) × ((e : List ℕ) → get_or (names_of ds) j e ≡ x))
+named_at [] x c is = absurd (cc)
+named_at (d ∷ ds) x c is = elim (cases_Bool (bytes_eq x d.name)) [
+  | inl s ↦ (0, (omega arith, λ e. sym (same_bytes x d.name s)))
+  | inr s ↦ (let k = named_at ds x c (rw s at is) in (suc k.0, (let l = k.1.0 in omega arith, k.1.1)))
 ]
 
--- what isn't declared among some declarations isn't among the last of them
-not_behind : (vs cs : List Declaration) (x : List ℕ) → declared_as (vs ++ cs) x ≡ None → declared_as cs x ≡ None
-not_behind [] cs x e = e
-not_behind (d ∷ vs) cs x e = by_name (bytes_eq x d.name) (not_behind vs cs x) e
+-- what is declared among the last declarations is declared among all
+declared_behind : (vs cs : List Declaration) (x : List ℕ) (c : Declaration) → declared_as cs x ≡ Some c → (d : Declaration) × (declared_as (vs ++ cs) x ≡ Some d)
+declared_behind [] cs x c is = (c, is)
+declared_behind (d ∷ vs) cs x c is = by_name (bytes_eq x d.name) (declared_behind vs cs x c is)
   where
-    by_name : (t : Bool) → (declared_as (vs ++ cs) x ≡ None → declared_as cs x ≡ None) → (if t then Some d else declared_as (vs ++ cs) x) ≡ None → declared_as cs x ≡ None
-    by_name true later e = absurd (cc)
-    by_name false later e = later e
+    by_name : (t : Bool) → (d : Declaration) × (declared_as (vs ++ cs) x ≡ Some d) → (e : Declaration) × ((if t then Some d else declared_as (vs ++ cs) x) ≡ Some e)
+    by_name true later = (d, refl)
+    by_name false later = later
 
 -- no name is a variable's and a constant's
-pub apart : (before : List (List ℕ)) (vs cs : List Declaration) (x : List ℕ) (v c : Declaration) → AreNew before (vs ++ cs) → declared_as vs x ≡ Some v → declared_as cs x ≡ Some c → ⊥
-apart before [] cs x v c h e f = cc
-apart before (d ∷ vs) cs x v c h e f = elim (cases_Bool (bytes_eq x d.name)) [
-  | inl s ↦ (let here : has_name (before ++ (d.name ∷ [])) x ≡ true = rw list_any-append (by_right (has_name before x) (rw s refl)) in
-      let none = not_behind vs cs x (stands_before (before ++ (d.name ∷ [])) (vs ++ cs) x h.1 here) in
-      cc)
-  | inr s ↦ apart (before ++ (d.name ∷ [])) vs cs x v c h.1 (rw s at e) f
+pub apart : (vs cs : List Declaration) (x : List ℕ) (v c : Declaration) → AreDistinct (names_of (vs ++ cs)) → declared_as vs x ≡ Some v → declared_as cs x ≡ Some c → ⊥
+apart [] cs x v c h e f = cc
+apart (d ∷ vs) cs x v c h e f = elim (cases_Bool (bytes_eq x d.name)) [
+  | inl s ↦ (let k = declared_behind vs cs x c f in
+      let j = named_at (vs ++ cs) x k.0 k.1 in
+      let less = j.1.0 in
+      h 0 (suc j.0) [] (omega arith) (omega arith) (sym (same_bytes x d.name s) ∙ sym (j.1.1 [])))
+  | inr s ↦ apart vs cs x v c (λ i j e lt l. h (suc i) (suc j) e (omega (arith, lt)) (omega (arith, l))) (rw s at e) f
 ]
-  where
-    by_right : (a : Bool) {b : Bool} → b ≡ true → (a || b) ≡ true
-    by_right true e = refl
-    by_right false e = e
 
-pub types_behind : (vs cs : List Declaration) → HaveTypes (vs ++ cs) → HaveTypes cs
+pub types_behind : (vs cs : List Declaration) → All HasItsType (vs ++ cs) → All HasItsType cs
 types_behind [] cs h = h
-types_behind (d ∷ vs) cs h = types_behind vs cs h.1
+types_behind (d ∷ vs) cs h = types_behind vs cs (All-tail HasItsType d (vs ++ cs) h)
 
-pub types_before : (vs cs : List Declaration) → HaveTypes (vs ++ cs) → HaveTypes vs
-types_before [] cs h = tt
-types_before (d ∷ vs) cs h = (h.0, types_before vs cs h.1)
+pub types_before : (vs cs : List Declaration) → All HasItsType (vs ++ cs) → All HasItsType vs
+types_before [] cs h = All-nil HasItsType
+types_before (d ∷ vs) cs h = All-cons HasItsType d vs (All-head HasItsType d (vs ++ cs) h) (types_before vs cs (All-tail HasItsType d (vs ++ cs) h))
 
 -- a declaration has its type
-pub declared_type : (cs : List Declaration) (x : List ℕ) (c : Declaration) → HaveTypes cs → declared_as cs x ≡ Some c → HasItsType c
+pub declared_type : (cs : List Declaration) (x : List ℕ) (c : Declaration) → All HasItsType cs → declared_as cs x ≡ Some c → HasItsType c
 declared_type [] x c h e = absurd (cc)
-declared_type (d ∷ cs) x c h e = by_name (bytes_eq x d.name) (declared_type cs x c h.1) e
+declared_type (d ∷ cs) x c h e = by_name (bytes_eq x d.name) (declared_type cs x c (All-tail HasItsType d cs h)) e
   where
     by_name : (t : Bool) → (declared_as cs x ≡ Some c → HasItsType c) → (if t then Some d else declared_as cs x) ≡ Some c → HasItsType c
-    by_name true later e = let same : d ≡ c = cc in subst HasItsType same h.0
+    by_name true later e = let same : d ≡ c = cc in subst HasItsType same (All-head HasItsType d cs h)
     by_name false later e = later e
 
 -- a declaration stands at its number

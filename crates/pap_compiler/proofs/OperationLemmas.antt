@@ -30,8 +30,7 @@ use Rattle.pap_machine.specs.Machine.{State, state_of, Does, Works, Two as TwoSt
 use Rattle.pap_machine.specs.Operations.{IsWhole, IsTruth, IsWholeWithPlaces, DivisionFits, ExactDivisionFits, WholeFits, WholeDivisionFits, OppositeFits, of_whole, of_wholes}
 use Rattle.pap_machine.proofs.Laws.{works, one, two}
 use Rattle.pap_compiler.specs.CodeDecisions.{instr_of_one, instr_of_two, shown_number}
-use Rattle.pap_compiler.proofs.TypedLemmas.{both_true}
-use Rattle.pap_compiler.proofs.KindLemmas.{IsTruthValue, some_is, unless_some}
+use Rattle.pap_compiler.proofs.KindLemmas.{both_true, IsTruthValue, some_is, unless_some}
 
 -- ---- whole numbers that fit their kind fit the machine
 

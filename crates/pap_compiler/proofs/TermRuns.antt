@@ -1,6 +1,7 @@
 -- The code of an expression puts its value on the stack, in exactly its cost.
 use Rattle.std.proofs.Common.{◌≡◌, ◌≢◌, ℕ, zero, suc, ◌+◌, ◌<◌, ◌≤◌, max, List, [], ◌∷◌, ◌++◌, length, map, Bool, true, false, Option, Some, None, if◌then◌else◌, refl, sym, ap, ◌∙◌, subst, arith, ◌⊎◌, inl, inr, add-one}
 use Rattle.std.specs.Prelude.{slice_get, not, ⊤, ℤ, pos, negsuc, IsTrue, unwrap_or}
+use Rattle.std.specs.List.{All}
 use Rattle.std.specs.Option.{option_map, option_map_or, option_or, option_and_then}
 use Rattle.scaled_decimal.specs.Decimals.{Decimal, decimal, scale_of, numerator_of}
 use Rattle.scaled_decimal.specs.ShortenedDecimals.{shortened}
@@ -24,9 +25,9 @@ use Rattle.pap_machine.proofs.Laws.{leads_one, leads_on, puts, found, branches}
 use Rattle.pap_compiler.specs.Heights.{term_height, right_height}
 use Rattle.pap_compiler.specs.CodeDecisions.{term_length, term_code, operand_code, instr_of_one, instr_of_two, leaf_code, name_code, table_number, shown_number}
 use Rattle.pap_compiler.proofs.CodeLemmas.{HasAt, has_front, has_back, length_term, length_operand}
-use Rattle.pap_compiler.proofs.TypedLemmas.{IsTypedTerm, HaveTypes, AreNew, both_true}
+use Rattle.pap_types.specs.Typing.{IsTypedTerm, HasItsType, AreDistinct}
 use Rattle.pap_compiler.proofs.NameLemmas.{AreHeld, IsMissing, IsFound, looked, values_of, number_is, place_of, stands_at, no_number}
-use Rattle.pap_compiler.proofs.KindLemmas.{and_then_some, map_some, some_is, int_whole, truth_of, whole_of, IsTruthValue, zero_of_truth}
+use Rattle.pap_compiler.proofs.KindLemmas.{both_true, and_then_some, map_some, some_is, int_whole, truth_of, whole_of, IsTruthValue, zero_of_truth}
 use Rattle.pap_compiler.proofs.DivisorLemmas.{IsShown, divisor_shown}
 use Rattle.pap_compiler.proofs.OperationLemmas.{operand_value, Leaves, one_leaves, two_leaves}
 
@@ -83,9 +84,8 @@ table_there scope x n d e = rw (number_is (names_of scope.variables) x, number_i
 pub record IsReady (scope : Scope) (p : Program) (env : Env) : Type 0 where
   pub tables : p.tables ≡ tables_of scope
   pub held : AreHeld scope.variables env
-  pub types : HaveTypes scope.constants
-  pub before : List (List ℕ)
-  pub new : AreNew before (scope.variables ++ scope.constants)
+  pub types : All HasItsType scope.constants
+  pub distinct : AreDistinct (names_of (scope.variables ++ scope.constants))
 
 module _ (scope : Scope) (p : Program) (env : Env) (calls : List ℕ) (ready : IsReady scope p env) where
   abbrev pub at_state : ℕ → List Decimal → State
@@ -142,7 +142,7 @@ module _ (scope : Scope) (p : Program) (env : Env) (calls : List ℕ) (ready : I
   item_gives : (x : List ℕ) (e : Term) (at : ℕ) → IsTypedTerm scope (item x e) → Gives e at → slice_get p.instrs (at + term_length e) ≡ Some (i.Item (table_number scope x)) → Gives (item x e) at
   item_gives x e at typed gives has stack d room safe v =
       let k = and_then_some (λ n. item_at (table_in scope x) (numerator_of n)) (value scope e env) d v in
-      let number : IsWhole k.0 = whole_of scope env ready.held ready.types e k.0 typed.0 (int_whole (kind_of scope e) typed.1) k.1.0 in
+      let number : IsWhole k.0 = whole_of scope env ready.held ready.types e k.0 typed.0 (int_whole (kind_of scope e) typed.1.index) k.1.0 in
       let there : slice_get p.tables (table_number scope x) ≡ Some (table_in scope x) = ap (λ l. slice_get l (table_number scope x)) ready.tables ∙ table_there scope x (numerator_of k.0) d k.1.1 in
       let is : IsItem p.tables (table_number scope x) k.0 d = record { number = number; table = table_in scope x; there = there; item = k.1.1 } in
       then_one (cost scope e env) (at + term_length e) (at + (term_length e + 1)) (at_state at stack) (k.0 ∷ stack) (d ∷ stack) (i.Item (table_number scope x)) has
@@ -176,7 +176,7 @@ module _ (scope : Scope) (p : Program) (env : Env) (calls : List ℕ) (ready : I
       let first = ge stack k.left (omega (arith, room)) safe.0 k.left_is in
       let second = gf (k.left ∷ stack) k.right (omega (arith, room, high)) s.0 k.right_is in
       let last = two_leaves scope p (at + term_length e + term_length f) (values_of env) calls stack op e f (kind_of scope e) (kind_of scope f) k.left k.right d typed.2 (λ w. whole_of scope env ready.held ready.types e k.left typed.0 w k.left_is) (λ w. whole_of scope env ready.held ready.types f k.right typed.1 w k.right_is)
-      (λ h. let n = divisor_shown scope env ready.held ready.types ready.before ready.new f k.right h k.right_is in (n.number, n.plain)) nand nor (s.1 k.right k.right_is) k.result in
+      (λ h. let n = divisor_shown scope env ready.held ready.types ready.distinct f k.right h k.right_is in (n.number, n.plain)) nand nor (s.1 k.right k.right_is) k.result in
       as_cost (cost scope e env + cost scope f env + 1) (cost scope (two op e f) env) (at_state at stack) (at_state (at + term_length (two op e f)) (d ∷ stack)) (both_cost op e f k.left k.left_is (goes k.left))
       (then_one (cost scope e env + cost scope f env) (at + term_length e + term_length f) (at + term_length (two op e f)) (at_state at stack) (k.right ∷ k.left ∷ stack) (d ∷ stack) (instr_of_two scope op f) has last (omega arith)
       (leads_on p (cost scope e env) (cost scope f env) (at_state at stack) (at_state (at + term_length e) (k.left ∷ stack)) (at_state (at + term_length e + term_length f) (k.right ∷ k.left ∷ stack)) first second))
@@ -346,4 +346,4 @@ module _ (scope : Scope) (p : Program) (env : Env) (calls : List ℕ) (ready : I
       let behind = i.Jump (r + term_length f) ∷ cf in
       let h1 = has_back p.instrs at (term_length c) code (i.JumpFalse r ∷ (ce ++ behind)) (length_term scope c at) has in
       let h2 = has_back p.instrs q (term_length e) ce behind (length_term scope e q) h1.1 in
-      choice_gives c e f at typed.0 typed.3 (term_runs c at typed.0 (has_front p.instrs at code (i.JumpFalse r ∷ (ce ++ behind)) has)) (term_runs e q typed.1 (has_front p.instrs q ce behind h1.1)) (term_runs f r typed.2 h2.1) h1.0 h2.0
+      choice_gives c e f at typed.0 typed.3.test (term_runs c at typed.0 (has_front p.instrs at code (i.JumpFalse r ∷ (ce ++ behind)) has)) (term_runs e q typed.1 (has_front p.instrs q ce behind h1.1)) (term_runs f r typed.2 h2.1) h1.0 h2.0

@@ -3,8 +3,6 @@ use Rattle.std.specs.Prelude.{ℕ, ◌+◌, ℤ, pos, if◌then◌else◌, List,
 use Rattle.std.specs.Option.{option_map, option_map_or, option_or}
 use Rattle.scaled_decimal.specs.Decimals.{Decimal, decimal, numerator_of}
 use Rattle.scaled_decimal.specs.ShortenedDecimals.{shortened}
-use Rattle.pap_tree.specs.declared.declaration.Kind.{Kind}
-use Rattle.pap_tree.specs.declared.declaration.Kind.TheVariants.{Factor}
 use Rattle.pap_tree.specs.declared.expression.Unary.TheVariants.{Minus, Not, Negate, Abs}
 use Rattle.pap_tree.specs.declared.expression.Binary.{Binary}
 use Rattle.pap_tree.specs.declared.expression.Binary.TheVariants as binaries
@@ -15,10 +13,11 @@ use Rattle.pap_tree.specs.Term.{Leaf, whole, long, point, text, known, named, Te
 use Rattle.pap_tree.specs.Declarations.{Declaration}
 use Rattle.pap_tree.specs.Flowchart.{Body, done, eval, branch, execute, Routine, Flowchart}
 use Rattle.pap_types.specs.Scopes.{Scope, scope_of, variables_of, names_of, number_of, first_value, constant_in, at_factor_scale, zero, declared_table}
-use Rattle.pap_types.specs.Kinds.{shown_divisor, has_few_places}
+use Rattle.pap_types.specs.Kinds.{name_kind, shown_divisor, has_few_places}
 use Rattle.pap_types.specs.Routines.{method_names}
 use Rattle.pap_types.specs.Operations.{fewest_places}
-use Rattle.pap_types.specs.Checks.{target_kind}
+use Rattle.pap_types.specs.declared.kinds.NodeKind.{NodeKind}
+use Rattle.pap_types.specs.declared.kinds.NodeKind.TheVariants.{Factor}
 use Rattle.pap_machine.specs.declared.code.Instr.{Instr}
 use Rattle.pap_machine.specs.declared.code.Instr.TheVariants as i
 use Rattle.pap_machine.specs.Code.{Program}
@@ -151,8 +150,8 @@ factor_code (leaf (whole n)) code = i.Lit (at_factor_scale (decimal n 0)) ∷ []
 factor_code (leaf (point d)) code = if has_few_places d then i.Lit (at_factor_scale d) ∷ [] else code
 factor_code _ code = code
 
-abbrev pub assigned_code : Option Kind → Term → List Instr → List Instr
-assigned_code (Some Factor) e code = factor_code e code
+abbrev pub assigned_code : NodeKind → Term → List Instr → List Instr
+assigned_code Factor e code = factor_code e code
 assigned_code _ e code = code
 
 module _ (scope : Scope) (to : List ℕ → ℕ) where
@@ -160,7 +159,7 @@ module _ (scope : Scope) (to : List ℕ → ℕ) where
   abbrev pub body_code : ℕ → Body → List Instr
   body_code at done = []
   body_code at (eval x e rest) =
-      assigned_code (target_kind scope x) e (term_code scope at e)
+      assigned_code (name_kind scope x) e (term_code scope at e)
       ++ i.Store (slot scope x) ∷ body_code (at + term_length e + 1) rest
   body_code at (branch t a b rest) =
       term_code scope at t
