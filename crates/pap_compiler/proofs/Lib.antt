@@ -6,3 +6,5 @@ pub mod OperationLemmas
 pub mod TermRuns
 pub mod BodyRuns
 pub mod PlanRuns
+pub mod SizeLemmas
+pub mod NumberLemmas

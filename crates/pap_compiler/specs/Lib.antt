@@ -2,3 +2,5 @@ pub mod CodeDecisions
 pub mod Correct
 pub mod Depths
 pub mod Heights
+pub mod NameViews
+pub mod SizeViews

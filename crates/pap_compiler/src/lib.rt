@@ -1,2 +1,7 @@
-//! From plans to code.
+//! From plans to flat code.
+//!
+//! The code is MAIN's, the end, and then that of each method once. Each name is a number in it, and each EXECUTE a call.
 #![tactic(auto)]
+
+mod names;
+mod sizes;
