@@ -8,3 +8,4 @@ pub mod BodyRuns
 pub mod PlanRuns
 pub mod SizeLemmas
 pub mod NumberLemmas
+pub mod ZeroLemmas
