@@ -9,3 +9,4 @@ pub mod PlanRuns
 pub mod SizeLemmas
 pub mod NumberLemmas
 pub mod ZeroLemmas
+pub mod EmitLemmas
