@@ -10,3 +10,4 @@ pub mod SizeLemmas
 pub mod NumberLemmas
 pub mod ZeroLemmas
 pub mod EmitLemmas
+pub mod StatementLemmas

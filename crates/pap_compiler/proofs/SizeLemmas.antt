@@ -23,7 +23,7 @@ height_within (one op e) = omega (arith, height_within e)
 height_within (two op e f) = omega (arith, height_within e, height_within f, right_within op (term_height f))
 height_within (choice c e f) = omega (arith, height_within c, height_within e, height_within f)
 
-length_then : (s : Stmt) (rest : Body) → body_length (stmt_then s rest) ≡ body_length (stmt_then s done) + body_length rest
+pub length_then : (s : Stmt) (rest : Body) → body_length (stmt_then s rest) ≡ body_length (stmt_then s done) + body_length rest
 length_then (Eval x e) rest = omega arith
 length_then (If' t m ys n zs) rest = omega arith
 length_then (Execute x) rest = omega arith

@@ -5,3 +5,4 @@ pub mod EmitViews
 pub mod Heights
 pub mod NameViews
 pub mod SizeViews
+pub mod StatementViews

@@ -7,3 +7,4 @@ mod emit;
 mod literals;
 mod names;
 mod sizes;
+mod statements;
