@@ -11,3 +11,4 @@ pub mod NumberLemmas
 pub mod ZeroLemmas
 pub mod EmitLemmas
 pub mod StatementLemmas
+pub mod ValueLemmas

@@ -8,3 +8,4 @@ mod literals;
 mod names;
 mod sizes;
 mod statements;
+mod values;
