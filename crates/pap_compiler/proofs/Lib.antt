@@ -12,3 +12,4 @@ pub mod ZeroLemmas
 pub mod EmitLemmas
 pub mod StatementLemmas
 pub mod ValueLemmas
+pub mod DepthLemmas

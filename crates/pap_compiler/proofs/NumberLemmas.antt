@@ -7,7 +7,8 @@ use Rattle.std.proofs.lemmas.List.{length-map}
 use Rattle.std.specs.Prelude.{slice_get}
 use Rattle.pap_tree.specs.declared.declaration.Declared.{Declared}
 use Rattle.pap_tree.specs.Declarations.{Declaration, declaration_of}
-use Rattle.pap_tree.specs.Flowchart.{Routine}
+use Rattle.pap_tree.specs.declared.plan.Method.{Method}
+use Rattle.pap_tree.specs.Flowchart.{Routine, routine_of}
 use Rattle.pap_types.specs.Scopes.{declared_as, names_of, number_of}
 use Rattle.pap_types.specs.Routines.{method_names}
 use Rattle.pap_types.proofs.Laws.{declared_by}
@@ -66,3 +67,7 @@ declared_there ds x n d e is =
     let within = number_within (names_of all) x n e in
     let less : n < length ds = omega (arith, within, length-map all (λ d. d.name), length-map ds declaration_of) in
     sym (declared_by all x (names_of all) (Some n) refl (sym e)) ∙ mapped declaration_of ds n d less ∙ ap (λ y. Some (declaration_of y)) (sym is)
+
+-- the method of a number
+pub routine_there : (ms : List Method) (n : ℕ) (m : Method) → n < length (map routine_of ms) → m ≡ get_or ms n m → slice_get (map routine_of ms) n ≡ Some (routine_of m)
+routine_there ms n m less is = mapped routine_of ms n m (omega (arith, less, length-map ms routine_of)) ∙ ap (λ y. Some (routine_of y)) (sym is)

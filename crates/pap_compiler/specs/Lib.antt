@@ -1,5 +1,6 @@
 pub mod CodeDecisions
 pub mod Correct
+pub mod DepthViews
 pub mod Depths
 pub mod EmitViews
 pub mod Heights

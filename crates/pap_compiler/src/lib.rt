@@ -3,6 +3,7 @@
 //! The code is MAIN's, the end, and then that of each method once. Each name is a number in it, and each EXECUTE a call.
 #![tactic(auto)]
 
+mod depths;
 mod emit;
 mod literals;
 mod names;
