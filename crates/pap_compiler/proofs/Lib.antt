@@ -13,3 +13,4 @@ pub mod EmitLemmas
 pub mod StatementLemmas
 pub mod ValueLemmas
 pub mod DepthLemmas
+pub mod PlanLemmas

@@ -5,5 +5,6 @@ pub mod Depths
 pub mod EmitViews
 pub mod Heights
 pub mod NameViews
+pub mod PlanViews
 pub mod SizeViews
 pub mod StatementViews
