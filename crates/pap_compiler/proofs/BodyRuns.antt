@@ -1,17 +1,17 @@
 -- The code of a list of statements does what it means, in exactly its cost.
-use Rattle.std.proofs.Common.{◌≡◌, ℕ, zero, suc, ◌+◌, ◌<◌, ◌≤◌, max, List, [], ◌∷◌, ◌++◌, length, map, Bool, true, false, Option, Some, None, if◌then◌else◌, refl, sym, ap, ◌∙◌, subst, arith, ◌⊎◌, inl, inr}
-use Rattle.std.specs.Prelude.{slice_get, slice_set, ⊤, unwrap_or}
+use Rattle.std.proofs.Common.{◌≡◌, ℕ, ◌+◌, ◌≤◌, List, [], ◌∷◌, ◌++◌, length, Bool, true, false, Some, if◌then◌else◌, refl, sym, ap, ◌∙◌, subst, arith, inl, inr}
+use Rattle.std.specs.Prelude.{slice_get, slice_set}
 use Rattle.std.specs.List.{All}
-use Rattle.std.specs.Option.{option_map, option_map_or, option_and_then}
+use Rattle.std.specs.Option.{option_and_then}
 use Rattle.scaled_decimal.specs.Decimals.{Decimal, decimal, scale_of}
 use Rattle.scaled_decimal.specs.WholeNumbers.{truth}
 use Rattle.pap_tree.specs.declared.declaration.Kind.{Kind as DeclaredKind}
 use Rattle.pap_tree.specs.declared.declaration.Kind.TheVariants as declares
-use Rattle.pap_tree.specs.Term.{Leaf, whole, long, point, text, known, named, Term, leaf, item, one, two, choice}
+use Rattle.pap_tree.specs.Term.{whole, long, point, text, known, named, Term, leaf, item, one, two, choice}
 use Rattle.pap_tree.specs.Flowchart.{Body, done, eval, branch, execute, Routine}
 use Rattle.pap_tree.specs.Declarations.{Declaration}
-use Rattle.pap_types.specs.Scopes.{Scope, declared_as, kept_as, at_factor_scale, names_of, number_of}
-use Rattle.pap_types.specs.Kinds.{kind_of, name_kind, is_whole, is_int, is_truth, declared_kind, suits, is_factor_literal, has_few_places}
+use Rattle.pap_types.specs.Scopes.{Scope, kept_as, at_factor_scale, names_of}
+use Rattle.pap_types.specs.Kinds.{kind_of, name_kind, is_whole, is_truth, declared_kind, suits, is_factor_literal}
 use Rattle.pap_types.specs.Operations.{is_zero}
 use Rattle.pap_types.specs.Values.{Env, put, value, cost}
 use Rattle.pap_types.specs.Safety.{IsSafe}
@@ -19,15 +19,15 @@ use Rattle.pap_types.specs.Runs.{Calls, assigned, after, spent, IsSafeBody}
 use Rattle.pap_machine.specs.declared.code.Instr.{Instr}
 use Rattle.pap_machine.specs.declared.code.Instr.TheVariants as i
 use Rattle.pap_machine.specs.Code.{Program}
-use Rattle.pap_machine.specs.Machine.{State, state_of, gone, Does, Leads}
+use Rattle.pap_machine.specs.Machine.{State, state_of, gone, Leads}
 use Rattle.pap_machine.proofs.Laws.{leads_none, leads_one, leads_on, puts, stores, branches, calls_on}
 use Rattle.pap_compiler.specs.Heights.{term_height, body_height}
 use Rattle.pap_compiler.specs.Depths.{body_depth}
-use Rattle.pap_compiler.specs.CodeDecisions.{term_length, body_length, term_code, factor_code, assigned_code, body_code, slot}
+use Rattle.pap_compiler.specs.CodeDecisions.{term_length, body_length, term_code, assigned_code, body_code, slot}
 use Rattle.pap_compiler.proofs.CodeLemmas.{HasAt, has_front, has_back, length_term, length_assigned, length_body}
 use Rattle.pap_types.specs.Typing.{IsTypedTerm, TargetSuits, IsTypedBody, HasItsType, AreDistinct}
-use Rattle.pap_compiler.proofs.NameLemmas.{AreHeld, IsMissing, IsFound, looked, values_of, number_is}
-use Rattle.pap_compiler.proofs.KindLemmas.{and_then_some, some_is, int_whole, truth_of, whole_of, IsTruthValue}
+use Rattle.pap_compiler.proofs.NameLemmas.{AreHeld, looked, values_of, number_is}
+use Rattle.pap_compiler.proofs.KindLemmas.{and_then_some, some_is, int_whole, truth_of, whole_of}
 use Rattle.pap_compiler.proofs.TermRuns.{tables_of, IsReady, term_runs}
 
 -- ---- what statements cost
@@ -135,7 +135,7 @@ module _ (scope : Scope) (p : Program) (ready : IsSet scope p) where
         let slots : slice_set (values_of env) f.at (kept_as k v) ≡ values_of (assigned scope x v env) = f.puts (kept_as k v) ∙ ap values_of (sym same) in
         record {
           run = subst (λ s. Leads p (cost scope e env + 1) (between at env cs) (state_of (at + term_length e + 1) [] s cs)) slots
-          (leads_on p (cost scope e env) 1 (between at env cs) (state_of (at + term_length e) (kept_as k v ∷ []) (values_of env) cs) (state_of (at + term_length e + 1) [] (slice_set (values_of env) f.at (kept_as k v)) cs) first stored);
+              (leads_on p (cost scope e env) 1 (between at env cs) (state_of (at + term_length e) (kept_as k v ∷ []) (values_of env) cs) (state_of (at + term_length e + 1) [] (slice_set (values_of env) f.at (kept_as k v)) cs) first stored);
           held = subst (AreHeld scope.variables) (sym same) (f.keeps (kept_as k v) (λ w. kept_whole k e env v held typed fits is w));
         })
   ]
@@ -159,10 +159,12 @@ module _ (scope : Scope) (p : Program) (ready : IsSet scope p) where
           let k = and_then_some (λ v. after scope calls rest (assigned scope x v env)) (value scope e env) ends is in
           let a = assigns x e k.0 at env cs (body_code scope to (at + term_length e + 1) rest) held typed suited (omega (arith, high)) safe.0 k.1.0 has in
           let r = later cs (assigned scope x k.0 env) ends a.held deep_enough (omega (arith, high)) (safe.1 k.0 k.1.0) k.1.1 in
-          let n : cost scope e env + 1 + spent scope calls rest (assigned scope x k.0 env) ≡ spent scope calls (eval x e rest) env = spent_eval scope calls env ends rest x e k.0 k.1.0 in
-          (as_place (spent scope calls (eval x e rest) env) (between at env cs) (at + term_length e + 1 + body_length rest) (at + body_length (eval x e rest)) [] (values_of ends) cs (omega arith)
-          (as_cost (cost scope e env + 1 + spent scope calls rest (assigned scope x k.0 env)) (spent scope calls (eval x e rest) env) (between at env cs) (between (at + term_length e + 1 + body_length rest) ends cs) n
-          (leads_on p (cost scope e env + 1) (spent scope calls rest (assigned scope x k.0 env)) (between at env cs) (between (at + term_length e + 1) (assigned scope x k.0 env) cs) (between (at + term_length e + 1 + body_length rest) ends cs) a.run r.0)), r.1)
+          let n : cost scope e env + 1 + spent scope calls rest (assigned scope x k.0 env) ≡ spent scope calls (eval x e rest) env = spent_eval scope calls env ends rest x e k.0 k.1.0 in (
+            as_place (spent scope calls (eval x e rest) env) (between at env cs) (at + term_length e + 1 + body_length rest) (at + body_length (eval x e rest)) [] (values_of ends) cs (omega arith)
+                (as_cost (cost scope e env + 1 + spent scope calls rest (assigned scope x k.0 env)) (spent scope calls (eval x e rest) env) (between at env cs) (between (at + term_length e + 1 + body_length rest) ends cs) n
+                (leads_on p (cost scope e env + 1) (spent scope calls rest (assigned scope x k.0 env)) (between at env cs) (between (at + term_length e + 1) (assigned scope x k.0 env) cs) (between (at + term_length e + 1 + body_length rest) ends cs) a.run r.0)),
+            r.1,
+          )
 
       execute_runs : (m : List ℕ) (rest : Body) (at : ℕ) → CallsRun calls deep → slice_get p.instrs at ≡ Some (i.Call (to m)) → Runs rest (at + 1) → Runs (execute m rest) at
       execute_runs m rest at called has later cs env ends held deep_enough high safe is =
@@ -170,11 +172,13 @@ module _ (scope : Scope) (p : Program) (ready : IsSet scope p) where
           let first = leads_one p (between at env cs) (between (to m) env ((at + 1) ∷ cs)) (i.Call (to m)) has (calls_on at (values_of env) cs p.depth (to m) [] (omega (arith, deep_enough))) in
           let c = called.each m env k.0 (at + 1) cs held (omega (arith, deep_enough)) safe.0 k.1.0 in
           let r = later cs k.0 ends c.1 (omega (arith, deep_enough)) high (safe.1 k.0 k.1.0) k.1.1 in
-          let n : 1 + (calls.spent m env + 1) + spent scope calls rest k.0 ≡ spent scope calls (execute m rest) env = spent_execute scope calls env k.0 rest m k.1.0 in
-          (as_place (spent scope calls (execute m rest) env) (between at env cs) (at + 1 + body_length rest) (at + body_length (execute m rest)) [] (values_of ends) cs (omega arith)
-          (as_cost (1 + (calls.spent m env + 1) + spent scope calls rest k.0) (spent scope calls (execute m rest) env) (between at env cs) (between (at + 1 + body_length rest) ends cs) n
-          (leads_on p (1 + (calls.spent m env + 1)) (spent scope calls rest k.0) (between at env cs) (between (at + 1) k.0 cs) (between (at + 1 + body_length rest) ends cs)
-          (leads_on p 1 (calls.spent m env + 1) (between at env cs) (between (to m) env ((at + 1) ∷ cs)) (between (at + 1) k.0 cs) first c.0) r.0)), r.1)
+          let n : 1 + (calls.spent m env + 1) + spent scope calls rest k.0 ≡ spent scope calls (execute m rest) env = spent_execute scope calls env k.0 rest m k.1.0 in (
+            as_place (spent scope calls (execute m rest) env) (between at env cs) (at + 1 + body_length rest) (at + body_length (execute m rest)) [] (values_of ends) cs (omega arith)
+                (as_cost (1 + (calls.spent m env + 1) + spent scope calls rest k.0) (spent scope calls (execute m rest) env) (between at env cs) (between (at + 1 + body_length rest) ends cs) n
+                (leads_on p (1 + (calls.spent m env + 1)) (spent scope calls rest k.0) (between at env cs) (between (at + 1) k.0 cs) (between (at + 1 + body_length rest) ends cs)
+                (leads_on p 1 (calls.spent m env + 1) (between at env cs) (between (to m) env ((at + 1) ∷ cs)) (between (at + 1) k.0 cs) first c.0) r.0)),
+            r.1,
+          )
 
       -- a choice, from what its parts do
       module _ (t : Term) (a b rest : Body) (at : ℕ) (typed : IsTypedTerm scope t) (kind : is_truth (kind_of scope t) ≡ true) where
@@ -206,25 +210,29 @@ module _ (scope : Scope) (p : Program) (ready : IsSet scope p) where
                 let r1 = ra cs env k.0 held (omega (arith, deep_enough)) (omega (arith, high)) (s.1 refl) k.1.0 in
                 let jump = leads_one p (between (yes_at + body_length a) k.0 cs) (between rest_at k.0 cs) (i.Jump rest_at) h2 refl in
                 let r2 = rr cs k.0 ends r1.1 (omega (arith, deep_enough)) (omega (arith, high)) (s.2 k.0 k.1.0) k.1.1 in
-                let n : cost scope t env + 1 + spent scope calls a env + 1 + spent scope calls rest k.0 ≡ spent scope calls (branch t a b rest) env = spent_yes scope calls env k.0 rest t a b v k.1.0 in
-                (as_place (spent scope calls (branch t a b rest) env) (between at env cs) (rest_at + body_length rest) (at + body_length (branch t a b rest)) [] (values_of ends) cs (omega arith)
-                (as_cost (cost scope t env + 1 + spent scope calls a env + 1 + spent scope calls rest k.0) (spent scope calls (branch t a b rest) env) (between at env cs) (between (rest_at + body_length rest) ends cs) n
-                (leads_on p (cost scope t env + 1 + spent scope calls a env + 1) (spent scope calls rest k.0) (between at env cs) (between rest_at k.0 cs) (between (rest_at + body_length rest) ends cs)
-                (leads_on p (cost scope t env + 1 + spent scope calls a env) 1 (between at env cs) (between (yes_at + body_length a) k.0 cs) (between rest_at k.0 cs)
-                (leads_on p (cost scope t env + 1) (spent scope calls a env) (between at env cs) (between yes_at env cs) (between (yes_at + body_length a) k.0 cs)
-                (leads_on p (cost scope t env) 1 (between at env cs) tested (between yes_at env cs) first on) r1.0) jump) r2.0)), r2.1)
+                let n : cost scope t env + 1 + spent scope calls a env + 1 + spent scope calls rest k.0 ≡ spent scope calls (branch t a b rest) env = spent_yes scope calls env k.0 rest t a b v k.1.0 in (
+                  as_place (spent scope calls (branch t a b rest) env) (between at env cs) (rest_at + body_length rest) (at + body_length (branch t a b rest)) [] (values_of ends) cs (omega arith)
+                      (as_cost (cost scope t env + 1 + spent scope calls a env + 1 + spent scope calls rest k.0) (spent scope calls (branch t a b rest) env) (between at env cs) (between (rest_at + body_length rest) ends cs) n
+                      (leads_on p (cost scope t env + 1 + spent scope calls a env + 1) (spent scope calls rest k.0) (between at env cs) (between rest_at k.0 cs) (between (rest_at + body_length rest) ends cs)
+                      (leads_on p (cost scope t env + 1 + spent scope calls a env) 1 (between at env cs) (between (yes_at + body_length a) k.0 cs) (between rest_at k.0 cs)
+                      (leads_on p (cost scope t env + 1) (spent scope calls a env) (between at env cs) (between yes_at env cs) (between (yes_at + body_length a) k.0 cs)
+                      (leads_on p (cost scope t env) 1 (between at env cs) tested (between yes_at env cs) first on) r1.0) jump) r2.0)),
+                  r2.1,
+                )
             by_truth false v first then_is s =
                 let k = and_then_some (after scope calls rest) (after scope calls b env) ends then_is in
                 let tested = state_of (at + term_length t) (truth false ∷ []) (values_of env) cs in
                 let off = leads_one p tested (between no_at env cs) (i.JumpFalse no_at) h1 (branches (at + term_length t) (values_of env) cs (λ z rest. if z then gone tested (at + term_length t + 1) rest else gone tested no_at rest) false []) in
                 let r1 = rb cs env k.0 held (omega (arith, deep_enough)) (omega (arith, high)) (s.0 refl) k.1.0 in
                 let r2 = rr cs k.0 ends r1.1 (omega (arith, deep_enough)) (omega (arith, high)) (s.2 k.0 k.1.0) k.1.1 in
-                let n : cost scope t env + 1 + spent scope calls b env + spent scope calls rest k.0 ≡ spent scope calls (branch t a b rest) env = spent_no scope calls env k.0 rest t a b v k.1.0 in
-                (as_place (spent scope calls (branch t a b rest) env) (between at env cs) (rest_at + body_length rest) (at + body_length (branch t a b rest)) [] (values_of ends) cs (omega arith)
-                (as_cost (cost scope t env + 1 + spent scope calls b env + spent scope calls rest k.0) (spent scope calls (branch t a b rest) env) (between at env cs) (between (rest_at + body_length rest) ends cs) n
-                (leads_on p (cost scope t env + 1 + spent scope calls b env) (spent scope calls rest k.0) (between at env cs) (between rest_at k.0 cs) (between (rest_at + body_length rest) ends cs)
-                (leads_on p (cost scope t env + 1) (spent scope calls b env) (between at env cs) (between no_at env cs) (between rest_at k.0 cs)
-                (leads_on p (cost scope t env) 1 (between at env cs) tested (between no_at env cs) first off) r1.0) r2.0)), r2.1)
+                let n : cost scope t env + 1 + spent scope calls b env + spent scope calls rest k.0 ≡ spent scope calls (branch t a b rest) env = spent_no scope calls env k.0 rest t a b v k.1.0 in (
+                  as_place (spent scope calls (branch t a b rest) env) (between at env cs) (rest_at + body_length rest) (at + body_length (branch t a b rest)) [] (values_of ends) cs (omega arith)
+                      (as_cost (cost scope t env + 1 + spent scope calls b env + spent scope calls rest k.0) (spent scope calls (branch t a b rest) env) (between at env cs) (between (rest_at + body_length rest) ends cs) n
+                      (leads_on p (cost scope t env + 1 + spent scope calls b env) (spent scope calls rest k.0) (between at env cs) (between rest_at k.0 cs) (between (rest_at + body_length rest) ends cs)
+                      (leads_on p (cost scope t env + 1) (spent scope calls b env) (between at env cs) (between no_at env cs) (between rest_at k.0 cs)
+                      (leads_on p (cost scope t env) 1 (between at env cs) tested (between no_at env cs) first off) r1.0) r2.0)),
+                  r2.1,
+                )
 
       pub body_runs : CallsRun calls deep → (b : Body) (at : ℕ) → IsTypedBody scope ms b → HasAt p.instrs at (body_code scope to at b) → Runs b at
       body_runs called done at typed has = λ cs env ends held deep_enough high safe is.

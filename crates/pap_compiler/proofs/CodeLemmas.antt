@@ -1,10 +1,10 @@
 -- Instructions that stand in a code, and how many an expression and a list of statements have.
-use Rattle.std.proofs.Common.{◌≡◌, ℕ, ◌+◌, ◌-◌, ◌<◌, List, [], ◌∷◌, ◌++◌, length, Option, Some, None, refl, ap, ◌∙◌, subst, arith, append_assoc, length-append, Bool, true, false, if◌then◌else◌}
+use Rattle.std.proofs.Common.{◌≡◌, ℕ, ◌+◌, ◌-◌, ◌<◌, List, [], ◌∷◌, ◌++◌, length, Some, refl, ap, ◌∙◌, subst, arith, append_assoc, length-append, Bool, true, false, if◌then◌else◌}
 use Rattle.std.specs.Prelude.{slice_get}
 use Rattle.std.proofs.Math.Seq.{get_or-append_seam}
 use Rattle.std.proofs.lemmas.Option.{slice_get-get_or}
 use Rattle.pap_tree.specs.declared.expression.Binary.TheVariants as binaries
-use Rattle.pap_tree.specs.Term.{Leaf, whole, long, point, text, known, named, Term, leaf, item, one, two, choice, One, unary, value_of, value_of_scaled, new_big, set_scale, Two, operator, method, divide}
+use Rattle.pap_tree.specs.Term.{whole, point, Term, leaf, item, one, two, choice, One, value_of, operator}
 use Rattle.pap_tree.specs.Flowchart.{Body, done, eval, branch, execute}
 use Rattle.pap_types.specs.Scopes.{Scope, at_factor_scale}
 use Rattle.pap_types.specs.Kinds.{name_kind, has_few_places}

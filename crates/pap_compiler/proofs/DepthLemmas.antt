@@ -1,16 +1,14 @@
 -- Depths, taken apart, and by an order.
-use Rattle.std.proofs.Common.{◌≡◌, ◌≢◌, Bool, true, false, if◌then◌else◌, ◌⊎◌, inl, inr, ℕ, zero, suc, ◌+◌, ◌<◌, ◌≤◌, max, List, [], ◌∷◌, length, take, drop, get_or, Option, Some, None, Vec, Global, refl, sym, ap, ◌∙◌, subst, arith}
+use Rattle.std.proofs.Common.{◌≡◌, ◌≢◌, Bool, true, false, if◌then◌else◌, inl, inr, ℕ, zero, suc, ◌+◌, ◌<◌, ◌≤◌, max, List, [], ◌∷◌, length, take, drop, get_or, Option, Some, None, refl, sym, ap, ◌∙◌, subst, arith}
 use Rattle.std.specs.Prelude.{slice_get, slice_set, slice_index, Contains}
 use Rattle.std.specs.Option.{option_map, option_map_or}
 use Rattle.std.specs.Str.{bytes_eq}
 use Rattle.std.proofs.lemmas.Bool.{cases_eq, false_from_ne_true}
 use Rattle.std.proofs.lemmas.List.{length-map, length-set, take_all, length-take-le, get_or-take, get_or_default, get_or-set_same, get_or-set_other}
 use Rattle.std.proofs.lemmas.Option.{slice_get_within}
-use Rattle.pap_tree.specs.declared.expression.Expr.{Expr}
-use Rattle.pap_tree.specs.declared.plan.Stmt.{Stmt, Eval, If, If', Execute}
-use Rattle.pap_tree.specs.Term.{term_of}
+use Rattle.pap_tree.specs.declared.plan.Stmt.{Stmt, Eval, If', Execute}
 use Rattle.pap_tree.specs.Flowchart.{Body, done, eval, branch, execute, body_of, stmt_then, Routine, Flowchart}
-use Rattle.pap_tree.proofs.Laws.{stmt_at, branch_is}
+use Rattle.pap_tree.proofs.Laws.{stmt_at}
 use Rattle.pap_types.specs.Scopes.{number_of}
 use Rattle.pap_types.specs.Routines.{body_named, method_names}
 use Rattle.pap_types.specs.Checks.{IsWellTyped}

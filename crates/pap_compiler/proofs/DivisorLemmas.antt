@@ -1,26 +1,25 @@
 -- The divisor that the text of a divide(d) shows is the divisor's value, and a plain one.
-use Rattle.std.proofs.Common.{◌≡◌, ℕ, ◌+◌, ◌*◌, ◌/◌, ◌%◌, ◌^◌, ◌<◌, List, [], ◌∷◌, ◌++◌, Bool, true, false, Option, Some, None, if◌then◌else◌, refl, sym, ap, ◌∙◌, subst, arith, ◌⊎◌, inl, inr}
-use Rattle.std.specs.Prelude.{◌&&◌, ◌==◌, nat_lt, ⊤, ℤ, pos, negsuc}
+use Rattle.std.proofs.Common.{◌≡◌, ℕ, ◌*◌, ◌/◌, ◌%◌, ◌^◌, ◌<◌, List, ◌++◌, true, false, Option, Some, None, refl, sym, ap, ◌∙◌, subst, arith, inl, inr}
+use Rattle.std.specs.Prelude.{◌==◌, nat_lt, ℤ, pos, negsuc}
 use Rattle.std.specs.List.{All}
-use Rattle.std.specs.Option.{option_map, option_map_or, option_or, option_and_then}
+use Rattle.std.specs.Option.{option_map_or, option_and_then}
 use Rattle.std.proofs.lemmas.Bool.Decides.{nat_tests}
-use Rattle.scaled_decimal.specs.Decimals.{Decimal, decimal, scale_of, numerator_of}
+use Rattle.scaled_decimal.specs.Decimals.{Decimal, scale_of, numerator_of}
 use Rattle.scaled_decimal.specs.Limits.{most_places}
 use Rattle.scaled_decimal.specs.ExactQuotients.{IsPlainDivisor}
 use Rattle.scaled_decimal.proofs.Laws.{plain_divisor}
 use Rattle.pap_tree.specs.declared.declaration.Kind.{Kind as DeclaredKind}
 use Rattle.pap_tree.specs.declared.declaration.Kind.TheVariants as declares
-use Rattle.pap_tree.specs.Grammar.{known_value}
-use Rattle.pap_tree.specs.Term.{Leaf, whole, long, point, text, known, named, Term, leaf, item, one, two, choice, One, unary, value_of, value_of_scaled, new_big, set_scale}
-use Rattle.pap_tree.specs.Declarations.{Declaration, DeclaredLiteral, number, big, table}
-use Rattle.pap_types.specs.Scopes.{Scope, names_of, declared_as, constant_in, first_value, kept_as, declared_decimal}
+use Rattle.pap_tree.specs.Term.{whole, long, point, text, known, named, Term, leaf, item, one, two, choice, One, unary, value_of, value_of_scaled, new_big, set_scale}
+use Rattle.pap_tree.specs.Declarations.{DeclaredLiteral, number, big, table}
+use Rattle.pap_types.specs.Scopes.{Scope, names_of, declared_as, first_value, kept_as, declared_decimal}
 use Rattle.pap_types.specs.Kinds.{literal_big, written_decimal, int_literal, shown_divisor, shows_plain_divisor, is_plain_divisor, is_plain_number}
 use Rattle.pap_types.specs.Values.{Env, value, named_value}
 use Rattle.pap_types.specs.Operations.{of_one}
 use Rattle.pap_types.specs.Checks.{is_of_type}
 use Rattle.pap_compiler.specs.CodeDecisions.{shown_number}
 use Rattle.pap_types.specs.Typing.{HasItsType, AreDistinct}
-use Rattle.pap_compiler.proofs.NameLemmas.{AreHeld, IsMissing, IsFound, looked, declared_type, apart}
+use Rattle.pap_compiler.proofs.NameLemmas.{AreHeld, looked, declared_type, apart}
 use Rattle.pap_compiler.proofs.KindLemmas.{both_true, and_then_some, map_some, some_is}
 
 cofactor : (m n : ℕ) → 0 < n → m % n ≡ 0 → (m / n) * n ≡ m

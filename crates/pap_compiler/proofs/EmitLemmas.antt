@@ -1,10 +1,10 @@
 -- Instructions that are appended, and then written over.
-use Rattle.std.proofs.Common.{◌≡◌, ℕ, ◌+◌, ◌<◌, List, [], ◌∷◌, ◌++◌, length, refl, sym, ap, ◌∙◌, subst, append_assoc, length-append, arith}
+use Rattle.std.proofs.Common.{◌≡◌, ℕ, ◌+◌, List, [], ◌∷◌, ◌++◌, length, sym, ap, ◌∙◌, append_assoc, length-append, arith}
 use Rattle.std.specs.Prelude.{slice_set}
 use Rattle.std.proofs.Math.Seq.{set-append_seam}
 use Rattle.std.proofs.lemmas.List.{length-set}
 use Rattle.pap_tree.specs.declared.expression.Binary.{Binary}
-use Rattle.pap_tree.specs.Term.{Term, choice}
+use Rattle.pap_tree.specs.Term.{Term}
 use Rattle.pap_types.specs.Scopes.{Scope}
 use Rattle.pap_machine.specs.declared.code.Instr.{Instr}
 use Rattle.pap_machine.specs.declared.code.Instr.TheVariants as i

@@ -1,29 +1,27 @@
 -- What the kind of an expression says of its value: a truth is 1 or 0, and a whole number has no places.
-use Rattle.std.proofs.Common.{◌≡◌, ℕ, ◌+◌, List, [], ◌∷◌, ◌++◌, Bool, true, false, Option, Some, None, if◌then◌else◌, refl, sym, ap, ◌∙◌, subst, ◌⊎◌, inl, inr}
-use Rattle.std.specs.Prelude.{◌&&◌, ◌||◌, not, ⊤, is_some, ℤ, pos}
-use Rattle.std.specs.Option.{option_map, option_map_or, option_or, option_and_then}
+use Rattle.std.proofs.Common.{◌≡◌, ℕ, List, Bool, true, false, Option, Some, None, if◌then◌else◌, refl, sym, ◌∙◌, subst, ◌⊎◌, inl, inr}
+use Rattle.std.specs.Prelude.{◌&&◌, ◌||◌, not}
+use Rattle.std.specs.Option.{option_map, option_map_or, option_and_then}
 use Rattle.std.specs.List.{All}
-use Rattle.std.specs.Ordering.{int_eq}
-use Rattle.scaled_decimal.specs.Decimals.{Decimal, scale_of, numerator_of}
-use Rattle.scaled_decimal.specs.WholeNumbers.{truth, item_at}
+use Rattle.scaled_decimal.specs.Decimals.{Decimal, scale_of}
+use Rattle.scaled_decimal.specs.WholeNumbers.{truth}
 use Rattle.pap_tree.specs.declared.declaration.Kind.{Kind as DeclaredKind}
 use Rattle.pap_tree.specs.declared.declaration.Kind.TheVariants as declares
 use Rattle.pap_tree.specs.declared.expression.Unary.TheVariants.{Minus, Not, Negate, Abs}
 use Rattle.pap_tree.specs.declared.expression.Binary.{Binary}
 use Rattle.pap_tree.specs.declared.expression.Binary.TheVariants as binaries
-use Rattle.pap_tree.specs.declared.expression.Call.{Call}
 use Rattle.pap_tree.specs.declared.expression.Call.TheVariants as calls
-use Rattle.pap_tree.specs.Term.{Leaf, whole, long, point, text, known, named, Term, leaf, item, one, two, choice, One, unary, value_of, value_of_scaled, new_big, set_scale, Two, operator, method, divide}
+use Rattle.pap_tree.specs.Term.{whole, long, point, text, known, named, Term, leaf, item, one, two, choice, unary, value_of, value_of_scaled, new_big, set_scale, Two, operator, method, divide}
 use Rattle.pap_tree.specs.Declarations.{Declaration, DeclaredLiteral, number, big, table}
 use Rattle.pap_types.specs.declared.kinds.NodeKind.{NodeKind}
 use Rattle.pap_types.specs.declared.kinds.NodeKind.TheVariants.{Int, Long, Big, Truth, Fraction, Factor, Table}
-use Rattle.pap_types.specs.Scopes.{Scope, declared_as, declaration_in, constant_in, first_value, kept_as, declared_decimal}
-use Rattle.pap_types.specs.Kinds.{kind_of, leaf_kind, name_kind, declared_kind, wider, is_whole, is_int, is_big, is_truth, takes_one, takes_two, takes_operator, are_parts}
-use Rattle.pap_types.specs.Operations.{is_zero, of_two, of_operator, unless_zero, compared, holds_of}
-use Rattle.pap_types.specs.Values.{Env, look, value, named_value, leaf_value, goes_right}
+use Rattle.pap_types.specs.Scopes.{Scope, declared_as, declaration_in, first_value, kept_as, declared_decimal}
+use Rattle.pap_types.specs.Kinds.{kind_of, name_kind, declared_kind, wider, is_whole, is_int, is_big, is_truth, are_parts}
+use Rattle.pap_types.specs.Operations.{is_zero, of_two, unless_zero, compared}
+use Rattle.pap_types.specs.Values.{Env, value, named_value, goes_right}
 use Rattle.pap_types.specs.Checks.{is_of_type}
 use Rattle.pap_types.specs.Typing.{IsTypedTerm, HasItsType}
-use Rattle.pap_compiler.proofs.NameLemmas.{AreHeld, IsMissing, IsFound, looked, declared_type}
+use Rattle.pap_compiler.proofs.NameLemmas.{AreHeld, looked, declared_type}
 
 pub both_true : (a b : Bool) → (a && b) ≡ true → (a ≡ true) × (b ≡ true)
 both_true true b h = (refl, h)

@@ -1,8 +1,8 @@
 -- Names by number: where a name stands among the variables and in an environment that has their values.
-use Rattle.std.proofs.Common.{◌≡◌, ℕ, zero, suc, ◌+◌, ◌<◌, List, [], ◌∷◌, ◌++◌, length, map, Bool, true, false, Option, Some, None, if◌then◌else◌, refl, sym, ap, ◌∙◌, subst, arith, cond, nat_lt, ◌⊎◌, inl, inr, get_or}
-use Rattle.std.specs.Prelude.{slice_get, slice_set, position, not, ⊤}
+use Rattle.std.proofs.Common.{◌≡◌, ℕ, suc, ◌+◌, ◌<◌, List, [], ◌∷◌, ◌++◌, length, map, Bool, true, false, Option, Some, None, if◌then◌else◌, refl, sym, ap, ◌∙◌, subst, arith, cond, nat_lt, ◌⊎◌, inl, inr, get_or}
+use Rattle.std.specs.Prelude.{slice_get, slice_set, not, ⊤}
 use Rattle.std.specs.List.{All, position_or_len}
-use Rattle.std.specs.Option.{option_map, option_or, option_map_or}
+use Rattle.std.specs.Option.{option_map}
 use Rattle.std.specs.Str.{bytes_eq}
 use Rattle.std.proofs.lemmas.Bool.{cases_lt, cases_Bool}
 use Rattle.std.proofs.lemmas.Bool.Decides.{nat_tests, same_from_decides}
@@ -10,7 +10,7 @@ use Rattle.std.proofs.lemmas.List.Elements.{All-nil, All-cons, All-head, All-tai
 use Rattle.std.proofs.lemmas.Slice.Eq.{bytes_eq-Decides}
 use Rattle.scaled_decimal.specs.Decimals.{Decimal, scale_of}
 use Rattle.pap_tree.specs.Declarations.{Declaration}
-use Rattle.pap_types.specs.Scopes.{Scope, declared_as, names_of, number_of, first_value, constant_in}
+use Rattle.pap_types.specs.Scopes.{declared_as, names_of, number_of}
 use Rattle.pap_types.specs.Kinds.{declared_kind, is_whole}
 use Rattle.pap_types.specs.Values.{Env, Entry, look, put}
 use Rattle.pap_types.specs.Typing.{HasItsType, AreDistinct}

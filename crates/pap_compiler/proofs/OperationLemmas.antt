@@ -1,17 +1,16 @@
 -- Where the operands of an expression are safe, its instruction leads to its value.
-use Rattle.std.proofs.Common.{◌≡◌, ◌≢◌, ℕ, ◌+◌, ◌-◌, ◌^◌, ◌<◌, ◌≤◌, List, [], ◌∷◌, ◌++◌, length, Bool, true, false, Option, Some, None, if◌then◌else◌, refl, sym, ap, ◌∙◌, subst, arith}
-use Rattle.std.specs.Prelude.{slice_get, ◌&&◌, ◌||◌, not, ⊤, ℤ, pos, negsuc, ◌≤ℤ◌, ◌<ℤ◌, neg_ℤ}
+use Rattle.std.proofs.Common.{◌≡◌, ◌≢◌, ℕ, ◌+◌, List, ◌∷◌, Bool, true, false, Some, refl, sym, ap, ◌∙◌, subst, arith}
+use Rattle.std.specs.Prelude.{◌&&◌, ⊤, ℤ, pos}
 use Rattle.std.specs.Ordering.{int_eq, is_lt, is_le, is_gt, is_ge, is_eq, is_ne}
 use Rattle.std.specs.declared.cmp.Ordering.{Ordering}
 use Rattle.std.specs.declared.cmp.Ordering.TheVariants.{Less, Equal, Greater}
 use Rattle.std.proofs.lemmas.Int.{ints}
-use Rattle.scaled_decimal.specs.Decimals.{Decimal, decimal, scale_of, numerator_of, value_order, sum, difference, product, negated, magnitude, comparison, lesser, greater}
-use Rattle.scaled_decimal.specs.Limits.{most_places}
+use Rattle.scaled_decimal.specs.Decimals.{Decimal, decimal, numerator_of, value_order, sum, difference, product, negated, magnitude, comparison, lesser, greater}
 use Rattle.scaled_decimal.specs.RoundedDecimals.{quotient, rescaled}
 use Rattle.scaled_decimal.specs.ShortenedDecimals.{exact_quotient}
 use Rattle.scaled_decimal.specs.ExactQuotients.{IsPlainDivisor}
 use Rattle.scaled_decimal.specs.WholeNumbers.{int_bits, long_bits, IsOfBits, truth, whole_sum, whole_difference, whole_product, whole_quotient, whole_remainder, whole_opposite, whole_decimal}
-use Rattle.scaled_decimal.specs.WorkingNumbers.{ComparisonFits, SumFits, DifferenceFits, ProductFits, RescaleFits, QuotientFits, ExactQuotientFits}
+use Rattle.scaled_decimal.specs.WorkingNumbers.{ComparisonFits, SumFits, DifferenceFits, ProductFits, RescaleFits, ExactQuotientFits}
 use Rattle.pap_tree.specs.declared.expression.Unary.TheVariants.{Minus, Not, Negate, Abs}
 use Rattle.pap_tree.specs.declared.expression.Binary.{Binary}
 use Rattle.pap_tree.specs.declared.expression.Binary.TheVariants as binaries
@@ -28,7 +27,7 @@ use Rattle.pap_machine.specs.declared.code.Instr.TheVariants as i
 use Rattle.pap_machine.specs.Code.{Program}
 use Rattle.pap_machine.specs.Machine.{State, state_of, Does, Works, Two as TwoStacked}
 use Rattle.pap_machine.specs.Operations.{IsWhole, IsTruth, IsWholeWithPlaces, DivisionFits, ExactDivisionFits, WholeFits, WholeDivisionFits, OppositeFits, of_whole, of_wholes}
-use Rattle.pap_machine.proofs.Laws.{works, one, two}
+use Rattle.pap_machine.proofs.Laws.{one, two}
 use Rattle.pap_compiler.specs.CodeDecisions.{instr_of_one, instr_of_two, shown_number}
 use Rattle.pap_compiler.proofs.KindLemmas.{both_true, IsTruthValue, some_is, unless_some}
 

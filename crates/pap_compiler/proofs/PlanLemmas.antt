@@ -1,5 +1,5 @@
 -- The sizes of a plan within its counts, and its methods one after the other.
-use Rattle.std.proofs.Common.{◌≡◌, ℕ, zero, suc, ◌+◌, ◌*◌, ◌<◌, ◌≤◌, ◌^◌, max, List, [], ◌∷◌, ◌++◌, length, map, drop, get_or, refl, sym, ap, ◌∙◌, subst, append_assoc, arith, add-one}
+use Rattle.std.proofs.Common.{◌≡◌, ℕ, zero, suc, ◌+◌, ◌*◌, ◌<◌, ◌≤◌, ◌^◌, max, List, [], ◌∷◌, ◌++◌, length, map, drop, get_or, refl, sym, ap, ◌∙◌, append_assoc, arith, add-one}
 use Rattle.std.specs.List.{All}
 use Rattle.std.proofs.lemmas.List.{drop_more}
 use Rattle.std.proofs.lemmas.List.Elements.{All-head, All-tail}
@@ -7,7 +7,7 @@ use Rattle.pap_tree.specs.declared.plan.Method.{Method}
 use Rattle.pap_tree.specs.declared.declaration.Declared.{Declared}
 use Rattle.pap_tree.specs.Declarations.{declaration_of}
 use Rattle.pap_types.specs.Checks.{IsWellTyped}
-use Rattle.pap_types.specs.Typing.{HasItsType, HasTypes}
+use Rattle.pap_types.specs.Typing.{HasItsType}
 use Rattle.pap_types.proofs.Laws.{has_types}
 use Rattle.pap_compiler.proofs.NameLemmas.{types_before, types_behind}
 use Rattle.pap_tree.specs.Term.{Term, leaf, item, one, two, choice}
@@ -18,9 +18,8 @@ use Rattle.pap_types.specs.Counts.{AreSmallTerms, methods_written, IsWithinCount
 use Rattle.pap_machine.specs.declared.code.Instr.{Instr}
 use Rattle.pap_machine.specs.declared.code.Instr.TheVariants as i
 use Rattle.pap_compiler.specs.declared.names.Names.{Names}
-use Rattle.pap_compiler.specs.CodeDecisions.{term_length, body_length, methods_length, length_of, entries_from, first_method, numbers_from}
-use Rattle.pap_compiler.specs.Heights.{body_height, methods_height, height_of}
-use Rattle.pap_compiler.specs.NameViews.{plan_in}
+use Rattle.pap_compiler.specs.CodeDecisions.{term_length, body_length, methods_length, length_of, entries_from, numbers_from}
+use Rattle.pap_compiler.specs.Heights.{body_height, methods_height}
 use Rattle.pap_compiler.specs.EmitViews.{IsAppended}
 use Rattle.pap_compiler.specs.StatementViews.{code_in}
 use Rattle.pap_compiler.specs.PlanViews.{methods_in}

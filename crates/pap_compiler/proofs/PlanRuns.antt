@@ -1,8 +1,8 @@
 -- The code of a plan does what the plan means, in exactly its cost.
-use Rattle.std.proofs.Common.{◌≡◌, ℕ, zero, suc, ◌+◌, ◌^◌, ◌<◌, ◌≤◌, max, List, [], ◌∷◌, ◌++◌, length, map, take, drop, Bool, true, false, Option, Some, None, if◌then◌else◌, refl, sym, ap, ◌∙◌, subst, arith, append_assoc, length-append, ◌⊎◌, inl, inr}
-use Rattle.std.specs.Prelude.{slice_get, slice_index, ⊤}
+use Rattle.std.proofs.Common.{◌≡◌, ℕ, zero, suc, ◌+◌, ◌^◌, ◌<◌, ◌≤◌, List, [], ◌∷◌, ◌++◌, length, map, take, drop, true, Some, refl, sym, ap, ◌∙◌, subst, arith, append_assoc, length-append, inl, inr}
+use Rattle.std.specs.Prelude.{slice_get, slice_index}
 use Rattle.std.specs.List.{All}
-use Rattle.std.specs.Option.{option_map, option_map_or, option_and_then}
+use Rattle.std.specs.Option.{option_map, option_map_or}
 use Rattle.std.specs.Str.{bytes_eq}
 use Rattle.std.proofs.lemmas.Bool.{cases_Bool}
 use Rattle.std.proofs.lemmas.List.{length-map}
@@ -12,22 +12,21 @@ use Rattle.pap_tree.specs.declared.declaration.Kind.{Kind as DeclaredKind}
 use Rattle.pap_tree.specs.declared.declaration.Kind.TheVariants as declares
 use Rattle.pap_tree.specs.Declarations.{Declaration}
 use Rattle.pap_tree.specs.Flowchart.{Body, Routine, Flowchart}
-use Rattle.pap_types.specs.Scopes.{Scope, scope_of, variables_of, names_of, first_value, number_of}
+use Rattle.pap_types.specs.Scopes.{Scope, scope_of, variables_of, names_of, first_value}
 use Rattle.pap_types.specs.Routines.{body_named, method_names}
 use Rattle.pap_types.specs.Kinds.{is_whole, declared_kind}
-use Rattle.pap_types.specs.Values.{Env, Entry}
-use Rattle.pap_types.specs.Runs.{Calls, after, spent, IsSafeBody, calls_of}
-use Rattle.pap_types.specs.Meaning.{longest_chain, calls_in, given, first_entry, start, SuitsKind, AreInputs, IsSafeFor, cost_of, outputs_of, outputs_in, ends_of}
+use Rattle.pap_types.specs.Values.{Env}
+use Rattle.pap_types.specs.Runs.{after, spent, calls_of}
+use Rattle.pap_types.specs.Meaning.{longest_chain, calls_in, given, first_entry, start, SuitsKind, AreInputs, IsSafeFor, cost_of, outputs_in}
 use Rattle.pap_types.specs.Checks.{IsWellTyped}
-use Rattle.pap_machine.specs.declared.code.Instr.{Instr}
 use Rattle.pap_machine.specs.declared.code.Instr.TheVariants as i
 use Rattle.pap_machine.specs.Code.{Program}
-use Rattle.pap_machine.specs.Machine.{State, state_of, Leads, Runs as RunsCode, HoldAt, with_inputs, beginning, IsSafeFor as IsSafeForCode}
+use Rattle.pap_machine.specs.Machine.{state_of, Leads, Runs as RunsCode, HoldAt, with_inputs, beginning}
 use Rattle.pap_machine.proofs.Laws.{leads_one, leads_on, returns_to, ends_there}
 use Rattle.pap_compiler.specs.Heights.{body_height, methods_height}
-use Rattle.pap_compiler.specs.Depths.{body_depth, method_depth, depth_of}
-use Rattle.pap_compiler.specs.CodeDecisions.{body_length, body_code, methods_code, entries_from, entry, first_method, code_of, numbers_from, compiled}
-use Rattle.pap_compiler.specs.Correct.{BehavesOn, IsCodeOf}
+use Rattle.pap_compiler.specs.Depths.{body_depth, method_depth}
+use Rattle.pap_compiler.specs.CodeDecisions.{body_length, body_code, methods_code, entries_from, entry, first_method, numbers_from, compiled}
+use Rattle.pap_compiler.specs.Correct.{IsCodeOf}
 use Rattle.pap_compiler.proofs.CodeLemmas.{HasAt, has_front, has_back, has_all, length_body}
 use Rattle.pap_types.specs.Typing.{IsTypedBody, HasItsType, AreDistinct, HasTypes}
 use Rattle.pap_types.proofs.Laws.{has_types}
@@ -83,9 +82,11 @@ module _ (scope : Scope) (p : Program) (ready : IsSet scope p) (ms : List Routin
           let depth_is : method_depth ms (suc n) m ≡ body_depth (method_depth ms n) b = ap (λ o. option_map_or (body_depth (method_depth ms n)) o 0) k.1.0 in
           let cost_is : spent scope (calls_of scope ms n) b env + 1 ≡ (calls_of scope ms (suc n)).spent m env + 1 = ap (λ o. option_map_or (λ b. spent scope (calls_of scope ms n) b env) o 0 + 1) (sym k.1.0) in
           let run = body_runs scope p ready (entry at ms) ms (calls_of scope ms n) (method_depth ms n) called b (entry at ms m) s.typed s.body (r ∷ cs) env ends held (omega (arith, deep, depth_is)) s.high (safe b k.1.0) k.1.1 in
-          let last = leads_one p (between scope p ready (entry at ms m + body_length b) ends (r ∷ cs)) (between scope p ready r ends cs) i.Return s.back (returns_to (entry at ms m + body_length b) (values_of ends) cs r []) in
-          (subst (λ c. Leads p c (between scope p ready (entry at ms m) env (r ∷ cs)) (between scope p ready r ends cs)) cost_is
-          (leads_on p (spent scope (calls_of scope ms n) b env) 1 (between scope p ready (entry at ms m) env (r ∷ cs)) (between scope p ready (entry at ms m + body_length b) ends (r ∷ cs)) (between scope p ready r ends cs) run.0 last), run.1)
+          let last = leads_one p (between scope p ready (entry at ms m + body_length b) ends (r ∷ cs)) (between scope p ready r ends cs) i.Return s.back (returns_to (entry at ms m + body_length b) (values_of ends) cs r []) in (
+            subst (λ c. Leads p c (between scope p ready (entry at ms m) env (r ∷ cs)) (between scope p ready r ends cs)) cost_is
+                (leads_on p (spent scope (calls_of scope ms n) b env) 1 (between scope p ready (entry at ms m) env (r ∷ cs)) (between scope p ready (entry at ms m + body_length b) ends (r ∷ cs)) (between scope p ready r ends cs) run.0 last),
+            run.1,
+          )
 
 -- ---- the beginning
 

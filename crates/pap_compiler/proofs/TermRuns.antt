@@ -1,35 +1,34 @@
 -- The code of an expression puts its value on the stack, in exactly its cost.
-use Rattle.std.proofs.Common.{◌≡◌, ◌≢◌, ℕ, zero, suc, ◌+◌, ◌<◌, ◌≤◌, max, List, [], ◌∷◌, ◌++◌, length, map, Bool, true, false, Option, Some, None, if◌then◌else◌, refl, sym, ap, ◌∙◌, subst, arith, ◌⊎◌, inl, inr, add-one}
-use Rattle.std.specs.Prelude.{slice_get, not, ⊤, ℤ, pos, negsuc, IsTrue, unwrap_or}
+use Rattle.std.proofs.Common.{◌≡◌, ◌≢◌, ℕ, zero, suc, ◌+◌, ◌≤◌, List, [], ◌∷◌, ◌++◌, length, map, Bool, true, false, Option, Some, None, if◌then◌else◌, refl, sym, ap, ◌∙◌, subst, arith, ◌⊎◌, inl, inr}
+use Rattle.std.specs.Prelude.{slice_get, not, ℤ, pos, negsuc, unwrap_or}
 use Rattle.std.specs.List.{All}
-use Rattle.std.specs.Option.{option_map, option_map_or, option_or, option_and_then}
-use Rattle.scaled_decimal.specs.Decimals.{Decimal, decimal, scale_of, numerator_of}
+use Rattle.std.specs.Option.{option_map, option_or, option_and_then}
+use Rattle.scaled_decimal.specs.Decimals.{Decimal, decimal, numerator_of}
 use Rattle.scaled_decimal.specs.ShortenedDecimals.{shortened}
 use Rattle.scaled_decimal.specs.WholeNumbers.{truth, item_at}
-use Rattle.pap_tree.specs.declared.expression.Unary.{Unary}
 use Rattle.pap_tree.specs.declared.expression.Binary.TheVariants as binaries
-use Rattle.pap_tree.specs.Term.{Leaf, whole, long, point, text, known, named, Term, leaf, item, one, two, choice, One, unary, value_of, value_of_scaled, new_big, set_scale, Two, operator, method, divide}
+use Rattle.pap_tree.specs.Term.{whole, long, point, text, known, named, Term, leaf, item, one, two, choice, One, value_of, Two, operator}
 use Rattle.pap_tree.specs.Grammar.{known_value}
 use Rattle.pap_tree.specs.Declarations.{Declaration}
-use Rattle.pap_types.specs.Scopes.{Scope, declared_as, declaration_in, names_of, number_of, constant_in, first_value, declared_table, table_in, items_of, zero as zero_decimal}
-use Rattle.pap_types.specs.Kinds.{kind_of, is_whole, is_truth, takes_one, takes_two, shows_plain_divisor}
-use Rattle.pap_types.specs.Operations.{is_zero, as_big, of_one, of_two, fewest_places}
-use Rattle.pap_types.specs.Values.{Env, look, value, leaf_value, named_value, cost, goes_right}
-use Rattle.pap_types.specs.Safety.{IsSafe, OneFits, TwoFits}
+use Rattle.pap_types.specs.Scopes.{Scope, declared_as, names_of, constant_in, declared_table, table_in, zero as zero_decimal}
+use Rattle.pap_types.specs.Kinds.{kind_of, is_truth}
+use Rattle.pap_types.specs.Operations.{is_zero, of_one, of_two, fewest_places}
+use Rattle.pap_types.specs.Values.{Env, value, named_value, cost, goes_right}
+use Rattle.pap_types.specs.Safety.{IsSafe}
 use Rattle.pap_machine.specs.declared.code.Instr.{Instr}
 use Rattle.pap_machine.specs.declared.code.Instr.TheVariants as i
 use Rattle.pap_machine.specs.Code.{Program}
-use Rattle.pap_machine.specs.Machine.{State, state_of, gone, Does, Steps, Leads, Branches}
+use Rattle.pap_machine.specs.Machine.{State, state_of, gone, Does, Leads}
 use Rattle.pap_machine.specs.Operations.{IsWhole, IsItem}
 use Rattle.pap_machine.proofs.Laws.{leads_one, leads_on, puts, found, branches}
 use Rattle.pap_compiler.specs.Heights.{term_height, right_height}
-use Rattle.pap_compiler.specs.CodeDecisions.{term_length, term_code, operand_code, instr_of_one, instr_of_two, leaf_code, name_code, table_number, shown_number}
+use Rattle.pap_compiler.specs.CodeDecisions.{term_length, term_code, operand_code, instr_of_one, instr_of_two, name_code, table_number}
 use Rattle.pap_compiler.proofs.CodeLemmas.{HasAt, has_front, has_back, length_term, length_operand}
 use Rattle.pap_types.specs.Typing.{IsTypedTerm, HasItsType, AreDistinct}
-use Rattle.pap_compiler.proofs.NameLemmas.{AreHeld, IsMissing, IsFound, looked, values_of, number_is, place_of, stands_at, no_number}
-use Rattle.pap_compiler.proofs.KindLemmas.{both_true, and_then_some, map_some, some_is, int_whole, truth_of, whole_of, IsTruthValue, zero_of_truth}
-use Rattle.pap_compiler.proofs.DivisorLemmas.{IsShown, divisor_shown}
-use Rattle.pap_compiler.proofs.OperationLemmas.{operand_value, Leaves, one_leaves, two_leaves}
+use Rattle.pap_compiler.proofs.NameLemmas.{AreHeld, looked, values_of, number_is, place_of, stands_at, no_number}
+use Rattle.pap_compiler.proofs.KindLemmas.{both_true, and_then_some, map_some, some_is, int_whole, truth_of, whole_of}
+use Rattle.pap_compiler.proofs.DivisorLemmas.{divisor_shown}
+use Rattle.pap_compiler.proofs.OperationLemmas.{operand_value, one_leaves, two_leaves}
 
 -- ---- tables
 

@@ -1,11 +1,10 @@
 -- Declarations one after the other.
-use Rattle.std.proofs.Common.{◌≡◌, ℕ, zero, suc, ◌+◌, ◌<◌, List, [], ◌∷◌, ◌++◌, length, map, drop, get_or, refl, sym, ap, ◌∙◌, subst, arith}
+use Rattle.std.proofs.Common.{◌≡◌, ℕ, zero, suc, ◌+◌, ◌<◌, List, [], ◌∷◌, length, map, drop, get_or, sym, ap, ◌∙◌, subst, arith}
 use Rattle.std.specs.List.{All}
 use Rattle.std.proofs.lemmas.List.{drop_more}
 use Rattle.std.proofs.lemmas.List.Elements.{All-head, All-tail}
-use Rattle.scaled_decimal.specs.Decimals.{Decimal}
 use Rattle.pap_tree.specs.declared.declaration.Declared.{Declared}
-use Rattle.pap_tree.specs.Declarations.{Declaration, declaration_of}
+use Rattle.pap_tree.specs.Declarations.{declaration_of}
 use Rattle.pap_types.specs.Scopes.{first_value, declared_table}
 use Rattle.pap_types.specs.Typing.{HasItsType}
 

@@ -1,9 +1,7 @@
 -- A step of taking the zeros off that end a decimal.
-use Rattle.std.proofs.Common.{◌≡◌, ◌≢◌, ℕ, zero, suc, ◌+◌, ◌-◌, ◌<◌, ◌≤◌, true, false, ◌⊎◌, inl, inr, refl, sym, ap, ◌∙◌, arith, ℤ, pos, int_div}
+use Rattle.std.proofs.Common.{◌≡◌, ℕ, zero, suc, ◌+◌, ◌-◌, ◌≤◌, true, false, refl, ap, arith, ℤ, pos, int_div}
 use Rattle.std.specs.Prelude.{int_rem}
 use Rattle.std.specs.Ordering.{int_eq}
-use Rattle.std.proofs.lemmas.Bool.Decides.{Decides-int_eq}
-use Rattle.std.proofs.lemmas.Bool.{false_from_ne_true}
 use Rattle.scaled_decimal.specs.Decimals.{decimal}
 use Rattle.scaled_decimal.specs.ShortenedDecimals.{without_zeros}
 

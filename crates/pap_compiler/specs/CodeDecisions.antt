@@ -1,7 +1,7 @@
 -- The code of a plan: MAIN's, the end, and then that of each method once. An EXECUTE is a call.
-use Rattle.std.specs.Prelude.{ℕ, ◌+◌, ℤ, pos, if◌then◌else◌, List, [], ◌∷◌, ◌++◌, length, map, Option, Some, None, unwrap_or, slice_index}
+use Rattle.std.specs.Prelude.{ℕ, ◌+◌, ℤ, pos, if◌then◌else◌, List, [], ◌∷◌, ◌++◌, length, map, unwrap_or, slice_index}
 use Rattle.std.specs.Option.{option_map, option_map_or, option_or}
-use Rattle.scaled_decimal.specs.Decimals.{Decimal, decimal, numerator_of}
+use Rattle.scaled_decimal.specs.Decimals.{decimal, numerator_of}
 use Rattle.scaled_decimal.specs.ShortenedDecimals.{shortened}
 use Rattle.pap_tree.specs.declared.expression.Unary.TheVariants.{Minus, Not, Negate, Abs}
 use Rattle.pap_tree.specs.declared.expression.Binary.{Binary}

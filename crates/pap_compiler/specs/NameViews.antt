@@ -1,5 +1,5 @@
 -- What the private functions know of the names of a plan.
-use Rattle.std.specs.Prelude.{◌≡◌, ℕ, ◌+◌, ◌<◌, ◌^◌, length, map}
+use Rattle.std.specs.Prelude.{◌≡◌, ◌+◌, ◌<◌, ◌^◌, length, map}
 use Rattle.pap_tree.specs.Flowchart.{Flowchart, flowchart_of}
 use Rattle.pap_types.specs.Scopes.{Scope, scope_of, first_value}
 use Rattle.pap_compiler.specs.declared.names.Names.{Names}

@@ -39,12 +39,7 @@ pub fn compile(alloc: Global, t: &Typed, order: &[u32]) -> Result<Code, AllocErr
 }
 
 /// The parts of the code put together.
-fn assemble(
-    alloc: Global,
-    t: &Typed,
-    order: &[u32],
-    layout: Layout,
-) -> Result<Code, AllocError>
+fn assemble(alloc: Global, t: &Typed, order: &[u32], layout: Layout) -> Result<Code, AllocError>
     requires ordered { IsOrdered (flowchart_of t.now) order.now }
     requires layout { IsLayout (flowchart_of t.now).main (flowchart_of t.now).methods layout }
     ensures { IfOk result (λ code. code ≡ compiled (flowchart_of t.now)) }
@@ -124,11 +119,7 @@ fn emit_plan(code: &mut Vec<Instr>, names: &Names) -> Result<(), AllocError>
 }
 
 /// Appends the code of each method.
-fn emit_methods(
-    code: &mut Vec<Instr>,
-    names: &Names,
-    methods: &[Method],
-) -> Result<(), AllocError>
+fn emit_methods(code: &mut Vec<Instr>, names: &Names, methods: &[Method]) -> Result<(), AllocError>
     requires made { IsMade names.now }
     requires room { length code.old.items + methods_length (map routine_of methods.now) < 2 ^ 32 }
     ensures { OnOk result (code.new.items ≡ code.old.items ++ methods_in names.now (length code.old.items) (map routine_of methods.now)) }

@@ -1,4 +1,4 @@
-use Rattle.std.proofs.Common.{◌∙◌, ap, sym, arith}
+use Rattle.std.proofs.Common.{ap, arith}
 use Rattle.pap_tree.specs.Flowchart.{flowchart_of, done}
 use Rattle.pap_tree.proofs.Laws.{branch_is}
 use Rattle.pap_compiler.specs.CodeDecisions.{body_length}

@@ -1,4 +1,4 @@
-use Rattle.std.proofs.Common.{◌≡◌, ◌∙◌, ◌<◌, length, ap, subst, arith, get_or}
+use Rattle.std.proofs.Common.{◌≡◌, ◌∙◌, length, ap, subst, arith, get_or}
 use Rattle.std.specs.Prelude.{slice_index}
 use Rattle.pap_tree.specs.Flowchart.{flowchart_of, routine_of, body_of}
 use Rattle.pap_compiler.specs.Depths.{body_depth}

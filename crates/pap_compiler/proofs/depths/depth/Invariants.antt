@@ -1,4 +1,3 @@
-use Rattle.std.proofs.Common.{◌≡◌}
 use Rattle.pap_tree.specs.Flowchart.{flowchart_of}
 use Rattle.pap_compiler.proofs.DepthLemmas.{AreDepths}
 use Rattle.pap_compiler.proofs.depths.depth.Given as goal

@@ -1,9 +1,9 @@
-use Rattle.std.proofs.Common.{◌≡◌, ◌+◌, subst, length, arith, List, [], ◌∷◌}
+use Rattle.std.proofs.Common.{◌≡◌, ◌+◌, subst, length, arith, [], ◌∷◌}
 use Rattle.std.specs.Prelude.{slice_set}
 use Rattle.pap_tree.specs.Term.{term_of}
 use Rattle.pap_machine.specs.declared.code.Instr.TheVariants as i
 use Rattle.pap_compiler.specs.CodeDecisions.{term_length, term_code}
-use Rattle.pap_compiler.specs.EmitViews.{IsAppended, skip_to}
+use Rattle.pap_compiler.specs.EmitViews.{IsAppended}
 use Rattle.pap_compiler.specs.NameViews.{scope_in}
 use Rattle.pap_compiler.proofs.EmitLemmas.{joined_whole, jumps_whole, length_patched}
 use Rattle.pap_compiler.proofs.emit.+emit.Goals as goal

@@ -1,4 +1,4 @@
-use Rattle.std.proofs.Common.{◌≡◌, ◌+◌, ◌++◌, ◌∙◌, ap, sym, subst, length, arith, List, [], ◌∷◌}
+use Rattle.std.proofs.Common.{◌≡◌, ◌+◌, ap, sym, subst, length, arith, [], ◌∷◌}
 use Rattle.pap_tree.specs.Term.{term_of}
 use Rattle.pap_tree.specs.Flowchart.{body_of, stmt_then, done}
 use Rattle.pap_tree.proofs.Laws.{branch_is}
