@@ -6,13 +6,13 @@ use Rattle.pap_types.specs.Scopes.{variables_of, declared_table}
 use Rattle.pap_machine.specs.declared.code.Instr.{Instr}
 use Rattle.pap_compiler.specs.declared.names.Names.{Names}
 use Rattle.pap_compiler.specs.declared.assembly.Layout.{Layout}
-use Rattle.pap_compiler.specs.CodeDecisions.{body_length, methods_code, entry, entries_from, first_method}
+use Rattle.pap_compiler.specs.CodeDecisions.{body_length, methods_code, entries_from}
 use Rattle.pap_compiler.specs.Heights.{body_height, methods_height}
-use Rattle.pap_compiler.specs.NameViews.{plan_in, scope_in}
+use Rattle.pap_compiler.specs.NameViews.{scope_in, entry_in}
 
 -- the code of methods in a plan
 abbrev pub methods_in : Names → ℕ → List Routine → List Instr
-methods_in n = methods_code (scope_in n) (entry (first_method (plan_in n)) (plan_in n).methods)
+methods_in n = methods_code (scope_in n) (entry_in n)
 
 -- the methods stand behind MAIN and the end
 pub record IsLayout (main : Body) (ms : List Routine) (l : Layout) : Type 0 where

@@ -4,8 +4,10 @@ ghost use Rattle.pap_tree.specs.Flowchart.{flowchart_of, routine_of, body_of};
 ghost use Rattle.pap_tree.specs.Declarations.{declaration_of};
 ghost use Rattle.pap_types.specs.Scopes.{variables_of, first_value, declared_table};
 ghost use Rattle.call_order.specs.Orders.{IsOrdered};
-ghost use Rattle.pap_compiler.specs.CodeDecisions.{entries_from, body_length, methods_length, first_method, code_of, compiled, numbers_from};
+ghost use Rattle.pap_compiler.specs.CodeDecisions.{body_length, methods_length, entries_from, first_method};
+ghost use Rattle.pap_compiler.specs.CodeDecisions.{code_of, compiled, numbers_from};
 ghost use Rattle.pap_compiler.specs.Correct.{IsCodeOf};
+ghost use Rattle.pap_compiler.specs.EmitViews.{HasRoom};
 ghost use Rattle.pap_compiler.specs.NameViews.{IsMade, plan_in};
 ghost use Rattle.pap_compiler.specs.PlanViews.{methods_in, IsLayout, tables_in};
 
@@ -23,9 +25,9 @@ use std::alloc::{AllocError, Global};
 
 /// The code of a plan, given an order of its methods, each after those that it executes.
 ///
-/// Each method's code stands once, and an EXECUTE is a call. On every list of inputs that is safe for the plan, the code is
-/// safe, leaves the plan's outputs in its slots, and runs as many instructions as the plan has steps. It has room for exactly
-/// as many open calls as the longest chain that MAIN begins has methods, and for exactly as many values on the stack as an
+/// Each method's code stands once, and an EXECUTE is a call. On every list of inputs that is safe for the plan, the code
+/// is safe, leaves the plan's outputs in its slots, and runs as many instructions as the plan has steps. It has room for
+/// as many open calls as the longest chain that MAIN begins has methods, and for as many values on the stack as an
 /// expression has at most. Refuses only want of memory.
 pub fn compile(alloc: Global, t: &Typed, order: &[u32]) -> Result<Code, AllocError>
     requires ordered { IsOrdered (flowchart_of t.now) order.now }
@@ -73,7 +75,8 @@ struct Layout {
 /// The layout of the code: MAIN, the end, and the methods in the order of the text.
 #[tactic(auto, using(crate::proofs::PlanLemmas::split_at))]
 fn layout_of(alloc: Global, main: &[Stmt], methods: &[Method]) -> Result<Layout, AllocError>
-    requires { body_length (body_of main.now) + 1 + methods_length (map routine_of methods.now) < 2 ^ 32 }
+    requires { body_length (body_of main.now) + 1 + methods_length (map routine_of methods.now)
+        < 2 ^ 32 }
     ensures { IfOk result (IsLayout (body_of main.now) (map routine_of methods.now)) }
 {
     let main = body_size(main);
@@ -91,7 +94,8 @@ fn layout_of(alloc: Global, main: &[Stmt], methods: &[Method]) -> Result<Layout,
 
 /// The instructions of a plan, whose methods stand at these entries.
 fn instrs(alloc: Global, t: &Typed, entries: &[u32]) -> Result<Vec<Instr>, AllocError>
-    requires { entries.now ≡ entries_from (first_method (flowchart_of t.now)) (flowchart_of t.now).methods }
+    requires { entries.now ≡
+        entries_from (first_method (flowchart_of t.now)) (flowchart_of t.now).methods }
     ensures { IfOk result (λ code. code.items ≡ code_of (flowchart_of t.now)) }
 {
     let mut constants = Vec::new(alloc);
@@ -121,8 +125,9 @@ fn emit_plan(code: &mut Vec<Instr>, names: &Names) -> Result<(), AllocError>
 /// Appends the code of each method.
 fn emit_methods(code: &mut Vec<Instr>, names: &Names, methods: &[Method]) -> Result<(), AllocError>
     requires made { IsMade names.now }
-    requires room { length code.old.items + methods_length (map routine_of methods.now) < 2 ^ 32 }
-    ensures { OnOk result (code.new.items ≡ code.old.items ++ methods_in names.now (length code.old.items) (map routine_of methods.now)) }
+    requires room { HasRoom code.old.items (methods_length (map routine_of methods.now)) }
+    ensures { OnOk result (code.new.items ≡ code.old.items
+        ++ methods_in names.now (length code.old.items) (map routine_of methods.now)) }
 {
     for m in methods {
         emit_body(code, names, &m.body)?;

@@ -2,8 +2,8 @@
 ghost use Rattle.std.specs.Prelude.{◌≡◌, ◌≤◌, IfOk, max};
 ghost use Rattle.pap_tree.specs.Flowchart.{flowchart_of, body_of, stmt_then, done};
 ghost use Rattle.call_order.specs.Orders.{IsOrdered};
-ghost use Rattle.pap_compiler.specs.Depths.{body_depth, depth_of};
-ghost use Rattle.pap_compiler.specs.DepthViews.{depth_at, AreSmall};
+ghost use Rattle.pap_compiler.specs.Depths.{depth_of};
+ghost use Rattle.pap_compiler.specs.DepthViews.{depth_at, depth_in, AreSmall};
 
 use pap_tree::{Name, Stmt};
 use pap_types::Typed;
@@ -27,7 +27,7 @@ pub(crate) fn depth(alloc: Global, t: &Typed, order: &[u32]) -> Result<u32, Allo
 #[cycle(depth)]
 fn body_depth(t: &Typed, depths: &[u32], body: &[Stmt]) -> u32
     requires { AreSmall depths.now }
-    ensures exact { result ≡ body_depth (depth_at (flowchart_of t.now) depths.now) (body_of body.now) }
+    ensures exact { result ≡ depth_in (flowchart_of t.now) depths.now (body_of body.now) }
     ensures small { result ≤ 65 }
 {
     let mut depth = 0;
@@ -40,7 +40,7 @@ fn body_depth(t: &Typed, depths: &[u32], body: &[Stmt]) -> u32
 #[cycle(depth)]
 fn stmt_depth(t: &Typed, depths: &[u32], s: &Stmt) -> u32
     requires { AreSmall depths.now }
-    ensures exact { result ≡ body_depth (depth_at (flowchart_of t.now) depths.now) (stmt_then s.now done) }
+    ensures exact { result ≡ depth_in (flowchart_of t.now) depths.now (stmt_then s.now done) }
     ensures small { result ≤ 65 }
 {
     match s {
@@ -53,7 +53,8 @@ fn stmt_depth(t: &Typed, depths: &[u32], s: &Stmt) -> u32
 #[cycle(depth)]
 fn branches_depth(t: &Typed, depths: &[u32], yes: &[Stmt], no: &[Stmt]) -> u32
     requires { AreSmall depths.now }
-    ensures exact { result ≡ max (body_depth (depth_at (flowchart_of t.now) depths.now) (body_of yes.now)) (body_depth (depth_at (flowchart_of t.now) depths.now) (body_of no.now)) }
+    ensures exact { result ≡ max (depth_in (flowchart_of t.now) depths.now (body_of yes.now))
+        (depth_in (flowchart_of t.now) depths.now (body_of no.now)) }
     ensures small { result ≤ 65 }
 {
     body_depth(t, depths, yes).max(body_depth(t, depths, no))

@@ -1,10 +1,10 @@
 // From expressions to instructions.
-ghost use Rattle.std.specs.Prelude.{◌≡◌, ◌<◌, ◌+◌, ◌^◌, ◌++◌, ◌∷◌, [], OnOk, length, slice_set};
-ghost use Rattle.pap_tree.specs.Term.{term_of, unary, value_of, two, choice, operator, method};
-ghost use Rattle.pap_machine.specs.declared.code.Instr.TheVariants as i;
-ghost use Rattle.pap_compiler.specs.CodeDecisions.{term_length, term_code, operand_code, instr_of_one, instr_of_operator, instr_of_method};
+ghost use Rattle.std.specs.Prelude.{◌≡◌, ◌<◌, ◌+◌, ◌^◌, ◌∷◌, [], OnOk, length, slice_set};
+ghost use Rattle.pap_tree.specs.Term.{term_of, unary, value_of, one, two, choice, operator};
+ghost use Rattle.pap_compiler.specs.CodeDecisions.{term_length, instr_of_one, instr_of_method};
 ghost use Rattle.pap_compiler.specs.NameViews.{IsMade, scope_in};
-ghost use Rattle.pap_compiler.specs.EmitViews.{IsAppended, HasInstr, two_code, skip_to, skip_code};
+ghost use Rattle.pap_compiler.specs.EmitViews.{IsAppended, HasRoom, HasTerm, HasOne, HasTwo, HasJoined};
+ghost use Rattle.pap_compiler.specs.EmitViews.{HasInstr, two_length, skip_to};
 
 use crate::literals::shortened;
 use crate::names::{Names, known_value};
@@ -17,8 +17,8 @@ use std::alloc::AllocError;
 #[cycle(emit)]
 pub(crate) fn emit_term(code: &mut Vec<Instr>, names: &Names, e: &Expr) -> Result<(), AllocError>
     requires made { IsMade names.now }
-    requires room { length code.old.items + term_length (term_of e.now) < 2 ^ 32 }
-    ensures { OnOk result (IsAppended code.old.items (term_code (scope_in names.now) (length code.old.items) (term_of e.now)) (term_length (term_of e.now)) code.new.items) }
+    requires room { HasRoom code.old.items (term_length (term_of e.now)) }
+    ensures { OnOk result (HasTerm names.now (term_of e.now) code.old.items code.new.items) }
 {
     match e {
         Expr::Int(number) => put(code, Instr::Lit(Dec::new(*number as i128, 0))),
@@ -58,8 +58,9 @@ fn emit_one(
     last: Instr,
 ) -> Result<(), AllocError>
     requires made { IsMade names.now }
-    requires room { length code.old.items + (term_length (term_of operand.now) + 1) < 2 ^ 32 }
-    ensures { OnOk result (IsAppended code.old.items (term_code (scope_in names.now) (length code.old.items) (term_of operand.now) ++ last ∷ []) (term_length (term_of operand.now) + 1) code.new.items) }
+    requires room { HasRoom code.old.items (term_length (term_of operand.now) + 1) }
+    ensures { OnOk result (HasOne names.now (term_of operand.now) last
+        code.old.items code.new.items) }
 {
     emit_term(code, names, operand)?;
     put(code, last)
@@ -69,8 +70,9 @@ fn emit_one(
 #[cycle(emit)]
 fn emit_value_of(code: &mut Vec<Instr>, names: &Names, operand: &Expr) -> Result<(), AllocError>
     requires made { IsMade names.now }
-    requires room { length code.old.items + (term_length (term_of operand.now) + 1) < 2 ^ 32 }
-    ensures { OnOk result (IsAppended code.old.items (operand_code value_of (term_of operand.now) (term_code (scope_in names.now) (length code.old.items) (term_of operand.now)) ++ i.Same ∷ []) (term_length (term_of operand.now) + 1) code.new.items) }
+    requires room { HasRoom code.old.items (term_length (term_of operand.now) + 1) }
+    ensures { OnOk result (HasTerm names.now (one value_of (term_of operand.now))
+        code.old.items code.new.items) }
 {
     if let Expr::Point(number) = operand {
         put(code, Instr::Lit(shortened(*number)))?;
@@ -90,8 +92,9 @@ fn emit_operator(
     right: &Expr,
 ) -> Result<(), AllocError>
     requires made { IsMade names.now }
-    requires room { length code.old.items + term_length (two (operator op) (term_of left.now) (term_of right.now)) < 2 ^ 32 }
-    ensures { OnOk result (IsAppended code.old.items (term_code (scope_in names.now) (length code.old.items) (two (operator op) (term_of left.now) (term_of right.now))) (term_length (two (operator op) (term_of left.now) (term_of right.now))) code.new.items) }
+    requires room { HasRoom code.old.items (two_length (term_of left.now) (term_of right.now)) }
+    ensures { OnOk result (HasTerm names.now
+        (two (operator op) (term_of left.now) (term_of right.now)) code.old.items code.new.items) }
 {
     match instr_of_operator(op) {
         Some(last) => emit_two(code, names, left, right, last),
@@ -109,8 +112,9 @@ fn emit_two(
     last: Instr,
 ) -> Result<(), AllocError>
     requires made { IsMade names.now }
-    requires room { length code.old.items + (term_length (term_of left.now) + term_length (term_of right.now) + 1) < 2 ^ 32 }
-    ensures { OnOk result (IsAppended code.old.items (two_code (scope_in names.now) (length code.old.items) (term_of left.now) (term_of right.now) last) (term_length (term_of left.now) + term_length (term_of right.now) + 1) code.new.items) }
+    requires room { HasRoom code.old.items (two_length (term_of left.now) (term_of right.now)) }
+    ensures { OnOk result (HasTwo names.now (term_of left.now) (term_of right.now) last
+        code.old.items code.new.items) }
 {
     emit_term(code, names, left)?;
     emit_term(code, names, right)?;
@@ -127,8 +131,9 @@ fn emit_joined(
     right: &Expr,
 ) -> Result<(), AllocError>
     requires made { IsMade names.now }
-    requires room { length code.old.items + (term_length (term_of left.now) + term_length (term_of right.now) + 1) < 2 ^ 32 }
-    ensures { OnOk result (IsAppended code.old.items (skip_code (scope_in names.now) op (length code.old.items) (term_of left.now) (term_of right.now)) (term_length (term_of left.now) + term_length (term_of right.now) + 1) code.new.items) }
+    requires room { HasRoom code.old.items (two_length (term_of left.now) (term_of right.now)) }
+    ensures { OnOk result (HasJoined names.now op (term_of left.now) (term_of right.now)
+        code.old.items code.new.items) }
 {
     emit_term(code, names, left)?;
     let skip = place(code);
@@ -149,8 +154,11 @@ fn emit_choice(
     second: &Expr,
 ) -> Result<(), AllocError>
     requires made { IsMade names.now }
-    requires room { length code.old.items + term_length (choice (term_of test.now) (term_of first.now) (term_of second.now)) < 2 ^ 32 }
-    ensures { OnOk result (IsAppended code.old.items (term_code (scope_in names.now) (length code.old.items) (choice (term_of test.now) (term_of first.now) (term_of second.now))) (term_length (choice (term_of test.now) (term_of first.now) (term_of second.now))) code.new.items) }
+    requires room { HasRoom code.old.items
+        (term_length (choice (term_of test.now) (term_of first.now) (term_of second.now))) }
+    ensures { OnOk result (HasTerm names.now
+        (choice (term_of test.now) (term_of first.now) (term_of second.now))
+        code.old.items code.new.items) }
 {
     emit_term(code, names, test)?;
     let to_second = place(code);

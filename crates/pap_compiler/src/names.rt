@@ -3,12 +3,11 @@ ghost use Rattle.std.specs.Prelude.{◌≡◌, ◌<◌, unwrap_or, length};
 ghost use Rattle.std.specs.Option.{option_and_then};
 ghost use Rattle.pap_tree.specs.Term.{term_of};
 ghost use Rattle.pap_tree.specs.Grammar.{known_value};
-ghost use Rattle.pap_tree.specs.Flowchart.{flowchart_of};
 ghost use Rattle.pap_tree.specs.Declarations.{declaration_of};
 ghost use Rattle.pap_types.specs.Scopes.{declared_as, constant_in, zero};
 ghost use Rattle.pap_types.specs.Kinds.{shown_divisor, written_decimal, int_literal};
-ghost use Rattle.pap_compiler.specs.CodeDecisions.{slot, name_code, table_number, entry, shown_number, first_method};
-ghost use Rattle.pap_compiler.specs.NameViews.{IsMade, scope_in};
+ghost use Rattle.pap_compiler.specs.CodeDecisions.{slot, name_code, table_number, shown_number};
+ghost use Rattle.pap_compiler.specs.NameViews.{IsMade, scope_in, entry_in};
 
 use pap_machine::Instr;
 use pap_tree::{Declared, Expr, Known, Literal, Name};
@@ -89,7 +88,7 @@ impl<'a> Names<'a> {
     #[tactic(auto, using(crate::proofs::NumberLemmas::length_entries))]
     pub fn entry(&self, name: &Name) -> u32
         requires { IsMade self.now }
-        ensures { result ≡ entry (first_method (flowchart_of self.now.typed.now)) (flowchart_of self.now.typed.now).methods name.now }
+        ensures { result ≡ entry_in self.now name.now }
     {
         match self.typed.method(name) {
             Some(number) => self.entries[number],
@@ -124,7 +123,8 @@ impl<'a> Names<'a> {
     /// The decimal that the declaration of a constant writes.
     fn written_decimal(&self, name: &Name) -> Option<Dec>
         requires { IsMade self.now }
-        ensures { result ≡ option_and_then written_decimal (declared_as (scope_in self.now).constants name.now) }
+        ensures { result ≡ option_and_then written_decimal
+            (declared_as (scope_in self.now).constants name.now) }
     {
         match self.typed.constant(name) {
             Some(number) => written_decimal(&self.typed.plan().constants[number]),

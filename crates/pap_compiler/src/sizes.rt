@@ -127,8 +127,10 @@ fn stmt_size(s: &Stmt) -> Size
 
 #[cycle(size)]
 fn choice_size(test: &Expr, yes: &[Stmt], no: &[Stmt]) -> Size
-    requires { body_length (branch (term_of test.now) (body_of yes.now) (body_of no.now) done) < 2 ^ 32 }
-    ensures { IsBodySize (branch (term_of test.now) (body_of yes.now) (body_of no.now) done) result }
+    requires { body_length (branch (term_of test.now) (body_of yes.now) (body_of no.now) done)
+        < 2 ^ 32 }
+    ensures { IsBodySize (branch (term_of test.now) (body_of yes.now) (body_of no.now) done)
+        result }
 {
     let branches = body_size(yes).then(body_size(no));
     term_size(test).then(branches).and_one().and_one()

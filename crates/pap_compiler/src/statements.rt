@@ -1,12 +1,11 @@
 // From statements to instructions.
-ghost use Rattle.std.specs.Prelude.{◌≡◌, ◌<◌, ◌+◌, ◌^◌, OnOk, length};
+ghost use Rattle.std.specs.Prelude.{OnOk};
 ghost use Rattle.pap_tree.specs.Term.{term_of};
 ghost use Rattle.pap_tree.specs.Flowchart.{body_of, stmt_then, eval, branch, execute, done};
-ghost use Rattle.pap_types.specs.Kinds.{name_kind};
-ghost use Rattle.pap_compiler.specs.CodeDecisions.{term_length, term_code, body_length, factor_code, assigned_code};
-ghost use Rattle.pap_compiler.specs.NameViews.{IsMade, scope_in};
-ghost use Rattle.pap_compiler.specs.EmitViews.{IsAppended};
-ghost use Rattle.pap_compiler.specs.StatementViews.{code_in, IsLedOn};
+ghost use Rattle.pap_compiler.specs.CodeDecisions.{term_length, body_length};
+ghost use Rattle.pap_compiler.specs.NameViews.{IsMade};
+ghost use Rattle.pap_compiler.specs.EmitViews.{HasRoom};
+ghost use Rattle.pap_compiler.specs.StatementViews.{HasBody, HasFactor, IsLedOn};
 
 use crate::emit::{emit_term, patch, place, put};
 use crate::literals::at_factor_scale;
@@ -25,8 +24,8 @@ pub(crate) fn emit_body(
     body: &[Stmt],
 ) -> Result<(), AllocError>
     requires made { IsMade names.now }
-    requires room { length code.old.items + body_length (body_of body.now) < 2 ^ 32 }
-    ensures { OnOk result (IsAppended code.old.items (code_in names.now (length code.old.items) (body_of body.now)) (body_length (body_of body.now)) code.new.items) }
+    requires room { HasRoom code.old.items (body_length (body_of body.now)) }
+    ensures { OnOk result (HasBody names.now (body_of body.now) code.old.items code.new.items) }
 {
     for s in body {
         emit_stmt(code, names, s)?;
@@ -38,7 +37,7 @@ pub(crate) fn emit_body(
 #[cycle(emit_body)]
 fn emit_stmt(code: &mut Vec<Instr>, names: &Names, s: &Stmt) -> Result<(), AllocError>
     requires made { IsMade names.now }
-    requires room { length code.old.items + body_length (stmt_then s.now done) < 2 ^ 32 }
+    requires room { HasRoom code.old.items (body_length (stmt_then s.now done)) }
     ensures { OnOk result (IsLedOn names.now (stmt_then s.now) code.old.items code.new.items) }
 {
     match s {
@@ -58,8 +57,11 @@ fn emit_if(
     no: &[Stmt],
 ) -> Result<(), AllocError>
     requires made { IsMade names.now }
-    requires room { length code.old.items + body_length (branch (term_of test.now) (body_of yes.now) (body_of no.now) done) < 2 ^ 32 }
-    ensures { OnOk result (IsLedOn names.now (branch (term_of test.now) (body_of yes.now) (body_of no.now)) code.old.items code.new.items) }
+    requires room { HasRoom code.old.items
+        (body_length (branch (term_of test.now) (body_of yes.now) (body_of no.now) done)) }
+    ensures { OnOk result (IsLedOn names.now
+        (branch (term_of test.now) (body_of yes.now) (body_of no.now))
+        code.old.items code.new.items) }
 {
     emit_term(code, names, test)?;
     let to_no = place(code);
@@ -93,8 +95,9 @@ fn emit_eval(
     value: &Expr,
 ) -> Result<(), AllocError>
     requires made { IsMade names.now }
-    requires room { length code.old.items + term_length (term_of value.now) < 2 ^ 32 }
-    ensures { OnOk result (IsLedOn names.now (eval target.now (term_of value.now)) code.old.items code.new.items) }
+    requires room { HasRoom code.old.items (term_length (term_of value.now)) }
+    ensures { OnOk result (IsLedOn names.now (eval target.now (term_of value.now))
+        code.old.items code.new.items) }
 {
     if names.typed.kind_of_name(target) == NodeKind::Factor {
         emit_factor(code, names, value)?;
@@ -107,8 +110,8 @@ fn emit_eval(
 /// Appends the code of the value of a `double`, of which a literal gets three places.
 fn emit_factor(code: &mut Vec<Instr>, names: &Names, value: &Expr) -> Result<(), AllocError>
     requires made { IsMade names.now }
-    requires room { length code.old.items + term_length (term_of value.now) < 2 ^ 32 }
-    ensures { OnOk result (IsAppended code.old.items (factor_code (term_of value.now) (term_code (scope_in names.now) (length code.old.items) (term_of value.now))) (term_length (term_of value.now)) code.new.items) }
+    requires room { HasRoom code.old.items (term_length (term_of value.now)) }
+    ensures { OnOk result (HasFactor names.now (term_of value.now) code.old.items code.new.items) }
 {
     match value {
         Expr::Int(number) => put(code, Instr::Lit(Dec::new(*number as i128 * 1000, 3))),

@@ -16,7 +16,8 @@ use std::alloc::{AllocError, Global};
 #[tactic(auto, using(crate::proofs::ValueLemmas::values_at, crate::proofs::ValueLemmas::type_at))]
 pub(crate) fn push_values(values: &mut Vec<Dec>, declared: &[Declared]) -> Result<(), AllocError>
     requires { All HasItsType (map declaration_of declared.now) }
-    ensures { OnOk result (values.new.items ≡ values.old.items ++ map first_value (map declaration_of declared.now)) }
+    ensures { OnOk result (values.new.items ≡
+        values.old.items ++ map first_value (map declaration_of declared.now)) }
 {
     for declaration in declared {
         values.push(first_value(declaration))?;
@@ -46,7 +47,9 @@ pub(crate) fn push_tables(
     alloc: Global,
     declared: &[Declared],
 ) -> Result<(), AllocError>
-    ensures { OnOk result (map (λ t. t.items) tables.new.items ≡ map (λ t. t.items) tables.old.items ++ map (λ d. declared_table d.value) (map declaration_of declared.now)) }
+    ensures { OnOk result (map (λ t. t.items) tables.new.items ≡
+        map (λ t. t.items) tables.old.items
+        ++ map (λ d. declared_table d.value) (map declaration_of declared.now)) }
 {
     for declaration in declared {
         tables.push(table_of(alloc, declaration)?)?;
