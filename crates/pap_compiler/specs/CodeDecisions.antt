@@ -86,7 +86,8 @@ module _ (scope : Scope) where
 
   -- a variable is read from its slot, and a constant stands in the code
   abbrev pub name_code : List ℕ → Instr
-  name_code x = option_map_or (λ k. i.Load k) (number_of (names_of scope.variables) x) (i.Lit (unwrap_or (constant_in scope x) zero))
+  name_code x =
+      option_map_or (λ k. i.Load k) (number_of (names_of scope.variables) x) (i.Lit (unwrap_or (constant_in scope x) zero))
 
   -- the table of a name: each name has one, those of variables before those of constants
   abbrev pub table_number : List ℕ → ℕ

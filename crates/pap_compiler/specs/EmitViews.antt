@@ -55,5 +55,7 @@ HasJoined n op e f old new = IsAppended old (skip_code (scope_in n) op (length o
 
 -- whether an instruction stands behind the operands of an operator
 abbrev pub HasInstr : Binary → Option Instr → Type 0
-HasInstr op (Some last) = (scope : Scope) (at : ℕ) (e f : Term) → term_code scope at (two (operator op) e f) ≡ two_code scope at e f last
-HasInstr op None = (scope : Scope) (at : ℕ) (e f : Term) → term_code scope at (two (operator op) e f) ≡ skip_code scope op at e f
+HasInstr op (Some last) =
+    (scope : Scope) (at : ℕ) (e f : Term) → term_code scope at (two (operator op) e f) ≡ two_code scope at e f last
+HasInstr op None =
+    (scope : Scope) (at : ℕ) (e f : Term) → term_code scope at (two (operator op) e f) ≡ skip_code scope op at e f

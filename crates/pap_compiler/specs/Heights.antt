@@ -1,5 +1,5 @@
--- How many values a plan has on the stack at most: operands are evaluated from the left, each leaves its value, and every
--- statement begins with no value.
+-- How many values a plan has on the stack at most: operands are evaluated from the left, each leaves its value, and
+-- every statement begins with no value.
 use Rattle.std.specs.Prelude.{ℕ, ◌+◌, max, List, [], ◌∷◌}
 use Rattle.pap_tree.specs.declared.expression.Binary.TheVariants as binaries
 use Rattle.pap_tree.specs.Term.{Term, leaf, item, one, two, choice, Two, operator}
