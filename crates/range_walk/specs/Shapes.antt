@@ -1,0 +1,18 @@
+-- What the range of an expression is like, by its kind.
+use Rattle.std.specs.Prelude.{◌≤◌, ⊤}
+use Rattle.scaled_decimal.specs.Limits.{most_places}
+use Rattle.scaled_decimal.specs.WholeNumbers.{int_bits, long_bits}
+use Rattle.interval_num.specs.Intervals.{Interval, IsWholeOfBits}
+use Rattle.pap_types.specs.declared.kinds.NodeKind.{NodeKind}
+use Rattle.pap_types.specs.declared.kinds.NodeKind.TheVariants.{Int, Long}
+
+-- a whole number has the bits of its kind
+abbrev pub SuitsKind : NodeKind → Interval → Type 0
+SuitsKind Int a = IsWholeOfBits int_bits a
+SuitsKind Long a = IsWholeOfBits long_bits a
+SuitsKind _ a = ⊤
+
+-- and nothing has more than 30 places
+pub record HasShape (k : NodeKind) (a : Interval) : Type 0 where
+  pub places : a.s_hi ≤ most_places
+  pub suits : SuitsKind k a
