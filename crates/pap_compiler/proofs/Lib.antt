@@ -1,0 +1,17 @@
+pub mod BodyRuns
+pub mod CodeLemmas
+pub mod DepthLemmas
+pub mod DivisorLemmas
+pub mod EmitLemmas
+pub mod KindLemmas
+pub mod Laws
+pub mod NameLemmas
+pub mod NumberLemmas
+pub mod OperationLemmas
+pub mod PlanLemmas
+pub mod PlanRuns
+pub mod SizeLemmas
+pub mod StatementLemmas
+pub mod TermRuns
+pub mod ValueLemmas
+pub mod ZeroLemmas
