@@ -1,6 +1,6 @@
 # `make look` runs the program on an example without a proof; `make demo` proves and builds build/papcalc and runs that;
 # `make test` is the whole gate.
-.PHONY: build look demo test rows decimal-tool bench-decimal bench-machine check-java
+.PHONY: build look demo test rows decimal-tool bench-decimal bench-machine bench-intervals check-java
 
 build:
 	cd crates/papcalc && rt run -- --version
@@ -47,3 +47,7 @@ bench-machine:
 	mkdir -p build
 	javac -d build tools/BenchMachine.java
 	java -cp build BenchMachine
+
+# Nanoseconds of each operation on intervals.
+bench-intervals:
+	cd crates/interval_bench && rt run -- intervals

@@ -1,2 +1,3 @@
 pub mod AmountLemmas
 pub mod SlotLemmas
+pub mod NameLemmas

@@ -1,9 +1,11 @@
 // The inputs of a run.
-ghost use Rattle.std.specs.Prelude.{◌≡◌, ◌≤◌, IfOk, None, length, true};
+ghost use Rattle.std.specs.Prelude.{◌≡◌, ◌≤◌, ℕ, IfOk, List, None, length, true};
+ghost use Rattle.std.specs.BTreeSet.{contains};
 ghost use Rattle.std.specs.List.{AllByRecursion};
 ghost use Rattle.carry_bindings.specs.Conditions.{AreBounded, SuitsKind};
 ghost use Rattle.carry_bindings.specs.Filling.{admits, filled_by, given, has_carry, input_of, inputs, missing, outside, takes};
 ghost use Rattle.carry_bindings.specs.Filling.{unknown, value_of, waits};
+ghost use Rattle.payroll_records.specs.NamedValues.{name_cmp};
 
 use crate::carried::{Earlier, carried};
 use limits_file::{InputLimit, Items, Slot, Spec};
@@ -11,6 +13,7 @@ use pap_tree::{Kind, Name};
 use payroll_records::{Day, Record, Values};
 use scaled_decimal::Dec;
 use std::alloc::{AllocError, Global};
+use std::collections::BTreeSet;
 
 /// Why a run has no inputs.
 #[derive(Debug, Drop)]
@@ -50,7 +53,7 @@ pub fn fill(
     if let Some(day) = waits(slots, earlier) {
         return Ok(Filled::State(Blocked::Waits(day)));
     }
-    if let Some(name) = unknown(slots, &item.values) {
+    if let Some(name) = unknown(alloc, slots, &item.values)? {
         return Ok(Filled::State(Blocked::Unknown(name)));
     }
     if let Some(name) = missing(slots, &item.values, earlier) {
@@ -83,22 +86,31 @@ fn has_carry(slots: &[Slot]) -> bool
     slots.iter().any(|s| s.carry.is_some())
 }
 
-/// Whether a record may give a value of this name.
-fn takes(slots: &[Slot], name: &Name) -> bool
-    ensures { result ≡ takes slots.now name.now }
+/// The names of the inputs that a record may give a value.
+fn names_taken(alloc: Global, slots: &[Slot]) -> Result<BTreeSet<Name>, AllocError>
+    ensures { IfOk result (λ names. (name : List ℕ) →
+        contains name_cmp names name ≡ takes slots.now name) }
 {
-    slots.iter().any(|s| s.name == *name && s.carry.is_none())
+    let mut names = BTreeSet::new(alloc);
+    for slot in slots {
+        if slot.carry.is_some() {
+            continue;
+        }
+        names.insert(slot.name)?;
+    }
+    Ok(names)
 }
 
-fn unknown(slots: &[Slot], values: &Values) -> Option<Name>
-    ensures { result ≡ unknown slots.now values.now }
+fn unknown(alloc: Global, slots: &[Slot], values: &Values) -> Result<Option<Name>, AllocError>
+    ensures { IfOk result (λ name. name ≡ unknown slots.now values.now) }
 {
+    let names = names_taken(alloc, slots)?;
     for value in values.as_slice() {
-        if !takes(slots, &value.name) {
-            return Some(value.name);
+        if !names.contains(&value.name) {
+            return Ok(Some(value.name));
         }
     }
-    None
+    Ok(None)
 }
 
 /// The record's value of an input, or else its default.

@@ -6,3 +6,8 @@ pub mod ColumnLemmas
 pub mod HeaderLemmas
 pub mod CellLemmas
 pub mod TableLemmas
+pub mod DecidedLemmas
+pub mod KindLemmas
+pub mod OnceLemmas
+pub mod SomeLemmas
+pub mod OrderLemmas

@@ -21,7 +21,7 @@ use Rattle.payroll_records.specs.CsvRows.{csv_rows}
 use Rattle.payroll_records.specs.declared.table.TableFault.{TableFault}
 use Rattle.payroll_records.specs.Tables.{BreaksAt, IsHeader, IsRefused, most_bytes, Text, AreRecordsOf, IsRecordOf, HasKeyOf, IsFirstFault, WrongValue, key_of, Repeats}
 use Rattle.payroll_records.specs.TableViews.{BreaksIn, IsRowFault, fault_at}
-use Rattle.payroll_records.proofs.Laws.{key_total}
+use Rattle.payroll_records.proofs.OrderLemmas.{key_total}
 
 -- one row more
 pub records_more : (names : List Text) (before : List Record) (rows : List (List Text)) (records : List Record) (row : List Text) (r : Record) →

@@ -1,5 +1,5 @@
 -- Tables of pay runs (docs/PROFILE.md, "Tables"): the records of a CSV text, or what is wrong with it first.
-use Rattle.std.specs.Prelude.{◌≡◌, ◌≢◌, ◌↔◌, ◌⊎◌, ℕ, ◌+◌, ◌<◌, ◌≤◌, List, [], ◌∷◌, ◌++◌, length, slice_index_or, codes, IsTrue, ⊤}
+use Rattle.std.specs.Prelude.{◌≡◌, ◌≢◌, ◌↔◌, ◌⊎◌, ℕ, ◌+◌, ◌<◌, ◌≤◌, List, [], ◌∷◌, ◌++◌, length, slice_index_or, codes, IsTrue, Result, Ok, Err, ⊤}
 use Rattle.std.specs.List.{AllByRecursion, Contains, list_any}
 use Rattle.std.specs.Ordering.{is_eq}
 use Rattle.scaled_decimal.specs.Decimals.{Decimal}
@@ -9,6 +9,7 @@ use Rattle.pap_tree.specs.Names.{is_name}
 use Rattle.payroll_records.specs.CsvRows.{csv_rows}
 use Rattle.payroll_records.specs.Days.{IsDayText, IsMonthText, IsMonthSpelled}
 use Rattle.payroll_records.specs.Employees.{is_employee}
+use Rattle.payroll_records.specs.NamedValues.{AreValues}
 use Rattle.payroll_records.specs.Orders.{key_cmp}
 use Rattle.payroll_records.specs.declared.record.Key.{Key}
 use Rattle.payroll_records.specs.declared.record.Record.{Record}
@@ -81,6 +82,7 @@ pub record IsRecordOf (names row : List Text) (r : Record) : Type 0 where
   pub employee : r.employee ≡ field_of row 0
   pub day : HasDayOf row r.day.year r.day.month r.day.day
   pub readable : (i : ℕ) → i < length names → IsReadable (cell_of row i)
+  pub in_order : AreValues r.values
   pub values : (v : NamedValue) → Contains r.values v ↔ Supplies names row v
 
 abbrev pub key_of : Record → Key
@@ -174,3 +176,15 @@ IsRefused bytes (fault.Day row) = BreaksAt bytes row WrongDay
 IsRefused bytes (fault.Value row name) = BreaksAt bytes row (WrongValue name)
 IsRefused bytes (fault.Repeat row) = BreaksAt bytes row Repeats
 IsRefused bytes (fault.Memory error) = ⊤
+
+-- what a table's text says: its records, or why it is refused; want of memory is nothing that a text says
+abbrev pub TableSays : List ℕ → Result (List Record) TableFault → Type 0
+TableSays bytes (Ok records) = IsTable bytes records
+TableSays bytes (Err (fault.Memory error)) = ⊥
+TableSays bytes (Err other) = IsRefused bytes other
+
+-- a text says one thing
+pub record HasOneAnswer (bytes : List ℕ) : Type 0 where
+  pub answer : Result (List Record) TableFault
+  pub says : TableSays bytes answer
+  pub alone : (other : Result (List Record) TableFault) → TableSays bytes other → other ≡ answer

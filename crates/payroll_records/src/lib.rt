@@ -16,6 +16,6 @@ pub use day::Day;
 pub use employee::Employee;
 pub use month::Month;
 pub use record::{Key, Record};
-pub use table::{TableFault, read_table};
+pub use table::{TableFault, each_table_has_one_answer, read_table};
 pub use values::{InsertFault, NamedValue, Values};
 pub use when::When;

@@ -3,6 +3,7 @@ ghost use Rattle.std.specs.Prelude.{◌≡◌, ◌↔◌, ◌+◌, ◌<◌, ◌^
 ghost use Rattle.std.specs.List.{Contains};
 ghost use Rattle.csv.specs.Records.{fields_of};
 ghost use Rattle.scaled_decimal.specs.Decimals.{Decimal};
+ghost use Rattle.payroll_records.specs.NamedValues.{AreValues};
 ghost use Rattle.payroll_records.specs.Tables.{IsHeader, IsNumberText, IsReadable, IsRecordOf, Supplies, cell_of};
 ghost use Rattle.payroll_records.specs.TableViews.{AreColumns, IsFirstBroken, IsRowFault};
 ghost use Rattle.payroll_records.specs.declared.values.NamedValue.{NamedValue};
@@ -95,8 +96,9 @@ fn read_number(cell: &[u8]) -> Option<Dec>
 fn values_of(alloc: Global, header: &Header, row: &ByteRecord) -> Result<Values, AllocError>
     requires columns { AreColumns header.now.names.items header.now.columns.items }
     requires few { length header.now.names.items < 257 }
-    ensures { IfOk result (λ values. (v : NamedValue) →
+    ensures supplied { IfOk result (λ values. (v : NamedValue) →
         Contains values v ↔ Supplies header.now.names.items (fields_of row.now) v) }
+    ensures in_order { IfOk result AreValues }
 {
     let mut values = Values::new(alloc);
     for column in &header.columns {

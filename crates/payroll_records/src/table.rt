@@ -1,6 +1,6 @@
 // Tables of pay runs.
-ghost use Rattle.std.specs.Prelude.{◌≡◌, ◌↔◌, ◌<◌, [], IfOk, IfErr, Err, MatchResult, length};
-ghost use Rattle.payroll_records.specs.Tables.{AreRecordsOf, IsRefused, IsTable, key_of, most_bytes};
+ghost use Rattle.std.specs.Prelude.{◌≡◌, ◌↔◌, ◌<◌, ℕ, List, [], IfOk, IfErr, Err, MatchResult, length};
+ghost use Rattle.payroll_records.specs.Tables.{AreRecordsOf, HasOneAnswer, IsRefused, IsTable, key_of, most_bytes};
 ghost use Rattle.payroll_records.specs.RowViews.{IsBetweenRows, rows_left};
 ghost use Rattle.payroll_records.specs.TableViews.{AreColumns, BreaksIn, fault_at};
 
@@ -66,6 +66,11 @@ pub fn read_table(alloc: Global, bytes: &[u8]) -> Result<Vec<Record>, TableFault
         Err(error) => Err(TableFault::Memory(error)),
     }
 }
+
+/// A text has one answer: its records or why it is refused, and not both.
+pub fn each_table_has_one_answer()
+    ensures { (bytes : List ℕ) → HasOneAnswer bytes }
+{}
 
 /// The records of the rows that are left, or the first fault.
 fn read_records<R: Read>(

@@ -34,8 +34,8 @@ loop-column-preserved c =
     (value_added _ _ (fields_of c.args.row.now) c.requires.columns c.loop-column.column-index c.column-item.result c.loop-column.values c.in-Some.value is within c.loop-column.invariant
     ((number c.in-Some.value).0 c.in-Some.is) (λ d t. same_some d c.in-Some.value _ ((number d).1 t) c.in-Some.is))
 
-pub returns : goal.returns
-returns c =
+pub returns-clause-supplied : goal.returns-clause-supplied
+returns-clause-supplied c =
     let items = c.deref-column-items.ensures.value in
     let columns = c.args.header.now.columns.items in
     let last : c.loop-column.column-index ≡ length columns = (let size = ap length items in omega arith) in
