@@ -3,6 +3,10 @@
 #![tactic(auto)]
 
 #[cfg(test)]
+mod calendars;
+#[cfg(test)]
+mod carries;
+#[cfg(test)]
 mod code;
 #[cfg(test)]
 mod counter;
@@ -22,5 +26,9 @@ mod names;
 mod orders;
 #[cfg(test)]
 mod outside_objects;
+#[cfg(test)]
+mod range_files;
+#[cfg(test)]
+mod records;
 #[cfg(test)]
 mod tokens;
