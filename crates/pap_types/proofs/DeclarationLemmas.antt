@@ -1,11 +1,11 @@
 -- Declarations one after the other.
-use Rattle.std.proofs.Common.{◌≡◌, ℕ, suc, ◌+◌, ◌<◌, List, [], ◌∷◌, ◌++◌, length, map, drop, get_or, Some, None, Result, Ok, Err, refl, sym, ap, ◌∙◌, arith}
+use Rattle.std.proofs.Common.{◌≡◌, ℕ, suc, ◌+◌, ◌<◌, List, ◌∷◌, ◌++◌, length, map, drop, get_or, Ok, refl, sym, ap, ◌∙◌, arith}
 use Rattle.std.proofs.Math.Seq.{append_snoc, drop-cons}
 use Rattle.pap_tree.specs.Declarations.{Declaration, declaration_of}
 use Rattle.pap_tree.specs.declared.declaration.Declared.{Declared}
-use Rattle.pap_types.specs.declared.fault.TypeFault.{TypeFault}
-use Rattle.pap_types.specs.Checks.{first_fault, names_of, declaration_checks}
-use Rattle.pap_types.specs.DeclarationViews.{IsDeclared, AreDeclared}
+use Rattle.pap_types.specs.Scopes.{names_of}
+use Rattle.pap_types.specs.Checks.{first_fault, declaration_checks}
+use Rattle.pap_types.specs.DeclarationViews.{IsDeclared}
 
 -- some declarations are left: the names so far and theirs are all, and the first fault is that of the checks that are left
 pub record IsLeft (earlier old now : List (List ℕ)) (ds left : List Declaration) : Type 0 where

@@ -9,8 +9,7 @@ use Rattle.std.proofs.lemmas.Bool.Decides.{nat_tests}
 use Rattle.std.proofs.lemmas.List.{length-map}
 use Rattle.std.proofs.lemmas.Option.{slice_get_past}
 use Rattle.pap_tree.specs.Declarations.{Declaration}
-use Rattle.pap_types.specs.Scopes.{declared_as}
-use Rattle.pap_types.specs.Checks.{names_of}
+use Rattle.pap_types.specs.Scopes.{declared_as, names_of}
 
 -- the declaration of a name stands at its place, which is past the end where there is none
 found_at : (ds : List Declaration) (x : List ℕ) → slice_get ds (position_or_len (bytes_eq x) (names_of ds)) ≡ declared_as ds x

@@ -1,6 +1,6 @@
 -- When a plan is well typed: what is tried of it, in the order in which it is tried. Each check passes or earns a fault; a
 -- plan is well typed where all checks pass, and it is refused with the fault of the first that doesn't.
-use Rattle.std.specs.Prelude.{◌≡◌, ℕ, ◌+◌, ◌-◌, Bool, true, false, not, ◌&&◌, if◌then◌else◌, List, [], ◌∷◌, ◌++◌, map, Option, Some, None, is_some}
+use Rattle.std.specs.Prelude.{◌≡◌, ℕ, ◌+◌, ◌-◌, Bool, true, false, not, ◌&&◌, if◌then◌else◌, List, [], ◌∷◌, ◌++◌, Option, Some, None, is_some}
 use Rattle.std.specs.List.{list_any}
 use Rattle.std.specs.Option.{option_map, option_map_or}
 use Rattle.std.specs.Str.{bytes_eq}
@@ -40,9 +40,6 @@ is_of_type declares.Factor (number (point d)) = has_few_places d
 is_of_type declares.Big (big d) = true
 is_of_type declares.Table (table ds) = true
 is_of_type _ _ = false
-
-abbrev pub names_of : List Declaration → List (List ℕ)
-names_of ds = map (λ d. d.name) ds
 
 -- the checks of declarations that follow those of the names before them
 abbrev pub declaration_checks : List (List ℕ) → List Declaration → List Check

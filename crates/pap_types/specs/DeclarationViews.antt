@@ -1,9 +1,10 @@
 -- What the private functions answer about declarations and their names.
-use Rattle.std.specs.Prelude.{◌≡◌, ℕ, Bool, true, false, List, [], ◌∷◌, ◌++◌, map, Some, None, Result, Ok, Err, ⊤}
+use Rattle.std.specs.Prelude.{◌≡◌, ℕ, true, false, List, [], ◌∷◌, ◌++◌, Some, Result, Ok, Err, ⊤}
 use Rattle.pap_tree.specs.Declarations.{Declaration}
 use Rattle.pap_types.specs.declared.fault.TypeFault.{TypeFault}
 use Rattle.pap_types.specs.declared.fault.TypeFault.TheVariants.{Memory, Twice}
-use Rattle.pap_types.specs.Checks.{Check, first_fault, names_of, has_name, declaration_checks}
+use Rattle.pap_types.specs.Scopes.{names_of}
+use Rattle.pap_types.specs.Checks.{first_fault, has_name, declaration_checks}
 
 -- a name that is new stands behind the others; no other is added
 abbrev pub IsAdded : List (List ℕ) → List (List ℕ) → List ℕ → Result (Unit {0}) TypeFault → Type 0

@@ -4,6 +4,7 @@ pub mod Values
 pub mod Kinds
 pub mod Routines
 pub mod Checks
+pub mod Counts
 pub mod Safety
 pub mod Runs
 pub mod Bounds
@@ -11,3 +12,4 @@ pub mod Meaning
 pub mod ScopeViews
 pub mod CheckViews
 pub mod DeclarationViews
+pub mod TypedViews

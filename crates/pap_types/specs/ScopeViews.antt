@@ -3,10 +3,11 @@ use Rattle.std.specs.Prelude.{◌≡◌}
 use Rattle.pap_tree.specs.declared.plan.PlanText.{PlanText}
 use Rattle.pap_tree.specs.Flowchart.{flowchart_of}
 use Rattle.pap_types.specs.declared.scope.Names.{Names}
-use Rattle.pap_types.specs.Scopes.{variables_of}
-use Rattle.pap_types.specs.Checks.{names_of}
+use Rattle.pap_types.specs.Scopes.{variables_of, names_of}
+use Rattle.pap_types.specs.Routines.{method_names}
 
--- the names of the variables and of the constants, in declared order
+-- the names of the variables, of the constants and of the methods, in declared order
 pub record IsNumbered (plan : PlanText) (names : Names) : Type 0 where
   pub variables : names.variables.keys ≡ names_of (variables_of (flowchart_of plan))
   pub constants : names.constants.keys ≡ names_of (flowchart_of plan).constants
+  pub methods : names.methods.keys ≡ method_names (flowchart_of plan).methods

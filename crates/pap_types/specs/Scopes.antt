@@ -1,5 +1,5 @@
 -- What the names of a plan stand for: its variables by kind, its constants by value.
-use Rattle.std.specs.Prelude.{ℕ, if◌then◌else◌, List, [], ◌∷◌, ◌++◌, Option, Some, None, pos}
+use Rattle.std.specs.Prelude.{ℕ, if◌then◌else◌, List, [], ◌∷◌, ◌++◌, map, position, Option, Some, None, pos}
 use Rattle.std.specs.Option.{option_map, option_or}
 use Rattle.std.specs.Str.{bytes_eq}
 use Rattle.scaled_decimal.specs.Decimals.{Decimal, decimal, numerator_at}
@@ -19,6 +19,13 @@ pub record Scope : Type 0 where
 abbrev pub declared_as : List Declaration → List ℕ → Option Declaration
 declared_as [] x = None
 declared_as (d ∷ ds) x = if bytes_eq x d.name then Some d else declared_as ds x
+
+abbrev pub names_of : List Declaration → List (List ℕ)
+names_of ds = map (λ d. d.name) ds
+
+-- the number of a name among names, from 0: the place of the first that is the same
+abbrev pub number_of : List (List ℕ) → List ℕ → Option ℕ
+number_of names x = position (bytes_eq x) names
 
 -- the declaration of a variable's or a constant's name
 abbrev pub declaration_in : Scope → List ℕ → Option Declaration

@@ -6,6 +6,8 @@ mod fault;
 mod kinds;
 mod nodes;
 mod scope;
+mod typed;
 
 pub use fault::TypeFault;
 pub use kinds::NodeKind;
+pub use typed::Typed;

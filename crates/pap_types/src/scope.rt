@@ -13,12 +13,13 @@ use indexmap::IndexSet;
 use pap_tree::{Declared, Expr, Known, Literal, Name, PlanText};
 use scaled_decimal::Dec;
 
-/// The declared names of a plan by number, each kind from 0 in declared order: the variables are inputs, outputs and
-/// internals.
+/// The names of a plan by number, each sort from 0 in the order of the text: the variables are inputs, outputs and internals,
+/// the methods those other than MAIN.
 #[derive(Drop)]
 pub(crate) struct Names {
     pub variables: IndexSet<Name>,
     pub constants: IndexSet<Name>,
+    pub methods: IndexSet<Name>,
 }
 
 /// A plan with the numbers of its names.

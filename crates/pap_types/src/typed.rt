@@ -1,0 +1,82 @@
+// A plan that is well typed.
+ghost use Rattle.std.specs.Prelude.{◌≡◌};
+ghost use Rattle.pap_tree.specs.Flowchart.{flowchart_of};
+ghost use Rattle.pap_types.specs.Kinds.{name_kind};
+ghost use Rattle.pap_types.specs.Routines.{method_names};
+ghost use Rattle.pap_types.specs.Scopes.{scope_of, variables_of, names_of, number_of};
+ghost use Rattle.pap_types.specs.Checks.{IsWellTyped};
+ghost use Rattle.pap_types.specs.Counts.{IsWithinCounts};
+
+use crate::kinds::NodeKind;
+use crate::scope::{Names, Scope};
+use pap_tree::{Name, PlanText};
+use std::marker::Model;
+
+/// A plan that is well typed, with its names by number.
+#[derive(Drop)]
+pub struct Typed {
+    plan: PlanText,
+    names: Names,
+}
+
+impl Model for Typed {
+    ghost use Rattle.pap_tree.specs.declared.plan.PlanText.{PlanText};
+    ghost use Rattle.pap_tree.specs.contracts.plan.Stmt as statement;
+    ghost use Rattle.pap_tree.specs.contracts.expression.Expr as expression;
+    ghost use Rattle.std.specs.Coded.{codes};
+    ghost use Rattle.pap_types.specs.TypedViews.{IsTyped};
+
+    ghost Value = { PlanText };
+
+    ghost coded = { Prim.hlevel (codes, statement.the_row.coded, expression.the_row.coded) };
+
+    ghost view = { λ t. t.plan };
+
+    ghost invariant = { λ t. IsTyped t.plan t.names };
+}
+
+impl Typed {
+    /// The plan as it is written.
+    pub fn plan(&self) -> &PlanText
+        ensures text { result.now ≡ self.now }
+        ensures well_typed { IsWellTyped (flowchart_of self.now) }
+        ensures counted { IsWithinCounts (flowchart_of self.now) }
+    {
+        &self.plan
+    }
+
+    /// The number of a variable, from 0, among inputs, outputs and internals in declared order.
+    pub fn variable(&self, name: &Name) -> Option<usize>
+        ensures { result ≡ number_of (names_of (variables_of (flowchart_of self.now))) name.now }
+    {
+        self.names.variables.get_index_of(name)
+    }
+
+    /// The number of a constant, from 0 in declared order.
+    pub fn constant(&self, name: &Name) -> Option<usize>
+        ensures { result ≡ number_of (names_of (flowchart_of self.now).constants) name.now }
+    {
+        self.names.constants.get_index_of(name)
+    }
+
+    /// The number of a method other than MAIN, from 0 in the order of the text.
+    pub fn method(&self, name: &Name) -> Option<usize>
+        ensures { result ≡ number_of (method_names (flowchart_of self.now).methods) name.now }
+    {
+        self.names.methods.get_index_of(name)
+    }
+
+    /// The kind of a name; an unknown one, which no statement of the plan has, counts as an `int`.
+    pub fn kind_of_name(&self, name: &Name) -> NodeKind
+        ensures { result ≡ name_kind (scope_of (flowchart_of self.now)) name.now }
+    {
+        let scope = Scope {
+            plan: &self.plan,
+            names: &self.names,
+        };
+        match scope.declaration(name) {
+            Some(declared) => NodeKind::of_declared(declared.kind),
+            None => NodeKind::Int,
+        }
+    }
+}

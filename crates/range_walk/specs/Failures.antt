@@ -1,0 +1,36 @@
+-- Where a walk fails, and why; and what goes on where it doesn't.
+use Rattle.std.specs.Prelude.{ℕ, List, Result, Ok, Err}
+use Rattle.pap_tree.specs.declared.place.Place.{Place}
+use Rattle.interval_num.specs.declared.cause.RangeCause.{RangeCause}
+use Rattle.interval_num.specs.declared.cause.RangeCause.TheVariants.{Wide}
+use Rattle.pap_types.specs.Checks.{place}
+
+-- a node of an expression that may fail
+pub record NodeFault : Type 0 where
+  pub node : ℕ
+  pub cause : RangeCause
+
+-- why a plan's ranges are refused
+pub data WalkFault : Type 0 where
+  -- a node may fail
+  node_fails : Place → RangeCause → WalkFault
+  -- an output may be beyond its bound
+  output_fails : List ℕ → WalkFault
+
+abbrev pub and_then : {A B E : Type 0} → Result A E → (A → Result B E) → Result B E
+and_then (Ok a) go = go a
+and_then (Err e) go = Err e
+
+-- an operation's refusal, at its node
+abbrev pub at_node : {A : Type 0} → ℕ → Result A RangeCause → Result A NodeFault
+at_node node (Ok a) = Ok a
+at_node node (Err cause) = Err (record { node = node; cause = cause })
+
+-- an expression's refusal, at its statement
+abbrev pub at_stmt : {A : Type 0} → List ℕ → ℕ → Result A NodeFault → Result A WalkFault
+at_stmt method stmt (Ok a) = Ok a
+at_stmt method stmt (Err f) = Err (node_fails (place method stmt f.node) f.cause)
+
+-- at a node to which no run comes
+abbrev pub nowhere : ℕ → NodeFault
+nowhere node = record { node = node; cause = Wide }

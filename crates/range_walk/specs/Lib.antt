@@ -1,0 +1,9 @@
+pub mod Admission
+pub mod Analysis
+pub mod Branches
+pub mod Failures
+pub mod NodeRanges
+pub mod Ranged
+pub mod Ranges
+pub mod Shapes
+pub mod Walked
