@@ -3,5 +3,6 @@
 
 mod branches;
 mod fault;
+mod names;
 
 pub use fault::RangeFault;
