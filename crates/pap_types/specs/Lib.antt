@@ -5,6 +5,7 @@ pub mod Kinds
 pub mod Routines
 pub mod Checks
 pub mod Counts
+pub mod Typing
 pub mod Safety
 pub mod Runs
 pub mod Bounds
@@ -13,3 +14,4 @@ pub mod ScopeViews
 pub mod CheckViews
 pub mod DeclarationViews
 pub mod TypedViews
+pub mod MeaningLaws

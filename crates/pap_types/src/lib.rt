@@ -4,10 +4,12 @@
 mod declarations;
 mod fault;
 mod kinds;
+mod meaning;
 mod nodes;
 mod scope;
 mod typed;
 
 pub use fault::TypeFault;
 pub use kinds::NodeKind;
+pub use meaning::{bounded, one_outputs, typed_parts};
 pub use typed::Typed;

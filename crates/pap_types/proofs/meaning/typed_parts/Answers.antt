@@ -1,0 +1,5 @@
+use Rattle.pap_types.proofs.TypingLemmas.{has_types}
+use Rattle.pap_types.proofs.meaning.typed_parts.Goals as goal
+
+pub returns : goal.returns
+returns c = has_types
