@@ -1,0 +1,3 @@
+pub mod RowShapes
+pub mod NodeShapes
+pub mod Laws

@@ -1,8 +1,9 @@
 -- What a node makes of the ranges of its operands: the row of its operation, at the bits of its kind.
-use Rattle.std.specs.Prelude.{ℕ, List, Option, Some, None, Ok, Err}
+use Rattle.std.specs.Prelude.{ℕ, ◌==◌, ◌&&◌, not, nat_lt, Bool, List, Option, Some, None, Ok, Err}
 use Rattle.std.specs.Option.{option_map, option_or}
 use Rattle.scaled_decimal.specs.Decimals.{Decimal, numerator_of}
-use Rattle.scaled_decimal.specs.WholeNumbers.{whole_sum, whole_difference, whole_product, whole_decimal}
+use Rattle.scaled_decimal.specs.Limits.{most_places}
+use Rattle.scaled_decimal.specs.WholeNumbers.{int_bits, long_bits, is_of_bits, whole_sum, whole_difference, whole_product, whole_decimal}
 use Rattle.pap_tree.specs.declared.expression.Unary.TheVariants.{Minus, Not, Negate, Abs}
 use Rattle.pap_tree.specs.declared.expression.Binary.{Binary}
 use Rattle.pap_tree.specs.declared.expression.Binary.TheVariants as binaries
@@ -10,31 +11,56 @@ use Rattle.pap_tree.specs.declared.expression.Call.{Call}
 use Rattle.pap_tree.specs.declared.expression.Call.TheVariants as calls
 use Rattle.pap_tree.specs.Grammar.{known_value}
 use Rattle.pap_tree.specs.Term.{Leaf, whole, long, point, text, known, named, Term, leaf, One, unary, value_of, value_of_scaled, new_big, set_scale, Two, operator, method, divide}
-use Rattle.interval_num.specs.declared.cause.RangeCause.TheVariants.{Wide, Divisor}
+use Rattle.interval_num.specs.declared.cause.RangeCause.TheVariants.{Wide, Scale, Divisor}
 use Rattle.interval_num.specs.Intervals.{Interval, interval}
-use Rattle.interval_num.specs.Rows.{Answer, sum_row, difference_row, product_row, min_row, max_row, comparison_row, negated_row, magnitude_row, quotient_row, exact_quotient_row, rescaled_row, whole_row, whole_opposite_row, whole_quotient_row, whole_remainder_row}
+use Rattle.interval_num.specs.Rows.{Answer, item_row, sum_row, difference_row, product_row, min_row, max_row, comparison_row, negated_row, magnitude_row, quotient_row, exact_quotient_row, rescaled_row, whole_row, whole_opposite_row, whole_quotient_row, whole_remainder_row}
 use Rattle.pap_types.specs.declared.kinds.NodeKind.{NodeKind}
+use Rattle.pap_types.specs.declared.kinds.NodeKind.TheVariants.{Int, Long, Big}
+use Rattle.interval_num.specs.Alignment.{unless}
 use Rattle.pap_types.specs.Scopes.{Scope, constant_in}
-use Rattle.pap_types.specs.Kinds.{shown_divisor}
+use Rattle.pap_types.specs.Kinds.{leaf_kind, shown_divisor}
 use Rattle.pap_types.specs.Operations.{as_big}
 use Rattle.pap_types.specs.Safety.{bits_of}
 use Rattle.range_walk.specs.Ranges.{Ranges, single, range_named}
 
--- the range of a name: a variable's, or that of a constant's value
-abbrev pub known_range : Option Interval → Answer
-known_range (Some a) = Ok a
-known_range None = Err Wide
+-- whole numbers of so many bits
+abbrev pub is_whole_of : ℕ → Interval → Bool
+is_whole_of bits a = (a.s_lo == 0) && ((a.s_hi == 0) && (is_of_bits bits a.lo && is_of_bits bits a.hi))
 
-abbrev pub name_range : Scope → List ℕ → Ranges → Answer
-name_range scope x env = known_range (option_or (range_named env x) (option_map single (constant_in scope x)))
+-- What is read of a kind is a whole number of its bits, or has at most 30 places. The literals, constants and variables of a
+-- plan that was read always are so.
+abbrev pub read_range : NodeKind → Interval → Answer
+read_range Int a = unless (not (is_whole_of int_bits a)) Wide (Ok a)
+read_range Long a = unless (not (is_whole_of long_bits a)) Wide (Ok a)
+read_range _ a = unless (nat_lt most_places a.s_hi) Scale (Ok a)
+
+-- the range of a name: a variable's, or that of a constant's value
+abbrev pub name_range : Scope → List ℕ → Ranges → Option Interval
+name_range scope x env = option_or (range_named env x) (option_map single (constant_in scope x))
+
+abbrev pub leaf_interval : Scope → Leaf → Ranges → Option Interval
+leaf_interval scope (whole i) env = Some (single (whole_decimal i))
+leaf_interval scope (long i) env = Some (single (whole_decimal i))
+leaf_interval scope (point d) env = Some (single d)
+leaf_interval scope (text d) env = Some (single d)
+leaf_interval scope (known k) env = Some (single (known_value k))
+leaf_interval scope (named x) env = name_range scope x env
+
+-- an unknown name, which no well-formed plan has, is refused
+abbrev pub read_leaf : NodeKind → Option Interval → Answer
+read_leaf k (Some a) = read_range k a
+read_leaf k None = Err Wide
 
 abbrev pub leaf_range : Scope → Leaf → Ranges → Answer
-leaf_range scope (whole i) env = Ok (single (whole_decimal i))
-leaf_range scope (long i) env = Ok (single (whole_decimal i))
-leaf_range scope (point d) env = Ok (single d)
-leaf_range scope (text d) env = Ok (single d)
-leaf_range scope (known k) env = Ok (single (known_value k))
-leaf_range scope (named x) env = name_range scope x env
+leaf_range scope l env = read_leaf (leaf_kind scope l) (leaf_interval scope l env)
+
+-- an item of a table is read as a decimal
+abbrev pub read_item : Answer → Answer
+read_item (Ok a) = read_range Big a
+read_item (Err cause) = Err cause
+
+abbrev pub item_range : List Decimal → Interval → Answer
+item_range items index = read_item (item_row items index)
 
 -- BigDecimal.valueOf: a literal with a point loses the zeros that end it, anything else is kept
 abbrev pub big_range : Term → Interval → Interval

@@ -7,12 +7,12 @@ use Rattle.pap_tree.specs.declared.expression.Call.TheVariants.{CompareTo}
 use Rattle.pap_tree.specs.Term.{Term, leaf, item, one, two, choice, unary, operator, method}
 use Rattle.pap_tree.specs.Numbering.{nodes}
 use Rattle.interval_num.specs.Intervals.{Interval}
-use Rattle.interval_num.specs.Rows.{item_row, join_row}
+use Rattle.interval_num.specs.Rows.{join_row}
 use Rattle.pap_types.specs.Scopes.{Scope, table_in}
 use Rattle.pap_types.specs.Kinds.{kind_of, is_whole, int_literal}
 use Rattle.range_walk.specs.Ranges.{Ranges}
 use Rattle.range_walk.specs.Failures.{NodeFault, and_then, at_node, nowhere}
-use Rattle.range_walk.specs.NodeRanges.{leaf_range, one_range, two_range, comparison_range}
+use Rattle.range_walk.specs.NodeRanges.{leaf_range, item_range, one_range, two_range, comparison_range}
 use Rattle.range_walk.specs.Branches.{Branches, Sides, sides, sides_of, compared, opposite, reached, both_hold, one_holds, either_way}
 
 module _ (scope : Scope) where
@@ -24,7 +24,7 @@ module _ (scope : Scope) where
     -- the range of an expression whose nodes are numbered from `at`, or its first node that may fail
     pub ranged : Term → ℕ → Ranges → Result Interval NodeFault
     ranged (leaf l) at env = at_node at (leaf_range scope l env)
-    ranged (item x e) at env = and_then (ranged e at env) (λ i. at_node (at + nodes e) (item_row (table_in scope x) i))
+    ranged (item x e) at env = and_then (ranged e at env) (λ i. at_node (at + nodes e) (item_range (table_in scope x) i))
     ranged (one op e) at env =
         and_then (ranged e at env) (λ a. at_node (at + nodes e) (one_range op (kind_of scope (one op e)) e a))
     ranged (two op e f) at env =
