@@ -1,2 +1,5 @@
+pub mod ChangeLemmas
 pub mod NameLemmas
+pub mod NarrowLemmas
+pub mod PartLemmas
 pub mod ShorteningLemmas

@@ -1,3 +1,5 @@
 pub mod Changes
+pub mod ComparisonViews
+pub mod OperationViews
+pub mod OutlineViews
 pub mod PlanViews
-pub mod ExpressionViews

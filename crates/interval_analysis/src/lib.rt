@@ -2,7 +2,11 @@
 #![tactic(auto)]
 
 mod branches;
+mod comparisons;
 mod fault;
+mod kinds;
 mod names;
+mod operations;
+mod outlines;
 
 pub use fault::RangeFault;

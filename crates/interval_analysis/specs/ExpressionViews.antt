@@ -1,2 +1,0 @@
--- What private contracts say of the walk of expressions.
-use Rattle.std.specs.Prelude.{◌≡◌}
