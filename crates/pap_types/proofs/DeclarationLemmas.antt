@@ -5,7 +5,9 @@ use Rattle.pap_tree.specs.Declarations.{Declaration, declaration_of}
 use Rattle.pap_tree.specs.declared.declaration.Declared.{Declared}
 use Rattle.pap_types.specs.Scopes.{names_of}
 use Rattle.pap_types.specs.Checks.{first_fault, declaration_checks}
-use Rattle.pap_types.specs.DeclarationViews.{IsDeclared}
+use Rattle.pap_types.specs.declared.fault.TypeFault.{TypeFault}
+use Rattle.pap_types.specs.declared.fault.TypeFault.TheVariants.{Memory, Twice, Unknown, Kind, ConstantWritten, NoMethod, Value}
+use Rattle.pap_types.specs.DeclarationViews.{IsDeclared, UnlessMemory}
 
 -- some declarations are left: the names so far and theirs are all, and the first fault is that of the checks that are left
 pub record IsLeft (earlier old now : List (List ℕ)) (ds left : List Declaration) : Type 0 where
@@ -26,3 +28,14 @@ pub left_from : (ds : List Declared) (i : ℕ) (d : Declared) → d ≡ get_or d
 left_from ds i d is less =
     let next : suc i ≡ i + 1 = omega arith in
     ap (map declaration_of) (drop-cons ds i d less ∙ ap (λ x. x ∷ drop (suc i) ds) (sym is) ∙ ap (λ k. d ∷ drop k ds) next)
+
+-- ---- lists of declarations one after the other
+
+pub unless_memory : (f : TypeFault) (P Q : Type 0) → (P → Q) → UnlessMemory f P → UnlessMemory f Q
+unless_memory (Memory e) P Q h m = tt
+unless_memory (Twice x) P Q h m = h m
+unless_memory (Unknown x p) P Q h m = h m
+unless_memory (Kind p) P Q h m = h m
+unless_memory (ConstantWritten p) P Q h m = h m
+unless_memory (NoMethod p) P Q h m = h m
+unless_memory (Value x) P Q h m = h m

@@ -2,6 +2,10 @@ pub mod ScopeLemmas
 pub mod CheckLemmas
 pub mod DeclarationLemmas
 pub mod TypingLemmas
+pub mod StatementLemmas
+pub mod BodyLemmas
+pub mod MethodLemmas
+pub mod NamingLemmas
 pub mod BoundLemmas
 pub mod RunLemmas
 pub mod Laws

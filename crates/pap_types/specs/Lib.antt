@@ -4,6 +4,7 @@ pub mod Values
 pub mod Kinds
 pub mod Routines
 pub mod Checks
+pub mod Faults
 pub mod Counts
 pub mod Typing
 pub mod Safety
@@ -12,6 +13,8 @@ pub mod Bounds
 pub mod Meaning
 pub mod ScopeViews
 pub mod CheckViews
+pub mod StatementViews
 pub mod DeclarationViews
 pub mod TypedViews
+pub mod PlanViews
 pub mod MeaningLaws

@@ -1,15 +1,18 @@
 // The checks of a plan's declarations.
-ghost use Rattle.std.specs.Prelude.{◌≡◌, true, map};
+ghost use Rattle.std.specs.Prelude.{◌≡◌, ◌∷◌, true, map};
 ghost use Rattle.std.specs.Option.{option_map, option_map_or};
 ghost use Rattle.pap_tree.specs.Declarations.{declared_of, declaration_of};
 ghost use Rattle.pap_tree.specs.declared.declaration.Kind.TheVariants.{Factor};
 ghost use Rattle.pap_types.specs.Checks.{is_of_type};
+ghost use Rattle.pap_tree.specs.Flowchart.{routine_of};
+ghost use Rattle.pap_types.specs.Routines.{main_name};
+ghost use Rattle.pap_types.specs.PlanViews.{AreMethodNames};
 ghost use Rattle.pap_types.specs.DeclarationViews.{AreDeclared, IsDeclared, IsAdded};
 
 use crate::TypeFault;
 use crate::kinds::has_few_places;
 use indexmap::IndexSet;
-use pap_tree::{Declared, Kind, Literal, Name};
+use pap_tree::{Declared, Kind, Literal, Method, Name};
 use std::alloc::AllocError;
 
 /// Adds the names of declarations behind earlier names. Each is new and has a literal of its type, or the first that isn't so
@@ -54,6 +57,25 @@ pub(crate) fn add(names: &mut IndexSet<Name>, name: Name) -> Result<(), TypeFaul
         Ok((_, false)) => Err(TypeFault::Twice { name }),
         Err(_) => Err(TypeFault::Memory(AllocError)),
     }
+}
+
+/// Adds the names of methods behind earlier ones. Each is new and isn't that of MAIN, or the first that isn't so is answered.
+pub(crate) fn name_methods(names: &mut IndexSet<Name>, methods: &[Method]) -> Result<(), TypeFault>
+    ensures { AreMethodNames names.old.keys names.new.keys (map routine_of methods.now) result }
+{
+    for method in methods {
+        name_method(names, method.name)?;
+    }
+    Ok(())
+}
+
+fn name_method(names: &mut IndexSet<Name>, name: Name) -> Result<(), TypeFault>
+    ensures { IsAdded (main_name ∷ names.old.keys) (main_name ∷ names.new.keys) name result }
+{
+    if name == Name::main() {
+        return Err(TypeFault::Twice { name });
+    }
+    add(names, name)
 }
 
 /// Whether a declaration's literal, where one is written, is of its type.

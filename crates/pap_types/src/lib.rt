@@ -7,9 +7,11 @@ mod kinds;
 mod meaning;
 mod nodes;
 mod scope;
+mod sizes;
+mod statements;
 mod typed;
 
 pub use fault::TypeFault;
 pub use kinds::NodeKind;
 pub use meaning::{bounded, one_outputs, typed_parts};
-pub use typed::Typed;
+pub use typed::{Typed, check_types};

@@ -1,5 +1,5 @@
 // What the names of a plan stand for.
-ghost use Rattle.std.specs.Prelude.{◌≡◌, slice_get};
+ghost use Rattle.std.specs.Prelude.{◌≡◌, [], slice_get};
 ghost use Rattle.std.specs.Option.{option_map};
 ghost use Rattle.pap_tree.specs.Declarations.{declaration_of};
 ghost use Rattle.pap_tree.specs.Flowchart.{flowchart_of};
@@ -8,10 +8,15 @@ ghost use Rattle.pap_tree.specs.Grammar.{known_value};
 ghost use Rattle.pap_types.specs.Kinds.{shows_plain_divisor, shown_divisor, written_decimal, int_literal, is_plain_divisor};
 ghost use Rattle.pap_types.specs.Scopes.{scope_of, variables_of, declaration_in, declared_as};
 ghost use Rattle.pap_types.specs.ScopeViews.{IsNumbered};
+ghost use Rattle.pap_types.specs.PlanViews.{AreEmpty, IsFilled, IsNamed};
+ghost use Rattle.pap_types.specs.DeclarationViews.{AreDeclared};
 
+use crate::TypeFault;
+use crate::declarations::{declare, name_methods};
 use indexmap::IndexSet;
 use pap_tree::{Declared, Expr, Known, Literal, Name, PlanText};
 use scaled_decimal::Dec;
+use std::alloc::Global;
 
 /// The names of a plan by number, each sort from 0 in the order of the text: the variables are inputs, outputs and internals,
 /// the methods those other than MAIN.
@@ -20,6 +25,44 @@ pub(crate) struct Names {
     pub variables: IndexSet<Name>,
     pub constants: IndexSet<Name>,
     pub methods: IndexSet<Name>,
+}
+
+impl Names {
+    /// The names of a plan by number. Each is new and each literal is of its type, or the first that isn't so is answered.
+    pub fn of_plan(alloc: Global, plan: &PlanText) -> Result<Names, TypeFault>
+        ensures { IsNamed plan.now result }
+    {
+        let mut names = Names {
+            variables: IndexSet::new(alloc),
+            constants: IndexSet::new(alloc),
+            methods: IndexSet::new(alloc),
+        };
+        let none = IndexSet::new(alloc);
+        names.fill(&none, plan)?;
+        Ok(names)
+    }
+
+    fn fill(&mut self, none: &IndexSet<Name>, plan: &PlanText) -> Result<(), TypeFault>
+        requires nothing { AreEmpty self.old }
+        requires none { none.now.keys ≡ [] }
+        ensures { IsFilled plan.now self.new result }
+    {
+        name_variables(&mut self.variables, none, plan)?;
+        declare(&mut self.constants, &self.variables, &plan.constants)?;
+        name_methods(&mut self.methods, &plan.methods)
+    }
+}
+
+fn name_variables(
+    names: &mut IndexSet<Name>,
+    none: &IndexSet<Name>,
+    plan: &PlanText,
+) -> Result<(), TypeFault>
+    ensures { AreDeclared none.now.keys names.old.keys names.new.keys (variables_of (flowchart_of plan.now)) result }
+{
+    declare(names, none, &plan.inputs)?;
+    declare(names, none, &plan.outputs)?;
+    declare(names, none, &plan.internals)
 }
 
 /// A plan with the numbers of its names.

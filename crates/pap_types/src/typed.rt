@@ -1,15 +1,21 @@
 // A plan that is well typed.
-ghost use Rattle.std.specs.Prelude.{◌≡◌};
+ghost use Rattle.std.specs.Prelude.{◌≡◌, IfOk, OnOk, IfErr};
 ghost use Rattle.pap_tree.specs.Flowchart.{flowchart_of};
 ghost use Rattle.pap_types.specs.Kinds.{name_kind};
 ghost use Rattle.pap_types.specs.Routines.{method_names};
 ghost use Rattle.pap_types.specs.Scopes.{scope_of, variables_of, names_of, number_of};
 ghost use Rattle.pap_types.specs.Checks.{IsWellTyped};
+ghost use Rattle.pap_types.specs.Faults.{IsTypeFault};
+ghost use Rattle.pap_types.specs.ScopeViews.{IsNumbered};
+ghost use Rattle.pap_types.specs.PlanViews.{statement_checks};
+ghost use Rattle.pap_types.specs.StatementViews.{IsVerdict};
 ghost use Rattle.pap_types.specs.Counts.{IsWithinCounts};
 
+use crate::TypeFault;
 use crate::kinds::NodeKind;
 use crate::scope::{Names, Scope};
 use pap_tree::{Name, PlanText};
+use std::alloc::Global;
 use std::marker::Model;
 
 /// A plan that is well typed, with its names by number.
@@ -33,6 +39,28 @@ impl Model for Typed {
     ghost view = { λ t. t.plan };
 
     ghost invariant = { λ t. IsTyped t.plan t.names };
+}
+
+/// Whether a plan is well typed (docs/PROFILE.md, "Kinds"): then the plan as it is given, with its names by number. Else the
+/// first fault in this order: the declarations in the order inputs, outputs, internals, constants, the names of the methods,
+/// the statements of MAIN, and those of the methods. Takes time linear in the plan.
+pub fn check_types(alloc: Global, plan: PlanText) -> Result<Typed, TypeFault>
+    requires counted { IsWithinCounts (flowchart_of plan) }
+    ensures kept { IfOk result (λ t. t ≡ plan) }
+    ensures well_typed { OnOk result (IsWellTyped (flowchart_of plan)) }
+    ensures fault { IfErr result (IsTypeFault (flowchart_of plan)) }
+{
+    let names = Names::of_plan(alloc, &plan)?;
+    check_statements(&plan, &names)?;
+    Ok(Typed { plan, names })
+}
+
+fn check_statements(plan: &PlanText, names: &Names) -> Result<(), TypeFault>
+    requires numbered { IsNumbered plan.now names.now }
+    requires counted { IsWithinCounts (flowchart_of plan.now) }
+    ensures { IsVerdict (statement_checks (flowchart_of plan.now)) result }
+{
+    Scope { plan, names }.check_statements()
 }
 
 impl Typed {
