@@ -1,5 +1,5 @@
 -- The bound on chains leaves nothing out.
-use Rattle.std.proofs.Common.{◌≡◌, ℕ, zero, suc, ◌+◌, ◌<◌, ◌≤◌, true, List, [], ◌∷◌, ◌++◌, length, Option, Some, None, ap, ◌∙◌, refl, sym, subst, arith}
+use Rattle.std.proofs.Common.{◌≡◌, ℕ, zero, suc, ◌≤◌, true, List, [], ◌∷◌, ◌++◌, Option, Some, None, ap, ◌∙◌, refl, sym, subst, arith}
 use Rattle.std.specs.Prelude.{Contains, is_some}
 use Rattle.std.specs.Option.{option_and_then, option_map_or}
 use Rattle.std.specs.List.{cons_option}
@@ -8,19 +8,20 @@ use Rattle.pap_tree.specs.Flowchart.{Body, done, eval, branch, execute, Routine,
 use Rattle.pap_types.specs.Scopes.{Scope, scope_of}
 use Rattle.pap_types.specs.Values.{Env}
 use Rattle.pap_types.specs.Routines.{body_named}
-use Rattle.pap_types.specs.Runs.{Calls, after, spent, IsSafeBody, calls_of}
+use Rattle.pap_types.specs.Runs.{after, spent, IsSafeBody, calls_of}
 use Rattle.pap_types.specs.Bounds.{body_bound, method_bound}
 use Rattle.pap_types.specs.Meaning.{calls_in}
 use Rattle.pap_types.specs.Checks.{IsWellTyped}
-use Rattle.call_order.specs.Graphs.{Graph, executed, content_of, graph_of, method_number}
+use Rattle.call_order.specs.Graphs.{executed, content_of, graph_of}
 use Rattle.call_order.specs.Chains.{Executes, BeginsMore, content_at}
 use Rattle.call_order.specs.Expanded.{expanded, expanded_of}
 use Rattle.call_order.specs.Orders.{HasShortChains}
-use Rattle.call_order.specs.ChainLaws.{Names, DoesAsBody, DoTheSame, MainDoesTheSame, AreClosed}
-use Rattle.call_order.proofs.Numbers.{IsMethod, method_of, number_below}
-use Rattle.call_order.proofs.Executed.{EachExecuted, each_weaker, IsNamed, AreNamed, are_named}
+use Rattle.call_order.specs.ChainLaws.{Names, DoesAsBody, MainDoesTheSame, AreClosed}
+use Rattle.call_order.proofs.Numbers.{method_number, method_of}
+use Rattle.call_order.specs.Executed.{EachExecuted}
+use Rattle.call_order.proofs.Executed.{each_weaker, IsNamed, AreNamed, are_named}
 use Rattle.call_order.proofs.ChainLemmas.{begins-more}
-use Rattle.call_order.proofs.Same.{map_or_same, and_then_same, expanded_same, bound_same, Same, turned, after_same, spent_same, safe_same}
+use Rattle.call_order.proofs.Same.{map_or_same, expanded_same, bound_same, Same, turned, after_same, spent_same, safe_same}
 
 named_some : (o : Option Body) → is_some o ≡ true → (b : Body) × (o ≡ Some b)
 named_some None e = absurd (cc)
@@ -76,6 +77,12 @@ stays ms R step zero k x e le = absurd e
 stays ms R step (suc n) zero x e le = absurd (omega arith)
 stays ms R step (suc n) (suc k) x e le =
     step n k x (λ b is. each_weaker (Ends ms n) (R n k) (λ y h. stays ms R step n k y h (omega arith)) b (e b is))
+
+-- What holds of a method where it holds of all that it executes, holds of a method whose chains end.
+all_down : (ms : List Routine) (P : List ℕ → Type 0) → ((x : List ℕ) → ((b : Body) → body_named ms x ≡ Some b → EachExecuted P b) → P x) → (n : ℕ) (x : List ℕ) → Ends ms n x → P x
+unfolding Ends
+all_down ms P step zero x e = absurd e
+all_down ms P step (suc n) x e = step x (λ b is. each_weaker (Ends ms n) P (λ y h. all_down ms P step n y h) b (e b is))
 
 module _ (scope : Scope) (ms : List Routine) where
   abbrev SameExpanded : ℕ → ℕ → List ℕ → Type 0
@@ -187,6 +194,21 @@ module _ (f : Flowchart) (typed : IsWellTyped f) (short : HasShortChains f) wher
         bound = bound_same (method_bound f.methods n) (method_bound f.methods 64) f.main (each_weaker (Ends f.methods 64) (λ x. method_bound f.methods n x ≡ method_bound f.methods 64 x) (λ x e. sym (same_bound n le x e)) f.main ending);
         expanded = expanded_same (expanded_of f.methods n) (expanded_of f.methods 64) f.main (each_weaker (Ends f.methods 64) (λ x. expanded_of f.methods n x ≡ expanded_of f.methods 64 x) (λ x e. sym (same_expanded n le x e)) f.main ending);
       }
+
+  -- What holds of a method where it holds of all that it executes, holds of each method.
+  pub by_execution : (P : List ℕ → Type 0) → ((x : List ℕ) (b : Body) → Names f x b → EachExecuted P b → P x) → (x : List ℕ) (b : Body) → Names f x b → P x
+  by_execution P step x b is =
+      all_down f.methods (λ y. (c : Body) → Names f y c → P y) (λ y h c at. step y c at (named_down P c (h c at) (names.methods y c at))) 64 x (all_end x b is) b is
+    where
+      named_down : (P : List ℕ → Type 0) (c : Body) → EachExecuted (λ y. (d : Body) → Names f y d → P y) c → EachExecuted (IsNamed f.methods) c → EachExecuted P c
+      named_down P done h k = tt
+      named_down P (eval y e rest) h k = named_down P rest h k
+      named_down P (branch t a b rest) h k = (named_down P a h.0 k.0, named_down P b h.1 k.1, named_down P rest h.2 k.2)
+      named_down P (execute m rest) h k = (let n = named_some (body_named f.methods m) k.0 in h.0 n.0 n.1, named_down P rest h.1 k.1)
+
+  -- What agrees at two bounds on chains where it agrees of all that is executed, agrees at 64 and at any greater bound.
+  pub by_bounds : (R : ℕ → ℕ → List ℕ → Type 0) → ((n k : ℕ) (x : List ℕ) → ((b : Body) → Names f x b → EachExecuted (R n k) b) → R (suc n) (suc k) x) → (n : ℕ) → 64 ≤ n → (x : List ℕ) (b : Body) → Names f x b → R 64 n x
+  by_bounds R step n le x b is = stays f.methods R step 64 n x (all_end x b is) le
 
   pub chains_close : AreClosed f
   chains_close = record {

@@ -1,8 +1,7 @@
 -- The names that a list of statements executes.
-use Rattle.std.proofs.Common.{◌≡◌, ℕ, zero, suc, ◌+◌, ◌<◌, Bool, true, false, List, [], ◌∷◌, ◌++◌, length, Option, Some, None, ap, ◌∙◌, refl, sym, subst, arith}
-use Rattle.std.specs.Prelude.{Contains, if◌then◌else◌, is_some, ⊤}
-use Rattle.std.specs.Option.{option_map_or}
-use Rattle.std.specs.List.{cons_option}
+use Rattle.std.proofs.Common.{◌≡◌, ℕ, ◌+◌, Bool, true, false, List, [], ◌∷◌, ◌++◌, Some, None, refl, subst}
+use Rattle.std.proofs.lemmas.List.Elements.{All-nil, All-cons}
+use Rattle.std.specs.Prelude.{All, if◌then◌else◌, is_some}
 use Rattle.std.specs.Str.{bytes_eq}
 use Rattle.pap_tree.specs.Flowchart.{Body, done, eval, branch, execute, Routine, Flowchart}
 use Rattle.pap_tree.specs.Statements.{written}
@@ -11,13 +10,7 @@ use Rattle.pap_types.specs.Routines.{body_named, main_name}
 use Rattle.pap_types.specs.declared.fault.TypeFault.{TypeFault}
 use Rattle.pap_types.specs.declared.fault.TypeFault.TheVariants.{NoMethod}
 use Rattle.pap_types.specs.Checks.{Check, place, first_fault, check, eval_checks, test_checks, body_checks, routine_checks, declaration_checks, method_checks, IsWellTyped}
-
--- P holds of each name that is executed
-abbrev pub EachExecuted : (List ℕ → Type 0) → Body → Type 0
-EachExecuted P done = ⊤
-EachExecuted P (eval x e rest) = EachExecuted P rest
-EachExecuted P (branch t a b rest) = EachExecuted P a × EachExecuted P b × EachExecuted P rest
-EachExecuted P (execute m rest) = P m × EachExecuted P rest
+use Rattle.call_order.specs.Executed.{EachExecuted}
 
 pub each_weaker : (P Q : List ℕ → Type 0) → ((x : List ℕ) → P x → Q x) → (b : Body) → EachExecuted P b → EachExecuted Q b
 each_weaker P Q f done h = tt
@@ -81,10 +74,18 @@ module _ (scope : Scope) (ms : List Routine) where
       by_test true more h = let same : r.body ≡ b = cc in subst (EachExecuted (IsNamed ms)) same (named_in r.name r.body 0 own)
       by_test false more h = more (passes_back (body_checks scope ms r.name 0 r.body) (routine_checks scope ms rs) e) h
 
+  named_in_each : (rs : List Routine) → first_fault (routine_checks scope ms rs) ≡ None → All (λ r. EachExecuted (IsNamed ms) r.body) rs
+  named_in_each [] e = All-nil (λ (r : Routine). EachExecuted (IsNamed ms) r.body)
+  named_in_each (r ∷ rs) e =
+      let own = body_checks scope ms r.name 0 r.body in
+      let more = routine_checks scope ms rs in
+      All-cons (λ (q : Routine). EachExecuted (IsNamed ms) q.body) r rs (named_in r.name r.body 0 (passes_front own more e)) (named_in_each rs (passes_back own more e))
+
 -- each name that MAIN or a method executes is a method's
 pub record AreNamed (f : Flowchart) : Type 0 where
   pub main : EachExecuted (IsNamed f.methods) f.main
   pub methods : (x : List ℕ) (b : Body) → body_named f.methods x ≡ Some b → EachExecuted (IsNamed f.methods) b
+  pub each : All (λ r. EachExecuted (IsNamed f.methods) r.body) f.methods
 
 pub are_named : (f : Flowchart) → IsWellTyped f → AreNamed f
 are_named f typed =
@@ -97,4 +98,5 @@ are_named f typed =
     record {
       main = named_in scope f.methods main_name f.main 0 (passes_front main routines bodies);
       methods = λ x b is. named_in_routines scope f.methods f.methods x b (passes_back main routines bodies) is;
+      each = named_in_each scope f.methods f.methods (passes_back main routines bodies);
     }

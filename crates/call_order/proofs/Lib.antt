@@ -3,4 +3,15 @@ pub mod Executed
 pub mod ChainLemmas
 pub mod Same
 pub mod Closed
+pub mod ContentLemmas
+pub mod LevelLemmas
+pub mod MarkLemmas
+pub mod OrderLemmas
+pub mod LengthLemmas
+pub mod WholeLemmas
+pub mod FoundLemmas
+pub mod Decides
+pub mod AnswerLemmas
+pub mod BoundLemmas
+pub mod Standing
 pub mod Laws

@@ -1,15 +1,20 @@
 -- The numbers of methods and their bodies.
-use Rattle.std.proofs.Common.{◌≡◌, ℕ, zero, suc, ◌+◌, ◌<◌, ◌⊎◌, inl, inr, Bool, true, false, cond, List, [], ◌∷◌, length, Option, Some, None, ap, ◌∙◌, refl, sym, subst, arith}
-use Rattle.std.specs.Prelude.{position, if◌then◌else◌, nat_lt, not}
+use Rattle.std.proofs.Common.{◌≡◌, ℕ, suc, ◌+◌, ◌<◌, ◌⊎◌, inl, inr, Bool, true, false, cond, List, [], ◌∷◌, length, Option, Some, None, ap, ◌∙◌, refl, sym, subst, arith}
+use Rattle.std.specs.Prelude.{if◌then◌else◌, nat_lt, not}
 use Rattle.std.specs.Option.{option_map, option_map_or}
 use Rattle.std.specs.Str.{bytes_eq}
 use Rattle.std.specs.List.{position_or_len}
 use Rattle.std.proofs.lemmas.Bool.{cases_lt}
 use Rattle.std.proofs.lemmas.Bool.Decides.{nat_tests}
 use Rattle.pap_tree.specs.Flowchart.{Body, Routine}
-use Rattle.pap_types.specs.Routines.{body_named}
-use Rattle.call_order.specs.Graphs.{Content, content_of, method_names, method_number, graph_within}
-use Rattle.call_order.specs.Chains.{content_at, nothing}
+use Rattle.pap_types.specs.Routines.{body_named, method_names}
+use Rattle.pap_types.specs.Scopes.{number_of}
+use Rattle.call_order.specs.Graphs.{Content, content_of, graph_within}
+use Rattle.call_order.specs.Chains.{content_at}
+
+-- the number of the method of a name
+abbrev pub method_number : List Routine → List ℕ → Option ℕ
+method_number ms x = number_of (method_names ms) x
 
 next_place : (same : Bool) (at n : ℕ) → cond (nat_lt (cond (not same) (1 + at) 0) (suc n)) (Some (cond (not same) (1 + at) 0)) None ≡ (if same then Some 0 else option_map suc (cond (nat_lt at n) (Some at) None))
 next_place true at n = let t : nat_lt 0 (suc n) ≡ true = grind (arith, nat_tests) in rw t refl

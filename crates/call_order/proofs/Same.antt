@@ -3,7 +3,6 @@ use Rattle.std.proofs.Common.{◌≡◌, ℕ, ◌+◌, Bool, true, false, List, 
 use Rattle.std.specs.Prelude.{if◌then◌else◌, max}
 use Rattle.std.specs.Option.{option_and_then, option_map_or}
 use Rattle.scaled_decimal.specs.Decimals.{Decimal}
-use Rattle.pap_tree.specs.Term.{Term}
 use Rattle.pap_tree.specs.Flowchart.{Body, done, eval, branch, execute}
 use Rattle.pap_types.specs.Scopes.{Scope}
 use Rattle.pap_types.specs.Operations.{is_zero}
@@ -12,7 +11,7 @@ use Rattle.pap_types.specs.Runs.{Calls, assigned, after, spent, IsSafeBody}
 use Rattle.pap_types.specs.Bounds.{term_bound, body_bound}
 use Rattle.call_order.specs.Expanded.{expanded}
 use Rattle.call_order.specs.ChainLaws.{DoTheSame}
-use Rattle.call_order.proofs.Executed.{EachExecuted, each_weaker}
+use Rattle.call_order.specs.Executed.{EachExecuted}
 
 pub and_then_same : {A B : Type 0} (o : Option A) (f g : A → Option B) → ((v : A) → f v ≡ g v) → option_and_then f o ≡ option_and_then g o
 and_then_same None f g h = refl

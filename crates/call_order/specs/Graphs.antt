@@ -1,23 +1,17 @@
 -- Which methods a list of statements executes, by number: the methods other than MAIN are numbered from 0 in declared order.
-use Rattle.std.specs.Prelude.{ℕ, List, [], ◌++◌, map, position, Option}
+use Rattle.std.specs.Prelude.{ℕ, List, [], ◌++◌, map}
 use Rattle.std.specs.List.{cons_option}
-use Rattle.std.specs.Str.{bytes_eq}
 use Rattle.pap_tree.specs.Flowchart.{Body, done, eval, branch, execute, Routine}
 use Rattle.pap_tree.specs.Statements.{written}
-
-abbrev pub method_names : List Routine → List (List ℕ)
-method_names ms = map (λ m. m.name) ms
-
--- the number of the method of a name
-abbrev pub method_number : List Routine → List ℕ → Option ℕ
-method_number ms x = position (bytes_eq x) (method_names ms)
+use Rattle.pap_types.specs.Scopes.{number_of}
+use Rattle.pap_types.specs.Routines.{method_names}
 
 -- the methods that a list of statements executes, as written
 abbrev pub executed : List Routine → Body → List ℕ
 executed ms done = []
 executed ms (eval x e rest) = executed ms rest
 executed ms (branch t a b rest) = executed ms a ++ (executed ms b ++ executed ms rest)
-executed ms (execute m rest) = cons_option (method_number ms m) (executed ms rest)
+executed ms (execute m rest) = cons_option (number_of (method_names ms) m) (executed ms rest)
 
 -- a list of statements in short: how many they are, as written, and the methods that they execute
 pub record Content : Type 0 where

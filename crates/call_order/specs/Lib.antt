@@ -2,4 +2,13 @@ pub mod Graphs
 pub mod Chains
 pub mod Expanded
 pub mod Orders
+pub mod Faults
+pub mod OrderClauses
+pub mod OrderLaws
+pub mod Executed
 pub mod ChainLaws
+pub mod ContentViews
+pub mod LevelViews
+pub mod MarkViews
+pub mod LengthViews
+pub mod OrderViews

@@ -1,0 +1,27 @@
+use Rattle.std.proofs.Common.{ℕ, ◌<◌, List, length, subst, sym}
+use Rattle.std.specs.Prelude.{All}
+use Rattle.call_order.specs.Chains.{content_at}
+use Rattle.call_order.proofs.LevelLemmas.{read_at, raised_set, raised_not, raised_kept}
+use Rattle.call_order.proofs.levels.raise.Goals as goal
+use Rattle.call_order.proofs.levels.raise.Goals.{then-levels-i-eq0+then-are_placed, else-levels-i-eq0, else-levels-i-eq0-via-then-levels-i-eq0+else-are_placed, else-levels-i-eq0-via-else-levels-i-eq0}
+
+pub are_placed-requires : goal.are_placed-requires
+are_placed-requires c =
+    let is = read_at c.args.graph.now c.loop-i.i c.index-graph-i.result c.methods.result.now c.index-graph-i.is c.loop-i-test.true c.methods.ensures in
+    let P : List ℕ → Type 0 = λ l. All (λ j. j < length c.loop-i.levels) l in
+    subst P (sym is) (subst (λ n. All (λ j. j < n) (content_at c.args.graph.now c.loop-i.i).methods) (sym c.loop-i.invariant.all) (c.requires.known c.loop-i.i))
+
+pub loop-i-preserved : goal.loop-i-preserved
+loop-i-preserved c =
+    elim c.if-levels-i-eq0.branch [
+      | then-levels-i-eq0+then-are_placed w ↦
+          let is = read_at c.args.graph.now c.loop-i.i w.index-graph-i.result w.methods.result.now w.index-graph-i.is c.loop-i-test.true w.methods.ensures in
+          raised_set _ _ _ c.loop-i.levels _ _ c.loop-i.invariant c.requires.known c.loop-i-test.true is w.if-levels-i-eq0.true w.if-are_placed.ensures w.levels-is
+      | else-levels-i-eq0 w ↦ elim w.else-levels-i-eq0.branch [
+        | else-levels-i-eq0-via-then-levels-i-eq0+else-are_placed w' ↦
+            let is = read_at c.args.graph.now c.loop-i.i w'.index-graph-i.result w'.methods.result.now w'.index-graph-i.is c.loop-i-test.true w'.methods.ensures in
+            raised_not _ _ _ c.loop-i.levels _ _ c.loop-i.invariant c.requires.known c.loop-i-test.true is w'.if-levels-i-eq0.true w'.if-are_placed.ensures w.levels-is
+        | else-levels-i-eq0-via-else-levels-i-eq0 w' ↦
+            raised_kept _ _ _ c.loop-i.levels _ c.loop-i.invariant c.loop-i-test.true w'.if-levels-i-eq0.false w.levels-is
+      ]
+    ]

@@ -1,0 +1,15 @@
+-- What `order_methods` answers: an order, or why there is none. Memory may run out at any plan.
+use Rattle.std.specs.Prelude.{ℕ, Result, Ok, Err, ⊤}
+use Rattle.std.proofs.Common.{Vec, Global}
+use Rattle.pap_tree.specs.Flowchart.{Flowchart}
+use Rattle.call_order.specs.declared.fault.OrderFault.{OrderFault}
+use Rattle.call_order.specs.declared.fault.OrderFault.TheVariants.{Cycle, Chain, TooLong, Memory}
+use Rattle.call_order.specs.Orders.{IsOrdered}
+use Rattle.call_order.specs.Faults.{IsRefused}
+
+abbrev pub OrderAnswer : Flowchart → Result (Vec ℕ Global) OrderFault → Type 0
+OrderAnswer f (Ok order) = IsOrdered f order.items
+OrderAnswer f (Err (Cycle name)) = IsRefused f (Cycle name)
+OrderAnswer f (Err (Chain name)) = IsRefused f (Chain name)
+OrderAnswer f (Err (TooLong count)) = IsRefused f (TooLong count)
+OrderAnswer f (Err (Memory e)) = ⊤

@@ -1,0 +1,27 @@
+-- A plan has an order or a fault, never both, and one fault; and an ordered plan has a small bound.
+use Rattle.std.specs.Prelude.{◌≡◌, ℕ, ◌≤◌, ◌⊎◌, List}
+use Rattle.pap_tree.specs.Flowchart.{Flowchart}
+use Rattle.pap_types.specs.Counts.{IsWithinCounts}
+use Rattle.pap_types.specs.Meaning.{bound_of}
+use Rattle.call_order.specs.declared.fault.OrderFault.{OrderFault}
+use Rattle.call_order.specs.Orders.{IsOrdered}
+use Rattle.call_order.specs.Faults.{IsRefused}
+
+abbrev pub HasOrder : Flowchart → Type 0
+HasOrder f = (order : List ℕ) × IsOrdered f order
+
+abbrev pub HasFault : Flowchart → Type 0
+HasFault f = (fault : OrderFault) × IsRefused f fault
+
+pub record HaveOneAnswer : Type 0 where
+  pub some : (f : Flowchart) → HasOrder f ⊎ HasFault f
+  pub never_both : (f : Flowchart) → HasOrder f → HasFault f → ⊥
+  pub one_fault : (f : Flowchart) (a b : OrderFault) → IsRefused f a → IsRefused f b → a ≡ b
+
+-- the most that a run of an ordered plan costs
+abbrev pub most_cost : ℕ
+most_cost = 1000000000
+
+abbrev pub HaveSmallBounds : Type 0
+HaveSmallBounds =
+    (f : Flowchart) (order : List ℕ) → IsWithinCounts f → IsOrdered f order → bound_of f ≤ most_cost

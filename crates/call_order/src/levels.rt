@@ -1,0 +1,50 @@
+//! The lengths of the longest chains that methods begin.
+ghost use Rattle.std.specs.Prelude.{◌≡◌, ℕ, ◌+◌, ◌<◌, ◌≤◌, ◌^◌, All, Contains, IfOk, MatchBool, length, slice_index};
+ghost use Rattle.call_order.specs.Chains.{Executes, content_at};
+ghost use Rattle.call_order.specs.LevelViews.{AreKnown, AllKnown, AreLevels, IsPlaced};
+
+use crate::contents::Contents;
+use std::alloc::{AllocError, Global};
+
+/// The greatest number of methods in a chain.
+pub(crate) const LONGEST_CHAIN: u32 = 64;
+
+/// Whether each method has a level of at most `longest`.
+fn are_placed(methods: &[u32], levels: &[u32], longest: u32) -> bool
+    requires { All (λ j. j < length levels.now) methods.now }
+    ensures { MatchBool result (All (λ j. IsPlaced longest (slice_index levels.now j)) methods.now) ((j : ℕ) × Contains methods.now j × ¬ (IsPlaced longest (slice_index levels.now j))) }
+{
+    for method in methods {
+        let level = levels[*method as usize];
+        if level == 0 || longest < level {
+            return false;
+        }
+    }
+    true
+}
+
+/// Gives the methods whose longest chain has one method more than `longest` their level.
+fn raise(graph: &[Contents], longest: u32, levels: &mut [u32])
+    requires known { AllKnown graph.now }
+    requires levels { AreLevels graph.now longest levels.old }
+    requires few { longest < 64 }
+    ensures { AreLevels graph.now (longest + 1) levels.new }
+{
+    for i in 0..graph.len() {
+        if levels[i] == 0 && are_placed(graph[i].methods(), levels, longest) {
+            levels[i] = longest + 1;
+        }
+    }
+}
+
+/// The level of each method: the number of methods in the longest chain that it begins, or 0 where that has more than 64.
+pub(crate) fn levels_of(alloc: Global, graph: &[Contents]) -> Result<Vec<u32>, AllocError>
+    requires { AllKnown graph.now }
+    ensures { IfOk result (λ levels. AreLevels graph.now 64 levels.items) }
+{
+    let mut levels = vec![in alloc; 0u32; graph.len()]?;
+    for longest in 0..LONGEST_CHAIN {
+        raise(graph, longest, &mut levels);
+    }
+    Ok(levels)
+}
