@@ -90,10 +90,10 @@ shape_bits Fraction a e h = absurd (cc)
 shape_bits Factor a e h = absurd (cc)
 shape_bits Table a e h = absurd (cc)
 
-longer_bits : (n : ℤ) → IsOfBits int_bits n → IsOfBits long_bits n
+pub longer_bits : (n : ℤ) → IsOfBits int_bits n → IsOfBits long_bits n
 longer_bits n h = let l = h.low in let u = h.high in record { low = omega (arith, ints); high = omega (arith, ints) }
 
-longer_whole : (a : Interval) → IsWholeOfBits int_bits a → IsWholeOfBits long_bits a
+pub longer_whole : (a : Interval) → IsWholeOfBits int_bits a → IsWholeOfBits long_bits a
 longer_whole a w = record { whole = w.whole; low = longer_bits a.lo w.low; high = longer_bits a.hi w.high }
 
 -- and those of the wider of two kinds
@@ -330,7 +330,7 @@ times_one : (n : ℤ) (k : ℕ) → k ≡ 0 → n *ℤ ten_to k ≡ n
 times_one n k e = ap (λ k. n *ℤ ten_to k) e ∙ omega (arith, ints)
 
 -- a join of whole numbers
-join_bits : (bits : ℕ) (a b r : Interval) → IsWholeOfBits bits a → IsWholeOfBits bits b → join_row a b ≡ Ok r → IsWholeOfBits bits r
+pub join_bits : (bits : ℕ) (a b r : Interval) → IsWholeOfBits bits a → IsWholeOfBits bits b → join_row a b ≡ Ok r → IsWholeOfBits bits r
 join_bits bits a b r wa wb e =
     let q = greater_scale a b in
     let za = wa.whole.greatest_scale in

@@ -119,7 +119,8 @@ one_holds env f g = record { holds = before env f.holds g.holds; fails = g.fails
 -- ---- where branches meet
 
 -- what comes of each branch that can be reached, and of both together where both can be
-abbrev pub either_way : {A E : Type 0} → E → (first second : Ranges → Result A E) → (A → A → Result A E) → Option Ranges → Option Ranges → Result A E
+abbrev pub either_way : {A E : Type 0} → E → (first second : Ranges → Result A E) → (A → A → Result A E)
+    → (holds fails : Option Ranges) → Result A E
 either_way none first second meet None None = Err none
 either_way none first second meet (Some e) None = first e
 either_way none first second meet None (Some f) = second f

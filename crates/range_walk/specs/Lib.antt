@@ -5,5 +5,7 @@ pub mod Failures
 pub mod NodeRanges
 pub mod Ranged
 pub mod Ranges
+pub mod Reading
 pub mod Shapes
+pub mod Soundness
 pub mod Walked

@@ -1,5 +1,5 @@
 -- The ranges of a plan's variables, at one place of its text.
-use Rattle.std.specs.Prelude.{ℕ, if◌then◌else◌, List, [], ◌∷◌, Option, Some, None}
+use Rattle.std.specs.Prelude.{ℕ, if◌then◌else◌, List, [], ◌∷◌, map, Option, Some, None}
 use Rattle.std.specs.Str.{bytes_eq}
 use Rattle.scaled_decimal.specs.Decimals.{Decimal, numerator_of, scale_of}
 use Rattle.interval_num.specs.Intervals.{Interval, interval}
@@ -11,6 +11,9 @@ pub record NamedRange : Type 0 where
 
 abbrev pub Ranges : Type 0
 Ranges = List NamedRange
+
+abbrev pub names_in : Ranges → List (List ℕ)
+names_in rs = map (λ v. v.name) rs
 
 -- the range that has one decimal alone
 abbrev pub single : Decimal → Interval

@@ -25,7 +25,8 @@ range_kept_as _ a = a
 
 -- the variables after an assignment
 abbrev pub assigned_range : Scope → List ℕ → Interval → Ranges → Ranges
-assigned_range scope x a env = put_range env x (option_map_or (λ d. range_kept_as d.kind a) (declared_as scope.variables x) a)
+assigned_range scope x a env =
+    put_range env x (option_map_or (λ d. range_kept_as d.kind a) (declared_as scope.variables x) a)
 
 -- the ranges of two branches together, variable by variable
 abbrev pub joined : Ranges → Ranges → Result Ranges RangeCause
