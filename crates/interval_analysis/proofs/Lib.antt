@@ -1,4 +1,11 @@
 pub mod ChangeLemmas
+pub mod ComparisonLemmas
+pub mod CountLemmas
+pub mod ExpressionLemmas
+pub mod JoinLemmas
+pub mod KeptLemmas
+pub mod LiteralLemmas
+pub mod MethodLemmas
 pub mod NameLemmas
 pub mod NarrowLemmas
 pub mod PartLemmas

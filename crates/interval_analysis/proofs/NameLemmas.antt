@@ -6,7 +6,7 @@ use Rattle.std.specs.Option.{option_and_then}
 use Rattle.std.specs.Str.{bytes_eq}
 use Rattle.std.proofs.lemmas.Bool.{cases_lt}
 use Rattle.std.proofs.lemmas.Bool.Decides.{nat_tests}
-use Rattle.std.proofs.lemmas.List.{length-map}
+use Rattle.std.proofs.lemmas.List.{length-map, set_past}
 use Rattle.std.proofs.lemmas.Option.{slice_get_past, none-some}
 use Rattle.std.proofs.lemmas.Slice.Eq.{bytes_eq-Decides}
 use Rattle.pap_tree.specs.Declarations.{Declaration}
@@ -92,3 +92,8 @@ put_at (n ∷ ns) (r ∷ rs) x a e =
 
 pub put_by : (names : List (List ℕ)) (rs : List Interval) (x : List ℕ) (a : Interval) (i : ℕ) → length rs ≡ length names → number_of names x ≡ Some i → put_range (with_names names rs) x a ≡ with_names names (set rs i a)
 put_by names rs x a i all e = put_at names rs x a all ∙ ap (λ k. with_names names (set rs k a)) (number_in names x i e).0
+
+pub put_none : (names : List (List ℕ)) (rs : List Interval) (x : List ℕ) (a : Interval) → length rs ≡ length names → number_of names x ≡ None → put_range (with_names names rs) x a ≡ with_names names rs
+put_none names rs x a all e =
+    let past = number_past names x e in
+    put_at names rs x a all ∙ ap (with_names names) (set_past rs (place_of names x) a (omega (arith, past, all)))

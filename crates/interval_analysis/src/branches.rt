@@ -1,5 +1,5 @@
 //! What a test leaves of the ranges of the variables.
-ghost use Rattle.std.specs.Prelude.{◌≡◌, [], ◌++◌, Some, None, IfOk, if◌then◌else◌};
+ghost use Rattle.std.specs.Prelude.{◌≡◌, [], ◌++◌, Some, None, IfOk, length, if◌then◌else◌};
 ghost use Rattle.std.specs.Option.{option_map};
 ghost use Rattle.interval_analysis.specs.Changes.{changed};
 
@@ -37,7 +37,8 @@ pub(crate) fn changed(
     ranges: &[Abs],
     changes: &[Change],
 ) -> Result<Vec<Abs>, AllocError>
-    ensures { IfOk result (λ after. after.items ≡ changed ranges.now changes.now) }
+    ensures value { IfOk result (λ after. after.items ≡ changed ranges.now changes.now) }
+    ensures all { IfOk result (λ after. length after.items ≡ length ranges.now) }
 {
     let mut copy = ranges.to_vec(alloc)?;
     apply(&mut copy, changes);

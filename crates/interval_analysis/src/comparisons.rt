@@ -18,6 +18,7 @@ use std::alloc::{AllocError, Global};
 use std::cmp::Ordering;
 
 /// The two sides of a comparison with their ranges.
+#[derive(Drop)]
 pub(crate) struct Sides<'a> {
     pub left: &'a Expr,
     pub right: &'a Expr,

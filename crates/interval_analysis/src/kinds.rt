@@ -1,8 +1,8 @@
 //! The kinds of nodes by those of their operands.
-ghost use Rattle.std.specs.Prelude.{◌≡◌};
+ghost use Rattle.std.specs.Prelude.{◌≡◌, ◌&&◌};
 ghost use Rattle.pap_tree.specs.Term.{unary, method};
 ghost use Rattle.pap_types.specs.declared.kinds.NodeKind.{NodeKind};
-ghost use Rattle.pap_types.specs.Kinds.{kind_of_one, kind_of_operator, kind_of_two};
+ghost use Rattle.pap_types.specs.Kinds.{kind_of_one, kind_of_operator, kind_of_two, is_whole};
 
 use pap_tree::{Binary, Call, Unary};
 use pap_types::NodeKind;
@@ -36,4 +36,11 @@ pub(crate) fn kind_of_call(call: Call) -> NodeKind
         Call::CompareTo => NodeKind::Int,
         _ => NodeKind::Big,
     }
+}
+
+/// Whether both kinds are those of whole numbers.
+pub(crate) fn are_whole(left: NodeKind, right: NodeKind) -> bool
+    ensures { result ≡ (is_whole left && is_whole right) }
+{
+    left.is_whole() && right.is_whole()
 }

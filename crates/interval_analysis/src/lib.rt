@@ -3,8 +3,11 @@
 
 mod branches;
 mod comparisons;
+mod expressions;
 mod fault;
+mod joins;
 mod kinds;
+mod lists;
 mod names;
 mod operations;
 mod outlines;

@@ -7,7 +7,7 @@ ghost use Rattle.pap_tree.specs.Declarations.{declaration_of, declared_of};
 ghost use Rattle.pap_tree.specs.Flowchart.{flowchart_of};
 ghost use Rattle.pap_tree.specs.Grammar.{known_value};
 ghost use Rattle.pap_tree.specs.Term.{term_of};
-ghost use Rattle.pap_types.specs.Scopes.{declaration_in, declared_as, variables_of, items_of, table_in, first_value, declared_decimal, literal_decimal, at_factor_scale};
+ghost use Rattle.pap_types.specs.Scopes.{declaration_in, declared_as, variables_of, items_of, table_in, constant_in, first_value, declared_decimal, literal_decimal, at_factor_scale};
 ghost use Rattle.pap_types.specs.Kinds.{has_few_places, shown_divisor, written_decimal, int_literal};
 ghost use Rattle.pap_types.specs.Operations.{fewest_places};
 ghost use Rattle.pap_types.specs.Typing.{HasItsType};
@@ -73,6 +73,17 @@ pub(crate) fn constant<'a>(plan: &'a Typed, name: &Name) -> Option<&'a Declared>
 {
     match plan.constant(name) {
         Some(number) => constant_at(plan, number),
+        None => None,
+    }
+}
+
+/// The value of a constant.
+pub(crate) fn constant_value(plan: &Typed, name: &Name) -> Option<Dec>
+    ensures { result ≡ constant_in (scope_in plan.now) name.now }
+{
+    let _well_typed = plan.plan();
+    match constant(plan, name) {
+        Some(declared) => Some(first_value(declared)),
         None => None,
     }
 }

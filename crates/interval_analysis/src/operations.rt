@@ -1,16 +1,17 @@
 //! The ranges of single operations.
-ghost use Rattle.std.specs.Prelude.{◌≡◌};
+ghost use Rattle.std.specs.Prelude.{◌≡◌, ◌≤◌};
+ghost use Rattle.scaled_decimal.specs.Limits.{most_places};
 ghost use Rattle.scaled_decimal.specs.WholeNumbers.{int_bits, long_bits, is_of_bits};
-ghost use Rattle.interval_num.specs.Intervals.{IsWholeOfBits};
+ghost use Rattle.interval_num.specs.Intervals.{interval, IsWhole, IsWholeOfBits};
 ghost use Rattle.interval_num.specs.Rows.{whole_opposite_row};
 ghost use Rattle.pap_tree.specs.Term.{Term, unary};
 ghost use Rattle.pap_types.specs.Safety.{bits_of};
 ghost use Rattle.pap_types.specs.declared.kinds.NodeKind.{NodeKind};
-ghost use Rattle.range_walk.specs.NodeRanges.{read_range, operator_range, one_range, method_range, shown_range};
+ghost use Rattle.range_walk.specs.NodeRanges.{read_range, operator_range, one_range, method_range, shown_range, comparison_range, item_range};
 ghost use Rattle.interval_analysis.specs.OperationViews.{TakesWholes, TakesUnary, TakesShown, IsPlainShown, read_fitting};
 
 use interval_num::{
-    Abs, RangeCause, abs_abs, abs_add, abs_cmp, abs_div_exact, abs_max, abs_min, abs_mul, abs_neg,
+    Abs, RangeCause, abs_abs, abs_add, abs_cmp, abs_div_exact, abs_item, abs_max, abs_min, abs_mul, abs_neg,
     abs_sub, int_add, int_div, int_mul, int_neg, int_rem, int_sub, long_add, long_div, long_mul,
     long_neg, long_rem, long_sub,
 };
@@ -145,4 +146,44 @@ fn shown_range(shown: Option<Dec>, a: Abs) -> Result<Abs, RangeCause>
         Some(divisor) => abs_div_exact(a, divisor.numerator()),
         None => Err(RangeCause::Divisor),
     }
+}
+
+/// The node of a comparison, whose sides are aligned. No other operator is one.
+pub(crate) fn comparison_range(op: Binary, a: Abs, b: Abs) -> Result<Abs, RangeCause>
+    ensures { result ≡ comparison_range op a b }
+{
+    match op {
+        Binary::Less
+        | Binary::LessEq
+        | Binary::More
+        | Binary::MoreEq
+        | Binary::Same
+        | Binary::Differs => abs_cmp(a, b),
+        Binary::Mul
+        | Binary::Div
+        | Binary::Rem
+        | Binary::Plus
+        | Binary::Sub
+        | Binary::And
+        | Binary::Or => Err(RangeCause::Wide),
+    }
+}
+
+/// The range of the items of a table that an index may choose.
+pub(crate) fn item_range(items: &[Dec], index: Abs) -> Result<Abs, RangeCause>
+    requires { IsWhole index }
+    ensures { result ≡ item_range items.now index }
+{
+    match abs_item(items, index) {
+        Ok(range) => read(NodeKind::Big, range),
+        Err(cause) => Err(cause),
+    }
+}
+
+/// The range with its ends as numerators at another scale.
+pub(crate) fn at_places(range: Abs, scale: u8) -> Abs
+    requires { scale ≤ most_places }
+    ensures { result ≡ interval range.lo range.hi scale scale }
+{
+    Abs::new(range.lo(), range.hi(), scale, scale)
 }
