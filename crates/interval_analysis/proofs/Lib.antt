@@ -10,3 +10,4 @@ pub mod NameLemmas
 pub mod NarrowLemmas
 pub mod PartLemmas
 pub mod ShorteningLemmas
+pub mod StatementLemmas

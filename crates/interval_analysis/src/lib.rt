@@ -11,5 +11,6 @@ mod lists;
 mod names;
 mod operations;
 mod outlines;
+mod statements;
 
 pub use fault::RangeFault;
