@@ -7,8 +7,7 @@ use Rattle.std.proofs.lemmas.Int.{ints}
 use Rattle.std.specs.Bool.{OnTrue}
 use Rattle.std.specs.Option.{option_or, option_map}
 use Rattle.std.specs.Result.{IsErrAnd}
-use Rattle.scaled_decimal.specs.Decimals.{Decimal, decimal, numerator_of}
-use Rattle.scaled_decimal.specs.ExactQuotients.{IsPlainDivisor}
+use Rattle.scaled_decimal.specs.Decimals.{Decimal, decimal}
 use Rattle.scaled_decimal.specs.WholeNumbers.{whole_decimal}
 use Rattle.pap_tree.specs.declared.expression.Unary.{Unary}
 use Rattle.pap_tree.specs.declared.expression.Unary.TheVariants.{Minus, Not, Negate, Abs}
@@ -26,12 +25,12 @@ use Rattle.pap_types.specs.declared.kinds.NodeKind.TheVariants as kinds
 use Rattle.pap_types.specs.Safety.{bits_of}
 use Rattle.pap_types.specs.Scopes.{Scope, constant_in}
 use Rattle.pap_types.specs.Kinds.{is_whole, is_int, is_big, kind_of, kind_of_one, kind_of_operator, takes_one, takes_operator, takes_two, shown_divisor, shows_plain_divisor, int_literal}
-use Rattle.range_walk.specs.Ranges.{Ranges, range_named, single}
-use Rattle.range_walk.specs.Failures.{NodeFault, and_then, at_node}
-use Rattle.range_walk.specs.NodeRanges.{leaf_range, leaf_interval, read_range, comparison_range}
+use Rattle.range_walk.specs.Ranges.{Ranges, single}
+use Rattle.range_walk.specs.Failures.{and_then, at_node}
+use Rattle.range_walk.specs.NodeRanges.{leaf_range, read_range, comparison_range}
 use Rattle.range_walk.specs.Branches as meant
 use Rattle.range_walk.specs.Branches.{signs_where, compared, sides}
-use Rattle.range_walk.specs.Ranged.{ranged, tested, are_whole, compare_sides}
+use Rattle.range_walk.specs.Ranged.{ranged, are_whole, compare_sides}
 use Rattle.range_walk.specs.Shapes.{HasShape}
 use Rattle.range_walk.proofs.Laws.{leaf_shape, passed_node, shape_bits, wider_left, wider_right, shown_plain}
 use Rattle.interval_analysis.specs.declared.branches.Branches.{Branches}

@@ -1,9 +1,9 @@
 -- Lists of statements: their numbers, and what may be walked of them.
-use Rattle.std.proofs.Common.{◌≡◌, ℕ, ◌+◌, ◌<◌, ◌^◌, List, length, drop, get_or, ap, sym, ◌∙◌, Vec, Global, arith}
-use Rattle.pap_tree.specs.Term.{Term, term_of}
+use Rattle.std.proofs.Common.{◌≡◌, ℕ, ◌+◌, ◌<◌, List, length, drop, get_or, ap, ◌∙◌, Vec, Global, arith}
+use Rattle.pap_tree.specs.Term.{Term}
 use Rattle.pap_tree.specs.declared.expression.Expr.{Expr}
 use Rattle.pap_tree.specs.declared.plan.Stmt.{Stmt, Eval, If, If', Execute}
-use Rattle.pap_tree.specs.Flowchart.{Body, done, eval, branch, execute, body_of, stmt_then}
+use Rattle.pap_tree.specs.Flowchart.{Body, done, branch, body_of, stmt_then}
 use Rattle.pap_tree.specs.Statements.{written}
 use Rattle.pap_tree.proofs.Laws.{stmt_then-If, stmt_at}
 use Rattle.interval_analysis.specs.declared.expressions.Walk.{Walk}

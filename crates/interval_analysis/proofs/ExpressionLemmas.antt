@@ -1,11 +1,10 @@
 -- Steps of the walk of expressions.
-use Rattle.std.proofs.Common.{◌≡◌, ℕ, ◌+◌, List, [], ◌∷◌, ◌++◌, Option, Some, None, Result, Ok, Err, Vec, Global, refl, sym, ap, ◌∙◌, arith}
+use Rattle.std.proofs.Common.{◌≡◌, ℕ, List, ◌++◌, Option, Some, None, Result, Ok, Err, Vec, Global, refl, sym, ap, ◌∙◌, arith}
 use Rattle.std.specs.Option.{option_map}
 use Rattle.pap_tree.specs.declared.plan.PlanText.{PlanText}
 use Rattle.pap_tree.specs.declared.expression.Binary.{Binary}
 use Rattle.pap_tree.specs.declared.expression.Binary.TheVariants as binaries
 use Rattle.pap_tree.specs.Term.{Term, two, operator}
-use Rattle.pap_tree.specs.Numbering.{nodes}
 use Rattle.interval_num.specs.Intervals.{Interval}
 use Rattle.range_walk.specs.Ranges.{Ranges}
 use Rattle.range_walk.specs.Ranged.{tested}

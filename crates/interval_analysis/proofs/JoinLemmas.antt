@@ -22,6 +22,7 @@ joined_by_name (n ∷ names) (r ∷ rs) (s ∷ ss) e f = by_first (join_row r s)
     by_rest : (a : Interval) (q : Result Ranges RangeCause) (o : Result (List Interval) RangeCause) → q ≡ and_then o (λ ts. Ok (with_names names ts)) → and_then q (λ vs. Ok (record { name = n; range = a } ∷ vs)) ≡ and_then (and_then o (λ ts. Ok (a ∷ ts))) (λ ts. Ok (with_names (n ∷ names) ts))
     by_rest a q (Ok ts) g = ap (λ q. and_then q (λ vs. Ok (record { name = n; range = a } ∷ vs))) g
     by_rest a q (Err c) g = ap (λ q. and_then q (λ vs. Ok (record { name = n; range = a } ∷ vs))) g
+
     by_first : (j : Result Interval RangeCause) (o : Result (List Interval) RangeCause) → joined (with_names names rs) (with_names names ss) ≡ and_then o (λ ts. Ok (with_names names ts)) → and_then j (λ a. and_then (joined (with_names names rs) (with_names names ss)) (λ vs. Ok (record { name = n; range = a } ∷ vs))) ≡ and_then (and_then j (λ a. and_then o (λ ts. Ok (a ∷ ts)))) (λ ts. Ok (with_names (n ∷ names) ts))
     by_first (Ok a) o g = by_rest a (joined (with_names names rs) (with_names names ss)) o g
     by_first (Err c) o g = refl
@@ -48,6 +49,7 @@ left_from front rs ss i d e l m =
     by_rest : (a : Interval) (o : Result (List Interval) RangeCause) → and_then (and_then o (λ rest. Ok (a ∷ rest))) (λ rest. Ok (front ++ rest)) ≡ and_then o (λ rest. Ok ((front ++ (a ∷ [])) ++ rest))
     by_rest a (Ok l) = ap Ok (sym (append_assoc front (a ∷ []) l))
     by_rest a (Err c) = refl
+
     by_first : (j : Result Interval RangeCause) → and_then (and_then j (λ a. and_then (joined_lists (drop (suc i) rs) (drop (suc i) ss)) (λ rest. Ok (a ∷ rest)))) (λ rest. Ok (front ++ rest)) ≡ and_then j (λ a. joined_past (front ++ (a ∷ [])) (drop (suc i) rs) (drop (suc i) ss))
     by_first (Ok a) = by_rest a (joined_lists (drop (suc i) rs) (drop (suc i) ss))
     by_first (Err c) = refl

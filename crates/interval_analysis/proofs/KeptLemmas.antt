@@ -1,29 +1,26 @@
 -- A range as a variable of a type keeps it.
-use Rattle.std.proofs.Common.{◌≡◌, ℕ, ◌+◌, ◌-◌, ◌*◌, ◌^◌, ◌≤◌, Bool, true, false, ◌&&◌, nat_le, ℤ, pos, ◌*ℤ◌, List, Option, Some, None, Ok, refl, sym, ap, ◌∙◌, subst, arith}
+use Rattle.std.proofs.Common.{◌≡◌, ℕ, ◌-◌, ◌≤◌, Bool, true, false, ◌&&◌, nat_le, ℤ, ◌*ℤ◌, List, Some, None, Ok, refl, sym, ap, ◌∙◌, subst, arith}
 use Rattle.std.specs.Prelude.{unsigned_abs}
 use Rattle.std.specs.Int.{w128}
 use Rattle.std.specs.Option.{option_map_or}
 use Rattle.std.proofs.Common.{to_z, of_z, set}
 use Rattle.std.proofs.lemmas.Bool.Decides.{nat_tests}
 use Rattle.std.proofs.lemmas.Int.{ints, to_z-of_z, fits_signed_from_abs}
-use Rattle.scaled_decimal.specs.Decimals.{Decimal, decimal, scale_of, numerator_of, numerator_at, ten_to}
+use Rattle.scaled_decimal.specs.Decimals.{Decimal, scale_of, numerator_of, numerator_at, ten_to}
 use Rattle.scaled_decimal.specs.Limits.{limit, IsWithinLimit}
-use Rattle.scaled_decimal.specs.WholeNumbers.{int_bits, IsOfBits, whole_decimal}
+use Rattle.scaled_decimal.specs.WholeNumbers.{int_bits, IsOfBits}
 use Rattle.pap_tree.specs.declared.declaration.Kind.{Kind}
 use Rattle.pap_tree.specs.declared.declaration.Kind.TheVariants as declares
 use Rattle.pap_tree.specs.declared.plan.PlanText.{PlanText}
-use Rattle.pap_tree.specs.Declarations.{Declaration}
 use Rattle.pap_tree.specs.Term.{Term, leaf, item, one, two, choice, whole, long, point, text, known, named}
-use Rattle.interval_num.specs.Intervals.{Interval, HasKeptEnds, IsWholeOfBits}
-use Rattle.interval_num.specs.Alignment.{at_scale}
+use Rattle.interval_num.specs.Intervals.{Interval, IsWholeOfBits}
 use Rattle.pap_types.specs.declared.kinds.NodeKind.{NodeKind}
-use Rattle.pap_types.specs.Scopes.{Scope, number_of, declared_as, factor_places, at_factor_scale}
+use Rattle.pap_types.specs.Scopes.{Scope, number_of, declared_as, at_factor_scale}
 use Rattle.pap_types.specs.Kinds.{suits, is_factor_literal, has_few_places, kind_of}
 use Rattle.pap_types.specs.Typing.{TargetSuits}
 use Rattle.range_walk.specs.Ranges.{Ranges, single, put_range}
-use Rattle.range_walk.specs.NodeRanges.{leaf_range, leaf_interval}
+use Rattle.range_walk.specs.NodeRanges.{leaf_range}
 use Rattle.range_walk.specs.Ranged.{ranged}
-use Rattle.range_walk.specs.Shapes.{HasShape}
 use Rattle.range_walk.proofs.Laws.{leaf_shape, passed_node}
 use Rattle.range_walk.specs.Walked.{range_kept_as, assigned_range}
 use Rattle.interval_analysis.specs.PlanViews.{IsSized, scope_in, variables_in, ranges_in}

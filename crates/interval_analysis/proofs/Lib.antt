@@ -8,6 +8,7 @@ pub mod LiteralLemmas
 pub mod MethodLemmas
 pub mod NameLemmas
 pub mod NarrowLemmas
+pub mod OutputLemmas
 pub mod PartLemmas
 pub mod ShorteningLemmas
 pub mod StatementLemmas

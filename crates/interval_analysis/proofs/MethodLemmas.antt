@@ -1,5 +1,5 @@
 -- The bodies of a plan's methods.
-use Rattle.std.proofs.Common.{◌≡◌, ℕ, suc, ◌+◌, ◌<◌, ◌≤◌, ◌^◌, Bool, true, false, List, [], ◌∷◌, length, Option, Some, None, refl, sym, ap, ◌∙◌, subst, arith, cond}
+use Rattle.std.proofs.Common.{◌≡◌, ℕ, suc, ◌+◌, ◌≤◌, Bool, true, false, List, [], ◌∷◌, Some, None, refl, sym, ap, ◌∙◌, subst, arith, cond}
 use Rattle.std.specs.Prelude.{All, slice_get, not, if◌then◌else◌}
 use Rattle.std.specs.Option.{option_map}
 use Rattle.std.specs.Str.{bytes_eq}
@@ -7,12 +7,12 @@ use Rattle.std.proofs.lemmas.List.{length-map}
 use Rattle.std.proofs.lemmas.List.Elements.{All-head, All-tail}
 use Rattle.std.proofs.lemmas.Option.{slice_get_past, none-some}
 use Rattle.pap_tree.specs.declared.plan.PlanText.{PlanText}
-use Rattle.pap_tree.specs.Flowchart.{Body, Routine, Flowchart, flowchart_of}
+use Rattle.pap_tree.specs.Flowchart.{Body, Routine, flowchart_of}
 use Rattle.pap_tree.specs.Statements.{written}
 use Rattle.pap_types.specs.Checks.{IsWellTyped}
 use Rattle.pap_types.specs.Counts.{IsWithinCounts, AreSmallTerms, methods_written}
 use Rattle.pap_types.specs.Routines.{body_named, method_names}
-use Rattle.pap_types.specs.Scopes.{number_of, scope_of}
+use Rattle.pap_types.specs.Scopes.{number_of}
 use Rattle.pap_types.specs.Typing.{IsTypedBody}
 use Rattle.pap_types.proofs.Laws.{has_types}
 use Rattle.interval_analysis.specs.PlanViews.{scope_in}

@@ -1,26 +1,24 @@
 -- A range that is refined may be refined again.
-use Rattle.std.proofs.Common.{◌≡◌, ℕ, ◌+◌, ◌-◌, ◌^◌, ◌≤◌, ◌<◌, Bool, true, false, ℤ, pos, ◌+ℤ◌, ◌-ℤ◌, ◌*ℤ◌, ◌≤ℤ◌, ◌<ℤ◌, List, [], ◌∷◌, Option, Some, None, refl, sym, ap, ◌∙◌, subst, arith, max}
-use Rattle.std.specs.Prelude.{if◌then◌else◌, int_le, unsigned_abs}
+use Rattle.std.proofs.Common.{◌≡◌, ℕ, ◌-◌, ◌^◌, Bool, true, false, ℤ, pos, ◌+ℤ◌, ◌-ℤ◌, ◌*ℤ◌, ◌≤ℤ◌, List, [], ◌∷◌, Option, Some, None, refl, sym, ap, ◌∙◌, subst, arith, max}
+use Rattle.std.specs.Prelude.{if◌then◌else◌, int_le}
 use Rattle.std.specs.Bool.{OnTrue}
 use Rattle.std.specs.Int.{int_min, int_max}
 use Rattle.std.specs.Ordering.{int_eq}
 use Rattle.std.specs.Option.{option_map}
 use Rattle.std.specs.Str.{bytes_eq}
 use Rattle.std.proofs.Math.Nat.{max_comm}
-use Rattle.std.proofs.lemmas.Bool.Decides.{nat_tests}
 use Rattle.std.proofs.lemmas.Int.{ints, clamps}
 use Rattle.std.proofs.lemmas.Slice.Eq.{bytes_eq-Decides}
 use Rattle.scaled_decimal.specs.declared.rounding.Mode.TheVariants.{Floor, Ceiling}
 use Rattle.scaled_decimal.specs.Decimals.{ten_to, decimal, numerator_of}
 use Rattle.scaled_decimal.specs.RoundedDecimals.{rescaled}
-use Rattle.scaled_decimal.specs.Limits.{IsWithinLimit, limit}
+use Rattle.scaled_decimal.specs.Limits.{IsWithinLimit}
 use Rattle.scaled_decimal.specs.laws.IntegerLemmas.{le_times}
-use Rattle.pap_tree.specs.declared.plan.PlanText.{PlanText}
 use Rattle.pap_tree.specs.Term.{Term, leaf, item, one, two, choice, whole, long, point, text, known, named}
 use Rattle.interval_num.specs.declared.sign_set.SignSet.{SignSet}
 use Rattle.interval_num.specs.Intervals.{Interval, interval, IsWhole, HasKeptEnds}
-use Rattle.interval_num.specs.Alignment.{Align, at_scale, greater_scale}
-use Rattle.interval_num.specs.Refinement.{refined, low_end, high_end, is_apart, without, unless_empty, past, short_of, gap}
+use Rattle.interval_num.specs.Alignment.{at_scale, greater_scale}
+use Rattle.interval_num.specs.Refinement.{refined, low_end, high_end, is_apart, without, gap}
 use Rattle.range_walk.specs.Ranges.{Ranges, range_named, put_range}
 use Rattle.range_walk.specs.Branches.{narrowed, narrowed_name}
 use Rattle.interval_analysis.specs.ComparisonViews.{CanNarrow, CanRefine, HasRange}
@@ -180,6 +178,7 @@ module _ (w : Bool) (s : SignSet) (l r : Interval) (can : CanRefine w l r) (env 
       plain is v at =
           let same : env ≡ after = cc in
           subst (λ v. CanRefine w v l) (sym (hb v (ap (λ env. range_named env y) same ∙ at))) (turned w l r can)
+
       by_first : (a : Term) → HasRange a l env → narrowed w s a r env ≡ Some after → (v : Interval) → range_named after y ≡ Some v → CanRefine w v l
       by_first (leaf (named x)) ha is v at = second_named x (range_named env x) refl ha is y hb v at
       by_first (leaf (whole i)) ha is v at = plain is v at

@@ -1,5 +1,5 @@
 -- A decimal without the zeros that end it, one after the other.
-use Rattle.std.proofs.Common.{◌≡◌, ℕ, zero, suc, ◌+◌, ◌-◌, ◌<◌, ◌≤◌, Bool, true, false, ℤ, pos, int_div, refl, ap, sym, ◌∙◌, arith}
+use Rattle.std.proofs.Common.{◌≡◌, ℕ, zero, suc, ◌+◌, ◌-◌, ◌<◌, true, false, ℤ, pos, int_div, refl, ap, ◌∙◌, arith}
 use Rattle.std.specs.Prelude.{if◌then◌else◌, int_rem}
 use Rattle.std.specs.Ordering.{int_eq}
 use Rattle.scaled_decimal.specs.Decimals.{decimal}

@@ -1,8 +1,8 @@
 -- Steps of the walk of statements.
-use Rattle.std.proofs.Common.{◌≡◌, ℕ, zero, suc, ◌+◌, ◌-◌, ◌<◌, ◌≤◌, ◌≢◌, List, [], ◌∷◌, Option, Some, None, Result, Ok, Err, refl, sym, ap, ◌∙◌, subst, arith}
+use Rattle.std.proofs.Common.{◌≡◌, ℕ, zero, suc, ◌+◌, ◌-◌, ◌≢◌, List, Some, None, Result, Ok, Err, refl, sym, ap, ◌∙◌, subst, arith}
 use Rattle.pap_tree.specs.declared.plan.Stmt.{Stmt, Eval, If', Execute}
-use Rattle.pap_tree.specs.Term.{Term, term_of}
-use Rattle.pap_tree.specs.Flowchart.{Body, done, eval, branch, execute, body_of_row, stmt_then, Routine}
+use Rattle.pap_tree.specs.Term.{term_of}
+use Rattle.pap_tree.specs.Flowchart.{Body, done, body_of_row, stmt_then, Routine}
 use Rattle.pap_tree.specs.Statements.{written}
 use Rattle.interval_num.specs.declared.cause.RangeCause.TheVariants.{Wide}
 use Rattle.pap_types.specs.Checks.{place, last_node}

@@ -1,5 +1,5 @@
 -- What private contracts say of the walk of expressions.
-use Rattle.std.specs.Prelude.{◌≡◌, ℕ, ℤ, ◌+◌, ◌<◌, ◌^◌, ◌&&◌, Bool, true, false, List, Option, Some, None, is_some, Result, Ok, Err, ⊤, IsFalse}
+use Rattle.std.specs.Prelude.{◌≡◌, ℕ, ℤ, ◌+◌, ◌<◌, ◌^◌, ◌&&◌, Bool, true, false, List, Option, is_some, Result, Ok, Err, ⊤, IsFalse}
 use Rattle.pap_tree.specs.declared.expression.Binary.{Binary}
 use Rattle.pap_tree.specs.declared.expression.Call.TheVariants.{CompareTo}
 use Rattle.pap_tree.specs.Term.{Term, term_of, leaf, whole, two, operator, method}

@@ -77,8 +77,7 @@ fn exchanged(signs: SignSet) -> SignSet
 fn can_have(allowed: SignSet, signs: SignSet) -> bool
     ensures { result ≡ can_have allowed signs }
 {
-    (allowed.minus && signs.minus)
-        || ((allowed.zero && signs.zero) || (allowed.plus && signs.plus))
+    (allowed.minus && signs.minus) || ((allowed.zero && signs.zero) || (allowed.plus && signs.plus))
 }
 
 /// The branches of a comparison that holds for the allowed signs. `whole` says that both sides are whole numbers.
@@ -118,9 +117,25 @@ fn branch_of(
     }
     let none = Vec::new(alloc);
     let turned = exchanged(allowed);
-    match narrow(plan, sides.left, whole, allowed, sides.right_range, ranges, none)? {
+    match narrow(
+        plan,
+        sides.left,
+        whole,
+        allowed,
+        sides.right_range,
+        ranges,
+        none,
+    )? {
         None => Ok(None),
-        Some(changes) => narrow(plan, sides.right, whole, turned, sides.left_range, ranges, changes),
+        Some(changes) => narrow(
+            plan,
+            sides.right,
+            whole,
+            turned,
+            sides.left_range,
+            ranges,
+            changes,
+        ),
     }
 }
 

@@ -475,13 +475,7 @@ impl Walk<'_> {
     }
 
     #[cycle(walk)]
-    fn test_both(
-        &self,
-        left: &Expr,
-        right: &Expr,
-        at: u32,
-        ranges: &[Abs],
-    ) -> Result<Tested, Stop>
+    fn test_both(&self, left: &Expr, right: &Expr, at: u32, ranges: &[Abs]) -> Result<Tested, Stop>
         requires walk { CanWalk self.now (two (operator Binary.And) (term_of left.now) (term_of right.now)) at }
         requires sized { IsSized self.now.plan.now ranges.now }
         ensures { TestAnswer self.now (two (operator Binary.And) (term_of left.now) (term_of right.now)) at ranges.now result }

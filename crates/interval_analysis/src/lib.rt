@@ -11,6 +11,8 @@ mod lists;
 mod names;
 mod operations;
 mod outlines;
+mod outputs;
 mod statements;
 
 pub use fault::RangeFault;
+pub use outputs::OutputRange;

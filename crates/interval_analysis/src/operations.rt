@@ -11,9 +11,9 @@ ghost use Rattle.range_walk.specs.NodeRanges.{read_range, operator_range, one_ra
 ghost use Rattle.interval_analysis.specs.OperationViews.{TakesWholes, TakesUnary, TakesShown, IsPlainShown, read_fitting};
 
 use interval_num::{
-    Abs, RangeCause, abs_abs, abs_add, abs_cmp, abs_div_exact, abs_item, abs_max, abs_min, abs_mul, abs_neg,
-    abs_sub, int_add, int_div, int_mul, int_neg, int_rem, int_sub, long_add, long_div, long_mul,
-    long_neg, long_rem, long_sub,
+    Abs, RangeCause, abs_abs, abs_add, abs_cmp, abs_div_exact, abs_item, abs_max, abs_min, abs_mul,
+    abs_neg, abs_sub, int_add, int_div, int_mul, int_neg, int_rem, int_sub, long_add, long_div,
+    long_mul, long_neg, long_rem, long_sub,
 };
 use pap_tree::{Binary, Call, Unary};
 use pap_types::NodeKind;

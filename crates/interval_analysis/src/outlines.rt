@@ -39,7 +39,10 @@ pub(crate) fn outline_of(plan: &Typed, e: &Expr, at: u32) -> Outline
         | Expr::ValueOf(operand)
         | Expr::ValueOfScaled(operand, _)
         | Expr::NewInt(operand)
-        | Expr::SetScale(operand, _, _) => outlined(NodeKind::Big, outline_of(plan, operand, at).next),
+        | Expr::SetScale(operand, _, _) => outlined(
+            NodeKind::Big,
+            outline_of(plan, operand, at).next,
+        ),
         Expr::Unary(op, operand) => {
             let inner = outline_of(plan, operand, at);
             outlined(kind_of_unary(*op, inner.kind), inner.next)

@@ -1,4 +1,4 @@
-use Rattle.std.proofs.Common.{◌≡◌, Some, sym, ap, ◌∙◌}
+use Rattle.std.proofs.Common.{sym, ap, ◌∙◌}
 use Rattle.pap_tree.specs.Term.{term_of}
 use Rattle.range_walk.specs.Branches.{narrowed}
 use Rattle.interval_analysis.specs.Changes.{changed}

@@ -1,4 +1,4 @@
-use Rattle.std.proofs.Common.{◌≡◌, ◌<◌, Some, slice_get, take, length}
+use Rattle.std.proofs.Common.{◌≡◌, Some, slice_get, take}
 use Rattle.interval_analysis.specs.Changes.{changed}
 use Rattle.interval_analysis.proofs.comparisons.range_now.Given as goal
 

@@ -1,4 +1,4 @@
-use Rattle.std.proofs.Common.{rules, arith, ◌≡◌, ◌-◌, FitsSigned, pos, int_div, sym, ◌∙◌}
+use Rattle.std.proofs.Common.{rules, arith, FitsSigned, pos, int_div, sym, ◌∙◌}
 use Rattle.std.specs.Int.{w128}
 use Rattle.std.proofs.lemmas.Int.{ints, to_z-of_z, quot_fits}
 use Rattle.scaled_decimal.specs.laws.RoundingLemmas.{mag_quot}

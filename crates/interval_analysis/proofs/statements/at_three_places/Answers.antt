@@ -1,4 +1,4 @@
-use Rattle.std.proofs.Common.{◌-◌, ◌^◌, ap, ap₂, sym, subst, ◌∙◌}
+use Rattle.std.proofs.Common.{◌-◌, ◌^◌, ap, ap₂, subst, ◌∙◌}
 use Rattle.scaled_decimal.specs.Decimals.{ten_to}
 use Rattle.scaled_decimal.specs.Limits.{IsWithinLimit}
 use Rattle.scaled_decimal.specs.laws.IntegerLemmas.{le_times}

@@ -1,9 +1,8 @@
-use Rattle.std.proofs.Common.{◌≡◌, ◌+◌, ◌-◌, Ok, Err, drop, sym, ap, ◌∙◌, subst, arith}
+use Rattle.std.proofs.Common.{◌≡◌, ◌+◌, ◌-◌, drop, sym, ap, ◌∙◌, subst, arith}
 use Rattle.pap_tree.specs.Term.{term_of}
-use Rattle.pap_tree.specs.Flowchart.{Body, body_of, stmt_then, branch, done}
+use Rattle.pap_tree.specs.Flowchart.{body_of, stmt_then, branch, done}
 use Rattle.pap_tree.specs.Statements.{written}
 use Rattle.pap_tree.proofs.Laws.{stmt_at, branch_is}
-use Rattle.interval_analysis.specs.Changes.{changed}
 use Rattle.interval_analysis.specs.PlanViews.{scope_in, ranges_in}
 use Rattle.interval_analysis.specs.StatementViews.{CanWalkBody, NumberedAnswer, FaultOf, walked_in, met_in, calls_in, methods_in}
 use Rattle.interval_analysis.proofs.CountLemmas.{written_at, can_here, can_rest}
@@ -120,10 +119,11 @@ walk_meeting-returns-in-Ok t c =
     let one = c.in_ok-second.ensures in
     let two = c.in_ok-next.ensures in
     let rs = c.walk_body.new.ranges in
-    let ss = c.walk_body-2.new.ranges in
-    (both_meet w c.args.chain name c.args.at c.args.root c.in_ok-second.second (body_of c.args.yes.now) (body_of c.args.no.now) (ranges_in p c.args.ranges.now) (ranges_in p c.args.others.now) (ranges_in p rs) (ranges_in p ss) one.0 two.0 one.1
-    ∙ meets p name c.args.at c.args.root rs ss c.join_into.new.ranges (c.walk_body.auto.ranges ∙ c.requires.sized) (c.walk_body-2.auto.ranges ∙ c.requires.others) c.in-Ok.ensures,
-    omega (arith, one.1, two.1))
+    let ss = c.walk_body-2.new.ranges in (
+      both_meet w c.args.chain name c.args.at c.args.root c.in_ok-second.second (body_of c.args.yes.now) (body_of c.args.no.now) (ranges_in p c.args.ranges.now) (ranges_in p c.args.others.now) (ranges_in p rs) (ranges_in p ss) one.0 two.0 one.1
+          ∙ meets p name c.args.at c.args.root rs ss c.join_into.new.ranges (c.walk_body.auto.ranges ∙ c.requires.sized) (c.walk_body-2.auto.ranges ∙ c.requires.others) c.in-Ok.ensures,
+      omega (arith, one.1, two.1),
+    )
 
 pub walk_meeting-returns-in-Err : goal.walk_meeting-returns-in-Err
 walk_meeting-returns-in-Err t c =
