@@ -16,7 +16,7 @@ use Rattle.call_order.specs.Graphs.{executed, content_of, graph_of}
 use Rattle.call_order.specs.Chains.{Executes, BeginsMore, content_at}
 use Rattle.call_order.specs.Expanded.{expanded, expanded_of}
 use Rattle.call_order.specs.Orders.{HasShortChains}
-use Rattle.call_order.specs.ChainLaws.{Names, DoesAsBody, MainDoesTheSame, AreClosed}
+use Rattle.call_order.specs.ChainLaws.{Names, DoesAsBody, BodyDoesTheSame, IsSameBound, AreClosed}
 use Rattle.call_order.proofs.Numbers.{method_number, method_of}
 use Rattle.call_order.specs.Executed.{EachExecuted}
 use Rattle.call_order.proofs.Executed.{each_weaker, IsNamed, AreNamed, are_named}
@@ -179,21 +179,28 @@ module _ (f : Flowchart) (typed : IsWellTyped f) (short : HasShortChains f) wher
         safe_out = λ s. h.safe_out (safe_step_out (scope_of f) f.methods 64 x b is env s);
       }
 
-  longer_main : (n : ℕ) → 64 ≤ n → (env : Env) → MainDoesTheSame f n env
-  longer_main n le env =
+  main_does : (n : ℕ) → 64 ≤ n → (env : Env) → BodyDoesTheSame (scope_of f) (calls_of (scope_of f) f.methods n) (calls_in f) f.main env
+  main_does n le env =
       let c = calls_of (scope_of f) f.methods n in
       let d = calls_in f in
-      let ending = all_end_in f.main names.main in
-      let out = each_weaker (Ends f.methods 64) (Same (scope_of f) d c) (λ x e. same_calls n le x e) f.main ending in
+      let out = each_weaker (Ends f.methods 64) (Same (scope_of f) d c) (λ x e. same_calls n le x e) f.main (all_end_in f.main names.main) in
       let back = each_weaker (Same (scope_of f) d c) (Same (scope_of f) c d) (turned (scope_of f) d c) f.main out in
       record {
         after = after_same (scope_of f) c d f.main back env;
         spent = spent_same (scope_of f) c d f.main back env;
         safe_in = safe_same (scope_of f) c d f.main back env;
         safe_out = safe_same (scope_of f) d c f.main out env;
-        bound = bound_same (method_bound f.methods n) (method_bound f.methods 64) f.main (each_weaker (Ends f.methods 64) (λ x. method_bound f.methods n x ≡ method_bound f.methods 64 x) (λ x e. sym (same_bound n le x e)) f.main ending);
-        expanded = expanded_same (expanded_of f.methods n) (expanded_of f.methods 64) f.main (each_weaker (Ends f.methods 64) (λ x. expanded_of f.methods n x ≡ expanded_of f.methods 64 x) (λ x e. sym (same_expanded n le x e)) f.main ending);
       }
+
+  longer : (n : ℕ) → 64 ≤ n → IsSameBound f n
+  longer n le = record {
+    does = λ x b is env. turned (scope_of f) (calls_in f) (calls_of (scope_of f) f.methods n) x (same_calls n le x (all_end x b is)) env;
+    bound = λ x b is. sym (same_bound n le x (all_end x b is));
+    expanded = λ x b is. sym (same_expanded n le x (all_end x b is));
+    main_does = main_does n le;
+    main_bound = bound_same (method_bound f.methods n) (method_bound f.methods 64) f.main (each_weaker (Ends f.methods 64) (λ x. method_bound f.methods n x ≡ method_bound f.methods 64 x) (λ x e. sym (same_bound n le x e)) f.main (all_end_in f.main names.main));
+    main_expanded = expanded_same (expanded_of f.methods n) (expanded_of f.methods 64) f.main (each_weaker (Ends f.methods 64) (λ x. expanded_of f.methods n x ≡ expanded_of f.methods 64 x) (λ x e. sym (same_expanded n le x e)) f.main (all_end_in f.main names.main));
+  }
 
   -- What holds of a method where it holds of all that it executes, holds of each method.
   pub by_execution : (P : List ℕ → Type 0) → ((x : List ℕ) (b : Body) → Names f x b → EachExecuted P b → P x) → (x : List ℕ) (b : Body) → Names f x b → P x
@@ -215,8 +222,5 @@ module _ (f : Flowchart) (typed : IsWellTyped f) (short : HasShortChains f) wher
     does = does_as_body;
     bound = λ x b is. same_bound 65 (omega arith) x (all_end x b is) ∙ bound_step (scope_of f) f.methods 64 x b is;
     expanded = λ x b is. same_expanded 65 (omega arith) x (all_end x b is) ∙ expanded_step (scope_of f) f.methods 64 x b is;
-    longer_does = λ n le x b is env. turned (scope_of f) (calls_in f) (calls_of (scope_of f) f.methods n) x (same_calls n le x (all_end x b is)) env;
-    longer_bound = λ n le x b is. sym (same_bound n le x (all_end x b is));
-    longer_expanded = λ n le x b is. sym (same_expanded n le x (all_end x b is));
-    longer_main = longer_main;
+    longer = longer;
   }

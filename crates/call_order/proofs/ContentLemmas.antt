@@ -5,7 +5,8 @@ use Rattle.std.proofs.lemmas.List.{append-nil}
 use Rattle.pap_tree.specs.declared.expression.Expr.{Expr}
 use Rattle.pap_tree.specs.declared.plan.Stmt.{Stmt, Eval, If, If', Execute}
 use Rattle.pap_tree.specs.declared.plan.Method.{Method}
-use Rattle.pap_tree.specs.Flowchart.{Body, done, body_of, stmt_then, Routine, routine_of}
+use Rattle.pap_tree.specs.Flowchart.{Body, done, body_of, stmt_then, Routine, routine_of, flowchart_of}
+use Rattle.pap_tree.specs.declared.plan.PlanText.{PlanText}
 use Rattle.pap_tree.specs.Statements.{written}
 use Rattle.pap_tree.proofs.Laws.{stmt_then-If, stmt_at}
 use Rattle.pap_types.specs.Scopes.{number_of}
@@ -46,21 +47,22 @@ module _ (ms : List Routine) where
   pub executed_if : (s : Stmt) (t : Expr) (ys zs : Vec Stmt Global) → s ≡ If t ys zs → executed ms (stmt_then s done) ≡ executed ms (body_of ys.items) ++ executed ms (body_of zs.items)
   executed_if s t ys zs is = ap (λ x. executed ms (stmt_then x done)) is ∙ ap (executed ms) (stmt_then-If t ys zs done) ∙ ap (λ l. executed ms (body_of ys.items) ++ l) (append-nil (executed ms (body_of zs.items)))
 
-  -- an IF is added by its own statement and its two branches
-  pub added_if : (s : Stmt) (t : Expr) (ys zs : Vec Stmt Global) (old counted one two : Content) → s ≡ If t ys zs → counted ≡ record old { statements = old.statements + 1 } → IsAdded ms (body_of ys.items) counted one → IsAdded ms (body_of zs.items) one two → IsAdded ms (stmt_then s done) old two
-  added_if s t ys zs old counted one two is more a b =
-      let w = written_if s t ys zs is in
-      let n = ap (λ (q : Content). q.statements) more in
-      let p = a.statements in
-      let q = b.statements in
-      let l = ap (λ (q : Content). q.methods) more in
-      record {
-        statements = omega (arith, w, n, p, q);
-        methods = b.methods
-            ∙ ap (λ l. l ++ executed ms (body_of zs.items)) (a.methods ∙ ap (λ l. l ++ executed ms (body_of ys.items)) l)
-            ∙ append_assoc old.methods (executed ms (body_of ys.items)) (executed ms (body_of zs.items))
-            ∙ ap (λ l. old.methods ++ l) (sym (executed_if s t ys zs is));
-      }
+-- an IF is added by its own statement and its two branches
+pub added_if : (p : PlanText) (s : Stmt) (t : Expr) (ys zs : Vec Stmt Global) (old counted one two : Content) → s ≡ If t ys zs → counted ≡ record old { statements = old.statements + 1 } → IsAdded p (body_of ys.items) counted one → IsAdded p (body_of zs.items) one two → IsAdded p (stmt_then s done) old two
+added_if p s t ys zs old counted one two is more a b =
+    let ms = (flowchart_of p).methods in
+    let w = written_if s t ys zs is in
+    let n = ap (λ (q : Content). q.statements) more in
+    let p = a.statements in
+    let q = b.statements in
+    let l = ap (λ (q : Content). q.methods) more in
+    record {
+      statements = omega (arith, w, n, p, q);
+      methods = b.methods
+          ∙ ap (λ l. l ++ executed ms (body_of zs.items)) (a.methods ∙ ap (λ l. l ++ executed ms (body_of ys.items)) l)
+          ∙ append_assoc old.methods (executed ms (body_of ys.items)) (executed ms (body_of zs.items))
+          ∙ ap (λ l. old.methods ++ l) (sym (executed_if ms s t ys zs is));
+    }
 
 -- with the rest of a list of statements, all of the list will be added
 pub record IsLeft (ms : List Routine) (all rest : Body) (old new : Content) : Type 0 where

@@ -1,8 +1,8 @@
--- The bound on chains in the definitions leaves nothing out: where no chain is longer, what a method does, how long it is and
--- what it costs at most are those of its body, and a greater bound changes nothing.
+-- The bound on chains in the definitions leaves nothing out: where no chain is longer, what a method does, how long it
+-- is and what it costs at most are those of its body, and a greater bound changes nothing.
 use Rattle.std.specs.Prelude.{◌≡◌, ℕ, ◌≤◌, List, Some}
 use Rattle.pap_tree.specs.Flowchart.{Body, Flowchart}
-use Rattle.pap_types.specs.Scopes.{scope_of}
+use Rattle.pap_types.specs.Scopes.{Scope, scope_of}
 use Rattle.pap_types.specs.Values.{Env}
 use Rattle.pap_types.specs.Routines.{body_named}
 use Rattle.pap_types.specs.Runs.{Calls, after, spent, IsSafeBody, calls_of}
@@ -30,33 +30,37 @@ pub record DoTheSame (one other : Calls) (m : List ℕ) (env : Env) : Type 0 whe
   pub safe_in : one.IsSafeCall m env → other.IsSafeCall m env
   pub safe_out : other.IsSafeCall m env → one.IsSafeCall m env
 
--- MAIN does the same with a greater bound on chains
-pub record MainDoesTheSame (f : Flowchart) (n : ℕ) (env : Env) : Type 0 where
-  pub after : after (scope_of f) (calls_of (scope_of f) f.methods n) f.main env ≡ after (scope_of f) (calls_in f) f.main env
-  pub spent : spent (scope_of f) (calls_of (scope_of f) f.methods n) f.main env ≡ spent (scope_of f) (calls_in f) f.main env
-  pub safe_in :
-      IsSafeBody (scope_of f) (calls_of (scope_of f) f.methods n) f.main env → IsSafeBody (scope_of f) (calls_in f) f.main env
-  pub safe_out :
-      IsSafeBody (scope_of f) (calls_in f) f.main env → IsSafeBody (scope_of f) (calls_of (scope_of f) f.methods n) f.main env
-  pub bound : body_bound (method_bound f.methods n) f.main ≡ body_bound (method_bound f.methods longest_chain) f.main
-  pub expanded : expanded (expanded_of f.methods n) f.main ≡ expanded (expanded_of f.methods longest_chain) f.main
+-- a list of statements does the same with either
+pub record BodyDoesTheSame (scope : Scope) (one other : Calls) (b : Body) (env : Env) : Type 0 where
+  pub after : after scope one b env ≡ after scope other b env
+  pub spent : spent scope one b env ≡ spent scope other b env
+  pub safe_in : IsSafeBody scope one b env → IsSafeBody scope other b env
+  pub safe_out : IsSafeBody scope other b env → IsSafeBody scope one b env
 
--- what holds of a well-typed plan none of whose chains is too long
+-- with another bound on chains every method and MAIN do, cost at most and count the same
+pub record IsSameBound (f : Flowchart) (n : ℕ) : Type 0 where
+  pub main_does : (env : Env)
+      → BodyDoesTheSame (scope_of f) (calls_of (scope_of f) f.methods n) (calls_in f) f.main env
+  pub main_bound :
+      body_bound (method_bound f.methods n) f.main ≡ body_bound (method_bound f.methods longest_chain) f.main
+  pub main_expanded :
+      expanded (expanded_of f.methods n) f.main ≡ expanded (expanded_of f.methods longest_chain) f.main
+  pub does : (m : List ℕ) (b : Body) → Names f m b → (env : Env)
+      → DoTheSame (calls_of (scope_of f) f.methods n) (calls_in f) m env
+  pub bound : (m : List ℕ) (b : Body) → Names f m b
+      → method_bound f.methods n m ≡ method_bound f.methods longest_chain m
+  pub expanded : (m : List ℕ) (b : Body) → Names f m b
+      → expanded_of f.methods n m ≡ expanded_of f.methods longest_chain m
+
+-- each method by its body, and any bound from 64 on as good
 pub record AreClosed (f : Flowchart) : Type 0 where
-  -- each method by its body
   pub does : (m : List ℕ) (b : Body) → Names f m b → (env : Env) → DoesAsBody f m b env
   pub bound : (m : List ℕ) (b : Body) → Names f m b
       → method_bound f.methods longest_chain m ≡ body_bound (method_bound f.methods longest_chain) b
   pub expanded : (m : List ℕ) (b : Body) → Names f m b
       → expanded_of f.methods longest_chain m ≡ expanded (expanded_of f.methods longest_chain) b
-  -- the same with a greater bound
-  pub longer_does : (n : ℕ) → longest_chain ≤ n → (m : List ℕ) (b : Body) → Names f m b → (env : Env)
-      → DoTheSame (calls_of (scope_of f) f.methods n) (calls_in f) m env
-  pub longer_bound : (n : ℕ) → longest_chain ≤ n → (m : List ℕ) (b : Body) → Names f m b
-      → method_bound f.methods n m ≡ method_bound f.methods longest_chain m
-  pub longer_expanded : (n : ℕ) → longest_chain ≤ n → (m : List ℕ) (b : Body) → Names f m b
-      → expanded_of f.methods n m ≡ expanded_of f.methods longest_chain m
-  pub longer_main : (n : ℕ) → longest_chain ≤ n → (env : Env) → MainDoesTheSame f n env
+  pub longer : (n : ℕ) → longest_chain ≤ n → IsSameBound f n
 
+-- of a well-typed plan none of whose chains is too long
 abbrev pub ChainsClose : Type 0
 ChainsClose = (f : Flowchart) → IsWellTyped f → HasShortChains f → AreClosed f

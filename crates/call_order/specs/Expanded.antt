@@ -1,5 +1,5 @@
--- Expanded statements: an EVAL is one; an IF is one, with those of both its branches; an EXECUTE is one, with those of the
--- method's body.
+-- Expanded statements: an EVAL is one; an IF is one, with those of both its branches; an EXECUTE is one, with those of
+-- the method's body.
 use Rattle.std.specs.Prelude.{ℕ, zero, suc, ◌+◌, List}
 use Rattle.std.specs.Option.{option_map_or}
 use Rattle.pap_tree.specs.Flowchart.{Body, done, eval, branch, execute, Routine, Flowchart}

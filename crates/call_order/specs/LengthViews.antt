@@ -16,4 +16,5 @@ length_of g (suc n) i = length_with (content_at g i) (length_of g n)
 -- the counts of the methods in a list: for any n, where no chain from a method has more than n methods
 pub record AreLengths (g : Graph) (methods : List ℕ) (counts : List ℕ) : Type 0 where
   pub all : length counts ≡ length g
-  pub each : (i : ℕ) → Contains methods i → (n : ℕ) → ¬ (BeginsMore g n i) → slice_index counts i ≡ min (length_of g n i) last_count
+  pub each : (i : ℕ) → Contains methods i → (n : ℕ) → ¬ (BeginsMore g n i)
+      → slice_index counts i ≡ min (length_of g n i) last_count

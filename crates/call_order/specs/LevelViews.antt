@@ -1,5 +1,5 @@
 -- The lengths of the longest chains, as the private functions find them.
-use Rattle.std.specs.Prelude.{◌≡◌, ℕ, ◌+◌, ◌-◌, ◌<◌, ◌≤◌, ◌⊎◌, ◌==◌, List, length, slice_index, All, count_by}
+use Rattle.std.specs.Prelude.{◌≡◌, ℕ, ◌+◌, ◌-◌, ◌<◌, ◌≤◌, ◌⊎◌, ◌==◌, List, Bool, length, slice_index, All, Contains, MatchBool, count_by}
 use Rattle.call_order.specs.Graphs.{Graph}
 use Rattle.call_order.specs.Chains.{IsChain, BeginsMore, content_at}
 
@@ -36,16 +36,35 @@ IsPlaced n t = (0 < t) × (t ≤ n)
 abbrev pub AreAllPlaced : List ℕ → Type 0
 AreAllPlaced ls = (i : ℕ) → i < length ls → 0 < slice_index ls i
 
+-- each method of the list has a level of at most n, or one that hasn't is there
+abbrev pub TellsPlaced : ℕ → List ℕ → List ℕ → Bool → Type 0
+TellsPlaced n ls methods answer =
+    MatchBool answer
+    (All (λ j. IsPlaced n (slice_index ls j)) methods)
+    ((j : ℕ) × Contains methods j × ¬ (IsPlaced n (slice_index ls j)))
+
+-- the levels of the methods of a list don't fall
+abbrev pub AreByLevel : List ℕ → List ℕ → Type 0
+AreByLevel ls order = (p q : ℕ) → p < q → q < length order
+    → slice_index ls (slice_index order p) ≤ slice_index ls (slice_index order q)
+
 -- each method once, by level
 pub record IsByLevel (ls order : List ℕ) : Type 0 where
   pub known : All (λ i. i < length ls) order
   pub once : (k : ℕ) → k < length ls → count_by (λ j. j == k) order ≡ 1
-  pub sorted : (p q : ℕ) → p < q → q < length order → slice_index ls (slice_index order p) ≤ slice_index ls (slice_index order q)
+  pub sorted : AreByLevel ls order
 
--- the methods of each level below n, and those of level n below i
+-- a method of a level below n, or one of level n before i; the others
+abbrev pub IsPassed : List ℕ → ℕ → ℕ → ℕ → Type 0
+IsPassed ls n i k = (slice_index ls k < n) ⊎ ((slice_index ls k ≡ n) × (k < i))
+
+abbrev pub IsAhead : List ℕ → ℕ → ℕ → ℕ → Type 0
+IsAhead ls n i k = (n < slice_index ls k) ⊎ ((slice_index ls k ≡ n) × (i ≤ k))
+
+-- the methods that are passed, once each
 pub record IsPartly (ls : List ℕ) (n i : ℕ) (order : List ℕ) : Type 0 where
   pub known : All (λ k. k < length ls) order
-  pub done : (k : ℕ) → k < length ls → 0 < slice_index ls k → (slice_index ls k < n) ⊎ ((slice_index ls k ≡ n) × (k < i)) → count_by (λ j. j == k) order ≡ 1
-  pub rest : (k : ℕ) → k < length ls → (n < slice_index ls k) ⊎ ((slice_index ls k ≡ n) × (i ≤ k)) → count_by (λ j. j == k) order ≡ 0
+  pub done : (k : ℕ) → k < length ls → 0 < slice_index ls k → IsPassed ls n i k → count_by (λ j. j == k) order ≡ 1
+  pub rest : (k : ℕ) → k < length ls → IsAhead ls n i k → count_by (λ j. j == k) order ≡ 0
   pub low : (q : ℕ) → q < length order → slice_index ls (slice_index order q) ≤ n
-  pub sorted : (p q : ℕ) → p < q → q < length order → slice_index ls (slice_index order p) ≤ slice_index ls (slice_index order q)
+  pub sorted : AreByLevel ls order

@@ -1,5 +1,6 @@
 //! What lists of statements have: how many statements, and which methods they execute.
-ghost use Rattle.std.specs.Prelude.{◌≡◌, ◌+◌, ◌<◌, ◌≤◌, ◌^◌, ◌++◌, ◌∷◌, [], OnOk, IfOk, length};
+ghost use Rattle.std.specs.Prelude.{◌≡◌, ◌+◌, ◌<◌, ◌≤◌, ◌^◌, OnOk, IfOk, length};
+ghost use Rattle.std.specs.List.{push};
 ghost use Rattle.pap_tree.specs.Flowchart.{body_of, stmt_then, done, flowchart_of};
 ghost use Rattle.pap_tree.specs.Statements.{written};
 ghost use Rattle.call_order.specs.Graphs.{content_of, graph_of};
@@ -47,7 +48,8 @@ impl Contents {
 
     /// One more executed method.
     fn add(&mut self, method: u32) -> Result<(), AllocError>
-        ensures { OnOk result (self.new ≡ record self.old { methods = self.old.methods ++ method ∷ [] }) }
+        ensures statements { OnOk result (self.new.statements ≡ self.old.statements) }
+        ensures methods { OnOk result (self.new.methods ≡ push self.old.methods method) }
     {
         self.methods.push(method)?;
         Ok(())
@@ -73,7 +75,7 @@ impl Contents {
 fn collect(contents: &mut Contents, t: &Typed, body: &[Stmt]) -> Result<(), AllocError>
     requires methods { length (flowchart_of t.now).methods ≤ 256 }
     requires room { contents.old.statements + written (body_of body.now) < 2 ^ 64 }
-    ensures { OnOk result (IsAdded (flowchart_of t.now).methods (body_of body.now) contents.old contents.new) }
+    ensures { OnOk result (IsAdded t.now (body_of body.now) contents.old contents.new) }
 {
     for statement in body {
         collect_one(contents, t, statement)?;
@@ -86,8 +88,7 @@ fn collect(contents: &mut Contents, t: &Typed, body: &[Stmt]) -> Result<(), Allo
 fn collect_one(contents: &mut Contents, t: &Typed, statement: &Stmt) -> Result<(), AllocError>
     requires methods { length (flowchart_of t.now).methods ≤ 256 }
     requires room { contents.old.statements + written (stmt_then statement.now done) < 2 ^ 64 }
-    ensures { OnOk result
-        (IsAdded (flowchart_of t.now).methods (stmt_then statement.now done) contents.old contents.new) }
+    ensures { OnOk result (IsAdded t.now (stmt_then statement.now done) contents.old contents.new) }
 {
     contents.count();
     match statement {

@@ -1,10 +1,7 @@
 //! The first method that reaches itself.
-ghost use Rattle.std.specs.Prelude.{◌≡◌, ℕ, ◌+◌, ◌<◌, ◌≤◌, ◌^◌, IfOk, IfSome, IfNone, MatchBool, MatchOption, length, true, false};
-ghost use Rattle.call_order.specs.Chains.{Executes, Reaches, ReachesItself, content_at};
-ghost use Rattle.call_order.specs.LevelViews.{AreKnown, AllKnown};
-ghost use Rattle.call_order.specs.MarkViews.{AreMarked, left, is_marked};
-ghost use Rattle.call_order.specs.Orders.{HasNone};
-ghost use Rattle.call_order.specs.Faults.{IsFirst};
+ghost use Rattle.std.specs.Prelude.{◌≡◌, ℕ, ◌+◌, ◌<◌, ◌≤◌, IfOk, length, true, false};
+ghost use Rattle.call_order.specs.LevelViews.{AllKnown};
+ghost use Rattle.call_order.specs.MarkViews.{AreMarked, TellsCycle, IsFirstInCycle, is_marked};
 
 use crate::contents::Contents;
 use std::alloc::{AllocError, Global};
@@ -33,7 +30,7 @@ fn marks_itself(graph: &[Contents], method: usize, seen: &mut [bool]) -> bool
     requires all { length seen.old ≡ length graph.now }
     requires method { method < length graph.now }
     requires unmarked { (k : ℕ) → is_marked seen.old k ≡ false }
-    ensures { MatchBool result (ReachesItself graph.now method) (¬ (ReachesItself graph.now method)) }
+    ensures { TellsCycle graph.now method result }
 {
     for next in graph[method].methods() {
         mark(graph, *next, seen);
@@ -45,7 +42,7 @@ fn marks_itself(graph: &[Contents], method: usize, seen: &mut [bool]) -> bool
 fn reaches_itself(alloc: Global, graph: &[Contents], method: usize) -> Result<bool, AllocError>
     requires known { AllKnown graph.now }
     requires method { method < length graph.now }
-    ensures { IfOk result (λ yes. MatchBool yes (ReachesItself graph.now method) (¬ (ReachesItself graph.now method))) }
+    ensures { IfOk result (TellsCycle graph.now method) }
 {
     let mut seen = vec![in alloc; false; graph.len()]?;
     Ok(marks_itself(graph, method, &mut seen))
@@ -54,7 +51,7 @@ fn reaches_itself(alloc: Global, graph: &[Contents], method: usize) -> Result<bo
 /// The first method that reaches itself.
 pub(crate) fn first_in_cycle(alloc: Global, graph: &[Contents]) -> Result<Option<usize>, AllocError>
     requires { AllKnown graph.now }
-    ensures { IfOk result (λ first. MatchOption first (HasNone (ReachesItself graph.now) (length graph.now)) (λ i. IsFirst (ReachesItself graph.now) (length graph.now) i)) }
+    ensures { IfOk result (IsFirstInCycle graph.now) }
 {
     for i in 0..graph.len() {
         if reaches_itself(alloc, graph, i)? {

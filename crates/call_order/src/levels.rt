@@ -1,7 +1,7 @@
 //! The lengths of the longest chains that methods begin.
-ghost use Rattle.std.specs.Prelude.{◌≡◌, ℕ, ◌+◌, ◌<◌, ◌≤◌, ◌^◌, All, Contains, IfOk, MatchBool, length, slice_index};
+ghost use Rattle.std.specs.Prelude.{◌≡◌, ℕ, ◌+◌, ◌<◌, ◌≤◌, All, IfOk, length, slice_index};
 ghost use Rattle.call_order.specs.Chains.{Executes, content_at};
-ghost use Rattle.call_order.specs.LevelViews.{AreKnown, AllKnown, AreLevels, IsPlaced};
+ghost use Rattle.call_order.specs.LevelViews.{AreKnown, AllKnown, AreLevels, TellsPlaced};
 
 use crate::contents::Contents;
 use std::alloc::{AllocError, Global};
@@ -12,7 +12,7 @@ pub(crate) const LONGEST_CHAIN: u32 = 64;
 /// Whether each method has a level of at most `longest`.
 fn are_placed(methods: &[u32], levels: &[u32], longest: u32) -> bool
     requires { All (λ j. j < length levels.now) methods.now }
-    ensures { MatchBool result (All (λ j. IsPlaced longest (slice_index levels.now j)) methods.now) ((j : ℕ) × Contains methods.now j × ¬ (IsPlaced longest (slice_index levels.now j))) }
+    ensures { TellsPlaced longest levels.now methods.now result }
 {
     for method in methods {
         let level = levels[*method as usize];
@@ -37,7 +37,8 @@ fn raise(graph: &[Contents], longest: u32, levels: &mut [u32])
     }
 }
 
-/// The level of each method: the number of methods in the longest chain that it begins, or 0 where that has more than 64.
+/// The level of each method: the number of methods in the longest chain that it begins, or 0 where that has more than
+/// 64.
 pub(crate) fn levels_of(alloc: Global, graph: &[Contents]) -> Result<Vec<u32>, AllocError>
     requires { AllKnown graph.now }
     ensures { IfOk result (λ levels. AreLevels graph.now 64 levels.items) }

@@ -19,13 +19,13 @@ use std::alloc::{AllocError, Global};
 /// The greatest number of expanded statements of MAIN.
 const MOST_EXPANDED: u64 = 200_000;
 
-/// The numbers of a plan's methods other than MAIN, each once and after every method that it executes; from 0 in declared
-/// order.
+/// The numbers of a plan's methods other than MAIN, from 0 in declared order: each once, after every method that it
+/// executes.
 ///
-/// Refused, in this order: `Cycle` with the first declared method that executes itself, directly or through others, whether or
-/// not MAIN executes it; `Chain` with the first declared method that begins a chain of more than 64; `TooLong` where MAIN has
-/// more than 200,000 expanded statements (an EVAL is one, an IF is one with both its branches, an EXECUTE is one with the
-/// method's body), with their count, which stops at 2^63.
+/// Refused, in this order: `Cycle` with the first declared method that executes itself, directly or through others, whether
+/// or not MAIN executes it; `Chain` with the first declared method that begins a chain of more than 64; `TooLong` where MAIN
+/// has more than 200,000 expanded statements, with their number, which stops at 2^63. An EVAL is one expanded statement, an
+/// IF is one with those of both its branches, an EXECUTE is one with those of the method's body.
 pub fn order_methods(alloc: Global, t: &Typed) -> Result<Vec<u32>, OrderFault>
     ensures { OrderAnswer (flowchart_of t.now) result }
 {

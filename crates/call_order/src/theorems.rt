@@ -3,8 +3,8 @@ ghost use Rattle.call_order.specs.ChainLaws.{ChainsClose};
 ghost use Rattle.call_order.specs.Executed.{OrdersHaveCalls};
 ghost use Rattle.call_order.specs.OrderLaws.{HaveOneAnswer, HaveSmallBounds};
 
-/// Where no chain has more than 64 methods, what a method does, costs at most and how long it is are those of its body, and a
-/// greater bound on chains changes nothing.
+/// Where no chain has more than 64 methods, what a method does, costs at most and how long it is are those of its body, and
+/// a greater bound on chains changes nothing.
 pub fn chain_laws()
     ensures { ChainsClose }
 {}

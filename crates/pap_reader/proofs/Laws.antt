@@ -6,6 +6,7 @@ use Rattle.pap_reader.specs.Elements.{IsElementText, IsElements, IsFault}
 use Rattle.pap_reader.proofs.OneReading as reading
 use Rattle.pap_reader.proofs.Total as total
 use Rattle.pap_reader.proofs.SmallTrees as small
+pub use Rattle.pap_reader.proofs.Closings.{raw_stmt_then-If}
 use Rattle.pap_reader.specs.TreeLimits.{IsSmallTree}
 
 -- A text has at most one tree.

@@ -15,14 +15,15 @@ use indexmap::IndexSet;
 use pap_tree::{Declared, Kind, Literal, Method, Name};
 use std::alloc::AllocError;
 
-/// Adds the names of declarations behind earlier names. Each is new and has a literal of its type, or the first that isn't so
-/// is answered.
+/// Adds the names of declarations behind earlier names. Each is new and has a literal of its type, or the first that
+/// isn't so is answered.
 pub(crate) fn declare(
     names: &mut IndexSet<Name>,
     earlier: &IndexSet<Name>,
     declared: &[Declared],
 ) -> Result<(), TypeFault>
-    ensures { AreDeclared earlier.now.keys names.old.keys names.new.keys (map declaration_of declared.now) result }
+    ensures { AreDeclared earlier.now.keys names.old.keys names.new.keys
+        (map declaration_of declared.now) result }
 {
     for declaration in declared {
         declare_one(names, earlier, declaration)?;
@@ -35,7 +36,8 @@ fn declare_one(
     earlier: &IndexSet<Name>,
     declared: &Declared,
 ) -> Result<(), TypeFault>
-    ensures { IsDeclared earlier.now.keys names.old.keys names.new.keys (declaration_of declared.now) result }
+    ensures { IsDeclared earlier.now.keys names.old.keys names.new.keys
+        (declaration_of declared.now) result }
 {
     let name = declared.name;
     if earlier.contains(&name) {
@@ -59,7 +61,8 @@ pub(crate) fn add(names: &mut IndexSet<Name>, name: Name) -> Result<(), TypeFaul
     }
 }
 
-/// Adds the names of methods behind earlier ones. Each is new and isn't that of MAIN, or the first that isn't so is answered.
+/// Adds the names of methods behind earlier ones. Each is new and isn't that of MAIN, or the first that isn't so is
+/// answered.
 pub(crate) fn name_methods(names: &mut IndexSet<Name>, methods: &[Method]) -> Result<(), TypeFault>
     ensures { AreMethodNames names.old.keys names.new.keys (map routine_of methods.now) result }
 {
@@ -80,7 +83,8 @@ fn name_method(names: &mut IndexSet<Name>, name: Name) -> Result<(), TypeFault>
 
 /// Whether a declaration's literal, where one is written, is of its type.
 fn has_its_type(declared: &Declared) -> bool
-    ensures { result ≡ option_map_or (is_of_type declared.now.kind) (option_map declared_of declared.now.value) true }
+    ensures { result
+        ≡ option_map_or (is_of_type declared.now.kind) (option_map declared_of declared.now.value) true }
 {
     match &declared.value {
         Some(literal) => is_of_type(declared.kind, literal),
@@ -88,8 +92,8 @@ fn has_its_type(declared: &Declared) -> bool
     }
 }
 
-/// An `int` takes an `int` literal, a `long` one of either, a `double` a number of at most three places, a `BigDecimal` a
-/// decimal, a table a list.
+/// An `int` takes an `int` literal, a `long` one of either, a `double` a number of at most three places, a `BigDecimal`
+/// a decimal, a table a list.
 fn is_of_type(kind: Kind, literal: &Literal) -> bool
     ensures { result ≡ is_of_type kind (declared_of literal.now) }
 {

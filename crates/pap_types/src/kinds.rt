@@ -167,7 +167,8 @@ pub fn takes_operator(
     right: &Expr,
     right_kind: NodeKind,
 ) -> bool
-    ensures { result ≡ takes_operator op (term_of left.now) left_kind (term_of right.now) right_kind }
+    ensures { result
+        ≡ takes_operator op (term_of left.now) left_kind (term_of right.now) right_kind }
 {
     match op {
         Binary::And | Binary::Or => left_kind.is_truth() && right_kind.is_truth(),
@@ -187,8 +188,8 @@ fn are_comparable(left: &Expr, left_kind: NodeKind, right: &Expr, right_kind: No
         || (is_factor_literal(left) && right_kind == NodeKind::Factor)
 }
 
-/// Whether an expression is a literal that may go to a `double` or be compared with one: an `int`, or a literal with a point
-/// of at most three places.
+/// Whether an expression is a literal that may go to a `double` or be compared with one: an `int`, or a literal with a
+/// point of at most three places.
 pub fn is_factor_literal(e: &Expr) -> bool
     ensures { result ≡ is_factor_literal (term_of e.now) }
 {

@@ -12,6 +12,8 @@ mod statements;
 mod typed;
 
 pub use fault::TypeFault;
-pub use kinds::NodeKind;
+pub use kinds::{
+    NodeKind, has_few_places, is_factor_literal, kind_of_call, kind_of_operator, kind_of_unary,
+};
 pub use meaning::{bounded, one_outputs, typed_parts};
 pub use typed::{Typed, check_types};

@@ -18,11 +18,12 @@ pub fn typed_parts()
 
 /// Inputs that are safe for a plan have exactly one list of outputs, with a value for each declared output.
 pub fn one_outputs()
-    ensures { (f : Flowchart) (inputs : List Decimal) → IsSafeFor f inputs → HasOneOutputs f inputs }
+    ensures { (f : Flowchart) (inputs : List Decimal)
+        → IsSafeFor f inputs → HasOneOutputs f inputs }
 {}
 
-/// On every list of inputs a run costs at most the bound, also where it is undefined; and the bound of an expression is at
-/// most two steps for each of its nodes.
+/// On every list of inputs a run costs at most the bound, also where it is undefined; and the bound of an expression is
+/// at most two steps for each of its nodes.
 pub fn bounded()
     ensures runs { (f : Flowchart) → CostsAtMostBound f }
     ensures terms { (e : Term) → IsBoundedByNodes e }

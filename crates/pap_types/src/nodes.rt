@@ -102,7 +102,8 @@ impl Statement<'_> {
     fn check_scaled(&self, operand: &Expr, scale: u8, at: u32) -> Result<Checked, TypeFault>
         requires numbered { HasNumbers self.now }
         requires room { at + nodes (term_of operand.now) + 1 < 2 ^ 32 }
-        ensures { NodesAnswer self.now (one (value_of_scaled scale) (term_of operand.now)) at result }
+        ensures { NodesAnswer self.now
+            (one (value_of_scaled scale) (term_of operand.now)) at result }
     {
         let inner = self.check(operand, at)?;
         self.own(inner.kind.is_whole(), NodeKind::Big, inner.next)
@@ -142,7 +143,8 @@ impl Statement<'_> {
     ) -> Result<Checked, TypeFault>
         requires numbered { HasNumbers self.now }
         requires room { at + nodes (term_of operand.now) + 1 < 2 ^ 32 }
-        ensures { NodesAnswer self.now (one (set_scale scale mode) (term_of operand.now)) at result }
+        ensures { NodesAnswer self.now
+            (one (set_scale scale mode) (term_of operand.now)) at result }
     {
         let inner = self.check(operand, at)?;
         self.own(inner.kind.is_big(), NodeKind::Big, inner.next)
@@ -158,7 +160,8 @@ impl Statement<'_> {
     ) -> Result<Checked, TypeFault>
         requires numbered { HasNumbers self.now }
         requires room { at + nodes (term_of left.now) + nodes (term_of right.now) + 1 < 2 ^ 32 }
-        ensures { NodesAnswer self.now (two (operator op) (term_of left.now) (term_of right.now)) at result }
+        ensures { NodesAnswer self.now
+            (two (operator op) (term_of left.now) (term_of right.now)) at result }
     {
         let both = self.check_two(left, right, at)?;
         self.own(
@@ -178,7 +181,8 @@ impl Statement<'_> {
     ) -> Result<Checked, TypeFault>
         requires numbered { HasNumbers self.now }
         requires room { at + nodes (term_of left.now) + nodes (term_of right.now) + 1 < 2 ^ 32 }
-        ensures { NodesAnswer self.now (two (method call) (term_of left.now) (term_of right.now)) at result }
+        ensures { NodesAnswer self.now
+            (two (method call) (term_of left.now) (term_of right.now)) at result }
     {
         let both = self.check_two(left, right, at)?;
         self.own(
@@ -199,7 +203,8 @@ impl Statement<'_> {
     ) -> Result<Checked, TypeFault>
         requires numbered { HasNumbers self.now }
         requires room { at + nodes (term_of left.now) + nodes (term_of right.now) + 1 < 2 ^ 32 }
-        ensures { NodesAnswer self.now (two (divide scale mode) (term_of left.now) (term_of right.now)) at result }
+        ensures { NodesAnswer self.now
+            (two (divide scale mode) (term_of left.now) (term_of right.now)) at result }
     {
         let both = self.check_two(left, right, at)?;
         self.own(
@@ -218,8 +223,10 @@ impl Statement<'_> {
         at: u32,
     ) -> Result<Checked, TypeFault>
         requires numbered { HasNumbers self.now }
-        requires room { at + nodes (term_of test.now) + nodes (term_of first.now) + nodes (term_of second.now) + 1 < 2 ^ 32 }
-        ensures { NodesAnswer self.now (choice (term_of test.now) (term_of first.now) (term_of second.now)) at result }
+        requires room { at + nodes (term_of test.now) + nodes (term_of first.now)
+            + nodes (term_of second.now) + 1 < 2 ^ 32 }
+        ensures { NodesAnswer self.now
+            (choice (term_of test.now) (term_of first.now) (term_of second.now)) at result }
     {
         let tested = self.check(test, at)?;
         let parts = self.check_two(first, second, tested.next)?;
@@ -261,7 +268,8 @@ impl Statement<'_> {
     /// Whether a method takes its receiver and its argument.
     fn takes_call(&self, call: Call, receiver: NodeKind, argument: &Expr, kind: NodeKind) -> bool
         requires numbered { HasNumbers self.now }
-        ensures { (e : Term) → result ≡ takes_two (scope_in self.now) (method call) e receiver (term_of argument.now) kind }
+        ensures { (e : Term) → result
+            ≡ takes_two (scope_in self.now) (method call) e receiver (term_of argument.now) kind }
     {
         let are_big = receiver.are_big(kind);
         match call {

@@ -18,8 +18,8 @@ use pap_tree::{Declared, Expr, Known, Literal, Name, PlanText};
 use scaled_decimal::Dec;
 use std::alloc::Global;
 
-/// The names of a plan by number, each sort from 0 in the order of the text: the variables are inputs, outputs and internals,
-/// the methods those other than MAIN.
+/// The names of a plan by number, each sort from 0 in the order of the text: the variables are inputs, outputs and
+/// internals, the methods those other than MAIN.
 #[derive(Drop)]
 pub(crate) struct Names {
     pub variables: IndexSet<Name>,
@@ -28,7 +28,8 @@ pub(crate) struct Names {
 }
 
 impl Names {
-    /// The names of a plan by number. Each is new and each literal is of its type, or the first that isn't so is answered.
+    /// The names of a plan by number. Each is new and each literal is of its type, or the first that isn't so is
+    /// answered.
     pub fn of_plan(alloc: Global, plan: &PlanText) -> Result<Names, TypeFault>
         ensures { IsNamed plan.now result }
     {
@@ -58,7 +59,8 @@ fn name_variables(
     none: &IndexSet<Name>,
     plan: &PlanText,
 ) -> Result<(), TypeFault>
-    ensures { AreDeclared none.now.keys names.old.keys names.new.keys (variables_of (flowchart_of plan.now)) result }
+    ensures { AreDeclared none.now.keys names.old.keys names.new.keys
+        (variables_of (flowchart_of plan.now)) result }
 {
     declare(names, none, &plan.inputs)?;
     declare(names, none, &plan.outputs)?;
@@ -76,7 +78,8 @@ impl<'a> Scope<'a> {
     /// The declaration of a name.
     pub fn declaration(&self, name: &Name) -> Option<&'a Declared>
         requires { IsNumbered self.now.plan.now self.now.names.now }
-        ensures { option_map (λ d. declaration_of d.now) result ≡ declaration_in (scope_of (flowchart_of self.now.plan.now)) name.now }
+        ensures { option_map (λ d. declaration_of d.now) result
+            ≡ declaration_in (scope_of (flowchart_of self.now.plan.now)) name.now }
     {
         match self.variable(name) {
             Some(declared) => Some(declared),
@@ -87,7 +90,8 @@ impl<'a> Scope<'a> {
     /// The declaration of a variable's name.
     pub fn variable(&self, name: &Name) -> Option<&'a Declared>
         requires { IsNumbered self.now.plan.now self.now.names.now }
-        ensures { option_map (λ d. declaration_of d.now) result ≡ declared_as (variables_of (flowchart_of self.now.plan.now)) name.now }
+        ensures { option_map (λ d. declaration_of d.now) result
+            ≡ declared_as (variables_of (flowchart_of self.now.plan.now)) name.now }
     {
         match self.names.variables.get_index_of(name) {
             Some(number) => variable_at(self.plan, number),
@@ -98,7 +102,8 @@ impl<'a> Scope<'a> {
     /// The declaration of a constant's name.
     pub fn constant(&self, name: &Name) -> Option<&'a Declared>
         requires { IsNumbered self.now.plan.now self.now.names.now }
-        ensures { option_map (λ d. declaration_of d.now) result ≡ declared_as (flowchart_of self.now.plan.now).constants name.now }
+        ensures { option_map (λ d. declaration_of d.now) result
+            ≡ declared_as (flowchart_of self.now.plan.now).constants name.now }
     {
         match self.names.constants.get_index_of(name) {
             Some(number) => constant_at(self.plan, number),
@@ -106,11 +111,12 @@ impl<'a> Scope<'a> {
         }
     }
 
-    /// Whether the divisor of `divide(d)` is one that the text shows, a constant or an `int` literal as a decimal, and a plain
-    /// one: a whole number, at least 1, that divides 10^30.
+    /// Whether the divisor of `divide(d)` is one that the text shows, a constant or an `int` literal as a decimal, and
+    /// a plain one: a whole number, at least 1, that divides 10^30.
     pub fn shows_plain_divisor(&self, divisor: &Expr) -> bool
         requires { IsNumbered self.now.plan.now self.now.names.now }
-        ensures { result ≡ shows_plain_divisor (scope_of (flowchart_of self.now.plan.now)) (term_of divisor.now) }
+        ensures { result
+            ≡ shows_plain_divisor (scope_of (flowchart_of self.now.plan.now)) (term_of divisor.now) }
     {
         match self.shown_divisor(divisor) {
             Some(number) => is_plain_divisor(number),
@@ -121,7 +127,8 @@ impl<'a> Scope<'a> {
     /// The divisor of `divide(d)` that the text shows.
     pub fn shown_divisor(&self, divisor: &Expr) -> Option<Dec>
         requires { IsNumbered self.now.plan.now self.now.names.now }
-        ensures { result ≡ shown_divisor (scope_of (flowchart_of self.now.plan.now)) (term_of divisor.now) }
+        ensures { result
+            ≡ shown_divisor (scope_of (flowchart_of self.now.plan.now)) (term_of divisor.now) }
     {
         match divisor {
             Expr::Var(name) => match self.constant(name) {
@@ -136,13 +143,15 @@ impl<'a> Scope<'a> {
 }
 
 fn constant_at(plan: &PlanText, number: usize) -> Option<&Declared>
-    ensures { option_map (λ d. declaration_of d.now) result ≡ slice_get (flowchart_of plan.now).constants number }
+    ensures { option_map (λ d. declaration_of d.now) result
+        ≡ slice_get (flowchart_of plan.now).constants number }
 {
     plan.constants.get(number)
 }
 
 fn variable_at(plan: &PlanText, number: usize) -> Option<&Declared>
-    ensures { option_map (λ d. declaration_of d.now) result ≡ slice_get (variables_of (flowchart_of plan.now)) number }
+    ensures { option_map (λ d. declaration_of d.now) result
+        ≡ slice_get (variables_of (flowchart_of plan.now)) number }
 {
     let inputs = plan.inputs.len();
     let outputs = plan.outputs.len();

@@ -56,7 +56,8 @@ impl Statement<'_> {
     fn target_kind(&self, target: &Name, value: &Expr) -> Result<Kind, TypeFault>
         requires numbered { HasNumbers self.now }
         requires small { IsSmallTerm (term_of value.now) }
-        ensures { TargetAnswer (scope_in self.now) target.now (place_in self.now (last_node (term_of value.now))) result }
+        ensures { TargetAnswer (scope_in self.now) target.now
+            (place_in self.now (last_node (term_of value.now))) result }
     {
         match self.scope.variable(target) {
             Some(declared) => Ok(declared.kind),

@@ -41,9 +41,9 @@ impl Model for Typed {
     ghost invariant = { λ t. IsTyped t.plan t.names };
 }
 
-/// Whether a plan is well typed (docs/PROFILE.md, "Kinds"): then the plan as it is given, with its names by number. Else the
-/// first fault in this order: the declarations in the order inputs, outputs, internals, constants, the names of the methods,
-/// the statements of MAIN, and those of the methods. Takes time linear in the plan.
+/// Whether a plan is well typed (docs/PROFILE.md, "Kinds"): then the plan as it is given, with its names by number.
+/// Else the first fault in this order: of the declarations (inputs, outputs, internals, constants), of the names of the
+/// methods, of the statements of MAIN, and of those of the methods. Takes time linear in the plan.
 pub fn check_types(alloc: Global, plan: PlanText) -> Result<Typed, TypeFault>
     requires counted { IsWithinCounts (flowchart_of plan) }
     ensures kept { IfOk result (λ t. t ≡ plan) }

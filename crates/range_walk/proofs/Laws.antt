@@ -29,3 +29,5 @@ pub use Rattle.range_walk.proofs.WalkSound.{BodyHolds, CallsHold, body_sound, ca
 pub use Rattle.range_walk.proofs.StartSound.{start_inside, start_variables, are_inputs}
 -- some branch of a test can be reached
 pub use Rattle.range_walk.proofs.ReachedSound.{some_branch}
+-- a value that fits is admitted for a `double`, brought to three places
+pub use Rattle.range_walk.proofs.AdmissionLemmas.{factor_admitted}

@@ -15,4 +15,5 @@ pub mod NodeSound
 pub mod ScopeLemmas
 pub mod ShapedWalk
 pub mod ReadSound
+pub mod AdmissionLemmas
 pub mod Laws

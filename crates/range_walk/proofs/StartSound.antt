@@ -40,7 +40,7 @@ order_says u v o e f = by_ranks o (subst (λ o. MatchOrdering o (u <ℤ v) (u �
     by_ranks Greater m f = absurd (cc)
 
 -- a value that is at most another has a numerator that is, at each scale that both have
-at_most : (a b : Decimal) (q : ℕ) → scale_of a ≤ q → scale_of b ≤ q → is_gt (value_order a b) ≡ false → numerator_at q a ≤ℤ numerator_at q b
+pub at_most : (a b : Decimal) (q : ℕ) → scale_of a ≤ q → scale_of b ≤ q → is_gt (value_order a b) ≡ false → numerator_at q a ≤ℤ numerator_at q b
 at_most a b q la lb f =
     let s = greater_scale a b in
     let less = order_says (numerator_at s a) (numerator_at s b) (value_order a b) (aligned_order a b) f in

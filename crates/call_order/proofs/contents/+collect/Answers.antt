@@ -41,7 +41,6 @@ collect_one-collect-requires-in-If t c =
 
 pub collect_one-returns-in_ok-collect-in-If : goal.collect_one-returns-in_ok-collect-in-If
 collect_one-returns-in_ok-collect-in-If t c =
-    let ms = (flowchart_of c.args.t.now).methods in
     let first = rw c.deref.ensures.value at c.in_ok-collect-in-If.ensures in
     let second = rw c.deref-in-If.ensures.value at c.collect-in-If.ensures in
-    on_ok_weaker c.collect-in-If.result (added_if ms _ _ _ _ _ _ _ _ c.in-If.is c.count.ensures first) second
+    on_ok_weaker c.collect-in-If.result (added_if c.args.t.now _ _ _ _ _ _ _ _ c.in-If.is c.count.ensures first) second
