@@ -27,7 +27,7 @@ use Rattle.interval_analysis.specs.PlanViews.{IsSized, scope_in, variables_in, r
 use Rattle.interval_analysis.proofs.NameLemmas.{put_by, put_none}
 use Rattle.interval_analysis.specs.StatementViews.{FitsFactor, CanKeep, CanPut}
 
-both : (s t : Bool) → (s && t) ≡ true → (s ≡ true) × (t ≡ true)
+pub both : (s t : Bool) → (s && t) ≡ true → (s ≡ true) × (t ≡ true)
 both true t e = (refl, e)
 both false t e = absurd (cc)
 
@@ -85,7 +85,7 @@ can_put p x e env a t h d is =
 
 -- ---- numbers in the machine
 
-held_is : (z : ℤ) → IsWithinLimit z → to_z w128 (of_z w128 z) ≡ z
+pub held_is : (z : ℤ) → IsWithinLimit z → to_z w128 (of_z w128 z) ≡ z
 held_is z h = to_z-of_z w128 z (fits_signed_from_abs w128 z (omega arith))
 
 pub product_is : (x y m n : ℤ) → x ≡ m → y ≡ n → IsWithinLimit m → IsWithinLimit n → IsWithinLimit (m *ℤ n) → to_z w128 (of_z w128 (to_z w128 (of_z w128 x) *ℤ to_z w128 (of_z w128 y))) ≡ m *ℤ n

@@ -1,3 +1,4 @@
+pub mod BoundLemmas
 pub mod ChangeLemmas
 pub mod ComparisonLemmas
 pub mod CountLemmas
@@ -11,4 +12,5 @@ pub mod NarrowLemmas
 pub mod OutputLemmas
 pub mod PartLemmas
 pub mod ShorteningLemmas
+pub mod StartLemmas
 pub mod StatementLemmas

@@ -15,8 +15,9 @@ use Rattle.pap_types.specs.Routines.{body_named, method_names}
 use Rattle.pap_types.specs.Scopes.{number_of}
 use Rattle.pap_types.specs.Typing.{IsTypedBody}
 use Rattle.pap_types.proofs.Laws.{has_types}
+use Rattle.interval_analysis.specs.declared.expressions.Walk.{Walk}
 use Rattle.interval_analysis.specs.PlanViews.{scope_in}
-use Rattle.interval_analysis.specs.StatementViews.{methods_in, IsMethodBody}
+use Rattle.interval_analysis.specs.StatementViews.{methods_in, CanWalkBody, IsMethodBody}
 use Rattle.interval_analysis.proofs.NameLemmas.{place_of, number_in, number_past}
 
 body_at : (ms : List Routine) (x : List ℕ) → option_map (λ m. m.body) (slice_get ms (place_of (method_names ms) x)) ≡ body_named ms x
@@ -62,3 +63,10 @@ method_body p x b typed counts e =
       small = named_has (λ m. AreSmallTerms m.body) AreSmallTerms (methods_in p) x b (λ m h. h) counts.terms e;
       count = omega (arith, count, counts.statements);
     }
+
+pub main_body : (w : Walk) (b : Body) → b ≡ (flowchart_of w.plan.now).main → IsWellTyped (flowchart_of w.plan.now) → IsWithinCounts (flowchart_of w.plan.now) → CanWalkBody w b 0
+main_body w b is typed counts = subst (λ b. CanWalkBody w b 0) (sym is) (record {
+  typed = (has_types (flowchart_of w.plan.now) typed).main;
+  small = counts.main_terms;
+  room = omega (arith, counts.statements);
+})

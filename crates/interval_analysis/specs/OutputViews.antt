@@ -1,18 +1,16 @@
 -- What private contracts say of the outputs.
 use Rattle.std.specs.Prelude.{◌≡◌, ℕ, List, map, Result, Ok, Err, ⊤}
 use Rattle.pap_tree.specs.declared.declaration.Declared.{Declared}
-use Rattle.range_walk.specs.Ranges.{NamedRange, Ranges}
+use Rattle.range_walk.specs.Ranges.{Ranges}
 use Rattle.range_walk.specs.Failures.{WalkFault, node_fails, output_fails}
+use Rattle.interval_analysis.specs.Answers.{named_range}
 use Rattle.interval_analysis.specs.declared.fault.RangeFault.{RangeFault}
 use Rattle.interval_analysis.specs.declared.fault.RangeFault.TheVariants as faults
-use Rattle.interval_analysis.specs.declared.outputs.OutputRange.{OutputRange}
+use Rattle.interval_analysis.specs.declared.verdict.OutputRange.{OutputRange}
 use Rattle.std.proofs.Common.{Vec, Global}
 
 abbrev pub output_names : List Declared → List (List ℕ)
 output_names ds = map (λ d. d.name) ds
-
-abbrev pub named_range : OutputRange → NamedRange
-named_range o = record { name = o.name; range = o.range }
 
 -- the definition's answer, as the program gives it; memory is free
 abbrev pub OutputAnswer : Result Ranges WalkFault → Result (Vec OutputRange Global) RangeFault → Type 0

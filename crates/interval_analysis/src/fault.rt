@@ -1,4 +1,6 @@
 //! Why a plan's ranges are refused.
+ghost use Rattle.std.specs.Prelude.{◌≡◌};
+ghost use Rattle.interval_analysis.specs.declared.fault.RangeFault.TheVariants.{Memory};
 
 use interval_num::RangeCause;
 use pap_tree::{Name, Place};
@@ -17,4 +19,12 @@ pub enum RangeFault {
     /// Memory ran out.
     #[error("memory ran out")]
     Memory(AllocError),
+}
+
+impl From<AllocError> for RangeFault {
+    ghost from_gives = { λ error fault. fault ≡ Memory error };
+
+    fn from(error: AllocError) -> RangeFault {
+        RangeFault::Memory(error)
+    }
 }

@@ -1,6 +1,8 @@
 //! The ranges of a plan's values: whether every run on admitted inputs is safe, and within which ranges its outputs lie.
 #![tactic(auto)]
 
+mod analysis;
+mod bounds;
 mod branches;
 mod comparisons;
 mod expressions;
@@ -12,7 +14,10 @@ mod names;
 mod operations;
 mod outlines;
 mod outputs;
+mod start;
 mod statements;
+mod verdict;
 
+pub use analysis::analyse;
 pub use fault::RangeFault;
-pub use outputs::OutputRange;
+pub use verdict::{OutputRange, Verdict};

@@ -7,19 +7,12 @@ ghost use Rattle.range_walk.specs.Analysis.{is_bounded, is_small, output_ranges,
 ghost use Rattle.interval_analysis.specs.PlanViews.{IsSized, ranges_in, with_names};
 ghost use Rattle.interval_analysis.specs.OutputViews.{OutputAnswer, output_names};
 
-use crate::RangeFault;
+use crate::{OutputRange, RangeFault};
 use interval_num::Abs;
-use pap_tree::{Declared, Name};
+use pap_tree::Declared;
 use pap_types::Typed;
 use scaled_decimal::power_of_ten;
 use std::alloc::{AllocError, Global};
-
-/// An output with the range of its values.
-#[derive(Clone, Copy)]
-pub struct OutputRange {
-    pub name: Name,
-    pub range: Abs,
-}
 
 /// The most digits of an output after its point.
 const OUTPUT_PLACES: u8 = 12;
