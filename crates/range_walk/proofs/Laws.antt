@@ -25,8 +25,8 @@ pub use Rattle.range_walk.proofs.ScopeLemmas.{IsSoundScope}
 pub use Rattle.range_walk.proofs.PlanLemmas.{sound_scope}
 pub use Rattle.range_walk.proofs.TermSound.{term_sound, test_sound}
 pub use Rattle.range_walk.proofs.WalkSound.{BodyHolds, CallsHold, body_sound, calls_hold}
--- the start lies in its ranges
-pub use Rattle.range_walk.proofs.StartSound.{start_inside, start_variables, are_inputs}
+-- what is at most another is so at each scale; the start lies in its ranges
+pub use Rattle.range_walk.proofs.StartSound.{at_most, start_inside, start_variables, are_inputs}
 -- some branch of a test can be reached
 pub use Rattle.range_walk.proofs.ReachedSound.{some_branch}
 -- a value that fits is admitted for a `double`, brought to three places

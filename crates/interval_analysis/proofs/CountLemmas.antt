@@ -1,0 +1,47 @@
+-- Lists of statements: their numbers, and what may be walked of them.
+use Rattle.std.proofs.Common.{◌≡◌, ℕ, ◌+◌, ◌<◌, List, length, drop, get_or, ap, ◌∙◌, Vec, Global, arith}
+use Rattle.pap_tree.specs.Term.{Term}
+use Rattle.pap_tree.specs.declared.expression.Expr.{Expr}
+use Rattle.pap_tree.specs.declared.plan.Stmt.{Stmt, Eval, If, If', Execute}
+use Rattle.pap_tree.specs.Flowchart.{Body, done, branch, body_of, stmt_then}
+use Rattle.pap_tree.specs.Statements.{written}
+use Rattle.pap_tree.proofs.Laws.{stmt_then-If, stmt_at}
+use Rattle.interval_analysis.specs.declared.expressions.Walk.{Walk}
+use Rattle.interval_analysis.specs.StatementViews.{CanWalkBody, CanWalkLists}
+
+pub written-then : (s : Stmt) (rest : Body) → written (stmt_then s rest) ≡ written (stmt_then s done) + written rest
+written-then (Eval x e) rest = omega arith
+written-then (If' t m ys n zs) rest = omega arith
+written-then (Execute x) rest = omega arith
+
+pub written_at : (ss : List Stmt) (i : ℕ) (s : Stmt) → s ≡ get_or ss i s → i < length ss → written (body_of (drop i ss)) ≡ written (stmt_then s done) + written (body_of (drop (i + 1) ss))
+written_at ss i s is lt = ap written (stmt_at ss i s is lt) ∙ written-then s (body_of (drop (i + 1) ss))
+
+pub written_if : (s : Stmt) (t : Expr) (ys zs : Vec Stmt Global) → s ≡ If t ys zs → written (stmt_then s done) ≡ 1 + written (body_of ys.items) + written (body_of zs.items)
+written_if s t ys zs is = ap (λ x. written (stmt_then x done)) is ∙ ap written (stmt_then-If t ys zs done) ∙ omega arith
+
+module _ (w : Walk) (at : ℕ) where
+  -- a statement, and those behind it
+  pub can_here : (s : Stmt) (rest : Body) → CanWalkBody w (stmt_then s rest) at → CanWalkBody w (stmt_then s done) at
+  can_here (Eval x e) rest h = record { typed = (h.typed.0, h.typed.1, tt); small = (h.small.0, tt); room = omega (arith, h.room) }
+  can_here (If' t m ys k zs) rest h = record {
+    typed = (h.typed.0, h.typed.1, h.typed.2, h.typed.3, tt);
+    small = (h.small.0, h.small.1, h.small.2, tt);
+    room = omega (arith, h.room);
+  }
+  can_here (Execute x) rest h = record { typed = (h.typed.0, tt); small = tt; room = omega (arith, h.room) }
+
+  pub can_rest : (s : Stmt) (rest : Body) → CanWalkBody w (stmt_then s rest) at → CanWalkBody w rest (at + written (stmt_then s done))
+  can_rest (Eval x e) rest h = record { typed = h.typed.2; small = h.small.1; room = omega (arith, h.room) }
+  can_rest (If' t m ys k zs) rest h = record { typed = h.typed.4; small = h.small.3; room = omega (arith, h.room) }
+  can_rest (Execute x) rest h = record { typed = h.typed.1; small = h.small; room = omega (arith, h.room) }
+
+  -- the lists of an IF
+  pub can_lists : (t : Term) (a b : Body) → CanWalkBody w (branch t a b done) at → CanWalkLists w a b at
+  can_lists t a b h = record {
+    first = h.typed.2;
+    second = h.typed.3;
+    first_small = h.small.1;
+    second_small = h.small.2;
+    room = omega (arith, h.room);
+  }

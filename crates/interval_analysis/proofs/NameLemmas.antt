@@ -1,0 +1,98 @@
+-- Names by number: the declaration, the range and the place of a name.
+use Rattle.std.proofs.Common.{◌≡◌, ℕ, suc, ◌+◌, ◌<◌, ◌≤◌, true, false, nat_lt, List, [], ◌∷◌, length, set, Some, None, refl, sym, ap, ◌∙◌, arith, cond, inl, inr}
+use Rattle.std.specs.Prelude.{slice_get, not, if◌then◌else◌}
+use Rattle.std.specs.List.{position_or_len}
+use Rattle.std.specs.Str.{bytes_eq}
+use Rattle.std.proofs.lemmas.Bool.{cases_lt}
+use Rattle.std.proofs.lemmas.Bool.Decides.{nat_tests}
+use Rattle.std.proofs.lemmas.List.{length-map, set_past}
+use Rattle.std.proofs.lemmas.Option.{slice_get_past, none-some}
+use Rattle.std.proofs.lemmas.Slice.Eq.{bytes_eq-Decides}
+use Rattle.pap_tree.specs.Declarations.{Declaration}
+use Rattle.pap_types.specs.Scopes.{declared_as, names_of, number_of}
+use Rattle.interval_num.specs.Intervals.{Interval}
+use Rattle.range_walk.specs.Ranges.{range_named, put_range}
+use Rattle.interval_analysis.specs.PlanViews.{with_names}
+
+pub same_either_way : (x y : List ℕ) → bytes_eq x y ≡ bytes_eq y x
+same_either_way x y = grind (arith, bytes_eq-Decides)
+
+-- the place of a name among names, which is past the end where it isn't there
+abbrev pub place_of : List (List ℕ) → List ℕ → ℕ
+place_of names x = position_or_len (bytes_eq x) names
+
+-- the number of a name is its place, within the names
+pub number_in : (names : List (List ℕ)) (x : List ℕ) (i : ℕ) → number_of names x ≡ Some i → (place_of names x ≡ i) × (i < length names)
+number_in names x i e = elim (cases_lt (place_of names x) (length names)) [
+  | inl less ↦ (let t : nat_lt (place_of names x) (length names) ≡ true = grind (arith, nat_tests) in
+      let here : Some (place_of names x) ≡ Some i = rw t at e in
+      let same : place_of names x ≡ i = cc in
+      (same, omega arith))
+  | inr past ↦ (let t : nat_lt (place_of names x) (length names) ≡ false = grind (arith, nat_tests) in absurd (none-some i (rw t at e)))
+]
+
+pub number_past : (names : List (List ℕ)) (x : List ℕ) → number_of names x ≡ None → length names ≤ place_of names x
+number_past names x e = elim (cases_lt (place_of names x) (length names)) [
+  | inl less ↦ (let t : nat_lt (place_of names x) (length names) ≡ true = grind (arith, nat_tests) in absurd (none-some (place_of names x) (sym (rw t at e))))
+  | inr past ↦ past
+]
+
+-- the declaration of a name stands at its place
+declared_at : (ds : List Declaration) (x : List ℕ) → slice_get ds (place_of (names_of ds) x) ≡ declared_as ds x
+declared_at [] x = refl
+declared_at (d ∷ ds) x = elim (bytes_eq x d.name) as (λ same. slice_get (d ∷ ds) (cond (not same) (1 + place_of (names_of ds) x) 0) ≡ (if same then Some d else declared_as ds x)) [
+  | true ↦ refl
+  | false ↦ (let more : 1 + place_of (names_of ds) x ≡ suc (place_of (names_of ds) x) = omega arith in
+      ap (slice_get (d ∷ ds)) more ∙ declared_at ds x)
+]
+
+pub declared_by : (ds : List Declaration) (x : List ℕ) (i : ℕ) → number_of (names_of ds) x ≡ Some i → slice_get ds i ≡ declared_as ds x
+declared_by ds x i e = ap (slice_get ds) (sym (number_in (names_of ds) x i e).0) ∙ declared_at ds x
+
+pub declared_none : (ds : List Declaration) (x : List ℕ) → number_of (names_of ds) x ≡ None → None ≡ declared_as ds x
+declared_none ds x e =
+    let past = number_past (names_of ds) x e in
+    let count = length-map ds (λ d. d.name) in
+    sym (slice_get_past ds (place_of (names_of ds) x) (omega (arith, past, count))) ∙ declared_at ds x
+
+-- the range of a name stands at its place
+named_at : (names : List (List ℕ)) (rs : List Interval) (x : List ℕ) → length rs ≡ length names → range_named (with_names names rs) x ≡ slice_get rs (place_of names x)
+named_at [] [] x e = refl
+named_at [] (r ∷ rs) x e = absurd (omega arith)
+named_at (n ∷ ns) [] x e = absurd (omega arith)
+named_at (n ∷ ns) (r ∷ rs) x e =
+    rw (same_either_way n x)
+    (elim (bytes_eq x n) as (λ same. (if same then Some r else range_named (with_names ns rs) x) ≡ slice_get (r ∷ rs) (cond (not same) (1 + place_of ns x) 0)) [
+      | true ↦ refl
+      | false ↦ (let more : suc (place_of ns x) ≡ 1 + place_of ns x = omega arith in
+          named_at ns rs x (omega arith) ∙ ap (slice_get (r ∷ rs)) more)
+    ])
+
+pub named_by : (names : List (List ℕ)) (rs : List Interval) (x : List ℕ) (i : ℕ) → length rs ≡ length names → number_of names x ≡ Some i → range_named (with_names names rs) x ≡ slice_get rs i
+named_by names rs x i all e = named_at names rs x all ∙ ap (slice_get rs) (number_in names x i e).0
+
+pub named_none : (names : List (List ℕ)) (rs : List Interval) (x : List ℕ) → length rs ≡ length names → number_of names x ≡ None → range_named (with_names names rs) x ≡ None
+named_none names rs x all e =
+    let past = number_past names x e in
+    named_at names rs x all ∙ slice_get_past rs (place_of names x) (omega (arith, past, all))
+
+-- so does a new range
+put_at : (names : List (List ℕ)) (rs : List Interval) (x : List ℕ) (a : Interval) → length rs ≡ length names → put_range (with_names names rs) x a ≡ with_names names (set rs (place_of names x) a)
+put_at [] [] x a e = refl
+put_at [] (r ∷ rs) x a e = absurd (omega arith)
+put_at (n ∷ ns) [] x a e = absurd (omega arith)
+put_at (n ∷ ns) (r ∷ rs) x a e =
+    rw (same_either_way n x)
+    (elim (bytes_eq x n) as (λ same. (if same then record { name = n; range = a } ∷ with_names ns rs else record { name = n; range = r } ∷ put_range (with_names ns rs) x a) ≡ with_names (n ∷ ns) (set (r ∷ rs) (cond (not same) (1 + place_of ns x) 0) a)) [
+      | true ↦ refl
+      | false ↦ (let more : suc (place_of ns x) ≡ 1 + place_of ns x = omega arith in
+          ap (λ vs. record { name = n; range = r } ∷ vs) (put_at ns rs x a (omega arith)) ∙ ap (λ k. with_names (n ∷ ns) (set (r ∷ rs) k a)) more)
+    ])
+
+pub put_by : (names : List (List ℕ)) (rs : List Interval) (x : List ℕ) (a : Interval) (i : ℕ) → length rs ≡ length names → number_of names x ≡ Some i → put_range (with_names names rs) x a ≡ with_names names (set rs i a)
+put_by names rs x a i all e = put_at names rs x a all ∙ ap (λ k. with_names names (set rs k a)) (number_in names x i e).0
+
+pub put_none : (names : List (List ℕ)) (rs : List Interval) (x : List ℕ) (a : Interval) → length rs ≡ length names → number_of names x ≡ None → put_range (with_names names rs) x a ≡ with_names names rs
+put_none names rs x a all e =
+    let past = number_past names x e in
+    put_at names rs x a all ∙ ap (with_names names) (set_past rs (place_of names x) a (omega (arith, past, all)))

@@ -1,0 +1,124 @@
+-- Steps of the walk of statements.
+use Rattle.std.proofs.Common.{◌≡◌, ℕ, zero, suc, ◌+◌, ◌-◌, ◌≢◌, List, Some, None, Result, Ok, Err, refl, sym, ap, ◌∙◌, subst, arith}
+use Rattle.pap_tree.specs.declared.plan.Stmt.{Stmt, Eval, If', Execute}
+use Rattle.pap_tree.specs.Term.{term_of}
+use Rattle.pap_tree.specs.Flowchart.{Body, done, body_of_row, stmt_then, Routine}
+use Rattle.pap_tree.specs.Statements.{written}
+use Rattle.interval_num.specs.declared.cause.RangeCause.TheVariants.{Wide}
+use Rattle.pap_types.specs.Checks.{place, last_node}
+use Rattle.pap_types.specs.Routines.{body_named}
+use Rattle.pap_types.specs.Scopes.{Scope}
+use Rattle.range_walk.specs.Ranges.{Ranges}
+use Rattle.range_walk.specs.Failures.{WalkFault, node_fails, and_then, at_node, at_stmt}
+use Rattle.range_walk.specs.Branches.{either_way}
+use Rattle.range_walk.specs.Ranged.{ranged, tested}
+use Rattle.interval_analysis.specs.declared.expressions.Walk.{Walk}
+use Rattle.interval_analysis.specs.declared.fault.RangeFault.{RangeFault}
+use Rattle.interval_analysis.specs.declared.fault.RangeFault.TheVariants as faults
+use Rattle.interval_analysis.specs.PlanViews.{IsSized, scope_in, variables_in, with_names, ranges_in}
+use Rattle.interval_analysis.proofs.JoinLemmas.{joined_by_name}
+use Rattle.std.specs.Result.{IsErrAnd}
+use Rattle.pap_tree.specs.declared.plan.PlanText.{PlanText}
+use Rattle.interval_num.specs.declared.cause.RangeCause.{RangeCause}
+use Rattle.interval_num.specs.Intervals.{Interval}
+use Rattle.interval_analysis.specs.StatementViews.{calls_in, walked_in, met_in, joined_lists, FaultOf, EnvAnswer, NumberedAnswer}
+use Rattle.range_walk.specs.Walked.{RangeCalls, walked, range_calls_of, with_body, joined}
+
+assoc : {A B C E : Type 0} (r : Result A E) (f : A → Result B E) (g : B → Result C E) → and_then r (λ a. and_then (f a) g) ≡ and_then (and_then r f) g
+assoc (Ok a) f g = refl
+assoc (Err e) f g = refl
+
+-- a step that changes nothing
+pub and_then-Ok : {A E : Type 0} (r : Result A E) → and_then r (λ a. Ok a) ≡ r
+and_then-Ok (Ok a) = refl
+and_then-Ok (Err e) = refl
+
+module _ (scope : Scope) (call : RangeCalls) (name : List ℕ) where
+  -- a statement, and then those behind it
+  pub walked_then : (s : Stmt) (rest : Body) (at : ℕ) (env : Ranges) → walked scope call name at (stmt_then s rest) env ≡ and_then (walked scope call name at (stmt_then s done) env) (walked scope call name (at + written (stmt_then s done)) rest)
+  walked_then (Eval x e) rest at env = assoc (at_stmt name at (ranged scope (term_of e) 0 env)) _ (walked scope call name (at + 1) rest)
+  walked_then (If' t m ys n zs) rest at env =
+      let a = body_of_row ys in
+      let b = body_of_row zs in
+      let count : at + 1 + written a + written b ≡ at + (1 + written a + written b + 0) = omega arith in
+      let r = at_stmt name at (tested scope (term_of t) 0 env) in
+      let both = λ (br : _). either_way (node_fails (place name at (last_node (term_of t))) Wide) (walked scope call name (at + 1) a) (walked scope call name (at + 1 + written a) b) (λ x y. at_stmt name at (at_node (last_node (term_of t)) (joined x y))) br.holds br.fails in
+      assoc r both (walked scope call name (at + 1 + written a + written b) rest)
+      ∙ ap (λ k. and_then (and_then r both) (walked scope call name k rest)) count
+      ∙ ap (λ q. and_then q (walked scope call name (at + (1 + written a + written b + 0)) rest)) (sym (and_then-Ok (and_then r both)) ∙ sym (assoc r both (λ e. Ok e)))
+  walked_then (Execute x) rest at env = ap (λ q. and_then q (walked scope call name (at + 1) rest)) (sym (and_then-Ok (call x env)))
+
+-- the calls of a method
+module _ (scope : Scope) (ms : List Routine) (m : List ℕ) (env : Ranges) where
+  pub no_chain : (n : ℕ) → n ≡ 0 → range_calls_of scope ms n m env ≡ Err (node_fails (place m 0 0) Wide)
+  unfolding range_calls_of
+  no_chain zero e = refl
+  no_chain (suc n) e = absurd (omega arith)
+
+  pub no_method : (n : ℕ) → body_named ms m ≡ None → range_calls_of scope ms n m env ≡ Err (node_fails (place m 0 0) Wide)
+  unfolding range_calls_of
+  no_method zero e = refl
+  no_method (suc n) e = ap (λ o. with_body m o (λ b. walked scope (range_calls_of scope ms n) m 0 b env)) e
+
+  pub calls_body : (n : ℕ) (b : Body) → n ≢ 0 → body_named ms m ≡ Some b → range_calls_of scope ms n m env ≡ walked scope (range_calls_of scope ms (n - 1)) m 0 b env
+  unfolding range_calls_of
+  calls_body zero b l e = absurd (l refl)
+  calls_body (suc n) b l e =
+      let less : n ≡ suc n - 1 = omega arith in
+      ap (λ o. with_body m o (λ b. walked scope (range_calls_of scope ms n) m 0 b env)) e
+      ∙ ap (λ k. walked scope (range_calls_of scope ms k) m 0 b env) less
+
+-- ---- answers
+
+module _ (w : Walk) (chain : ℕ) (name : List ℕ) where
+  -- a statement that passes, and those behind it
+  pub step_on : (s : Stmt) (rest : Body) (at next : ℕ) (env mid : Ranges) → walked_in w chain name at (stmt_then s done) env ≡ Ok mid → next ≡ at + written (stmt_then s done) → walked_in w chain name next rest mid ≡ walked_in w chain name at (stmt_then s rest) env
+  step_on s rest at next env mid h number =
+      ap (λ k. walked_in w chain name k rest mid) number
+      ∙ ap (λ q. and_then q (walked_in w chain name (at + written (stmt_then s done)) rest)) (sym h)
+      ∙ sym (walked_then (scope_in w.plan.now) (calls_in w chain) name s rest at env)
+
+  -- a statement that stops
+  pub step_stops : (s : Stmt) (rest : Body) (at : ℕ) (env : Ranges) (f : RangeFault) → FaultOf (walked_in w chain name at (stmt_then s done) env) f → FaultOf (walked_in w chain name at (stmt_then s rest) env) f
+  step_stops s rest at env (faults.At p c) h =
+      walked_then (scope_in w.plan.now) (calls_in w chain) name s rest at env
+      ∙ ap (λ q. and_then q (walked_in w chain name (at + written (stmt_then s done)) rest)) h
+  step_stops s rest at env (faults.Output x) h = absurd h
+  step_stops s rest at env (faults.Memory e) h = tt
+
+-- a fault of a result that is the same
+pub fault_as : (r q : Result Ranges WalkFault) (f : RangeFault) → r ≡ q → FaultOf q f → FaultOf r f
+fault_as r q f e h = subst (λ x. FaultOf x f) (sym e) h
+
+-- a fault of what comes first
+pub fault_first : (r : Result Ranges WalkFault) (go : Ranges → Result Ranges WalkFault) (f : RangeFault) → FaultOf r f → FaultOf (and_then r go) f
+fault_first r go (faults.At p c) h = ap (λ q. and_then q go) h
+fault_first r go (faults.Output x) h = absurd h
+fault_first r go (faults.Memory e) h = tt
+
+-- ---- what functions answer
+
+pub err_answer : (r : Result Ranges WalkFault) (count : ℕ) (p : PlanText) (new : List Interval) (res : Result ℕ RangeFault) (f : RangeFault) → IsErrAnd res (λ g. g ≡ f) → FaultOf r f → NumberedAnswer r count p new res
+err_answer r count p new (Ok n) f is h = absurd is
+err_answer r count p new (Err g) f is h = subst (FaultOf r) (sym is) h
+
+pub env_err : (r : Result Ranges WalkFault) (p : PlanText) (new : List Interval) (res : Result (Unit {0}) RangeFault) (f : RangeFault) → IsErrAnd res (λ g. g ≡ f) → FaultOf r f → EnvAnswer r p new res
+env_err r p new (Ok u) f is h = absurd is
+env_err r p new (Err g) f is h = subst (FaultOf r) (sym is) h
+
+pub numbered_as : (r : Result Ranges WalkFault) (count other : ℕ) (p : PlanText) (new : List Interval) (res : Result ℕ RangeFault) → count ≡ other → NumberedAnswer r count p new res → NumberedAnswer r other p new res
+numbered_as r count other p new res e h = subst (λ k. NumberedAnswer r k p new res) e h
+
+-- both lists pass, and their ranges meet
+pub both_meet : (w : Walk) (chain : ℕ) (name : List ℕ) (at node second : ℕ) (a b : Body) (held failed x y : Ranges) → walked_in w chain name (at + 1) a held ≡ Ok x → walked_in w chain name second b failed ≡ Ok y → second ≡ at + 1 + written a → met_in w chain name at node a b held failed ≡ at_stmt name at (at_node node (joined x y))
+both_meet w chain name at node second a b held failed x y first last number =
+    ap (λ q. and_then q (λ x. and_then (walked_in w chain name (at + 1 + written a) b failed) (λ y. at_stmt name at (at_node node (joined x y))))) first
+    ∙ ap (λ q. and_then q (λ y. at_stmt name at (at_node node (joined x y)))) (ap (λ k. walked_in w chain name k b failed) (sym number) ∙ last)
+
+pub meets : (p : PlanText) (name : List ℕ) (at node : ℕ) (rs ss new : List Interval) → IsSized p rs → IsSized p ss → joined_lists rs ss ≡ Ok new → at_stmt name at (at_node node (joined (ranges_in p rs) (ranges_in p ss))) ≡ Ok (ranges_in p new)
+meets p name at node rs ss new e f h =
+    ap (λ j. at_stmt name at (at_node node j)) (joined_by_name (variables_in p) rs ss e f ∙ ap (λ o. and_then o (λ ts. Ok (with_names (variables_in p) ts))) h)
+
+pub meets_not : (p : PlanText) (name : List ℕ) (at node : ℕ) (rs ss : List Interval) (c : RangeCause) → IsSized p rs → IsSized p ss → joined_lists rs ss ≡ Err c → at_stmt name at (at_node node (joined (ranges_in p rs) (ranges_in p ss))) ≡ Err (node_fails (place name at node) c)
+meets_not p name at node rs ss c e f h =
+    ap (λ j. at_stmt name at (at_node node j)) (joined_by_name (variables_in p) rs ss e f ∙ ap (λ o. and_then o (λ ts. Ok (with_names (variables_in p) ts))) h)

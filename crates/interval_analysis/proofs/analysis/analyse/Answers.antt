@@ -1,0 +1,15 @@
+use Rattle.std.proofs.Common.{◌≤◌, map, sym, subst}
+use Rattle.pap_tree.specs.Flowchart.{flowchart_of}
+use Rattle.pap_types.specs.Meaning.{cost_of}
+use Rattle.pap_types.proofs.Laws.{cost_at_most}
+use Rattle.range_walk.proofs.Laws.{analysis_sound}
+use Rattle.interval_analysis.specs.Answers.{named_range}
+use Rattle.interval_analysis.proofs.analysis.analyse.Goals as goal
+
+pub returns-clause-sound : goal.returns-clause-sound
+returns-clause-sound c = λ inputs admitted.
+    let f = flowchart_of c.args.t.now in
+    let ranges = map named_range c.in_ok-outputs.outputs.items in (
+      analysis_sound f c.args.limits.now ranges c.plan-well_typed.ensures.well_typed c.plan-well_typed.ensures.counted c.requires.limits c.in_ok-outputs.ensures inputs admitted,
+      subst (λ n. cost_of f inputs ≤ n) (sym c.in_ok-bound.ensures) (cost_at_most f inputs),
+    )

@@ -1,0 +1,10 @@
+use Rattle.std.proofs.Common.{◌*◌, ◌+◌}
+use Rattle.pap_tree.specs.Term.{term_of}
+use Rattle.pap_tree.specs.Numbering.{nodes}
+use Rattle.interval_analysis.proofs.outlines.+outline.Given as goal
+
+abbrev pub decreases-outline_of : goal.decreases-outline_of
+decreases-outline_of l = 2 * nodes (term_of l.e.now)
+
+abbrev pub decreases-outlines_of : goal.decreases-outlines_of
+decreases-outlines_of l = 2 * (nodes (term_of l.left.now) + nodes (term_of l.right.now)) + 1

@@ -1,0 +1,11 @@
+pub mod Answers
+pub mod BoundViews
+pub mod Changes
+pub mod ComparisonViews
+pub mod ExpressionViews
+pub mod OperationViews
+pub mod OutlineViews
+pub mod OutputViews
+pub mod PlanViews
+pub mod StartViews
+pub mod StatementViews

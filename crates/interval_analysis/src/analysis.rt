@@ -1,0 +1,70 @@
+//! The analysis of a plan.
+ghost use Rattle.std.specs.Prelude.{◌≡◌, ◌≤◌, IfOk, IfErr, Ok, List, map};
+ghost use Rattle.scaled_decimal.specs.Decimals.{Decimal};
+ghost use Rattle.pap_tree.specs.Flowchart.{flowchart_of};
+ghost use Rattle.pap_types.specs.Meaning.{bound_of, cost_of};
+ghost use Rattle.call_order.specs.Orders.{IsOrdered};
+ghost use Rattle.range_walk.specs.Admission.{HaveLimits, AreAdmitted};
+ghost use Rattle.range_walk.specs.Analysis.{analysed};
+ghost use Rattle.range_walk.specs.Soundness.{RunHolds};
+ghost use Rattle.interval_analysis.specs.Answers.{named_range, IsWalkFault};
+ghost use Rattle.interval_analysis.specs.OutputViews.{OutputAnswer};
+
+use crate::bounds::bound_of;
+use crate::expressions::Walk;
+use crate::outputs::output_ranges;
+use crate::start::start_ranges;
+use crate::{OutputRange, RangeFault, Verdict};
+use limits_file::Limits;
+use pap_tree::Name;
+use pap_types::Typed;
+use std::alloc::Global;
+
+/// The most methods of a chain, each of which executes the next.
+const LONGEST_CHAIN: u32 = 64;
+
+/// Walks a plan over the ranges of its variables' values, from the limits of its inputs; `order` has its methods after those
+/// that they execute. Answers the most that a run costs and the ranges of the outputs, in declared order: every run on inputs
+/// that the limits admit is safe, costs at most so much, and has its outputs in these ranges.
+///
+/// Refused: `At` with the first node, in the order in which they are walked, that may fail on some values in the ranges, and
+/// why; where there is none, `Output` with the first output that may have more than 12 digits after its point or be beyond
+/// 10^20; `Memory`. Takes time linear in the statements of MAIN with those of all methods that it executes.
+pub fn analyse(
+    alloc: Global,
+    t: &Typed,
+    order: &[u32],
+    limits: &Limits,
+) -> Result<Verdict, RangeFault>
+    requires ordered { IsOrdered (flowchart_of t.now) order.now }
+    requires limits { HaveLimits (flowchart_of t.now) limits.now }
+    ensures ranges { IfOk result
+        (λ v. analysed (flowchart_of t.now) limits.now ≡ Ok (map named_range v.outputs.items)) }
+    ensures bound { IfOk result (λ v. v.bound ≡ bound_of (flowchart_of t.now)) }
+    ensures fault { IfErr result (IsWalkFault (flowchart_of t.now) limits.now) }
+    ensures sound { IfOk result (λ v. (inputs : List Decimal)
+        → AreAdmitted (flowchart_of t.now) limits.now inputs
+        → RunHolds (flowchart_of t.now) (map named_range v.outputs.items) inputs
+        × (cost_of (flowchart_of t.now) inputs ≤ v.bound)) }
+{
+    let _well_typed = t.plan();
+    let outputs = walked_outputs(alloc, t, limits)?;
+    let bound = bound_of(alloc, t, order)?;
+    Ok(Verdict { bound, outputs })
+}
+
+/// The ranges of the outputs behind MAIN.
+fn walked_outputs(
+    alloc: Global,
+    plan: &Typed,
+    limits: &Limits,
+) -> Result<Vec<OutputRange>, RangeFault>
+    requires { HaveLimits (flowchart_of plan.now) limits.now }
+    ensures { OutputAnswer (analysed (flowchart_of plan.now) limits.now) result }
+{
+    let mut ranges = start_ranges(alloc, plan, limits)?;
+    let main = plan.plan().main.as_slice();
+    let walk = Walk { alloc, plan };
+    walk.walk_body(&Name::main(), main, 0, LONGEST_CHAIN, &mut ranges)?;
+    output_ranges(alloc, plan, &ranges)
+}

@@ -1,0 +1,195 @@
+//! What a comparison leaves of the ranges of its sides.
+ghost use Rattle.std.specs.Prelude.{◌≡◌, ◌<◌, Some, IfOk, length, slice_get, pos, negsuc};
+ghost use Rattle.std.specs.Ordering.{int_cmp};
+ghost use Rattle.std.specs.Option.{option_map};
+ghost use Rattle.pap_tree.specs.Term.{term_of};
+ghost use Rattle.interval_num.specs.Signs as signs;
+ghost use Rattle.pap_types.specs.Operations.{holds_of};
+ghost use Rattle.range_walk.specs.Branches.{signs_where, others, exchanged, can_have, branch_of, branches_of, narrowed};
+ghost use Rattle.interval_analysis.specs.Changes.{changed};
+ghost use Rattle.interval_analysis.specs.PlanViews.{IsSized, ranges_in, ranges_after};
+ghost use Rattle.interval_analysis.specs.ComparisonViews.{sides_of, branches_in, CanCompare, CanNarrow, name_in};
+
+use crate::branches::{Branches, Change};
+use interval_num::{Abs, SignSet, refine, signs};
+use pap_tree::{Binary, Expr, Name};
+use pap_types::Typed;
+use std::alloc::{AllocError, Global};
+use std::cmp::Ordering;
+
+/// The two sides of a comparison with their ranges.
+#[derive(Drop)]
+pub(crate) struct Sides<'a> {
+    pub left: &'a Expr,
+    pub right: &'a Expr,
+    pub left_range: Abs,
+    pub right_range: Abs,
+}
+
+/// The signs, as -1, 0 and 1, for which a comparison with a number holds.
+pub(crate) fn signs_where(op: Binary, number: i32) -> SignSet
+    ensures { result ≡ signs_where op number }
+{
+    SignSet {
+        minus: holds(op, (-1).cmp(&number)),
+        zero: holds(op, 0.cmp(&number)),
+        plus: holds(op, 1.cmp(&number)),
+    }
+}
+
+/// Whether a comparison holds of values in an order.
+fn holds(op: Binary, order: Ordering) -> bool
+    ensures { result ≡ holds_of op order }
+{
+    match op {
+        Binary::Less => order.is_lt(),
+        Binary::LessEq => !order.is_gt(),
+        Binary::More => order.is_gt(),
+        Binary::MoreEq => !order.is_lt(),
+        Binary::Same => !(order.is_lt() || order.is_gt()),
+        Binary::Differs => order.is_lt() || order.is_gt(),
+        _ => false,
+    }
+}
+
+fn others(signs: SignSet) -> SignSet
+    ensures { result ≡ others signs }
+{
+    SignSet {
+        minus: !signs.minus,
+        zero: !signs.zero,
+        plus: !signs.plus,
+    }
+}
+
+/// The signs of the right side against the left one.
+fn exchanged(signs: SignSet) -> SignSet
+    ensures { result ≡ exchanged signs }
+{
+    SignSet {
+        minus: signs.plus,
+        zero: signs.zero,
+        plus: signs.minus,
+    }
+}
+
+/// Whether one of the allowed signs is among some.
+fn can_have(allowed: SignSet, signs: SignSet) -> bool
+    ensures { result ≡ can_have allowed signs }
+{
+    (allowed.minus && signs.minus) || ((allowed.zero && signs.zero) || (allowed.plus && signs.plus))
+}
+
+/// The branches of a comparison that holds for the allowed signs. `whole` says that both sides are whole numbers.
+pub(crate) fn branches_of(
+    alloc: Global,
+    plan: &Typed,
+    sides: &Sides,
+    whole: bool,
+    allowed: SignSet,
+    ranges: &[Abs],
+) -> Result<Branches, AllocError>
+    requires sized { IsSized plan.now ranges.now }
+    requires sides { CanCompare plan.now whole sides.now ranges.now }
+    ensures { IfOk result (λ b. branches_in plan.now ranges.now b ≡ branches_of whole allowed (sides_of sides.now) (ranges_in plan.now ranges.now)) }
+{
+    let holds = branch_of(alloc, plan, sides, whole, allowed, ranges)?;
+    let fails = branch_of(alloc, plan, sides, whole, others(allowed), ranges)?;
+    Ok(Branches { holds, fails })
+}
+
+/// The changes where a comparison has an allowed sign: of the left side by the right one's range, then of the right side by
+/// the range that the left one had.
+fn branch_of(
+    alloc: Global,
+    plan: &Typed,
+    sides: &Sides,
+    whole: bool,
+    allowed: SignSet,
+    ranges: &[Abs],
+) -> Result<Option<Vec<Change>>, AllocError>
+    requires sized { IsSized plan.now ranges.now }
+    requires sides { CanCompare plan.now whole sides.now ranges.now }
+    ensures { IfOk result (λ o. ranges_after plan.now ranges.now o ≡ branch_of whole allowed (sides_of sides.now) (ranges_in plan.now ranges.now)) }
+{
+    if !can_have(allowed, signs(sides.left_range, sides.right_range)) {
+        return Ok(None);
+    }
+    let none = Vec::new(alloc);
+    let turned = exchanged(allowed);
+    match narrow(
+        plan,
+        sides.left,
+        whole,
+        allowed,
+        sides.right_range,
+        ranges,
+        none,
+    )? {
+        None => Ok(None),
+        Some(changes) => narrow(
+            plan,
+            sides.right,
+            whole,
+            turned,
+            sides.left_range,
+            ranges,
+            changes,
+        ),
+    }
+}
+
+/// The changes with that of a side that is a variable's name; None where nothing is left of its range.
+fn narrow(
+    plan: &Typed,
+    side: &Expr,
+    whole: bool,
+    allowed: SignSet,
+    against: Abs,
+    ranges: &[Abs],
+    changes: Vec<Change>,
+) -> Result<Option<Vec<Change>>, AllocError>
+    requires sized { IsSized plan.now ranges.now }
+    requires fits { CanNarrow whole (term_of side.now) against (ranges_in plan.now (changed ranges.now changes.items)) }
+    ensures { IfOk result (λ o. ranges_after plan.now ranges.now o ≡ narrowed whole allowed (term_of side.now) against (ranges_in plan.now (changed ranges.now changes.items))) }
+{
+    let Some(name) = name_in(side) else {
+        return Ok(Some(changes));
+    };
+    let Some(number) = plan.variable(name) else {
+        return Ok(Some(changes));
+    };
+    let now = range_now(ranges, &changes, number);
+    match refine(now, against, allowed, whole) {
+        None => Ok(None),
+        Some(range) => {
+            let mut more = changes;
+            more.push(Change { number, range })?;
+            Ok(Some(more))
+        }
+    }
+}
+
+/// The name that an expression is.
+fn name_in(e: &Expr) -> Option<&Name>
+    ensures { option_map (λ name. name.now) result ≡ name_in (term_of e.now) }
+{
+    match e {
+        Expr::Var(name) => Some(name),
+        _ => None,
+    }
+}
+
+/// The range of a variable after changes.
+fn range_now(ranges: &[Abs], changes: &[Change], number: usize) -> Abs
+    requires { number < length ranges.now }
+    ensures { slice_get (changed ranges.now changes.now) number ≡ Some result }
+{
+    let mut range = ranges[number];
+    for change in changes {
+        if change.number == number {
+            range = change.range;
+        }
+    }
+    range
+}

@@ -1,0 +1,23 @@
+//! The ranges of a plan's values: whether every run on admitted inputs is safe, and within which ranges its outputs lie.
+#![tactic(auto)]
+
+mod analysis;
+mod bounds;
+mod branches;
+mod comparisons;
+mod expressions;
+mod fault;
+mod joins;
+mod kinds;
+mod lists;
+mod names;
+mod operations;
+mod outlines;
+mod outputs;
+mod start;
+mod statements;
+mod verdict;
+
+pub use analysis::analyse;
+pub use fault::RangeFault;
+pub use verdict::{OutputRange, Verdict};

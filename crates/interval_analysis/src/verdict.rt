@@ -1,0 +1,20 @@
+//! What the analysis answers.
+
+use interval_num::Abs;
+use pap_tree::Name;
+
+/// An output with the range in which its values lie.
+#[derive(Clone, Copy)]
+pub struct OutputRange {
+    pub name: Name,
+    pub range: Abs,
+}
+
+/// What holds of every run of a plan on inputs that its limits admit.
+#[derive(Drop)]
+pub struct Verdict {
+    /// The most that a run costs, 1 to 10^9.
+    pub bound: u64,
+    /// The ranges of the outputs, in declared order.
+    pub outputs: Vec<OutputRange>,
+}
