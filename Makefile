@@ -9,18 +9,19 @@ build:
 
 # Proves nothing and keeps nothing: the kit compiles the program with tests at run time and prints what it wrote.
 look:
-	cd crates/papcalc && rt try --data first.xml=../../examples/first.xml \
-	    --data no_ranges.toml=../../examples/no_ranges.toml -- once first.xml no_ranges.toml
+	cd crates/papcalc && rt try --data wage_tax.xml=../../examples/wage_tax.xml \
+	    --data wage_tax.toml=../../examples/wage_tax.toml -- check wage_tax.xml wage_tax.toml
 
 demo: build
-	build/papcalc once examples/first.xml examples/no_ranges.toml
+	build/papcalc check examples/wage_tax.xml examples/wage_tax.toml
+	build/papcalc once examples/wage_tax.xml examples/wage_tax.toml GROSS=1234567 MONTHS=4 CHILDREN=2
 
 test:
 	bash .ci/run
 
 # The worked examples that lie beside the repository in development, on the built program.
 rows: build
-	python3 ../shared/run_rows.py --bin "$(CURDIR)/build/papcalc" --stage 1
+	python3 ../shared/run_rows.py --bin "$(CURDIR)/build/papcalc" --stage 20 --words check,once
 
 decimal-tool:
 	cd crates/decimal_tool && rt run < stdin > /dev/null

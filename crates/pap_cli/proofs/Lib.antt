@@ -1,11 +1,7 @@
-pub mod EnvironmentLemmas
-pub mod BodyLemmas
-pub mod DeclaredLemmas
-pub mod RefusalLemmas
-pub mod UnknownLemmas
-pub mod PlanLemmas
-pub mod OnceLemmas
-pub mod WordLemmas
-pub mod PlanLaws
-pub mod HeadlineLemmas
-pub mod RunLaws
+mod WordLemmas
+mod FrontLemmas
+mod AdmissionLemmas
+mod LeavesLemmas
+mod PlaceLemmas
+mod LineLemmas
+mod RunLemmas

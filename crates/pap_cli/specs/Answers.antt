@@ -1,21 +1,21 @@
--- What is written on a plan (docs/DEFINITIONS.md).
-use Rattle.std.specs.Prelude.{ℕ, ◌+◌, ◌∷◌, ◌++◌, pos, map, Bool, true, false, List, [], codes, Option, Some, None}
-use Rattle.std.specs.Option.{option_map_or, option_and_then}
-use Rattle.std.specs.Fmt.{decimal, signed_decimal}
-use Rattle.pap_tree.specs.declared.place.Place.{Place}
-use Rattle.small_tree.specs.Term.{Term}
-use Rattle.small_tree.specs.Body.{Body, Plan}
-use Rattle.pap_tree.specs.Places.{place_text}
-use Rattle.small_tree.specs.Numbering.{node_of, term_at}
-use Rattle.small_tree.specs.Spelling.{spelling}
-use Rattle.pap_cli.specs.Values.{Num, Env, whole_num, look}
-use Rattle.pap_cli.specs.Runs.{no_calls, after, spent, fails}
-use Rattle.pap_cli.specs.Unknowns.{unknown_name}
-use Rattle.pap_cli.specs.Causes.{cause_name}
-use Rattle.pap_cli.specs.declared.failure.Failure.{Failure}
-use Rattle.pap_cli.specs.declared.unknown.Unknown.{Unknown}
+-- What is written on the bytes of a plan and of a range file (docs/DEFINITIONS.md).
+use Rattle.std.specs.Prelude.{◌≡◌, ℕ, List, [], ◌++◌, codes, Bool, true, false, Result, Ok, Err, Some}
+use Rattle.scaled_decimal.specs.Decimals.{Decimal}
+use Rattle.pap_tree.specs.Flowchart.{Flowchart}
+use Rattle.pap_types.specs.Meaning.{outputs_of, cost_of, bound_of}
+use Rattle.limits_file.specs.declared.slots.Slot.{Slot}
+use Rattle.payroll_records.specs.declared.values.NamedValue.{NamedValue}
+use Rattle.carry_bindings.specs.declared.filling.Blocked.TheVariants as blocked
+use Rattle.carry_bindings.specs.declared.filling.Filled.{Filled}
+use Rattle.carry_bindings.specs.declared.filling.Filled.TheVariants as filled
+use Rattle.carry_bindings.specs.Filling.{filled_by}
+use Rattle.pap_plan.specs.declared.refusal.PlanRefusal.{PlanRefusal}
+use Rattle.pap_plan.specs.Acceptance.{Meaning, Answers}
+use Rattle.pap_plan.specs.Inputs.{AreSlots}
+use Rattle.pap_cli.specs.Lines.{bound_line, range_lines, value_lines, steps_line, refusal_line}
+use Rattle.pap_cli.specs.Refusals.{HasDetail}
 
--- what is written, whether it is a refusal, and the steps that it took
+-- what is written, whether it is a refusal, and the steps of the run
 pub record Answer : Type 0 where
   pub text : List ℕ
   pub refused : Bool
@@ -23,66 +23,64 @@ pub record Answer : Type 0 where
 
 -- a refusal: one line, and no steps
 abbrev pub refusal : List ℕ → Answer
-refusal detail = record { text = codes "refused " ++ (detail ++ 10 ∷ []); refused = true; steps = 0 }
+refusal detail = record { text = refusal_line detail; refused = true; steps = 0 }
 
-abbrev pub text_of : Place → List ℕ
-text_of p = place_text p.method p.stmt p.node
+pub record IsRefusal (plan : List ℕ) (r : PlanRefusal) (answer : Answer) : Type 0 where
+  pub detail : List ℕ
+  pub has : HasDetail plan r detail
+  pub is : answer ≡ refusal detail
 
--- a name that isn't declared, and its place
-abbrev pub unknown_refusal : Unknown → Answer
-unknown_refusal u = refusal (codes "plan Unknown " ++ (u.name ++ (32 ∷ text_of u.place)))
+-- ---- check
 
--- the node of a place in MAIN
-abbrev pub node_at : Body → Place → Option Term
-node_at main p = option_and_then (λ t. node_of t p.node) (term_at main p.stmt)
+-- the bound of an accepted plan and the ranges of its outputs; nothing is run
+abbrev pub acceptance : Meaning → Answer
+acceptance m = record {
+  text = bound_line (bound_of m.flowchart) ++ range_lines m.outputs;
+  refused = false;
+  steps = 0;
+}
 
--- its canonical spelling; a place without a node has none, which the law `FailureStands` says of no node that fails
-abbrev pub spelling_at : Body → Place → List ℕ
-spelling_at main p = option_map_or spelling (node_at main p) []
+abbrev pub IsChecked : List ℕ → Result Meaning PlanRefusal → Answer → Type 0
+IsChecked plan (Ok m) answer = answer ≡ acceptance m
+IsChecked plan (Err r) answer = IsRefusal plan r answer
 
--- a node that fails: the cause, the node's place, and the node's spelling
-abbrev pub failure_refusal : Body → Failure → Answer
-failure_refusal main f =
-    refusal (codes "plan " ++ (cause_name f.cause ++ (32 ∷ (text_of f.place ++ (32 ∷ spelling_at main f.place)))))
+-- the answer of `check` on two texts
+pub record CheckAnswers (plan limits : List ℕ) (answer : Answer) : Type 0 where
+  pub verdict : Result Meaning PlanRefusal
+  pub accepted : Answers plan limits verdict
+  pub is : IsChecked plan verdict answer
 
--- a value as it is printed: a whole number with a sign only where it is below 0
-abbrev pub value_text : Num → List ℕ
-value_text v = signed_decimal v.0
+-- ---- once
 
--- the line of an output: its name and its value
-abbrev pub output_text : List ℕ → Env → List ℕ
-output_text x env = x ++ (32 ∷ (option_map_or value_text (look env x) [] ++ 10 ∷ []))
+-- the outputs of a run and its steps
+abbrev pub finished : Flowchart → List Decimal → ℕ → Answer
+finished f outputs steps = record {
+  text = value_lines f.outputs outputs ++ steps_line steps;
+  refused = false;
+  steps = steps;
+}
 
--- a line for each output, in declared order
-abbrev pub outputs_text : List (List ℕ) → Env → List ℕ
-outputs_text [] env = []
-outputs_text (x ∷ xs) env = output_text x env ++ outputs_text xs env
+-- the run on filled inputs; a run without earlier ones waits for none
+abbrev pub IsRunOn : Flowchart → Filled → Answer → Type 0
+IsRunOn f (filled.Inputs inputs) answer =
+    (outputs : List Decimal) × (outputs_of f inputs ≡ Some outputs) × (answer ≡ finished f outputs (cost_of f inputs))
+IsRunOn f (filled.State (blocked.Unknown name)) answer = answer ≡ refusal (codes "state unknown " ++ name)
+IsRunOn f (filled.State (blocked.Missing name)) answer = answer ≡ refusal (codes "state missing " ++ name)
+IsRunOn f (filled.State (blocked.Range name)) answer = answer ≡ refusal (codes "state range " ++ name)
+IsRunOn f (filled.State (blocked.Waits day)) answer = ⊥
 
-abbrev pub steps_text : ℕ → List ℕ
-steps_text n = codes "steps " ++ (decimal n ++ 10 ∷ [])
+-- an accepted plan is run on these values, without earlier runs
+pub record IsRunOnce (values : List NamedValue) (m : Meaning) (answer : Answer) : Type 0 where
+  pub slots : List Slot
+  pub inputs : AreSlots m.limits m.flowchart.inputs slots
+  pub ran : IsRunOn m.flowchart (filled_by slots values []) answer
 
--- the outputs and the steps of a run, one step more than its statements take
-abbrev pub finished : List (List ℕ) → Env → ℕ → Answer
-finished outputs env n =
-    record { text = outputs_text outputs env ++ steps_text (n + 1); refused = false; steps = n + 1 }
+abbrev pub IsOnce : List NamedValue → List ℕ → Result Meaning PlanRefusal → Answer → Type 0
+IsOnce values plan (Ok m) answer = IsRunOnce values m answer
+IsOnce values plan (Err r) answer = IsRefusal plan r answer
 
--- a run begins with each output at 0
-abbrev pub start : List (List ℕ) → Env
-start outputs = map (λ x. record { name = x; value = whole_num (pos 0) }) outputs
-
-abbrev pub main_name : List ℕ
-main_name = codes "MAIN"
-
-abbrev pub first_case : {A B : Type 0} → Option A → (A → B) → B → B
-first_case (Some x) then_it otherwise = then_it x
-first_case None then_it otherwise = otherwise
-
--- What is written on a plan: its first undeclared name, else its first node that fails, else its outputs and its steps.
--- The last line is for a run that leads nowhere; the law `RunEnds` says that none does.
-abbrev pub answer_of : Plan → Answer
-answer_of p =
-    first_case (unknown_name p.outputs main_name 0 p.main) unknown_refusal
-    (first_case (fails no_calls main_name 0 p.main (start p.outputs)) (failure_refusal p.main)
-    (first_case (after no_calls p.main (start p.outputs))
-    (λ env. finished p.outputs env (spent no_calls p.main (start p.outputs)))
-    (refusal [])))
+-- the answer of `once` with these values on two texts
+pub record OnceAnswers (values : List NamedValue) (plan limits : List ℕ) (answer : Answer) : Type 0 where
+  pub verdict : Result Meaning PlanRefusal
+  pub accepted : Answers plan limits verdict
+  pub is : IsOnce values plan verdict answer

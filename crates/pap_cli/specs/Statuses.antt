@@ -1,8 +1,11 @@
--- The number of a status, with which the program ends.
-use Rattle.std.specs.Prelude.{ℕ}
+-- How a call ends.
+use Rattle.std.specs.Prelude.{ℕ, Bool, if◌then◌else◌, Result, Ok, Err, ⊤}
 use Rattle.pap_cli.specs.declared.status.Status.{Status}
 use Rattle.pap_cli.specs.declared.status.Status.TheVariants.{Done, Refused, BadWords, FileFault, ReadFault, WriteFault, NoMemory, ScriptLong}
+use Rattle.pap_cli.specs.declared.stop.Stop.{Stop}
+use Rattle.pap_cli.specs.declared.stop.Stop.TheVariants as stops
 
+-- the number of a status, with which the program ends
 abbrev pub number_of : Status → ℕ
 number_of Done = 0
 number_of Refused = 1
@@ -12,3 +15,20 @@ number_of ReadFault = 4
 number_of WriteFault = 5
 number_of NoMemory = 6
 number_of ScriptLong = 7
+
+-- the status of an answer that was written whole
+abbrev pub done_status : Bool → Status
+done_status refused = if refused then Refused else Done
+
+-- the answer was written whole
+abbrev pub IsDone : Status → Type 0
+IsDone Done = ⊤
+IsDone Refused = ⊤
+IsDone _ = ⊥
+
+-- the status of a call that ended
+abbrev pub status_of : Result Bool Stop → Status
+status_of (Ok refused) = done_status refused
+status_of (Err stops.File) = FileFault
+status_of (Err stops.Write) = WriteFault
+status_of (Err stops.Memory) = NoMemory

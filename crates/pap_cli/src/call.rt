@@ -1,15 +1,16 @@
 // The top call.
-ghost use Rattle.std.specs.Prelude.{◌≡◌, ◌≢◌, ◌≤◌, List, ℕ};
-ghost use Rattle.std.specs.Option.{ForSome};
-ghost use Rattle.outside.specs.Causes.{Rose, Still};
-ghost use Rattle.pap_cli.specs.Words.{texts, IsOnce, IsBad, IsUntouched};
-ghost use Rattle.pap_cli.specs.Once.{OnceMeets, IsOnceAnswer, status_of};
-ghost use Rattle.pap_cli.specs.Laws.{OneAnswer, HasAnswer, RunEnds, FailureStands};
+ghost use Rattle.std.specs.Prelude.{◌≡◌, ◌≢◌};
+ghost use Rattle.outside.specs.Causes.{Rose};
+ghost use Rattle.pap_cli.specs.Words.{texts, Form, HasForm, IsBad};
+ghost use Rattle.pap_cli.specs.Outside.{IsUntouched};
+ghost use Rattle.pap_cli.specs.CallClauses.{Leaves, Headline};
+ghost use Rattle.pap_cli.specs.Statuses.{status_of};
+ghost use Rattle.pap_cli.specs.Laws.{HaveOneForm};
 
 use crate::Status;
-use crate::once::once;
+use crate::answer::answer;
 use crate::stop::Stop;
-use crate::words::once_files;
+use crate::words::read_words;
 use outside::{Files, Sink, Source};
 use std::alloc::Global;
 use std::sync::ledger::Ledger;
@@ -28,10 +29,11 @@ fn status(ended: Result<bool, Stop>) -> Status
 }
 
 /// Does all that the program does: carries out the words over the files, the source and the sink, and counts the steps of
-/// the run.
+/// runs.
 ///
-/// The one form of the words so far is `once PLAN LIMITS`, which runs the plan of the file PLAN and writes its outputs, or
-/// one line that begins with `refused`. All other words are [`Status::BadWords`].
+/// The forms of the words are `check PLAN LIMITS`, which says whether the flowchart of the file PLAN is accepted with the
+/// ranges of the file LIMITS, and `once PLAN LIMITS NAME=VALUE ..`, which runs it once on these inputs. All other words are
+/// [`Status::BadWords`]. Running out of memory is [`Status::NoMemory`], whatever the words are.
 pub fn papcalc<F: Files, R: Source, W: Sink, L: Ledger>(
     alloc: Global,
     words: &[String],
@@ -40,40 +42,77 @@ pub fn papcalc<F: Files, R: Source, W: Sink, L: Ledger>(
     sink: &mut W,
     steps: &mut Steps<L>,
 ) -> Status
-    // The words are none of the forms: nothing is called.
-    ensures bad_words { IsBad (texts words.now) → result ≡ Status.BadWords }
+    // The words have no form: nothing is called.
+    ensures bad_words { IsBad (texts words.now) → result ≢ Status.NoMemory → result ≡ Status.BadWords }
     ensures bad_words_alone { result ≡ Status.BadWords → IsBad (texts words.now) }
-    ensures bad_words_untouched { IsBad (texts words.now) → IsUntouched files.old files.new source.old source.new sink.old sink.new steps.old steps.new }
+    ensures bad_words_untouched { IsBad (texts words.now) →
+        IsUntouched files.old files.new source.old source.new sink.old sink.new steps.old steps.new }
 
     // A fault only where the object's count rose.
     ensures file_fault { result ≡ Status.FileFault → Rose (F.faults files.old) (F.faults files.new) }
     ensures read_fault { result ≡ Status.ReadFault → Rose (R.faults source.old) (R.faults source.new) }
     ensures write_fault { result ≡ Status.WriteFault → Rose (W.faults sink.old) (W.faults sink.new) }
 
-    // What each status of `once` says: of the text, where the files and the sink tell what they hold; of the counter and of
-    // the failed name, always. The source is never touched.
-    ensures once { (plan limits : List ℕ) → IsOnce (texts words.now) plan limits →
-        OnceMeets (F.told files.old) plan limits (W.written sink.old) (W.written sink.new) steps.old steps.new (F.failed files.new) result }
-    ensures once_source { source.new ≡ source.old }
+    // The files are only read. The source isn't touched.
     ensures files_same { F.told files.new ≡ F.told files.old }
+    ensures source_same { source.new ≡ source.old }
+
+    // What each status of a form says of the text, of the counter and of the failed name.
+    ensures leaves { (form : Form) → HasForm (texts words.now) form → Leaves form
+        (record {
+          files = F.told files.old;
+          failed = F.failed files.old;
+          file_faults = F.faults files.old;
+          left = R.left source.old;
+          source_faults = R.faults source.old;
+          written = W.written sink.old;
+          sink_faults = W.faults sink.old;
+          steps = steps.old;
+        })
+        (record {
+          files = F.told files.new;
+          failed = F.failed files.new;
+          file_faults = F.faults files.new;
+          left = R.left source.new;
+          source_faults = R.faults source.new;
+          written = W.written sink.new;
+          sink_faults = W.faults sink.new;
+          steps = steps.new;
+        })
+        result }
 
     // The headline: while memory is there and no outside call fails, what is written is the defined answer.
-    ensures headline_once { (plan limits : List ℕ) → IsOnce (texts words.now) plan limits →
-        ForSome (F.told files.old) (λ map. ForSome (W.written sink.old) (λ before.
-        result ≢ Status.NoMemory → Still (F.faults files.old) (F.faults files.new) → Still (W.faults sink.old) (W.faults sink.new) →
-        IsOnceAnswer map plan limits before (W.written sink.new) steps.old steps.new result)) }
+    ensures headline { (form : Form) → HasForm (texts words.now) form → Headline form
+        (record {
+          files = F.told files.old;
+          failed = F.failed files.old;
+          file_faults = F.faults files.old;
+          left = R.left source.old;
+          source_faults = R.faults source.old;
+          written = W.written sink.old;
+          sink_faults = W.faults sink.old;
+          steps = steps.old;
+        })
+        (record {
+          files = F.told files.new;
+          failed = F.failed files.new;
+          file_faults = F.faults files.new;
+          left = R.left source.new;
+          source_faults = R.faults source.new;
+          written = W.written sink.new;
+          sink_faults = W.faults sink.new;
+          steps = steps.new;
+        })
+        result }
 {
-    let Some((plan, limits)) = once_files(words) else {
-        return Status::BadWords;
-    };
-    status(once(alloc, plan, limits, files, sink, steps))
+    match read_words(alloc, words) {
+        Ok(Some(request)) => status(answer(alloc, request, files, sink, steps)),
+        Ok(None) => Status::BadWords,
+        Err(_) => Status::NoMemory,
+    }
 }
 
-/// The bytes of a plan and of a range file have one answer, and always one. The run of a plan without an undeclared name
-/// leads somewhere, and a node that fails first stands at its place.
-pub fn answer_laws()
-    ensures one { (plan limits : List ℕ) → OneAnswer plan limits }
-    ensures always { (plan limits : List ℕ) → HasAnswer plan limits }
-    ensures ends { (plan : List ℕ) → RunEnds plan }
-    ensures stands { (plan : List ℕ) → FailureStands plan }
+/// Words have at most one form.
+pub fn word_laws()
+    ensures { HaveOneForm }
 {}

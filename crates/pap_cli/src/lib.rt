@@ -3,19 +3,14 @@
 
 mod answer;
 mod call;
-mod environment;
-mod evaluation;
-mod failure;
+mod check;
 mod once;
-mod plan;
-mod running;
+mod places;
+mod refusals;
+mod reply;
 mod status;
 mod stop;
-mod unknown;
 mod words;
 
-pub use call::{answer_laws, papcalc};
+pub use call::{papcalc, word_laws};
 pub use status::Status;
-
-#[cfg(test)]
-mod tests;

@@ -1,84 +1,149 @@
-// `once PLAN LIMITS`: one run of a plan.
-ghost use Rattle.std.specs.Prelude.{◌≡◌, ◌≤◌, ◌⊎◌, Some, IfOk, IsErrOf, codes};
-ghost use Rattle.std.specs.Option.{ForSome};
-ghost use Rattle.outside.specs.Causes.{Rose, Caused};
-ghost use Rattle.pap_cli.specs.Answers.{refusal};
-ghost use Rattle.pap_cli.specs.Replies.{reply_of};
-ghost use Rattle.pap_cli.specs.Once.{Answers, AnswersFiles, OnceMeets, status_of};
+// The answer of `once`.
+ghost use Rattle.std.specs.Prelude.{◌≡◌, ◌≢◌, All, ◌+◌, ◌++◌, ◌⊎◌, IfOk, OnOk, OnErr, Some, map, length};
+ghost use Rattle.pap_tree.specs.Declarations.{declaration_of};
+ghost use Rattle.pap_plan.specs.Bindings.{HasSuitedLimit};
+ghost use Rattle.pap_plan.specs.Plans.{Admits, flowchart, meaning};
+ghost use Rattle.pap_cli.specs.Lines.{value_lines};
+ghost use Rattle.pap_cli.specs.Answers.{Answer, OnceAnswers, IsRunOnce, IsRunOn, finished};
+ghost use Rattle.pap_cli.specs.AnswerViews.{reply_of};
+ghost use Rattle.pap_cli.specs.FileClauses.{IsCounted};
+ghost use Rattle.carry_bindings.specs.declared.filling.Filled.TheVariants.{Inputs, State};
+ghost use Rattle.payroll_records.specs.declared.day.Day.{Day as Date};
+ghost use Rattle.pap_tree.specs.Flowchart.{Flowchart};
+ghost use Rattle.scaled_decimal.specs.Limits.{IsKept};
 
-use crate::answer::{Reply, reply_on_plan};
-use crate::plan::{PlanFault, read_plan};
-use crate::stop::Stop;
-use outside::{FileAnswer, Files, Sink, put_all};
-use small_reader::LONGEST_PLAN;
+use crate::check::refused;
+use crate::reply::{Reply, refusal};
+use carry_bindings::{Blocked, Filled, fill};
+use pap_plan::{Plan, PlanRefusal, accept};
+use pap_tree::Declared;
+use payroll_records::{Day, Employee, Record, Values};
+use scaled_decimal::Dec;
 use std::alloc::{AllocError, Global};
 use std::sync::ledger::Ledger;
 use steps::Steps;
 
-/// The most bytes of a range file.
-pub const LONGEST_LIMITS: usize = 262_144;
-
-/// The refusal of a plan or a range file that isn't built yet.
-fn unbuilt_reply(alloc: Global) -> Result<Reply, AllocError>
-    ensures { IfOk result (λ reply. reply_of reply ≡ refusal (codes "plan Unbuilt")) }
+/// The answer of `once` on the bytes of a plan and of a range file. Where memory runs out the run may have been counted.
+pub(crate) fn once_reply<L: Ledger>(
+    alloc: Global,
+    values: Values,
+    plan: &[u8],
+    limits: &[u8],
+    steps: &mut Steps<L>,
+) -> Result<Reply, AllocError>
+    ensures answer { IfOk result (λ reply. OnceAnswers values plan.now limits.now (reply_of reply)) }
+    ensures counted { IfOk result (λ reply. steps.new ≡ steps.old + reply.steps) }
+    ensures memory { OnErr result (IsCounted (OnceAnswers values plan.now limits.now) steps.old steps.new) }
 {
+    match accept(alloc, plan, limits) {
+        Ok(plan) => run_reply(alloc, &plan, values, steps),
+        Err(PlanRefusal::Memory) => Err(AllocError),
+        Err(fault) => refused(alloc, plan, &fault),
+    }
+}
+
+/// The run of an accepted plan on the values of a record without earlier runs.
+fn run_reply<L: Ledger>(
+    alloc: Global,
+    plan: &Plan,
+    values: Values,
+    steps: &mut Steps<L>,
+) -> Result<Reply, AllocError>
+    requires { All (HasSuitedLimit plan.now.ranges) (flowchart plan.now).inputs }
+    ensures answer { IfOk result (λ reply. IsRunOnce values (meaning plan.now) (reply_of reply)) }
+    ensures counted { IfOk result (λ reply. steps.new ≡ steps.old + reply.steps) }
+    ensures memory { OnErr result (IsCounted (IsRunOnce values (meaning plan.now)) steps.old steps.new) }
+{
+    let record = record_of(values);
+    match fill(alloc, plan.spec(), &record, &[])? {
+        Filled::Inputs(inputs) => {
+            let inputs = inputs.into_vec();
+            each_is_kept(&inputs);
+            finished(alloc, plan, &inputs, steps)
+        }
+        Filled::State(state) => state_reply(alloc, &state),
+    }
+}
+
+/// Each decimal is within the limits of kept ones, as its type says.
+fn each_is_kept(values: &[Dec])
+    ensures { All IsKept values.now }
+{
+    for value in values {
+        let _ = (value.numerator(), value.scale());
+    }
+}
+
+/// The refusal of a run that has no inputs. A run without earlier ones waits for none.
+fn state_reply(alloc: Global, state: &Blocked) -> Result<Reply, AllocError>
+    requires { (day : Date) → state.now ≢ Blocked.Waits day }
+    ensures { (f : Flowchart) → IfOk result (λ reply. IsRunOn f (State state.now) (reply_of reply)) }
+{
+    let detail = match state {
+        Blocked::Waits(_) => unreachable!(),
+        Blocked::Unknown(name) => format!(in alloc; "state unknown {name}")?,
+        Blocked::Missing(name) => format!(in alloc; "state missing {name}")?,
+        Blocked::Range(name) => format!(in alloc; "state range {name}")?,
+    };
+    refusal(alloc, detail.as_bytes())
+}
+
+/// The record of a run that stands alone: its employee and its day play no part.
+fn record_of(values: Values) -> Record
+    ensures { result.values ≡ values }
+{
+    Record {
+        employee: Employee::read(b"X").unwrap(),
+        day: Day::new(1900, 1, 1).unwrap(),
+        values,
+    }
+}
+
+/// The run of a plan on inputs that it admits.
+fn finished<L: Ledger>(
+    alloc: Global,
+    plan: &Plan,
+    inputs: &[Dec],
+    steps: &mut Steps<L>,
+) -> Result<Reply, AllocError>
+    requires { Admits plan.now inputs.now }
+    ensures answer { IfOk result
+        (λ reply. IsRunOn (flowchart plan.now) (Inputs inputs.now) (reply_of reply)) }
+    ensures counted { IfOk result (λ reply. steps.new ≡ steps.old + reply.steps) }
+    ensures memory { OnErr result
+        (IsCounted (IsRunOn (flowchart plan.now) (Inputs inputs.now)) steps.old steps.new) }
+{
+    let declared = &plan.text().plan().outputs;
+    let mut machine = plan.machine(alloc)?;
+    let mut outputs = vec![in alloc; Dec::new(0, 0); declared.len()]?;
+    let cost = plan.run(&mut machine, inputs, &mut outputs, steps);
+    let mut text = Vec::new(alloc);
+    write_values(alloc, declared, &outputs, &mut text)?;
+    let line = format!(in alloc; "steps {cost}\n")?;
+    text.extend_from_slice(line.as_bytes())?;
     Ok(Reply {
-        text: Vec::from_slice(alloc, b"refused plan Unbuilt\n")?,
-        refused: true,
-        steps: 0,
+        text,
+        refused: false,
+        steps: cost,
     })
 }
 
-/// The answer on the bytes of a plan and of a range file.
-fn reply_on_bytes(alloc: Global, plan: &[u8], limits: &[u8]) -> Result<Reply, AllocError>
-    ensures { IfOk result (λ reply. Answers plan.now limits.now (reply_of reply)) }
-{
-    let plan = match read_plan(alloc, plan) {
-        Ok(plan) => plan,
-        Err(PlanFault::Unbuilt) => return unbuilt_reply(alloc),
-        Err(PlanFault::Memory) => return Err(AllocError),
-    };
-    if !limits.is_empty() {
-        return unbuilt_reply(alloc);
-    }
-    reply_on_plan(alloc, &plan)
-}
-
-/// The answer on two files. Both are read, the plan first, each by one call for one byte more than its limit.
-fn reply_on_files<F: Files>(
+/// Appends a line for each output: its name and its value.
+fn write_values(
     alloc: Global,
-    plan: &str,
-    limits: &str,
-    files: &mut F,
-) -> Result<Reply, FileAnswer>
-    ensures ok { IfOk result (λ reply. ForSome (F.told files.old) (λ map. AnswersFiles map plan.now limits.now (reply_of reply))) }
-    ensures same { F.told files.new ≡ F.told files.old }
-    ensures cause { Caused FileAnswer.Failed (F.faults files.old) (F.faults files.new) result }
-    ensures named { IsErrOf result FileAnswer.Failed → (F.failed files.new ≡ Some plan.now) ⊎ (F.failed files.new ≡ Some limits.now) }
+    outputs: &[Declared],
+    values: &[Dec],
+    text: &mut Vec<u8>,
+) -> Result<(), AllocError>
+    requires { length values.now ≡ length outputs.now }
+    ensures { OnOk result (text.new.items
+        ≡ text.old.items ++ value_lines (map declaration_of outputs.now) values.now) }
 {
-    let plan_bytes = files.read_front(alloc, plan, LONGEST_PLAN + 1)?;
-    let limits_bytes = files.read_front(alloc, limits, LONGEST_LIMITS + 1)?;
-    Ok(reply_on_bytes(alloc, &plan_bytes, &limits_bytes)?)
-}
-
-/// Runs a plan once and writes the answer. `Ok` says whether it is a refusal.
-pub fn once<F: Files, W: Sink, L: Ledger>(
-    alloc: Global,
-    plan: &str,
-    limits: &str,
-    files: &mut F,
-    sink: &mut W,
-    steps: &mut Steps<L>,
-) -> Result<bool, Stop>
-    ensures meets { OnceMeets (F.told files.old) plan.now limits.now (W.written sink.old) (W.written sink.new) steps.old steps.new (F.failed files.new) (status_of result) }
-    ensures same { F.told files.new ≡ F.told files.old }
-    ensures file { Caused Stop.File (F.faults files.old) (F.faults files.new) result }
-    ensures write { Caused Stop.Write (W.faults sink.old) (W.faults sink.new) result }
-{
-    let reply = reply_on_files(alloc, plan, limits, files)?;
-    steps.add(reply.steps);
-    match put_all(sink, &reply.text) {
-        Ok(()) => Ok(reply.refused),
-        Err(_) => Err(Stop::Write),
+    for (at, output) in outputs.iter().enumerate() {
+        let name = output.name;
+        let value = values[at];
+        let line = format!(in alloc; "{name} {value}\n")?;
+        text.extend_from_slice(line.as_bytes())?;
     }
+    Ok(())
 }

@@ -1,16 +1,84 @@
 // The words of the command line.
-ghost use Rattle.std.specs.Prelude.{◌≡◌, MatchOption};
-ghost use Rattle.pap_cli.specs.Words.{texts, IsOnce, IsBad};
+ghost use Rattle.std.specs.Prelude.{◌≡◌, IfOk, IfSome, IfNone, MatchOption, List};
+ghost use Rattle.payroll_records.specs.declared.values.NamedValue.{NamedValue as Value};
+ghost use Rattle.pap_cli.specs.Words.{texts, IsValueWord, AreValueWords, HasForm, IsBad};
+ghost use Rattle.pap_cli.specs.WordViews.{form_of};
 
-/// The two files of `once PLAN LIMITS`. `None` where the words have not this form.
-pub fn once_files(words: &[String]) -> Option<(&str, &str)>
-    ensures { MatchOption result (IsBad (texts words.now)) (λ files. IsOnce (texts words.now) files.0.now files.1.now) }
+use pap_tree::Name;
+use payroll_records::{InsertFault, NamedValue, Values};
+use scaled_decimal::read_dec;
+use std::alloc::{AllocError, Global};
+
+/// What the words ask for: an answer on the file of a plan and a range file.
+#[derive(Drop)]
+pub(crate) struct Request<'a> {
+    pub plan: &'a str,
+    pub limits: &'a str,
+    pub command: Command,
+}
+
+/// What is asked of the two files.
+#[derive(Drop)]
+pub(crate) enum Command {
+    /// `check PLAN LIMITS`
+    Check,
+    /// `once PLAN LIMITS NAME=VALUE ..`, with the values.
+    Once(Values),
+}
+
+/// What the words ask for. `None` where they have no form.
+pub(crate) fn read_words(alloc: Global, words: &[String]) -> Result<Option<Request<'_>>, AllocError>
+    ensures { IfOk result (λ found. MatchOption found (IsBad (texts words.now))
+        (λ request. HasForm (texts words.now) (form_of request))) }
 {
-    match words {
-        [command, plan, limits] if command.as_str() == "once" => Some((
-            plan.as_str(),
-            limits.as_str(),
-        )),
-        _ => None,
+    let [command, plan, limits, rest @ ..] = words else {
+        return Ok(None);
+    };
+    let command = match command.as_str() {
+        "check" if rest.is_empty() => Command::Check,
+        "once" => match read_values(alloc, rest)? {
+            Some(values) => Command::Once(values),
+            None => return Ok(None),
+        },
+        _ => return Ok(None),
+    };
+    Ok(Some(Request {
+        plan: plan.as_str(),
+        limits: limits.as_str(),
+        command,
+    }))
+}
+
+/// The values of words. `None` where a word is no value word, a name stands twice, or there are more than 256 words.
+fn read_values(alloc: Global, words: &[String]) -> Result<Option<Values>, AllocError>
+    ensures { IfOk result (λ found. MatchOption found
+        ((values : List Value) → ¬ (AreValueWords (texts words.now) values))
+        (AreValueWords (texts words.now))) }
+{
+    let mut values = Values::new(alloc);
+    for word in words {
+        let Some(value) = read_value(word) else {
+            return Ok(None);
+        };
+        match values.insert(value) {
+            Ok(()) => {}
+            Err(InsertFault::Twice) => return Ok(None),
+            Err(InsertFault::Full) => return Ok(None),
+            Err(InsertFault::Memory(error)) => return Err(error),
+        }
+    }
+    Ok(Some(values))
+}
+
+/// The value of a word NAME=VALUE.
+fn read_value(word: &str) -> Option<NamedValue>
+    ensures read { IfSome result (IsValueWord word.now) }
+    ensures none { IfNone result ((v : Value) → ¬ (IsValueWord word.now v)) }
+{
+    let (name, value) = word.split_once('=')?;
+    let name = Name::read(name.as_bytes())?;
+    match read_dec(value.as_bytes()) {
+        Ok(value) => Some(NamedValue { name, value }),
+        Err(_) => None,
     }
 }

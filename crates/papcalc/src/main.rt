@@ -13,21 +13,25 @@ use std::process::ExitCode;
 use std::sync::ledger::{Blank, Ledger};
 use steps::Steps;
 
-const USAGE: &str = "usage: papcalc once PLAN LIMITS";
+const USAGE: &str = "usage: papcalc check PLAN LIMITS | papcalc once PLAN LIMITS NAME=VALUE ..";
 
 const VERSION: &str = "papcalc 0.1.0";
 
-const HELP: &str = "papcalc runs a wage tax flowchart
+const HELP: &str = "papcalc checks a wage tax flowchart and runs it
 
 usage:
-  papcalc once PLAN LIMITS    run the flowchart of the file PLAN once, with the ranges of the file LIMITS
-  papcalc --help              write this text
-  papcalc --version           write the program's version
+  papcalc check PLAN LIMITS                  say whether every run of the flowchart is safe on inputs within their ranges
+  papcalc once PLAN LIMITS NAME=VALUE ..     run the flowchart once on these inputs, at most 256 of them
+  papcalc --help                             write this text
+  papcalc --version                          write the program's version
 
-It writes a line NAME VALUE for each output and then `steps N`, or one line that begins with `refused`.
+PLAN is the file of a flowchart in the ministry's pseudocode (XML), LIMITS a range file (TOML): for each input the table
+[input.NAME] with low, high and places (digits after the point).
 
-So far a flowchart has no inputs, outputs of type int, and assignments that add and subtract. Any other is answered with
-`refused plan Unbuilt`, and LIMITS has to be an empty file.
+check writes `accepted steps B` with the most steps of a run, and for each output a line NAME LO HI SLO SHI: the least and
+the greatest value, and the least and the greatest number of digits after the point. once writes a line NAME VALUE for each
+output, and then `steps N`. An input that isn't given has its default. Both write one line that begins with `refused`
+where the flowchart or its range file is refused, or where an input is unknown, missing or outside its range.
 
 It ends with 0 where all was written, 1 where that is a refusal, 2 where the words are none of these, 3 where a file
 can't be read, 5 where the output can't be written, 6 where memory runs out.";

@@ -9,6 +9,8 @@ mod carries;
 #[cfg(test)]
 mod code;
 #[cfg(test)]
+mod commands;
+#[cfg(test)]
 mod counter;
 #[cfg(test)]
 mod decimals;

@@ -1,0 +1,243 @@
+-- What a call leaves on two files, and the headline from what each status says.
+use Rattle.std.proofs.Common.{◌≡◌, ◌≢◌, ℕ, ◌+◌, ◌-◌, ◌<◌, ◌≤◌, Bool, true, false, List, [], ◌++◌, length, take, refl, sym, ap, ◌∙◌, subst, arith, inl, inr}
+use Rattle.std.specs.Prelude.{MatchOption, ◌⊎◌, Option, Some, None, Result, Ok, Err}
+use Rattle.std.specs.Option.{ForSome}
+use Rattle.outside.specs.Causes.{Rose, Still}
+use Rattle.outside.specs.Told.{FileMap, IsToldFront, Appends, AppendsPrefix}
+use Rattle.outside.proofs.Laws.{Appends-nothing}
+use Rattle.outside.specs.declared.traits.FileAnswer.{FileAnswer}
+use Rattle.outside.specs.declared.traits.FileAnswer.TheVariants as files
+use Rattle.pap_cli.specs.declared.reply.Reply.{Reply}
+use Rattle.pap_cli.specs.declared.status.Status.{Status}
+use Rattle.pap_cli.specs.declared.status.Status.TheVariants.{Done, Refused, BadWords, FileFault, ReadFault, WriteFault, NoMemory, ScriptLong}
+use Rattle.pap_cli.specs.declared.stop.Stop.{Stop}
+use Rattle.pap_cli.specs.declared.stop.Stop.TheVariants as stops
+use Rattle.pap_cli.specs.declared.words.Command.{Command}
+use Rattle.pap_cli.specs.declared.words.Command.TheVariants.{Check, Once}
+use Rattle.pap_cli.specs.Statuses.{done_status, status_of, IsDone}
+use Rattle.pap_cli.specs.Stops.{stop_of}
+use Rattle.pap_cli.specs.Answers.{Answer, CheckAnswers, OnceAnswers}
+use Rattle.pap_cli.specs.AnswerViews.{reply_of, answers_of}
+use Rattle.pap_cli.specs.Outside.{Outside}
+use Rattle.pap_cli.specs.FileClauses.{Answering, AnswersFiles, IsCounted, IsUnwritten, IsMissing, LeavesOnFiles, IsAnsweredOnFiles, HeadlineOnFiles}
+use Rattle.pap_cli.specs.FileViews.{shown, AreFronts}
+use Rattle.pap_cli.specs.CallClauses.{Leaves, Headline}
+use Rattle.pap_cli.specs.Words.{Form, check, once}
+use Rattle.pap_cli.specs.WordViews.{form_by}
+use Rattle.pap_cli.proofs.FrontLemmas.{answers_both}
+
+-- ---- statuses of what was written whole
+
+no_write : (r : Bool) → done_status r ≢ WriteFault
+no_write true e = cc
+no_write false e = cc
+
+no_file : (r : Bool) → done_status r ≢ FileFault
+no_file true e = cc
+no_file false e = cc
+
+no_memory : (r : Bool) → done_status r ≢ NoMemory
+no_memory true e = cc
+no_memory false e = cc
+
+not_bad : (r : Bool) → done_status r ≢ BadWords
+not_bad true e = cc
+not_bad false e = cc
+
+not_read : (r : Bool) → done_status r ≢ ReadFault
+not_read true e = cc
+not_read false e = cc
+
+not_long : (r : Bool) → done_status r ≢ ScriptLong
+not_long true e = cc
+not_long false e = cc
+
+module _ (Answers : Answering) (plan limits : List ℕ) (told told' : Option FileMap) (failed failed' : Option (List ℕ)) (first written : Option (List ℕ)) (began steps : ℕ) where
+  abbrev pub Left : Status → Type 0
+  Left status = LeavesOnFiles Answers plan limits (shown told failed first began) (shown told' failed' written steps) status
+
+  -- an answer that was made
+  module _ (reply : Reply) (is : (files : FileMap) → told ≡ Some files → AnswersFiles Answers plan limits files (reply_of reply)) (counted : steps ≡ began + reply.steps) (kept : failed' ≡ failed) where
+    -- it was written whole
+    pub leaves_whole : Appends first written reply.text.items → Left (done_status reply.refused)
+    leaves_whole appended = record {
+      out = reply.text.items;
+      appended = appended;
+      counted = omega arith;
+      whole = λ done files e. record { answer = reply_of reply; is = is files e; text = refl; cost = omega arith; ended = refl };
+      cut = λ e. absurd (no_write reply.refused e);
+      file = λ e. absurd (no_file reply.refused e);
+      kept = λ e. kept;
+      memory = λ e. absurd (no_memory reply.refused e);
+      memory_counted = λ e. absurd (no_memory reply.refused e);
+      words_are_good = not_bad reply.refused;
+      reads_no_script = not_read reply.refused;
+      takes_no_script = not_long reply.refused;
+    }
+
+    -- the sink failed
+    pub leaves_cut : AppendsPrefix first written reply.text.items → Left WriteFault
+    leaves_cut part = record {
+      out = take part.count reply.text.items;
+      appended = part.appended;
+      counted = omega arith;
+      whole = λ done. absurd done;
+      cut = λ e files t. record { answer = reply_of reply; is = is files t; count = part.count; within = part.within; text = refl; cost = omega arith };
+      file = λ e. cc;
+      kept = λ e. kept;
+      memory = λ e. cc;
+      memory_counted = λ e. cc;
+      words_are_good = λ e. cc;
+      reads_no_script = λ e. cc;
+      takes_no_script = λ e. cc;
+    }
+
+-- memory ran out before anything was written
+pub leaves_memory : (Answers : Answering) (plan limits : List ℕ) (told told' : Option FileMap) (failed failed' : Option (List ℕ)) (first : Option (List ℕ)) (began steps : ℕ) → failed' ≡ failed → began ≤ steps →
+    ((files : FileMap) → told ≡ Some files → IsCounted (AnswersFiles Answers plan limits files) began steps) →
+    LeavesOnFiles Answers plan limits (shown told failed first began) (shown told' failed' first steps) NoMemory
+leaves_memory Answers plan limits told told' failed failed' first began steps kept more counted = record {
+  out = [];
+  appended = Appends-nothing first;
+  counted = more;
+  whole = λ done. absurd done;
+  cut = λ e. cc;
+  file = λ e. cc;
+  kept = λ e. kept;
+  memory = λ e. refl;
+  memory_counted = λ e. counted;
+  words_are_good = λ e. cc;
+  reads_no_script = λ e. cc;
+  takes_no_script = λ e. cc;
+}
+
+-- a file could not be read
+pub leaves_file : (Answers : Answering) (plan limits : List ℕ) (told told' : Option FileMap) (failed failed' : Option (List ℕ)) (first : Option (List ℕ)) (began : ℕ) → IsMissing told plan limits failed' →
+    LeavesOnFiles Answers plan limits (shown told failed first began) (shown told' failed' first began) FileFault
+leaves_file Answers plan limits told told' failed failed' first began missing = record {
+  out = [];
+  appended = Appends-nothing first;
+  counted = omega arith;
+  whole = λ done. absurd done;
+  cut = λ e. cc;
+  file = λ e. (refl, refl, missing);
+  kept = λ e. absurd (e refl);
+  memory = λ e. cc;
+  memory_counted = λ e. cc;
+  words_are_good = λ e. cc;
+  reads_no_script = λ e. cc;
+  takes_no_script = λ e. cc;
+}
+
+-- what the files answered, at the exit of the call
+pub leaves_answer : (Answers : Answering) (plan limits : List ℕ) (told told' : Option FileMap) (failed failed' : Option (List ℕ)) (first : Option (List ℕ)) (began : ℕ) (answer : FileAnswer) →
+    (answer ≡ files.Failed → IsMissing told plan limits failed') → (answer ≡ files.Memory → failed' ≡ failed) → (r : Result Bool Stop) → r ≡ Err (stop_of answer) →
+    LeavesOnFiles Answers plan limits (shown told failed first began) (shown told' failed' first began) (status_of r)
+leaves_answer Answers plan limits told told' failed failed' first began answer missing kept r is =
+    subst (λ x. LeavesOnFiles Answers plan limits (shown told failed first began) (shown told' failed' first began) (status_of x)) (sym is) (by answer missing kept)
+  where
+    by : (answer : FileAnswer) → (answer ≡ files.Failed → IsMissing told plan limits failed') → (answer ≡ files.Memory → failed' ≡ failed) → LeavesOnFiles Answers plan limits (shown told failed first began) (shown told' failed' first began) (status_of (Err (stop_of answer)))
+    by files.Failed missing kept = leaves_file Answers plan limits told told' failed failed' first began (missing refl)
+    by files.Memory missing kept = leaves_memory Answers plan limits told told' failed failed' first began began (kept refl) (omega arith) (λ files e. inl refl)
+
+-- ---- by form
+
+-- the same of all that the outside shows
+pub leaves_form : (c : Command) (plan limits : List ℕ) (before after : Outside) (status : Status) →
+    LeavesOnFiles (answers_of c) plan limits (shown before.files before.failed before.written before.steps) (shown after.files after.failed after.written after.steps) status →
+    Leaves (form_by c plan limits) before after status
+leaves_form Check plan limits before after status h = record { out = h.out; appended = h.appended; counted = h.counted; whole = h.whole; cut = h.cut; file = h.file; kept = h.kept; memory = h.memory; memory_counted = h.memory_counted; words_are_good = h.words_are_good; reads_no_script = h.reads_no_script; takes_no_script = h.takes_no_script }
+leaves_form (Once values) plan limits before after status h = record { out = h.out; appended = h.appended; counted = h.counted; whole = h.whole; cut = h.cut; file = h.file; kept = h.kept; memory = h.memory; memory_counted = h.memory_counted; words_are_good = h.words_are_good; reads_no_script = h.reads_no_script; takes_no_script = h.takes_no_script }
+
+rose_and_still : (before now : ℕ) → Rose before now → Still before now → ⊥
+rose_and_still before now rose still = omega arith
+
+appended_told : (first written : Option (List ℕ)) (before out : List ℕ) → first ≡ Some before → Appends first written out → written ≡ Some (before ++ out)
+appended_told first None before out e a = absurd (subst (λ v. Appends v None out) e a)
+appended_told first (Some now) before out e a = ap (λ v. Some v) (subst (λ v. Appends v (Some now) out) e a)
+
+is_done : (status : Status) → status ≢ BadWords → status ≢ FileFault → status ≢ ReadFault → status ≢ WriteFault → status ≢ NoMemory → status ≢ ScriptLong → IsDone status
+is_done Done b f r w m l = tt
+is_done Refused b f r w m l = tt
+is_done BadWords b f r w m l = b refl
+is_done FileFault b f r w m l = f refl
+is_done ReadFault b f r w m l = r refl
+is_done WriteFault b f r w m l = w refl
+is_done NoMemory b f r w m l = m refl
+is_done ScriptLong b f r w m l = l refl
+
+headline_on : (Answers : Answering) (plan limits : List ℕ) (before after : Outside) (status : Status) → LeavesOnFiles Answers plan limits before after status →
+    (status ≡ FileFault → Rose before.file_faults after.file_faults) → (status ≡ WriteFault → Rose before.sink_faults after.sink_faults) → HeadlineOnFiles Answers plan limits before after status
+headline_on Answers plan limits before after status h file write files told written said memory still_files still_sink =
+    let done = is_done status h.words_are_good (λ e. rose_and_still before.file_faults after.file_faults (file e) still_files) h.reads_no_script (λ e. rose_and_still before.sink_faults after.sink_faults (write e) still_sink) memory h.takes_no_script in
+    let whole = h.whole done files told in
+    record {
+      answer = whole.answer;
+      answers = whole.is;
+      text = appended_told before.written after.written written h.out said h.appended ∙ ap (λ v. Some (written ++ v)) whole.text;
+      cost = omega (arith, whole.cost, h.counted);
+      ended = whole.ended;
+    }
+
+-- the headline of each form, from what each status says
+pub headline_form : (c : Command) (plan limits : List ℕ) (before after : Outside) (status : Status) → Leaves (form_by c plan limits) before after status →
+    (status ≡ FileFault → Rose before.file_faults after.file_faults) → (status ≡ WriteFault → Rose before.sink_faults after.sink_faults) → Headline (form_by c plan limits) before after status
+headline_form Check plan limits before after status h file write = headline_on (answers_of Check) plan limits before after status h file write
+headline_form (Once values) plan limits before after status h file write = headline_on (answers_of (Once values)) plan limits before after status h file write
+
+-- ---- stops
+
+pub file_stop : (r : Result Bool Stop) → status_of r ≡ FileFault → r ≡ Err stops.File
+file_stop (Ok true) e = cc
+file_stop (Ok false) e = cc
+file_stop (Err stops.File) e = refl
+file_stop (Err stops.Write) e = cc
+file_stop (Err stops.Memory) e = cc
+
+pub write_stop : (r : Result Bool Stop) → status_of r ≡ WriteFault → r ≡ Err stops.Write
+write_stop (Ok true) e = cc
+write_stop (Ok false) e = cc
+write_stop (Err stops.File) e = cc
+write_stop (Err stops.Write) e = refl
+write_stop (Err stops.Memory) e = cc
+
+pub never_bad : (r : Result Bool Stop) → status_of r ≢ BadWords
+never_bad (Ok true) e = cc
+never_bad (Ok false) e = cc
+never_bad (Err stops.File) e = cc
+never_bad (Err stops.Write) e = cc
+never_bad (Err stops.Memory) e = cc
+
+-- ---- both files
+
+there : (o : Option (List ℕ)) (n : ℕ) (bytes : List ℕ) → MatchOption o ⊥ (λ content. bytes ≡ take n content) → (content : List ℕ) × (o ≡ Some content) × (bytes ≡ take n content)
+there None n bytes h = absurd h
+there (Some content) n bytes h = (content, refl, h)
+
+pub fronts : (told told' : Option FileMap) (files : FileMap) (plan limits front front' : List ℕ) → told ≡ Some files → told' ≡ told → IsToldFront told plan 1048577 front → IsToldFront told' limits 262145 front' → AreFronts files plan limits front front'
+fronts told told' files plan limits front front' e same first second =
+    let p = there (files plan) 1048577 front (subst (λ t. IsToldFront t plan 1048577 front) e first) in
+    let l = there (files limits) 262145 front' (subst (λ t. IsToldFront t limits 262145 front') (same ∙ e) second) in
+    record { plan_bytes = p.0; limits_bytes = l.0; plan_there = p.1; limits_there = l.1; plan_read = p.2; limits_read = l.2 }
+
+-- what was counted where memory ran out, said of the files
+more_counted : (IsAnswer : Answer → Type 0) (began steps : ℕ) → IsCounted IsAnswer began steps → began ≤ steps
+more_counted IsAnswer began steps (inl e) = omega arith
+more_counted IsAnswer began steps (inr u) = omega (arith, u.cost)
+
+counted_both : (c : Command) (plan limits front front' : List ℕ) (files : FileMap) (began steps : ℕ) → AreFronts files plan limits front front' → IsCounted (answers_of c front front') began steps → IsCounted (AnswersFiles (answers_of c) plan limits files) began steps
+counted_both c plan limits front front' files began steps r (inl e) = inl e
+counted_both c plan limits front front' files began steps r (inr u) = inr (record { answer = u.answer; is = answers_both c plan limits front front' files u.answer r u.is; cost = u.cost })
+
+-- memory ran out while the answer was made
+pub leaves_want : (c : Command) (plan limits front front' : List ℕ) (told told' : Option FileMap) (failed failed' first : Option (List ℕ)) (began steps : ℕ) → failed' ≡ failed →
+    ((files : FileMap) → told ≡ Some files → AreFronts files plan limits front front') → IsCounted (answers_of c front front') began steps → (r : Result Bool Stop) → r ≡ Err stops.Memory →
+    LeavesOnFiles (answers_of c) plan limits (shown told failed first began) (shown told' failed' first steps) (status_of r)
+leaves_want c plan limits front front' told told' failed failed' first began steps kept read counted r is =
+    subst (λ x. LeavesOnFiles (answers_of c) plan limits (shown told failed first began) (shown told' failed' first steps) (status_of x)) (sym is)
+    (leaves_memory (answers_of c) plan limits told told' failed failed' first began steps kept (more_counted (answers_of c front front') began steps counted) (λ files e. counted_both c plan limits front front' files began steps (read files e) counted))
+
+-- memory ran out before anything was touched
+pub leaves_none : (form : Form) (o : Outside) → Leaves form o o NoMemory
+leaves_none (check plan limits) o = leaves_form Check plan limits o o NoMemory (leaves_memory CheckAnswers plan limits o.files o.files o.failed o.failed o.written o.steps o.steps refl (omega arith) (λ files e. inl refl))
+leaves_none (once plan limits values) o = leaves_form (Once values) plan limits o o NoMemory (leaves_memory (OnceAnswers values) plan limits o.files o.files o.failed o.failed o.written o.steps o.steps refl (omega arith) (λ files e. inl refl))

@@ -1,0 +1,7 @@
+use Rattle.std.proofs.Common.{take}
+use Rattle.pap_cli.specs.Words.{texts}
+use Rattle.pap_cli.proofs.WordLemmas.{AreSoFar}
+use Rattle.pap_cli.proofs.words.read_values.Given as goal
+
+abbrev pub invariant-loop-word : goal.invariant-loop-word
+invariant-loop-word l = AreSoFar (texts (take l.word-index l.words)) l.values

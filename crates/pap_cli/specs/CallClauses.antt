@@ -1,0 +1,16 @@
+-- What a call leaves, by the form of its words: a form more is a case more.
+use Rattle.pap_cli.specs.declared.status.Status.{Status}
+use Rattle.pap_cli.specs.Words.{Form, check, once}
+use Rattle.pap_cli.specs.Answers.{CheckAnswers, OnceAnswers}
+use Rattle.pap_cli.specs.Outside.{Outside}
+use Rattle.pap_cli.specs.FileClauses.{LeavesOnFiles, HeadlineOnFiles}
+
+-- what each status says of the text, of the counter and of the failed name
+abbrev pub Leaves : Form → Outside → Outside → Status → Type 0
+Leaves (check plan limits) before after status = LeavesOnFiles CheckAnswers plan limits before after status
+Leaves (once plan limits values) before after status = LeavesOnFiles (OnceAnswers values) plan limits before after status
+
+-- while memory is there and no outside call fails, what is written is the defined answer
+abbrev pub Headline : Form → Outside → Outside → Status → Type 0
+Headline (check plan limits) before after status = HeadlineOnFiles CheckAnswers plan limits before after status
+Headline (once plan limits values) before after status = HeadlineOnFiles (OnceAnswers values) plan limits before after status

@@ -1,0 +1,89 @@
+-- What a call leaves that answers on a plan's file and a range file, by its status (docs/DEFINITIONS.md).
+use Rattle.std.specs.Prelude.{◌≡◌, ◌≢◌, ◌⊎◌, ℕ, ◌+◌, ◌-◌, ◌≤◌, ◌<◌, List, [], ◌++◌, length, take, Option, Some, IsSome}
+use Rattle.std.specs.Option.{ForSome}
+use Rattle.outside.specs.Causes.{Still}
+use Rattle.outside.specs.Told.{FileMap, Appends}
+use Rattle.pap_cli.specs.declared.status.Status.{Status}
+use Rattle.pap_cli.specs.declared.status.Status.TheVariants as statuses
+use Rattle.pap_cli.specs.Statuses.{done_status, IsDone}
+use Rattle.pap_cli.specs.Answers.{Answer}
+use Rattle.pap_cli.specs.Outside.{Outside}
+
+-- which answer the bytes of a plan and of a range file have
+abbrev pub Answering : Type 1
+Answering = List ℕ → List ℕ → Answer → Type 0
+
+-- the files of these names are there, and this is the answer on their bytes
+pub record AnswersFiles (Answers : Answering) (plan limits : List ℕ) (files : FileMap) (answer : Answer) : Type 0 where
+  pub plan_bytes : List ℕ
+  pub limits_bytes : List ℕ
+  pub plan_there : files plan ≡ Some plan_bytes
+  pub limits_there : files limits ≡ Some limits_bytes
+  pub answers : Answers plan_bytes limits_bytes answer
+
+-- the defined text was written, the counter rose by the run's steps, and the status says whether it is a refusal
+pub record IsWhole (IsAnswer : Answer → Type 0) (out : List ℕ) (spent : ℕ) (status : Status) : Type 0 where
+  pub answer : Answer
+  pub is : IsAnswer answer
+  pub text : out ≡ answer.text
+  pub cost : spent ≡ answer.steps
+  pub ended : status ≡ done_status answer.refused
+
+-- a front of the defined text was written, and not the whole; the counter rose by the run's steps
+pub record IsCutShort (IsAnswer : Answer → Type 0) (out : List ℕ) (spent : ℕ) : Type 0 where
+  pub answer : Answer
+  pub is : IsAnswer answer
+  pub count : ℕ
+  pub within : count < length answer.text
+  pub text : out ≡ take count answer.text
+  pub cost : spent ≡ answer.steps
+
+-- the run was counted, and its answer wasn't written
+pub record IsUnwritten (IsAnswer : Answer → Type 0) (began steps : ℕ) : Type 0 where
+  pub answer : Answer
+  pub is : IsAnswer answer
+  pub cost : steps ≡ began + answer.steps
+
+-- where memory ran out: nothing was counted, or the run was
+abbrev pub IsCounted : (Answer → Type 0) → ℕ → ℕ → Type 0
+IsCounted IsAnswer began steps = (steps ≡ began) ⊎ IsUnwritten IsAnswer began steps
+
+-- the name at which the files failed: the plan's, or the range file's where the plan is there
+abbrev pub IsMissing : Option FileMap → List ℕ → List ℕ → Option (List ℕ) → Type 0
+IsMissing told plan limits failed =
+    (failed ≡ Some plan) ⊎ ((failed ≡ Some limits) × ForSome told (λ files. IsSome (files plan)))
+
+-- what the call leaves, by its status; of the text where the files tell what they hold, of the rest always
+pub record LeavesOnFiles (Answers : Answering) (plan limits : List ℕ) (before after : Outside) (status : Status) : Type 0 where
+  pub out : List ℕ
+  pub appended : Appends before.written after.written out
+  pub counted : before.steps ≤ after.steps
+  pub whole : IsDone status → ForSome before.files (λ files.
+      IsWhole (AnswersFiles Answers plan limits files) out (after.steps - before.steps) status)
+  pub cut : status ≡ statuses.WriteFault → ForSome before.files (λ files.
+      IsCutShort (AnswersFiles Answers plan limits files) out (after.steps - before.steps))
+  pub file : status ≡ statuses.FileFault →
+      (out ≡ []) × (after.steps ≡ before.steps) × IsMissing before.files plan limits after.failed
+  pub kept : status ≢ statuses.FileFault → after.failed ≡ before.failed
+  pub memory : status ≡ statuses.NoMemory → out ≡ []
+  pub memory_counted : status ≡ statuses.NoMemory → ForSome before.files (λ files.
+      IsCounted (AnswersFiles Answers plan limits files) before.steps after.steps)
+  pub words_are_good : status ≢ statuses.BadWords
+  pub reads_no_script : status ≢ statuses.ReadFault
+  pub takes_no_script : status ≢ statuses.ScriptLong
+
+-- both files are there, the answer on them was written whole, the counter rose by its steps, and the status says whether it
+-- is a refusal
+pub record IsAnsweredOnFiles (Answers : Answering) (plan limits : List ℕ) (files : FileMap) (written : List ℕ) (before after : Outside) (status : Status) : Type 0 where
+  pub answer : Answer
+  pub answers : AnswersFiles Answers plan limits files answer
+  pub text : after.written ≡ Some (written ++ answer.text)
+  pub cost : after.steps ≡ before.steps + answer.steps
+  pub ended : status ≡ done_status answer.refused
+
+-- the headline: where the files and the sink tell what they hold, while memory is there and no call of them fails
+abbrev pub HeadlineOnFiles : Answering → List ℕ → List ℕ → Outside → Outside → Status → Type 0
+HeadlineOnFiles Answers plan limits before after status =
+    ForSome before.files (λ files. ForSome before.written (λ written.
+    status ≢ statuses.NoMemory → Still before.file_faults after.file_faults → Still before.sink_faults after.sink_faults →
+    IsAnsweredOnFiles Answers plan limits files written before after status))

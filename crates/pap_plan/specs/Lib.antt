@@ -1,0 +1,9 @@
+pub mod Acceptance
+pub mod AcceptanceClauses
+pub mod AcceptanceLaws
+pub mod BindingViews
+pub mod Bindings
+pub mod Inputs
+pub mod JudgedViews
+pub mod PlanViews
+pub mod Plans

@@ -1,0 +1,57 @@
+-- What an inner fault becomes, and what a plan keeps.
+use Rattle.std.specs.Prelude.{◌≡◌, ℕ, List, ⊤, map, Ok}
+use Rattle.pap_tree.specs.declared.plan.PlanText.{PlanText}
+use Rattle.pap_tree.specs.Flowchart.{flowchart_of}
+use Rattle.limits_file.specs.declared.limits.Limits.{Limits}
+use Rattle.limits_file.specs.declared.slots.Slot.{Slot}
+use Rattle.pap_machine.specs.Code.{Program}
+use Rattle.pap_types.specs.Meaning.{bound_of}
+use Rattle.pap_types.specs.Counts.{IsWithinCounts}
+use Rattle.range_walk.specs.Admission.{HaveLimits}
+use Rattle.pap_compiler.specs.Correct.{IsCodeOf}
+use Rattle.interval_analysis.specs.declared.verdict.OutputRange.{OutputRange}
+use Rattle.pap_plan.specs.Acceptance.{IsAccepted}
+use Rattle.pap_plan.specs.Inputs.{AreSlots}
+use Rattle.pap_plan.specs.Plans.{Seen, meaning}
+use Rattle.limits_file.specs.declared.fault.LimitsFault.{LimitsFault}
+use Rattle.limits_file.specs.declared.fault.LimitsFault.TheVariants as limits
+use Rattle.plan_text.specs.declared.fault.PlanFault.{PlanFault}
+use Rattle.plan_text.specs.declared.fault.PlanFault.TheVariants as texts
+use Rattle.pap_types.specs.declared.fault.TypeFault.{TypeFault}
+use Rattle.pap_types.specs.declared.fault.TypeFault.TheVariants as types
+use Rattle.call_order.specs.declared.fault.OrderFault.{OrderFault}
+use Rattle.call_order.specs.declared.fault.OrderFault.TheVariants as orders
+use Rattle.interval_analysis.specs.declared.fault.RangeFault.{RangeFault}
+use Rattle.interval_analysis.specs.declared.fault.RangeFault.TheVariants as ranges
+use Rattle.pap_plan.specs.declared.refusal.PlanRefusal.{PlanRefusal}
+use Rattle.pap_plan.specs.declared.refusal.PlanRefusal.TheVariants as refusals
+
+abbrev pub text_refusal : PlanFault → PlanRefusal
+text_refusal (texts.Read f) = refusals.Read f
+text_refusal (texts.Expr spot f) = refusals.Expr spot f
+text_refusal texts.Memory = refusals.Memory
+
+abbrev pub type_refusal : TypeFault → PlanRefusal
+type_refusal (types.Memory e) = refusals.Memory
+type_refusal f = refusals.Types f
+
+abbrev pub order_refusal : OrderFault → PlanRefusal
+order_refusal (orders.Memory e) = refusals.Memory
+order_refusal f = refusals.Order f
+
+abbrev pub limits_refusal : LimitsFault → PlanRefusal
+limits_refusal (limits.Memory e) = refusals.Memory
+limits_refusal f = refusals.Limits f
+
+abbrev pub range_refusal : RangeFault → PlanRefusal
+range_refusal (ranges.Memory e) = refusals.Memory
+range_refusal f = refusals.Range f
+
+-- what a plan keeps beside what contracts see of it
+pub record IsKept (p : Seen) (most : ℕ) (inputs : List Slot) : Type 0 where
+  pub accepted : IsAccepted p.plan p.limits (meaning p)
+  pub counted : IsWithinCounts (flowchart_of p.text)
+  pub limited : HaveLimits (flowchart_of p.text) p.ranges
+  pub bound : most ≡ bound_of (flowchart_of p.text)
+  pub slots : AreSlots p.ranges (flowchart_of p.text).inputs inputs
+  pub code : IsCodeOf (flowchart_of p.text) p.code

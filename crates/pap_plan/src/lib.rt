@@ -1,0 +1,13 @@
+//! Acceptance: from the two texts of a plan to a plan that runs, whatever admitted inputs it gets.
+#![tactic(auto)]
+
+mod acceptance;
+mod bindings;
+mod inputs;
+mod plan;
+mod refusal;
+
+pub use acceptance::{accept, acceptance_laws, read_plan};
+pub use plan::Plan;
+pub use plan_text::Spot;
+pub use refusal::PlanRefusal;

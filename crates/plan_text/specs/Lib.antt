@@ -1,0 +1,5 @@
+pub mod ExprFaults
+pub mod Plans
+pub mod Sites
+pub mod Spots
+pub mod Views

@@ -1,4 +1,0 @@
-pub mod TokenLemmas
-pub mod Readings
-pub mod Numbers
-pub mod SumSteps

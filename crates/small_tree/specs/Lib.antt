@@ -1,4 +1,0 @@
-pub mod Term
-pub mod Body
-pub mod Numbering
-pub mod Spelling
