@@ -9,12 +9,12 @@ build:
 
 # Proves nothing and keeps nothing: the kit compiles the program with tests at run time and prints what it wrote.
 look:
-	cd crates/papcalc && rt try --data wage_tax.xml=../../examples/wage_tax.xml \
-	    --data wage_tax.toml=../../examples/wage_tax.toml -- check wage_tax.xml wage_tax.toml
+	cd crates/papcalc && rt try --data payroll_tax.xml=../../examples/payroll_tax.xml \
+	    --data payroll_tax.toml=../../examples/payroll_tax.toml -- check payroll_tax.xml payroll_tax.toml
 
 demo: build
-	build/papcalc check examples/wage_tax.xml examples/wage_tax.toml
-	build/papcalc once examples/wage_tax.xml examples/wage_tax.toml GROSS=1234567 MONTHS=4 CHILDREN=2
+	build/papcalc check examples/payroll_tax.xml examples/payroll_tax.toml
+	build/papcalc once examples/payroll_tax.xml examples/payroll_tax.toml PERIOD=2 PAY=450000 TAX_CLASS=1
 
 test:
 	bash .ci/run
