@@ -26,6 +26,8 @@ pub record AreValuesOf (names : List Text) (columns : List Column) (row : List T
   pub few : length values ≤ count
   pub rising : IsRising name_cmp name_of values
   pub supplied : AllByRecursion (Supplies names row) values
-  pub below : (j : ℕ) (c : Column) → count ≤ j → j < length columns → AllByRecursion (λ v. name_cmp v.name (column_at columns j c).name ≡ Less) values
-  pub all : (j : ℕ) (c : Column) (d : Decimal) → j < count → IsNumberText (cell_of row (column_at columns j c).place) d →
+  pub below : (j : ℕ) (c : Column) → count ≤ j → j < length columns →
+      AllByRecursion (λ v. name_cmp v.name (column_at columns j c).name ≡ Less) values
+  pub all : (j : ℕ) (c : Column) (d : Decimal) → j < count →
+      IsNumberText (cell_of row (column_at columns j c).place) d →
       Contains values (record { name = (column_at columns j c).name; value = d })
