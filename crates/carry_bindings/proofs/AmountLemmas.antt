@@ -13,12 +13,14 @@ use Rattle.std.proofs.lemmas.Int.{ints}
 use Rattle.std.proofs.Math.Seq.{drop-cons}
 use borrow.Author.Differences.{sum_is_lem}
 use Rattle.scaled_decimal.specs.Decimals.{Decimal, decimal, numerator_at, numerator_of, scale_of, greater_scale, sum, ten_to, value_order}
+use Rattle.scaled_decimal.specs.Limits.{IsWithinLimit, limit as most}
 use Rattle.scaled_decimal.specs.WorkingNumbers.{SumFits}
 use Rattle.scaled_decimal.proofs.Laws.{times_assoc, ten_add, ten_some, le_times, aligned_order}
 use Rattle.limits_file.specs.declared.limits.InputLimit.{InputLimit}
+use Rattle.limits_file.specs.Limits.{IsFactorLimit, IsWithinBound, is_kept_at}
 use Rattle.payroll_records.specs.declared.values.NamedValue.{NamedValue}
 use Rattle.carry_bindings.specs.Carrying.{amount_of, amounts, named}
-use Rattle.carry_bindings.specs.Conditions.{IsBoundedOutput, AreBounded, SuitsDouble}
+use Rattle.carry_bindings.specs.Conditions.{AreBounded}
 use Rattle.carry_bindings.specs.Filling.{admits}
 use Rattle.carry_bindings.specs.declared.carried.Earlier.{Earlier}
 
@@ -56,7 +58,7 @@ pub record IsPartial (count : ℕ) (d : Decimal) : Type 0 where
   pub places : scale_of d ≤ 12
   pub bounded : unsigned_abs (numerator_at 12 d) ≤ count * 10 ^ 32
 
-module _ (count : ℕ) (few : count ≤ 366) (a b : Decimal) (h : IsPartial count a) (k : IsBoundedOutput b) where
+module _ (count : ℕ) (few : count ≤ 366) (a b : Decimal) (h : IsPartial count a) (k : IsWithinBound b) where
   top : greater_scale a b ≤ 12
   top = omega (arith, h.places, k.places)
 
@@ -64,7 +66,7 @@ module _ (count : ℕ) (few : count ≤ 366) (a b : Decimal) (h : IsPartial coun
   left = at_fewer (greater_scale a b) 12 (count * 10 ^ 32) a (omega arith) top h.bounded
 
   right : unsigned_abs (numerator_at (greater_scale a b) b) ≤ 10 ^ 32
-  right = at_fewer (greater_scale a b) 12 (10 ^ 32) b (omega arith) top k.bounded
+  right = at_fewer (greater_scale a b) 12 (10 ^ 32) b (omega arith) top k.small
 
   pub sum_fits : SumFits a b
   sum_fits =
@@ -81,19 +83,19 @@ module _ (count : ℕ) (few : count ≤ 366) (a b : Decimal) (h : IsPartial coun
       let lb = longer (greater_scale a b) 12 b (omega arith) t in
       let both = abs_add (numerator_at 12 a) (numerator_at 12 b) in
       let x = h.bounded in
-      let y = k.bounded in
+      let y = k.small in
       record { places = t; bounded = rw (apart, la, lb) (omega arith) }
 
 -- an output of a bounded run is bounded
-named_bounded : (name : List ℕ) (outputs : List NamedValue) (d : Decimal) → AllByRecursion (λ v. IsBoundedOutput v.value) outputs → named name outputs ≡ Some d → IsBoundedOutput d
+named_bounded : (name : List ℕ) (outputs : List NamedValue) (d : Decimal) → AllByRecursion (λ v. IsWithinBound v.value) outputs → named name outputs ≡ Some d → IsWithinBound d
 named_bounded name [] d h e = absurd (cc e)
 named_bounded name (v ∷ vs) d h e = by (bytes_eq v.name name) e (named_bounded name vs d h.1)
   where
-    by : (b : Bool) → option_map (λ (v : NamedValue). v.value) (cond b (Some v) (find (λ (v : NamedValue). bytes_eq v.name name) vs)) ≡ Some d → (named name vs ≡ Some d → IsBoundedOutput d) → IsBoundedOutput d
-    by true e more = let same : v.value ≡ d = cc in subst IsBoundedOutput same h.0
+    by : (b : Bool) → option_map (λ (v : NamedValue). v.value) (cond b (Some v) (find (λ (v : NamedValue). bytes_eq v.name name) vs)) ≡ Some d → (named name vs ≡ Some d → IsWithinBound d) → IsWithinBound d
+    by true e more = let same : v.value ≡ d = cc in subst IsWithinBound same h.0
     by false e more = more e
 
-amount_by : (name : List ℕ) (o : Option (List NamedValue)) (d : Decimal) → AreBounded o → option_and_then (named name) o ≡ Some d → IsBoundedOutput d
+amount_by : (name : List ℕ) (o : Option (List NamedValue)) (d : Decimal) → AreBounded o → option_and_then (named name) o ≡ Some d → IsWithinBound d
 amount_by name None d h e = absurd (cc e)
 amount_by name (Some outputs) d h e = named_bounded name outputs d h e
 
@@ -103,7 +105,7 @@ run_at (x ∷ xs) zero e h l is = subst (λ (y : Earlier). AreBounded y.outputs)
 run_at (x ∷ xs) (suc i) e h l is = run_at xs i e h.1 (omega arith) is
 
 pub amount_bounded : (name : List ℕ) (es : List Earlier) (i : ℕ) (e : Earlier) (d : Decimal) → AllByRecursion (λ e. AreBounded e.outputs) es → i < length es → e ≡ get_or es i e →
-    amount_of name e ≡ Some d → IsBoundedOutput d
+    amount_of name e ≡ Some d → IsWithinBound d
 amount_bounded name es i e d h l is a = amount_by name e.outputs d (run_at es i e h l is) a
 
 -- a value that a limit for a `double` admits
@@ -132,16 +134,27 @@ and_parts false b c e = absurd (false≢true e)
 few_places : (s p : ℕ) → nat_le s p ≡ true → s ≤ p
 few_places s p e = grind (arith, nat_tests)
 
-pub double_fits : (limit : InputLimit) (v : Decimal) → SuitsDouble limit → admits limit v ≡ true → SumFits v (decimal (pos 0) 3)
+-- what the test of a bound says
+kept_at : (d : Decimal) → is_kept_at 3 d ≡ true → (scale_of d ≤ 3) × IsWithinLimit (numerator_at 3 d)
+kept_at d e = by (nat_le (scale_of d) 3) (nat_le (unsigned_abs (numerator_at 3 d)) most) refl refl e
+  where
+    by : (a b : Bool) → nat_le (scale_of d) 3 ≡ a → nat_le (unsigned_abs (numerator_at 3 d)) most ≡ b → (a && b) ≡ true → (scale_of d ≤ 3) × IsWithinLimit (numerator_at 3 d)
+    by true true p q e = (few_places (scale_of d) 3 p, few_places (unsigned_abs (numerator_at 3 d)) most q)
+    by true false p q e = absurd (false≢true e)
+    by false b p q e = absurd (false≢true e)
+
+pub double_fits : (limit : InputLimit) (v : Decimal) → IsFactorLimit limit → admits limit v ≡ true → SumFits v (decimal (pos 0) 3)
 double_fits limit v h e =
     let parts = and_parts _ _ _ e in
     let places = few_places (scale_of v) limit.places parts.0 in
     let few : scale_of v ≤ 3 = omega (arith, h.places) in
     let top : greater_scale v (decimal (pos 0) 3) ≡ 3 = omega arith in
-    let above = order_at limit.low v h.low_places few parts.1 in
-    let below = order_at v limit.high few h.high_places parts.2 in
-    let low = h.low in
-    let high = h.high in
+    let least = kept_at limit.low h.low in
+    let greatest = kept_at limit.high h.high in
+    let above = order_at limit.low v least.0 few parts.1 in
+    let below = order_at v limit.high few greatest.0 parts.2 in
+    let low = least.1 in
+    let high = greatest.1 in
     record {
       left = rw top (omega (arith, ints));
       right = rw top (omega (arith, ints));

@@ -25,7 +25,9 @@ has_carry slots = list_any (λ s. is_some s.carry) slots
 
 -- 1. some input carries, and this is the day of the earliest earlier run that isn't ok
 abbrev pub waits : List Slot → List Earlier → Option Day
-waits slots earlier = if has_carry slots then option_map (λ e. e.day) (find (λ e. is_none e.outputs) earlier) else None
+waits slots earlier =
+    if has_carry slots then option_map (λ e. e.day) (find (λ e. is_none e.outputs) earlier)
+    else None
 
 -- an input of this name that doesn't carry
 abbrev pub takes : List Slot → List ℕ → Bool
@@ -49,17 +51,20 @@ value_of values earlier s = value_by s.carry (given values s) earlier
 
 -- 3. the first declared input without a value: it doesn't carry, and the record and the declaration give none
 abbrev pub missing : List Slot → List NamedValue → List Earlier → Option (List ℕ)
-missing slots values earlier = option_map (λ s. s.name) (find (λ s. is_none (value_of values earlier s)) slots)
+missing slots values earlier =
+    option_map (λ s. s.name) (find (λ s. is_none (value_of values earlier s)) slots)
 
 -- the limit admits the value: it has no more places than the limit, and lies from low to high
 abbrev pub admits : InputLimit → Decimal → Bool
 admits limit v =
-    nat_le (scale_of v) limit.places && not (is_gt (value_order limit.low v)) && not (is_gt (value_order v limit.high))
+    nat_le (scale_of v) limit.places
+    && not (is_gt (value_order limit.low v)) && not (is_gt (value_order v limit.high))
 
 -- 4. the first declared input whose value its limit doesn't admit
 abbrev pub outside : List Slot → List NamedValue → List Earlier → Option (List ℕ)
 outside slots values earlier =
-    option_map (λ s. s.name) (find (λ s. not (option_map_or (admits s.limit) (value_of values earlier s) true)) slots)
+    option_map (λ s. s.name)
+    (find (λ s. not (option_map_or (admits s.limit) (value_of values earlier s) true)) slots)
 
 -- a `double` is brought to three places by adding 0.000
 abbrev pub input_of : Kind → Decimal → Decimal
@@ -71,9 +76,11 @@ input_of kind.Table v = v
 
 -- 5. the values in declared order
 abbrev pub inputs : List Slot → List NamedValue → List Earlier → List Decimal
-inputs slots values earlier = filter_map (λ s. option_map (input_of s.kind) (value_of values earlier s)) slots
+inputs slots values earlier =
+    filter_map (λ s. option_map (input_of s.kind) (value_of values earlier s)) slots
 
-abbrev pub first_of : Option Day → Option (List ℕ) → Option (List ℕ) → Option (List ℕ) → List Decimal → Filled
+abbrev pub first_of :
+    Option Day → Option (List ℕ) → Option (List ℕ) → Option (List ℕ) → List Decimal → Filled
 first_of (Some day) unknown missing outside values = filled.State (blocked.Waits day)
 first_of None (Some name) missing outside values = filled.State (blocked.Unknown name)
 first_of None None (Some name) outside values = filled.State (blocked.Missing name)
@@ -83,5 +90,6 @@ first_of None None None None values = filled.Inputs values
 -- the first that applies
 abbrev pub filled_by : List Slot → List NamedValue → List Earlier → Filled
 filled_by slots values earlier =
-    first_of (waits slots earlier) (unknown slots values) (missing slots values earlier) (outside slots values earlier)
+    first_of (waits slots earlier) (unknown slots values) (missing slots values earlier)
+    (outside slots values earlier)
     (inputs slots values earlier)

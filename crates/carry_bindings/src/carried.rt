@@ -2,7 +2,7 @@
 ghost use Rattle.std.specs.Prelude.{◌≡◌, ◌≤◌, IfSome, length};
 ghost use Rattle.std.specs.List.{AllByRecursion};
 ghost use Rattle.carry_bindings.specs.Carrying.{amount_of, amounts, carried, latest, named, total};
-ghost use Rattle.carry_bindings.specs.Conditions.{AreBounded, IsBoundedOutput};
+ghost use Rattle.carry_bindings.specs.Conditions.{AreBounded};
 
 use limits_file::{Carry, Items};
 use pap_tree::Name;

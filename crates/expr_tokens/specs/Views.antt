@@ -38,7 +38,8 @@ NotFirst byte bytes = (rest : List ℕ) → bytes ≡ byte ∷ rest → ⊥
 pub record IsNumeralSplit (bytes front rest : List ℕ) : Type 0 where
   pub parts : bytes ≡ front ++ rest
   pub numeral : IsNumeral front (digits_value 10 front)
-  pub most : (more left : List ℕ) (n : ℕ) → rest ≡ more ++ left → IsNumeral (front ++ more) n → more ≡ []
+  pub most : (more left : List ℕ) (n : ℕ) →
+      rest ≡ more ++ left → IsNumeral (front ++ more) n → more ≡ []
 
 -- the rest follows a point and all digits after it
 pub record IsAfterPlaces (bytes rest : List ℕ) : Type 0 where

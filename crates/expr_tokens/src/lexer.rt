@@ -31,7 +31,8 @@ pub fn read_tokens(alloc: Global, text: &[u8]) -> Result<Vec<Placed>, AllocError
 /// A law, with nothing to run: each text has one list of tokens and no other.
 pub fn each_text_has_one_list_of_tokens()
     ensures always { (text : List ℕ) → (ts : List Spot) × Tokens 0 text ts }
-    ensures one { (text : List ℕ) (ts us : List Spot) → Tokens 0 text ts → Tokens 0 text us → ts ≡ us }
+    ensures one { (text : List ℕ) (ts us : List Spot) →
+        Tokens 0 text ts → Tokens 0 text us → ts ≡ us }
 {}
 
 /// What follows the white space that stands first.

@@ -24,7 +24,8 @@ pub(crate) fn split_sign(first: u8, bytes: &[u8]) -> (Token, &[u8])
 
 /// The operator of two bytes.
 fn operator_of_two(first: u8, second: u8) -> Option<Binary>
-    ensures { MatchOption result (IsNoPair first second) (λ o. operator_text o ≡ first ∷ second ∷ []) }
+    ensures { MatchOption result (IsNoPair first second)
+        (λ o. operator_text o ≡ first ∷ second ∷ []) }
 {
     match (first, second) {
         (b'<', b'=') => Some(Binary::LessEq),

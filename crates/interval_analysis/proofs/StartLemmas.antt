@@ -14,14 +14,13 @@ use Rattle.pap_tree.specs.Declarations.{Declaration, declaration_of}
 use Rattle.pap_tree.specs.Flowchart.{Flowchart, flowchart_of}
 use Rattle.limits_file.specs.declared.limits.InputLimit.{InputLimit}
 use Rattle.limits_file.specs.declared.limits.Limits.{Limits}
-use Rattle.limits_file.specs.Limits.{HasSoundBounds}
+use Rattle.limits_file.specs.Limits.{HasSoundBounds, IsFactorLimit}
 use Rattle.interval_num.specs.Intervals.{Interval}
 use Rattle.pap_types.specs.Checks.{IsWellTyped}
 use Rattle.pap_types.specs.Kinds.{has_few_places}
 use Rattle.pap_types.specs.Scopes.{names_of, at_factor_scale}
 use Rattle.pap_types.specs.Typing.{HasItsType}
 use Rattle.pap_types.proofs.Laws.{has_types}
-use Rattle.range_walk.specs.Admission.{IsFactorLimit}
 use Rattle.range_walk.specs.Analysis.{input_range, first_range}
 use Rattle.range_walk.proofs.Laws.{at_most}
 use Rattle.interval_analysis.specs.PlanViews.{with_names}

@@ -13,15 +13,18 @@ use Rattle.limits_file.specs.Entries.{Form, text_at, entry_of, failing_key}
 
 -- the entry's kind is `count`
 abbrev pub is_count : Members → Bool
-is_count entry = option_map_or (λ kind. bytes_eq kind (codes "count")) (text_at (codes "kind") entry) false
+is_count entry =
+    option_map_or (λ kind. bytes_eq kind (codes "count")) (text_at (codes "kind") entry) false
 
 abbrev pub is_kind : List ℕ → Bool
-is_kind text = bytes_eq text (codes "sum") || bytes_eq text (codes "last") || bytes_eq text (codes "count")
+is_kind text =
+    bytes_eq text (codes "sum") || bytes_eq text (codes "last") || bytes_eq text (codes "count")
 
 -- `kind` is one of three words; `output` is a name, and stands only beside a kind that reads an output
 abbrev pub suits_binding : Bool → List ℕ → Data → Bool
 suits_binding counts key (string text) =
-    (bytes_eq key (codes "kind") && is_kind text) || (bytes_eq key (codes "output") && (is_name text && not counts))
+    (bytes_eq key (codes "kind") && is_kind text)
+    || (bytes_eq key (codes "output") && (is_name text && not counts))
 suits_binding counts key value = false
 
 abbrev pub binding_form : Form
@@ -33,9 +36,11 @@ binding_form = record {
 -- what the kind and the output say together
 abbrev pub IsCarryOf : Members → Carry → Type 0
 IsCarryOf entry (Sum output) =
-    (text_at (codes "kind") entry ≡ Some (codes "sum")) × (text_at (codes "output") entry ≡ Some output)
+    (text_at (codes "kind") entry ≡ Some (codes "sum"))
+    × (text_at (codes "output") entry ≡ Some output)
 IsCarryOf entry (Last output) =
-    (text_at (codes "kind") entry ≡ Some (codes "last")) × (text_at (codes "output") entry ≡ Some output)
+    (text_at (codes "kind") entry ≡ Some (codes "last"))
+    × (text_at (codes "output") entry ≡ Some output)
 IsCarryOf entry Count = text_at (codes "kind") entry ≡ Some (codes "count")
 
 -- An entry: its binding, or the key at which it fails.

@@ -20,12 +20,17 @@ text_at key entry = option_and_then as_str (get_member key entry)
 -- the first key, in byte order, that doesn't pass the test
 abbrev pub first_unsuited : (List ℕ → Data → Bool) → Members → Option (List ℕ)
 first_unsuited suits no_members = None
-first_unsuited suits (member key value rest) = if suits key value then first_unsuited suits rest else Some key
+first_unsuited suits (member key value rest) =
+    if suits key value then first_unsuited suits rest else Some key
 
 -- the keys and values of an entry
 abbrev pub entry_of : Data → Members
 entry_of (table entry) = entry
 entry_of value = no_members
+
+-- whether an entry has the keys that it needs
+abbrev pub has_needed_keys : Form → Members → Bool
+has_needed_keys form entry = list_all (has_key entry) (form.needed entry)
 
 -- the key at which an entry fails: its own where it is no name or no table; else the first of its keys that is of no
 -- use there or has a value that doesn't suit it; else its own where a key is missing
@@ -33,5 +38,5 @@ abbrev pub failing_key : Form → List ℕ → Data → Option (List ℕ)
 failing_key form name (table entry) =
     if not (is_name name) then Some name
     else option_or (first_unsuited (form.suits entry) entry)
-    (if list_all (has_key entry) (form.needed entry) then None else Some name)
+    (if has_needed_keys form entry then None else Some name)
 failing_key form name value = Some name

@@ -21,7 +21,10 @@ suits_input key (string text) = is_bound_key key
 suits_input key value = false
 
 abbrev pub input_form : Form
-input_form = record { suits = λ entry. suits_input; needed = λ entry. codes "low" ∷ codes "high" ∷ codes "places" ∷ [] }
+input_form = record {
+  suits = λ entry. suits_input;
+  needed = λ entry. codes "low" ∷ codes "high" ∷ codes "places" ∷ [];
+}
 
 -- a bound is a whole number, or a text that spells a decimal
 abbrev pub IsBound : Data → Decimal → Type 0
@@ -53,8 +56,10 @@ most_inputs = 256
 -- that there are too many inputs.
 abbrev pub InputSays : ℕ → List ℕ → Data → Result InputLimit Fault → Type 0
 InputSays n name value (Ok limit) =
-    (failing_key input_form name value ≡ None) × (n < most_inputs) × IsLimitOf name (entry_of value) limit
-InputSays n name value (Err (bad_key label)) = option_map label_of (failing_key input_form name value) ≡ Some label
+    (failing_key input_form name value ≡ None) × (n < most_inputs)
+    × IsLimitOf name (entry_of value) limit
+InputSays n name value (Err (bad_key label)) =
+    option_map label_of (failing_key input_form name value) ≡ Some label
 InputSays n name value (Err (bad_bound label)) =
     (failing_key input_form name value ≡ None) × (label ≡ label_of name)
     × ((most_inputs ≤ n) ⊎ GivesNoLimit name (entry_of value))

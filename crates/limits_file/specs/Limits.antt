@@ -1,9 +1,8 @@
--- Which values a range admits.
-use Rattle.std.specs.Prelude.{◌≡◌, ℕ, ◌≤◌, List, Any}
+-- Which values a range admits, and the bound of outputs.
+use Rattle.std.specs.Prelude.{◌≡◌, ℕ, ◌^◌, ◌≤◌, Bool, ◌&&◌, nat_le, IsTrue, IsFalse, unsigned_abs, List, Any}
 use Rattle.std.specs.Ordering.{is_gt}
-use Rattle.std.specs.Prelude.{IsFalse}
 use Rattle.scaled_decimal.specs.Decimals.{Decimal, numerator_at, scale_of, value_order}
-use Rattle.scaled_decimal.specs.Limits.{IsWithinLimit}
+use Rattle.scaled_decimal.specs.Limits.{IsWithinLimit, limit as most}
 use Rattle.limits_file.specs.declared.limits.InputLimit.{InputLimit}
 
 -- the value of a is at most that of b, whatever their scales
@@ -29,3 +28,26 @@ pub record HasSoundBounds (limit : InputLimit) : Type 0 where
   pub ordered : IsAtMost limit.low limit.high
   pub low_kept : IsWithinLimit (numerator_at limit.places limit.low)
   pub high_kept : IsWithinLimit (numerator_at limit.places limit.high)
+
+-- whether a decimal has at most so many places, and at so many places a numerator of at most 10^37
+abbrev pub is_kept_at : ℕ → Decimal → Bool
+is_kept_at places d =
+    nat_le (scale_of d) places && nat_le (unsigned_abs (numerator_at places d)) most
+
+-- a limit of a `double`: at most three places, and bounds that are numbers of at most three places
+pub record IsFactorLimit (limit : InputLimit) : Type 0 where
+  pub places : limit.places ≤ 3
+  pub low : IsTrue (is_kept_at 3 limit.low)
+  pub high : IsTrue (is_kept_at 3 limit.high)
+
+-- the most places of an output, and the greatest magnitude of its numerator at so many places
+abbrev pub output_places : ℕ
+output_places = 12
+
+abbrev pub output_limit : ℕ
+output_limit = 10 ^ 32
+
+-- a value within the bound of outputs
+pub record IsWithinBound (d : Decimal) : Type 0 where
+  pub places : scale_of d ≤ output_places
+  pub small : unsigned_abs (numerator_at output_places d) ≤ output_limit

@@ -54,7 +54,8 @@ pub record IsToml (bytes : List ℕ) (file : Members) : Type 0 where
 abbrev pub FileSays : List ℕ → Result Limits Fault → Type 0
 FileSays bytes (Err too_long) = most_bytes < length bytes
 FileSays bytes (Err no_toml) = IsNoToml bytes
-FileSays bytes answer = (file : Members) × IsToml bytes file × TableSays SectionSays joined file answer
+FileSays bytes answer =
+    (file : Members) × IsToml bytes file × TableSays SectionSays joined file answer
 
 -- a text says one thing
 pub record HasOneAnswer (bytes : List ℕ) : Type 0 where

@@ -5,8 +5,7 @@ ghost use Rattle.scaled_decimal.specs.Limits.{IsWithinLimit, most_places};
 ghost use Rattle.toml.specs.View.{view, table_view};
 ghost use Rattle.limits_file.specs.AnswerViews.{Tells};
 ghost use Rattle.limits_file.specs.InputViews.{HasNoBoundAt, HasPlaces, HasNoPlaces};
-ghost use Rattle.std.specs.List.{list_all};
-ghost use Rattle.limits_file.specs.Entries.{first_unsuited, has_key};
+ghost use Rattle.limits_file.specs.Entries.{first_unsuited, has_key, has_needed_keys};
 ghost use Rattle.limits_file.specs.Inputs.{suits_input, is_bound_key, input_form, IsBound, IsBoundAt, IsLimitOf, GivesNoLimit, InputSays};
 ghost use Rattle.limits_file.specs.RangeFiles.{NamesAscend};
 ghost use Rattle.limits_file.specs.Walks.{AllOrFirstFault};
@@ -99,8 +98,7 @@ fn is_bound_key(key: &str) -> bool
 
 /// Whether one of the three keys is missing.
 fn lacks_key(entry: &Table) -> bool
-    ensures { result
-        ≡ not (list_all (has_key (table_view entry.now)) (input_form.needed (table_view entry.now))) }
+    ensures { result ≡ not (has_needed_keys input_form (table_view entry.now)) }
 {
     !(has_key(entry, "low") && has_key(entry, "high") && has_key(entry, "places"))
 }

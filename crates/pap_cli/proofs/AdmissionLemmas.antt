@@ -1,6 +1,6 @@
 -- The inputs that are filled are admitted by the limits of an accepted plan.
 use Rattle.std.proofs.Common.{◌≡◌, ℕ, zero, suc, ◌+◌, ◌-◌, ◌*◌, ◌^◌, ◌<◌, ◌≤◌, max, List, [], ◌∷◌, length, Bool, true, false, not, ◌&&◌, cond, refl, sym, ap, ◌∙◌, subst, arith, rules}
-use Rattle.std.specs.Prelude.{Option, Some, None, option_map, All, ⊤, ℤ, pos, ◌+ℤ◌, ◌*ℤ◌, nat_le, IsTrue, IsFalse, is_none, is_some, if◌then◌else◌, unsigned_abs}
+use Rattle.std.specs.Prelude.{Option, Some, None, option_map, All, ⊤, ℤ, pos, ◌+ℤ◌, ◌*ℤ◌, nat_le, IsFalse, is_none, is_some, if◌then◌else◌}
 use Rattle.std.specs.List.{find, filter_map, cons_option, AllByRecursion}
 use Rattle.std.specs.Option.{option_map_or}
 use Rattle.std.specs.Ordering.{is_gt, int_cmp}
@@ -9,7 +9,7 @@ use Rattle.std.specs.declared.cmp.Ordering.{Ordering}
 use Rattle.std.specs.declared.cmp.Ordering.TheVariants.{Equal}
 use Rattle.std.proofs.lemmas.Bool.{false≢true, leb-true}
 use Rattle.scaled_decimal.specs.Decimals.{Decimal, decimal, scale_of, numerator_of, numerator_at, sum, value_order, ten_to}
-use Rattle.scaled_decimal.specs.Limits.{IsKept, IsWithinLimit, limit}
+use Rattle.scaled_decimal.specs.Limits.{IsKept}
 use Rattle.pap_tree.specs.declared.declaration.Kind.{Kind}
 use Rattle.pap_tree.specs.declared.declaration.Kind.TheVariants as kinds
 use Rattle.pap_tree.specs.Declarations.{Declaration}
@@ -19,14 +19,13 @@ use Rattle.limits_file.specs.declared.slots.Slot.{Slot}
 use Rattle.limits_file.specs.Limits.{Fits, IsAtMost}
 use Rattle.payroll_records.specs.declared.day.Day.{Day}
 use Rattle.payroll_records.specs.declared.values.NamedValue.{NamedValue}
-use Rattle.carry_bindings.specs.Conditions.{SuitsDouble, SuitsKind}
+use Rattle.carry_bindings.specs.Conditions.{SuitsKind}
 use Rattle.carry_bindings.specs.Filling.{has_carry, value_of, admits, missing, outside, inputs, input_of, waits, unknown, first_of, filled_by}
 use Rattle.carry_bindings.specs.declared.carried.Earlier.{Earlier}
 use Rattle.carry_bindings.specs.declared.filling.Filled.{Filled}
 use Rattle.carry_bindings.specs.declared.filling.Filled.TheVariants as filled
 use Rattle.carry_bindings.specs.declared.filling.Blocked.TheVariants as blocked
-use Rattle.pap_types.specs.Kinds.{has_few_places}
-use Rattle.range_walk.specs.Admission.{limit_named, SuitsLimit, IsFactorLimit, FitsAs, FitsAsFactor, IsAdmitted, IsAdmittedFor, AllAdmitted}
+use Rattle.range_walk.specs.Admission.{limit_named, SuitsLimit, FitsAs, FitsAsFactor, IsAdmitted, IsAdmittedFor, AllAdmitted}
 use Rattle.pap_plan.specs.Bindings.{HasSuitedLimit}
 use Rattle.pap_plan.specs.Inputs.{IsSlot, AreSlots}
 
@@ -57,19 +56,6 @@ fits limit v h =
       above = at_most limit.low v inner.1;
       below = at_most v limit.high outer.1;
     }
-
--- ---- limits of a `double`
-
-few : (d : Decimal) → IsTrue (has_few_places d) → (scale_of d ≤ 3) × IsWithinLimit (numerator_at 3 d)
-few d h =
-    let t = both (nat_le (scale_of d) 3) (nat_le (unsigned_abs (numerator_at 3 d)) limit) (search (rules, h)) in
-    (leb-true (scale_of d) 3 t.0, leb-true (unsigned_abs (numerator_at 3 d)) limit t.1)
-
-pub suits_double : (l : InputLimit) → IsFactorLimit l → SuitsDouble l
-suits_double l h =
-    let low = few l.low h.low in
-    let high = few l.high h.high in
-    record { places = h.places; low_places = low.0; low = low.1; high_places = high.0; high = high.1 }
 
 -- ---- a `double` with three places
 
@@ -118,7 +104,7 @@ suits_kinds l [] [] h k = tt
 suits_kinds l [] (s ∷ slots) h k = absurd k
 suits_kinds l (d ∷ ds) [] h k = absurd k
 suits_kinds l (d ∷ ds) (s ∷ slots) h k = (
-  λ e. suits_double s.limit (subst (λ (x : Kind). SuitsLimit x s.limit) e (suited_slot l d s (h 0 d (omega arith)) k.0)),
+  λ e. subst (λ (x : Kind). SuitsLimit x s.limit) e (suited_slot l d s (h 0 d (omega arith)) k.0),
   suits_kinds l ds slots (λ i x lt. h (suc i) x (omega arith)) k.1,
 )
 

@@ -31,7 +31,9 @@ pub record SpellsMonth (text : List ℕ) (year month : ℕ) : Type 0 where
   pub century : AreDigits (slice_index text 0) (slice_index text 1)
   pub years : AreDigits (slice_index text 2) (slice_index text 3)
   pub months : AreDigits (slice_index text 5) (slice_index text 6)
-  pub year_is : year ≡ 100 * spelled (slice_index text 0) (slice_index text 1) + spelled (slice_index text 2) (slice_index text 3)
+  pub year_is : year
+      ≡ 100 * spelled (slice_index text 0) (slice_index text 1)
+      + spelled (slice_index text 2) (slice_index text 3)
   pub month_is : month ≡ spelled (slice_index text 5) (slice_index text 6)
 
 -- the text is YYYY-MM, and the calendar has that month

@@ -7,7 +7,9 @@ use Rattle.payroll_records.specs.declared.record.Key.{Key}
 
 -- by year, then by month, then by the day of the month
 abbrev pub day_cmp : Day → Day → Ordering
-day_cmp = then_cmp (on (λ d. d.year) nat_cmp) (then_cmp (on (λ d. d.month) nat_cmp) (on (λ d. d.day) nat_cmp))
+day_cmp =
+    then_cmp (on (λ d. d.year) nat_cmp)
+    (then_cmp (on (λ d. d.month) nat_cmp) (on (λ d. d.day) nat_cmp))
 
 -- by employee, in the order of its bytes, then by day
 abbrev pub key_cmp : Key → Key → Ordering

@@ -27,10 +27,12 @@ pub record IsBetweenRows {R : Type 0} (rem : R → Option (List ℕ)) (r : Reade
   pub known : IsSome (source_of rem r)
   pub between : ends_at_end r.state ≡ false
 
-pub record TakesRow {R : Type 0} (rem : R → Option (List ℕ)) (old new : Reader R) (row : List (List ℕ)) : Type 0 where
+pub record TakesRow {R : Type 0} (rem : R → Option (List ℕ)) (old new : Reader R)
+    (row : List (List ℕ)) : Type 0 where
   pub reader : IsBetweenRows rem new
   pub rows : rows_left rem old ≡ row ∷ rows_left rem new
 
 -- a read took the next row, or there was none
-abbrev pub ReadsRow : {R : Type 0} → (R → Option (List ℕ)) → Reader R → Reader R → Bool → List (List ℕ) → Type 0
+abbrev pub ReadsRow : {R : Type 0} →
+    (R → Option (List ℕ)) → Reader R → Reader R → Bool → List (List ℕ) → Type 0
 ReadsRow rem old new found row = MatchBool found (TakesRow rem old new row) (rows_left rem old ≡ [])

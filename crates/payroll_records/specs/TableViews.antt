@@ -23,7 +23,9 @@ pub record AreColumns (names : List Text) (columns : List Column) : Type 0 where
   pub same : length columns ≡ length names
   pub rising : IsRising name_cmp column_name columns
   pub each : AllByRecursion (IsColumnOf names) columns
-  pub all : (i : ℕ) → i < length names → at_key name_cmp column_name columns (name_at names i) ≡ Some (record { name = name_at names i; place = i })
+  pub all : (i : ℕ) → i < length names →
+      at_key name_cmp column_name columns (name_at names i)
+      ≡ Some (record { name = name_at names i; place = i })
 
 -- what is wrong with one row
 abbrev pub IsRowFault : List Text → List Text → RowFault → Type 0

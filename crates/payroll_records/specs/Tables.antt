@@ -70,7 +70,8 @@ abbrev pub HasMonth : List Text → Type 0
 HasMonth row = IsMonthSpelled (field_of row 1)
 
 abbrev pub HasDayOf : List Text → ℕ → ℕ → ℕ → Type 0
-HasDayOf row year month day = IsDayText (field_of row 2) year month day × IsMonthText (field_of row 1) year month
+HasDayOf row year month day =
+    IsDayText (field_of row 2) year month day × IsMonthText (field_of row 1) year month
 
 abbrev pub HasDay : List Text → Type 0
 HasDay row = (year : ℕ) × (month : ℕ) × (day : ℕ) × HasDayOf row year month day
@@ -98,7 +99,8 @@ AreRecordsOf names before [] [] = ⊤
 AreRecordsOf names before [] (r ∷ rs) = ⊥
 AreRecordsOf names before (row ∷ rows) [] = ⊥
 AreRecordsOf names before (row ∷ rows) (r ∷ rs) =
-    IsRecordOf names row r × (HasKeyOf before r → ⊥) × AreRecordsOf names (before ++ (r ∷ [])) rows rs
+    IsRecordOf names row r × (HasKeyOf before r → ⊥)
+    × AreRecordsOf names (before ++ (r ∷ [])) rows rs
 
 -- the records of a table
 pub record IsTable (bytes : List ℕ) (records : List Record) : Type 0 where
@@ -124,7 +126,8 @@ abbrev pub WrongDay : List Text → List Record → List Text → Type 0
 WrongDay names before row = IsWide names row × HasEmployee row × HasMonth row × (HasDay row → ⊥)
 
 -- the leftmost cell of values that isn't readable
-pub record WrongValue (name : Text) (names : List Text) (before : List Record) (row : List Text) : Type 0 where
+pub record WrongValue (name : Text) (names : List Text) (before : List Record)
+    (row : List Text) : Type 0 where
   pub wide : IsWide names row
   pub employee : HasEmployee row
   pub day : HasDay row
@@ -140,7 +143,8 @@ pub record Repeats (names : List Text) (before : List Record) (row : List Text) 
   pub repeated : HasKeyOf before of_row
 
 -- the row of this number, counted from 1, is the first with a fault, and has this one
-pub record IsFirstFault (names : List Text) (rows : List (List Text)) (number : ℕ) (Fault : List Text → List Record → List Text → Type 0) : Type 0 where
+pub record IsFirstFault (names : List Text) (rows : List (List Text)) (number : ℕ)
+    (Fault : List Text → List Record → List Text → Type 0) : Type 0 where
   pub before : List (List Text)
   pub row : List Text
   pub after : List (List Text)
@@ -151,7 +155,8 @@ pub record IsFirstFault (names : List Text) (rows : List (List Text)) (number : 
   pub faulty : Fault names records row
 
 -- the same of a table's text, its rows counted after the header
-pub record BreaksAt (bytes : List ℕ) (number : ℕ) (Fault : List Text → List Record → List Text → Type 0) : Type 0 where
+pub record BreaksAt (bytes : List ℕ) (number : ℕ)
+    (Fault : List Text → List Record → List Text → Type 0) : Type 0 where
   pub short : length bytes ≤ most_bytes
   pub header : List Text
   pub names : List Text

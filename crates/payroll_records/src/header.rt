@@ -40,7 +40,8 @@ pub(crate) struct Header {
 pub(crate) fn read_header(alloc: Global, row: &ByteRecord) -> Result<Option<Header>, AllocError>
     ensures { IfOk result (λ header. MatchOption header
         ((names : List Text) → IsHeader (fields_of row.now) names → ⊥)
-        (λ h. IsHeader (fields_of row.now) h.names.items × AreColumns h.names.items h.columns.items)) }
+        (λ h. IsHeader (fields_of row.now) h.names.items
+        × AreColumns h.names.items h.columns.items)) }
 {
     if !begins_header(row) {
         return Ok(None);

@@ -5,6 +5,7 @@ ghost use Rattle.csv.specs.Records.{fields_of};
 ghost use Rattle.scaled_decimal.specs.Decimals.{Decimal};
 ghost use Rattle.payroll_records.specs.NamedValues.{AreValues};
 ghost use Rattle.payroll_records.specs.Tables.{IsHeader, IsNumberText, IsReadable, IsRecordOf, Supplies, cell_of};
+ghost use Rattle.payroll_records.specs.CellViews.{filled_cells, is_filled};
 ghost use Rattle.payroll_records.specs.TableViews.{AreColumns, IsFirstBroken, IsRowFault};
 ghost use Rattle.payroll_records.specs.declared.values.NamedValue.{NamedValue};
 
@@ -92,7 +93,27 @@ fn read_number(cell: &[u8]) -> Option<Dec>
     }
 }
 
-/// The values that the cells of a row spell.
+/// How many of the first cells of values are not empty.
+fn filled_cells(row: &ByteRecord, count: usize) -> usize
+    requires { count < 257 }
+    ensures { result ≡ filled_cells (fields_of row.now) count }
+{
+    let mut filled = 0;
+    for place in 0..count {
+        if is_filled(field(row, 3 + place)) {
+            filled += 1;
+        }
+    }
+    filled
+}
+
+fn is_filled(cell: &[u8]) -> bool
+    ensures { result ≡ is_filled cell.now }
+{
+    !cell.is_empty()
+}
+
+/// The values that the cells of a row spell. They take no more memory than they need.
 fn values_of(alloc: Global, header: &Header, row: &ByteRecord) -> Result<Values, AllocError>
     requires columns { AreColumns header.now.names.items header.now.columns.items }
     requires few { length header.now.names.items < 257 }
@@ -100,7 +121,7 @@ fn values_of(alloc: Global, header: &Header, row: &ByteRecord) -> Result<Values,
         Contains values v ↔ Supplies header.now.names.items (fields_of row.now) v) }
     ensures in_order { IfOk result AreValues }
 {
-    let mut values = Values::new(alloc);
+    let mut values = Values::with_capacity(alloc, filled_cells(row, header.names.len()))?;
     for column in &header.columns {
         let Some(value) = read_number(field(row, 3 + column.place)) else {
             continue;

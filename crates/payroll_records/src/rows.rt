@@ -26,7 +26,8 @@ pub(crate) fn next_row<R: Read>(
     row: &mut ByteRecord,
 ) -> Result<bool, AllocError>
     requires { IsBetweenRows R.remaining reader.old }
-    ensures { IfOk result (λ found. ReadsRow R.remaining reader.old reader.new found (fields_of row.new)) }
+    ensures { IfOk result (λ found.
+        ReadsRow R.remaining reader.old reader.new found (fields_of row.new)) }
 {
     let Ok(found) = reader.read_byte_record(row) else {
         return Err(AllocError);

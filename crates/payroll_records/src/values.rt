@@ -57,6 +57,15 @@ impl Values {
         }
     }
 
+    /// No values, with room for so many.
+    pub(crate) fn with_capacity(alloc: Global, count: usize) -> Result<Values, AllocError>
+        ensures { IfOk result (λ values. values ≡ []) }
+    {
+        Ok(Values {
+            items: Vec::with_capacity(alloc, count)?,
+        })
+    }
+
     /// The values, in order of their names.
     pub fn as_slice(&self) -> &[NamedValue]
         ensures all { result.now ≡ self.now }

@@ -9,10 +9,10 @@ use Rattle.scaled_decimal.specs.Limits.{IsWithinLimit, limit}
 use Rattle.scaled_decimal.proofs.Laws.{times_assoc, ten_add}
 use Rattle.pap_tree.specs.declared.declaration.Kind.TheVariants as declares
 use Rattle.limits_file.specs.declared.limits.InputLimit.{InputLimit}
-use Rattle.limits_file.specs.Limits.{Fits, HasSoundBounds}
+use Rattle.limits_file.specs.Limits.{Fits, HasSoundBounds, IsFactorLimit}
 use Rattle.pap_types.specs.Scopes.{factor_places, at_factor_scale}
 use Rattle.pap_types.specs.Kinds.{has_few_places}
-use Rattle.range_walk.specs.Admission.{IsFactorLimit, IsAdmitted}
+use Rattle.range_walk.specs.Admission.{IsAdmitted}
 use Rattle.range_walk.proofs.RowShapes.{both_true}
 use Rattle.range_walk.proofs.StartSound.{at_most}
 

@@ -17,8 +17,9 @@ use Rattle.pap_types.proofs.Laws.{has_types}
 use Rattle.range_walk.specs.Ranges.{NamedRange, Ranges}
 use Rattle.range_walk.specs.Failures.{output_fails}
 use Rattle.range_walk.specs.Walked.{walked}
-use Rattle.range_walk.specs.Analysis.{start_ranges, output_places, output_limit, is_small, is_bounded, output_ranges, unless_unbounded, range_calls_in}
-use Rattle.range_walk.specs.Soundness.{AreWithin, IsWithinBound, AreOutputs, AnalysisIsSound}
+use Rattle.limits_file.specs.Limits.{output_places, output_limit, IsWithinBound}
+use Rattle.range_walk.specs.Analysis.{start_ranges, is_small, is_bounded, output_ranges, unless_unbounded, range_calls_in}
+use Rattle.range_walk.specs.Soundness.{AreWithin, AreOutputs, AnalysisIsSound}
 use Rattle.range_walk.proofs.RowShapes.{both_true, not_false}
 use Rattle.range_walk.proofs.NodeShapes.{stepped}
 use Rattle.range_walk.proofs.PlanLemmas.{sound_scope}

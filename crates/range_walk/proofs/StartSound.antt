@@ -17,12 +17,12 @@ use Rattle.pap_tree.specs.Flowchart.{Flowchart}
 use Rattle.interval_num.specs.Intervals.{interval, Contains}
 use Rattle.limits_file.specs.declared.limits.InputLimit.{InputLimit}
 use Rattle.limits_file.specs.declared.limits.Limits.{Limits}
-use Rattle.limits_file.specs.Limits.{Fits, HasSoundBounds}
+use Rattle.limits_file.specs.Limits.{Fits, HasSoundBounds, IsFactorLimit}
 use Rattle.pap_types.specs.Scopes.{declared_as, scope_of, first_value, factor_places}
 use Rattle.pap_types.specs.Values.{look}
 use Rattle.pap_types.specs.Meaning.{first_entry, given, start, SuitsKind, AreInputs}
 use Rattle.range_walk.specs.Ranges.{single}
-use Rattle.range_walk.specs.Admission.{IsFactorLimit, SuitsLimit, HasLimit, HaveLimits, FitsAsFactor, FitsAs, IsAdmitted, IsAdmittedFor, AllAdmitted, AreAdmitted}
+use Rattle.range_walk.specs.Admission.{SuitsLimit, HasLimit, HaveLimits, FitsAsFactor, FitsAs, IsAdmitted, IsAdmittedFor, AllAdmitted, AreAdmitted}
 use Rattle.range_walk.specs.Analysis.{limit_range, input_range, first_range, start_ranges}
 use Rattle.range_walk.specs.Soundness.{AreWithin, AreVariables}
 use Rattle.range_walk.proofs.NodeSound.{single_inside}

@@ -1,5 +1,5 @@
 -- The limits of a plan's inputs, and which values they admit.
-use Rattle.std.specs.Prelude.{◌≡◌, ℕ, ◌≤◌, List, [], ◌∷◌, All, Option, Some, IsTrue, ⊤}
+use Rattle.std.specs.Prelude.{◌≡◌, ℕ, List, [], ◌∷◌, All, Option, Some, ⊤}
 use Rattle.std.specs.List.{find}
 use Rattle.std.specs.Str.{bytes_eq}
 use Rattle.std.specs.declared.cmp.Ordering.TheVariants.{Equal}
@@ -12,9 +12,8 @@ use Rattle.pap_tree.specs.Declarations.{Declaration}
 use Rattle.pap_tree.specs.Flowchart.{Flowchart}
 use Rattle.limits_file.specs.declared.limits.InputLimit.{InputLimit}
 use Rattle.limits_file.specs.declared.limits.Limits.{Limits}
-use Rattle.limits_file.specs.Limits.{Fits, HasSoundBounds}
+use Rattle.limits_file.specs.Limits.{Fits, HasSoundBounds, IsFactorLimit}
 use Rattle.pap_types.specs.Scopes.{factor_places}
-use Rattle.pap_types.specs.Kinds.{has_few_places}
 
 -- the limit of a name
 abbrev pub limit_named : Limits → List ℕ → Option InputLimit
@@ -25,12 +24,6 @@ pub record IsWholeLimit (bits : ℕ) (limit : InputLimit) : Type 0 where
   pub places : limit.places ≡ 0
   pub low : IsOfBits bits (numerator_of limit.low)
   pub high : IsOfBits bits (numerator_of limit.high)
-
--- a limit of a `double`: at most three places, and bounds that are numbers of at most three places
-pub record IsFactorLimit (limit : InputLimit) : Type 0 where
-  pub places : limit.places ≤ factor_places
-  pub low : IsTrue (has_few_places limit.low)
-  pub high : IsTrue (has_few_places limit.high)
 
 -- a limit that suits an input of a kind
 abbrev pub SuitsLimit : Kind → InputLimit → Type 0

@@ -1,5 +1,5 @@
 -- The walk of a whole plan from the limits of its inputs, and what it answers.
-use Rattle.std.specs.Prelude.{ℕ, ◌^◌, ◌&&◌, not, nat_le, Bool, ◌++◌, map, length, take, drop, unsigned_abs, ℤ, Result, Ok, Err}
+use Rattle.std.specs.Prelude.{◌&&◌, not, nat_le, Bool, ◌++◌, map, length, take, drop, unsigned_abs, ℤ, Result, Ok, Err}
 use Rattle.std.specs.List.{find}
 use Rattle.std.specs.Option.{option_map_or}
 use Rattle.scaled_decimal.specs.Decimals.{numerator_at}
@@ -9,6 +9,7 @@ use Rattle.pap_tree.specs.Declarations.{Declaration}
 use Rattle.pap_tree.specs.Flowchart.{Flowchart}
 use Rattle.limits_file.specs.declared.limits.InputLimit.{InputLimit}
 use Rattle.limits_file.specs.declared.limits.Limits.{Limits}
+use Rattle.limits_file.specs.Limits.{output_places, output_limit}
 use Rattle.interval_num.specs.Intervals.{Interval, interval}
 use Rattle.interval_num.specs.Alignment.{at_scale}
 use Rattle.pap_types.specs.Scopes.{scope_of, first_value, factor_places}
@@ -24,7 +25,8 @@ use Rattle.range_walk.specs.Admission.{limit_named}
 -- from a limit's low to its high bound, with no to all of its places; a `double` has three places
 abbrev pub limit_range : Kind → InputLimit → Interval
 limit_range declares.Factor l =
-    interval (numerator_at factor_places l.low) (numerator_at factor_places l.high) factor_places factor_places
+    interval (numerator_at factor_places l.low) (numerator_at factor_places l.high)
+    factor_places factor_places
 limit_range _ l = interval (numerator_at l.places l.low) (numerator_at l.places l.high) 0 l.places
 
 -- an input at its limit
@@ -39,16 +41,10 @@ abbrev pub first_range : Declaration → NamedRange
 first_range d = record { name = d.name; range = single (first_value d) }
 
 abbrev pub start_ranges : Flowchart → Limits → Ranges
-start_ranges f limits = map (input_range limits) f.inputs ++ map first_range (f.outputs ++ f.internals)
+start_ranges f limits =
+    map (input_range limits) f.inputs ++ map first_range (f.outputs ++ f.internals)
 
 -- ---- the end
-
--- the most places of an output, and the greatest magnitude of its numerator at so many places
-abbrev pub output_places : ℕ
-output_places = 12
-
-abbrev pub output_limit : ℕ
-output_limit = 10 ^ 32
 
 abbrev pub is_small : ℤ → Bool
 is_small n = nat_le (unsigned_abs n) output_limit
@@ -66,7 +62,8 @@ output_ranges f env = take (length f.outputs) (drop (length f.inputs) env)
 -- the ranges of the outputs, or the first of them that may be beyond its bound
 abbrev pub unless_unbounded : Ranges → Result Ranges WalkFault
 unless_unbounded outputs =
-    option_map_or (λ o. Err (output_fails o.name)) (find (λ o. not (is_bounded o.range)) outputs) (Ok outputs)
+    option_map_or (λ o. Err (output_fails o.name))
+    (find (λ o. not (is_bounded o.range)) outputs) (Ok outputs)
 
 -- ---- the whole
 

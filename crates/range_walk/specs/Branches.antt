@@ -48,18 +48,22 @@ exchanged s = record { minus = s.plus; zero = s.zero; plus = s.minus }
 
 -- whether one of the allowed signs is among those that there can be
 abbrev pub can_have : SignSet → SignSet → Bool
-can_have allowed s = (allowed.minus && s.minus) || ((allowed.zero && s.zero) || (allowed.plus && s.plus))
+can_have allowed s =
+    (allowed.minus && s.minus) || ((allowed.zero && s.zero) || (allowed.plus && s.plus))
 
 -- ---- comparisons
 
 -- the variables where the value of a name has an allowed sign against a decimal of e; a constant is not refined
-abbrev pub narrowed_name : Bool → SignSet → List ℕ → Interval → Ranges → Option Interval → Option Ranges
+abbrev pub narrowed_name :
+    Bool → SignSet → List ℕ → Interval → Ranges → Option Interval → Option Ranges
 narrowed_name whole allowed x e env None = Some env
-narrowed_name whole allowed x e env (Some v) = option_map (put_range env x) (refined v e allowed whole)
+narrowed_name whole allowed x e env (Some v) =
+    option_map (put_range env x) (refined v e allowed whole)
 
 -- the same of a side, which is refined where it is a variable's name
 abbrev pub narrowed : Bool → SignSet → Term → Interval → Ranges → Option Ranges
-narrowed whole allowed (leaf (named x)) e env = narrowed_name whole allowed x e env (range_named env x)
+narrowed whole allowed (leaf (named x)) e env =
+    narrowed_name whole allowed x e env (range_named env x)
 narrowed whole allowed _ e env = Some env
 
 -- the branch of the allowed signs: the left side is refined by the right one's range, then the right side by the range
@@ -81,12 +85,15 @@ branches_of whole allowed s env = record {
 -- A comparison of two sides refines them. One of x.compareTo(y) with an `int` literal k refines x and y, where their sign c
 -- has c op k.
 abbrev pub compared : Binary → Bool → Sides → Option Sides → Option Decimal → Ranges → Branches
-compared op whole direct (Some inner) (Some k) env = branches_of false (signs_where op (numerator_of k)) inner env
-compared op whole direct (Some inner) None env = branches_of whole (signs_where op (pos 0)) direct env
+compared op whole direct (Some inner) (Some k) env =
+    branches_of false (signs_where op (numerator_of k)) inner env
+compared op whole direct (Some inner) None env =
+    branches_of whole (signs_where op (pos 0)) direct env
 compared op whole direct None k env = branches_of whole (signs_where op (pos 0)) direct env
 
 -- the sides of x.compareTo(y), where both have a range
-abbrev pub sides_of : {E : Type 0} → Term → Term → Result Interval E → Result Interval E → Option Sides
+abbrev pub sides_of : {E : Type 0} →
+    Term → Term → Result Interval E → Result Interval E → Option Sides
 sides_of a b (Ok x) (Ok y) = Some (sides a b x y)
 sides_of a b (Ok x) (Err e) = None
 sides_of a b (Err e) r = None
@@ -119,9 +126,11 @@ one_holds env f g = record { holds = before env f.holds g.holds; fails = g.fails
 -- ---- where branches meet
 
 -- what comes of each branch that can be reached, and of both together where both can be
-abbrev pub either_way : {A E : Type 0} → E → (first second : Ranges → Result A E) → (A → A → Result A E)
+abbrev pub either_way : {A E : Type 0} →
+    E → (first second : Ranges → Result A E) → (A → A → Result A E)
     → (holds fails : Option Ranges) → Result A E
 either_way none first second meet None None = Err none
 either_way none first second meet (Some e) None = first e
 either_way none first second meet None (Some f) = second f
-either_way none first second meet (Some e) (Some f) = and_then (first e) (λ x. and_then (second f) (λ y. meet x y))
+either_way none first second meet (Some e) (Some f) =
+    and_then (first e) (λ x. and_then (second f) (λ y. meet x y))

@@ -25,7 +25,8 @@ use Rattle.range_walk.specs.Ranges.{Ranges, single, range_named}
 
 -- whole numbers of so many bits
 abbrev pub is_whole_of : ℕ → Interval → Bool
-is_whole_of bits a = (a.s_lo == 0) && ((a.s_hi == 0) && (is_of_bits bits a.lo && is_of_bits bits a.hi))
+is_whole_of bits a =
+    (a.s_lo == 0) && ((a.s_hi == 0) && (is_of_bits bits a.lo && is_of_bits bits a.hi))
 
 -- What is read of a kind is a whole number of its bits, or has at most 30 places. The literals, constants and variables of a
 -- plan that was read always are so.

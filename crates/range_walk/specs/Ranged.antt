@@ -24,9 +24,11 @@ module _ (scope : Scope) where
     -- the range of an expression whose nodes are numbered from `at`, or its first node that may fail
     pub ranged : Term → ℕ → Ranges → Result Interval NodeFault
     ranged (leaf l) at env = at_node at (leaf_range scope l env)
-    ranged (item x e) at env = and_then (ranged e at env) (λ i. at_node (at + nodes e) (item_range (table_in scope x) i))
+    ranged (item x e) at env =
+        and_then (ranged e at env) (λ i. at_node (at + nodes e) (item_range (table_in scope x) i))
     ranged (one op e) at env =
-        and_then (ranged e at env) (λ a. at_node (at + nodes e) (one_range op (kind_of scope (one op e)) e a))
+        and_then (ranged e at env) (λ a.
+        at_node (at + nodes e) (one_range op (kind_of scope (one op e)) e a))
     ranged (two op e f) at env =
         and_then (ranged e at env) (λ a.
         and_then (ranged f (at + nodes e) env) (λ b.
@@ -43,7 +45,8 @@ module _ (scope : Scope) where
 
     -- the sides of x.compareTo(y)
     pub compare_sides : Term → ℕ → Ranges → Option Sides
-    compare_sides (two (method CompareTo) e f) at env = sides_of e f (ranged e at env) (ranged f (at + nodes e) env)
+    compare_sides (two (method CompareTo) e f) at env =
+        sides_of e f (ranged e at env) (ranged f (at + nodes e) env)
     compare_sides _ at env = None
 
     -- the branches of a test, or its first node that may fail; a test is a comparison, &&, || or !
@@ -51,13 +54,16 @@ module _ (scope : Scope) where
     tested (one (unary Not) e) at env = and_then (tested e at env) (λ br. Ok (opposite br))
     tested (two (operator And) e f) at env =
         and_then (tested e at env) (λ br.
-        and_then (reached br.holds (tested f (at + nodes e))) (λ right. Ok (both_hold env br right)))
+        and_then (reached br.holds (tested f (at + nodes e))) (λ right.
+        Ok (both_hold env br right)))
     tested (two (operator Or) e f) at env =
         and_then (tested e at env) (λ br.
-        and_then (reached br.fails (tested f (at + nodes e))) (λ right. Ok (one_holds env br right)))
+        and_then (reached br.fails (tested f (at + nodes e))) (λ right.
+        Ok (one_holds env br right)))
     tested (two (operator op) e f) at env =
         and_then (ranged e at env) (λ a.
         and_then (ranged f (at + nodes e) env) (λ b.
         and_then (at_node (at + nodes e + nodes f) (comparison_range op a b)) (λ r.
-        Ok (compared op (are_whole e f) (sides e f a b) (compare_sides e at env) (int_literal f) env))))
+        Ok (compared op (are_whole e f) (sides e f a b) (compare_sides e at env) (int_literal f)
+        env))))
     tested _ at env = Err (nowhere at)

@@ -26,4 +26,5 @@ range_named (v ∷ vs) x = if bytes_eq v.name x then Some v.range else range_nam
 -- the range of a name replaced
 abbrev pub put_range : Ranges → List ℕ → Interval → Ranges
 put_range [] x a = []
-put_range (v ∷ vs) x a = if bytes_eq v.name x then record v { range = a } ∷ vs else v ∷ put_range vs x a
+put_range (v ∷ vs) x a =
+    if bytes_eq v.name x then record v { range = a } ∷ vs else v ∷ put_range vs x a

@@ -70,17 +70,19 @@ pub record IsReadWhole (scope : Scope) (l : Leaf) (rs : Ranges) : Type 0 where
 
 pub record ReadingRefusesNothing (f : Flowchart) : Type 0 where
   -- the walk begins with such ranges
-  pub start : (limits : Limits) → HaveLimits f limits → AreShaped (scope_of f) (start_ranges f limits)
+  pub start : (limits : Limits) → HaveLimits f limits
+      → AreShaped (scope_of f) (start_ranges f limits)
   -- a test leaves such ranges in each branch that can be reached
   pub test : (t : Term) (at : ℕ) (rs : Ranges) (br : Branches) → AreShaped (scope_of f) rs
       → tested (scope_of f) t at rs ≡ Ok br → AreBranchesShaped (scope_of f) br
   -- and so does each list of statements
-  pub walk : (b : Body) (name : List ℕ) (at : ℕ) (rs ends : Ranges) → IsTypedBody (scope_of f) f.methods b → AreSmallTerms b
+  pub walk : (b : Body) (name : List ℕ) (at : ℕ) (rs ends : Ranges)
+      → IsTypedBody (scope_of f) f.methods b → AreSmallTerms b
       → AreShaped (scope_of f) rs → walked (scope_of f) (range_calls_in f) name at b rs ≡ Ok ends
       → AreShaped (scope_of f) ends
   -- in such ranges each declared name has the range that stands there, and so has each literal
-  pub leaf : (l : Leaf) (rs : Ranges) → IsDeclaredLeaf (scope_of f) l → HoldsLeaf l → AreShaped (scope_of f) rs
-      → IsReadWhole (scope_of f) l rs
+  pub leaf : (l : Leaf) (rs : Ranges) → IsDeclaredLeaf (scope_of f) l → HoldsLeaf l
+      → AreShaped (scope_of f) rs → IsReadWhole (scope_of f) l rs
   -- an item has the range that its row answers
   pub item : (x : List ℕ) (index r : Interval) → item_row (table_in (scope_of f) x) index ≡ Ok r
       → item_range (table_in (scope_of f) x) index ≡ Ok r

@@ -1,14 +1,15 @@
 -- What the walk promises of the values that a run meets.
-use Rattle.std.specs.Prelude.{◌≡◌, ℕ, ◌≤◌, ◌≤ℤ◌, ◌||◌, IsTrue, is_some, All, unsigned_abs, true, false, List, [], ◌∷◌, Option, Some, None, Ok, ⊤}
-use Rattle.scaled_decimal.specs.Decimals.{Decimal, scale_of, numerator_at}
+use Rattle.std.specs.Prelude.{◌≡◌, ℕ, ◌≤◌, ◌≤ℤ◌, ◌||◌, IsTrue, is_some, All, true, false, List, [], ◌∷◌, Option, Some, None, Ok, ⊤}
+use Rattle.scaled_decimal.specs.Decimals.{Decimal}
 use Rattle.pap_tree.specs.Term.{Term}
 use Rattle.pap_tree.specs.Flowchart.{Flowchart}
 use Rattle.limits_file.specs.declared.limits.Limits.{Limits}
+use Rattle.limits_file.specs.Limits.{IsWithinBound}
 use Rattle.pap_types.specs.Checks.{IsWellTyped}
 use Rattle.pap_types.specs.Counts.{KeepsScales, IsWithinCounts}
 use Rattle.pap_types.specs.Meaning.{IsSafeFor, outputs_in}
 use Rattle.range_walk.specs.Admission.{HaveLimits, AreAdmitted}
-use Rattle.range_walk.specs.Analysis.{analysed, output_places, output_limit}
+use Rattle.range_walk.specs.Analysis.{analysed}
 use Rattle.interval_num.specs.Intervals.{Interval, Contains}
 use Rattle.pap_types.specs.Scopes.{Scope, declared_as, scope_of}
 use Rattle.pap_types.specs.Kinds.{kind_of}
@@ -55,11 +56,6 @@ module _ (scope : Scope) where
 
 -- ---- the whole
 
--- a value within the bound of outputs
-pub record IsWithinBound (d : Decimal) : Type 0 where
-  pub places : scale_of d ≤ output_places
-  pub small : unsigned_abs (numerator_at output_places d) ≤ output_limit
-
 -- an output's value lies in its range and within the bound
 pub record IsOutput (r : Interval) (d : Decimal) : Type 0 where
   pub inside : Contains r d
@@ -79,8 +75,9 @@ pub record RunHolds (f : Flowchart) (ranges : Ranges) (inputs : List Decimal) : 
 -- where the walk of a well-typed plan passes, every list of admitted inputs is so
 abbrev pub AnalysisIsSound : Type 0
 AnalysisIsSound =
-    (f : Flowchart) (limits : Limits) (ranges : Ranges) → IsWellTyped f → IsWithinCounts f → HaveLimits f limits
-    → analysed f limits ≡ Ok ranges → (inputs : List Decimal) → AreAdmitted f limits inputs → RunHolds f ranges inputs
+    (f : Flowchart) (limits : Limits) (ranges : Ranges) → IsWellTyped f → IsWithinCounts f
+    → HaveLimits f limits → analysed f limits ≡ Ok ranges
+    → (inputs : List Decimal) → AreAdmitted f limits inputs → RunHolds f ranges inputs
 
 -- ---- tests
 
@@ -98,12 +95,14 @@ pub record AreFilled (scope : Scope) (rs : Ranges) : Type 0 where
 -- test of these holds or fails
 abbrev pub SomeBranchIsReached : Type 0
 SomeBranchIsReached =
-    (f : Flowchart) (t : Term) (at : ℕ) (rs : Ranges) (br : Branches) → IsWellTyped f → IsTypedTerm (scope_of f) t
-    → KeepsScales t → AreFilled (scope_of f) rs → tested (scope_of f) t at rs ≡ Ok br
+    (f : Flowchart) (t : Term) (at : ℕ) (rs : Ranges) (br : Branches) → IsWellTyped f
+    → IsTypedTerm (scope_of f) t → KeepsScales t → AreFilled (scope_of f) rs
+    → tested (scope_of f) t at rs ≡ Ok br
     → IsTrue (is_some br.holds || is_some br.fails)
 
 -- the range of an expression that the walk passes has the shape of its kind, whatever the ranges of the variables
 abbrev pub RangesHaveShape : Type 0
 RangesHaveShape =
-    (scope : Scope) (t : Term) (at : ℕ) (rs : Ranges) (r : Interval) → IsTypedTerm scope t → KeepsScales t
+    (scope : Scope) (t : Term) (at : ℕ) (rs : Ranges) (r : Interval)
+    → IsTypedTerm scope t → KeepsScales t
     → ranged scope t at rs ≡ Ok r → HasShape (kind_of scope t) r

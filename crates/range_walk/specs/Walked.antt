@@ -32,7 +32,8 @@ assigned_range scope x a env =
 abbrev pub joined : Ranges → Ranges → Result Ranges RangeCause
 joined [] [] = Ok []
 joined (v ∷ vs) (w ∷ ws) =
-    and_then (join_row v.range w.range) (λ a. and_then (joined vs ws) (λ rest. Ok (record v { range = a } ∷ rest)))
+    and_then (join_row v.range w.range) (λ a.
+    and_then (joined vs ws) (λ rest. Ok (record v { range = a } ∷ rest)))
 joined [] (w ∷ ws) = Err Wide
 joined (v ∷ vs) [] = Err Wide
 
@@ -45,7 +46,8 @@ module _ (scope : Scope) (call : RangeCalls) (name : List ℕ) where
   abbrev pub walked : ℕ → Body → Ranges → Result Ranges WalkFault
   walked at done env = Ok env
   walked at (eval x e rest) env =
-      and_then (at_stmt name at (ranged scope e 0 env)) (λ a. walked (at + 1) rest (assigned_range scope x a env))
+      and_then (at_stmt name at (ranged scope e 0 env)) (λ a.
+      walked (at + 1) rest (assigned_range scope x a env))
   walked at (branch t a b rest) env =
       and_then (at_stmt name at (tested scope t 0 env)) (λ br.
       and_then
@@ -60,7 +62,8 @@ module _ (scope : Scope) (call : RangeCalls) (name : List ℕ) where
   walked at (execute m rest) env = and_then (call m env) (walked (at + 1) rest)
 
 -- the walk of a method's body, in place
-abbrev pub with_body : List ℕ → Option Body → (Body → Result Ranges WalkFault) → Result Ranges WalkFault
+abbrev pub with_body :
+    List ℕ → Option Body → (Body → Result Ranges WalkFault) → Result Ranges WalkFault
 with_body m (Some b) go = go b
 with_body m None go = Err (node_fails (place m 0 0) Wide)
 

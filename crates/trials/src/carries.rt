@@ -1,7 +1,8 @@
 //! The inputs of a run: what is carried, given and defaulted, and what a run waits for or lacks.
 ghost use Rattle.std.specs.Prelude.{◌≤◌, IfOk, length};
 ghost use Rattle.std.specs.List.{AllByRecursion};
-ghost use Rattle.carry_bindings.specs.Conditions.{AreBounded, IsBoundedOutput, SuitsKind};
+ghost use Rattle.carry_bindings.specs.Conditions.{AreBounded, SuitsKind};
+ghost use Rattle.limits_file.specs.Limits.{IsWithinBound};
 
 use carry_bindings::{Blocked, Earlier, Filled, fill};
 use limits_file::{Carry, InputLimit, Items, Slot, Spec};
@@ -40,7 +41,7 @@ fn record(alloc: Global, given: &[(&str, &str)]) -> Result<Record, Fail> {
 
 /// A run that has one output, LST.
 fn run(alloc: Global, text: &str, tax: Dec) -> Result<Earlier, Fail>
-    requires { IsBoundedOutput tax }
+    requires { IsWithinBound tax }
     ensures { IfOk result (λ e. AreBounded e.outputs) }
 {
     let mut outputs = Vec::new(alloc);
