@@ -16,7 +16,8 @@ abbrev pub moves : {P : Type 0} → List (Entry P) → Day → Day → Bool
 moves es day d = serves day d && is_by (pick es d) day
 
 -- the plan of day d after an edit that leaves this entry to the days that it decides
-abbrev pub picked_after : {P : Type 0} → List (Entry P) → Day → Option (Entry P) → Day → Option (Entry P)
+abbrev pub picked_after : {P : Type 0} →
+    List (Entry P) → Day → Option (Entry P) → Day → Option (Entry P)
 picked_after es day left d = if moves es day d then left else pick es d
 
 -- what an edit does to the plan of each day
@@ -25,7 +26,8 @@ pub record EditsMovePicks (P : Type 0) : Type 0 where
   pub put : (es : List (Entry P)) (e : Entry P) (d : Day) → IsRising day_cmp day_of es →
       pick (with_entry e es) d ≡ picked_after es (day_of e) (Some e) d
   -- a plan that is dropped leaves its days to the entry before it in its year
-  pub drop : (es : List (Entry P)) (day d : Day) → IsRising day_cmp day_of es → IsSome (entry_at es day) →
+  pub drop : (es : List (Entry P)) (day d : Day) →
+      IsRising day_cmp day_of es → IsSome (entry_at es day) →
       pick (without_day day es) d ≡ picked_after es day (pick_before es day) d
   -- the days that an edit at a day decides had one and the same plan before it: that of the edit's day
   pub same : (es : List (Entry P)) (day d : Day) → moves es day d ≡ true → pick es day ≡ pick es d

@@ -62,4 +62,5 @@ abbrev pub IsLatest : {P : Type 0} → List (Entry P) → (Day → Bool) → Opt
 IsLatest es test None = AllByRecursion (λ e. test (day_of e) ≡ false) es
 IsLatest es test (Some e) =
     Contains es e × (test (day_of e) ≡ true)
-    × AllByRecursion (λ f. test (day_of f) ≡ true → is_gt (day_cmp (day_of f) (day_of e)) ≡ false) es
+    × AllByRecursion (λ f.
+    test (day_of f) ≡ true → is_gt (day_cmp (day_of f) (day_of e)) ≡ false) es
