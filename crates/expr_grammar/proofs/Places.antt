@@ -9,7 +9,8 @@ use Rattle.pap_tree.specs.Grammar.{Item, Is, Opens, Scale, Part, Line, Meaning, 
 use Rattle.pap_tree.specs.Texts as texts
 use Rattle.pap_tree.specs.Texts.{Text, Texts}
 use Rattle.pap_tree.specs.Expressions.{IsText}
-use Rattle.expr_grammar.specs.Trees.{HasPlaces, IsKeeping, ArePlaced}
+use Rattle.pap_tree.specs.Scales.{HasPlaces}
+use Rattle.expr_grammar.specs.Trees.{IsKeeping, ArePlaced}
 
 -- ---- tokens
 

@@ -9,7 +9,7 @@ use Rattle.pap_tree.specs.Grammar.{Item, Is, Opens, Scale, Part, Line, Meaning, 
 use Rattle.pap_tree.specs.Tokens as tokens
 use Rattle.pap_tree.specs.Texts as texts
 use Rattle.pap_tree.specs.Texts.{Text, Texts}
-use Rattle.expr_grammar.specs.Trees.{KeepsScale, KeepsQuotientScale}
+use Rattle.pap_tree.specs.Scales.{OneKeepsScale, TwoKeepsScale}
 
 abbrev pub IsNamed : Leaf → Type 0
 IsNamed (named x) = IsTrue (is_name x)
@@ -18,8 +18,8 @@ IsNamed l = ⊤
 abbrev pub IsRanged : Term → Type 0
 IsRanged (leaf l) = IsNamed l
 IsRanged (item x a) = IsTrue (is_name x) × IsRanged a
-IsRanged (one op a) = KeepsScale op × IsRanged a
-IsRanged (two op a b) = KeepsQuotientScale op × IsRanged a × IsRanged b
+IsRanged (one op a) = OneKeepsScale op × IsRanged a
+IsRanged (two op a b) = TwoKeepsScale op × IsRanged a × IsRanged b
 IsRanged (choice c a b) = IsRanged c × IsRanged a × IsRanged b
 
 abbrev IsRangedMeaning : Meaning → Type 0

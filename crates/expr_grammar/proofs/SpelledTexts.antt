@@ -19,7 +19,7 @@ use Rattle.pap_tree.specs.Grammar.{Level, Meaning, tree, mode}
 use Rattle.pap_tree.specs.Texts as texts
 use Rattle.pap_tree.specs.Texts.{Text, Texts, begins_number, begins_point}
 use Rattle.expr_grammar.specs.SpelledTokens.{bracketed, at_level, begins_signed, int_tokens, long_tokens, point_tokens, leaf_tokens, one_tokens, two_tokens, spelled_tokens}
-use Rattle.expr_grammar.specs.Trees.{KeepsScale, KeepsQuotientScale}
+use Rattle.pap_tree.specs.Scales.{OneKeepsScale, TwoKeepsScale}
 use Rattle.expr_grammar.proofs.Closing.{operator_high}
 use Rattle.expr_grammar.proofs.Levels.{looser}
 use Rattle.expr_grammar.proofs.Ranges.{IsNamed, IsRanged}
@@ -127,7 +127,7 @@ no_point : (a : List Token) (c : Bool) → begins_point a ≡ c → begins_point
 no_point a true e = refl
 no_point a false e = e
 
-one_text : (op : One) (x : Term) → KeepsScale op → IsSpelled x → Text (Level (level_of_one op)) (one_tokens op (level_of x) (spelled_tokens x)) (tree (one op x))
+one_text : (op : One) (x : Term) → OneKeepsScale op → IsSpelled x → Text (Level (level_of_one op)) (one_tokens op (level_of x) (spelled_tokens x)) (tree (one op x))
 one_text (unary Minus) x h t =
     let c = nat_lt (level_of x) 7 || begins_signed (spelled_tokens x) in
     text_is 7 _ _ _ (ap (λ a. Operator Sub ∷ a) (append-nil (bracketed c (spelled_tokens x))))
@@ -154,7 +154,7 @@ one_text (set_scale s m) x h t =
 next_level : (o : _) → suc (level_of_operator o) ≡ level_of_operator o + 1
 next_level o = omega arith
 
-two_text : (op : Two) (x y : Term) → KeepsQuotientScale op → IsSpelled x → IsSpelled y
+two_text : (op : Two) (x y : Term) → TwoKeepsScale op → IsSpelled x → IsSpelled y
     → Text (Level (level_of_two op)) (two_tokens op (level_of x) (spelled_tokens x) (level_of y) (spelled_tokens y)) (tree (two op x y))
 two_text (operator o) x y h t u =
     let n = level_of_operator o in

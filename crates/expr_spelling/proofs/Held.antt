@@ -13,7 +13,7 @@ use Rattle.pap_tree.specs.Grammar.{Item, Is, Opens, Scale, Part, Line, Meaning, 
 use Rattle.pap_tree.specs.Texts as texts
 use Rattle.pap_tree.specs.Texts.{Text, Texts}
 use Rattle.expr_grammar.specs.Shortened.{size_of}
-use Rattle.expr_grammar.specs.Trees.{KeepsScale, KeepsQuotientScale}
+use Rattle.pap_tree.specs.Scales.{OneKeepsScale, TwoKeepsScale}
 
 abbrev pub IsHeldLeaf : Leaf → Type 0
 IsHeldLeaf (terms.whole i) = size_of i ≤ greatest_int
@@ -26,8 +26,8 @@ IsHeldLeaf (terms.named x) = IsTrue (is_name x)
 abbrev pub IsHeld : Term → Type 0
 IsHeld (leaf l) = IsHeldLeaf l
 IsHeld (item x a) = IsTrue (is_name x) × IsHeld a
-IsHeld (one op a) = KeepsScale op × IsHeld a
-IsHeld (two op a b) = KeepsQuotientScale op × IsHeld a × IsHeld b
+IsHeld (one op a) = OneKeepsScale op × IsHeld a
+IsHeld (two op a b) = TwoKeepsScale op × IsHeld a × IsHeld b
 IsHeld (choice c a b) = IsHeld c × IsHeld a × IsHeld b
 
 abbrev IsHeldMeaning : Meaning → Type 0

@@ -20,7 +20,7 @@ use Rattle.pap_tree.specs.Tokens.{Token, Literal, Word, Operator, Mark, Question
 use Rattle.pap_tree.specs.Texts.{begins_point}
 use Rattle.expr_grammar.specs.SpelledTokens as spelled
 use Rattle.expr_grammar.specs.SpelledTokens.{begins_signed, rounding_tokens, method_tokens, one_tokens, two_tokens, spelled_tokens}
-use Rattle.expr_grammar.specs.Trees.{KeepsScale, KeepsQuotientScale}
+use Rattle.pap_tree.specs.Scales.{OneKeepsScale, TwoKeepsScale}
 use Rattle.expr_spelling.proofs.Lexing.{Lex, Cut, join, lead}
 use Rattle.expr_spelling.proofs.Numerals.{int_lex}
 use Rattle.expr_spelling.proofs.Pieces.{Good, NoEquals, Spaced, sign_then, word_then, point_sign, open_sign, close_sign, comma_sign, open_item, close_item, question_sign, colon_sign, minus_sign, bang_sign, operator_lex, more_good, in_brackets, boxed, number_alone, point_alone}
@@ -146,7 +146,7 @@ bang_good a ts g = record {
   start = λ rest. other_start 33 _ refl;
 }
 
-one_good : (op : One) (n : ℕ) (a : List ℕ) (ts : List Token) → KeepsScale op → Good a ts → Good (spelled_one op n a) (one_tokens op n ts)
+one_good : (op : One) (n : ℕ) (a : List ℕ) (ts : List Token) → OneKeepsScale op → Good a ts → Good (spelled_one op n a) (one_tokens op n ts)
 one_good (unary Minus) n a ts h g = minus_good n a ts g
 one_good (unary Not) n a ts h g = bang_good (bytes.at_level 7 n a) (spelled.at_level 7 n ts) (at_level_good 7 n a ts g)
 one_good (unary Negate) n a ts h g =
@@ -189,7 +189,7 @@ operator_then o b us k =
     lead Cut (32 ∷ []) (operator_text o ++ (codes " " ++ b)) (Operator o ∷ us) refl
     (join Spaced Cut (operator_text o) (32 ∷ b) (Operator o ∷ []) us (operator_lex o) (lead Cut (32 ∷ []) b us refl k) (λ rest c. (b ++ rest, refl)))
 
-two_good : (op : Two) (m n : ℕ) (a b : List ℕ) (ts us : List Token) → KeepsQuotientScale op → Good a ts → Good b us → Good (spelled_two op m a n b) (two_tokens op m ts n us)
+two_good : (op : Two) (m n : ℕ) (a b : List ℕ) (ts us : List Token) → TwoKeepsScale op → Good a ts → Good b us → Good (spelled_two op m a n b) (two_tokens op m ts n us)
 two_good (operator o) m n a b ts us h g k =
     more_good (bytes.at_level (level_of_operator o) m a) _ (spelled.at_level (level_of_operator o) m ts) _ (at_level_good (level_of_operator o) m a ts g) (λ rest c. refl)
     (operator_then o _ _ (at_level_good (level_of_operator o + 1) n b us k).lex)

@@ -9,7 +9,7 @@ use Rattle.interval_num.specs.Rows.{Answer, join_row}
 use Rattle.pap_types.specs.declared.kinds.NodeKind.{NodeKind}
 use Rattle.pap_types.specs.Kinds.{kind_of, wider, int_literal}
 use Rattle.pap_types.specs.Typing.{IsTypedTerm}
-use Rattle.pap_types.specs.Counts.{KeepsScales}
+use Rattle.pap_tree.specs.Scales.{KeepsScales}
 use Rattle.range_walk.specs.Ranges.{Ranges}
 use Rattle.range_walk.specs.Failures.{NodeFault, and_then, at_node, nowhere}
 use Rattle.range_walk.specs.NodeRanges.{comparison_range}

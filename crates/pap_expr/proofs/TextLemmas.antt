@@ -11,7 +11,7 @@ use Rattle.pap_tree.specs.Texts.{Text}
 use Rattle.pap_tree.specs.Expressions.{IsText, IsAccepted}
 use Rattle.expr_grammar.specs.Lines.{IsWhole, a_constant}
 use Rattle.expr_grammar.specs.Run.{answer}
-use Rattle.expr_grammar.specs.Trees.{KeepsScales}
+use Rattle.pap_tree.specs.Scales.{KeepsScales}
 use Rattle.expr_grammar.proofs.Laws.{answer_ok, answer_err, bounded, bytes_keep}
 use Rattle.pap_expr.specs.declared.fault.ExprFault.{ExprFault}
 use Rattle.pap_expr.specs.declared.fault.ExprFault.TheVariants as faults

@@ -11,7 +11,7 @@ ghost use Rattle.pap_tree.specs.Expressions.{IsAccepted};
 ghost use Rattle.expr_tokens.specs.Spots.{token_of, spots_of};
 ghost use Rattle.expr_grammar.specs.Machine.{Due, Want, Naming, naming_step, start};
 ghost use Rattle.expr_grammar.specs.Run.{Refusal, run, answer, never};
-ghost use Rattle.expr_grammar.specs.Trees.{KeepsScales};
+ghost use Rattle.pap_tree.specs.Scales.{KeepsScales};
 ghost use Rattle.pap_expr.specs.Views.{refusal_of};
 ghost use Rattle.pap_expr.specs.Answers.{line_of, base_of, Answers};
 ghost use Rattle.pap_expr.specs.Faults.{IsFaultOf};

@@ -2,59 +2,34 @@
 use Rattle.std.proofs.Common.{◌≡◌, ℕ, ◌+◌, ◌≤◌, max, List, [], ◌∷◌, length, suc, refl, sym, ap, ap₂, subst, ◌∙◌, arith}
 use Rattle.std.specs.List.{All}
 use Rattle.std.proofs.lemmas.List.Elements.{All-nil, All-cons}
-use Rattle.pap_tree.specs.Term.{Leaf, whole, long, point, text, known, named, One, unary, value_of, value_of_scaled, new_big, set_scale, Two, operator, method, divide, Term, leaf, item, one, two, choice}
+use Rattle.pap_tree.specs.Term.{Term}
 use Rattle.pap_tree.specs.Grammar.{Line, Level, Assignment, tree, assignment}
 use Rattle.pap_tree.specs.Expressions.{IsAccepted}
 use Rattle.pap_tree.specs.Tokens.{plain}
 use Rattle.pap_tree.specs.Declarations.{Declaration}
 use Rattle.pap_tree.specs.Flowchart.{Body, done, eval, branch, execute, Routine, Flowchart}
 use Rattle.pap_tree.specs.Statements.{written}
-use Rattle.expr_grammar.specs.Trees as trees
 use Rattle.expr_grammar.proofs.Laws.{bounded, bytes_keep}
 use Rattle.pap_reader.specs.Trees.{RawDeclaration, RawBody, RawRoutine, ElementTree}
 use Rattle.pap_reader.specs.Trees as raw
 use Rattle.pap_reader.specs.TreeLimits.{raw_written, raw_nesting}
 use Rattle.pap_reader.specs.TreeLimits as raws
 use Rattle.pap_reader.proofs.Laws.{small_tree}
-use Rattle.pap_types.specs.Counts.{OneKeepsScale, TwoKeepsScale, KeepsScales, IsSmallTerm, AreSmallTerms, nesting, methods_written, methods_nesting, IsWithinCounts}
+use Rattle.pap_types.specs.Counts.{IsSmallTerm, AreSmallTerms, nesting, methods_written, methods_nesting, IsWithinCounts}
 use Rattle.plan_text.specs.Plans.{AreDeclarations, IsBody, AreRoutines, HasFlowchart, IsPlan}
 
 -- ---- expressions
 
-keeps : (t : Term) → trees.KeepsScales t → KeepsScales t
-keeps (leaf (whole i)) h = tt
-keeps (leaf (long i)) h = tt
-keeps (leaf (point d)) h = h
-keeps (leaf (text d)) h = tt
-keeps (leaf (known k)) h = tt
-keeps (leaf (named x)) h = tt
-keeps (item x e) h = keeps e h
-keeps (one op e) h = (one_keeps op h.0, keeps e h.1)
-  where
-    one_keeps : (op : One) → trees.KeepsScale op → OneKeepsScale op
-    one_keeps (unary u) h = tt
-    one_keeps value_of h = tt
-    one_keeps (value_of_scaled s) h = h
-    one_keeps new_big h = tt
-    one_keeps (set_scale s m) h = h
-keeps (two op e f) h = (two_keeps op h.0, keeps e h.1, keeps f h.2)
-  where
-    two_keeps : (op : Two) → trees.KeepsQuotientScale op → TwoKeepsScale op
-    two_keeps (operator o) h = tt
-    two_keeps (method m) h = tt
-    two_keeps (divide s m) h = h
-keeps (choice c e f) h = (keeps c h.0, keeps e h.1, keeps f h.2)
-
 test_small : (bytes : List ℕ) (t : Term) → IsAccepted (Level 0) bytes (tree t) → IsSmallTerm t
 test_small bytes t h = record {
   size = bounded (Level 0) (plain h.spots) (tree t) refl h.text h.read;
-  scales = keeps t (bytes_keep (Level 0) bytes (tree t) (record { spots = h.spots; tokens = h.tokens; text = h.text }));
+  scales = bytes_keep (Level 0) bytes (tree t) (record { spots = h.spots; tokens = h.tokens; text = h.text });
 }
 
 assignment_small : (bytes name : List ℕ) (t : Term) → IsAccepted Assignment bytes (assignment name t) → IsSmallTerm t
 assignment_small bytes name t h = record {
   size = bounded Assignment (plain h.spots) (assignment name t) refl h.text h.read;
-  scales = keeps t (bytes_keep Assignment bytes (assignment name t) (record { spots = h.spots; tokens = h.tokens; text = h.text }));
+  scales = bytes_keep Assignment bytes (assignment name t) (record { spots = h.spots; tokens = h.tokens; text = h.text });
 }
 
 -- ---- lists of statements: as many, nested as deep, of small expressions

@@ -24,7 +24,7 @@ use Rattle.pap_types.specs.Kinds.{is_whole, kind_of, leaf_kind, kind_of_one, kin
 use Rattle.pap_types.specs.Operations.{fewest_places}
 use Rattle.pap_types.specs.Safety.{bits_of}
 use Rattle.pap_types.specs.Typing.{IsTypedTerm}
-use Rattle.pap_types.specs.Counts.{OneKeepsScale, TwoKeepsScale, KeepsScales}
+use Rattle.pap_tree.specs.Scales.{OneKeepsScale, TwoKeepsScale, KeepsScales}
 use Rattle.range_walk.specs.Ranges.{Ranges, single}
 use Rattle.range_walk.specs.Failures.{NodeFault, and_then, at_node, nowhere}
 use Rattle.range_walk.specs.NodeRanges.{read_leaf, leaf_range, leaf_interval, item_range, shown_range, one_range, operator_range, method_range, two_range, big_range}

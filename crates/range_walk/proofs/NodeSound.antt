@@ -26,7 +26,7 @@ use Rattle.pap_types.specs.Kinds.{is_whole, kind_of_one, kind_of_two, takes_one,
 use Rattle.pap_types.specs.Operations.{is_zero, of_one, of_two, as_big, unless_zero}
 use Rattle.pap_types.specs.Values.{goes_right}
 use Rattle.pap_types.specs.Safety.{bits_of, OneFits, TwoFits}
-use Rattle.pap_types.specs.Counts.{OneKeepsScale, TwoKeepsScale}
+use Rattle.pap_tree.specs.Scales.{OneKeepsScale, TwoKeepsScale}
 use Rattle.range_walk.specs.Ranges.{single}
 use Rattle.range_walk.specs.NodeRanges.{one_range, two_range, shown_range, item_range, big_range}
 use Rattle.range_walk.specs.Shapes.{HasShape}

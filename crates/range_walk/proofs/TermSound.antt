@@ -20,7 +20,7 @@ use Rattle.pap_types.specs.Values.{Env, look, leaf_value}
 use Rattle.pap_types.specs.Operations.{of_one}
 use Rattle.pap_types.specs.Safety.{OneFits}
 use Rattle.pap_types.specs.Typing.{IsTypedTerm}
-use Rattle.pap_types.specs.Counts.{KeepsScales}
+use Rattle.pap_tree.specs.Scales.{KeepsScales}
 use Rattle.range_walk.specs.Ranges.{Ranges, single, range_named}
 use Rattle.range_walk.specs.Failures.{NodeFault, and_then, at_node, nowhere}
 use Rattle.range_walk.specs.NodeRanges.{leaf_interval, leaf_range, item_range, one_range, two_range, comparison_range}

@@ -3,10 +3,11 @@ use Rattle.std.specs.Prelude.{◌≡◌, ℕ, ◌≤◌, ◌≤ℤ◌, ◌||◌,
 use Rattle.scaled_decimal.specs.Decimals.{Decimal}
 use Rattle.pap_tree.specs.Term.{Term}
 use Rattle.pap_tree.specs.Flowchart.{Flowchart}
+use Rattle.pap_tree.specs.Scales.{KeepsScales}
 use Rattle.limits_file.specs.declared.limits.Limits.{Limits}
 use Rattle.limits_file.specs.Limits.{IsWithinBound}
 use Rattle.pap_types.specs.Checks.{IsWellTyped}
-use Rattle.pap_types.specs.Counts.{KeepsScales, IsWithinCounts}
+use Rattle.pap_types.specs.Counts.{IsWithinCounts}
 use Rattle.pap_types.specs.Meaning.{IsSafeFor, outputs_in}
 use Rattle.range_walk.specs.Admission.{HaveLimits, AreAdmitted}
 use Rattle.range_walk.specs.Analysis.{analysed}

@@ -3,7 +3,8 @@ ghost use Rattle.std.specs.Prelude.{◌≡◌, ◌+◌, IfSome, IfOk};
 ghost use Rattle.pap_tree.specs.Term.{term_of};
 ghost use Rattle.pap_tree.specs.Numbering.{nodes};
 ghost use Rattle.pap_tree.specs.Flowchart.{flowchart_of};
-ghost use Rattle.pap_types.specs.Counts.{KeepsScales, IsSmallTerm, IsWithinCounts};
+ghost use Rattle.pap_tree.specs.Scales.{KeepsScales};
+ghost use Rattle.pap_types.specs.Counts.{IsSmallTerm, IsWithinCounts};
 
 use pap_expr::{parse_constant, parse_expr};
 use pap_tree::{Declared, Expr, Kind, Name, PlanText, Stmt};
