@@ -41,7 +41,7 @@ use Rattle.interval_analysis.specs.declared.expressions.Walk.{Walk}
 use Rattle.interval_analysis.specs.PlanViews.{scope_in, ranges_in}
 use Rattle.interval_analysis.specs.ComparisonViews.{HasRange, branches_in}
 use Rattle.interval_analysis.specs.OperationViews.{TakesUnary, TakesWholes, TakesShown, IsPlainShown}
-use Rattle.interval_analysis.specs.ExpressionViews.{comparison_in, IsComparison, ComparisonAnswer, IsPlainComparison, is_compare_to, StopsAs}
+use Rattle.interval_analysis.specs.ExpressionViews.{comparison, comparison_in, IsComparison, ComparisonAnswer, IsPlainComparison, is_compare_to, StopsAs}
 
 -- a number that is made longer
 pub widened : (n : ℤ) → FitsSigned w32 n → to_z w128 (of_z w128 (to_z w32 (of_z w32 n))) ≡ n
@@ -154,7 +154,7 @@ module _ (op : Binary) (w : Bool) (direct : meant.Sides) (env : Ranges) where
 
 -- the definition's last case, where its nodes pass up to that of the comparison
 compared_to : (w : Walk) (op : Binary) (e f : Term) (at n m : ℕ) (env : Ranges) (a b : Interval) → ranged (scope_in w.plan.now) e at env ≡ Ok a → ranged (scope_in w.plan.now) f n env ≡ Ok b → n ≡ at + nodes e → m ≡ n + nodes f
-    → comparison_in w op e f at env ≡ and_then (at_node m (comparison_range op a b)) (λ r. Ok (compared op (are_whole (scope_in w.plan.now) e f) (sides e f a b) (compare_sides (scope_in w.plan.now) e at env) (int_literal f) env))
+    → comparison_in w (comparison op e f) at env ≡ and_then (at_node m (comparison_range op a b)) (λ r. Ok (compared op (are_whole (scope_in w.plan.now) e f) (sides e f a b) (compare_sides (scope_in w.plan.now) e at env) (int_literal f) env))
 compared_to w op e f at n m env a b first second en em =
     let scope = scope_in w.plan.now in
     let last = λ (x y : Interval). and_then (at_node (at + nodes e + nodes f) (comparison_range op x y)) (λ r. Ok (compared op (are_whole scope e f) (sides e f x y) (compare_sides scope e at env) (int_literal f) env)) in
@@ -167,7 +167,7 @@ pub sides_answer : (w : Walk) (op : Binary) (e f : Term) (at n m next : ℕ) (rs
     → at_node m (comparison_range op a b) ≡ Ok r → IsPlainComparison e f
     → j ≡ kind_of (scope_in w.plan.now) e → k ≡ kind_of (scope_in w.plan.now) f → w2 ≡ (is_whole j && is_whole k) → allowed ≡ signs_where op (pos 0)
     → branches_in w.plan.now rs br ≡ meant.branches_of w2 allowed (sides e f a b) (ranges_in w.plan.now rs) → next ≡ m + 1
-    → IsComparison w op e f at rs (record { branches = br; next = next })
+    → IsComparison w (comparison op e f) at rs (record { branches = br; next = next })
 sides_answer w op e f at n m next rs a b r j k w2 allowed br first second en em node plain kj kk wh al is last =
     let scope = scope_in w.plan.now in
     let env = ranges_in w.plan.now rs in
@@ -206,7 +206,7 @@ module _ (w : Walk) (op : Binary) (x y : Term) (k : ℤ) (at n m p q : ℕ) (rs 
       ap (λ r. meant.sides_of x y r (ranged scope y (at + nodes x) env)) first
       ∙ ap (λ r. meant.sides_of x y (Ok a) r) (ap (λ i. ranged scope y i env) (sym en) ∙ second)
 
-  to_node : comparison_in w op (two (method calls.CompareTo) x y) (leaf (whole k)) at (ranges_in w.plan.now rs) ≡ and_then (at_node q (comparison_range op o l)) (λ r. Ok (meant.branches_of false (signs_where op k) (sides x y a b) (ranges_in w.plan.now rs)))
+  to_node : comparison_in w (comparison op (two (method calls.CompareTo) x y) (leaf (whole k))) at (ranges_in w.plan.now rs) ≡ and_then (at_node q (comparison_range op o l)) (λ r. Ok (meant.branches_of false (signs_where op k) (sides x y a b) (ranges_in w.plan.now rs)))
   to_node =
       let scope = scope_in w.plan.now in
       let env = ranges_in w.plan.now rs in
@@ -217,7 +217,7 @@ module _ (w : Walk) (op : Binary) (x y : Term) (k : ℤ) (at n m p q : ℕ) (rs 
 
   pub compare_to_answer : (next : ℕ) (r : Interval) (allowed : SignSet) (br : Branches) → at_node q (comparison_range op o l) ≡ Ok r → allowed ≡ signs_where op k
       → branches_in w.plan.now rs br ≡ meant.branches_of false allowed (sides x y a b) (ranges_in w.plan.now rs) → next ≡ q + 1
-      → IsComparison w op (two (method calls.CompareTo) x y) (leaf (whole k)) at rs (record { branches = br; next = next })
+      → IsComparison w (comparison op (two (method calls.CompareTo) x y) (leaf (whole k))) at rs (record { branches = br; next = next })
   compare_to_answer next r allowed br node al is last =
       let env = ranges_in w.plan.now rs in
       record {
@@ -228,7 +228,7 @@ module _ (w : Walk) (op : Binary) (x y : Term) (k : ℤ) (at n m p q : ℕ) (rs 
         next = omega (arith, en, em, ep, eq, last);
       }
 
-  pub compare_to_stops : (stop : Stop) (r : Result Tested Stop) → StopsAs (at_node q (comparison_range op o l)) stop → IsErrAnd r (λ s. s ≡ stop) → ComparisonAnswer w op (two (method calls.CompareTo) x y) (leaf (whole k)) at rs r
+  pub compare_to_stops : (stop : Stop) (r : Result Tested Stop) → StopsAs (at_node q (comparison_range op o l)) stop → IsErrAnd r (λ s. s ≡ stop) → ComparisonAnswer w (comparison op (two (method calls.CompareTo) x y) (leaf (whole k))) at rs r
   compare_to_stops stop (Ok t) h is = absurd is
-  compare_to_stops (At i c) (Err s) h is = subst (λ s. ComparisonAnswer w op (two (method calls.CompareTo) x y) (leaf (whole k)) at rs (Err s)) (sym is) (to_node ∙ ap (λ t. and_then t (λ r. Ok (meant.branches_of false (signs_where op k) (sides x y a b) (ranges_in w.plan.now rs)))) h)
-  compare_to_stops Memory (Err s) h is = subst (λ s. ComparisonAnswer w op (two (method calls.CompareTo) x y) (leaf (whole k)) at rs (Err s)) (sym is) tt
+  compare_to_stops (At i c) (Err s) h is = subst (λ s. ComparisonAnswer w (comparison op (two (method calls.CompareTo) x y) (leaf (whole k))) at rs (Err s)) (sym is) (to_node ∙ ap (λ t. and_then t (λ r. Ok (meant.branches_of false (signs_where op k) (sides x y a b) (ranges_in w.plan.now rs)))) h)
+  compare_to_stops Memory (Err s) h is = subst (λ s. ComparisonAnswer w (comparison op (two (method calls.CompareTo) x y) (leaf (whole k))) at rs (Err s)) (sym is) tt

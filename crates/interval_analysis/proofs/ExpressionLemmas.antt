@@ -18,11 +18,11 @@ use Rattle.interval_analysis.specs.declared.expressions.Tested.{Tested}
 use Rattle.interval_analysis.specs.declared.expressions.Walk.{Walk}
 use Rattle.interval_analysis.specs.Changes.{changed}
 use Rattle.interval_analysis.specs.PlanViews.{scope_in, ranges_in, ranges_after}
-use Rattle.interval_analysis.specs.ExpressionViews.{ComparisonAnswer, TestAnswer, comparison_in}
+use Rattle.interval_analysis.specs.ExpressionViews.{ComparisonAnswer, TestAnswer, comparison, comparison_in}
 use Rattle.interval_analysis.proofs.ChangeLemmas.{changed-append}
 
 -- an operator that is no connective is walked as a comparison
-plain_operator : (w : Walk) (op : Binary) (e f : Term) (at : ℕ) (env : Ranges) → (op ≡ binaries.And → ⊥) → (op ≡ binaries.Or → ⊥) → tested (scope_in w.plan.now) (two (operator op) e f) at env ≡ comparison_in w op e f at env
+plain_operator : (w : Walk) (op : Binary) (e f : Term) (at : ℕ) (env : Ranges) → (op ≡ binaries.And → ⊥) → (op ≡ binaries.Or → ⊥) → tested (scope_in w.plan.now) (two (operator op) e f) at env ≡ comparison_in w (comparison op e f) at env
 plain_operator w binaries.And e f at env a o = absurd (a refl)
 plain_operator w binaries.Or e f at env a o = absurd (o refl)
 plain_operator w binaries.Mul e f at env a o = refl
@@ -37,7 +37,7 @@ plain_operator w binaries.MoreEq e f at env a o = refl
 plain_operator w binaries.Same e f at env a o = refl
 plain_operator w binaries.Differs e f at env a o = refl
 
-pub plain_answer : (w : Walk) (op : Binary) (e f : Term) (at : ℕ) (rs : List Interval) (r : Result Tested Stop) → (op ≡ binaries.And → ⊥) → (op ≡ binaries.Or → ⊥) → ComparisonAnswer w op e f at rs r → TestAnswer w (two (operator op) e f) at rs r
+pub plain_answer : (w : Walk) (op : Binary) (e f : Term) (at : ℕ) (rs : List Interval) (r : Result Tested Stop) → (op ≡ binaries.And → ⊥) → (op ≡ binaries.Or → ⊥) → ComparisonAnswer w (comparison op e f) at rs r → TestAnswer w (two (operator op) e f) at rs r
 plain_answer w op e f at rs (Ok r) a o h = record {
   branches = plain_operator w op e f at (ranges_in w.plan.now rs) a o ∙ h.branches;
   next = h.next ∙ omega arith;

@@ -2,7 +2,7 @@
 use Rattle.std.proofs.Common.{◌≡◌, ℕ, zero, suc, ◌+◌, ◌-◌, ◌≢◌, List, Some, None, Result, Ok, Err, refl, sym, ap, ◌∙◌, subst, arith}
 use Rattle.pap_tree.specs.declared.plan.Stmt.{Stmt, Eval, If', Execute}
 use Rattle.pap_tree.specs.Term.{term_of}
-use Rattle.pap_tree.specs.Flowchart.{Body, done, body_of_row, stmt_then, Routine}
+use Rattle.pap_tree.specs.Flowchart.{Body, done, body_of, body_of_row, stmt_then, Routine}
 use Rattle.pap_tree.specs.Statements.{written}
 use Rattle.interval_num.specs.declared.cause.RangeCause.TheVariants.{Wide}
 use Rattle.pap_types.specs.Checks.{place, last_node}
@@ -21,7 +21,9 @@ use Rattle.std.specs.Result.{IsErrAnd}
 use Rattle.pap_tree.specs.declared.plan.PlanText.{PlanText}
 use Rattle.interval_num.specs.declared.cause.RangeCause.{RangeCause}
 use Rattle.interval_num.specs.Intervals.{Interval}
-use Rattle.interval_analysis.specs.StatementViews.{calls_in, walked_in, met_in, joined_lists, FaultOf, EnvAnswer, NumberedAnswer}
+use Rattle.interval_analysis.specs.declared.statements.Fork.{Fork}
+use Rattle.interval_analysis.specs.declared.statements.Spot.{Spot}
+use Rattle.interval_analysis.specs.StatementViews.{calls_in, walked_in, met_in, first_spot, second_spot, joined_lists, FaultOf, EnvAnswer, Passage, Passes}
 use Rattle.range_walk.specs.Walked.{RangeCalls, walked, range_calls_of, with_body, joined}
 
 assoc : {A B C E : Type 0} (r : Result A E) (f : A → Result B E) (g : B → Result C E) → and_then r (λ a. and_then (f a) g) ≡ and_then (and_then r f) g
@@ -68,23 +70,23 @@ module _ (scope : Scope) (ms : List Routine) (m : List ℕ) (env : Ranges) where
       ap (λ o. with_body m o (λ b. walked scope (range_calls_of scope ms n) m 0 b env)) e
       ∙ ap (λ k. walked scope (range_calls_of scope ms k) m 0 b env) less
 
--- ---- answers
+-- ---- steps
 
-module _ (w : Walk) (chain : ℕ) (name : List ℕ) where
+module _ (w : Walk) (spot : Spot) where
   -- a statement that passes, and those behind it
-  pub step_on : (s : Stmt) (rest : Body) (at next : ℕ) (env mid : Ranges) → walked_in w chain name at (stmt_then s done) env ≡ Ok mid → next ≡ at + written (stmt_then s done) → walked_in w chain name next rest mid ≡ walked_in w chain name at (stmt_then s rest) env
-  step_on s rest at next env mid h number =
-      ap (λ k. walked_in w chain name k rest mid) number
-      ∙ ap (λ q. and_then q (walked_in w chain name (at + written (stmt_then s done)) rest)) (sym h)
-      ∙ sym (walked_then (scope_in w.plan.now) (calls_in w chain) name s rest at env)
+  pub step_on : (s : Stmt) (rest : Body) (next : ℕ) (rs ms : List Interval) → walked_in w spot (stmt_then s done) rs ≡ Ok (ranges_in w.plan.now ms) → next ≡ spot.at + written (stmt_then s done) → walked_in w (record spot { at = next }) rest ms ≡ walked_in w spot (stmt_then s rest) rs
+  step_on s rest next rs ms h number =
+      ap (λ k. walked_in w (record spot { at = k }) rest ms) number
+      ∙ ap (λ q. and_then q (walked (scope_in w.plan.now) (calls_in w spot.chain) spot.method (spot.at + written (stmt_then s done)) rest)) (sym h)
+      ∙ sym (walked_then (scope_in w.plan.now) (calls_in w spot.chain) spot.method s rest spot.at (ranges_in w.plan.now rs))
 
   -- a statement that stops
-  pub step_stops : (s : Stmt) (rest : Body) (at : ℕ) (env : Ranges) (f : RangeFault) → FaultOf (walked_in w chain name at (stmt_then s done) env) f → FaultOf (walked_in w chain name at (stmt_then s rest) env) f
-  step_stops s rest at env (faults.At p c) h =
-      walked_then (scope_in w.plan.now) (calls_in w chain) name s rest at env
-      ∙ ap (λ q. and_then q (walked_in w chain name (at + written (stmt_then s done)) rest)) h
-  step_stops s rest at env (faults.Output x) h = absurd h
-  step_stops s rest at env (faults.Memory e) h = tt
+  pub step_stops : (s : Stmt) (rest : Body) (rs : List Interval) (f : RangeFault) → FaultOf (walked_in w spot (stmt_then s done) rs) f → FaultOf (walked_in w spot (stmt_then s rest) rs) f
+  step_stops s rest rs (faults.At p c) h =
+      walked_then (scope_in w.plan.now) (calls_in w spot.chain) spot.method s rest spot.at (ranges_in w.plan.now rs)
+      ∙ ap (λ q. and_then q (walked (scope_in w.plan.now) (calls_in w spot.chain) spot.method (spot.at + written (stmt_then s done)) rest)) h
+  step_stops s rest rs (faults.Output x) h = absurd h
+  step_stops s rest rs (faults.Memory e) h = tt
 
 -- a fault of a result that is the same
 pub fault_as : (r q : Result Ranges WalkFault) (f : RangeFault) → r ≡ q → FaultOf q f → FaultOf r f
@@ -98,22 +100,24 @@ fault_first r go (faults.Memory e) h = tt
 
 -- ---- what functions answer
 
-pub err_answer : (r : Result Ranges WalkFault) (count : ℕ) (p : PlanText) (new : List Interval) (res : Result ℕ RangeFault) (f : RangeFault) → IsErrAnd res (λ g. g ≡ f) → FaultOf r f → NumberedAnswer r count p new res
-err_answer r count p new (Ok n) f is h = absurd is
-err_answer r count p new (Err g) f is h = subst (FaultOf r) (sym is) h
+pub passes_not : (p : Passage) (new : List Interval) (res : Result ℕ RangeFault) (f : RangeFault) → IsErrAnd res (λ g. g ≡ f) → FaultOf p.ranges f → Passes p new res
+passes_not p new (Ok n) f is h = absurd is
+passes_not p new (Err g) f is h = subst (FaultOf p.ranges) (sym is) h
 
-pub env_err : (r : Result Ranges WalkFault) (p : PlanText) (new : List Interval) (res : Result (Unit {0}) RangeFault) (f : RangeFault) → IsErrAnd res (λ g. g ≡ f) → FaultOf r f → EnvAnswer r p new res
-env_err r p new (Ok u) f is h = absurd is
-env_err r p new (Err g) f is h = subst (FaultOf r) (sym is) h
+pub env_err : (w : Walk) (r : Result Ranges WalkFault) (new : List Interval) (res : Result (Unit {0}) RangeFault) (f : RangeFault) → IsErrAnd res (λ g. g ≡ f) → FaultOf r f → EnvAnswer w r new res
+env_err w r new (Ok u) f is h = absurd is
+env_err w r new (Err g) f is h = subst (FaultOf r) (sym is) h
 
-pub numbered_as : (r : Result Ranges WalkFault) (count other : ℕ) (p : PlanText) (new : List Interval) (res : Result ℕ RangeFault) → count ≡ other → NumberedAnswer r count p new res → NumberedAnswer r other p new res
-numbered_as r count other p new res e h = subst (λ k. NumberedAnswer r k p new res) e h
+pub passes_to : (p : Passage) (next : ℕ) (new : List Interval) (res : Result ℕ RangeFault) → p.next ≡ next → Passes p new res → Passes (record p { next = next }) new res
+passes_to p next new res e h = subst (λ k. Passes (record p { next = k }) new res) e h
 
 -- both lists pass, and their ranges meet
-pub both_meet : (w : Walk) (chain : ℕ) (name : List ℕ) (at node second : ℕ) (a b : Body) (held failed x y : Ranges) → walked_in w chain name (at + 1) a held ≡ Ok x → walked_in w chain name second b failed ≡ Ok y → second ≡ at + 1 + written a → met_in w chain name at node a b held failed ≡ at_stmt name at (at_node node (joined x y))
-both_meet w chain name at node second a b held failed x y first last number =
-    ap (λ q. and_then q (λ x. and_then (walked_in w chain name (at + 1 + written a) b failed) (λ y. at_stmt name at (at_node node (joined x y))))) first
-    ∙ ap (λ q. and_then q (λ y. at_stmt name at (at_node node (joined x y)))) (ap (λ k. walked_in w chain name k b failed) (sym number) ∙ last)
+pub both_meet : (w : Walk) (spot : Spot) (f : Fork) (second : ℕ) (rs ss xs ys : List Interval) → walked_in w (first_spot spot) (body_of f.yes.now) rs ≡ Ok (ranges_in w.plan.now xs) → walked_in w (record spot { at = second }) (body_of f.no.now) ss ≡ Ok (ranges_in w.plan.now ys) → second ≡ spot.at + 1 + written (body_of f.yes.now)
+    → met_in w spot f rs ss ≡ at_stmt spot.method spot.at (at_node f.root (joined (ranges_in w.plan.now xs) (ranges_in w.plan.now ys)))
+both_meet w spot f second rs ss xs ys first last number =
+    let meet : Ranges → Ranges → Result Ranges WalkFault = λ x y. at_stmt spot.method spot.at (at_node f.root (joined x y)) in
+    ap (λ q. and_then q (λ x. and_then (walked_in w (second_spot spot f) (body_of f.no.now) ss) (meet x))) first
+    ∙ ap (λ q. and_then q (meet (ranges_in w.plan.now xs))) (ap (λ k. walked_in w (record spot { at = k }) (body_of f.no.now) ss) (sym number) ∙ last)
 
 pub meets : (p : PlanText) (name : List ℕ) (at node : ℕ) (rs ss new : List Interval) → IsSized p rs → IsSized p ss → joined_lists rs ss ≡ Ok new → at_stmt name at (at_node node (joined (ranges_in p rs) (ranges_in p ss))) ≡ Ok (ranges_in p new)
 meets p name at node rs ss new e f h =

@@ -1,5 +1,6 @@
 -- Ranges of variables by their numbers, and changes of some of them.
-use Rattle.std.specs.Prelude.{List, [], ◌∷◌, Option, Some, None, slice_set}
+use Rattle.std.specs.Prelude.{◌≡◌, List, [], ◌∷◌, ◌++◌, Option, slice_set}
+use Rattle.std.specs.Option.{option_map}
 use Rattle.std.proofs.Common.{Vec, Global}
 use Rattle.interval_num.specs.Intervals.{Interval}
 use Rattle.interval_analysis.specs.declared.branches.Change.{Change}
@@ -9,7 +10,6 @@ abbrev pub changed : List Interval → List Change → List Interval
 changed ranges [] = ranges
 changed ranges (c ∷ cs) = changed (slice_set ranges c.number c.range) cs
 
--- the ranges of a branch that can be reached
-abbrev pub after : List Interval → Option (Vec Change Global) → Option (List Interval)
-after ranges None = None
-after ranges (Some changes) = Some (changed ranges changes.items)
+-- further changes, if there are some, stand behind these
+abbrev pub AreBehind : List Change → Option (Vec Change Global) → Option (Vec Change Global) → Type 0
+AreBehind cs further all = option_map (λ a. a.items) all ≡ option_map (λ f. cs ++ f.items) further

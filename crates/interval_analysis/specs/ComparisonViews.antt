@@ -3,11 +3,13 @@ use Rattle.std.specs.Prelude.{◌≡◌, ℕ, Bool, List, Option, Some, None, �
 use Rattle.std.specs.Bool.{OnTrue}
 use Rattle.pap_tree.specs.declared.plan.PlanText.{PlanText}
 use Rattle.pap_tree.specs.Term.{Term, term_of, leaf, named}
+use Rattle.interval_num.specs.declared.sign_set.SignSet.{SignSet}
 use Rattle.interval_num.specs.Intervals.{Interval, IsWhole}
 use Rattle.interval_num.specs.Alignment.{Align}
 use Rattle.range_walk.specs.Ranges.{Ranges, range_named}
 use Rattle.range_walk.specs.Branches as meant
 use Rattle.interval_analysis.specs.declared.branches.Branches.{Branches}
+use Rattle.interval_analysis.specs.declared.comparisons.Against.{Against}
 use Rattle.interval_analysis.specs.declared.comparisons.Sides.{Sides}
 use Rattle.interval_analysis.specs.PlanViews.{ranges_in, ranges_after}
 
@@ -38,8 +40,24 @@ abbrev pub HasRange : Term → Interval → Ranges → Type 0
 HasRange (leaf (named x)) a env = (v : Interval) → range_named env x ≡ Some v → v ≡ a
 HasRange _ a env = ⊤
 
--- the sides of a comparison have their ranges, which are aligned, and those of whole numbers where `whole` holds
-pub record CanCompare (p : PlanText) (whole : Bool) (s : Sides) (rs : List Interval) : Type 0 where
-  pub ranges : CanRefine whole s.left_range s.right_range
+-- the sides of a comparison have their ranges, which are aligned, and those of whole numbers where they are to be
+pub record CanCompare (p : PlanText) (s : Sides) (rs : List Interval) : Type 0 where
+  pub ranges : CanRefine s.whole s.left_range s.right_range
   pub left : HasRange (term_of s.left.now) s.left_range (ranges_in p rs)
   pub right : HasRange (term_of s.right.now) s.right_range (ranges_in p rs)
+
+-- ---- the definition, from ranges by number
+
+-- the branch of the allowed signs, and both
+abbrev pub branch_by : PlanText → Sides → SignSet → List Interval → Option Ranges
+branch_by p s allowed rs = meant.branch_of s.whole allowed (sides_of s) (ranges_in p rs)
+
+abbrev pub branches_by : PlanText → Sides → SignSet → List Interval → meant.Branches
+branches_by p s allowed rs = meant.branches_of s.whole allowed (sides_of s) (ranges_in p rs)
+
+-- the variables where a side stands against another
+abbrev pub narrowed_by : PlanText → Term → Against → List Interval → Option Ranges
+narrowed_by p t a rs = meant.narrowed a.whole a.allowed t a.range (ranges_in p rs)
+
+abbrev pub CanStand : PlanText → Term → Against → List Interval → Type 0
+CanStand p t a rs = CanNarrow a.whole t a.range (ranges_in p rs)

@@ -1,8 +1,10 @@
 -- What private contracts say of the walk of expressions.
-use Rattle.std.specs.Prelude.{◌≡◌, ℕ, ℤ, ◌+◌, ◌<◌, ◌^◌, ◌&&◌, Bool, true, false, List, Option, is_some, Result, Ok, Err, ⊤, IsFalse}
+use Rattle.std.specs.Prelude.{◌≡◌, ℕ, ℤ, ◌+◌, ◌<◌, ◌^◌, ◌&&◌, Bool, true, false, List, Option, Some, None, is_some, Result, Ok, Err, ⊤, IsFalse}
+use Rattle.std.proofs.Common.{Vec, Global}
+use Rattle.pap_tree.specs.declared.expression.Expr.{Expr}
 use Rattle.pap_tree.specs.declared.expression.Binary.{Binary}
 use Rattle.pap_tree.specs.declared.expression.Call.TheVariants.{CompareTo}
-use Rattle.pap_tree.specs.Term.{Term, term_of, leaf, whole, two, operator, method}
+use Rattle.pap_tree.specs.Term.{Term, term_of, leaf, One, one, Two, two, choice, whole, operator, method}
 use Rattle.pap_tree.specs.Numbering.{nodes}
 use Rattle.interval_num.specs.Intervals.{Interval}
 use Rattle.interval_num.specs.Rows.{Answer, join_row}
@@ -17,14 +19,32 @@ use Rattle.range_walk.specs.Branches as meant
 use Rattle.range_walk.specs.Ranged.{ranged, tested, are_whole, compare_sides}
 use Rattle.interval_analysis.specs.declared.branches.Change.{Change}
 use Rattle.interval_analysis.specs.declared.expressions.Inner.{Inner}
+use Rattle.interval_analysis.specs.declared.expressions.Parts.{Parts}
 use Rattle.interval_analysis.specs.declared.expressions.Ranged.{Ranged}
 use Rattle.interval_analysis.specs.declared.expressions.Stop.{Stop}
 use Rattle.interval_analysis.specs.declared.expressions.Stop.TheVariants.{At, Memory}
 use Rattle.interval_analysis.specs.declared.expressions.Tested.{Tested}
 use Rattle.interval_analysis.specs.declared.expressions.Walk.{Walk}
 use Rattle.interval_analysis.specs.Changes.{changed}
-use Rattle.interval_analysis.specs.PlanViews.{scope_in, ranges_in}
+use Rattle.interval_analysis.specs.PlanViews.{scope_in, ranges_in, ranges_after}
 use Rattle.interval_analysis.specs.ComparisonViews.{branches_in}
+
+-- ---- the terms of operations on expressions
+
+abbrev pub one_of : One → Expr → Term
+one_of op e = one op (term_of e)
+
+abbrev pub two_of : Two → Expr → Expr → Term
+two_of op e f = two op (term_of e) (term_of f)
+
+abbrev pub choice_of : Expr → Expr → Expr → Term
+choice_of c e f = choice (term_of c) (term_of e) (term_of f)
+
+-- x.compareTo(y) op k
+abbrev pub compare_to : Binary → Expr → Expr → ℤ → Term
+compare_to op e f k = two (operator op) (two_of (method CompareTo) e f) (leaf (whole k))
+
+-- ---- what may be walked
 
 -- an expression may be walked whose nodes are numbered from `at`
 pub record CanWalk (w : Walk) (t : Term) (at : ℕ) : Type 0 where
@@ -33,12 +53,14 @@ pub record CanWalk (w : Walk) (t : Term) (at : ℕ) : Type 0 where
   pub room : at + nodes t < 2 ^ 32
 
 -- so may the two parts of a conditional, which is numbered behind them
-pub record CanWalkParts (w : Walk) (e f : Term) (at : ℕ) : Type 0 where
-  pub first : IsTypedTerm (scope_in w.plan.now) e
-  pub second : IsTypedTerm (scope_in w.plan.now) f
-  pub first_scales : KeepsScales e
-  pub second_scales : KeepsScales f
-  pub room : at + nodes e + nodes f + 1 < 2 ^ 32
+pub record CanWalkParts (w : Walk) (p : Parts) : Type 0 where
+  pub first : IsTypedTerm (scope_in w.plan.now) (term_of p.first.now)
+  pub second : IsTypedTerm (scope_in w.plan.now) (term_of p.second.now)
+  pub first_scales : KeepsScales (term_of p.first.now)
+  pub second_scales : KeepsScales (term_of p.second.now)
+  pub room : p.at + nodes (term_of p.first.now) + nodes (term_of p.second.now) + 1 < 2 ^ 32
+
+-- ---- what is answered
 
 -- the ranges by name after changes
 abbrev pub changed_in : Walk → List Interval → List Change → Ranges
@@ -69,25 +91,45 @@ abbrev pub OwnAnswer : Answer → NodeKind → ℕ → Result Ranged Stop → Ty
 OwnAnswer answer k at (Ok r) = IsOwn answer k at r
 OwnAnswer answer k at (Err stop) = StopsAs (at_node at answer) stop
 
--- the parts of a conditional, where these branches of its test can be reached
-abbrev pub parts_ranged : Walk → Term → Term → ℕ → Option Ranges → Option Ranges → Result Interval NodeFault
-parts_ranged w e f at o p =
+-- the branches of a test, where these changes lead
+abbrev pub first_reached : Walk → List Interval → List Change → meant.Branches
+first_reached w rs held = record { holds = Some (changed_in w rs held); fails = None }
+
+abbrev pub second_reached : Walk → List Interval → List Change → meant.Branches
+second_reached w rs failed = record { holds = None; fails = Some (changed_in w rs failed) }
+
+abbrev pub both_reached : Walk → List Interval → List Change → List Change → meant.Branches
+both_reached w rs held failed = record { holds = Some (changed_in w rs held); fails = Some (changed_in w rs failed) }
+
+-- where the second part of a conditional begins, and where both end
+abbrev pub second_at : Parts → ℕ
+second_at p = p.at + nodes (term_of p.first.now)
+
+abbrev pub parts_end : Parts → ℕ
+parts_end p = p.at + nodes (term_of p.first.now) + nodes (term_of p.second.now)
+
+-- the parts of a conditional, where its test has these branches
+abbrev pub parts_ranged : Walk → Parts → meant.Branches → Result Interval NodeFault
+parts_ranged w p br =
     meant.either_way
-    (nowhere (at + nodes e + nodes f))
-    (ranged (scope_in w.plan.now) e at)
-    (ranged (scope_in w.plan.now) f (at + nodes e))
-    (λ a b. at_node (at + nodes e + nodes f) (join_row a b))
-    o
-    p
+    (nowhere (parts_end p))
+    (ranged (scope_in w.plan.now) (term_of p.first.now) p.at)
+    (ranged (scope_in w.plan.now) (term_of p.second.now) (second_at p))
+    (λ a b. at_node (parts_end p) (join_row a b))
+    br.holds
+    br.fails
 
-pub record ArePartsRanged (w : Walk) (e f : Term) (at : ℕ) (o p : Option Ranges) (r : Ranged) : Type 0 where
-  pub range : parts_ranged w e f at o p ≡ Ok r.range
-  pub kind : r.kind ≡ wider (kind_of (scope_in w.plan.now) e) (kind_of (scope_in w.plan.now) f)
-  pub next : r.next ≡ at + nodes e + nodes f + 1
+abbrev pub parts_kind : Walk → Parts → NodeKind
+parts_kind w p = wider (kind_of (scope_in w.plan.now) (term_of p.first.now)) (kind_of (scope_in w.plan.now) (term_of p.second.now))
 
-abbrev pub PartsAnswer : Walk → Term → Term → ℕ → Option Ranges → Option Ranges → Result Ranged Stop → Type 0
-PartsAnswer w e f at o p (Ok r) = ArePartsRanged w e f at o p r
-PartsAnswer w e f at o p (Err stop) = StopsAs (parts_ranged w e f at o p) stop
+pub record ArePartsRanged (w : Walk) (p : Parts) (br : meant.Branches) (r : Ranged) : Type 0 where
+  pub range : parts_ranged w p br ≡ Ok r.range
+  pub kind : r.kind ≡ parts_kind w p
+  pub next : r.next ≡ parts_end p + 1
+
+abbrev pub PartsAnswer : Walk → Parts → meant.Branches → Result Ranged Stop → Type 0
+PartsAnswer w p br (Ok r) = ArePartsRanged w p br r
+PartsAnswer w p br (Err stop) = StopsAs (parts_ranged w p br) stop
 
 -- a test's branches by the definition
 pub record IsTested (w : Walk) (t : Term) (at : ℕ) (rs : List Interval) (r : Tested) : Type 0 where
@@ -106,30 +148,51 @@ pub record IsTestedAfter (w : Walk) (t : Term) (at : ℕ) (o : Option Ranges) (r
   pub branches : reached_in w t at o ≡ Ok (branches_in w.plan.now rs r.branches)
   pub next : r.next ≡ at + nodes t
 
-abbrev pub AfterAnswer : Walk → Term → ℕ → Option Ranges → List Interval → Result Tested Stop → Type 0
-AfterAnswer w t at o rs (Ok r) = IsTestedAfter w t at o rs r
-AfterAnswer w t at o rs (Err stop) = StopsAs (reached_in w t at o) stop
+abbrev pub ReachedAnswer : Walk → Term → ℕ → Option Ranges → List Interval → Result Tested Stop → Type 0
+ReachedAnswer w t at o rs (Ok r) = IsTestedAfter w t at o rs r
+ReachedAnswer w t at o rs (Err stop) = StopsAs (reached_in w t at o) stop
+
+-- where changes of the left side lead there, or nothing does
+abbrev pub AfterAnswer : Walk → Term → ℕ → List Interval → Option (Vec Change Global) → Result Tested Stop → Type 0
+AfterAnswer w t at rs changes r = ReachedAnswer w t at (ranges_after w.plan.now rs changes) rs r
+
+abbrev pub BehindAnswer : Walk → Term → ℕ → List Interval → List Change → Result Tested Stop → Type 0
+BehindAnswer w t at rs changes r = ReachedAnswer w t at (Some (changed_in w rs changes)) rs r
+
+-- a comparison of two sides
+pub record Comparison : Type 0 where
+  pub op : Binary
+  pub left : Term
+  pub right : Term
+
+abbrev pub comparison : Binary → Term → Term → Comparison
+comparison op e f = record { op = op; left = e; right = f }
+
+abbrev pub comparison_of : Binary → Expr → Expr → Comparison
+comparison_of op e f = comparison op (term_of e) (term_of f)
+
+-- that of x.compareTo(y) with a number
+abbrev pub order_comparison : Binary → Expr → Expr → ℤ → Comparison
+order_comparison op e f k = comparison op (two_of (method CompareTo) e f) (leaf (whole k))
 
 -- the branches of a comparison, by the definition's last case
-abbrev pub comparison_in : Walk → Binary → Term → Term → ℕ → Ranges → Result meant.Branches NodeFault
-comparison_in w op e f at env =
+abbrev pub comparison_in : Walk → Comparison → ℕ → Ranges → Result meant.Branches NodeFault
+comparison_in w c at env =
     let scope = scope_in w.plan.now in
+    let e = c.left in
+    let f = c.right in
     and_then (ranged scope e at env) (λ a.
     and_then (ranged scope f (at + nodes e) env) (λ b.
-    and_then (at_node (at + nodes e + nodes f) (comparison_range op a b)) (λ r.
-    Ok (meant.compared op (are_whole scope e f) (meant.sides e f a b) (compare_sides scope e at env) (int_literal f) env))))
+    and_then (at_node (at + nodes e + nodes f) (comparison_range c.op a b)) (λ r.
+    Ok (meant.compared c.op (are_whole scope e f) (meant.sides e f a b) (compare_sides scope e at env) (int_literal f) env))))
 
-pub record IsComparison (w : Walk) (op : Binary) (e f : Term) (at : ℕ) (rs : List Interval) (r : Tested) : Type 0 where
-  pub branches : comparison_in w op e f at (ranges_in w.plan.now rs) ≡ Ok (branches_in w.plan.now rs r.branches)
-  pub next : r.next ≡ at + nodes e + nodes f + 1
+pub record IsComparison (w : Walk) (c : Comparison) (at : ℕ) (rs : List Interval) (r : Tested) : Type 0 where
+  pub branches : comparison_in w c at (ranges_in w.plan.now rs) ≡ Ok (branches_in w.plan.now rs r.branches)
+  pub next : r.next ≡ at + nodes c.left + nodes c.right + 1
 
-abbrev pub ComparisonAnswer : Walk → Binary → Term → Term → ℕ → List Interval → Result Tested Stop → Type 0
-ComparisonAnswer w op e f at rs (Ok r) = IsComparison w op e f at rs r
-ComparisonAnswer w op e f at rs (Err stop) = StopsAs (comparison_in w op e f at (ranges_in w.plan.now rs)) stop
-
--- x.compareTo(y) op k
-abbrev pub compare_to : Binary → Term → Term → ℤ → Term
-compare_to op e f k = two (operator op) (two (method CompareTo) e f) (leaf (whole k))
+abbrev pub ComparisonAnswer : Walk → Comparison → ℕ → List Interval → Result Tested Stop → Type 0
+ComparisonAnswer w c at rs (Ok r) = IsComparison w c at rs r
+ComparisonAnswer w c at rs (Err stop) = StopsAs (comparison_in w c at (ranges_in w.plan.now rs)) stop
 
 abbrev pub is_compare_to : Term → Bool
 is_compare_to (two (method CompareTo) e f) = true

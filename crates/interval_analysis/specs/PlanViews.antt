@@ -9,6 +9,7 @@ use Rattle.pap_tree.specs.Flowchart.{flowchart_of}
 use Rattle.interval_num.specs.Intervals.{Interval}
 use Rattle.pap_types.specs.Scopes.{Scope, scope_of, variables_of, names_of}
 use Rattle.pap_types.specs.Checks.{is_of_type}
+use Rattle.range_walk.specs.NodeRanges.{name_range}
 use Rattle.range_walk.specs.Ranges.{Ranges}
 use Rattle.interval_analysis.specs.declared.branches.Change.{Change}
 use Rattle.interval_analysis.specs.Changes.{changed}
@@ -32,6 +33,10 @@ with_names (x ∷ xs) (r ∷ rs) = record { name = x; range = r } ∷ with_names
 
 abbrev pub ranges_in : PlanText → List Interval → Ranges
 ranges_in p rs = with_names (variables_in p) rs
+
+-- the range of a name: a variable's, or that of a constant's value
+abbrev pub name_range_in : PlanText → List ℕ → List Interval → Option Interval
+name_range_in p x rs = name_range (scope_in p) x (ranges_in p rs)
 
 -- one range for each variable
 abbrev pub IsSized : PlanText → List Interval → Type 0

@@ -3,9 +3,11 @@ use Rattle.std.specs.Prelude.{◌≡◌, ℕ, ◌+◌, ◌≤◌, ◌<◌, ◌^�
 use Rattle.pap_tree.specs.declared.declaration.Kind.{Kind}
 use Rattle.pap_tree.specs.declared.declaration.Kind.TheVariants.{Factor}
 use Rattle.pap_tree.specs.declared.plan.PlanText.{PlanText}
-use Rattle.pap_tree.specs.Term.{Term}
+use Rattle.pap_tree.specs.declared.expression.Expr.{Expr}
+use Rattle.pap_tree.specs.declared.plan.Stmt.{Stmt}
+use Rattle.pap_tree.specs.Term.{term_of}
 use Rattle.pap_tree.specs.Declarations.{Declaration}
-use Rattle.pap_tree.specs.Flowchart.{Body, Routine, flowchart_of}
+use Rattle.pap_tree.specs.Flowchart.{Body, branch, done, body_of, Routine, flowchart_of}
 use Rattle.pap_tree.specs.Statements.{written}
 use Rattle.interval_num.specs.declared.cause.RangeCause.{RangeCause}
 use Rattle.interval_num.specs.declared.cause.RangeCause.TheVariants.{Wide}
@@ -23,6 +25,8 @@ use Rattle.range_walk.specs.Walked.{RangeCalls, walked, range_calls_of, assigned
 use Rattle.interval_analysis.specs.declared.expressions.Stop.{Stop}
 use Rattle.interval_analysis.specs.declared.expressions.Stop.TheVariants as stops
 use Rattle.interval_analysis.specs.declared.expressions.Walk.{Walk}
+use Rattle.interval_analysis.specs.declared.statements.Fork.{Fork}
+use Rattle.interval_analysis.specs.declared.statements.Spot.{Spot}
 use Rattle.interval_analysis.specs.declared.fault.RangeFault.{RangeFault}
 use Rattle.interval_analysis.specs.declared.fault.RangeFault.TheVariants as faults
 use Rattle.interval_analysis.specs.PlanViews.{scope_in, ranges_in}
@@ -30,24 +34,52 @@ use Rattle.interval_analysis.specs.PlanViews.{scope_in, ranges_in}
 abbrev pub methods_in : PlanText → List Routine
 methods_in p = (flowchart_of p).methods
 
--- ---- the definition, for the plan of a walk, whose chains of methods have at most so many
+-- the statements of an IF
+abbrev pub if_of : Expr → List Stmt → List Stmt → Body
+if_of t ys ns = branch (term_of t) (body_of ys) (body_of ns) done
 
+-- ---- the definition, for the plan of a walk, from ranges by number
+
+-- what methods make of the ranges, whose chains have at most so many
 abbrev pub calls_in : Walk → ℕ → RangeCalls
 calls_in w chain = range_calls_of (scope_in w.plan.now) (methods_in w.plan.now) chain
 
-abbrev pub walked_in : Walk → ℕ → List ℕ → ℕ → Body → Ranges → Result Ranges WalkFault
-walked_in w chain = walked (scope_in w.plan.now) (calls_in w chain)
+-- the walk of statements, the first of which stands there
+abbrev pub walked_in : Walk → Spot → Body → List Interval → Result Ranges WalkFault
+walked_in w spot b rs =
+    walked (scope_in w.plan.now) (calls_in w spot.chain) spot.method spot.at b (ranges_in w.plan.now rs)
 
--- an assignment
-abbrev pub evaluated : Walk → List ℕ → ℕ → List ℕ → Term → Ranges → Result Ranges WalkFault
-evaluated w name at x e env =
-    and_then (at_stmt name at (ranged (scope_in w.plan.now) e 0 env)) (λ a. Ok (assigned_range (scope_in w.plan.now) x a env))
+-- the walk of a method's body
+abbrev pub executed : Walk → List ℕ → ℕ → List Interval → Result Ranges WalkFault
+executed w m chain rs = calls_in w chain m (ranges_in w.plan.now rs)
 
--- both lists of an IF, joined at a node
-abbrev pub met_in : Walk → ℕ → List ℕ → ℕ → ℕ → Body → Body → Ranges → Ranges → Result Ranges WalkFault
-met_in w chain name at node a b held failed =
-    and_then (walked_in w chain name (at + 1) a held) (λ x.
-    and_then (walked_in w chain name (at + 1 + written a) b failed) (λ y. at_stmt name at (at_node node (joined x y))))
+-- the variables after an assignment
+abbrev pub assigned_in : PlanText → List ℕ → Interval → List Interval → Ranges
+assigned_in p x a rs = assigned_range (scope_in p) x a (ranges_in p rs)
+
+-- the walk of an assignment
+abbrev pub evaluated : Walk → Spot → List ℕ → Expr → List Interval → Result Ranges WalkFault
+evaluated w spot x e rs =
+    and_then
+    (at_stmt spot.method spot.at (ranged (scope_in w.plan.now) (term_of e) 0 (ranges_in w.plan.now rs)))
+    (λ a. Ok (assigned_in w.plan.now x a rs))
+
+-- where the lists of an IF stand, and where they end
+abbrev pub first_spot : Spot → Spot
+first_spot spot = record spot { at = spot.at + 1 }
+
+abbrev pub second_spot : Spot → Fork → Spot
+second_spot spot f = record spot { at = spot.at + 1 + written (body_of f.yes.now) }
+
+abbrev pub end_of : Spot → Fork → ℕ
+end_of spot f = spot.at + 1 + written (body_of f.yes.now) + written (body_of f.no.now)
+
+-- both lists, the first from some ranges and the second from others, which are joined at the root of the test
+abbrev pub met_in : Walk → Spot → Fork → List Interval → List Interval → Result Ranges WalkFault
+met_in w spot f rs ss =
+    and_then (walked_in w (first_spot spot) (body_of f.yes.now) rs) (λ x.
+    and_then (walked_in w (second_spot spot f) (body_of f.no.now) ss) (λ y.
+    at_stmt spot.method spot.at (at_node f.root (joined x y))))
 
 -- ---- what may be walked
 
@@ -56,18 +88,18 @@ pub record CanWalkBody (w : Walk) (b : Body) (at : ℕ) : Type 0 where
   pub small : AreSmallTerms b
   pub room : at + written b < 2 ^ 32
 
--- both lists of an IF, which is numbered before them
-pub record CanWalkLists (w : Walk) (a b : Body) (at : ℕ) : Type 0 where
-  pub first : IsTypedBody (scope_in w.plan.now) (methods_in w.plan.now) a
-  pub second : IsTypedBody (scope_in w.plan.now) (methods_in w.plan.now) b
-  pub first_small : AreSmallTerms a
-  pub second_small : AreSmallTerms b
-  pub room : at + 1 + written a + written b < 2 ^ 32
+-- both lists of an IF
+pub record CanWalkLists (w : Walk) (spot : Spot) (f : Fork) : Type 0 where
+  pub first : IsTypedBody (scope_in w.plan.now) (methods_in w.plan.now) (body_of f.yes.now)
+  pub second : IsTypedBody (scope_in w.plan.now) (methods_in w.plan.now) (body_of f.no.now)
+  pub first_small : AreSmallTerms (body_of f.yes.now)
+  pub second_small : AreSmallTerms (body_of f.no.now)
+  pub room : end_of spot f < 2 ^ 32
 
-pub record CanAssign (w : Walk) (x : List ℕ) (e : Term) : Type 0 where
-  pub typed : IsTypedTerm (scope_in w.plan.now) e
-  pub target : TargetSuits (scope_in w.plan.now) x e
-  pub small : IsSmallTerm e
+pub record CanAssign (w : Walk) (x : List ℕ) (e : Expr) : Type 0 where
+  pub typed : IsTypedTerm (scope_in w.plan.now) (term_of e)
+  pub target : TargetSuits (scope_in w.plan.now) x (term_of e)
+  pub small : IsSmallTerm (term_of e)
 
 -- a `double` has at most three places, and its ends at three places are within the limit
 pub record FitsFactor (a : Interval) : Type 0 where
@@ -94,18 +126,59 @@ FaultOf r (faults.At p cause) = r ≡ Err (node_fails p cause)
 FaultOf r (faults.Output x) = ⊥
 FaultOf r (faults.Memory e) = ⊤
 
-abbrev pub EnvAnswer : Result Ranges WalkFault → PlanText → List Interval → Result (Unit {0}) RangeFault → Type 0
-EnvAnswer r p new (Ok u) = r ≡ Ok (ranges_in p new)
-EnvAnswer r p new (Err f) = FaultOf r f
+-- the ranges behind what is walked
+abbrev pub EnvAnswer : Walk → Result Ranges WalkFault → List Interval → Result (Unit {0}) RangeFault → Type 0
+EnvAnswer w r new (Ok u) = r ≡ Ok (ranges_in w.plan.now new)
+EnvAnswer w r new (Err f) = FaultOf r f
 
--- the same with the number behind the statements
-abbrev pub NumberedAnswer : Result Ranges WalkFault → ℕ → PlanText → List Interval → Result ℕ RangeFault → Type 0
-NumberedAnswer r count p new (Ok next) = (r ≡ Ok (ranges_in p new)) × (next ≡ count)
-NumberedAnswer r count p new (Err f) = FaultOf r f
+-- A walk through statements of a plan by the definition: the ranges behind them, and the number of the statement there.
+pub record Passage : Type 0 where
+  pub plan : PlanText
+  pub ranges : Result Ranges WalkFault
+  pub next : ℕ
 
-abbrev pub fault_of : Stop → List ℕ → ℕ → RangeFault
-fault_of (stops.At node cause) method stmt = faults.At (place method stmt node) cause
-fault_of stops.Memory method stmt = faults.Memory alloc_error
+-- these are the ranges and the number behind the statements
+abbrev pub Passes : Passage → List Interval → Result ℕ RangeFault → Type 0
+Passes p new (Ok next) = (p.ranges ≡ Ok (ranges_in p.plan new)) × (next ≡ p.next)
+Passes p new (Err f) = FaultOf p.ranges f
+
+abbrev pub through_body : Walk → Spot → Body → List Interval → Passage
+through_body w spot b rs = record {
+  plan = w.plan.now;
+  ranges = walked_in w spot b rs;
+  next = spot.at + written b;
+}
+
+abbrev pub through_if : Walk → Spot → Expr → List Stmt → List Stmt → List Interval → Passage
+through_if w spot t ys ns rs = record {
+  plan = w.plan.now;
+  ranges = walked_in w spot (if_of t ys ns) rs;
+  next = spot.at + 1 + written (body_of ys) + written (body_of ns);
+}
+
+-- through one list of an IF, past the other
+abbrev pub through_first : Walk → Spot → Fork → List Interval → Passage
+through_first w spot f rs = record {
+  plan = w.plan.now;
+  ranges = walked_in w (first_spot spot) (body_of f.yes.now) rs;
+  next = end_of spot f;
+}
+
+abbrev pub through_second : Walk → Spot → Fork → List Interval → Passage
+through_second w spot f rs = record {
+  plan = w.plan.now;
+  ranges = walked_in w (second_spot spot f) (body_of f.no.now) rs;
+  next = end_of spot f;
+}
+
+-- through both, each from its own ranges
+abbrev pub through_both : Walk → Spot → Fork → List Interval → List Interval → Passage
+through_both w spot f rs ss = record { plan = w.plan.now; ranges = met_in w spot f rs ss; next = end_of spot f }
+
+-- the fault of an expression at its statement
+abbrev pub fault_of : Stop → Spot → RangeFault
+fault_of (stops.At node cause) spot = faults.At (place spot.method spot.at node) cause
+fault_of stops.Memory spot = faults.Memory alloc_error
 
 -- ---- where two branches meet
 

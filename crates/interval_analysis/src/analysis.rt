@@ -14,6 +14,7 @@ use crate::bounds::bound_of;
 use crate::expressions::Walk;
 use crate::outputs::output_ranges;
 use crate::start::start_ranges;
+use crate::statements::Spot;
 use crate::{OutputRange, RangeFault, Verdict};
 use limits_file::Limits;
 use pap_tree::Name;
@@ -65,6 +66,11 @@ fn walked_outputs(
     let mut ranges = start_ranges(alloc, plan, limits)?;
     let main = plan.plan().main.as_slice();
     let walk = Walk { alloc, plan };
-    walk.walk_body(&Name::main(), main, 0, LONGEST_CHAIN, &mut ranges)?;
+    let start = Spot {
+        method: Name::main(),
+        at: 0,
+        chain: LONGEST_CHAIN,
+    };
+    walk.walk_body(start, main, &mut ranges)?;
     output_ranges(alloc, plan, &ranges)
 }

@@ -1,7 +1,7 @@
 //! What a test leaves of the ranges of the variables.
 ghost use Rattle.std.specs.Prelude.{◌≡◌, [], ◌++◌, Some, None, IfOk, length, if◌then◌else◌};
 ghost use Rattle.std.specs.Option.{option_map};
-ghost use Rattle.interval_analysis.specs.Changes.{changed};
+ghost use Rattle.interval_analysis.specs.Changes.{AreBehind, changed};
 
 use interval_num::Abs;
 use std::alloc::{AllocError, Global};
@@ -71,7 +71,7 @@ pub(crate) fn behind(
     changes: &[Change],
     further: Option<Vec<Change>>,
 ) -> Result<Option<Vec<Change>>, AllocError>
-    ensures { IfOk result (λ all. option_map (λ a. a.items) all ≡ option_map (λ f. changes.now ++ f.items) further) }
+    ensures { IfOk result (λ all. AreBehind changes.now further all) }
 {
     let Some(further) = further else {
         return Ok(None);

@@ -1,19 +1,20 @@
 //! What a comparison leaves of the ranges of its sides.
-ghost use Rattle.std.specs.Prelude.{◌≡◌, ◌<◌, Some, IfOk, length, slice_get, pos, negsuc};
+ghost use Rattle.std.specs.Prelude.{◌≡◌, ◌<◌, ◌&&◌, Some, IfOk, length, slice_get, pos, negsuc};
 ghost use Rattle.std.specs.Ordering.{int_cmp};
 ghost use Rattle.std.specs.Option.{option_map};
 ghost use Rattle.pap_tree.specs.Term.{term_of};
 ghost use Rattle.interval_num.specs.Signs as signs;
+ghost use Rattle.pap_types.specs.Kinds.{is_whole};
 ghost use Rattle.pap_types.specs.Operations.{holds_of};
-ghost use Rattle.range_walk.specs.Branches.{signs_where, others, exchanged, can_have, branch_of, branches_of, narrowed};
+ghost use Rattle.range_walk.specs.Branches.{signs_where, others, exchanged, can_have};
 ghost use Rattle.interval_analysis.specs.Changes.{changed};
-ghost use Rattle.interval_analysis.specs.PlanViews.{IsSized, ranges_in, ranges_after};
-ghost use Rattle.interval_analysis.specs.ComparisonViews.{sides_of, branches_in, CanCompare, CanNarrow, name_in};
+ghost use Rattle.interval_analysis.specs.PlanViews.{IsSized, ranges_after};
+ghost use Rattle.interval_analysis.specs.ComparisonViews.{CanCompare, CanStand, branch_by, branches_by, branches_in, narrowed_by, name_in};
 
 use crate::branches::{Branches, Change};
 use interval_num::{Abs, SignSet, refine, signs};
 use pap_tree::{Binary, Expr, Name};
-use pap_types::Typed;
+use pap_types::{NodeKind, Typed};
 use std::alloc::{AllocError, Global};
 use std::cmp::Ordering;
 
@@ -24,6 +25,17 @@ pub(crate) struct Sides<'a> {
     pub right: &'a Expr,
     pub left_range: Abs,
     pub right_range: Abs,
+    /// Whether both are whole numbers.
+    pub whole: bool,
+}
+
+/// What a side of a comparison stands against: the range of the other, and the signs that it may have against that.
+#[derive(Clone, Copy)]
+struct Against {
+    range: Abs,
+    allowed: SignSet,
+    /// Whether both are whole numbers.
+    whole: bool,
 }
 
 /// The signs, as -1, 0 and 1, for which a comparison with a number holds.
@@ -80,21 +92,28 @@ fn can_have(allowed: SignSet, signs: SignSet) -> bool
     (allowed.minus && signs.minus) || ((allowed.zero && signs.zero) || (allowed.plus && signs.plus))
 }
 
-/// The branches of a comparison that holds for the allowed signs. `whole` says that both sides are whole numbers.
+/// Whether both kinds are those of whole numbers.
+pub(crate) fn are_whole(left: NodeKind, right: NodeKind) -> bool
+    ensures { result ≡ (is_whole left && is_whole right) }
+{
+    left.is_whole() && right.is_whole()
+}
+
+/// The branches of a comparison that holds for the allowed signs.
 pub(crate) fn branches_of(
     alloc: Global,
     plan: &Typed,
     sides: &Sides,
-    whole: bool,
     allowed: SignSet,
     ranges: &[Abs],
 ) -> Result<Branches, AllocError>
     requires sized { IsSized plan.now ranges.now }
-    requires sides { CanCompare plan.now whole sides.now ranges.now }
-    ensures { IfOk result (λ b. branches_in plan.now ranges.now b ≡ branches_of whole allowed (sides_of sides.now) (ranges_in plan.now ranges.now)) }
+    requires sides { CanCompare plan.now sides.now ranges.now }
+    ensures { IfOk result (λ b. branches_in plan.now ranges.now b
+        ≡ branches_by plan.now sides.now allowed ranges.now) }
 {
-    let holds = branch_of(alloc, plan, sides, whole, allowed, ranges)?;
-    let fails = branch_of(alloc, plan, sides, whole, others(allowed), ranges)?;
+    let holds = branch_of(alloc, plan, sides, allowed, ranges)?;
+    let fails = branch_of(alloc, plan, sides, others(allowed), ranges)?;
     Ok(Branches { holds, fails })
 }
 
@@ -104,38 +123,34 @@ fn branch_of(
     alloc: Global,
     plan: &Typed,
     sides: &Sides,
-    whole: bool,
     allowed: SignSet,
     ranges: &[Abs],
 ) -> Result<Option<Vec<Change>>, AllocError>
     requires sized { IsSized plan.now ranges.now }
-    requires sides { CanCompare plan.now whole sides.now ranges.now }
-    ensures { IfOk result (λ o. ranges_after plan.now ranges.now o ≡ branch_of whole allowed (sides_of sides.now) (ranges_in plan.now ranges.now)) }
+    requires sides { CanCompare plan.now sides.now ranges.now }
+    ensures { IfOk result (λ o. ranges_after plan.now ranges.now o
+        ≡ branch_by plan.now sides.now allowed ranges.now) }
 {
+    let whole = sides.whole;
     if !can_have(allowed, signs(sides.left_range, sides.right_range)) {
         return Ok(None);
     }
     let none = Vec::new(alloc);
-    let turned = exchanged(allowed);
-    match narrow(
-        plan,
-        sides.left,
-        whole,
+    let right = Against {
+        range: sides.right_range,
         allowed,
-        sides.right_range,
-        ranges,
-        none,
-    )? {
+        whole,
+    };
+    match narrow(plan, sides.left, right, ranges, none)? {
         None => Ok(None),
-        Some(changes) => narrow(
-            plan,
-            sides.right,
-            whole,
-            turned,
-            sides.left_range,
-            ranges,
-            changes,
-        ),
+        Some(changes) => {
+            let left = Against {
+                range: sides.left_range,
+                allowed: exchanged(allowed),
+                whole,
+            };
+            narrow(plan, sides.right, left, ranges, changes)
+        }
     }
 }
 
@@ -143,16 +158,21 @@ fn branch_of(
 fn narrow(
     plan: &Typed,
     side: &Expr,
-    whole: bool,
-    allowed: SignSet,
-    against: Abs,
+    against: Against,
     ranges: &[Abs],
     changes: Vec<Change>,
 ) -> Result<Option<Vec<Change>>, AllocError>
     requires sized { IsSized plan.now ranges.now }
-    requires fits { CanNarrow whole (term_of side.now) against (ranges_in plan.now (changed ranges.now changes.items)) }
-    ensures { IfOk result (λ o. ranges_after plan.now ranges.now o ≡ narrowed whole allowed (term_of side.now) against (ranges_in plan.now (changed ranges.now changes.items))) }
+    requires fits { CanStand plan.now (term_of side.now) against
+        (changed ranges.now changes.items) }
+    ensures { IfOk result (λ o. ranges_after plan.now ranges.now o
+        ≡ narrowed_by plan.now (term_of side.now) against (changed ranges.now changes.items)) }
 {
+    let Against {
+        range: other,
+        allowed,
+        whole,
+    } = against;
     let Some(name) = name_in(side) else {
         return Ok(Some(changes));
     };
@@ -160,7 +180,7 @@ fn narrow(
         return Ok(Some(changes));
     };
     let now = range_now(ranges, &changes, number);
-    match refine(now, against, allowed, whole) {
+    match refine(now, other, allowed, whole) {
         None => Ok(None),
         Some(range) => {
             let mut more = changes;

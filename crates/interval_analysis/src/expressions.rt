@@ -1,20 +1,19 @@
 //! The ranges of expressions, and what tests leave of the ranges of the variables.
-ghost use Rattle.std.specs.Prelude.{◌≡◌, ◌+◌, ◌<◌, ◌^◌, Some, None, Ok, MatchOption};
-ghost use Rattle.pap_tree.specs.Term.{term_of, leaf, whole, named, item, one, two, choice, unary, value_of, value_of_scaled, new_big, set_scale, operator, method, divide};
+ghost use Rattle.std.specs.Prelude.{◌≡◌, ◌+◌, ◌<◌, ◌^◌, Ok, MatchOption};
+ghost use Rattle.pap_tree.specs.Term.{term_of, leaf, named, item, unary, value_of, value_of_scaled, new_big, set_scale, operator, method, divide};
 ghost use Rattle.pap_tree.specs.Numbering.{nodes};
 ghost use Rattle.pap_tree.specs.declared.expression.Binary.{Binary};
 ghost use Rattle.pap_tree.specs.declared.expression.Unary.{Unary};
-ghost use Rattle.pap_tree.specs.declared.expression.Call.{Call};
 ghost use Rattle.interval_num.specs.declared.cause.RangeCause.TheVariants.{Wide};
 ghost use Rattle.range_walk.specs.Ranges.{single};
-ghost use Rattle.range_walk.specs.NodeRanges.{name_range, read_range};
+ghost use Rattle.range_walk.specs.Branches.{no_branch};
+ghost use Rattle.range_walk.specs.NodeRanges.{read_range};
 ghost use Rattle.interval_analysis.specs.Changes.{changed};
-ghost use Rattle.interval_analysis.specs.PlanViews.{IsSized, scope_in, ranges_in, ranges_after};
-ghost use Rattle.interval_analysis.specs.ExpressionViews.{CanWalk, CanWalkParts, RangeAnswer, OwnAnswer, PartsAnswer, TestAnswer, AfterAnswer, ComparisonAnswer, IsPlainComparison, IsInner, changed_in, compare_to};
+ghost use Rattle.interval_analysis.specs.PlanViews.{IsSized, name_range_in};
+ghost use Rattle.interval_analysis.specs.ExpressionViews.{CanWalk, CanWalkParts, RangeAnswer, OwnAnswer, PartsAnswer, TestAnswer, AfterAnswer, BehindAnswer, ComparisonAnswer, IsPlainComparison, IsInner, one_of, two_of, choice_of, compare_to, comparison_of, order_comparison, first_reached, second_reached, both_reached};
 
 use crate::branches::{Branches, Change, behind, changed, unchanged_if};
-use crate::comparisons::{Sides, branches_of, signs_where};
-use crate::kinds::{are_whole, kind_of_call, kind_of_operator, kind_of_unary};
+use crate::comparisons::{Sides, are_whole, branches_of, signs_where};
 use crate::names::{as_big, constant_value, known_value, shown_divisor, single, table};
 use crate::operations::{
     at_places, call_range, comparison_range, item_range, operator_range, read, unary_range,
@@ -22,7 +21,7 @@ use crate::operations::{
 use crate::outlines::outline_of;
 use interval_num::{Abs, RangeCause, abs_cmp, abs_div, abs_item, abs_set_scale, join};
 use pap_tree::{Binary, Call, Expr, Name, Unary};
-use pap_types::{NodeKind, Typed};
+use pap_types::{NodeKind, Typed, kind_of_call, kind_of_operator, kind_of_unary};
 use scaled_decimal::{Dec, Mode};
 use std::alloc::{AllocError, Global};
 
@@ -58,6 +57,14 @@ pub(crate) struct Ranged {
 pub(crate) struct Tested {
     pub branches: Branches,
     pub next: u32,
+}
+
+/// The two parts of a conditional, whose nodes are numbered from there.
+#[derive(Clone, Copy)]
+struct Parts<'a> {
+    first: &'a Expr,
+    second: &'a Expr,
+    at: u32,
 }
 
 /// The plan whose expressions are walked.
@@ -118,7 +125,7 @@ impl Walk<'_> {
     /// The range of a variable, or that of a constant's value.
     fn value_of_name(&self, name: &Name, ranges: &[Abs]) -> Option<Abs>
         requires { IsSized self.now.plan.now ranges.now }
-        ensures { result ≡ name_range (scope_in self.now.plan.now) name.now (ranges_in self.now.plan.now ranges.now) }
+        ensures { result ≡ name_range_in self.now.plan.now name.now ranges.now }
     {
         match self.plan.variable(name) {
             Some(number) => Some(ranges[number]),
@@ -148,9 +155,9 @@ impl Walk<'_> {
 
     #[cycle(walk)]
     fn range_of_value(&self, operand: &Expr, at: u32, ranges: &[Abs]) -> Result<Ranged, Stop>
-        requires walk { CanWalk self.now (one value_of (term_of operand.now)) at }
+        requires walk { CanWalk self.now (one_of value_of operand.now) at }
         requires sized { IsSized self.now.plan.now ranges.now }
-        ensures { RangeAnswer self.now (one value_of (term_of operand.now)) at ranges.now result }
+        ensures { RangeAnswer self.now (one_of value_of operand.now) at ranges.now result }
     {
         let inner = self.range_of(operand, at, ranges)?;
         let range = as_big(operand, inner.range);
@@ -165,9 +172,10 @@ impl Walk<'_> {
         at: u32,
         ranges: &[Abs],
     ) -> Result<Ranged, Stop>
-        requires walk { CanWalk self.now (one (value_of_scaled scale) (term_of operand.now)) at }
+        requires walk { CanWalk self.now (one_of (value_of_scaled scale) operand.now) at }
         requires sized { IsSized self.now.plan.now ranges.now }
-        ensures { RangeAnswer self.now (one (value_of_scaled scale) (term_of operand.now)) at ranges.now result }
+        ensures { RangeAnswer self.now (one_of (value_of_scaled scale) operand.now) at
+            ranges.now result }
     {
         let inner = self.range_of(operand, at, ranges)?;
         let range = at_places(inner.range, scale);
@@ -176,9 +184,9 @@ impl Walk<'_> {
 
     #[cycle(walk)]
     fn range_of_new(&self, operand: &Expr, at: u32, ranges: &[Abs]) -> Result<Ranged, Stop>
-        requires walk { CanWalk self.now (one new_big (term_of operand.now)) at }
+        requires walk { CanWalk self.now (one_of new_big operand.now) at }
         requires sized { IsSized self.now.plan.now ranges.now }
-        ensures { RangeAnswer self.now (one new_big (term_of operand.now)) at ranges.now result }
+        ensures { RangeAnswer self.now (one_of new_big operand.now) at ranges.now result }
     {
         let inner = self.range_of(operand, at, ranges)?;
         own(Ok(inner.range), NodeKind::Big, inner.next)
@@ -192,9 +200,9 @@ impl Walk<'_> {
         at: u32,
         ranges: &[Abs],
     ) -> Result<Ranged, Stop>
-        requires walk { CanWalk self.now (one (unary op) (term_of operand.now)) at }
+        requires walk { CanWalk self.now (one_of (unary op) operand.now) at }
         requires sized { IsSized self.now.plan.now ranges.now }
-        ensures { RangeAnswer self.now (one (unary op) (term_of operand.now)) at ranges.now result }
+        ensures { RangeAnswer self.now (one_of (unary op) operand.now) at ranges.now result }
     {
         let inner = self.range_of(operand, at, ranges)?;
         let kind = kind_of_unary(op, inner.kind);
@@ -211,9 +219,10 @@ impl Walk<'_> {
         at: u32,
         ranges: &[Abs],
     ) -> Result<Ranged, Stop>
-        requires walk { CanWalk self.now (one (set_scale scale mode) (term_of operand.now)) at }
+        requires walk { CanWalk self.now (one_of (set_scale scale mode) operand.now) at }
         requires sized { IsSized self.now.plan.now ranges.now }
-        ensures { RangeAnswer self.now (one (set_scale scale mode) (term_of operand.now)) at ranges.now result }
+        ensures { RangeAnswer self.now (one_of (set_scale scale mode) operand.now) at
+            ranges.now result }
     {
         let inner = self.range_of(operand, at, ranges)?;
         let range = abs_set_scale(inner.range, scale, mode);
@@ -229,9 +238,10 @@ impl Walk<'_> {
         at: u32,
         ranges: &[Abs],
     ) -> Result<Ranged, Stop>
-        requires walk { CanWalk self.now (two (operator op) (term_of left.now) (term_of right.now)) at }
+        requires walk { CanWalk self.now (two_of (operator op) left.now right.now) at }
         requires sized { IsSized self.now.plan.now ranges.now }
-        ensures { RangeAnswer self.now (two (operator op) (term_of left.now) (term_of right.now)) at ranges.now result }
+        ensures { RangeAnswer self.now (two_of (operator op) left.now right.now) at
+            ranges.now result }
     {
         let first = self.range_of(left, at, ranges)?;
         let second = self.range_of(right, first.next, ranges)?;
@@ -249,9 +259,10 @@ impl Walk<'_> {
         at: u32,
         ranges: &[Abs],
     ) -> Result<Ranged, Stop>
-        requires walk { CanWalk self.now (two (method call) (term_of left.now) (term_of right.now)) at }
+        requires walk { CanWalk self.now (two_of (method call) left.now right.now) at }
         requires sized { IsSized self.now.plan.now ranges.now }
-        ensures { RangeAnswer self.now (two (method call) (term_of left.now) (term_of right.now)) at ranges.now result }
+        ensures { RangeAnswer self.now (two_of (method call) left.now right.now) at
+            ranges.now result }
     {
         let first = self.range_of(left, at, ranges)?;
         let second = self.range_of(right, first.next, ranges)?;
@@ -270,9 +281,10 @@ impl Walk<'_> {
         at: u32,
         ranges: &[Abs],
     ) -> Result<Ranged, Stop>
-        requires walk { CanWalk self.now (two (divide scale mode) (term_of left.now) (term_of right.now)) at }
+        requires walk { CanWalk self.now (two_of (divide scale mode) left.now right.now) at }
         requires sized { IsSized self.now.plan.now ranges.now }
-        ensures { RangeAnswer self.now (two (divide scale mode) (term_of left.now) (term_of right.now)) at ranges.now result }
+        ensures { RangeAnswer self.now (two_of (divide scale mode) left.now right.now) at
+            ranges.now result }
     {
         let first = self.range_of(left, at, ranges)?;
         let second = self.range_of(right, first.next, ranges)?;
@@ -290,31 +302,37 @@ impl Walk<'_> {
         at: u32,
         ranges: &[Abs],
     ) -> Result<Ranged, Stop>
-        requires walk { CanWalk self.now (choice (term_of test.now) (term_of first.now) (term_of second.now)) at }
+        requires walk { CanWalk self.now (choice_of test.now first.now second.now) at }
         requires sized { IsSized self.now.plan.now ranges.now }
-        ensures { RangeAnswer self.now (choice (term_of test.now) (term_of first.now) (term_of second.now)) at ranges.now result }
+        ensures { RangeAnswer self.now (choice_of test.now first.now second.now) at
+            ranges.now result }
     {
         let Tested { branches, next } = self.test(test, at, ranges)?;
+        let parts = Parts {
+            first,
+            second,
+            at: next,
+        };
         let Branches { holds, fails } = branches;
         match holds {
             None => match fails {
-                None => self.no_part(first, second, next),
-                Some(failed) => self.second_part(first, second, next, &failed, ranges),
+                None => self.no_part(&parts),
+                Some(failed) => self.second_part(&parts, &failed, ranges),
             },
             Some(held) => match fails {
-                None => self.first_part(first, second, next, &held, ranges),
-                Some(failed) => self.both_parts(first, second, next, &held, &failed, ranges),
+                None => self.first_part(&parts, &held, ranges),
+                Some(failed) => self.both_parts(&parts, &held, &failed, ranges),
             },
         }
     }
 
     /// No part of a conditional is reached: no run comes there.
-    fn no_part(&self, first: &Expr, second: &Expr, at: u32) -> Result<Ranged, Stop>
-        requires { CanWalkParts self.now (term_of first.now) (term_of second.now) at }
-        ensures { PartsAnswer self.now (term_of first.now) (term_of second.now) at None None result }
+    fn no_part(&self, parts: &Parts) -> Result<Ranged, Stop>
+        requires { CanWalkParts self.now parts.now }
+        ensures { PartsAnswer self.now parts.now no_branch result }
     {
-        let one = outline_of(self.plan, first, at);
-        let other = outline_of(self.plan, second, one.next);
+        let one = outline_of(self.plan, parts.first, parts.at);
+        let other = outline_of(self.plan, parts.second, one.next);
         Err(Stop::At {
             node: other.next,
             cause: RangeCause::Wide,
@@ -322,57 +340,44 @@ impl Walk<'_> {
     }
 
     #[cycle(walk)]
-    fn first_part(
-        &self,
-        first: &Expr,
-        second: &Expr,
-        at: u32,
-        held: &[Change],
-        ranges: &[Abs],
-    ) -> Result<Ranged, Stop>
-        requires walk { CanWalkParts self.now (term_of first.now) (term_of second.now) at }
+    fn first_part(&self, parts: &Parts, held: &[Change], ranges: &[Abs]) -> Result<Ranged, Stop>
+        requires walk { CanWalkParts self.now parts.now }
         requires sized { IsSized self.now.plan.now ranges.now }
-        ensures { PartsAnswer self.now (term_of first.now) (term_of second.now) at (Some (changed_in self.now ranges.now held.now)) None result }
+        ensures { PartsAnswer self.now parts.now (first_reached self.now ranges.now held.now)
+            result }
     {
-        let one = self.range_after(first, at, held, ranges)?;
-        let other = outline_of(self.plan, second, one.next);
+        let one = self.range_after(parts.first, parts.at, held, ranges)?;
+        let other = outline_of(self.plan, parts.second, one.next);
         own(Ok(one.range), one.kind.wider(other.kind), other.next)
     }
 
     #[cycle(walk)]
-    fn second_part(
-        &self,
-        first: &Expr,
-        second: &Expr,
-        at: u32,
-        failed: &[Change],
-        ranges: &[Abs],
-    ) -> Result<Ranged, Stop>
-        requires walk { CanWalkParts self.now (term_of first.now) (term_of second.now) at }
+    fn second_part(&self, parts: &Parts, failed: &[Change], ranges: &[Abs]) -> Result<Ranged, Stop>
+        requires walk { CanWalkParts self.now parts.now }
         requires sized { IsSized self.now.plan.now ranges.now }
-        ensures { PartsAnswer self.now (term_of first.now) (term_of second.now) at None (Some (changed_in self.now ranges.now failed.now)) result }
+        ensures { PartsAnswer self.now parts.now (second_reached self.now ranges.now failed.now)
+            result }
     {
-        let one = outline_of(self.plan, first, at);
-        let other = self.range_after(second, one.next, failed, ranges)?;
+        let one = outline_of(self.plan, parts.first, parts.at);
+        let other = self.range_after(parts.second, one.next, failed, ranges)?;
         own(Ok(other.range), one.kind.wider(other.kind), other.next)
     }
 
     #[cycle(walk)]
     fn both_parts(
         &self,
-        first: &Expr,
-        second: &Expr,
-        at: u32,
+        parts: &Parts,
         held: &[Change],
         failed: &[Change],
         ranges: &[Abs],
     ) -> Result<Ranged, Stop>
-        requires walk { CanWalkParts self.now (term_of first.now) (term_of second.now) at }
+        requires walk { CanWalkParts self.now parts.now }
         requires sized { IsSized self.now.plan.now ranges.now }
-        ensures { PartsAnswer self.now (term_of first.now) (term_of second.now) at (Some (changed_in self.now ranges.now held.now)) (Some (changed_in self.now ranges.now failed.now)) result }
+        ensures { PartsAnswer self.now parts.now
+            (both_reached self.now ranges.now held.now failed.now) result }
     {
-        let one = self.range_after(first, at, held, ranges)?;
-        let other = self.range_after(second, one.next, failed, ranges)?;
+        let one = self.range_after(parts.first, parts.at, held, ranges)?;
+        let other = self.range_after(parts.second, one.next, failed, ranges)?;
         let range = join(one.range, other.range);
         own(range, one.kind.wider(other.kind), other.next)
     }
@@ -426,9 +431,9 @@ impl Walk<'_> {
 
     #[cycle(walk)]
     fn test_unary(&self, op: Unary, operand: &Expr, at: u32, ranges: &[Abs]) -> Result<Tested, Stop>
-        requires walk { CanWalk self.now (one (unary op) (term_of operand.now)) at }
+        requires walk { CanWalk self.now (one_of (unary op) operand.now) at }
         requires sized { IsSized self.now.plan.now ranges.now }
-        ensures { TestAnswer self.now (one (unary op) (term_of operand.now)) at ranges.now result }
+        ensures { TestAnswer self.now (one_of (unary op) operand.now) at ranges.now result }
     {
         match op {
             Unary::Not => self.test_opposite(operand, at, ranges),
@@ -438,9 +443,9 @@ impl Walk<'_> {
 
     #[cycle(walk)]
     fn test_opposite(&self, operand: &Expr, at: u32, ranges: &[Abs]) -> Result<Tested, Stop>
-        requires walk { CanWalk self.now (one (unary Unary.Not) (term_of operand.now)) at }
+        requires walk { CanWalk self.now (one_of (unary Unary.Not) operand.now) at }
         requires sized { IsSized self.now.plan.now ranges.now }
-        ensures { TestAnswer self.now (one (unary Unary.Not) (term_of operand.now)) at ranges.now result }
+        ensures { TestAnswer self.now (one_of (unary Unary.Not) operand.now) at ranges.now result }
     {
         let Tested { branches, next } = self.test(operand, at, ranges)?;
         let Branches { holds, fails } = branches;
@@ -463,9 +468,10 @@ impl Walk<'_> {
         at: u32,
         ranges: &[Abs],
     ) -> Result<Tested, Stop>
-        requires walk { CanWalk self.now (two (operator op) (term_of left.now) (term_of right.now)) at }
+        requires walk { CanWalk self.now (two_of (operator op) left.now right.now) at }
         requires sized { IsSized self.now.plan.now ranges.now }
-        ensures { TestAnswer self.now (two (operator op) (term_of left.now) (term_of right.now)) at ranges.now result }
+        ensures { TestAnswer self.now (two_of (operator op) left.now right.now) at
+            ranges.now result }
     {
         match op {
             Binary::And => self.test_both(left, right, at, ranges),
@@ -476,9 +482,10 @@ impl Walk<'_> {
 
     #[cycle(walk)]
     fn test_both(&self, left: &Expr, right: &Expr, at: u32, ranges: &[Abs]) -> Result<Tested, Stop>
-        requires walk { CanWalk self.now (two (operator Binary.And) (term_of left.now) (term_of right.now)) at }
+        requires walk { CanWalk self.now (two_of (operator Binary.And) left.now right.now) at }
         requires sized { IsSized self.now.plan.now ranges.now }
-        ensures { TestAnswer self.now (two (operator Binary.And) (term_of left.now) (term_of right.now)) at ranges.now result }
+        ensures { TestAnswer self.now (two_of (operator Binary.And) left.now right.now) at
+            ranges.now result }
     {
         let Tested { branches, next } = self.test(left, at, ranges)?;
         let Branches { holds, fails } = branches;
@@ -500,9 +507,10 @@ impl Walk<'_> {
         at: u32,
         ranges: &[Abs],
     ) -> Result<Tested, Stop>
-        requires walk { CanWalk self.now (two (operator Binary.Or) (term_of left.now) (term_of right.now)) at }
+        requires walk { CanWalk self.now (two_of (operator Binary.Or) left.now right.now) at }
         requires sized { IsSized self.now.plan.now ranges.now }
-        ensures { TestAnswer self.now (two (operator Binary.Or) (term_of left.now) (term_of right.now)) at ranges.now result }
+        ensures { TestAnswer self.now (two_of (operator Binary.Or) left.now right.now) at
+            ranges.now result }
     {
         let Tested { branches, next } = self.test(left, at, ranges)?;
         let Branches { holds, fails } = branches;
@@ -527,7 +535,7 @@ impl Walk<'_> {
     ) -> Result<Tested, Stop>
         requires walk { CanWalk self.now (term_of e.now) at }
         requires sized { IsSized self.now.plan.now ranges.now }
-        ensures { AfterAnswer self.now (term_of e.now) at (ranges_after self.now.plan.now ranges.now changes) ranges.now result }
+        ensures { AfterAnswer self.now (term_of e.now) at ranges.now changes result }
     {
         match changes {
             None => Ok(Tested {
@@ -551,7 +559,7 @@ impl Walk<'_> {
     ) -> Result<Tested, Stop>
         requires walk { CanWalk self.now (term_of e.now) at }
         requires sized { IsSized self.now.plan.now ranges.now }
-        ensures { AfterAnswer self.now (term_of e.now) at (Some (changed_in self.now ranges.now changes.now)) ranges.now result }
+        ensures { BehindAnswer self.now (term_of e.now) at ranges.now changes.now result }
     {
         let after = changed(self.alloc, ranges, changes)?;
         let Tested { branches, next } = self.test(e, at, &after)?;
@@ -574,9 +582,10 @@ impl Walk<'_> {
         at: u32,
         ranges: &[Abs],
     ) -> Result<Tested, Stop>
-        requires walk { CanWalk self.now (two (operator op) (term_of left.now) (term_of right.now)) at }
+        requires walk { CanWalk self.now (two_of (operator op) left.now right.now) at }
         requires sized { IsSized self.now.plan.now ranges.now }
-        ensures { ComparisonAnswer self.now op (term_of left.now) (term_of right.now) at ranges.now result }
+        ensures { ComparisonAnswer self.now (comparison_of op left.now right.now) at
+            ranges.now result }
     {
         match compared_sides(left, right) {
             Some(inner) => {
@@ -596,9 +605,10 @@ impl Walk<'_> {
         at: u32,
         ranges: &[Abs],
     ) -> Result<Tested, Stop>
-        requires walk { CanWalk self.now (compare_to op (term_of left.now) (term_of right.now) number) at }
+        requires walk { CanWalk self.now (compare_to op left.now right.now number) at }
         requires sized { IsSized self.now.plan.now ranges.now }
-        ensures { ComparisonAnswer self.now op (two (method Call.CompareTo) (term_of left.now) (term_of right.now)) (leaf (whole number)) at ranges.now result }
+        ensures { ComparisonAnswer self.now (order_comparison op left.now right.now number) at
+            ranges.now result }
     {
         let first = self.range_of(left, at, ranges)?;
         let second = self.range_of(right, first.next, ranges)?;
@@ -612,9 +622,10 @@ impl Walk<'_> {
             right,
             left_range: first.range,
             right_range: second.range,
+            whole: false,
         };
         let allowed = signs_where(op, number);
-        let branches = branches_of(self.alloc, self.plan, &sides, false, allowed, ranges)?;
+        let branches = branches_of(self.alloc, self.plan, &sides, allowed, ranges)?;
         Ok(Tested {
             branches,
             next: compared.next,
@@ -630,10 +641,11 @@ impl Walk<'_> {
         at: u32,
         ranges: &[Abs],
     ) -> Result<Tested, Stop>
-        requires walk { CanWalk self.now (two (operator op) (term_of left.now) (term_of right.now)) at }
+        requires walk { CanWalk self.now (two_of (operator op) left.now right.now) at }
         requires sized { IsSized self.now.plan.now ranges.now }
         requires plain { IsPlainComparison (term_of left.now) (term_of right.now) }
-        ensures { ComparisonAnswer self.now op (term_of left.now) (term_of right.now) at ranges.now result }
+        ensures { ComparisonAnswer self.now (comparison_of op left.now right.now) at
+            ranges.now result }
     {
         let first = self.range_of(left, at, ranges)?;
         let second = self.range_of(right, first.next, ranges)?;
@@ -645,9 +657,10 @@ impl Walk<'_> {
             right,
             left_range: first.range,
             right_range: second.range,
+            whole,
         };
         let allowed = signs_where(op, 0);
-        let branches = branches_of(self.alloc, self.plan, &sides, whole, allowed, ranges)?;
+        let branches = branches_of(self.alloc, self.plan, &sides, allowed, ranges)?;
         Ok(Tested {
             branches,
             next: compared.next,
@@ -665,7 +678,9 @@ struct Inner<'a> {
 
 /// The sides of `x.compareTo(y)`, where it is compared with an `int` literal.
 fn compared_sides<'a>(left: &'a Expr, right: &'a Expr) -> Option<Inner<'a>>
-    ensures { MatchOption result (IsPlainComparison (term_of left.now) (term_of right.now)) (IsInner (term_of left.now) (term_of right.now)) }
+    ensures { MatchOption result
+        (IsPlainComparison (term_of left.now) (term_of right.now))
+        (IsInner (term_of left.now) (term_of right.now)) }
 {
     match left {
         Expr::Call(Call::CompareTo, x, y) => match right {

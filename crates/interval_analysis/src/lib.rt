@@ -8,7 +8,6 @@ mod comparisons;
 mod expressions;
 mod fault;
 mod joins;
-mod kinds;
 mod lists;
 mod names;
 mod operations;

@@ -34,7 +34,8 @@ pub(crate) fn single(value: Dec) -> Abs
 
 /// The declaration of a name.
 pub(crate) fn declaration<'a>(plan: &'a Typed, name: &Name) -> Option<&'a Declared>
-    ensures { option_map (λ d. declaration_of d.now) result ≡ declaration_in (scope_in plan.now) name.now }
+    ensures { option_map (λ d. declaration_of d.now) result
+        ≡ declaration_in (scope_in plan.now) name.now }
 {
     match variable(plan, name) {
         Some(declared) => Some(declared),
@@ -44,7 +45,8 @@ pub(crate) fn declaration<'a>(plan: &'a Typed, name: &Name) -> Option<&'a Declar
 
 /// The declaration of a variable's name.
 pub(crate) fn variable<'a>(plan: &'a Typed, name: &Name) -> Option<&'a Declared>
-    ensures { option_map (λ d. declaration_of d.now) result ≡ declared_as (scope_in plan.now).variables name.now }
+    ensures { option_map (λ d. declaration_of d.now) result
+        ≡ declared_as (scope_in plan.now).variables name.now }
 {
     match plan.variable(name) {
         Some(number) => variable_at(plan, number),
@@ -53,7 +55,8 @@ pub(crate) fn variable<'a>(plan: &'a Typed, name: &Name) -> Option<&'a Declared>
 }
 
 fn variable_at(plan: &Typed, number: usize) -> Option<&Declared>
-    ensures { option_map (λ d. declaration_of d.now) result ≡ slice_get (variables_of (flowchart_of plan.now)) number }
+    ensures { option_map (λ d. declaration_of d.now) result
+        ≡ slice_get (variables_of (flowchart_of plan.now)) number }
 {
     let text = plan.plan();
     let inputs = text.inputs.len();
@@ -69,7 +72,8 @@ fn variable_at(plan: &Typed, number: usize) -> Option<&Declared>
 
 /// The declaration of a constant.
 pub(crate) fn constant<'a>(plan: &'a Typed, name: &Name) -> Option<&'a Declared>
-    ensures { option_map (λ d. declaration_of d.now) result ≡ declared_as (scope_in plan.now).constants name.now }
+    ensures { option_map (λ d. declaration_of d.now) result
+        ≡ declared_as (scope_in plan.now).constants name.now }
 {
     match plan.constant(name) {
         Some(number) => constant_at(plan, number),
@@ -89,7 +93,8 @@ pub(crate) fn constant_value(plan: &Typed, name: &Name) -> Option<Dec>
 }
 
 fn constant_at(plan: &Typed, number: usize) -> Option<&Declared>
-    ensures { option_map (λ d. declaration_of d.now) result ≡ slice_get (scope_in plan.now).constants number }
+    ensures { option_map (λ d. declaration_of d.now) result
+        ≡ slice_get (scope_in plan.now).constants number }
 {
     plan.plan().constants.get(number)
 }

@@ -5,9 +5,8 @@ ghost use Rattle.pap_tree.specs.Numbering.{nodes};
 ghost use Rattle.pap_types.specs.Kinds.{kind_of};
 ghost use Rattle.interval_analysis.specs.OutlineViews.{IsOutline, AreOutlines};
 
-use crate::kinds::{kind_of_call, kind_of_operator, kind_of_unary};
 use pap_tree::Expr;
-use pap_types::{NodeKind, Typed};
+use pap_types::{NodeKind, Typed, kind_of_call, kind_of_operator, kind_of_unary};
 
 /// The kind of an expression, and the number that follows its nodes'.
 #[derive(Clone, Copy)]

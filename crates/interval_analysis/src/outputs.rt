@@ -1,11 +1,10 @@
 //! The ranges of the outputs.
 ghost use Rattle.std.specs.Prelude.{◌≡◌, ◌≤◌, ◌<◌, ◌-◌, ◌*ℤ◌, length, take, drop, slice_index, slice_get, Some};
 ghost use Rattle.scaled_decimal.specs.Decimals.{ten_to};
-ghost use Rattle.pap_tree.specs.Flowchart.{flowchart_of};
 ghost use Rattle.interval_num.specs.Intervals.{Interval};
-ghost use Rattle.range_walk.specs.Analysis.{is_bounded, is_small, output_ranges, unless_unbounded};
-ghost use Rattle.interval_analysis.specs.PlanViews.{IsSized, ranges_in, with_names};
-ghost use Rattle.interval_analysis.specs.OutputViews.{OutputAnswer, output_names};
+ghost use Rattle.range_walk.specs.Analysis.{is_bounded, is_small};
+ghost use Rattle.interval_analysis.specs.PlanViews.{IsSized};
+ghost use Rattle.interval_analysis.specs.OutputViews.{OutputAnswer, bounded_outputs, outputs_in};
 
 use crate::{OutputRange, RangeFault};
 use interval_num::Abs;
@@ -27,7 +26,7 @@ pub(crate) fn output_ranges(
     ranges: &[Abs],
 ) -> Result<Vec<OutputRange>, RangeFault>
     requires { IsSized plan.now ranges.now }
-    ensures { OutputAnswer (unless_unbounded (output_ranges (flowchart_of plan.now) (ranges_in plan.now ranges.now))) result }
+    ensures { OutputAnswer (outputs_in plan.now ranges.now) result }
 {
     let text = plan.plan();
     let inputs = text.inputs.as_slice();
@@ -44,7 +43,7 @@ fn bounded(
     ranges: &[Abs],
 ) -> Result<Vec<OutputRange>, RangeFault>
     requires { length ranges.now ≡ length outputs.now }
-    ensures { OutputAnswer (unless_unbounded (with_names (output_names outputs.now) ranges.now)) result }
+    ensures { OutputAnswer (bounded_outputs outputs.now ranges.now) result }
 {
     let mut bounded = Vec::new(alloc);
     for i in 0..outputs.len() {

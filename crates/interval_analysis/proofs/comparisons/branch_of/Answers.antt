@@ -11,6 +11,6 @@ narrow-requires-in-Some-clause-fits c =
     let plan = c.args.plan.now in
     let rs = c.args.ranges.now in
     let s = c.args.sides.now in
-    second_narrows c.args.whole c.args.allowed s.left_range s.right_range (ranges_in plan rs) (ranges_in plan (changed rs c.in-Some.changes.items)) (term_of s.left.now) (term_of s.right.now) c.requires.sides.ranges c.requires.sides.left c.requires.sides.right
+    second_narrows s.whole c.args.allowed s.left_range s.right_range (ranges_in plan rs) (ranges_in plan (changed rs c.in-Some.changes.items)) (term_of s.left.now) (term_of s.right.now) c.requires.sides.ranges c.requires.sides.left c.requires.sides.right
     (ap (ranges_after plan rs) (sym c.in-Some.is) ∙ c.in_ok-narrow.ensures
-    ∙ ap (λ cs. narrowed c.args.whole c.args.allowed (term_of s.left.now) s.right_range (ranges_in plan (changed rs cs))) c.new-none.ensures.items)
+    ∙ ap (λ cs. narrowed s.whole c.args.allowed (term_of s.left.now) s.right_range (ranges_in plan (changed rs cs))) c.new-none.ensures.items)

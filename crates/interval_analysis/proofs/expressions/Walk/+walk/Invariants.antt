@@ -52,13 +52,13 @@ abbrev pub decreases-range_of_quotient : goal.decreases-range_of_quotient
 decreases-range_of_quotient l = 6 * (nodes (term_of l.left.now) + nodes (term_of l.right.now)) + 1
 
 abbrev pub decreases-first_part : goal.decreases-first_part
-decreases-first_part l = 6 * (nodes (term_of l.first.now) + nodes (term_of l.second.now)) + 2
+decreases-first_part l = 6 * (nodes (term_of l.parts.now.first.now) + nodes (term_of l.parts.now.second.now)) + 2
 
 abbrev pub decreases-second_part : goal.decreases-second_part
-decreases-second_part l = 6 * (nodes (term_of l.first.now) + nodes (term_of l.second.now)) + 2
+decreases-second_part l = 6 * (nodes (term_of l.parts.now.first.now) + nodes (term_of l.parts.now.second.now)) + 2
 
 abbrev pub decreases-both_parts : goal.decreases-both_parts
-decreases-both_parts l = 6 * (nodes (term_of l.first.now) + nodes (term_of l.second.now)) + 2
+decreases-both_parts l = 6 * (nodes (term_of l.parts.now.first.now) + nodes (term_of l.parts.now.second.now)) + 2
 
 abbrev pub decreases-test_operator : goal.decreases-test_operator
 decreases-test_operator l = 6 * (nodes (term_of l.left.now) + nodes (term_of l.right.now)) + 5
