@@ -5,3 +5,5 @@ mod LeavesLemmas
 mod PlaceLemmas
 mod LineLemmas
 mod RunLemmas
+mod KeptLemmas
+mod AnswerLemmas

@@ -37,6 +37,10 @@ pub record AreValueWords (words : List (List ℕ)) (values : List NamedValue) : 
   pub few : length words ≤ 256
   pub sorted : values ≡ in_order given
 
+-- the value is a kept decimal, as each value of a word is
+abbrev pub IsKeptValue : NamedValue → Type 0
+IsKeptValue v = IsKept v.value
+
 -- what the words ask for
 pub data Form : Type 0 where
   -- check PLAN LIMITS

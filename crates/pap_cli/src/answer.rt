@@ -31,9 +31,11 @@ fn reply_on_bytes<L: Ledger>(
     limits: &[u8],
     steps: &mut Steps<L>,
 ) -> Result<Reply, AllocError>
-    ensures answer { IfOk result (λ reply. answers_of command plan.now limits.now (reply_of reply)) }
+    ensures answer { IfOk result
+        (λ reply. answers_of command plan.now limits.now (reply_of reply)) }
     ensures counted { IfOk result (λ reply. steps.new ≡ steps.old + reply.steps) }
-    ensures memory { OnErr result (IsCounted (answers_of command plan.now limits.now) steps.old steps.new) }
+    ensures memory { OnErr result
+        (IsCounted (answers_of command plan.now limits.now) steps.old steps.new) }
 {
     match command {
         Command::Check => check_reply(alloc, plan, limits),
@@ -55,7 +57,8 @@ fn read_both<F: Files>(
     ensures failed { IsErrOf result FileAnswer.Failed →
         IsMissing (F.told files.old) plan.now limits.now (F.failed files.new) }
     ensures kept { OnOk result (F.failed files.new ≡ F.failed files.old) }
-    ensures kept_memory { IsErrOf result FileAnswer.Memory → F.failed files.new ≡ F.failed files.old }
+    ensures kept_memory { IsErrOf result FileAnswer.Memory
+        → F.failed files.new ≡ F.failed files.old }
 {
     let plan_bytes = files.read_front(alloc, plan, LONGEST_PLAN + 1)?;
     let limits_bytes = files.read_front(alloc, limits, LONGEST_LIMITS + 1)?;
@@ -70,7 +73,8 @@ pub(crate) fn answer<F: Files, W: Sink, L: Ledger>(
     sink: &mut W,
     steps: &mut Steps<L>,
 ) -> Result<bool, Stop>
-    ensures leaves { LeavesOnFiles (answers_of request.entry.command) request.entry.plan.now request.entry.limits.now
+    ensures leaves { LeavesOnFiles (answers_of request.entry.command)
+        request.entry.plan.now request.entry.limits.now
         (shown (F.told files.old) (F.failed files.old) (W.written sink.old) steps.old)
         (shown (F.told files.new) (F.failed files.new) (W.written sink.new) steps.new)
         (status_of result) }

@@ -5,7 +5,8 @@ ghost use Rattle.pap_cli.specs.Words.{texts, Form, HasForm, IsBad};
 ghost use Rattle.pap_cli.specs.Outside.{IsUntouched};
 ghost use Rattle.pap_cli.specs.CallClauses.{Leaves, Headline};
 ghost use Rattle.pap_cli.specs.Statuses.{status_of};
-ghost use Rattle.pap_cli.specs.Laws.{HaveOneForm};
+ghost use Rattle.pap_cli.specs.Laws.{HaveOneForm, CheckHasOneAnswer, OnceHasOneAnswer};
+ghost use Rattle.pap_cli.specs.Laws.{WordsGiveKeptValues};
 
 use crate::Status;
 use crate::answer::answer;
@@ -43,15 +44,20 @@ pub fn papcalc<F: Files, R: Source, W: Sink, L: Ledger>(
     steps: &mut Steps<L>,
 ) -> Status
     // The words have no form: nothing is called.
-    ensures bad_words { IsBad (texts words.now) → result ≢ Status.NoMemory → result ≡ Status.BadWords }
+    ensures bad_words { IsBad (texts words.now)
+        → result ≢ Status.NoMemory → result ≡ Status.BadWords }
     ensures bad_words_alone { result ≡ Status.BadWords → IsBad (texts words.now) }
-    ensures bad_words_untouched { IsBad (texts words.now) →
-        IsUntouched files.old files.new source.old source.new sink.old sink.new steps.old steps.new }
+    ensures bad_words_untouched { IsBad (texts words.now)
+        → IsUntouched files.old files.new source.old source.new
+        sink.old sink.new steps.old steps.new }
 
     // A fault only where the object's count rose.
-    ensures file_fault { result ≡ Status.FileFault → Rose (F.faults files.old) (F.faults files.new) }
-    ensures read_fault { result ≡ Status.ReadFault → Rose (R.faults source.old) (R.faults source.new) }
-    ensures write_fault { result ≡ Status.WriteFault → Rose (W.faults sink.old) (W.faults sink.new) }
+    ensures file_fault { result ≡ Status.FileFault
+        → Rose (F.faults files.old) (F.faults files.new) }
+    ensures read_fault { result ≡ Status.ReadFault
+        → Rose (R.faults source.old) (R.faults source.new) }
+    ensures write_fault { result ≡ Status.WriteFault
+        → Rose (W.faults sink.old) (W.faults sink.new) }
 
     // The files are only read. The source isn't touched.
     ensures files_same { F.told files.new ≡ F.told files.old }
@@ -81,7 +87,7 @@ pub fn papcalc<F: Files, R: Source, W: Sink, L: Ledger>(
         })
         result }
 
-    // The headline: while memory is there and no outside call fails, what is written is the defined answer.
+    // The headline: while memory is there and no outside call fails, the answer is written.
     ensures headline { (form : Form) → HasForm (texts words.now) form → Headline form
         (record {
           files = F.told files.old;
@@ -115,4 +121,11 @@ pub fn papcalc<F: Files, R: Source, W: Sink, L: Ledger>(
 /// Words have at most one form.
 pub fn word_laws()
     ensures { HaveOneForm }
+{}
+
+/// Every two texts have an answer of each command, and no other.
+pub fn answer_laws()
+    ensures check { CheckHasOneAnswer }
+    ensures once { OnceHasOneAnswer }
+    ensures values { WordsGiveKeptValues }
 {}

@@ -12,5 +12,5 @@ mod status;
 mod stop;
 mod words;
 
-pub use call::{papcalc, word_laws};
+pub use call::{answer_laws, papcalc, word_laws};
 pub use status::Status;

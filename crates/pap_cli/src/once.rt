@@ -31,9 +31,11 @@ pub(crate) fn once_reply<L: Ledger>(
     limits: &[u8],
     steps: &mut Steps<L>,
 ) -> Result<Reply, AllocError>
-    ensures answer { IfOk result (λ reply. OnceAnswers values plan.now limits.now (reply_of reply)) }
+    ensures answer { IfOk result
+        (λ reply. OnceAnswers values plan.now limits.now (reply_of reply)) }
     ensures counted { IfOk result (λ reply. steps.new ≡ steps.old + reply.steps) }
-    ensures memory { OnErr result (IsCounted (OnceAnswers values plan.now limits.now) steps.old steps.new) }
+    ensures memory { OnErr result
+        (IsCounted (OnceAnswers values plan.now limits.now) steps.old steps.new) }
 {
     match accept(alloc, plan, limits) {
         Ok(plan) => run_reply(alloc, &plan, values, steps),
@@ -52,7 +54,8 @@ fn run_reply<L: Ledger>(
     requires { All (HasSuitedLimit plan.now.ranges) (flowchart plan.now).inputs }
     ensures answer { IfOk result (λ reply. IsRunOnce values (meaning plan.now) (reply_of reply)) }
     ensures counted { IfOk result (λ reply. steps.new ≡ steps.old + reply.steps) }
-    ensures memory { OnErr result (IsCounted (IsRunOnce values (meaning plan.now)) steps.old steps.new) }
+    ensures memory { OnErr result
+        (IsCounted (IsRunOnce values (meaning plan.now)) steps.old steps.new) }
 {
     let record = record_of(values);
     match fill(alloc, plan.spec(), &record, &[])? {
@@ -77,7 +80,8 @@ fn each_is_kept(values: &[Dec])
 /// The refusal of a run that has no inputs. A run without earlier ones waits for none.
 fn state_reply(alloc: Global, state: &Blocked) -> Result<Reply, AllocError>
     requires { (day : Date) → state.now ≢ Blocked.Waits day }
-    ensures { (f : Flowchart) → IfOk result (λ reply. IsRunOn f (State state.now) (reply_of reply)) }
+    ensures { (f : Flowchart) → IfOk result
+        (λ reply. IsRunOn f (State state.now) (reply_of reply)) }
 {
     let detail = match state {
         Blocked::Waits(_) => unreachable!(),

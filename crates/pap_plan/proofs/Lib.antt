@@ -2,7 +2,10 @@ mod AcceptLemmas
 mod AnswerLaws
 mod BindingLemmas
 mod CountLemmas
+pub mod Laws
 mod LimitLemmas
+mod LiteralLemmas
+mod MeaningLemmas
 mod RunLemmas
 mod SlotLemmas
 mod SuitedLemmas

@@ -18,7 +18,8 @@ use scaled_decimal::Dec;
 
 /// The limit of an input.
 pub(crate) fn limit_named<'a>(limits: &'a [InputLimit], name: &Name) -> Option<&'a InputLimit>
-    ensures { option_map (λ limit. limit.now) result ≡ find (λ limit. bytes_eq limit.name name.now) limits.now }
+    ensures { option_map (λ limit. limit.now) result
+        ≡ find (λ limit. bytes_eq limit.name name.now) limits.now }
 {
     limits.iter().find(|limit| limit.name == *name)
 }

@@ -42,7 +42,8 @@ impl Model for Plan {
 
     ghost coded = { Prim.hlevel (codes, statement.the_row.coded, expression.the_row.coded) };
 
-    ghost view = { λ p. seen p.plan.items p.limits.items p.typed p.ranges p.verdict.outputs.items p.code };
+    ghost view = { λ p.
+        seen p.plan.items p.limits.items p.typed p.ranges p.verdict.outputs.items p.code };
 
     ghost invariant = { λ p.
         IsKept (seen p.plan.items p.limits.items p.typed p.ranges p.verdict.outputs.items p.code)
@@ -53,7 +54,8 @@ impl Plan {
     /// The plan's text with its names by number. Every list of inputs that the plan admits is safe for it.
     pub fn text(&self) -> &Typed
         ensures text { result.now ≡ self.now.text }
-        ensures safe { (inputs : List Decimal) → Admits self.now inputs → IsSafeFor (flowchart self.now) inputs }
+        ensures safe { (inputs : List Decimal)
+            → Admits self.now inputs → IsSafeFor (flowchart self.now) inputs }
     {
         &self.typed
     }

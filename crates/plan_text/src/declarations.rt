@@ -20,7 +20,8 @@ pub(crate) fn read_declarations(
     raw: &[RawDeclared],
 ) -> Result<Vec<Declared>, PlanFault>
     ensures { Tells (declared_sites (map raw_declaration_of raw.now))
-        (λ read. AreDeclarations (map raw_declaration_of raw.now) (map declaration_of read.items)) result }
+        (λ read. AreDeclarations (map raw_declaration_of raw.now) (map declaration_of read.items))
+        result }
 {
     let mut read = Vec::new(alloc);
     for declaration in raw {

@@ -54,7 +54,8 @@ fn read_expressions(alloc: Global, elements: &Elements) -> Result<PlanText, Plan
 
 /// The laws of plans' texts: bytes have either one flowchart or one fault, and never both.
 pub fn plan_laws()
-    ensures one_plan { (bytes : List ℕ) (f g : Flowchart) → IsPlan bytes f → IsPlan bytes g → f ≡ g }
+    ensures one_plan { (bytes : List ℕ) (f g : Flowchart)
+        → IsPlan bytes f → IsPlan bytes g → f ≡ g }
     ensures one_fault { (bytes : List ℕ) (a b : Fault)
         → IsPlanFault bytes a → IsPlanFault bytes b → a ≡ b }
     ensures never_both { (bytes : List ℕ) (f : Flowchart) (a : Fault)

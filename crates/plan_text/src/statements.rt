@@ -31,7 +31,8 @@ impl StatementReader {
         requires room { self.old.next + raw_written (raw_body_of raw.now) < 2 ^ 32 }
         ensures says { Tells (body_sites self.old.method self.old.next (raw_body_of raw.now))
             (λ read. IsBody (raw_body_of raw.now) (body_of read.items)) result }
-        ensures next { OnOk result (self.new.next ≡ self.old.next + raw_written (raw_body_of raw.now)) }
+        ensures next { OnOk result
+            (self.new.next ≡ self.old.next + raw_written (raw_body_of raw.now)) }
         ensures method { self.new.method ≡ self.old.method }
     {
         let mut read = Vec::new(self.alloc);
@@ -81,7 +82,8 @@ impl StatementReader {
     /// The assignment of an EVAL.
     fn read_eval(&mut self, text: &[u8]) -> Result<Stmt, PlanFault>
         requires { self.old.next + 1 < 2 ^ 32 }
-        ensures says { Tells (site Assignment text.now (Statement self.old.method self.old.next) ∷ [])
+        ensures says { Tells
+            (site Assignment text.now (Statement self.old.method self.old.next) ∷ [])
             (IsAssignment text.now) result }
         ensures next { self.new.next ≡ self.old.next + 1 }
         ensures method { self.new.method ≡ self.old.method }
@@ -96,7 +98,8 @@ impl StatementReader {
     /// The test of an IF.
     fn read_test(&mut self, text: &[u8]) -> Result<Expr, PlanFault>
         requires { self.old.next + 1 < 2 ^ 32 }
-        ensures says { Tells (site (Level 0) text.now (Statement self.old.method self.old.next) ∷ [])
+        ensures says { Tells
+            (site (Level 0) text.now (Statement self.old.method self.old.next) ∷ [])
             (IsTest text.now) result }
         ensures next { self.new.next ≡ self.old.next + 1 }
         ensures method { self.new.method ≡ self.old.method }

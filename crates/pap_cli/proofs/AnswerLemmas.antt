@@ -1,0 +1,170 @@
+-- Every two texts have one answer of each command.
+use Rattle.std.proofs.Common.{◌≡◌, ℕ, List, [], ◌∷◌, ◌++◌, refl, sym, ap, ◌∙◌, subst}
+use Rattle.std.specs.Prelude.{Option, Some, None, option_map, All, Result, Ok, Err, codes, fold}
+use Rattle.std.specs.Ordering.{is_eq}
+use Rattle.std.specs.declared.cmp.Ordering.{Ordering}
+use Rattle.std.specs.declared.cmp.Ordering.TheVariants.{Less, Equal, Greater}
+use Rattle.std.proofs.lemmas.List.Elements.{All-nil, All-cons, All-head, All-tail}
+use Rattle.scaled_decimal.specs.Decimals.{Decimal}
+use Rattle.scaled_decimal.specs.Limits.{IsKept}
+use Rattle.pap_tree.specs.Flowchart.{Flowchart}
+use Rattle.limits_file.specs.declared.slots.Slot.{Slot}
+use Rattle.payroll_records.specs.declared.values.NamedValue.{NamedValue}
+use Rattle.payroll_records.specs.NamedValues.{name_cmp, name_of, with_value}
+use Rattle.rising_lists.specs.Keyed.{put, put_by}
+use Rattle.carry_bindings.specs.declared.filling.Filled.{Filled}
+use Rattle.carry_bindings.specs.declared.filling.Filled.TheVariants.{Inputs, State}
+use Rattle.carry_bindings.specs.declared.filling.Blocked.TheVariants as blocked
+use Rattle.carry_bindings.specs.Filling.{filled_by, waits, unknown, missing, outside, inputs}
+use Rattle.interval_analysis.specs.declared.fault.RangeFault.TheVariants as walks
+use Rattle.pap_types.specs.Meaning.{outputs_in, outputs_of, cost_of}
+use Rattle.plan_text.specs.Plans.{IsPlan}
+use Rattle.plan_text.proofs.Laws.{one_plan}
+use Rattle.pap_plan.specs.declared.refusal.PlanRefusal.{PlanRefusal}
+use Rattle.pap_plan.specs.declared.refusal.PlanRefusal.TheVariants as refusals
+use Rattle.pap_plan.specs.Acceptance.{Meaning, Answers, IsAccepted, IsRefused}
+use Rattle.pap_plan.specs.Inputs.{AreSlots}
+use Rattle.pap_plan.proofs.Laws as plans
+use Rattle.pap_cli.specs.Words.{IsKeptValue, IsValueWord, Give, AreValueWords}
+use Rattle.pap_cli.specs.Refusals.{read_detail, expr_detail, type_detail, order_detail, limits_detail, node_detail, HasDetail}
+use Rattle.pap_cli.specs.Answers.{Answer, refusal, IsRefusal, acceptance, IsChecked, CheckAnswers, finished, IsRunOn, IsRunOnce, IsOnce, OnceAnswers}
+use Rattle.pap_cli.specs.Laws.{HasOneAnswer}
+use Rattle.pap_cli.proofs.AdmissionLemmas.{filled_admitted, first_inputs}
+use Rattle.pap_cli.proofs.KeptLemmas.{inputs_kept}
+use Rattle.pap_cli.proofs.RunLemmas.{never_waits}
+
+-- ---- refusals
+
+one_detail : (plan : List ℕ) (r : PlanRefusal) (a b : List ℕ) → HasDetail plan r a → HasDetail plan r b → a ≡ b
+one_detail plan (refusals.Read fault) a b h k = h ∙ sym k
+one_detail plan (refusals.Expr spot fault) a b h k = h ∙ sym k
+one_detail plan (refusals.Types fault) a b h k = h ∙ sym k
+one_detail plan (refusals.Order fault) a b h k = h ∙ sym k
+one_detail plan (refusals.Limits fault) a b h k = h ∙ sym k
+one_detail plan (refusals.LimitName name) a b h k = h ∙ sym k
+one_detail plan (refusals.LimitKind name) a b h k = h ∙ sym k
+one_detail plan (refusals.Bind name) a b h k = h ∙ sym k
+one_detail plan (refusals.Range (walks.At place cause)) a b (f, read, h) (g, again, k) =
+    h ∙ ap (λ (x : Flowchart). node_detail x place cause) (one_plan plan f g read again) ∙ sym k
+one_detail plan (refusals.Range (walks.Output name)) a b h k = h ∙ sym k
+one_detail plan (refusals.Range (walks.Memory e)) a b h k = absurd h
+one_detail plan refusals.Memory a b h k = absurd h
+
+some_detail : (plan limits : List ℕ) (r : PlanRefusal) → IsRefused plan limits r → (detail : List ℕ) × HasDetail plan r detail
+some_detail plan limits (refusals.Read fault) h = (read_detail fault, refl)
+some_detail plan limits (refusals.Expr spot fault) h = (expr_detail spot fault, refl)
+some_detail plan limits (refusals.Types fault) h = (type_detail fault, refl)
+some_detail plan limits (refusals.Order fault) h = (order_detail fault, refl)
+some_detail plan limits (refusals.Limits fault) h = (limits_detail fault, refl)
+some_detail plan limits (refusals.LimitName name) h = (codes "plan LimitName " ++ name, refl)
+some_detail plan limits (refusals.LimitKind name) h = (codes "plan LimitKind " ++ name, refl)
+some_detail plan limits (refusals.Bind name) h = (codes "plan Bind " ++ name, refl)
+some_detail plan limits (refusals.Range (walks.At place cause)) (f, (l, bound, walked)) =
+    (node_detail f place cause, (f, bound.suited.named.file.ordered.typed.text, refl))
+some_detail plan limits (refusals.Range (walks.Output name)) h = (codes "plan Output " ++ name, refl)
+some_detail plan limits (refusals.Range (walks.Memory e)) (f, (l, bound, walked)) = absurd walked
+some_detail plan limits refusals.Memory h = absurd h
+
+one_refusal : (plan : List ℕ) (r : PlanRefusal) (a b : Answer) → IsRefusal plan r a → IsRefusal plan r b → a ≡ b
+one_refusal plan r a b h k = h.is ∙ ap refusal (one_detail plan r h.detail k.detail h.has k.has) ∙ sym k.is
+
+some_refusal : (plan limits : List ℕ) (r : PlanRefusal) → IsRefused plan limits r → (a : Answer) × IsRefusal plan r a
+some_refusal plan limits r h = let d = some_detail plan limits r h in (refusal d.0, record { detail = d.0; has = d.1; is = refl })
+
+-- ---- check
+
+one_checked : (plan : List ℕ) (v : Result Meaning PlanRefusal) (a b : Answer) → IsChecked plan v a → IsChecked plan v b → a ≡ b
+one_checked plan (Ok m) a b h k = h ∙ sym k
+one_checked plan (Err r) a b h k = one_refusal plan r a b h k
+
+one_check : (plan limits : List ℕ) (a b : Answer) → CheckAnswers plan limits a → CheckAnswers plan limits b → a ≡ b
+one_check plan limits a b h k =
+    let same = plans.one plan limits h.verdict k.verdict h.accepted k.accepted in
+    one_checked plan k.verdict a b (subst (λ v. IsChecked plan v a) same h.is) k.is
+
+some_check : (plan limits : List ℕ) → (a : Answer) × CheckAnswers plan limits a
+some_check plan limits = let v = plans.some plan limits in by v.0 v.1
+  where
+    by : (v : Result Meaning PlanRefusal) → Answers plan limits v → (a : Answer) × CheckAnswers plan limits a
+    by (Ok m) h = (acceptance m, record { verdict = Ok m; accepted = h; is = refl })
+    by (Err r) h = let w = some_refusal plan limits r h in (w.0, record { verdict = Err r; accepted = h; is = w.1 })
+
+pub check_answers : (plan limits : List ℕ) → HasOneAnswer (CheckAnswers plan limits)
+check_answers plan limits = record { some = some_check plan limits; one = one_check plan limits }
+
+-- ---- once
+
+some_same : (x y : List Decimal) → Some x ≡ Some y → x ≡ y
+some_same x y e = cc
+
+one_run : (f : Flowchart) (x : Filled) (a b : Answer) → IsRunOn f x a → IsRunOn f x b → a ≡ b
+one_run f (Inputs inputs) a b (outs, e, h) (others, d, k) = h ∙ ap (λ o. finished f o (cost_of f inputs)) (some_same outs others (sym e ∙ d)) ∙ sym k
+one_run f (State (blocked.Unknown name)) a b h k = h ∙ sym k
+one_run f (State (blocked.Missing name)) a b h k = h ∙ sym k
+one_run f (State (blocked.Range name)) a b h k = h ∙ sym k
+one_run f (State (blocked.Waits day)) a b h k = absurd h
+
+one_once : (values : List NamedValue) (plan limits : List ℕ) (a b : Answer) → OnceAnswers values plan limits a → OnceAnswers values plan limits b → a ≡ b
+one_once values plan limits a b h k =
+    let same = plans.one plan limits h.verdict k.verdict h.accepted k.accepted in
+    by k.verdict (subst (λ v. IsOnce values plan v a) same h.is) k.is
+  where
+    by : (v : Result Meaning PlanRefusal) → IsOnce values plan v a → IsOnce values plan v b → a ≡ b
+    by (Err r) p q = one_refusal plan r a b p q
+    by (Ok m) p q =
+        let slots = plans.one_slots m.limits m.flowchart.inputs p.slots q.slots p.inputs q.inputs in
+        one_run m.flowchart (filled_by q.slots values []) a b (subst (λ s. IsRunOn m.flowchart (filled_by s values []) a) slots p.ran) q.ran
+
+-- a run on what is filled: it is safe on inputs, and without earlier runs it waits for none
+some_run : (values : List NamedValue) (plan limits : List ℕ) (m : Meaning) (slots : List Slot) → All IsKeptValue values → IsAccepted plan limits m → AreSlots m.limits m.flowchart.inputs slots → (a : Answer) × IsRunOn m.flowchart (filled_by slots values []) a
+some_run values plan limits m slots kept h are = by (filled_by slots values []) refl
+  where
+    by : (x : Filled) → filled_by slots values [] ≡ x → (a : Answer) × IsRunOn m.flowchart x a
+    by (Inputs vs) e =
+        let parts = first_inputs (waits slots []) (unknown slots values) (missing slots values []) (outside slots values []) (inputs slots values []) vs e in
+        let all = inputs_kept m.limits values kept m.flowchart.inputs slots (plans.accepted_limits plan limits m h) (plans.accepted_defaults plan limits m h) are parts.1 in
+        let admitted = filled_admitted m.limits m.flowchart.inputs slots values [] vs h.bound.suited.suited are (subst (All IsKept) parts.2 all) e in
+        let safe = plans.accepted_safe plan limits m h vs admitted in
+        let outs = outputs_in m.flowchart safe.ends in
+        (finished m.flowchart outs (cost_of m.flowchart vs), (outs, ap (option_map (outputs_in m.flowchart)) safe.defined, refl))
+    by (State (blocked.Unknown name)) e = (refusal (codes "state unknown " ++ name), refl)
+    by (State (blocked.Missing name)) e = (refusal (codes "state missing " ++ name), refl)
+    by (State (blocked.Range name)) e = (refusal (codes "state range " ++ name), refl)
+    by (State (blocked.Waits day)) e = absurd (never_waits slots values day e)
+
+some_once : (values : List NamedValue) → All IsKeptValue values → (plan limits : List ℕ) → (a : Answer) × OnceAnswers values plan limits a
+some_once values kept plan limits = let v = plans.some plan limits in by v.0 v.1
+  where
+    by : (v : Result Meaning PlanRefusal) → Answers plan limits v → (a : Answer) × OnceAnswers values plan limits a
+    by (Err r) h = let w = some_refusal plan limits r h in (w.0, record { verdict = Err r; accepted = h; is = w.1 })
+    by (Ok m) h =
+        let are = plans.some_slots m.limits m.flowchart.inputs h.bound.suited.suited in
+        let ran = some_run values plan limits m are.0 kept h are.1 in
+        (ran.0, record { verdict = Ok m; accepted = h; is = record { slots = are.0; inputs = are.1; ran = ran.1 } })
+
+pub once_answers : (values : List NamedValue) → All IsKeptValue values → (plan limits : List ℕ) → HasOneAnswer (OnceAnswers values plan limits)
+once_answers values kept plan limits = record { some = some_once values kept plan limits; one = one_once values plan limits }
+
+-- ---- the values of words are kept
+
+given_kept : (words : List (List ℕ)) (given : List NamedValue) → Give words given → All IsKeptValue given
+given_kept [] [] h = All-nil IsKeptValue
+given_kept [] (v ∷ vs) h = absurd h
+given_kept (w ∷ words) [] h = absurd h
+given_kept (w ∷ words) (v ∷ vs) h = All-cons IsKeptValue v vs h.0.kept (given_kept words vs h.1)
+
+put_kept : (v : NamedValue) (xs : List NamedValue) → IsKeptValue v → All IsKeptValue xs → All IsKeptValue (with_value v xs)
+put_kept v [] k h = All-cons IsKeptValue v [] k (All-nil IsKeptValue)
+put_kept v (x ∷ xs) k h = by (name_cmp v.name x.name) (put_kept v xs k (All-tail IsKeptValue x xs h))
+  where
+    by : (o : Ordering) → All IsKeptValue (with_value v xs) → All IsKeptValue (put_by o v x xs (with_value v xs))
+    by Less more = All-cons IsKeptValue v (x ∷ xs) k h
+    by Equal more = All-cons IsKeptValue v xs k (All-tail IsKeptValue x xs h)
+    by Greater more = All-cons IsKeptValue x (with_value v xs) (All-head IsKeptValue x xs h) more
+
+sorted_kept : (given acc : List NamedValue) → All IsKeptValue given → All IsKeptValue acc → All IsKeptValue (fold (λ sorted v. with_value v sorted) acc given)
+sorted_kept [] acc h k = k
+sorted_kept (v ∷ vs) acc h k = sorted_kept vs (with_value v acc) (All-tail IsKeptValue v vs h) (put_kept v acc (All-head IsKeptValue v vs h) k)
+
+pub words_kept : (words : List (List ℕ)) (values : List NamedValue) → AreValueWords words values → All IsKeptValue values
+words_kept words values h = subst (All IsKeptValue) (sym h.sorted) (sorted_kept h.given [] (given_kept words h.given h.give) (All-nil IsKeptValue))

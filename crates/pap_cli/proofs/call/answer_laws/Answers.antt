@@ -1,0 +1,11 @@
+use Rattle.pap_cli.proofs.AnswerLemmas.{check_answers, once_answers, words_kept}
+use Rattle.pap_cli.proofs.call.answer_laws.Goals as goal
+
+pub returns-clause-check : goal.returns-clause-check
+returns-clause-check c = check_answers
+
+pub returns-clause-once : goal.returns-clause-once
+returns-clause-once c = once_answers
+
+pub returns-clause-values : goal.returns-clause-values
+returns-clause-values c = words_kept

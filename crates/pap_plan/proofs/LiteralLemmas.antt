@@ -1,0 +1,148 @@
+-- The decimal of a declared literal is kept.
+use Rattle.std.proofs.Common.{◌≡◌, ℕ, zero, suc, ◌+◌, ◌-◌, ◌*◌, ◌^◌, ◌<◌, ◌≤◌, ℤ, pos, negsuc, ◌*ℤ◌, neg_ℤ, unsigned_abs, List, [], ◌∷◌, ◌++◌, length, Option, Some, None, refl, sym, ap, subst, ◌∙◌, arith}
+use Rattle.std.specs.Prelude.{⊤}
+use Rattle.std.specs.List.{All}
+use Rattle.std.specs.Option.{option_map}
+use Rattle.std.proofs.lemmas.Int.{ints}
+use Rattle.std.proofs.lemmas.List.Elements.{All-nil, All-cons}
+use Rattle.scaled_decimal.specs.Decimals.{Decimal, decimal, numerator_of, scale_of, ten_to}
+use Rattle.scaled_decimal.specs.Limits.{IsKept, IsWithinLimit, limit}
+use Rattle.scaled_decimal.specs.Shortening.{IsShortened}
+use Rattle.scaled_decimal.proofs.Laws.{ten_some}
+use Rattle.pap_tree.specs.declared.expression.Known.{Known}
+use Rattle.pap_tree.specs.declared.expression.Known.TheVariants as knowns
+use Rattle.pap_tree.specs.Tokens as tokens
+use Rattle.pap_tree.specs.Tokens.{Number, Token, Literal, Quoted, Spot, plain, Tokens, IsFirst}
+use Rattle.pap_tree.specs.Grammar as grammar
+use Rattle.pap_tree.specs.Grammar.{Item, Is, Opens, Scale, Part, Line, Constant, Meaning, literal, declared, Way, leaf_of, negative_of, known_value}
+use Rattle.pap_tree.specs.Texts as texts
+use Rattle.pap_tree.specs.Texts.{Text, Texts}
+use Rattle.pap_tree.specs.Expressions.{IsAccepted}
+use Rattle.pap_tree.specs.Declarations.{Declaration, DeclaredLiteral}
+use Rattle.pap_types.specs.Scopes.{leaf_decimal, literal_decimal}
+use Rattle.pap_reader.specs.Trees.{RawDeclaration}
+use Rattle.plan_text.specs.Plans.{IsValue, AreDeclarations}
+
+abbrev IsKeptMeaning : Meaning → Type 0
+IsKeptMeaning (literal l) = IsKept (leaf_decimal l)
+IsKeptMeaning (declared l) = IsKept (literal_decimal l)
+IsKeptMeaning x = ⊤
+
+abbrev IsKeptToken : Token → Type 0
+IsKeptToken (Literal n) = IsKept (leaf_decimal (leaf_of n))
+IsKeptToken (Quoted d) = IsKept d
+IsKeptToken t = ⊤
+
+abbrev AllTokens : List Token → Type 0
+AllTokens [] = ⊤
+AllTokens (t ∷ ts) = IsKeptToken t × AllTokens ts
+
+first_tokens : (a b : List Token) → AllTokens (a ++ b) → AllTokens a
+first_tokens [] b h = tt
+first_tokens (t ∷ a) b h = (h.0, first_tokens a b h.1)
+
+last_tokens : (a b : List Token) → AllTokens (a ++ b) → AllTokens b
+last_tokens [] b h = h
+last_tokens (t ∷ a) b h = last_tokens a b h.1
+
+abbrev AllKept : List Item → Type 0
+AllKept [] = ⊤
+AllKept (Is t ∷ more) = IsKeptToken t × AllKept more
+AllKept (Part g l x ∷ more) = IsKeptMeaning x × AllKept more
+AllKept (Opens t ∷ more) = AllKept more
+AllKept (Scale p s ∷ more) = AllKept more
+
+-- ---- numbers
+
+negated_within : (n : ℕ) → IsWithinLimit (pos n) → IsWithinLimit (neg_ℤ (pos n))
+negated_within n h = omega (arith, ints)
+
+opposite_within : (z : ℤ) → IsWithinLimit z → IsWithinLimit (neg_ℤ z)
+opposite_within z h = omega (arith, ints)
+
+negative_kept : (n : Number) → IsKept (leaf_decimal (leaf_of n)) → IsKept (leaf_decimal (negative_of n))
+negative_kept (tokens.int n) h = record { numerator = negated_within n h.numerator; scale = h.scale }
+negative_kept (tokens.long n) h = record { numerator = negated_within n h.numerator; scale = h.scale }
+negative_kept (tokens.point d) h = record { numerator = opposite_within (numerator_of d) h.numerator; scale = h.scale }
+
+known_kept : (k : Known) → IsKept (known_value k)
+known_kept knowns.Zero = record { numerator = omega arith; scale = omega arith }
+known_kept knowns.One = record { numerator = omega arith; scale = omega arith }
+known_kept knowns.Ten = record { numerator = omega arith; scale = omega arith }
+
+abs_times : (x : ℤ) (k : ℕ) → unsigned_abs (x *ℤ pos k) ≡ unsigned_abs x * k
+abs_times (pos m) k = omega (arith, ints)
+abs_times (negsuc m) k = omega (arith, ints)
+
+grows : (m k : ℕ) → 0 < k → m ≤ m * k
+grows m zero some = absurd (omega arith)
+grows m (suc k) some = grind arith
+
+-- fewer zeros make no greater number
+shortened_kept : (d e : Decimal) (least : ℕ) → IsShortened d least e → IsKept d → IsKept e
+shortened_kept d e least h k =
+    let times = abs_times (numerator_of e) (10 ^ (scale_of d - scale_of e)) in
+    let same = ap unsigned_abs h.same in
+    let more = grows (unsigned_abs (numerator_of e)) (10 ^ (scale_of d - scale_of e)) (ten_some (scale_of d - scale_of e)) in
+    let most = k.numerator in
+    record { numerator = omega arith; scale = omega (arith, h.high, k.scale) }
+
+-- ---- texts
+
+way_kept : {l : Line} {way : List Item} {x : Meaning} → Way l way x → AllKept way → IsKeptMeaning x
+way_kept (grammar.without_sign f n e) h = h.0
+way_kept (grammar.with_sign f n e) h = negative_kept n h.0
+way_kept (grammar.big_constant d) h = h.0
+way_kept (grammar.number_constant f l) h = h.0
+way_kept (grammar.table_constant ds) h = record { numerator = omega arith; scale = omega arith }
+way_kept (grammar.big_known k) h = known_kept k
+way_kept (grammar.big_of_int i) h = h.1.1.1.0
+way_kept (grammar.big_of_scaled i s le) h = record { numerator = h.1.1.1.0.numerator; scale = le }
+way_kept (grammar.big_of_point d e is) h = shortened_kept d e 1 is h.1.1.1.0
+way_kept (grammar.big_new i) h = h.1.1.0
+way_kept (grammar.big_new_text d) h = h.1.1.0
+way_kept w h = tt
+
+mutual
+  kept : {l : Line} {ts : List Token} {x : Meaning} → Text l ts x → AllTokens ts → IsKeptMeaning x
+  kept (texts.by way w h) p = way_kept w (all_kept h p)
+
+  all_kept : {way : List Item} {ts : List Token} → Texts way ts → AllTokens ts → AllKept way
+  all_kept texts.done p = tt
+  all_kept (texts.is h) p = (p.0, all_kept h p.1)
+  all_kept (texts.opens h) p = all_kept h p.1
+  all_kept (texts.scale h) p = all_kept h p.1
+  all_kept (texts.part {a} {ts} e t h) p = (kept t (first_tokens a ts p), all_kept h (last_tokens a ts p))
+
+first_kept : (text rest : List ℕ) (t : Token) → IsFirst text rest t → IsKeptToken t
+first_kept text rest (Literal (tokens.int n)) h = let most = h.0.1 in record { numerator = omega arith; scale = omega arith }
+first_kept text rest (Literal (tokens.long n)) h = let most = h.0.1 in record { numerator = omega arith; scale = omega arith }
+first_kept text rest (Literal (tokens.point d)) h = h.0.1
+first_kept text rest (Quoted d) h = h.0.1
+first_kept text rest t h = tt
+
+spots_kept : (at : ℕ) (bytes : List ℕ) (ts : List Spot) → Tokens at bytes ts → AllTokens (plain ts)
+spots_kept at bytes [] h = tt
+spots_kept at bytes (t ∷ ts) (white, text, rest, a, b, first, c, more) =
+    (first_kept text rest t.token first, spots_kept (at + length white + length text) rest ts more)
+
+literal_kept : (bytes : List ℕ) (l : DeclaredLiteral) → IsAccepted Constant bytes (declared l) → IsKept (literal_decimal l)
+literal_kept bytes l h = kept h.text (spots_kept 0 bytes h.spots h.tokens)
+
+-- ---- declarations
+
+-- the decimal of the value that is written, where one is, is kept
+abbrev pub HasKeptValue : Declaration → Type 0
+HasKeptValue d = (v : Decimal) → option_map literal_decimal d.value ≡ Some v → IsKept v
+
+value_kept : (raw : Option (List ℕ)) (l : Option DeclaredLiteral) → IsValue raw l → (v : Decimal) → option_map literal_decimal l ≡ Some v → IsKept v
+value_kept None None h v e = absurd (cc e)
+value_kept None (Some l) h v e = absurd h
+value_kept (Some text) None h v e = absurd h
+value_kept (Some text) (Some l) h v e = let same : literal_decimal l ≡ v = cc in subst IsKept same (literal_kept text l h)
+
+pub values_kept : (raws : List RawDeclaration) (ds : List Declaration) → AreDeclarations raws ds → All HasKeptValue ds
+values_kept [] [] h = All-nil HasKeptValue
+values_kept [] (d ∷ ds) h = absurd h
+values_kept (raw ∷ raws) [] h = absurd h
+values_kept (raw ∷ raws) (d ∷ ds) h = All-cons HasKeptValue d ds (value_kept raw.value d.value h.0.value) (values_kept raws ds h.1)
