@@ -3,7 +3,7 @@ use Rattle.std.proofs.Common.{◌≡◌, ℕ, suc, ◌+◌, ◌-◌, ◌*◌, �
 use Rattle.std.specs.Int.{w128}
 use Rattle.std.proofs.lemmas.Bool.Decides.{nat_tests}
 use Rattle.std.proofs.lemmas.Bool.{cases_lt}
-use Rattle.std.proofs.lemmas.Int.{ints, quot-rem, to_z-of_z}
+use Rattle.std.proofs.lemmas.Int.{ints, quot-rem, to_z-of_z, quot_is, quot_fits}
 use Rattle.std.proofs.Math.Nat.{mul-mod_left}
 use Rattle.scaled_decimal.specs.laws.IntegerLemmas.{times_assoc, times_swap, times_cancel}
 use Rattle.scaled_decimal.specs.Decimals.{Decimal, decimal, numerator_of, scale_of, ten_to}
@@ -11,7 +11,7 @@ use Rattle.scaled_decimal.specs.ExactQuotients.{Divides, IsExactQuotient}
 use Rattle.scaled_decimal.specs.WorkingNumbers.{IsDivisorPlaces, ExactQuotientFits}
 use Rattle.scaled_decimal.specs.Shortening.{IsShortened}
 use Rattle.scaled_decimal.specs.Limits.{IsWithinLimit}
-use Rattle.scaled_decimal.proofs.MachineLemmas.{held, quotient_is}
+use Rattle.scaled_decimal.proofs.MachineLemmas.{held}
 use Rattle.scaled_decimal.proofs.PowerLemmas.{ten_add, ten_some}
 
 -- a number times two powers
@@ -115,7 +115,7 @@ worked a d n p k fn fp fd same power positive at fits =
     let places = rw (to_z-of_z w128 d fd) at at in
     record {
       places = places;
-      product = rw (to_z-of_z w128 n fn, quotient_is p d fp fd (above_zero d positive)) refl;
+      product = rw (to_z-of_z w128 n fn, quot_is w128 p d fp fd (quot_fits w128 p d fp (above_zero d positive))) refl;
       kept = scaled_kept a d n p k same power positive places fits;
       factor = factor_times d p k positive power places.divides;
     }

@@ -1,4 +1,4 @@
-ghost use Rattle.std.specs.Prelude.{◌≡◌, ◌≢◌, ◌≤◌, pos, ◌<ℤ◌};
+ghost use Rattle.std.specs.Prelude.{◌≡◌, ◌≢◌, ◌≤◌, pos, ◌<ℤ◌, int_div};
 ghost use Rattle.scaled_decimal.specs.Rounding.{Rounds, RoundsPositive, EachQuotientHasOneRounding};
 ghost use Rattle.scaled_decimal.specs.RoundingDecision.{moves_away};
 ghost use Rattle.scaled_decimal.specs.Limits.{IsWithinLimit};
@@ -42,7 +42,7 @@ fn round_by_positive(n: i128, d: i128, mode: Mode) -> i128
     requires divisor { IsWithinLimit d }
     ensures { RoundsPositive mode n d result }
 {
-    let towards_zero = n / d;
+    let towards_zero = cut_quotient(n, d);
     let rest = (n - towards_zero * d).unsigned_abs();
     let odd = towards_zero.unsigned_abs() % 2 == 1;
     if rest == 0 {
@@ -55,6 +55,18 @@ fn round_by_positive(n: i128, d: i128, mode: Mode) -> i128
         towards_zero - 1
     } else {
         towards_zero + 1
+    }
+}
+
+/// The quotient, cut towards zero. Numbers of 64 bits, as most are, are divided as such, which is several times faster.
+fn cut_quotient(n: i128, d: i128) -> i128
+    requires positive { pos 0 <ℤ d }
+    requires dividend { IsWithinLimit n }
+    ensures { result ≡ int_div n d }
+{
+    match (i64::try_from(n), i64::try_from(d)) {
+        (Ok(short), Ok(divisor)) => i128::from(short / divisor),
+        _ => n / d,
     }
 }
 
