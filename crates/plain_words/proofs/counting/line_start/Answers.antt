@@ -10,7 +10,7 @@ last_line_from : (bytes : List ℕ) (n : ℕ) → n ≤ length bytes
     → (0 < n → is_line_feed (get_or bytes (n - 1) 0) ≡ true) → drop n bytes ≡ after_last is_line_feed bytes
 last_line_from bytes n within none last =
     let behind : suffix_len (λ b. not (is_line_feed b)) bytes ≡ length bytes - n =
-        suffix_len_is _ bytes n 0 within (λ k above below. ap not (none k above below)) (λ some. ap not (last some)) in
+    suffix_len_is _ bytes n 0 within (λ k above below. ap not (none k above below)) (λ some. ap not (last some)) in
     let front : n ≡ length bytes - (length bytes - n) = omega arith in
     ap (λ m. drop m bytes) front ∙ ap (λ m. drop (length bytes - m) bytes) (sym behind)
 
