@@ -1,7 +1,7 @@
 //! What is wrong with the elements of a plan's file.
 use crate::position;
 use crate::quotes::quoted;
-use crate::tags::{Tags, letters, start_tag};
+use crate::tags::{Group, Tags, letters, start_tag};
 use pap_reader::{ReadFault, Which};
 use std::alloc::{AllocError, Global};
 
@@ -173,10 +173,10 @@ fn many_words(alloc: Global, plan: &[u8], which: Which) -> Result<String, AllocE
 /// Where the first tag stands that is one too many, for what is counted over the whole file.
 fn excess_tag(plan: &[u8], which: Which) -> Option<usize> {
     match which {
-        Which::Inputs => start_tag(plan, 0, Tags::Input, 256),
-        Which::Outputs => start_tag(plan, 0, Tags::Output, 256),
-        Which::Internals => start_tag(plan, 0, Tags::Internal, 1024),
-        Which::Constants => start_tag(plan, 0, Tags::Constant, 512),
+        Which::Inputs => start_tag(plan, 0, Tags::Declaration(Group::Input), 256),
+        Which::Outputs => start_tag(plan, 0, Tags::Declaration(Group::Output), 256),
+        Which::Internals => start_tag(plan, 0, Tags::Declaration(Group::Internal), 1024),
+        Which::Constants => start_tag(plan, 0, Tags::Declaration(Group::Constant), 512),
         Which::Methods => start_tag(plan, 0, Tags::Method, 256),
         Which::Statements => start_tag(plan, 0, Tags::Statement, 20_000),
         Which::Bytes | Which::Depth => None,

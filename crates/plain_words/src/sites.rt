@@ -3,7 +3,7 @@ use crate::ordinal::Ordinal;
 use crate::position;
 use crate::quotes::quoted;
 use crate::statements::{expression_text, statement_in};
-use crate::tags::{Tags, start_tag};
+use crate::tags::{Group, Tags, start_tag};
 use pap_reader::{Elements, RawDeclared, RawStmt};
 use pap_tree::Name;
 use std::alloc::{AllocError, Global};
@@ -108,45 +108,49 @@ fn tag_words(alloc: Global, statement: &RawStmt, at: usize) -> Result<String, Al
 #[derive(Clone, Copy)]
 pub(crate) struct DeclaredSite<'a> {
     pub declared: &'a RawDeclared,
-    pub tags: Tags,
+    pub group: Group,
     pub number: usize,
 }
 
 /// The declarations of a kind.
-fn declarations_of(elements: &Elements, tags: Tags) -> &[RawDeclared] {
-    match tags {
-        Tags::Input => &elements.inputs,
-        Tags::Output => &elements.outputs,
-        Tags::Internal => &elements.internals,
-        Tags::Constant => &elements.constants,
-        Tags::Main | Tags::Method | Tags::Statement | Tags::If => &[],
+fn declarations_of(elements: &Elements, group: Group) -> &[RawDeclared] {
+    match group {
+        Group::Input => &elements.inputs,
+        Group::Output => &elements.outputs,
+        Group::Internal => &elements.internals,
+        Group::Constant => &elements.constants,
     }
 }
 
 /// The kinds of declarations, in the order in which they are read.
-const DECLARING: [Tags; 4] = [Tags::Input, Tags::Output, Tags::Internal, Tags::Constant];
+const GROUPS: [Group; 4] = [
+    Group::Input,
+    Group::Output,
+    Group::Internal,
+    Group::Constant,
+];
 
 /// The first declaration of a name.
 pub(crate) fn declaration_of<'a>(source: Source<'a>, name: &Name) -> Option<DeclaredSite<'a>> {
-    DECLARING
+    GROUPS
         .iter()
-        .find_map(|tags| declaration_among(source, *tags, 0, name))
+        .find_map(|group| declaration_among(source, *group, 0, name))
 }
 
 /// The first declaration of a name among those of a kind, from a number on.
 fn declaration_among<'a>(
     source: Source<'a>,
-    tags: Tags,
+    group: Group,
     from: usize,
     name: &Name,
 ) -> Option<DeclaredSite<'a>> {
-    let declarations = declarations_of(source.elements, tags);
+    let declarations = declarations_of(source.elements, group);
     for number in from..declarations.len() {
         let declared = &declarations[number];
         if declared.name == *name {
             return Some(DeclaredSite {
                 declared,
-                tags,
+                group,
                 number,
             });
         }
@@ -158,10 +162,10 @@ fn declaration_among<'a>(
 fn next_declaration<'a>(source: Source<'a>, site: DeclaredSite<'a>) -> Option<DeclaredSite<'a>> {
     let mut from = site.number.saturating_add(1);
     let mut passed = false;
-    for tags in DECLARING {
-        passed = passed || tags == site.tags;
+    for group in GROUPS {
+        passed = passed || group == site.group;
         if passed {
-            let next = declaration_among(source, tags, from, &site.declared.name);
+            let next = declaration_among(source, group, from, &site.declared.name);
             if next.is_some() {
                 return next;
             }
@@ -171,7 +175,7 @@ fn next_declaration<'a>(source: Source<'a>, site: DeclaredSite<'a>) -> Option<De
     None
 }
 
-/// The first two places where a name is declared, or else where two methods have it.
+/// The first two places where a name is declared, or else those of the first and the last method that has it.
 pub(crate) fn repeated_words(
     alloc: Global,
     source: Source<'_>,
@@ -188,7 +192,7 @@ pub(crate) fn repeated_words(
     repeated_methods(alloc, source, name)
 }
 
-/// The first two methods of a name, of which MAIN may be one.
+/// The first and the last method of a name, of which MAIN may be the first.
 fn repeated_methods(
     alloc: Global,
     source: Source<'_>,
@@ -216,22 +220,9 @@ pub(crate) fn declaration_words(
     source: Source<'_>,
     site: DeclaredSite<'_>,
 ) -> Result<String, AllocError> {
-    let tag = start_tag(source.file, 0, site.tags, site.number);
+    let tag = start_tag(source.file, 0, Tags::Declaration(site.group), site.number);
     let line = line_words(alloc, line_at(source, tag))?;
-    let element = element_of(site.tags);
+    let element = site.group.element();
     let name = site.declared.name;
     format!(in alloc; "{line}, the {element} {name}")
-}
-
-fn element_of(tags: Tags) -> &'static str {
-    match tags {
-        Tags::Input => "INPUT",
-        Tags::Output => "OUTPUT",
-        Tags::Internal => "INTERNAL",
-        Tags::Constant => "CONSTANT",
-        Tags::Main => "MAIN",
-        Tags::Method => "METHOD",
-        Tags::Statement => "statement",
-        Tags::If => "IF",
-    }
 }

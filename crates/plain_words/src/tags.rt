@@ -1,31 +1,43 @@
 //! The start tags of a plan's file, by their kind and number.
 
-/// Which start tags are looked for.
+/// What a declaration declares.
 #[derive(Clone, Copy, PartialEq, Eq)]
-pub(crate) enum Tags {
+pub(crate) enum Group {
     Input,
     Output,
     Internal,
     Constant,
+}
+
+impl Group {
+    /// The name of its elements.
+    pub(crate) fn element(self) -> &'static str {
+        match self {
+            Group::Input => "INPUT",
+            Group::Output => "OUTPUT",
+            Group::Internal => "INTERNAL",
+            Group::Constant => "CONSTANT",
+        }
+    }
+}
+
+/// Which start tags are looked for.
+#[derive(Clone, Copy)]
+pub(crate) enum Tags {
+    Declaration(Group),
     Main,
     Method,
     /// EVAL, EXECUTE and IF.
     Statement,
-    /// IF alone.
-    If,
 }
 
 impl Tags {
     /// Whether an element of this name is one.
     fn has(self, name: &[u8]) -> bool {
         match self {
-            Tags::Input => name == b"INPUT".as_slice(),
-            Tags::Output => name == b"OUTPUT".as_slice(),
-            Tags::Internal => name == b"INTERNAL".as_slice(),
-            Tags::Constant => name == b"CONSTANT".as_slice(),
+            Tags::Declaration(group) => name == group.element().as_bytes(),
             Tags::Main => name == b"MAIN".as_slice(),
             Tags::Method => name == b"METHOD".as_slice(),
-            Tags::If => name == b"IF".as_slice(),
             Tags::Statement => {
                 name == b"EVAL".as_slice()
                     || name == b"EXECUTE".as_slice()
