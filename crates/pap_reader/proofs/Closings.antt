@@ -1,5 +1,5 @@
 -- What a closed element makes of its parent and of the plan.
-use Rattle.std.proofs.Common.{◌≡◌, ℕ, Option, None, List, [], ◌∷◌, ◌++◌, map, Vec, Global, refl, sym, ap, subst, ◌∙◌}
+use Rattle.std.proofs.Common.{◌≡◌, ℕ, true, false, Option, None, List, [], ◌∷◌, ◌++◌, map, Vec, Global, refl, sym, ap, subst, ◌∙◌}
 use Rattle.std.proofs.lemmas.List.{append-nil}
 use mathlib.Core.Former.{Count}
 use Rattle.pap_reader.specs.declared.element.Element.{Element}
@@ -13,9 +13,9 @@ use Rattle.pap_reader.specs.Trees.{RawBody, done, branch, raw_declaration_of, ra
 use Rattle.pap_reader.specs.Meaning.{join, Piece, both, adds, says, later, or_done}
 use Rattle.pap_reader.specs.declared.attributes.TagValue.{TagValue}
 use Rattle.pap_reader.specs.declared.attributes.TagValue.TheVariants.{Text, Named}
-use Rattle.pap_reader.specs.Views.{IsValueOf, IsText, IsNamed}
+use Rattle.pap_reader.specs.Views.{is_in_body, IsValueOf, IsText, IsNamed}
 use Rattle.pap_reader.proofs.Pieces.{join-done}
-use Rattle.pap_reader.specs.ReaderViews.{ShowsPiece, ShowsPlan, Closed}
+use Rattle.pap_reader.specs.ReaderViews.{ShowsPiece, ShowsPlan, ClosedInBody, ClosedInPlan, Closed}
 
 -- ---- lists of statements
 
@@ -98,23 +98,20 @@ pub record SamePart (r after : OpenElement) : Type 0 where
   pub value : after.value ≡ r.value
 
 -- what holds at one of the elements
-at_arm : (child r after : OpenElement) (x y : Elements) (f : Element) → SamePart r after
+pub body_arm : (child r after : OpenElement) (e f : Element) → e ≡ f → SamePart r after
     → ((attributes : List Attribute) (p : Piece) → IsValueOf f attributes child.value → ShowsPiece child p → MorePiece r after (says f attributes p))
-    → ((attributes : List Attribute) (p : Piece) → IsValueOf f attributes child.value → ShowsPiece child p → MorePlan x y (adds f attributes p))
-    → Closed f child r after x y
-at_arm child r after x y f same h k = record {
+    → ClosedInBody e child r after
+body_arm child r after e f is same h = subst (λ z. ClosedInBody z child r after) (sym is) (record {
   element = same.element;
   children = same.children;
   value = same.value;
   piece = λ attributes p v s a b. more_piece r after v (says f attributes p) (h attributes p s a) b;
-  plan = λ attributes p q s a b. more_plan x y q (adds f attributes p) (k attributes p s a) b;
-}
+})
 
-pub arm : (child r after : OpenElement) (x y : Elements) (e f : Element) → e ≡ f → SamePart r after
-    → ((attributes : List Attribute) (p : Piece) → IsValueOf f attributes child.value → ShowsPiece child p → MorePiece r after (says f attributes p))
+pub plan_arm : (child : OpenElement) (x y : Elements) (e f : Element) → e ≡ f
     → ((attributes : List Attribute) (p : Piece) → IsValueOf f attributes child.value → ShowsPiece child p → MorePlan x y (adds f attributes p))
-    → Closed e child r after x y
-arm child r after x y e f is same h k = subst (λ z. Closed z child r after x y) (sym is) (at_arm child r after x y f same h k)
+    → ClosedInPlan e child x y
+plan_arm child x y e f is k = subst (λ z. ClosedInPlan z child x y) (sym is) (λ attributes p q s a b. more_plan x y q (adds f attributes p) (k attributes p s a) b)
 
 pub as_it_was : (r : OpenElement) → SamePart r r
 as_it_was r = record { element = refl; children = refl; value = refl }
@@ -158,36 +155,59 @@ pub map_one : {A B : Type 0} (f : A → B) (xs : List A) (x : A) → map f (xs +
 map_one f [] x = refl
 map_one f (y ∷ xs) x = ap (λ l. f y ∷ l) (map_one f xs x)
 
--- each other element says what stands in it
-pub arm_other : (child r : OpenElement) (x : Elements) (e : Element)
+-- an element that stands in no body leaves its parent as it was
+same_body : (child r : OpenElement) (f : Element) → ((attributes : List Attribute) (p : Piece) → MorePiece r r (says f attributes p)) → ClosedInBody f child r r
+same_body child r f h = body_arm child r r f f refl (as_it_was r) (λ attributes p s k. h attributes p)
+
+pub body_kept : (child r : OpenElement) (e : Element)
+    → (e ≡ elements.Eval → ⊥)
+    → (e ≡ elements.Execute → ⊥)
+    → (e ≡ elements.If → ⊥)
+    → (e ≡ elements.Then → ⊥)
+    → (e ≡ elements.Else → ⊥)
+    → ClosedInBody e child r r
+body_kept child r elements.Eval a b c d f = absurd (a refl)
+body_kept child r elements.Execute a b c d f = absurd (b refl)
+body_kept child r elements.If a b c d f = absurd (c refl)
+body_kept child r elements.Then a b c d f = absurd (d refl)
+body_kept child r elements.Else a b c d f = absurd (f refl)
+body_kept child r e a b c d f = same_body child r e (λ attributes p. piece_same r (says e attributes p) refl refl refl)
+
+-- an element that stands in a body, or has no meaning of its own, leaves the plan as it was
+same_plan : (child : OpenElement) (x : Elements) (f : Element) → ((attributes : List Attribute) (p : Piece) → MorePlan x x (adds f attributes p)) → ClosedInPlan f child x x
+same_plan child x f h = plan_arm child x x f f refl (λ attributes p s k. h attributes p)
+
+pub plan_kept : (child : OpenElement) (x : Elements) (e : Element)
     → (e ≡ elements.Input → ⊥)
     → (e ≡ elements.Output → ⊥)
     → (e ≡ elements.Internal → ⊥)
     → (e ≡ elements.Constant → ⊥)
     → (e ≡ elements.Main → ⊥)
     → (e ≡ elements.Method → ⊥)
-    → (e ≡ elements.Eval → ⊥)
-    → (e ≡ elements.Execute → ⊥)
-    → (e ≡ elements.If → ⊥)
-    → (e ≡ elements.Then → ⊥)
-    → (e ≡ elements.Else → ⊥)
-    → Closed e child r r x x
-arm_other child r x elements.Pap a b c d f g h i j k l = at_arm child r r x x elements.Pap (as_it_was r) (λ attributes p s m. piece_same r (says elements.Pap attributes p) refl refl refl) (λ attributes p s m. plan_same x (adds elements.Pap attributes p) refl refl refl refl refl refl)
-arm_other child r x elements.Interface a b c d f g h i j k l = at_arm child r r x x elements.Interface (as_it_was r) (λ attributes p s m. piece_same r (says elements.Interface attributes p) refl refl refl) (λ attributes p s m. plan_same x (adds elements.Interface attributes p) refl refl refl refl refl refl)
-arm_other child r x elements.Variables a b c d f g h i j k l = at_arm child r r x x elements.Variables (as_it_was r) (λ attributes p s m. piece_same r (says elements.Variables attributes p) refl refl refl) (λ attributes p s m. plan_same x (adds elements.Variables attributes p) refl refl refl refl refl refl)
-arm_other child r x elements.Inputs a b c d f g h i j k l = at_arm child r r x x elements.Inputs (as_it_was r) (λ attributes p s m. piece_same r (says elements.Inputs attributes p) refl refl refl) (λ attributes p s m. plan_same x (adds elements.Inputs attributes p) refl refl refl refl refl refl)
-arm_other child r x elements.Outputs a b c d f g h i j k l = at_arm child r r x x elements.Outputs (as_it_was r) (λ attributes p s m. piece_same r (says elements.Outputs attributes p) refl refl refl) (λ attributes p s m. plan_same x (adds elements.Outputs attributes p) refl refl refl refl refl refl)
-arm_other child r x elements.Internals a b c d f g h i j k l = at_arm child r r x x elements.Internals (as_it_was r) (λ attributes p s m. piece_same r (says elements.Internals attributes p) refl refl refl) (λ attributes p s m. plan_same x (adds elements.Internals attributes p) refl refl refl refl refl refl)
-arm_other child r x elements.Constants a b c d f g h i j k l = at_arm child r r x x elements.Constants (as_it_was r) (λ attributes p s m. piece_same r (says elements.Constants attributes p) refl refl refl) (λ attributes p s m. plan_same x (adds elements.Constants attributes p) refl refl refl refl refl refl)
-arm_other child r x elements.Input a b c d f g h i j k l = absurd (a refl)
-arm_other child r x elements.Output a b c d f g h i j k l = absurd (b refl)
-arm_other child r x elements.Internal a b c d f g h i j k l = absurd (c refl)
-arm_other child r x elements.Constant a b c d f g h i j k l = absurd (d refl)
-arm_other child r x elements.Methods a b c d f g h i j k l = at_arm child r r x x elements.Methods (as_it_was r) (λ attributes p s m. piece_same r (says elements.Methods attributes p) refl refl refl) (λ attributes p s m. plan_same x (adds elements.Methods attributes p) refl refl refl refl refl refl)
-arm_other child r x elements.Main a b c d f g h i j k l = absurd (f refl)
-arm_other child r x elements.Method a b c d f g h i j k l = absurd (g refl)
-arm_other child r x elements.Eval a b c d f g h i j k l = absurd (h refl)
-arm_other child r x elements.Execute a b c d f g h i j k l = absurd (i refl)
-arm_other child r x elements.If a b c d f g h i j k l = absurd (j refl)
-arm_other child r x elements.Then a b c d f g h i j k l = absurd (k refl)
-arm_other child r x elements.Else a b c d f g h i j k l = absurd (l refl)
+    → ClosedInPlan e child x x
+plan_kept child x elements.Input a b c d f g = absurd (a refl)
+plan_kept child x elements.Output a b c d f g = absurd (b refl)
+plan_kept child x elements.Internal a b c d f g = absurd (c refl)
+plan_kept child x elements.Constant a b c d f g = absurd (d refl)
+plan_kept child x elements.Main a b c d f g = absurd (f refl)
+plan_kept child x elements.Method a b c d f g = absurd (g refl)
+plan_kept child x e a b c d f g = same_plan child x e (λ attributes p. plan_same x (adds e attributes p) refl refl refl refl refl refl)
+
+-- the parent and the plan together
+pub closed_in_body : (child r after : OpenElement) (x : Elements) (e : Element) → is_in_body e ≡ true → ClosedInBody e child r after → Closed e child r after x x
+closed_in_body child r after x e is h = record {
+  body = h;
+  plan = plan_kept child x e (apart elements.Input refl) (apart elements.Output refl) (apart elements.Internal refl) (apart elements.Constant refl) (apart elements.Main refl) (apart elements.Method refl);
+}
+  where
+    apart : (f : Element) → is_in_body f ≡ false → e ≡ f → ⊥
+    apart f aside same = let inside : is_in_body f ≡ true = ap is_in_body (sym same) ∙ is in absurd (cc)
+
+pub closed_in_plan : (child r : OpenElement) (x y : Elements) (e : Element) → is_in_body e ≡ false → ClosedInPlan e child x y → Closed e child r r x y
+closed_in_plan child r x y e is h = record {
+  body = body_kept child r e (apart elements.Eval refl) (apart elements.Execute refl) (apart elements.If refl) (apart elements.Then refl) (apart elements.Else refl);
+  plan = h;
+}
+  where
+    apart : (f : Element) → is_in_body f ≡ true → e ≡ f → ⊥
+    apart f inside same = let aside : is_in_body f ≡ false = ap is_in_body (sym same) ∙ is in absurd (cc)

@@ -292,10 +292,10 @@ close_two top parent after rs x y before o u os w v ws e t c a b r p =
       stepped = ap (λ z. if z then Some (u ∷ os) else None) t;
       parts = (
         record {
-          inside = c.element ∙ b.inside;
-          children = subst (λ z. HasFlags z.stands u.children) (sym c.children) b.children;
-          value = subst (IsValueIn u.inside v.attributes) (sym c.value) b.value;
-          piece = c.piece w.attributes w.piece v.piece s a.piece b.piece;
+          inside = c.body.element ∙ b.inside;
+          children = subst (λ z. HasFlags z.stands u.children) (sym c.body.children) b.children;
+          value = subst (IsValueIn u.inside v.attributes) (sym c.body.value) b.value;
+          piece = c.body.piece w.attributes w.piece v.piece s a.piece b.piece;
         },
         r,
       );

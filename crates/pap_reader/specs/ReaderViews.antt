@@ -45,17 +45,26 @@ pub record ShowsOpen (r : OpenElement) (o : Open) (w : Work) : Type 0 where
   pub value : IsValueIn o.inside w.attributes r.value
   pub piece : ShowsPiece r w.piece
 
--- What a closed child of that element makes of its parent and of the plan.
-pub record Closed (e : Element) (child parent after : OpenElement) (x y : Elements) : Type 0 where
+-- What a closed child of that element makes of its parent.
+pub record ClosedInBody (e : Element) (child parent after : OpenElement) : Type 0 where
   pub element : after.element ≡ parent.element
   pub children : after.children ≡ parent.children
   pub value : after.value ≡ parent.value
   pub piece : (attributes : List Attribute) (p v : Piece)
       → IsValueOf e attributes child.value → ShowsPiece child p → ShowsPiece parent v
       → ShowsPiece after (both v (says e attributes p))
-  pub plan : (attributes : List Attribute) (p q : Piece)
-      → IsValueOf e attributes child.value → ShowsPiece child p → ShowsPlan x q
-      → ShowsPlan y (both q (adds e attributes p))
+
+-- What it makes of the plan.
+abbrev pub ClosedInPlan : Element → OpenElement → Elements → Elements → Type 0
+ClosedInPlan e child x y =
+    (attributes : List Attribute) (p q : Piece)
+    → IsValueOf e attributes child.value → ShowsPiece child p → ShowsPlan x q
+    → ShowsPlan y (both q (adds e attributes p))
+
+-- Both.
+pub record Closed (e : Element) (child parent after : OpenElement) (x y : Elements) : Type 0 where
+  pub body : ClosedInBody e child parent after
+  pub plan : ClosedInPlan e child x y
 
 -- ---- the whole reader
 

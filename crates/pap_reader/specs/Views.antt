@@ -3,7 +3,7 @@ use Rattle.std.specs.Prelude.{◌≡◌, ℕ, ◌+◌, ◌<◌, ◌^◌, ◌⊎�
 use Rattle.pap_tree.specs.White.{is_white}
 use Rattle.pap_tree.specs.declared.declaration.Kind.{Kind}
 use Rattle.pap_reader.specs.declared.element.Element.{Element}
-use Rattle.pap_reader.specs.declared.element.Element.TheVariants.{Input, Output, Internal, Constant, Method, Eval, Execute, If}
+use Rattle.pap_reader.specs.declared.element.Element.TheVariants.{Input, Output, Internal, Constant, Method, Eval, Execute, If, Then, Else}
 use Rattle.pap_reader.specs.declared.element.Children.{Children}
 use Rattle.pap_reader.specs.declared.counts.Counts.{Counts}
 use Rattle.pap_reader.specs.declared.fault.Which.TheVariants as which
@@ -142,6 +142,15 @@ declares kinds attributes =
     && is_met_by (a_type kinds) (value_of (codes "type") attributes)
 
 -- ---- children and counts
+
+-- what stands in a body: a statement, or a branch of an IF
+abbrev pub is_in_body : Element → Bool
+is_in_body Eval = true
+is_in_body Execute = true
+is_in_body If = true
+is_in_body Then = true
+is_in_body Else = true
+is_in_body _ = false
 
 -- the flags say which elements are among the children
 pub record HasFlags (flags : List Bool) (children : List Element) : Type 0 where

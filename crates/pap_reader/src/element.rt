@@ -3,7 +3,7 @@
 ghost use Rattle.std.specs.Prelude.{◌≡◌, ◌<◌, List, ◌∷◌, [], ◌++◌};
 ghost use Rattle.pap_reader.specs.Table.{number, has, may_stand, is_complete};
 ghost use Rattle.pap_reader.specs.Marks.{element_of, declaring_element, running_element};
-ghost use Rattle.pap_reader.specs.Views.{HasFlags, AddsChild};
+ghost use Rattle.pap_reader.specs.Views.{is_in_body, HasFlags, AddsChild};
 ghost use Rattle.pap_reader.specs.declared.element.Element.{Element as Kind};
 
 /// The elements of a plan's file.
@@ -101,6 +101,16 @@ impl Element {
             Some(Element::Else)
         } else {
             None
+        }
+    }
+
+    /// Whether it stands in a body: a statement, or a branch of an IF.
+    pub(crate) fn is_in_body(self) -> bool
+        ensures { result ≡ is_in_body self }
+    {
+        match self {
+            Element::Eval | Element::Execute | Element::If | Element::Then | Element::Else => true,
+            _ => false,
         }
     }
 

@@ -10,7 +10,7 @@ ghost use Rattle.pap_reader.specs.Trees.{raw_declaration_of};
 ghost use Rattle.pap_reader.specs.Meaning.{declared};
 ghost use Rattle.pap_reader.specs.VerdictDecisions.{Work, begun, ending};
 ghost use Rattle.pap_reader.specs.Views.{attributes_of, tag_of, DeclaresOf};
-ghost use Rattle.pap_reader.specs.ReaderViews.{ShowsOpen, Closed, Stands, IsFresh, BeginsElement, EndsElement, TakesMarks, Gives};
+ghost use Rattle.pap_reader.specs.ReaderViews.{ShowsOpen, Closed, ClosedInBody, ClosedInPlan, Stands, IsFresh, BeginsElement, EndsElement, TakesMarks, Gives};
 
 use crate::attributes::{TagValue, read_attributes};
 use crate::counts::Counts;
@@ -83,6 +83,21 @@ fn close_in(
 ) -> Result<(), AllocError>
     ensures { OnOk result (Closed element child parent.old parent.new plan.old plan.new) }
 {
+    if element.is_in_body() {
+        close_in_body(element, child, parent)
+    } else {
+        close_in_plan(element, child, plan)
+    }
+}
+
+/// A statement, or a branch of an IF, ends in its parent.
+fn close_in_body(
+    element: Element,
+    child: OpenElement,
+    parent: &mut OpenElement,
+) -> Result<(), AllocError>
+    ensures { OnOk result (ClosedInBody element child parent.old parent.new) }
+{
     let OpenElement {
         value,
         statements,
@@ -91,10 +106,6 @@ fn close_in(
         ..
     } = child;
     match element {
-        Element::Input => declare(&mut plan.inputs, value)?,
-        Element::Output => declare(&mut plan.outputs, value)?,
-        Element::Internal => declare(&mut plan.internals, value)?,
-        Element::Constant => declare(&mut plan.constants, value)?,
         Element::Eval => {
             let TagValue::Text(exec) = value else {
                 return Ok(());
@@ -115,17 +126,43 @@ fn close_in(
         }
         Element::Then => parent.yes = statements,
         Element::Else => parent.no = statements,
-        Element::Main => plan.main = statements,
+        _ => {}
+    }
+    Ok(())
+}
+
+/// A declared name, or a method, ends; what it says goes to the plan.
+fn close_in_plan(
+    element: Element,
+    child: OpenElement,
+    plan: &mut Elements,
+) -> Result<(), AllocError>
+    ensures { OnOk result (ClosedInPlan element child plan.old plan.new) }
+{
+    let OpenElement {
+        value,
+        statements,
+        ..
+    } = child;
+    match element {
+        Element::Input => declare(&mut plan.inputs, value),
+        Element::Output => declare(&mut plan.outputs, value),
+        Element::Internal => declare(&mut plan.internals, value),
+        Element::Constant => declare(&mut plan.constants, value),
+        Element::Main => {
+            plan.main = statements;
+            Ok(())
+        }
         Element::Method => {
             let TagValue::Named(name) = value else {
                 return Ok(());
             };
             let body = statements;
             plan.methods.push(RawMethod { name, body })?;
+            Ok(())
         }
-        _ => {}
+        _ => Ok(()),
     }
-    Ok(())
 }
 
 /// The open elements of a text, and the plan that is read so far.
