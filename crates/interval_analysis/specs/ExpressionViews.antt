@@ -71,15 +71,22 @@ abbrev pub StopsAs : {A : Type 0} → Result A NodeFault → Stop → Type 0
 StopsAs r (At n c) = r ≡ Err (record { node = n; cause = c })
 StopsAs r Memory = ⊤
 
--- what is known of an expression is its range by the definition, its kind, and the number behind its nodes
+-- the definition, from ranges by number
+abbrev pub ranged_in : Walk → Term → ℕ → List Interval → Result Interval NodeFault
+ranged_in w t at rs = ranged (scope_in w.plan.now) t at (ranges_in w.plan.now rs)
+
+abbrev pub tested_in : Walk → Term → ℕ → List Interval → Result meant.Branches NodeFault
+tested_in w t at rs = tested (scope_in w.plan.now) t at (ranges_in w.plan.now rs)
+
+-- what is known of an expression: its range, its kind, and the number behind its nodes
 pub record IsRanged (w : Walk) (t : Term) (at : ℕ) (rs : List Interval) (r : Ranged) : Type 0 where
-  pub range : ranged (scope_in w.plan.now) t at (ranges_in w.plan.now rs) ≡ Ok r.range
+  pub range : ranged_in w t at rs ≡ Ok r.range
   pub kind : r.kind ≡ kind_of (scope_in w.plan.now) t
   pub next : r.next ≡ at + nodes t
 
 abbrev pub RangeAnswer : Walk → Term → ℕ → List Interval → Result Ranged Stop → Type 0
 RangeAnswer w t at rs (Ok r) = IsRanged w t at rs r
-RangeAnswer w t at rs (Err stop) = StopsAs (ranged (scope_in w.plan.now) t at (ranges_in w.plan.now rs)) stop
+RangeAnswer w t at rs (Err stop) = StopsAs (ranged_in w t at rs) stop
 
 -- the same of a node by what its operation answers
 pub record IsOwn (answer : Answer) (k : NodeKind) (at : ℕ) (r : Ranged) : Type 0 where
@@ -99,7 +106,10 @@ abbrev pub second_reached : Walk → List Interval → List Change → meant.Bra
 second_reached w rs failed = record { holds = None; fails = Some (changed_in w rs failed) }
 
 abbrev pub both_reached : Walk → List Interval → List Change → List Change → meant.Branches
-both_reached w rs held failed = record { holds = Some (changed_in w rs held); fails = Some (changed_in w rs failed) }
+both_reached w rs held failed = record {
+  holds = Some (changed_in w rs held);
+  fails = Some (changed_in w rs failed);
+}
 
 -- where the second part of a conditional begins, and where both end
 abbrev pub second_at : Parts → ℕ
@@ -120,7 +130,10 @@ parts_ranged w p br =
     br.fails
 
 abbrev pub parts_kind : Walk → Parts → NodeKind
-parts_kind w p = wider (kind_of (scope_in w.plan.now) (term_of p.first.now)) (kind_of (scope_in w.plan.now) (term_of p.second.now))
+parts_kind w p =
+    wider
+    (kind_of (scope_in w.plan.now) (term_of p.first.now))
+    (kind_of (scope_in w.plan.now) (term_of p.second.now))
 
 pub record ArePartsRanged (w : Walk) (p : Parts) (br : meant.Branches) (r : Ranged) : Type 0 where
   pub range : parts_ranged w p br ≡ Ok r.range
@@ -133,12 +146,12 @@ PartsAnswer w p br (Err stop) = StopsAs (parts_ranged w p br) stop
 
 -- a test's branches by the definition
 pub record IsTested (w : Walk) (t : Term) (at : ℕ) (rs : List Interval) (r : Tested) : Type 0 where
-  pub branches : tested (scope_in w.plan.now) t at (ranges_in w.plan.now rs) ≡ Ok (branches_in w.plan.now rs r.branches)
+  pub branches : tested_in w t at rs ≡ Ok (branches_in w.plan.now rs r.branches)
   pub next : r.next ≡ at + nodes t
 
 abbrev pub TestAnswer : Walk → Term → ℕ → List Interval → Result Tested Stop → Type 0
 TestAnswer w t at rs (Ok r) = IsTested w t at rs r
-TestAnswer w t at rs (Err stop) = StopsAs (tested (scope_in w.plan.now) t at (ranges_in w.plan.now rs)) stop
+TestAnswer w t at rs (Err stop) = StopsAs (tested_in w t at rs) stop
 
 -- those of a right side, where the left one leads there
 abbrev pub reached_in : Walk → Term → ℕ → Option Ranges → Result meant.Branches NodeFault

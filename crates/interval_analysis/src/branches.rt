@@ -1,5 +1,5 @@
 //! What a test leaves of the ranges of the variables.
-ghost use Rattle.std.specs.Prelude.{◌≡◌, [], ◌++◌, Some, None, IfOk, length, if◌then◌else◌};
+ghost use Rattle.std.specs.Prelude.{◌≡◌, [], Some, None, IfOk, length, if◌then◌else◌};
 ghost use Rattle.std.specs.Option.{option_map};
 ghost use Rattle.interval_analysis.specs.Changes.{AreBehind, changed};
 
@@ -52,19 +52,6 @@ pub(crate) fn unchanged_if(alloc: Global, wanted: bool) -> Option<Vec<Change>>
     if wanted { Some(Vec::new(alloc)) } else { None }
 }
 
-/// Further changes behind some.
-pub(crate) fn appended(
-    mut changes: Vec<Change>,
-    further: Vec<Change>,
-) -> Result<Vec<Change>, AllocError>
-    ensures { IfOk result (λ all. all.items ≡ changes.items ++ further.items) }
-{
-    for change in &further {
-        changes.push(*change)?;
-    }
-    Ok(changes)
-}
-
 /// Further changes where a part behind a test holds or fails, behind those of the test.
 pub(crate) fn behind(
     alloc: Global,
@@ -76,5 +63,7 @@ pub(crate) fn behind(
     let Some(further) = further else {
         return Ok(None);
     };
-    Ok(Some(appended(changes.to_vec(alloc)?, further)?))
+    let mut all = changes.to_vec(alloc)?;
+    all.extend_from_slice(&further)?;
+    Ok(Some(all))
 }

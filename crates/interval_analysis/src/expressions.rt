@@ -1,7 +1,6 @@
 //! The ranges of expressions, and what tests leave of the ranges of the variables.
-ghost use Rattle.std.specs.Prelude.{◌≡◌, ◌+◌, ◌<◌, ◌^◌, Ok, MatchOption};
+ghost use Rattle.std.specs.Prelude.{◌≡◌, ◌+◌, ◌<◌, ◌^◌, MatchOption};
 ghost use Rattle.pap_tree.specs.Term.{term_of, leaf, named, item, unary, value_of, value_of_scaled, new_big, set_scale, operator, method, divide};
-ghost use Rattle.pap_tree.specs.Numbering.{nodes};
 ghost use Rattle.pap_tree.specs.declared.expression.Binary.{Binary};
 ghost use Rattle.pap_tree.specs.declared.expression.Unary.{Unary};
 ghost use Rattle.interval_num.specs.declared.cause.RangeCause.TheVariants.{Wide};

@@ -1,5 +1,5 @@
 //! What the names of a plan stand for.
-ghost use Rattle.std.specs.Prelude.{◌≡◌, ◌≤◌, slice_get, Some, IsTrue, pos, int_rem};
+ghost use Rattle.std.specs.Prelude.{◌≡◌, slice_get, Some, IsTrue, pos, int_rem};
 ghost use Rattle.std.specs.Ordering.{int_eq};
 ghost use Rattle.std.specs.Option.{option_map};
 ghost use Rattle.scaled_decimal.specs.ShortenedDecimals.{shortened};

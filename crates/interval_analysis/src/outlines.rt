@@ -1,8 +1,7 @@
 //! The kinds and the numbers of nodes of parts that aren't walked.
 ghost use Rattle.std.specs.Prelude.{◌≡◌, ◌+◌, ◌<◌, ◌^◌};
-ghost use Rattle.pap_tree.specs.Term.{Term, term_of};
+ghost use Rattle.pap_tree.specs.Term.{term_of};
 ghost use Rattle.pap_tree.specs.Numbering.{nodes};
-ghost use Rattle.pap_types.specs.Kinds.{kind_of};
 ghost use Rattle.interval_analysis.specs.OutlineViews.{IsOutline, AreOutlines};
 
 use pap_tree::Expr;

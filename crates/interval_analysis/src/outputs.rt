@@ -1,7 +1,5 @@
 //! The ranges of the outputs.
-ghost use Rattle.std.specs.Prelude.{◌≡◌, ◌≤◌, ◌<◌, ◌-◌, ◌*ℤ◌, length, take, drop, slice_index, slice_get, Some};
-ghost use Rattle.scaled_decimal.specs.Decimals.{ten_to};
-ghost use Rattle.interval_num.specs.Intervals.{Interval};
+ghost use Rattle.std.specs.Prelude.{◌≡◌, ◌*ℤ◌, length};
 ghost use Rattle.range_walk.specs.Analysis.{is_bounded, is_small};
 ghost use Rattle.interval_analysis.specs.PlanViews.{IsSized};
 ghost use Rattle.interval_analysis.specs.OutputViews.{OutputAnswer, bounded_outputs, outputs_in};

@@ -1,5 +1,5 @@
 //! The ranges with which the walk of MAIN begins.
-ghost use Rattle.std.specs.Prelude.{◌≡◌, ◌≤◌, ◌++◌, IfOk, OnOk, map};
+ghost use Rattle.std.specs.Prelude.{◌≡◌, ◌≤◌, ◌++◌, IfOk, OnOk};
 ghost use Rattle.std.specs.List.{All};
 ghost use Rattle.scaled_decimal.specs.Decimals.{scale_of, numerator_at};
 ghost use Rattle.scaled_decimal.specs.Limits.{IsWithinLimit, most_places};

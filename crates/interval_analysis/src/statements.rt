@@ -1,5 +1,5 @@
 //! The walk of statements.
-ghost use Rattle.std.specs.Prelude.{◌≡◌, ◌+◌, IfSome, slice_get};
+ghost use Rattle.std.specs.Prelude.{◌≡◌, IfSome, slice_get};
 ghost use Rattle.std.specs.Option.{option_map};
 ghost use Rattle.pap_tree.specs.Flowchart.{routine_of, body_of, stmt_then, done};
 ghost use Rattle.pap_types.specs.Checks.{place};
