@@ -155,7 +155,8 @@ fn split_word(bytes: &[u8]) -> (&[u8], &[u8])
 
 /// The byte that an escape stands for, and what is left.
 fn read_escape(bytes: &[u8]) -> Option<(u8, &[u8])>
-    ensures found { MatchOption result (NoFoundEscape bytes.now) (λ r. FoundEscape bytes.now r.0 r.1.now) }
+    ensures found { MatchOption result (NoFoundEscape bytes.now)
+        (λ r. FoundEscape bytes.now r.0 r.1.now) }
     ensures shorter { IfSome result (λ r. length r.1.now < length bytes.now) }
 {
     let (word, rest) = split_word(after_byte(bytes, b'&')?);

@@ -84,7 +84,8 @@ fn name_method(names: &mut IndexSet<Name>, name: Name) -> Result<(), TypeFault>
 /// Whether a declaration's literal, where one is written, is of its type.
 fn has_its_type(declared: &Declared) -> bool
     ensures { result
-        ≡ option_map_or (is_of_type declared.now.kind) (option_map declared_of declared.now.value) true }
+        ≡ option_map_or (is_of_type declared.now.kind)
+        (option_map declared_of declared.now.value) true }
 {
     match &declared.value {
         Some(literal) => is_of_type(declared.kind, literal),

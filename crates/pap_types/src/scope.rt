@@ -116,7 +116,8 @@ impl<'a> Scope<'a> {
     pub fn shows_plain_divisor(&self, divisor: &Expr) -> bool
         requires { IsNumbered self.now.plan.now self.now.names.now }
         ensures { result
-            ≡ shows_plain_divisor (scope_of (flowchart_of self.now.plan.now)) (term_of divisor.now) }
+            ≡ shows_plain_divisor (scope_of (flowchart_of self.now.plan.now))
+            (term_of divisor.now) }
     {
         match self.shown_divisor(divisor) {
             Some(number) => is_plain_divisor(number),
