@@ -235,7 +235,8 @@ impl Walk<'_> {
         requires walk { CanWalkLists self.now spot fork.now }
         requires sized { IsSized self.now.plan.now ranges.old }
         requires others { IsSized self.now.plan.now others.old }
-        ensures { Passes (through_both self.now spot fork.now ranges.old others.old) ranges.new result }
+        ensures { Passes (through_both self.now spot fork.now ranges.old others.old)
+            ranges.new result }
     {
         let at = spot.at;
         let first = Spot { at: at + 1, ..spot };
