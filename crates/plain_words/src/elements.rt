@@ -1,0 +1,184 @@
+//! What is wrong with the elements of a plan's file.
+use crate::position;
+use crate::quotes::quoted;
+use crate::tags::{Group, Tags, letters, start_tag};
+use pap_reader::{ReadFault, Which};
+use std::alloc::{AllocError, Global};
+
+/// What is wrong with the elements of a plan's file, and where.
+pub(crate) fn element_words(
+    alloc: Global,
+    plan: &[u8],
+    fault: &ReadFault,
+) -> Result<String, AllocError> {
+    match fault {
+        ReadFault::Text { at } => {
+            let place = position(plan, *at);
+            let text = line_from(plan, *at);
+            let shown = quoted(alloc, text, 0)?;
+            let why = text_reason(text);
+            format!(in alloc; "plan, {place}: at {shown} {why}")
+        }
+        ReadFault::Element { at } => misplaced_words(alloc, plan, *at),
+        ReadFault::Attribute { at } => {
+            let place = position(plan, *at);
+            let text = line_from(plan, *at);
+            let shown = quoted(alloc, text, 0)?;
+            let needed = needed_attributes(element_name(text));
+            format!(in alloc;
+                "plan, {place}: the tag {shown} lacks a needed attribute or has one that isn't of its form, stands twice or is longer than 8192 bytes; {needed}"
+            )
+        }
+        ReadFault::Many { which } => many_words(alloc, plan, *which),
+        ReadFault::Memory => Err(AllocError),
+    }
+}
+
+/// Why no tag, comment or white space begins with a text.
+fn text_reason(text: &[u8]) -> &'static str {
+    if text.starts_with(b"<!--") {
+        "begins a comment that has no end; write --> behind it"
+    } else if text.starts_with(b"<!") {
+        "stands something that a plan hasn't, such as a DOCTYPE or CDATA; take it out"
+    } else if text.starts_with(b"<?") {
+        "stands a declaration in a wrong place, or without an end; only one <?xml .. ?> may stand, at the very beginning of the file"
+    } else if text.starts_with(b"<") {
+        "begins a tag that isn't well formed; see its name, the quotation marks of its attributes, a < in a value (write &lt;), the escapes that begin with &, and its end"
+    } else {
+        "stands text outside of a tag; write it as a comment, or as an attribute of a tag"
+    }
+}
+
+/// A tag that isn't allowed where it stands, or a file that ends too early.
+fn misplaced_words(alloc: Global, plan: &[u8], at: usize) -> Result<String, AllocError> {
+    let place = position(plan, at);
+    let text = line_from(plan, at);
+    if text.is_empty() {
+        return format!(in alloc;
+            "plan, {place}: the file ends too early; an end tag or a needed element is missing"
+        );
+    }
+    let shown = quoted(alloc, text, 0)?;
+    if text.starts_with(b"</") {
+        format!(in alloc;
+            "plan, {place}: the end tag {shown} isn't that of the open element, or that element lacks something that it needs (a PAP its METHODS, METHODS a MAIN, OUTPUTS an OUTPUT, an IF its THEN)"
+        )
+    } else {
+        let home = home_of(element_name(text));
+        format!(in alloc; "plan, {place}: the element {shown} may not stand here; {home}")
+    }
+}
+
+/// Where an element may stand.
+fn home_of(name: &[u8]) -> &'static str {
+    if name == b"PAP".as_slice() {
+        "PAP stands once, as the root of the file"
+    } else if name == b"INTERFACE".as_slice() || name == b"VARIABLES".as_slice() {
+        "a PAP has one INTERFACE or VARIABLES"
+    } else if name == b"INPUTS".as_slice() {
+        "INPUTS stands at most once, in INTERFACE or VARIABLES"
+    } else if name == b"OUTPUTS".as_slice() {
+        "OUTPUTS stands in INTERFACE or VARIABLES, and has at least one OUTPUT"
+    } else if name == b"INTERNALS".as_slice() {
+        "INTERNALS stands at most once in the file, in PAP, INTERFACE or VARIABLES"
+    } else if name == b"CONSTANTS".as_slice() {
+        "CONSTANTS stands at most once, in PAP"
+    } else if name == b"METHODS".as_slice() {
+        "METHODS stands once, in PAP, and has a MAIN"
+    } else {
+        home_of_part(name)
+    }
+}
+
+/// The same of the elements that stand inside those groups.
+fn home_of_part(name: &[u8]) -> &'static str {
+    if name == b"INPUT".as_slice() {
+        "an INPUT stands in INPUTS, and has nothing inside"
+    } else if name == b"OUTPUT".as_slice() {
+        "an OUTPUT stands in OUTPUTS, and has nothing inside"
+    } else if name == b"INTERNAL".as_slice() {
+        "an INTERNAL stands in INTERNALS, and has nothing inside"
+    } else if name == b"CONSTANT".as_slice() {
+        "a CONSTANT stands in CONSTANTS, and has nothing inside"
+    } else if name == b"MAIN".as_slice() {
+        "MAIN stands once, in METHODS"
+    } else if name == b"METHOD".as_slice() {
+        "a METHOD stands in METHODS"
+    } else if name == b"EVAL".as_slice() || name == b"EXECUTE".as_slice() {
+        "an EVAL or EXECUTE stands in MAIN, METHOD, THEN or ELSE, and has nothing inside"
+    } else if name == b"IF".as_slice() {
+        "an IF stands in MAIN, METHOD, THEN or ELSE, and has a THEN"
+    } else if name == b"THEN".as_slice() || name == b"ELSE".as_slice() {
+        "an IF has one THEN, and behind it at most one ELSE"
+    } else {
+        "there is no element of this name in the profile; a loop is written by methods and IFs"
+    }
+}
+
+/// The text from a place on, up to the end of its line.
+fn line_from(file: &[u8], at: usize) -> &[u8] {
+    let Some(rest) = file.get(at..) else {
+        return &[];
+    };
+    let count = rest
+        .iter()
+        .take_while(|byte| **byte != b'\n' && **byte != b'\r')
+        .count();
+    &rest[..count]
+}
+
+/// The name of the element whose tag stands first in a text.
+fn element_name(text: &[u8]) -> &[u8] {
+    match text {
+        [b'<', behind @ ..] => letters(behind),
+        _ => &[],
+    }
+}
+
+/// Which attributes an element needs.
+fn needed_attributes(name: &[u8]) -> &'static str {
+    if name == b"INPUT".as_slice() || name == b"INTERNAL".as_slice() {
+        "it needs a name, and a type of int, long, BigDecimal or double"
+    } else if name == b"OUTPUT".as_slice() {
+        "it needs a name, and a type of int, long or BigDecimal"
+    } else if name == b"CONSTANT".as_slice() {
+        "it needs a name, a type of int, long, BigDecimal or BigDecimal[], and a value"
+    } else if name == b"METHOD".as_slice() {
+        "it needs a name"
+    } else if name == b"EVAL".as_slice() {
+        "it needs exec, the text of an assignment"
+    } else if name == b"EXECUTE".as_slice() {
+        "it needs method, the name of a method"
+    } else if name == b"IF".as_slice() {
+        "it needs expr, the text of a test"
+    } else {
+        "it needs none"
+    }
+}
+
+/// Too much of something, and where the first one too many stands.
+fn many_words(alloc: Global, plan: &[u8], which: Which) -> Result<String, AllocError> {
+    let remedy = "split the flowchart, or join what can be joined";
+    match excess_tag(plan, which) {
+        Some(at) => {
+            let place = position(plan, at);
+            format!(in alloc;
+                "plan, {place}: this is one too many, there may be at most {which}; {remedy}"
+            )
+        }
+        None => format!(in alloc; "plan: there may be at most {which}; {remedy}"),
+    }
+}
+
+/// Where the first tag stands that is one too many, for what is counted over the whole file.
+fn excess_tag(plan: &[u8], which: Which) -> Option<usize> {
+    match which {
+        Which::Inputs => start_tag(plan, 0, Tags::Declaration(Group::Input), 256),
+        Which::Outputs => start_tag(plan, 0, Tags::Declaration(Group::Output), 256),
+        Which::Internals => start_tag(plan, 0, Tags::Declaration(Group::Internal), 1024),
+        Which::Constants => start_tag(plan, 0, Tags::Declaration(Group::Constant), 512),
+        Which::Methods => start_tag(plan, 0, Tags::Method, 256),
+        Which::Statements => start_tag(plan, 0, Tags::Statement, 20_000),
+        Which::Bytes | Which::Depth => None,
+    }
+}

@@ -1,0 +1,24 @@
+//! What is wrong with a plan, its range file or the inputs of a run, in plain words for the one who writes them.
+#![tactic(auto)]
+
+mod counting;
+mod elements;
+mod expressions;
+mod kinds;
+mod methods;
+mod one_line;
+mod ordinal;
+mod place;
+mod plan;
+mod quotes;
+mod range_file;
+mod ranges;
+mod sites;
+mod state;
+mod statements;
+mod tags;
+
+pub use counting::position;
+pub use place::Position;
+pub use plan::plan_words;
+pub use state::state_words;

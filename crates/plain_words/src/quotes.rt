@@ -1,0 +1,79 @@
+//! Parts of a file as they are quoted.
+ghost use Rattle.std.specs.Prelude.{◌≤◌, length};
+
+use crate::position;
+use pap_tree::is_word;
+use std::alloc::{AllocError, Global};
+
+/// The most bytes of a text that are quoted.
+const LONGEST: usize = 160;
+
+/// A text in backquotes; of a long one the part round a place, with two points for what is left out.
+pub(crate) fn quoted(alloc: Global, text: &[u8], at: usize) -> Result<String, AllocError> {
+    let start = quote_start(text, at);
+    let end = start.saturating_add(LONGEST).min(text.len());
+    let shown = String::from_utf8_lossy(alloc, &text[start..end])?;
+    let front = if start == 0 { "" } else { ".." };
+    let behind = if end == text.len() { "" } else { ".." };
+    format!(in alloc; "`{front}{shown}{behind}`")
+}
+
+/// Where the part of a text begins that is quoted for a place.
+fn quote_start(text: &[u8], at: usize) -> usize
+    ensures { result ≤ length text.now }
+{
+    if text.len() <= LONGEST {
+        return 0;
+    }
+    at.saturating_sub(LONGEST / 2).min(text.len() - LONGEST)
+}
+
+/// The word, the number or the sign that stands at a place of a text; nothing at its end.
+pub(crate) fn token_at(text: &[u8], at: usize) -> &[u8] {
+    let Some(rest) = text.get(at..) else {
+        return &[];
+    };
+    match rest {
+        [] => &[],
+        [first, ..] if first.is_ascii_digit() => numeral(rest),
+        [first, ..] if is_word(*first) => word(rest),
+        _ => character(rest),
+    }
+}
+
+/// The number that begins a text.
+fn numeral(text: &[u8]) -> &[u8] {
+    let count = text
+        .iter()
+        .take_while(|byte| is_word(**byte) || **byte == b'.')
+        .count();
+    &text[..count]
+}
+
+/// The word that begins a text.
+fn word(text: &[u8]) -> &[u8] {
+    let count = text.iter().take_while(|byte| is_word(**byte)).count();
+    &text[..count]
+}
+
+/// The character that begins a text, with the bytes of UTF-8 that go on with it.
+fn character(text: &[u8]) -> &[u8] {
+    let count = text
+        .iter()
+        .skip(1)
+        .take_while(|byte| (0x80..=0xBF).contains(*byte))
+        .count();
+    &text[..count.saturating_add(1).min(text.len())]
+}
+
+/// A place in an attribute's text: `character 6`, and its line where there are several before it.
+pub(crate) fn character_words(alloc: Global, text: &[u8], at: usize) -> Result<String, AllocError> {
+    let place = position(text, at);
+    let line = place.line;
+    let column = place.column;
+    if line == 1 {
+        format!(in alloc; "character {column}")
+    } else {
+        format!(in alloc; "character {column} of its line {line}")
+    }
+}
