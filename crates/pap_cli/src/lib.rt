@@ -6,11 +6,14 @@ mod call;
 mod check;
 mod once;
 mod places;
+mod reasons;
 mod refusals;
 mod reply;
 mod status;
 mod stop;
+mod verdict;
 mod words;
 
 pub use call::{answer_laws, papcalc, word_laws};
+pub use reasons::reason;
 pub use status::Status;
