@@ -108,10 +108,10 @@ impl Element {
     pub(crate) fn is_in_body(self) -> bool
         ensures { result ≡ is_in_body self }
     {
-        match self {
-            Element::Eval | Element::Execute | Element::If | Element::Then | Element::Else => true,
-            _ => false,
-        }
+        matches!(
+            self,
+            Element::Eval | Element::Execute | Element::If | Element::Then | Element::Else
+        )
     }
 
     /// Its place in the list of all elements.
