@@ -1,2 +1,1 @@
 pub mod CodeRuns
-pub mod PlanSizes

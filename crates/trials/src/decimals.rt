@@ -1,14 +1,15 @@
 // Decimals: the roundings as documented, the operations, the texts.
-ghost use Rattle.std.specs.Prelude.{pos, negsuc};
+ghost use Rattle.std.specs.Prelude.{◌≢◌, pos, negsuc};
 ghost use Rattle.scaled_decimal.specs.Rounding.{IsNear};
 
+use crate::answers::sides;
 use scaled_decimal::{
-    Dec, MOST_PLACES, Mode, NumFault, RCeiling, RDown, RFloor, RHalfDown, RHalfEven, RHalfUp, RUp,
-    Rounding, divisor_places, is_plain_divisor, power_of_ten, read_dec, round_div, write_dec,
+    Dec, MOST_PLACES, Mode, RCeiling, RDown, RFloor, RHalfDown, RHalfEven, RHalfUp, RUp, Rounding,
+    divisor_places, is_plain_divisor, power_of_ten, read_dec, round_div, write_dec,
 };
+use std::alloc::Global;
 use std::cmp::Ordering;
 use std::test::Fail;
-use std::vec::Vec;
 
 const MODES: [Mode; 7] = [
     Mode::Up,
@@ -20,35 +21,48 @@ const MODES: [Mode; 7] = [
     Mode::HalfEven,
 ];
 
-/// The table in the documentation of `java.math.RoundingMode`: tenths, and what each mode makes of them.
-const DOCUMENTED: [(i16, [i16; 7]); 10] = [
-    (55, [6, 5, 6, 5, 6, 5, 6]),
-    (25, [3, 2, 3, 2, 3, 2, 2]),
-    (16, [2, 1, 2, 1, 2, 2, 2]),
-    (11, [2, 1, 2, 1, 1, 1, 1]),
-    (10, [1, 1, 1, 1, 1, 1, 1]),
-    (-10, [-1, -1, -1, -1, -1, -1, -1]),
-    (-11, [-2, -1, -1, -2, -1, -1, -1]),
-    (-16, [-2, -1, -1, -2, -2, -2, -2]),
-    (-25, [-3, -2, -2, -3, -3, -2, -2]),
-    (-55, [-6, -5, -5, -6, -6, -5, -6]),
-];
+/// Dividends, divisors and the quotients rounded by each mode: the table in the documentation of `java.math.RoundingMode`,
+/// and a negative divisor.
+const ROUNDED: &str = r#"55 10 => 6 5 6 5 6 5 6
+25 10 => 3 2 3 2 3 2 2
+16 10 => 2 1 2 1 2 2 2
+11 10 => 2 1 2 1 1 1 1
+10 10 => 1 1 1 1 1 1 1
+-10 10 => -1 -1 -1 -1 -1 -1 -1
+-11 10 => -2 -1 -1 -2 -1 -1 -1
+-16 10 => -2 -1 -1 -2 -2 -2 -2
+-25 10 => -3 -2 -2 -3 -3 -2 -2
+-55 10 => -6 -5 -5 -6 -6 -5 -6
+-7 2 => -4 -3 -3 -4 -4 -3 -4
+7 -2 => -4 -3 -3 -4 -4 -3 -4"#;
+
+fn number(text: &str) -> Result<i16, Fail> {
+    Ok(text.parse::<i16>().map_err(|_| Fail::from("a number"))?)
+}
+
+fn rounded(alloc: Global, dividend: i16, divisor: i16) -> Result<String, Fail>
+    requires { divisor ≢ pos 0 }
+{
+    let mut text = String::new(alloc);
+    for mode in MODES {
+        let quotient = round_div(dividend as i128, divisor as i128, mode);
+        let separator = if text.is_empty() { "" } else { " " };
+        text.push_str(format!(in alloc; "{separator}{quotient}")?.as_str())?;
+    }
+    Ok(text)
+}
 
 #[test]
-fn rounds_as_documented(rt: HostRuntime) {
-    for (tenths, wanted) in DOCUMENTED.iter() {
-        for (mode, rounded) in MODES.iter().zip(wanted.iter()) {
-            assert_eq!(rt;
-                round_div(*tenths as i128, 10, *mode),
-                *rounded as i128,
-                "{tenths} by {mode:?}"
-            );
-        }
+fn rounds_as_documented(rt: HostRuntime) -> Result<(), Fail> {
+    for row in ROUNDED.lines() {
+        let (asked, wanted) = sides(row)?;
+        let (dividend, divisor) = asked.split_once(' ').ok_or("a divisor")?;
+        let divisor = number(divisor)?;
+        assert!(rt; divisor != 0);
+        let answer = rounded(rt.alloc(), number(dividend)?, divisor)?;
+        assert_eq!(rt; answer.as_str(), wanted, "{row}");
     }
-    for (mode, rounded) in MODES.iter().zip([-4i16, -3, -3, -4, -4, -3, -4].iter()) {
-        assert_eq!(rt; round_div(-7, 2, *mode), *rounded as i128, "{mode:?}");
-        assert_eq!(rt; round_div(7, -2, *mode), *rounded as i128, "{mode:?}");
-    }
+    Ok(())
 }
 
 /// By a law that each rounding has.
@@ -159,72 +173,53 @@ fn divides_exactly(rt: HostRuntime) {
     );
 }
 
+/// Texts, and what is read of them: the numerator and the scale, or the fault.
+const READ: &str = r#"00.50 => 50 2
+-1.5 => -15 1
+-0.00 => 0 2
+10000000000000000000000000000000000000 => 10000000000000000000000000000000000000 0
+10000000000000000000000000000000000001 => a number of too many digits
+0.000000000000000000000000000001 => 1 30
+0.0000000000000000000000000000000 => more than 30 digits after the point
+100000000000000000000000000000000000000.0000000000000000000000000000000 => more than 30 digits after the point
+ => no number at byte 0
+1. => no number at byte 2
+- => no number at byte 1
++1 => no number at byte 0
+.5 => no number at byte 0
+1,5 => no number at byte 1
+1.5. => no number at byte 3
+--1 => no number at byte 1
+10000000000000000000000000000000000001x => no number at byte 38"#;
+
 #[test]
-fn reads(rt: HostRuntime) {
-    let limit = 10_000_000_000_000_000_000_000_000_000_000_000_000;
-    let table: [(&str, Result<(i128, u8), NumFault>); 17] = [
-        ("00.50", Ok((50, 2))),
-        ("-1.5", Ok((-15, 1))),
-        ("-0.00", Ok((0, 2))),
-        ("10000000000000000000000000000000000000", Ok((limit, 0))),
-        (
-            "10000000000000000000000000000000000001",
-            Err(NumFault::Wide),
-        ),
-        ("0.000000000000000000000000000001", Ok((1, 30))),
-        ("0.0000000000000000000000000000000", Err(NumFault::Scale)),
-        (
-            "100000000000000000000000000000000000000.0000000000000000000000000000000",
-            Err(NumFault::Scale),
-        ),
-        ("", Err(NumFault::Shape { at: 0 })),
-        ("1.", Err(NumFault::Shape { at: 2 })),
-        ("-", Err(NumFault::Shape { at: 1 })),
-        ("+1", Err(NumFault::Shape { at: 0 })),
-        (".5", Err(NumFault::Shape { at: 0 })),
-        ("1,5", Err(NumFault::Shape { at: 1 })),
-        ("1.5.", Err(NumFault::Shape { at: 3 })),
-        ("--1", Err(NumFault::Shape { at: 1 })),
-        (
-            "10000000000000000000000000000000000001 ",
-            Err(NumFault::Shape { at: 38 }),
-        ),
-    ];
-    for (text, wanted) in table {
-        assert_eq!(rt;
-            read_dec(text.as_bytes()).map(|d| (d.numerator(), d.scale())),
-            wanted,
-            "{text}"
-        );
+fn reads(rt: HostRuntime) -> Result<(), Fail> {
+    for row in READ.lines() {
+        let (text, wanted) = sides(row)?;
+        let answer = match read_dec(text.as_bytes()) {
+            Ok(d) => format!(in rt.alloc(); "{} {}", d.numerator(), d.scale())?,
+            Err(fault) => format!(in rt.alloc(); "{fault}")?,
+        };
+        assert_eq!(rt; answer.as_str(), wanted, "{row}");
     }
+    Ok(())
 }
+
+/// Plain texts of decimals.
+const WRITTEN: &str =
+    "0.00 0 -0.5 25.00 -120 0.000000000000000000000000000001 10000000000000000000000000000000000000";
 
 #[test]
 fn writes(rt: HostRuntime) -> Result<(), Fail> {
-    let table: [(Dec, &[u8]); 7] = [
-        (Dec::new(0, 2), b"0.00"),
-        (Dec::new(0, 0), b"0"),
-        (Dec::new(-5, 1), b"-0.5"),
-        (Dec::new(2500, 2), b"25.00"),
-        (Dec::new(-120, 0), b"-120"),
-        (Dec::new(1, 30), b"0.000000000000000000000000000001"),
-        (
-            Dec::new(10_000_000_000_000_000_000_000_000_000_000_000_000, 0),
-            b"10000000000000000000000000000000000000",
-        ),
-    ];
-    for (value, wanted) in table {
-        let mut out = b"x".to_vec(rt.alloc())?;
+    for text in WRITTEN.split_whitespace() {
+        let value = read_dec(text.as_bytes()).map_err(|_| Fail::from("a number"))?;
+        let mut out = Vec::new(rt.alloc());
+        out.push(b'x')?;
         write_dec(rt.alloc(), value, &mut out)?;
-        assert_eq!(rt;
-            out.as_slice(),
-            [b"x", wanted].concat(rt.alloc())?.as_slice()
-        );
-        assert_eq!(rt; value.to_string(rt.alloc())?.as_bytes(), wanted);
+        let appended = format!(in rt.alloc(); "x{text}")?;
+        assert_eq!(rt; out.as_slice(), appended.as_bytes());
+        let shown = format!(in rt.alloc(); "{value}")?;
+        assert_eq!(rt; shown.as_str(), text);
     }
-    assert_eq!(rt;
-        NumFault::Shape { at: 3 }.to_string(rt.alloc())?.as_str(),
-        "no number at byte 3"
-    );
     Ok(())
 }

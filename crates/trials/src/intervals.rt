@@ -1,98 +1,212 @@
 //! Intervals: worked examples, and small intervals of which every contained pair is tried.
-ghost use Rattle.std.specs.Prelude.{IfSome};
-ghost use Rattle.scaled_decimal.specs.WholeNumbers.{int_bits};
+ghost use Rattle.std.specs.Prelude.{◌≤◌, IfOk, IfSome};
+ghost use Rattle.scaled_decimal.specs.WholeNumbers.{int_bits, long_bits};
+ghost use Rattle.scaled_decimal.specs.Limits.{most_places};
 ghost use Rattle.interval_num.specs.Intervals.{IsWholeOfBits};
 
+use crate::answers::sides;
 use interval_num::{
     Abs, RangeCause, SignSet, abs_abs, abs_add, abs_cmp, abs_div, abs_div_exact, abs_item, abs_max,
     abs_min, abs_mul, abs_neg, abs_set_scale, abs_sub, int_add, int_div, int_mul, int_neg, int_rem,
     int_sub, join, long_add, long_div, long_mul, long_neg, long_rem, long_sub, refine, signs,
 };
-use scaled_decimal::{Dec, Mode, round_div};
+use scaled_decimal::{Dec, Mode, is_plain_divisor, read_dec, round_div};
+use std::alloc::Global;
+use std::test::Fail;
 
-/// The ends and the scales of an answer.
-fn parts(answer: Result<Abs, RangeCause>) -> Result<(i128, i128, u8, u8), RangeCause> {
-    match answer {
-        Ok(a) => Ok((a.lo(), a.hi(), a.s_lo(), a.s_hi())),
-        Err(cause) => Err(cause),
+/// Operations and their operands, low end, high end, least and greatest scale; then the answer.
+const EXACT: &str = r#"add : -5 5 0 1 : 125 130 2 2 => 75 180 2 2
+subtract : -5 5 0 1 : 125 130 2 2 => -180 -75 2 2
+multiply : -5 5 0 1 : 125 130 2 2 => -650 650 2 3
+min : -5 5 0 1 : 125 130 2 2 => -50 50 0 2
+max : -5 5 0 1 : 125 130 2 2 => 125 130 0 2
+compare : -5 5 0 1 : 125 130 2 2 => -1 -1 0 0
+join : -5 5 0 1 : 125 130 2 2 => -50 130 0 2
+add : LIMIT LIMIT 30 30 : 0 0 0 0 => LIMIT LIMIT 30 30
+add : LIMIT LIMIT 30 30 : 1 1 30 30 => Wide
+add : LIMIT LIMIT 30 30 : 100000000 100000000 0 0 => Wide
+multiply : LIMIT LIMIT 30 30 : 1 1 0 1 => Scale
+multiply : LIMIT LIMIT 30 30 : 2 2 0 0 => Wide
+negate : -5 5 0 1 : 0 0 0 0 => -5 5 0 1
+negate : -7 5 0 1 : 0 0 0 0 => -5 7 0 1
+abs : -7 5 0 1 : 0 0 0 0 => 0 7 0 1
+abs : -7 -5 0 1 : 0 0 0 0 => 5 7 0 1"#;
+
+/// Dividends, divisors, scales and modes; then the quotients' range.
+const QUOTIENTS: &str = r#"1 7 0 0 : 2 2 0 0 : 0 Down => 0 3 0 0
+1 7 0 0 : 2 2 0 0 : 0 HalfUp => 1 4 0 0
+1 7 0 0 : -1 1 0 0 : 0 Down => Divisor
+-7 7 0 0 : -3 -2 0 0 : 1 HalfEven => -35 35 1 1
+0 1 0 0 : 1 1 0 30 : 8 Down => Wide
+0 1 0 0 : 1 1 0 30 : 7 Down => 0 LIMIT 7 7"#;
+
+/// An interval and a plain divisor, or a scale and a mode.
+const SHORTENED: &str = r#"0 1000 0 2 : 2 => 0 5000 0 3
+0 1000 0 2 : 100 => 0 1000 0 4
+125 130 2 2 : 1 Up => 13 13 1 1
+-5 5 0 1 : 3 Up => -500 500 3 3"#;
+
+/// Operations on `int` and their operands' ends; then the answer.
+const INTS: &str = r#"% : -7 7 : 3 3 => -2 2 0 0
+% : -7 7 : -3 -1 => -2 2 0 0
+% : -7 7 : -7 7 => Divisor
+/ : -2147483648 -2147483648 : -1 -1 => Wide
+/ : -7 7 : 2 3 => -3 3 0 0
+negate : -2147483648 -2147483648 : 0 0 => Wide
+negate : -7 5 : 0 0 => -5 7 0 0
++ : -2147483648 -2147483648 : -1 -1 => Wide
++ : -2147483648 -2147483647 : -1 1 => Wide
++ : -7 7 : 2 3 => -5 10 0 0
+- : -1 -1 : -7 7 => -8 6 0 0
+* : -7 7 : -2 3 => -21 21 0 0
+* : 65536 65536 : 32768 32768 => Wide"#;
+
+/// The same of `long`.
+const LONGS: &str = r#"/ : -2147483648 -2147483648 : -1 -1 => 2147483648 2147483648 0 0
+negate : -9223372036854775808 -9223372036854775808 : 0 0 => Wide
+/ : -9223372036854775808 -9223372036854775808 : -1 -1 => Wide
++ : -9223372036854775808 -9223372036854775808 : -1 -1 => Wide
+- : -9223372036854775808 -9223372036854775808 : -1 -1 => -9223372036854775807 -9223372036854775807 0 0
+* : -2147483648 -2147483648 : -2147483648 -2147483648 => 4611686018427387904 4611686018427387904 0 0
+* : 4611686018427387904 4611686018427387904 : 2 2 => Wide
+% : -9223372036854775808 -9223372036854775808 : -7 7 => Divisor
+% : -7 7 : -3 -1 => -2 2 0 0"#;
+
+const LIMIT: &str = "10000000000000000000000000000000000000";
+
+/// An end, within the limit.
+fn end(word: Option<&str>) -> Result<Dec, Fail> {
+    let word = word.ok_or("an end")?;
+    let text = if word == "LIMIT" { LIMIT } else { word };
+    Ok(read_dec(text.as_bytes()).map_err(|_| Fail::from("an end"))?)
+}
+
+fn scale(word: Option<&str>) -> Result<u8, Fail> {
+    let word = word.ok_or("a scale")?;
+    Ok(word.parse::<u8>().map_err(|_| Fail::from("a scale"))?)
+}
+
+fn interval(text: &str) -> Result<Abs, Fail> {
+    let mut words = text.split_whitespace();
+    let low = end(words.next())?.numerator();
+    let high = end(words.next())?.numerator();
+    let least = scale(words.next())?;
+    let greatest = scale(words.next())?;
+    if low > high || least > greatest || greatest > 30 {
+        return Err(Fail::from("an interval"));
+    }
+    Ok(Abs::new(low, high, least, greatest))
+}
+
+fn shown(alloc: Global, answer: Result<Abs, RangeCause>) -> Result<String, Fail> {
+    let text = match answer {
+        Ok(a) => format!(in alloc; "{} {} {} {}", a.lo(), a.hi(), a.s_lo(), a.s_hi())?,
+        Err(cause) => format!(in alloc; "{cause:?}")?,
+    };
+    Ok(text.replace(alloc, LIMIT, "LIMIT")?)
+}
+
+/// The operation of this name.
+fn combined(operation: &str, a: Abs, b: Abs) -> Result<Abs, RangeCause> {
+    match operation {
+        "add" => abs_add(a, b),
+        "subtract" => abs_sub(a, b),
+        "multiply" => abs_mul(a, b),
+        "min" => abs_min(a, b),
+        "max" => abs_max(a, b),
+        "compare" => abs_cmp(a, b),
+        "negate" => Ok(abs_neg(a)),
+        "abs" => Ok(abs_abs(a)),
+        _ => join(a, b),
     }
 }
 
-const LIMIT: i128 = 10_000_000_000_000_000_000_000_000_000_000_000_000;
-
-#[test]
-fn quotients(rt: HostRuntime) {
-    let a = Abs::new(1, 7, 0, 0);
-    let two = Abs::new(2, 2, 0, 0);
-    assert_eq!(rt; parts(abs_div(a, two, 0, Mode::Down)), Ok((0, 3, 0, 0)));
-    assert_eq!(rt; parts(abs_div(a, two, 0, Mode::HalfUp)), Ok((1, 4, 0, 0)));
-    assert_eq!(rt;
-        abs_div(a, Abs::new(-1, 1, 0, 0), 0, Mode::Down),
-        Err(RangeCause::Divisor)
-    );
-    let cents = Abs::new(0, 1000, 0, 2);
-    assert_eq!(rt; parts(abs_div_exact(cents, 2)), Ok((0, 5000, 0, 3)));
-    assert_eq!(rt; parts(abs_div_exact(cents, 100)), Ok((0, 1000, 0, 4)));
-    assert_eq!(rt;
-        parts(abs_div(
-            Abs::new(-7, 7, 0, 0),
-            Abs::new(-3, -2, 0, 0),
-            1,
-            Mode::HalfEven
-        )),
-        Ok((-35, 35, 1, 1))
-    );
-    assert_eq!(rt;
-        abs_div(Abs::new(0, 1, 0, 0), Abs::new(1, 1, 0, 30), 8, Mode::Down),
-        Err(RangeCause::Wide)
-    );
-    assert_eq!(rt;
-        parts(abs_div(Abs::new(0, 1, 0, 0), Abs::new(1, 1, 0, 30), 7, Mode::Down)),
-        Ok((0, LIMIT, 7, 7))
-    );
+/// An operation's name and its two operands.
+fn operands(text: &str) -> Result<(&str, &str, &str), Fail> {
+    let (operation, rest) = text.split_once(" : ").ok_or("an operation")?;
+    let (left, right) = rest.split_once(" : ").ok_or("operands")?;
+    Ok((operation, left, right))
 }
 
 #[test]
-fn sums(rt: HostRuntime) {
-    let a = Abs::new(-5, 5, 0, 1);
-    let b = Abs::new(125, 130, 2, 2);
-    assert_eq!(rt; parts(abs_add(a, b)), Ok((75, 180, 2, 2)));
-    assert_eq!(rt; parts(abs_sub(a, b)), Ok((-180, -75, 2, 2)));
-    assert_eq!(rt; parts(abs_mul(a, b)), Ok((-650, 650, 2, 3)));
-    assert_eq!(rt; parts(abs_min(a, b)), Ok((-50, 50, 0, 2)));
-    assert_eq!(rt; parts(abs_max(a, b)), Ok((125, 130, 0, 2)));
-    assert_eq!(rt; parts(abs_cmp(a, b)), Ok((-1, -1, 0, 0)));
-    assert_eq!(rt; parts(join(a, b)), Ok((-50, 130, 0, 2)));
-    let most = Abs::new(LIMIT, LIMIT, 30, 30);
-    assert_eq!(rt;
-        parts(abs_add(most, Abs::new(0, 0, 0, 0))),
-        Ok((LIMIT, LIMIT, 30, 30))
-    );
-    assert_eq!(rt;
-        abs_add(most, Abs::new(1, 1, 30, 30)),
-        Err(RangeCause::Wide)
-    );
-    assert_eq!(rt;
-        abs_add(most, Abs::new(100_000_000, 100_000_000, 0, 0)),
-        Err(RangeCause::Wide)
-    );
-    assert_eq!(rt; abs_mul(most, Abs::new(1, 1, 0, 1)), Err(RangeCause::Scale));
-    assert_eq!(rt; abs_mul(most, Abs::new(2, 2, 0, 0)), Err(RangeCause::Wide));
-    let n = abs_neg(a);
-    assert_eq!(rt; (n.lo(), n.hi(), n.s_lo(), n.s_hi()), (-5, 5, 0, 1));
-    let m = abs_abs(Abs::new(-7, 5, 0, 1));
-    assert_eq!(rt; (m.lo(), m.hi(), m.s_lo(), m.s_hi()), (0, 7, 0, 1));
-    let m = abs_abs(Abs::new(-7, -5, 0, 1));
-    assert_eq!(rt; (m.lo(), m.hi(), m.s_lo(), m.s_hi()), (5, 7, 0, 1));
-    assert_eq!(rt; parts(abs_set_scale(b, 1, Mode::Up)), Ok((13, 13, 1, 1)));
-    assert_eq!(rt; parts(abs_set_scale(a, 3, Mode::Up)), Ok((-500, 500, 3, 3)));
+fn exact_operations(rt: HostRuntime) -> Result<(), Fail> {
+    for row in EXACT.lines() {
+        let (asked, wanted) = sides(row)?;
+        let (operation, left, right) = operands(asked)?;
+        let answer = combined(operation, interval(left)?, interval(right)?);
+        assert_eq!(rt; shown(rt.alloc(), answer)?.as_str(), wanted, "{row}");
+    }
+    Ok(())
+}
+
+fn mode(word: Option<&str>) -> Mode {
+    match word {
+        Some("Up") => Mode::Up,
+        Some("HalfUp") => Mode::HalfUp,
+        Some("HalfEven") => Mode::HalfEven,
+        _ => Mode::Down,
+    }
+}
+
+/// A scale and a mode.
+fn target(text: &str) -> Result<(u8, Mode), Fail>
+    ensures { IfOk result (λ t. t.0 ≤ most_places) }
+{
+    let mut words = text.split_whitespace();
+    let places = scale(words.next())?;
+    if places > 30 {
+        return Err(Fail::from("a scale"));
+    }
+    Ok((places, mode(words.next())))
+}
+
+#[test]
+fn quotients(rt: HostRuntime) -> Result<(), Fail> {
+    for row in QUOTIENTS.lines() {
+        let (asked, wanted) = sides(row)?;
+        let (left, right, rounding) = operands(asked)?;
+        let (places, mode) = target(rounding)?;
+        let answer = abs_div(interval(left)?, interval(right)?, places, mode);
+        assert_eq!(rt; shown(rt.alloc(), answer)?.as_str(), wanted, "{row}");
+    }
+    Ok(())
+}
+
+fn shortened(text: &str) -> Result<Result<Abs, RangeCause>, Fail> {
+    let (left, right) = text.split_once(" : ").ok_or("operands")?;
+    let a = interval(left)?;
+    if right.contains(' ') {
+        let (places, mode) = target(right)?;
+        return Ok(abs_set_scale(a, places, mode));
+    }
+    let divisor = end(Some(right))?.numerator();
+    if !is_plain_divisor(divisor) {
+        return Err(Fail::from("a divisor"));
+    }
+    Ok(abs_div_exact(a, divisor))
+}
+
+#[test]
+fn exact_quotients_and_scales(rt: HostRuntime) -> Result<(), Fail> {
+    for row in SHORTENED.lines() {
+        let (asked, wanted) = sides(row)?;
+        let answer = shortened(asked)?;
+        assert_eq!(rt; shown(rt.alloc(), answer)?.as_str(), wanted, "{row}");
+    }
+    Ok(())
+}
+
+/// The ends and the scales of an answer.
+fn ends_of(answer: Result<Abs, RangeCause>) -> Result<(i128, i128, u8, u8), RangeCause> {
+    let a = answer?;
+    Ok((a.lo(), a.hi(), a.s_lo(), a.s_hi()))
 }
 
 #[test]
 fn items(rt: HostRuntime) {
     let table = [Dec::new(1, 0), Dec::new(250, 2)];
     assert_eq!(rt;
-        parts(abs_item(&table, Abs::new(0, 1, 0, 0))),
+        ends_of(abs_item(&table, Abs::new(0, 1, 0, 0))),
         Ok((100, 250, 0, 2))
     );
     assert_eq!(rt;
@@ -104,7 +218,7 @@ fn items(rt: HostRuntime) {
         Err(RangeCause::Index)
     );
     assert_eq!(rt;
-        parts(abs_item(&table, Abs::new(0, 0, 0, 0))),
+        ends_of(abs_item(&table, Abs::new(0, 0, 0, 0))),
         Ok((1, 1, 0, 0))
     );
 }
@@ -144,43 +258,80 @@ fn refinements(rt: HostRuntime) {
     );
 }
 
+fn number(word: Option<&str>) -> Result<i64, Fail> {
+    let word = word.ok_or("a number")?;
+    Ok(word.parse::<i64>().map_err(|_| Fail::from("a number"))?)
+}
+
+/// The two ends of an interval of whole numbers.
+fn ends(text: &str) -> Result<(i64, i64), Fail> {
+    let mut words = text.split_whitespace();
+    Ok((number(words.next())?, number(words.next())?))
+}
+
+fn longs(text: &str) -> Result<Abs, Fail>
+    ensures { IfOk result (IsWholeOfBits long_bits) }
+{
+    let (low, high) = ends(text)?;
+    if low > high {
+        return Err(Fail::from("an interval"));
+    }
+    Ok(Abs::new(low as i128, high as i128, 0, 0))
+}
+
+fn ints(text: &str) -> Result<Abs, Fail>
+    ensures { IfOk result (IsWholeOfBits int_bits) }
+{
+    let (low, high) = ends(text)?;
+    if low < -2147483648 || low > high || high > 2147483647 {
+        return Err(Fail::from("an interval"));
+    }
+    Ok(Abs::new(low as i128, high as i128, 0, 0))
+}
+
+fn int_answer(operation: &str, a: Abs, b: Abs) -> Result<Abs, RangeCause>
+    requires left { IsWholeOfBits int_bits a }
+    requires right { IsWholeOfBits int_bits b }
+{
+    match operation {
+        "+" => int_add(a, b),
+        "-" => int_sub(a, b),
+        "*" => int_mul(a, b),
+        "/" => int_div(a, b),
+        "%" => int_rem(a, b),
+        _ => int_neg(a),
+    }
+}
+
+fn long_answer(operation: &str, a: Abs, b: Abs) -> Result<Abs, RangeCause>
+    requires left { IsWholeOfBits long_bits a }
+    requires right { IsWholeOfBits long_bits b }
+{
+    match operation {
+        "+" => long_add(a, b),
+        "-" => long_sub(a, b),
+        "*" => long_mul(a, b),
+        "/" => long_div(a, b),
+        "%" => long_rem(a, b),
+        _ => long_neg(a),
+    }
+}
+
 #[test]
-fn whole_numbers(rt: HostRuntime) {
-    let least = Abs::new(-2147483648, -2147483648, 0, 0);
-    let minus = Abs::new(-1, -1, 0, 0);
-    let a = Abs::new(-7, 7, 0, 0);
-    assert_eq!(rt; parts(int_rem(a, Abs::new(3, 3, 0, 0))), Ok((-2, 2, 0, 0)));
-    assert_eq!(rt;
-        parts(int_rem(a, Abs::new(-3, -1, 0, 0))),
-        Ok((-2, 2, 0, 0))
-    );
-    assert_eq!(rt; int_rem(a, a), Err(RangeCause::Divisor));
-    assert_eq!(rt; int_div(least, minus), Err(RangeCause::Wide));
-    assert_eq!(rt;
-        parts(long_div(least, minus)),
-        Ok((2147483648, 2147483648, 0, 0))
-    );
-    assert_eq!(rt; int_neg(least), Err(RangeCause::Wide));
-    assert_eq!(rt; int_add(least, minus), Err(RangeCause::Wide));
-    assert_eq!(rt; parts(int_sub(minus, a)), Ok((-8, 6, 0, 0)));
-    assert_eq!(rt;
-        parts(int_mul(a, Abs::new(-2, 3, 0, 0))),
-        Ok((-21, 21, 0, 0))
-    );
-    let last = Abs::new(-9223372036854775808, -9223372036854775808, 0, 0);
-    assert_eq!(rt; long_neg(last), Err(RangeCause::Wide));
-    assert_eq!(rt; long_div(last, minus), Err(RangeCause::Wide));
-    assert_eq!(rt; long_add(last, minus), Err(RangeCause::Wide));
-    assert_eq!(rt;
-        parts(long_sub(last, minus)),
-        Ok((-9223372036854775807, -9223372036854775807, 0, 0))
-    );
-    assert_eq!(rt;
-        parts(long_mul(least, least)),
-        Ok((4611686018427387904, 4611686018427387904, 0, 0))
-    );
-    assert_eq!(rt; parts(long_rem(last, a)), Err(RangeCause::Divisor));
-    assert_eq!(rt; parts(int_div(a, Abs::new(2, 3, 0, 0))), Ok((-3, 3, 0, 0)));
+fn whole_numbers(rt: HostRuntime) -> Result<(), Fail> {
+    for row in INTS.lines() {
+        let (asked, wanted) = sides(row)?;
+        let (operation, left, right) = operands(asked)?;
+        let answer = int_answer(operation, ints(left)?, ints(right)?);
+        assert_eq!(rt; shown(rt.alloc(), answer)?.as_str(), wanted, "{row}");
+    }
+    for row in LONGS.lines() {
+        let (asked, wanted) = sides(row)?;
+        let (operation, left, right) = operands(asked)?;
+        let answer = long_answer(operation, longs(left)?, longs(right)?);
+        assert_eq!(rt; shown(rt.alloc(), answer)?.as_str(), wanted, "{row}");
+    }
+    Ok(())
 }
 
 /// The whole numbers from -4 to 4, as the ends of small intervals.

@@ -3,11 +3,11 @@
 #![tactic(auto)]
 
 #[cfg(test)]
+mod answers;
+#[cfg(test)]
 mod calendars;
 #[cfg(test)]
 mod carries;
-#[cfg(test)]
-mod code;
 #[cfg(test)]
 mod commands;
 #[cfg(test)]
@@ -23,14 +23,24 @@ mod intervals;
 #[cfg(test)]
 mod kinds;
 #[cfg(test)]
+mod machine;
+#[cfg(test)]
 mod names;
 #[cfg(test)]
 mod orders;
 #[cfg(test)]
 mod outside_objects;
 #[cfg(test)]
+mod plans;
+#[cfg(test)]
 mod range_files;
 #[cfg(test)]
+mod ranges;
+#[cfg(test)]
+mod realistic;
+#[cfg(test)]
 mod records;
+#[cfg(test)]
+mod runs;
 #[cfg(test)]
 mod tokens;

@@ -1,25 +1,28 @@
 // Names, short texts, and places as they are printed.
+use crate::answers::sides;
 use pap_tree::{Name, Place, ShortText, is_white};
 use std::test::Fail;
 
 const LONGEST: &[u8] = b"abcdefghijklmnopqrstuvwxyzABCDEF";
 
+const NAMES: &str = r#"RE4 => true
+_x1 => true
+abcdefghijklmnopqrstuvwxyzABCDEF => true
+abcdefghijklmnopqrstuvwxyzABCDEFG => false
+ => false
+4RE => false
+a-b => false
+new => false
+newer => true"#;
+
 #[test]
-fn names_are_told_from_other_texts(rt: HostRuntime) {
-    let texts: [(&[u8], bool); 9] = [
-        (b"RE4", true),
-        (b"_x1", true),
-        (LONGEST, true),
-        (b"abcdefghijklmnopqrstuvwxyzABCDEFG", false),
-        (b"", false),
-        (b"4RE", false),
-        (b"a-b", false),
-        (b"new", false),
-        (b"newer", true),
-    ];
-    for (text, is_name) in texts {
-        assert_eq!(rt; Name::read(text).is_some(), is_name);
+fn names_are_told_from_other_texts(rt: HostRuntime) -> Result<(), Fail> {
+    for row in NAMES.lines() {
+        let (text, wanted) = sides(row)?;
+        let is_name = Name::read(text.as_bytes()).is_some();
+        assert_eq!(rt; is_name, wanted == "true", "{row}");
     }
+    Ok(())
 }
 
 #[test]

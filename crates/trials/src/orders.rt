@@ -1,111 +1,64 @@
 //! The order of methods: chains of 64 and 65, a cycle that MAIN never reaches, how many statements a plan may have.
-ghost use Rattle.std.specs.Prelude.{◌≡◌, ◌+◌, ◌<◌, ◌≤◌, IfOk, OnOk, length};
-ghost use Rattle.pap_tree.specs.Flowchart.{body_of, flowchart_of};
-ghost use Rattle.pap_types.specs.Counts.{IsWithinCounts};
-ghost use Rattle.trials.specs.Plans.{IsPlain, ArePlain};
+ghost use Rattle.std.specs.Prelude.{◌≤◌};
 
 use call_order::order_methods;
-use pap_tree::{Method, Name, PlanText, Stmt};
-use pap_types::check_types;
-use std::alloc::{AllocError, Global};
+use pap_plan::{PlanRefusal, accept};
+use std::alloc::Global;
 use std::test::Fail;
 
-/// A name with a number.
-fn numbered(alloc: Global, number: usize) -> Result<Name, Fail> {
-    let text = format!(in alloc; "M{number}")?;
-    Ok(Name::read(text.as_bytes()).ok_or("a name")?)
-}
+/// A plan whose MAIN executes one method, before its other methods.
+const BEFORE: &str =
+    "<PAP><VARIABLES><OUTPUTS><OUTPUT name='A' type='int'/></OUTPUTS></VARIABLES><METHODS><MAIN><EXECUTE method='";
 
-/// A method that executes another, once or twice.
-fn calling(alloc: Global, name: Name, called: Name, twice: bool) -> Result<Method, AllocError>
-    ensures { IfOk result (λ m. IsPlain (body_of m.body.items)) }
-{
-    let mut body = Vec::new(alloc);
-    body.push(Stmt::Execute { method: called })?;
-    if twice {
-        body.push(Stmt::Execute { method: called })?;
-    }
-    Ok(Method { name, body })
-}
+const AFTER: &str = "</METHODS></PAP>";
 
-/// A method without a statement.
-fn empty(alloc: Global, name: Name) -> Method
-    ensures { IsPlain (body_of result.body.items) }
-{
-    Method {
-        name,
-        body: Vec::new(alloc),
-    }
-}
-
-/// Appends a method.
-fn add(methods: &mut Vec<Method>, method: Method) -> Result<(), AllocError>
-    requires methods { ArePlain methods.old.items }
-    requires method { IsPlain (body_of method.body.items) }
-    ensures few { OnOk result (length methods.new.items ≡ length methods.old.items + 1) }
-    ensures plain { OnOk result (ArePlain methods.new.items) }
-{
-    methods.push(method)?;
+/// Appends a method that executes another, once or twice.
+fn push_calling(text: &mut String, name: usize, called: usize, twice: bool) -> Result<(), Fail> {
+    let alloc = *text.allocator();
+    let call = format!(in alloc; "<EXECUTE method='M{called}'/>")?;
+    let again = if twice { call.as_str() } else { "" };
+    let method = format!(in alloc; "<METHOD name='M{name}'>{call}{again}</METHOD>")?;
+    text.push_str(method.as_str())?;
     Ok(())
 }
 
 /// Methods each of which executes the next, once or twice; the last but one executes the last once, and the last has no
 /// statement.
-fn ladder(alloc: Global, steps: usize, twice: bool) -> Result<Vec<Method>, Fail>
+fn ladder(alloc: Global, steps: usize, twice: bool) -> Result<String, Fail>
     requires { steps ≤ 100 }
-    ensures few { IfOk result (λ ms. length ms.items ≡ steps + 2) }
-    ensures plain { IfOk result (λ ms. ArePlain ms.items) }
 {
-    let mut methods = Vec::new(alloc);
+    let mut text = String::new(alloc);
     for i in 0..steps {
-        let method = calling(alloc, numbered(alloc, i)?, numbered(alloc, i + 1)?, twice)?;
-        add(&mut methods, method)?;
+        push_calling(&mut text, i, i + 1, twice)?;
     }
-    let last = numbered(alloc, steps + 1)?;
-    let last_but_one = calling(alloc, numbered(alloc, steps)?, last, false)?;
-    add(&mut methods, last_but_one)?;
-    add(&mut methods, empty(alloc, last))?;
-    Ok(methods)
+    push_calling(&mut text, steps, steps + 1, false)?;
+    let last = format!(in alloc; "<METHOD name='M{}'/>", steps + 1)?;
+    text.push_str(last.as_str())?;
+    Ok(text)
 }
 
 /// What is answered of a plan whose MAIN executes one method.
-fn answer(alloc: Global, first: Name, methods: Vec<Method>) -> Result<String, Fail>
-    requires few { length methods.items ≤ 102 }
-    requires plain { ArePlain methods.items }
-{
-    let mut main = Vec::new(alloc);
-    main.push(Stmt::Execute { method: first })?;
-    let plan = PlanText {
-        inputs: Vec::new(alloc),
-        outputs: Vec::new(alloc),
-        internals: Vec::new(alloc),
-        constants: Vec::new(alloc),
-        main,
-        methods,
-    };
-    let typed = check_types(alloc, plan)?;
-    match order_methods(alloc, &typed) {
-        Ok(order) => Ok(format!(in alloc; "{:?}", order)?),
-        Err(fault) => Ok(format!(in alloc; "{fault}")?),
+fn answer(alloc: Global, first: &str, methods: &str) -> Result<String, Fail> {
+    let text = format!(in alloc; "{BEFORE}{first}'/></MAIN>{methods}{AFTER}")?;
+    match accept(alloc, text.as_bytes(), b"") {
+        Ok(plan) => Ok(format!(in alloc; "{:?}", order_methods(alloc, plan.text())?)?),
+        Err(PlanRefusal::Order(fault)) => Ok(format!(in alloc; "{fault}")?),
+        Err(fault) => Ok(format!(in alloc; "another fault: {fault}")?),
     }
 }
 
 #[test]
 fn methods_stand_behind_what_they_execute(rt: HostRuntime) -> Result<(), Fail> {
-    let alloc = rt.alloc();
-    let first = numbered(alloc, 0)?;
-    let text = answer(alloc, first, ladder(alloc, 1, true)?)?;
+    let text = answer(rt.alloc(), "M0", ladder(rt.alloc(), 1, true)?.as_str())?;
     assert_eq!(rt; text.as_str(), "[2, 1, 0]");
     Ok(())
 }
 
 #[test]
 fn chains_have_at_most_64_methods(rt: HostRuntime) -> Result<(), Fail> {
-    let alloc = rt.alloc();
-    let first = numbered(alloc, 0)?;
-    let text = answer(alloc, first, ladder(alloc, 62, false)?)?;
+    let text = answer(rt.alloc(), "M0", ladder(rt.alloc(), 62, false)?.as_str())?;
     assert!(rt; text.starts_with("[63, 62, 61, "));
-    let text = answer(alloc, first, ladder(alloc, 63, false)?)?;
+    let text = answer(rt.alloc(), "M0", ladder(rt.alloc(), 63, false)?.as_str())?;
     assert_eq!(rt;
         text.as_str(),
         "the method `M0` begins a chain of more than 64 methods, each of which executes the next"
@@ -115,13 +68,10 @@ fn chains_have_at_most_64_methods(rt: HostRuntime) -> Result<(), Fail> {
 
 #[test]
 fn a_cycle_counts_though_main_never_reaches_it(rt: HostRuntime) -> Result<(), Fail> {
-    let alloc = rt.alloc();
-    let mut methods = ladder(alloc, 63, false)?;
-    let cyclic = numbered(alloc, 66)?;
-    let before = calling(alloc, numbered(alloc, 65)?, cyclic, false)?;
-    add(&mut methods, before)?;
-    add(&mut methods, calling(alloc, cyclic, cyclic, false)?)?;
-    let text = answer(alloc, numbered(alloc, 64)?, methods)?;
+    let mut methods = ladder(rt.alloc(), 63, false)?;
+    push_calling(&mut methods, 65, 66, false)?;
+    push_calling(&mut methods, 66, 66, false)?;
+    let text = answer(rt.alloc(), "M64", methods.as_str())?;
     assert_eq!(rt;
         text.as_str(),
         "the method `M66` executes itself, directly or through others"
@@ -131,14 +81,43 @@ fn a_cycle_counts_though_main_never_reaches_it(rt: HostRuntime) -> Result<(), Fa
 
 #[test]
 fn plans_have_at_most_200000_statements(rt: HostRuntime) -> Result<(), Fail> {
-    let alloc = rt.alloc();
-    let first = numbered(alloc, 0)?;
-    let text = answer(alloc, first, ladder(alloc, 16, true)?)?;
+    let text = answer(rt.alloc(), "M0", ladder(rt.alloc(), 16, true)?.as_str())?;
     assert!(rt; text.starts_with("[17, 16, 15, "));
-    let text = answer(alloc, first, ladder(alloc, 17, true)?)?;
+    let text = answer(rt.alloc(), "M0", ladder(rt.alloc(), 17, true)?.as_str())?;
     assert_eq!(rt;
         text.as_str(),
         "with the methods that are executed the plan has 393215 statements, and at most 200000 may be"
+    );
+    Ok(())
+}
+
+/// A method M0 of 199 statements, a method M1 that executes it 1,000 times, and M2 of so many statements, which executes M1.
+fn exactly(alloc: Global, further: usize) -> Result<String, Fail> {
+    let mut text = String::from_str(alloc, "<METHOD name='M0'>")?;
+    for _ in 0..199 {
+        text.push_str("<EVAL exec='A=1'/>")?;
+    }
+    text.push_str("</METHOD><METHOD name='M1'>")?;
+    for _ in 0..999 {
+        text.push_str("<EXECUTE method='M0'/>")?;
+    }
+    text.push_str("</METHOD><METHOD name='M2'><EXECUTE method='M1'/>")?;
+    for _ in 0..further {
+        text.push_str("<EVAL exec='A=1'/>")?;
+    }
+    text.push_str("</METHOD>")?;
+    Ok(text)
+}
+
+#[test]
+fn the_200000th_statement_is_the_last(rt: HostRuntime) -> Result<(), Fail> {
+    // 1 + 1 + 999 * 200 + 198
+    let text = answer(rt.alloc(), "M2", exactly(rt.alloc(), 198)?.as_str())?;
+    assert_eq!(rt; text.as_str(), "[0, 1, 2]");
+    let text = answer(rt.alloc(), "M2", exactly(rt.alloc(), 199)?.as_str())?;
+    assert_eq!(rt;
+        text.as_str(),
+        "with the methods that are executed the plan has 200001 statements, and at most 200000 may be"
     );
     Ok(())
 }

@@ -8,6 +8,7 @@ use outside::{
     SureFiles, SureSink, SureSource, put_all,
 };
 use std::alloc::{AllocError, Global};
+use std::str::from_utf8;
 use std::test::Fail;
 
 fn two_files(alloc: Global) -> Result<Vec<(String, Vec<u8>)>, AllocError>
@@ -85,42 +86,72 @@ fn sure_files_fail_at_lacking_names(rt: HostRuntime) -> Result<(), Fail> {
     Ok(())
 }
 
+/// What a source gives to calls that ask for so many bytes, one after the other; `!` for a fault.
+fn taken<R: Source>(alloc: Global, source: &mut R, asked: &str) -> Result<String, Fail> {
+    let mut text = String::new(alloc);
+    for word in asked.split_whitespace() {
+        let size = word.parse::<usize>().map_err(|_| Fail::from("a size"))?;
+        let mut buf = vec![in alloc; b'-'; size]?;
+        let count = source.take(&mut buf);
+        let front = from_utf8(&buf).map_err(|_| Fail::from("a text"))?;
+        let one = match count {
+            Ok(n) => format!(in alloc; "{n}:{front} ")?,
+            Err(_) => String::from_str(alloc, "! ")?,
+        };
+        text.push_str(one.as_str())?;
+    }
+    Ok(text)
+}
+
 #[test]
 fn sources_give_at_most_what_is_asked(rt: HostRuntime) -> Result<(), Fail> {
     let alloc = rt.alloc();
     let mut source = MemSource::new(Vec::from_slice(alloc, b"abcde")?, 3, listed(alloc, 2)?);
-    let mut buf = [0; 4];
-    assert!(rt; source.take(&mut buf) == Ok(3));
-    assert!(rt; buf == [b'a', b'b', b'c', 0]);
-    assert!(rt; source.take(&mut buf).is_err());
-    assert!(rt; source.take(&mut [0]) == Ok(1));
-    assert!(rt; source.take(&mut buf) == Ok(1));
-    assert!(rt; source.take(&mut buf) == Ok(0));
-
+    let text = taken(alloc, &mut source, "4 4 1 4 4")?;
+    assert_eq!(rt; text.as_str(), "3:abc- ! 1:d 1:e--- 0:---- ");
     let mut source = SureSource::new(Vec::from_slice(alloc, b"abcde")?, 4);
-    assert!(rt; source.take(&mut buf) == Ok(4));
-    assert!(rt; source.take(&mut buf) == Ok(1));
-    assert!(rt; source.take(&mut buf) == Ok(0));
+    let text = taken(alloc, &mut source, "4 4 4")?;
+    assert_eq!(rt; text.as_str(), "4:abcd 1:e--- 0:---- ");
+    let mut source = StdSource::new("abc".as_bytes());
+    let text = taken(alloc, &mut source, "2 4 4")?;
+    assert_eq!(rt; text.as_str(), "2:ab 1:c--- 0:---- ");
     Ok(())
+}
+
+/// How much a sink takes of each of these words, one after the other; `!` for a fault.
+fn put<W: Sink>(alloc: Global, sink: &mut W, words: &str) -> Result<String, Fail> {
+    let mut text = String::new(alloc);
+    for word in words.split_whitespace() {
+        let one = match sink.put(word.as_bytes()) {
+            Ok(n) => format!(in alloc; "{n} ")?,
+            Err(_) => String::from_str(alloc, "! ")?,
+        };
+        text.push_str(one.as_str())?;
+    }
+    Ok(text)
 }
 
 #[test]
 fn sinks_take_a_front_until_they_are_full(rt: HostRuntime) -> Result<(), Fail> {
     let alloc = rt.alloc();
     let mut sink = MemSink::new(alloc, 5, listed(alloc, 2)?)?;
-    assert!(rt; sink.put(b"abc") == Ok(3));
-    assert!(rt; sink.put(b"abc").is_err());
-    assert!(rt; sink.put(b"def") == Ok(2));
-    assert!(rt; sink.put(b"f").is_err());
-    assert!(rt; sink.written() == b"abcde".as_slice());
+    assert_eq!(rt;
+        put(alloc, &mut sink, "abc abc def f")?.as_str(),
+        "3 ! 2 ! "
+    );
+    assert!(rt; sink.written() == "abcde".as_bytes());
+    assert_eq!(rt; put(alloc, &mut SureSink::new(), "abc")?.as_str(), "3 ");
+    Ok(())
+}
 
+#[test]
+fn whole_texts_are_put_or_a_front(rt: HostRuntime) -> Result<(), Fail> {
+    let alloc = rt.alloc();
     let mut sink = MemSink::short(alloc, 4, 1, Vec::new(alloc))?;
     assert!(rt; put_all(&mut sink, b"abc").is_ok());
-    assert!(rt; sink.written() == b"abc".as_slice());
     assert!(rt; put_all(&mut sink, b"de").is_err());
-    assert!(rt; sink.written() == b"abcd".as_slice());
-
-    assert!(rt; SureSink::new().put(b"abc") == Ok(3));
+    assert!(rt; sink.written() == "abcd".as_bytes());
+    assert!(rt; put_all(&mut StdSink::new(Vec::new(alloc)), b"abc").is_ok());
     Ok(())
 }
 
@@ -133,15 +164,5 @@ fn adapters_pass_on_what_lies_below(rt: HostRuntime) -> Result<(), Fail> {
     assert!(rt; gives(alloc, &mut files, "/dev/null", 9, ""));
     let zeros = files.read_front(alloc, "/dev/zero", 5000)?;
     assert!(rt; zeros.len() == 5000 && zeros.iter().all(|&byte| byte == 0));
-
-    let mut buf = [0; 4];
-    let mut source = StdSource::new("abc".as_bytes());
-    assert!(rt; source.take(&mut [0, 0]) == Ok(2));
-    assert!(rt; source.take(&mut buf) == Ok(1));
-    assert!(rt; buf == [b'c', 0, 0, 0]);
-    assert!(rt; source.take(&mut buf) == Ok(0));
-
-    let mut sink = StdSink::new(Vec::new(alloc));
-    assert!(rt; put_all(&mut sink, b"abc").is_ok());
     Ok(())
 }

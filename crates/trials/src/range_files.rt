@@ -1,4 +1,5 @@
 // Range files: texts with their limits, and texts with each fault.
+use crate::answers::sides;
 use limits_file::{Carry, InputLimit, LimitsFault, read_limits};
 use pap_tree::Name;
 use scaled_decimal::Dec;
@@ -76,136 +77,65 @@ fn values_fit_their_limits(rt: HostRuntime) -> Result<(), Fail> {
     Ok(())
 }
 
-/// Texts and their answers.
-const ANSWERS: [(&str, &str); 46] = [
-    ("", "0 inputs, 0 bindings"),
-    ("# no ranges\n", "0 inputs, 0 bindings"),
-    ("[input]\n[bind]\n", "0 inputs, 0 bindings"),
-    (TWO_INPUTS, "2 inputs, 1 bindings"),
-    (
-        "input.A = { low = \"-0.50\", high = \"1.5\", places = 2 }",
-        "1 inputs, 0 bindings",
-    ),
-    (
-        "input.A = { low = 0x10, high = 1_000, places = +3 }",
-        "1 inputs, 0 bindings",
-    ),
-    ("[bind.N]\nkind = \"count\"\n", "0 inputs, 1 bindings"),
-    (
-        "[bind.N]\nkind = \"last\"\noutput = \"LST\"\n",
-        "0 inputs, 1 bindings",
-    ),
-    // no TOML
-    ("[input.RE4", "Toml"),
-    ("[input.A]\n[input.A]\n", "Toml"),
-    ("input.A = { low = 9223372036854775808 }", "Toml"),
-    // the keys of the file
-    ("[other]", "Key other"),
-    ("input = 5", "Key input"),
-    ("[[input]]\nlow = 0", "Key input"),
-    ("bind = []", "Key bind"),
-    ("\"\" = 1", "Key "),
-    // the names of entries
-    ("[input.\"R 4\"]\nlow = 0\n", "Key R?4"),
-    ("[input.new]", "Key new"),
-    ("[input]\nRE4 = 5\n", "Key RE4"),
-    (
-        "[input.abcdefghijklmnopqrstuvwxyzABCDEFGH]",
-        "Key abcdefghijklmnopqrstuvwxyzABCDEF",
-    ),
-    // the keys of an input's entry
-    ("input.RE4 = { low = 1.5, high = 2, places = 0 }", "Key low"),
-    (
-        "input.RE4 = { low = 1, high = true, places = 0 }",
-        "Key high",
-    ),
-    (
-        "input.RE4 = { low = 1, high = 2, places = \"0\" }",
-        "Key places",
-    ),
-    (
-        "input.RE4 = { low = 1, high = 2, places = 0, step = 1 }",
-        "Key step",
-    ),
-    ("input.RE4 = { low = 1, places = 0 }", "Key RE4"),
-    // the rule for bounds
-    ("input.RE4 = { low = 5, high = 1, places = 0 }", "Bound RE4"),
-    (
-        "input.RE4 = { low = 0, high = 1, places = 31 }",
-        "Bound RE4",
-    ),
-    (
-        "input.RE4 = { low = 0, high = 1, places = -1 }",
-        "Bound RE4",
-    ),
-    (
-        "input.RE4 = { low = 0, high = 1, places = 256 }",
-        "Bound RE4",
-    ),
-    (
-        "input.RE4 = { low = 0, high = \"1.25\", places = 1 }",
-        "Bound RE4",
-    ),
-    (
-        "input.RE4 = { low = 0, high = \"1,25\", places = 2 }",
-        "Bound RE4",
-    ),
-    (
-        "input.RE4 = { low = 0, high = \"10000000000000000000000000000000000000\", places = 0 }",
-        "1 inputs, 0 bindings",
-    ),
-    (
-        "input.RE4 = { low = 0, high = \"10000000000000000000000000000000000000\", places = 1 }",
-        "Bound RE4",
-    ),
-    (
-        "input.RE4 = { low = \"-10000000\", high = 0, places = 30 }",
-        "1 inputs, 0 bindings",
-    ),
-    (
-        "input.RE4 = { low = \"-10000001\", high = 0, places = 30 }",
-        "Bound RE4",
-    ),
-    // the keys of a binding's entry
-    (
-        "bind.SUMV = { kind = \"mean\", output = \"LST\" }",
-        "Key kind",
-    ),
-    (
-        "bind.SUMV = { kind = \"sum\", output = \"L T\" }",
-        "Key output",
-    ),
-    ("bind.SUMV = { kind = \"sum\", output = 1 }", "Key output"),
-    (
-        "bind.SUMV = { kind = \"count\", output = \"LST\" }",
-        "Key output",
-    ),
-    ("bind.SUMV = { kind = \"sum\" }", "Key SUMV"),
-    ("bind.SUMV = { output = \"LST\" }", "Key SUMV"),
-    // two faults: the first in order of keys
-    (
-        "input.A = { low = 5, high = 1, places = 0 }\nbind.B = { kind = 1 }",
-        "Key kind",
-    ),
-    (
-        "input.B = { low = 5, high = 1, places = 0 }\ninput.A = { low = true }",
-        "Key low",
-    ),
-    ("aaa = 1\nbind.B = { kind = 1 }", "Key aaa"),
-    (
-        "other = 1\ninput.A = { low = 5, high = 1, places = 0 }",
-        "Bound A",
-    ),
-    (
-        "input.A = { low = 5, high = 1, places = 0, step = 1 }",
-        "Key step",
-    ),
-];
+/// Texts, `\n` for each line's end, and their answers.
+const ANSWERS: &str = r#" => 0 inputs, 0 bindings
+# no ranges\n => 0 inputs, 0 bindings
+[input]\n[bind]\n => 0 inputs, 0 bindings
+TWO_INPUTS => 2 inputs, 1 bindings
+input.A = { low = "-0.50", high = "1.5", places = 2 } => 1 inputs, 0 bindings
+input.A = { low = 0x10, high = 1_000, places = +3 } => 1 inputs, 0 bindings
+[bind.N]\nkind = "count"\n => 0 inputs, 1 bindings
+[bind.N]\nkind = "last"\noutput = "LST"\n => 0 inputs, 1 bindings
+[input.RE4 => Toml
+[input.A]\n[input.A]\n => Toml
+input.A = { low = 9223372036854775808 } => Toml
+[other] => Key other
+input = 5 => Key input
+[[input]]\nlow = 0 => Key input
+bind = [] => Key bind
+"" = 1 => Key 
+[input."R 4"]\nlow = 0\n => Key R?4
+[input.new] => Key new
+[input]\nRE4 = 5\n => Key RE4
+[input.abcdefghijklmnopqrstuvwxyzABCDEFGH] => Key abcdefghijklmnopqrstuvwxyzABCDEF
+input.RE4 = { low = 1.5, high = 2, places = 0 } => Key low
+input.RE4 = { low = 1, high = true, places = 0 } => Key high
+input.RE4 = { low = 1, high = 2, places = "0" } => Key places
+input.RE4 = { low = 1, high = 2, places = 0, step = 1 } => Key step
+input.RE4 = { low = 1, places = 0 } => Key RE4
+input.RE4 = { low = 5, high = 1, places = 0 } => Bound RE4
+input.RE4 = { low = 0, high = 1, places = 31 } => Bound RE4
+input.RE4 = { low = 0, high = 1, places = -1 } => Bound RE4
+input.RE4 = { low = 0, high = 1, places = 256 } => Bound RE4
+input.RE4 = { low = 0, high = "1.25", places = 1 } => Bound RE4
+input.RE4 = { low = 0, high = "1,25", places = 2 } => Bound RE4
+input.RE4 = { low = 0, high = "10000000000000000000000000000000000000", places = 0 } => 1 inputs, 0 bindings
+input.RE4 = { low = 0, high = "10000000000000000000000000000000000000", places = 1 } => Bound RE4
+input.RE4 = { low = "-10000000", high = 0, places = 30 } => 1 inputs, 0 bindings
+input.RE4 = { low = "-10000001", high = 0, places = 30 } => Bound RE4
+bind.SUMV = { kind = "mean", output = "LST" } => Key kind
+bind.SUMV = { kind = "sum", output = "L T" } => Key output
+bind.SUMV = { kind = "sum", output = 1 } => Key output
+bind.SUMV = { kind = "count", output = "LST" } => Key output
+bind.SUMV = { kind = "sum" } => Key SUMV
+bind.SUMV = { output = "LST" } => Key SUMV
+input.A = { low = 5, high = 1, places = 0 }\nbind.B = { kind = 1 } => Key kind
+input.B = { low = 5, high = 1, places = 0 }\ninput.A = { low = true } => Key low
+aaa = 1\nbind.B = { kind = 1 } => Key aaa
+other = 1\ninput.A = { low = 5, high = 1, places = 0 } => Bound A
+input.A = { low = 5, high = 1, places = 0, step = 1 } => Key step"#;
 
 #[test]
 fn each_text_has_its_answer(rt: HostRuntime) -> Result<(), Fail> {
-    for (text, wanted) in ANSWERS.iter() {
-        assert_eq!(rt; answer(rt.alloc(), text)?.as_str(), *wanted, "{text}");
+    for row in ANSWERS.lines() {
+        let (written, wanted) = sides(row)?;
+        let text = written.replace(rt.alloc(), "\\n", "\n")?;
+        let text = text.replace(rt.alloc(), "TWO_INPUTS", TWO_INPUTS)?;
+        assert_eq!(rt;
+            answer(rt.alloc(), text.as_str())?.as_str(),
+            wanted,
+            "{row}"
+        );
     }
     Ok(())
 }

@@ -1,4 +1,5 @@
 // Pay runs: days against the calendar, records, and tables with their first fault.
+use crate::answers::sides;
 use jiff::civil::Date;
 use pap_tree::Name;
 use payroll_records::{
@@ -8,43 +9,51 @@ use scaled_decimal::read_dec;
 use std::alloc::Global;
 use std::test::Fail;
 
+const EMPLOYEES: &str = r#"E1 => true
+a.b-c_D => true
+ => false
+a b => false
+0123456789012345678901234567890. => true
+0123456789012345678901234567890.x => false"#;
+
+const MONTHS: &str = r#"1900-01 => true
+2999-12 => true
+1899-12 => false
+3000-01 => false
+2025-13 => false
+2025-1 => false"#;
+
+const DAYS: &str = r#"2024-02-29 => true
+2025-02-29 => false
+2000-02-29 => true
+2100-02-29 => false
+2025-04-31 => false
+2025-12-31 => true
+2025-1-31 => false
+2025/01/31 => false"#;
+
 #[test]
 fn employees_months_and_days_are_read_by_form(rt: HostRuntime) -> Result<(), Fail> {
-    let employees: [(&[u8], bool); 6] = [
-        (b"E1", true),
-        (b"a.b-c_D", true),
-        (b"", false),
-        (b"a b", false),
-        (b"0123456789012345678901234567890.", true),
-        (b"0123456789012345678901234567890.x", false),
-    ];
-    for (text, good) in employees {
-        assert_eq!(rt; Employee::read(text).is_some(), good);
+    for row in EMPLOYEES.lines() {
+        let (text, wanted) = sides(row)?;
+        let good = Employee::read(text.as_bytes()).is_some();
+        assert_eq!(rt; good, wanted == "true", "{row}");
     }
-    let months: [(&[u8], bool); 6] = [
-        (b"1900-01", true),
-        (b"2999-12", true),
-        (b"1899-12", false),
-        (b"3000-01", false),
-        (b"2025-13", false),
-        (b"2025-1", false),
-    ];
-    for (text, good) in months {
-        assert_eq!(rt; Month::read(text).is_some(), good);
+    for row in MONTHS.lines() {
+        let (text, wanted) = sides(row)?;
+        let good = Month::read(text.as_bytes()).is_some();
+        assert_eq!(rt; good, wanted == "true", "{row}");
     }
-    let days: [(&[u8], bool); 8] = [
-        (b"2024-02-29", true),
-        (b"2025-02-29", false),
-        (b"2000-02-29", true),
-        (b"2100-02-29", false),
-        (b"2025-04-31", false),
-        (b"2025-12-31", true),
-        (b"2025-1-31", false),
-        (b"2025/01/31", false),
-    ];
-    for (text, good) in days {
-        assert_eq!(rt; Day::read(text).is_some(), good);
+    for row in DAYS.lines() {
+        let (text, wanted) = sides(row)?;
+        let good = Day::read(text.as_bytes()).is_some();
+        assert_eq!(rt; good, wanted == "true", "{row}");
     }
+    Ok(())
+}
+
+#[test]
+fn days_are_shown_and_ordered(rt: HostRuntime) -> Result<(), Fail> {
     let day = Day::read(b"2025-01-09").ok_or("a day")?;
     let month = Month::of_day(day);
     let employee = Employee::read(b"E1").ok_or("an employee")?;
@@ -122,59 +131,30 @@ fn a_table_gives_its_records(rt: HostRuntime) -> Result<(), Fail> {
     Ok(())
 }
 
+/// Rows behind the header, `\n` for each line's end, with the fault.
+const FAULTS: &str = r#"E2,2025-01,2025-01-31\n => row 1 has not as many fields as the header
+E 2,2025-1,2025-02-01\n => row 1 has not as many fields as the header
+E 2,2025-1,2025-02-01,1.\n => row 1: the employee is not 1 to 32 letters, digits, `_`, `-` and `.`
+E2,2025-1,2025-02-01,1.\n => row 1: the month is not of the form YYYY-MM
+E2,2025-01,2025-02-01,1.\n => row 1: the day is not of the form YYYY-MM-DD, not in the calendar or not in the month
+E2,2025-01,2025-01-31,1.\n => row 1: the value of RE4 is no number
+E2,2025-01,2025-01-31,1\nE2,2025-01,2025-01-31,1\n => row 2: an earlier row has the same employee and day
+E2,2025-01,2025-01-31,1\nE2,2025-13,2025-01-31,1\n => row 2: the month is not of the form YYYY-MM
+E2,2025-13,2025-01-31,1\nE 2,2025-01,2025-01-31,1\n => row 1: the month is not of the form YYYY-MM"#;
+
 #[test]
 fn a_table_is_refused_with_its_first_fault(rt: HostRuntime) -> Result<(), Fail> {
     let alloc = rt.alloc();
     assert!(rt; matches!(fault(alloc, ""), Some(TableFault::Header)));
-    assert!(rt;
-        matches!(
-            fault(alloc, "employee,month,day,RE4,RE4\n"),
-            Some(TableFault::Header)
-        )
-    );
-    let rows: [(&str, &str); 9] = [
-        (
-            "E2,2025-01,2025-01-31\n",
-            "row 1 has not as many fields as the header",
-        ),
-        (
-            "E 2,2025-1,2025-02-01\n",
-            "row 1 has not as many fields as the header",
-        ),
-        (
-            "E 2,2025-1,2025-02-01,1.\n",
-            "row 1: the employee is not 1 to 32 letters, digits, `_`, `-` and `.`",
-        ),
-        (
-            "E2,2025-1,2025-02-01,1.\n",
-            "row 1: the month is not of the form YYYY-MM",
-        ),
-        (
-            "E2,2025-01,2025-02-01,1.\n",
-            "row 1: the day is not of the form YYYY-MM-DD, not in the calendar or not in the month",
-        ),
-        (
-            "E2,2025-01,2025-01-31,1.\n",
-            "row 1: the value of RE4 is no number",
-        ),
-        (
-            "E2,2025-01,2025-01-31,1\nE2,2025-01,2025-01-31,1\n",
-            "row 2: an earlier row has the same employee and day",
-        ),
-        (
-            "E2,2025-01,2025-01-31,1\nE2,2025-13,2025-01-31,1\n",
-            "row 2: the month is not of the form YYYY-MM",
-        ),
-        (
-            "E2,2025-13,2025-01-31,1\nE 2,2025-01,2025-01-31,1\n",
-            "row 1: the month is not of the form YYYY-MM",
-        ),
-    ];
-    for (text, wanted) in rows {
-        let table = format!(in alloc; "{HEADER}{text}")?;
+    let twice = fault(alloc, "employee,month,day,RE4,RE4\n");
+    assert!(rt; matches!(twice, Some(TableFault::Header)));
+    for row in FAULTS.lines() {
+        let (rows, wanted) = sides(row)?;
+        let lines = rows.replace(alloc, "\\n", "\n")?;
+        let table = format!(in alloc; "{HEADER}{lines}")?;
         let fault = fault(alloc, table.as_str()).ok_or("a fault")?;
         let shown = format!(in alloc; "{fault}")?;
-        assert_eq!(rt; shown.as_str(), wanted);
+        assert_eq!(rt; shown.as_str(), wanted, "{row}");
     }
     Ok(())
 }
