@@ -1,7 +1,6 @@
 -- Every two texts have one answer of each command.
 use Rattle.std.proofs.Common.{◌≡◌, ℕ, List, [], ◌∷◌, ◌++◌, refl, sym, ap, ◌∙◌, subst}
-use Rattle.std.specs.Prelude.{Option, Some, None, option_map, All, Result, Ok, Err, codes, fold}
-use Rattle.std.specs.Ordering.{is_eq}
+use Rattle.std.specs.Prelude.{Some, option_map, All, Result, Ok, Err, codes, fold}
 use Rattle.std.specs.declared.cmp.Ordering.{Ordering}
 use Rattle.std.specs.declared.cmp.Ordering.TheVariants.{Less, Equal, Greater}
 use Rattle.std.proofs.lemmas.List.Elements.{All-nil, All-cons, All-head, All-tail}
@@ -10,24 +9,23 @@ use Rattle.scaled_decimal.specs.Limits.{IsKept}
 use Rattle.pap_tree.specs.Flowchart.{Flowchart}
 use Rattle.limits_file.specs.declared.slots.Slot.{Slot}
 use Rattle.payroll_records.specs.declared.values.NamedValue.{NamedValue}
-use Rattle.payroll_records.specs.NamedValues.{name_cmp, name_of, with_value}
-use Rattle.rising_lists.specs.Keyed.{put, put_by}
+use Rattle.payroll_records.specs.NamedValues.{name_cmp, with_value}
+use Rattle.rising_lists.specs.Keyed.{put_by}
 use Rattle.carry_bindings.specs.declared.filling.Filled.{Filled}
 use Rattle.carry_bindings.specs.declared.filling.Filled.TheVariants.{Inputs, State}
 use Rattle.carry_bindings.specs.declared.filling.Blocked.TheVariants as blocked
 use Rattle.carry_bindings.specs.Filling.{filled_by, waits, unknown, missing, outside, inputs}
 use Rattle.interval_analysis.specs.declared.fault.RangeFault.TheVariants as walks
-use Rattle.pap_types.specs.Meaning.{outputs_in, outputs_of, cost_of}
-use Rattle.plan_text.specs.Plans.{IsPlan}
+use Rattle.pap_types.specs.Meaning.{outputs_in, cost_of}
 use Rattle.plan_text.proofs.Laws.{one_plan}
 use Rattle.pap_plan.specs.declared.refusal.PlanRefusal.{PlanRefusal}
 use Rattle.pap_plan.specs.declared.refusal.PlanRefusal.TheVariants as refusals
 use Rattle.pap_plan.specs.Acceptance.{Meaning, Answers, IsAccepted, IsRefused}
 use Rattle.pap_plan.specs.Inputs.{AreSlots}
 use Rattle.pap_plan.proofs.Laws as plans
-use Rattle.pap_cli.specs.Words.{IsKeptValue, IsValueWord, Give, AreValueWords}
+use Rattle.pap_cli.specs.Words.{IsKeptValue, Give, AreValueWords}
 use Rattle.pap_cli.specs.Refusals.{read_detail, expr_detail, type_detail, order_detail, limits_detail, node_detail, HasDetail}
-use Rattle.pap_cli.specs.Answers.{Answer, refusal, IsRefusal, acceptance, IsChecked, CheckAnswers, finished, IsRunOn, IsRunOnce, IsOnce, OnceAnswers}
+use Rattle.pap_cli.specs.Answers.{Answer, refusal, IsRefusal, acceptance, IsChecked, CheckAnswers, finished, IsRunOn, IsOnce, OnceAnswers}
 use Rattle.pap_cli.specs.Laws.{HasOneAnswer}
 use Rattle.pap_cli.proofs.AdmissionLemmas.{filled_admitted, first_inputs}
 use Rattle.pap_cli.proofs.KeptLemmas.{inputs_kept}

@@ -1,12 +1,12 @@
 -- The decimal of a declared literal is kept.
-use Rattle.std.proofs.Common.{◌≡◌, ℕ, zero, suc, ◌+◌, ◌-◌, ◌*◌, ◌^◌, ◌<◌, ◌≤◌, ℤ, pos, negsuc, ◌*ℤ◌, neg_ℤ, unsigned_abs, List, [], ◌∷◌, ◌++◌, length, Option, Some, None, refl, sym, ap, subst, ◌∙◌, arith}
+use Rattle.std.proofs.Common.{◌≡◌, ℕ, zero, suc, ◌+◌, ◌-◌, ◌*◌, ◌^◌, ◌<◌, ◌≤◌, ℤ, pos, negsuc, ◌*ℤ◌, neg_ℤ, unsigned_abs, List, [], ◌∷◌, ◌++◌, length, Option, Some, None, ap, subst, arith}
 use Rattle.std.specs.Prelude.{⊤}
 use Rattle.std.specs.List.{All}
 use Rattle.std.specs.Option.{option_map}
 use Rattle.std.proofs.lemmas.Int.{ints}
 use Rattle.std.proofs.lemmas.List.Elements.{All-nil, All-cons}
-use Rattle.scaled_decimal.specs.Decimals.{Decimal, decimal, numerator_of, scale_of, ten_to}
-use Rattle.scaled_decimal.specs.Limits.{IsKept, IsWithinLimit, limit}
+use Rattle.scaled_decimal.specs.Decimals.{Decimal, decimal, numerator_of, scale_of}
+use Rattle.scaled_decimal.specs.Limits.{IsKept, IsWithinLimit}
 use Rattle.scaled_decimal.specs.Shortening.{IsShortened}
 use Rattle.scaled_decimal.proofs.Laws.{ten_some}
 use Rattle.pap_tree.specs.declared.expression.Known.{Known}
