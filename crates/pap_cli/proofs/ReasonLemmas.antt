@@ -1,5 +1,5 @@
 -- Whether the answer on two texts is a refusal.
-use Rattle.std.proofs.Common.{◌≡◌, ℕ, Bool, true, false, List, [], refl, sym, ap, ◌∙◌, subst}
+use Rattle.std.proofs.Common.{◌≡◌, ◌≢◌, ℕ, Bool, true, false, List, [], refl, sym, ap, ◌∙◌, subst}
 use Rattle.std.specs.Prelude.{Result, Ok, Err, All}
 use Rattle.scaled_decimal.specs.Decimals.{Decimal}
 use Rattle.pap_tree.specs.Flowchart.{Flowchart}
@@ -9,6 +9,8 @@ use Rattle.carry_bindings.specs.declared.filling.Filled.TheVariants.{Inputs, Sta
 use Rattle.carry_bindings.specs.declared.filling.Blocked.{Blocked}
 use Rattle.carry_bindings.specs.declared.filling.Blocked.TheVariants as blocked
 use Rattle.carry_bindings.specs.Filling.{filled_by}
+use Rattle.limits_file.specs.declared.slots.Slot.{Slot}
+use Rattle.pap_plan.specs.Inputs.{AreSlots}
 use Rattle.outside.specs.Told.{FileMap}
 use Rattle.pap_plan.specs.declared.refusal.PlanRefusal.{PlanRefusal}
 use Rattle.pap_plan.specs.declared.refusal.PlanRefusal.TheVariants as refusals
@@ -43,6 +45,9 @@ told_blocked f (blocked.Range name) a h = refused_by h
 told_blocked f (blocked.Waits day) a h = absurd h
 
 -- what is filled is determined
+pub filled_from : (values : List NamedValue) (m : Meaning) (slots : List Slot) (x : Filled) → AreSlots m.limits m.flowchart.inputs slots → x ≡ filled_by slots values [] → IsFilledFrom values m x
+filled_from values m slots x are is = record { slots = slots; inputs = are; is = is }
+
 filled_as : (values : List NamedValue) (m : Meaning) (x : Filled) (a : Answer) → IsFilledFrom values m x → IsRunOnce values m a → IsRunOn m.flowchart x a
 filled_as values m x a h k =
     let slots = plans.one_slots m.limits m.flowchart.inputs k.slots h.slots k.inputs h.inputs in
@@ -75,6 +80,19 @@ pub told_once : (values : List NamedValue) (plan limits : List ℕ) (p : Seen) (
 told_once values plan limits p told h t a k =
     let same = plans.one plan limits k.verdict (Ok (meaning p)) k.accepted h.accepted in
     t a (subst (λ v. IsOnce values plan v a) same k.is)
+
+-- a refusal that isn't want of memory
+pub refused_is : (plan limits : List ℕ) (r : PlanRefusal) → r ≢ refusals.Memory → IsRefusedOrMemory plan limits r → IsRefusedPlan plan limits r
+refused_is plan limits (refusals.Read fault) other h = h
+refused_is plan limits (refusals.Expr spot fault) other h = h
+refused_is plan limits (refusals.Types fault) other h = h
+refused_is plan limits (refusals.Order fault) other h = h
+refused_is plan limits (refusals.Limits fault) other h = h
+refused_is plan limits (refusals.LimitName name) other h = h
+refused_is plan limits (refusals.LimitKind name) other h = h
+refused_is plan limits (refusals.Bind name) other h = h
+refused_is plan limits (refusals.Range fault) other h = h
+refused_is plan limits refusals.Memory other h = absurd (other refl)
 
 -- refused texts are one
 pub told_refused : (c : Command) (plan limits : List ℕ) (r : PlanRefusal) → IsRefusedPlan plan limits r → TellsRefused (answers_of c plan limits) true

@@ -100,21 +100,21 @@ pub written_whole : (n : ℕ) (out items : List Decimal) → length out ≡ n �
 written_whole n out items h k =
     ap (λ t. take n (out ++ t)) (drop_all (length out) items (omega arith)) ∙ ap (take n) (append-nil out) ∙ take_all n out (omega arith)
 
--- a refusal that isn't want of memory
-pub refused_is : (plan limits : List ℕ) (r : PlanRefusal) → r ≢ refusals.Memory → IsRefusedOrMemory plan limits r → IsRefused plan limits r
-refused_is plan limits (refusals.Read fault) other h = h
-refused_is plan limits (refusals.Expr spot fault) other h = h
-refused_is plan limits (refusals.Types fault) other h = h
-refused_is plan limits (refusals.Order fault) other h = h
-refused_is plan limits (refusals.Limits fault) other h = h
-refused_is plan limits (refusals.LimitName name) other h = h
-refused_is plan limits (refusals.LimitKind name) other h = h
-refused_is plan limits (refusals.Bind name) other h = h
-refused_is plan limits (refusals.Range fault) other h = h
-refused_is plan limits refusals.Memory other h = absurd (other refl)
+-- a refusal that is written isn't want of memory
+pub refused_is : (plan limits : List ℕ) (r : PlanRefusal) (a : Answer) → IsRefusedOrMemory plan limits r → IsRefusal plan r a → IsRefused plan limits r
+refused_is plan limits (refusals.Read fault) a h k = h
+refused_is plan limits (refusals.Expr spot fault) a h k = h
+refused_is plan limits (refusals.Types fault) a h k = h
+refused_is plan limits (refusals.Order fault) a h k = h
+refused_is plan limits (refusals.Limits fault) a h k = h
+refused_is plan limits (refusals.LimitName name) a h k = h
+refused_is plan limits (refusals.LimitKind name) a h k = h
+refused_is plan limits (refusals.Bind name) a h k = h
+refused_is plan limits (refusals.Range fault) a h k = h
+refused_is plan limits refusals.Memory a h k = absurd k.has
 
-pub once_refused : (values : List NamedValue) (plan limits : List ℕ) (r : PlanRefusal) (a : Answer) → IsRefused plan limits r → IsRefusal plan r a → OnceAnswers values plan limits a
-once_refused values plan limits r a h k = record { verdict = Err r; accepted = h; is = k }
+pub once_refused : (values : List NamedValue) (plan limits : List ℕ) (r : PlanRefusal) (a : Answer) → IsRefusedOrMemory plan limits r → IsRefusal plan r a → OnceAnswers values plan limits a
+once_refused values plan limits r a h k = record { verdict = Err r; accepted = refused_is plan limits r a h k; is = k }
 
 pub refusal_steps : (plan : List ℕ) (r : PlanRefusal) (a : Answer) → IsRefusal plan r a → a.steps ≡ 0
 refusal_steps plan r a k = ap (λ (x : Answer). x.steps) k.is
@@ -125,5 +125,5 @@ check_accepted plan limits p a h e = record { verdict = Ok (meaning p); accepted
 pub once_accepted : (values : List NamedValue) (plan limits : List ℕ) (p : Seen) (a : Answer) → IsAcceptedAs plan limits p → IsRunOnce values (meaning p) a → OnceAnswers values plan limits a
 once_accepted values plan limits p a h k = once_of_run values plan limits (meaning p) a h.accepted k
 
-pub check_refused : (plan limits : List ℕ) (r : PlanRefusal) (a : Answer) → IsRefused plan limits r → IsRefusal plan r a → CheckAnswers plan limits a
-check_refused plan limits r a h k = record { verdict = Err r; accepted = h; is = k }
+pub check_refused : (plan limits : List ℕ) (r : PlanRefusal) (a : Answer) → IsRefusedOrMemory plan limits r → IsRefusal plan r a → CheckAnswers plan limits a
+check_refused plan limits r a h k = record { verdict = Err r; accepted = refused_is plan limits r a h k; is = k }

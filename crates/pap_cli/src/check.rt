@@ -8,9 +8,8 @@ ghost use Rattle.pap_cli.specs.AnswerViews.{reply_of};
 
 use crate::refusals::refusal_detail;
 use crate::reply::{Reply, refusal};
-use crate::verdict::verdict;
 use interval_analysis::OutputRange;
-use pap_plan::{Plan, PlanRefusal};
+use pap_plan::{Plan, PlanRefusal, accept};
 use scaled_decimal::Dec;
 use std::alloc::{AllocError, Global};
 
@@ -18,8 +17,9 @@ use std::alloc::{AllocError, Global};
 pub(crate) fn check_reply(alloc: Global, plan: &[u8], limits: &[u8]) -> Result<Reply, AllocError>
     ensures { IfOk result (λ reply. CheckAnswers plan.now limits.now (reply_of reply)) }
 {
-    match verdict(alloc, plan, limits)? {
+    match accept(alloc, plan, limits) {
         Ok(plan) => acceptance(alloc, &plan),
+        Err(PlanRefusal::Memory) => Err(AllocError),
         Err(fault) => refused(alloc, plan, &fault),
     }
 }

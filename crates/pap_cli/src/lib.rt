@@ -11,7 +11,6 @@ mod refusals;
 mod reply;
 mod status;
 mod stop;
-mod verdict;
 mod words;
 
 pub use call::{answer_laws, papcalc, word_laws};

@@ -5,7 +5,7 @@ ghost use Rattle.pap_plan.specs.Bindings.{HasSuitedLimit};
 ghost use Rattle.pap_plan.specs.Plans.{Admits, flowchart, meaning};
 ghost use Rattle.pap_cli.specs.Lines.{value_lines};
 ghost use Rattle.pap_cli.specs.Answers.{Answer, OnceAnswers, IsRunOnce, IsRunOn, finished};
-ghost use Rattle.pap_cli.specs.AnswerViews.{reply_of, IsFilledFrom};
+ghost use Rattle.pap_cli.specs.AnswerViews.{reply_of};
 ghost use Rattle.pap_cli.specs.FileClauses.{IsCounted};
 ghost use Rattle.carry_bindings.specs.declared.filling.Filled.TheVariants.{Inputs, State};
 ghost use Rattle.payroll_records.specs.declared.day.Day.{Day as Date};
@@ -14,9 +14,8 @@ ghost use Rattle.scaled_decimal.specs.Limits.{IsKept};
 
 use crate::check::refused;
 use crate::reply::{Reply, refusal};
-use crate::verdict::verdict;
 use carry_bindings::{Blocked, Filled, fill};
-use pap_plan::Plan;
+use pap_plan::{Plan, PlanRefusal, accept};
 use pap_tree::Declared;
 use payroll_records::{Day, Employee, Record, Values};
 use scaled_decimal::Dec;
@@ -38,8 +37,9 @@ pub(crate) fn once_reply<L: Ledger>(
     ensures memory { OnErr result
         (IsCounted (OnceAnswers values plan.now limits.now) steps.old steps.new) }
 {
-    match verdict(alloc, plan, limits)? {
+    match accept(alloc, plan, limits) {
         Ok(plan) => run_reply(alloc, &plan, values, steps),
+        Err(PlanRefusal::Memory) => Err(AllocError),
         Err(fault) => refused(alloc, plan, &fault),
     }
 }
@@ -57,7 +57,8 @@ fn run_reply<L: Ledger>(
     ensures memory { OnErr result
         (IsCounted (IsRunOnce values (meaning plan.now)) steps.old steps.new) }
 {
-    match inputs_of(alloc, plan, values)? {
+    let record = record_of(values);
+    match fill(alloc, plan.spec(), &record, &[])? {
         Filled::Inputs(inputs) => {
             let inputs = inputs.into_vec();
             each_is_kept(&inputs);
@@ -65,15 +66,6 @@ fn run_reply<L: Ledger>(
         }
         Filled::State(state) => state_reply(alloc, &state),
     }
-}
-
-/// The inputs of an accepted plan from the values of a record without earlier runs, or why there are none.
-pub(crate) fn inputs_of(alloc: Global, plan: &Plan, values: Values) -> Result<Filled, AllocError>
-    requires { All (HasSuitedLimit plan.now.ranges) (flowchart plan.now).inputs }
-    ensures { IfOk result (IsFilledFrom values (meaning plan.now)) }
-{
-    let record = record_of(values);
-    fill(alloc, plan.spec(), &record, &[])
 }
 
 /// Each decimal is within the limits of kept ones, as its type says.
@@ -101,7 +93,7 @@ fn state_reply(alloc: Global, state: &Blocked) -> Result<Reply, AllocError>
 }
 
 /// The record of a run that stands alone: its employee and its day play no part.
-fn record_of(values: Values) -> Record
+pub(crate) fn record_of(values: Values) -> Record
     ensures { result.values ≡ values }
 {
     Record {

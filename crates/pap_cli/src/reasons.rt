@@ -10,12 +10,11 @@ ghost use Rattle.pap_cli.specs.CallClauses.{IsRefused};
 ghost use Rattle.pap_cli.specs.Words.{texts, Form, HasForm, IsBad};
 
 use crate::answer::read_both;
-use crate::once::inputs_of;
-use crate::verdict::verdict;
+use crate::once::record_of;
 use crate::words::{Command, read_words};
-use carry_bindings::Filled;
+use carry_bindings::{Filled, fill};
 use outside::{FileAnswer, Files};
-use pap_plan::Plan;
+use pap_plan::{Plan, PlanRefusal, accept};
 use payroll_records::Values;
 use plain_words::{plan_words, state_words};
 use std::alloc::{AllocError, Global};
@@ -57,11 +56,12 @@ fn reason_on_bytes(
     ensures { IfOk result
         (λ reason. TellsRefused (answers_of command plan.now limits.now) (is_some reason)) }
 {
-    match verdict(alloc, plan, limits)? {
+    match accept(alloc, plan, limits) {
         Ok(accepted) => match command {
             Command::Check => Ok(None),
             Command::Once(values) => state_reason(alloc, &accepted, values),
         },
+        Err(PlanRefusal::Memory) => Err(AllocError),
         Err(refusal) => Ok(Some(plan_words(alloc, plan, limits, &refusal)?)),
     }
 }
@@ -72,7 +72,8 @@ fn state_reason(alloc: Global, plan: &Plan, values: Values) -> Result<Option<Str
     ensures { IfOk result
         (λ reason. TellsRefused (IsRunOnce values (meaning plan.now)) (is_some reason)) }
 {
-    let filled = inputs_of(alloc, plan, values)?;
+    let record = record_of(values);
+    let filled = fill(alloc, plan.spec(), &record, &[])?;
     match &filled {
         Filled::Inputs(_) => Ok(None),
         Filled::State(state) => Ok(Some(state_words(alloc, state)?)),
