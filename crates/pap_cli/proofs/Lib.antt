@@ -7,3 +7,4 @@ mod LineLemmas
 mod RunLemmas
 mod KeptLemmas
 mod AnswerLemmas
+mod ReasonLemmas

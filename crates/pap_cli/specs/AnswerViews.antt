@@ -1,5 +1,11 @@
--- A reply of the program, as the answer that it stands for, and which answer a command asks for.
-use Rattle.std.specs.Prelude.{ℕ, List}
+-- A reply of the program, as the answer that it stands for, which answer a command asks for, and what a run is filled with.
+use Rattle.std.specs.Prelude.{◌≡◌, ℕ, List, [], Bool}
+use Rattle.limits_file.specs.declared.slots.Slot.{Slot}
+use Rattle.payroll_records.specs.declared.values.NamedValue.{NamedValue}
+use Rattle.carry_bindings.specs.declared.filling.Filled.{Filled}
+use Rattle.carry_bindings.specs.Filling.{filled_by}
+use Rattle.pap_plan.specs.Acceptance.{Meaning}
+use Rattle.pap_plan.specs.Inputs.{AreSlots}
 use Rattle.pap_cli.specs.declared.reply.Reply.{Reply}
 use Rattle.pap_cli.specs.declared.words.Command.{Command}
 use Rattle.pap_cli.specs.declared.words.Command.TheVariants.{Check, Once}
@@ -11,3 +17,13 @@ reply_of r = record { text = r.text.items; refused = r.refused; steps = r.steps 
 abbrev pub answers_of : Command → List ℕ → List ℕ → Answer → Type 0
 answers_of Check = CheckAnswers
 answers_of (Once values) = OnceAnswers values
+
+-- what an accepted plan's inputs are filled with from a record's values, without earlier runs
+pub record IsFilledFrom (values : List NamedValue) (m : Meaning) (f : Filled) : Type 0 where
+  pub slots : List Slot
+  pub inputs : AreSlots m.limits m.flowchart.inputs slots
+  pub is : f ≡ filled_by slots values []
+
+-- it is told whether the answers of this kind are refusals
+abbrev pub TellsRefused : (Answer → Type 0) → Bool → Type 0
+TellsRefused IsAnswer told = (answer : Answer) → IsAnswer answer → told ≡ answer.refused

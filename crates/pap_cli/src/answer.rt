@@ -44,7 +44,7 @@ fn reply_on_bytes<L: Ledger>(
 }
 
 /// The bytes of both files, the plan's first, each by one call for one byte more than its limit.
-fn read_both<F: Files>(
+pub(crate) fn read_both<F: Files>(
     alloc: Global,
     plan: &str,
     limits: &str,

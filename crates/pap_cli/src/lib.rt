@@ -6,6 +6,7 @@ mod call;
 mod check;
 mod once;
 mod places;
+mod reasons;
 mod refusals;
 mod reply;
 mod status;
@@ -13,4 +14,5 @@ mod stop;
 mod words;
 
 pub use call::{answer_laws, papcalc, word_laws};
+pub use reasons::reason;
 pub use status::Status;

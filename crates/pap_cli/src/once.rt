@@ -93,7 +93,7 @@ fn state_reply(alloc: Global, state: &Blocked) -> Result<Reply, AllocError>
 }
 
 /// The record of a run that stands alone: its employee and its day play no part.
-fn record_of(values: Values) -> Record
+pub(crate) fn record_of(values: Values) -> Record
     ensures { result.values ≡ values }
 {
     Record {

@@ -4,7 +4,7 @@
 ghost use Rattle.std.specs.Prelude.{◌≡◌};
 
 use outside::{Files, RealFiles, Sink, Source, StdSink, StdSource};
-use pap_cli::{Status, papcalc};
+use pap_cli::{Status, papcalc, reason};
 use std::alloc::Global;
 use std::env;
 use std::io::{self, ErrorKind};
@@ -87,6 +87,14 @@ fn explain(rt: &HostRuntime, status: Status, failed_name: Option<&str>) {
     };
 }
 
+/// Says on standard error why the answer is a refusal, in one line. That this may fail changes nothing.
+fn explain_refusal(rt: &HostRuntime, words: &[String]) {
+    let mut files = RealFiles::new(rt);
+    if let Ok(Some(reason)) = reason(rt.alloc(), words, &mut files) {
+        let _ = eprintln!(rt; "papcalc: {reason}");
+    }
+}
+
 fn main(rt: HostRuntime) -> ExitCode {
     let words = match words_of(&rt) {
         Ok(words) => words,
@@ -120,5 +128,8 @@ fn main(rt: HostRuntime) -> ExitCode {
         Blank::new(1),
     );
     explain(&rt, status, files.failed_name());
+    if status == Status::Refused {
+        explain_refusal(&rt, &words);
+    }
     ExitCode::from(status.number())
 }

@@ -1,0 +1,126 @@
+-- Whether the answer on two texts is a refusal.
+use Rattle.std.proofs.Common.{◌≡◌, ◌≢◌, ℕ, Bool, true, false, List, [], refl, sym, ap, ◌∙◌, subst}
+use Rattle.std.specs.Prelude.{Result, Ok, Err, All}
+use Rattle.scaled_decimal.specs.Decimals.{Decimal}
+use Rattle.pap_tree.specs.Flowchart.{Flowchart}
+use Rattle.payroll_records.specs.declared.values.NamedValue.{NamedValue}
+use Rattle.carry_bindings.specs.declared.filling.Filled.{Filled}
+use Rattle.carry_bindings.specs.declared.filling.Filled.TheVariants.{Inputs, State}
+use Rattle.carry_bindings.specs.declared.filling.Blocked.{Blocked}
+use Rattle.carry_bindings.specs.declared.filling.Blocked.TheVariants as blocked
+use Rattle.carry_bindings.specs.Filling.{filled_by}
+use Rattle.limits_file.specs.declared.slots.Slot.{Slot}
+use Rattle.pap_plan.specs.Inputs.{AreSlots}
+use Rattle.outside.specs.Told.{FileMap}
+use Rattle.pap_plan.specs.declared.refusal.PlanRefusal.{PlanRefusal}
+use Rattle.pap_plan.specs.declared.refusal.PlanRefusal.TheVariants as refusals
+use Rattle.pap_plan.specs.Acceptance.{Meaning, Answers, IsRefused as IsRefusedPlan, IsRefusedOrMemory}
+use Rattle.pap_plan.specs.AcceptanceClauses.{IsAcceptedAs}
+use Rattle.pap_plan.specs.Plans.{Seen, meaning}
+use Rattle.pap_plan.proofs.Laws as plans
+use Rattle.pap_cli.specs.declared.words.Command.{Command}
+use Rattle.pap_cli.specs.declared.words.Command.TheVariants.{Check, Once}
+use Rattle.pap_cli.specs.Words.{HasForm, AreValueWords}
+use Rattle.pap_cli.specs.WordViews.{form_by}
+use Rattle.pap_cli.specs.Answers.{Answer, IsRefusal, IsChecked, CheckAnswers, IsRunOn, IsRunOnce, IsOnce, OnceAnswers}
+use Rattle.pap_cli.specs.AnswerViews.{answers_of, IsFilledFrom, TellsRefused}
+use Rattle.pap_cli.specs.CallClauses.{IsRefused}
+use Rattle.pap_cli.specs.FileClauses.{AnswersFiles}
+use Rattle.pap_cli.specs.FileViews.{AreFronts}
+use Rattle.pap_cli.proofs.AnswerLemmas.{check_answers, once_answers, words_kept}
+use Rattle.pap_cli.proofs.FrontLemmas.{answers_both}
+
+refused_by : {a b : Answer} → a ≡ b → b.refused ≡ a.refused
+refused_by e = sym (ap (λ (x : Answer). x.refused) e)
+
+-- ---- a run
+
+told_run : (f : Flowchart) (vs : List Decimal) (a : Answer) → IsRunOn f (Inputs vs) a → false ≡ a.refused
+told_run f vs a (outs, e, is) = refused_by is
+
+told_blocked : (f : Flowchart) (b : Blocked) (a : Answer) → IsRunOn f (State b) a → true ≡ a.refused
+told_blocked f (blocked.Unknown name) a h = refused_by h
+told_blocked f (blocked.Missing name) a h = refused_by h
+told_blocked f (blocked.Range name) a h = refused_by h
+told_blocked f (blocked.Waits day) a h = absurd h
+
+-- what is filled is determined
+pub filled_from : (values : List NamedValue) (m : Meaning) (slots : List Slot) (x : Filled) → AreSlots m.limits m.flowchart.inputs slots → x ≡ filled_by slots values [] → IsFilledFrom values m x
+filled_from values m slots x are is = record { slots = slots; inputs = are; is = is }
+
+filled_as : (values : List NamedValue) (m : Meaning) (x : Filled) (a : Answer) → IsFilledFrom values m x → IsRunOnce values m a → IsRunOn m.flowchart x a
+filled_as values m x a h k =
+    let slots = plans.one_slots m.limits m.flowchart.inputs k.slots h.slots k.inputs h.inputs in
+    subst (λ y. IsRunOn m.flowchart y a) (ap (λ s. filled_by s values []) slots ∙ sym h.is) k.ran
+
+-- filled inputs are no refusal
+pub told_inputs : (values : List NamedValue) (m : Meaning) (vs : List Decimal) → IsFilledFrom values m (Inputs vs) → TellsRefused (IsRunOnce values m) false
+told_inputs values m vs h a k = told_run m.flowchart vs a (filled_as values m (Inputs vs) a h k)
+
+-- a run without inputs is one
+pub told_state : (values : List NamedValue) (m : Meaning) (b : Blocked) → IsFilledFrom values m (State b) → TellsRefused (IsRunOnce values m) true
+told_state values m b h a k = told_blocked m.flowchart b a (filled_as values m (State b) a h k)
+
+-- ---- two texts
+
+told_checked : (plan : List ℕ) (m : Meaning) (a : Answer) → IsChecked plan (Ok m) a → false ≡ a.refused
+told_checked plan m a h = refused_by h
+
+told_refusal : (plan : List ℕ) (r : PlanRefusal) (a : Answer) → IsRefusal plan r a → true ≡ a.refused
+told_refusal plan r a h = refused_by h.is
+
+-- accepted texts are no refusal of `check`
+pub told_accepted : (plan limits : List ℕ) (p : Seen) → IsAcceptedAs plan limits p → TellsRefused (CheckAnswers plan limits) false
+told_accepted plan limits p h a k =
+    let same = plans.one plan limits k.verdict (Ok (meaning p)) k.accepted h.accepted in
+    told_checked plan (meaning p) a (subst (λ v. IsChecked plan v a) same k.is)
+
+-- nor of `once` but where the run is one
+pub told_once : (values : List NamedValue) (plan limits : List ℕ) (p : Seen) (told : Bool) → IsAcceptedAs plan limits p → TellsRefused (IsRunOnce values (meaning p)) told → TellsRefused (OnceAnswers values plan limits) told
+told_once values plan limits p told h t a k =
+    let same = plans.one plan limits k.verdict (Ok (meaning p)) k.accepted h.accepted in
+    t a (subst (λ v. IsOnce values plan v a) same k.is)
+
+-- a refusal that isn't want of memory
+pub refused_is : (plan limits : List ℕ) (r : PlanRefusal) → r ≢ refusals.Memory → IsRefusedOrMemory plan limits r → IsRefusedPlan plan limits r
+refused_is plan limits (refusals.Read fault) other h = h
+refused_is plan limits (refusals.Expr spot fault) other h = h
+refused_is plan limits (refusals.Types fault) other h = h
+refused_is plan limits (refusals.Order fault) other h = h
+refused_is plan limits (refusals.Limits fault) other h = h
+refused_is plan limits (refusals.LimitName name) other h = h
+refused_is plan limits (refusals.LimitKind name) other h = h
+refused_is plan limits (refusals.Bind name) other h = h
+refused_is plan limits (refusals.Range fault) other h = h
+refused_is plan limits refusals.Memory other h = absurd (other refl)
+
+-- refused texts are one
+pub told_refused : (c : Command) (plan limits : List ℕ) (r : PlanRefusal) → IsRefusedPlan plan limits r → TellsRefused (answers_of c plan limits) true
+told_refused Check plan limits r h a k =
+    let same = plans.one plan limits k.verdict (Err r) k.accepted h in
+    told_refusal plan r a (subst (λ v. IsChecked plan v a) same k.is)
+told_refused (Once values) plan limits r h a k =
+    let same = plans.one plan limits k.verdict (Err r) k.accepted h in
+    told_refusal plan r a (subst (λ v. IsOnce values plan v a) same k.is)
+
+-- ---- two files
+
+HasAnswer : Command → List ℕ → List ℕ → Type 0
+HasAnswer c plan limits = (a : Answer) × answers_of c plan limits a
+
+-- the words' answer on every two texts
+some_answer : (c : Command) (words : List (List ℕ)) (plan limits front front' : List ℕ) → HasForm words (form_by c plan limits) → HasAnswer c front front'
+unfolding HasAnswer
+some_answer Check words plan limits front front' h = (check_answers front front').some
+some_answer (Once values) words plan limits front front' h = (once_answers values (words_kept h.rest values h.values_are) front front').some
+
+refused_form : (c : Command) (plan limits : List ℕ) (files : FileMap) (told : Bool) (a : Answer) → AnswersFiles (answers_of c) plan limits files a → told ≡ a.refused → IsRefused (form_by c plan limits) files told
+refused_form Check plan limits files told a h e = record { answer = a; answers = h; refused = e }
+refused_form (Once values) plan limits files told a h e = record { answer = a; answers = h; refused = e }
+
+-- what is told on what was read is told of both files
+pub told_files : (c : Command) (words : List (List ℕ)) (plan limits front front' : List ℕ) (files : FileMap) (told : Bool) → HasForm words (form_by c plan limits) → AreFronts files plan limits front front' → TellsRefused (answers_of c front front') told → IsRefused (form_by c plan limits) files told
+unfolding HasAnswer
+told_files c words plan limits front front' files told has read t =
+    let a = some_answer c words plan limits front front' has in
+    refused_form c plan limits files told a.0 (answers_both c plan limits front front' files a.0 read a.1) (t a.0 a.1)
