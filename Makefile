@@ -1,6 +1,6 @@
 # `make look` runs the program on an example without a proof; `make demo` proves and builds build/papcalc and runs that;
 # `make test` is the whole gate.
-.PHONY: build look demo test rows decimal-tool bench-decimal bench-machine bench-intervals check-java
+.PHONY: build look demo test rows decimal-tool bench-decimal bench-machine bench-plan bench-intervals check-java
 
 build:
 	cd crates/papcalc && rt run -- --version
@@ -48,6 +48,13 @@ bench-machine:
 	mkdir -p build
 	javac -d build tools/BenchMachine.java
 	java -cp build BenchMachine
+
+# Picoseconds a step of the flowchart of a pay period on the built program, beside a Java class of the same flowchart on
+# java.math.BigDecimal (needs a JDK).
+bench-plan: build
+	javac -d build tools/BenchPlan.java
+	python3 tools/bench_plan.py build/papcalc examples/payroll_tax.xml examples/payroll_tax.toml PERIOD=2 PAY=450000
+	java -cp build BenchPlan
 
 # Nanoseconds of each operation on intervals.
 bench-intervals:

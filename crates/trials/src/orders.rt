@@ -2,7 +2,7 @@
 ghost use Rattle.std.specs.Prelude.{◌≤◌};
 
 use call_order::order_methods;
-use pap_plan::{PlanRefusal, accept};
+use pap_plan::{Plan, accept};
 use std::alloc::Global;
 use std::test::Fail;
 
@@ -37,13 +37,18 @@ fn ladder(alloc: Global, steps: usize, twice: bool) -> Result<String, Fail>
     Ok(text)
 }
 
+/// The order of a plan's methods.
+fn order(alloc: Global, plan: &Plan) -> Result<String, Fail> {
+    let order = order_methods(alloc, plan.text())?;
+    Ok(format!(in alloc; "{order:?}")?)
+}
+
 /// What is answered of a plan whose MAIN executes one method.
 fn answer(alloc: Global, first: &str, methods: &str) -> Result<String, Fail> {
     let text = format!(in alloc; "{BEFORE}{first}'/></MAIN>{methods}{AFTER}")?;
     match accept(alloc, text.as_bytes(), b"") {
-        Ok(plan) => Ok(format!(in alloc; "{:?}", order_methods(alloc, plan.text())?)?),
-        Err(PlanRefusal::Order(fault)) => Ok(format!(in alloc; "{fault}")?),
-        Err(fault) => Ok(format!(in alloc; "another fault: {fault}")?),
+        Ok(plan) => order(alloc, &plan),
+        Err(refusal) => Ok(format!(in alloc; "{refusal}")?),
     }
 }
 

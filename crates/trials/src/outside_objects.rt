@@ -91,6 +91,9 @@ fn taken<R: Source>(alloc: Global, source: &mut R, asked: &str) -> Result<String
     let mut text = String::new(alloc);
     for word in asked.split_whitespace() {
         let size = word.parse::<usize>().map_err(|_| Fail::from("a size"))?;
+        if size == 0 {
+            return Err(Fail::from("a size"));
+        }
         let mut buf = vec![in alloc; b'-'; size]?;
         let count = source.take(&mut buf);
         let front = from_utf8(&buf).map_err(|_| Fail::from("a text"))?;

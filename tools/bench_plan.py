@@ -1,0 +1,54 @@
+"""Nanoseconds a step of examples/payroll_tax.xml on the built program.
+
+A copy of the flowchart is made whose MAIN runs the whole flowchart 1,536 times, by methods that execute each other
+twice. `check` reads, proves and compiles it, `once` runs it besides: what `once` takes more is the run.
+"""
+import os
+import re
+import resource
+import subprocess
+import sys
+import tempfile
+
+PROGRAM, PLAN, LIMITS = sys.argv[1:4]
+VALUES = sys.argv[4:]
+DOUBLINGS = 10
+ROUNDS, CALLS = 5, 20
+
+
+def repeated(text):
+    """The flowchart with its MAIN as a method R0, and a MAIN that runs it again and again."""
+    main = re.search(r"<MAIN>(.*?)</MAIN>", text, re.S)
+    call = '<EXECUTE method="R{}"/>'.format
+    methods = f'<METHOD name="R0">{main.group(1)}</METHOD>'
+    for i in range(1, DOUBLINGS + 1):
+        methods += f'<METHOD name="R{i}">{call(i - 1)}{call(i - 1)}</METHOD>'
+    calls = call(DOUBLINGS) + call(DOUBLINGS - 1)
+    return f"{text[:main.start()]}<MAIN>{calls}</MAIN>{methods}{text[main.end():]}"
+
+
+def processor_time(words):
+    """The least processor seconds of a call, of some."""
+    least = float("inf")
+    for _ in range(CALLS):
+        before = resource.getrusage(resource.RUSAGE_CHILDREN)
+        subprocess.run(words, stdout=subprocess.DEVNULL, check=True)
+        after = resource.getrusage(resource.RUSAGE_CHILDREN)
+        least = min(least, after.ru_utime + after.ru_stime - before.ru_utime - before.ru_stime)
+    return least
+
+
+def main():
+    with tempfile.TemporaryDirectory() as folder:
+        plan = os.path.join(folder, "plan.xml")
+        with open(PLAN, encoding="utf-8") as source, open(plan, "w", encoding="utf-8") as copy:
+            copy.write(repeated(source.read()))
+        once = [PROGRAM, "once", plan, LIMITS, *VALUES]
+        written = subprocess.run(once, capture_output=True, text=True, check=True).stdout
+        steps = int(written.rsplit("steps ", 1)[1])
+        for _ in range(ROUNDS):
+            run = processor_time(once) - processor_time([PROGRAM, "check", plan, LIMITS])
+            print(f"papcalc: {run * 1e12 / steps:.0f} ps a step of {steps} ({written.splitlines()[0]})")
+
+
+main()
