@@ -31,7 +31,8 @@ PLAN is the file of a flowchart in the ministry's pseudocode (XML), LIMITS a ran
 check writes `accepted steps B` with the most steps of a run, and for each output a line NAME LO HI SLO SHI: the least and
 the greatest value, and the least and the greatest number of digits after the point. once writes a line NAME VALUE for each
 output, and then `steps N`. An input that isn't given has its default. Both write one line that begins with `refused`
-where the flowchart or its range file is refused, or where an input is unknown, missing or outside its range.
+where the flowchart or its range file is refused, or where an input is unknown, missing or outside its range; a second
+line, on standard error, says in plain words what that means, where it is in the file, and what helps.
 
 It ends with 0 where all was written, 1 where that is a refusal, 2 where the words are none of these, 3 where a file
 can't be read, 5 where the output can't be written, 6 where memory runs out.";
