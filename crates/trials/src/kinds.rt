@@ -2,8 +2,6 @@
 //! literals. Where the kinds are right `check` goes on to the limits, of which there are none.
 use crate::answers::{attribute, sides, written};
 use pap_plan::accept;
-use pap_tree::Name;
-use pap_types::NodeKind;
 use std::alloc::{AllocError, Global};
 use std::test::Fail;
 
@@ -234,24 +232,5 @@ fn faults_are_printed(rt: HostRuntime) -> Result<(), Fail> {
         let printed = format!(in rt.alloc(); "{refusal}")?;
         assert_eq!(rt; printed.as_str(), wanted, "{row}");
     }
-    Ok(())
-}
-
-const LIMITS: &str = r#"input.I = { low = 0, high = 1, places = 0 }
-input.L = { low = 0, high = 1, places = 0 }
-"#;
-
-#[test]
-fn a_plan_has_its_names_by_number(rt: HostRuntime) -> Result<(), Fail> {
-    let text = plan(rt.alloc(), "", "")?;
-    let plan = accept(rt.alloc(), text.as_bytes(), LIMITS.as_bytes())?;
-    let typed = plan.text();
-    let factor = Name::read(b"F").ok_or("a name")?;
-    let table = Name::read(b"T").ok_or("a name")?;
-    assert_eq!(rt; typed.plan().inputs.len(), 2);
-    assert_eq!(rt; typed.variable(&factor), Some(3));
-    assert_eq!(rt; typed.constant(&table), Some(1));
-    assert_eq!(rt; typed.method(&table), None);
-    assert!(rt; typed.kind_of_name(&factor) == NodeKind::Factor);
     Ok(())
 }
