@@ -3,7 +3,7 @@ ghost use Rattle.std.specs.Prelude.{◌≡◌, ◌≢◌, AllPairs, IfOk};
 ghost use Rattle.outside.specs.Memory.{named_files};
 
 use outside::{Files, MemFiles, MemSink, MemSource, Sink, Source};
-use pap_cli::{Status, papcalc};
+use pap_cli::{Status, papcalc, reason};
 use std::alloc::{AllocError, Global};
 use std::marker::Brand;
 use std::str::from_utf8;
@@ -59,12 +59,24 @@ fn two_files(alloc: Global, call: &Call<'_>) -> Result<Vec<(String, Vec<u8>)>, A
     Ok(files)
 }
 
-/// The status and what was written, with ` / ` between its lines.
-pub(crate) fn answered(alloc: Global, call: &Call<'_>) -> Result<(Status, String), Fail> {
+fn words_of(alloc: Global, text: &str) -> Result<Vec<String>, AllocError> {
     let mut words = Vec::new(alloc);
-    for word in call.words.split_whitespace() {
+    for word in text.split_whitespace() {
         words.push(String::from_str(alloc, word)?)?;
     }
+    Ok(words)
+}
+
+/// The reason of a refusal, where the answer is one.
+pub(crate) fn reason_given(alloc: Global, call: &Call<'_>) -> Result<Option<String>, Fail> {
+    let words = words_of(alloc, call.words)?;
+    let mut files = MemFiles::new(two_files(alloc, call)?, listed(alloc, call.file_fails)?);
+    Ok(reason(alloc, &words, &mut files).ok().ok_or("an answer")?)
+}
+
+/// The status and what was written, with ` / ` between its lines.
+pub(crate) fn answered(alloc: Global, call: &Call<'_>) -> Result<(Status, String), Fail> {
+    let words = words_of(alloc, call.words)?;
     let mut files = MemFiles::new(two_files(alloc, call)?, listed(alloc, call.file_fails)?);
     let mut source = MemSource::new(Vec::new(alloc), 1, Vec::new(alloc));
     let mut sink = MemSink::new(alloc, 4000, listed(alloc, call.sink_fails)?)?;

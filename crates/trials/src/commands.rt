@@ -1,5 +1,5 @@
 //! The top call over objects in memory: its answers and its statuses.
-use crate::answers::{Call, answered, sides};
+use crate::answers::{Call, answered, reason_given, sides};
 use pap_cli::Status;
 use std::test::Fail;
 
@@ -112,4 +112,24 @@ fn statuses_have_their_numbers(rt: HostRuntime) {
     for (number, status) in statuses.iter().enumerate() {
         assert_eq!(rt; status.number() as usize, number);
     }
+}
+
+/// Words, and the reason of their refusal.
+const REASONS: &str = r#"check a.xml l.toml => -
+once a.xml l.toml N=7 => -
+once a.xml l.toml => the input N has no value; give one as N=VALUE or in the table, or write a default at its INPUT
+once a.xml l.toml N=1 M=2 => a value is given for M, and the plan has no such input, or the range file fills it from earlier runs; leave the value out, or correct its name
+check l.toml l.toml => plan, line 1, column 1: at `[input.N]` stands text outside of a tag; write it as a comment, or as an attribute of a tag
+check a.xml a.xml => range file, line 1, column 1: the text isn't TOML: invalid key, expected letters, numbers, `-`, `_` or a quoted key
+check => -"#;
+
+#[test]
+fn refusals_have_reasons(rt: HostRuntime) -> Result<(), Fail> {
+    for row in REASONS.lines() {
+        let (words, wanted) = sides(row)?;
+        let given = reason_given(rt.alloc(), &Call { words, ..WHOLE })?;
+        let shown = given.as_ref().map_or("-", |reason| reason.as_str());
+        assert_eq!(rt; shown, wanted, "{row}");
+    }
+    Ok(())
 }
