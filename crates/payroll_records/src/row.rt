@@ -10,7 +10,7 @@ ghost use Rattle.payroll_records.specs.TableViews.{AreColumns, IsFirstBroken, Is
 ghost use Rattle.payroll_records.specs.declared.values.NamedValue.{NamedValue};
 
 use crate::header::{Header, field};
-use crate::{Day, Employee, Month, NamedValue, Record, Values};
+use crate::{Day, Employee, Month, Record, Values};
 use csv::ByteRecord;
 use pap_tree::Name;
 use scaled_decimal::{Dec, read_dec};
@@ -27,8 +27,13 @@ pub(crate) enum RowFault {
     Memory(AllocError),
 }
 
-/// The record of a row, or its first fault.
-pub(crate) fn read_row(alloc: Global, header: &Header, row: &ByteRecord) -> Result<Record, RowFault>
+/// The record of a row, or its first fault. `before` is the record of the row before, if there is one.
+pub(crate) fn read_row(
+    alloc: Global,
+    header: &Header,
+    row: &ByteRecord,
+    before: Option<&Record>,
+) -> Result<Record, RowFault>
     requires columns { AreColumns header.now.names.items header.now.columns.items }
     requires few { length header.now.names.items < 257 }
     ensures ok { IfOk result (IsRecordOf header.now.names.items (fields_of row.now)) }
@@ -54,7 +59,7 @@ pub(crate) fn read_row(alloc: Global, header: &Header, row: &ByteRecord) -> Resu
             name: header.names[place],
         });
     }
-    match values_of(alloc, header, row) {
+    match values_of(alloc, header, row, before) {
         Ok(values) => Ok(Record {
             employee,
             day,
@@ -113,23 +118,29 @@ fn is_filled(cell: &[u8]) -> bool
     !cell.is_empty()
 }
 
-/// The values that the cells of a row spell. They take no more memory than they need.
-fn values_of(alloc: Global, header: &Header, row: &ByteRecord) -> Result<Values, AllocError>
+/// The values that the cells of a row spell. They take no more memory than they need, and where the same cells are filled
+/// as in the row before, no list of names of their own.
+fn values_of(
+    alloc: Global,
+    header: &Header,
+    row: &ByteRecord,
+    before: Option<&Record>,
+) -> Result<Values, AllocError>
     requires columns { AreColumns header.now.names.items header.now.columns.items }
     requires few { length header.now.names.items < 257 }
     ensures supplied { IfOk result (λ values. (v : NamedValue) →
         Contains values v ↔ Supplies header.now.names.items (fields_of row.now) v) }
     ensures in_order { IfOk result AreValues }
 {
-    let mut values = Values::with_capacity(alloc, filled_cells(row, header.names.len()))?;
+    let count = filled_cells(row, header.names.len());
+    let mut names = Vec::with_capacity(alloc, count)?;
+    let mut numbers = Vec::with_capacity(alloc, count)?;
     for column in &header.columns {
         let Some(value) = read_number(field(row, 3 + column.place)) else {
             continue;
         };
-        values.push(NamedValue {
-            name: column.name,
-            value,
-        })?;
+        names.push(column.name)?;
+        numbers.push(value)?;
     }
-    Ok(values)
+    Values::from_columns(names, numbers, before.map(|record| &record.values))
 }

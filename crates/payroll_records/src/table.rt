@@ -95,7 +95,7 @@ fn read_records<R: Read>(
         if !found {
             return Ok(records);
         }
-        let record = match read_row(alloc, header, &row) {
+        let record = match read_row(alloc, header, &row, records.last()) {
             Ok(record) => record,
             Err(fault) => return Err(fault_at(fault, number)),
         };

@@ -1,13 +1,16 @@
 // Values under names.
-ghost use Rattle.std.specs.Prelude.{◌≡◌, ◌↔◌, ◌<◌, [], ◌∷◌, ◌++◌, length, IsSome, IsNone, OnOk, OnErr, IfOk, IfErr, Err, option_map};
-ghost use Rattle.rising_lists.specs.Keyed.{IsRising};
+ghost use Rattle.std.specs.Prelude.{◌≡◌, ◌↔◌, ◌<◌, ◌≤◌, [], length, map, IsSome, IsNone, OnOk, OnErr, IfOk, IfErr, Err, option_map};
+ghost use Rattle.std.specs.List.{insert};
+ghost use Rattle.std.specs.Rc.{rc_slice_items};
 ghost use Rattle.rising_lists.specs.Places.{Finds, Misses};
 ghost use Rattle.payroll_records.specs.NamedValues.{AreValues, name_cmp, name_of, value_at, with_value};
+ghost use Rattle.payroll_records.specs.ValueViews.{IsKeptAs, listed, named_numbers};
 
 use pap_tree::Name;
 use scaled_decimal::Dec;
 use std::alloc::{AllocError, Global};
 use std::marker::Model;
+use std::rc::RcSlice;
 use thiserror::Error;
 
 /// A value under a name: an input of a run, or an output.
@@ -19,21 +22,27 @@ pub struct NamedValue {
 
 /// The values of a record: at most 256, each under a name of its own. They are kept in order of the names' bytes, whatever
 /// order they came in, and contracts see them as the list of them.
+///
+/// The names are a list apart, which never changes once it is made, so that the records of a table can share it.
 #[derive(Debug, Drop)]
 pub struct Values {
-    items: Vec<NamedValue>,
+    /// `None` as long as there are none.
+    names: Option<RcSlice<Name>>,
+    /// The value of each name.
+    numbers: Vec<Dec>,
 }
 
 impl Model for Values {
     ghost use Rattle.std.specs.Prelude.{List};
     ghost use Rattle.payroll_records.specs.NamedValues.{AreValues};
+    ghost use Rattle.payroll_records.specs.ValueViews.{IsKeptAs, listed, named_numbers};
     ghost use Rattle.payroll_records.specs.declared.values.NamedValue.{NamedValue};
 
     ghost Value = { List NamedValue };
 
-    ghost view = { λ v. v.items.items };
+    ghost view = { λ v. named_numbers (listed v.names) v.numbers.items };
 
-    ghost invariant = { λ v. AreValues v.items.items };
+    ghost invariant = { λ v. IsKeptAs (listed v.names) v.numbers.items };
 }
 
 /// Why a value was not inserted.
@@ -53,45 +62,48 @@ impl Values {
         ensures { result ≡ [] }
     {
         Values {
-            items: Vec::new(alloc),
+            names: None,
+            numbers: Vec::new(alloc),
         }
     }
 
-    /// No values, with room for so many.
-    pub(crate) fn with_capacity(alloc: Global, count: usize) -> Result<Values, AllocError>
-        ensures { IfOk result (λ values. values ≡ []) }
+    /// The values of these names. Where values of before have the same names, both share one list of them.
+    pub(crate) fn from_columns(
+        names: Vec<Name>,
+        numbers: Vec<Dec>,
+        before: Option<&Values>,
+    ) -> Result<Values, AllocError>
+        requires { IsKeptAs names.items numbers.items }
+        ensures { IfOk result (λ values. values ≡ named_numbers names.items numbers.items) }
     {
-        Ok(Values {
-            items: Vec::with_capacity(alloc, count)?,
-        })
+        let names = Some(shared(names, before)?);
+        Ok(Values { names, numbers })
     }
 
-    /// The values, in order of their names.
-    pub fn as_slice(&self) -> &[NamedValue]
-        ensures all { result.now ≡ self.now }
+    /// The names of the values, in order.
+    pub fn names(&self) -> &[Name]
+        ensures all { result.now ≡ map name_of self.now }
         ensures are { AreValues self.now }
     {
-        self.items.as_slice()
+        listed(&self.names)
+    }
+
+    /// The values in order of their names, each at the place of its name.
+    pub fn numbers(&self) -> &[Dec]
+        ensures all { result.now ≡ map (λ v. v.value) self.now }
+        ensures are { AreValues self.now }
+    {
+        self.numbers.as_slice()
     }
 
     /// The value under a name.
     pub fn find(&self, name: &Name) -> Option<Dec>
         ensures { result ≡ option_map (λ v. v.value) (value_at self.now name.now) }
     {
-        match place(self.items.as_slice(), name) {
-            Ok(at) => Some(self.items[at].value),
+        match self.place(name) {
+            Ok(at) => Some(self.numbers[at]),
             Err(_) => None,
         }
-    }
-
-    /// Appends a value whose name is above those that stand.
-    pub(crate) fn push(&mut self, item: NamedValue) -> Result<(), AllocError>
-        requires above { IsRising name_cmp name_of (self.old ++ item ∷ []) }
-        requires few { length self.old < 256 }
-        ensures ok { OnOk result (self.new ≡ self.old ++ item ∷ []) }
-    {
-        self.items.push(item)?;
-        Ok(())
     }
 
     /// Puts a value under its name. After a refusal the values are as before.
@@ -102,26 +114,89 @@ impl Values {
         ensures full { (result ≡ Err InsertFault.Full)
             ↔ (IsNone (value_at self.old item.name) × (length self.old ≡ 256)) }
     {
-        match place(self.items.as_slice(), &item.name) {
+        match self.place(&item.name) {
             Ok(_) => Err(InsertFault::Twice),
             Err(at) => {
-                if self.items.len() == 256 {
+                if self.len() == 256 {
                     return Err(InsertFault::Full);
                 }
-                if self.items.insert(at, item).is_err() {
-                    return Err(InsertFault::Memory(AllocError));
+                match self.insert_at(at, item) {
+                    Ok(()) => Ok(()),
+                    Err(error) => Err(InsertFault::Memory(error)),
                 }
-                Ok(())
             }
         }
     }
+
+    /// How many values there are.
+    fn len(&self) -> usize
+        ensures all { result ≡ length self.now }
+        ensures few { result ≤ 256 }
+    {
+        self.numbers.len()
+    }
+
+    /// Puts a value under a new name, at its place, and makes a new list of the names. Without memory the values are as
+    /// before.
+    fn insert_at(&mut self, at: usize, item: NamedValue) -> Result<(), AllocError>
+        requires gap { Misses name_cmp name_of self.old item.name at }
+        requires few { length self.old < 256 }
+        ensures ok { OnOk result (self.new ≡ with_value item self.old) }
+        ensures err { OnErr result (self.new ≡ self.old) }
+    {
+        let alloc = *self.numbers.allocator();
+        let names = with_name(alloc, listed(&self.names), at, item.name)?;
+        self.numbers.insert(at, item.value)?;
+        self.names = Some(names);
+        Ok(())
+    }
+
+    /// Where the value of a name stands, or would go.
+    fn place(&self, name: &Name) -> Result<usize, usize>
+        ensures found { IfOk result (Finds name_cmp name_of self.now name.now) }
+        ensures absent { IfErr result (Misses name_cmp name_of self.now name.now) }
+    {
+        listed(&self.names).binary_search(name)
+    }
 }
 
-/// Where the value of a name stands, or would go.
-fn place(items: &[NamedValue], name: &Name) -> Result<usize, usize>
-    requires { AreValues items.now }
-    ensures found { IfOk result (Finds name_cmp name_of items.now name.now) }
-    ensures absent { IfErr result (Misses name_cmp name_of items.now name.now) }
+/// The names that a list has.
+fn listed(names: &Option<RcSlice<Name>>) -> &[Name]
+    ensures { result.now ≡ listed names.now }
 {
-    items.binary_search_by_key(name, |v| v.name)
+    match names {
+        Some(names) => names.as_slice(),
+        None => &[],
+    }
+}
+
+/// A list of the names: that of the values before, where it is the same.
+fn shared(names: Vec<Name>, before: Option<&Values>) -> Result<RcSlice<Name>, AllocError>
+    ensures { IfOk result (λ list. rc_slice_items list ≡ names.items) }
+{
+    if let Some(before) = before {
+        if let Some(list) = &before.names {
+            if list.as_slice() == names.as_slice() {
+                return list.clone();
+            }
+        }
+    }
+    RcSlice::from_vec(names)
+}
+
+/// A list of its own of the names with one more, at a place.
+fn with_name(
+    alloc: Global,
+    names: &[Name],
+    at: usize,
+    name: Name,
+) -> Result<RcSlice<Name>, AllocError>
+    requires within { at ≤ length names.now }
+    requires few { length names.now < 256 }
+    ensures { IfOk result (λ list. rc_slice_items list ≡ insert names.now at name) }
+{
+    let mut longer = Vec::with_capacity(alloc, names.len() + 1)?;
+    longer.extend_from_slice(names)?;
+    longer.insert(at, name)?;
+    RcSlice::from_vec(longer)
 }

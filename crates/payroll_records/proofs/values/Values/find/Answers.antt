@@ -1,18 +1,19 @@
-use Rattle.std.proofs.Common.{Option}
-use Rattle.std.specs.Prelude.{option_map}
-use Rattle.scaled_decimal.specs.Decimals.{Decimal}
+use Rattle.std.proofs.Common.{◌≡◌, Option, [], arith}
+use Rattle.payroll_records.specs.ValueViews.{listed}
 use Rattle.payroll_records.specs.declared.values.NamedValue.{NamedValue}
+use Rattle.payroll_records.proofs.ValueLemmas.{named_length, number_at}
 use Rattle.payroll_records.proofs.values.Values.find.Goals as goal
 
-abbrev amount : Option NamedValue → Option Decimal
-amount o = option_map (λ v. v.value) o
+pub index-requires : goal.index-requires
+index-requires c =
+    let within = rw (← c.self.view_is) at c.in-Ok.ensures.found.within in
+    let same = named_length (listed c.self.inside.names) c.self.inside.numbers.items c.self.invariant.same in
+    omega (arith, within, same, c.self.inside.numbers.ok)
 
 pub returns-in-Ok : goal.returns-in-Ok
 returns-in-Ok c =
-    let at = rw (c.as_slice.ensures.value) at (c.in-Ok.ensures.found.at c.index.result.now) in
-    rw (← c.self.view_is, at, ← c.index.ensures)
-
-pub returns-in-Err : goal.returns-in-Err
-returns-in-Err c =
-    let at = rw (c.as_slice.ensures.value) at c.in-Err.ensures.absent.at in
-    rw (← c.self.view_is, at)
+    let names = listed c.self.inside.names in
+    let numbers = c.self.inside.numbers.items in
+    let v : NamedValue = record { name = []; value = c.index.result.now } in
+    let at = rw (← c.self.view_is) at (c.in-Ok.ensures.found.at v) in
+    rw (← c.self.view_is, at, number_at names numbers c.in-Ok.at v c.self.invariant.same, ← c.index.ensures)

@@ -1,0 +1,109 @@
+-- The list of names and the list of numbers that values are kept as.
+use Rattle.std.proofs.Common.{◌≡◌, ℕ, zero, suc, ◌+◌, ◌<◌, ◌≤◌, List, [], ◌∷◌, ◌++◌, length, get_or, take, drop, refl, sym, ap, subst, ◌∙◌, arith, Result, Ok, Err}
+use Rattle.std.specs.Prelude.{map, IfOk, IfErr}
+use Rattle.std.specs.List.{insert}
+use Rattle.std.specs.List.Sorted.{IsBinarySearchResult, IsSearchInRange}
+use Rattle.std.specs.declared.cmp.Ordering.{Ordering}
+use Rattle.std.specs.declared.cmp.Ordering.TheVariants.{Equal, Less, Greater}
+use Rattle.std.specs.Ordering.{ordering_index}
+use Rattle.std.specs.Cmp.Lexicographic.{nat_list_cmp_total}
+use Rattle.std.proofs.lemmas.Cmp.{tied_itself}
+use Rattle.std.proofs.lemmas.List.{get_or-map}
+use Rattle.std.proofs.lemmas.List.Edits.{length-insert}
+use Rattle.std.proofs.Math.ListN.{get_or-map as map_at, length-map}
+use Rattle.scaled_decimal.specs.Decimals.{Decimal}
+use Rattle.rising_lists.specs.Keyed.{IsRising}
+use Rattle.rising_lists.specs.Places.{Finds, Misses}
+use Rattle.rising_lists.proofs.Laws.{found, put_rising}
+use Rattle.payroll_records.specs.Tables.{Text}
+use Rattle.payroll_records.specs.NamedValues.{name_cmp, name_of, with_value}
+use Rattle.payroll_records.specs.ValueViews.{IsKeptAs, named_numbers}
+use Rattle.payroll_records.specs.declared.values.NamedValue.{NamedValue}
+
+-- each of both lists is there whole
+pub names_are : (names : List Text) (numbers : List Decimal) → length names ≡ length numbers → map name_of (named_numbers names numbers) ≡ names
+names_are [] numbers e = refl
+names_are (n ∷ names) [] e = absurd (omega (arith, e))
+names_are (n ∷ names) (x ∷ numbers) e = ap (λ t. n ∷ t) (names_are names numbers (omega (arith, e)))
+
+pub numbers_are : (names : List Text) (numbers : List Decimal) → length names ≡ length numbers → map (λ v. v.value) (named_numbers names numbers) ≡ numbers
+numbers_are [] [] e = refl
+numbers_are [] (x ∷ numbers) e = absurd (omega (arith, e))
+numbers_are (n ∷ names) [] e = absurd (omega (arith, e))
+numbers_are (n ∷ names) (x ∷ numbers) e = ap (λ t. x ∷ t) (numbers_are names numbers (omega (arith, e)))
+
+pub named_length : (names : List Text) (numbers : List Decimal) → length names ≡ length numbers → length (named_numbers names numbers) ≡ length numbers
+named_length [] [] e = refl
+named_length [] (x ∷ numbers) e = absurd (omega (arith, e))
+named_length (n ∷ names) [] e = absurd (omega (arith, e))
+named_length (n ∷ names) (x ∷ numbers) e = ap suc (named_length names numbers (omega (arith, e)))
+
+-- the number at a place
+pub number_at : (names : List Text) (numbers : List Decimal) (i : ℕ) (v : NamedValue) → length names ≡ length numbers → (get_or (named_numbers names numbers) i v).value ≡ get_or numbers i v.value
+number_at [] [] i v e = refl
+number_at [] (x ∷ numbers) i v e = absurd (omega (arith, e))
+number_at (n ∷ names) [] i v e = absurd (omega (arith, e))
+number_at (n ∷ names) (x ∷ numbers) zero v e = refl
+number_at (n ∷ names) (x ∷ numbers) (suc i) v e = number_at names numbers i v (omega (arith, e))
+
+-- one more name and number, behind the others and at a place
+pub named_more : (names : List Text) (numbers : List Decimal) (n : Text) (x : Decimal) → length names ≡ length numbers →
+    named_numbers (names ++ (n ∷ [])) (numbers ++ (x ∷ [])) ≡ named_numbers names numbers ++ (record { name = n; value = x } ∷ [])
+named_more [] [] n x e = refl
+named_more [] (y ∷ numbers) n x e = absurd (omega (arith, e))
+named_more (m ∷ names) [] n x e = absurd (omega (arith, e))
+named_more (m ∷ names) (y ∷ numbers) n x e = ap (λ t. record { name = m; value = y } ∷ t) (named_more names numbers n x (omega (arith, e)))
+
+pub named_inserted : (names : List Text) (numbers : List Decimal) (i : ℕ) (v : NamedValue) → length names ≡ length numbers →
+    named_numbers (insert names i v.name) (insert numbers i v.value) ≡ insert (named_numbers names numbers) i v
+named_inserted [] [] zero v e = refl
+named_inserted [] [] (suc i) v e = refl
+named_inserted [] (x ∷ numbers) i v e = absurd (omega (arith, e))
+named_inserted (n ∷ names) [] i v e = absurd (omega (arith, e))
+named_inserted (n ∷ names) (x ∷ numbers) zero v e = refl
+named_inserted (n ∷ names) (x ∷ numbers) (suc i) v e = ap (λ t. record { name = n; value = x } ∷ t) (named_inserted names numbers i v (omega (arith, e)))
+
+-- a binary search of the keys of elements is one of the elements by key
+module _ {K X : Type 0} (answer : K → Ordering) (key : X → K) where
+  rising : (xs : List X) (i j : ℕ) (k : K) → ((d : X) → ordering_index (answer (key (get_or xs i d))) ≤ ordering_index (answer (key (get_or xs j d)))) → i ≤ j → j < length xs →
+      ordering_index (answer (get_or (map key xs) i k)) ≤ ordering_index (answer (get_or (map key xs) j k))
+  rising [] i j k h le lt = absurd (omega arith)
+  rising (x ∷ xs) i j k h le lt = rw (get_or-map key (x ∷ xs) i x k (omega arith), get_or-map key (x ∷ xs) j x k lt) (h x)
+
+  pub searched_by : (xs : List X) (r : Result ℕ ℕ) → IsBinarySearchResult answer (map key xs) r → IsBinarySearchResult (λ x. answer (key x)) xs r
+  searched_by xs (Ok i) h = λ d. subst (λ k. answer k ≡ Equal) (map_at key xs i d) (h (key d))
+  searched_by xs (Err i) h = λ sorted.
+      let parted = h (λ a b k le lt. rising xs a b k (λ d. sorted a b d le (omega (arith, lt, length-map xs key))) le (omega (arith, lt, length-map xs key))) in
+      (λ j d low lt. subst (λ k. answer k ≡ Less) (map_at key xs j d) (parted.0 j (key d) low lt),
+      λ j d low lt. subst (λ k. answer k ≡ Greater) (map_at key xs j d) (parted.1 j (key d) low (omega (arith, lt, length-map xs key))))
+
+-- what a binary search of the names finds
+pub places : (names : List Text) (numbers : List Decimal) (name : Text) (r : Result ℕ ℕ) → IsKeptAs names numbers → IsSearchInRange r (length names) → IsBinarySearchResult (λ n. name_cmp n name) names r →
+    IfOk r (Finds name_cmp name_of (named_numbers names numbers) name) × IfErr r (Misses name_cmp name_of (named_numbers names numbers) name)
+places names numbers name r kept bound searched =
+    let values = named_numbers names numbers in
+    found name_cmp nat_list_cmp_total name_of values name r kept.are.rising
+    (subst (IsSearchInRange r) (kept.same ∙ sym (named_length names numbers kept.same)) bound)
+    (searched_by (λ n. name_cmp n name) name_of values r (subst (λ ns. IsBinarySearchResult (λ n. name_cmp n name) ns r) (sym (names_are names numbers kept.same)) searched))
+
+-- a value put where none of its name stands
+module _ (names : List Text) (numbers : List Decimal) (i : ℕ) (v : NamedValue) (kept : IsKeptAs names numbers) (gap : Misses name_cmp name_of (named_numbers names numbers) v.name i) where
+  pub at_most : i ≤ length names
+  at_most = omega (arith, gap.within, named_length names numbers kept.same, kept.same)
+
+  pub value_put : named_numbers (insert names i v.name) (insert numbers i v.value) ≡ with_value v (named_numbers names numbers)
+  value_put = named_inserted names numbers i v kept.same ∙ sym (gap.put v (tied_itself nat_list_cmp_total v.name))
+
+  same_put : length (insert names i v.name) ≡ length (insert numbers i v.value)
+  same_put =
+      let low = at_most in
+      omega (arith, kept.same, length-insert names i v.name low, length-insert numbers i v.value (omega (arith, low, kept.same)))
+
+  pub kept_put : length (named_numbers names numbers) < 256 → IsKeptAs (insert names i v.name) (insert numbers i v.value)
+  kept_put few = record {
+    same = same_put;
+    are = record {
+      rising = subst (IsRising name_cmp name_of) (sym value_put) (put_rising name_cmp nat_list_cmp_total name_of v (named_numbers names numbers) kept.are.rising);
+      few = omega (arith, few, named_length names numbers kept.same, named_length _ _ same_put, length-insert numbers i v.value (omega (arith, at_most, kept.same)));
+    };
+  }
