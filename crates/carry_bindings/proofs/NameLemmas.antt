@@ -1,14 +1,15 @@
 -- The set of the names that a record may give, slot by slot.
-use Rattle.std.proofs.Common.{◌≡◌, ℕ, ◌+◌, ◌<◌, List, [], ◌∷◌, take, get_or, length, Bool, true, false, ◌&&◌, ◌||◌, not, cond, drop, Option, Some, None, refl, sym, ap, ◌∙◌, add-one}
-use Rattle.std.specs.Prelude.{is_none, is_some, option_map}
+use Rattle.std.proofs.Common.{◌≡◌, ℕ, zero, suc, ◌+◌, ◌<◌, List, [], ◌∷◌, take, get_or, length, Bool, true, false, ◌&&◌, ◌||◌, not, cond, drop, Option, Some, None, refl, sym, ap, ◌∙◌, add-one, arith}
+use Rattle.std.specs.Prelude.{is_none, is_some, map, option_map}
 use Rattle.std.specs.List.{find}
 use Rattle.std.specs.BTreeSet.{BTreeSet, contains, Updates}
 use Rattle.std.specs.Str.{bytes_eq}
 use Rattle.std.proofs.lemmas.List.Folds.{list_any-append}
 use Rattle.std.proofs.lemmas.Map.Text.{is_eq-slice_cmp}
-use Rattle.std.proofs.Math.Seq.{take-suc, drop-cons}
+use Rattle.std.proofs.Math.ListN.{length-map}
+use Rattle.std.proofs.Math.Seq.{take-suc}
 use Rattle.limits_file.specs.declared.slots.Slot.{Slot}
-use Rattle.payroll_records.specs.NamedValues.{name_cmp}
+use Rattle.payroll_records.specs.NamedValues.{name_cmp, name_of}
 use Rattle.limits_file.specs.declared.limits.Carry.{Carry}
 use Rattle.payroll_records.specs.declared.values.NamedValue.{NamedValue}
 use Rattle.carry_bindings.specs.Filling.{takes, unknown}
@@ -52,13 +53,23 @@ module _ (slots : List Slot) (i : ℕ) (s : Slot) (old : BTreeSet (List ℕ)) (l
   name_passed carries q =
       h q ∙ passed (bytes_eq s.name q) (is_none s.carry) (takes (take i slots) q) (takes (take i slots) q) (some_is s.carry carries) refl ∙ sym (one_more slots i s q l is)
 
--- the values from a place on, the first of which some slot takes, or none does
-module _ (slots : List Slot) (values : List NamedValue) (i : ℕ) (v : NamedValue) (l : i < length values) (is : v ≡ get_or values i v) where
-  from_here : unknown slots (drop i values) ≡ option_map (λ (w : NamedValue). w.name) (cond (not (takes slots v.name)) (Some v) (find (λ w. not (takes slots w.name)) (drop (i + 1) values)))
-  from_here = rw (add-one, drop-cons values i v l, ← is) refl
+-- the values from a place on, whose first name some slot takes, or none does
+found_first : (slots : List Slot) (v : NamedValue) (vs : List NamedValue) (b : Bool) → option_map name_of (cond b (Some v) (find (λ w. not (takes slots w.name)) vs)) ≡ cond b (Some v.name) (unknown slots vs)
+found_first slots v vs true = refl
+found_first slots v vs false = refl
 
-  pub value_unknown : takes slots v.name ≡ false → unknown slots (drop i values) ≡ Some v.name
-  value_unknown e = from_here ∙ rw e refl
+from_here : (slots : List Slot) (values : List NamedValue) (i : ℕ) (name : List ℕ) → i < length values → name ≡ get_or (map name_of values) i name →
+    unknown slots (drop i values) ≡ cond (not (takes slots name)) (Some name) (unknown slots (drop (suc i) values))
+from_here slots [] i name l is = absurd (omega arith)
+from_here slots (v ∷ vs) zero name l is = rw is (found_first slots v vs (not (takes slots v.name)))
+from_here slots (v ∷ vs) (suc i) name l is = from_here slots vs i name (omega arith) is
 
-  pub value_known : takes slots v.name ≡ true → unknown slots (drop (i + 1) values) ≡ unknown slots (drop i values)
-  value_known e = sym (from_here ∙ rw e refl)
+module _ (slots : List Slot) (values : List NamedValue) (i : ℕ) (name : List ℕ) (l : i < length (map name_of values)) (is : name ≡ get_or (map name_of values) i name) where
+  here : unknown slots (drop i values) ≡ cond (not (takes slots name)) (Some name) (unknown slots (drop (suc i) values))
+  here = from_here slots values i name (omega (arith, l, length-map values name_of)) is
+
+  pub name_unknown : takes slots name ≡ false → unknown slots (drop i values) ≡ Some name
+  name_unknown e = here ∙ rw e refl
+
+  pub name_known : takes slots name ≡ true → unknown slots (drop (i + 1) values) ≡ unknown slots (drop i values)
+  name_known e = rw add-one (sym (here ∙ rw e refl))

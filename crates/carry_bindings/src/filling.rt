@@ -104,10 +104,10 @@ fn names_taken(alloc: Global, slots: &[Slot]) -> Result<BTreeSet<Name>, AllocErr
 fn unknown(alloc: Global, slots: &[Slot], values: &Values) -> Result<Option<Name>, AllocError>
     ensures { IfOk result (λ name. name ≡ unknown slots.now values.now) }
 {
-    let names = names_taken(alloc, slots)?;
-    for value in values.as_slice() {
-        if !names.contains(&value.name) {
-            return Ok(Some(value.name));
+    let taken = names_taken(alloc, slots)?;
+    for name in values.names() {
+        if !taken.contains(name) {
+            return Ok(Some(*name));
         }
     }
     Ok(None)

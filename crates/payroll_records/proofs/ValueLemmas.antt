@@ -1,5 +1,5 @@
 -- The list of names and the list of numbers that values are kept as.
-use Rattle.std.proofs.Common.{◌≡◌, ℕ, zero, suc, ◌+◌, ◌<◌, ◌≤◌, List, [], ◌∷◌, ◌++◌, length, get_or, take, drop, refl, sym, ap, subst, ◌∙◌, arith, Result, Ok, Err}
+use Rattle.std.proofs.Common.{◌≡◌, ℕ, zero, suc, ◌<◌, ◌≤◌, List, [], ◌∷◌, ◌++◌, length, get_or, refl, sym, ap, subst, ◌∙◌, arith, Result, Ok, Err}
 use Rattle.std.specs.Prelude.{map, IfOk, IfErr}
 use Rattle.std.specs.List.{insert}
 use Rattle.std.specs.List.Sorted.{IsBinarySearchResult, IsSearchInRange}
@@ -73,9 +73,10 @@ module _ {K X : Type 0} (answer : K → Ordering) (key : X → K) where
   pub searched_by : (xs : List X) (r : Result ℕ ℕ) → IsBinarySearchResult answer (map key xs) r → IsBinarySearchResult (λ x. answer (key x)) xs r
   searched_by xs (Ok i) h = λ d. subst (λ k. answer k ≡ Equal) (map_at key xs i d) (h (key d))
   searched_by xs (Err i) h = λ sorted.
-      let parted = h (λ a b k le lt. rising xs a b k (λ d. sorted a b d le (omega (arith, lt, length-map xs key))) le (omega (arith, lt, length-map xs key))) in
-      (λ j d low lt. subst (λ k. answer k ≡ Less) (map_at key xs j d) (parted.0 j (key d) low lt),
-      λ j d low lt. subst (λ k. answer k ≡ Greater) (map_at key xs j d) (parted.1 j (key d) low (omega (arith, lt, length-map xs key))))
+      let parted = h (λ a b k le lt. rising xs a b k (λ d. sorted a b d le (omega (arith, lt, length-map xs key))) le (omega (arith, lt, length-map xs key))) in (
+        λ j d low lt. subst (λ k. answer k ≡ Less) (map_at key xs j d) (parted.0 j (key d) low lt),
+        λ j d low lt. subst (λ k. answer k ≡ Greater) (map_at key xs j d) (parted.1 j (key d) low (omega (arith, lt, length-map xs key))),
+      )
 
 -- what a binary search of the names finds
 pub places : (names : List Text) (numbers : List Decimal) (name : Text) (r : Result ℕ ℕ) → IsKeptAs names numbers → IsSearchInRange r (length names) → IsBinarySearchResult (λ n. name_cmp n name) names r →

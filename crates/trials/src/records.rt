@@ -88,6 +88,18 @@ fn value(name: &str, text: &str) -> Result<NamedValue, Fail> {
     Ok(NamedValue { name, value })
 }
 
+/// The names of values, in order.
+fn spelled(alloc: Global, values: &Values) -> Result<String, Fail> {
+    let mut text = String::new(alloc);
+    for name in values.names() {
+        if !text.is_empty() {
+            text.push(' ')?;
+        }
+        text.push_str(name.as_str())?;
+    }
+    Ok(text)
+}
+
 #[test]
 fn values_are_kept_in_order_of_their_names(rt: HostRuntime) -> Result<(), Fail> {
     let mut values = Values::new(rt.alloc());
@@ -95,10 +107,8 @@ fn values_are_kept_in_order_of_their_names(rt: HostRuntime) -> Result<(), Fail> 
         assert!(rt; values.insert(value(name, "1.50")?).is_ok());
     }
     assert!(rt; matches!(values.insert(value("RE4", "2")?), Err(InsertFault::Twice)));
-    let names = values.as_slice();
-    assert_eq!(rt; names.len(), 3);
-    assert_eq!(rt; names[0].name.as_str(), "LZZ");
-    assert_eq!(rt; names[2].name.as_str(), "STKL");
+    assert_eq!(rt; values.numbers().len(), 3);
+    assert_eq!(rt; spelled(rt.alloc(), &values)?.as_str(), "LZZ RE4 STKL");
     let found = values.find(&value("RE4", "0")?.name).ok_or("a value")?;
     assert!(rt; found.numerator() == 150 && found.scale() == 2);
     Ok(())
@@ -119,15 +129,30 @@ fn a_table_gives_its_records(rt: HostRuntime) -> Result<(), Fail> {
     };
     assert_eq!(rt; records.len(), 2);
     assert_eq!(rt; records[0].employee.as_str(), "E2");
-    assert_eq!(rt; records[0].values.as_slice().len(), 1);
-    let values = records[1].values.as_slice();
-    assert_eq!(rt; values.len(), 2);
-    assert_eq!(rt; values[0].name.as_str(), "RE4");
-    assert_eq!(rt; values[1].name.as_str(), "STKL");
+    assert_eq!(rt; spelled(rt.alloc(), &records[0].values)?.as_str(), "RE4");
+    assert_eq!(rt; spelled(rt.alloc(), &records[1].values)?.as_str(), "RE4 STKL");
     let Ok(none) = read_table(rt.alloc(), HEADER.as_bytes()) else {
         return Err(Fail::from("a table"));
     };
     assert!(rt; none.is_empty());
+    Ok(())
+}
+
+#[test]
+fn records_have_names_of_their_own(rt: HostRuntime) -> Result<(), Fail> {
+    let alloc = rt.alloc();
+    let text =
+        "employee,month,day,STKL,RE4\nE1,2025-01,2025-01-31,,5\nE2,2025-01,2025-01-31,1,6\nE3,2025-01,2025-01-31,2,7\n";
+    let Ok(mut records) = read_table(alloc, text.as_bytes()) else {
+        return Err(Fail::from("a table"));
+    };
+    assert!(rt; records[1].values.insert(value("LZZ", "3")?).is_ok());
+    assert_eq!(rt; spelled(alloc, &records[0].values)?.as_str(), "RE4");
+    assert_eq!(rt; spelled(alloc, &records[1].values)?.as_str(), "LZZ RE4 STKL");
+    assert_eq!(rt; spelled(alloc, &records[2].values)?.as_str(), "RE4 STKL");
+    let kept = records[2].values.find(&value("STKL", "0")?.name);
+    assert!(rt; kept.is_some_and(|found| found.numerator() == 2));
+    assert!(rt; records[2].values.find(&value("LZZ", "0")?.name).is_none());
     Ok(())
 }
 

@@ -1,18 +1,14 @@
-use Rattle.std.proofs.Common.{◌≡◌, ◌<◌, ◌++◌, ◌∷◌, [], ap, sym, subst, rules, arith, length, length-append, List, Some, Option, Result, Ok, Err, IfOk}
+use Rattle.std.proofs.Common.{◌≡◌, ◌<◌, ◌++◌, ◌∷◌, [], ap, rules, arith, length, length-append, Some, Option}
+use Rattle.std.proofs.lemmas.Result.{IfOk-weaker}
 use Rattle.csv.specs.Records.{fields_of}
 use Rattle.scaled_decimal.specs.Decimals.{Decimal}
 use Rattle.payroll_records.specs.ValueViews.{named_numbers}
-use Rattle.payroll_records.specs.declared.values.NamedValue.{NamedValue}
 use Rattle.payroll_records.proofs.CellLemmas.{value_passed, value_added, values_supplied, supplied_values}
 use Rattle.payroll_records.proofs.ValueLemmas.{named_more}
 use Rattle.payroll_records.proofs.row.values_of.Goals as goal
 
 same_some : (x y : Decimal) (o : Option Decimal) → o ≡ Some x → o ≡ Some y → x ≡ y
 same_some x y o e f = cc
-
-where_same : {A E : Type 0} (r : Result A E) (x : A) (P : A → Type 0) → IfOk r (λ y. y ≡ x) → P x → IfOk r P
-where_same (Ok y) x P same holds = subst P (sym same) holds
-where_same (Err e) x P same holds = tt
 
 pub loop-column-preserved-in_default : goal.loop-column-preserved-in_default
 loop-column-preserved-in_default c =
@@ -23,7 +19,7 @@ loop-column-preserved-in_default c =
     record {
       same = l.invariant.same;
       values = value_passed _ _ (fields_of c.args.row.now) c.requires.columns l.column-index c.column-item.result (named_numbers l.names.items l.numbers.items) is within l.invariant.values
-        (λ d t. let number = rw c.field.ensures at (c.read_number.ensures d) in c.in_default.not-Some d (number.1 t));
+          (λ d t. let number = rw c.field.ensures at (c.read_number.ensures d) in c.in_default.not-Some d (number.1 t));
     }
 
 pub loop-column-preserved : goal.loop-column-preserved
@@ -39,8 +35,8 @@ loop-column-preserved c =
     rw (names, numbers) (record {
       same = omega (arith, l.invariant.same, length-append l.names.items (c.column-item.result.name ∷ []), length-append l.numbers.items (c.in-Some.value ∷ []));
       values = rw more
-        (value_added _ _ (fields_of c.args.row.now) c.requires.columns l.column-index c.column-item.result (named_numbers l.names.items l.numbers.items) c.in-Some.value is within l.invariant.values
-        ((number c.in-Some.value).0 c.in-Some.is) (λ d t. same_some d c.in-Some.value _ ((number d).1 t) c.in-Some.is));
+          (value_added _ _ (fields_of c.args.row.now) c.requires.columns l.column-index c.column-item.result (named_numbers l.names.items l.numbers.items) c.in-Some.value is within l.invariant.values
+          ((number c.in-Some.value).0 c.in-Some.is) (λ d t. same_some d c.in-Some.value _ ((number d).1 t) c.in-Some.is));
     })
 
 pub returns-clause-supplied : goal.returns-clause-supplied
@@ -51,7 +47,7 @@ returns-clause-supplied c =
     let values = named_numbers l.names.items l.numbers.items in
     let last : l.column-index ≡ length columns = (let size = ap length items in omega arith) in
     let all = rw last at l.invariant.values in
-    where_same c.from_columns.result values _ c.from_columns.ensures (λ v. (
+    IfOk-weaker c.from_columns.result (λ vs. vs ≡ values) _ (λ vs same. rw same (λ v. (
       values_supplied _ columns (fields_of c.args.row.now) c.requires.columns values v all,
       supplied_values _ columns (fields_of c.args.row.now) c.requires.columns values v all,
-    ))
+    ))) c.from_columns.ensures

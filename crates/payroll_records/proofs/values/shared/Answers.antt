@@ -11,5 +11,5 @@ same_copy (Err e) items x y Q h same = tt
 pub returns-then-eq : goal.returns-then-eq
 returns-then-eq c =
     let same : rc_slice_items c.in-Some-names.list ≡ c.args.names.items =
-      (slice_eq-Decides bytes_eq-Decides _ _ c.eq.result (rw (c.as_slice.ensures.value, c.as_slice-in-Some-names.ensures.value) at c.eq.ensures)).0 c.if-eq.true in
+    (slice_eq-Decides bytes_eq-Decides _ _ c.eq.result (rw (c.as_slice.ensures.value, c.as_slice-in-Some-names.ensures.value) at c.eq.ensures)).0 c.if-eq.true in
     same_copy c.clone.result rc_slice_items _ _ _ c.clone.ensures.cases same

@@ -1,4 +1,4 @@
-use Rattle.std.proofs.Common.{◌≡◌, Option, [], arith}
+use Rattle.std.proofs.Common.{[], arith}
 use Rattle.payroll_records.specs.ValueViews.{listed}
 use Rattle.payroll_records.specs.declared.values.NamedValue.{NamedValue}
 use Rattle.payroll_records.proofs.ValueLemmas.{named_length, number_at}

@@ -1,4 +1,4 @@
-use Rattle.std.proofs.Common.{◌≡◌, rules, arith, sym}
+use Rattle.std.proofs.Common.{◌≡◌, rules, arith}
 use Rattle.std.specs.List.{insert}
 use Rattle.std.specs.Rc.{rc_slice_items}
 use Rattle.payroll_records.specs.ValueViews.{listed}

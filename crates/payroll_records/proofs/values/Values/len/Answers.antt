@@ -1,4 +1,4 @@
-use Rattle.std.proofs.Common.{◌≡◌, arith, length, sym, ◌∙◌}
+use Rattle.std.proofs.Common.{arith}
 use Rattle.payroll_records.specs.ValueViews.{listed}
 use Rattle.payroll_records.proofs.ValueLemmas.{named_length}
 use Rattle.payroll_records.proofs.values.Values.len.Goals as goal
