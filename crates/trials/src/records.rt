@@ -130,7 +130,10 @@ fn a_table_gives_its_records(rt: HostRuntime) -> Result<(), Fail> {
     assert_eq!(rt; records.len(), 2);
     assert_eq!(rt; records[0].employee.as_str(), "E2");
     assert_eq!(rt; spelled(rt.alloc(), &records[0].values)?.as_str(), "RE4");
-    assert_eq!(rt; spelled(rt.alloc(), &records[1].values)?.as_str(), "RE4 STKL");
+    assert_eq!(rt;
+        spelled(rt.alloc(), &records[1].values)?.as_str(),
+        "RE4 STKL"
+    );
     let Ok(none) = read_table(rt.alloc(), HEADER.as_bytes()) else {
         return Err(Fail::from("a table"));
     };
@@ -148,7 +151,10 @@ fn records_have_names_of_their_own(rt: HostRuntime) -> Result<(), Fail> {
     };
     assert!(rt; records[1].values.insert(value("LZZ", "3")?).is_ok());
     assert_eq!(rt; spelled(alloc, &records[0].values)?.as_str(), "RE4");
-    assert_eq!(rt; spelled(alloc, &records[1].values)?.as_str(), "LZZ RE4 STKL");
+    assert_eq!(rt;
+        spelled(alloc, &records[1].values)?.as_str(),
+        "LZZ RE4 STKL"
+    );
     assert_eq!(rt; spelled(alloc, &records[2].values)?.as_str(), "RE4 STKL");
     let kept = records[2].values.find(&value("STKL", "0")?.name);
     assert!(rt; kept.is_some_and(|found| found.numerator() == 2));
