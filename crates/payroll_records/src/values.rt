@@ -67,7 +67,7 @@ impl Values {
         }
     }
 
-    /// The values of these names. Where values of before have the same names, both share one list of them.
+    /// The values of these names, each at its place. Where `before` has the same names, both share one list of them.
     pub(crate) fn from_columns(
         names: Vec<Name>,
         numbers: Vec<Dec>,
@@ -170,7 +170,7 @@ fn listed(names: &Option<RcSlice<Name>>) -> &[Name]
     }
 }
 
-/// A list of the names: that of the values before, where it is the same.
+/// A list of the names: that of `before` where it is the same, and else a new one.
 fn shared(names: Vec<Name>, before: Option<&Values>) -> Result<RcSlice<Name>, AllocError>
     ensures { IfOk result (λ list. rc_slice_items list ≡ names.items) }
 {
@@ -184,7 +184,7 @@ fn shared(names: Vec<Name>, before: Option<&Values>) -> Result<RcSlice<Name>, Al
     RcSlice::from_vec(names)
 }
 
-/// A list of its own of the names with one more, at a place.
+/// A new list of the names with one more, at a place.
 fn with_name(
     alloc: Global,
     names: &[Name],
