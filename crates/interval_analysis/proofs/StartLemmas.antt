@@ -113,25 +113,3 @@ is_start p limits rs is =
       sized = ap length same ∙ sized limits f.inputs others;
       ranges = ap (with_names (names_of (f.inputs ++ others))) same ∙ named limits f.inputs others;
     }
-
--- ---- the literals of declarations
-
-all_before : {X : Type 0} (P : X → Type 0) (xs ys : List X) → All P (xs ++ ys) → All P xs
-all_before P [] ys h = λ i d l. absurd (omega arith)
-all_before P (x ∷ xs) ys h = All-cons P x xs (All-head P x (xs ++ ys) h) (all_before P xs ys (All-tail P x (xs ++ ys) h))
-
-pub record AreTyped (f : Flowchart) : Type 0 where
-  pub inputs : All HasItsType f.inputs
-  pub outputs : All HasItsType f.outputs
-  pub internals : All HasItsType f.internals
-
-pub are_typed : (f : Flowchart) → IsWellTyped f → AreTyped f
-are_typed f typed =
-    let all = (has_types f typed).literals in
-    let others = all_behind HasItsType f.inputs _ all in
-    let internals = all_behind HasItsType f.outputs _ others in
-    record {
-      inputs = all_before HasItsType f.inputs _ all;
-      outputs = all_before HasItsType f.outputs _ others;
-      internals = all_before HasItsType f.internals _ internals;
-    }
