@@ -3,7 +3,7 @@ use Rattle.std.proofs.Common.{◌≡◌, ℕ, ◌-◌, ◌≤◌, Bool, true, fa
 use Rattle.std.specs.Prelude.{unsigned_abs, slice_get}
 use Rattle.std.specs.Int.{w128}
 use Rattle.std.specs.Option.{option_map_or}
-use Rattle.std.proofs.Common.{to_z, of_z, set, length, inl, inr}
+use Rattle.std.proofs.Common.{to_z, of_z, set, inl, inr}
 use Rattle.std.proofs.lemmas.List.{length-map}
 use Rattle.std.proofs.lemmas.Option.{slice_get_cases}
 use Rattle.std.proofs.lemmas.Bool.Decides.{nat_tests}

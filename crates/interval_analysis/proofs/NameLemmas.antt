@@ -5,11 +5,10 @@ use Rattle.std.specs.List.{position_or_len}
 use Rattle.std.specs.Str.{bytes_eq}
 use Rattle.std.proofs.lemmas.Bool.{cases_lt}
 use Rattle.std.proofs.lemmas.Bool.Decides.{nat_tests}
-use Rattle.std.proofs.lemmas.List.{length-map, set_past}
+use Rattle.std.proofs.lemmas.List.{set_past}
 use Rattle.std.proofs.lemmas.Option.{slice_get_past, none-some}
 use Rattle.std.proofs.lemmas.Slice.Eq.{bytes_eq-Decides}
-use Rattle.pap_tree.specs.Declarations.{Declaration}
-use Rattle.pap_types.specs.Scopes.{declared_as, names_of, number_of}
+use Rattle.pap_types.specs.Scopes.{number_of}
 use Rattle.interval_num.specs.Intervals.{Interval}
 use Rattle.range_walk.specs.Ranges.{range_named, put_range}
 use Rattle.interval_analysis.specs.PlanViews.{with_names}

@@ -4,29 +4,25 @@ use Rattle.std.proofs.Common.{to_z, of_z}
 use Rattle.std.specs.Prelude.{All, unsigned_abs, nat_le}
 use Rattle.std.specs.Int.{w128}
 use Rattle.std.proofs.lemmas.List.{length-map, map-append, take_more}
-use Rattle.std.proofs.lemmas.List.Elements.{All-cons, All-head, All-tail}
+use Rattle.std.proofs.lemmas.List.Elements.{All-head, All-tail}
 use Rattle.std.proofs.lemmas.Bool.Decides.{nat_tests}
 use Rattle.scaled_decimal.specs.Decimals.{Decimal, scale_of, numerator_of, numerator_at}
 use Rattle.scaled_decimal.specs.Limits.{limit, IsWithinLimit}
 use Rattle.pap_tree.specs.declared.declaration.Declared.{Declared}
 use Rattle.pap_tree.specs.declared.plan.PlanText.{PlanText}
 use Rattle.pap_tree.specs.Declarations.{Declaration, declaration_of}
-use Rattle.pap_tree.specs.Flowchart.{Flowchart, flowchart_of}
+use Rattle.pap_tree.specs.Flowchart.{flowchart_of}
 use Rattle.limits_file.specs.declared.limits.InputLimit.{InputLimit}
 use Rattle.limits_file.specs.declared.limits.Limits.{Limits}
 use Rattle.limits_file.specs.Limits.{HasSoundBounds, IsFactorLimit}
 use Rattle.interval_num.specs.Intervals.{Interval}
-use Rattle.pap_types.specs.Checks.{IsWellTyped}
 use Rattle.pap_types.specs.Kinds.{has_few_places}
 use Rattle.pap_types.specs.Scopes.{names_of, at_factor_scale}
-use Rattle.pap_types.specs.Typing.{HasItsType}
-use Rattle.pap_types.proofs.Laws.{has_types}
 use Rattle.range_walk.specs.Analysis.{input_range, first_range}
 use Rattle.range_walk.proofs.Laws.{at_most}
 use Rattle.interval_analysis.specs.PlanViews.{with_names}
 use Rattle.interval_analysis.specs.StartViews.{CanSpan, IsStart, declarations, limited, begun}
 use Rattle.interval_analysis.proofs.KeptLemmas.{both, held_is}
-use Rattle.interval_analysis.proofs.LiteralLemmas.{all_behind}
 
 -- ---- a limit's bounds
 
