@@ -1,9 +1,11 @@
 -- A range as a variable of a type keeps it.
 use Rattle.std.proofs.Common.{◌≡◌, ℕ, ◌-◌, ◌≤◌, Bool, true, false, ◌&&◌, nat_le, ℤ, ◌*ℤ◌, List, Some, None, Ok, refl, sym, ap, ◌∙◌, subst, arith}
-use Rattle.std.specs.Prelude.{unsigned_abs}
+use Rattle.std.specs.Prelude.{unsigned_abs, slice_get}
 use Rattle.std.specs.Int.{w128}
 use Rattle.std.specs.Option.{option_map_or}
-use Rattle.std.proofs.Common.{to_z, of_z, set}
+use Rattle.std.proofs.Common.{to_z, of_z, set, inl, inr}
+use Rattle.std.proofs.lemmas.List.{length-map}
+use Rattle.std.proofs.lemmas.Option.{slice_get_cases}
 use Rattle.std.proofs.lemmas.Bool.Decides.{nat_tests}
 use Rattle.std.proofs.lemmas.Int.{ints, to_z-of_z, fits_signed_from_abs}
 use Rattle.scaled_decimal.specs.Decimals.{Decimal, scale_of, numerator_of, numerator_at, ten_to}
@@ -15,16 +17,17 @@ use Rattle.pap_tree.specs.declared.plan.PlanText.{PlanText}
 use Rattle.pap_tree.specs.Term.{Term, leaf, item, one, two, choice, whole, long, point, text, known, named}
 use Rattle.interval_num.specs.Intervals.{Interval, IsWholeOfBits}
 use Rattle.pap_types.specs.declared.kinds.NodeKind.{NodeKind}
-use Rattle.pap_types.specs.Scopes.{Scope, number_of, declared_as, at_factor_scale}
+use Rattle.pap_types.specs.Scopes.{Scope, names_of, number_of, declared_as, declaration_in, at_factor_scale}
 use Rattle.pap_types.specs.Kinds.{suits, is_factor_literal, has_few_places, kind_of}
 use Rattle.pap_types.specs.Typing.{TargetSuits}
+use Rattle.pap_types.proofs.Laws.{declared_by}
 use Rattle.range_walk.specs.Ranges.{Ranges, single, put_range}
 use Rattle.range_walk.specs.NodeRanges.{leaf_range}
 use Rattle.range_walk.specs.Ranged.{ranged}
 use Rattle.range_walk.proofs.Laws.{leaf_shape, passed_node}
 use Rattle.range_walk.specs.Walked.{range_kept_as, assigned_range}
 use Rattle.interval_analysis.specs.PlanViews.{IsSized, scope_in, variables_in, ranges_in}
-use Rattle.interval_analysis.proofs.NameLemmas.{put_by, put_none}
+use Rattle.interval_analysis.proofs.NameLemmas.{number_in, put_by, put_none}
 use Rattle.interval_analysis.specs.StatementViews.{FitsFactor, CanKeep, CanPut}
 
 pub both : (s t : Bool) → (s && t) ≡ true → (s ≡ true) × (t ≡ true)
@@ -97,6 +100,17 @@ product_is x y m n ex ey hm hn kept =
     ∙ held_is (m *ℤ n) kept
 
 -- ---- a variable gets a range
+
+-- a name that has a variable's number is declared as that variable
+pub variable_of : (scope : Scope) (x : List ℕ) (i : ℕ) → Some i ≡ number_of (names_of scope.variables) x → declaration_in scope x ≡ declared_as scope.variables x
+variable_of scope x i number =
+    let vs = scope.variables in
+    let at : slice_get vs i ≡ declared_as vs x = declared_by vs x (names_of vs) (Some i) refl number in
+    let within = (number_in (names_of vs) x i (sym number)).1 in
+    elim (slice_get_cases vs i).1 [
+      | inl here ↦ (let is : declared_as vs x ≡ Some here.0 = sym at ∙ here.2 in rw is refl)
+      | inr past ↦ absurd (omega (arith, within, past.0, length-map vs (λ d. d.name)))
+    ]
 
 pub put_kept : (p : PlanText) (rs : List Interval) (x : List ℕ) (a kept : Interval) (i : ℕ) → IsSized p rs → Some i ≡ number_of (variables_in p) x → kept ≡ option_map_or (λ d. range_kept_as d.kind a) (declared_as (scope_in p).variables x) a → ranges_in p (set rs i kept) ≡ assigned_range (scope_in p) x a (ranges_in p rs)
 put_kept p rs x a kept i sized number is =

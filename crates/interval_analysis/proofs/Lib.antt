@@ -5,12 +5,10 @@ pub mod CountLemmas
 pub mod ExpressionLemmas
 pub mod JoinLemmas
 pub mod KeptLemmas
-pub mod LiteralLemmas
 pub mod MethodLemmas
 pub mod NameLemmas
 pub mod NarrowLemmas
 pub mod OutputLemmas
 pub mod PartLemmas
-pub mod ShorteningLemmas
 pub mod StartLemmas
 pub mod StatementLemmas

@@ -5,11 +5,10 @@ use Rattle.std.specs.List.{position_or_len}
 use Rattle.std.specs.Str.{bytes_eq}
 use Rattle.std.proofs.lemmas.Bool.{cases_lt}
 use Rattle.std.proofs.lemmas.Bool.Decides.{nat_tests}
-use Rattle.std.proofs.lemmas.List.{length-map, set_past}
+use Rattle.std.proofs.lemmas.List.{set_past}
 use Rattle.std.proofs.lemmas.Option.{slice_get_past, none-some}
 use Rattle.std.proofs.lemmas.Slice.Eq.{bytes_eq-Decides}
-use Rattle.pap_tree.specs.Declarations.{Declaration}
-use Rattle.pap_types.specs.Scopes.{declared_as, names_of, number_of}
+use Rattle.pap_types.specs.Scopes.{number_of}
 use Rattle.interval_num.specs.Intervals.{Interval}
 use Rattle.range_walk.specs.Ranges.{range_named, put_range}
 use Rattle.interval_analysis.specs.PlanViews.{with_names}
@@ -36,24 +35,6 @@ number_past names x e = elim (cases_lt (place_of names x) (length names)) [
   | inl less ↦ (let t : nat_lt (place_of names x) (length names) ≡ true = grind (arith, nat_tests) in absurd (none-some (place_of names x) (sym (rw t at e))))
   | inr past ↦ past
 ]
-
--- the declaration of a name stands at its place
-declared_at : (ds : List Declaration) (x : List ℕ) → slice_get ds (place_of (names_of ds) x) ≡ declared_as ds x
-declared_at [] x = refl
-declared_at (d ∷ ds) x = elim (bytes_eq x d.name) as (λ same. slice_get (d ∷ ds) (cond (not same) (1 + place_of (names_of ds) x) 0) ≡ (if same then Some d else declared_as ds x)) [
-  | true ↦ refl
-  | false ↦ (let more : 1 + place_of (names_of ds) x ≡ suc (place_of (names_of ds) x) = omega arith in
-      ap (slice_get (d ∷ ds)) more ∙ declared_at ds x)
-]
-
-pub declared_by : (ds : List Declaration) (x : List ℕ) (i : ℕ) → number_of (names_of ds) x ≡ Some i → slice_get ds i ≡ declared_as ds x
-declared_by ds x i e = ap (slice_get ds) (sym (number_in (names_of ds) x i e).0) ∙ declared_at ds x
-
-pub declared_none : (ds : List Declaration) (x : List ℕ) → number_of (names_of ds) x ≡ None → None ≡ declared_as ds x
-declared_none ds x e =
-    let past = number_past (names_of ds) x e in
-    let count = length-map ds (λ d. d.name) in
-    sym (slice_get_past ds (place_of (names_of ds) x) (omega (arith, past, count))) ∙ declared_at ds x
 
 -- the range of a name stands at its place
 named_at : (names : List (List ℕ)) (rs : List Interval) (x : List ℕ) → length rs ≡ length names → range_named (with_names names rs) x ≡ slice_get rs (place_of names x)

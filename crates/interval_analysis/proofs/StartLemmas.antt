@@ -4,29 +4,25 @@ use Rattle.std.proofs.Common.{to_z, of_z}
 use Rattle.std.specs.Prelude.{All, unsigned_abs, nat_le}
 use Rattle.std.specs.Int.{w128}
 use Rattle.std.proofs.lemmas.List.{length-map, map-append, take_more}
-use Rattle.std.proofs.lemmas.List.Elements.{All-cons, All-head, All-tail}
+use Rattle.std.proofs.lemmas.List.Elements.{All-head, All-tail}
 use Rattle.std.proofs.lemmas.Bool.Decides.{nat_tests}
 use Rattle.scaled_decimal.specs.Decimals.{Decimal, scale_of, numerator_of, numerator_at}
 use Rattle.scaled_decimal.specs.Limits.{limit, IsWithinLimit}
 use Rattle.pap_tree.specs.declared.declaration.Declared.{Declared}
 use Rattle.pap_tree.specs.declared.plan.PlanText.{PlanText}
 use Rattle.pap_tree.specs.Declarations.{Declaration, declaration_of}
-use Rattle.pap_tree.specs.Flowchart.{Flowchart, flowchart_of}
+use Rattle.pap_tree.specs.Flowchart.{flowchart_of}
 use Rattle.limits_file.specs.declared.limits.InputLimit.{InputLimit}
 use Rattle.limits_file.specs.declared.limits.Limits.{Limits}
 use Rattle.limits_file.specs.Limits.{HasSoundBounds, IsFactorLimit}
 use Rattle.interval_num.specs.Intervals.{Interval}
-use Rattle.pap_types.specs.Checks.{IsWellTyped}
 use Rattle.pap_types.specs.Kinds.{has_few_places}
 use Rattle.pap_types.specs.Scopes.{names_of, at_factor_scale}
-use Rattle.pap_types.specs.Typing.{HasItsType}
-use Rattle.pap_types.proofs.Laws.{has_types}
 use Rattle.range_walk.specs.Analysis.{input_range, first_range}
 use Rattle.range_walk.proofs.Laws.{at_most}
 use Rattle.interval_analysis.specs.PlanViews.{with_names}
 use Rattle.interval_analysis.specs.StartViews.{CanSpan, IsStart, declarations, limited, begun}
 use Rattle.interval_analysis.proofs.KeptLemmas.{both, held_is}
-use Rattle.interval_analysis.proofs.LiteralLemmas.{all_behind}
 
 -- ---- a limit's bounds
 
@@ -112,26 +108,4 @@ is_start p limits rs is =
     record {
       sized = ap length same ∙ sized limits f.inputs others;
       ranges = ap (with_names (names_of (f.inputs ++ others))) same ∙ named limits f.inputs others;
-    }
-
--- ---- the literals of declarations
-
-all_before : {X : Type 0} (P : X → Type 0) (xs ys : List X) → All P (xs ++ ys) → All P xs
-all_before P [] ys h = λ i d l. absurd (omega arith)
-all_before P (x ∷ xs) ys h = All-cons P x xs (All-head P x (xs ++ ys) h) (all_before P xs ys (All-tail P x (xs ++ ys) h))
-
-pub record AreTyped (f : Flowchart) : Type 0 where
-  pub inputs : All HasItsType f.inputs
-  pub outputs : All HasItsType f.outputs
-  pub internals : All HasItsType f.internals
-
-pub are_typed : (f : Flowchart) → IsWellTyped f → AreTyped f
-are_typed f typed =
-    let all = (has_types f typed).literals in
-    let others = all_behind HasItsType f.inputs _ all in
-    let internals = all_behind HasItsType f.outputs _ others in
-    record {
-      inputs = all_before HasItsType f.inputs _ all;
-      outputs = all_before HasItsType f.outputs _ others;
-      internals = all_before HasItsType f.internals _ internals;
     }

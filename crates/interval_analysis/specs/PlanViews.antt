@@ -1,14 +1,10 @@
 -- What private contracts say of a plan's names, and of the ranges of its variables by number.
-use Rattle.std.specs.Prelude.{◌≡◌, ℕ, List, [], ◌∷◌, length, Option, Some, None, IsTrue, true}
-use Rattle.std.specs.Option.{option_map_or}
+use Rattle.std.specs.Prelude.{◌≡◌, ℕ, List, [], ◌∷◌, length, Option, Some, None}
 use Rattle.std.proofs.Common.{Vec, Global}
-use Rattle.pap_tree.specs.declared.declaration.Kind.TheVariants.{Factor}
 use Rattle.pap_tree.specs.declared.plan.PlanText.{PlanText}
-use Rattle.pap_tree.specs.Declarations.{DeclaredLiteral}
 use Rattle.pap_tree.specs.Flowchart.{flowchart_of}
 use Rattle.interval_num.specs.Intervals.{Interval}
 use Rattle.pap_types.specs.Scopes.{Scope, scope_of, variables_of, names_of}
-use Rattle.pap_types.specs.Checks.{is_of_type}
 use Rattle.range_walk.specs.NodeRanges.{name_range}
 use Rattle.range_walk.specs.Ranges.{Ranges}
 use Rattle.interval_analysis.specs.declared.branches.Change.{Change}
@@ -16,10 +12,6 @@ use Rattle.interval_analysis.specs.Changes.{changed}
 
 abbrev pub scope_in : PlanText → Scope
 scope_in p = scope_of (flowchart_of p)
-
--- a written value of a `double`
-abbrev pub IsFactorValue : Option DeclaredLiteral → Type 0
-IsFactorValue value = IsTrue (option_map_or (is_of_type Factor) value true)
 
 -- the names of the variables in the order of their numbers
 abbrev pub variables_in : PlanText → List (List ℕ)

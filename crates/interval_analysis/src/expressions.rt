@@ -13,7 +13,7 @@ ghost use Rattle.interval_analysis.specs.ExpressionViews.{CanWalk, CanWalkParts,
 
 use crate::branches::{Branches, Change, behind, changed, unchanged_if};
 use crate::comparisons::{Sides, are_whole, branches_of, signs_where};
-use crate::names::{as_big, constant_value, known_value, shown_divisor, single, table};
+use crate::names::{as_big, single, table};
 use crate::operations::{
     at_places, call_range, comparison_range, item_range, operator_range, read, unary_range,
 };
@@ -86,7 +86,7 @@ impl Walk<'_> {
             Expr::Long(number) => literal(Dec::new(*number as i128, 0), NodeKind::Long, at),
             Expr::Point(number) => literal(*number, NodeKind::Fraction, at),
             Expr::Text(number) => literal(*number, NodeKind::Big, at),
-            Expr::Known(known) => literal(known_value(*known), NodeKind::Big, at),
+            Expr::Known(known) => literal(known.value(), NodeKind::Big, at),
             Expr::Var(name) => self.range_of_name(name, at, ranges),
             Expr::Item(name, index) => self.range_of_item(name, index, at, ranges),
             Expr::ValueOf(operand) => self.range_of_value(operand, at, ranges),
@@ -128,7 +128,7 @@ impl Walk<'_> {
     {
         match self.plan.variable(name) {
             Some(number) => Some(ranges[number]),
-            None => match constant_value(self.plan, name) {
+            None => match self.plan.constant_value(name) {
                 Some(value) => Some(single(value)),
                 None => None,
             },
@@ -265,7 +265,7 @@ impl Walk<'_> {
     {
         let first = self.range_of(left, at, ranges)?;
         let second = self.range_of(right, first.next, ranges)?;
-        let shown = shown_divisor(self.plan, right);
+        let shown = self.plan.shown_divisor(right);
         let range = call_range(call, shown, first.range, second.range);
         own(range, kind_of_call(call), second.next)
     }

@@ -12,11 +12,11 @@ ghost use Rattle.range_walk.specs.Admission.{HaveLimits, HasLimit, SuitsLimit, l
 ghost use Rattle.range_walk.specs.Analysis.{limit_range, input_range};
 ghost use Rattle.interval_analysis.specs.StartViews.{CanSpan, IsStart, declarations, limited, begun};
 
-use crate::names::{first_value, single};
+use crate::names::single;
 use interval_num::Abs;
 use limits_file::{InputLimit, Limits};
 use pap_tree::{Declared, Kind, Name};
-use pap_types::Typed;
+use pap_types::{Typed, first_value};
 use scaled_decimal::{Dec, power_of_ten};
 use std::alloc::{AllocError, Global};
 

@@ -14,7 +14,6 @@ use crate::branches::{Branches, Change, apply, changed};
 use crate::expressions::{Stop, Tested, Walk};
 use crate::joins::join_into;
 use crate::lists::written;
-use crate::names::variable;
 use interval_num::{Abs, RangeCause};
 use pap_tree::{Expr, Kind, Method, Name, Place, Stmt};
 use pap_types::Typed;
@@ -115,7 +114,7 @@ impl Walk<'_> {
         let Some(number) = self.plan.variable(target) else {
             return;
         };
-        let kept = match variable(self.plan, target) {
+        let kept = match self.plan.declaration(target) {
             Some(declared) => kept_as(declared.kind, range),
             None => range,
         };

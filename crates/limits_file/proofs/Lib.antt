@@ -4,7 +4,6 @@ pub mod InputLemmas
 pub mod BindingLemmas
 pub mod Laws
 pub mod LabelLemmas
-pub mod BoundLemmas
 pub mod InputParts
 pub mod AnswerLemmas
 pub mod OrderLemmas

@@ -1,8 +1,10 @@
 -- Which values a range admits, and the bound of outputs.
-use Rattle.std.specs.Prelude.{◌≡◌, ℕ, ◌^◌, ◌≤◌, Bool, ◌&&◌, nat_le, IsTrue, IsFalse, unsigned_abs, List, Any}
+use Rattle.std.specs.Prelude.{◌≡◌, ℕ, ◌^◌, ◌≤◌, IsTrue, IsFalse, unsigned_abs, List, Any}
 use Rattle.std.specs.Ordering.{is_gt}
 use Rattle.scaled_decimal.specs.Decimals.{Decimal, numerator_at, scale_of, value_order}
-use Rattle.scaled_decimal.specs.Limits.{IsWithinLimit, limit as most}
+use Rattle.scaled_decimal.specs.Limits.{IsWithinLimit}
+-- for those who take a limit of a `double` apart
+pub use Rattle.pap_tree.specs.Scales.{is_kept_at}
 use Rattle.limits_file.specs.declared.limits.InputLimit.{InputLimit}
 
 -- the value of a is at most that of b, whatever their scales
@@ -28,11 +30,6 @@ pub record HasSoundBounds (limit : InputLimit) : Type 0 where
   pub ordered : IsAtMost limit.low limit.high
   pub low_kept : IsWithinLimit (numerator_at limit.places limit.low)
   pub high_kept : IsWithinLimit (numerator_at limit.places limit.high)
-
--- whether a decimal has at most so many places, and at so many places a numerator of at most 10^37
-abbrev pub is_kept_at : ℕ → Decimal → Bool
-is_kept_at places d =
-    nat_le (scale_of d) places && nat_le (unsigned_abs (numerator_at places d)) most
 
 -- a limit of a `double`: at most three places, and bounds that are numbers of at most three places
 pub record IsFactorLimit (limit : InputLimit) : Type 0 where

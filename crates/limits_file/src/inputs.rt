@@ -1,7 +1,6 @@
 //! `[input]`: the range of each input.
-ghost use Rattle.std.specs.Prelude.{◌≡◌, ◌≤◌, ◌↔◌, ℕ, IsTrue, MatchOption, IfOk, map, Some, not, option_map};
-ghost use Rattle.scaled_decimal.specs.Decimals.{Decimal, numerator_at, scale_of};
-ghost use Rattle.scaled_decimal.specs.Limits.{IsWithinLimit, most_places};
+ghost use Rattle.std.specs.Prelude.{◌≡◌, ◌↔◌, ℕ, IsTrue, MatchOption, IfOk, map, Some, not, option_map};
+ghost use Rattle.scaled_decimal.specs.Decimals.{Decimal};
 ghost use Rattle.toml.specs.View.{view, table_view};
 ghost use Rattle.limits_file.specs.AnswerViews.{Tells};
 ghost use Rattle.limits_file.specs.InputViews.{HasNoBoundAt, HasPlaces, HasNoPlaces};
@@ -13,14 +12,11 @@ ghost use Rattle.limits_file.specs.Limits.{HasSoundBounds};
 
 use crate::entries::{has_key, value_at};
 use crate::{InputLimit, Items, LimitsFault};
-use pap_tree::Name;
+use pap_tree::{Name, is_kept_at};
 use scaled_decimal::{Dec, read_dec};
 use std::alloc::Global;
 use std::cmp::Ordering;
 use toml::{Table, Value};
-
-/// The greatest magnitude of a numerator.
-const LIMIT: i128 = 10_000_000_000_000_000_000_000_000_000_000_000_000;
 
 /// The most places of a decimal.
 const MOST_PLACES: u8 = 30;
@@ -159,18 +155,7 @@ fn has_sound_bounds(limit: &InputLimit) -> bool
     ensures { IsTrue result ↔ HasSoundBounds limit.now }
 {
     limit.places <= MOST_PLACES
-        && limit.low.scale() <= limit.places
-        && limit.high.scale() <= limit.places
         && limit.low.compare(limit.high) != Ordering::Greater
         && is_kept_at(limit.low, limit.places)
         && is_kept_at(limit.high, limit.places)
-}
-
-/// Whether a bound's numerator at that scale is at most 10^37 in magnitude.
-fn is_kept_at(bound: Dec, scale: u8) -> bool
-    requires longer { scale_of bound ≤ scale }
-    requires few { scale ≤ most_places }
-    ensures { IsTrue result ↔ IsWithinLimit (numerator_at scale bound) }
-{
-    bound.abs().compare(Dec::new(LIMIT, scale)) != Ordering::Greater
 }

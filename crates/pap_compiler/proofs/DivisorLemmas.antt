@@ -19,7 +19,8 @@ use Rattle.pap_types.specs.Operations.{of_one}
 use Rattle.pap_types.specs.Checks.{is_of_type}
 use Rattle.pap_compiler.specs.CodeDecisions.{shown_number}
 use Rattle.pap_types.specs.Typing.{HasItsType, AreDistinct}
-use Rattle.pap_compiler.proofs.NameLemmas.{AreHeld, looked, declared_type, apart}
+use Rattle.pap_types.proofs.Laws.{declared_type}
+use Rattle.pap_compiler.proofs.NameLemmas.{AreHeld, looked, apart}
 use Rattle.pap_compiler.proofs.KindLemmas.{both_true, and_then_some, map_some, some_is}
 
 cofactor : (m n : ℕ) → 0 < n → m % n ≡ 0 → (m / n) * n ≡ m

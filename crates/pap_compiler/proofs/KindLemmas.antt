@@ -21,7 +21,8 @@ use Rattle.pap_types.specs.Operations.{is_zero, of_two, unless_zero, compared}
 use Rattle.pap_types.specs.Values.{Env, value, named_value, goes_right}
 use Rattle.pap_types.specs.Checks.{is_of_type}
 use Rattle.pap_types.specs.Typing.{IsTypedTerm, HasItsType}
-use Rattle.pap_compiler.proofs.NameLemmas.{AreHeld, looked, declared_type}
+use Rattle.pap_types.proofs.Laws.{declared_type}
+use Rattle.pap_compiler.proofs.NameLemmas.{AreHeld, looked}
 
 pub both_true : (a b : Bool) → (a && b) ≡ true → (a ≡ true) × (b ≡ true)
 both_true true b h = (refl, h)

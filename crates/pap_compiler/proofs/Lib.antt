@@ -14,4 +14,3 @@ pub mod SizeLemmas
 pub mod StatementLemmas
 pub mod TermRuns
 pub mod ValueLemmas
-pub mod ZeroLemmas

@@ -1,19 +1,18 @@
 -- Names by number: where a name stands among the variables and in an environment that has their values.
-use Rattle.std.proofs.Common.{◌≡◌, ℕ, suc, ◌+◌, ◌<◌, List, [], ◌∷◌, ◌++◌, length, map, Bool, true, false, Option, Some, None, if◌then◌else◌, refl, sym, ap, ◌∙◌, subst, arith, cond, nat_lt, ◌⊎◌, inl, inr, get_or}
+use Rattle.std.proofs.Common.{◌≡◌, ℕ, suc, ◌+◌, ◌<◌, List, [], ◌∷◌, ◌++◌, length, map, Bool, true, false, Option, Some, None, if◌then◌else◌, refl, sym, ap, ◌∙◌, arith, cond, nat_lt, ◌⊎◌, inl, inr, get_or}
 use Rattle.std.specs.Prelude.{slice_get, slice_set, not, ⊤}
-use Rattle.std.specs.List.{All, position_or_len}
+use Rattle.std.specs.List.{position_or_len}
 use Rattle.std.specs.Option.{option_map}
 use Rattle.std.specs.Str.{bytes_eq}
 use Rattle.std.proofs.lemmas.Bool.{cases_lt, cases_Bool}
 use Rattle.std.proofs.lemmas.Bool.Decides.{nat_tests, same_from_decides}
-use Rattle.std.proofs.lemmas.List.Elements.{All-nil, All-cons, All-head, All-tail}
 use Rattle.std.proofs.lemmas.Slice.Eq.{bytes_eq-Decides}
 use Rattle.scaled_decimal.specs.Decimals.{Decimal, scale_of}
 use Rattle.pap_tree.specs.Declarations.{Declaration}
 use Rattle.pap_types.specs.Scopes.{declared_as, names_of, number_of}
 use Rattle.pap_types.specs.Kinds.{declared_kind, is_whole}
 use Rattle.pap_types.specs.Values.{Env, Entry, look, put}
-use Rattle.pap_types.specs.Typing.{HasItsType, AreDistinct}
+use Rattle.pap_types.specs.Typing.{AreDistinct}
 
 -- ---- names that are the same
 
@@ -160,23 +159,6 @@ apart (d ∷ vs) cs x v c h e f = elim (cases_Bool (bytes_eq x d.name)) [
       h 0 (suc j.0) [] (omega arith) (omega arith) (sym (same_bytes x d.name s) ∙ sym (j.1.1 [])))
   | inr s ↦ apart vs cs x v c (λ i j e lt l. h (suc i) (suc j) e (omega (arith, lt)) (omega (arith, l))) (rw s at e) f
 ]
-
-pub types_behind : (vs cs : List Declaration) → All HasItsType (vs ++ cs) → All HasItsType cs
-types_behind [] cs h = h
-types_behind (d ∷ vs) cs h = types_behind vs cs (All-tail HasItsType d (vs ++ cs) h)
-
-pub types_before : (vs cs : List Declaration) → All HasItsType (vs ++ cs) → All HasItsType vs
-types_before [] cs h = All-nil HasItsType
-types_before (d ∷ vs) cs h = All-cons HasItsType d vs (All-head HasItsType d (vs ++ cs) h) (types_before vs cs (All-tail HasItsType d (vs ++ cs) h))
-
--- a declaration has its type
-pub declared_type : (cs : List Declaration) (x : List ℕ) (c : Declaration) → All HasItsType cs → declared_as cs x ≡ Some c → HasItsType c
-declared_type [] x c h e = absurd (cc)
-declared_type (d ∷ cs) x c h e = by_name (bytes_eq x d.name) (declared_type cs x c (All-tail HasItsType d cs h)) e
-  where
-    by_name : (t : Bool) → (declared_as cs x ≡ Some c → HasItsType c) → (if t then Some d else declared_as cs x) ≡ Some c → HasItsType c
-    by_name true later e = let same : d ≡ c = cc in subst HasItsType same (All-head HasItsType d cs h)
-    by_name false later e = later e
 
 -- a declaration stands at its number
 pub stands_at : {A : Type 0} (f : Declaration → A) (ds : List Declaration) (x : List ℕ) (d : Declaration) → declared_as ds x ≡ Some d → (k : ℕ) × ((place_of (names_of ds) x ≡ Some k) × (slice_get (map f ds) k ≡ Some (f d)))

@@ -6,10 +6,6 @@ use Rattle.std.proofs.lemmas.List.Elements.{All-head, All-tail}
 use Rattle.pap_tree.specs.declared.plan.Method.{Method}
 use Rattle.pap_tree.specs.declared.declaration.Declared.{Declared}
 use Rattle.pap_tree.specs.Declarations.{declaration_of}
-use Rattle.pap_types.specs.Checks.{IsWellTyped}
-use Rattle.pap_types.specs.Typing.{HasItsType}
-use Rattle.pap_types.proofs.Laws.{has_types}
-use Rattle.pap_compiler.proofs.NameLemmas.{types_before, types_behind}
 use Rattle.pap_tree.specs.Term.{Term, leaf, item, one, two, choice}
 use Rattle.pap_tree.specs.Numbering.{nodes}
 use Rattle.pap_tree.specs.Flowchart.{Body, done, eval, branch, execute, Routine, Flowchart, body_of, routine_of}
@@ -87,25 +83,6 @@ module _ (n : Names) where
       }
 
 -- ---- declarations
-
--- the literals of each part of a plan are of their types
-pub record ArePartsTyped (f : Flowchart) : Type 0 where
-  pub inputs : All HasItsType f.inputs
-  pub outputs : All HasItsType f.outputs
-  pub internals : All HasItsType f.internals
-  pub constants : All HasItsType f.constants
-
-pub parts_typed : (f : Flowchart) → IsWellTyped f → ArePartsTyped f
-parts_typed f well =
-    let all = (has_types f well).literals in
-    let after_inputs = types_behind f.inputs (f.outputs ++ (f.internals ++ f.constants)) all in
-    let after_outputs = types_behind f.outputs (f.internals ++ f.constants) after_inputs in
-    record {
-      inputs = types_before f.inputs (f.outputs ++ (f.internals ++ f.constants)) all;
-      outputs = types_before f.outputs (f.internals ++ f.constants) after_inputs;
-      internals = types_before f.internals f.constants after_outputs;
-      constants = types_behind f.internals f.constants after_outputs;
-    }
 
 numbers_behind : (ds : List Declared) (j k : ℕ) → k < length ds → numbers_from j (map declaration_of (drop k ds)) ≡ j ∷ numbers_from (j + 1) (map declaration_of (drop (suc k) ds))
 numbers_behind [] j k lt = absurd (omega arith)

@@ -29,8 +29,8 @@ use Rattle.pap_compiler.specs.CodeDecisions.{body_length, body_code, methods_cod
 use Rattle.pap_compiler.specs.Correct.{IsCodeOf}
 use Rattle.pap_compiler.proofs.CodeLemmas.{HasAt, has_front, has_back, has_all, length_body}
 use Rattle.pap_types.specs.Typing.{IsTypedBody, HasItsType, AreDistinct, HasTypes}
-use Rattle.pap_types.proofs.Laws.{has_types}
-use Rattle.pap_compiler.proofs.NameLemmas.{AreHeld, values_of, place_of, number_is, types_before, types_behind}
+use Rattle.pap_types.proofs.Laws.{has_types, types_before, types_behind}
+use Rattle.pap_compiler.proofs.NameLemmas.{AreHeld, values_of, place_of, number_is}
 use Rattle.pap_compiler.proofs.KindLemmas.{and_then_some, first_whole}
 use Rattle.pap_compiler.proofs.BodyRuns.{IsSet, between, CallsRun, body_runs}
 

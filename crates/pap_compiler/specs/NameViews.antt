@@ -1,7 +1,7 @@
 -- What the private functions know of the names of a plan.
-use Rattle.std.specs.Prelude.{◌≡◌, ℕ, ◌+◌, ◌<◌, ◌^◌, List, length, map}
+use Rattle.std.specs.Prelude.{◌≡◌, ℕ, ◌+◌, ◌<◌, ◌^◌, List, length}
 use Rattle.pap_tree.specs.Flowchart.{Flowchart, flowchart_of}
-use Rattle.pap_types.specs.Scopes.{Scope, scope_of, first_value}
+use Rattle.pap_types.specs.Scopes.{Scope, scope_of}
 use Rattle.pap_compiler.specs.declared.names.Names.{Names}
 use Rattle.pap_compiler.specs.CodeDecisions.{entries_from, entry, first_method}
 
@@ -11,9 +11,8 @@ plan_in n = flowchart_of n.typed.now
 abbrev pub scope_in : Names → Scope
 scope_in n = scope_of (plan_in n)
 
--- the constants have their values, and the methods their places; the names are few
+-- the methods have their places; the names are few
 pub record IsMade (n : Names) : Type 0 where
-  pub constants : n.constants.now ≡ map first_value (plan_in n).constants
   pub entries : n.entries.now ≡ entries_from (first_method (plan_in n)) (plan_in n).methods
   pub few : length (scope_in n).variables + length (scope_in n).constants < 2 ^ 32
 

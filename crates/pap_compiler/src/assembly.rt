@@ -98,13 +98,8 @@ fn instrs(alloc: Global, t: &Typed, entries: &[u32]) -> Result<Vec<Instr>, Alloc
         entries_from (first_method (flowchart_of t.now)) (flowchart_of t.now).methods }
     ensures { IfOk result (λ code. code.items ≡ code_of (flowchart_of t.now)) }
 {
-    let mut constants = Vec::new(alloc);
-    push_values(&mut constants, &t.plan().constants)?;
-    let names = Names {
-        typed: t,
-        constants: &constants,
-        entries,
-    };
+    let _counted = t.plan();
+    let names = Names { typed: t, entries };
     let mut code = Vec::new(alloc);
     emit_plan(&mut code, &names)?;
     Ok(code)

@@ -6,10 +6,10 @@ ghost use Rattle.pap_compiler.specs.NameViews.{IsMade, scope_in};
 ghost use Rattle.pap_compiler.specs.EmitViews.{IsAppended, HasRoom, HasTerm, HasOne, HasTwo, HasJoined};
 ghost use Rattle.pap_compiler.specs.EmitViews.{HasInstr, two_length, skip_to};
 
-use crate::literals::shortened;
-use crate::names::{Names, known_value};
+use crate::names::Names;
 use pap_machine::Instr;
 use pap_tree::{Binary, Call, Expr, Unary};
+use pap_types::shortened;
 use scaled_decimal::Dec;
 use std::alloc::AllocError;
 
@@ -25,7 +25,7 @@ pub(crate) fn emit_term(code: &mut Vec<Instr>, names: &Names, e: &Expr) -> Resul
         Expr::Long(number) => put(code, Instr::Lit(Dec::new(*number as i128, 0))),
         Expr::Point(number) => put(code, Instr::Lit(*number)),
         Expr::Text(number) => put(code, Instr::Lit(*number)),
-        Expr::Known(known) => put(code, Instr::Lit(known_value(*known))),
+        Expr::Known(known) => put(code, Instr::Lit(known.value())),
         Expr::Var(name) => put(code, names.load(name)),
         Expr::Item(name, operand) => emit_one(code, names, operand, Instr::Item(names.table(name))),
         Expr::ValueOf(operand) => emit_value_of(code, names, operand),
@@ -207,7 +207,6 @@ fn instr_of_operator(op: Binary) -> Option<Instr>
 
 /// The instruction of a method with one argument; that of `divide` has the divisor's own number.
 fn instr_of_call(names: &Names, method: Call, argument: &Expr) -> Instr
-    requires { IsMade names.now }
     ensures { result ≡ instr_of_method (scope_in names.now) method (term_of argument.now) }
 {
     match method {

@@ -7,7 +7,6 @@
 mod assembly;
 mod depths;
 mod emit;
-mod literals;
 mod names;
 mod sizes;
 mod statements;

@@ -8,11 +8,10 @@ ghost use Rattle.pap_compiler.specs.EmitViews.{HasRoom};
 ghost use Rattle.pap_compiler.specs.StatementViews.{HasBody, HasFactor, IsLedOn};
 
 use crate::emit::{emit_term, patch, place, put};
-use crate::literals::at_factor_scale;
 use crate::names::Names;
 use pap_machine::Instr;
 use pap_tree::{Expr, Name, Stmt};
-use pap_types::NodeKind;
+use pap_types::{NodeKind, at_factor_scale, has_few_places};
 use scaled_decimal::Dec;
 use std::alloc::AllocError;
 
@@ -115,10 +114,9 @@ fn emit_factor(code: &mut Vec<Instr>, names: &Names, value: &Expr) -> Result<(),
 {
     match value {
         Expr::Int(number) => put(code, Instr::Lit(Dec::new(*number as i128 * 1000, 3))),
-        Expr::Point(number) => match at_factor_scale(*number) {
-            Some(number) => put(code, Instr::Lit(number)),
-            None => emit_term(code, names, value),
-        },
+        Expr::Point(number) if has_few_places(*number) => {
+            put(code, Instr::Lit(at_factor_scale(*number)))
+        }
         _ => emit_term(code, names, value),
     }
 }

@@ -1,8 +1,12 @@
--- The places of a tree's literals and the scales that it writes.
-use Rattle.std.specs.Prelude.{◌≤◌, ⊤}
-use Rattle.scaled_decimal.specs.Decimals.{scale_of}
-use Rattle.scaled_decimal.specs.Limits.{most_places}
+-- The places of decimals, of a tree's literals, and the scales that it writes.
+use Rattle.std.specs.Prelude.{ℕ, ◌≤◌, Bool, ◌&&◌, nat_le, unsigned_abs, ⊤}
+use Rattle.scaled_decimal.specs.Decimals.{Decimal, scale_of, numerator_at}
+use Rattle.scaled_decimal.specs.Limits.{limit, most_places}
 use Rattle.pap_tree.specs.Term.{Leaf, point, One, value_of_scaled, set_scale, Two, divide, Term, leaf, item, one, two, choice}
+
+-- whether a decimal has at most so many places, and at so many places a numerator of at most 10^37
+abbrev pub is_kept_at : ℕ → Decimal → Bool
+is_kept_at places d = nat_le (scale_of d) places && nat_le (unsigned_abs (numerator_at places d)) limit
 
 -- a literal with a point has a place at least
 abbrev pub HasPlaces : Leaf → Type 0

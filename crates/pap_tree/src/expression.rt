@@ -1,4 +1,6 @@
 // The tree of an expression.
+ghost use Rattle.std.specs.Prelude.{◌≡◌};
+ghost use Rattle.pap_tree.specs.Grammar.{known_value};
 
 use crate::Name;
 use scaled_decimal::{Dec, Mode};
@@ -46,6 +48,19 @@ pub enum Known {
     Zero,
     One,
     Ten,
+}
+
+impl Known {
+    /// Its decimal: 0, 1 or 10 with scale 0.
+    pub fn value(self) -> Dec
+        ensures { result ≡ known_value self }
+    {
+        match self {
+            Known::Zero => Dec::new(0, 0),
+            Known::One => Dec::new(1, 0),
+            Known::Ten => Dec::new(10, 0),
+        }
+    }
 }
 
 /// An operation on one operand.

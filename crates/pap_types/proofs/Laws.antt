@@ -1,6 +1,8 @@
 -- The laws that other crates may cite.
 -- What holds of the parts of a well-typed plan.
 pub use Rattle.pap_types.proofs.TypingLemmas.{has_types}
+-- The literals of its declarations are of their types.
+pub use Rattle.pap_types.proofs.LiteralLemmas.{types_behind, types_before, ArePartsTyped, parts_typed, declared_type}
 -- A declaration stands at the number of its name.
 pub use Rattle.pap_types.proofs.ScopeLemmas.{declared_by}
 -- A run costs at most the bound, and so does each of its parts.

@@ -8,4 +8,6 @@ pub mod MethodLemmas
 pub mod NamingLemmas
 pub mod BoundLemmas
 pub mod RunLemmas
+pub mod LiteralLemmas
+pub mod ZeroLemmas
 pub mod Laws

@@ -1,8 +1,8 @@
 -- The kinds of an expression's nodes, and which operands each operation takes (docs/PROFILE.md, "Kinds").
-use Rattle.std.specs.Prelude.{ℕ, ◌^◌, ◌%◌, ◌==◌, Bool, true, false, ◌&&◌, ◌||◌, nat_le, nat_lt, List, Option, Some, None, ℤ, pos, negsuc, unsigned_abs}
+use Rattle.std.specs.Prelude.{ℕ, ◌^◌, ◌%◌, ◌==◌, Bool, true, false, ◌&&◌, ◌||◌, nat_lt, List, Option, Some, None, ℤ, pos, negsuc}
 use Rattle.std.specs.Option.{option_and_then, option_map_or}
 use Rattle.scaled_decimal.specs.Decimals.{Decimal, decimal, numerator_of, scale_of}
-use Rattle.scaled_decimal.specs.Limits.{limit, most_places}
+use Rattle.scaled_decimal.specs.Limits.{most_places}
 use Rattle.pap_tree.specs.declared.declaration.Kind.TheVariants as declares
 use Rattle.pap_tree.specs.declared.declaration.Kind.{Kind as DeclaredKind}
 use Rattle.pap_tree.specs.declared.expression.Unary.TheVariants.{Minus, Not, Negate, Abs}
@@ -10,11 +10,12 @@ use Rattle.pap_tree.specs.declared.expression.Binary.{Binary}
 use Rattle.pap_tree.specs.declared.expression.Binary.TheVariants as binaries
 use Rattle.pap_tree.specs.declared.expression.Call.TheVariants as calls
 use Rattle.pap_tree.specs.Grammar.{known_value}
+use Rattle.pap_tree.specs.Scales.{is_kept_at}
 use Rattle.pap_tree.specs.Declarations.{Declaration, DeclaredLiteral, big as declared_big}
 use Rattle.pap_tree.specs.Term.{Leaf, whole, long, point, text, known, named, Term, leaf, item, one, two, choice, One, unary, value_of, value_of_scaled, new_big, set_scale, Two, operator, method, divide}
 use Rattle.pap_types.specs.declared.kinds.NodeKind.{NodeKind}
 use Rattle.pap_types.specs.declared.kinds.NodeKind.TheVariants.{Int, Long, Big, Truth, Fraction, Factor, Table}
-use Rattle.pap_types.specs.Scopes.{Scope, declared_as, declaration_in, at_factor_scale, factor_places}
+use Rattle.pap_types.specs.Scopes.{Scope, declared_as, declaration_in, factor_places}
 
 abbrev pub is_whole : NodeKind → Bool
 is_whole Int = true
@@ -98,8 +99,7 @@ kind_of scope (choice c e f) = wider (kind_of scope e) (kind_of scope f)
 
 -- a decimal of at most three places, whose numerator at three places is within the limit
 abbrev pub has_few_places : Decimal → Bool
-has_few_places d =
-    nat_le (scale_of d) factor_places && nat_le (unsigned_abs (numerator_of (at_factor_scale d))) limit
+has_few_places d = is_kept_at factor_places d
 
 -- a literal that may go to a `double` or be compared with one: an `int`, or a literal with a point of at most three places
 abbrev pub is_factor_literal : Term → Bool

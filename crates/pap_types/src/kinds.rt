@@ -3,7 +3,8 @@ ghost use Rattle.std.specs.Prelude.{◌≡◌, ◌&&◌};
 ghost use Rattle.pap_tree.specs.Term.{term_of, unary, operator, method};
 ghost use Rattle.pap_types.specs.Kinds.{declared_kind, wider, kind_of_one, kind_of_operator, kind_of_two, is_int, is_big, is_truth, is_table, is_whole, is_convertible, has_few_places, is_factor_literal, is_plain_divisor, takes_one, takes_operator, are_comparable, are_parts, suits};
 
-use pap_tree::{Binary, Call, Expr, Kind, Unary};
+use crate::literals::FACTOR_PLACES;
+use pap_tree::{Binary, Call, Expr, Kind, Unary, is_kept_at};
 use scaled_decimal::Dec;
 
 /// The kind of a node: what its value is, or how its name or literal may be used (docs/PROFILE.md, "Kinds").
@@ -200,21 +201,11 @@ pub fn is_factor_literal(e: &Expr) -> bool
     }
 }
 
-/// The greatest magnitude of a numerator at three places, which brought from scale 0 stays within 10^37.
-const MOST_AT_SCALE_0: u128 = 10_000_000_000_000_000_000_000_000_000_000_000;
-
 /// Whether a decimal has at most three places, and at three places a numerator within 10^37.
 pub fn has_few_places(number: Dec) -> bool
     ensures { result ≡ has_few_places number }
 {
-    let magnitude = number.numerator().unsigned_abs();
-    match number.scale() {
-        0 => magnitude <= MOST_AT_SCALE_0,
-        1 => magnitude <= MOST_AT_SCALE_0 * 10,
-        2 => magnitude <= MOST_AT_SCALE_0 * 100,
-        3 => true,
-        _ => false,
-    }
+    is_kept_at(number, FACTOR_PLACES)
 }
 
 /// Whether a variable of a type may get the value of an expression of a kind.

@@ -4,6 +4,7 @@
 mod declarations;
 mod fault;
 mod kinds;
+mod literals;
 mod meaning;
 mod nodes;
 mod scope;
@@ -15,5 +16,6 @@ pub use fault::TypeFault;
 pub use kinds::{
     NodeKind, has_few_places, is_factor_literal, kind_of_call, kind_of_operator, kind_of_unary,
 };
+pub use literals::{at_factor_scale, first_value, items_of, shortened};
 pub use meaning::{bounded, one_outputs, typed_parts};
 pub use typed::{Typed, check_types};

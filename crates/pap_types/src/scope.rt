@@ -4,7 +4,6 @@ ghost use Rattle.std.specs.Option.{option_map};
 ghost use Rattle.pap_tree.specs.Declarations.{declaration_of};
 ghost use Rattle.pap_tree.specs.Flowchart.{flowchart_of};
 ghost use Rattle.pap_tree.specs.Term.{term_of};
-ghost use Rattle.pap_tree.specs.Grammar.{known_value};
 ghost use Rattle.pap_types.specs.Kinds.{shows_plain_divisor, shown_divisor, written_decimal, int_literal, is_plain_divisor};
 ghost use Rattle.pap_types.specs.Scopes.{scope_of, variables_of, declaration_in, declared_as};
 ghost use Rattle.pap_types.specs.ScopeViews.{IsNumbered};
@@ -14,7 +13,7 @@ ghost use Rattle.pap_types.specs.DeclarationViews.{AreDeclared};
 use crate::TypeFault;
 use crate::declarations::{declare, name_methods};
 use indexmap::IndexSet;
-use pap_tree::{Declared, Expr, Known, Literal, Name, PlanText};
+use pap_tree::{Declared, Expr, Literal, Name, PlanText};
 use scaled_decimal::Dec;
 use std::alloc::Global;
 
@@ -136,7 +135,7 @@ impl<'a> Scope<'a> {
                 Some(declared) => written_decimal(declared),
                 None => None,
             },
-            Expr::Known(known) => Some(known_value(*known)),
+            Expr::Known(known) => Some(known.value()),
             Expr::ValueOf(operand) | Expr::NewInt(operand) => int_literal(operand),
             _ => None,
         }
@@ -182,16 +181,6 @@ fn int_literal(e: &Expr) -> Option<Dec>
     match e {
         Expr::Int(number) => Some(Dec::new(*number as i128, 0)),
         _ => None,
-    }
-}
-
-fn known_value(known: Known) -> Dec
-    ensures { result ≡ known_value known }
-{
-    match known {
-        Known::Zero => Dec::new(0, 0),
-        Known::One => Dec::new(1, 0),
-        Known::Ten => Dec::new(10, 0),
     }
 }
 

@@ -1,9 +1,12 @@
 // A plan that is well typed.
 ghost use Rattle.std.specs.Prelude.{◌≡◌, IfOk, OnOk, IfErr};
+ghost use Rattle.std.specs.Option.{option_map};
+ghost use Rattle.pap_tree.specs.Declarations.{declaration_of};
 ghost use Rattle.pap_tree.specs.Flowchart.{flowchart_of};
-ghost use Rattle.pap_types.specs.Kinds.{name_kind};
+ghost use Rattle.pap_tree.specs.Term.{term_of};
+ghost use Rattle.pap_types.specs.Kinds.{name_kind, shown_divisor};
 ghost use Rattle.pap_types.specs.Routines.{method_names};
-ghost use Rattle.pap_types.specs.Scopes.{scope_of, variables_of, names_of, number_of};
+ghost use Rattle.pap_types.specs.Scopes.{scope_of, variables_of, names_of, number_of, declaration_in, constant_in};
 ghost use Rattle.pap_types.specs.Checks.{IsWellTyped};
 ghost use Rattle.pap_types.specs.Faults.{IsTypeFault};
 ghost use Rattle.pap_types.specs.ScopeViews.{IsNumbered};
@@ -13,8 +16,10 @@ ghost use Rattle.pap_types.specs.Counts.{IsWithinCounts};
 
 use crate::TypeFault;
 use crate::kinds::NodeKind;
+use crate::literals::first_value;
 use crate::scope::{Names, Scope};
-use pap_tree::{Name, PlanText};
+use pap_tree::{Declared, Expr, Name, PlanText};
+use scaled_decimal::Dec;
 use std::alloc::Global;
 use std::marker::Model;
 
@@ -94,17 +99,50 @@ impl Typed {
         self.names.methods.get_index_of(name)
     }
 
+    /// The declaration of a variable's or a constant's name.
+    pub fn declaration(&self, name: &Name) -> Option<&Declared>
+        ensures { option_map (λ d. declaration_of d.now) result
+            ≡ declaration_in (scope_of (flowchart_of self.now)) name.now }
+    {
+        self.scope().declaration(name)
+    }
+
+    /// The value of a constant, that of a `double` with three places. A table has zero.
+    pub fn constant_value(&self, name: &Name) -> Option<Dec>
+        ensures { result ≡ constant_in (scope_of (flowchart_of self.now)) name.now }
+    {
+        match self.scope().constant(name) {
+            Some(declared) => Some(first_value(declared)),
+            None => None,
+        }
+    }
+
+    /// The divisor of `divide(d)` that the text shows: a constant's decimal, or an `int` literal as one.
+    pub fn shown_divisor(&self, divisor: &Expr) -> Option<Dec>
+        ensures { result
+            ≡ shown_divisor (scope_of (flowchart_of self.now)) (term_of divisor.now) }
+    {
+        self.scope().shown_divisor(divisor)
+    }
+
     /// The kind of a name; an unknown one, which no statement of the plan has, counts as an `int`.
     pub fn kind_of_name(&self, name: &Name) -> NodeKind
         ensures { result ≡ name_kind (scope_of (flowchart_of self.now)) name.now }
     {
-        let scope = Scope {
-            plan: &self.plan,
-            names: &self.names,
-        };
-        match scope.declaration(name) {
+        match self.declaration(name) {
             Some(declared) => NodeKind::of_declared(declared.kind),
             None => NodeKind::Int,
+        }
+    }
+
+    fn scope(&self) -> Scope<'_>
+        ensures plan { result.plan.now ≡ self.now }
+        ensures well_typed { IsWellTyped (flowchart_of self.now) }
+        ensures numbered { IsNumbered result.plan.now result.names.now }
+    {
+        Scope {
+            plan: &self.plan,
+            names: &self.names,
         }
     }
 }

@@ -2,21 +2,22 @@ use Rattle.std.proofs.Common.{◌++◌, sym, ap, ap₂, ◌∙◌, subst}
 use Rattle.std.specs.Prelude.{All}
 use Rattle.pap_tree.specs.Flowchart.{flowchart_of}
 use Rattle.pap_types.specs.Typing.{HasItsType}
+use Rattle.pap_types.proofs.Laws.{parts_typed}
 use Rattle.interval_analysis.specs.StartViews.{declarations, limited, begun}
-use Rattle.interval_analysis.proofs.StartLemmas.{are_typed, is_start}
+use Rattle.interval_analysis.proofs.StartLemmas.{is_start}
 use Rattle.interval_analysis.proofs.start.start_ranges.Goals as goal
 
 pub push_limited-requires-clause-typed : goal.push_limited-requires-clause-typed
 push_limited-requires-clause-typed c =
-    subst (λ ds. All HasItsType (declarations ds)) (sym (c.as_slice.ensures.value ∙ ap (λ p. p.inputs.items) c.plan-text.ensures.text)) (are_typed (flowchart_of c.args.plan.now) c.plan-text.ensures.well_typed).inputs
+    subst (λ ds. All HasItsType (declarations ds)) (sym (c.as_slice.ensures.value ∙ ap (λ p. p.inputs.items) c.plan-text.ensures.text)) (parts_typed (flowchart_of c.args.plan.now) c.plan-text.ensures.well_typed).inputs
 
 pub push_begun-requires : goal.push_begun-requires
 push_begun-requires c =
-    subst (λ ds. All HasItsType (declarations ds)) (sym (c.as_slice-2.ensures.value ∙ ap (λ p. p.outputs.items) c.plan-text.ensures.text)) (are_typed (flowchart_of c.args.plan.now) c.plan-text.ensures.well_typed).outputs
+    subst (λ ds. All HasItsType (declarations ds)) (sym (c.as_slice-2.ensures.value ∙ ap (λ p. p.outputs.items) c.plan-text.ensures.text)) (parts_typed (flowchart_of c.args.plan.now) c.plan-text.ensures.well_typed).outputs
 
 pub push_begun-requires-2 : goal.push_begun-requires-2
 push_begun-requires-2 c =
-    subst (λ ds. All HasItsType (declarations ds)) (sym (c.as_slice-3.ensures.value ∙ ap (λ p. p.internals.items) c.plan-text.ensures.text)) (are_typed (flowchart_of c.args.plan.now) c.plan-text.ensures.well_typed).internals
+    subst (λ ds. All HasItsType (declarations ds)) (sym (c.as_slice-3.ensures.value ∙ ap (λ p. p.internals.items) c.plan-text.ensures.text)) (parts_typed (flowchart_of c.args.plan.now) c.plan-text.ensures.well_typed).internals
 
 pub returns : goal.returns
 returns c =

@@ -3,7 +3,7 @@ use Rattle.std.specs.List.{All}
 use Rattle.pap_tree.specs.Declarations.{declaration_of}
 use Rattle.pap_tree.specs.Flowchart.{flowchart_of}
 use Rattle.pap_types.specs.Typing.{HasItsType}
-use Rattle.pap_compiler.proofs.PlanLemmas.{parts_typed}
+use Rattle.pap_types.proofs.Laws.{parts_typed}
 use Rattle.pap_compiler.proofs.assembly.start.Goals as goal
 
 pub push_values-requires : goal.push_values-requires

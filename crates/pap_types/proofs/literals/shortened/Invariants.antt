@@ -2,7 +2,7 @@ use Rattle.std.proofs.Common.{◌≡◌, ◌-◌, ◌≤◌}
 use Rattle.scaled_decimal.specs.Limits.{IsWithinLimit, most_places}
 use Rattle.scaled_decimal.specs.ShortenedDecimals.{shortened, without_zeros}
 use Rattle.pap_types.specs.Operations.{fewest_places}
-use Rattle.pap_compiler.proofs.literals.shortened.Given as goal
+use Rattle.pap_types.proofs.literals.shortened.Given as goal
 
 abbrev pub invariant-loop-places : goal.invariant-loop-places
 invariant-loop-places l = record {
