@@ -1,4 +1,7 @@
--- What other crates may cite: the orders of days and of keys are total; a table's text has one answer, and no other.
+-- What other crates may cite: the orders of days and of keys are total; a table's text has one answer, and no other; days
+-- and numbers are known by their texts; what words NAME=VALUE give.
 pub use Rattle.payroll_records.proofs.OrderLemmas.{day_total, key_total}
 pub use Rattle.payroll_records.proofs.OnceLemmas.{table_once}
 pub use Rattle.payroll_records.proofs.SomeLemmas.{table_some}
+pub use Rattle.payroll_records.proofs.DecidedLemmas.{Decided, both, by_iff, true_decided, eq_decided, le_decided, month_decided, number_decided}
+pub use Rattle.payroll_records.proofs.ValueWordLemmas.{cut_before, value_once, values_once, AreSoFar, none_yet, inserted, no_value, twice, too_many, none_of}

@@ -11,3 +11,4 @@ pub mod KindLemmas
 pub mod OnceLemmas
 pub mod SomeLemmas
 pub mod OrderLemmas
+pub mod ValueWordLemmas

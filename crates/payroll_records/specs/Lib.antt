@@ -1,6 +1,7 @@
 pub mod Days
 pub mod Employees
 pub mod NamedValues
+pub mod ValueWords
 pub mod Whens
 pub mod Orders
 pub mod CsvRows

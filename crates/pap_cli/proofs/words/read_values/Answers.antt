@@ -1,8 +1,10 @@
 use Rattle.std.proofs.Common.{◌≡◌, ◌+◌, sym, ap, ◌∙◌, subst, take, drop, string_bytes, length, arith}
 use Rattle.std.specs.Prelude.{Err, List, ℕ}
 use Rattle.payroll_records.specs.declared.values.NamedValue.{NamedValue}
-use Rattle.pap_cli.specs.Words.{texts, IsValueWord, AreValueWords}
-use Rattle.pap_cli.proofs.WordLemmas.{AreSoFar, inserted, no_value, twice, too_many, none_of, texts_more, texts_parts}
+use Rattle.payroll_records.specs.ValueWords.{IsValueWord, AreValueWords}
+use Rattle.payroll_records.proofs.Laws.{AreSoFar, inserted, no_value, twice, too_many, none_of}
+use Rattle.pap_cli.specs.Words.{texts}
+use Rattle.pap_cli.proofs.WordLemmas.{texts_more, texts_parts}
 use Rattle.pap_cli.proofs.words.read_values.Goals as goal
 
 pub returns-in_default : goal.returns-in_default
