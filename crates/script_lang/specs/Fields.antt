@@ -54,7 +54,8 @@ value_fields before [] = []
 value_fields before (word ∷ words) =
     value (length before + 5) word ∷ new_name before word ∷ value_fields (before ++ (word ∷ [])) words
 
--- employee, month, day and values of a record
-abbrev pub record_fields : Text → Text → Text → List Text → List Field
-record_fields who when what values =
-    employee who ∷ month when ∷ day_in when what ∷ value_fields [] values
+-- an employee, a month, a day and values
+abbrev pub record_fields : List Text → List Field
+record_fields (who ∷ first ∷ second ∷ values) =
+    employee who ∷ month first ∷ day_in first second ∷ value_fields [] values
+record_fields _ = []

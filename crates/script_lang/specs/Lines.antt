@@ -114,12 +114,17 @@ text_of load = codes "load"
 text_of report = codes "report"
 text_of work = codes "work"
 
+-- an employee, a month, a day, and at most 256 value words
+abbrev pub takes_record : List Text → Bool
+takes_record (employee ∷ month ∷ day ∷ values) = nat_le (length values) 256
+takes_record _ = false
+
 -- whether a command takes these words behind its first: as many as these, and files where it names files
 abbrev pub takes : Verb → List Text → Bool
 takes plan (day ∷ file ∷ limits ∷ []) = is_file file && is_file limits
 takes drop (day ∷ []) = true
-takes add (employee ∷ month ∷ day ∷ values) = nat_le (length values) 256
-takes change (employee ∷ month ∷ day ∷ values) = nat_le (length values) 256
+takes add words = takes_record words
+takes change words = takes_record words
 takes withdraw (employee ∷ time ∷ []) = true
 takes load (file ∷ []) = is_file file
 takes report [] = true
@@ -130,8 +135,8 @@ takes _ _ = false
 abbrev pub fields_of : Verb → List Text → List Field
 fields_of plan (day ∷ file ∷ limits ∷ []) = field.day day ∷ []
 fields_of drop (day ∷ []) = field.day day ∷ []
-fields_of add (employee ∷ month ∷ day ∷ values) = record_fields employee month day values
-fields_of change (employee ∷ month ∷ day ∷ values) = record_fields employee month day values
+fields_of add words = record_fields words
+fields_of change words = record_fields words
 fields_of withdraw (employee ∷ time ∷ []) = field.employee employee ∷ time_field time ∷ []
 fields_of _ _ = []
 

@@ -11,6 +11,10 @@ is_blank b = (b == 32) || (b == 9)
 abbrev pub words_of : Text → List Text
 words_of line = filter (λ part. not (length part == 0)) (slice_split is_blank line)
 
--- a word that names a file: at most 255 bytes, each from 0x21 to 0x7E
+-- a byte from 0x21 to 0x7E
+abbrev pub is_visible : ℕ → Bool
+is_visible b = nat_le 33 b && nat_le b 126
+
+-- a word that names a file: at most 255 of these bytes
 abbrev pub is_file : Text → Bool
-is_file word = nat_le (length word) 255 && list_all (λ b. nat_le 33 b && nat_le b 126) word
+is_file word = nat_le (length word) 255 && list_all is_visible word

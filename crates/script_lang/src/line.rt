@@ -1,8 +1,10 @@
 // A line of a script.
-ghost use Rattle.std.specs.Prelude.{IfErr, IfOk};
+ghost use Rattle.std.specs.Prelude.{◌≡◌, ◌<◌, [], ◌∷◌, codes, IfErr, IfOk, MatchResult, length};
 ghost use Rattle.payroll_records.specs.Tables.{Text};
 ghost use Rattle.script_lang.specs.Commands.{asked_of};
-ghost use Rattle.script_lang.specs.Lines.{HasOneAnswer, IsLine, IsRefused};
+ghost use Rattle.script_lang.specs.Lines as lines;
+ghost use Rattle.script_lang.specs.Lines.{Ask, HasOneAnswer, IsLine, IsRefused};
+ghost use Rattle.script_lang.specs.Views.{Answers, IsFaultOf, texts};
 
 use crate::run::{read_day, read_employee, read_record, read_when};
 use crate::words::{Verb, file, read_verb, words};
@@ -30,7 +32,9 @@ pub fn each_line_has_one_answer()
     ensures { (line : Text) → HasOneAnswer line }
 {}
 
-fn read_words(alloc: Global, words: &[&[u8]]) -> Result<Command, LineFault> {
+fn read_words(alloc: Global, words: &[&[u8]]) -> Result<Command, LineFault>
+    ensures { Answers (texts words.now) result }
+{
     let [first, rest @ ..] = words else {
         return Ok(Command::Nothing);
     };
@@ -49,7 +53,10 @@ fn read_words(alloc: Global, words: &[&[u8]]) -> Result<Command, LineFault> {
     }
 }
 
-fn read_plan(alloc: Global, rest: &[&[u8]]) -> Result<Command, LineFault> {
+fn read_plan(alloc: Global, rest: &[&[u8]]) -> Result<Command, LineFault>
+    ensures ok { IfOk result (λ command. Ask (codes "plan" ∷ texts rest.now) (asked_of command)) }
+    ensures err { IfErr result (IsFaultOf lines.plan (texts rest.now)) }
+{
     let [day, plan, limits] = rest else {
         return Err(LineFault::Words);
     };
@@ -62,7 +69,10 @@ fn read_plan(alloc: Global, rest: &[&[u8]]) -> Result<Command, LineFault> {
     })
 }
 
-fn read_drop(rest: &[&[u8]]) -> Result<Command, LineFault> {
+fn read_drop(rest: &[&[u8]]) -> Result<Command, LineFault>
+    ensures ok { IfOk result (λ command. Ask (codes "drop" ∷ texts rest.now) (asked_of command)) }
+    ensures err { IfErr result (IsFaultOf lines.drop (texts rest.now)) }
+{
     let [day] = rest else {
         return Err(LineFault::Words);
     };
@@ -71,7 +81,10 @@ fn read_drop(rest: &[&[u8]]) -> Result<Command, LineFault> {
     })
 }
 
-fn read_withdraw(rest: &[&[u8]]) -> Result<Command, LineFault> {
+fn read_withdraw(rest: &[&[u8]]) -> Result<Command, LineFault>
+    ensures ok { IfOk result (λ command. Ask (codes "withdraw" ∷ texts rest.now) (asked_of command)) }
+    ensures err { IfErr result (IsFaultOf lines.withdraw (texts rest.now)) }
+{
     let [employee, when] = rest else {
         return Err(LineFault::Words);
     };
@@ -81,7 +94,10 @@ fn read_withdraw(rest: &[&[u8]]) -> Result<Command, LineFault> {
     })
 }
 
-fn read_load(alloc: Global, rest: &[&[u8]]) -> Result<Command, LineFault> {
+fn read_load(alloc: Global, rest: &[&[u8]]) -> Result<Command, LineFault>
+    ensures ok { IfOk result (λ command. Ask (codes "load" ∷ texts rest.now) (asked_of command)) }
+    ensures err { IfErr result (IsFaultOf lines.load (texts rest.now)) }
+{
     let [name] = rest else {
         return Err(LineFault::Words);
     };
@@ -92,7 +108,10 @@ fn read_load(alloc: Global, rest: &[&[u8]]) -> Result<Command, LineFault> {
 }
 
 /// A command of one word.
-fn read_alone(rest: &[&[u8]], command: Command) -> Result<Command, LineFault> {
+fn read_alone(rest: &[&[u8]], command: Command) -> Result<Command, LineFault>
+    ensures { MatchResult result (λ c. (length rest.now ≡ 0) × (c ≡ command))
+        (λ f. (0 < length rest.now) × (f ≡ LineFault.Words)) }
+{
     if !rest.is_empty() {
         return Err(LineFault::Words);
     }

@@ -1,9 +1,10 @@
 // The words of a line.
 ghost use Rattle.std.specs.Prelude.{◌≡◌, ◌≢◌, false, IfOk, IsTrue, MatchOption};
+ghost use Rattle.std.specs.List.{list_all};
 ghost use Rattle.script_lang.specs.Lines as lines;
 ghost use Rattle.script_lang.specs.Lines.{text_of};
 ghost use Rattle.script_lang.specs.Views.{texts, verb_of};
-ghost use Rattle.script_lang.specs.Words.{is_blank, is_file, words_of};
+ghost use Rattle.script_lang.specs.Words.{is_blank, is_file, is_visible, words_of};
 
 use std::alloc::{AllocError, Global};
 use std::str;
@@ -59,8 +60,20 @@ pub(crate) fn file(word: &[u8]) -> Option<&str>
     ensures { MatchOption result (is_file word.now ≡ false)
         (λ name. (name.now ≡ word.now) × IsTrue (is_file word.now)) }
 {
-    if word.len() > 255 || !word.iter().all(|b| b.is_ascii_graphic()) {
+    if !is_file(word) {
         return None;
     }
     str::from_utf8(word).ok()
+}
+
+fn is_file(word: &[u8]) -> bool
+    ensures { result ≡ is_file word.now }
+{
+    word.len() <= 255 && has_visible_bytes(word)
+}
+
+fn has_visible_bytes(word: &[u8]) -> bool
+    ensures { result ≡ list_all is_visible word.now }
+{
+    word.iter().all(|b| b.is_ascii_graphic())
 }
