@@ -1,1 +1,4 @@
 pub mod FileLemmas
+pub mod FieldLemmas
+pub mod ValueLemmas
+pub mod WordLemmas

@@ -1,6 +1,6 @@
 -- What is asked of single words: what each has to be, and the fault where it is not.
-use Rattle.std.specs.Prelude.{◌==◌, ◌+◌, ℕ, List, [], ◌∷◌, ◌++◌, length, map, IsTrue, Contains, if◌then◌else◌}
-use Rattle.std.specs.List.{before_first}
+use Rattle.std.specs.Prelude.{◌≢◌, ◌==◌, ◌+◌, ℕ, List, [], ◌∷◌, ◌++◌, length, IsTrue, if◌then◌else◌}
+use Rattle.std.specs.List.{AllByRecursion, before_first}
 use Rattle.payroll_records.specs.Days.{IsDayText, IsMonthText, IsDaySpelled, IsMonthSpelled}
 use Rattle.payroll_records.specs.Employees.{is_employee}
 use Rattle.payroll_records.specs.Tables.{Text}
@@ -33,7 +33,7 @@ IsGood (day word) = IsDaySpelled word
 IsGood (day_in first second) =
     (y : ℕ) × (m : ℕ) × (d : ℕ) × IsDayText second y m d × IsMonthText first y m
 IsGood (value number word) = (v : NamedValue) × IsValueWord word v
-IsGood (new_name before word) = ¬ (Contains (map name_in before) (name_in word))
+IsGood (new_name before word) = AllByRecursion (λ other. name_in other ≢ name_in word) before
 
 abbrev pub fault_of : Field → LineFault
 fault_of (employee word) = fault.Employee

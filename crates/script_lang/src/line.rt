@@ -1,5 +1,5 @@
 // A line of a script.
-ghost use Rattle.std.specs.Prelude.{◌≡◌, ◌<◌, [], ◌∷◌, codes, IfErr, IfOk, MatchResult, length};
+ghost use Rattle.std.specs.Prelude.{◌≡◌, ◌↔◌, ◌<◌, ◌∷◌, codes, IfErr, IfOk, IsTrue, MatchResult, length, slice_index};
 ghost use Rattle.payroll_records.specs.Tables.{Text};
 ghost use Rattle.script_lang.specs.Commands.{asked_of};
 ghost use Rattle.script_lang.specs.Lines as lines;
@@ -38,7 +38,7 @@ fn read_words(alloc: Global, words: &[&[u8]]) -> Result<Command, LineFault>
     let [first, rest @ ..] = words else {
         return Ok(Command::Nothing);
     };
-    if first.starts_with(b"#") {
+    if is_comment(first) {
         return Ok(Command::Nothing);
     }
     match read_verb(first).ok_or(LineFault::Command)? {
@@ -51,6 +51,12 @@ fn read_words(alloc: Global, words: &[&[u8]]) -> Result<Command, LineFault>
         Verb::Report => read_alone(rest, Command::Report),
         Verb::Work => read_alone(rest, Command::Work),
     }
+}
+
+fn is_comment(word: &[u8]) -> bool
+    ensures { IsTrue result ↔ (slice_index word.now 0 ≡ 35) }
+{
+    word.first() == Some(&b'#')
 }
 
 fn read_plan(alloc: Global, rest: &[&[u8]]) -> Result<Command, LineFault>

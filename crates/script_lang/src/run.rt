@@ -54,12 +54,19 @@ pub(crate) fn read_day(word: &[u8]) -> Result<Day, LineFault>
     Day::read(word).ok_or(LineFault::Day)
 }
 
+fn read_month(word: &[u8]) -> Result<Month, LineFault>
+    ensures { MatchResult result (λ m. IsMonthText word.now m.year m.month)
+        (Breaks (field.month word.now)) }
+{
+    Month::read(word).ok_or(LineFault::Month)
+}
+
 /// A month, or a day: a word of 7 bytes is to be a month.
 pub(crate) fn read_when(word: &[u8]) -> Result<When, LineFault>
     ensures { MatchResult result (IsTime word.now) (Breaks (time_field word.now)) }
 {
     if word.len() == 7 {
-        return Month::read(word).map(When::Month).ok_or(LineFault::Month);
+        return read_month(word).map(When::Month);
     }
     read_day(word).map(When::Day)
 }
@@ -70,7 +77,7 @@ fn read_day_in(month: &[u8], day: &[u8]) -> Result<Day, LineFault>
         (λ d. IsMonthText month.now d.year d.month × IsDayWord day.now d)
         (BreaksIn (field.month month.now ∷ field.day_in month.now day.now ∷ [])) }
 {
-    let month = Month::read(month).ok_or(LineFault::Month)?;
+    let month = read_month(month)?;
     let day = read_day(day)?;
     if Month::of_day(day) != month {
         return Err(LineFault::Day);
