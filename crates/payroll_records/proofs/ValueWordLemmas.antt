@@ -1,5 +1,5 @@
 -- Words NAME=VALUE and the values that they give.
-use Rattle.std.proofs.Common.{◌≡◌, ◌≢◌, ◌==◌, ℕ, zero, suc, ◌+◌, ◌<◌, ◌≤◌, Bool, true, false, cond, List, [], ◌∷◌, ◌++◌, length, take, drop, get_or, refl, sym, ap, ◌∙◌, subst, arith, add-one, length-append}
+use Rattle.std.proofs.Common.{◌≡◌, ◌≢◌, ◌==◌, ℕ, zero, suc, ◌+◌, ◌<◌, ◌≤◌, Bool, true, false, cond, List, [], ◌∷◌, ◌++◌, length, take, drop, get_or, refl, sym, ap, ◌∙◌, subst, arith, add-one, length-append, inl, inr}
 use Rattle.std.specs.Prelude.{Option, Some, None, IsTrue, IfNone, IsSome, IsNone, fold, codes, if◌then◌else◌, ◌&&◌, nat_lt, position}
 use Rattle.std.specs.List.{AllPairs, list_all, before_first, position_or_len}
 use Rattle.std.specs.Ordering.{is_eq}
@@ -21,6 +21,7 @@ use Rattle.scaled_decimal.specs.Limits.{IsKept}
 use Rattle.scaled_decimal.specs.NumberTexts.{Spells}
 use Rattle.scaled_decimal.proofs.Laws.{number_once}
 use Rattle.pap_tree.specs.Names.{is_word, is_name, is_letter, is_reserved}
+use Rattle.payroll_records.proofs.DecidedLemmas.{Decided, true_decided, number_decided}
 use Rattle.payroll_records.specs.NamedValues.{name_cmp, name_of, value_at, with_value}
 use Rattle.payroll_records.specs.ValueWords.{IsValueWord, Give, in_order, AreValueWords}
 use Rattle.payroll_records.specs.declared.values.NamedValue.{NamedValue}
@@ -133,6 +134,20 @@ module _ (word : List ℕ) (at : ℕ) (found : position is_equals word ≡ Some 
         spelled = spelled;
         kept = kept;
       }
+
+-- a word gives a value, or none
+pub value_word_decided : (word : List ℕ) → Decided ((v : NamedValue) × IsValueWord word v)
+value_word_decided word = by (position is_equals word) refl
+  where
+    by : (o : Option ℕ) → position is_equals word ≡ o → Decided ((v : NamedValue) × IsValueWord word v)
+    by None e = inr (λ h. unsplit word e h.0 h.1)
+    by (Some at) e = elim (true_decided (is_name (take at word))) [
+      | inr none ↦ inr (λ h. not_named word at e (take at word) refl none h.0 h.1)
+      | inl named ↦ elim (number_decided (drop (at + 1) word)) [
+        | inr none ↦ inr (λ h. not_number word at e (drop (at + 1) word) refl (λ d spelled kept. none d (spelled, kept)) h.0 h.1)
+        | inl number ↦ inl (_, value_read word at e (take at word) (take at word) (drop (at + 1) word) number.0 refl refl named refl number.1.0 number.1.1)
+      ]
+    ]
 
 -- ---- many words
 

@@ -2,6 +2,7 @@
 use Rattle.std.proofs.Common.{◌≡◌, ◌∙◌, Bool, true, false, List, [], ◌∷◌, ◌++◌, refl, sym, ap, append_assoc}
 use Rattle.std.specs.Prelude.{IsTrue}
 use Rattle.std.specs.List.{AllByRecursion}
+use Rattle.std.specs.declared.alloc.AllocError.{AllocError}
 use Rattle.std.proofs.lemmas.Bool.{false≢true}
 use Rattle.payroll_records.specs.Tables.{Text}
 use Rattle.script_lang.specs.Fields.{Field, IsGood, fault_of, employee, month, day, day_in, value, new_name}
@@ -42,6 +43,10 @@ no_first_words fields h = false≢true (first_of_word fields fault.Words h)
 pub no_first_long : (fields : List Field) → IsFirstFault fields fault.LineLong → ⊥
 unfolding is_of_word
 no_first_long fields h = false≢true (first_of_word fields fault.LineLong h)
+
+pub no_first_memory : (fields : List Field) (e : AllocError) → IsFirstFault fields (fault.Memory e) → ⊥
+unfolding is_of_word
+no_first_memory fields e h = false≢true (first_of_word fields (fault.Memory e) h)
 
 pub first_here : (field : Field) (after : List Field) (f : LineFault) → (IsGood field → ⊥) → f ≡ fault_of field → IsFirstFault (field ∷ after) f
 first_here field after f broken is = record { before = []; field = field; after = after; parts = refl; good = tt; broken = broken; fault_is = is }
