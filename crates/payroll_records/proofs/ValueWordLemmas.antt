@@ -1,9 +1,8 @@
 -- Words NAME=VALUE and the values that they give.
 use Rattle.std.proofs.Common.{◌≡◌, ◌≢◌, ◌==◌, ℕ, zero, suc, ◌+◌, ◌<◌, ◌≤◌, Bool, true, false, cond, List, [], ◌∷◌, ◌++◌, length, take, drop, get_or, refl, sym, ap, ◌∙◌, subst, arith, add-one, length-append, inl, inr}
-use Rattle.std.specs.Prelude.{Option, Some, None, IsTrue, IfNone, IsSome, IsNone, fold, codes, if◌then◌else◌, ◌&&◌, nat_lt, position}
+use Rattle.std.specs.Prelude.{Option, Some, None, IsTrue, IsSome, IsNone, fold, if◌then◌else◌, ◌&&◌, nat_lt, position}
 use Rattle.std.specs.List.{AllPairs, list_all, before_first, position_or_len}
 use Rattle.std.specs.Ordering.{is_eq}
-use Rattle.std.specs.Str.{bytes_eq}
 use Rattle.std.specs.declared.cmp.Ordering.{Ordering}
 use Rattle.std.specs.declared.cmp.Ordering.TheVariants.{Less, Equal, Greater}
 use Rattle.std.proofs.Math.Seq.{get_or-append_seam, take-append_seam, drop-append-add, drop-cons}
@@ -14,13 +13,13 @@ use Rattle.std.proofs.lemmas.List.Quantifiers.{all_pairs_push, position-Some}
 use Rattle.std.proofs.lemmas.List.Sums.{fold-append}
 use Rattle.std.proofs.lemmas.Map.Text.{is_eq-slice_cmp}
 use Rattle.std.proofs.lemmas.Slice.Eq.{bytes_eq-Decides}
-use Rattle.rising_lists.specs.Keyed.{at_key, put, put_by}
+use Rattle.rising_lists.specs.Keyed.{put_by}
 use Rattle.rising_lists.proofs.Laws.{at_key_put}
 use Rattle.scaled_decimal.specs.Decimals.{Decimal}
 use Rattle.scaled_decimal.specs.Limits.{IsKept}
 use Rattle.scaled_decimal.specs.NumberTexts.{Spells}
 use Rattle.scaled_decimal.proofs.Laws.{number_once}
-use Rattle.pap_tree.specs.Names.{is_word, is_name, is_letter, is_reserved}
+use Rattle.pap_tree.specs.Names.{is_word, is_name}
 use Rattle.payroll_records.proofs.DecidedLemmas.{Decided, true_decided, number_decided}
 use Rattle.payroll_records.specs.NamedValues.{name_cmp, name_of, value_at, with_value}
 use Rattle.payroll_records.specs.ValueWords.{IsValueWord, Give, in_order, AreValueWords}
@@ -157,7 +156,7 @@ give_more [] (g ∷ given) word v h k = absurd h
 give_more (w ∷ words) [] word v h k = absurd h
 give_more (w ∷ words) (g ∷ given) word v h k = (h.0, give_more words given word v h.1 k)
 
-pub give_once : (words : List (List ℕ)) (a b : List NamedValue) → Give words a → Give words b → a ≡ b
+give_once : (words : List (List ℕ)) (a b : List NamedValue) → Give words a → Give words b → a ≡ b
 give_once [] [] [] h k = refl
 give_once [] [] (y ∷ b) h k = absurd k
 give_once [] (x ∷ a) b h k = absurd h
@@ -166,7 +165,7 @@ give_once (w ∷ words) (x ∷ a) [] h k = absurd k
 give_once (w ∷ words) (x ∷ a) (y ∷ b) h k = ap (λ z. z ∷ a) (value_once w x y h.0 k.0) ∙ ap (λ z. y ∷ z) (give_once words a b h.1 k.1)
 
 -- what the words before one, and that one, give
-pub record Parted (before : List (List ℕ)) (word : List ℕ) (given : List NamedValue) : Type 0 where
+record Parted (before : List (List ℕ)) (word : List ℕ) (given : List NamedValue) : Type 0 where
   pub first : List NamedValue
   pub here : NamedValue
   pub later : List NamedValue
@@ -174,7 +173,7 @@ pub record Parted (before : List (List ℕ)) (word : List ℕ) (given : List Nam
   pub before_it : Give before first
   pub is : IsValueWord word here
 
-pub give_parts : (before : List (List ℕ)) (word : List ℕ) (after : List (List ℕ)) (given : List NamedValue) → Give (before ++ (word ∷ after)) given → Parted before word given
+give_parts : (before : List (List ℕ)) (word : List ℕ) (after : List (List ℕ)) (given : List NamedValue) → Give (before ++ (word ∷ after)) given → Parted before word given
 give_parts [] word after [] h = absurd h
 give_parts [] word after (v ∷ vs) h = record { first = []; here = v; later = vs; whole = refl; before_it = tt; is = h.0 }
 give_parts (w ∷ before) word after [] h = absurd h
@@ -252,13 +251,7 @@ pub record AreSoFar (words : List (List ℕ)) (values : List NamedValue) : Type 
   pub are : AreValueWords words values
   pub count : length values ≡ length words
 
-pub none_yet : AreSoFar [] []
-none_yet = record {
-  are = record { given = []; give = tt; distinct = λ i j d lt within. absurd (omega arith); few = omega arith; sorted = refl };
-  count = refl;
-}
-
-pub one_more : (words : List (List ℕ)) (values : List NamedValue) (word : List ℕ) (v : NamedValue) → AreSoFar words values → IsValueWord word v → value_at values v.name ≡ None → length values < 256 → AreSoFar (words ++ word ∷ []) (with_value v values)
+one_more : (words : List (List ℕ)) (values : List NamedValue) (word : List ℕ) (v : NamedValue) → AreSoFar words values → IsValueWord word v → value_at values v.name ≡ None → length values < 256 → AreSoFar (words ++ word ∷ []) (with_value v values)
 unfolding Differ
 one_more words values word v h is new small =
     let given = h.are.given in
@@ -287,10 +280,6 @@ inserted words values after word v h is e not_twice not_full few =
     subst (λ l. AreSoFar (words ++ word ∷ []) l) (sym e) (one_more words values word v h is new (omega arith))
 
 -- ---- why words give no values
-
-pub none_of : {A : Type 0} {P : Type 0} (r : Option A) → ((x : A) → r ≡ Some x → ⊥) → IfNone r P → P
-none_of None h p = p
-none_of (Some x) h p = absurd (h x refl)
 
 differ_before : (given first later : List NamedValue) (v : NamedValue) → given ≡ first ++ (v ∷ later) → AllPairs (λ a b. a.name ≢ b.name) given → Differ first v.name
 unfolding Differ

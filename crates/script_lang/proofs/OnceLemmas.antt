@@ -1,11 +1,11 @@
 -- A line has one answer at most.
-use Rattle.std.proofs.Common.{◌≡◌, ◌≢◌, ◌==◌, ℕ, ◌+◌, ◌<◌, ◌≤◌, Bool, true, false, List, [], ◌∷◌, ◌++◌, length, Option, Some, None, Result, Ok, Err, refl, sym, ap, ◌∙◌, subst, arith, ◌⊎◌, inl, inr}
-use Rattle.std.specs.Prelude.{IsTrue, ◌&&◌, nat_le, codes, slice_index, if◌then◌else◌}
+use Rattle.std.proofs.Common.{◌≡◌, ℕ, ◌+◌, ◌≤◌, Bool, true, false, List, [], ◌∷◌, ◌++◌, length, Option, Some, None, Result, Ok, Err, refl, sym, ap, ◌∙◌, subst, arith, ◌⊎◌, inl, inr}
+use Rattle.std.specs.Prelude.{IsTrue, ◌&&◌, codes, slice_index, if◌then◌else◌}
 use Rattle.std.specs.List.{AllByRecursion}
 use Rattle.std.specs.Str.{bytes_eq}
 use Rattle.std.proofs.Math.Bridge.{le_prop}
 use Rattle.std.proofs.lemmas.Bool.{false≢true, le-leb}
-use Rattle.payroll_records.specs.Days.{IsMonth, IsDayText, IsMonthText}
+use Rattle.payroll_records.specs.Days.{IsMonth, IsMonthText}
 use Rattle.payroll_records.specs.Tables.{Text}
 use Rattle.payroll_records.specs.ValueWords.{AreValueWords}
 use Rattle.payroll_records.specs.declared.day.Day.{Day}
@@ -16,7 +16,7 @@ use Rattle.payroll_records.specs.declared.when.When.TheVariants as when
 use Rattle.payroll_records.proofs.Laws.{year_is, month_is, day_is, same_day, same_record, values_once}
 use Rattle.script_lang.specs.Commands as asked
 use Rattle.script_lang.specs.Commands.{Asked}
-use Rattle.script_lang.specs.Fields.{Field, IsGood, fault_of, time_field, month, day}
+use Rattle.script_lang.specs.Fields.{Field, IsGood, fault_of, time_field}
 use Rattle.script_lang.specs.Lines.{Verb, plan, drop, add, change, withdraw, load, report, work, text_of, takes, fields_of, IsSilent, IsDayWord, IsTime, IsOfRecord, Ask, HaveNoVerb, AreTakenByNone, IsFirstFault, HaveFirstFault, IsLine, LineSays}
 use Rattle.script_lang.specs.Words.{words_of}
 use Rattle.script_lang.specs.declared.fault.LineFault.{LineFault}

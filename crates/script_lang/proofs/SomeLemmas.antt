@@ -1,22 +1,21 @@
 -- A line has an answer.
-use Rattle.std.proofs.Common.{◌≡◌, ◌≢◌, ◌==◌, ℕ, ◌<◌, ◌≤◌, Bool, true, false, List, [], ◌∷◌, ◌++◌, length, Result, Ok, Err, refl, sym, ap, ◌∙◌, subst, arith, ◌⊎◌, inl, inr}
-use Rattle.std.specs.Prelude.{IsTrue, ◌&&◌, nat_le, codes, slice_index, if◌then◌else◌}
+use Rattle.std.proofs.Common.{◌≡◌, ◌≢◌, ◌==◌, ◌≤◌, Bool, true, false, List, [], ◌∷◌, length, Result, Ok, Err, refl, sym, ap, ◌∙◌, subst, ◌⊎◌, inl, inr}
+use Rattle.std.specs.Prelude.{IsTrue, codes, slice_index, if◌then◌else◌}
 use Rattle.std.specs.List.{AllByRecursion}
 use Rattle.std.proofs.lemmas.Bool.{cases_lt, false≢true, leb-true}
-use Rattle.payroll_records.specs.Days.{IsDayText, IsDaySpelled, IsMonthSpelled}
+use Rattle.payroll_records.specs.Days.{IsDaySpelled}
 use Rattle.payroll_records.specs.Employees.{is_employee}
 use Rattle.payroll_records.specs.Tables.{Text}
 use Rattle.payroll_records.specs.declared.day.Day.{Day}
-use Rattle.payroll_records.specs.declared.month.Month.{Month}
 use Rattle.payroll_records.specs.declared.record.Record.{Record}
 use Rattle.payroll_records.specs.declared.when.When.{When}
 use Rattle.payroll_records.specs.declared.when.When.TheVariants as when
 use Rattle.payroll_records.proofs.Laws.{Decided, both, by_iff, true_decided, eq_decided, text_decided, month_decided, day_spelled_decided, day_decided, value_word_decided}
 use Rattle.script_lang.specs.Commands as asked
 use Rattle.script_lang.specs.Commands.{Asked}
-use Rattle.script_lang.specs.Fields.{Field, IsGood, fault_of, employee, month, day, day_in, value, new_name, name_in, time_field, value_fields}
-use Rattle.script_lang.specs.Lines.{Verb, plan, drop, add, change, withdraw, load, report, work, text_of, takes, fields_of, IsSilent, IsTime, IsOfRecord, Ask, HaveNoVerb, AreTakenByNone, IsFirstFault, HaveFirstFault, IsLine, LineSays}
-use Rattle.script_lang.specs.Words.{words_of, is_file}
+use Rattle.script_lang.specs.Fields.{Field, IsGood, fault_of, employee, month, day, day_in, value, new_name, name_in, time_field}
+use Rattle.script_lang.specs.Lines.{Verb, plan, drop, add, change, withdraw, load, report, work, text_of, takes, fields_of, IsSilent, IsTime, IsOfRecord, Ask, IsFirstFault, HaveFirstFault, LineSays}
+use Rattle.script_lang.specs.Words.{words_of}
 use Rattle.script_lang.specs.declared.fault.LineFault.{LineFault}
 use Rattle.script_lang.specs.declared.fault.LineFault.TheVariants as fault
 use Rattle.script_lang.proofs.FieldLemmas.{first_here, first_later, no_first_command, no_first_words, no_first_long, no_first_memory}
@@ -174,10 +173,16 @@ words_some line short (w ∷ ws) e = elim (eq_decided (slice_index w 0) 35) [
   | inl comment ↦ (Ok asked.nothing, record { short = short; ask = subst IsSilent (sym e) comment })
   | inr said ↦ elim (verb_or_none w) [
     | inl v ↦ spoken_some line short v.0 ws (e ∙ ap (λ x. x ∷ ws) v.1)
-    | inr none ↦ (Err fault.Command, (short, record {
-      said = λ s. said (subst IsSilent e s);
-      unknown = λ v rest is. let same : w ≡ text_of v = cc in none v same;
-    }))
+    | inr none ↦ (
+      Err fault.Command,
+      (
+        short,
+        record {
+          said = λ s. said (subst IsSilent e s);
+          unknown = λ v rest is. let same : w ≡ text_of v = cc in none v same;
+        },
+      ),
+    )
   ]
 ]
 

@@ -1,6 +1,6 @@
 -- Value words as fields.
 use Rattle.std.proofs.Common.{◌≡◌, ◌≢◌, ℕ, zero, suc, ◌+◌, ◌<◌, ◌≤◌, List, [], ◌∷◌, ◌++◌, length, take, drop, get_or, refl, sym, ap, ◌∙◌, subst, arith, append_assoc, length-append, add-one}
-use Rattle.std.specs.Prelude.{IsSome, IsNone, map}
+use Rattle.std.specs.Prelude.{IsSome, IsNone}
 use Rattle.std.specs.List.{AllByRecursion, AllPairs}
 use Rattle.std.proofs.Math.Seq.{get_or-append_seam, drop-cons}
 use Rattle.std.proofs.lemmas.List.{append-nil, get_or_append_left, get_or_default, length-map, length-take-le, map-append, take_more, take-append-drop}
@@ -11,10 +11,9 @@ use Rattle.payroll_records.specs.Tables.{Text}
 use Rattle.payroll_records.specs.ValueWords.{IsValueWord, Give, AreValueWords, in_order}
 use Rattle.payroll_records.specs.declared.values.NamedValue.{NamedValue}
 use Rattle.payroll_records.proofs.Laws.{AreSoFar, cut_before, give_more, inserted, twice}
-use Rattle.script_lang.specs.Fields.{Field, IsGood, fault_of, value, new_name, name_in, value_fields}
+use Rattle.script_lang.specs.Fields.{IsGood, value, new_name, name_in, value_fields}
 use Rattle.script_lang.specs.Lines.{IsFirstFault}
 use Rattle.script_lang.specs.Views.{texts}
-use Rattle.script_lang.specs.declared.fault.LineFault.{LineFault}
 use Rattle.script_lang.specs.declared.fault.LineFault.TheVariants as fault
 use Rattle.script_lang.proofs.FieldLemmas.{first_here, first_later, first_behind}
 

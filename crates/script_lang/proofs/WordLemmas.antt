@@ -1,25 +1,22 @@
 -- The words behind a command's first, command by command.
-use Rattle.std.proofs.Common.{◌≡◌, ◌∙◌, ℕ, ◌+◌, ◌<◌, ◌≤◌, Bool, true, false, List, [], ◌∷◌, ◌++◌, length, take, drop, get_or, refl, sym, ap, subst, arith}
+use Rattle.std.proofs.Common.{◌≡◌, ◌∙◌, ℕ, ◌<◌, ◌≤◌, Bool, true, false, List, [], ◌∷◌, length, drop, get_or, refl, sym, ap, subst, arith}
 use Rattle.std.specs.Prelude.{IsTrue, ◌&&◌, not, nat_eq, nat_le, codes}
-use Rattle.std.specs.List.{AllByRecursion}
 use Rattle.std.proofs.lemmas.Bool.{false≢true, eq-eqb, le-leb}
 use Rattle.std.proofs.lemmas.List.{length-map}
 use denote.Ref.{Bor}
 use Rattle.payroll_records.specs.Days.{IsDayText, IsMonthText, IsDaySpelled, IsMonthSpelled}
 use Rattle.payroll_records.specs.Employees.{is_employee}
 use Rattle.payroll_records.specs.Tables.{Text}
-use Rattle.payroll_records.specs.ValueWords.{AreValueWords}
 use Rattle.payroll_records.specs.declared.day.Day.{Day}
-use Rattle.payroll_records.specs.declared.record.Record.{Record}
 use Rattle.payroll_records.proofs.Laws.{year_is, month_is}
-use Rattle.script_lang.specs.Fields.{Field, IsGood, fault_of, employee, month, day, day_in, time_field, value_fields}
+use Rattle.script_lang.specs.Fields.{fault_of, employee, month, day, day_in, time_field, value_fields}
 use Rattle.script_lang.specs.Lines as lines
 use Rattle.script_lang.specs.Lines.{IsFirstFault, IsDayWord, IsPlan, IsDrop, IsOfRecord, takes, fields_of}
 use Rattle.script_lang.specs.Views.{Breaks, BreaksIn, IsFaultOf, texts}
 use Rattle.script_lang.specs.Words.{is_file}
 use Rattle.script_lang.specs.declared.fault.LineFault.{LineFault}
 use Rattle.script_lang.specs.declared.fault.LineFault.TheVariants as fault
-use Rattle.script_lang.proofs.FieldLemmas.{first_here, first_later, first_front, first_behind, breaks_of, faulty, faulty_in}
+use Rattle.script_lang.proofs.FieldLemmas.{first_here, first_later, first_front, breaks_of, faulty, faulty_in}
 
 -- a month and a day in it
 pub month_breaks : (first second : Text) (f : LineFault) → Breaks (month first) f → BreaksIn (month first ∷ day_in first second ∷ []) f

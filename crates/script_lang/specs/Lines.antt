@@ -1,5 +1,5 @@
 -- The lines of a script (docs/PROFILE.md, "Scripts"): what a line asks for, or why it is refused.
-use Rattle.std.specs.Prelude.{◌≡◌, ◌≢◌, ◌<◌, ◌≤◌, ◌&&◌, ℕ, Bool, true, false, nat_le, List, [], ◌∷◌, ◌++◌, length, slice_index, codes, IsTrue, Result, Ok, Err, ⊤}
+use Rattle.std.specs.Prelude.{◌≡◌, ◌≢◌, ◌<◌, ◌≤◌, ◌&&◌, Bool, true, false, nat_le, List, [], ◌∷◌, ◌++◌, length, slice_index, codes, IsTrue, Result, Ok, Err, ⊤}
 use Rattle.std.specs.List.{AllByRecursion}
 use Rattle.payroll_records.specs.Days.{IsDayText, IsMonthText}
 use Rattle.payroll_records.specs.Employees.{is_employee}

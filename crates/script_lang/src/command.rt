@@ -13,15 +13,22 @@ pub enum Command {
         limits: String,
     },
     /// `drop DAY`: no longer the plan that was put on this day.
-    Drop { day: Day },
+    Drop {
+        day: Day,
+    },
     /// `add EMP MONTH DAY NAME=VALUE ..`: one more pay run.
     Add(Record),
     /// `change EMP MONTH DAY NAME=VALUE ..`: this pay run in place of the one with its key.
     Change(Record),
     /// `withdraw EMP WHEN`: no longer the pay run of this employee in a month or on a day.
-    Withdraw { employee: Employee, when: When },
+    Withdraw {
+        employee: Employee,
+        when: When,
+    },
     /// `load FILE`: the pay runs of a table.
-    Load { file: String },
+    Load {
+        file: String,
+    },
     /// `report`
     Report,
     /// `work`

@@ -14,8 +14,8 @@ use std::alloc::Global;
 /// The most bytes of a line.
 const LONGEST: usize = 65_536;
 
-/// What a line asks for: the line stands here without its line end. A line is refused by its length, then by its first word,
-/// then by the number of its words and the names of files, then by the leftmost word with a fault.
+/// What a line asks for, of at most 65,536 bytes without its line end. A line is refused by its length, then by its first
+/// word, then by the number of its words and the names of files, then by the leftmost word with a fault.
 pub fn read_line(alloc: Global, line: &[u8]) -> Result<Command, LineFault>
     ensures ok { IfOk result (λ command. IsLine line.now (asked_of command)) }
     ensures err { IfErr result (IsRefused line.now) }
@@ -32,6 +32,7 @@ pub fn each_line_has_one_answer()
     ensures { (line : Text) → HasOneAnswer line }
 {}
 
+/// What the words of a line ask for.
 fn read_words(alloc: Global, words: &[&[u8]]) -> Result<Command, LineFault>
     ensures { Answers (texts words.now) result }
 {
@@ -53,12 +54,14 @@ fn read_words(alloc: Global, words: &[&[u8]]) -> Result<Command, LineFault>
     }
 }
 
+/// Whether a line that begins with this word is a comment.
 fn is_comment(word: &[u8]) -> bool
     ensures { IsTrue result ↔ (slice_index word.now 0 ≡ 35) }
 {
     word.first() == Some(&b'#')
 }
 
+/// The words behind `plan`: `DAY PLANFILE LIMITFILE`.
 fn read_plan(alloc: Global, rest: &[&[u8]]) -> Result<Command, LineFault>
     ensures ok { IfOk result (λ command. Ask (codes "plan" ∷ texts rest.now) (asked_of command)) }
     ensures err { IfErr result (IsFaultOf lines.plan (texts rest.now)) }
@@ -75,6 +78,7 @@ fn read_plan(alloc: Global, rest: &[&[u8]]) -> Result<Command, LineFault>
     })
 }
 
+/// The word behind `drop`: `DAY`.
 fn read_drop(rest: &[&[u8]]) -> Result<Command, LineFault>
     ensures ok { IfOk result (λ command. Ask (codes "drop" ∷ texts rest.now) (asked_of command)) }
     ensures err { IfErr result (IsFaultOf lines.drop (texts rest.now)) }
@@ -87,6 +91,7 @@ fn read_drop(rest: &[&[u8]]) -> Result<Command, LineFault>
     })
 }
 
+/// The words behind `withdraw`: `EMP WHEN`.
 fn read_withdraw(rest: &[&[u8]]) -> Result<Command, LineFault>
     ensures ok { IfOk result (λ command. Ask (codes "withdraw" ∷ texts rest.now) (asked_of command)) }
     ensures err { IfErr result (IsFaultOf lines.withdraw (texts rest.now)) }
@@ -100,6 +105,7 @@ fn read_withdraw(rest: &[&[u8]]) -> Result<Command, LineFault>
     })
 }
 
+/// The word behind `load`: `FILE`.
 fn read_load(alloc: Global, rest: &[&[u8]]) -> Result<Command, LineFault>
     ensures ok { IfOk result (λ command. Ask (codes "load" ∷ texts rest.now) (asked_of command)) }
     ensures err { IfErr result (IsFaultOf lines.load (texts rest.now)) }

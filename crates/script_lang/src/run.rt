@@ -20,7 +20,7 @@ const MOST_VALUES: usize = 256;
 /// The number of a line's first value word.
 const FIRST_VALUE: u32 = 5;
 
-/// `EMP MONTH DAY NAME=VALUE ..`
+/// The words behind `add` and `change`: `EMP MONTH DAY NAME=VALUE ..`.
 pub(crate) fn read_record(alloc: Global, rest: &[&[u8]]) -> Result<Record, LineFault>
     ensures ok { (command : Text) → IfOk result (IsOfRecord command (command ∷ texts rest.now)) }
     ensures err { IfErr result (IsFaultOf lines.add (texts rest.now)) }
@@ -41,6 +41,7 @@ pub(crate) fn read_record(alloc: Global, rest: &[&[u8]]) -> Result<Record, LineF
     })
 }
 
+/// The employee of a word.
 pub(crate) fn read_employee(word: &[u8]) -> Result<Employee, LineFault>
     ensures { MatchResult result (λ e. (e ≡ word.now) × IsTrue (is_employee word.now))
         (Breaks (field.employee word.now)) }
@@ -48,12 +49,14 @@ pub(crate) fn read_employee(word: &[u8]) -> Result<Employee, LineFault>
     Employee::read(word).ok_or(LineFault::Employee)
 }
 
+/// The day of a word.
 pub(crate) fn read_day(word: &[u8]) -> Result<Day, LineFault>
     ensures { MatchResult result (IsDayWord word.now) (Breaks (field.day word.now)) }
 {
     Day::read(word).ok_or(LineFault::Day)
 }
 
+/// The month of a word.
 fn read_month(word: &[u8]) -> Result<Month, LineFault>
     ensures { MatchResult result (λ m. IsMonthText word.now m.year m.month)
         (Breaks (field.month word.now)) }
@@ -101,6 +104,7 @@ fn read_values(alloc: Global, words: &[&[u8]]) -> Result<Values, LineFault>
         match values.insert(value) {
             Ok(()) => number += 1,
             Err(InsertFault::Twice) => return Err(LineFault::Twice { name }),
+            // Never comes: there are at most 256 words.
             Err(InsertFault::Full) => return Err(LineFault::Words),
             Err(InsertFault::Memory(error)) => return Err(LineFault::Memory(error)),
         }

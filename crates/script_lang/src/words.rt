@@ -9,6 +9,9 @@ ghost use Rattle.script_lang.specs.Words.{is_blank, is_file, is_visible, words_o
 use std::alloc::{AllocError, Global};
 use std::str;
 
+/// The most bytes of a file's name.
+const LONGEST_FILE: usize = 255;
+
 /// The first word of a command.
 #[derive(Clone, Copy)]
 pub(crate) enum Verb {
@@ -31,6 +34,7 @@ pub(crate) fn words(alloc: Global, line: &[u8]) -> Result<Vec<&[u8]>, AllocError
         .collect(alloc)
 }
 
+/// A space or a tab.
 fn is_blank(byte: u8) -> bool
     ensures { result ≡ is_blank byte }
 {
@@ -66,12 +70,14 @@ pub(crate) fn file(word: &[u8]) -> Option<&str>
     str::from_utf8(word).ok()
 }
 
+/// Whether a word names a file.
 fn is_file(word: &[u8]) -> bool
     ensures { result ≡ is_file word.now }
 {
-    word.len() <= 255 && has_visible_bytes(word)
+    word.len() <= LONGEST_FILE && has_visible_bytes(word)
 }
 
+/// Whether all bytes of a word are visible ASCII characters.
 fn has_visible_bytes(word: &[u8]) -> bool
     ensures { result ≡ list_all is_visible word.now }
 {

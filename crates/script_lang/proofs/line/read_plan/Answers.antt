@@ -1,5 +1,4 @@
 use Rattle.std.proofs.Common.{◌≡◌, Some, arith, ◌∙◌}
-use Rattle.std.specs.Prelude.{MatchOption}
 use Rattle.std.proofs.lemmas.Result.{err_from_is_err_and}
 use Rattle.script_lang.proofs.WordLemmas.{plan_broken, is_plan}
 use Rattle.script_lang.proofs.line.read_plan.Goals as goal

@@ -1,4 +1,4 @@
-use Rattle.std.proofs.Common.{◌≡◌, ◌∙◌, ap, arith, length}
+use Rattle.std.proofs.Common.{◌∙◌, ap, arith, length}
 use Rattle.std.specs.Prelude.{Err}
 use Rattle.script_lang.proofs.ValueLemmas.{no_value_at, name_again_at, value_at_place}
 use Rattle.script_lang.proofs.run.read_values.Goals as goal
