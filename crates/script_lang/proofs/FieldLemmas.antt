@@ -6,7 +6,7 @@ use Rattle.std.specs.declared.alloc.AllocError.{AllocError}
 use Rattle.std.proofs.lemmas.Bool.{false≢true}
 use Rattle.payroll_records.specs.Tables.{Text}
 use Rattle.script_lang.specs.Fields.{Field, IsGood, fault_of, employee, month, day, day_in, value, new_name}
-use Rattle.script_lang.specs.Lines.{Verb, text_of, takes, fields_of, IsFirstFault, AreWrong}
+use Rattle.script_lang.specs.Lines.{Verb, takes, fields_of, IsFirstFault}
 use Rattle.script_lang.specs.Views.{BreaksIn, IsFaultOf}
 use Rattle.script_lang.specs.declared.fault.LineFault.{LineFault}
 use Rattle.script_lang.specs.declared.fault.LineFault.TheVariants as fault
@@ -104,15 +104,3 @@ faulty_in verb rest fields (fault.Memory e) t more h = tt
 
 pub faulty : (verb : Verb) (rest : List Text) (f : LineFault) → IsTrue (takes verb rest) → IsFirstFault (fields_of verb rest) f → IsFaultOf verb rest f
 faulty verb rest f t h = faulty_in verb rest (fields_of verb rest) f t (λ g k. k) (breaks_of (fields_of verb rest) f h)
-
--- what is wrong behind a command's first word is wrong with the words
-pub wrong_of : (verb : Verb) (rest : List Text) (f : LineFault) → IsFaultOf verb rest f → AreWrong (text_of verb ∷ rest) f
-wrong_of verb rest fault.Command h = absurd (no_first_command _ h.1)
-wrong_of verb rest fault.Words h = record { verb = verb; rest = rest; words_are = refl; wrong = h }
-wrong_of verb rest fault.Employee h = record { verb = verb; rest = rest; words_are = refl; taken = h.0; first = h.1 }
-wrong_of verb rest fault.Month h = record { verb = verb; rest = rest; words_are = refl; taken = h.0; first = h.1 }
-wrong_of verb rest fault.Day h = record { verb = verb; rest = rest; words_are = refl; taken = h.0; first = h.1 }
-wrong_of verb rest (fault.Value n) h = record { verb = verb; rest = rest; words_are = refl; taken = h.0; first = h.1 }
-wrong_of verb rest (fault.Twice name) h = record { verb = verb; rest = rest; words_are = refl; taken = h.0; first = h.1 }
-wrong_of verb rest fault.LineLong h = absurd (no_first_long _ h.1)
-wrong_of verb rest (fault.Memory e) h = tt

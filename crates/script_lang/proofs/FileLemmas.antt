@@ -1,5 +1,5 @@
 -- A word that names a file is text.
-use Rattle.std.proofs.Common.{◌≡◌, ℕ, zero, suc, ◌<◌, Bool, true, false, List, [], ◌∷◌, get_or, arith, sym}
+use Rattle.std.proofs.Common.{◌≡◌, ℕ, zero, suc, ◌<◌, Bool, true, false, List, [], ◌∷◌, get_or, arith, refl, sym}
 use Rattle.std.specs.Prelude.{◌&&◌, IsTrue, Result, Ok, Err, Option, MatchResult, MatchOption}
 use Rattle.std.specs.List.{list_all}
 use Rattle.std.specs.Result.{result_ok}
@@ -16,6 +16,11 @@ and_first false b h = cc
 pub and_second : (a b : Bool) → (a && b) ≡ true → b ≡ true
 and_second true b h = h
 and_second false b h = cc
+
+pub both_true : (a b : Bool) → IsTrue a → IsTrue b → IsTrue (a && b)
+both_true true true h k = refl
+both_true true false h k = k
+both_true false b h k = h
 
 visible_ascii : (bs : List ℕ) → list_all is_visible bs ≡ true → (i : ℕ) → get_or bs i 0 < 128
 visible_ascii [] h i = omega arith

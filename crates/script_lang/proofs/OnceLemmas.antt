@@ -1,6 +1,6 @@
 -- A line has one answer at most.
-use Rattle.std.proofs.Common.{◌≡◌, ℕ, ◌+◌, ◌≤◌, Bool, true, false, List, [], ◌∷◌, ◌++◌, length, Option, Some, None, Result, Ok, Err, refl, sym, ap, ◌∙◌, subst, arith, ◌⊎◌, inl, inr}
-use Rattle.std.specs.Prelude.{IsTrue, ◌&&◌, codes, slice_index, if◌then◌else◌}
+use Rattle.std.proofs.Common.{◌≡◌, ℕ, ◌+◌, ◌≤◌, List, [], ◌∷◌, ◌++◌, length, Option, Some, None, Result, Ok, Err, refl, sym, ap, ◌∙◌, subst, arith, ◌⊎◌, inl, inr}
+use Rattle.std.specs.Prelude.{IsTrue, codes, slice_index, if◌then◌else◌}
 use Rattle.std.specs.List.{AllByRecursion}
 use Rattle.std.specs.Str.{bytes_eq}
 use Rattle.std.proofs.Math.Bridge.{le_prop}
@@ -21,6 +21,7 @@ use Rattle.script_lang.specs.Lines.{Verb, plan, drop, add, change, withdraw, loa
 use Rattle.script_lang.specs.Words.{words_of}
 use Rattle.script_lang.specs.declared.fault.LineFault.{LineFault}
 use Rattle.script_lang.specs.declared.fault.LineFault.TheVariants as fault
+use Rattle.script_lang.proofs.FileLemmas.{both_true}
 use Rattle.script_lang.proofs.ValueLemmas.{words_good}
 
 -- ---- first words
@@ -114,11 +115,6 @@ record Spoken (words : List Text) (what : Asked) : Type 0 where
   words_are : words ≡ text_of verb ∷ rest
   taken : IsTrue (takes verb rest)
   good : AllByRecursion IsGood (fields_of verb rest)
-
-both_true : (a b : Bool) → IsTrue a → IsTrue b → IsTrue (a && b)
-both_true true true h k = refl
-both_true true false h k = k
-both_true false b h k = h
 
 time_good : (word : Text) (t : When) → IsTime word t → IsGood (time_field word)
 time_good word (when.Month m) h = rw h.long (m.year, m.month, h)

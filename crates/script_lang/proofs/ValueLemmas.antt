@@ -161,7 +161,3 @@ module _ (words : List (Bor Text)) (i : ℕ) (d : Bor Text) (sorted : List Named
   value_at_place v after is put new room few =
       subst (λ w. AreSoFar w after) (sym (texts_more words i (get_or words i d) is_at within))
       (inserted (texts (take i words)) sorted after (get_or words i d).now v h is put new room few)
-
-  -- so few words are never too many
-  pub not_full : length words ≤ 256 → length sorted ≡ 256 → ⊥
-  not_full few full = omega (arith, h.count, texts_taken words i within)

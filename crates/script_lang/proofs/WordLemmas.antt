@@ -1,5 +1,5 @@
 -- The words behind a command's first, command by command.
-use Rattle.std.proofs.Common.{◌≡◌, ◌∙◌, ℕ, ◌<◌, ◌≤◌, Bool, true, false, List, [], ◌∷◌, length, drop, get_or, refl, sym, ap, subst, arith}
+use Rattle.std.proofs.Common.{◌≡◌, ◌∙◌, ℕ, ◌<◌, ◌≤◌, true, List, [], ◌∷◌, length, drop, get_or, refl, sym, ap, subst, arith}
 use Rattle.std.specs.Prelude.{IsTrue, ◌&&◌, not, nat_eq, nat_le, codes}
 use Rattle.std.proofs.lemmas.Bool.{false≢true, eq-eqb, le-leb}
 use Rattle.std.proofs.lemmas.List.{length-map}
@@ -16,6 +16,7 @@ use Rattle.script_lang.specs.Views.{Breaks, BreaksIn, IsFaultOf, texts}
 use Rattle.script_lang.specs.Words.{is_file}
 use Rattle.script_lang.specs.declared.fault.LineFault.{LineFault}
 use Rattle.script_lang.specs.declared.fault.LineFault.TheVariants as fault
+use Rattle.script_lang.proofs.FileLemmas.{both_true}
 use Rattle.script_lang.proofs.FieldLemmas.{first_here, first_later, first_front, breaks_of, faulty, faulty_in}
 
 -- a month and a day in it
@@ -49,11 +50,6 @@ is_drop (w ∷ []) d when l m b = record { word = w.now; words_are = refl; day_i
 is_drop (w ∷ v ∷ ws) d when l m b = absurd (omega (arith, m))
 
 -- plan
-both_true : (a b : Bool) → IsTrue a → IsTrue b → IsTrue (a && b)
-both_true true true h k = refl
-both_true true false h k = k
-both_true false b h k = h
-
 pub plan_broken : (rest : List (Bor Text)) (d : Bor Text) (f : LineFault) → 3 ≤ length rest → length rest < 4 →
     IsTrue (is_file (get_or rest 1 d).now) → IsTrue (is_file (get_or rest 2 d).now) → Breaks (day (get_or rest 0 d).now) f → IsFaultOf lines.plan (texts rest) f
 plan_broken [] d f l m p q b = absurd (omega (arith, l))
