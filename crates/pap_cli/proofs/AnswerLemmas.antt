@@ -23,7 +23,8 @@ use Rattle.pap_plan.specs.declared.refusal.PlanRefusal.TheVariants as refusals
 use Rattle.pap_plan.specs.Acceptance.{Meaning, Answers, IsAccepted, IsRefused}
 use Rattle.pap_plan.specs.Inputs.{AreSlots}
 use Rattle.pap_plan.proofs.Laws as plans
-use Rattle.pap_cli.specs.Words.{IsKeptValue, Give, AreValueWords}
+use Rattle.payroll_records.specs.ValueWords.{Give, AreValueWords}
+use Rattle.pap_cli.specs.Words.{IsKeptValue}
 use Rattle.pap_cli.specs.Refusals.{read_detail, expr_detail, type_detail, order_detail, limits_detail, node_detail, HasDetail}
 use Rattle.pap_cli.specs.Answers.{Answer, refusal, IsRefusal, acceptance, IsChecked, CheckAnswers, finished, IsRunOn, IsOnce, OnceAnswers}
 use Rattle.pap_cli.specs.Laws.{HasOneAnswer}

@@ -20,7 +20,8 @@ use Rattle.pap_plan.specs.Plans.{Seen, meaning}
 use Rattle.pap_plan.proofs.Laws as plans
 use Rattle.pap_cli.specs.declared.words.Command.{Command}
 use Rattle.pap_cli.specs.declared.words.Command.TheVariants.{Check, Once}
-use Rattle.pap_cli.specs.Words.{HasForm, AreValueWords}
+use Rattle.payroll_records.specs.ValueWords.{AreValueWords}
+use Rattle.pap_cli.specs.Words.{HasForm}
 use Rattle.pap_cli.specs.WordViews.{form_by}
 use Rattle.pap_cli.specs.Answers.{Answer, IsRefusal, IsChecked, CheckAnswers, IsRunOn, IsRunOnce, IsOnce, OnceAnswers}
 use Rattle.pap_cli.specs.AnswerViews.{answers_of, IsFilledFrom, TellsRefused}

@@ -1,7 +1,8 @@
 -- What holds of the definitions of words and answers.
 use Rattle.std.specs.Prelude.{◌≡◌, ℕ, List, All}
 use Rattle.payroll_records.specs.declared.values.NamedValue.{NamedValue}
-use Rattle.pap_cli.specs.Words.{Form, HasForm, AreValueWords, IsKeptValue}
+use Rattle.payroll_records.specs.ValueWords.{AreValueWords}
+use Rattle.pap_cli.specs.Words.{Form, HasForm, IsKeptValue}
 use Rattle.pap_cli.specs.Answers.{Answer, CheckAnswers, OnceAnswers}
 
 -- words have at most one form

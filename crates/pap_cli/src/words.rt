@@ -1,12 +1,11 @@
 // The words of the command line.
-ghost use Rattle.std.specs.Prelude.{◌≡◌, IfOk, IfSome, IfNone, MatchOption, List};
+ghost use Rattle.std.specs.Prelude.{◌≡◌, IfOk, MatchOption, List};
 ghost use Rattle.payroll_records.specs.declared.values.NamedValue.{NamedValue as Value};
-ghost use Rattle.pap_cli.specs.Words.{texts, IsValueWord, AreValueWords, HasForm, IsBad};
+ghost use Rattle.payroll_records.specs.ValueWords.{AreValueWords};
+ghost use Rattle.pap_cli.specs.Words.{texts, HasForm, IsBad};
 ghost use Rattle.pap_cli.specs.WordViews.{form_of};
 
-use pap_tree::Name;
 use payroll_records::{InsertFault, NamedValue, Values};
-use scaled_decimal::read_dec;
 use std::alloc::{AllocError, Global};
 
 /// What the words ask for: an answer on the file of a plan and a range file.
@@ -57,7 +56,7 @@ fn read_values(alloc: Global, words: &[String]) -> Result<Option<Values>, AllocE
 {
     let mut values = Values::new(alloc);
     for word in words {
-        let Some(value) = read_value(word) else {
+        let Some(value) = NamedValue::read(word.as_bytes()) else {
             return Ok(None);
         };
         match values.insert(value) {
@@ -68,17 +67,4 @@ fn read_values(alloc: Global, words: &[String]) -> Result<Option<Values>, AllocE
         }
     }
     Ok(Some(values))
-}
-
-/// The value of a word NAME=VALUE.
-fn read_value(word: &str) -> Option<NamedValue>
-    ensures read { IfSome result (IsValueWord word.now) }
-    ensures none { IfNone result ((v : Value) → ¬ (IsValueWord word.now v)) }
-{
-    let (name, value) = word.split_once('=')?;
-    let name = Name::read(name.as_bytes())?;
-    match read_dec(value.as_bytes()) {
-        Ok(value) => Some(NamedValue { name, value }),
-        Err(_) => None,
-    }
 }

@@ -7,7 +7,7 @@ use Rattle.jiff.specs.Words.{days_in_month}
 use Rattle.scaled_decimal.specs.Decimals.{Decimal}
 use Rattle.scaled_decimal.specs.Limits.{IsKept, limit, most_places}
 use Rattle.scaled_decimal.proofs.Laws.{number_once, number_or_none}
-use Rattle.payroll_records.specs.Days.{AreDigits, spelled, IsMonth, IsDay, SpellsMonth, IsMonthText, IsDayText, IsMonthSpelled}
+use Rattle.payroll_records.specs.Days.{AreDigits, spelled, IsMonth, IsDay, SpellsMonth, IsMonthText, IsDayText, IsMonthSpelled, IsDaySpelled}
 use Rattle.payroll_records.specs.Tables.{Text, HasDay, IsNumberText, IsReadable, field_of}
 
 abbrev pub Decided : Type 0 → Type 0
@@ -101,6 +101,9 @@ the_day t year month day h = rw (← year_is t year month h.spells, ← month_is
 
 pub month_decided : (t : Text) → Decided (IsMonthSpelled t)
 month_decided t = by_iff (λ h. (year_of t, month_of t, h)) (λ h. the_month t h.0 h.1 h.2) (month_text_at t)
+
+pub day_spelled_decided : (t : Text) → Decided (IsDaySpelled t)
+day_spelled_decided t = by_iff (λ h. (year_of t, month_of t, day_of t, h)) (λ h. the_day t h.0 h.1 h.2 h.3) (day_text_at t)
 
 pub day_decided : (row : List Text) → Decided (HasDay row)
 day_decided row =

@@ -84,10 +84,10 @@ same_numbers y m d x y' m' d' ey em ed =
     (subst (λ (b : ℕ). (z : IsDay y' b d) → make_day y m d x ≡ make_day y' b d z) em
     (subst (λ (a : ℕ). (z : IsDay a m d) → make_day y m d x ≡ make_day a m d z) ey (λ z. ap (make_day y m d) (day_prop y m d x z))))
 
-same_day : (d e : Day) → d.year ≡ e.year → d.month ≡ e.month → d.day ≡ e.day → d ≡ e
+pub same_day : (d e : Day) → d.year ≡ e.year → d.month ≡ e.month → d.day ≡ e.day → d ≡ e
 same_day d e y m n = same_numbers d.year d.month d.day d.exists e.year e.month e.day y m n e.exists
 
-same_record : (r s : Record) → r.employee ≡ s.employee → r.day ≡ s.day → r.values ≡ s.values → r ≡ s
+pub same_record : (r s : Record) → r.employee ≡ s.employee → r.day ≡ s.day → r.values ≡ s.values → r ≡ s
 same_record r s e d v =
     ap (λ (x : Text). make x r.day r.values) e ∙ ap (λ (x : Day). make s.employee x r.values) d ∙ ap (λ (x : List NamedValue). make s.employee s.day x) v
   where

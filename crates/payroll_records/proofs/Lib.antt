@@ -12,3 +12,4 @@ pub mod OnceLemmas
 pub mod SomeLemmas
 pub mod OrderLemmas
 pub mod ValueLemmas
+pub mod ValueWordLemmas

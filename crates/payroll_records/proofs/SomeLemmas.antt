@@ -146,7 +146,7 @@ names_or_not names (n ∷ rest) h = by (true_decided (is_name n)) (at_key name_c
     by (inl t) (Some c) e more = inr (λ named differ. name_twice names rest n c h e differ)
     by (inl t) None e more = subst NamesOrNot (append_assoc names (n ∷ []) rest) (more (name_new names n h t e))
 
-text_decided : (a b : Text) → Decided (a ≡ b)
+pub text_decided : (a b : Text) → Decided (a ≡ b)
 text_decided a b = by (bytes_eq a b) refl
   where
     by : (t : Bool) → bytes_eq a b ≡ t → Decided (a ≡ b)

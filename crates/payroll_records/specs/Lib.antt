@@ -2,6 +2,7 @@ pub mod Days
 pub mod Employees
 pub mod NamedValues
 pub mod ValueViews
+pub mod ValueWords
 pub mod Whens
 pub mod Orders
 pub mod CsvRows

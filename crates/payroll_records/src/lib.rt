@@ -9,6 +9,7 @@ mod record;
 mod row;
 mod rows;
 mod table;
+mod value_word;
 mod values;
 mod when;
 

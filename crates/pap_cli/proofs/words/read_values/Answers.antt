@@ -1,8 +1,10 @@
 use Rattle.std.proofs.Common.{◌≡◌, ◌+◌, sym, ap, ◌∙◌, subst, take, drop, string_bytes, length, arith}
 use Rattle.std.specs.Prelude.{Err, List, ℕ}
 use Rattle.payroll_records.specs.declared.values.NamedValue.{NamedValue}
-use Rattle.pap_cli.specs.Words.{texts, IsValueWord, AreValueWords}
-use Rattle.pap_cli.proofs.WordLemmas.{AreSoFar, inserted, no_value, twice, too_many, none_of, texts_more, texts_parts}
+use Rattle.payroll_records.specs.ValueWords.{IsValueWord, AreValueWords}
+use Rattle.payroll_records.proofs.Laws.{AreSoFar, inserted, no_value, twice, too_many}
+use Rattle.pap_cli.specs.Words.{texts}
+use Rattle.pap_cli.proofs.WordLemmas.{texts_more, texts_parts}
 use Rattle.pap_cli.proofs.words.read_values.Goals as goal
 
 pub returns-in_default : goal.returns-in_default
@@ -10,7 +12,7 @@ returns-in_default c = λ values h.
     let i = c.loop-word.word-index in
     let words = c.args.words.now in
     let parts = texts_parts words i c.word-item.result c.word-item.is c.loop-word-test.true in
-    let none = subst (λ b. (v : NamedValue) → ¬ (IsValueWord b v)) c.deref.ensures (none_of c.read_value.result c.in_default.not-Some c.read_value.ensures.none) in
+    let none = subst (λ b. (v : NamedValue) → ¬ (IsValueWord b v)) c.as_bytes.ensures.value c.in_default.ensures.none in
     no_value (texts (take i words)) (texts (drop (i + 1) words)) (string_bytes c.word-item.result) none values (subst (λ w. AreValueWords w values) parts h)
 
 pub returns-in-Err-Twice : goal.returns-in-Err-Twice
@@ -18,7 +20,7 @@ returns-in-Err-Twice c = λ values h.
     let i = c.loop-word.word-index in
     let words = c.args.words.now in
     let parts = texts_parts words i c.word-item.result c.word-item.is c.loop-word-test.true in
-    let is = subst (λ b. IsValueWord b c.in-Some.value) c.deref.ensures c.in-Some.ensures.read in
+    let is = subst (λ b. IsValueWord b c.in-Some.value) c.as_bytes.ensures.value c.in-Some.ensures.read in
     let there = c.insert.ensures.twice.0 (c.in-Err-Twice.is ∙ ap (λ f. Err f) c.in-Err-Twice.field-0-is) in
     twice (texts (take i words)) (texts (drop (i + 1) words)) (string_bytes c.word-item.result) c.loop-word.values c.in-Some.value c.loop-word.invariant is there values (subst (λ w. AreValueWords w values) parts h)
 
@@ -34,7 +36,7 @@ pub loop-word-preserved : goal.loop-word-preserved
 loop-word-preserved c =
     let i = c.loop-word.word-index in
     let words = c.args.words.now in
-    let is = subst (λ b. IsValueWord b c.in-Some.value) c.deref.ensures c.in-Some.ensures.read in
+    let is = subst (λ b. IsValueWord b c.in-Some.value) c.as_bytes.ensures.value c.in-Some.ensures.read in
     let next = inserted (texts (take i words)) c.loop-word.values c.insert.new.self (string_bytes c.word-item.result) c.in-Some.value c.loop-word.invariant is c.in-Ok.ensures.ok
     (λ some. cc (c.in-Ok.ensures.twice.1 some)) (λ full. cc (c.in-Ok.ensures.full.1 full)) (omega (arith, ap length c.values.view_is, c.values.invariant.few)) in
     subst (λ w. AreSoFar w c.insert.new.self) (sym (texts_more words i c.word-item.result c.word-item.is c.loop-word-test.true)) next

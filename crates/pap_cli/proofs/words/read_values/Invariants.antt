@@ -1,6 +1,6 @@
 use Rattle.std.proofs.Common.{take}
 use Rattle.pap_cli.specs.Words.{texts}
-use Rattle.pap_cli.proofs.WordLemmas.{AreSoFar}
+use Rattle.payroll_records.proofs.Laws.{AreSoFar}
 use Rattle.pap_cli.proofs.words.read_values.Given as goal
 
 abbrev pub invariant-loop-word : goal.invariant-loop-word

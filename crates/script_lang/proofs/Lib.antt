@@ -1,0 +1,7 @@
+pub mod FileLemmas
+pub mod FieldLemmas
+pub mod ValueLemmas
+pub mod WordLemmas
+pub mod OnceLemmas
+pub mod SomeLemmas
+pub mod Laws

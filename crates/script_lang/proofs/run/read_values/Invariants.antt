@@ -1,0 +1,10 @@
+use Rattle.std.proofs.Common.{◌≡◌, ◌+◌, take}
+use Rattle.payroll_records.proofs.Laws.{AreSoFar}
+use Rattle.script_lang.specs.Views.{texts}
+use Rattle.script_lang.proofs.run.read_values.Given as goal
+
+abbrev pub invariant-loop-word : goal.invariant-loop-word
+invariant-loop-word l = record {
+  read : AreSoFar (texts (take l.word-index l.words)) l.values;
+  counted : l.number ≡ l.word-index + 5;
+}

@@ -1,0 +1,5 @@
+pub mod Words
+pub mod Commands
+pub mod Fields
+pub mod Lines
+pub mod Views

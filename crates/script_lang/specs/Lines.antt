@@ -1,0 +1,197 @@
+-- The lines of a script (docs/PROFILE.md, "Scripts"): what a line asks for, or why it is refused.
+use Rattle.std.specs.Prelude.{◌≡◌, ◌≢◌, ◌<◌, ◌≤◌, ◌&&◌, Bool, true, false, nat_le, List, [], ◌∷◌, ◌++◌, length, slice_index, codes, IsTrue, Result, Ok, Err, ⊤}
+use Rattle.std.specs.List.{AllByRecursion}
+use Rattle.payroll_records.specs.Days.{IsDayText, IsMonthText}
+use Rattle.payroll_records.specs.Employees.{is_employee}
+use Rattle.payroll_records.specs.Tables.{Text}
+use Rattle.payroll_records.specs.ValueWords.{AreValueWords}
+use Rattle.payroll_records.specs.declared.day.Day.{Day}
+use Rattle.payroll_records.specs.declared.record.Record.{Record}
+use Rattle.payroll_records.specs.declared.when.When.{When}
+use Rattle.payroll_records.specs.declared.when.When.TheVariants as when
+use Rattle.script_lang.specs.Commands as asked
+use Rattle.script_lang.specs.Commands.{Asked}
+use Rattle.script_lang.specs.Fields as field
+use Rattle.script_lang.specs.Fields.{Field, IsGood, fault_of, time_field, record_fields}
+use Rattle.script_lang.specs.Words.{words_of, is_file}
+use Rattle.script_lang.specs.declared.fault.LineFault.{LineFault}
+use Rattle.script_lang.specs.declared.fault.LineFault.TheVariants as fault
+
+-- the most bytes of a line
+abbrev pub IsShort : Text → Type 0
+IsShort line = length line ≤ 65536
+
+-- no words, or a comment: its first word begins with `#`
+abbrev pub IsSilent : List Text → Type 0
+IsSilent [] = ⊤
+IsSilent (word ∷ words) = slice_index word 0 ≡ 35
+
+-- ---- what a line asks for
+
+abbrev pub IsDayWord : Text → Day → Type 0
+IsDayWord word d = IsDayText word d.year d.month d.day
+
+-- plan DAY PLANFILE LIMITFILE
+pub record IsPlan (words : List Text) (d : Day) (plan limits : Text) : Type 0 where
+  pub word : Text
+  pub words_are : words ≡ codes "plan" ∷ word ∷ plan ∷ limits ∷ []
+  pub plan_is : IsTrue (is_file plan)
+  pub limits_is : IsTrue (is_file limits)
+  pub day_is : IsDayWord word d
+
+-- drop DAY
+pub record IsDrop (words : List Text) (d : Day) : Type 0 where
+  pub word : Text
+  pub words_are : words ≡ codes "drop" ∷ word ∷ []
+  pub day_is : IsDayWord word d
+
+-- add EMP MONTH DAY NAME=VALUE .. and change EMP MONTH DAY NAME=VALUE ..: the day lies in the month, and the record's values
+-- are those of at most 256 words, in order of their names
+pub record IsOfRecord (command : Text) (words : List Text) (r : Record) : Type 0 where
+  pub month_word : Text
+  pub day_word : Text
+  pub value_words : List Text
+  pub words_are : words ≡ command ∷ r.employee ∷ month_word ∷ day_word ∷ value_words
+  pub employee_is : IsTrue (is_employee r.employee)
+  pub month_is : IsMonthText month_word r.day.year r.day.month
+  pub day_is : IsDayWord day_word r.day
+  pub values_are : AreValueWords value_words r.values
+
+-- a month is YYYY-MM, a day YYYY-MM-DD
+abbrev pub IsTime : Text → When → Type 0
+IsTime word (when.Month m) = IsMonthText word m.year m.month
+IsTime word (when.Day d) = IsDayWord word d
+
+-- withdraw EMP WHEN
+pub record IsWithdraw (words : List Text) (who : Text) (time : When) : Type 0 where
+  pub word : Text
+  pub words_are : words ≡ codes "withdraw" ∷ who ∷ word ∷ []
+  pub employee_is : IsTrue (is_employee who)
+  pub time_is : IsTime word time
+
+-- load FILE
+pub record IsLoad (words : List Text) (file : Text) : Type 0 where
+  pub words_are : words ≡ codes "load" ∷ file ∷ []
+  pub file_is : IsTrue (is_file file)
+
+-- what the words ask for
+abbrev pub Ask : List Text → Asked → Type 0
+Ask words asked.nothing = IsSilent words
+Ask words (asked.plan d plan limits) = IsPlan words d plan limits
+Ask words (asked.drop d) = IsDrop words d
+Ask words (asked.add r) = IsOfRecord (codes "add") words r
+Ask words (asked.change r) = IsOfRecord (codes "change") words r
+Ask words (asked.withdraw who time) = IsWithdraw words who time
+Ask words (asked.load file) = IsLoad words file
+Ask words asked.report = words ≡ codes "report" ∷ []
+Ask words asked.work = words ≡ codes "work" ∷ []
+
+-- what a line asks for
+pub record IsLine (line : Text) (what : Asked) : Type 0 where
+  pub short : IsShort line
+  pub ask : Ask (words_of line) what
+
+-- ---- why a line is refused
+
+-- the first words of commands
+pub data Verb : Type 0 where
+  plan : Verb
+  drop : Verb
+  add : Verb
+  change : Verb
+  withdraw : Verb
+  load : Verb
+  report : Verb
+  work : Verb
+
+abbrev pub text_of : Verb → Text
+text_of plan = codes "plan"
+text_of drop = codes "drop"
+text_of add = codes "add"
+text_of change = codes "change"
+text_of withdraw = codes "withdraw"
+text_of load = codes "load"
+text_of report = codes "report"
+text_of work = codes "work"
+
+-- an employee, a month, a day, and at most 256 value words
+abbrev pub takes_record : List Text → Bool
+takes_record (employee ∷ month ∷ day ∷ values) = nat_le (length values) 256
+takes_record _ = false
+
+-- whether a command takes these words behind its first: as many as these, and files where it names files
+abbrev pub takes : Verb → List Text → Bool
+takes plan (day ∷ file ∷ limits ∷ []) = is_file file && is_file limits
+takes drop (day ∷ []) = true
+takes add words = takes_record words
+takes change words = takes_record words
+takes withdraw (employee ∷ time ∷ []) = true
+takes load (file ∷ []) = is_file file
+takes report [] = true
+takes work [] = true
+takes _ _ = false
+
+-- what is asked of the words behind the first, from the left
+abbrev pub fields_of : Verb → List Text → List Field
+fields_of plan (day ∷ file ∷ limits ∷ []) = field.day day ∷ []
+fields_of drop (day ∷ []) = field.day day ∷ []
+fields_of add words = record_fields words
+fields_of change words = record_fields words
+fields_of withdraw (employee ∷ time ∷ []) = field.employee employee ∷ time_field time ∷ []
+fields_of _ _ = []
+
+-- there is a first word, no comment, and it is that of no command
+pub record HaveNoVerb (words : List Text) : Type 0 where
+  pub said : IsSilent words → ⊥
+  pub unknown : (verb : Verb) (rest : List Text) → words ≢ text_of verb ∷ rest
+
+-- the command of the first word does not take the others
+pub record AreTakenByNone (words : List Text) : Type 0 where
+  pub verb : Verb
+  pub rest : List Text
+  pub words_are : words ≡ text_of verb ∷ rest
+  pub wrong : takes verb rest ≡ false
+
+-- the leftmost field that is not good has this fault
+pub record IsFirstFault (fields : List Field) (f : LineFault) : Type 0 where
+  pub before : List Field
+  pub field : Field
+  pub after : List Field
+  pub parts : fields ≡ before ++ (field ∷ after)
+  pub good : AllByRecursion IsGood before
+  pub broken : IsGood field → ⊥
+  pub fault_is : f ≡ fault_of field
+
+-- the command of the first word takes the others, and the first fault among them is this
+pub record HaveFirstFault (words : List Text) (f : LineFault) : Type 0 where
+  pub verb : Verb
+  pub rest : List Text
+  pub words_are : words ≡ text_of verb ∷ rest
+  pub taken : IsTrue (takes verb rest)
+  pub first : IsFirstFault (fields_of verb rest) f
+
+-- what is wrong with the words; want of memory is free
+abbrev pub AreWrong : List Text → LineFault → Type 0
+AreWrong words fault.LineLong = ⊥
+AreWrong words fault.Command = HaveNoVerb words
+AreWrong words fault.Words = AreTakenByNone words
+AreWrong words (fault.Memory error) = ⊤
+AreWrong words other = HaveFirstFault words other
+
+-- why a line is refused; want of memory is free
+abbrev pub IsRefused : Text → LineFault → Type 0
+IsRefused line fault.LineLong = 65536 < length line
+IsRefused line (fault.Memory error) = ⊤
+IsRefused line other = IsShort line × AreWrong (words_of line) other
+
+-- what a line says: what it asks for, or why it is refused; want of memory is nothing that a line says
+abbrev pub LineSays : Text → Result Asked LineFault → Type 0
+LineSays line (Ok what) = IsLine line what
+LineSays line (Err (fault.Memory error)) = ⊥
+LineSays line (Err other) = IsRefused line other
+
+-- a line says one thing
+pub record HasOneAnswer (line : Text) : Type 0 where
+  pub answer : Result Asked LineFault
+  pub says : LineSays line answer
+  pub alone : (other : Result Asked LineFault) → LineSays line other → other ≡ answer

@@ -1,0 +1,36 @@
+// Commands of a script.
+use payroll_records::{Day, Employee, Record, When};
+
+/// What a line of a script asks for.
+#[derive(Debug, Drop)]
+pub enum Command {
+    /// No words, or a comment.
+    Nothing,
+    /// `plan DAY PLANFILE LIMITFILE`: from this day on, the plan and the limits of these files.
+    Plan {
+        day: Day,
+        plan: String,
+        limits: String,
+    },
+    /// `drop DAY`: no longer the plan that was put on this day.
+    Drop {
+        day: Day,
+    },
+    /// `add EMP MONTH DAY NAME=VALUE ..`: one more pay run.
+    Add(Record),
+    /// `change EMP MONTH DAY NAME=VALUE ..`: this pay run in place of the one with its key.
+    Change(Record),
+    /// `withdraw EMP WHEN`: no longer the pay run of this employee in a month or on a day.
+    Withdraw {
+        employee: Employee,
+        when: When,
+    },
+    /// `load FILE`: the pay runs of a table.
+    Load {
+        file: String,
+    },
+    /// `report`
+    Report,
+    /// `work`
+    Work,
+}

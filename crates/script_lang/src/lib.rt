@@ -1,0 +1,12 @@
+//! The lines of a script: what a line asks for, or why it is refused.
+#![tactic(auto)]
+
+mod command;
+mod fault;
+mod line;
+mod run;
+mod words;
+
+pub use command::Command;
+pub use fault::LineFault;
+pub use line::{each_line_has_one_answer, read_line};

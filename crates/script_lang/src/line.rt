@@ -1,0 +1,131 @@
+// A line of a script.
+ghost use Rattle.std.specs.Prelude.{◌≡◌, ◌↔◌, ◌<◌, ◌∷◌, codes, IfErr, IfOk, IsTrue, MatchResult, length, slice_index};
+ghost use Rattle.payroll_records.specs.Tables.{Text};
+ghost use Rattle.script_lang.specs.Commands.{asked_of};
+ghost use Rattle.script_lang.specs.Lines as lines;
+ghost use Rattle.script_lang.specs.Lines.{Ask, HasOneAnswer, IsLine, IsRefused};
+ghost use Rattle.script_lang.specs.Views.{Answers, IsFaultOf, texts};
+
+use crate::run::{read_day, read_employee, read_record, read_when};
+use crate::words::{Verb, file, read_verb, words};
+use crate::{Command, LineFault};
+use std::alloc::Global;
+
+/// The most bytes of a line.
+const LONGEST: usize = 65_536;
+
+/// What a line asks for, of at most 65,536 bytes without its line end. A line is refused by its length, then by its first
+/// word, then by the number of its words and the names of files, then by the leftmost word with a fault.
+pub fn read_line(alloc: Global, line: &[u8]) -> Result<Command, LineFault>
+    ensures ok { IfOk result (λ command. IsLine line.now (asked_of command)) }
+    ensures err { IfErr result (IsRefused line.now) }
+{
+    if line.len() > LONGEST {
+        return Err(LineFault::LineLong);
+    }
+    let words = words(alloc, line)?;
+    read_words(alloc, words.as_slice())
+}
+
+/// A line has one answer: what it asks for or why it is refused, and not both.
+pub fn each_line_has_one_answer()
+    ensures { (line : Text) → HasOneAnswer line }
+{}
+
+/// What the words of a line ask for.
+fn read_words(alloc: Global, words: &[&[u8]]) -> Result<Command, LineFault>
+    ensures { Answers (texts words.now) result }
+{
+    let [first, rest @ ..] = words else {
+        return Ok(Command::Nothing);
+    };
+    if is_comment(first) {
+        return Ok(Command::Nothing);
+    }
+    match read_verb(first).ok_or(LineFault::Command)? {
+        Verb::Plan => read_plan(alloc, rest),
+        Verb::Drop => read_drop(rest),
+        Verb::Add => Ok(Command::Add(read_record(alloc, rest)?)),
+        Verb::Change => Ok(Command::Change(read_record(alloc, rest)?)),
+        Verb::Withdraw => read_withdraw(rest),
+        Verb::Load => read_load(alloc, rest),
+        Verb::Report => read_alone(rest, Command::Report),
+        Verb::Work => read_alone(rest, Command::Work),
+    }
+}
+
+/// Whether a line that begins with this word is a comment.
+fn is_comment(word: &[u8]) -> bool
+    ensures { IsTrue result ↔ (slice_index word.now 0 ≡ 35) }
+{
+    word.first() == Some(&b'#')
+}
+
+/// The words behind `plan`: `DAY PLANFILE LIMITFILE`.
+fn read_plan(alloc: Global, rest: &[&[u8]]) -> Result<Command, LineFault>
+    ensures ok { IfOk result (λ command. Ask (codes "plan" ∷ texts rest.now) (asked_of command)) }
+    ensures err { IfErr result (IsFaultOf lines.plan (texts rest.now)) }
+{
+    let [day, plan, limits] = rest else {
+        return Err(LineFault::Words);
+    };
+    let plan = file(plan).ok_or(LineFault::Words)?;
+    let limits = file(limits).ok_or(LineFault::Words)?;
+    Ok(Command::Plan {
+        day: read_day(day)?,
+        plan: String::from_str(alloc, plan)?,
+        limits: String::from_str(alloc, limits)?,
+    })
+}
+
+/// The word behind `drop`: `DAY`.
+fn read_drop(rest: &[&[u8]]) -> Result<Command, LineFault>
+    ensures ok { IfOk result (λ command. Ask (codes "drop" ∷ texts rest.now) (asked_of command)) }
+    ensures err { IfErr result (IsFaultOf lines.drop (texts rest.now)) }
+{
+    let [day] = rest else {
+        return Err(LineFault::Words);
+    };
+    Ok(Command::Drop {
+        day: read_day(day)?,
+    })
+}
+
+/// The words behind `withdraw`: `EMP WHEN`.
+fn read_withdraw(rest: &[&[u8]]) -> Result<Command, LineFault>
+    ensures ok { IfOk result (λ command. Ask (codes "withdraw" ∷ texts rest.now) (asked_of command)) }
+    ensures err { IfErr result (IsFaultOf lines.withdraw (texts rest.now)) }
+{
+    let [employee, when] = rest else {
+        return Err(LineFault::Words);
+    };
+    Ok(Command::Withdraw {
+        employee: read_employee(employee)?,
+        when: read_when(when)?,
+    })
+}
+
+/// The word behind `load`: `FILE`.
+fn read_load(alloc: Global, rest: &[&[u8]]) -> Result<Command, LineFault>
+    ensures ok { IfOk result (λ command. Ask (codes "load" ∷ texts rest.now) (asked_of command)) }
+    ensures err { IfErr result (IsFaultOf lines.load (texts rest.now)) }
+{
+    let [name] = rest else {
+        return Err(LineFault::Words);
+    };
+    let name = file(name).ok_or(LineFault::Words)?;
+    Ok(Command::Load {
+        file: String::from_str(alloc, name)?,
+    })
+}
+
+/// A command of one word.
+fn read_alone(rest: &[&[u8]], command: Command) -> Result<Command, LineFault>
+    ensures { MatchResult result (λ c. (length rest.now ≡ 0) × (c ≡ command))
+        (λ f. (0 < length rest.now) × (f ≡ LineFault.Words)) }
+{
+    if !rest.is_empty() {
+        return Err(LineFault::Words);
+    }
+    Ok(command)
+}

@@ -1,0 +1,85 @@
+// The words of a line.
+ghost use Rattle.std.specs.Prelude.{◌≡◌, ◌≢◌, false, IfOk, IsTrue, MatchOption};
+ghost use Rattle.std.specs.List.{list_all};
+ghost use Rattle.script_lang.specs.Lines as lines;
+ghost use Rattle.script_lang.specs.Lines.{text_of};
+ghost use Rattle.script_lang.specs.Views.{texts, verb_of};
+ghost use Rattle.script_lang.specs.Words.{is_blank, is_file, is_visible, words_of};
+
+use std::alloc::{AllocError, Global};
+use std::str;
+
+/// The most bytes of a file's name.
+const LONGEST_FILE: usize = 255;
+
+/// The first word of a command.
+#[derive(Clone, Copy)]
+pub(crate) enum Verb {
+    Plan,
+    Drop,
+    Add,
+    Change,
+    Withdraw,
+    Load,
+    Report,
+    Work,
+}
+
+/// The words of a line.
+pub(crate) fn words(alloc: Global, line: &[u8]) -> Result<Vec<&[u8]>, AllocError>
+    ensures { IfOk result (λ words. texts words.items ≡ words_of line.now) }
+{
+    line.split(|b| is_blank(*b))
+        .filter(|part| !part.is_empty())
+        .collect(alloc)
+}
+
+/// A space or a tab.
+fn is_blank(byte: u8) -> bool
+    ensures { result ≡ is_blank byte }
+{
+    byte == b' ' || byte == b'\t'
+}
+
+/// The command that a first word is of.
+pub(crate) fn read_verb(word: &[u8]) -> Option<Verb>
+    ensures { MatchOption result ((verb : lines.Verb) → word.now ≢ text_of verb)
+        (λ verb. word.now ≡ text_of (verb_of verb)) }
+{
+    match word {
+        b"plan" => Some(Verb::Plan),
+        b"drop" => Some(Verb::Drop),
+        b"add" => Some(Verb::Add),
+        b"change" => Some(Verb::Change),
+        b"withdraw" => Some(Verb::Withdraw),
+        b"load" => Some(Verb::Load),
+        b"report" => Some(Verb::Report),
+        b"work" => Some(Verb::Work),
+        _ => None,
+    }
+}
+
+/// The file that a word names: at most 255 bytes from 0x21 to 0x7E.
+pub(crate) fn file(word: &[u8]) -> Option<&str>
+    ensures { MatchOption result (is_file word.now ≡ false)
+        (λ name. (name.now ≡ word.now) × IsTrue (is_file word.now)) }
+{
+    if !is_file(word) {
+        return None;
+    }
+    str::from_utf8(word).ok()
+}
+
+/// Whether a word names a file.
+fn is_file(word: &[u8]) -> bool
+    ensures { result ≡ is_file word.now }
+{
+    word.len() <= LONGEST_FILE && has_visible_bytes(word)
+}
+
+/// Whether all bytes of a word are visible ASCII characters.
+fn has_visible_bytes(word: &[u8]) -> bool
+    ensures { result ≡ list_all is_visible word.now }
+{
+    word.iter().all(|b| b.is_ascii_graphic())
+}
