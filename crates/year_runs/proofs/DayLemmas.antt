@@ -137,7 +137,7 @@ number_high d =
 
 
 
-abbrev IsIn : ℕ → Record → Type 0
+abbrev pub IsIn : ℕ → Record → Type 0
 IsIn year r = r.day.year ≡ year
 
 span : (year : ℕ) (k : Day) (rs : List Record) → k.year ≡ year → AreAbove day_cmp record_day k rs → IsRising day_cmp record_day rs → AllByRecursion (IsIn year) rs → length rs + number k ≤ 397

@@ -1,7 +1,10 @@
 mod AdmissionLemmas
 mod ChainLemmas
 mod DayLemmas
+mod JobLemmas
+pub mod Laws
 mod OldLemmas
+mod RecordLemmas
 mod RowLemmas
 mod RunLemmas
 mod YearLemmas

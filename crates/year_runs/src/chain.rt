@@ -35,16 +35,16 @@ pub struct Old<'a> {
 
 /// The inputs and outputs of a run that has run.
 #[derive(Clone, Copy)]
-struct OldJob<'a> {
-    inputs: &'a Items<Dec>,
-    outputs: &'a Items<NamedValue>,
+pub(crate) struct OldJob<'a> {
+    pub(crate) inputs: &'a Items<Dec>,
+    pub(crate) outputs: &'a Items<NamedValue>,
 }
 
 /// A run's outcome, and the work that it took.
 #[derive(Drop)]
-struct Ran {
-    outcome: Outcome,
-    work: Work,
+pub(crate) struct Ran {
+    pub(crate) outcome: Outcome,
+    pub(crate) work: Work,
 }
 
 /// A year's outcomes computed for an edit, and the work that it took.

@@ -1,5 +1,5 @@
 //! One run of a plan: its inputs and its outputs.
-ghost use Rattle.std.specs.Prelude.{◌≡◌, ◌≤◌, ◌+◌, All, IfOk, OnErr, length, map, [], vec_capacity};
+ghost use Rattle.std.specs.Prelude.{◌≡◌, ◌≤◌, ◌+◌, All, IfOk, OnErr, length, map, [], vec_len, vec_capacity};
 ghost use Rattle.std.specs.List.{AllByRecursion};
 ghost use Rattle.pap_tree.specs.Declarations.{declaration_of};
 ghost use Rattle.pap_types.specs.Meaning.{bound_of};
@@ -39,11 +39,13 @@ pub(crate) fn filled(
     ensures { IfOk result (Fills plan.now (filled plan.now item.now.values earlier.now)) }
 {
     says_what_it_admits(plan);
-    let filled = fill(alloc, plan.spec(), item, earlier)?;
-    if let Filled::Inputs(inputs) = &filled {
-        each_is_kept(inputs.as_slice());
+    match fill(alloc, plan.spec(), item, earlier)? {
+        Filled::Inputs(inputs) => {
+            each_is_kept(inputs.as_slice());
+            Ok(Filled::Inputs(inputs))
+        }
+        Filled::State(why) => Ok(Filled::State(why)),
     }
-    Ok(filled)
 }
 
 /// The texts of a plan were accepted, and so no run takes more steps.
@@ -92,15 +94,14 @@ pub(crate) fn run<L: Ledger>(
 fn name_values(declared: &[Declared], values: &[Dec], outputs: &mut Vec<NamedValue>)
     requires each { length values.now ≡ length declared.now }
     requires empty { outputs.old.items ≡ [] }
+    requires none { vec_len outputs.old ≡ 0 }
     requires room { length declared.now ≤ vec_capacity outputs.old }
     ensures { outputs.new.items ≡ named_values (map declaration_of declared.now) values.now }
 {
     for (at, output) in declared.iter().enumerate() {
-        outputs
-            .push(NamedValue {
-                name: output.name,
-                value: values[at],
-            })
-            .unwrap();
+        outputs.push_reserved(NamedValue {
+            name: output.name,
+            value: values[at],
+        });
     }
 }
