@@ -3,6 +3,7 @@ mod ChainLemmas
 mod DayLemmas
 mod JobLemmas
 pub mod Laws
+mod PickLemmas
 mod OldLemmas
 mod RecordLemmas
 mod RowLemmas

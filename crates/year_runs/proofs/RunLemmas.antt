@@ -1,9 +1,9 @@
 -- Laws of one run: its inputs, and its outputs by name.
-use Rattle.std.proofs.Common.{◌≡◌, ℕ, ◌+◌, ◌<◌, ◌≤◌, List, [], ◌∷◌, ◌++◌, length, map, take, get_or, refl, sym, ap, subst, ◌∙◌, arith}
+use Rattle.std.proofs.Common.{◌≡◌, ℕ, ◌+◌, ◌<◌, ◌≤◌, List, [], ◌∷◌, ◌++◌, length, map, take, drop, get_or, refl, sym, ap, subst, ◌∙◌, arith}
 use Rattle.std.specs.Prelude.{Option, Some, None, All, ⊤}
 use Rattle.std.specs.List.{AllByRecursion, filter_map, cons_option}
 use Rattle.std.specs.Option.{option_map, option_map_or}
-use Rattle.std.proofs.lemmas.List.{take_more, map-append, length-map, length-take}
+use Rattle.std.proofs.lemmas.List.{take_more, map-append, length-map, length-take, take_all, drop_all, append-nil}
 use Rattle.scaled_decimal.specs.Decimals.{Decimal}
 use Rattle.scaled_decimal.specs.Limits.{IsKept}
 use Rattle.pap_tree.specs.declared.declaration.Declared.{Declared}
@@ -70,7 +70,7 @@ named_append [] (x ∷ vs) d v e = absurd (omega (arith, e))
 named_append (c ∷ ds) [] d v e = absurd (omega (arith, e))
 named_append (c ∷ ds) (x ∷ vs) d v e = ap (λ t. record { name = c.name; value = x } ∷ t) (named_append ds vs d v (omega arith))
 
-abbrev named : List ℕ → Decimal → NamedValue
+abbrev pub named : List ℕ → Decimal → NamedValue
 named name v = record { name = name; value = v }
 
 pub named_more : (outputs : List Declared) (values : List Decimal) (i : ℕ) (o : Declared) (v : Decimal) → length values ≡ length outputs → o ≡ get_or outputs i o → i < length outputs → v ≡ get_or values i v →
@@ -96,6 +96,11 @@ outputs_are p inputs values e = sym (ap (λ o. option_map_or (named_values (flow
 cost_is : (p : Seen) (inputs : List Decimal) → cost_of (flowchart p) inputs ≡ run_cost p inputs
 unfolding run_cost
 cost_is p inputs = refl
+
+-- a list that was written in its whole length
+pub written_whole : (n : ℕ) (out items : List Decimal) → length out ≡ n → length items ≡ n → take n (out ++ drop (length out) items) ≡ out
+written_whole n out items h k =
+    ap (λ t. take n (out ++ t)) (drop_all (length out) items (omega arith)) ∙ ap (take n) (append-nil out) ∙ take_all n out (omega arith)
 
 -- what a run of the plan gives
 pub has_run : (p : Seen) (inputs values : List Decimal) (f : Finished) (most : ℕ) → outputs_of (flowchart p) inputs ≡ Some values → AreOutputs (meaning p).outputs values → f.cost ≡ cost_of (flowchart p) inputs → f.cost ≤ most → most ≤ most_steps →

@@ -1,6 +1,8 @@
 -- A year with its new records and what was computed for them.
-use Rattle.std.proofs.Common.{◌≡◌, ◌≤◌, List, [], ◌∷◌, length, map, refl, sym, ap, subst, ◌∙◌, arith}
+use Rattle.std.proofs.Common.{◌≡◌, ℕ, ◌≤◌, List, [], ◌∷◌, length, map, refl, sym, ap, subst, ◌∙◌, arith}
+use Rattle.std.specs.Prelude.{Result, IfOk}
 use Rattle.std.specs.List.{AllByRecursion}
+use Rattle.std.specs.Borrow.{Bor}
 use Rattle.rising_lists.specs.Keyed.{IsRising}
 use Rattle.payroll_records.specs.declared.record.Record.{Record}
 use Rattle.payroll_records.specs.Orders.{day_cmp}
@@ -9,10 +11,13 @@ use Rattle.pap_plan.specs.Plans.{Seen}
 use Rattle.year_runs.specs.declared.year.Year.{Year}
 use Rattle.year_runs.specs.declared.year.YearKey.{YearKey}
 use Rattle.year_runs.specs.declared.chain.Recalculated.{Recalculated}
-use Rattle.year_runs.specs.Records.{record_day}
-use Rattle.year_runs.specs.Kept.{IsBounded, most_runs}
+use Rattle.year_runs.specs.Records.{record_day, records_of}
+use Rattle.year_runs.specs.Rows.{year_rows}
+use Rattle.year_runs.specs.Jobs.{new_jobs, total_cost, Counts}
+use Rattle.year_runs.specs.Kept.{IsBounded, job_by, most_runs}
 use Rattle.year_runs.specs.Years.{IsOwn, IsYear}
-use Rattle.year_runs.specs.YearClauses.{IsYearEdit, IsComputed}
+use Rattle.year_runs.specs.YearClauses.{IsYearEdit, IsComputed, edit_cost}
+use Rattle.year_runs.specs.ChainClauses.{IsRecalculated}
 use Rattle.year_runs.proofs.DayLemmas.{year_few, IsIn}
 
 own_days : (key : YearKey) (rs : List Record) → AllByRecursion (IsOwn key) rs → AllByRecursion (IsIn key.year) rs
@@ -43,3 +48,15 @@ year_edit plans old new records done rising own key are outcomes is =
       few = omega (arith, is.few);
       cheap = omega (arith, is.cheap);
     }
+
+-- the year computed with these records, from what the walk along references to them gives
+module _ {E : Type 0} (plans : List (Entry Seen)) (year : Year) (old : List Record) (items : List (Bor Record)) (records : List Record) (r : Result Recalculated E) (same : old ≡ year.records.items) (are : records_of items ≡ records) where
+  pub computed_done : IfOk r (IsRecalculated (pick plans) (job_by (pick plans) old) (records_of items)) → IfOk r (IsComputed plans year records)
+  computed_done h =
+      subst (λ t. IfOk r (IsRecalculated (pick plans) (job_by (pick plans) t) records)) same
+      (subst (λ t. IfOk r (IsRecalculated (pick plans) (job_by (pick plans) old) t)) are h)
+
+  pub computed_counted : (began now : ℕ) → Counts r began now (total_cost (new_jobs (job_by (pick plans) old) (year_rows (pick plans) (records_of items)))) → Counts r began now (edit_cost plans year records)
+  computed_counted began now h =
+      subst (λ t. Counts r began now (total_cost (new_jobs (job_by (pick plans) t) (year_rows (pick plans) records)))) same
+      (subst (λ t. Counts r began now (total_cost (new_jobs (job_by (pick plans) old) (year_rows (pick plans) t)))) are h)

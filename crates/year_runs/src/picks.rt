@@ -84,7 +84,7 @@ impl<'a> Picks<'a> {
 
 /// Whether an edit at a day decides the plan of another day, whose plan is now this one.
 fn moves(edit: Day, day: Day, now: Option<(Day, &Plan)>) -> bool
-    ensures { result ≡ (serves edit day && is_by (option_map entry_picked now) edit) }
+    ensures { result ≡ (serves edit day && is_by (option_map entry_picked now.entry) edit) }
 {
     if edit.year != day.year || day < edit {
         return false;

@@ -3,7 +3,7 @@ use Rattle.std.proofs.lemmas.List.{length-map}
 use Rattle.year_runs.specs.Records.{records_of, put_run}
 use Rattle.year_runs.specs.Years.{IsOwn}
 use Rattle.year_runs.proofs.RecordLemmas.{now_of, rising_put, all_put}
-use Rattle.year_runs.proofs.YearLemmas.{own_few}
+use Rattle.year_runs.proofs.YearLemmas.{own_few, computed_done, computed_counted}
 use Rattle.year_runs.proofs.year.computed_with.Goals as goal
 
 pub recalculate-requires-clause-few : goal.recalculate-requires-clause-few
@@ -18,9 +18,9 @@ recalculate-requires-clause-few g c =
 pub returns-clause-done : goal.returns-clause-done
 returns-clause-done g c =
     let runs : records_of c.as_slice-2.result.now ≡ put_run c.args.item.now c.args.year.now.records.items = ap records_of c.as_slice-2.ensures.value ∙ c.in_ok-runs.ensures ∙ ap (put_run c.args.item.now) c.as_slice.ensures.value in
-    rw (← runs, ← c.old_of.ensures.records) c.recalculate.ensures.done
+    computed_done c.args.plans.now c.args.year.now c.old_of.result.records.now c.as_slice-2.result.now (put_run c.args.item.now c.args.year.now.records.items) c.recalculate.result c.old_of.ensures.records runs c.recalculate.ensures.done
 
 pub returns-clause-counted : goal.returns-clause-counted
 returns-clause-counted g c =
     let runs : records_of c.as_slice-2.result.now ≡ put_run c.args.item.now c.args.year.now.records.items = ap records_of c.as_slice-2.ensures.value ∙ c.in_ok-runs.ensures ∙ ap (put_run c.args.item.now) c.as_slice.ensures.value in
-    rw (← runs, ← c.old_of.ensures.records) c.recalculate.ensures.counted
+    computed_counted c.args.plans.now c.args.year.now c.old_of.result.records.now c.as_slice-2.result.now (put_run c.args.item.now c.args.year.now.records.items) c.recalculate.result c.old_of.ensures.records runs c.args.steps.now c.recalculate.new.steps c.recalculate.ensures.counted
