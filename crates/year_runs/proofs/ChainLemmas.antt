@@ -1,5 +1,5 @@
 -- One run more on the walk along a year.
-use Rattle.std.proofs.Common.{◌≡◌, ℕ, ◌+◌, ◌*◌, ◌<◌, ◌≤◌, List, [], ◌∷◌, ◌++◌, length, map, Option, refl, sym, ap, subst, ◌∙◌, arith}
+use Rattle.std.proofs.Common.{◌≡◌, ℕ, ◌+◌, ◌*◌, ◌<◌, ◌≤◌, List, [], ◌∷◌, ◌++◌, length, map, Option, sym, ap, subst, ◌∙◌, arith}
 use Rattle.std.proofs.Common.{take, drop, get_or, Result, Err}
 use Rattle.std.specs.List.{AllByRecursion}
 use Rattle.std.specs.Borrow.{Bor}
@@ -11,7 +11,7 @@ use Rattle.carry_bindings.specs.declared.carried.Earlier.{Earlier}
 use Rattle.year_runs.specs.declared.outcome.Outcome.{Outcome}
 use Rattle.year_runs.specs.declared.outcome.Work.{Work}
 use Rattle.year_runs.specs.declared.chain.Ran.{Ran}
-use Rattle.year_runs.specs.Rows.{Planned, Job, row_of, rows, year_rows, earlier_of, outputs_in}
+use Rattle.year_runs.specs.Rows.{Planned, Job, row_of, year_rows, earlier_of, outputs_in}
 use Rattle.year_runs.specs.Records.{records_of}
 use Rattle.year_runs.specs.Jobs.{new_job, new_jobs, total_cost, Counts}
 use Rattle.year_runs.specs.Kept.{kept, IsBounded}

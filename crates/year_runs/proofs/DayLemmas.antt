@@ -2,12 +2,10 @@
 use mathlib.Core.HLevel.{is_prop→PathP}
 use native.Mathlib.Bridge.{le_prop}
 use Rattle.std.proofs.Math.Dec.{T_prop}
-use Rattle.std.proofs.Common.{◌≡◌, ℕ, zero, suc, ◌+◌, ◌<◌, ◌≤◌, ◌-◌, List, [], ◌∷◌, length, Bool, true, false, refl, sym, ap, subst, ◌∙◌, arith, pos}
-use Rattle.std.specs.Prelude.{if◌then◌else◌, ◌==◌, ◌||◌, unsigned_abs}
+use Rattle.std.proofs.Common.{◌≡◌, ℕ, zero, suc, ◌+◌, ◌<◌, ◌≤◌, ◌-◌, List, [], ◌∷◌, length, Bool, true, false, refl, sym, ap, ◌∙◌, arith, pos}
+use Rattle.std.specs.Prelude.{if◌then◌else◌, ◌==◌, ◌||◌}
 use Rattle.std.specs.List.{AllByRecursion}
-use Rattle.std.specs.Ordering.{nat_cmp, ordering_then}
-use Rattle.std.specs.declared.cmp.Ordering.{Ordering}
-use Rattle.std.specs.declared.cmp.Ordering.TheVariants.{Less, Equal, Greater}
+use Rattle.std.specs.declared.cmp.Ordering.TheVariants.{Less, Equal}
 use Rattle.std.proofs.lemmas.Bool.Decides.{nat_tests}
 use Rattle.std.proofs.lemmas.Int.{ints}
 use Rattle.payroll_records.specs.declared.day.Day.{Day}
@@ -16,7 +14,7 @@ use Rattle.rising_lists.specs.Keyed.{AreAbove, IsRising}
 use Rattle.payroll_records.specs.Days.{IsDay}
 use Rattle.payroll_records.specs.Orders.{day_cmp}
 use Rattle.year_runs.specs.Records.{record_day}
-use Rattle.jiff.specs.Words.{days_in_month, is_leap_year}
+use Rattle.jiff.specs.Words.{is_leap_year}
 
 IsDay-prop : (y m d : ℕ) → IsProp (IsDay y m d)
 IsDay-prop y m d = hlevel (le_prop, T_prop)
@@ -116,7 +114,7 @@ less_number a b y e =
 
 -- and lies from 32 to 397
 number_low : (d : Day) → 32 ≤ number d
-number_low d = 
+number_low d =
     let n = numbered d in
     let k = later 0 d.month 0 d.day (λ z. absurd (omega (arith, n.from))) (omega arith) n.first in
     let more = before_more 1 (d.month - 1) in
@@ -133,9 +131,6 @@ number_high d =
     let more = more_before d.month (12 - d.month) in
     let there : days_before (d.month + suc (12 - d.month)) ≡ days_before 13 = ap days_before (omega (arith, n.to)) in
     omega (arith, n.last, more, there, whole_year)
-
-
-
 
 abbrev pub IsIn : ℕ → Record → Type 0
 IsIn year r = r.day.year ≡ year

@@ -1,5 +1,5 @@
 -- Whether the old job is the new one.
-use Rattle.std.proofs.Common.{◌≡◌, List, [], ◌∷◌, Bool, true, false, ◌&&◌, if◌then◌else◌, refl, sym, ap, subst, ◌∙◌}
+use Rattle.std.proofs.Common.{◌≡◌, List, [], ◌∷◌, Bool, true, false, ◌&&◌, if◌then◌else◌, refl, sym, ap, ◌∙◌}
 use Rattle.std.specs.Prelude.{Option, Some, None, nat_eq}
 use Rattle.std.specs.Bool.{Decides}
 use Rattle.std.specs.Cmp.{signed_Decides, unsigned_Decides}
@@ -33,9 +33,9 @@ and_false false b e = refl
 decimal_decides : (a b : Decimal) → Decides (same_decimal a b) (a ≡ b)
 decimal_decides a b = (
   λ e. let h = both (int_eq (numerator_of a) (numerator_of b)) (nat_eq (scale_of a) (scale_of b)) e in
-    let n = (signed_Decides (numerator_of a) (numerator_of b)).0 h.0 in
-    let s = (unsigned_Decides (scale_of a) (scale_of b)).0 h.1 in
-    λ i. (n i, s i),
+      let n = (signed_Decides (numerator_of a) (numerator_of b)).0 h.0 in
+      let s = (unsigned_Decides (scale_of a) (scale_of b)).0 h.1 in
+      λ i. (n i, s i),
   λ e. and_true (int_eq (numerator_of a) (numerator_of b)) (nat_eq (scale_of a) (scale_of b)) ((signed_Decides (numerator_of a) (numerator_of b)).1 (ap numerator_of e)) ((unsigned_Decides (scale_of a) (scale_of b)).1 (ap scale_of e)),
 )
 

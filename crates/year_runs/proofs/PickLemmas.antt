@@ -1,6 +1,6 @@
 -- Whether the plan of a day keeps its texts.
-use Rattle.std.proofs.Common.{◌≡◌, List, Bool, true, false, ◌&&◌, if◌then◌else◌, refl, sym, ap, subst, ◌∙◌}
-use Rattle.std.specs.Prelude.{Option, Some, None}
+use Rattle.std.proofs.Common.{◌≡◌, List, Bool, true, ◌&&◌, if◌then◌else◌, refl, sym, ap, subst}
+use Rattle.std.specs.Prelude.{Option, Some}
 use Rattle.std.proofs.lemmas.Slice.Eq.{bytes_eq-Decides}
 use Rattle.std.specs.Str.{bytes_eq}
 use Rattle.payroll_records.specs.declared.day.Day.{Day}

@@ -1,6 +1,6 @@
 -- Laws of one run: its inputs, and its outputs by name.
 use Rattle.std.proofs.Common.{◌≡◌, ℕ, ◌+◌, ◌<◌, ◌≤◌, List, [], ◌∷◌, ◌++◌, length, map, take, drop, get_or, refl, sym, ap, subst, ◌∙◌, arith}
-use Rattle.std.specs.Prelude.{Option, Some, None, All, ⊤}
+use Rattle.std.specs.Prelude.{Some, All}
 use Rattle.std.specs.List.{AllByRecursion, filter_map, cons_option}
 use Rattle.std.specs.Option.{option_map, option_map_or}
 use Rattle.std.proofs.lemmas.List.{take_more, map-append, length-map, length-take, take_all, drop_all, append-nil}
@@ -22,9 +22,9 @@ use Rattle.carry_bindings.specs.Conditions.{SuitsKind}
 use Rattle.carry_bindings.specs.Filling.{filled_by}
 use Rattle.pap_plan.specs.Acceptance.{Meaning, IsAccepted}
 use Rattle.pap_plan.specs.Inputs.{IsSlot, AreSlots}
-use Rattle.pap_plan.specs.Plans.{Seen, flowchart, meaning, Admits}
+use Rattle.pap_plan.specs.Plans.{Seen, flowchart, meaning}
 use Rattle.year_runs.specs.declared.run.Finished.{Finished}
-use Rattle.year_runs.specs.Runs.{slot_of, slot_with, slots_of, filled, named_values, run_outputs, run_cost}
+use Rattle.year_runs.specs.Runs.{slot_of, slot_with, filled, named_values, run_outputs, run_cost}
 use Rattle.year_runs.specs.ChainClauses.{HasRun, Fills, AdmitsFilled, most_steps}
 use Rattle.year_runs.proofs.AdmissionLemmas.{suits_kinds, filled_admitted}
 

@@ -1,5 +1,5 @@
 -- A year with its new records and what was computed for them.
-use Rattle.std.proofs.Common.{◌≡◌, ℕ, ◌≤◌, List, [], ◌∷◌, length, map, refl, sym, ap, subst, ◌∙◌, arith}
+use Rattle.std.proofs.Common.{◌≡◌, ℕ, ◌≤◌, List, [], ◌∷◌, length, sym, subst, ◌∙◌, arith}
 use Rattle.std.specs.Prelude.{Result, IfOk}
 use Rattle.std.specs.List.{AllByRecursion}
 use Rattle.std.specs.Borrow.{Bor}
@@ -14,8 +14,8 @@ use Rattle.year_runs.specs.declared.chain.Recalculated.{Recalculated}
 use Rattle.year_runs.specs.Records.{record_day, records_of}
 use Rattle.year_runs.specs.Rows.{year_rows}
 use Rattle.year_runs.specs.Jobs.{new_jobs, total_cost, Counts}
-use Rattle.year_runs.specs.Kept.{IsBounded, job_by, most_runs}
-use Rattle.year_runs.specs.Years.{IsOwn, IsYear}
+use Rattle.year_runs.specs.Kept.{IsBounded, job_by}
+use Rattle.year_runs.specs.Years.{IsOwn}
 use Rattle.year_runs.specs.YearClauses.{IsYearEdit, IsComputed, edit_cost}
 use Rattle.year_runs.specs.ChainClauses.{IsRecalculated}
 use Rattle.year_runs.proofs.DayLemmas.{year_few, IsIn}

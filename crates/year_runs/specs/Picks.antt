@@ -1,7 +1,6 @@
 -- The plan of each day before and after an edit of the calendar.
 use Rattle.std.specs.Prelude.{◌≡◌, List, Option, Some, None, Bool, true, false, ⊤}
 use Rattle.std.specs.Option.{option_map}
-use Rattle.payroll_records.specs.declared.day.Day.{Day}
 use Rattle.plan_calendar.specs.Picking.{Entry, plan_of, pick}
 use Rattle.plan_calendar.specs.Edits.{picked_after}
 use Rattle.pap_plan.specs.Acceptance.{Meaning}

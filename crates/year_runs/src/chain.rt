@@ -215,8 +215,8 @@ fn next_run<L: Ledger>(
 /// A run without inputs.
 fn idle(plan: Option<Day>, state: State) -> Ran
     ensures { result ≡ record {
-        outcome = record { plan = plan; inputs = None; state = state };
-        work = record { runs = 0; steps = 0 };
+      outcome = record { plan = plan; inputs = None; state = state };
+      work = record { runs = 0; steps = 0 };
     } }
 {
     Ran {

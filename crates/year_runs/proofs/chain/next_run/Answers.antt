@@ -1,5 +1,5 @@
-use Rattle.std.proofs.Common.{◌≡◌, Some, sym, ap, ◌∙◌, subst}
-use Rattle.carry_bindings.specs.declared.filling.Filled.TheVariants.{Inputs, State}
+use Rattle.std.proofs.Common.{◌≡◌, Some, sym, ◌∙◌, subst}
+use Rattle.carry_bindings.specs.declared.filling.Filled.TheVariants.{Inputs}
 use Rattle.year_runs.specs.Runs.{filled}
 use Rattle.year_runs.specs.Picks.{before, after, picked_entry, KnowsSame}
 use Rattle.year_runs.specs.ChainClauses.{old_jobs, AdmitsFilled}

@@ -1,4 +1,4 @@
-use Rattle.std.proofs.Common.{sym, ◌∙◌, ap, subst}
+use Rattle.std.proofs.Common.{sym, ◌∙◌, subst}
 use Rattle.std.specs.Prelude.{All}
 use Rattle.scaled_decimal.specs.Limits.{IsKept}
 use Rattle.carry_bindings.specs.declared.filling.Filled.TheVariants.{State}

@@ -16,7 +16,7 @@ recalculate-requires-clause-few g c =
     let left = without_run c.args.from rs in
     let item = c.args.item.now in
     let runs : records_of c.as_slice-2.result.now ≡ put_run item left =
-        ap records_of c.as_slice-2.ensures.value ∙ c.in_ok-put_reference.ensures ∙ ap (put_run item) (c.in_ok-runs.ensures ∙ ap (without_run c.args.from) c.as_slice.ensures.value) in
+    ap records_of c.as_slice-2.ensures.value ∙ c.in_ok-put_reference.ensures ∙ ap (put_run item) (c.in_ok-runs.ensures ∙ ap (without_run c.args.from) c.as_slice.ensures.value) in
     let rising = rising_without c.args.from rs c.requires.year.kept.rising in
     let own = all_without (IsOwn year.key) c.args.from rs c.requires.year.own in
     let few = own_few year.key (put_run item left) (rising_put item left rising) (all_put (IsOwn year.key) item left c.requires.own own) in
@@ -27,7 +27,7 @@ returns-clause-done g c =
     let left = without_run c.args.from c.args.year.now.records.items in
     let item = c.args.item.now in
     let runs : records_of c.as_slice-2.result.now ≡ put_run item left =
-        ap records_of c.as_slice-2.ensures.value ∙ c.in_ok-put_reference.ensures ∙ ap (put_run item) (c.in_ok-runs.ensures ∙ ap (without_run c.args.from) c.as_slice.ensures.value) in
+    ap records_of c.as_slice-2.ensures.value ∙ c.in_ok-put_reference.ensures ∙ ap (put_run item) (c.in_ok-runs.ensures ∙ ap (without_run c.args.from) c.as_slice.ensures.value) in
     computed_done c.args.plans.now c.args.year.now c.old_of.result.records.now c.as_slice-2.result.now (put_run item left) c.recalculate.result c.old_of.ensures.records runs c.recalculate.ensures.done
 
 pub returns-clause-counted : goal.returns-clause-counted
@@ -35,5 +35,5 @@ returns-clause-counted g c =
     let left = without_run c.args.from c.args.year.now.records.items in
     let item = c.args.item.now in
     let runs : records_of c.as_slice-2.result.now ≡ put_run item left =
-        ap records_of c.as_slice-2.ensures.value ∙ c.in_ok-put_reference.ensures ∙ ap (put_run item) (c.in_ok-runs.ensures ∙ ap (without_run c.args.from) c.as_slice.ensures.value) in
+    ap records_of c.as_slice-2.ensures.value ∙ c.in_ok-put_reference.ensures ∙ ap (put_run item) (c.in_ok-runs.ensures ∙ ap (without_run c.args.from) c.as_slice.ensures.value) in
     computed_counted c.args.plans.now c.args.year.now c.old_of.result.records.now c.as_slice-2.result.now (put_run item left) c.recalculate.result c.old_of.ensures.records runs c.args.steps.now c.recalculate.new.steps c.recalculate.ensures.counted
