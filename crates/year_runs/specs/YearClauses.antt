@@ -9,6 +9,8 @@ use Rattle.year_runs.specs.declared.chain.Recalculated.{Recalculated}
 use Rattle.year_runs.specs.Jobs.{total_cost, work_of}
 use Rattle.year_runs.specs.Kept.{most_runs, job_by}
 use Rattle.year_runs.specs.ChainClauses.{IsRecalculated, most_steps}
+use Rattle.year_runs.specs.declared.picks.Picks.{Picks}
+use Rattle.year_runs.specs.Picks.{before, after}
 use Rattle.year_runs.specs.Years.{IsYear, year_jobs}
 
 -- the year has these records now, and the work is that of its new jobs
@@ -35,3 +37,12 @@ edit_cost plans old records =
 abbrev pub IsComputed : List (Entry Seen) → Year → List Record → Recalculated → Type 0
 IsComputed plans old records r =
     IsRecalculated (pick plans) (job_by (pick plans) old.records.items) records r
+
+-- the year computed anew for an edit of the calendar, and the cost of the jobs that are new then
+abbrev pub IsReplanned : Picks → Year → Recalculated → Type 0
+IsReplanned picks y r =
+    IsRecalculated (after picks) (job_by (before picks) y.records.items) y.records.items r
+
+abbrev pub replan_cost : Picks → Year → ℕ
+replan_cost picks y =
+    total_cost (year_jobs (before picks) (after picks) y.records.items y.records.items)

@@ -40,6 +40,25 @@ pub struct Picked<'a> {
 }
 
 impl<'a> Picks<'a> {
+    /// The calendar once an edit at a day has left this plan, or none, to the days that it decides. Texts are compared here,
+    /// once.
+    pub fn edited(
+        plans: &'a Calendar<Plan>,
+        day: Day,
+        entry: Option<(Day, &'a Plan)>,
+    ) -> Picks<'a>
+        ensures are { ArePicks result }
+        ensures before { (d : Date) → before result d ≡ pick plans.now d }
+        ensures after { (d : Date)
+            → after result d ≡ picked_after plans.now day (option_map entry_picked entry.entry) d }
+    {
+        let same = keeps_texts(plans.pick(day), entry);
+        Picks {
+            plans,
+            edit: Some(Edit { day, entry, same }),
+        }
+    }
+
     /// The plan of a day after the edit.
     pub fn pick(&self, day: Day) -> Option<Picked<'a>>
         requires { ArePicks self.now }
@@ -93,4 +112,14 @@ fn moves(edit: Day, day: Day, now: Option<(Day, &Plan)>) -> bool
         None => true,
         Some((from, _)) => from <= edit,
     }
+}
+
+/// Whether both plans are there, with the same texts.
+fn keeps_texts(was: Option<(Day, &Plan)>, now: Option<(Day, &Plan)>) -> bool
+    ensures { KnowsSame (option_map entry_picked was.entry) (option_map entry_picked now.entry) result }
+{
+    let (Some((_, was)), Some((_, now))) = (was, now) else {
+        return false;
+    };
+    was.same_texts(now)
 }

@@ -27,7 +27,7 @@ fn place_reference(runs: &[&Record], day: Day) -> Result<usize, usize>
 }
 
 /// References to all records.
-fn references(alloc: Global, records: &[Record]) -> Result<Vec<&Record>, AllocError>
+pub(crate) fn references(alloc: Global, records: &[Record]) -> Result<Vec<&Record>, AllocError>
     ensures { IfOk result (λ runs. ReferTo records.now runs.items) }
 {
     let mut runs = Vec::new(alloc);

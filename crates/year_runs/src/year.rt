@@ -1,15 +1,19 @@
 //! An employee's calendar year, and its edits.
-ghost use Rattle.std.specs.Prelude.{◌≡◌, IfOk, OnErr};
+ghost use Rattle.std.specs.Prelude.{◌≡◌, IfOk, OnErr, List, []};
+ghost use Rattle.plan_calendar.specs.Picking.{Entry};
+ghost use Rattle.pap_plan.specs.Plans.{Seen};
+ghost use Rattle.year_runs.specs.Picks.{ArePicks};
 ghost use Rattle.year_runs.specs.Jobs.{Counts};
 ghost use Rattle.year_runs.specs.Records.{put_run, without_run};
 ghost use Rattle.year_runs.specs.Years.{IsOwn, IsYear};
 ghost use Rattle.year_runs.specs.YearClauses.{IsYearEdit, IsSameYear, IsComputed, edit_cost};
+ghost use Rattle.year_runs.specs.YearClauses.{IsReplanned, replan_cost};
 
 use crate::chain::{Old, Recalculated, recalculate};
 use crate::outcome::{Outcome, Work};
 use crate::picks::Picks;
 use crate::records::{
-    put_in_room, put_record, put_reference, runs_with, runs_without, take_record,
+    put_in_room, put_record, put_reference, references, runs_with, runs_without, take_record,
 };
 use pap_plan::Plan;
 use payroll_records::{Day, Employee, Record};
@@ -34,6 +38,35 @@ pub struct Year {
 }
 
 impl Year {
+    /// A year without runs.
+    pub fn new(alloc: Global, key: YearKey) -> Year
+        ensures key { result.key ≡ key }
+        ensures none { result.records.items ≡ [] }
+        ensures year { (plans : List (Entry Seen)) → IsYear plans result }
+    {
+        Year {
+            key,
+            records: Vec::new(alloc),
+            outcomes: Vec::new(alloc),
+        }
+    }
+
+    /// The year computed anew for an edit of the calendar. The year stays as it is.
+    pub fn recalculated<L: Ledger>(
+        &self,
+        alloc: Global,
+        picks: &Picks,
+        steps: &mut Steps<L>,
+    ) -> Result<Recalculated, AllocError>
+        requires picks { ArePicks picks.now }
+        requires year { IsYear picks.now.plans.now self.now }
+        ensures done { IfOk result (IsReplanned picks.now self.now) }
+        ensures counted { Counts result steps.old steps.new (replan_cost picks.now self.now) }
+    {
+        let runs = references(alloc, self.records.as_slice())?;
+        recalculate(alloc, picks, old_of(self), runs.as_slice(), steps)
+    }
+
     /// Puts a run at its day, in place of the one that stood there. After a refusal the year is as before.
     pub fn put<L: Ledger>(
         &mut self,
