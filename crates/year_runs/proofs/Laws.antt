@@ -1,0 +1,14 @@
+-- The laws that other crates may cite.
+-- A year's runs: those of a front of its records are a front of its runs; so of the new jobs and of their cost.
+pub use Rattle.year_runs.proofs.RowLemmas.{rows_append, rows_more, new_jobs_append, total_append, total_front, row_of_day}
+-- One row for each record.
+pub use Rattle.year_runs.proofs.OldLemmas.{rows_length}
+-- Days that tie are one day; a year has at most 366 runs.
+pub use Rattle.year_runs.proofs.DayLemmas.{day_same}
+pub use Rattle.year_runs.proofs.YearLemmas.{own_few}
+-- An edit of a year's records keeps their order and what holds of each.
+pub use Rattle.year_runs.proofs.RecordLemmas.{rising_put, rising_without, all_put, all_without}
+-- Inputs that are filled are admitted.
+pub use Rattle.year_runs.proofs.AdmissionLemmas.{suits_kinds, filled_admitted}
+-- The inputs of an accepted plan are those of its declarations; plans that mean the same have the same outputs.
+pub use Rattle.year_runs.proofs.RunLemmas.{are_slots, same_outputs}

@@ -1,0 +1,9 @@
+pub mod Records
+pub mod Runs
+pub mod Rows
+pub mod Jobs
+pub mod Kept
+pub mod Picks
+pub mod ChainClauses
+pub mod Years
+pub mod YearClauses

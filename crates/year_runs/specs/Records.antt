@@ -1,0 +1,30 @@
+-- The records of an employee's calendar year, in order of day.
+use Rattle.std.specs.Prelude.{◌≡◌, List, map}
+use Rattle.std.specs.Borrow.{Bor}
+use Rattle.rising_lists.specs.Keyed.{put, without}
+use Rattle.payroll_records.specs.declared.day.Day.{Day}
+use Rattle.payroll_records.specs.declared.record.Record.{Record}
+use Rattle.payroll_records.specs.Orders.{day_cmp}
+
+abbrev pub record_day : Record → Day
+record_day r = r.day
+
+-- the records with this one at its day
+abbrev pub put_run : Record → List Record → List Record
+put_run r rs = put day_cmp record_day r rs
+
+-- the records without that of a day
+abbrev pub without_run : Day → List Record → List Record
+without_run d rs = without day_cmp record_day d rs
+
+-- ---- references
+
+abbrev pub reference_day : Bor Record → Day
+reference_day r = r.now.day
+
+abbrev pub records_of : List (Bor Record) → List Record
+records_of items = map (λ r. r.now) items
+
+-- references to these records, in their order
+abbrev pub ReferTo : List Record → List (Bor Record) → Type 0
+ReferTo records items = records_of items ≡ records

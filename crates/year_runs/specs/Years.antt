@@ -1,0 +1,25 @@
+-- An employee's calendar year of runs, and an edit of it.
+use Rattle.std.specs.Prelude.{◌≡◌, List}
+use Rattle.std.specs.List.{AllByRecursion}
+use Rattle.payroll_records.specs.declared.record.Record.{Record}
+use Rattle.plan_calendar.specs.Picking.{Entry, pick}
+use Rattle.pap_plan.specs.Plans.{Seen}
+use Rattle.year_runs.specs.declared.year.Year.{Year}
+use Rattle.year_runs.specs.declared.year.YearKey.{YearKey}
+use Rattle.year_runs.specs.Rows.{Planned, Job, year_rows}
+use Rattle.year_runs.specs.Jobs.{new_jobs}
+use Rattle.year_runs.specs.Kept.{AreKept, job_by}
+
+-- the record is one of this employee's year
+pub record IsOwn (key : YearKey) (r : Record) : Type 0 where
+  pub employee : r.employee ≡ key.employee
+  pub year : r.day.year ≡ key.year
+
+-- what is kept of an employee's year, where this is the calendar
+pub record IsYear (plans : List (Entry Seen)) (y : Year) : Type 0 where
+  pub kept : AreKept (pick plans) y.records.items y.outcomes.items
+  pub own : AllByRecursion (IsOwn y.key) y.records.items
+
+-- the jobs that are new where the year's records become these
+abbrev pub year_jobs : Planned → Planned → List Record → List Record → List Job
+year_jobs before after old new = new_jobs (job_by before old) (year_rows after new)

@@ -1,0 +1,18 @@
+//! One employee's calendar year of pay runs: what each came to, kept so that an edit runs only the runs whose job is new.
+//!
+//! A run's job is the two texts of its plan and its inputs. The runs of a year are one chain, since a run may read the
+//! outputs of earlier ones: they are computed anew in order of day, and a run whose job is the old one of its day keeps
+//! its outputs.
+#![tactic(auto)]
+
+mod chain;
+mod outcome;
+mod picks;
+mod records;
+mod run;
+mod year;
+
+pub use chain::{Old, Recalculated, recalculate};
+pub use outcome::{Outcome, State, Work};
+pub use picks::{Edit, Picked, Picks};
+pub use year::{Year, YearKey};
