@@ -93,7 +93,8 @@ fn read_drop(rest: &[&[u8]]) -> Result<Command, LineFault>
 
 /// The words behind `withdraw`: `EMP WHEN`.
 fn read_withdraw(rest: &[&[u8]]) -> Result<Command, LineFault>
-    ensures ok { IfOk result (λ command. Ask (codes "withdraw" ∷ texts rest.now) (asked_of command)) }
+    ensures ok { IfOk result
+        (λ command. Ask (codes "withdraw" ∷ texts rest.now) (asked_of command)) }
     ensures err { IfErr result (IsFaultOf lines.withdraw (texts rest.now)) }
 {
     let [employee, when] = rest else {
