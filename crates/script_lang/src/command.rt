@@ -18,7 +18,8 @@ pub enum Command {
     },
     /// `add EMP MONTH DAY NAME=VALUE ..`: one more pay run.
     Add(Record),
-    /// `change EMP MONTH DAY NAME=VALUE ..`: this pay run in place of the one with its key.
+    /// `change EMP MONTH DAY NAME=VALUE ..`: this pay run in place of the employee's run on that day, or else of the only one
+    /// in its month.
     Change(Record),
     /// `withdraw EMP WHEN`: no longer the pay run of this employee in a month or on a day.
     Withdraw {
