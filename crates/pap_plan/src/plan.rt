@@ -20,7 +20,6 @@ use std::sync::ledger::Ledger;
 use steps::Steps;
 
 /// An accepted plan, ready to run: on inputs that its limits admit a run can't fail.
-#[derive(Drop)]
 pub struct Plan {
     pub(crate) plan: Vec<u8>,
     pub(crate) limits: Vec<u8>,
@@ -48,6 +47,21 @@ impl Model for Plan {
     ghost invariant = { λ p.
         IsKept (seen p.plan.items p.limits.items p.typed p.ranges p.verdict.outputs.items p.code)
         p.verdict.bound p.spec.slots };
+}
+
+// By hand, so that letting its parts go is proved here and not again wherever a plan is dropped.
+impl Drop for Plan {
+    fn drop(self) {
+        let Self {
+            plan: _,
+            limits: _,
+            typed: _,
+            ranges: _,
+            spec: _,
+            verdict: _,
+            code: _,
+        } = self;
+    }
 }
 
 impl Plan {
