@@ -17,7 +17,8 @@ use Rattle.scaled_decimal.specs.Limits.{IsWithinLimit, limit as most}
 use Rattle.scaled_decimal.specs.WorkingNumbers.{SumFits}
 use Rattle.scaled_decimal.proofs.Laws.{times_assoc, ten_add, ten_some, le_times, aligned_order}
 use Rattle.limits_file.specs.declared.limits.InputLimit.{InputLimit}
-use Rattle.limits_file.specs.Limits.{IsFactorLimit, IsWithinBound, is_kept_at}
+use Rattle.pap_tree.specs.Scales.{is_kept_at}
+use Rattle.limits_file.specs.Limits.{IsFactorLimit, IsWithinBound}
 use Rattle.payroll_records.specs.declared.values.NamedValue.{NamedValue}
 use Rattle.carry_bindings.specs.Carrying.{amount_of, amounts, named}
 use Rattle.carry_bindings.specs.Conditions.{AreBounded}

@@ -3,8 +3,7 @@ use Rattle.std.specs.Prelude.{◌≡◌, ℕ, ◌^◌, ◌≤◌, IsTrue, IsFals
 use Rattle.std.specs.Ordering.{is_gt}
 use Rattle.scaled_decimal.specs.Decimals.{Decimal, numerator_at, scale_of, value_order}
 use Rattle.scaled_decimal.specs.Limits.{IsWithinLimit}
--- for those who take a limit of a `double` apart
-pub use Rattle.pap_tree.specs.Scales.{is_kept_at}
+use Rattle.pap_tree.specs.Scales.{is_kept_at}
 use Rattle.limits_file.specs.declared.limits.InputLimit.{InputLimit}
 
 -- the value of a is at most that of b, whatever their scales

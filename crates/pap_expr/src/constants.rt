@@ -7,7 +7,7 @@ ghost use Rattle.scaled_decimal.specs.ShortenedDecimals.{without_zeros};
 ghost use Rattle.pap_tree.specs.Term.{whole, long as long_leaf, point as point_leaf};
 ghost use Rattle.pap_tree.specs.Tokens as pure;
 ghost use Rattle.pap_tree.specs.Grammar as grammar;
-ghost use Rattle.pap_tree.specs.Grammar.{Constant, declared, known_value};
+ghost use Rattle.pap_tree.specs.Grammar.{Constant, declared};
 ghost use Rattle.pap_tree.specs.Declarations.{declared_of};
 ghost use Rattle.pap_tree.specs.Stopping.{syntax};
 ghost use Rattle.pap_tree.specs.Expressions.{IsAccepted};
@@ -27,7 +27,7 @@ use crate::fault::ExprFault;
 use crate::steps::{foreign, is_sign, keyword, refused};
 use crate::words::{Static, static_of};
 use expr_tokens::{Keyword, Placed, Sign, Token, read_tokens};
-use pap_tree::{Binary, Known, Literal};
+use pap_tree::{Binary, Literal};
 use scaled_decimal::Dec;
 use std::alloc::Global;
 
@@ -196,7 +196,7 @@ fn constant(room: Room, found: &Placed) -> Result<Due, ExprFault>
         return Err(refused(found));
     };
     match static_of(word) {
-        Some(Static::Known(known)) => settle(room, known_value(known)),
+        Some(Static::Known(known)) => settle(room, known.value()),
         Some(Static::ValueOf) => Ok(Due::ValueOpen(room)),
         None => Err(foreign(word, found)),
     }
@@ -281,17 +281,6 @@ fn int(i: i32) -> Dec
     ensures { result ≡ decimal i 0 }
 {
     Dec::new(i as i128, 0)
-}
-
-/// The value of a constant of `BigDecimal`.
-fn known_value(known: Known) -> Dec
-    ensures { result ≡ known_value known }
-{
-    match known {
-        Known::Zero => Dec::new(0, 0),
-        Known::One => Dec::new(1, 0),
-        Known::Ten => Dec::new(10, 0),
-    }
 }
 
 /// A decimal without the zeros that end it, down to one place: what `valueOf` makes of a literal with a point. None
