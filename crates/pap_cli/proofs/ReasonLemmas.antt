@@ -1,6 +1,6 @@
 -- Whether the answer on two texts is a refusal.
 use Rattle.std.proofs.Common.{◌≡◌, ◌≢◌, ℕ, Bool, true, false, List, [], refl, sym, ap, ◌∙◌, subst}
-use Rattle.std.specs.Prelude.{Result, Ok, Err, All}
+use Rattle.std.specs.Prelude.{Ok, Err}
 use Rattle.scaled_decimal.specs.Decimals.{Decimal}
 use Rattle.pap_tree.specs.Flowchart.{Flowchart}
 use Rattle.payroll_records.specs.declared.values.NamedValue.{NamedValue}
@@ -14,13 +14,12 @@ use Rattle.pap_plan.specs.Inputs.{AreSlots}
 use Rattle.outside.specs.Told.{FileMap}
 use Rattle.pap_plan.specs.declared.refusal.PlanRefusal.{PlanRefusal}
 use Rattle.pap_plan.specs.declared.refusal.PlanRefusal.TheVariants as refusals
-use Rattle.pap_plan.specs.Acceptance.{Meaning, Answers, IsRefused as IsRefusedPlan, IsRefusedOrMemory}
+use Rattle.pap_plan.specs.Acceptance.{Meaning, IsRefused as IsRefusedPlan, IsRefusedOrMemory}
 use Rattle.pap_plan.specs.AcceptanceClauses.{IsAcceptedAs}
 use Rattle.pap_plan.specs.Plans.{Seen, meaning}
 use Rattle.pap_plan.proofs.Laws as plans
 use Rattle.pap_cli.specs.declared.words.Command.{Command}
 use Rattle.pap_cli.specs.declared.words.Command.TheVariants.{Check, Once}
-use Rattle.payroll_records.specs.ValueWords.{AreValueWords}
 use Rattle.pap_cli.specs.Words.{HasForm}
 use Rattle.pap_cli.specs.WordViews.{form_by}
 use Rattle.pap_cli.specs.Answers.{Answer, IsRefusal, IsChecked, CheckAnswers, IsRunOn, IsRunOnce, IsOnce, OnceAnswers}

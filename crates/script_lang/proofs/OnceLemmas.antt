@@ -17,7 +17,7 @@ use Rattle.payroll_records.proofs.Laws.{year_is, month_is, day_is, same_day, sam
 use Rattle.script_lang.specs.Commands as asked
 use Rattle.script_lang.specs.Commands.{Asked}
 use Rattle.script_lang.specs.Fields.{Field, IsGood, fault_of, time_field}
-use Rattle.script_lang.specs.Lines.{Verb, plan, drop, add, change, withdraw, load, report, work, text_of, takes, fields_of, IsSilent, IsDayWord, IsTime, IsOfRecord, Ask, HaveNoVerb, AreTakenByNone, IsFirstFault, HaveFirstFault, IsLine, LineSays}
+use Rattle.script_lang.specs.Lines.{Verb, plan, drop, add, change, withdraw, load, report, work, text_of, takes, fields_of, IsSilent, IsDayWord, IsTime, IsOfRecord, Ask, HaveNoVerb, AreNotTaken, IsFirstFault, HaveFirstFault, IsLine, LineSays}
 use Rattle.script_lang.specs.Words.{words_of}
 use Rattle.script_lang.specs.declared.fault.LineFault.{LineFault}
 use Rattle.script_lang.specs.declared.fault.LineFault.TheVariants as fault
@@ -152,14 +152,14 @@ spoken words asked.work h = inr (record { verb = work; rest = []; verb_is = refl
 -- why words are refused
 data Wrong (words : List Text) : LineFault → Type 0 where
   no_verb : HaveNoVerb words → Wrong words fault.Command
-  by_none : AreTakenByNone words → Wrong words fault.Words
+  by_none : AreNotTaken words → Wrong words fault.Words
   first : (f : LineFault) → HaveFirstFault words f → Wrong words f
 
 -- the words have one verb and one rest
 same_parts : (words : List Text) (v w : Verb) (r s : List Text) → words ≡ text_of v ∷ r → words ≡ text_of w ∷ s → (v ≡ w) × (r ≡ s)
 same_parts words v w r s e f = let verbs : text_of v ≡ text_of w = cc in (verb_once v w verbs, cc)
 
-none_and_taken : (words : List Text) (h : AreTakenByNone words) (verb : Verb) (rest : List Text) → words ≡ text_of verb ∷ rest → IsTrue (takes verb rest) → ⊥
+none_and_taken : (words : List Text) (h : AreNotTaken words) (verb : Verb) (rest : List Text) → words ≡ text_of verb ∷ rest → IsTrue (takes verb rest) → ⊥
 none_and_taken words h verb rest e t =
     let same = same_parts words h.verb verb h.rest rest h.words_are e in
     false≢true (sym h.wrong ∙ ap (λ v. takes v h.rest) same.0 ∙ ap (takes verb) same.1 ∙ t)

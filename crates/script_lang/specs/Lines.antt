@@ -17,7 +17,7 @@ use Rattle.script_lang.specs.Words.{words_of, is_file}
 use Rattle.script_lang.specs.declared.fault.LineFault.{LineFault}
 use Rattle.script_lang.specs.declared.fault.LineFault.TheVariants as fault
 
--- the most bytes of a line
+-- a line has at most 65,536 bytes
 abbrev pub IsShort : Text → Type 0
 IsShort line = length line ≤ 65536
 
@@ -146,7 +146,7 @@ pub record HaveNoVerb (words : List Text) : Type 0 where
   pub unknown : (verb : Verb) (rest : List Text) → words ≢ text_of verb ∷ rest
 
 -- the command of the first word does not take the others
-pub record AreTakenByNone (words : List Text) : Type 0 where
+pub record AreNotTaken (words : List Text) : Type 0 where
   pub verb : Verb
   pub rest : List Text
   pub words_are : words ≡ text_of verb ∷ rest
@@ -174,7 +174,7 @@ pub record HaveFirstFault (words : List Text) (f : LineFault) : Type 0 where
 abbrev pub AreWrong : List Text → LineFault → Type 0
 AreWrong words fault.LineLong = ⊥
 AreWrong words fault.Command = HaveNoVerb words
-AreWrong words fault.Words = AreTakenByNone words
+AreWrong words fault.Words = AreNotTaken words
 AreWrong words (fault.Memory error) = ⊤
 AreWrong words other = HaveFirstFault words other
 

@@ -1,5 +1,5 @@
-use Rattle.std.proofs.Common.{◌≡◌, ◌+◌, sym, ap, ◌∙◌, subst, take, drop, string_bytes, length, arith}
-use Rattle.std.specs.Prelude.{Err, List, ℕ}
+use Rattle.std.proofs.Common.{◌+◌, sym, ap, ◌∙◌, subst, take, drop, string_bytes, length, arith}
+use Rattle.std.specs.Prelude.{Err}
 use Rattle.payroll_records.specs.declared.values.NamedValue.{NamedValue}
 use Rattle.payroll_records.specs.ValueWords.{IsValueWord, AreValueWords}
 use Rattle.payroll_records.proofs.Laws.{AreSoFar, inserted, no_value, twice, too_many}

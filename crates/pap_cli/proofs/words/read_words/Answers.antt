@@ -1,4 +1,3 @@
-use Rattle.std.proofs.Common.{◌≡◌, sym}
 use Rattle.pap_cli.proofs.WordLemmas.{no_form}
 use Rattle.pap_cli.proofs.words.read_words.Goals as goal
 
