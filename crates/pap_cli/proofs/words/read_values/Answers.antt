@@ -38,5 +38,5 @@ loop-word-preserved c =
     let words = c.args.words.now in
     let is = subst (λ b. IsValueWord b c.in-Some.value) c.as_bytes.ensures.value c.in-Some.ensures.read in
     let next = inserted (texts (take i words)) c.loop-word.values c.insert.new.self (string_bytes c.word-item.result) c.in-Some.value c.loop-word.invariant is c.in-Ok.ensures.ok
-    (λ some. cc (c.in-Ok.ensures.twice.1 some)) (λ full. cc (c.in-Ok.ensures.full.1 full)) (omega (arith, ap length c.values.view_is, c.values.invariant.few)) in
+    (λ some. cc (c.in-Ok.ensures.twice.1 some)) (λ full. cc (c.in-Ok.ensures.full.1 full)) (omega (arith, ap length c.values.view_is, c.values.invariant.are.few)) in
     subst (λ w. AreSoFar w c.insert.new.self) (sym (texts_more words i c.word-item.result c.word-item.is c.loop-word-test.true)) next

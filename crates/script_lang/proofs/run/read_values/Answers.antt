@@ -20,6 +20,6 @@ loop-word-preserved c =
     record {
       read =
           value_at_place c.args.words.now l.word-index _ l.values c.loop-word-test.true l.invariant.read c.in-Some.value c.insert.new.self c.in-Some.ensures.read c.in-Ok.ensures.ok
-          (λ some. cc (c.in-Ok.ensures.twice.1 some)) (λ full. cc (c.in-Ok.ensures.full.1 full)) (omega (arith, ap length c.values.view_is, c.values.invariant.few));
+          (λ some. cc (c.in-Ok.ensures.twice.1 some)) (λ full. cc (c.in-Ok.ensures.full.1 full)) (omega (arith, ap length c.values.view_is, c.values.invariant.are.few));
       counted = omega (arith, l.invariant.counted);
     }
