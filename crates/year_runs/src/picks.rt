@@ -42,11 +42,7 @@ pub struct Picked<'a> {
 impl<'a> Picks<'a> {
     /// The calendar once an edit at a day has left this plan, or none, to the days that it decides. Texts are compared here,
     /// once.
-    pub fn edited(
-        plans: &'a Calendar<Plan>,
-        day: Day,
-        entry: Option<(Day, &'a Plan)>,
-    ) -> Picks<'a>
+    pub fn edited(plans: &'a Calendar<Plan>, day: Day, entry: Option<(Day, &'a Plan)>) -> Picks<'a>
         ensures are { ArePicks result }
         ensures before { (d : Date) → before result d ≡ pick plans.now d }
         ensures after { (d : Date)
