@@ -112,7 +112,8 @@ fn moves(edit: Day, day: Day, now: Option<(Day, &Plan)>) -> bool
 
 /// Whether both plans are there, with the same texts.
 fn keeps_texts(was: Option<(Day, &Plan)>, now: Option<(Day, &Plan)>) -> bool
-    ensures { KnowsSame (option_map entry_picked was.entry) (option_map entry_picked now.entry) result }
+    ensures { KnowsSame (option_map entry_picked was.entry)
+        (option_map entry_picked now.entry) result }
 {
     let (Some((_, was)), Some((_, now))) = (was, now) else {
         return false;
