@@ -23,14 +23,14 @@ both : (a b : Bool) → (a && b) ≡ true → (a ≡ true) × (b ≡ true)
 both true b e = (refl, e)
 both false b e = cc
 
-and_true : (a b : Bool) → a ≡ true → b ≡ true → (a && b) ≡ true
+pub and_true : (a b : Bool) → a ≡ true → b ≡ true → (a && b) ≡ true
 and_true a b e f = rw (e, f)
 
 and_false : (a b : Bool) → b ≡ false → (a && b) ≡ false
 and_false true b e = e
 and_false false b e = refl
 
-decimal_decides : (a b : Decimal) → Decides (same_decimal a b) (a ≡ b)
+pub decimal_decides : (a b : Decimal) → Decides (same_decimal a b) (a ≡ b)
 decimal_decides a b = (
   λ e. let h = both (int_eq (numerator_of a) (numerator_of b)) (nat_eq (scale_of a) (scale_of b)) e in
       let n = (signed_Decides (numerator_of a) (numerator_of b)).0 h.0 in

@@ -12,3 +12,5 @@ pub use Rattle.year_runs.proofs.RecordLemmas.{rising_put, rising_without, all_pu
 pub use Rattle.year_runs.proofs.AdmissionLemmas.{suits_kinds, filled_admitted}
 -- The inputs of an accepted plan are those of its declarations; plans that mean the same have the same outputs.
 pub use Rattle.year_runs.proofs.RunLemmas.{are_slots, same_outputs}
+-- A year that stays has no new jobs; plans that agree on a year's days give the same runs, whose days rise.
+pub use Rattle.year_runs.proofs.QuietLemmas.{year_quiet, rows_agree, rows_rising}

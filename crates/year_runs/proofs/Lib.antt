@@ -5,6 +5,7 @@ mod JobLemmas
 pub mod Laws
 mod PickLemmas
 mod OldLemmas
+mod QuietLemmas
 mod RecordLemmas
 mod RowLemmas
 mod RunLemmas

@@ -1,6 +1,6 @@
 -- Whether the plan of a day keeps its texts.
 use Rattle.std.proofs.Common.{◌≡◌, List, true, if◌then◌else◌, sym, ap, subst}
-use Rattle.std.specs.Prelude.{Option, Some}
+use Rattle.std.specs.Prelude.{Some}
 use Rattle.payroll_records.specs.declared.day.Day.{Day}
 use Rattle.plan_calendar.specs.Picking.{Entry, pick}
 use Rattle.plan_calendar.specs.Edits.{moves}

@@ -48,7 +48,9 @@ pub record HasRun (p : Seen) (inputs : List Decimal) (f : Finished) : Type 0 whe
   pub cheap : f.cost ≤ most_steps
 
 -- the inputs and outputs of an outcome that has both
-abbrev pub outcome_parts : Option (List Decimal) → Option (List NamedValue) → Option (List Decimal × List NamedValue)
+abbrev pub outcome_parts :
+    Option (List Decimal) → Option (List NamedValue)
+    → Option (List Decimal × List NamedValue)
 outcome_parts None outputs = None
 outcome_parts (Some inputs) None = None
 outcome_parts (Some inputs) (Some outputs) = Some (inputs, outputs)
@@ -90,7 +92,9 @@ abbrev pub CountsRun : {E : Type 0} → Result Ran E → ℕ → ℕ → Type 0
 CountsRun r before now = MatchResult r (λ ran. now ≡ before + ran.work.steps) (λ _. now ≡ before)
 
 -- a year computed anew, with the work of the jobs that aren't the old ones of their days
-pub record IsRecalculated (planned : Planned) (old : Day → Option Job) (records : List Record) (r : Recalculated) : Type 0 where
+pub record IsRecalculated
+    (planned : Planned) (old : Day → Option Job) (records : List Record)
+    (r : Recalculated) : Type 0 where
   pub outcomes : r.outcomes.items ≡ map kept (year_rows planned records)
   pub bounded : AllByRecursion IsBounded r.outcomes.items
   pub work : r.work ≡ work_of (new_jobs old (year_rows planned records))

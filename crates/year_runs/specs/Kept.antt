@@ -27,7 +27,8 @@ abbrev pub IsBounded : Outcome → Type 0
 IsBounded o = AreBounded (outputs_in o.state)
 
 -- what is kept of a year is what computing it anew gives
-pub record AreKept (planned : Planned) (records : List Record) (outcomes : List Outcome) : Type 0 where
+pub record AreKept
+    (planned : Planned) (records : List Record) (outcomes : List Outcome) : Type 0 where
   pub are : outcomes ≡ map kept (year_rows planned records)
   pub bounded : AllByRecursion IsBounded outcomes
   pub rising : IsRising day_cmp record_day records

@@ -14,7 +14,9 @@ use Rattle.year_runs.specs.Picks.{before, after}
 use Rattle.year_runs.specs.Years.{IsYear, year_jobs}
 
 -- the year has these records now, and the work is that of its new jobs
-pub record IsYearEdit (plans : List (Entry Seen)) (old new : Year) (records : List Record) (work : Work) : Type 0 where
+pub record IsYearEdit
+    (plans : List (Entry Seen)) (old new : Year) (records : List Record)
+    (work : Work) : Type 0 where
   pub key : new.key ≡ old.key
   pub records_are : new.records.items ≡ records
   pub year : IsYear plans new

@@ -1,11 +1,14 @@
 -- An employee's calendar year of runs, and an edit of it.
-use Rattle.std.specs.Prelude.{◌≡◌, List}
+use Rattle.std.specs.Prelude.{◌≡◌, List, []}
 use Rattle.std.specs.List.{AllByRecursion}
+use Rattle.rising_lists.specs.Keyed.{IsRising}
 use Rattle.payroll_records.specs.declared.record.Record.{Record}
+use Rattle.payroll_records.specs.Orders.{day_cmp}
 use Rattle.plan_calendar.specs.Picking.{Entry, pick}
 use Rattle.pap_plan.specs.Plans.{Seen}
 use Rattle.year_runs.specs.declared.year.Year.{Year}
 use Rattle.year_runs.specs.declared.year.YearKey.{YearKey}
+use Rattle.year_runs.specs.Records.{record_day}
 use Rattle.year_runs.specs.Rows.{Planned, Job, year_rows}
 use Rattle.year_runs.specs.Jobs.{new_jobs}
 use Rattle.year_runs.specs.Kept.{AreKept, job_by}
@@ -23,3 +26,15 @@ pub record IsYear (plans : List (Entry Seen)) (y : Year) : Type 0 where
 -- the jobs that are new where the year's records become these
 abbrev pub year_jobs : Planned → Planned → List Record → List Record → List Job
 year_jobs before after old new = new_jobs (job_by before old) (year_rows after new)
+
+-- where neither the plans nor the records of a year change, no job is new
+abbrev pub YearsStay : Type 0
+YearsStay =
+    (planned : Planned) (records : List Record) → IsRising day_cmp record_day records
+    → year_jobs planned planned records records ≡ []
+
+-- the runs of a year depend on the plans of its own days alone
+abbrev pub YearsFollowPlans : Type 0
+YearsFollowPlans =
+    (p q : Planned) (records : List Record) → AllByRecursion (λ r. p r.day ≡ q r.day) records
+    → year_rows p records ≡ year_rows q records

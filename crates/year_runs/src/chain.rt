@@ -170,7 +170,11 @@ fn run_job<L: Ledger>(
 
 /// The outcome of a run that has run.
 fn finished(plan: Day, inputs: Items<Dec>, outputs: Items<NamedValue>) -> Outcome
-    ensures { result ≡ record { plan = Some plan; inputs = Some inputs; state = State.Done outputs } }
+    ensures { result ≡ record {
+      plan = Some plan;
+      inputs = Some inputs;
+      state = State.Done outputs;
+    } }
 {
     Outcome {
         plan: Some(plan),

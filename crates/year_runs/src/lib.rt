@@ -15,4 +15,4 @@ mod year;
 pub use chain::{Old, Recalculated, recalculate};
 pub use outcome::{Outcome, State, Work};
 pub use picks::{Edit, Picked, Picks};
-pub use year::{Year, YearKey};
+pub use year::{Year, YearKey, year_laws};

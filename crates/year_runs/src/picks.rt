@@ -42,11 +42,7 @@ pub struct Picked<'a> {
 impl<'a> Picks<'a> {
     /// The calendar once an edit at a day has left this plan, or none, to the days that it decides. Texts are compared here,
     /// once.
-    pub fn edited(
-        plans: &'a Calendar<Plan>,
-        day: Day,
-        entry: Option<(Day, &'a Plan)>,
-    ) -> Picks<'a>
+    pub fn edited(plans: &'a Calendar<Plan>, day: Day, entry: Option<(Day, &'a Plan)>) -> Picks<'a>
         ensures are { ArePicks result }
         ensures before { (d : Date) → before result d ≡ pick plans.now d }
         ensures after { (d : Date)
@@ -116,7 +112,8 @@ fn moves(edit: Day, day: Day, now: Option<(Day, &Plan)>) -> bool
 
 /// Whether both plans are there, with the same texts.
 fn keeps_texts(was: Option<(Day, &Plan)>, now: Option<(Day, &Plan)>) -> bool
-    ensures { KnowsSame (option_map entry_picked was.entry) (option_map entry_picked now.entry) result }
+    ensures { KnowsSame (option_map entry_picked was.entry)
+        (option_map entry_picked now.entry) result }
 {
     let (Some((_, was)), Some((_, now))) = (was, now) else {
         return false;

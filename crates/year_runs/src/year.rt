@@ -5,7 +5,7 @@ ghost use Rattle.pap_plan.specs.Plans.{Seen};
 ghost use Rattle.year_runs.specs.Picks.{ArePicks};
 ghost use Rattle.year_runs.specs.Jobs.{Counts};
 ghost use Rattle.year_runs.specs.Records.{put_run, without_run};
-ghost use Rattle.year_runs.specs.Years.{IsOwn, IsYear};
+ghost use Rattle.year_runs.specs.Years.{IsOwn, IsYear, YearsStay, YearsFollowPlans};
 ghost use Rattle.year_runs.specs.YearClauses.{IsYearEdit, IsSameYear, IsComputed, edit_cost};
 ghost use Rattle.year_runs.specs.YearClauses.{IsReplanned, replan_cost};
 
@@ -224,3 +224,10 @@ fn old_of(year: &Year) -> Old<'_>
         outcomes: year.outcomes.as_slice(),
     }
 }
+
+/// Laws of the definitions: where neither plans nor records change no run is run again, and plans of other days play no
+/// part in a year's runs.
+pub fn year_laws()
+    ensures stay { YearsStay }
+    ensures follow { YearsFollowPlans }
+{}
