@@ -24,7 +24,8 @@ report => report
 work => work"#;
 
 /// Lines with the text of their fault.
-const FAULTS: &str = r#"Report => the first word is no command: plan, drop, add, change, withdraw, load, report or work
+const FAULTS: &str =
+    r#"Report => the first word is no command: plan, drop, add, change, withdraw, load, report or work
 report\r => the first word is no command: plan, drop, add, change, withdraw, load, report or work
 plans x => the first word is no command: plan, drop, add, change, withdraw, load, report or work
 report now => the command takes other words: their number is wrong, or a file's name is not at most 255 visible ASCII characters
@@ -129,7 +130,12 @@ fn a_file_has_at_most_255_bytes(rt: HostRuntime) -> Result<(), Fail> {
     let alloc = rt.alloc();
     let mut line = vec![in alloc; b'x'; 260]?;
     line.as_mut_slice()[..5].copy_from_slice(b"load ");
-    assert!(rt; matches!(read_line(alloc, line.as_slice()), Ok(Command::Load { file: _ })));
+    assert!(rt;
+        matches!(
+            read_line(alloc, line.as_slice()),
+            Ok(Command::Load { file: _ })
+        )
+    );
     line.push(b'x')?;
     assert!(rt; matches!(read_line(alloc, line.as_slice()), Err(LineFault::Words)));
     Ok(())
