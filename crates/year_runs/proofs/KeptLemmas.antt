@@ -1,5 +1,5 @@
 -- Inputs that are filled from kept values, after earlier runs whose outputs keep their bound, are kept.
-use Rattle.std.proofs.Common.{◌≡◌, ℕ, ◌+◌, ◌-◌, ◌*◌, ◌^◌, ◌≤◌, max, List, [], ◌∷◌, length, Bool, true, false, not, refl, sym, ap, ◌∙◌, subst, arith}
+use Rattle.std.proofs.Common.{◌≡◌, ℕ, ◌+◌, ◌-◌, ◌≤◌, max, List, [], ◌∷◌, length, Bool, true, false, not, refl, sym, ap, ◌∙◌, subst, arith}
 use Rattle.std.specs.Prelude.{Option, Some, None, option_map, All, pos, ◌+ℤ◌, if◌then◌else◌, fold}
 use Rattle.std.specs.List.{AllByRecursion, cons_option}
 use Rattle.std.specs.Option.{option_or, option_map_or}
@@ -33,7 +33,7 @@ use Rattle.pap_plan.specs.Acceptance.{IsAccepted}
 use Rattle.pap_plan.specs.Inputs.{IsSlot, AreSlots}
 use Rattle.pap_plan.specs.Plans.{Seen, flowchart, meaning}
 use Rattle.pap_plan.proofs.Laws.{HasKeptValue, accepted_limits, accepted_defaults, accepted_safe, some_slots}
-use Rattle.year_runs.specs.Runs.{IsKeptValue, slots_of, filled}
+use Rattle.year_runs.specs.Runs.{IsKeptValue, filled}
 use Rattle.year_runs.proofs.AdmissionLemmas.{fits, not_false, none_at, first_inputs, filled_admitted}
 use Rattle.year_runs.proofs.RunLemmas.{are_slots}
 
