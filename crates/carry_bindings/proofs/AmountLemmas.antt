@@ -33,7 +33,7 @@ grows : (m k : ℕ) → 0 < k → m ≤ m * k
 grows m zero some = absurd (omega arith)
 grows m (suc k) some = grind arith
 
-abs_grows : (x : ℤ) (k : ℕ) → unsigned_abs x ≤ unsigned_abs (x *ℤ ten_to k)
+pub abs_grows : (x : ℤ) (k : ℕ) → unsigned_abs x ≤ unsigned_abs (x *ℤ ten_to k)
 abs_grows x k = rw (abs_times x (10 ^ k)) (grows (unsigned_abs x) (10 ^ k) (ten_some k))
 
 -- the numerator at more places
@@ -96,7 +96,7 @@ named_bounded name (v ∷ vs) d h e = by (bytes_eq v.name name) e (named_bounded
     by true e more = let same : v.value ≡ d = cc in subst IsWithinBound same h.0
     by false e more = more e
 
-amount_by : (name : List ℕ) (o : Option (List NamedValue)) (d : Decimal) → AreBounded o → option_and_then (named name) o ≡ Some d → IsWithinBound d
+pub amount_by : (name : List ℕ) (o : Option (List NamedValue)) (d : Decimal) → AreBounded o → option_and_then (named name) o ≡ Some d → IsWithinBound d
 amount_by name None d h e = absurd (cc e)
 amount_by name (Some outputs) d h e = named_bounded name outputs d h e
 

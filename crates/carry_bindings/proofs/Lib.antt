@@ -1,3 +1,4 @@
 pub mod AmountLemmas
 pub mod SlotLemmas
 pub mod NameLemmas
+pub mod Laws

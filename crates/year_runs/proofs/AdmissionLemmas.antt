@@ -36,7 +36,7 @@ denied : (b : Bool) → not b ≡ true → b ≡ false
 denied true h = cc
 denied false h = refl
 
-not_false : (b : Bool) → not b ≡ false → b ≡ true
+pub not_false : (b : Bool) → not b ≡ false → b ≡ true
 not_false true e = cc
 not_false false e = cc
 
@@ -44,7 +44,7 @@ at_most : (a b : Decimal) → not (is_gt (value_order a b)) ≡ true → IsAtMos
 at_most a b h = search (rules, denied (is_gt (value_order a b)) h)
 
 -- a value that a limit admits fits it
-fits : (limit : InputLimit) (v : Decimal) → admits limit v ≡ true → Fits limit v
+pub fits : (limit : InputLimit) (v : Decimal) → admits limit v ≡ true → Fits limit v
 fits limit v h =
     let outer = both (nat_le (scale_of v) limit.places && not (is_gt (value_order limit.low v))) (not (is_gt (value_order v limit.high))) h in
     let inner = both (nat_le (scale_of v) limit.places) (not (is_gt (value_order limit.low v))) outer.0 in
@@ -108,14 +108,14 @@ suits_kinds l (d ∷ ds) (s ∷ slots) h k = (
 -- ---- inputs
 
 -- the answer that has the inputs
-first_inputs : (a : Option Day) (b c d : Option (List ℕ)) (e vs : List Decimal) → first_of a b c d e ≡ filled.Inputs vs → (c ≡ None) × (d ≡ None) × (e ≡ vs)
+pub first_inputs : (a : Option Day) (b c d : Option (List ℕ)) (e vs : List Decimal) → first_of a b c d e ≡ filled.Inputs vs → (c ≡ None) × (d ≡ None) × (e ≡ vs)
 first_inputs (Some x) b c d e vs h = cc
 first_inputs None (Some x) c d e vs h = cc
 first_inputs None None (Some x) d e vs h = cc
 first_inputs None None None (Some x) e vs h = cc
 first_inputs None None None None e vs h = (refl, refl, cc)
 
-none_at : (b : Bool) (s : Slot) (rest : Option Slot) → option_map (λ (x : Slot). x.name) (cond b (Some s) rest) ≡ None → (b ≡ false) × (option_map (λ (x : Slot). x.name) rest ≡ None)
+pub none_at : (b : Bool) (s : Slot) (rest : Option Slot) → option_map (λ (x : Slot). x.name) (cond b (Some s) rest) ≡ None → (b ≡ false) × (option_map (λ (x : Slot). x.name) rest ≡ None)
 none_at true s rest h = cc
 none_at false s rest h = (refl, h)
 

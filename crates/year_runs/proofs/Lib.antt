@@ -2,6 +2,7 @@ mod AdmissionLemmas
 mod ChainLemmas
 mod DayLemmas
 mod JobLemmas
+mod KeptLemmas
 pub mod Laws
 mod PickLemmas
 mod OldLemmas

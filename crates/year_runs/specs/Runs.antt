@@ -1,21 +1,25 @@
 -- What an accepted plan makes of a record: its inputs, its outputs and its cost.
-use Rattle.std.specs.Prelude.{ℕ, List, [], ◌∷◌, Option}
-use Rattle.std.specs.List.{filter_map}
+use Rattle.std.specs.Prelude.{◌≡◌, ◌≤◌, ℕ, List, [], ◌∷◌, Option, All, length}
+use Rattle.std.specs.List.{filter_map, AllByRecursion}
 use Rattle.std.specs.Option.{option_map, option_map_or}
 use Rattle.scaled_decimal.specs.Decimals.{Decimal}
+use Rattle.scaled_decimal.specs.Limits.{IsKept}
 use Rattle.pap_tree.specs.Declarations.{Declaration}
 use Rattle.limits_file.specs.declared.limits.Limits.{Limits}
 use Rattle.limits_file.specs.declared.limits.InputLimit.{InputLimit}
 use Rattle.limits_file.specs.declared.slots.Slot.{Slot}
 use Rattle.pap_types.specs.Scopes.{literal_decimal}
-use Rattle.pap_types.specs.Meaning.{outputs_of, cost_of}
+use Rattle.pap_types.specs.Meaning.{outputs_of, cost_of, IsSafeFor}
 use Rattle.range_walk.specs.Admission.{limit_named}
 use Rattle.payroll_records.specs.declared.values.NamedValue.{NamedValue}
 use Rattle.carry_bindings.specs.declared.carried.Earlier.{Earlier}
 use Rattle.carry_bindings.specs.declared.filling.Filled.{Filled}
 use Rattle.carry_bindings.specs.Filling.{filled_by}
+use Rattle.carry_bindings.specs.Conditions.{AreBounded}
+use Rattle.carry_bindings.specs.declared.filling.Filled.TheVariants as filling
+use Rattle.pap_plan.specs.Acceptance.{IsAccepted}
 use Rattle.pap_plan.specs.Inputs.{carry_named}
-use Rattle.pap_plan.specs.Plans.{Seen, flowchart}
+use Rattle.pap_plan.specs.Plans.{Seen, flowchart, meaning}
 
 -- an input with its type, its limit, its default and what it carries over; each input of an accepted plan has a limit
 abbrev pub slot_with : Limits → Declaration → InputLimit → Slot
@@ -52,3 +56,16 @@ run_outputs p inputs =
 -- the steps of the run
 unfoldable pub run_cost : Seen → List Decimal → ℕ
 run_cost p inputs = cost_of (flowchart p) inputs
+
+-- ---- a law: a run that has inputs is defined
+
+abbrev pub IsKeptValue : NamedValue → Type 0
+IsKeptValue v = IsKept v.value
+
+-- inputs of an accepted plan that are filled from kept values, after earlier runs whose outputs keep their bound, are safe
+abbrev pub FilledRunsAreSafe : Type 0
+FilledRunsAreSafe =
+    (p : Seen) (values : List NamedValue) (earlier : List Earlier) (inputs : List Decimal)
+    → IsAccepted p.plan p.limits (meaning p) → All IsKeptValue values
+    → length earlier ≤ 366 → AllByRecursion (λ e. AreBounded e.outputs) earlier
+    → filled p values earlier ≡ filling.Inputs inputs → IsSafeFor (flowchart p) inputs

@@ -7,7 +7,7 @@ ghost use Rattle.scaled_decimal.specs.Limits.{IsKept};
 ghost use Rattle.carry_bindings.specs.Conditions.{AreBounded};
 ghost use Rattle.pap_plan.specs.Acceptance.{IsAccepted};
 ghost use Rattle.pap_plan.specs.Plans.{Admits, flowchart, meaning};
-ghost use Rattle.year_runs.specs.Runs.{filled, named_values};
+ghost use Rattle.year_runs.specs.Runs.{filled, named_values, FilledRunsAreSafe};
 ghost use Rattle.year_runs.specs.ChainClauses.{HasRun, Fills, most_steps};
 
 use carry_bindings::{Earlier, Filled, fill};
@@ -105,3 +105,8 @@ fn name_values(declared: &[Declared], values: &[Dec], outputs: &mut Vec<NamedVal
         });
     }
 }
+
+/// A law of the definitions: each run that has inputs is defined.
+pub fn run_laws()
+    ensures { FilledRunsAreSafe }
+{}
