@@ -23,6 +23,8 @@ mod intervals;
 #[cfg(test)]
 mod kinds;
 #[cfg(test)]
+mod lines;
+#[cfg(test)]
 mod machine;
 #[cfg(test)]
 mod names;
@@ -40,6 +42,8 @@ mod ranges;
 mod realistic;
 #[cfg(test)]
 mod records;
+#[cfg(test)]
+mod rows;
 #[cfg(test)]
 mod runs;
 #[cfg(test)]

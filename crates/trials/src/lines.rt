@@ -1,5 +1,5 @@
 // Lines of a script: what each asks for, or why it is refused.
-use crate::answers::sides;
+use crate::rows::assert_rows;
 use payroll_records::Record;
 use script_lang::{Command, LineFault, read_line};
 use std::alloc::{AllocError, Global};
@@ -77,30 +77,22 @@ fn record_text(alloc: Global, command: &str, record: &Record) -> Result<String, 
     let employee = record.employee;
     let day = record.day;
     let mut text = format!(in alloc; "{command} {employee} {day}")?;
-    for value in record.values.as_slice() {
-        let name = value.name;
-        let number = value.value;
-        write!(text, " {name}={number}")?;
+    for name in record.values.names() {
+        if let Some(number) = record.values.find(name) {
+            write!(text, " {name}={number}")?;
+        }
     }
     Ok(text)
 }
 
 #[test]
 fn a_line_asks_for_a_command(rt: HostRuntime) -> Result<(), Fail> {
-    for row in COMMANDS.lines() {
-        let (line, wanted) = sides(row)?;
-        assert_eq!(rt; shown(rt.alloc(), line)?.as_str(), wanted, "{row}");
-    }
-    Ok(())
+    assert_rows(&rt, rt.alloc(), COMMANDS, shown)
 }
 
 #[test]
 fn a_line_is_refused_with_its_first_fault(rt: HostRuntime) -> Result<(), Fail> {
-    for row in FAULTS.lines() {
-        let (line, wanted) = sides(row)?;
-        assert_eq!(rt; shown(rt.alloc(), line)?.as_str(), wanted, "{row}");
-    }
-    Ok(())
+    assert_rows(&rt, rt.alloc(), FAULTS, shown)
 }
 
 /// So many value words behind an `add`, each of another name.
@@ -119,7 +111,7 @@ fn a_line_has_at_most_256_values(rt: HostRuntime) -> Result<(), Fail> {
     let Ok(Command::Add(record)) = read_line(alloc, most.as_bytes()) else {
         return Err(Fail::from("a record"));
     };
-    assert_eq!(rt; record.values.as_slice().len(), 256);
+    assert_eq!(rt; record.values.names().len(), 256);
     let more = with_values(alloc, 257)?;
     assert!(rt; matches!(read_line(alloc, more.as_bytes()), Err(LineFault::Words)));
     Ok(())
