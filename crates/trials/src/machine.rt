@@ -3,13 +3,11 @@ ghost use Rattle.std.specs.Prelude.{◌≡◌, ◌<◌, [], ◌∷◌, IfOk, len
 ghost use Rattle.pap_machine.specs.Machine.{IsSafeFor};
 ghost use Rattle.trials.specs.Codes.{sums_program};
 
-use crate::rows::assert_text;
 use pap_machine::{Code, Instr, Machine};
 use scaled_decimal::Dec;
 use std::alloc::{AllocError, Global};
 use std::marker::Brand;
 use std::sync::ledger::{Blank, Ledger};
-use std::test::Fail;
 use steps::Steps;
 
 /// Code that adds the input to a slot that begins at 5.
@@ -63,18 +61,19 @@ fn run_twice<L: Ledger>(
     Ok((start, output, outputs[0], count))
 }
 
-/// The same of the code that adds, on 1 and on 20.
-fn sums_twice(alloc: Global) -> Result<(Dec, Dec, Dec, u64), AllocError> {
-    let code = sums(alloc)?;
-    let first = Dec::new(1, 0);
-    let second = Dec::new(20, 0);
-    run_twice::<Brand>(alloc, &code, first, second, Blank::new(1))
-}
-
 #[test]
-fn each_run_begins_anew(rt: HostRuntime) -> Result<(), Fail> {
-    let (start, one, two, count) = sums_twice(rt.alloc())?;
-    let text = format!(in rt.alloc(); "{start} {one} {two} {count}")?;
-    assert_text(&rt, text.as_str(), "5 6 25 10");
-    Ok(())
+fn each_run_begins_anew(rt: HostRuntime) {
+    let code = sums(rt.alloc()).expect(&rt, "memory");
+    let runs = run_twice::<Brand>(
+        rt.alloc(),
+        &code,
+        Dec::new(1, 0),
+        Dec::new(20, 0),
+        Blank::new(1),
+    );
+    let (start, one, two, count) = runs.expect(&rt, "memory");
+    assert_eq!(rt; start, Dec::new(5, 0));
+    assert_eq!(rt; one, Dec::new(6, 0));
+    assert_eq!(rt; two, Dec::new(25, 0));
+    assert_eq!(rt; count, 10);
 }
