@@ -3,7 +3,7 @@ use crate::answers::sides;
 use jiff::civil::Date;
 use pap_tree::Name;
 use payroll_records::{
-    Day, Employee, InsertFault, Month, NamedValue, Record, TableFault, Values, When, read_table,
+    Day, Employee, InsertFault, Month, NamedValue, TableFault, Values, When, read_table,
 };
 use scaled_decimal::read_dec;
 use std::alloc::Global;
@@ -138,34 +138,6 @@ fn a_table_gives_its_records(rt: HostRuntime) -> Result<(), Fail> {
         return Err(Fail::from("a table"));
     };
     assert!(rt; none.is_empty());
-    Ok(())
-}
-
-/// The names of the values of a record, by its place.
-fn names_at(alloc: Global, records: &[Record], at: usize) -> Result<String, Fail> {
-    let record = records.get(at).ok_or("a record")?;
-    spelled(alloc, &record.values)
-}
-
-#[test]
-fn records_have_names_of_their_own(rt: HostRuntime) -> Result<(), Fail> {
-    let alloc = rt.alloc();
-    let text =
-        "employee,month,day,STKL,RE4\nE1,2025-01,2025-01-31,,5\nE2,2025-01,2025-01-31,1,6\nE3,2025-01,2025-01-31,2,7\n";
-    let Ok(mut records) = read_table(alloc, text.as_bytes()) else {
-        return Err(Fail::from("a table"));
-    };
-    let second = records.get_mut(1).ok_or("a record")?;
-    assert!(rt; second.values.insert(value("LZZ", "3")?).is_ok());
-    assert_eq!(rt; names_at(alloc, records.as_slice(), 0)?.as_str(), "RE4");
-    assert_eq!(rt;
-        names_at(alloc, records.as_slice(), 1)?.as_str(),
-        "LZZ RE4 STKL"
-    );
-    assert_eq!(rt;
-        names_at(alloc, records.as_slice(), 2)?.as_str(),
-        "RE4 STKL"
-    );
     Ok(())
 }
 
