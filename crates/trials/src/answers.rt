@@ -2,7 +2,6 @@
 ghost use Rattle.std.specs.Prelude.{◌≡◌, ◌≢◌, AllPairs, IfOk};
 ghost use Rattle.outside.specs.Memory.{named_files};
 
-pub(crate) use crate::rows::sides;
 use outside::{Files, MemFiles, MemSink, MemSource, Sink, Source};
 use pap_cli::{Status, papcalc, reason};
 use std::alloc::{AllocError, Global};
@@ -68,36 +67,27 @@ fn words_of(alloc: Global, text: &str) -> Result<Vec<String>, AllocError> {
     Ok(words)
 }
 
-fn files_of(alloc: Global, call: &Call<'_>) -> Result<MemFiles, AllocError> {
-    let files = two_files(alloc, call)?;
-    Ok(MemFiles::new(files, listed(alloc, call.file_fails)?))
-}
-
 /// The reason of a refusal, where the answer is one.
 pub(crate) fn reason_given(alloc: Global, call: &Call<'_>) -> Result<Option<String>, Fail> {
     let words = words_of(alloc, call.words)?;
-    let mut files = files_of(alloc, call)?;
+    let mut files = MemFiles::new(two_files(alloc, call)?, listed(alloc, call.file_fails)?);
     Ok(reason(alloc, &words, &mut files).ok().ok_or("an answer")?)
-}
-
-/// The status of words, on files and an empty source.
-fn status_of(
-    alloc: Global,
-    call: &Call<'_>,
-    words: &[String],
-    sink: &mut MemSink,
-) -> Result<Status, AllocError> {
-    let mut files = files_of(alloc, call)?;
-    let mut source = MemSource::new(Vec::new(alloc), 1, Vec::new(alloc));
-    let blank = Blank::new(1);
-    Ok(counted::<Brand, _, _, _>(alloc, words, &mut files, &mut source, sink, blank))
 }
 
 /// The status and what was written, with ` / ` between its lines.
 pub(crate) fn answered(alloc: Global, call: &Call<'_>) -> Result<(Status, String), Fail> {
     let words = words_of(alloc, call.words)?;
+    let mut files = MemFiles::new(two_files(alloc, call)?, listed(alloc, call.file_fails)?);
+    let mut source = MemSource::new(Vec::new(alloc), 1, Vec::new(alloc));
     let mut sink = MemSink::new(alloc, 4000, listed(alloc, call.sink_fails)?)?;
-    let status = status_of(alloc, call, &words, &mut sink)?;
+    let status = counted::<Brand, _, _, _>(
+        alloc,
+        &words,
+        &mut files,
+        &mut source,
+        &mut sink,
+        Blank::new(1),
+    );
     Ok((status, one_line(alloc, sink.written())?))
 }
 
@@ -142,4 +132,9 @@ pub(crate) fn attribute(alloc: Global, text: &str) -> Result<String, Fail> {
         }
     }
     Ok(escaped)
+}
+
+/// The two sides of a row.
+pub(crate) fn sides(row: &str) -> Result<(&str, &str), Fail> {
+    Ok(row.split_once(" => ").ok_or("a row")?)
 }

@@ -1,8 +1,6 @@
 //! The top call over objects in memory: its answers and its statuses.
-use crate::answers::{Call, answered, reason_given};
-use crate::rows::{assert_rows, assert_text};
+use crate::answers::{Call, answered, reason_given, sides};
 use pap_cli::Status;
-use std::alloc::{AllocError, Global};
 use std::test::Fail;
 
 /// A flowchart with an input N, a default, a test of a divisor and an output.
@@ -46,81 +44,74 @@ once a.xml l.toml N=x => BadWords -
 once a.xml l.toml N=1 N=2 => BadWords -
 run => BadWords -"#;
 
-fn shown(alloc: Global, status: Status, text: &str) -> Result<String, Fail> {
-    let text = if text.is_empty() { "-" } else { text };
-    Ok(format!(in alloc; "{status:?} {text}")?)
-}
-
-/// The status of a call and what it writes, `-` for nothing.
-fn answer(alloc: Global, call: &Call<'_>) -> Result<String, Fail> {
-    let (status, text) = answered(alloc, call)?;
-    shown(alloc, status, text.as_str())
-}
-
-fn answer_to_words(alloc: Global, words: &str) -> Result<String, Fail> {
-    answer(alloc, &Call { words, ..WHOLE })
-}
-
 #[test]
 fn words_are_answered(rt: HostRuntime) -> Result<(), Fail> {
-    assert_rows(&rt, rt.alloc(), ANSWERS, answer_to_words)
-}
-
-/// Which call of the files and of the sink fails, and the text of the range file; then the answer.
-const FAILURES: &str = r#"1 0 limits => FileFault -
-2 0 limits => FileFault -
-0 1 limits => WriteFault -
-0 0 nothing => Refused refused plan LimitName N"#;
-
-/// The number of a call that fails.
-fn call_number(word: Option<&str>) -> Result<u64, Fail> {
-    let word = word.ok_or("a call")?;
-    Ok(word.parse::<u64>().map_err(|_| Fail::from("a call"))?)
-}
-
-fn answer_to_failures(alloc: Global, row: &str) -> Result<String, Fail> {
-    let mut words = row.split_whitespace();
-    let file_fails = call_number(words.next())?;
-    let sink_fails = call_number(words.next())?;
-    let limits = if row.ends_with("limits") { LIMITS } else { "" };
-    let call = Call {
-        limits,
-        file_fails,
-        sink_fails,
-        ..WHOLE
-    };
-    answer(alloc, &call)
+    for row in ANSWERS.lines() {
+        let (words, wanted) = sides(row)?;
+        let (status, text) = answered(rt.alloc(), &Call { words, ..WHOLE })?;
+        let text = if text.is_empty() { "-" } else { text.as_str() };
+        let answer = format!(in rt.alloc(); "{status:?} {text}")?;
+        assert_eq!(rt; answer.as_str(), wanted, "{row}");
+    }
+    Ok(())
 }
 
 #[test]
 fn calls_that_fail_have_their_status(rt: HostRuntime) -> Result<(), Fail> {
-    assert_rows(&rt, rt.alloc(), FAILURES, answer_to_failures)
-}
-
-/// The statuses by their numbers.
-const STATUSES: [Status; 8] = [
-    Status::Done,
-    Status::Refused,
-    Status::BadWords,
-    Status::FileFault,
-    Status::ReadFault,
-    Status::WriteFault,
-    Status::NoMemory,
-    Status::ScriptLong,
-];
-
-fn numbers(alloc: Global) -> Result<String, AllocError> {
-    let mut text = String::new(alloc);
-    for status in STATUSES {
-        write!(text, "{}", status.number())?;
+    let calls = [
+        (
+            Call {
+                limits: "",
+                ..WHOLE
+            },
+            "Refused refused plan LimitName N",
+        ),
+        (
+            Call {
+                file_fails: 1,
+                ..WHOLE
+            },
+            "FileFault -",
+        ),
+        (
+            Call {
+                file_fails: 2,
+                ..WHOLE
+            },
+            "FileFault -",
+        ),
+        (
+            Call {
+                sink_fails: 1,
+                ..WHOLE
+            },
+            "WriteFault -",
+        ),
+    ];
+    for (call, wanted) in calls.iter() {
+        let (status, text) = answered(rt.alloc(), call)?;
+        let text = if text.is_empty() { "-" } else { text.as_str() };
+        let answer = format!(in rt.alloc(); "{status:?} {text}")?;
+        assert_eq!(rt; answer.as_str(), *wanted);
     }
-    Ok(text)
+    Ok(())
 }
 
 #[test]
-fn statuses_have_their_numbers(rt: HostRuntime) -> Result<(), Fail> {
-    assert_text(&rt, numbers(rt.alloc())?.as_str(), "01234567");
-    Ok(())
+fn statuses_have_their_numbers(rt: HostRuntime) {
+    let statuses = [
+        Status::Done,
+        Status::Refused,
+        Status::BadWords,
+        Status::FileFault,
+        Status::ReadFault,
+        Status::WriteFault,
+        Status::NoMemory,
+        Status::ScriptLong,
+    ];
+    for (number, status) in statuses.iter().enumerate() {
+        assert_eq!(rt; status.number() as usize, number);
+    }
 }
 
 /// Words, and the reason of their refusal.
@@ -132,13 +123,13 @@ check l.toml l.toml => plan, line 1, column 1: at `[input.N]` stands text outsid
 check a.xml a.xml => range file, line 1, column 1: the text isn't TOML: invalid key, expected letters, numbers, `-`, `_` or a quoted key
 check => -"#;
 
-/// The reason of a refusal, `-` for none.
-fn reason_of_words(alloc: Global, words: &str) -> Result<String, Fail> {
-    let given = reason_given(alloc, &Call { words, ..WHOLE })?;
-    Ok(given.unwrap_or(String::from_str(alloc, "-")?))
-}
-
 #[test]
 fn refusals_have_reasons(rt: HostRuntime) -> Result<(), Fail> {
-    assert_rows(&rt, rt.alloc(), REASONS, reason_of_words)
+    for row in REASONS.lines() {
+        let (words, wanted) = sides(row)?;
+        let given = reason_given(rt.alloc(), &Call { words, ..WHOLE })?;
+        let shown = given.as_ref().map_or("-", |reason| reason.as_str());
+        assert_eq!(rt; shown, wanted, "{row}");
+    }
+    Ok(())
 }

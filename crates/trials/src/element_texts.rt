@@ -1,9 +1,10 @@
 //! Element texts: the worked examples, each element and attribute once, every limit and one past it.
+
+use crate::answers::sides;
 use crate::realistic::realistic;
-use crate::rows::{assert_rows, assert_text};
-use pap_reader::{Elements, RawDeclared, RawStmt, ReadFault, Which, read_elements};
-use std::alloc::{AllocError, Global};
-use std::str::from_utf8;
+use pap_reader::{RawDeclared, RawStmt, ReadFault, Which, read_elements};
+use pap_tree::Kind;
+use std::alloc::Global;
 use std::test::Fail;
 
 /// A plan with an input, an output, an internal, two constants and three statements.
@@ -68,57 +69,42 @@ x => Text 0
 <PAP>text => Text 5
 <PAP a='>'><!-->--><PAP> => Element 19"#;
 
-/// The fault of a text in which `\u{feff}` stands for that character.
-fn fault_of_text(alloc: Global, written: &str) -> Result<String, Fail> {
-    let text = written.replace(alloc, "\\u{feff}", "\u{feff}")?;
-    shown(alloc, fault(alloc, text.as_bytes()))
-}
-
 #[test]
 fn refuses_the_first_token_that_earns_it(rt: HostRuntime) -> Result<(), Fail> {
-    assert_rows(&rt, rt.alloc(), FAULTS, fault_of_text)
-}
-
-/// Whether a front of a plan ends within a token or an element.
-fn is_cut_off(alloc: Global, front: &[u8]) -> bool {
-    match fault(alloc, front) {
-        Some(ReadFault::Text { .. } | ReadFault::Element { .. }) => true,
-        _ => false,
+    for row in FAULTS.lines() {
+        let (written, wanted) = sides(row)?;
+        let text = written.replace(rt.alloc(), "\\u{feff}", "\u{feff}")?;
+        let answer = shown(rt.alloc(), fault(rt.alloc(), text.as_bytes()))?;
+        assert_eq!(rt; answer.as_str(), wanted, "{row}");
     }
-}
-
-/// The first front of a text that isn't refused as it should.
-fn first_uncut(alloc: Global, bytes: &[u8]) -> Option<usize> {
-    for end in 0..bytes.len() {
-        let (front, _) = bytes.split_at(end);
-        if !is_cut_off(alloc, front) {
-            return Some(end);
-        }
-    }
-    None
+    Ok(())
 }
 
 #[test]
 fn refuses_every_front_of_a_plan(rt: HostRuntime) {
-    assert!(rt; first_uncut(rt.alloc(), SMALL.as_bytes()).is_none());
+    let bytes = SMALL.as_bytes();
+    assert!(rt; fault(rt.alloc(), bytes).is_none());
+    for end in 0..bytes.len() {
+        let (front, _) = bytes.split_at(end);
+        let refused = match fault(rt.alloc(), front) {
+            Some(ReadFault::Text { .. } | ReadFault::Element { .. }) => true,
+            _ => false,
+        };
+        assert!(rt; refused, "at {end}");
+    }
 }
 
-/// The text of an IF's test that stands alone in MAIN.
-fn test_of(alloc: Global, expr: &[u8]) -> Result<Option<Vec<u8>>, AllocError> {
+/// The texts of an IF's test that stands alone in MAIN.
+fn test_of(alloc: Global, expr: &[u8]) -> Result<Option<Vec<u8>>, Fail> {
     let mut bytes = opened(alloc)?;
     bytes.extend_from_slice(b"<IF expr=")?;
     bytes.extend_from_slice(expr)?;
     bytes.extend_from_slice(b"><THEN/></IF></MAIN></METHODS></PAP>")?;
-    match read_elements(alloc, &bytes) {
-        Ok(plan) => first_test(alloc, &plan.main),
-        Err(_) => Ok(None),
-    }
-}
-
-/// The test of the first of these statements, where it is an IF.
-fn first_test(alloc: Global, body: &[RawStmt]) -> Result<Option<Vec<u8>>, AllocError> {
-    match body.first() {
-        Some(RawStmt::If { test, .. }) => Ok(Some(test.as_slice().to_vec(alloc)?)),
+    let Ok(plan) = read_elements(alloc, &bytes) else {
+        return Ok(None);
+    };
+    match plan.main.into_iter().next() {
+        Some(RawStmt::If { test, .. }) => Ok(Some(test)),
         _ => Ok(None),
     }
 }
@@ -143,60 +129,42 @@ const ESCAPES: &str = r#""a &lt; b" => a < b
 '&lt' => none
 '<' => none"#;
 
-/// A text with the bytes that `\n`, `\x01` and `\x7F` stand for.
-fn with_bytes(alloc: Global, text: &str) -> Result<String, AllocError> {
+fn with_bytes(alloc: Global, text: &str) -> Result<String, Fail> {
     let text = text.replace(alloc, "\\n", "\n")?;
     let text = text.replace(alloc, "\\x01", "\u{1}")?;
-    text.replace(alloc, "\\x7F", "\u{7f}")
-}
-
-/// A text with `\n`, `\x01` and `\x7F` for these bytes.
-fn without_bytes(alloc: Global, text: &str) -> Result<String, AllocError> {
-    let text = text.replace(alloc, "\n", "\\n")?;
-    let text = text.replace(alloc, "\u{1}", "\\x01")?;
-    text.replace(alloc, "\u{7f}", "\\x7F")
-}
-
-fn decoded(alloc: Global, written: &str) -> Result<String, Fail> {
-    let expr = with_bytes(alloc, written)?;
-    let Some(test) = test_of(alloc, expr.as_bytes())? else {
-        return Ok(String::from_str(alloc, "none")?);
-    };
-    let text = from_utf8(&test).map_err(|_| Fail::from("a text"))?;
-    Ok(without_bytes(alloc, text)?)
+    Ok(text.replace(alloc, "\\x7F", "\u{7f}")?)
 }
 
 #[test]
 fn decodes_the_escapes(rt: HostRuntime) -> Result<(), Fail> {
-    assert_rows(&rt, rt.alloc(), ESCAPES, decoded)
-}
-
-/// Appends each name with its type, and with the text of its value where it has one.
-fn push_declared(text: &mut String, declared: &[RawDeclared]) -> Result<(), Fail> {
-    for one in declared {
-        write!(text, "{}:{:?}", one.name, one.kind)?;
-        if let Some(value) = &one.value {
-            let value = from_utf8(value).map_err(|_| Fail::from("a text"))?;
-            write!(text, "={value}")?;
-        }
-        text.push_str(" ")?;
+    let alloc = rt.alloc();
+    for row in ESCAPES.lines() {
+        let (written, meant) = sides(row)?;
+        let expr = with_bytes(alloc, written)?;
+        let wanted = with_bytes(alloc, meant)?;
+        let test = test_of(alloc, expr.as_bytes())?.unwrap_or(b"none".to_vec(alloc)?);
+        assert_eq!(rt; test.as_slice(), wanted.as_bytes(), "{row}");
     }
     Ok(())
 }
 
-/// Appends each statement: an IF with its test and the numbers of statements in its branches.
-fn push_statements(text: &mut String, body: &[RawStmt]) -> Result<(), Fail> {
-    for statement in body {
-        match statement {
-            RawStmt::Eval { .. } => text.push_str("eval ")?,
-            RawStmt::Execute { method } => write!(text, "{method} ")?,
-            RawStmt::If { test, yes, no } => {
-                let test = from_utf8(test).map_err(|_| Fail::from("a text"))?;
-                write!(text, "[{test}|{}|{}] ", yes.len(), no.len())?;
-            }
+fn is_declared(declared: &RawDeclared, name: &str, kind: Kind, value: Option<&[u8]>) -> bool {
+    let same_value = match (&declared.value, value) {
+        (Some(text), Some(want)) => text.as_slice() == want,
+        (None, None) => true,
+        _ => false,
+    };
+    declared.name.as_str() == name && declared.kind == kind && same_value
+}
+
+/// Whether the first of these statements is an IF with this test and so many statements in its branches.
+fn begins_with_branch(body: &[RawStmt], expr: &[u8], in_then: usize, in_else: usize) -> bool {
+    match body.first() {
+        Some(RawStmt::If { test, yes, no }) => {
+            test.as_slice() == expr && yes.len() == in_then && no.len() == in_else
         }
+        _ => false,
     }
-    Ok(())
 }
 
 /// The statements of the ELSE of the first of these.
@@ -207,74 +175,51 @@ fn first_else(body: &[RawStmt]) -> &[RawStmt] {
     }
 }
 
-/// Appends what a plan declares, and MAIN.
-fn push_plan(text: &mut String, plan: &Elements) -> Result<(), Fail> {
-    push_declared(text, &plan.inputs)?;
-    text.push_str("/ ")?;
-    push_declared(text, &plan.outputs)?;
-    text.push_str("/ ")?;
-    push_declared(text, &plan.internals)?;
-    write!(text, "/ {} / ", plan.constants.len())?;
-    push_statements(text, &plan.main)
-}
-
-/// Appends each method with its statements, and with those of its first ELSE.
-fn push_methods(text: &mut String, plan: &Elements) -> Result<(), Fail> {
-    for method in &plan.methods {
-        write!(text, "/ {}: ", method.name)?;
-        push_statements(text, &method.body)?;
-        push_statements(text, first_else(&method.body))?;
+fn begins_with_call(body: &[RawStmt], name: &str) -> bool {
+    match body.first() {
+        Some(RawStmt::Execute { method }) => method.as_str() == name,
+        _ => false,
     }
-    Ok(())
-}
-
-fn read_text(alloc: Global, bytes: &[u8]) -> Result<String, Fail> {
-    let mut text = String::new(alloc);
-    let plan = read_elements(alloc, bytes)?;
-    push_plan(&mut text, &plan)?;
-    push_methods(&mut text, &plan)?;
-    Ok(text)
 }
 
 #[test]
 fn reads_a_small_plan(rt: HostRuntime) -> Result<(), Fail> {
-    let text = read_text(rt.alloc(), SMALL.as_bytes())?;
-    let wanted =
-        "RE4:Big / LST:Big / X:Big / 2 / eval [X.compareTo(BigDecimal.ZERO) == -1|1|0] eval ";
-    assert_text(&rt, text.as_str(), wanted);
+    let plan = read_elements(rt.alloc(), SMALL.as_bytes())?;
+    assert_eq!(rt; plan.inputs.len(), 1);
+    assert!(rt; is_declared(&plan.inputs[0], "RE4", Kind::Big, None));
+    assert_eq!(rt; plan.outputs.len(), 1);
+    assert!(rt; is_declared(&plan.outputs[0], "LST", Kind::Big, None));
+    assert_eq!(rt; plan.internals.len(), 1);
+    assert!(rt; is_declared(&plan.internals[0], "X", Kind::Big, None));
+    assert_eq!(rt; plan.constants.len(), 2);
+    let value = b"BigDecimal.valueOf(0.14)";
+    assert!(rt; is_declared(&plan.constants[1], "SATZ", Kind::Big, Some(value)));
+    assert_eq!(rt; plan.main.len(), 3);
+    assert!(rt; plan.methods.is_empty());
+    let test = b"X.compareTo(BigDecimal.ZERO) == -1";
+    assert!(rt; begins_with_branch(&plan.main[1..], test, 1, 0));
     Ok(())
 }
-
-const REALISTIC: &str =
-    r#"af:Int=1 f:Factor=1.0 LZZ:Int RE4:Big STKL:Int VBEZ:Big=new BigDecimal(0) VJAHR:Int=0 / LSTLZZ:Big=new BigDecimal(0) SOLZLZZ:Big=new BigDecimal(0) ZVEOUT:Big / ANTEIL1:Big FVB:Big J:Int JW:Big KZTAB:Int=1 RW:Big ST:Big X:Big Y:Big ZRE4J:Big ZVE:Big / 8 / MRE4JL MVERS MZVE UPTAB eval UPANTEIL eval eval eval / MRE4JL: [LZZ == 1|1|1] [af == 0|1|0] [LZZ == 2|1|1] / MVERS: [VBEZ.compareTo (BigDecimal.ZERO) == 0|1|3] [VJAHR < 2006|1|1] eval [FVB.compareTo (TAB2[J]) == 1|1|0] / MZVE: eval [ZVE.compareTo (BigDecimal.ZERO) == -1|1|0] [STKL == 3|1|1] eval / UPTAB: [X.compareTo (GFB) < 1|1|1] eval [X.compareTo (BigDecimal.valueOf (60001)) == -1|4|1] / UPANTEIL: [LZZ == 1|1|1] [LZZ == 2|1|1] "#;
 
 #[test]
 fn reads_a_realistic_plan(rt: HostRuntime) -> Result<(), Fail> {
-    let text = read_text(rt.alloc(), realistic().as_bytes())?;
-    assert_text(&rt, text.as_str(), REALISTIC);
-    Ok(())
-}
-
-/// A table, an item of a table and a literal, as constants.
-const CONSTANTS: &str =
-    "<CONSTANT name='A' type='BigDecimal[]' value='{}'/><CONSTANT name='B' type='BigDecimal' value='BigDecimal.valueOf(0.14)'/>";
-
-fn constants_read(alloc: Global, constants: &str) -> Result<String, Fail> {
-    let mut text = String::new(alloc);
-    let bytes = IN_CONSTANTS.replace(alloc, "@", constants)?;
-    let plan = read_elements(alloc, bytes.as_bytes())?;
-    push_declared(&mut text, &plan.constants)?;
-    Ok(text)
-}
-
-#[test]
-fn reads_constants(rt: HostRuntime) -> Result<(), Fail> {
-    let text = constants_read(rt.alloc(), CONSTANTS)?;
-    assert_text(
-        &rt,
-        text.as_str(),
-        "A:Table={} B:Big=BigDecimal.valueOf(0.14) ",
-    );
+    let plan = read_elements(rt.alloc(), realistic().as_bytes())?;
+    assert_eq!(rt; plan.inputs.len(), 7);
+    assert!(rt; is_declared(&plan.inputs[1], "f", Kind::Factor, Some(b"1.0")));
+    assert!(rt; is_declared(&plan.inputs[2], "LZZ", Kind::Int, None));
+    assert_eq!(rt; plan.outputs.len(), 3);
+    assert!(rt; is_declared(&plan.outputs[2], "ZVEOUT", Kind::Big, None));
+    assert_eq!(rt; plan.internals.len(), 11);
+    assert!(rt; is_declared(&plan.internals[4], "KZTAB", Kind::Int, Some(b"1")));
+    assert_eq!(rt; plan.constants.len(), 8);
+    assert!(rt; plan.constants[0].kind == Kind::Table);
+    assert_eq!(rt; plan.main.len(), 9);
+    assert_eq!(rt; plan.methods.len(), 5);
+    assert_eq!(rt; plan.methods[1].name.as_str(), "MVERS");
+    let body = &plan.methods[1].body;
+    assert!(rt; begins_with_branch(body, b"VBEZ.compareTo (BigDecimal.ZERO) == 0", 1, 3));
+    assert!(rt; begins_with_branch(first_else(body), b"VJAHR < 2006", 1, 1));
+    assert!(rt; begins_with_call(&plan.main[1..], "MVERS"));
     Ok(())
 }
 
@@ -341,16 +286,17 @@ fn frame(element: &str) -> &'static str {
     }
 }
 
-fn is_read(alloc: Global, asked: &str) -> Result<String, Fail> {
-    let (element, piece) = asked.split_once(' ').unwrap_or((asked, ""));
-    let text = frame(element).replace(alloc, "@", piece)?;
-    let is_read = fault(alloc, text.as_bytes()).is_none();
-    Ok(String::from_str(alloc, if is_read { "read" } else { "refused" })?)
-}
-
 #[test]
 fn knows_each_element_and_attribute(rt: HostRuntime) -> Result<(), Fail> {
-    assert_rows(&rt, rt.alloc(), PIECES, is_read)
+    let alloc = rt.alloc();
+    for row in PIECES.lines() {
+        let (asked, wanted) = sides(row)?;
+        let (element, piece) = asked.split_once(' ').unwrap_or((asked, ""));
+        let text = frame(element).replace(alloc, "@", piece)?;
+        let is_read = fault(alloc, text.as_bytes()).is_none();
+        assert_eq!(rt; is_read, wanted == "read", "{row}");
+    }
+    Ok(())
 }
 
 const IN_PAP: &str =
@@ -378,10 +324,10 @@ const IN_MAIN: &str =
     "<PAP><METHODS><MAIN>@</MAIN></METHODS><VARIABLES><OUTPUTS><OUTPUT name='A' type='int'/></OUTPUTS></VARIABLES></PAP>";
 
 /// A plan up to the content of MAIN.
-fn opened(alloc: Global) -> Result<Vec<u8>, AllocError> {
+fn opened(alloc: Global) -> Result<Vec<u8>, Fail> {
     let head =
         b"<PAP><VARIABLES><OUTPUTS><OUTPUT name='A' type='int'/></OUTPUTS></VARIABLES><METHODS><MAIN>";
-    Vec::from_slice(alloc, head)
+    Ok(Vec::from_slice(alloc, head)?)
 }
 
 const IN_VALUE: &str =
@@ -406,27 +352,31 @@ VALUE 8192 x => read
 VALUE 8193 x => Attribute 20
 VALUE 2049 &lt; => Attribute 20"#;
 
-fn number(text: &str) -> Result<usize, Fail> {
-    Ok(text.parse::<usize>().map_err(|_| Fail::from("a number"))?)
-}
-
-/// The fault of a piece that stands so often in its place.
-fn fault_of_pieces(alloc: Global, row: &str) -> Result<String, Fail> {
+/// The fault of a row.
+fn fault_of(alloc: Global, row: &str) -> Result<Option<ReadFault>, Fail> {
     let (element, rest) = row.split_once(' ').ok_or("a place")?;
     let (times, piece) = rest.split_once(' ').ok_or("a piece")?;
-    let pieces = piece.repeat(alloc, number(times)?)?;
+    let times = times.parse::<usize>().map_err(|_| Fail::from("a number"))?;
+    let mut pieces = String::new(alloc);
+    for _ in 0..times {
+        pieces.push_str(piece)?;
+    }
     let text = frame(element).replace(alloc, "@", pieces.as_str())?;
-    shown(alloc, fault(alloc, text.as_bytes()))
+    Ok(fault(alloc, text.as_bytes()))
 }
 
 #[test]
 fn keeps_its_counts(rt: HostRuntime) -> Result<(), Fail> {
-    assert_rows(&rt, rt.alloc(), COUNTS, fault_of_pieces)
+    for row in COUNTS.lines() {
+        let (asked, wanted) = sides(row)?;
+        let answer = shown(rt.alloc(), fault_of(rt.alloc(), asked)?)?;
+        assert_eq!(rt; answer.as_str(), wanted, "{row}");
+    }
+    Ok(())
 }
 
 /// The fault of a plan with so many IFs in one another.
-fn fault_of_nesting(alloc: Global, depth: &str) -> Result<String, Fail> {
-    let depth = number(depth)?;
+fn fault_of_nesting(alloc: Global, depth: usize) -> Result<Option<ReadFault>, Fail> {
     let mut bytes = opened(alloc)?;
     for _ in 0..depth {
         bytes.extend_from_slice(b"<IF expr='A'><THEN>")?;
@@ -435,36 +385,33 @@ fn fault_of_nesting(alloc: Global, depth: &str) -> Result<String, Fail> {
         bytes.extend_from_slice(b"</THEN></IF>")?;
     }
     bytes.extend_from_slice(b"</MAIN></METHODS></PAP>")?;
-    shown(alloc, fault(alloc, &bytes))
+    Ok(fault(alloc, &bytes))
 }
 
 #[test]
 fn keeps_its_depth(rt: HostRuntime) -> Result<(), Fail> {
-    assert_rows(
-        &rt,
-        rt.alloc(),
-        "32 => read\n33 => Many Depth",
-        fault_of_nesting,
-    )
-}
-
-/// The fault of a plan of so many bytes.
-fn fault_of_length(alloc: Global, length: &str) -> Result<String, Fail> {
-    let mut bytes = SMALL.as_bytes().to_vec(alloc)?;
-    for _ in bytes.len()..number(length)? {
-        bytes.push(b' ')?;
-    }
-    shown(alloc, fault(alloc, &bytes))
+    let answer = shown(rt.alloc(), fault_of_nesting(rt.alloc(), 32)?)?;
+    assert_eq!(rt; answer.as_str(), "read");
+    let answer = shown(rt.alloc(), fault_of_nesting(rt.alloc(), 33)?)?;
+    assert_eq!(rt; answer.as_str(), "Many Depth");
+    Ok(())
 }
 
 #[test]
 fn keeps_its_length(rt: HostRuntime) -> Result<(), Fail> {
-    let rows = "1048576 => read\n1048577 => Many Bytes";
-    assert_rows(&rt, rt.alloc(), rows, fault_of_length)
+    let alloc = rt.alloc();
+    let mut bytes = SMALL.as_bytes().to_vec(alloc)?;
+    for _ in bytes.len()..1_048_576 {
+        bytes.push(b' ')?;
+    }
+    assert_eq!(rt; shown(alloc, fault(alloc, &bytes))?.as_str(), "read");
+    bytes.push(b' ')?;
+    assert_eq!(rt; shown(alloc, fault(alloc, &bytes))?.as_str(), "Many Bytes");
+    Ok(())
 }
 
 /// A root's tag with 100,000 attributes of different names.
-fn many_attributes(alloc: Global) -> Result<Vec<u8>, AllocError> {
+fn many_attributes(alloc: Global) -> Result<Vec<u8>, Fail> {
     let mut bytes = Vec::from_slice(alloc, b"<PAP")?;
     for n in 0..100_000u32 {
         bytes.extend_from_slice(b" a")?;
@@ -478,51 +425,51 @@ fn many_attributes(alloc: Global) -> Result<Vec<u8>, AllocError> {
     Ok(bytes)
 }
 
-/// The fault of that tag with this end.
-fn fault_of_tag(alloc: Global, end: &str) -> Result<String, Fail> {
-    let mut bytes = many_attributes(alloc)?;
-    bytes.extend_from_slice(end.as_bytes())?;
-    shown(alloc, fault(alloc, &bytes))
-}
-
 #[test]
 fn compares_many_names(rt: HostRuntime) -> Result<(), Fail> {
-    let rows = "> => Element 1000005\n a00000=''> => Attribute 0";
-    assert_rows(&rt, rt.alloc(), rows, fault_of_tag)
-}
-
-/// A fault of each sort.
-const EACH_FAULT: [ReadFault; 6] = [
-    ReadFault::Text { at: 7 },
-    ReadFault::Element { at: 0 },
-    ReadFault::Attribute { at: 12 },
-    ReadFault::Many {
-        which: Which::Outputs,
-    },
-    ReadFault::Many {
-        which: Which::Depth,
-    },
-    ReadFault::Memory,
-];
-
-const EXPECTED: &str = r#"byte 7: expected a tag, a comment or white space
-byte 0: expected another element or end tag of the flowchart
-byte 12: expected a tag with its needed attributes in their form, none twice and none over 8192 bytes
-expected at most 256 OUTPUTs
-expected at most 32 IFs in one another
-out of memory
-"#;
-
-fn printed_faults(alloc: Global) -> Result<String, AllocError> {
-    let mut text = String::new(alloc);
-    for fault in EACH_FAULT {
-        writeln!(text, "{fault}")?;
-    }
-    Ok(text)
+    let alloc = rt.alloc();
+    let mut bytes = many_attributes(alloc)?;
+    bytes.push(b'>')?;
+    assert!(rt; fault(alloc, &bytes) == Some(ReadFault::Element { at: bytes.len() }));
+    let mut bytes = many_attributes(alloc)?;
+    bytes.extend_from_slice(b" a00000=''>")?;
+    assert!(rt; fault(alloc, &bytes) == Some(ReadFault::Attribute { at: 0 }));
+    Ok(())
 }
 
 #[test]
 fn says_what_was_expected(rt: HostRuntime) -> Result<(), Fail> {
-    assert_text(&rt, printed_faults(rt.alloc())?.as_str(), EXPECTED);
+    let alloc = rt.alloc();
+    let cases = [
+        (
+            ReadFault::Text { at: 7 },
+            "byte 7: expected a tag, a comment or white space",
+        ),
+        (
+            ReadFault::Element { at: 0 },
+            "byte 0: expected another element or end tag of the flowchart",
+        ),
+        (
+            ReadFault::Attribute { at: 12 },
+            "byte 12: expected a tag with its needed attributes in their form, none twice and none over 8192 bytes",
+        ),
+        (
+            ReadFault::Many {
+                which: Which::Outputs,
+            },
+            "expected at most 256 OUTPUTs",
+        ),
+        (
+            ReadFault::Many {
+                which: Which::Depth,
+            },
+            "expected at most 32 IFs in one another",
+        ),
+        (ReadFault::Memory, "out of memory"),
+    ];
+    for (fault, want) in cases {
+        let text = format!(in alloc; "{fault}")?;
+        assert_eq!(rt; text.as_str(), want);
+    }
     Ok(())
 }

@@ -1,9 +1,8 @@
 //! The texts of expressions: what they stand for, by its canonical spelling, and which token stops them.
-use crate::rows::{assert_rows, assert_text};
+use crate::answers::sides;
 use pap_expr::{ExprFault, parse_assign, parse_constant, parse_expr};
-use pap_tree::{Expr, Literal, Name, find_node, print_expr};
-use std::alloc::{AllocError, Global};
-use std::str::from_utf8;
+use pap_tree::{Literal, find_node, print_expr};
+use std::alloc::Global;
 use std::test::Fail;
 
 /// Tests with their canonical spelling.
@@ -240,40 +239,30 @@ fn parts(fault: ExprFault) -> (&'static str, usize) {
     }
 }
 
-/// The canonical spelling of an expression.
-fn spelling(alloc: Global, e: &Expr) -> Result<String, Fail> {
-    let bytes = print_expr(alloc, e)?;
-    let text = from_utf8(&bytes).map_err(|_| Fail::from("a text"))?;
-    Ok(String::from_str(alloc, text)?)
-}
-
-/// The canonical spelling of a test's text.
-fn respelled(alloc: Global, text: &str) -> Result<String, Fail> {
-    let e = parse_expr(alloc, text.as_bytes())?;
-    spelling(alloc, &e)
-}
-
-/// The canonical spelling of a test's text, which is read back as the same.
-fn respelled_twice(alloc: Global, text: &str) -> Result<String, Fail> {
-    let once = respelled(alloc, text)?;
-    respelled(alloc, once.as_str())
-}
-
 #[test]
 fn texts_stand_for_their_trees(rt: HostRuntime) -> Result<(), Fail> {
-    assert_rows(&rt, rt.alloc(), SPELLINGS, respelled)?;
-    assert_rows(&rt, rt.alloc(), SPELLINGS, respelled_twice)
-}
-
-/// The cause and the place of the stopping token of a test.
-fn stop(alloc: Global, text: &str) -> Result<String, Fail> {
-    let (cause, at) = parts(fault(alloc, Line::Test, text).ok_or("a fault")?);
-    Ok(format!(in alloc; "{cause} {at}")?)
+    let alloc = rt.alloc();
+    for row in SPELLINGS.lines() {
+        let (text, spelling) = sides(row)?;
+        let e = parse_expr(alloc, text.as_bytes())?;
+        let spelled = print_expr(alloc, &e)?;
+        assert_eq!(rt; spelled.as_slice(), spelling.as_bytes(), "{text}");
+        let back = parse_expr(alloc, spelled.as_slice())?;
+        let again = print_expr(alloc, &back)?;
+        assert_eq!(rt; again.as_slice(), spelled.as_slice(), "{text}");
+    }
+    Ok(())
 }
 
 #[test]
 fn texts_are_refused_at_their_stopping_token(rt: HostRuntime) -> Result<(), Fail> {
-    assert_rows(&rt, rt.alloc(), STOPPED, stop)
+    for row in STOPPED.lines() {
+        let (text, wanted) = sides(row)?;
+        let (cause, at) = parts(fault(rt.alloc(), Line::Test, text).ok_or("a fault")?);
+        let answer = format!(in rt.alloc(); "{cause} {at}")?;
+        assert_eq!(rt; answer.as_str(), wanted, "{row}");
+    }
+    Ok(())
 }
 
 /// The cause for which a token isn't taken behind a front, or nothing where it is.
@@ -325,35 +314,35 @@ fn wanted_cause<'a>(words: &'a str, token: &str) -> &'a str {
     "Syntax"
 }
 
-/// The first token that isn't taken or refused behind a front as the words of its row say.
-fn mistaken_token(alloc: Global, line: Line, row: &str) -> Result<Option<&'static str>, Fail> {
-    let (front, words) = row.split_once(" | ").ok_or("a front")?;
-    for token in TOKENS.split_whitespace() {
-        if cause_behind(alloc, line, front, token)? != wanted_cause(words, token) {
-            return Ok(Some(token));
+/// The first front of the table, and the token behind it, that isn't taken or refused as its row says.
+fn first_mistaken<'a>(
+    alloc: Global,
+    line: Line,
+    table: &'a str,
+) -> Result<Option<(&'a str, &'a str)>, Fail> {
+    for row in table.lines() {
+        let (front, words) = row.split_once(" | ").ok_or("a front")?;
+        for token in TOKENS.split_whitespace() {
+            if cause_behind(alloc, line, front, token)? != wanted_cause(words, token) {
+                return Ok(Some((row, token)));
+            }
         }
     }
     Ok(None)
 }
 
-/// The first row of a table with such a token, and the token; `none` where each is as its row says.
-fn first_mistaken(alloc: Global, line: Line, table: &str) -> Result<String, Fail> {
-    for row in table.lines() {
-        if let Some(token) = mistaken_token(alloc, line, row)? {
-            return Ok(format!(in alloc; "{row}: {token}")?);
-        }
-    }
-    Ok(String::from_str(alloc, "none")?)
-}
-
 #[test]
 fn each_token_behind_each_front(rt: HostRuntime) -> Result<(), Fail> {
-    let text = first_mistaken(rt.alloc(), Line::Test, FRONTS)?;
-    assert_text(&rt, text.as_str(), "none");
-    let text = first_mistaken(rt.alloc(), Line::Assignment, ASSIGNED_FRONTS)?;
-    assert_text(&rt, text.as_str(), "none");
-    let text = first_mistaken(rt.alloc(), Line::Declared, DECLARED_FRONTS)?;
-    assert_text(&rt, text.as_str(), "none");
+    let alloc = rt.alloc();
+    assert_eq!(rt; first_mistaken(alloc, Line::Test, FRONTS)?, None);
+    assert_eq!(rt;
+        first_mistaken(alloc, Line::Assignment, ASSIGNED_FRONTS)?,
+        None
+    );
+    assert_eq!(rt;
+        first_mistaken(alloc, Line::Declared, DECLARED_FRONTS)?,
+        None
+    );
     Ok(())
 }
 
@@ -380,51 +369,52 @@ fn sized(alloc: Global, row: &str) -> Result<String, Fail> {
 }
 
 /// Whether a spelling is read back as the same.
-fn read_back(alloc: Global, spelled: &str) -> Result<&'static str, Fail> {
-    let Ok(back) = parse_expr(alloc, spelled.as_bytes()) else {
+fn read_back(alloc: Global, spelled: &[u8]) -> Result<&'static str, Fail> {
+    let Ok(back) = parse_expr(alloc, spelled) else {
         return Ok("reads, and its spelling is too deep");
     };
-    let again = spelling(alloc, &back)?;
-    Ok(if again.as_str() == spelled {
+    let again = print_expr(alloc, &back)?;
+    Ok(if again.as_slice() == spelled {
         "reads"
     } else {
         "differs"
     })
 }
 
-/// Whether the text of a row is read, printed and read back as the same, or why not.
-fn reads(alloc: Global, row: &str) -> Result<String, Fail> {
-    let text = sized(alloc, row)?;
-    if let Some(fault) = fault(alloc, Line::Test, text.as_str()) {
-        let (cause, at) = parts(fault);
-        return Ok(format!(in alloc; "{cause} {at}")?);
+/// Whether a text is read, printed and read back as the same, or why not.
+fn reads(alloc: Global, text: &str) -> Result<String, Fail> {
+    match parse_expr(alloc, text.as_bytes()) {
+        Ok(e) => {
+            let spelled = print_expr(alloc, &e)?;
+            Ok(String::from_str(alloc, read_back(alloc, spelled.as_slice())?)?)
+        }
+        Err(fault) => {
+            let (cause, at) = parts(fault);
+            Ok(format!(in alloc; "{cause} {at}")?)
+        }
     }
-    let spelled = respelled(alloc, text.as_str())?;
-    Ok(String::from_str(alloc, read_back(alloc, spelled.as_str())?)?)
 }
 
 #[test]
 fn tests_have_at_most_1000_tokens_and_64_levels(rt: HostRuntime) -> Result<(), Fail> {
-    assert_rows(&rt, rt.alloc(), SIZES, reads)
-}
-
-/// Assignments; then the target and the value.
-const ASSIGNMENTS: &str = r#"X= RE4.subtract (FREI) => X RE4.subtract(FREI)
- X = RE4.subtract(FREI) ;  => X RE4.subtract(FREI)"#;
-
-fn shown_assignment(alloc: Global, target: &Name, value: &Expr) -> Result<String, Fail> {
-    let value = spelling(alloc, value)?;
-    Ok(format!(in alloc; "{target} {value}")?)
-}
-
-fn assigned(alloc: Global, text: &str) -> Result<String, Fail> {
-    let (target, value) = parse_assign(alloc, text.as_bytes())?;
-    shown_assignment(alloc, &target, &value)
+    for row in SIZES.lines() {
+        let (asked, wanted) = sides(row)?;
+        let text = sized(rt.alloc(), asked)?;
+        assert_eq!(rt; reads(rt.alloc(), text.as_str())?.as_str(), wanted, "{row}");
+    }
+    Ok(())
 }
 
 #[test]
 fn assignments_name_their_target(rt: HostRuntime) -> Result<(), Fail> {
-    assert_rows(&rt, rt.alloc(), ASSIGNMENTS, assigned)
+    let alloc = rt.alloc();
+    for text in ["X= RE4.subtract (FREI)", " X = RE4.subtract(FREI) ; "] {
+        let (target, value) = parse_assign(alloc, text.as_bytes())?;
+        let spelled = print_expr(alloc, &value)?;
+        assert_eq!(rt; target.as_str(), "X");
+        assert_eq!(rt; spelled.as_slice(), "RE4.subtract(FREI)".as_bytes());
+    }
+    Ok(())
 }
 
 /// Declared literals, as `Debug` shows them.
@@ -437,44 +427,38 @@ BigDecimal.TEN => Big(10/0)
 new BigDecimal(-7) => Big(-7/0)
 {BigDecimal.valueOf (0), new BigDecimal("1.50")} => Table(2)"#;
 
-fn shown_literal(alloc: Global, literal: &Literal) -> Result<String, AllocError> {
-    match literal {
-        Literal::Int(n) => format!(in alloc; "Int({n})"),
-        Literal::Long(n) => format!(in alloc; "Long({n})"),
-        Literal::Point(d) => format!(in alloc; "Point({}/{})", d.numerator(), d.scale()),
-        Literal::Big(d) => format!(in alloc; "Big({}/{})", d.numerator(), d.scale()),
-        Literal::Table(items) => format!(in alloc; "Table({})", items.len()),
-    }
-}
-
 fn declared(alloc: Global, text: &str) -> Result<String, Fail> {
-    let literal = parse_constant(alloc, text.as_bytes())?;
-    Ok(shown_literal(alloc, &literal)?)
+    let answer = match parse_constant(alloc, text.as_bytes())? {
+        Literal::Int(n) => format!(in alloc; "Int({n})")?,
+        Literal::Long(n) => format!(in alloc; "Long({n})")?,
+        Literal::Point(d) => format!(in alloc; "Point({}/{})", d.numerator(), d.scale())?,
+        Literal::Big(d) => format!(in alloc; "Big({}/{})", d.numerator(), d.scale())?,
+        Literal::Table(items) => format!(in alloc; "Table({})", items.len())?,
+    };
+    Ok(answer)
 }
 
 #[test]
 fn declared_literals_are_read(rt: HostRuntime) -> Result<(), Fail> {
-    assert_rows(&rt, rt.alloc(), DECLARED, declared)
-}
-
-/// The nodes of `A > 0 ? 1 : T[2]` by their numbers.
-const NODES: &str =
-    "0 => A\n1 => 0\n2 => A > 0\n3 => 1\n4 => 2\n5 => T[2]\n6 => A > 0 ? 1 : T[2]\n7 => none";
-
-fn spelling_of_node(alloc: Global, e: &Expr, number: u32) -> Result<String, Fail> {
-    match find_node(e, number) {
-        Some(node) => spelling(alloc, node),
-        None => Ok(String::from_str(alloc, "none")?),
+    for row in DECLARED.lines() {
+        let (text, wanted) = sides(row)?;
+        assert_eq!(rt; declared(rt.alloc(), text)?.as_str(), wanted, "{row}");
     }
+    Ok(())
 }
 
-fn node(alloc: Global, number: &str) -> Result<String, Fail> {
-    let number = number.parse::<u32>().map_err(|_| Fail::from("a number"))?;
-    let e = parse_expr(alloc, b"A > 0 ? 1 : T[2]")?;
-    spelling_of_node(alloc, &e, number)
-}
+/// The nodes of a test, in the order of their numbers.
+const NODES: &str = "A\n0\nA > 0\n1\n2\nT[2]\nA > 0 ? 1 : T[2]";
 
 #[test]
 fn nodes_are_numbered_as_their_evaluation_ends(rt: HostRuntime) -> Result<(), Fail> {
-    assert_rows(&rt, rt.alloc(), NODES, node)
+    let alloc = rt.alloc();
+    let e = parse_expr(alloc, b"A > 0 ? 1 : T[2]")?;
+    for (number, spelling) in NODES.lines().enumerate() {
+        let node = find_node(&e, number as u32).ok_or("a node")?;
+        let spelled = print_expr(alloc, node)?;
+        assert_eq!(rt; spelled.as_slice(), spelling.as_bytes());
+    }
+    assert!(rt; find_node(&e, 7).is_none());
+    Ok(())
 }

@@ -4,7 +4,7 @@ ghost use Rattle.scaled_decimal.specs.WholeNumbers.{int_bits, long_bits};
 ghost use Rattle.scaled_decimal.specs.Limits.{most_places};
 ghost use Rattle.interval_num.specs.Intervals.{IsWholeOfBits};
 
-use crate::rows::{assert_rows, assert_text};
+use crate::answers::sides;
 use interval_num::{
     Abs, RangeCause, SignSet, abs_abs, abs_add, abs_cmp, abs_div, abs_div_exact, abs_item, abs_max,
     abs_min, abs_mul, abs_neg, abs_set_scale, abs_sub, int_add, int_div, int_mul, int_neg, int_rem,
@@ -128,17 +128,15 @@ fn operands(text: &str) -> Result<(&str, &str, &str), Fail> {
     Ok((operation, left, right))
 }
 
-fn exact(alloc: Global, row: &str) -> Result<String, Fail> {
-    let (operation, left, right) = operands(row)?;
-    shown(
-        alloc,
-        combined(operation, interval(left)?, interval(right)?),
-    )
-}
-
 #[test]
 fn exact_operations(rt: HostRuntime) -> Result<(), Fail> {
-    assert_rows(&rt, rt.alloc(), EXACT, exact)
+    for row in EXACT.lines() {
+        let (asked, wanted) = sides(row)?;
+        let (operation, left, right) = operands(asked)?;
+        let answer = combined(operation, interval(left)?, interval(right)?);
+        assert_eq!(rt; shown(rt.alloc(), answer)?.as_str(), wanted, "{row}");
+    }
+    Ok(())
 }
 
 fn mode(word: Option<&str>) -> Mode {
@@ -162,113 +160,102 @@ fn target(text: &str) -> Result<(u8, Mode), Fail>
     Ok((places, mode(words.next())))
 }
 
-fn quotient(alloc: Global, row: &str) -> Result<String, Fail> {
-    let (left, right, rounding) = operands(row)?;
-    let (places, mode) = target(rounding)?;
-    shown(
-        alloc,
-        abs_div(interval(left)?, interval(right)?, places, mode),
-    )
-}
-
 #[test]
 fn quotients(rt: HostRuntime) -> Result<(), Fail> {
-    assert_rows(&rt, rt.alloc(), QUOTIENTS, quotient)
+    for row in QUOTIENTS.lines() {
+        let (asked, wanted) = sides(row)?;
+        let (left, right, rounding) = operands(asked)?;
+        let (places, mode) = target(rounding)?;
+        let answer = abs_div(interval(left)?, interval(right)?, places, mode);
+        assert_eq!(rt; shown(rt.alloc(), answer)?.as_str(), wanted, "{row}");
+    }
+    Ok(())
 }
 
-fn rescaled(a: Abs, rounding: &str) -> Result<Result<Abs, RangeCause>, Fail> {
-    let (places, mode) = target(rounding)?;
-    Ok(abs_set_scale(a, places, mode))
-}
-
-fn exact_quotient(a: Abs, divisor: &str) -> Result<Result<Abs, RangeCause>, Fail> {
-    let divisor = end(Some(divisor))?.numerator();
+fn shortened(text: &str) -> Result<Result<Abs, RangeCause>, Fail> {
+    let (left, right) = text.split_once(" : ").ok_or("operands")?;
+    let a = interval(left)?;
+    if right.contains(' ') {
+        let (places, mode) = target(right)?;
+        return Ok(abs_set_scale(a, places, mode));
+    }
+    let divisor = end(Some(right))?.numerator();
     if !is_plain_divisor(divisor) {
         return Err(Fail::from("a divisor"));
     }
     Ok(abs_div_exact(a, divisor))
 }
 
-fn shortened(alloc: Global, row: &str) -> Result<String, Fail> {
-    let (left, right) = row.split_once(" : ").ok_or("operands")?;
-    let a = interval(left)?;
-    let answer = if right.contains(' ') {
-        rescaled(a, right)?
-    } else {
-        exact_quotient(a, right)?
-    };
-    shown(alloc, answer)
-}
-
 #[test]
 fn exact_quotients_and_scales(rt: HostRuntime) -> Result<(), Fail> {
-    assert_rows(&rt, rt.alloc(), SHORTENED, shortened)
+    for row in SHORTENED.lines() {
+        let (asked, wanted) = sides(row)?;
+        let answer = shortened(asked)?;
+        assert_eq!(rt; shown(rt.alloc(), answer)?.as_str(), wanted, "{row}");
+    }
+    Ok(())
 }
 
-/// The range of an index into a table of 1 and 2.50; then that of its items.
-const ITEMS: &str = "0 1 => 100 250 0 2\n0 2 => Index\n-1 1 => Index\n0 0 => 1 1 0 0";
-
-fn item(alloc: Global, row: &str) -> Result<String, Fail> {
-    let table = [Dec::new(1, 0), Dec::new(250, 2)];
-    shown(alloc, abs_item(&table, ints(row)?))
+/// The ends and the scales of an answer.
+fn ends_of(answer: Result<Abs, RangeCause>) -> Result<(i128, i128, u8, u8), RangeCause> {
+    let a = answer?;
+    Ok((a.lo(), a.hi(), a.s_lo(), a.s_hi()))
 }
 
 #[test]
-fn items(rt: HostRuntime) -> Result<(), Fail> {
-    assert_rows(&rt, rt.alloc(), ITEMS, item)
+fn items(rt: HostRuntime) {
+    let table = [Dec::new(1, 0), Dec::new(250, 2)];
+    assert_eq!(rt;
+        ends_of(abs_item(&table, Abs::new(0, 1, 0, 0))),
+        Ok((100, 250, 0, 2))
+    );
+    assert_eq!(rt;
+        abs_item(&table, Abs::new(0, 2, 0, 0)),
+        Err(RangeCause::Index)
+    );
+    assert_eq!(rt;
+        abs_item(&table, Abs::new(-1, 1, 0, 0)),
+        Err(RangeCause::Index)
+    );
+    assert_eq!(rt;
+        ends_of(abs_item(&table, Abs::new(0, 0, 0, 0))),
+        Ok((1, 1, 0, 0))
+    );
 }
 
-/// Comparisons that differ, and those that are less.
-const DIFFERS: SignSet = SignSet {
-    minus: true,
-    zero: false,
-    plus: true,
-};
-
-const LESS: SignSet = SignSet {
-    minus: true,
-    zero: false,
-    plus: false,
-};
-
-/// What is left of an interval where its comparison with another has these signs.
-fn refined() -> [Option<Abs>; 5] {
+#[test]
+fn refinements(rt: HostRuntime) {
     let v = Abs::new(0, 6, 0, 0);
     let zero = Abs::new(0, 0, 0, 0);
-    [
-        refine(v, zero, DIFFERS, true),
-        refine(v, zero, DIFFERS, false),
-        refine(zero, zero, DIFFERS, true),
-        refine(v, Abs::new(-5, 45, 0, 1), LESS, false),
-        refine(v, Abs::new(2, 4, 0, 0), LESS, true),
-    ]
-}
-
-/// Appends an interval, or `none`.
-fn push_rest(text: &mut String, rest: Option<Abs>) -> Result<(), Fail> {
-    match rest {
-        Some(a) => text.push_str(shown(*text.allocator(), Ok(a))?.as_str())?,
-        None => text.push_str("none")?,
-    }
-    Ok(())
-}
-
-fn shown_refined(alloc: Global) -> Result<String, Fail> {
-    let mut text = String::new(alloc);
-    for rest in refined() {
-        push_rest(&mut text, rest)?;
-        text.push_str(" / ")?;
-    }
-    Ok(text)
-}
-
-#[test]
-fn refinements(rt: HostRuntime) -> Result<(), Fail> {
-    let wanted = "1 6 0 0 / 0 6 0 0 / none / 0 4 0 0 / 0 3 0 0 / ";
-    assert_text(&rt, shown_refined(rt.alloc())?.as_str(), wanted);
-    let found = signs(Abs::new(0, 6, 0, 0), Abs::new(0, 0, 0, 0));
-    assert!(rt; !found.minus && found.zero && found.plus);
-    Ok(())
+    let differs = SignSet {
+        minus: true,
+        zero: false,
+        plus: true,
+    };
+    assert_eq!(rt; refine(v, zero, differs, true), Some(Abs::new(1, 6, 0, 0)));
+    assert_eq!(rt; refine(v, zero, differs, false), Some(v));
+    assert_eq!(rt; refine(zero, zero, differs, true), None);
+    let less = SignSet {
+        minus: true,
+        zero: false,
+        plus: false,
+    };
+    assert_eq!(rt;
+        refine(v, Abs::new(-5, 45, 0, 1), less, false),
+        Some(Abs::new(0, 4, 0, 0))
+    );
+    assert_eq!(rt;
+        refine(v, Abs::new(2, 4, 0, 0), less, true),
+        Some(Abs::new(0, 3, 0, 0))
+    );
+    assert_eq!(rt;
+        signs(v, zero),
+        SignSet {
+            minus: false,
+            zero: true,
+            plus: true
+        }
+    );
 }
 
 fn number(word: Option<&str>) -> Result<i64, Fail> {
@@ -330,20 +317,21 @@ fn long_answer(operation: &str, a: Abs, b: Abs) -> Result<Abs, RangeCause>
     }
 }
 
-fn int_row(alloc: Global, row: &str) -> Result<String, Fail> {
-    let (operation, left, right) = operands(row)?;
-    shown(alloc, int_answer(operation, ints(left)?, ints(right)?))
-}
-
-fn long_row(alloc: Global, row: &str) -> Result<String, Fail> {
-    let (operation, left, right) = operands(row)?;
-    shown(alloc, long_answer(operation, longs(left)?, longs(right)?))
-}
-
 #[test]
 fn whole_numbers(rt: HostRuntime) -> Result<(), Fail> {
-    assert_rows(&rt, rt.alloc(), INTS, int_row)?;
-    assert_rows(&rt, rt.alloc(), LONGS, long_row)
+    for row in INTS.lines() {
+        let (asked, wanted) = sides(row)?;
+        let (operation, left, right) = operands(asked)?;
+        let answer = int_answer(operation, ints(left)?, ints(right)?);
+        assert_eq!(rt; shown(rt.alloc(), answer)?.as_str(), wanted, "{row}");
+    }
+    for row in LONGS.lines() {
+        let (asked, wanted) = sides(row)?;
+        let (operation, left, right) = operands(asked)?;
+        let answer = long_answer(operation, longs(left)?, longs(right)?);
+        assert_eq!(rt; shown(rt.alloc(), answer)?.as_str(), wanted, "{row}");
+    }
+    Ok(())
 }
 
 /// The whole numbers from -4 to 4, as the ends of small intervals.
@@ -384,6 +372,22 @@ fn is_tenths(r: Abs, x: i128, y: i128, mode: Mode) -> bool {
     r.lo() <= q && q <= r.hi()
 }
 
+#[test]
+fn every_small_quotient_is_held(rt: HostRuntime) {
+    for la in ENDS {
+        for ha in ENDS {
+            for lb in ENDS {
+                for hb in ENDS {
+                    if let (Some(a), Some(b)) = (small(la, ha), small(lb, hb)) {
+                        assert!(rt; holds_quotients(a, b, Mode::HalfEven));
+                        assert!(rt; holds_quotients(a, b, Mode::Up));
+                    }
+                }
+            }
+        }
+    }
+}
+
 /// Whether the answer is an interval with a whole number between its ends.
 fn holds(answer: Result<Abs, RangeCause>, n: i128) -> bool {
     match answer {
@@ -417,6 +421,21 @@ fn holds_all_results(a: Abs, b: Abs) -> bool {
         }
     }
     true
+}
+
+#[test]
+fn every_small_result_is_held(rt: HostRuntime) {
+    for la in ENDS {
+        for ha in ENDS {
+            for lb in ENDS {
+                for hb in ENDS {
+                    if let (Some(a), Some(b)) = (small(la, ha), small(lb, hb)) {
+                        assert!(rt; holds_all_results(a, b));
+                    }
+                }
+            }
+        }
+    }
 }
 
 /// Whether the answer is an interval with a whole number between its ends, or refuses every divisor.
@@ -457,39 +476,17 @@ fn holds_all_divisions(a: Abs, b: Abs) -> bool
     true
 }
 
-/// Whether each operation's answer for two intervals holds its results for their whole numbers.
-fn holds_all(a: Abs, b: Abs) -> bool
-    requires left { IsWholeOfBits int_bits a }
-    requires right { IsWholeOfBits int_bits b }
-{
-    holds_quotients(a, b, Mode::HalfEven)
-        && holds_quotients(a, b, Mode::Up)
-        && holds_all_results(a, b)
-        && holds_all_divisions(a, b)
-}
-
-/// The same of the interval from one end to another and each small interval.
-fn holds_with_each(lo: i128, hi: i128) -> bool {
-    let Some(a) = small(lo, hi) else {
-        return true;
-    };
-    for other_lo in ENDS {
-        for other_hi in ENDS {
-            if let Some(b) = small(other_lo, other_hi) {
-                if !holds_all(a, b) {
-                    return false;
+#[test]
+fn every_small_division_is_held(rt: HostRuntime) {
+    for la in ENDS {
+        for ha in ENDS {
+            for lb in ENDS {
+                for hb in ENDS {
+                    if let (Some(a), Some(b)) = (small(la, ha), small(lb, hb)) {
+                        assert!(rt; holds_all_divisions(a, b));
+                    }
                 }
             }
-        }
-    }
-    true
-}
-
-#[test]
-fn every_small_answer_is_held(rt: HostRuntime) {
-    for lo in ENDS {
-        for hi in ENDS {
-            assert!(rt; holds_with_each(lo, hi), "{lo} {hi}");
         }
     }
 }

@@ -1,7 +1,6 @@
 //! Kinds: each form with operands that it takes, and with each operand that it doesn't; statements, targets and declared
 //! literals. Where the kinds are right `check` goes on to the limits, of which there are none.
-use crate::answers::{attribute, written};
-use crate::rows::{assert_rows, assert_text};
+use crate::answers::{attribute, sides, written};
 use pap_plan::accept;
 use std::alloc::{AllocError, Global};
 use std::test::Fail;
@@ -167,59 +166,51 @@ fn checked(alloc: Global, constants: &str, main: &str) -> Result<String, Fail> {
     written(alloc, "check a.xml l.toml", text.as_str(), "")
 }
 
-/// The answer to a plan with this assignment.
 fn assigned(alloc: Global, assignment: &str) -> Result<String, Fail> {
     let text = attribute(alloc, assignment)?;
     let main = format!(in alloc; "<EVAL exec=\"{text}\"/>")?;
     checked(alloc, "", main.as_str())
 }
 
-/// The node that is of the wrong kind; `none` where the kinds are right; any other answer as it is.
-fn node_of(answer: &str) -> &str {
-    if answer == "refused plan LimitName I" {
-        return "none";
-    }
-    answer
-        .strip_prefix("refused plan Kind MAIN:0:")
-        .unwrap_or(answer)
-}
-
-/// That of an assignment.
-fn fault_node(alloc: Global, assignment: &str) -> Result<String, Fail> {
-    let answer = assigned(alloc, assignment)?;
-    Ok(String::from_str(alloc, node_of(answer.as_str()))?)
-}
-
 #[test]
 fn operations_take_their_operands(rt: HostRuntime) -> Result<(), Fail> {
     for row in TAKEN.lines() {
-        assert_text(&rt, fault_node(rt.alloc(), row)?.as_str(), "none");
+        let answer = assigned(rt.alloc(), row)?;
+        assert_eq!(rt; answer.as_str(), "refused plan LimitName I", "{row}");
     }
     Ok(())
 }
 
 #[test]
 fn operations_refuse_other_operands(rt: HostRuntime) -> Result<(), Fail> {
-    assert_rows(&rt, rt.alloc(), REFUSED, fault_node)
-}
-
-fn checked_main(alloc: Global, main: &str) -> Result<String, Fail> {
-    checked(alloc, "", main)
+    for row in REFUSED.lines() {
+        let (assignment, node) = sides(row)?;
+        let answer = assigned(rt.alloc(), assignment)?;
+        let wanted = format!(in rt.alloc(); "refused plan Kind MAIN:0:{node}")?;
+        assert_eq!(rt; answer.as_str(), wanted.as_str(), "{row}");
+    }
+    Ok(())
 }
 
 #[test]
 fn statements_are_checked(rt: HostRuntime) -> Result<(), Fail> {
-    assert_rows(&rt, rt.alloc(), STATEMENTS, checked_main)
-}
-
-fn checked_constant(alloc: Global, rest: &str) -> Result<String, Fail> {
-    let constant = format!(in alloc; "<CONSTANT name=\"D\" {rest}/>")?;
-    checked(alloc, constant.as_str(), "")
+    for row in STATEMENTS.lines() {
+        let (main, wanted) = sides(row)?;
+        let answer = checked(rt.alloc(), "", main)?;
+        assert_eq!(rt; answer.as_str(), wanted, "{row}");
+    }
+    Ok(())
 }
 
 #[test]
 fn declared_literals_are_of_their_type(rt: HostRuntime) -> Result<(), Fail> {
-    assert_rows(&rt, rt.alloc(), LITERALS, checked_constant)
+    for row in LITERALS.lines() {
+        let (rest, wanted) = sides(row)?;
+        let constant = format!(in rt.alloc(); "<CONSTANT name=\"D\" {rest}/>")?;
+        let answer = checked(rt.alloc(), constant.as_str(), "")?;
+        assert_eq!(rt; answer.as_str(), wanted, "{row}");
+    }
+    Ok(())
 }
 
 /// Statements, and the refusal as it is printed for the plan's author.
@@ -230,15 +221,16 @@ const PRINTED: &str = r#"<EVAL exec="I = X + 1"/> => `X` at MAIN:0:0 isn't decla
 <EVAL exec="T = I.add(L)"/> => the target at MAIN:0:2 is a constant
 <EXECUTE method="I"/> => the method executed at MAIN:0:0 isn't there"#;
 
-fn refusal(alloc: Global, main: &str) -> Result<String, Fail> {
-    let text = plan(alloc, "", main)?;
-    match accept(alloc, text.as_bytes(), b"") {
-        Ok(_) => Ok(String::from_str(alloc, "accepted")?),
-        Err(refusal) => Ok(format!(in alloc; "{refusal}")?),
-    }
-}
-
 #[test]
 fn faults_are_printed(rt: HostRuntime) -> Result<(), Fail> {
-    assert_rows(&rt, rt.alloc(), PRINTED, refusal)
+    for row in PRINTED.lines() {
+        let (main, wanted) = sides(row)?;
+        let text = plan(rt.alloc(), "", main)?;
+        let refusal = accept(rt.alloc(), text.as_bytes(), b"")
+            .err()
+            .ok_or("a refusal")?;
+        let printed = format!(in rt.alloc(); "{refusal}")?;
+        assert_eq!(rt; printed.as_str(), wanted, "{row}");
+    }
+    Ok(())
 }

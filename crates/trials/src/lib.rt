@@ -43,8 +43,6 @@ mod realistic;
 #[cfg(test)]
 mod records;
 #[cfg(test)]
-mod rows;
-#[cfg(test)]
 mod runs;
 #[cfg(test)]
 mod tokens;

@@ -1,5 +1,5 @@
 // Lines of a script: what each asks for, or why it is refused.
-use crate::rows::assert_rows;
+use crate::answers::sides;
 use payroll_records::Record;
 use script_lang::{Command, LineFault, read_line};
 use std::alloc::{AllocError, Global};
@@ -87,12 +87,20 @@ fn record_text(alloc: Global, command: &str, record: &Record) -> Result<String, 
 
 #[test]
 fn a_line_asks_for_a_command(rt: HostRuntime) -> Result<(), Fail> {
-    assert_rows(&rt, rt.alloc(), COMMANDS, shown)
+    for row in COMMANDS.lines() {
+        let (line, wanted) = sides(row)?;
+        assert_eq!(rt; shown(rt.alloc(), line)?.as_str(), wanted, "{row}");
+    }
+    Ok(())
 }
 
 #[test]
 fn a_line_is_refused_with_its_first_fault(rt: HostRuntime) -> Result<(), Fail> {
-    assert_rows(&rt, rt.alloc(), FAULTS, shown)
+    for row in FAULTS.lines() {
+        let (line, wanted) = sides(row)?;
+        assert_eq!(rt; shown(rt.alloc(), line)?.as_str(), wanted, "{row}");
+    }
+    Ok(())
 }
 
 /// So many value words behind an `add`, each of another name.

@@ -1,7 +1,6 @@
 //! The order of methods: chains of 64 and 65, a cycle that MAIN never reaches, how many statements a plan may have.
 ghost use Rattle.std.specs.Prelude.{◌≤◌};
 
-use crate::rows::assert_text;
 use call_order::order_methods;
 use pap_plan::{Plan, accept};
 use std::alloc::Global;
@@ -38,14 +37,10 @@ fn ladder(alloc: Global, steps: usize, twice: bool) -> Result<String, Fail>
     Ok(text)
 }
 
-/// The order of a plan's methods, at most the first four.
+/// The order of a plan's methods.
 fn order(alloc: Global, plan: &Plan) -> Result<String, Fail> {
     let order = order_methods(alloc, plan.text())?;
-    let mut text = String::new(alloc);
-    for method in order.iter().take(4) {
-        write!(text, "{method} ")?;
-    }
-    Ok(text)
+    Ok(format!(in alloc; "{order:?}")?)
 }
 
 /// What is answered of a plan whose MAIN executes one method.
@@ -57,55 +52,47 @@ fn answer(alloc: Global, first: &str, methods: &str) -> Result<String, Fail> {
     }
 }
 
-/// What is answered of a ladder.
-fn answer_to_ladder(alloc: Global, steps: usize, twice: bool) -> Result<String, Fail>
-    requires { steps ≤ 100 }
-{
-    let methods = ladder(alloc, steps, twice)?;
-    answer(alloc, "M0", methods.as_str())
-}
-
 #[test]
 fn methods_stand_behind_what_they_execute(rt: HostRuntime) -> Result<(), Fail> {
-    let text = answer_to_ladder(rt.alloc(), 1, true)?;
-    assert_text(&rt, text.as_str(), "2 1 0 ");
+    let text = answer(rt.alloc(), "M0", ladder(rt.alloc(), 1, true)?.as_str())?;
+    assert_eq!(rt; text.as_str(), "[2, 1, 0]");
     Ok(())
 }
 
 #[test]
 fn chains_have_at_most_64_methods(rt: HostRuntime) -> Result<(), Fail> {
-    let text = answer_to_ladder(rt.alloc(), 62, false)?;
-    assert_text(&rt, text.as_str(), "63 62 61 60 ");
-    let text = answer_to_ladder(rt.alloc(), 63, false)?;
-    let wanted =
-        "the method `M0` begins a chain of more than 64 methods, each of which executes the next";
-    assert_text(&rt, text.as_str(), wanted);
+    let text = answer(rt.alloc(), "M0", ladder(rt.alloc(), 62, false)?.as_str())?;
+    assert!(rt; text.starts_with("[63, 62, 61, "));
+    let text = answer(rt.alloc(), "M0", ladder(rt.alloc(), 63, false)?.as_str())?;
+    assert_eq!(rt;
+        text.as_str(),
+        "the method `M0` begins a chain of more than 64 methods, each of which executes the next"
+    );
     Ok(())
-}
-
-fn answer_to_cycle(alloc: Global) -> Result<String, Fail> {
-    let mut methods = ladder(alloc, 63, false)?;
-    push_calling(&mut methods, 65, 66, false)?;
-    push_calling(&mut methods, 66, 66, false)?;
-    answer(alloc, "M64", methods.as_str())
 }
 
 #[test]
 fn a_cycle_counts_though_main_never_reaches_it(rt: HostRuntime) -> Result<(), Fail> {
-    let text = answer_to_cycle(rt.alloc())?;
-    let wanted = "the method `M66` executes itself, directly or through others";
-    assert_text(&rt, text.as_str(), wanted);
+    let mut methods = ladder(rt.alloc(), 63, false)?;
+    push_calling(&mut methods, 65, 66, false)?;
+    push_calling(&mut methods, 66, 66, false)?;
+    let text = answer(rt.alloc(), "M64", methods.as_str())?;
+    assert_eq!(rt;
+        text.as_str(),
+        "the method `M66` executes itself, directly or through others"
+    );
     Ok(())
 }
 
 #[test]
 fn plans_have_at_most_200000_statements(rt: HostRuntime) -> Result<(), Fail> {
-    let text = answer_to_ladder(rt.alloc(), 16, true)?;
-    assert_text(&rt, text.as_str(), "17 16 15 14 ");
-    let text = answer_to_ladder(rt.alloc(), 17, true)?;
-    let wanted =
-        "with the methods that are executed the plan has 393215 statements, and at most 200000 may be";
-    assert_text(&rt, text.as_str(), wanted);
+    let text = answer(rt.alloc(), "M0", ladder(rt.alloc(), 16, true)?.as_str())?;
+    assert!(rt; text.starts_with("[17, 16, 15, "));
+    let text = answer(rt.alloc(), "M0", ladder(rt.alloc(), 17, true)?.as_str())?;
+    assert_eq!(rt;
+        text.as_str(),
+        "with the methods that are executed the plan has 393215 statements, and at most 200000 may be"
+    );
     Ok(())
 }
 
@@ -127,19 +114,15 @@ fn exactly(alloc: Global, further: usize) -> Result<String, Fail> {
     Ok(text)
 }
 
-fn answer_to_exactly(alloc: Global, further: usize) -> Result<String, Fail> {
-    let methods = exactly(alloc, further)?;
-    answer(alloc, "M2", methods.as_str())
-}
-
 #[test]
 fn the_200000th_statement_is_the_last(rt: HostRuntime) -> Result<(), Fail> {
     // 1 + 1 + 999 * 200 + 198
-    let text = answer_to_exactly(rt.alloc(), 198)?;
-    assert_text(&rt, text.as_str(), "0 1 2 ");
-    let text = answer_to_exactly(rt.alloc(), 199)?;
-    let wanted =
-        "with the methods that are executed the plan has 200001 statements, and at most 200000 may be";
-    assert_text(&rt, text.as_str(), wanted);
+    let text = answer(rt.alloc(), "M2", exactly(rt.alloc(), 198)?.as_str())?;
+    assert_eq!(rt; text.as_str(), "[0, 1, 2]");
+    let text = answer(rt.alloc(), "M2", exactly(rt.alloc(), 199)?.as_str())?;
+    assert_eq!(rt;
+        text.as_str(),
+        "with the methods that are executed the plan has 200001 statements, and at most 200000 may be"
+    );
     Ok(())
 }

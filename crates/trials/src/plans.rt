@@ -1,6 +1,5 @@
 //! An accepted plan: what it tells of its two texts and its names, and its machine.
 use crate::realistic::{REALISTIC_LIMITS, realistic};
-use crate::rows::assert_text;
 use pap_plan::{Plan, accept};
 use pap_tree::Name;
 use pap_types::{NodeKind, Typed};
@@ -27,32 +26,15 @@ fn numbers_of_name(alloc: Global, typed: &Typed, name: &str) -> Result<String, F
     Ok(format!(in alloc; "{variable:?} {constant:?} {method:?} {is_factor}")?)
 }
 
-/// Whether a plan keeps its two texts.
-fn keeps_texts(plan: &Plan) -> bool {
-    plan.plan_bytes() == realistic().as_bytes()
-        && plan.limits_bytes() == REALISTIC_LIMITS.as_bytes()
-        && plan.same_texts(plan)
-}
-
-/// Appends what a plan tells of an input and of a table.
-fn push_names(text: &mut String, typed: &Typed) -> Result<(), Fail> {
-    let alloc = *text.allocator();
-    text.push_str(numbers_of_name(alloc, typed, "f")?.as_str())?;
-    text.push_str(" / ")?;
-    text.push_str(numbers_of_name(alloc, typed, "TAB1")?.as_str())?;
-    Ok(())
-}
-
-/// What a plan tells.
+/// What a plan tells, a line each.
 fn told(alloc: Global, plan: &Plan) -> Result<String, Fail> {
-    let mut text = numbers_of(alloc, plan)?;
-    text.push_str(if keeps_texts(plan) {
-        " / "
-    } else {
-        " other texts "
-    })?;
-    push_names(&mut text, plan.text())?;
-    Ok(text)
+    let keeps_texts = plan.plan_bytes() == realistic().as_bytes()
+        && plan.limits_bytes() == REALISTIC_LIMITS.as_bytes()
+        && plan.same_texts(plan);
+    let numbers = numbers_of(alloc, plan)?;
+    let factor = numbers_of_name(alloc, plan.text(), "f")?;
+    let table = numbers_of_name(alloc, plan.text(), "TAB1")?;
+    Ok(format!(in alloc; "{keeps_texts}\n{numbers}\n{factor}\n{table}")?)
 }
 
 fn told_of_texts(alloc: Global) -> Result<String, Fail> {
@@ -62,7 +44,8 @@ fn told_of_texts(alloc: Global) -> Result<String, Fail> {
 
 #[test]
 fn an_accepted_plan_tells_its_parts(rt: HostRuntime) -> Result<(), Fail> {
-    let wanted = "170 3 7 7 0 / Some(1) None None true / None Some(0) None false";
-    assert_text(&rt, told_of_texts(rt.alloc())?.as_str(), wanted);
+    let told = told_of_texts(rt.alloc())?;
+    let wanted = "true\n170 3 7 7 0\nSome(1) None None true\nNone Some(0) None false";
+    assert_eq!(rt; told.as_str(), wanted);
     Ok(())
 }

@@ -1,9 +1,10 @@
-//! Range files: texts with their limits, and texts with each fault.
-use crate::rows::{assert_rows, assert_text};
-use limits_file::{Binding, Carry, InputLimit, Limits, LimitsFault, read_limits};
+// Range files: texts with their limits, and texts with each fault.
+use crate::answers::sides;
+use limits_file::{Carry, InputLimit, LimitsFault, read_limits};
 use pap_tree::Name;
-use scaled_decimal::{Dec, read_dec};
-use std::alloc::{AllocError, Global};
+use scaled_decimal::Dec;
+use std::alloc::Global;
+use std::string::String;
 use std::test::Fail;
 
 const TWO_INPUTS: &str = "[input.RE4]\nlow = 0\nhigh = \"10000000000\"\nplaces = 0\n\
@@ -11,8 +12,8 @@ const TWO_INPUTS: &str = "[input.RE4]\nlow = 0\nhigh = \"10000000000\"\nplaces =
     [bind.SUMV]\nkind = \"sum\"\noutput = \"LST\"\n";
 
 /// The answer to a text, in words.
-fn answer(alloc: Global, text: &[u8]) -> Result<String, Fail> {
-    match read_limits(alloc, text) {
+fn answer(alloc: Global, text: &str) -> Result<String, Fail> {
+    match read_limits(alloc, text.as_bytes()) {
         Ok(limits) => {
             let inputs = limits.inputs.as_slice().len();
             let bindings = limits.bindings.as_slice().len();
@@ -33,92 +34,47 @@ fn word(alloc: Global, fault: &LimitsFault) -> Result<String, Fail> {
     Ok(word)
 }
 
-/// Appends the limits of inputs: names, bounds and places.
-fn push_inputs(text: &mut String, limits: &[InputLimit]) -> Result<(), AllocError> {
-    for limit in limits {
-        write!(
-            text,
-            "{} {} {} {}, ",
-            limit.name, limit.low, limit.high, limit.places
-        )?;
-    }
-    Ok(())
-}
-
-/// Appends bindings: inputs, and the outputs that are added up.
-fn push_bindings(text: &mut String, bindings: &[Binding]) -> Result<(), AllocError> {
-    for binding in bindings {
-        match binding.carry {
-            Carry::Sum(output) => write!(text, "{} sum {output}", binding.input)?,
-            _ => write!(text, "{} carries otherwise", binding.input)?,
-        }
-    }
-    Ok(())
-}
-
-fn shown_limits(alloc: Global, limits: &Limits) -> Result<String, AllocError> {
-    let mut text = String::new(alloc);
-    push_inputs(&mut text, limits.inputs.as_slice())?;
-    push_bindings(&mut text, limits.bindings.as_slice())?;
-    Ok(text)
-}
-
-fn shown_two_inputs(alloc: Global) -> Result<String, Fail> {
-    let limits = read_limits(alloc, TWO_INPUTS.as_bytes())?;
-    Ok(shown_limits(alloc, &limits)?)
-}
-
 #[test]
 fn limits_and_bindings_are_read(rt: HostRuntime) -> Result<(), Fail> {
-    let text = shown_two_inputs(rt.alloc())?;
-    let wanted = "RE4 0 10000000000 0, SUMV 0 100000000 0, SUMV sum LST";
-    assert_text(&rt, text.as_str(), wanted);
-    Ok(())
-}
-
-/// Names and values, and whether they fit the limits of [`TWO_INPUTS`].
-const FITTING: &str = r#"RE4 10000000000 => true
-RE4 0 => true
-RE4 1.0 => false
-RE4 10000000001 => false
-RE4 -1 => false
-RE5 0 => false"#;
-
-/// Values, and whether they fit the widest limit.
-const WIDE: &str = r#"36600000000000000000000.000000000000 => false
--0.000000000000000000000000000001 => true"#;
-
-fn value(text: &str) -> Result<Dec, Fail> {
-    Ok(read_dec(text.as_bytes()).map_err(|_| Fail::from("a number"))?)
-}
-
-fn fits_two_inputs(alloc: Global, name: &Name, value: Dec) -> Result<bool, Fail> {
-    let limits = read_limits(alloc, TWO_INPUTS.as_bytes())?;
-    Ok(limits.fits(name, value))
-}
-
-fn fits(alloc: Global, row: &str) -> Result<String, Fail> {
-    let (name, text) = row.split_once(' ').ok_or("a value")?;
-    let name = Name::read(name.as_bytes()).ok_or("a name")?;
-    let is_fitting = fits_two_inputs(alloc, &name, value(text)?)?;
-    Ok(format!(in alloc; "{is_fitting}")?)
-}
-
-fn fits_widest(alloc: Global, text: &str) -> Result<String, Fail> {
-    let wide = InputLimit {
-        name: Name::main(),
-        low: Dec::new(-1, 30),
-        high: Dec::new(10_000_000, 30),
-        places: 30,
+    let Ok(limits) = read_limits(rt.alloc(), TWO_INPUTS.as_bytes()) else {
+        return Err(Fail::from("no limits"));
     };
-    let is_fitting = wide.fits(value(text)?);
-    Ok(format!(in alloc; "{is_fitting}")?)
+    let inputs = limits.inputs.into_vec();
+    assert_eq!(rt; inputs.len(), 2);
+    assert_eq!(rt; inputs[0].name.as_str(), "RE4");
+    assert_eq!(rt; inputs[0].low, Dec::new(0, 0));
+    assert_eq!(rt; inputs[0].high, Dec::new(10_000_000_000, 0));
+    assert_eq!(rt; inputs[1].name.as_str(), "SUMV");
+    assert_eq!(rt; inputs[1].places, 0);
+    let bindings = limits.bindings.into_vec();
+    assert_eq!(rt; bindings.len(), 1);
+    assert_eq!(rt; bindings[0].input.as_str(), "SUMV");
+    assert!(rt; matches!(bindings[0].carry, Carry::Sum(output) if output.as_str() == "LST"));
+    Ok(())
 }
 
 #[test]
 fn values_fit_their_limits(rt: HostRuntime) -> Result<(), Fail> {
-    assert_rows(&rt, rt.alloc(), FITTING, fits)?;
-    assert_rows(&rt, rt.alloc(), WIDE, fits_widest)
+    let Ok(limits) = read_limits(rt.alloc(), TWO_INPUTS.as_bytes()) else {
+        return Err(Fail::from("no limits"));
+    };
+    let gross = Name::read(b"RE4").ok_or("a name")?;
+    let other = Name::read(b"RE5").ok_or("a name")?;
+    assert!(rt; limits.fits(&gross, Dec::new(10_000_000_000, 0)));
+    assert!(rt; limits.fits(&gross, Dec::new(0, 0)));
+    assert!(rt; !limits.fits(&gross, Dec::new(10, 1)));
+    assert!(rt; !limits.fits(&gross, Dec::new(10_000_000_001, 0)));
+    assert!(rt; !limits.fits(&gross, Dec::new(-1, 0)));
+    assert!(rt; !limits.fits(&other, Dec::new(0, 0)));
+    let wide = InputLimit {
+        name: gross,
+        low: Dec::new(-1, 30),
+        high: Dec::new(10_000_000, 30),
+        places: 30,
+    };
+    assert!(rt; !wide.fits(Dec::new(36_600_000_000_000_000_000_000_000_000_000_000, 12)));
+    assert!(rt; wide.fits(Dec::new(-1, 30)));
+    Ok(())
 }
 
 /// Texts, `\n` for each line's end, and their answers.
@@ -169,73 +125,80 @@ aaa = 1\nbind.B = { kind = 1 } => Key aaa
 other = 1\ninput.A = { low = 5, high = 1, places = 0 } => Bound A
 input.A = { low = 5, high = 1, places = 0, step = 1 } => Key step"#;
 
-fn answer_to_row(alloc: Global, written: &str) -> Result<String, Fail> {
-    let text = written.replace(alloc, "\\n", "\n")?;
-    let text = text.replace(alloc, "TWO_INPUTS", TWO_INPUTS)?;
-    answer(alloc, text.as_bytes())
-}
-
 #[test]
 fn each_text_has_its_answer(rt: HostRuntime) -> Result<(), Fail> {
-    assert_rows(&rt, rt.alloc(), ANSWERS, answer_to_row)
+    for row in ANSWERS.lines() {
+        let (written, wanted) = sides(row)?;
+        let text = written.replace(rt.alloc(), "\\n", "\n")?;
+        let text = text.replace(rt.alloc(), "TWO_INPUTS", TWO_INPUTS)?;
+        assert_eq!(rt;
+            answer(rt.alloc(), text.as_str())?.as_str(),
+            wanted,
+            "{row}"
+        );
+    }
+    Ok(())
 }
 
 /// A file of so many inputs, the last of which has this line more.
-fn many_inputs(alloc: Global, count: u16, last: &str) -> Result<String, AllocError> {
+fn many_inputs(alloc: Global, count: u16, last: &str) -> Result<String, Fail> {
     let mut text = String::new(alloc);
     for number in 0..count {
-        write!(
-            text,
+        text.push_str(format!(in alloc;
             "[input.A{number:03}]\nlow = 0\nhigh = 1\nplaces = 0\n"
-        )?;
+        )?.as_str())?;
     }
     text.push_str(last)?;
     Ok(text)
 }
 
-/// A number of inputs, and a further line of the last; then the answer.
-const MANY: &str = r#"256  => 256 inputs, 0 bindings
-257  => Bound A256
-257 step = 1 => Key step"#;
-
-fn answer_to_many(alloc: Global, row: &str) -> Result<String, Fail> {
-    let (count, last) = row.split_once(' ').ok_or("a line")?;
-    let count = count.parse::<u16>().map_err(|_| Fail::from("a number"))?;
-    answer(alloc, many_inputs(alloc, count, last)?.as_bytes())
-}
-
-fn answer_to_spaces(alloc: Global, count: &str) -> Result<String, Fail> {
-    let count = count.parse::<usize>().map_err(|_| Fail::from("a number"))?;
-    answer(alloc, &vec![in alloc; b' '; count]?)
-}
-
-/// How many spaces; then the answer.
-const SPACES: &str = "262144 => 0 inputs, 0 bindings\n262145 => LimitsLong";
-
 #[test]
 fn files_are_read_up_to_their_limits(rt: HostRuntime) -> Result<(), Fail> {
-    assert_rows(&rt, rt.alloc(), MANY, answer_to_many)?;
-    assert_rows(&rt, rt.alloc(), SPACES, answer_to_spaces)?;
-    assert_text(&rt, answer(rt.alloc(), b"# \xff")?.as_str(), "Toml");
+    let alloc = rt.alloc();
+    let most = many_inputs(alloc, 256, "")?;
+    assert_eq!(rt;
+        answer(alloc, most.as_str())?.as_str(),
+        "256 inputs, 0 bindings"
+    );
+    let more = many_inputs(alloc, 257, "")?;
+    assert_eq!(rt; answer(alloc, more.as_str())?.as_str(), "Bound A256");
+    let broken = many_inputs(alloc, 257, "step = 1\n")?;
+    assert_eq!(rt; answer(alloc, broken.as_str())?.as_str(), "Key step");
+    let mut spaces = String::new(alloc);
+    for _ in 0..262_144 {
+        spaces.push(' ')?;
+    }
+    assert_eq!(rt;
+        answer(alloc, spaces.as_str())?.as_str(),
+        "0 inputs, 0 bindings"
+    );
+    spaces.push(' ')?;
+    assert_eq!(rt; answer(alloc, spaces.as_str())?.as_str(), "LimitsLong");
+    assert!(rt; matches!(read_limits(alloc, b"# \xff"), Err(LimitsFault::Toml)));
     Ok(())
 }
 
-/// Texts, `\n` for each line's end, and the messages of their faults.
-const MESSAGES: &str =
-    r#"[input.RE4]\nlow = 0\n => range file, at RE4: an unknown key, a value of another type, or a missing key
-input.RE4 = { low = 1, high = 0, places = 0 } => range file, input RE4: places outside 0 to 30, low above high, an ill-formed or too long bound, or input 257
-[input.RE4 => range file: the text is no TOML"#;
-
 /// The message of a text's fault.
-fn message(alloc: Global, written: &str) -> Result<String, Fail> {
-    let text = written.replace(alloc, "\\n", "\n")?;
-    match read_limits(alloc, text.as_bytes()) {
-        Ok(_) => Ok(String::from_str(alloc, "none")?),
-        Err(fault) => Ok(format!(in alloc; "{fault}")?),
-    }
+fn message(alloc: Global, text: &str) -> Result<String, Fail> {
+    let fault = read_limits(alloc, text.as_bytes()).err().ok_or("a fault")?;
+    Ok(format!(in alloc; "{fault}")?)
 }
 
 #[test]
 fn faults_say_what_is_wrong_and_where(rt: HostRuntime) -> Result<(), Fail> {
-    assert_rows(&rt, rt.alloc(), MESSAGES, message)
+    let texts: [(&str, &str); 3] = [
+        (
+            "[input.RE4]\nlow = 0\n",
+            "range file, at RE4: an unknown key, a value of another type, or a missing key",
+        ),
+        (
+            "input.RE4 = { low = 1, high = 0, places = 0 }",
+            "range file, input RE4: places outside 0 to 30, low above high, an ill-formed or too long bound, or input 257",
+        ),
+        ("[input.RE4", "range file: the text is no TOML"),
+    ];
+    for (text, wanted) in texts {
+        assert_eq!(rt; message(rt.alloc(), text)?.as_str(), wanted);
+    }
+    Ok(())
 }
