@@ -1,0 +1,10 @@
+// The runs of an employee in a month.
+use payroll_records::Key;
+
+/// The runs that an employee has in a month: none, one, or more.
+#[derive(Clone, Copy, Debug)]
+pub enum InMonth {
+    Empty,
+    One(Key),
+    Several,
+}

@@ -1,0 +1,1 @@
+//! Years computed anew for an edit of the calendar.

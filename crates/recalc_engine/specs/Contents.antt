@@ -1,0 +1,48 @@
+-- A book: its runs, its plans and the work of its last edit. What its runs came to follows from these.
+use Rattle.std.specs.Prelude.{ℕ, ◌≡◌, List, [], ◌∷◌, ◌++◌, Option, map}
+use Rattle.std.specs.Option.{option_and_then}
+use Rattle.rising_lists.specs.Keyed.{at_key}
+use Rattle.payroll_records.specs.declared.record.Key.{Key}
+use Rattle.payroll_records.specs.Orders.{day_cmp}
+use Rattle.plan_calendar.specs.Picking.{Entry, pick}
+use Rattle.pap_plan.specs.Plans.{Seen}
+use Rattle.year_runs.specs.declared.outcome.Work.{Work}
+use Rattle.year_runs.specs.Jobs.{total_cost, work_of}
+use Rattle.year_runs.specs.Rows.{Job, Row, year_rows}
+use Rattle.employee_years.specs.Books.{YearRuns, runs_of, year_of}
+use Rattle.employee_years.specs.Kept.{jobs_in}
+
+pub record Contents : Type 0 where
+  pub years : List YearRuns
+  pub plans : List (Entry Seen)
+  pub last : Work
+
+-- the runs of an employee's year, computed anew
+abbrev pub rows_in : Contents → YearRuns → List Row
+rows_in book y = year_rows (pick book.plans) y.runs
+
+-- the run of a key, computed anew
+abbrev pub row_at : Contents → Key → Option Row
+row_at book k =
+    at_key day_cmp (λ row. row.day) (year_rows (pick book.plans) (runs_of book.years (year_of k))) k.day
+
+-- the runs of the new book whose job isn't their job in the old one
+abbrev pub jobs_between : Contents → Contents → List Job
+jobs_between old new = jobs_in (pick old.plans) (pick new.plans) old.years new.years
+
+-- the book with other runs, and with other plans
+abbrev pub with_years : List YearRuns → Contents → Contents
+with_years years book = record { years = years; plans = book.plans; last = book.last }
+
+abbrev pub with_plans : List (Entry Seen) → Contents → Contents
+with_plans plans book = record { years = book.years; plans = plans; last = book.last }
+
+-- the book is now this one, but for the last work, which is that of the new jobs
+pub record IsEdit (old wanted new : Contents) (work : Work) : Type 0 where
+  pub years_are : new.years ≡ wanted.years
+  pub plans_are : new.plans ≡ wanted.plans
+  pub last_is : new.last ≡ work
+  pub work_is : work ≡ work_of (jobs_between old wanted)
+
+abbrev pub cost_between : Contents → Contents → ℕ
+cost_between old new = total_cost (jobs_between old new)

@@ -1,0 +1,9 @@
+//! The incremental book: pay runs and plans, and what each run came to, which is at any time what computing every run anew
+//! gives. An edit runs exactly the runs whose job is new.
+#![tactic(auto)]
+
+mod book;
+
+pub use book::Book;
+pub use employee_years::{EditRefusal, InMonth};
+pub use year_runs::{State, Work};
