@@ -8,4 +8,4 @@ mod years;
 
 pub use in_month::InMonth;
 pub use refusal::EditRefusal;
-pub use years::{Years, years_laws};
+pub use years::Years;
