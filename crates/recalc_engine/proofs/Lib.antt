@@ -1,0 +1,3 @@
+mod JobLemmas
+mod MonthLemmas
+mod RowLemmas

@@ -1,1 +1,7 @@
 pub mod Contents
+pub mod Edits
+pub mod MonthRows
+pub mod MonthViews
+pub mod RowViews
+pub mod Jobs
+pub mod JobViews

@@ -1,20 +1,18 @@
 //! The book.
-ghost use Rattle.std.specs.Prelude.{◌≡◌, IfOk, IfErr, OnErr, []};
-ghost use Rattle.plan_calendar.specs.Picking.{with_entry, without_day};
-ghost use Rattle.employee_years.specs.Books.{added, changed_from, loaded, source_of, withdrawal, withdrawn_from};
-ghost use Rattle.employee_years.specs.Refusals.{CanAdd, CountsEdit, IsAddRefused, IsChangeRefused};
-ghost use Rattle.employee_years.specs.Refusals.{IsOne, IsWithdrawRefused};
-ghost use Rattle.recalc_engine.specs.Contents.{IsEdit, cost_between, with_plans, with_years};
+ghost use Rattle.std.specs.Prelude.{◌≡◌, [], IfSome, IfNone, option_map};
+ghost use Rattle.recalc_engine.specs.Contents.{row_at};
+ghost use Rattle.recalc_engine.specs.MonthRows.{month_rows};
+ghost use Rattle.recalc_engine.specs.Jobs.{AdmitsInputs, HasNoOutputs, job_of_key, lent_job};
 
-use employee_years::{EditRefusal, Years};
+use crate::job::{Job, inputs_on, job_of, year_at};
+use crate::months::Months;
+use employee_years::Years;
 use pap_plan::Plan;
-use payroll_records::Record;
+use payroll_records::Key;
 use plan_calendar::Calendar;
 use std::alloc::Global;
 use std::marker::Model;
-use std::sync::ledger::Ledger;
-use steps::Steps;
-use year_runs::Work;
+use year_runs::{Work, YearKey};
 
 /// Pay runs by employee and day, plans by day, and what each run came to.
 #[derive(Drop)]
@@ -61,22 +59,26 @@ impl Book {
         &self.plans
     }
 
-    /// Adds a run. After a refusal the book is as before.
-    pub fn add<L: Ledger>(
-        &mut self,
-        item: Record,
-        steps: &mut Steps<L>,
-    ) -> Result<Work, EditRefusal>
-        ensures ok { IfOk result
-            (IsEdit self.old (with_years (added item self.old.years) self.old) self.new) }
-        ensures can { IfOk result (λ _. CanAdd self.old.years item) }
-        ensures err { OnErr result (self.new ≡ self.old) }
-        ensures refused { IfErr result (IsAddRefused self.old.years item) }
-        ensures counted { CountsEdit result steps.old steps.new
-            (cost_between self.old (with_years (added item self.old.years) self.old)) }
+    /// All runs, in order of employee and day, with the days of their plans and their states.
+    pub fn months(&self) -> Months<'_>
+        ensures { result ≡ month_rows self.now }
     {
-        let work = self.years.add(&self.plans, item, steps)?;
-        self.last = work;
-        Ok(work)
+        Months::of(self.years.list.as_slice())
+    }
+
+    /// What the run of a key ran: its plan and its inputs. `None` exactly where there is no such run, or it has no outputs.
+    pub fn job(&self, key: &Key) -> Option<Job<'_>>
+        ensures job { option_map lent_job result ≡ job_of_key self.now key.now }
+        ensures admitted { IfSome result AdmitsInputs }
+        ensures none { IfNone result (HasNoOutputs (row_at self.now key.now)) }
+    {
+        let key_of_year = YearKey {
+            employee: key.employee,
+            year: key.day.year,
+        };
+        let year = year_at(self.years.list.as_slice(), key_of_year)?;
+        let inputs = inputs_on(year, key.day)?;
+        let (_, plan) = self.plans.pick(key.day)?;
+        Some(job_of(plan, inputs))
     }
 }

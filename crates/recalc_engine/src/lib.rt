@@ -3,7 +3,11 @@
 #![tactic(auto)]
 
 mod book;
+mod job;
+mod months;
 
 pub use book::Book;
 pub use employee_years::{EditRefusal, InMonth};
+pub use job::Job;
+pub use months::{MonthRow, Months};
 pub use year_runs::{State, Work};

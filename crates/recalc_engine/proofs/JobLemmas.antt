@@ -1,0 +1,181 @@
+-- The job of a key's run, as it is kept.
+use Rattle.std.proofs.Common.{◌≡◌, ℕ, ◌<◌, List, [], ◌∷◌, length, map, get_or, true, false, Option, Some, None, option_map, if◌then◌else◌, refl, sym, ap, subst, ◌∙◌, arith}
+use Rattle.std.specs.Prelude.{All}
+use Rattle.std.specs.List.{AllByRecursion}
+use Rattle.std.specs.Option.{option_and_then}
+use Rattle.std.specs.declared.cmp.Ordering.{Ordering}
+use Rattle.std.specs.Ordering.{is_eq}
+use Rattle.std.specs.Cmp.{IsTotalOrder}
+use Rattle.std.specs.Cmp.Lexicographic.{nat_list_cmp_total}
+use Rattle.std.proofs.lemmas.Cmp.{nat_cmp_total, on_total, then_total}
+use Rattle.std.proofs.lemmas.List.{get_or-map, length-map}
+use Rattle.scaled_decimal.specs.Decimals.{Decimal}
+use Rattle.scaled_decimal.specs.Limits.{IsKept}
+use Rattle.limits_file.specs.declared.slots.Slot.{Slot}
+use Rattle.rising_lists.specs.Keyed.{at_key}
+use Rattle.rising_lists.specs.Places.{IsAt, IsGap}
+use Rattle.payroll_records.specs.declared.day.Day.{Day}
+use Rattle.payroll_records.specs.declared.record.Record.{Record}
+use Rattle.payroll_records.specs.declared.record.Key.{Key}
+use Rattle.payroll_records.specs.declared.values.NamedValue.{NamedValue}
+use Rattle.payroll_records.specs.Orders.{day_cmp}
+use Rattle.plan_calendar.specs.Picking.{Entry, plan_of, pick}
+use Rattle.carry_bindings.specs.Filling.{filled_by}
+use Rattle.carry_bindings.specs.declared.carried.Earlier.{Earlier}
+use Rattle.carry_bindings.specs.declared.filling.Filled.{Filled}
+use Rattle.carry_bindings.specs.declared.filling.Filled.TheVariants as filling
+use Rattle.pap_plan.specs.Acceptance.{IsAccepted}
+use Rattle.pap_plan.specs.Inputs.{AreSlots}
+use Rattle.pap_plan.specs.Plans.{Seen, Admits, flowchart, meaning}
+use Rattle.year_runs.specs.declared.outcome.Outcome.{Outcome}
+use Rattle.year_runs.specs.declared.outcome.State.{State}
+use Rattle.year_runs.specs.declared.year.Year.{Year}
+use Rattle.year_runs.specs.declared.year.YearKey.{YearKey}
+use Rattle.year_runs.specs.Records.{record_day}
+use Rattle.year_runs.specs.Runs.{filled}
+use Rattle.year_runs.specs.Rows.{Planned, Job, Row, job_of, outputs_in, row_filled, row_of, year_rows}
+use Rattle.year_runs.specs.Kept.{AreKept, job_by, kept}
+use Rattle.year_runs.specs.Years.{IsYear}
+use Rattle.year_runs.proofs.Laws.{are_slots, filled_admitted, rows_length}
+use Rattle.employee_years.specs.Books.{YearRuns, runs_key, runs_of, runs_or_none, year_cmp}
+use Rattle.employee_years.specs.Kept.{kept_key, runs_in, runs_in_year}
+use Rattle.recalc_engine.specs.Contents.{Contents, row_at}
+use Rattle.recalc_engine.specs.Jobs.{HasNoOutputs}
+use Rattle.recalc_engine.specs.JobViews.{AdmitsWhatItFills, job_inputs}
+use Rattle.recalc_engine.proofs.RowLemmas.{IsRunOn, row_day, row_gap, row_here, run_on}
+
+-- ---- the order of years
+
+pub year_total : IsTotalOrder year_cmp
+year_total = then_total (on_total (λ (k : YearKey). k.employee) nat_list_cmp_total) (on_total (λ (k : YearKey). k.year) nat_cmp_total)
+
+-- ---- an employee's year
+
+module _ {K X Y : Type 0} (cmp : K → K → Ordering) (key : Y → K) (f : X → Y) where
+  at_key_map : (xs : List X) (k : K) → at_key cmp key (map f xs) k ≡ option_map f (at_key cmp (λ x. key (f x)) xs k)
+  at_key_map [] k = refl
+  at_key_map (x ∷ xs) k = elim (is_eq (cmp (key (f x)) k)) as (λ b. (if b then Some (f x) else at_key cmp key (map f xs) k) ≡ option_map f (if b then Some x else at_key cmp (λ x. key (f x)) xs k)) [
+    | true ↦ refl
+    | false ↦ at_key_map xs k
+  ]
+
+module _ {K X : Type 0} (cmp : K → K → Ordering) (key : X → K) (P : X → Type 0) where
+  some_same : (x y : X) → ◌≡◌ {A = Option X} (Some x) (Some y) → x ≡ y
+  some_same x y e = cc e
+
+  -- what holds of all elements holds of the one at a key
+  pub all_at_key : (xs : List X) (k : K) (x : X) → AllByRecursion P xs → at_key cmp key xs k ≡ Some x → P x
+  all_at_key [] k x all h = cc
+  all_at_key (y ∷ ys) k x all h =
+      (elim (is_eq (cmp (key y) k)) as (λ b. (if b then Some y else at_key cmp key ys k) ≡ Some x → P x) [
+        | true ↦ λ e. subst P (some_same y x e) all.0
+        | false ↦ λ e. all_at_key ys k x all.1 e
+      ]) h
+
+-- the runs of a year that is kept, and of one that isn't
+pub runs_of_year : (ys : List Year) (k : YearKey) (o : Option Year) → at_key year_cmp kept_key ys k ≡ o → runs_of (runs_in ys) k ≡ runs_or_none (option_map runs_in_year o)
+runs_of_year ys k o h = ap runs_or_none (at_key_map year_cmp runs_key runs_in_year ys k) ∙ ap (λ t. runs_or_none (option_map runs_in_year t)) h
+
+-- ---- the inputs of a run
+
+-- what is kept at the place of a day's record has the inputs of its job
+pub inputs_here : (planned : Planned) (rs : List Record) (outcomes : List Outcome) (d : Day) (i : ℕ) (o : Outcome) → AreKept planned rs outcomes → IsAt day_cmp record_day rs d i → o ≡ get_or outcomes i o → o.inputs ≡ option_map job_inputs (job_by planned rs d)
+inputs_here planned rs outcomes d i o are h read =
+    let all = year_rows planned rs in
+    let none : Row = record { day = d; plan = None; job = None; state = o.state } in
+    let row = get_or all i none in
+    let same : o ≡ kept row = read ∙ ap (λ t. get_or t i o) are.are ∙ get_or-map kept all i none o (omega (arith, rows_length planned [] rs, h.within)) in
+    ap (λ (t : Outcome). t.inputs) same ∙ sym (ap (λ t. option_map job_inputs (option_and_then (λ (x : Row). x.job) t)) (row_here planned [] rs d i none h))
+
+pub inputs_gap : (planned : Planned) (rs : List Record) (d : Day) (i : ℕ) → IsGap day_cmp record_day rs d i → job_by planned rs d ≡ None
+inputs_gap planned rs d i h = ap (λ t. option_and_then (λ (x : Row). x.job) t) (row_gap planned [] rs d i h)
+
+-- ---- the job of a run that has inputs
+
+pub record IsFilled (planned : Planned) (rs : List Record) (d : Day) (inputs : List Decimal) : Type 0 where
+  pub entry : Entry Seen
+  pub picked : planned d ≡ Some entry
+  pub job : job_by planned rs d ≡ Some (job_of (plan_of entry) inputs)
+  pub values : List NamedValue
+  pub earlier : List Earlier
+  pub filled : filled (plan_of entry) values earlier ≡ filling.Inputs inputs
+
+-- the parts of a run's job
+record HasParts (planned : Planned) (d : Day) (job : Option Job) (inputs : List Decimal) : Type 0 where
+  pub entry : Entry Seen
+  pub picked : planned d ≡ Some entry
+  pub job : job ≡ Some (job_of (plan_of entry) inputs)
+  pub values : List NamedValue
+  pub earlier : List Earlier
+  pub filled : filled (plan_of entry) values earlier ≡ filling.Inputs inputs
+
+module _ (planned : Planned) (d : Day) where
+  filled_parts : (e : Entry Seen) (values : List NamedValue) (earlier : List Earlier) (f : Filled) (on : Day) (inputs : List Decimal) → planned d ≡ Some e → filled (plan_of e) values earlier ≡ f → Some inputs ≡ option_map job_inputs (row_filled e on f).job →
+      HasParts planned d (row_filled e on f).job inputs
+  filled_parts e values earlier (filling.Inputs these) on inputs picked is h =
+      let same : inputs ≡ these = cc h in
+      record {
+        entry = e;
+        picked = picked;
+        job = ap (λ t. Some (job_of (plan_of e) t)) (sym same);
+        values = values;
+        earlier = earlier;
+        filled = is ∙ ap filling.Inputs (sym same);
+      }
+  filled_parts e values earlier (filling.State why) on inputs picked is h = cc h
+
+  row_parts : (o : Option (Entry Seen)) (earlier : List Earlier) (r : Record) (inputs : List Decimal) → planned d ≡ o → Some inputs ≡ option_map job_inputs (row_of o earlier r).job → HasParts planned d (row_of o earlier r).job inputs
+  row_parts None earlier r inputs picked h = cc h
+  row_parts (Some e) earlier r inputs picked h = filled_parts e r.values earlier (filled (plan_of e) r.values earlier) r.day inputs picked refl h
+
+  filled_outputs : (e : Entry Seen) (on : Day) (f : Filled) → (row_filled e on f).job ≡ None → outputs_in (row_filled e on f).state ≡ None
+  filled_outputs e on (filling.Inputs these) h = cc h
+  filled_outputs e on (filling.State why) h = refl
+
+  row_outputs : (o : Option (Entry Seen)) (earlier : List Earlier) (r : Record) → (row_of o earlier r).job ≡ None → outputs_in (row_of o earlier r).state ≡ None
+  row_outputs None earlier r h = refl
+  row_outputs (Some e) earlier r h = filled_outputs e r.day (filled (plan_of e) r.values earlier) h
+
+-- the run of a day that has these inputs was filled with them
+pub filled_on : (planned : Planned) (rs : List Record) (d : Day) (inputs : List Decimal) → Some inputs ≡ option_map job_inputs (job_by planned rs d) → IsFilled planned rs d inputs
+filled_on planned rs d inputs h = by_row (at_key day_cmp row_day (year_rows planned rs) d) refl
+  where
+    by_run : (row : Row) → at_key day_cmp row_day (year_rows planned rs) d ≡ Some row → IsRunOn planned d row → IsFilled planned rs d inputs
+    by_run row e run =
+        let job : job_by planned rs d ≡ (row_of (planned d) run.earlier run.item).job = ap (λ t. option_and_then (λ (x : Row). x.job) t) e ∙ ap (λ (t : Row). t.job) run.is in
+        let parts = row_parts planned d (planned d) run.earlier run.item inputs refl (h ∙ ap (λ t. option_map job_inputs t) job) in
+        record {
+          entry = parts.entry;
+          picked = parts.picked;
+          job = job ∙ parts.job;
+          values = parts.values;
+          earlier = parts.earlier;
+          filled = parts.filled;
+        }
+
+    by_row : (o : Option Row) → at_key day_cmp row_day (year_rows planned rs) d ≡ o → IsFilled planned rs d inputs
+    by_row None e = let g = h ∙ ap (λ t. option_map job_inputs (option_and_then (λ (x : Row). x.job) t)) e in cc g
+    by_row (Some row) e = by_run row e (run_on planned [] rs d row e)
+
+-- the run of a day that has no inputs has no outputs
+pub none_on : (planned : Planned) (rs : List Record) (d : Day) → None ≡ option_map job_inputs (job_by planned rs d) → HasNoOutputs (at_key day_cmp row_day (year_rows planned rs) d)
+none_on planned rs d h = by_row (at_key day_cmp row_day (year_rows planned rs) d) refl
+  where
+    no_job : (o : Option Job) → None ≡ option_map job_inputs o → o ≡ None
+    no_job None e = refl
+    no_job (Some j) e = cc e
+
+    by_run : (row : Row) → row.job ≡ None → IsRunOn planned d row → outputs_in row.state ≡ None
+    by_run row e run =
+        ap (λ (t : Row). outputs_in t.state) run.is ∙ row_outputs planned d (planned d) run.earlier run.item (sym (ap (λ (t : Row). t.job) run.is) ∙ e)
+
+    by_row : (o : Option Row) → at_key day_cmp row_day (year_rows planned rs) d ≡ o → HasNoOutputs o
+    by_row None e = tt
+    by_row (Some row) e = by_run row (no_job row.job (h ∙ ap (λ t. option_map job_inputs (option_and_then (λ (x : Row). x.job) t)) e)) (run_on planned [] rs d row e)
+
+-- an accepted plan admits what it fills, if that is kept
+pub admits_filled : (p : Seen) (slots : List Slot) (inputs : List Decimal) → IsAccepted p.plan p.limits (meaning p) → AreSlots p.ranges (flowchart p).inputs slots → All IsKept inputs → AdmitsWhatItFills p inputs
+unfolding filled
+admits_filled p slots inputs accepted are all values earlier h =
+    let by_slots : filled_by slots values earlier ≡ filling.Inputs inputs = ap (λ s. filled_by s values earlier) (sym (are_slots p.ranges (flowchart p).inputs slots are)) ∙ h in
+    filled_admitted p.ranges (flowchart p).inputs slots values earlier inputs accepted.bound.suited.suited are all by_slots
