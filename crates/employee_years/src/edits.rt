@@ -165,7 +165,7 @@ fn add_run<L: Ledger>(
 {
     let alloc = *years.allocator();
     let key = year_of(&key_of(&item));
-    match place_year(years.as_slice(), key) {
+    match place_year(years.as_slice(), &key) {
         Ok(at) => {
             let year = &mut years[at];
             year.put(alloc, plans, item, steps)
@@ -198,7 +198,7 @@ fn change_run<L: Ledger>(
 {
     let alloc = *years.allocator();
     let key = year_of(&key_of(&item));
-    let at = place_year(years.as_slice(), key).unwrap();
+    let at = place_year(years.as_slice(), &key).unwrap();
     years[at].change(alloc, plans, from, item, steps)
 }
 
@@ -218,7 +218,7 @@ fn take_run<L: Ledger>(
         (list_cost plans.now years.old.items (withdrawn key.now (runs_in years.old.items))) }
 {
     let alloc = *years.allocator();
-    let at = place_year(years.as_slice(), year_of(key)).unwrap();
+    let at = place_year(years.as_slice(), &year_of(key)).unwrap();
     if years[at].records.len() == 1 {
         let _year = years.remove(at);
         return Ok(Work { runs: 0, steps: 0 });

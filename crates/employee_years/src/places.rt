@@ -33,12 +33,12 @@ pub(crate) fn year_of(key: &Key) -> YearKey
 }
 
 /// Where an employee's year stands, or would go.
-pub(crate) fn place_year(years: &[Year], key: YearKey) -> Result<usize, usize>
+pub(crate) fn place_year(years: &[Year], key: &YearKey) -> Result<usize, usize>
     requires { IsRising year_cmp kept_key years.now }
-    ensures found { IfOk result (Finds year_cmp kept_key years.now key) }
-    ensures absent { IfErr result (Misses year_cmp kept_key years.now key) }
+    ensures found { IfOk result (Finds year_cmp kept_key years.now key.now) }
+    ensures absent { IfErr result (Misses year_cmp kept_key years.now key.now) }
 {
-    years.binary_search_by_key(&key, |y| y.key)
+    years.binary_search_by_key(key, |y| y.key)
 }
 
 /// Where the run of a day stands, or would go.

@@ -38,7 +38,7 @@ impl Years {
         requires { AreInOrder (years_of self.now) }
         ensures { option_copied result ≡ run_at (years_of self.now) key.now }
     {
-        let at = place_year(self.list.as_slice(), year_of(key)).ok()?;
+        let at = place_year(self.list.as_slice(), &year_of(key)).ok()?;
         let records = self.list[at].records.as_slice();
         let run = place_run(records, key.day).ok()?;
         Some(&records[run])
@@ -53,7 +53,7 @@ impl Years {
             employee: *employee,
             year: month.year,
         };
-        match place_year(self.list.as_slice(), key) {
+        match place_year(self.list.as_slice(), &key) {
             Ok(at) => only_one(self.list[at].records.as_slice(), month.month),
             Err(_) => InMonth::Empty,
         }
