@@ -1,7 +1,7 @@
 -- What an edit of a year at its place makes of all years.
-use Rattle.std.proofs.Common.{◌≡◌, ℕ, ◌<◌, List, [], length, refl, sym, ap, subst, ◌∙◌, set, Result, Ok, Err, IfOk, OnErr}
+use Rattle.std.proofs.Common.{◌≡◌, ℕ, ◌<◌, List, [], length, sym, ap, subst, ◌∙◌, set, Result, Ok, Err, IfOk, OnErr}
 use Rattle.std.specs.List.{insert, remove}
-use Rattle.rising_lists.specs.Places.{Finds, Misses}
+use Rattle.rising_lists.specs.Places.{Misses}
 use Rattle.payroll_records.specs.declared.record.Record.{Record}
 use Rattle.plan_calendar.specs.Picking.{Entry, pick}
 use Rattle.pap_plan.specs.Plans.{Seen}

@@ -1,4 +1,4 @@
-use Rattle.std.proofs.Common.{◌≡◌, Err, sym, ap, ◌∙◌, arith}
+use Rattle.std.proofs.Common.{Err, sym, ap, ◌∙◌, arith}
 use Rattle.std.proofs.lemmas.Result.{err_from_is_err_and}
 use Rattle.payroll_records.specs.Orders.{day_cmp}
 use Rattle.payroll_records.specs.Tables.{key_of}
