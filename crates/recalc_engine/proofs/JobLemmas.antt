@@ -5,9 +5,6 @@ use Rattle.std.specs.List.{AllByRecursion}
 use Rattle.std.specs.Option.{option_and_then}
 use Rattle.std.specs.declared.cmp.Ordering.{Ordering}
 use Rattle.std.specs.Ordering.{is_eq}
-use Rattle.std.specs.Cmp.{IsTotalOrder}
-use Rattle.std.specs.Cmp.Lexicographic.{nat_list_cmp_total}
-use Rattle.std.proofs.lemmas.Cmp.{nat_cmp_total, on_total, then_total}
 use Rattle.std.proofs.lemmas.List.{get_or-map, length-map}
 use Rattle.scaled_decimal.specs.Decimals.{Decimal}
 use Rattle.scaled_decimal.specs.Limits.{IsKept}
@@ -30,41 +27,27 @@ use Rattle.pap_plan.specs.Plans.{Seen, Admits, flowchart, meaning}
 use Rattle.year_runs.specs.declared.outcome.Outcome.{Outcome}
 use Rattle.year_runs.specs.declared.outcome.State.{State}
 use Rattle.year_runs.specs.declared.year.Year.{Year}
-use Rattle.year_runs.specs.declared.year.YearKey.{YearKey}
 use Rattle.year_runs.specs.Records.{record_day}
 use Rattle.year_runs.specs.Runs.{filled}
 use Rattle.year_runs.specs.Rows.{Planned, Job, Row, job_of, outputs_in, row_filled, row_of, year_rows}
 use Rattle.year_runs.specs.Kept.{AreKept, job_by, kept}
 use Rattle.year_runs.specs.Years.{IsYear}
 use Rattle.year_runs.proofs.Laws.{are_slots, filled_admitted, rows_length}
-use Rattle.employee_years.specs.Books.{YearRuns, runs_key, runs_of, runs_or_none, year_cmp}
-use Rattle.employee_years.specs.Kept.{kept_key, runs_in, runs_in_year}
-use Rattle.recalc_engine.specs.Contents.{Contents, row_at}
+use Rattle.employee_years.specs.Books.{runs_of, year_cmp, year_of}
+use Rattle.employee_years.specs.Kept.{kept_key, runs_in}
+use Rattle.employee_years.proofs.Laws.{runs_kept, runs_missed}
 use Rattle.recalc_engine.specs.Jobs.{HasNoOutputs}
 use Rattle.recalc_engine.specs.JobViews.{AdmitsWhatItFills, job_inputs}
 use Rattle.recalc_engine.proofs.RowLemmas.{IsRunOn, row_day, row_gap, row_here, run_on}
 
--- ---- the order of years
-
-pub year_total : IsTotalOrder year_cmp
-year_total = then_total (on_total (λ (k : YearKey). k.employee) nat_list_cmp_total) (on_total (λ (k : YearKey). k.year) nat_cmp_total)
-
 -- ---- an employee's year
-
-module _ {K X Y : Type 0} (cmp : K → K → Ordering) (key : Y → K) (f : X → Y) where
-  at_key_map : (xs : List X) (k : K) → at_key cmp key (map f xs) k ≡ option_map f (at_key cmp (λ x. key (f x)) xs k)
-  at_key_map [] k = refl
-  at_key_map (x ∷ xs) k = elim (is_eq (cmp (key (f x)) k)) as (λ b. (if b then Some (f x) else at_key cmp key (map f xs) k) ≡ option_map f (if b then Some x else at_key cmp (λ x. key (f x)) xs k)) [
-    | true ↦ refl
-    | false ↦ at_key_map xs k
-  ]
 
 module _ {K X : Type 0} (cmp : K → K → Ordering) (key : X → K) (P : X → Type 0) where
   some_same : (x y : X) → ◌≡◌ {A = Option X} (Some x) (Some y) → x ≡ y
   some_same x y e = cc e
 
   -- what holds of all elements holds of the one at a key
-  pub all_at_key : (xs : List X) (k : K) (x : X) → AllByRecursion P xs → at_key cmp key xs k ≡ Some x → P x
+  all_at_key : (xs : List X) (k : K) (x : X) → AllByRecursion P xs → at_key cmp key xs k ≡ Some x → P x
   all_at_key [] k x all h = cc
   all_at_key (y ∷ ys) k x all h =
       (elim (is_eq (cmp (key y) k)) as (λ b. (if b then Some y else at_key cmp key ys k) ≡ Some x → P x) [
@@ -72,9 +55,24 @@ module _ {K X : Type 0} (cmp : K → K → Ordering) (key : X → K) (P : X → 
         | false ↦ λ e. all_at_key ys k x all.1 e
       ]) h
 
--- the runs of a year that is kept, and of one that isn't
-pub runs_of_year : (ys : List Year) (k : YearKey) (o : Option Year) → at_key year_cmp kept_key ys k ≡ o → runs_of (runs_in ys) k ≡ runs_or_none (option_map runs_in_year o)
-runs_of_year ys k o h = ap runs_or_none (at_key_map year_cmp runs_key runs_in_year ys k) ∙ ap (λ t. runs_or_none (option_map runs_in_year t)) h
+-- the run of a key among these years, computed anew
+abbrev pub row_in : List (Entry Seen) → List Year → Key → Option Row
+row_in plans ys k = at_key day_cmp row_day (year_rows (pick plans) (runs_of (runs_in ys) (year_of k))) k.day
+
+abbrev pub job_of_row : Option Row → Option Job
+job_of_row o = option_and_then (λ row. row.job) o
+
+module _ (plans : List (Entry Seen)) (ys read : List Year) (k : Key) (same : read ≡ ys) where
+  -- where the year isn't there, nor is the run
+  pub no_year : None ≡ at_key year_cmp kept_key read (year_of k) → row_in plans ys k ≡ None
+  no_year h = ap (λ rs. at_key day_cmp row_day (year_rows (pick plans) rs) k.day) (runs_missed ys (year_of k) (ap (λ l. at_key year_cmp kept_key l (year_of k)) (sym same) ∙ sym h))
+
+  -- where it is there, the run is that of its day
+  pub year_row : (y : Year) → Some y ≡ at_key year_cmp kept_key read (year_of k) → row_in plans ys k ≡ at_key day_cmp row_day (year_rows (pick plans) y.records.items) k.day
+  year_row y h = ap (λ rs. at_key day_cmp row_day (year_rows (pick plans) rs) k.day) (runs_kept ys (year_of k) y (ap (λ l. at_key year_cmp kept_key l (year_of k)) (sym same) ∙ sym h))
+
+  pub year_is : (y : Year) → Some y ≡ at_key year_cmp kept_key read (year_of k) → AllByRecursion (IsYear plans) ys → IsYear plans y
+  year_is y h each = all_at_key year_cmp kept_key (IsYear plans) ys (year_of k) y each (ap (λ l. at_key year_cmp kept_key l (year_of k)) (sym same) ∙ sym h)
 
 -- ---- the inputs of a run
 
@@ -101,10 +99,10 @@ pub record IsFilled (planned : Planned) (rs : List Record) (d : Day) (inputs : L
   pub filled : filled (plan_of entry) values earlier ≡ filling.Inputs inputs
 
 -- the parts of a run's job
-record HasParts (planned : Planned) (d : Day) (job : Option Job) (inputs : List Decimal) : Type 0 where
+record HasParts (planned : Planned) (d : Day) (own : Option Job) (inputs : List Decimal) : Type 0 where
   pub entry : Entry Seen
   pub picked : planned d ≡ Some entry
-  pub job : job ≡ Some (job_of (plan_of entry) inputs)
+  pub job : own ≡ Some (job_of (plan_of entry) inputs)
   pub values : List NamedValue
   pub earlier : List Earlier
   pub filled : filled (plan_of entry) values earlier ≡ filling.Inputs inputs
@@ -157,21 +155,53 @@ filled_on planned rs d inputs h = by_row (at_key day_cmp row_day (year_rows plan
     by_row None e = let g = h ∙ ap (λ t. option_map job_inputs (option_and_then (λ (x : Row). x.job) t)) e in cc g
     by_row (Some row) e = by_run row e (run_on planned [] rs d row e)
 
+-- a run without inputs has no job
+pub no_job : (o : Option Job) → None ≡ option_map job_inputs o → None ≡ o
+no_job None e = refl
+no_job (Some j) e = cc e
+
 -- the run of a day that has no inputs has no outputs
 pub none_on : (planned : Planned) (rs : List Record) (d : Day) → None ≡ option_map job_inputs (job_by planned rs d) → HasNoOutputs (at_key day_cmp row_day (year_rows planned rs) d)
 none_on planned rs d h = by_row (at_key day_cmp row_day (year_rows planned rs) d) refl
   where
-    no_job : (o : Option Job) → None ≡ option_map job_inputs o → o ≡ None
-    no_job None e = refl
-    no_job (Some j) e = cc e
-
     by_run : (row : Row) → row.job ≡ None → IsRunOn planned d row → outputs_in row.state ≡ None
     by_run row e run =
         ap (λ (t : Row). outputs_in t.state) run.is ∙ row_outputs planned d (planned d) run.earlier run.item (sym (ap (λ (t : Row). t.job) run.is) ∙ e)
 
     by_row : (o : Option Row) → at_key day_cmp row_day (year_rows planned rs) d ≡ o → HasNoOutputs o
     by_row None e = tt
-    by_row (Some row) e = by_run row (no_job row.job (h ∙ ap (λ t. option_map job_inputs (option_and_then (λ (x : Row). x.job) t)) e)) (run_on planned [] rs d row e)
+    by_row (Some row) e = by_run row (sym (no_job row.job (h ∙ ap (λ t. option_map job_inputs (option_and_then (λ (x : Row). x.job) t)) e))) (run_on planned [] rs d row e)
+
+-- what is lent of a run's plan and inputs is its job
+pub record IsJob (planned : Planned) (rs : List Record) (d : Day) (p : Seen) (inputs : List Decimal) : Type 0 where
+  pub job : job_by planned rs d ≡ Some (job_of p inputs)
+  pub values : List NamedValue
+  pub earlier : List Earlier
+  pub filled : filled p values earlier ≡ filling.Inputs inputs
+
+module _ (planned : Planned) (rs : List Record) (d : Day) (inputs : List Decimal) (given : Some inputs ≡ option_map job_inputs (job_by planned rs d)) where
+  same_plan : (e : Entry Seen) (from : Day) (p : Seen) → ◌≡◌ {A = Option (Entry Seen)} (Some (from, p)) (Some e) → plan_of e ≡ p
+  same_plan e from p h =
+      let parts : ◌≡◌ {A = Entry Seen} (from, p) e = cc h in
+      sym (ap (λ (t : Entry Seen). plan_of t) parts)
+
+  pub job_is : (from : Day) (p : Seen) → Some (from, p) ≡ planned d → IsJob planned rs d p inputs
+  job_is from p h =
+      let f = filled_on planned rs d inputs given in
+      let same = same_plan f.entry from p (h ∙ f.picked) in
+      record {
+        job = f.job ∙ ap (λ t. Some (job_of t inputs)) same;
+        values = f.values;
+        earlier = f.earlier;
+        filled = ap (λ t. filled t f.values f.earlier) (sym same) ∙ f.filled;
+      }
+
+  -- its day has a plan
+  pub has_plan : None ≡ planned d → ⊥
+  has_plan h =
+      let f = filled_on planned rs d inputs given in
+      let none : ◌≡◌ {A = Option (Entry Seen)} None (Some f.entry) = h ∙ f.picked in
+      cc none
 
 -- an accepted plan admits what it fills, if that is kept
 pub admits_filled : (p : Seen) (slots : List Slot) (inputs : List Decimal) → IsAccepted p.plan p.limits (meaning p) → AreSlots p.ranges (flowchart p).inputs slots → All IsKept inputs → AdmitsWhatItFills p inputs

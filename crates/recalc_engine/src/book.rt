@@ -1,17 +1,29 @@
 //! The book.
-ghost use Rattle.std.specs.Prelude.{◌≡◌, [], IfSome, IfNone, option_map};
-ghost use Rattle.recalc_engine.specs.Contents.{row_at};
+ghost use Rattle.std.specs.Prelude.{◌≡◌, [], IfOk, IfErr, OnErr, IfSome, IfNone, IsSome, option_map};
+ghost use Rattle.std.specs.Option.{option_copied};
+ghost use Rattle.plan_calendar.specs.Picking.{entry_at, with_entry, without_day};
+ghost use Rattle.employee_years.specs.Books.{added, in_month, loaded, run_at, source_of, withdrawal};
+ghost use Rattle.employee_years.specs.Refusals.{CanAdd, CountsEdit, IsAddRefused, IsChangeRefused};
+ghost use Rattle.employee_years.specs.Refusals.{IsOne, IsWithdrawRefused};
+ghost use Rattle.plan_edits.specs.Replans.{IsDropRefused, IsFull, IsPutRefused};
+ghost use Rattle.table_loads.specs.Loads.{AreDistinct, CanLoad, IsLoadRefused};
+ghost use Rattle.recalc_engine.specs.Contents.{IsEdit, cost_between, row_at, with_plans, with_years};
+ghost use Rattle.recalc_engine.specs.Edits.{with_change, with_withdrawal};
 ghost use Rattle.recalc_engine.specs.MonthRows.{month_rows};
 ghost use Rattle.recalc_engine.specs.Jobs.{AdmitsInputs, HasNoOutputs, job_of_key, lent_job};
 
 use crate::job::{Job, inputs_on, job_of, year_at};
 use crate::months::Months;
-use employee_years::Years;
+use employee_years::{EditRefusal, InMonth, Years};
 use pap_plan::Plan;
-use payroll_records::Key;
+use payroll_records::{Day, Employee, Key, Month, Record, When};
 use plan_calendar::Calendar;
+use plan_edits::{drop_plan, put_plan};
 use std::alloc::Global;
 use std::marker::Model;
+use std::sync::ledger::Ledger;
+use steps::Steps;
+use table_loads::load;
 use year_runs::{Work, YearKey};
 
 /// Pay runs by employee and day, plans by day, and what each run came to.
@@ -59,6 +71,20 @@ impl Book {
         &self.plans
     }
 
+    /// The run of a key.
+    pub fn find(&self, key: &Key) -> Option<&Record>
+        ensures { option_copied result ≡ run_at self.now.years key.now }
+    {
+        self.years.find(key)
+    }
+
+    /// The runs that an employee has in a month.
+    pub fn in_month(&self, employee: &Employee, month: Month) -> InMonth
+        ensures { result ≡ in_month self.now.years employee.now month.year month.month }
+    {
+        self.years.in_month(employee, month)
+    }
+
     /// All runs, in order of employee and day, with the days of their plans and their states.
     pub fn months(&self) -> Months<'_>
         ensures { result ≡ month_rows self.now }
@@ -80,5 +106,123 @@ impl Book {
         let inputs = inputs_on(year, key.day)?;
         let (_, plan) = self.plans.pick(key.day)?;
         Some(job_of(plan, inputs))
+    }
+
+    /// Adds a run. After a refusal the book is as before.
+    pub fn add<L: Ledger>(
+        &mut self,
+        item: Record,
+        steps: &mut Steps<L>,
+    ) -> Result<Work, EditRefusal>
+        ensures ok { IfOk result
+            (IsEdit self.old (with_years (added item self.old.years) self.old) self.new) }
+        ensures can { IfOk result (λ _. CanAdd self.old.years item) }
+        ensures err { OnErr result (self.new ≡ self.old) }
+        ensures refused { IfErr result (IsAddRefused self.old.years item) }
+        ensures counted { CountsEdit result steps.old steps.new
+            (cost_between self.old (with_years (added item self.old.years) self.old)) }
+    {
+        let work = self.years.add(&self.plans, item, steps)?;
+        self.last = work;
+        Ok(work)
+    }
+
+    /// Puts a run in place of that of its day, or else of the only one of its month, whose day it then takes. After a
+    /// refusal the book is as before.
+    pub fn change<L: Ledger>(
+        &mut self,
+        item: Record,
+        steps: &mut Steps<L>,
+    ) -> Result<Work, EditRefusal>
+        ensures ok { IfOk result (IsEdit self.old (with_change item self.old) self.new) }
+        ensures can { IfOk result (λ _. IsOne (source_of self.old.years item)) }
+        ensures err { OnErr result (self.new ≡ self.old) }
+        ensures refused { IfErr result (IsChangeRefused self.old.years item) }
+        ensures counted { CountsEdit result steps.old steps.new
+            (cost_between self.old (with_change item self.old)) }
+    {
+        let work = self.years.change(&self.plans, item, steps)?;
+        self.last = work;
+        Ok(work)
+    }
+
+    /// Takes a run away: that of a day, or the only one of a month. After a refusal the book is as before.
+    pub fn withdraw<L: Ledger>(
+        &mut self,
+        employee: Employee,
+        when: When,
+        steps: &mut Steps<L>,
+    ) -> Result<Work, EditRefusal>
+        ensures ok { IfOk result
+            (IsEdit self.old (with_withdrawal employee when self.old) self.new) }
+        ensures can { IfOk result (λ _. IsOne (withdrawal self.old.years employee when)) }
+        ensures err { OnErr result (self.new ≡ self.old) }
+        ensures refused { IfErr result (IsWithdrawRefused self.old.years employee when) }
+        ensures counted { CountsEdit result steps.old steps.new
+            (cost_between self.old (with_withdrawal employee when self.old)) }
+    {
+        let work = self.years.withdraw(&self.plans, employee, when, steps)?;
+        self.last = work;
+        Ok(work)
+    }
+
+    /// Adds all these runs, no two of one key, or none of them. After a refusal the book is as before.
+    pub fn load<L: Ledger>(
+        &mut self,
+        items: Vec<Record>,
+        steps: &mut Steps<L>,
+    ) -> Result<Work, EditRefusal>
+        requires { AreDistinct items.items }
+        ensures ok { IfOk result
+            (IsEdit self.old (with_years (loaded items.items self.old.years) self.old) self.new) }
+        ensures can { IfOk result (λ _. CanLoad self.old.years items.items) }
+        ensures err { OnErr result (self.new ≡ self.old) }
+        ensures refused { IfErr result (IsLoadRefused self.old.years items.items) }
+        ensures counted { CountsEdit result steps.old steps.new
+            (cost_between self.old (with_years (loaded items.items self.old.years) self.old)) }
+    {
+        let work = load(&self.plans, &mut self.years, items, steps)?;
+        self.last = work;
+        Ok(work)
+    }
+
+    /// Puts a plan at its day, in place of one that stood there. After a refusal the book is as before.
+    pub fn put_plan<L: Ledger>(
+        &mut self,
+        day: Day,
+        plan: Plan,
+        steps: &mut Steps<L>,
+    ) -> Result<Work, EditRefusal>
+        ensures ok { IfOk result (IsEdit self.old
+            (with_plans (with_entry (day, plan) self.old.plans) self.old) self.new) }
+        ensures can { IfOk result (λ _. IsFull self.old.plans day → ⊥) }
+        ensures err { OnErr result (self.new ≡ self.old) }
+        ensures refused { IfErr result (IsPutRefused self.old.plans day) }
+        ensures counted { CountsEdit result steps.old steps.new
+            (cost_between self.old
+            (with_plans (with_entry (day, plan) self.old.plans) self.old)) }
+    {
+        let work = put_plan(&mut self.plans, &mut self.years, day, plan, steps)?;
+        self.last = work;
+        Ok(work)
+    }
+
+    /// Takes the plan of a day away. After a refusal the book is as before.
+    pub fn drop_plan<L: Ledger>(
+        &mut self,
+        day: Day,
+        steps: &mut Steps<L>,
+    ) -> Result<Work, EditRefusal>
+        ensures ok { IfOk result (IsEdit self.old
+            (with_plans (without_day day self.old.plans) self.old) self.new) }
+        ensures can { IfOk result (λ _. IsSome (entry_at self.old.plans day)) }
+        ensures err { OnErr result (self.new ≡ self.old) }
+        ensures refused { IfErr result (IsDropRefused self.old.plans day) }
+        ensures counted { CountsEdit result steps.old steps.new
+            (cost_between self.old (with_plans (without_day day self.old.plans) self.old)) }
+    {
+        let work = drop_plan(&mut self.plans, &mut self.years, day, steps)?;
+        self.last = work;
+        Ok(work)
     }
 }

@@ -38,7 +38,9 @@ pub(crate) fn inputs_on(year: &Year, day: Day) -> Option<&[Dec]>
     requires paired { length year.now.records.items ≡ length year.now.outcomes.items }
     ensures { HasInputsOf year.now day (option_copied result) }
 {
-    let at = place_run(year.records.as_slice(), day).ok()?;
+    let Ok(at) = place_run(year.records.as_slice(), day) else {
+        return None;
+    };
     let inputs = year.outcomes[at].inputs.as_ref()?;
     Some(inputs.as_slice())
 }

@@ -1,0 +1,8 @@
+use Rattle.employee_years.proofs.Laws.{kept_in_order}
+use Rattle.recalc_engine.proofs.book.Book.in_month.Goals as goal
+
+pub in_month-requires : goal.in_month-requires
+in_month-requires c =
+    let b = c.self.inside in
+    let kept = c.self.invariant in
+    kept_in_order b.plans b.years.list.items (record { rising = kept.rising; each = kept.each; some = kept.some })

@@ -1,0 +1,4 @@
+use Rattle.recalc_engine.proofs.book.Book.new.Goals as goal
+
+pub invariant_of-result : goal.invariant_of-result
+invariant_of-result c = c.new.ensures.years c.new-2.result
