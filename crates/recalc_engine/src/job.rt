@@ -51,8 +51,8 @@ pub(crate) fn job_of<'a>(plan: &'a Plan, inputs: &'a [Dec]) -> Job<'a>
     ensures inputs { result.inputs.now ≡ inputs.now }
     ensures admitted { AdmitsWhatItFills plan.now inputs.now }
 {
-    let _accepted = plan.bound();
-    let _slots = plan.spec();
+    let _ = plan.bound();
+    let _ = plan.spec();
     each_is_kept(inputs);
     Job { plan, inputs }
 }
