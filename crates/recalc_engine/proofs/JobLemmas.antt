@@ -1,11 +1,11 @@
 -- The job of a key's run, as it is kept.
-use Rattle.std.proofs.Common.{◌≡◌, ℕ, ◌<◌, List, [], ◌∷◌, length, map, get_or, true, false, Option, Some, None, option_map, if◌then◌else◌, refl, sym, ap, subst, ◌∙◌, arith}
+use Rattle.std.proofs.Common.{◌≡◌, ℕ, List, [], ◌∷◌, get_or, true, false, Option, Some, None, option_map, if◌then◌else◌, refl, sym, ap, subst, ◌∙◌, arith}
 use Rattle.std.specs.Prelude.{All}
 use Rattle.std.specs.List.{AllByRecursion}
 use Rattle.std.specs.Option.{option_and_then}
 use Rattle.std.specs.declared.cmp.Ordering.{Ordering}
 use Rattle.std.specs.Ordering.{is_eq}
-use Rattle.std.proofs.lemmas.List.{get_or-map, length-map}
+use Rattle.std.proofs.lemmas.List.{get_or-map}
 use Rattle.scaled_decimal.specs.Decimals.{Decimal}
 use Rattle.scaled_decimal.specs.Limits.{IsKept}
 use Rattle.limits_file.specs.declared.slots.Slot.{Slot}
@@ -23,7 +23,7 @@ use Rattle.carry_bindings.specs.declared.filling.Filled.{Filled}
 use Rattle.carry_bindings.specs.declared.filling.Filled.TheVariants as filling
 use Rattle.pap_plan.specs.Acceptance.{IsAccepted}
 use Rattle.pap_plan.specs.Inputs.{AreSlots}
-use Rattle.pap_plan.specs.Plans.{Seen, Admits, flowchart, meaning}
+use Rattle.pap_plan.specs.Plans.{Seen, flowchart, meaning}
 use Rattle.year_runs.specs.declared.outcome.Outcome.{Outcome}
 use Rattle.year_runs.specs.declared.outcome.State.{State}
 use Rattle.year_runs.specs.declared.year.Year.{Year}

@@ -1,6 +1,5 @@
 -- A book: its runs, its plans and the work of its last edit. What its runs came to follows from these.
-use Rattle.std.specs.Prelude.{ℕ, ◌≡◌, List, [], ◌∷◌, ◌++◌, Option, map}
-use Rattle.std.specs.Option.{option_and_then}
+use Rattle.std.specs.Prelude.{ℕ, ◌≡◌, List, [], Option}
 use Rattle.rising_lists.specs.Keyed.{at_key}
 use Rattle.payroll_records.specs.declared.record.Key.{Key}
 use Rattle.payroll_records.specs.Orders.{day_cmp}

@@ -1,8 +1,8 @@
 -- The jobs of a book's runs.
-use Rattle.std.specs.Prelude.{◌≡◌, ◌⊎◌, List, Option, Some, None, ⊤}
+use Rattle.std.specs.Prelude.{◌≡◌, Option, Some, None, ⊤}
 use Rattle.std.specs.Option.{option_and_then}
 use Rattle.payroll_records.specs.declared.record.Key.{Key}
-use Rattle.pap_plan.specs.Plans.{Seen, Admits}
+use Rattle.pap_plan.specs.Plans.{Admits}
 use Rattle.year_runs.specs.Rows.{Job, Row, outputs_in}
 use Rattle.recalc_engine.specs.declared.job.Job.{Job as LentJob}
 use Rattle.recalc_engine.specs.Contents.{Contents, row_at}
