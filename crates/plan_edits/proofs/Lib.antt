@@ -1,0 +1,4 @@
+mod YearLemmas
+mod MergeLemmas
+mod RedoneLemmas
+mod PlanLemmas
