@@ -2,3 +2,4 @@ mod YearLemmas
 mod MergeLemmas
 mod RedoneLemmas
 mod PlanLemmas
+mod EditLemmas

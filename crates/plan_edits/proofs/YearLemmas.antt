@@ -1,5 +1,5 @@
 -- A year that is kept stands at its own key, and there are no more years than runs.
-use Rattle.std.proofs.Common.{◌≡◌, ◌<◌, ◌≤◌, ℕ, List, [], ◌∷◌, length, map, get_or, true, false, if◌then◌else◌, Option, Some, None, option_map, refl, sym, ap, subst, ◌∙◌, arith}
+use Rattle.std.proofs.Common.{◌≡◌, ◌<◌, ◌≤◌, ℕ, List, [], ◌∷◌, ◌+◌, length, map, get_or, true, false, if◌then◌else◌, Option, Some, None, option_map, refl, sym, ap, subst, ◌∙◌, arith}
 use Rattle.std.specs.List.{AllByRecursion}
 use Rattle.std.specs.Ordering.{is_eq}
 use Rattle.std.specs.declared.cmp.Ordering.{Ordering}
@@ -48,7 +48,9 @@ runs_at ys i y rising l is =
 
 years_within : (ys : List Year) → AllByRecursion HasRuns ys → length ys ≤ run_count (runs_in ys)
 years_within [] some = omega arith
-years_within (y ∷ ys) some = omega (arith, some.0, years_within ys some.1)
+years_within (y ∷ ys) some =
+    let more : run_count (runs_in (y ∷ ys)) ≡ length y.records.items + run_count (runs_in ys) = refl in
+    omega (arith, more, some.0, years_within ys some.1)
 
 -- there are at most 50,000 years
 pub years_few : (plans : List (Entry Seen)) (ys : Years) → AreYears plans ys → length ys.list.items ≤ 50000

@@ -44,7 +44,7 @@ pub(crate) fn redo_years<L: Ledger>(
     let mut outcomes = Vec::new(alloc);
     let mut runs = 0;
     let mut taken = 0;
-    for year in &years.list {
+    for year in years.list.as_slice() {
         let done = redo_year(alloc, picks, year, steps)?;
         runs += done.work.runs;
         taken += done.work.steps;
