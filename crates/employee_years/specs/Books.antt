@@ -108,7 +108,7 @@ source_of years r =
 -- the run that is withdrawn: that of the day, or the only one of the month
 abbrev pub withdrawal : List YearRuns → List ℕ → When → InMonth
 withdrawal years e (when.Day d) =
-    let k = record { employee = e; day = d } in
+    let k : Key = record { employee = e; day = d } in
     if is_some (run_at years k) then One k else Empty
 withdrawal years e (when.Month m) = in_month years e m.year m.month
 

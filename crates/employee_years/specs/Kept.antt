@@ -6,6 +6,7 @@ use Rattle.plan_calendar.specs.Picking.{Entry, pick}
 use Rattle.pap_plan.specs.Plans.{Seen}
 use Rattle.year_runs.specs.declared.outcome.Work.{Work}
 use Rattle.year_runs.specs.declared.year.Year.{Year}
+use Rattle.year_runs.specs.declared.year.YearKey.{YearKey}
 use Rattle.year_runs.specs.Jobs.{total_cost, work_of}
 use Rattle.year_runs.specs.Rows.{Planned, Job}
 use Rattle.year_runs.specs.Years.{IsYear, year_jobs}

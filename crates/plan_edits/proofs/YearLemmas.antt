@@ -1,5 +1,5 @@
 -- A year that is kept stands at its own key, and there are no more years than runs.
-use Rattle.std.proofs.Common.{◌≡◌, ◌<◌, ◌≤◌, ℕ, List, [], ◌∷◌, ◌+◌, length, map, get_or, true, false, if◌then◌else◌, Option, Some, None, option_map, refl, sym, ap, subst, ◌∙◌, arith}
+use Rattle.std.proofs.Common.{◌≡◌, ◌<◌, ◌≤◌, ℕ, List, [], ◌∷◌, length, map, get_or, true, false, if◌then◌else◌, Option, Some, None, option_map, refl, sym, ap, subst, ◌∙◌, arith}
 use Rattle.std.specs.List.{AllByRecursion}
 use Rattle.std.specs.Ordering.{is_eq}
 use Rattle.std.specs.declared.cmp.Ordering.{Ordering}
@@ -7,6 +7,7 @@ use Rattle.std.specs.Cmp.{IsTotalOrder}
 use Rattle.std.specs.Cmp.Lexicographic.{nat_list_cmp_total}
 use Rattle.std.proofs.lemmas.Cmp.{tied_itself, nat_cmp_total, on_total, then_total}
 use Rattle.std.proofs.lemmas.List.Elements.{All-from_recursion}
+use Rattle.std.proofs.lemmas.List.Sums.{sum_by-cons}
 use Rattle.rising_lists.specs.Keyed.{at_key, AreAbove, IsRising}
 use Rattle.plan_calendar.specs.Picking.{Entry}
 use Rattle.pap_plan.specs.Plans.{Seen}
@@ -49,7 +50,7 @@ runs_at ys i y rising l is =
 years_within : (ys : List Year) → AllByRecursion HasRuns ys → length ys ≤ run_count (runs_in ys)
 years_within [] some = omega arith
 years_within (y ∷ ys) some =
-    let more : run_count (runs_in (y ∷ ys)) ≡ length y.records.items + run_count (runs_in ys) = refl in
+    let more = sum_by-cons (λ (y : YearRuns). length y.runs) (runs_in_year y) (runs_in ys) in
     omega (arith, more, some.0, years_within ys some.1)
 
 -- there are at most 50,000 years
