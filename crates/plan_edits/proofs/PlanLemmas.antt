@@ -1,14 +1,17 @@
 -- What an edit finds in the calendar, and what it makes of the plan of each day.
-use Rattle.std.proofs.Common.{◌≡◌, ℕ, List, [], ◌∷◌, Bool, true, false, Option, is_some, IsSome, Result, Ok, Err, IfOk, IfErr, refl, sym, ap, subst, ◌∙◌, arith}
+use Rattle.std.proofs.Common.{◌≡◌, ℕ, List, [], ◌∷◌, true, Option, Some, is_some, IsSome, Result, Ok, Err, IfOk, IfErr, sym, ap, subst, ◌∙◌, arith}
 use Rattle.std.specs.List.{AllByRecursion}
 use Rattle.std.specs.Result.{is_ok}
+use Rattle.rising_lists.specs.Keyed.{IsRising}
 use Rattle.rising_lists.specs.Places.{Finds, Misses}
 use Rattle.payroll_records.specs.declared.day.Day.{Day}
 use Rattle.payroll_records.specs.Orders.{day_cmp}
-use Rattle.plan_calendar.specs.Picking.{Entry, day_of, entry_at, pick}
+use Rattle.plan_calendar.specs.Edits.{picked_after}
+use Rattle.plan_calendar.specs.Picking.{Entry, day_of, entry_at, pick, pick_before, with_entry, without_day}
+use Rattle.plan_calendar.proofs.Laws.{pick_put, pick_drop}
 use Rattle.pap_plan.specs.Plans.{Seen}
 use Rattle.year_runs.specs.declared.year.Year.{Year}
-use Rattle.year_runs.specs.Jobs.{total_cost, Counts}
+use Rattle.year_runs.specs.Jobs.{total_cost}
 use Rattle.year_runs.specs.Kept.{AreKept}
 use Rattle.year_runs.specs.Rows.{Planned}
 use Rattle.year_runs.specs.Years.{IsYear}
@@ -27,6 +30,17 @@ some_found (e ∷ es) d i finds = ap is_some (finds.at e)
 pub found_or_not : (es : List (Entry Seen)) (d : Day) (r : Result ℕ ℕ) → IfOk r (Finds day_cmp day_of es d) → IfErr r (Misses day_cmp day_of es d) → is_ok r ≡ is_some (entry_at es d)
 found_or_not es d (Ok i) finds misses = sym (some_found es d i finds)
 found_or_not es d (Err i) finds misses = sym (ap is_some misses.at)
+
+-- ---- the plans that the days will have once a plan is put, or taken away
+
+pub after_put : (plans : List (Entry Seen)) (e : Entry Seen) (after : Planned) → IsRising day_cmp day_of plans →
+    ((d : Day) → after d ≡ picked_after plans (day_of e) (Some e) d) → (d : Day) → after d ≡ pick (with_entry e plans) d
+after_put plans e after rising gives d = gives d ∙ sym (pick_put plans e d rising)
+
+pub after_drop : (plans : List (Entry Seen)) (day : Day) (left : Option (Entry Seen)) (after : Planned) → IsRising day_cmp day_of plans → IsSome (entry_at plans day) → left ≡ pick_before plans day →
+    ((d : Day) → after d ≡ picked_after plans day left d) → (d : Day) → after d ≡ pick (without_day day plans) d
+after_drop plans day left after rising there is gives d =
+    gives d ∙ ap (λ o. picked_after plans day o d) is ∙ sym (pick_drop plans day d rising there)
 
 -- ---- calendars that give each day the same plan
 
