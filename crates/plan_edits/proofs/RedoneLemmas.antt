@@ -1,26 +1,23 @@
 -- Years computed anew, one after another.
-use Rattle.std.proofs.Common.{◌≡◌, ℕ, ◌+◌, ◌*◌, ◌<◌, ◌≤◌, List, [], ◌∷◌, ◌++◌, length, get_or, take, drop, Some, None, refl, sym, ap, ◌∙◌, arith, append_assoc, Result, Ok, Err}
+use Rattle.std.proofs.Common.{◌≡◌, ℕ, ◌+◌, ◌*◌, ◌<◌, ◌≤◌, List, [], ◌∷◌, ◌++◌, length, get_or, take, drop, Some, None, refl, sym, ap, ◌∙◌, arith, append_assoc, Result, Err}
 use Rattle.std.specs.List.{AllByRecursion}
 use Rattle.std.proofs.lemmas.List.{append-nil, length-append, take_more, map-append, take-append-drop}
 use Rattle.rising_lists.specs.Keyed.{IsRising}
 use Rattle.payroll_records.specs.declared.day.Day.{Day}
 use Rattle.payroll_records.specs.declared.record.Record.{Record}
-use Rattle.payroll_records.specs.Orders.{day_cmp}
 use Rattle.year_runs.specs.declared.chain.Recalculated.{Recalculated}
 use Rattle.year_runs.specs.declared.outcome.Work.{Work}
 use Rattle.year_runs.specs.declared.year.Year.{Year}
-use Rattle.year_runs.specs.declared.year.YearKey.{YearKey}
 use Rattle.year_runs.specs.ChainClauses.{IsRecalculated}
 use Rattle.year_runs.specs.Jobs.{new_jobs, total_cost, Counts}
 use Rattle.year_runs.specs.Kept.{job_by}
-use Rattle.year_runs.specs.Records.{record_day}
 use Rattle.year_runs.specs.Rows.{Planned, Job}
 use Rattle.year_runs.specs.Years.{IsOwn, year_jobs}
 use Rattle.year_runs.proofs.Laws.{rows_agree, total_append, year_quiet}
 use Rattle.employee_years.specs.Books.{YearRuns, runs_of, year_cmp}
 use Rattle.employee_years.specs.Kept.{jobs_in, kept_key, runs_in, runs_in_year}
 use Rattle.plan_edits.specs.declared.redone.RedoneYear.{RedoneYear}
-use Rattle.plan_edits.specs.RedoneClauses.{New, with_new, YearKept, AllRedone, IsYearRedone}
+use Rattle.plan_edits.specs.RedoneClauses.{New, YearKept, AllRedone, IsYearRedone}
 use Rattle.plan_edits.proofs.YearLemmas.{runs_at}
 use Rattle.plan_edits.proofs.MergeLemmas.{redone_more}
 
