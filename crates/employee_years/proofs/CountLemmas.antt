@@ -1,7 +1,8 @@
 -- How many runs there are after an edit, and how it counts its steps.
-use Rattle.std.proofs.Common.{◌≡◌, ℕ, ◌+◌, ◌≤◌, List, [], ◌∷◌, length, Option, Some, None, IsSome, IsNone, Result, Ok, Err, refl, sym, ap, ◌∙◌, arith}
+use Rattle.std.proofs.Common.{◌≡◌, ℕ, ◌+◌, ◌<◌, ◌≤◌, List, [], ◌∷◌, length, Option, Some, None, IsSome, IsNone, Result, Err, refl, sym, arith}
 use Rattle.std.specs.declared.alloc.AllocError.{AllocError}
 use Rattle.std.proofs.lemmas.Bool.{false≢true}
+use Rattle.std.proofs.lemmas.List.{nil_from_length}
 use Rattle.rising_lists.specs.Keyed.{at_key, IsRising}
 use Rattle.payroll_records.specs.declared.day.Day.{Day}
 use Rattle.payroll_records.specs.declared.record.Key.{Key}
@@ -78,6 +79,17 @@ count_changed from r years order source =
     let shorter = length_without day_cmp day_total record_day from s.value rs s.is in
     let longer = length_put day_cmp day_total record_day r (without_run from rs) (rising_without from rs rising) source.free in
     omega (arith, count_with_runs k (put_run r (without_run from rs)) years order.rising, shorter, longer)
+
+-- without its only run a year has none, and without one of several it has some
+pub none_left : (d : Day) (rs : List Record) → IsSome (at_key day_cmp record_day rs d) → length rs ≡ 1 → without_run d rs ≡ []
+none_left d rs there one =
+    let s = some_is (at_key day_cmp record_day rs d) there in
+    nil_from_length (without_run d rs) (omega (arith, length_without day_cmp day_total record_day d s.value rs s.is))
+
+pub some_left : (d : Day) (rs : List Record) → IsSome (at_key day_cmp record_day rs d) → (length rs ≡ 1 → ⊥) → 0 < length (without_run d rs)
+some_left d rs there more =
+    let s = some_is (at_key day_cmp record_day rs d) there in
+    omega (arith, length_without day_cmp day_total record_day d s.value rs s.is)
 
 -- ---- what is kept, with the number of runs and without
 

@@ -9,7 +9,7 @@ use Rattle.pap_plan.specs.Plans.{Seen}
 use Rattle.year_runs.specs.declared.outcome.Work.{Work}
 use Rattle.employee_years.specs.declared.in_month.InMonth.TheVariants.{One}
 use Rattle.employee_years.specs.declared.years.Years.{Years}
-use Rattle.employee_years.specs.Books.{AreInOrder, added, changed, changed_from, run_at, run_count, source_of, withdrawal, withdrawn, withdrawn_from}
+use Rattle.employee_years.specs.Books.{added, changed, changed_from, run_at, run_count, source_of, withdrawal, withdrawn, withdrawn_from}
 use Rattle.employee_years.specs.Kept.{AreSameYears, AreYears, IsYearsEdit, YearsAreInOrder, years_of}
 use Rattle.employee_years.specs.Refusals.{most_records}
 use Rattle.employee_years.specs.Views.{IsListEdit, IsSameList}

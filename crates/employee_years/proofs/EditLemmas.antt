@@ -1,7 +1,7 @@
 -- What an edit of a year at its place makes of all years.
-use Rattle.std.proofs.Common.{◌≡◌, ℕ, ◌<◌, List, [], length, refl, sym, ap, subst, ◌∙◌, set, Result, Ok, Err, IfOk, OnErr}
+use Rattle.std.proofs.Common.{◌≡◌, ℕ, ◌<◌, List, [], length, sym, ap, subst, ◌∙◌, set, Result, Ok, Err, IfOk, OnErr}
 use Rattle.std.specs.List.{insert, remove}
-use Rattle.rising_lists.specs.Places.{Finds, Misses}
+use Rattle.rising_lists.specs.Places.{Misses}
 use Rattle.payroll_records.specs.declared.record.Record.{Record}
 use Rattle.plan_calendar.specs.Picking.{Entry, pick}
 use Rattle.pap_plan.specs.Plans.{Seen}
@@ -22,6 +22,18 @@ pub cost_edited : (plans : List (Entry Seen)) (ys : List Year) (k : YearKey) (y 
 cost_edited plans ys k y edit kept runs =
     ap total_cost (jobs_with_runs (pick plans) (runs_in ys) k (edit (runs_of (runs_in ys) k)) (runs_in ys) (quiet_years plans ys kept))
     ∙ ap (λ t. total_cost (year_jobs (pick plans) (pick plans) t (edit t))) runs
+
+-- a year that is taken away costs nothing
+pub cost_none : (plans : List (Entry Seen)) (ys : List Year) (k : YearKey) (edit : List Record → List Record) → AreKeptYears plans ys → edit (runs_of (runs_in ys) k) ≡ [] → list_cost plans ys (edited k edit (runs_in ys)) ≡ 0
+cost_none plans ys k edit kept none =
+    ap total_cost (jobs_with_runs (pick plans) (runs_in ys) k (edit (runs_of (runs_in ys) k)) (runs_in ys) (quiet_years plans ys kept))
+    ∙ ap (λ t. total_cost (year_jobs (pick plans) (pick plans) (runs_of (runs_in ys) k) t)) none
+
+-- without its last run the year goes
+pub removed_at : (plans : List (Entry Seen)) (ys : List Year) (k : YearKey) (i : ℕ) (y : Year) (edit : List Record → List Record) → AreKeptYears plans ys → IsFound ys k i y → edit (runs_of (runs_in ys) k) ≡ [] →
+    IsListEdit plans ys (remove ys i) (edited k edit (runs_in ys)) (record { runs = 0; steps = 0 })
+removed_at plans ys k i y edit kept found none =
+    subst (λ t. IsListEdit plans ys (remove ys i) (with_runs k t (runs_in ys)) (record { runs = 0; steps = 0 })) (sym none) (remove_edit plans ys k i y kept found)
 
 module _ {E : Type 0} (plans : List (Entry Seen)) (ys : List Year) (k : YearKey) (i : ℕ) (y y' : Year) (r : Result Work E) (edit : List Record → List Record) (kept : AreKeptYears plans ys) where
   -- at a place that has the year
@@ -46,7 +58,7 @@ module _ {E : Type 0} (plans : List (Entry Seen)) (ys : List Year) (k : YearKey)
 
   -- where no year has the key, a new one is edited
   module _ (missed : Misses year_cmp kept_key ys k i) (key : y.key ≡ k) (none : y.records.items ≡ []) where
-    runs_none : runs_of (runs_in ys) k ≡ y.records.items
+    pub runs_none : runs_of (runs_in ys) k ≡ y.records.items
     runs_none = runs_missed ys k missed.at ∙ sym none
 
     pub edited_in : (w : Work) → IsYearEdit plans y y' (edit y.records.items) w → 0 < length (edit y.records.items) → IsListEdit plans ys (insert ys i y') (edited k edit (runs_in ys)) w

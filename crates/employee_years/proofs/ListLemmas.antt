@@ -119,15 +119,15 @@ module _ {K X : Type 0} (cmp : K → K → Ordering) (total : IsTotalOrder cmp) 
     sum_put y [] h = omega (arith, sum_by-cons f y [])
     sum_put y (x ∷ xs) h = elim (cmp (key y) (key x)) as (λ o. cmp (key y) (key x) ≡ o → sum_by f (put_by o y x xs (put cmp key y xs)) + weight f (at_key cmp key (x ∷ xs) (key y)) ≡ sum_by f (x ∷ xs) + f y) [
       | Less ↦ λ e.
-        let none : at_key cmp key (x ∷ xs) (key y) ≡ None = none_below (key y) (x ∷ xs) (e, above_lower (key y) (key x) xs e h.0) in
-        omega (arith, sum_by-cons f y (x ∷ xs), ap (weight f) none)
+          let none : at_key cmp key (x ∷ xs) (key y) ≡ None = none_below (key y) (x ∷ xs) (e, above_lower (key y) (key x) xs e h.0) in
+          omega (arith, sum_by-cons f y (x ∷ xs), ap (weight f) none)
       | Equal ↦ λ e.
-        let here : at_key cmp key (x ∷ xs) (key y) ≡ Some x = ap (λ o. if is_eq o then Some x else at_key cmp key xs (key y)) (tied_back total (key y) (key x) e) in
-        omega (arith, sum_by-cons f y xs, sum_by-cons f x xs, ap (weight f) here)
+          let here : at_key cmp key (x ∷ xs) (key y) ≡ Some x = ap (λ o. if is_eq o then Some x else at_key cmp key xs (key y)) (tied_back total (key y) (key x) e) in
+          omega (arith, sum_by-cons f y xs, sum_by-cons f x xs, ap (weight f) here)
       | Greater ↦ λ e.
-        let back : cmp (key x) (key y) ≡ Less = total.antisymm (key x) (key y) ∙ ap ordering_reverse e in
-        let there : at_key cmp key (x ∷ xs) (key y) ≡ at_key cmp key xs (key y) = ap (λ o. if is_eq o then Some x else at_key cmp key xs (key y)) back in
-        omega (arith, sum_by-cons f x (put cmp key y xs), sum_by-cons f x xs, ap (weight f) there, sum_put y xs h.1)
+          let back : cmp (key x) (key y) ≡ Less = total.antisymm (key x) (key y) ∙ ap ordering_reverse e in
+          let there : at_key cmp key (x ∷ xs) (key y) ≡ at_key cmp key xs (key y) = ap (λ o. if is_eq o then Some x else at_key cmp key xs (key y)) back in
+          omega (arith, sum_by-cons f x (put cmp key y xs), sum_by-cons f x xs, ap (weight f) there, sum_put y xs h.1)
     ] refl
 
     -- a removal takes the part of the element that stood there

@@ -1,11 +1,11 @@
 -- The run that an edit means stands in its year.
-use Rattle.std.proofs.Common.{◌≡◌, ℕ, List, [], ◌∷◌, Bool, true, false, if◌then◌else◌, Option, Some, None, IsSome, IsNone, is_some, refl, sym, ap, subst, ◌∙◌, filter, cond}
+use Rattle.std.proofs.Common.{◌≡◌, ℕ, List, [], ◌∷◌, Bool, true, false, if◌then◌else◌, Option, Some, None, IsSome, is_some, refl, sym, ap, subst, ◌∙◌, filter, cond}
 use Rattle.std.specs.List.{AllByRecursion}
 use Rattle.std.specs.Ordering.{is_eq}
 use Rattle.std.specs.declared.cmp.Ordering.TheVariants.{Less, Equal, Greater}
 use Rattle.std.proofs.lemmas.Bool.{false≢true}
 use Rattle.std.proofs.lemmas.Cmp.{tied_itself}
-use Rattle.rising_lists.specs.Keyed.{at_key, without, IsRising}
+use Rattle.rising_lists.specs.Keyed.{at_key, IsRising}
 use Rattle.rising_lists.proofs.Laws.{at_key_without}
 use Rattle.payroll_records.specs.declared.day.Day.{Day}
 use Rattle.payroll_records.specs.declared.record.Key.{Key}
@@ -121,12 +121,12 @@ source_is years r k order e =
     let rising = runs_rising years (year_of (key_of r)) order in
     elim (is_some (run_at years (key_of r))) as (λ b. is_some (run_at years (key_of r)) ≡ b → (if b then One (key_of r) else in_month years r.employee r.day.year r.day.month) ≡ One k → IsSource rs k.day r.day) [
       | true ↦ λ s f.
-        let same : key_of r ≡ k = cc in
-        subst (λ (t : Key). IsSource rs t.day r.day) same (source_same rs r.day rising s)
+          let same : key_of r ≡ k = cc in
+          subst (λ (t : Key). IsSource rs t.day r.day) same (source_same rs r.day rising s)
       | false ↦ λ s f.
-        let only = month_run (λ x. at_key day_cmp record_day rs x.day ≡ Some x) r.day.month rs k (found_each day_cmp day_total record_day rs rising) f in
-        let there : IsSome (at_key day_cmp record_day rs k.day) = subst (λ (t : Key). IsSome (at_key day_cmp record_day rs t.day)) only.key (some_from _ only.run only.holds) in
-        source_other rs k.day r.day rising there (none_from (run_at years (key_of r)) s)
+          let only = month_run (λ x. at_key day_cmp record_day rs x.day ≡ Some x) r.day.month rs k (found_each day_cmp day_total record_day rs rising) f in
+          let there : IsSome (at_key day_cmp record_day rs k.day) = subst (λ (t : Key). IsSome (at_key day_cmp record_day rs t.day)) only.key (some_from _ only.run only.holds) in
+          source_other rs k.day r.day rising there (none_from (run_at years (key_of r)) s)
     ] refl e
 
 -- ---- the run that is withdrawn
@@ -135,8 +135,8 @@ pub withdrawal_is : (plans : List (Entry Seen)) (ys : List Year) (e : List ℕ) 
 withdrawal_is plans ys e (when.Day d) k order each is =
     elim (is_some (run_at (runs_in ys) (record { employee = e; day = d }))) as (λ b. is_some (run_at (runs_in ys) (record { employee = e; day = d })) ≡ b → (if b then One (record { employee = e; day = d }) else Empty) ≡ One k → IsSome (run_at (runs_in ys) k)) [
       | true ↦ λ s f.
-        let same : (record { employee = e; day = d }) ≡ k = cc in
-        subst (λ (t : Key). IsSome (run_at (runs_in ys) t)) same s
+          let same : (record { employee = e; day = d }) ≡ k = cc in
+          subst (λ (t : Key). IsSome (run_at (runs_in ys) t)) same s
       | false ↦ λ s f. cc
     ] refl is
 withdrawal_is plans ys e (when.Month m) k order each is =

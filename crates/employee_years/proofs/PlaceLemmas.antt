@@ -1,5 +1,5 @@
 -- What the searches for a year and for a run say of the runs.
-use Rattle.std.proofs.Common.{◌≡◌, ℕ, List, [], Option, Some, None, IsSome, is_some, Result, Ok, Err, IfOk, IfErr, refl, sym, ap, subst, ◌∙◌, get_or}
+use Rattle.std.proofs.Common.{◌≡◌, ℕ, List, [], Some, None, IsSome, is_some, Result, Ok, Err, IfOk, IfErr, refl, sym, ap, subst, ◌∙◌, get_or}
 use Rattle.std.specs.Result.{IsOk, result_ok}
 use Rattle.std.proofs.lemmas.Bool.{false≢true}
 use Rattle.rising_lists.specs.Keyed.{at_key}

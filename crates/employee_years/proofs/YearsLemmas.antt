@@ -1,5 +1,5 @@
 -- An edit of one year runs what is new there, and nothing elsewhere.
-use Rattle.std.proofs.Common.{◌≡◌, ℕ, ◌+◌, ◌<◌, ◌≤◌, List, [], ◌∷◌, ◌++◌, length, map, true, false, if◌then◌else◌, Option, Some, None, option_map, refl, sym, ap, subst, ◌∙◌, arith, get_or, set, sum_by}
+use Rattle.std.proofs.Common.{◌≡◌, ℕ, ◌<◌, List, [], ◌∷◌, ◌++◌, length, Some, None, option_map, refl, sym, ap, subst, ◌∙◌, arith, get_or, set}
 use Rattle.std.specs.List.{AllByRecursion, insert, remove}
 use Rattle.std.specs.declared.cmp.Ordering.{Ordering}
 use Rattle.std.specs.declared.cmp.Ordering.TheVariants.{Less, Equal, Greater}
@@ -15,7 +15,6 @@ use Rattle.std.proofs.lemmas.Slice.Eq.{bytes_eq-Decides}
 use Rattle.rising_lists.specs.Keyed.{at_key, put, put_by, without, IsRising}
 use Rattle.rising_lists.specs.Places.{Finds, Misses}
 use Rattle.rising_lists.proofs.Laws.{put_rising, without_rising}
-use Rattle.payroll_records.specs.declared.day.Day.{Day}
 use Rattle.payroll_records.specs.declared.record.Record.{Record}
 use Rattle.payroll_records.specs.Orders.{day_cmp}
 use Rattle.plan_calendar.specs.Picking.{Entry, pick}

@@ -11,7 +11,7 @@ use Rattle.year_runs.specs.Jobs.{total_cost, work_of}
 use Rattle.year_runs.specs.Rows.{Planned, Job}
 use Rattle.year_runs.specs.Years.{IsYear, year_jobs}
 use Rattle.employee_years.specs.declared.years.Years.{Years}
-use Rattle.employee_years.specs.Books.{AreInOrder, YearRuns, runs_key, runs_of, run_count, year_cmp}
+use Rattle.employee_years.specs.Books.{AreInOrder, YearRuns, runs_of, run_count, year_cmp}
 use Rattle.employee_years.specs.Refusals.{most_records}
 
 abbrev pub runs_in_year : Year → YearRuns
@@ -72,4 +72,5 @@ pub record AreSameYears (plans : List (Entry Seen)) (old new : Years) : Type 0 w
 
 -- years that are kept stand in order
 abbrev pub YearsAreInOrder : Type 0
-YearsAreInOrder = (plans : List (Entry Seen)) (ys : Years) → AreYears plans ys → AreInOrder (years_of ys)
+YearsAreInOrder =
+    (plans : List (Entry Seen)) (ys : Years) → AreYears plans ys → AreInOrder (years_of ys)

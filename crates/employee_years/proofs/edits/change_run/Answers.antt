@@ -1,4 +1,4 @@
-use Rattle.std.proofs.Common.{◌≡◌, sym, ap, ◌∙◌}
+use Rattle.std.proofs.Common.{sym, ap, ◌∙◌}
 use Rattle.payroll_records.specs.Orders.{day_cmp}
 use Rattle.payroll_records.specs.Tables.{key_of}
 use Rattle.year_runs.specs.Records.{put_run, record_day, without_run}

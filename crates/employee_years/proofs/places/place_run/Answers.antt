@@ -10,5 +10,5 @@ pub returns : goal.returns
 returns c =
     let facts = c.binary_search_by_key.ensures in
     let by_day = facts.position record_day (answers_always _ _ _ (λ f a r g called. search rules)) in
-    let both = found day_cmp day_total record_day _ _ _ c.requires facts.bound by_day in
+    let both = found day_cmp day_total record_day c.args.records.now c.args.day c.binary_search_by_key.result c.requires facts.bound by_day in
     record { found = both.0; absent = both.1 }

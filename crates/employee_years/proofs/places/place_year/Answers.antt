@@ -10,5 +10,5 @@ pub returns : goal.returns
 returns c =
     let facts = c.binary_search_by_key.ensures in
     let by_key = facts.position kept_key (answers_always _ _ _ (λ f a r g called. search rules)) in
-    let both = found year_cmp year_total kept_key _ _ _ c.requires facts.bound by_key in
+    let both = found year_cmp year_total kept_key c.args.years.now c.args.key.now c.binary_search_by_key.result c.requires facts.bound by_key in
     record { found = both.0; absent = both.1 }

@@ -1,4 +1,4 @@
-use Rattle.std.proofs.Common.{◌≡◌, [], sym, ap, subst, ◌∙◌}
+use Rattle.std.proofs.Common.{sym, ap, subst, ◌∙◌}
 use Rattle.rising_lists.specs.Keyed.{at_key, IsRising}
 use Rattle.payroll_records.specs.Orders.{day_cmp}
 use Rattle.year_runs.specs.Records.{record_day}

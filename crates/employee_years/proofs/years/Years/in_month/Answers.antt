@@ -1,4 +1,4 @@
-use Rattle.std.proofs.Common.{◌≡◌, filter, refl, sym, ap, ◌∙◌}
+use Rattle.std.proofs.Common.{filter, refl, sym, ap, ◌∙◌}
 use Rattle.year_runs.specs.declared.year.YearKey.{YearKey}
 use Rattle.employee_years.specs.Books.{is_in_month, only_one, runs_key, year_cmp}
 use Rattle.employee_years.specs.Kept.{runs_in_year}
