@@ -1,0 +1,5 @@
+mod YearLemmas
+mod MergeLemmas
+mod RedoneLemmas
+mod PlanLemmas
+mod EditLemmas

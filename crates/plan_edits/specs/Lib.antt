@@ -1,1 +1,2 @@
 pub mod Replans
+pub mod RedoneClauses

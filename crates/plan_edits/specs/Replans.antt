@@ -1,5 +1,5 @@
 -- What an edit of the calendar promises: the runs stay, and what is kept of them is what the new calendar gives.
-use Rattle.std.specs.Prelude.{ℕ, ◌≡◌, ◌<◌, List, IsSome, IsNone, length}
+use Rattle.std.specs.Prelude.{ℕ, ◌≡◌, List, IsSome, IsNone, length}
 use Rattle.payroll_records.specs.declared.day.Day.{Day}
 use Rattle.plan_calendar.specs.Picking.{Entry, pick, entry_at}
 use Rattle.pap_plan.specs.Plans.{Seen}

@@ -1,17 +1,21 @@
 //! Edits of the calendar.
-ghost use Rattle.std.specs.Prelude.{◌≡◌, IfOk, IfErr, OnErr, IsSome};
-ghost use Rattle.plan_calendar.specs.Picking.{entry_at, with_entry, without_day};
+ghost use Rattle.std.specs.Prelude.{◌≡◌, ◌↔◌, IfOk, IfErr, OnErr, is_some, IsSome, IsTrue};
+ghost use Rattle.plan_calendar.specs.Picking.{AreEntries, entry_at, with_entry, without_day};
+ghost use Rattle.year_runs.specs.Jobs.{Counts};
 ghost use Rattle.employee_years.specs.Kept.{AreSameYears, AreYears};
 ghost use Rattle.employee_years.specs.Refusals.{CountsEdit};
 ghost use Rattle.plan_edits.specs.Replans.{IsDropRefused, IsFull, IsPutRefused, IsReplan, replan_cost};
+ghost use Rattle.plan_edits.specs.RedoneClauses.{AreRedoneFor};
 
+use crate::redone::{Redone, put_in, redo_years};
 use employee_years::{EditRefusal, Years};
 use pap_plan::Plan;
 use payroll_records::Day;
 use plan_calendar::Calendar;
+use std::alloc::AllocError;
 use std::sync::ledger::Ledger;
 use steps::Steps;
-use year_runs::Work;
+use year_runs::{Picks, Work};
 
 /// Puts a plan at its day, in place of one that stood there, and computes anew what that changes. After a refusal plans and
 /// runs are as before.
@@ -32,7 +36,15 @@ pub fn put_plan<L: Ledger>(
     ensures counted { CountsEdit result steps.old steps.new
         (replan_cost plans.old (with_entry (day, plan) plans.old) years.old) }
 {
-    todo!()
+    if is_full(plans.entries(), day) {
+        return Err(EditRefusal::Plans);
+    }
+    let done = redone_with(plans, years, day, &plan, steps)?;
+    if plans.put(day, plan).is_err() {
+        return Err(EditRefusal::Memory(AllocError));
+    }
+    put_in(&mut years.list, done.outcomes);
+    Ok(done.work)
 }
 
 /// Takes the plan of a day away, and computes anew what that changes. After a refusal plans and runs are as before.
@@ -52,5 +64,65 @@ pub fn drop_plan<L: Ledger>(
     ensures counted { CountsEdit result steps.old steps.new
         (replan_cost plans.old (without_day day plans.old) years.old) }
 {
-    todo!()
+    if !has_plan(plans.entries(), day) {
+        return Err(EditRefusal::NoPlanThere { day });
+    }
+    let done = redone_without(plans, years, day, steps)?;
+    let _plan = plans.drop_day(day);
+    put_in(&mut years.list, done.outcomes);
+    Ok(done.work)
+}
+
+/// The years computed anew for a plan that is about to be put.
+fn redone_with<'a, L: Ledger>(
+    plans: &'a Calendar<Plan>,
+    years: &Years,
+    day: Day,
+    plan: &'a Plan,
+    steps: &mut Steps<L>,
+) -> Result<Redone, AllocError>
+    requires entries { AreEntries plans.now }
+    requires years { AreYears plans.now years.now }
+    ensures done { IfOk result
+        (AreRedoneFor plans.now (with_entry (day, plan.now) plans.now) years.now) }
+    ensures counted { Counts result steps.old steps.new
+        (replan_cost plans.now (with_entry (day, plan.now) plans.now) years.now) }
+{
+    let picks = Picks::edited(plans, day, Some((day, plan)));
+    redo_years(&picks, years, steps)
+}
+
+/// The years computed anew for a plan that is about to be taken away: its days get the one before it in its year.
+fn redone_without<L: Ledger>(
+    plans: &Calendar<Plan>,
+    years: &Years,
+    day: Day,
+    steps: &mut Steps<L>,
+) -> Result<Redone, AllocError>
+    requires entries { AreEntries plans.now }
+    requires years { AreYears plans.now years.now }
+    requires there { IsSome (entry_at plans.now day) }
+    ensures done { IfOk result
+        (AreRedoneFor plans.now (without_day day plans.now) years.now) }
+    ensures counted { Counts result steps.old steps.new
+        (replan_cost plans.now (without_day day plans.now) years.now) }
+{
+    let picks = Picks::edited(plans, day, plans.pick_before(day));
+    redo_years(&picks, years, steps)
+}
+
+/// Whether there are 64 plans, and none of a day.
+fn is_full(entries: &[(Day, Plan)], day: Day) -> bool
+    requires { AreEntries entries.now }
+    ensures { IsTrue result ↔ IsFull entries.now day }
+{
+    entries.len() == 64 && !has_plan(entries, day)
+}
+
+/// Whether a plan holds from a day on.
+fn has_plan(entries: &[(Day, Plan)], day: Day) -> bool
+    requires { AreEntries entries.now }
+    ensures { result ≡ is_some (entry_at entries.now day) }
+{
+    entries.binary_search_by_key(&day, |e| e.0).is_ok()
 }
