@@ -1,10 +1,11 @@
 -- The run that an edit means stands in its year.
-use Rattle.std.proofs.Common.{◌≡◌, ℕ, List, [], ◌∷◌, Bool, true, false, if◌then◌else◌, Option, Some, None, IsSome, is_some, refl, sym, ap, subst, ◌∙◌, filter, cond}
+use Rattle.std.proofs.Common.{◌≡◌, ℕ, List, [], ◌∷◌, Bool, true, false, if◌then◌else◌, Option, Some, None, IsSome, is_some, refl, sym, ap, subst, ◌∙◌, filter, cond, ◌+◌, ◌<◌, ◌≤◌, length, drop, get_or}
 use Rattle.std.specs.List.{AllByRecursion}
 use Rattle.std.specs.Ordering.{is_eq}
 use Rattle.std.specs.declared.cmp.Ordering.TheVariants.{Less, Equal, Greater}
 use Rattle.std.proofs.lemmas.Bool.{false≢true}
 use Rattle.std.proofs.lemmas.Cmp.{tied_itself}
+use Rattle.std.proofs.lemmas.List.{at_drop_all, at_drop_more}
 use Rattle.rising_lists.specs.Keyed.{at_key, IsRising}
 use Rattle.rising_lists.proofs.Laws.{at_key_without}
 use Rattle.payroll_records.specs.declared.day.Day.{Day}
@@ -25,6 +26,7 @@ use Rattle.employee_years.specs.declared.in_month.InMonth.{InMonth}
 use Rattle.employee_years.specs.declared.in_month.InMonth.TheVariants.{Empty, One, Several}
 use Rattle.employee_years.specs.Books.{YearRuns, AreInOrder, in_month, is_in_month, only_one, run_at, runs_key, runs_of, runs_or_none, source_of, withdrawal, year_cmp, year_of}
 use Rattle.employee_years.specs.Kept.{runs_in, runs_in_year}
+use Rattle.employee_years.specs.Views.{one_more, with_one_more}
 use Rattle.employee_years.proofs.ListLemmas.{found_each}
 use Rattle.employee_years.proofs.YearsLemmas.{year_same}
 
@@ -34,6 +36,34 @@ only_one_after Empty rs = only_one rs
 only_one_after (One k) [] = One k
 only_one_after (One k) (r ∷ rs) = Several
 only_one_after Several rs = Several
+
+more_first : (found : InMonth) (r : Record) (rs : List Record) → only_one_after (one_more found r) rs ≡ only_one_after found (r ∷ rs)
+more_first Empty r [] = refl
+more_first Empty r (s ∷ rs) = refl
+more_first (One k) r rs = refl
+more_first Several r rs = refl
+
+more_test : (b : Bool) (found : InMonth) (r : Record) (rs : List Record) → only_one_after (if b then one_more found r else found) rs ≡ only_one_after found (if b then r ∷ rs else rs)
+more_test true found r rs = more_first found r rs
+more_test false found r rs = refl
+
+-- one run more
+pub month_more : (m : ℕ) (rs : List Record) (i : ℕ) (found : InMonth) (r : Record) → i < length rs → r ≡ get_or rs i r →
+    only_one_after (with_one_more m found r) (filter (λ x. is_in_month m x.day) (drop (i + 1) rs)) ≡ only_one_after found (filter (λ x. is_in_month m x.day) (drop i rs))
+month_more m rs i found r l e =
+    let rest = filter (λ x. is_in_month m x.day) (drop (i + 1) rs) in
+    let next : filter (λ x. is_in_month m x.day) (drop i rs) ≡ (if is_in_month m r.day then r ∷ rest else rest) =
+    at_drop_more (filter (λ x. is_in_month m x.day)) rs i r l ∙ ap (λ (t : Record). if is_in_month m t.day then t ∷ rest else rest) (sym e) in
+    more_test (is_in_month m r.day) found r rest ∙ ap (only_one_after found) (sym next)
+
+-- after all runs
+pub month_all : (m : ℕ) (rs : List Record) (i : ℕ) (found : InMonth) → length rs ≤ i → only_one_after found (filter (λ x. is_in_month m x.day) (drop i rs)) ≡ found
+month_all m rs i found l = at_drop_all (λ t. only_one_after found (filter (λ x. is_in_month m x.day) t)) rs i l ∙ none found
+  where
+    none : (found : InMonth) → only_one_after found [] ≡ found
+    none Empty = refl
+    none (One k) = refl
+    none Several = refl
 
 -- ---- the runs of a year
 

@@ -1,10 +1,12 @@
 -- What the private contracts of this crate cite.
-use Rattle.std.specs.Prelude.{ℕ, ◌≡◌, List, Result, Ok, Err}
+use Rattle.std.specs.Prelude.{ℕ, ◌≡◌, List, Result, Ok, Err, if◌then◌else◌}
 use Rattle.std.specs.List.{AllByRecursion}
 use Rattle.rising_lists.specs.Keyed.{IsRising}
 use Rattle.payroll_records.specs.declared.month.Month.{Month}
 use Rattle.payroll_records.specs.declared.record.Key.{Key}
+use Rattle.payroll_records.specs.declared.record.Record.{Record}
 use Rattle.payroll_records.specs.declared.when.When.TheVariants as when
+use Rattle.payroll_records.specs.Tables.{key_of}
 use Rattle.plan_calendar.specs.Picking.{Entry}
 use Rattle.pap_plan.specs.Plans.{Seen}
 use Rattle.year_runs.specs.declared.outcome.Work.{Work}
@@ -15,7 +17,7 @@ use Rattle.employee_years.specs.declared.in_month.InMonth.{InMonth}
 use Rattle.employee_years.specs.declared.in_month.InMonth.TheVariants.{Empty, One, Several}
 use Rattle.employee_years.specs.declared.refusal.EditRefusal.{EditRefusal}
 use Rattle.employee_years.specs.declared.refusal.EditRefusal.TheVariants as refusal
-use Rattle.employee_years.specs.Books.{YearRuns, year_cmp}
+use Rattle.employee_years.specs.Books.{YearRuns, is_in_month, year_cmp}
 use Rattle.employee_years.specs.Kept.{HasRuns, edit_jobs, kept_key, runs_in}
 
 -- what is kept of each year, without their number
@@ -46,3 +48,12 @@ abbrev pub only_key : InMonth → List ℕ → Month → Result Key EditRefusal
 only_key Empty e m = Err (refusal.Absent e (when.Month m))
 only_key (One k) e m = Ok k
 only_key Several e m = Err (refusal.Several e m)
+
+-- what is found in a month after one run more
+abbrev pub one_more : InMonth → Record → InMonth
+one_more Empty r = One (key_of r)
+one_more (One k) r = Several
+one_more Several r = Several
+
+abbrev pub with_one_more : ℕ → InMonth → Record → InMonth
+with_one_more month found r = if is_in_month month r.day then one_more found r else found

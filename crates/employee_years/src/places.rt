@@ -7,6 +7,7 @@ ghost use Rattle.payroll_records.specs.Tables.{key_of};
 ghost use Rattle.year_runs.specs.Records.{record_day};
 ghost use Rattle.employee_years.specs.Books.{is_in_month, only_one, year_cmp, year_of};
 ghost use Rattle.employee_years.specs.Kept.{kept_key};
+ghost use Rattle.employee_years.specs.Views.{with_one_more};
 
 use crate::InMonth;
 use payroll_records::{Day, Key, Record};
@@ -56,12 +57,20 @@ pub(crate) fn only_one(records: &[Record], month: u8) -> InMonth
 {
     let mut found = InMonth::Empty;
     for run in records {
-        if run.day.month == month {
-            match found {
-                InMonth::Empty => found = InMonth::One(key_of(run)),
-                _ => return InMonth::Several,
-            }
-        }
+        found = with_one_more(found, run, month);
     }
     found
+}
+
+/// What is found in a month after one run more.
+fn with_one_more(found: InMonth, run: &Record, month: u8) -> InMonth
+    ensures { result ≡ with_one_more month found run.now }
+{
+    if run.day.month != month {
+        return found;
+    }
+    match found {
+        InMonth::Empty => InMonth::One(key_of(run)),
+        _ => InMonth::Several,
+    }
 }
