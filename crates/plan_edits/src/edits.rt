@@ -17,8 +17,9 @@ use std::sync::ledger::Ledger;
 use steps::Steps;
 use year_runs::{Picks, Work};
 
-/// Puts a plan at its day, in place of one that stood there, and computes anew what that changes. After a refusal plans and
-/// runs are as before.
+/// Puts a plan at its day, in place of one that stood there, and computes anew what that changes. Runs exactly the runs whose
+/// job is new. `Plans` where there are 64 plans and none of that day, else `Memory` where memory runs out; plans and runs are
+/// then as before.
 pub fn put_plan<L: Ledger>(
     plans: &mut Calendar<Plan>,
     years: &mut Years,
@@ -47,7 +48,9 @@ pub fn put_plan<L: Ledger>(
     Ok(done.work)
 }
 
-/// Takes the plan of a day away, and computes anew what that changes. After a refusal plans and runs are as before.
+/// Takes the plan of a day away, and computes anew what that changes: its days get the plan before it in its year, or none.
+/// Runs exactly the runs whose job is new. `NoPlanThere` where no plan holds from that day, else `Memory` where memory runs
+/// out; plans and runs are then as before.
 pub fn drop_plan<L: Ledger>(
     plans: &mut Calendar<Plan>,
     years: &mut Years,
