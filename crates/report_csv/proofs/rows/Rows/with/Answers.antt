@@ -1,0 +1,14 @@
+use Rattle.std.proofs.Common.{◌≢◌, ◌++◌, ◌∙◌, ap, map}
+use Rattle.csv.specs.Writing.{row_text, writer_setup}
+use Rattle.csv.specs.declared.writer.QuoteStyle.TheVariants as style
+use Rattle.report_csv.specs.Views.{written}
+use Rattle.report_csv.proofs.RowLemmas.{written_row}
+use Rattle.report_csv.proofs.rows.Rows.with.Goals as goal
+
+pub returns-in-Ok : goal.returns-in-Ok
+returns-in-Ok c =
+    let held = c.self.invariant in
+    let plain : (writer_setup c.self.inside.writer).style ≢ style.NonNumeric = rw held.setup (λ e. cc e) in
+    let h = c.in-Ok.ensures.bytes held.fields held.clean plain in
+    let row = ap (λ setup. row_text setup (map (λ f. f.now) c.args.fields.now)) held.setup ∙ written_row c.args.fields.now c.requires.some c.requires.plain in
+    rw (← c.self.view_is) (h ∙ ap (λ t. written c.self.inside.writer ++ t) row)

@@ -1,0 +1,4 @@
+pub mod Reports
+pub mod ReportTexts
+pub mod Fronts
+pub mod Views

@@ -1,0 +1,10 @@
+//! The report of a book: what each pay run came to, as a CSV text.
+#![tactic(auto)]
+
+mod front;
+mod report;
+mod rows;
+mod run;
+mod texts;
+
+pub use report::{ReportFault, write_report};

@@ -1,0 +1,67 @@
+//! The whole report.
+ghost use Rattle.std.specs.Prelude.{◌≡◌, OnErr, OnOk};
+ghost use Rattle.outside.specs.Causes.{Caused};
+ghost use Rattle.outside.specs.Told.{Appends};
+ghost use Rattle.report_csv.specs.ReportTexts.{months_text, report_text};
+ghost use Rattle.report_csv.specs.Fronts.{AppendsFront};
+ghost use Rattle.report_csv.specs.declared.report.ReportFault.TheVariants.{Memory, Write};
+
+use crate::run::{header_text, run_text};
+use outside::{Failed, Sink, put_all};
+use recalc_engine::{Book, Months};
+use std::alloc::{AllocError, Global};
+use thiserror::Error;
+
+/// Why a report was not written whole.
+#[derive(Debug, Drop, Error)]
+pub enum ReportFault {
+    #[error("writing failed")]
+    Write,
+    #[error("memory ran out")]
+    Memory(AllocError),
+}
+
+impl From<Failed> for ReportFault {
+    ghost from_gives = { λ _ fault. fault ≡ Write };
+
+    fn from(_: Failed) -> ReportFault {
+        ReportFault::Write
+    }
+}
+
+impl From<AllocError> for ReportFault {
+    ghost from_gives = { λ error fault. fault ≡ Memory error };
+
+    fn from(error: AllocError) -> ReportFault {
+        ReportFault::Memory(error)
+    }
+}
+
+/// Writes the report of a book: the first row, and then the rows of each run, in order of employee and day. After a refusal
+/// a front of the report was written; `Write` comes only where the sink's count of faults rose.
+pub fn write_report<W: Sink>(alloc: Global, book: &Book, sink: &mut W) -> Result<(), ReportFault>
+    ensures ok { OnOk result
+        (Appends (W.written sink.old) (W.written sink.new) (report_text book.now)) }
+    ensures err { OnErr result
+        (AppendsFront (W.written sink.old) (W.written sink.new) (report_text book.now)) }
+    ensures cause { Caused Write (W.faults sink.old) (W.faults sink.new) result }
+{
+    let header = header_text(alloc)?;
+    put_all(sink, header.as_slice())?;
+    write_months(alloc, book.months(), sink)
+}
+
+/// Writes the rows of these runs.
+fn write_months<W: Sink>(alloc: Global, months: Months, sink: &mut W) -> Result<(), ReportFault>
+    ensures ok { OnOk result
+        (Appends (W.written sink.old) (W.written sink.new) (months_text months.entry)) }
+    ensures err { OnErr result
+        (AppendsFront (W.written sink.old) (W.written sink.new) (months_text months.entry)) }
+    ensures cause { Caused Write (W.faults sink.old) (W.faults sink.new) result }
+{
+    for row in months {
+        let text = run_text(alloc, &row.key, row.plan, row.state)?;
+        put_all(sink, text.as_slice())?;
+    }
+    Ok(())
+}
