@@ -1,0 +1,8 @@
+mod PutLemmas
+mod FoldLemmas
+mod OrderLemmas
+mod GroupLemmas
+mod RecordLemmas
+mod DraftLemmas
+mod MergeLemmas
+mod LoadLemmas

@@ -1,5 +1,6 @@
 -- What is computed of the touched years beside the book.
 use Rattle.std.specs.Prelude.{ℕ, ◌≡◌, ◌+◌, ◌*◌, ◌<◌, ◌≤◌, List, [], length, map, vec_len, vec_capacity}
+use Rattle.std.proofs.Common.{Vec, Global}
 use Rattle.std.specs.List.{AllByRecursion}
 use Rattle.plan_calendar.specs.Picking.{Entry, pick}
 use Rattle.pap_plan.specs.Plans.{Seen}

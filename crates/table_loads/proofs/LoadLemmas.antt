@@ -1,0 +1,88 @@
+-- What a load leaves, and its refusals.
+use Rattle.std.proofs.Common.{◌≡◌, ℕ, ◌+◌, ◌<◌, ◌≤◌, List, [], ◌∷◌, length, map, get_or, refl, sym, ap, subst, ◌∙◌, arith, add-one}
+use Rattle.std.specs.List.{AllByRecursion}
+use Rattle.rising_lists.specs.Keyed.{IsRising}
+use Rattle.payroll_records.specs.declared.record.Record.{Record}
+use Rattle.payroll_records.specs.Orders.{day_cmp}
+use Rattle.plan_calendar.specs.Picking.{Entry, pick}
+use Rattle.pap_plan.specs.Plans.{Seen}
+use Rattle.year_runs.specs.declared.outcome.Work.{Work}
+use Rattle.year_runs.specs.declared.year.Year.{Year}
+use Rattle.year_runs.specs.Jobs.{total_cost, work_of}
+use Rattle.year_runs.specs.Records.{record_day}
+use Rattle.year_runs.specs.Years.{IsYear}
+use Rattle.employee_years.specs.Books.{YearRuns, loaded, runs_key, year_cmp}
+use Rattle.employee_years.specs.Kept.{HasRuns, edit_jobs, kept_key, runs_in, runs_in_year}
+use Rattle.employee_years.specs.Views.{AreKeptYears, IsListEdit, list_cost}
+use Rattle.employee_years.proofs.Laws.{map_rising, quiet_years, rising_map, year_total}
+use Rattle.table_loads.specs.declared.drafts.Draft.{Draft}
+use Rattle.table_loads.specs.declared.drafts.Drafted.{Drafted}
+use Rattle.table_loads.specs.declared.groups.Group.{Group}
+use Rattle.table_loads.specs.Groups.{AreGroups, group_key, group_year, group_years, with_years}
+use Rattle.table_loads.specs.Drafts.{AreDrafted, IsDraft, draft_key, draft_year, groups_cost, groups_jobs}
+use Rattle.table_loads.specs.Merges.{AreMergeable, CanMerge, IsKeptYear, merged_runs}
+use Rattle.table_loads.proofs.DraftLemmas.{jobs_puts}
+use Rattle.table_loads.proofs.PutLemmas.{puts_rising}
+
+-- what holds below each index holds of each element
+pub all_from_index : {X : Type 0} (P : X → Type 0) (xs : List X) → ((i : ℕ) (d : X) → i < length xs → P (get_or xs i d)) → AllByRecursion P xs
+all_from_index P [] each = tt
+all_from_index P (x ∷ xs) each = (each 0 x (omega arith), all_from_index P xs (λ i d lt. subst (λ t. P (get_or (x ∷ xs) t d)) (sym add-one) (each (i + 1) d (omega arith))))
+
+module _ (plans : List (Entry Seen)) (list : List Year) (kept : AreKeptYears plans list) (items : List Record) (groups : List Group) (are : AreGroups items groups) where
+  old_rise : IsRising year_cmp runs_key (runs_in list)
+  old_rise = map_rising year_cmp runs_key runs_in_year list kept.rising
+
+  groups_rise : IsRising year_cmp runs_key (group_years (runs_in list) groups)
+  groups_rise = map_rising year_cmp runs_key (group_year (runs_in list)) groups are.rising
+
+  -- the new jobs of a load are those of its groups
+  pub load_jobs : edit_jobs plans (runs_in list) (loaded items (runs_in list)) ≡ groups_jobs plans (runs_in list) groups
+  load_jobs =
+      ap (edit_jobs plans (runs_in list)) (sym (are.are (runs_in list)))
+      ∙ jobs_puts (pick plans) (runs_in list) (group_years (runs_in list) groups) (runs_in list) groups_rise (quiet_years plans list kept)
+
+  pub load_cost : groups_cost plans (runs_in list) groups ≡ list_cost plans list (loaded items (runs_in list))
+  load_cost = ap total_cost (sym load_jobs)
+
+  days_kept : (ys : List Year) → AllByRecursion (IsYear plans) ys → AllByRecursion (λ y. IsRising day_cmp record_day y.records.items) ys
+  days_kept [] each = tt
+  days_kept (y ∷ ys) each = (each.0.kept.rising, days_kept ys each.1)
+
+  both_kept : (ys : List Year) → AllByRecursion (IsYear plans) ys → AllByRecursion HasRuns ys → AllByRecursion (IsKeptYear plans) ys
+  both_kept [] each some = tt
+  both_kept (y ∷ ys) each some = (record { year = each.0; some = some.0 }, both_kept ys each.1 some.1)
+
+  kept_each : (ys : List Year) → AllByRecursion (IsKeptYear plans) ys → AllByRecursion (IsYear plans) ys
+  kept_each [] all = tt
+  kept_each (y ∷ ys) all = (all.0.year, kept_each ys all.1)
+
+  kept_some : (ys : List Year) → AllByRecursion (IsKeptYear plans) ys → AllByRecursion HasRuns ys
+  kept_some [] all = tt
+  kept_some (y ∷ ys) all = (all.0.some, kept_some ys all.1)
+
+  module _ (done : Drafted) (drafted : AreDrafted plans (runs_in list) groups done) where
+    pub can_merge : CanMerge list done.drafts.items
+    can_merge = record {
+      olds_rise = kept.rising;
+      drafts_rise = rising_map year_cmp runs_key (draft_year (runs_in list)) done.drafts.items (subst (IsRising year_cmp runs_key) (sym drafted.years) groups_rise);
+      days = days_kept list kept.each;
+      rooms = drafted.rooms;
+    }
+
+    pub mergeable : AreMergeable plans list done.drafts.items
+    mergeable = record { olds = both_kept list kept.each kept.some; drafts = drafted.each }
+
+    -- the years that are left
+    pub load_done : (new : List Year) → runs_in new ≡ merged_runs list done.drafts.items → AllByRecursion (IsKeptYear plans) new → IsListEdit plans list new (loaded items (runs_in list)) done.work
+    load_done new runs all =
+        let with : runs_in new ≡ with_years (group_years (runs_in list) groups) (runs_in list) = runs ∙ ap (λ t. with_years t (runs_in list)) drafted.years in
+        record {
+          kept = record {
+            rising = rising_map year_cmp runs_key runs_in_year new (subst (IsRising year_cmp runs_key) (sym with) (puts_rising year_cmp year_total runs_key (group_years (runs_in list) groups) (runs_in list) old_rise));
+            each = kept_each new all;
+            some = kept_some new all;
+          };
+          years_are = with ∙ are.are (runs_in list);
+          work_is = drafted.work ∙ ap work_of (sym load_jobs);
+        }
