@@ -27,7 +27,7 @@ use Rattle.table_loads.proofs.PutLemmas.{puts_rising}
 -- what holds below each index holds of each element
 pub all_from_index : {X : Type 0} (P : X → Type 0) (xs : List X) → ((i : ℕ) (d : X) → i < length xs → P (get_or xs i d)) → AllByRecursion P xs
 all_from_index P [] each = tt
-all_from_index P (x ∷ xs) each = (each 0 x (omega arith), all_from_index P xs (λ i d lt. subst (λ t. P (get_or (x ∷ xs) t d)) (sym add-one) (each (i + 1) d (omega arith))))
+all_from_index P (x ∷ xs) each = (each 0 x (omega arith), all_from_index P xs (λ i d lt. subst (λ t. P (get_or (x ∷ xs) t d)) (add-one i) (each (i + 1) d (omega arith))))
 
 module _ (plans : List (Entry Seen)) (list : List Year) (kept : AreKeptYears plans list) (items : List Record) (groups : List Group) (are : AreGroups items groups) where
   old_rise : IsRising year_cmp runs_key (runs_in list)
@@ -71,7 +71,7 @@ module _ (plans : List (Entry Seen)) (list : List Year) (kept : AreKeptYears pla
     }
 
     pub mergeable : AreMergeable plans list done.drafts.items
-    mergeable = record { olds = both_kept list kept.each kept.some; drafts = drafted.each }
+    mergeable = record { years = both_kept list kept.each kept.some; new = drafted.each }
 
     -- the years that are left
     pub load_done : (new : List Year) → runs_in new ≡ merged_runs list done.drafts.items → AllByRecursion (IsKeptYear plans) new → IsListEdit plans list new (loaded items (runs_in list)) done.work

@@ -80,8 +80,8 @@ pub first_alone : (y : Year) (ys : List Year) → CanMerge (y ∷ ys) [] → IsF
 first_alone y ys can = record {
   can = record { olds_rise = can.olds_rise.1; drafts_rise = tt; days = can.days.1; rooms = tt };
   runs = refl;
-  kept = λ plans h. h.olds.0;
-  left = λ plans h. record { olds = h.olds.1; drafts = tt };
+  kept = λ plans h. h.years.0;
+  left = λ plans h. record { years = h.years.1; new = tt };
 }
 
 -- the year stands before every draft
@@ -93,8 +93,8 @@ first_old y ys d ds can l =
       can = record { olds_rise = can.olds_rise.1; drafts_rise = can.drafts_rise; days = can.days.1; rooms = rooms_beyond y ys (d ∷ ds) above can.rooms };
       runs = puts_old year_cmp year_total runs_key (draft_year (runs_in (y ∷ ys)) d) (map (draft_year (runs_in (y ∷ ys))) ds) (runs_in_year y) (runs_in ys) l rising
           ∙ ap (λ t. runs_in_year y ∷ with_years t (runs_in ys)) (draft_years_beyond y ys (d ∷ ds) above);
-      kept = λ plans h. h.olds.0;
-      left = λ plans h. record { olds = h.olds.1; drafts = drafts_beyond y ys plans (d ∷ ds) above h.drafts };
+      kept = λ plans h. h.years.0;
+      left = λ plans h. record { years = h.years.1; new = drafts_beyond y ys plans (d ∷ ds) above h.new };
     }
 
 -- the year and the first draft have one key
@@ -107,8 +107,8 @@ first_both y ys d ds w can e written =
       can = record { olds_rise = can.olds_rise.1; drafts_rise = can.drafts_rise.1; days = can.days.1; rooms = rooms_beyond y ys ds above can.rooms.1 };
       runs = puts_tied year_cmp year_total runs_key (draft_year (runs_in (y ∷ ys)) d) (map (draft_year (runs_in (y ∷ ys))) ds) (runs_in_year y) (runs_in ys) e rising
           ∙ (λ i. written_runs (runs_in (y ∷ ys)) d y.records.items w base written i ∷ with_years (draft_years_beyond y ys ds above i) (runs_in ys));
-      kept = λ plans h. written_kept plans (runs_in (y ∷ ys)) d y.records.items w base written h.drafts.0;
-      left = λ plans h. record { olds = h.olds.1; drafts = drafts_beyond y ys plans ds above h.drafts.1 };
+      kept = λ plans h. written_kept plans (runs_in (y ∷ ys)) d y.records.items w base written h.new.0;
+      left = λ plans h. record { years = h.years.1; new = drafts_beyond y ys plans ds above h.new.1 };
     }
 
 above_runs : (k : YearKey) (ys : List Year) → AreAbove year_cmp kept_key k ys → AreAbove year_cmp runs_key k (runs_in ys)
@@ -125,8 +125,8 @@ first_new ys d ds w can above written =
       can = record { olds_rise = can.olds_rise; drafts_rise = can.drafts_rise.1; days = can.days; rooms = can.rooms.1 };
       runs = puts_new year_cmp year_total runs_key (draft_year (runs_in ys) d) (map (draft_year (runs_in ys)) ds) (runs_in ys) rising beyond
           ∙ ap (λ t. t ∷ with_years (map (draft_year (runs_in ys)) ds) (runs_in ys)) (written_runs (runs_in ys) d [] w base written);
-      kept = λ plans h. written_kept plans (runs_in ys) d [] w base written h.drafts.0;
-      left = λ plans h. record { olds = h.olds; drafts = h.drafts.1 };
+      kept = λ plans h. written_kept plans (runs_in ys) d [] w base written h.new.0;
+      left = λ plans h. record { years = h.years; new = h.new.1 };
     }
 
 pub first_last : (d : Draft) (ds : List Draft) (w : Year) → CanMerge [] (d ∷ ds) → IsWritten d [] w → IsFirst [] (d ∷ ds) [] ds w

@@ -165,7 +165,7 @@ count_by k rs ys h (Some y) e = rw e at (sum_put year_cmp year_total runs_key ru
 
 none_is : {X : Type 0} (o : Option X) → IsNone o → o ≡ None
 none_is None e = refl
-none_is (Some x) e = absurd (false≢true e)
+none_is (Some x) e = absurd (false≢true (sym e))
 
 run_put_other : (r s : Record) (rs : List Record) → (day_cmp r.day s.day ≡ Equal → ⊥) → at_key day_cmp record_day (put_run r rs) s.day ≡ at_key day_cmp record_day rs s.day
 run_put_other r s rs apart =

@@ -1,5 +1,5 @@
 -- What a load promises.
-use Rattle.std.specs.Prelude.{ℕ, ◌≡◌, ◌+◌, ◌<◌, ◌≤◌, List, [], ◌∷◌, IsSome, IsNone, length, slice_index_or}
+use Rattle.std.specs.Prelude.{ℕ, ◌≡◌, ◌+◌, ◌<◌, ◌≤◌, List, [], ◌∷◌, IsSome, IsNone, length, slice_index_or, ⊤}
 use Rattle.std.specs.List.{AllByRecursion, Contains}
 use Rattle.payroll_records.specs.declared.record.Record.{Record}
 use Rattle.payroll_records.specs.Tables.{HasKeyOf, key_of}

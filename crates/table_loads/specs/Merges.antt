@@ -32,8 +32,8 @@ pub record IsKeptYear (plans : List (Entry Seen)) (y : Year) : Type 0 where
 
 pub record AreMergeable
     (plans : List (Entry Seen)) (olds : List Year) (drafts : List Draft) : Type 0 where
-  pub olds : AllByRecursion (IsKeptYear plans) olds
-  pub drafts : AllByRecursion (IsDraft plans (runs_in olds)) drafts
+  pub years : AllByRecursion (IsKeptYear plans) olds
+  pub new : AllByRecursion (IsDraft plans (runs_in olds)) drafts
 
 -- a year is the first of all, and these are left
 pub record IsFirst

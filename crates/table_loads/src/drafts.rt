@@ -52,7 +52,7 @@ pub(crate) struct Drafted {
 
 /// Computes each group's year with its new runs, once, and runs those whose job isn't the old one of their day. The counter
 /// rises by exactly their steps; where memory runs out it may have risen by some of them.
-pub(crate) fn drafted<L: Ledger>(
+pub(crate) fn draft_all<L: Ledger>(
     alloc: Global,
     plans: &Calendar<Plan>,
     list: &[Year],
@@ -71,7 +71,7 @@ pub(crate) fn drafted<L: Ledger>(
     let mut runs = 0;
     let mut taken = 0;
     for group in groups {
-        let done = computed(alloc, plans, list, &group, steps)?;
+        let done = compute(alloc, plans, list, &group, steps)?;
         runs += done.work.runs;
         taken += done.work.steps;
         drafts.push(Draft {
@@ -88,7 +88,7 @@ pub(crate) fn drafted<L: Ledger>(
 }
 
 /// A group's year computed with its new runs.
-fn computed<'a, L: Ledger>(
+fn compute<'a, L: Ledger>(
     alloc: Global,
     plans: &'a Calendar<Plan>,
     list: &'a [Year],

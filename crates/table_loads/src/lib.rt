@@ -6,9 +6,9 @@
 
 mod drafts;
 mod groups;
-mod load;
+mod loads;
 mod merge;
 mod records;
 mod refused;
 
-pub use load::load;
+pub use loads::load;

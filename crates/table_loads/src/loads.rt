@@ -7,7 +7,7 @@ ghost use Rattle.employee_years.specs.Refusals.{CountsEdit};
 ghost use Rattle.employee_years.specs.Views.{AreKeptYears, IsListEdit, list_cost};
 ghost use Rattle.table_loads.specs.Loads.{AreDistinct, CanLoad, IsLoadRefused};
 
-use crate::drafts::drafted;
+use crate::drafts::draft_all;
 use crate::groups::grouped;
 use crate::merge::merged;
 use crate::refused::refused;
@@ -63,7 +63,7 @@ fn load_runs<L: Ledger>(
 {
     let alloc = *list.allocator();
     let groups = grouped(alloc, items)?;
-    let done = drafted(alloc, plans, list.as_slice(), groups, steps)?;
+    let done = draft_all(alloc, plans, list.as_slice(), groups, steps)?;
     let room = Vec::with_capacity(alloc, list.len() + done.drafts.len())?;
     let olds = mem::replace(list, Vec::new(alloc));
     *list = merged(alloc, olds, done.drafts, room);
