@@ -5,4 +5,5 @@ mod GroupLemmas
 mod RecordLemmas
 mod DraftLemmas
 mod MergeLemmas
+mod NextLemmas
 mod LoadLemmas

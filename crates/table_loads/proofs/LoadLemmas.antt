@@ -1,5 +1,5 @@
 -- What a load leaves, and its refusals.
-use Rattle.std.proofs.Common.{◌≡◌, ℕ, ◌+◌, ◌<◌, ◌≤◌, List, [], ◌∷◌, length, map, get_or, refl, sym, ap, subst, ◌∙◌, arith, add-one}
+use Rattle.std.proofs.Common.{◌≡◌, ℕ, ◌+◌, ◌<◌, ◌≤◌, List, [], ◌∷◌, length, map, get_or, Err, refl, sym, ap, subst, ◌∙◌, arith, add-one}
 use Rattle.std.specs.List.{AllByRecursion}
 use Rattle.rising_lists.specs.Keyed.{IsRising}
 use Rattle.payroll_records.specs.declared.record.Record.{Record}
@@ -11,10 +11,15 @@ use Rattle.year_runs.specs.declared.year.Year.{Year}
 use Rattle.year_runs.specs.Jobs.{total_cost, work_of}
 use Rattle.year_runs.specs.Records.{record_day}
 use Rattle.year_runs.specs.Years.{IsYear}
-use Rattle.employee_years.specs.Books.{YearRuns, loaded, runs_key, year_cmp}
-use Rattle.employee_years.specs.Kept.{HasRuns, edit_jobs, kept_key, runs_in, runs_in_year}
+use Rattle.employee_years.specs.declared.refusal.EditRefusal.{EditRefusal}
+use Rattle.employee_years.specs.declared.refusal.EditRefusal.TheVariants as refusal
+use Rattle.employee_years.specs.declared.years.Years.{Years}
+use Rattle.employee_years.specs.Books.{YearRuns, AreInOrder, loaded, run_count, runs_key, year_cmp}
+use Rattle.employee_years.specs.Kept.{AreSameYears, AreYears, HasRuns, IsYearsEdit, edit_jobs, kept_key, runs_in, runs_in_year, years_of}
+use Rattle.employee_years.specs.Refusals.{CountsEdit}
 use Rattle.employee_years.specs.Views.{AreKeptYears, IsListEdit, list_cost}
-use Rattle.employee_years.proofs.Laws.{map_rising, quiet_years, rising_map, year_total}
+use Rattle.employee_years.proofs.Laws.{kept_in_order, map_rising, quiet_years, rising_map, year_total}
+use Rattle.table_loads.specs.Loads.{AreDistinct, CanLoad}
 use Rattle.table_loads.specs.declared.drafts.Draft.{Draft}
 use Rattle.table_loads.specs.declared.drafts.Drafted.{Drafted}
 use Rattle.table_loads.specs.declared.groups.Group.{Group}
@@ -22,6 +27,7 @@ use Rattle.table_loads.specs.Groups.{AreGroups, group_key, group_year, group_yea
 use Rattle.table_loads.specs.Drafts.{AreDrafted, IsDraft, draft_key, draft_year, groups_cost, groups_jobs}
 use Rattle.table_loads.specs.Merges.{AreMergeable, CanMerge, IsKeptYear, merged_runs}
 use Rattle.table_loads.proofs.DraftLemmas.{jobs_puts}
+use Rattle.table_loads.proofs.OrderLemmas.{count_loaded, distinct_apart}
 use Rattle.table_loads.proofs.PutLemmas.{puts_rising}
 
 -- what holds below each index holds of each element
@@ -86,3 +92,51 @@ module _ (plans : List (Entry Seen)) (list : List Year) (kept : AreKeptYears pla
           years_are = with ∙ are.are (runs_in list);
           work_is = drafted.work ∙ ap work_of (sym load_jobs);
         }
+
+-- ---- the book
+
+-- years with the content that they had
+pub same_years : (plans : List (Entry Seen)) (old new : Years) → AreYears plans old → new.list.items ≡ old.list.items → new.count ≡ old.count → AreSameYears plans old new
+same_years plans old new h list count = record {
+  kept = record {
+    rising = subst (IsRising year_cmp kept_key) (sym list) h.rising;
+    each = subst (AllByRecursion (IsYear plans)) (sym list) h.each;
+    some = subst (AllByRecursion HasRuns) (sym list) h.some;
+    count = count ∙ h.count ∙ ap (λ t. run_count (runs_in t)) (sym list);
+    few = omega (arith, count, h.few);
+  };
+  years_are = ap runs_in list;
+}
+
+kept_of : (plans : List (Entry Seen)) (ys : Years) → AreYears plans ys → AreKeptYears plans ys.list.items
+kept_of plans ys h = record { rising = h.rising; each = h.each; some = h.some }
+
+-- what is kept of the years stands in order
+pub in_order : (plans : List (Entry Seen)) (ys : Years) → AreYears plans ys → AreInOrder (years_of ys)
+in_order plans ys h = kept_in_order plans ys.list.items (kept_of plans ys h)
+
+pub load_edit : (plans : List (Entry Seen)) (old new : Years) (items : List Record) (work : Work) → AreYears plans old → AreDistinct items → CanLoad (years_of old) items →
+    IsListEdit plans old.list.items new.list.items (loaded items (runs_in old.list.items)) work → new.count ≡ old.count + length items → IsYearsEdit plans old new (loaded items (years_of old)) work
+load_edit plans old new items work h distinct can edit count =
+    let more = count_loaded items (years_of old) (in_order plans old h) can.free (distinct_apart items distinct) in
+    record {
+      kept = record {
+        rising = edit.kept.rising;
+        each = edit.kept.each;
+        some = edit.kept.some;
+        count = omega (arith, count, more, h.count, ap run_count edit.years_are);
+        few = omega (arith, count, h.count, can.room);
+      };
+      years_are = edit.years_are;
+      work_is = edit.work_is;
+    }
+
+-- a refusal without a step
+pub counts_none : (x : EditRefusal) (at total : ℕ) → CountsEdit {T = Work} (Err x) at at total
+counts_none (refusal.Present k) at total = refl
+counts_none (refusal.Absent e w) at total = refl
+counts_none (refusal.Several e m) at total = refl
+counts_none refusal.Records at total = refl
+counts_none refusal.Plans at total = refl
+counts_none (refusal.NoPlanThere d) at total = refl
+counts_none (refusal.Memory e) at total = (omega arith, omega arith)

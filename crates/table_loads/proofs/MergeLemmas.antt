@@ -1,9 +1,10 @@
 -- Years and drafts made one list, the lowest first.
-use Rattle.std.proofs.Common.{◌≡◌, ℕ, ◌+◌, ◌<◌, ◌≤◌, List, [], ◌∷◌, length, map, if◌then◌else◌, Some, None, Vec, Global, vec_len, refl, sym, ap, subst, ◌∙◌}
+use Rattle.std.proofs.Common.{◌≡◌, ℕ, ◌+◌, ◌<◌, ◌≤◌, List, [], ◌∷◌, ◌++◌, length, map, append_assoc, if◌then◌else◌, Some, None, Vec, Global, vec_len, refl, sym, ap, subst, ◌∙◌}
 use Rattle.std.specs.List.{AllByRecursion}
 use Rattle.std.specs.declared.cmp.Ordering.TheVariants.{Less, Equal, Greater}
 use Rattle.std.specs.Ordering.{is_eq, ordering_reverse}
 use Rattle.std.proofs.lemmas.Cmp.{tied_itself}
+use Rattle.std.proofs.lemmas.List.{append-nil, map-append}
 use Rattle.rising_lists.specs.Keyed.{at_key, AreAbove, IsRising}
 use Rattle.rising_lists.proofs.Laws.{above_more, above_same, at_key_above}
 use Rattle.payroll_records.specs.declared.record.Record.{Record}
@@ -23,13 +24,14 @@ use Rattle.table_loads.specs.declared.drafts.Draft.{Draft}
 use Rattle.table_loads.specs.Groups.{put_runs, with_years}
 use Rattle.table_loads.specs.Drafts.{HasRoom, IsDraft, IsRoomy, draft_key, draft_year}
 use Rattle.table_loads.specs.Merges.{AreMergeable, CanMerge, IsFirst, IsKeptYear, merged_runs}
+use Rattle.table_loads.proofs.GroupLemmas.{all_more}
 use Rattle.table_loads.proofs.PutLemmas.{puts_new, puts_old, puts_tied}
 
 -- a year whose key is below that of a draft doesn't matter to the draft
 runs_beyond : (y : Year) (ys : List Year) (k : YearKey) → year_cmp y.key k ≡ Less → runs_of (runs_in (y ∷ ys)) k ≡ runs_of (runs_in ys) k
 runs_beyond y ys k l = ap (λ o. runs_or_none (if is_eq o then Some (runs_in_year y) else at_key year_cmp runs_key (runs_in ys) k)) l
 
-runs_tied : (y : Year) (ys : List Year) (k : YearKey) → year_cmp y.key k ≡ Equal → runs_of (runs_in (y ∷ ys)) k ≡ y.records.items
+pub runs_tied : (y : Year) (ys : List Year) (k : YearKey) → year_cmp y.key k ≡ Equal → runs_of (runs_in (y ∷ ys)) k ≡ y.records.items
 runs_tied y ys k e = ap (λ o. runs_or_none (if is_eq o then Some (runs_in_year y) else at_key year_cmp runs_key (runs_in ys) k)) e
 
 module _ (y : Year) (ys : List Year) where
@@ -136,3 +138,27 @@ pub first_draft : (y : Year) (ys : List Year) (d : Draft) (ds : List Draft) (w :
 first_draft y ys d ds w can g written =
     let l : year_cmp d.key y.key ≡ Less = year_total.antisymm d.key y.key ∙ ap ordering_reverse g in
     first_new (y ∷ ys) d ds w can (l, above_more year_cmp year_total kept_key d.key y.key ys l can.olds_rise.0) written
+
+-- ---- one year after another
+
+-- the years that came, where these are left
+pub record AreMergedSoFar (all : List Year) (new : List Draft) (years olds : List Year) (drafts : List Draft) : Type 0 where
+  pub can : CanMerge olds drafts
+  pub runs : runs_in years ++ merged_runs olds drafts ≡ merged_runs all new
+  pub kept : (plans : List (Entry Seen)) → AreMergeable plans all new → AllByRecursion (IsKeptYear plans) years
+  pub left : (plans : List (Entry Seen)) → AreMergeable plans all new → AreMergeable plans olds drafts
+
+pub merged_first : (all : List Year) (new : List Draft) → CanMerge all new → AreMergedSoFar all new [] all new
+merged_first all new can = record { can = can; runs = refl; kept = λ plans h. tt; left = λ plans h. h }
+
+pub merged_more : (all : List Year) (new : List Draft) (years olds : List Year) (drafts : List Draft) (y : Year) (olds' : List Year) (drafts' : List Draft) → AreMergedSoFar all new years olds drafts → IsFirst olds drafts olds' drafts' y → AreMergedSoFar all new (years ++ y ∷ []) olds' drafts'
+merged_more all new years olds drafts y olds' drafts' h first = record {
+  can = first.can;
+  runs = ap (λ t. t ++ merged_runs olds' drafts') (map-append runs_in_year years (y ∷ [])) ∙ append_assoc (runs_in years) (runs_in_year y ∷ []) (merged_runs olds' drafts') ∙ ap (λ t. runs_in years ++ t) (sym first.runs) ∙ h.runs;
+  kept = λ plans m. all_more (IsKeptYear plans) years y (h.kept plans m) (first.kept plans (h.left plans m));
+  left = λ plans m. first.left plans (h.left plans m);
+}
+
+-- nothing is left
+pub merged_all : (all : List Year) (new : List Draft) (years olds : List Year) (drafts : List Draft) → AreMergedSoFar all new years olds drafts → olds ≡ [] → drafts ≡ [] → runs_in years ≡ merged_runs all new
+merged_all all new years olds drafts h o d = sym (append-nil (runs_in years)) ∙ ap (λ t. runs_in years ++ t) (λ i. merged_runs (sym o i) (sym d i)) ∙ h.runs

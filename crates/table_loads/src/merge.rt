@@ -62,12 +62,12 @@ fn next_year(
     match order(olds.front(), draft.key) {
         Ordering::Less => olds.pop_front(),
         Ordering::Equal => {
-            let old = olds.pop_front()?;
-            let draft = drafts.pop_front()?;
+            let old = olds.pop_front().unwrap();
+            let draft = drafts.pop_front().unwrap();
             Some(finished(draft, old.records))
         }
         Ordering::Greater => {
-            let draft = drafts.pop_front()?;
+            let draft = drafts.pop_front().unwrap();
             Some(finished(draft, Vec::new(alloc)))
         }
     }
