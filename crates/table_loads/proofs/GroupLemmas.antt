@@ -1,5 +1,6 @@
 -- Runs grouped by year, one after another.
-use Rattle.std.proofs.Common.{◌≡◌, ℕ, ◌+◌, ◌<◌, ◌≤◌, List, [], ◌∷◌, ◌++◌, length, map, true, false, if◌then◌else◌, Option, Some, None, option_map, refl, sym, ap, subst, ◌∙◌, arith, get_or, set}
+use Rattle.std.proofs.Common.{◌≡◌, ℕ, ◌+◌, ◌<◌, ◌≤◌, List, [], ◌∷◌, ◌++◌, length, map, true, false, if◌then◌else◌, Option, Some, None, option_map, refl, sym, ap, subst, ◌∙◌, arith, get_or, set, Result, Ok, Err}
+use Rattle.std.specs.Prelude.{OnOk}
 use Rattle.std.specs.List.{AllByRecursion, insert}
 use Rattle.std.specs.declared.cmp.Ordering.{Ordering}
 use Rattle.std.specs.declared.cmp.Ordering.TheVariants.{Less, Equal, Greater}
@@ -118,3 +119,7 @@ put_missed r before i after missed key items = record {
   items = items ∙ ap (λ o. items_or_none o ++ r ∷ []) (sym missed.at);
   are = sym (missed.put after (ap (λ t. year_cmp t (year_at r)) key ∙ tied_itself year_total (year_at r)));
 }
+
+pub put_found_if : {T E : Type 0} (q : Result T E) (r : Record) (before : List Group) (i : ℕ) (g : Group) (after : Group) → Finds year_cmp group_key before (year_at r) i → g ≡ get_or before i g → after.key ≡ g.key → OnOk q (after.items.items ≡ g.items.items ++ r ∷ []) → OnOk q (IsPutGroup r before (set before i after))
+put_found_if (Ok x) r before i g after found is key items = put_found r before i g after found is key items
+put_found_if (Err e) r before i g after found is key items = tt

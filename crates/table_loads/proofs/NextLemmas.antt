@@ -45,11 +45,12 @@ next_alone (x ∷ xs) olds' [] (Some y) e none can =
     let q : xs ≡ olds' = cc in
     subst (λ t. IsFirst (x ∷ xs) [] t [] y) q (subst (λ t. IsFirst (x ∷ xs) [] xs [] t) p (first_alone x xs can))
 
-pub next_old : (olds olds' : List Year) (drafts : List Draft) (d : Draft) (f : Option (Bor Year)) (o : Ordering) (r : Option Year) → IsFront olds f → IsSome f → IsOrder f d.key o → o ≡ Less → d ≡ get_or drafts 0 d → 0 < length drafts → olds ≡ option_to_list r ++ olds' → CanMerge olds drafts → IfSome r (IsFirst olds drafts olds' drafts)
-next_old olds olds' drafts d f o None front some is l here any e can = tt
-next_old olds olds' [] d f o (Some y) front some is l here any e can = absurd (omega arith)
-next_old [] olds' (n ∷ ns) d f o (Some y) front some is l here any e can = cc
-next_old (x ∷ xs) olds' (n ∷ ns) d f o (Some y) front some is l here any e can =
+pub next_old : (olds olds' : List Year) (drafts : List Draft) (d : Draft) (f : Option (Bor Year)) (o : Ordering) (r : Option Year) → IsFront olds f → IsOrder f d.key o → o ≡ Less → d ≡ get_or drafts 0 d → 0 < length drafts → olds ≡ option_to_list r ++ olds' → CanMerge olds drafts → IfSome r (IsFirst olds drafts olds' drafts)
+next_old olds olds' drafts d f o None front is l here any e can = tt
+next_old olds olds' [] d f o (Some y) front is l here any e can = absurd (omega arith)
+next_old [] olds' (n ∷ ns) d f o (Some y) front is l here any e can = cc
+next_old (x ∷ xs) olds' (n ∷ ns) d f o (Some y) front is l here any e can =
+    let some = some_year f d.key o is (λ g. let c = sym l ∙ g in cc) in
     let p : x ≡ y = cc in
     let q : xs ≡ olds' = cc in
     let less : year_cmp x.key n.key ≡ Less = ap (λ (t : Draft). year_cmp x.key t.key) (sym here) ∙ sym (order_is x xs d.key f o front some is) ∙ l in
