@@ -32,7 +32,7 @@ use Rattle.table_loads.specs.declared.drafts.Computed.{Computed}
 use Rattle.table_loads.specs.declared.drafts.Draft.{Draft}
 use Rattle.table_loads.specs.declared.groups.Group.{Group}
 use Rattle.table_loads.specs.Groups.{IsGroup, group_year, group_years, put_runs, with_years}
-use Rattle.table_loads.specs.Drafts.{HasRoom, IsComputedGroup, IsDraft, IsRoomy, draft_year, group_cost, group_jobs, groups_cost, groups_jobs, new_in}
+use Rattle.table_loads.specs.Drafts.{AreDrafted, HasRoom, IsComputedGroup, IsDraft, IsRoomy, draft_year, group_cost, group_jobs, groups_cost, groups_jobs, new_in}
 use Rattle.table_loads.proofs.GroupLemmas.{all_more}
 use Rattle.table_loads.proofs.OrderLemmas.{put_year}
 use Rattle.table_loads.proofs.RecordLemmas.{all_puts, rising_puts}
@@ -188,3 +188,32 @@ module _ (plans : List (Entry Seen)) (old : List YearRuns) where
         small = omega (arith, long, h.small, is.few);
         cheap = omega (arith, long, h.cheap, is.cheap);
       }
+
+  pub drafted_first : (groups : List Group) (at : ℕ) → AllByRecursion IsGroup groups → length groups ≤ 50000 → AreDraftedSoFar plans old groups groups [] 0 0 at at
+  drafted_first groups at each few = record {
+    years = refl;
+    each = tt;
+    rooms = tt;
+    left = each;
+    number = omega arith;
+    cost = omega arith;
+    counted = omega arith;
+    few = omega arith;
+    small = omega arith;
+    cheap = omega arith;
+  }
+
+  pub drafted_all : (groups : List Group) (drafts : Vec Draft Global) (runs taken began now : ℕ) → AreDraftedSoFar plans old groups [] drafts.items runs taken began now → AreDrafted plans old groups (record { drafts = drafts; work = record { runs = runs; steps = taken } })
+  drafted_all groups drafts runs taken began now h =
+      let number : runs ≡ length (groups_jobs plans old groups) = omega (arith, h.number) in
+      let cost : taken ≡ groups_cost plans old groups = omega (arith, h.cost) in
+      record {
+        years = sym (append-nil (map (draft_year old) drafts.items)) ∙ h.years;
+        each = h.each;
+        rooms = h.rooms;
+        work = λ i. record { runs = number i; steps = cost i };
+      }
+
+  pub cost_within : (groups : List Group) (g : Group) (rest : List Group) (drafts : List Draft) (runs taken began now after : ℕ) → AreDraftedSoFar plans old groups (g ∷ rest) drafts runs taken began now → now ≤ after → after ≤ now + group_cost plans old g → (began ≤ after) × (after ≤ began + groups_cost plans old groups)
+  cost_within groups g rest drafts runs taken began now after h low high =
+      (omega (arith, h.counted), omega (arith, h.counted, h.cost, split_cost g rest))

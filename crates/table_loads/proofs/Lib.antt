@@ -6,4 +6,5 @@ mod RecordLemmas
 mod DraftLemmas
 mod MergeLemmas
 mod NextLemmas
+mod ErrLemmas
 mod LoadLemmas

@@ -1,6 +1,8 @@
 -- What a load leaves, and its refusals.
-use Rattle.std.proofs.Common.{◌≡◌, ℕ, ◌+◌, ◌<◌, ◌≤◌, List, [], ◌∷◌, length, map, get_or, Err, refl, sym, ap, subst, ◌∙◌, arith, add-one}
+use Rattle.std.proofs.Common.{◌≡◌, ℕ, ◌+◌, ◌<◌, ◌≤◌, List, [], ◌∷◌, length, map, get_or, Result, Ok, Err, refl, sym, ap, subst, ◌∙◌, arith, add-one}
+use Rattle.std.specs.Prelude.{IfErr, IfOk, OnErr}
 use Rattle.std.specs.List.{AllByRecursion}
+use Rattle.std.specs.declared.alloc.AllocError.{AllocError}
 use Rattle.rising_lists.specs.Keyed.{IsRising}
 use Rattle.payroll_records.specs.declared.record.Record.{Record}
 use Rattle.payroll_records.specs.Orders.{day_cmp}
@@ -19,7 +21,7 @@ use Rattle.employee_years.specs.Kept.{AreSameYears, AreYears, HasRuns, IsYearsEd
 use Rattle.employee_years.specs.Refusals.{CountsEdit}
 use Rattle.employee_years.specs.Views.{AreKeptYears, IsListEdit, list_cost}
 use Rattle.employee_years.proofs.Laws.{kept_in_order, map_rising, quiet_years, rising_map, year_total}
-use Rattle.table_loads.specs.Loads.{AreDistinct, CanLoad}
+use Rattle.table_loads.specs.Loads.{AreDistinct, CanLoad, IsLoadRefused}
 use Rattle.table_loads.specs.declared.drafts.Draft.{Draft}
 use Rattle.table_loads.specs.declared.drafts.Drafted.{Drafted}
 use Rattle.table_loads.specs.declared.groups.Group.{Group}
@@ -140,3 +142,31 @@ counts_none refusal.Records at total = refl
 counts_none refusal.Plans at total = refl
 counts_none (refusal.NoPlanThere d) at total = refl
 counts_none (refusal.Memory e) at total = (omega arith, omega arith)
+
+-- a refusal that stood before anything was written
+pub refused_before : (plans : List (Entry Seen)) (years : Years) (items : List Record) (r : Result Work EditRefusal) (x : EditRefusal) (at total : ℕ) → AreYears plans years → r ≡ Err x → IsLoadRefused (years_of years) items x →
+    record { ok : IfOk r (IsYearsEdit plans years years (loaded items (years_of years))); can : IfOk r (λ _. CanLoad (years_of years) items); err : OnErr r (AreSameYears plans years years); refused : IfErr r (IsLoadRefused (years_of years) items); counted : CountsEdit r at at total }
+refused_before plans years items (Ok w) x at total h is refused = cc
+refused_before plans years items (Err y) x at total h is refused =
+    let same : x ≡ y = cc in
+    record {
+      ok = tt;
+      can = tt;
+      err = same_years plans years years h refl refl;
+      refused = subst (IsLoadRefused (years_of years) items) same refused;
+      counted = counts_none y at total;
+    }
+
+-- memory ran out
+pub refused_memory : (plans : List (Entry Seen)) (old new : Years) (items : List Record) (r : Result Work EditRefusal) (e : AllocError) (before now total : ℕ) → AreYears plans old → r ≡ Err (refusal.Memory e) → new.list.items ≡ old.list.items → new.count ≡ old.count → CanLoad (years_of old) items → before ≤ now → now ≤ before + total →
+    record { ok : IfOk r (IsYearsEdit plans old new (loaded items (years_of old))); can : IfOk r (λ _. CanLoad (years_of old) items); err : OnErr r (AreSameYears plans old new); refused : IfErr r (IsLoadRefused (years_of old) items); counted : CountsEdit r before now total }
+refused_memory plans old new items (Ok w) e before now total h is list count can low high = cc
+refused_memory plans old new items (Err y) e before now total h is list count can low high =
+    let same : refusal.Memory e ≡ y = cc in
+    record {
+      ok = tt;
+      can = tt;
+      err = same_years plans old new h list count;
+      refused = subst (IsLoadRefused (years_of old) items) same can;
+      counted = subst (λ t. CountsEdit {T = Work} (Err t) before now total) same (low, high);
+    }
