@@ -1,24 +1,21 @@
 -- The touched years computed anew, one after another: what is kept of them, and their new jobs.
 use Rattle.std.proofs.Common.{◌≡◌, ℕ, ◌+◌, ◌*◌, ◌<◌, ◌≤◌, List, [], ◌∷◌, ◌++◌, ◌⊎◌, inl, inr, length, map, get_or, if◌then◌else◌, Some, Vec, Global, vec_len, refl, sym, ap, subst, ◌∙◌, arith, append_assoc, length-append}
 use Rattle.std.specs.List.{AllByRecursion}
-use Rattle.std.specs.declared.alloc.AllocError.{AllocError}
-use Rattle.std.specs.declared.cmp.Ordering.{Ordering}
 use Rattle.std.specs.declared.cmp.Ordering.TheVariants.{Less, Equal, Greater}
 use Rattle.std.specs.Ordering.{is_eq}
 use Rattle.std.proofs.lemmas.List.{append-nil, map-append, length_push}
 use Rattle.std.proofs.lemmas.List.Elements.{All-from_recursion}
 use Rattle.std.proofs.lemmas.List.Sums.{sum_by-append}
-use Rattle.rising_lists.specs.Keyed.{at_key, put, put_by, AreAbove, IsRising}
-use Rattle.rising_lists.specs.Places.{Finds, Misses}
+use Rattle.rising_lists.specs.Keyed.{at_key, put_by, AreAbove, IsRising}
+use Rattle.rising_lists.specs.Places.{Finds}
 use Rattle.payroll_records.specs.declared.record.Record.{Record}
 use Rattle.payroll_records.specs.Orders.{day_cmp}
 use Rattle.plan_calendar.specs.Picking.{Entry, pick}
 use Rattle.pap_plan.specs.Plans.{Seen}
 use Rattle.year_runs.specs.declared.year.Year.{Year}
 use Rattle.year_runs.specs.declared.year.YearKey.{YearKey}
-use Rattle.year_runs.specs.declared.outcome.Outcome.{Outcome}
 use Rattle.year_runs.specs.declared.chain.Recalculated.{Recalculated}
-use Rattle.year_runs.specs.Jobs.{Counts, job_cost, total_cost, work_of}
+use Rattle.year_runs.specs.Jobs.{job_cost}
 use Rattle.year_runs.specs.Kept.{AreKept, IsBounded, job_by}
 use Rattle.year_runs.specs.Records.{put_run, record_day}
 use Rattle.year_runs.specs.Rows.{Planned, Job}
@@ -32,7 +29,7 @@ use Rattle.table_loads.specs.declared.drafts.Computed.{Computed}
 use Rattle.table_loads.specs.declared.drafts.Draft.{Draft}
 use Rattle.table_loads.specs.declared.groups.Group.{Group}
 use Rattle.table_loads.specs.Groups.{IsGroup, group_year, group_years, put_runs, with_years}
-use Rattle.table_loads.specs.Drafts.{AreDrafted, HasRoom, IsComputedGroup, IsDraft, IsRoomy, draft_year, group_cost, group_jobs, groups_cost, groups_jobs, new_in}
+use Rattle.table_loads.specs.Drafts.{AreDrafted, HasRoom, IsComputedGroup, IsDraft, IsRoomy, draft_year, group_cost, group_jobs, groups_cost, groups_jobs}
 use Rattle.table_loads.proofs.GroupLemmas.{all_more}
 use Rattle.table_loads.proofs.OrderLemmas.{put_year}
 use Rattle.table_loads.proofs.RecordLemmas.{all_puts, rising_puts}
@@ -118,9 +115,9 @@ module _ (planned : Planned) (old : List YearRuns) where
     | Less ↦ λ e. refl
     | Equal ↦ λ e. sym (ap (λ t. jobs_of_year d ++ (t ++ jobs xs)) (quiet_tied d.key x e all.0))
     | Greater ↦ λ e.
-      ap (λ t. t ++ jobs (put_year d xs)) (quiet_below d.key x e all.0)
-      ∙ jobs_first d xs all.1
-      ∙ sym (ap (λ t. jobs_of_year d ++ (t ++ jobs xs)) (quiet_below d.key x e all.0))
+        ap (λ t. t ++ jobs (put_year d xs)) (quiet_below d.key x e all.0)
+        ∙ jobs_first d xs all.1
+        ∙ sym (ap (λ t. jobs_of_year d ++ (t ++ jobs xs)) (quiet_below d.key x e all.0))
   ] refl
 
   quiet_all : (k : YearKey) (xs : List YearRuns) → AllByRecursion (IsQuiet planned old) xs → AllByRecursion (IsQuietTo k) xs

@@ -1,5 +1,5 @@
 -- Runs grouped by year, one after another.
-use Rattle.std.proofs.Common.{◌≡◌, ℕ, ◌+◌, ◌<◌, ◌≤◌, List, [], ◌∷◌, ◌++◌, length, map, true, false, if◌then◌else◌, Option, Some, None, option_map, refl, sym, ap, subst, ◌∙◌, arith, get_or, set, Result, Ok, Err}
+use Rattle.std.proofs.Common.{◌≡◌, ℕ, ◌+◌, ◌≤◌, List, [], ◌∷◌, ◌++◌, length, true, false, if◌then◌else◌, Option, Some, None, option_map, refl, sym, ap, subst, ◌∙◌, arith, get_or, set, Result, Ok, Err}
 use Rattle.std.specs.Prelude.{OnOk}
 use Rattle.std.specs.List.{AllByRecursion, insert}
 use Rattle.std.specs.declared.cmp.Ordering.{Ordering}
@@ -71,7 +71,7 @@ groups_put done r before after h p old =
     let k = year_at r in
     let all = with_years (group_years old before) old in
     let runs : put_runs p.group.items.items (runs_of old p.group.key) ≡ put_run r (runs_of all k) =
-        (λ i. put_runs (p.items i) (runs_of old (p.key i))) ∙ put_runs_more (items_of before k) r (runs_of old k) ∙ ap (put_run r) (sym (group_runs before old k)) in
+    (λ i. put_runs (p.items i) (runs_of old (p.key i))) ∙ put_runs_more (items_of before k) r (runs_of old k) ∙ ap (put_run r) (sym (group_runs before old k)) in
     ap (λ gs. with_years (group_years old gs) old) p.are
     ∙ ap (λ l. with_years l old) (map_put year_cmp runs_key (group_year old) p.group before)
     ∙ puts_put year_cmp year_total runs_key (group_year old p.group) (group_years old before) old

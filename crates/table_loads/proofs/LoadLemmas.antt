@@ -1,5 +1,5 @@
 -- What a load leaves, and its refusals.
-use Rattle.std.proofs.Common.{◌≡◌, ℕ, ◌+◌, ◌<◌, ◌≤◌, List, [], ◌∷◌, length, map, get_or, Result, Ok, Err, refl, sym, ap, subst, ◌∙◌, arith, add-one}
+use Rattle.std.proofs.Common.{◌≡◌, ℕ, ◌+◌, ◌<◌, ◌≤◌, List, [], ◌∷◌, length, get_or, Result, Ok, Err, refl, sym, ap, subst, ◌∙◌, arith, add-one}
 use Rattle.std.specs.Prelude.{IfErr, IfOk, OnErr}
 use Rattle.std.specs.List.{AllByRecursion}
 use Rattle.std.specs.declared.alloc.AllocError.{AllocError}
@@ -16,17 +16,16 @@ use Rattle.year_runs.specs.Years.{IsYear}
 use Rattle.employee_years.specs.declared.refusal.EditRefusal.{EditRefusal}
 use Rattle.employee_years.specs.declared.refusal.EditRefusal.TheVariants as refusal
 use Rattle.employee_years.specs.declared.years.Years.{Years}
-use Rattle.employee_years.specs.Books.{YearRuns, AreInOrder, loaded, run_count, runs_key, year_cmp}
+use Rattle.employee_years.specs.Books.{AreInOrder, loaded, run_count, runs_key, year_cmp}
 use Rattle.employee_years.specs.Kept.{AreSameYears, AreYears, HasRuns, IsYearsEdit, edit_jobs, kept_key, runs_in, runs_in_year, years_of}
 use Rattle.employee_years.specs.Refusals.{CountsEdit}
 use Rattle.employee_years.specs.Views.{AreKeptYears, IsListEdit, list_cost}
 use Rattle.employee_years.proofs.Laws.{kept_in_order, map_rising, quiet_years, rising_map, year_total}
 use Rattle.table_loads.specs.Loads.{AreDistinct, CanLoad, IsLoadRefused}
-use Rattle.table_loads.specs.declared.drafts.Draft.{Draft}
 use Rattle.table_loads.specs.declared.drafts.Drafted.{Drafted}
 use Rattle.table_loads.specs.declared.groups.Group.{Group}
-use Rattle.table_loads.specs.Groups.{AreGroups, group_key, group_year, group_years, with_years}
-use Rattle.table_loads.specs.Drafts.{AreDrafted, IsDraft, draft_key, draft_year, groups_cost, groups_jobs}
+use Rattle.table_loads.specs.Groups.{AreGroups, group_year, group_years, with_years}
+use Rattle.table_loads.specs.Drafts.{AreDrafted, draft_year, groups_cost, groups_jobs}
 use Rattle.table_loads.specs.Merges.{AreMergeable, CanMerge, IsKeptYear, merged_runs}
 use Rattle.table_loads.proofs.DraftLemmas.{jobs_puts}
 use Rattle.table_loads.proofs.OrderLemmas.{count_loaded, distinct_apart}

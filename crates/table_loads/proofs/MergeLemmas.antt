@@ -1,21 +1,18 @@
 -- Years and drafts made one list, the lowest first.
-use Rattle.std.proofs.Common.{◌≡◌, ℕ, ◌+◌, ◌<◌, ◌≤◌, List, [], ◌∷◌, ◌++◌, length, map, append_assoc, if◌then◌else◌, Some, None, Vec, Global, vec_len, refl, sym, ap, subst, ◌∙◌}
+use Rattle.std.proofs.Common.{◌≡◌, ◌<◌, List, [], ◌∷◌, ◌++◌, length, map, append_assoc, if◌then◌else◌, Some, vec_len, refl, sym, ap, subst, ◌∙◌}
 use Rattle.std.specs.List.{AllByRecursion}
 use Rattle.std.specs.declared.cmp.Ordering.TheVariants.{Less, Equal, Greater}
 use Rattle.std.specs.Ordering.{is_eq, ordering_reverse}
 use Rattle.std.proofs.lemmas.Cmp.{tied_itself}
 use Rattle.std.proofs.lemmas.List.{append-nil, map-append}
-use Rattle.rising_lists.specs.Keyed.{at_key, AreAbove, IsRising}
+use Rattle.rising_lists.specs.Keyed.{at_key, AreAbove}
 use Rattle.rising_lists.proofs.Laws.{above_more, above_same, at_key_above}
 use Rattle.payroll_records.specs.declared.record.Record.{Record}
-use Rattle.payroll_records.specs.Orders.{day_cmp}
 use Rattle.plan_calendar.specs.Picking.{Entry, pick}
 use Rattle.pap_plan.specs.Plans.{Seen}
-use Rattle.year_runs.specs.declared.outcome.Outcome.{Outcome}
 use Rattle.year_runs.specs.declared.year.Year.{Year}
 use Rattle.year_runs.specs.declared.year.YearKey.{YearKey}
 use Rattle.year_runs.specs.Kept.{AreKept}
-use Rattle.year_runs.specs.Records.{record_day}
 use Rattle.year_runs.specs.Years.{IsOwn}
 use Rattle.employee_years.specs.Books.{YearRuns, runs_key, runs_of, runs_or_none, year_cmp}
 use Rattle.employee_years.specs.Kept.{kept_key, runs_in, runs_in_year}
@@ -46,12 +43,14 @@ module _ (y : Year) (ys : List Year) where
   drafts_beyond : (plans : List (Entry Seen)) (ds : List Draft) → AreAbove year_cmp draft_key y.key ds → AllByRecursion (IsDraft plans (runs_in (y ∷ ys))) ds → AllByRecursion (IsDraft plans (runs_in ys)) ds
   drafts_beyond plans [] h all = tt
   drafts_beyond plans (d ∷ ds) h all =
-      let e = runs_beyond y ys d.key h.0 in
-      (record {
-        kept = subst (λ t. AreKept (pick plans) (put_runs d.items.items t) d.outcomes.items) e all.0.kept;
-        own = subst (λ t. AllByRecursion (IsOwn d.key) (put_runs d.items.items t)) e all.0.own;
-        some = subst (λ t. 0 < length (put_runs d.items.items t)) e all.0.some;
-      }, drafts_beyond plans ds h.1 all.1)
+      let e = runs_beyond y ys d.key h.0 in (
+        record {
+          kept = subst (λ t. AreKept (pick plans) (put_runs d.items.items t) d.outcomes.items) e all.0.kept;
+          own = subst (λ t. AllByRecursion (IsOwn d.key) (put_runs d.items.items t)) e all.0.own;
+          some = subst (λ t. 0 < length (put_runs d.items.items t)) e all.0.some;
+        },
+        drafts_beyond plans ds h.1 all.1,
+      )
 
 -- ---- a draft's year written
 

@@ -1,5 +1,5 @@
 -- The first of two queues, from what their fronts are.
-use Rattle.std.proofs.Common.{◌≡◌, ℕ, ◌+◌, ◌<◌, ◌≤◌, List, [], ◌∷◌, ◌++◌, length, get_or, Option, Some, None, IsSome, Vec, Global, vec_len, refl, sym, ap, subst, ◌∙◌, arith}
+use Rattle.std.proofs.Common.{◌≡◌, ◌<◌, List, [], ◌∷◌, ◌++◌, length, get_or, Option, Some, None, IsSome, vec_len, refl, sym, ap, subst, ◌∙◌, arith}
 use Rattle.std.specs.Prelude.{IfSome, MatchOption}
 use Rattle.std.specs.Borrow.{Bor}
 use Rattle.std.proofs.lemmas.Bool.{false≢true}
@@ -7,7 +7,6 @@ use Rattle.std.specs.Option.{option_to_list}
 use Rattle.std.specs.declared.cmp.Ordering.{Ordering}
 use Rattle.std.specs.declared.cmp.Ordering.TheVariants.{Less, Equal, Greater}
 use Rattle.rising_lists.specs.Keyed.{IsRising}
-use Rattle.payroll_records.specs.declared.record.Record.{Record}
 use Rattle.payroll_records.specs.Orders.{day_cmp}
 use Rattle.year_runs.specs.declared.year.Year.{Year}
 use Rattle.year_runs.specs.declared.year.YearKey.{YearKey}
@@ -99,9 +98,9 @@ ahead_from olds drafts drafts' d e f o can front some is g here ds = record {
   can = can;
   drafts_are = ds;
   ahead = λ y ys os.
-    let same : e ≡ d = here ∙ ap (λ xs. get_or xs 0 e) ds in
-    let any : 0 < length olds = omega (arith, ap length os) in
-    ap (λ (n : Draft). year_cmp y.key n.key) (sym same) ∙ sym (order_is y ys e.key f o (subst (λ xs. IsFront xs f) os front) (some any) is) ∙ g;
+      let same : e ≡ d = here ∙ ap (λ xs. get_or xs 0 e) ds in
+      let any : 0 < length olds = omega (arith, ap length os) in
+      ap (λ (n : Draft). year_cmp y.key n.key) (sym same) ∙ sym (order_is y ys e.key f o (subst (λ xs. IsFront xs f) os front) (some any) is) ∙ g;
 }
 
 module _ (drafts drafts' : List Draft) (d : Draft) where

@@ -1,6 +1,5 @@
 -- Several elements put into a list at once: what stands at a key then, and how two lists are merged.
 use Rattle.std.proofs.Common.{◌≡◌, List, [], ◌∷◌, true, false, if◌then◌else◌, Option, Some, None, refl, sym, ap, ◌∙◌}
-use Rattle.std.specs.List.{AllByRecursion}
 use Rattle.std.specs.declared.cmp.Ordering.{Ordering}
 use Rattle.std.specs.declared.cmp.Ordering.TheVariants.{Less, Equal, Greater}
 use Rattle.std.specs.Ordering.{is_eq, ordering_reverse}
@@ -43,11 +42,11 @@ module _ {K X : Type 0} (cmp : K → K → Ordering) (total : IsTotalOrder cmp) 
   put_apart d e [] l = ap (λ o. put_by o d e [] (d ∷ [])) l ∙ sym (ap (λ o. put_by o e d [] (e ∷ [])) (to_greater (key d) (key e) l))
   put_apart d e (x ∷ xs) l = elim (cmp (key e) (key x)) as (λ o. cmp (key e) (key x) ≡ o → put cmp key d (put_by o e x xs (put cmp key e xs)) ≡ put cmp key e (put cmp key d (x ∷ xs))) [
     | Less ↦ λ h.
-      ap (λ o. put_by o d e (x ∷ xs) (put cmp key d (x ∷ xs))) l
-      ∙ sym (in_front d e x xs l (total.trans (key d) (key e) (key x) l h) ∙ ap (λ o. d ∷ put_by o e x xs (put cmp key e xs)) h)
+        ap (λ o. put_by o d e (x ∷ xs) (put cmp key d (x ∷ xs))) l
+        ∙ sym (in_front d e x xs l (total.trans (key d) (key e) (key x) l h) ∙ ap (λ o. d ∷ put_by o e x xs (put cmp key e xs)) h)
     | Equal ↦ λ h.
-      ap (λ o. put_by o d e xs (put cmp key d xs)) l
-      ∙ sym (in_front d e x xs l (sym (alike_right total (key e) (key x) (key d) h) ∙ l) ∙ ap (λ o. d ∷ put_by o e x xs (put cmp key e xs)) h)
+        ap (λ o. put_by o d e xs (put cmp key d xs)) l
+        ∙ sym (in_front d e x xs l (sym (alike_right total (key e) (key x) (key d) h) ∙ l) ∙ ap (λ o. d ∷ put_by o e x xs (put cmp key e xs)) h)
     | Greater ↦ λ h. elim (cmp (key d) (key x)) as (λ o. cmp (key d) (key x) ≡ o → put_by o d x (put cmp key e xs) (put cmp key d (put cmp key e xs)) ≡ put cmp key e (put_by o d x xs (put cmp key d xs))) [
       | Less ↦ λ k. sym (ap (λ o. put_by o e d (x ∷ xs) (put cmp key e (x ∷ xs))) (to_greater (key d) (key e) l) ∙ ap (λ o. d ∷ put_by o e x xs (put cmp key e xs)) h)
       | Equal ↦ λ k. sym (ap (λ o. put_by o e d xs (put cmp key e xs)) (to_greater (key d) (key e) l))

@@ -1,5 +1,5 @@
 -- A year's records with several new ones, and references to them.
-use Rattle.std.proofs.Common.{◌≡◌, ℕ, ◌+◌, ◌<◌, List, [], ◌∷◌, set, take, length, get_or, refl, sym, ap, ◌∙◌}
+use Rattle.std.proofs.Common.{◌≡◌, ℕ, ◌+◌, ◌<◌, List, [], ◌∷◌, set, take, length, get_or, sym, ap, ◌∙◌}
 use Rattle.std.specs.List.{AllByRecursion, insert}
 use Rattle.std.specs.Borrow.{Bor}
 use Rattle.std.proofs.lemmas.Cmp.{tied_itself}

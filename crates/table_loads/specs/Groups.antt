@@ -1,5 +1,5 @@
 -- The new runs by year, and what a year holds once its own are put.
-use Rattle.std.specs.Prelude.{ℕ, ◌≡◌, ◌<◌, ◌≤◌, List, [], ◌∷◌, ◌++◌, Option, Some, None, length, map}
+use Rattle.std.specs.Prelude.{◌≡◌, ◌<◌, ◌≤◌, List, [], ◌∷◌, ◌++◌, Option, Some, None, length, map}
 use Rattle.std.specs.List.{AllByRecursion}
 use Rattle.rising_lists.specs.Keyed.{at_key, put, IsRising}
 use Rattle.payroll_records.specs.declared.record.Record.{Record}

@@ -1,6 +1,6 @@
 -- What a load promises.
 use Rattle.std.specs.Prelude.{ℕ, ◌≡◌, ◌+◌, ◌<◌, ◌≤◌, List, [], ◌∷◌, IsSome, IsNone, length, slice_index_or, ⊤}
-use Rattle.std.specs.List.{AllByRecursion, Contains}
+use Rattle.std.specs.List.{AllByRecursion}
 use Rattle.payroll_records.specs.declared.record.Record.{Record}
 use Rattle.payroll_records.specs.Tables.{HasKeyOf, key_of}
 use Rattle.employee_years.specs.declared.refusal.EditRefusal.{EditRefusal}

@@ -44,11 +44,7 @@ pub(crate) fn merged(
 }
 
 /// Takes the first of the years and the drafts. Where both have one key the draft takes the year's records in.
-fn next_year(
-    alloc: Global,
-    olds: &mut VecDeque<Year>,
-    drafts: &mut VecDeque<Draft>,
-) -> Option<Year>
+fn next_year(alloc: Global, olds: &mut VecDeque<Year>, drafts: &mut VecDeque<Draft>) -> Option<Year>
     requires { CanMerge olds.old.items drafts.old.items }
     ensures none { result ≡ None → (olds.old.items ≡ []) × (drafts.old.items ≡ []) }
     ensures first { IfSome result

@@ -1,4 +1,4 @@
-use Rattle.std.proofs.Common.{◌≡◌, ◌+◌, ◌≤◌, List, [], ◌∷◌, refl, sym, subst, arith}
+use Rattle.std.proofs.Common.{◌≡◌, ◌+◌, [], refl, sym, subst, arith}
 use Rattle.std.specs.List.{AllByRecursion}
 use Rattle.std.specs.Vec.Iter.{into_iter_items}
 use Rattle.std.proofs.lemmas.List.{nil_from_length}
@@ -67,7 +67,7 @@ returns-in_err-push g c =
     let l = c.loop-group in
     let so_far = subst (λ t. AreDraftedSoFar plans old groups t l.drafts.items l.runs l.taken c.args.steps.now l.steps) c.in-Some.ensures.steps.0 l.invariant in
     let within = cost_within plans old groups c.in-Some.group (into_iter_items c.next.new.self) l.drafts.items l.runs l.taken c.args.steps.now l.steps c.compute.new.steps so_far
-        (omega (arith, c.in_ok-done.ensures.counted)) (omega (arith, c.in_ok-done.ensures.counted)) in
+    (omega (arith, c.in_ok-done.ensures.counted)) (omega (arith, c.in_ok-done.ensures.counted)) in
     let r = c.from_residual-in_err-push in
     record {
       done = err_done (AreDrafted plans old groups) r.result r.ensures.0;

@@ -1,4 +1,3 @@
-use Rattle.std.proofs.Common.{◌≡◌}
 use Rattle.std.specs.Vec.Iter.{into_iter_items}
 use Rattle.employee_years.specs.Kept.{runs_in}
 use Rattle.table_loads.proofs.DraftLemmas.{AreDraftedSoFar}

@@ -1,10 +1,5 @@
-use Rattle.std.proofs.Common.{◌≡◌, ◌+◌, ◌≤◌, ◌++◌, List, vec_len, vec_capacity}
-use Rattle.std.specs.List.{AllByRecursion}
+use Rattle.std.proofs.Common.{◌+◌, ◌≤◌, vec_len, vec_capacity}
 use Rattle.std.specs.VecDeque.{deque_len}
-use Rattle.plan_calendar.specs.Picking.{Entry}
-use Rattle.pap_plan.specs.Plans.{Seen}
-use Rattle.employee_years.specs.Kept.{runs_in}
-use Rattle.table_loads.specs.Merges.{AreMergeable, CanMerge, IsKeptYear, merged_runs}
 use Rattle.table_loads.proofs.MergeLemmas.{AreMergedSoFar}
 use Rattle.table_loads.proofs.merge.merged.Given as goal
 

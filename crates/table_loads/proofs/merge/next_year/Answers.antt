@@ -1,7 +1,5 @@
-use Rattle.std.proofs.Common.{◌≡◌, ◌<◌, List, [], ◌∷◌, ◌++◌, length, refl, ap, ◌∙◌, arith}
+use Rattle.std.proofs.Common.{◌≡◌, ◌<◌, ◌∷◌, ◌++◌, length, refl, ap, ◌∙◌, arith}
 use Rattle.std.specs.Option.{option_to_list}
-use Rattle.year_runs.specs.declared.year.Year.{Year}
-use Rattle.table_loads.specs.declared.drafts.Draft.{Draft}
 use Rattle.table_loads.specs.Groups.{put_runs}
 use Rattle.table_loads.proofs.NextLemmas.{ahead_first, ahead_from, next_old, tied_first, tied_from}
 use Rattle.table_loads.proofs.merge.next_year.Goals as goal
