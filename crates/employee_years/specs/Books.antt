@@ -1,5 +1,5 @@
 -- The runs of all employees: which there are, and what an edit leaves. Nothing here says what is kept of a run.
-use Rattle.std.specs.Prelude.{ℕ, ◌<◌, Bool, List, [], ◌∷◌, Option, Some, None, ◌&&◌, ◌==◌, if◌then◌else◌, is_some, filter, length, sum_by}
+use Rattle.std.specs.Prelude.{ℕ, ◌<◌, Bool, List, [], ◌∷◌, Option, Some, None, ◌==◌, if◌then◌else◌, is_some, filter, length, sum_by}
 use Rattle.std.specs.List.{AllByRecursion}
 use Rattle.std.specs.declared.cmp.Ordering.{Ordering}
 use Rattle.std.specs.Ordering.{nat_cmp, then_cmp, on}
@@ -108,7 +108,7 @@ source_of years r =
 -- the run that is withdrawn: that of the day, or the only one of the month
 abbrev pub withdrawal : List YearRuns → List ℕ → When → InMonth
 withdrawal years e (when.Day d) =
-    let k = record { employee = e; day = d } in
+    let k : Key = record { employee = e; day = d } in
     if is_some (run_at years k) then One k else Empty
 withdrawal years e (when.Month m) = in_month years e m.year m.month
 

@@ -6,11 +6,12 @@ use Rattle.plan_calendar.specs.Picking.{Entry, pick}
 use Rattle.pap_plan.specs.Plans.{Seen}
 use Rattle.year_runs.specs.declared.outcome.Work.{Work}
 use Rattle.year_runs.specs.declared.year.Year.{Year}
+use Rattle.year_runs.specs.declared.year.YearKey.{YearKey}
 use Rattle.year_runs.specs.Jobs.{total_cost, work_of}
 use Rattle.year_runs.specs.Rows.{Planned, Job}
 use Rattle.year_runs.specs.Years.{IsYear, year_jobs}
 use Rattle.employee_years.specs.declared.years.Years.{Years}
-use Rattle.employee_years.specs.Books.{YearRuns, runs_key, runs_of, run_count, year_cmp}
+use Rattle.employee_years.specs.Books.{AreInOrder, YearRuns, runs_of, run_count, year_cmp}
 use Rattle.employee_years.specs.Refusals.{most_records}
 
 abbrev pub runs_in_year : Year → YearRuns
@@ -66,3 +67,10 @@ pub record IsYearsEdit
 pub record AreSameYears (plans : List (Entry Seen)) (old new : Years) : Type 0 where
   pub kept : AreYears plans new
   pub years_are : years_of new ≡ years_of old
+
+-- ---- a law
+
+-- years that are kept stand in order
+abbrev pub YearsAreInOrder : Type 0
+YearsAreInOrder =
+    (plans : List (Entry Seen)) (ys : Years) → AreYears plans ys → AreInOrder (years_of ys)

@@ -1,3 +1,4 @@
 pub mod Books
 pub mod Refusals
 pub mod Kept
+pub mod Views

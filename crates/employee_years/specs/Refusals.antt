@@ -1,7 +1,6 @@
 -- Why an edit of the runs is refused. Memory may run out only where nothing else stands against the edit.
-use Rattle.std.specs.Prelude.{ℕ, ◌≡◌, ◌×◌, ◌+◌, ◌≤◌, List, IsSome, IsNone, Result, Ok, Err}
+use Rattle.std.specs.Prelude.{ℕ, ◌≡◌, ◌+◌, ◌≤◌, List, IsSome, IsNone, Result, Ok, Err, ⊤}
 use Rattle.payroll_records.specs.declared.day.Day.{Day}
-use Rattle.payroll_records.specs.declared.month.Month.{Month}
 use Rattle.payroll_records.specs.declared.record.Record.{Record}
 use Rattle.payroll_records.specs.declared.when.When.{When}
 use Rattle.payroll_records.specs.declared.when.When.TheVariants as when

@@ -1,4 +1,4 @@
-// The runs of an employee in a month.
+//! The runs of an employee in a month.
 use payroll_records::Key;
 
 /// The runs that an employee has in a month: none, one, or more.
