@@ -2,10 +2,11 @@
 ghost use Rattle.std.specs.Prelude.{◌≡◌, [], IfOk, IfErr, OnErr, IfSome, IfNone, IsSome, option_map};
 ghost use Rattle.std.specs.Option.{option_copied};
 ghost use Rattle.plan_calendar.specs.Picking.{entry_at, with_entry, without_day};
-ghost use Rattle.employee_years.specs.Books.{added, in_month, run_at, source_of, withdrawal};
+ghost use Rattle.employee_years.specs.Books.{added, in_month, loaded, run_at, source_of, withdrawal};
 ghost use Rattle.employee_years.specs.Refusals.{CanAdd, CountsEdit, IsAddRefused, IsChangeRefused};
 ghost use Rattle.employee_years.specs.Refusals.{IsOne, IsWithdrawRefused};
 ghost use Rattle.plan_edits.specs.Replans.{IsDropRefused, IsFull, IsPutRefused};
+ghost use Rattle.table_loads.specs.Loads.{AreDistinct, CanLoad, IsLoadRefused};
 ghost use Rattle.recalc_engine.specs.Contents.{IsEdit, cost_between, row_at, with_plans, with_years};
 ghost use Rattle.recalc_engine.specs.Edits.{with_change, with_withdrawal};
 ghost use Rattle.recalc_engine.specs.MonthRows.{month_rows};
@@ -22,6 +23,7 @@ use std::alloc::Global;
 use std::marker::Model;
 use std::sync::ledger::Ledger;
 use steps::Steps;
+use table_loads::load;
 use year_runs::{Work, YearKey};
 
 /// Pay runs by employee and day, plans by day, and what each run came to.
@@ -160,6 +162,27 @@ impl Book {
             (cost_between self.old (with_withdrawal employee when self.old)) }
     {
         let work = self.years.withdraw(&self.plans, employee, when, steps)?;
+        self.last = work;
+        Ok(work)
+    }
+
+    /// Adds all these runs, or none of them. After a refusal the book is as before.
+    pub fn load<L: Ledger>(
+        &mut self,
+        items: Vec<Record>,
+        steps: &mut Steps<L>,
+    ) -> Result<Work, EditRefusal>
+        requires { AreDistinct items.items }
+        ensures ok { IfOk result
+            (IsEdit self.old (with_years (loaded items.items self.old.years) self.old) self.new) }
+        ensures can { IfOk result (λ _. CanLoad self.old.years items.items) }
+        ensures err { OnErr result (self.new ≡ self.old) }
+        ensures refused { IfErr result (IsLoadRefused self.old.years items.items) }
+        ensures counted { CountsEdit result steps.old steps.new
+            (cost_between self.old
+            (with_years (loaded items.items self.old.years) self.old)) }
+    {
+        let work = load(&self.plans, &mut self.years, items, steps)?;
         self.last = work;
         Ok(work)
     }

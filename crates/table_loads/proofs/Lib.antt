@@ -1,0 +1,10 @@
+mod PutLemmas
+mod FoldLemmas
+mod OrderLemmas
+mod GroupLemmas
+mod RecordLemmas
+mod DraftLemmas
+mod MergeLemmas
+mod NextLemmas
+mod ErrLemmas
+mod LoadLemmas

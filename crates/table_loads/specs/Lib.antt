@@ -1,0 +1,5 @@
+pub mod Puts
+pub mod Loads
+pub mod Groups
+pub mod Drafts
+pub mod Merges
