@@ -1,5 +1,7 @@
 -- What a load leaves, and its refusals.
-use Rattle.std.proofs.Common.{◌≡◌, ℕ, ◌+◌, ◌<◌, ◌≤◌, List, [], ◌∷◌, length, get_or, Result, Ok, Err, refl, sym, ap, subst, ◌∙◌, arith, add-one}
+use Rattle.std.proofs.Common.{◌≡◌, ℕ, ◌+◌, ◌<◌, ◌≤◌, List, [], ◌∷◌, length, get_or, Result, Ok, Err, refl, sym, ap, subst, ◌∙◌, arith, add-one, inl, inr}
+use Rattle.std.proofs.lemmas.Bool.{cases_lt}
+use Rattle.std.proofs.lemmas.List.{get_or_default}
 use Rattle.std.specs.Prelude.{IfErr, IfOk, OnErr}
 use Rattle.std.specs.List.{AllByRecursion}
 use Rattle.std.specs.declared.alloc.AllocError.{AllocError}
@@ -35,6 +37,15 @@ use Rattle.table_loads.proofs.PutLemmas.{puts_rising}
 pub all_from_index : {X : Type 0} (P : X → Type 0) (xs : List X) → ((i : ℕ) (d : X) → i < length xs → P (get_or xs i d)) → AllByRecursion P xs
 all_from_index P [] each = tt
 all_from_index P (x ∷ xs) each = (each 0 x (omega arith), all_from_index P xs (λ i d lt. subst (λ t. P (get_or (x ∷ xs) t d)) (add-one i) (each (i + 1) d (omega arith))))
+
+-- what holds below an index and of the element there holds below the next one
+pub below_more : {X : Type 0} (P : X → Type 0) (xs : List X) (i : ℕ) (x : X) → i < length xs → x ≡ get_or xs i x → P x → ((j : ℕ) (d : X) → j < i → P (get_or xs j d)) → (j : ℕ) (d : X) → j < i + 1 → P (get_or xs j d)
+below_more P xs i x within is here below j d lt = elim (cases_lt j i) [
+  | inl l ↦ below j d l
+  | inr g ↦
+      let same : i ≡ j = omega arith in
+      subst (λ n. P (get_or xs n d)) same (subst P (is ∙ get_or_default xs i x d within) here)
+]
 
 module _ (plans : List (Entry Seen)) (list : List Year) (kept : AreKeptYears plans list) (items : List Record) (groups : List Group) (are : AreGroups items groups) where
   old_rise : IsRising year_cmp runs_key (runs_in list)
