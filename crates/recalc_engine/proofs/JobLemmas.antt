@@ -98,6 +98,18 @@ pub record IsFilled (planned : Planned) (rs : List Record) (d : Day) (inputs : L
   pub earlier : List Earlier
   pub filled : filled (plan_of entry) values earlier ≡ filling.Inputs inputs
 
+one_list : (a b : List Decimal) → ◌≡◌ {A = Option (List Decimal)} (Some a) (Some b) → a ≡ b
+one_list a b h = cc h
+
+no_list : (a : List Decimal) → ◌≡◌ {A = Option (List Decimal)} (Some a) None → ⊥
+no_list a h = cc h
+
+one_of : {X : Type 0} (x y : X) → ◌≡◌ {A = Option X} (Some x) (Some y) → x ≡ y
+one_of x y h = cc h
+
+none_of : {X : Type 0} (x : X) → ◌≡◌ {A = Option X} None (Some x) → ⊥
+none_of x h = cc h
+
 -- the parts of a run's job
 record HasParts (planned : Planned) (d : Day) (own : Option Job) (inputs : List Decimal) : Type 0 where
   pub entry : Entry Seen
@@ -111,7 +123,7 @@ module _ (planned : Planned) (d : Day) where
   filled_parts : (e : Entry Seen) (values : List NamedValue) (earlier : List Earlier) (f : Filled) (on : Day) (inputs : List Decimal) → planned d ≡ Some e → filled (plan_of e) values earlier ≡ f → Some inputs ≡ option_map job_inputs (row_filled e on f).job →
       HasParts planned d (row_filled e on f).job inputs
   filled_parts e values earlier (filling.Inputs these) on inputs picked is h =
-      let same : inputs ≡ these = cc h in
+      let same = one_list inputs these h in
       record {
         entry = e;
         picked = picked;
@@ -120,10 +132,10 @@ module _ (planned : Planned) (d : Day) where
         earlier = earlier;
         filled = is ∙ ap filling.Inputs (sym same);
       }
-  filled_parts e values earlier (filling.State why) on inputs picked is h = cc h
+  filled_parts e values earlier (filling.State why) on inputs picked is h = absurd (no_list inputs h)
 
   row_parts : (o : Option (Entry Seen)) (earlier : List Earlier) (r : Record) (inputs : List Decimal) → planned d ≡ o → Some inputs ≡ option_map job_inputs (row_of o earlier r).job → HasParts planned d (row_of o earlier r).job inputs
-  row_parts None earlier r inputs picked h = cc h
+  row_parts None earlier r inputs picked h = absurd (no_list inputs h)
   row_parts (Some e) earlier r inputs picked h = filled_parts e r.values earlier (filled (plan_of e) r.values earlier) r.day inputs picked refl h
 
   filled_outputs : (e : Entry Seen) (on : Day) (f : Filled) → (row_filled e on f).job ≡ None → outputs_in (row_filled e on f).state ≡ None
@@ -152,7 +164,7 @@ filled_on planned rs d inputs h = by_row (at_key day_cmp row_day (year_rows plan
         }
 
     by_row : (o : Option Row) → at_key day_cmp row_day (year_rows planned rs) d ≡ o → IsFilled planned rs d inputs
-    by_row None e = let g = h ∙ ap (λ t. option_map job_inputs (option_and_then (λ (x : Row). x.job) t)) e in cc g
+    by_row None e = let g = h ∙ ap (λ t. option_map job_inputs (option_and_then (λ (x : Row). x.job) t)) e in absurd (no_list inputs g)
     by_row (Some row) e = by_run row e (run_on planned [] rs d row e)
 
 -- a run without inputs has no job
@@ -182,7 +194,7 @@ pub record IsJob (planned : Planned) (rs : List Record) (d : Day) (p : Seen) (in
 module _ (planned : Planned) (rs : List Record) (d : Day) (inputs : List Decimal) (given : Some inputs ≡ option_map job_inputs (job_by planned rs d)) where
   same_plan : (e : Entry Seen) (from : Day) (p : Seen) → ◌≡◌ {A = Option (Entry Seen)} (Some (from, p)) (Some e) → plan_of e ≡ p
   same_plan e from p h =
-      let parts : ◌≡◌ {A = Entry Seen} (from, p) e = cc h in
+      let parts : ◌≡◌ {A = Entry Seen} (from, p) e = one_of (from, p) e h in
       sym (ap (λ (t : Entry Seen). plan_of t) parts)
 
   pub job_is : (from : Day) (p : Seen) → Some (from, p) ≡ planned d → IsJob planned rs d p inputs
@@ -200,8 +212,7 @@ module _ (planned : Planned) (rs : List Record) (d : Day) (inputs : List Decimal
   pub has_plan : None ≡ planned d → ⊥
   has_plan h =
       let f = filled_on planned rs d inputs given in
-      let none : ◌≡◌ {A = Option (Entry Seen)} None (Some f.entry) = h ∙ f.picked in
-      cc none
+      none_of f.entry (h ∙ f.picked)
 
 -- an accepted plan admits what it fills, if that is kept
 pub admits_filled : (p : Seen) (slots : List Slot) (inputs : List Decimal) → IsAccepted p.plan p.limits (meaning p) → AreSlots p.ranges (flowchart p).inputs slots → All IsKept inputs → AdmitsWhatItFills p inputs

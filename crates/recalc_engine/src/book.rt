@@ -35,10 +35,15 @@ pub struct Book {
 }
 
 impl Model for Book {
+    ghost use Rattle.std.specs.Coded.{codes};
+    ghost use Rattle.pap_tree.specs.contracts.plan.Stmt as statement;
+    ghost use Rattle.pap_tree.specs.contracts.expression.Expr as expression;
     ghost use Rattle.employee_years.specs.Kept.{AreYears, years_of};
     ghost use Rattle.recalc_engine.specs.Contents.{Contents};
 
     ghost Value = { Contents };
+
+    ghost coded = { Prim.hlevel (codes, statement.the_row.coded, expression.the_row.coded) };
 
     ghost view = { λ b. record { years = years_of b.years; plans = b.plans; last = b.last } };
 
