@@ -1,6 +1,7 @@
 -- The text of the whole report.
 use Rattle.std.specs.Prelude.{List, [], ◌∷◌, ◌++◌}
-use Rattle.recalc_engine.specs.MonthRows.{Contents, KeyedRow, month_rows}
+use Rattle.recalc_engine.specs.Contents.{Contents}
+use Rattle.recalc_engine.specs.MonthRows.{KeyedRow, month_rows}
 use Rattle.report_csv.specs.Reports.{Text, header, row_line, run_text}
 
 -- the rows of runs, one run after another
