@@ -91,7 +91,8 @@ pub(crate) fn answered(alloc: Global, call: &Call<'_>) -> Result<(Status, String
     Ok((status, one_line(alloc, sink.written())?))
 }
 
-fn one_line(alloc: Global, written: &[u8]) -> Result<String, Fail> {
+/// What was written, with ` / ` between its lines.
+pub(crate) fn one_line(alloc: Global, written: &[u8]) -> Result<String, Fail> {
     let text = from_utf8(written).map_err(|_| Fail::from("a text"))?;
     let mut joined = String::new(alloc);
     for line in text.lines() {

@@ -5,6 +5,8 @@
 #[cfg(test)]
 mod answers;
 #[cfg(test)]
+mod books;
+#[cfg(test)]
 mod calendars;
 #[cfg(test)]
 mod carries;
