@@ -1,4 +1,4 @@
-// The inputs of a run.
+//! The inputs of a run.
 ghost use Rattle.std.specs.Prelude.{◌≡◌, ◌≤◌, ℕ, IfOk, List, None, length, true};
 ghost use Rattle.std.specs.BTreeSet.{contains};
 ghost use Rattle.std.specs.List.{AllByRecursion};

@@ -1,4 +1,4 @@
-// From bytes to tokens.
+//! From bytes to tokens.
 ghost use Rattle.std.specs.Prelude.{◌≡◌, ◌≤◌, ℕ, List, [], length, IfOk, MatchOption};
 ghost use Rattle.std.specs.List.{prefix_len};
 ghost use Rattle.pap_tree.specs.White.{is_white};

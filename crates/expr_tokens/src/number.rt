@@ -1,4 +1,4 @@
-// The numbers that stand first in a text.
+//! The numbers that stand first in a text.
 ghost use Rattle.std.specs.Prelude.{◌≡◌, ◌<◌, ◌≤◌, ◌^◌, ◌∷◌, ◌++◌, length, true, MatchOption, codes};
 ghost use Rattle.std.specs.Option.{SomeIff};
 ghost use Rattle.std.specs.List.{list_all, prefix_len};

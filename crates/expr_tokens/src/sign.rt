@@ -1,4 +1,4 @@
-// The operators and signs that stand first in a text.
+//! The operators and signs that stand first in a text.
 ghost use Rattle.std.specs.Prelude.{◌≡◌, true, [], ◌∷◌, MatchOption};
 ghost use Rattle.pap_tree.specs.Words.{operator_text};
 ghost use Rattle.expr_tokens.specs.Spots.{token_of};

@@ -1,4 +1,4 @@
-// What the text of an expression is made of.
+//! What the text of an expression is made of.
 ghost use Rattle.std.specs.Prelude.{IsTrue};
 ghost use Rattle.expr_tokens.specs.Ranges.{is_in_range};
 

@@ -1,4 +1,4 @@
-// The words that stand first in a text.
+//! The words that stand first in a text.
 ghost use Rattle.std.specs.Prelude.{◌≡◌, ◌≤◌, true, false, take, length, MatchOption};
 ghost use Rattle.std.specs.List.{prefix_len};
 ghost use Rattle.pap_tree.specs.Names.{is_letter, is_word, is_reserved};

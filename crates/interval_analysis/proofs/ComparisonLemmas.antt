@@ -25,14 +25,14 @@ use Rattle.pap_types.specs.declared.kinds.NodeKind.TheVariants as kinds
 use Rattle.pap_types.specs.Safety.{bits_of}
 use Rattle.pap_types.specs.Scopes.{Scope, constant_in}
 use Rattle.pap_types.specs.Kinds.{is_whole, is_int, is_big, kind_of, kind_of_one, kind_of_operator, takes_one, takes_operator, takes_two, shown_divisor, shows_plain_divisor, int_literal}
-use Rattle.range_walk.specs.Ranges.{Ranges, single}
-use Rattle.range_walk.specs.Failures.{and_then, at_node}
-use Rattle.range_walk.specs.NodeRanges.{leaf_range, read_range, comparison_range}
-use Rattle.range_walk.specs.Branches as meant
-use Rattle.range_walk.specs.Branches.{signs_where, compared, sides}
-use Rattle.range_walk.specs.Ranged.{ranged, are_whole, compare_sides}
-use Rattle.range_walk.specs.Shapes.{HasShape}
-use Rattle.range_walk.proofs.Laws.{leaf_shape, passed_node, shape_bits, wider_left, wider_right, shown_plain}
+use Rattle.interval_walk.specs.Ranges.{Ranges, single}
+use Rattle.interval_walk.specs.Failures.{and_then, at_node}
+use Rattle.interval_walk.specs.NodeRanges.{leaf_range, read_range, comparison_range}
+use Rattle.interval_walk.specs.Branches as meant
+use Rattle.interval_walk.specs.Branches.{signs_where, compared, sides}
+use Rattle.interval_walk.specs.Ranged.{ranged, are_whole, compare_sides}
+use Rattle.interval_walk.specs.Shapes.{HasShape}
+use Rattle.interval_walk.proofs.Laws.{leaf_shape, passed_node, shape_bits, wider_left, wider_right, shown_plain}
 use Rattle.interval_analysis.specs.declared.branches.Branches.{Branches}
 use Rattle.interval_analysis.specs.declared.expressions.Stop.{Stop}
 use Rattle.interval_analysis.specs.declared.expressions.Stop.TheVariants.{At, Memory}

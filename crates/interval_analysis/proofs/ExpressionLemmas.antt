@@ -6,9 +6,9 @@ use Rattle.pap_tree.specs.declared.expression.Binary.{Binary}
 use Rattle.pap_tree.specs.declared.expression.Binary.TheVariants as binaries
 use Rattle.pap_tree.specs.Term.{Term, two, operator}
 use Rattle.interval_num.specs.Intervals.{Interval}
-use Rattle.range_walk.specs.Ranges.{Ranges}
-use Rattle.range_walk.specs.Ranged.{tested}
-use Rattle.range_walk.specs.Branches as meant
+use Rattle.interval_walk.specs.Ranges.{Ranges}
+use Rattle.interval_walk.specs.Ranged.{tested}
+use Rattle.interval_walk.specs.Branches as meant
 use Rattle.interval_analysis.specs.declared.branches.Branches.{Branches}
 use Rattle.interval_analysis.specs.ComparisonViews.{branches_in}
 use Rattle.interval_analysis.specs.declared.branches.Change.{Change}

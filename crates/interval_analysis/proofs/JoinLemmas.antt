@@ -5,9 +5,9 @@ use Rattle.std.proofs.lemmas.List.{take_more_set, drop-set-lt, drop_all, take_al
 use Rattle.interval_num.specs.declared.cause.RangeCause.{RangeCause}
 use Rattle.interval_num.specs.Intervals.{Interval}
 use Rattle.interval_num.specs.Rows.{join_row}
-use Rattle.range_walk.specs.Failures.{and_then}
-use Rattle.range_walk.specs.Ranges.{Ranges}
-use Rattle.range_walk.specs.Walked.{joined}
+use Rattle.interval_walk.specs.Failures.{and_then}
+use Rattle.interval_walk.specs.Ranges.{Ranges}
+use Rattle.interval_walk.specs.Walked.{joined}
 use Rattle.interval_analysis.specs.PlanViews.{with_names}
 use Rattle.interval_analysis.specs.StatementViews.{joined_lists}
 

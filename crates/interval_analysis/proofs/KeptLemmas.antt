@@ -21,11 +21,11 @@ use Rattle.pap_types.specs.Scopes.{Scope, names_of, number_of, declared_as, decl
 use Rattle.pap_types.specs.Kinds.{suits, is_factor_literal, has_few_places, kind_of}
 use Rattle.pap_types.specs.Typing.{TargetSuits}
 use Rattle.pap_types.proofs.Laws.{declared_by}
-use Rattle.range_walk.specs.Ranges.{Ranges, single, put_range}
-use Rattle.range_walk.specs.NodeRanges.{leaf_range}
-use Rattle.range_walk.specs.Ranged.{ranged}
-use Rattle.range_walk.proofs.Laws.{leaf_shape, passed_node}
-use Rattle.range_walk.specs.Walked.{range_kept_as, assigned_range}
+use Rattle.interval_walk.specs.Ranges.{Ranges, single, put_range}
+use Rattle.interval_walk.specs.NodeRanges.{leaf_range}
+use Rattle.interval_walk.specs.Ranged.{ranged}
+use Rattle.interval_walk.proofs.Laws.{leaf_shape, passed_node}
+use Rattle.interval_walk.specs.Walked.{range_kept_as, assigned_range}
 use Rattle.interval_analysis.specs.PlanViews.{IsSized, scope_in, variables_in, ranges_in}
 use Rattle.interval_analysis.proofs.NameLemmas.{number_in, put_by, put_none}
 use Rattle.interval_analysis.specs.StatementViews.{FitsFactor, CanKeep, CanPut}

@@ -10,7 +10,7 @@ use Rattle.std.proofs.lemmas.Option.{slice_get_past, none-some}
 use Rattle.std.proofs.lemmas.Slice.Eq.{bytes_eq-Decides}
 use Rattle.pap_types.specs.Scopes.{number_of}
 use Rattle.interval_num.specs.Intervals.{Interval}
-use Rattle.range_walk.specs.Ranges.{range_named, put_range}
+use Rattle.interval_walk.specs.Ranges.{range_named, put_range}
 use Rattle.interval_analysis.specs.PlanViews.{with_names}
 
 pub same_either_way : (x y : List ℕ) → bytes_eq x y ≡ bytes_eq y x

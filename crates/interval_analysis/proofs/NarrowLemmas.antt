@@ -8,8 +8,8 @@ use Rattle.pap_types.specs.Scopes.{number_of}
 use Rattle.interval_num.specs.declared.sign_set.SignSet.{SignSet}
 use Rattle.interval_num.specs.Intervals.{Interval}
 use Rattle.interval_num.specs.Refinement.{refined}
-use Rattle.range_walk.specs.Ranges.{Ranges, range_named, put_range}
-use Rattle.range_walk.specs.Branches.{narrowed, narrowed_name}
+use Rattle.interval_walk.specs.Ranges.{Ranges, range_named, put_range}
+use Rattle.interval_walk.specs.Branches.{narrowed, narrowed_name}
 use Rattle.interval_analysis.specs.declared.branches.Change.{Change}
 use Rattle.interval_analysis.specs.Changes.{changed}
 use Rattle.interval_analysis.specs.PlanViews.{variables_in, ranges_in, IsSized}

@@ -11,9 +11,9 @@ use Rattle.std.specs.Option.{option_map_or}
 use Rattle.std.proofs.lemmas.List.{take_all, drop_all, take_more}
 use Rattle.pap_tree.specs.declared.declaration.Declared.{Declared}
 use Rattle.interval_num.specs.Intervals.{Interval}
-use Rattle.range_walk.specs.Ranges.{NamedRange}
-use Rattle.range_walk.specs.Failures.{output_fails}
-use Rattle.range_walk.specs.Analysis.{is_bounded, output_ranges, unless_unbounded}
+use Rattle.interval_walk.specs.Ranges.{NamedRange}
+use Rattle.interval_walk.specs.Failures.{output_fails}
+use Rattle.interval_walk.specs.Analysis.{is_bounded, output_ranges, unless_unbounded}
 use Rattle.interval_analysis.specs.PlanViews.{IsSized, variables_in, with_names, ranges_in}
 use Rattle.interval_analysis.specs.OutputViews.{output_names}
 

@@ -19,8 +19,8 @@ use Rattle.interval_num.specs.declared.sign_set.SignSet.{SignSet}
 use Rattle.interval_num.specs.Intervals.{Interval, interval, IsWhole, HasKeptEnds}
 use Rattle.interval_num.specs.Alignment.{at_scale, greater_scale}
 use Rattle.interval_num.specs.Refinement.{refined, low_end, high_end, is_apart, without, gap}
-use Rattle.range_walk.specs.Ranges.{Ranges, range_named, put_range}
-use Rattle.range_walk.specs.Branches.{narrowed, narrowed_name}
+use Rattle.interval_walk.specs.Ranges.{Ranges, range_named, put_range}
+use Rattle.interval_walk.specs.Branches.{narrowed, narrowed_name}
 use Rattle.interval_analysis.specs.ComparisonViews.{CanNarrow, CanRefine, HasRange}
 
 -- an interval inside another, with its scales

@@ -8,10 +8,10 @@ use Rattle.interval_num.specs.declared.cause.RangeCause.TheVariants.{Wide}
 use Rattle.pap_types.specs.Checks.{place, last_node}
 use Rattle.pap_types.specs.Routines.{body_named}
 use Rattle.pap_types.specs.Scopes.{Scope}
-use Rattle.range_walk.specs.Ranges.{Ranges}
-use Rattle.range_walk.specs.Failures.{WalkFault, node_fails, and_then, at_node, at_stmt}
-use Rattle.range_walk.specs.Branches.{either_way}
-use Rattle.range_walk.specs.Ranged.{ranged, tested}
+use Rattle.interval_walk.specs.Ranges.{Ranges}
+use Rattle.interval_walk.specs.Failures.{WalkFault, node_fails, and_then, at_node, at_stmt}
+use Rattle.interval_walk.specs.Branches.{either_way}
+use Rattle.interval_walk.specs.Ranged.{ranged, tested}
 use Rattle.interval_analysis.specs.declared.expressions.Walk.{Walk}
 use Rattle.interval_analysis.specs.declared.fault.RangeFault.{RangeFault}
 use Rattle.interval_analysis.specs.declared.fault.RangeFault.TheVariants as faults
@@ -24,7 +24,7 @@ use Rattle.interval_num.specs.Intervals.{Interval}
 use Rattle.interval_analysis.specs.declared.statements.Fork.{Fork}
 use Rattle.interval_analysis.specs.declared.statements.Spot.{Spot}
 use Rattle.interval_analysis.specs.StatementViews.{calls_in, walked_in, met_in, first_spot, second_spot, joined_lists, FaultOf, EnvAnswer, Passage, Passes}
-use Rattle.range_walk.specs.Walked.{RangeCalls, walked, range_calls_of, with_body, joined}
+use Rattle.interval_walk.specs.Walked.{RangeCalls, walked, range_calls_of, with_body, joined}
 
 assoc : {A B C E : Type 0} (r : Result A E) (f : A → Result B E) (g : B → Result C E) → and_then r (λ a. and_then (f a) g) ≡ and_then (and_then r f) g
 assoc (Ok a) f g = refl

@@ -2,9 +2,9 @@
 use Rattle.std.specs.Prelude.{◌≡◌, Err, ⊤}
 use Rattle.pap_tree.specs.Flowchart.{Flowchart}
 use Rattle.limits_file.specs.declared.limits.Limits.{Limits}
-use Rattle.range_walk.specs.Ranges.{NamedRange}
-use Rattle.range_walk.specs.Failures.{node_fails, output_fails}
-use Rattle.range_walk.specs.Analysis.{analysed}
+use Rattle.interval_walk.specs.Ranges.{NamedRange}
+use Rattle.interval_walk.specs.Failures.{node_fails, output_fails}
+use Rattle.interval_walk.specs.Analysis.{analysed}
 use Rattle.interval_analysis.specs.declared.verdict.OutputRange.{OutputRange}
 use Rattle.interval_analysis.specs.declared.fault.RangeFault.{RangeFault}
 use Rattle.interval_analysis.specs.declared.fault.RangeFault.TheVariants as faults

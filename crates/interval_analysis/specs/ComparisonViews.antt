@@ -6,8 +6,8 @@ use Rattle.pap_tree.specs.Term.{Term, term_of, leaf, named}
 use Rattle.interval_num.specs.declared.sign_set.SignSet.{SignSet}
 use Rattle.interval_num.specs.Intervals.{Interval, IsWhole}
 use Rattle.interval_num.specs.Alignment.{Align}
-use Rattle.range_walk.specs.Ranges.{Ranges, range_named}
-use Rattle.range_walk.specs.Branches as meant
+use Rattle.interval_walk.specs.Ranges.{Ranges, range_named}
+use Rattle.interval_walk.specs.Branches as meant
 use Rattle.interval_analysis.specs.declared.branches.Branches.{Branches}
 use Rattle.interval_analysis.specs.declared.comparisons.Against.{Against}
 use Rattle.interval_analysis.specs.declared.comparisons.Sides.{Sides}

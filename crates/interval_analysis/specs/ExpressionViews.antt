@@ -12,11 +12,11 @@ use Rattle.pap_types.specs.declared.kinds.NodeKind.{NodeKind}
 use Rattle.pap_types.specs.Kinds.{kind_of, wider, int_literal}
 use Rattle.pap_types.specs.Typing.{IsTypedTerm}
 use Rattle.pap_tree.specs.Scales.{KeepsScales}
-use Rattle.range_walk.specs.Ranges.{Ranges}
-use Rattle.range_walk.specs.Failures.{NodeFault, and_then, at_node, nowhere}
-use Rattle.range_walk.specs.NodeRanges.{comparison_range}
-use Rattle.range_walk.specs.Branches as meant
-use Rattle.range_walk.specs.Ranged.{ranged, tested, are_whole, compare_sides}
+use Rattle.interval_walk.specs.Ranges.{Ranges}
+use Rattle.interval_walk.specs.Failures.{NodeFault, and_then, at_node, nowhere}
+use Rattle.interval_walk.specs.NodeRanges.{comparison_range}
+use Rattle.interval_walk.specs.Branches as meant
+use Rattle.interval_walk.specs.Ranged.{ranged, tested, are_whole, compare_sides}
 use Rattle.interval_analysis.specs.declared.branches.Change.{Change}
 use Rattle.interval_analysis.specs.declared.expressions.Inner.{Inner}
 use Rattle.interval_analysis.specs.declared.expressions.Parts.{Parts}

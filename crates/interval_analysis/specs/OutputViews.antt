@@ -4,9 +4,9 @@ use Rattle.pap_tree.specs.declared.declaration.Declared.{Declared}
 use Rattle.pap_tree.specs.declared.plan.PlanText.{PlanText}
 use Rattle.pap_tree.specs.Flowchart.{flowchart_of}
 use Rattle.interval_num.specs.Intervals.{Interval}
-use Rattle.range_walk.specs.Analysis.{output_ranges, unless_unbounded}
-use Rattle.range_walk.specs.Ranges.{Ranges}
-use Rattle.range_walk.specs.Failures.{WalkFault, node_fails, output_fails}
+use Rattle.interval_walk.specs.Analysis.{output_ranges, unless_unbounded}
+use Rattle.interval_walk.specs.Ranges.{Ranges}
+use Rattle.interval_walk.specs.Failures.{WalkFault, node_fails, output_fails}
 use Rattle.interval_analysis.specs.Answers.{named_range}
 use Rattle.interval_analysis.specs.PlanViews.{ranges_in, with_names}
 use Rattle.interval_analysis.specs.declared.fault.RangeFault.{RangeFault}

@@ -5,8 +5,8 @@ use Rattle.pap_tree.specs.declared.plan.PlanText.{PlanText}
 use Rattle.pap_tree.specs.Flowchart.{flowchart_of}
 use Rattle.interval_num.specs.Intervals.{Interval}
 use Rattle.pap_types.specs.Scopes.{Scope, scope_of, variables_of, names_of}
-use Rattle.range_walk.specs.NodeRanges.{name_range}
-use Rattle.range_walk.specs.Ranges.{Ranges}
+use Rattle.interval_walk.specs.NodeRanges.{name_range}
+use Rattle.interval_walk.specs.Ranges.{Ranges}
 use Rattle.interval_analysis.specs.declared.branches.Change.{Change}
 use Rattle.interval_analysis.specs.Changes.{changed}
 

@@ -9,7 +9,7 @@ use Rattle.pap_tree.specs.Flowchart.{flowchart_of}
 use Rattle.limits_file.specs.declared.limits.InputLimit.{InputLimit}
 use Rattle.limits_file.specs.declared.limits.Limits.{Limits}
 use Rattle.interval_num.specs.Intervals.{Interval}
-use Rattle.range_walk.specs.Analysis.{input_range, first_range, start_ranges}
+use Rattle.interval_walk.specs.Analysis.{input_range, first_range, start_ranges}
 use Rattle.interval_analysis.specs.PlanViews.{IsSized, ranges_in}
 
 abbrev pub declarations : List Declared → List Declaration

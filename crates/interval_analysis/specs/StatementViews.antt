@@ -18,10 +18,10 @@ use Rattle.pap_types.specs.Checks.{place}
 use Rattle.pap_types.specs.Counts.{AreSmallTerms, IsSmallTerm}
 use Rattle.pap_types.specs.Scopes.{declared_as, factor_places}
 use Rattle.pap_types.specs.Typing.{IsTypedTerm, IsTypedBody, TargetSuits}
-use Rattle.range_walk.specs.Ranges.{Ranges}
-use Rattle.range_walk.specs.Failures.{WalkFault, node_fails, and_then, at_node, at_stmt}
-use Rattle.range_walk.specs.Ranged.{ranged}
-use Rattle.range_walk.specs.Walked.{RangeCalls, walked, range_calls_of, assigned_range, joined}
+use Rattle.interval_walk.specs.Ranges.{Ranges}
+use Rattle.interval_walk.specs.Failures.{WalkFault, node_fails, and_then, at_node, at_stmt}
+use Rattle.interval_walk.specs.Ranged.{ranged}
+use Rattle.interval_walk.specs.Walked.{RangeCalls, walked, range_calls_of, assigned_range, joined}
 use Rattle.interval_analysis.specs.declared.expressions.Stop.{Stop}
 use Rattle.interval_analysis.specs.declared.expressions.Stop.TheVariants as stops
 use Rattle.interval_analysis.specs.declared.expressions.Walk.{Walk}

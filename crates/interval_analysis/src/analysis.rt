@@ -4,9 +4,9 @@ ghost use Rattle.scaled_decimal.specs.Decimals.{Decimal};
 ghost use Rattle.pap_tree.specs.Flowchart.{flowchart_of};
 ghost use Rattle.pap_types.specs.Meaning.{bound_of, cost_of};
 ghost use Rattle.call_order.specs.Orders.{IsOrdered};
-ghost use Rattle.range_walk.specs.Admission.{HaveLimits, AreAdmitted};
-ghost use Rattle.range_walk.specs.Analysis.{analysed};
-ghost use Rattle.range_walk.specs.Soundness.{RunHolds};
+ghost use Rattle.interval_walk.specs.Admission.{HaveLimits, AreAdmitted};
+ghost use Rattle.interval_walk.specs.Analysis.{analysed};
+ghost use Rattle.interval_walk.specs.Soundness.{RunHolds};
 ghost use Rattle.interval_analysis.specs.Answers.{named_range, IsWalkFault};
 ghost use Rattle.interval_analysis.specs.OutputViews.{OutputAnswer};
 

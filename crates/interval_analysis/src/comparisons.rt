@@ -5,7 +5,7 @@ ghost use Rattle.pap_tree.specs.Term.{term_of};
 ghost use Rattle.interval_num.specs.Signs as signs;
 ghost use Rattle.pap_types.specs.Kinds.{is_whole};
 ghost use Rattle.pap_types.specs.Operations.{holds_of};
-ghost use Rattle.range_walk.specs.Branches.{signs_where, others, exchanged, can_have};
+ghost use Rattle.interval_walk.specs.Branches.{signs_where, others, exchanged, can_have};
 ghost use Rattle.interval_analysis.specs.Changes.{changed};
 ghost use Rattle.interval_analysis.specs.PlanViews.{IsSized, ranges_after};
 ghost use Rattle.interval_analysis.specs.ComparisonViews.{CanCompare, CanStand, branch_by, branches_by, branches_in, narrowed_by, name_in};

@@ -4,9 +4,9 @@ ghost use Rattle.pap_tree.specs.Term.{term_of, leaf, named, item, unary, value_o
 ghost use Rattle.pap_tree.specs.declared.expression.Binary.{Binary};
 ghost use Rattle.pap_tree.specs.declared.expression.Unary.{Unary};
 ghost use Rattle.interval_num.specs.declared.cause.RangeCause.TheVariants.{Wide};
-ghost use Rattle.range_walk.specs.Ranges.{single};
-ghost use Rattle.range_walk.specs.Branches.{no_branch};
-ghost use Rattle.range_walk.specs.NodeRanges.{read_range};
+ghost use Rattle.interval_walk.specs.Ranges.{single};
+ghost use Rattle.interval_walk.specs.Branches.{no_branch};
+ghost use Rattle.interval_walk.specs.NodeRanges.{read_range};
 ghost use Rattle.interval_analysis.specs.Changes.{changed};
 ghost use Rattle.interval_analysis.specs.PlanViews.{IsSized, name_range_in};
 ghost use Rattle.interval_analysis.specs.ExpressionViews.{CanWalk, CanWalkParts, RangeAnswer, OwnAnswer, PartsAnswer, TestAnswer, AfterAnswer, BehindAnswer, ComparisonAnswer, IsPlainComparison, IsInner, one_of, two_of, choice_of, compare_to, comparison_of, order_comparison, first_reached, second_reached, both_reached};

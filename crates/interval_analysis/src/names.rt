@@ -2,8 +2,8 @@
 ghost use Rattle.std.specs.Prelude.{◌≡◌};
 ghost use Rattle.pap_tree.specs.Term.{term_of};
 ghost use Rattle.pap_types.specs.Scopes.{table_in};
-ghost use Rattle.range_walk.specs.Ranges.{single};
-ghost use Rattle.range_walk.specs.NodeRanges.{big_range};
+ghost use Rattle.interval_walk.specs.Ranges.{single};
+ghost use Rattle.interval_walk.specs.NodeRanges.{big_range};
 ghost use Rattle.interval_analysis.specs.PlanViews.{scope_in};
 
 use interval_num::Abs;

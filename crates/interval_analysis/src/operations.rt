@@ -7,7 +7,7 @@ ghost use Rattle.interval_num.specs.Rows.{whole_opposite_row};
 ghost use Rattle.pap_tree.specs.Term.{Term, unary};
 ghost use Rattle.pap_types.specs.Safety.{bits_of};
 ghost use Rattle.pap_types.specs.declared.kinds.NodeKind.{NodeKind};
-ghost use Rattle.range_walk.specs.NodeRanges.{read_range, operator_range, one_range, method_range, shown_range, comparison_range, item_range};
+ghost use Rattle.interval_walk.specs.NodeRanges.{read_range, operator_range, one_range, method_range, shown_range, comparison_range, item_range};
 ghost use Rattle.interval_analysis.specs.OperationViews.{TakesWholes, TakesUnary, TakesShown, IsPlainShown, read_fitting};
 
 use interval_num::{

@@ -8,8 +8,8 @@ ghost use Rattle.pap_tree.specs.Flowchart.{flowchart_of};
 ghost use Rattle.limits_file.specs.Limits.{HasSoundBounds};
 ghost use Rattle.interval_num.specs.Intervals.{interval};
 ghost use Rattle.pap_types.specs.Typing.{HasItsType};
-ghost use Rattle.range_walk.specs.Admission.{HaveLimits, HasLimit, SuitsLimit, limit_named};
-ghost use Rattle.range_walk.specs.Analysis.{limit_range, input_range};
+ghost use Rattle.interval_walk.specs.Admission.{HaveLimits, HasLimit, SuitsLimit, limit_named};
+ghost use Rattle.interval_walk.specs.Analysis.{limit_range, input_range};
 ghost use Rattle.interval_analysis.specs.StartViews.{CanSpan, IsStart, declarations, limited, begun};
 
 use crate::names::single;

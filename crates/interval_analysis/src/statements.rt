@@ -4,7 +4,7 @@ ghost use Rattle.std.specs.Option.{option_map};
 ghost use Rattle.pap_tree.specs.Flowchart.{routine_of, body_of, stmt_then, done};
 ghost use Rattle.pap_types.specs.Checks.{place};
 ghost use Rattle.pap_types.specs.Routines.{body_named};
-ghost use Rattle.range_walk.specs.Walked.{range_kept_as};
+ghost use Rattle.interval_walk.specs.Walked.{range_kept_as};
 ghost use Rattle.interval_analysis.specs.Changes.{changed};
 ghost use Rattle.interval_analysis.specs.PlanViews.{IsSized, ranges_in};
 ghost use Rattle.interval_analysis.specs.StatementViews.{CanWalkBody, CanWalkLists, CanAssign, CanPut, CanKeep, IsMethodBody, Passes, EnvAnswer, through_body, through_if, through_first, through_second, through_both, if_of, evaluated, executed, assigned_in, methods_in, fault_of};

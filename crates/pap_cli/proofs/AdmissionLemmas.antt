@@ -25,7 +25,7 @@ use Rattle.carry_bindings.specs.declared.carried.Earlier.{Earlier}
 use Rattle.carry_bindings.specs.declared.filling.Filled.{Filled}
 use Rattle.carry_bindings.specs.declared.filling.Filled.TheVariants as filled
 use Rattle.carry_bindings.specs.declared.filling.Blocked.TheVariants as blocked
-use Rattle.range_walk.specs.Admission.{limit_named, SuitsLimit, FitsAs, FitsAsFactor, IsAdmitted, IsAdmittedFor, AllAdmitted}
+use Rattle.interval_walk.specs.Admission.{limit_named, SuitsLimit, FitsAs, FitsAsFactor, IsAdmitted, IsAdmittedFor, AllAdmitted}
 use Rattle.pap_plan.specs.Bindings.{HasSuitedLimit}
 use Rattle.pap_plan.specs.Inputs.{IsSlot, AreSlots}
 

@@ -22,8 +22,8 @@ use Rattle.payroll_records.specs.NamedValues.{name_cmp, value_at}
 use Rattle.carry_bindings.specs.Carrying.{carried}
 use Rattle.carry_bindings.specs.Filling.{value_by, given, value_of, admits, outside, inputs, input_of}
 use Rattle.pap_types.specs.Scopes.{at_factor_scale}
-use Rattle.range_walk.specs.Admission.{SuitsLimit, HasLimit}
-use Rattle.range_walk.proofs.Laws.{factor_admitted}
+use Rattle.interval_walk.specs.Admission.{SuitsLimit, HasLimit}
+use Rattle.interval_walk.proofs.Laws.{factor_admitted}
 use Rattle.pap_plan.specs.Inputs.{IsSlot, AreSlots}
 use Rattle.pap_plan.proofs.Laws.{HasKeptValue}
 use Rattle.pap_cli.specs.Words.{IsKeptValue}

@@ -6,7 +6,7 @@ use Rattle.scaled_decimal.specs.Decimals.{Decimal, decimal}
 use Rattle.scaled_decimal.specs.PlainTexts.{plain_text}
 use Rattle.pap_tree.specs.declared.declaration.Declared.{Declared}
 use Rattle.pap_tree.specs.Declarations.{Declaration, declaration_of}
-use Rattle.range_walk.specs.Ranges.{NamedRange, Ranges}
+use Rattle.interval_walk.specs.Ranges.{NamedRange, Ranges}
 use Rattle.interval_analysis.specs.declared.verdict.OutputRange.{OutputRange}
 use Rattle.interval_analysis.specs.Answers.{named_range}
 use Rattle.pap_cli.specs.Lines.{range_line, range_lines, value_line, value_lines}

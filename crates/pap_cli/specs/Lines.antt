@@ -4,7 +4,7 @@ use Rattle.std.specs.Fmt.{decimal as number}
 use Rattle.scaled_decimal.specs.Decimals.{Decimal, decimal}
 use Rattle.scaled_decimal.specs.PlainTexts.{plain_text}
 use Rattle.pap_tree.specs.Declarations.{Declaration}
-use Rattle.range_walk.specs.Ranges.{NamedRange, Ranges}
+use Rattle.interval_walk.specs.Ranges.{NamedRange, Ranges}
 
 -- a text, a space, and what follows
 abbrev pub spaced : List ℕ → List ℕ → List ℕ

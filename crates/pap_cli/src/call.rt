@@ -1,4 +1,4 @@
-// The top call.
+//! The top call.
 ghost use Rattle.std.specs.Prelude.{◌≡◌, ◌≢◌};
 ghost use Rattle.outside.specs.Causes.{Rose};
 ghost use Rattle.pap_cli.specs.Words.{texts, Form, HasForm, IsBad};

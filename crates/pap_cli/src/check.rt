@@ -1,4 +1,4 @@
-// The answer of `check`.
+//! The answer of `check`.
 ghost use Rattle.std.specs.Prelude.{◌≡◌, ◌++◌, IfOk, OnOk, map, string_bytes};
 ghost use Rattle.interval_analysis.specs.Answers.{named_range};
 ghost use Rattle.pap_plan.specs.Plans.{meaning};

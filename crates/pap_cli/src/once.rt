@@ -1,4 +1,4 @@
-// The answer of `once`.
+//! The answer of `once`.
 ghost use Rattle.std.specs.Prelude.{◌≡◌, ◌≢◌, All, ◌+◌, ◌++◌, ◌⊎◌, IfOk, OnOk, OnErr, Some, map, length};
 ghost use Rattle.pap_tree.specs.Declarations.{declaration_of};
 ghost use Rattle.pap_plan.specs.Bindings.{HasSuitedLimit};

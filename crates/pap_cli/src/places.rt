@@ -1,4 +1,4 @@
-// The nodes of a plan by their places.
+//! The nodes of a plan by their places.
 ghost use Rattle.std.specs.Prelude.{◌≡◌, IfOk, MatchOption, Some, None};
 ghost use Rattle.pap_tree.specs.Term.{term_of};
 ghost use Rattle.pap_tree.specs.Flowchart.{flowchart_of, body_of};

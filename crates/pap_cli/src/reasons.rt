@@ -1,4 +1,4 @@
-// The reason of a refusal, in plain words.
+//! The reason of a refusal, in plain words.
 ghost use Rattle.std.specs.Prelude.{◌≡◌, All, IfOk, None, Ok, is_some};
 ghost use Rattle.std.specs.Option.{ForSome};
 ghost use Rattle.outside.specs.Causes.{Caused};

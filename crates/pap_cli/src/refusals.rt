@@ -1,4 +1,4 @@
-// How the refusals of a plan and its range file are written.
+//! How the refusals of a plan and its range file are written.
 ghost use Rattle.std.specs.Prelude.{◌≡◌, IfOk};
 ghost use Rattle.pap_tree.specs.Flowchart.{flowchart_of};
 ghost use Rattle.pap_cli.specs.Refusals.{which_word, read_detail, expr_detail, type_detail, order_detail, limits_detail};

@@ -1,4 +1,4 @@
-// What is written on a command.
+//! What is written on a command.
 ghost use Rattle.std.specs.Prelude.{◌≡◌, IfOk};
 ghost use Rattle.pap_cli.specs.Answers.{refusal};
 ghost use Rattle.pap_cli.specs.AnswerViews.{reply_of};

@@ -1,4 +1,4 @@
-// Why a call stops.
+//! Why a call stops.
 ghost use Rattle.std.specs.Prelude.{◌≡◌};
 ghost use Rattle.pap_cli.specs.declared.stop.Stop.TheVariants.{Memory};
 ghost use Rattle.pap_cli.specs.Stops.{stop_of};

@@ -1,4 +1,4 @@
-// From a plan to its code.
+//! From a plan to its code.
 ghost use Rattle.std.specs.Prelude.{◌≡◌, ◌<◌, ◌+◌, ◌^◌, ◌++◌, IfOk, OnOk, length, map, []};
 ghost use Rattle.pap_tree.specs.Flowchart.{flowchart_of, routine_of, body_of};
 ghost use Rattle.pap_tree.specs.Declarations.{declaration_of};

@@ -1,4 +1,4 @@
-// How many calls are open at most.
+//! How many calls are open at most.
 ghost use Rattle.std.specs.Prelude.{◌≡◌, ◌≤◌, IfOk, max};
 ghost use Rattle.pap_tree.specs.Flowchart.{flowchart_of, body_of, stmt_then, done};
 ghost use Rattle.call_order.specs.Orders.{IsOrdered};

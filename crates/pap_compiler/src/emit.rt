@@ -1,4 +1,4 @@
-// From expressions to instructions.
+//! From expressions to instructions.
 ghost use Rattle.std.specs.Prelude.{◌≡◌, ◌<◌, ◌+◌, ◌^◌, ◌∷◌, [], OnOk, length, slice_set};
 ghost use Rattle.pap_tree.specs.Term.{term_of, unary, value_of, one, two, choice, operator};
 ghost use Rattle.pap_compiler.specs.CodeDecisions.{term_length, instr_of_one, instr_of_method};

@@ -1,4 +1,4 @@
-// What the names of a plan stand for in its code.
+//! What the names of a plan stand for in its code.
 ghost use Rattle.std.specs.Prelude.{◌≡◌, ◌<◌, unwrap_or, length};
 ghost use Rattle.pap_tree.specs.Term.{term_of};
 ghost use Rattle.pap_types.specs.Scopes.{constant_in, zero};

@@ -1,4 +1,4 @@
-// How much room code takes.
+//! How much room code takes.
 ghost use Rattle.std.specs.Prelude.{◌≡◌, ◌<◌, ◌+◌, ◌^◌, max};
 ghost use Rattle.pap_tree.specs.Term.{term_of, two, choice};
 ghost use Rattle.pap_tree.specs.Flowchart.{body_of, stmt_then, branch, done};

@@ -1,4 +1,4 @@
-// From statements to instructions.
+//! From statements to instructions.
 ghost use Rattle.std.specs.Prelude.{OnOk};
 ghost use Rattle.pap_tree.specs.Term.{term_of};
 ghost use Rattle.pap_tree.specs.Flowchart.{body_of, stmt_then, eval, branch, execute, done};

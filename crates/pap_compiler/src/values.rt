@@ -1,4 +1,4 @@
-// What the declared names of a plan begin with.
+//! What the declared names of a plan begin with.
 ghost use Rattle.std.specs.Prelude.{◌≡◌, ◌++◌, OnOk, map};
 ghost use Rattle.std.specs.List.{All};
 ghost use Rattle.pap_tree.specs.Declarations.{declaration_of};

@@ -1,4 +1,4 @@
-// Where the reading of a declared literal is.
+//! Where the reading of a declared literal is.
 
 use pap_tree::Literal;
 use scaled_decimal::Dec;

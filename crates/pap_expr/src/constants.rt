@@ -1,4 +1,4 @@
-// The reading of declared literals, a token at a time.
+//! The reading of declared literals, a token at a time.
 
 ghost use Rattle.std.specs.Prelude.{◌≡◌, ◌≤◌, ◌-◌, ℕ, Some, None, IfOk, IfErr, MatchOption};
 ghost use Rattle.scaled_decimal.specs.Decimals.{decimal};

@@ -1,4 +1,4 @@
-// From a text to its tree.
+//! From a text to its tree.
 
 ghost use Rattle.std.specs.Prelude.{◌≡◌, ◌≤◌, Ok, Result, Some, None, IsTrue, IfOk, IfErr, MatchOption};
 ghost use Rattle.pap_tree.specs.Names.{is_name};

@@ -1,4 +1,4 @@
-// Why a text is refused.
+//! Why a text is refused.
 ghost use Rattle.std.specs.Prelude.{◌≡◌};
 ghost use Rattle.pap_expr.specs.declared.fault.ExprFault.TheVariants.{Memory};
 

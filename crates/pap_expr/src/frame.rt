@@ -1,4 +1,4 @@
-// What waits for the expression that is read.
+//! What waits for the expression that is read.
 ghost use Rattle.std.specs.Prelude.{◌≡◌, ◌+◌, ◌∷◌, ◌≤◌, List};
 ghost use Rattle.expr_grammar.specs.Machine.{Frame as Waiting, level, binds};
 ghost use Rattle.pap_expr.specs.Frames.{frame_of};

@@ -1,4 +1,4 @@
-// The tokens that an expression begins with.
+//! The tokens that an expression begins with.
 
 ghost use Rattle.std.specs.Prelude.{◌≡◌, ◌≤◌, ℕ, List, ◌∷◌, Some, None, IsTrue, MatchBool, if◌then◌else◌};
 ghost use Rattle.pap_tree.specs.Names.{is_name};

@@ -1,4 +1,4 @@
-// The reading of an expression, a token at a time: what waits for an operand stands on a stack.
+//! The reading of an expression, a token at a time: what waits for an operand stands on a stack.
 
 ghost use Rattle.std.specs.Prelude.{◌≡◌, ◌≤◌, ℕ, List, ◌∷◌, Some, None, IfOk, IfErr, MatchBool, if◌then◌else◌};
 ghost use Rattle.pap_tree.specs.Term.{Leaf, leaf, one, unary, term_of};

@@ -1,4 +1,4 @@
-// The reading of a list of tokens.
+//! The reading of a list of tokens.
 
 ghost use Rattle.std.specs.Prelude.{◌≡◌, ◌≤◌, IfOk, IfErr, OnOk, true, nat_lt, option_map};
 ghost use Rattle.pap_tree.specs.Term.{term_of};

@@ -1,4 +1,4 @@
-// The frames that are open.
+//! The frames that are open.
 ghost use Rattle.std.specs.Prelude.{◌≡◌, ◌∷◌, ◌≤◌, List, [], MatchOption, OnOk, IfErr};
 ghost use Rattle.expr_grammar.specs.Machine.{Frame as Waiting, level};
 ghost use Rattle.pap_expr.specs.Frames.{frame_of, frames_of, Pops, PopsBinding};

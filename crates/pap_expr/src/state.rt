@@ -1,4 +1,4 @@
-// Where the reading of an expression is.
+//! Where the reading of an expression is.
 
 use crate::words::{Holder, Method};
 use pap_tree::{Expr, Name};

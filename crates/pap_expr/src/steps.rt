@@ -1,4 +1,4 @@
-// The steps of the reading that leave the stack as it is.
+//! The steps of the reading that leave the stack as it is.
 
 ghost use Rattle.std.specs.Prelude.{◌≡◌, ℕ, List, IsTrue, None, MatchOption};
 ghost use Rattle.pap_tree.specs.Names.{is_name};

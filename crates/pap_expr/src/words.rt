@@ -1,4 +1,4 @@
-// The words and ranks of the language.
+//! The words and ranks of the language.
 ghost use Rattle.std.specs.Prelude.{◌≡◌, Some, None, MatchOption, IsTrue};
 ghost use Rattle.pap_tree.specs.Names.{is_name};
 ghost use Rattle.pap_tree.specs.Words.{level_of_operator};

@@ -11,7 +11,7 @@ use Rattle.limits_file.specs.declared.limits.Limits.{Limits}
 use Rattle.limits_file.specs.Limits.{HasSoundBounds}
 use Rattle.limits_file.specs.RangeFiles.{FileSays}
 use Rattle.call_order.specs.Orders.{IsOrdered}
-use Rattle.range_walk.specs.Admission.{HasLimit, HaveLimits}
+use Rattle.interval_walk.specs.Admission.{HasLimit, HaveLimits}
 use Rattle.pap_plan.specs.declared.refusal.PlanRefusal.{PlanRefusal}
 use Rattle.pap_plan.specs.declared.refusal.PlanRefusal.TheVariants as refusals
 use Rattle.pap_plan.specs.Bindings.{HasSuitedLimit}

@@ -14,9 +14,9 @@ use Rattle.call_order.specs.declared.fault.OrderFault.{OrderFault}
 use Rattle.call_order.specs.OrderLaws.{HasOrder, HasFault}
 use Rattle.call_order.specs.Faults.{IsRefused as HasOrderFault}
 use Rattle.call_order.proofs.Laws as orders
-use Rattle.range_walk.specs.Ranges.{Ranges}
-use Rattle.range_walk.specs.Failures.{WalkFault, node_fails, output_fails}
-use Rattle.range_walk.specs.Analysis.{analysed}
+use Rattle.interval_walk.specs.Ranges.{Ranges}
+use Rattle.interval_walk.specs.Failures.{WalkFault, node_fails, output_fails}
+use Rattle.interval_walk.specs.Analysis.{analysed}
 use Rattle.interval_analysis.specs.declared.fault.RangeFault.{RangeFault}
 use Rattle.interval_analysis.specs.declared.fault.RangeFault.TheVariants as walks
 use Rattle.plan_text.specs.declared.fault.PlanFault.{PlanFault}

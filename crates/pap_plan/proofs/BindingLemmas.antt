@@ -14,7 +14,7 @@ use Rattle.limits_file.specs.declared.limits.InputLimit.{InputLimit}
 use Rattle.limits_file.specs.declared.limits.Limits.{Limits}
 use Rattle.pap_types.specs.Scopes.{names_of}
 use Rattle.pap_types.specs.Checks.{has_name}
-use Rattle.range_walk.specs.Admission.{limit_named, SuitsLimit}
+use Rattle.interval_walk.specs.Admission.{limit_named, SuitsLimit}
 use Rattle.pap_plan.specs.Bindings.{has_limit, HasSuitedLimit, IsFirstUnsuited}
 use Rattle.pap_tree.specs.Flowchart.{Flowchart}
 use Rattle.pap_plan.specs.BindingViews.{declares, without_limit, without_input}

@@ -14,7 +14,7 @@ use Rattle.limits_file.specs.Inputs.{InputSays}
 use Rattle.limits_file.specs.Bindings.{BindingSays}
 use Rattle.limits_file.specs.Walks.{AllOrFirstFault, TableSays}
 use Rattle.limits_file.specs.RangeFiles.{with_inputs, with_bindings, joined, SectionSays, FileSays}
-use Rattle.range_walk.specs.Admission.{limit_named}
+use Rattle.interval_walk.specs.Admission.{limit_named}
 
 inputs_sound : (n : ℕ) (entries : Members) (said : List InputLimit) → AllOrFirstFault InputSays n entries (Ok said) → All HasSoundBounds said
 inputs_sound n no_members said h = subst (All HasSoundBounds) (sym h) (All-nil HasSoundBounds)

@@ -12,8 +12,8 @@ use Rattle.limits_file.specs.declared.limits.Carry.{Carry}
 use Rattle.limits_file.specs.declared.slots.Slot.{Slot}
 use Rattle.pap_types.specs.Scopes.{literal_decimal}
 use Rattle.pap_types.specs.Meaning.{IsSafeFor}
-use Rattle.range_walk.specs.Admission.{AreAdmitted, HaveLimits}
-use Rattle.range_walk.proofs.Laws.{analysis_sound}
+use Rattle.interval_walk.specs.Admission.{AreAdmitted, HaveLimits}
+use Rattle.interval_walk.proofs.Laws.{analysis_sound}
 use Rattle.pap_plan.specs.Acceptance.{Meaning, IsAccepted}
 use Rattle.pap_plan.specs.Bindings.{HasSuitedLimit}
 use Rattle.pap_plan.specs.Inputs.{carry_named, IsSlot, AreSlots}

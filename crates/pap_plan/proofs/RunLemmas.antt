@@ -11,9 +11,9 @@ use Rattle.pap_machine.specs.Code.{Program}
 use Rattle.pap_machine.specs.Machine.{Runs, HoldAt, IsSafeFor as IsSafeForCode}
 use Rattle.pap_machine.proofs.Laws.{one_end, held_once}
 use Rattle.call_order.proofs.Laws.{bound_small}
-use Rattle.range_walk.specs.Admission.{AllAdmitted, AreAdmitted}
-use Rattle.range_walk.specs.Soundness.{RunHolds, AreOutputs}
-use Rattle.range_walk.proofs.Laws.{analysis_sound}
+use Rattle.interval_walk.specs.Admission.{AllAdmitted, AreAdmitted}
+use Rattle.interval_walk.specs.Soundness.{RunHolds, AreOutputs}
+use Rattle.interval_walk.proofs.Laws.{analysis_sound}
 use Rattle.pap_compiler.specs.Correct.{IsCodeOf, BehavesOn}
 use Rattle.pap_plan.specs.declared.refusal.PlanRefusal.{PlanRefusal}
 use Rattle.pap_plan.specs.Acceptance.{Meaning, IsAccepted}

@@ -17,7 +17,7 @@ use Rattle.limits_file.specs.declared.limits.InputLimit.{InputLimit}
 use Rattle.limits_file.specs.declared.limits.Limits.{Limits}
 use Rattle.limits_file.specs.Limits.{IsFactorLimit}
 use Rattle.pap_types.specs.Kinds.{has_few_places}
-use Rattle.range_walk.specs.Admission.{limit_named, IsWholeLimit, SuitsLimit}
+use Rattle.interval_walk.specs.Admission.{limit_named, IsWholeLimit, SuitsLimit}
 use Rattle.pap_plan.specs.Bindings.{HasSuitedLimit, IsFirstUnsuited}
 
 -- ---- whether a limit suits a type is decided

@@ -11,9 +11,9 @@ use Rattle.pap_types.specs.Checks.{IsWellTyped, type_fault}
 use Rattle.call_order.specs.declared.fault.OrderFault.{OrderFault}
 use Rattle.call_order.specs.OrderLaws.{HasOrder}
 use Rattle.call_order.specs.Faults.{IsRefused as HasOrderFault}
-use Rattle.range_walk.specs.Ranges.{Ranges}
-use Rattle.range_walk.specs.Failures.{node_fails, output_fails}
-use Rattle.range_walk.specs.Analysis.{analysed}
+use Rattle.interval_walk.specs.Ranges.{Ranges}
+use Rattle.interval_walk.specs.Failures.{node_fails, output_fails}
+use Rattle.interval_walk.specs.Analysis.{analysed}
 use Rattle.interval_analysis.specs.declared.fault.RangeFault.{RangeFault}
 use Rattle.interval_analysis.specs.declared.fault.RangeFault.TheVariants as walks
 use Rattle.plan_text.specs.declared.fault.PlanFault.TheVariants as texts

@@ -6,8 +6,8 @@ use Rattle.limits_file.specs.declared.limits.Limits.{Limits}
 use Rattle.limits_file.specs.RangeFiles.{FileSays}
 use Rattle.pap_types.specs.Meaning.{bound_of}
 use Rattle.call_order.specs.Orders.{IsOrdered}
-use Rattle.range_walk.specs.Analysis.{analysed}
-use Rattle.range_walk.specs.Admission.{HaveLimits}
+use Rattle.interval_walk.specs.Analysis.{analysed}
+use Rattle.interval_walk.specs.Admission.{HaveLimits}
 use Rattle.interval_analysis.specs.declared.verdict.Verdict.{Verdict}
 use Rattle.interval_analysis.specs.Answers.{named_range}
 use Rattle.pap_plan.specs.declared.refusal.PlanRefusal.{PlanRefusal}

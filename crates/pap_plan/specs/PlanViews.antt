@@ -7,7 +7,7 @@ use Rattle.limits_file.specs.declared.slots.Slot.{Slot}
 use Rattle.pap_machine.specs.Code.{Program}
 use Rattle.pap_types.specs.Meaning.{bound_of}
 use Rattle.pap_types.specs.Counts.{IsWithinCounts}
-use Rattle.range_walk.specs.Admission.{HaveLimits}
+use Rattle.interval_walk.specs.Admission.{HaveLimits}
 use Rattle.pap_compiler.specs.Correct.{IsCodeOf}
 use Rattle.interval_analysis.specs.declared.verdict.OutputRange.{OutputRange}
 use Rattle.pap_plan.specs.Acceptance.{IsAccepted}

@@ -5,7 +5,7 @@ use Rattle.pap_tree.specs.declared.plan.PlanText.{PlanText}
 use Rattle.pap_tree.specs.Flowchart.{Flowchart, flowchart_of}
 use Rattle.limits_file.specs.declared.limits.Limits.{Limits}
 use Rattle.pap_machine.specs.Code.{Program}
-use Rattle.range_walk.specs.Admission.{AreAdmitted}
+use Rattle.interval_walk.specs.Admission.{AreAdmitted}
 use Rattle.interval_analysis.specs.Answers.{named_range}
 use Rattle.interval_analysis.specs.declared.verdict.OutputRange.{OutputRange}
 use Rattle.pap_plan.specs.Acceptance.{Meaning}

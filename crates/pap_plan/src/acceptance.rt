@@ -1,4 +1,4 @@
-// Acceptance, stage by stage.
+//! Acceptance, stage by stage.
 ghost use Rattle.std.specs.Prelude.{IfOk, IfErr, OnOk};
 ghost use Rattle.pap_tree.specs.Flowchart.{flowchart_of};
 ghost use Rattle.call_order.specs.Orders.{IsOrdered};

@@ -1,4 +1,4 @@
-// Whether the limits and bindings of a range file are those of a plan.
+//! Whether the limits and bindings of a range file are those of a plan.
 ghost use Rattle.std.specs.Prelude.{◌≡◌, ◌↔◌, IsTrue, MatchOption};
 ghost use Rattle.std.specs.Option.{option_map};
 ghost use Rattle.std.specs.List.{All, find};
@@ -7,7 +7,7 @@ ghost use Rattle.scaled_decimal.specs.Decimals.{numerator_of};
 ghost use Rattle.scaled_decimal.specs.WholeNumbers.{IsOfBits, int_bits, long_bits};
 ghost use Rattle.pap_tree.specs.Declarations.{declaration_of};
 ghost use Rattle.pap_tree.specs.Flowchart.{flowchart_of};
-ghost use Rattle.range_walk.specs.Admission.{SuitsLimit};
+ghost use Rattle.interval_walk.specs.Admission.{SuitsLimit};
 ghost use Rattle.pap_plan.specs.Bindings.{unmatched_name, is_bound, carries_output, unbound_input, IsFirstUnsuited, HasSuitedLimit};
 ghost use Rattle.pap_plan.specs.BindingViews.{declares, without_limit, without_input};
 

@@ -1,4 +1,4 @@
-// The inputs of an accepted plan.
+//! The inputs of an accepted plan.
 ghost use Rattle.std.specs.Prelude.{◌≡◌, IfOk, None};
 ghost use Rattle.std.specs.Option.{option_map};
 ghost use Rattle.pap_tree.specs.Declarations.{declared_of, declaration_of};

@@ -1,4 +1,4 @@
-// An accepted plan.
+//! An accepted plan.
 ghost use Rattle.std.specs.Prelude.{◌≡◌, ◌≤◌, ◌+◌, ◌↔◌, IsTrue, ℕ, List, Some, IfOk, length, map};
 ghost use Rattle.scaled_decimal.specs.Decimals.{Decimal};
 ghost use Rattle.pap_compiler.specs.Correct.{IsCodeOf};
@@ -7,7 +7,7 @@ ghost use Rattle.pap_types.specs.Meaning.{IsSafeFor, outputs_of, cost_of, bound_
 ghost use Rattle.pap_plan.specs.Acceptance.{IsAccepted};
 ghost use Rattle.pap_plan.specs.Inputs.{AreSlots};
 ghost use Rattle.pap_plan.specs.Plans.{Seen, flowchart, meaning, Admits};
-ghost use Rattle.range_walk.specs.Soundness.{AreOutputs};
+ghost use Rattle.interval_walk.specs.Soundness.{AreOutputs};
 
 use interval_analysis::{OutputRange, Verdict};
 use limits_file::{Limits, Spec};

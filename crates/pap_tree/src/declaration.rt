@@ -1,4 +1,4 @@
-// What a plan declares.
+//! What a plan declares.
 
 use crate::Name;
 use scaled_decimal::Dec;

@@ -1,4 +1,4 @@
-// The tree of an expression.
+//! The tree of an expression.
 ghost use Rattle.std.specs.Prelude.{◌≡◌};
 ghost use Rattle.pap_tree.specs.Grammar.{known_value};
 

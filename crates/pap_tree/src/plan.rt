@@ -1,4 +1,4 @@
-// The statements of a plan, and the plan as it is written.
+//! The statements of a plan, and the plan as it is written.
 
 use crate::{Declared, Expr, Name};
 

@@ -1,4 +1,4 @@
-// The checks of a plan's declarations.
+//! The checks of a plan's declarations.
 ghost use Rattle.std.specs.Prelude.{◌≡◌, ◌∷◌, true, map};
 ghost use Rattle.std.specs.Option.{option_map, option_map_or};
 ghost use Rattle.pap_tree.specs.Declarations.{declared_of, declaration_of};

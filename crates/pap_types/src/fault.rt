@@ -1,4 +1,4 @@
-// Why a plan is not well typed.
+//! Why a plan is not well typed.
 
 use pap_tree::{Name, Place};
 use std::alloc::AllocError;

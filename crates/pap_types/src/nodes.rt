@@ -1,4 +1,4 @@
-// The checks of an expression's nodes, in the order of their numbers.
+//! The checks of an expression's nodes, in the order of their numbers.
 ghost use Rattle.std.specs.Prelude.{◌≡◌, ◌+◌, ◌<◌, ◌^◌};
 ghost use Rattle.pap_tree.specs.Term.{Term, term_of, leaf, named, item, one, two, choice, unary, value_of, value_of_scaled, new_big, set_scale, operator, method, divide};
 ghost use Rattle.pap_tree.specs.Numbering.{nodes};

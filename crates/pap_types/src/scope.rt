@@ -1,4 +1,4 @@
-// What the names of a plan stand for.
+//! What the names of a plan stand for.
 ghost use Rattle.std.specs.Prelude.{◌≡◌, [], slice_get};
 ghost use Rattle.std.specs.Option.{option_map};
 ghost use Rattle.pap_tree.specs.Declarations.{declaration_of};

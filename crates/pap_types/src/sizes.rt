@@ -1,4 +1,4 @@
-// How many nodes an expression has.
+//! How many nodes an expression has.
 ghost use Rattle.std.specs.Prelude.{◌≡◌, ◌+◌, ◌<◌, ◌^◌};
 ghost use Rattle.pap_tree.specs.Term.{term_of};
 ghost use Rattle.pap_tree.specs.Numbering.{nodes};

@@ -1,4 +1,4 @@
-// The checks of statements, in the order of their numbers.
+//! The checks of statements, in the order of their numbers.
 ghost use Rattle.std.specs.Prelude.{◌≡◌, ◌+◌, ◌<◌, ◌^◌, All, map};
 ghost use Rattle.pap_tree.specs.Term.{term_of};
 ghost use Rattle.pap_tree.specs.Numbering.{nodes};

@@ -1,4 +1,4 @@
-// A plan that is well typed.
+//! A plan that is well typed.
 ghost use Rattle.std.specs.Prelude.{◌≡◌, IfOk, OnOk, IfErr};
 ghost use Rattle.std.specs.Option.{option_map};
 ghost use Rattle.pap_tree.specs.Declarations.{declaration_of};

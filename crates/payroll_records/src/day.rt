@@ -1,4 +1,4 @@
-// Days of the calendar.
+//! Days of the calendar.
 ghost use Rattle.std.specs.Prelude.{◌≡◌, ◌↔◌, IsSome, IfSome};
 ghost use Rattle.payroll_records.specs.Days.{IsDay};
 

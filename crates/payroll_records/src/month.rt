@@ -1,4 +1,4 @@
-// Months of the calendar.
+//! Months of the calendar.
 ghost use Rattle.std.specs.Prelude.{◌≡◌, ◌↔◌, IsSome, IfSome, Some};
 ghost use Rattle.payroll_records.specs.Days.{AreDigits, IsMonth, spelled, two_digits};
 

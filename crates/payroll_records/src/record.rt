@@ -1,4 +1,4 @@
-// Pay runs.
+//! Pay runs.
 use crate::{Day, Employee, Values};
 
 /// What a pay run is known by: one employee has at most one run on a day. Keys are ordered by employee, then by day.

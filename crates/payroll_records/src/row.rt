@@ -1,4 +1,4 @@
-// One row of a table.
+//! One row of a table.
 ghost use Rattle.std.specs.Prelude.{◌≡◌, ◌↔◌, ◌+◌, ◌<◌, ◌^◌, ℕ, IfOk, IfErr, IsTrue, MatchOption, Some, length};
 ghost use Rattle.std.specs.List.{Contains};
 ghost use Rattle.csv.specs.Records.{fields_of};

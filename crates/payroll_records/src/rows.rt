@@ -1,4 +1,4 @@
-// The rows of a CSV text, one at a time.
+//! The rows of a CSV text, one at a time.
 ghost use Rattle.std.specs.Prelude.{◌≡◌, IfOk, Some};
 ghost use Rattle.csv.specs.Records.{fields_of};
 ghost use Rattle.payroll_records.specs.CsvRows.{csv_rows};

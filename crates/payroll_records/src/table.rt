@@ -1,4 +1,4 @@
-// Tables of pay runs.
+//! Tables of pay runs.
 ghost use Rattle.std.specs.Prelude.{◌≡◌, ◌↔◌, ◌<◌, ℕ, List, [], IfOk, IfErr, Err, MatchResult, length};
 ghost use Rattle.payroll_records.specs.Tables.{AreRecordsOf, HasOneAnswer, IsRefused, IsTable, key_of, most_bytes};
 ghost use Rattle.payroll_records.specs.RowViews.{IsBetweenRows, rows_left};

@@ -1,4 +1,4 @@
-// Words that give values.
+//! Words that give values.
 ghost use Rattle.std.specs.Prelude.{◌≡◌, ◌==◌, IfNone, IfSome, position};
 ghost use Rattle.payroll_records.specs.ValueWords.{IsValueWord};
 ghost use Rattle.payroll_records.specs.declared.values.NamedValue.{NamedValue as Value};

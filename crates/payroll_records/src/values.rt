@@ -1,4 +1,4 @@
-// Values under names.
+//! Values under names.
 ghost use Rattle.std.specs.Prelude.{◌≡◌, ◌↔◌, ◌<◌, ◌≤◌, [], length, map, IsSome, IsNone, OnOk, OnErr, IfOk, IfErr, Err, option_map};
 ghost use Rattle.std.specs.List.{insert};
 ghost use Rattle.std.specs.Rc.{rc_slice_items};

@@ -1,4 +1,4 @@
-// A month or a day, where either may be asked for.
+//! A month or a day, where either may be asked for.
 use crate::{Day, Month};
 use std::fmt;
 

@@ -1,4 +1,4 @@
-// The calendar of plans.
+//! The calendar of plans.
 ghost use Rattle.std.specs.Prelude.{◌≡◌, ◌↔◌, [], length, IfOk, IfErr, OnOk, OnErr, Err, IsNone, IsTrue, option_map};
 ghost use Rattle.rising_lists.specs.Places.{Finds, Misses};
 ghost use Rattle.payroll_records.specs.Orders.{day_cmp};

@@ -1,4 +1,4 @@
-// The declarations of a plan, with their literals.
+//! The declarations of a plan, with their literals.
 ghost use Rattle.std.specs.Prelude.{map};
 ghost use Rattle.std.specs.Option.{option_map};
 ghost use Rattle.pap_tree.specs.Declarations.{declared_of, declaration_of};

@@ -1,4 +1,4 @@
-// Why a plan's text is not read.
+//! Why a plan's text is not read.
 ghost use Rattle.std.specs.Prelude.{◌≡◌};
 ghost use Rattle.plan_text.specs.declared.fault.PlanFault.TheVariants.{Memory};
 ghost use Rattle.plan_text.specs.Views.{fault_at};

@@ -1,4 +1,4 @@
-// The plan of a file's bytes.
+//! The plan of a file's bytes.
 ghost use Rattle.std.specs.Prelude.{◌≡◌, ◌⊎◌, ℕ, List, IfOk, IfErr};
 ghost use Rattle.pap_tree.specs.Flowchart.{Flowchart, flowchart_of};
 ghost use Rattle.pap_reader.specs.Trees.{tree_of};

@@ -1,4 +1,4 @@
-// The statements of a plan, with their expressions.
+//! The statements of a plan, with their expressions.
 ghost use Rattle.std.specs.Prelude.{◌≡◌, ◌+◌, ◌<◌, ◌^◌, [], ◌∷◌, OnOk, map};
 ghost use Rattle.pap_tree.specs.Flowchart.{body_of, routine_of};
 ghost use Rattle.pap_reader.specs.Trees.{done, raw_body_of, raw_stmt_then, raw_routine_of};

@@ -24,18 +24,18 @@ use Rattle.carry_bindings.specs.declared.filling.Filled.TheVariants as filling
 use Rattle.pap_plan.specs.Acceptance.{IsAccepted}
 use Rattle.pap_plan.specs.Inputs.{AreSlots}
 use Rattle.pap_plan.specs.Plans.{Seen, flowchart, meaning}
-use Rattle.year_runs.specs.declared.outcome.Outcome.{Outcome}
-use Rattle.year_runs.specs.declared.outcome.State.{State}
-use Rattle.year_runs.specs.declared.year.Year.{Year}
-use Rattle.year_runs.specs.Records.{record_day}
-use Rattle.year_runs.specs.Runs.{filled}
-use Rattle.year_runs.specs.Rows.{Planned, Job, Row, job_of, outputs_in, row_filled, row_of, year_rows}
-use Rattle.year_runs.specs.Kept.{AreKept, job_by, kept}
-use Rattle.year_runs.specs.Years.{IsYear}
-use Rattle.year_runs.proofs.Laws.{are_slots, filled_admitted, rows_length}
-use Rattle.employee_years.specs.Books.{runs_of, year_cmp, year_of}
-use Rattle.employee_years.specs.Kept.{kept_key, runs_in}
-use Rattle.employee_years.proofs.Laws.{runs_kept, runs_missed}
+use Rattle.book_year.specs.declared.outcome.Outcome.{Outcome}
+use Rattle.book_year.specs.declared.outcome.State.{State}
+use Rattle.book_year.specs.declared.year.Year.{Year}
+use Rattle.book_year.specs.Records.{record_day}
+use Rattle.book_year.specs.Runs.{filled}
+use Rattle.book_year.specs.Rows.{Planned, Job, Row, job_of, outputs_in, row_filled, row_of, year_rows}
+use Rattle.book_year.specs.Kept.{AreKept, job_by, kept}
+use Rattle.book_year.specs.Years.{IsYear}
+use Rattle.book_year.proofs.Laws.{are_slots, filled_admitted, rows_length}
+use Rattle.book_edits.specs.Books.{runs_of, year_cmp, year_of}
+use Rattle.book_edits.specs.Kept.{kept_key, runs_in}
+use Rattle.book_edits.proofs.Laws.{runs_kept, runs_missed}
 use Rattle.recalc_engine.specs.Jobs.{HasNoOutputs}
 use Rattle.recalc_engine.specs.JobViews.{AdmitsWhatItFills, job_inputs}
 use Rattle.recalc_engine.proofs.RowLemmas.{IsRunOn, row_day, row_gap, row_here, run_on}

@@ -8,14 +8,14 @@ use Rattle.payroll_records.specs.declared.record.Record.{Record}
 use Rattle.carry_bindings.specs.declared.carried.Earlier.{Earlier}
 use Rattle.plan_calendar.specs.Picking.{Entry, pick}
 use Rattle.pap_plan.specs.Plans.{Seen}
-use Rattle.year_runs.specs.declared.outcome.Outcome.{Outcome}
-use Rattle.year_runs.specs.declared.year.Year.{Year}
-use Rattle.year_runs.specs.declared.year.YearKey.{YearKey}
-use Rattle.year_runs.specs.Rows.{Planned, row_of, rows, year_rows}
-use Rattle.year_runs.specs.Kept.{kept}
-use Rattle.year_runs.specs.Years.{IsOwn, IsYear}
-use Rattle.year_runs.proofs.Laws.{row_of_day, rows_length}
-use Rattle.employee_years.specs.Kept.{HasRuns, runs_in, runs_in_year}
+use Rattle.book_year.specs.declared.outcome.Outcome.{Outcome}
+use Rattle.book_year.specs.declared.year.Year.{Year}
+use Rattle.book_year.specs.declared.year.YearKey.{YearKey}
+use Rattle.book_year.specs.Rows.{Planned, row_of, rows, year_rows}
+use Rattle.book_year.specs.Kept.{kept}
+use Rattle.book_year.specs.Years.{IsOwn, IsYear}
+use Rattle.book_year.proofs.Laws.{row_of_day, rows_length}
+use Rattle.book_edits.specs.Kept.{HasRuns, runs_in, runs_in_year}
 use Rattle.recalc_engine.specs.declared.months.MonthRow.{MonthRow}
 use Rattle.recalc_engine.specs.MonthRows.{KeyedRow, keyed_row, keyed_rows}
 use Rattle.recalc_engine.specs.MonthViews.{kept_row, kept_rows, rows_kept, rows_kept_in, ArePaired, IsPaired}

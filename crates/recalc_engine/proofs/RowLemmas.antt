@@ -11,9 +11,9 @@ use Rattle.payroll_records.specs.declared.record.Record.{Record}
 use Rattle.payroll_records.specs.Orders.{day_cmp}
 use Rattle.payroll_records.proofs.Laws.{day_total}
 use Rattle.carry_bindings.specs.declared.carried.Earlier.{Earlier}
-use Rattle.year_runs.specs.Records.{record_day}
-use Rattle.year_runs.specs.Rows.{Planned, Row, row_of, rows, earlier_of}
-use Rattle.year_runs.proofs.Laws.{row_of_day, day_same}
+use Rattle.book_year.specs.Records.{record_day}
+use Rattle.book_year.specs.Rows.{Planned, Row, row_of, rows, earlier_of}
+use Rattle.book_year.proofs.Laws.{row_of_day, day_same}
 
 abbrev pub row_day : Row → Day
 row_day row = row.day

@@ -5,11 +5,11 @@ use Rattle.payroll_records.specs.declared.record.Key.{Key}
 use Rattle.payroll_records.specs.Orders.{day_cmp}
 use Rattle.plan_calendar.specs.Picking.{Entry, pick}
 use Rattle.pap_plan.specs.Plans.{Seen}
-use Rattle.year_runs.specs.declared.outcome.Work.{Work}
-use Rattle.year_runs.specs.Jobs.{total_cost, work_of}
-use Rattle.year_runs.specs.Rows.{Job, Row, year_rows}
-use Rattle.employee_years.specs.Books.{YearRuns, runs_of, year_of}
-use Rattle.employee_years.specs.Kept.{jobs_in}
+use Rattle.book_year.specs.declared.outcome.Work.{Work}
+use Rattle.book_year.specs.Jobs.{total_cost, work_of}
+use Rattle.book_year.specs.Rows.{Job, Row, year_rows}
+use Rattle.book_edits.specs.Books.{YearRuns, runs_of, year_of}
+use Rattle.book_edits.specs.Kept.{jobs_in}
 
 pub record Contents : Type 0 where
   pub years : List YearRuns

@@ -2,7 +2,7 @@
 use Rattle.std.specs.Prelude.{ℕ, List}
 use Rattle.payroll_records.specs.declared.record.Record.{Record}
 use Rattle.payroll_records.specs.declared.when.When.{When}
-use Rattle.employee_years.specs.Books.{changed_from, source_of, withdrawal, withdrawn_from}
+use Rattle.book_edits.specs.Books.{changed_from, source_of, withdrawal, withdrawn_from}
 use Rattle.recalc_engine.specs.Contents.{Contents, with_years}
 
 -- the book with a run in place of the one that its record means

@@ -7,10 +7,10 @@ use Rattle.payroll_records.specs.declared.values.NamedValue.{NamedValue}
 use Rattle.carry_bindings.specs.declared.carried.Earlier.{Earlier}
 use Rattle.carry_bindings.specs.declared.filling.Filled.TheVariants as filling
 use Rattle.pap_plan.specs.Plans.{Seen, Admits}
-use Rattle.year_runs.specs.declared.year.Year.{Year}
-use Rattle.year_runs.specs.Runs.{filled}
-use Rattle.year_runs.specs.Rows.{Planned, Job}
-use Rattle.year_runs.specs.Kept.{AreKept, job_by}
+use Rattle.book_year.specs.declared.year.Year.{Year}
+use Rattle.book_year.specs.Runs.{filled}
+use Rattle.book_year.specs.Rows.{Planned, Job}
+use Rattle.book_year.specs.Kept.{AreKept, job_by}
 
 -- the inputs of a job
 abbrev pub job_inputs : Job → List Decimal

@@ -3,7 +3,7 @@ use Rattle.std.specs.Prelude.{◌≡◌, Option, Some, None, ⊤}
 use Rattle.std.specs.Option.{option_and_then}
 use Rattle.payroll_records.specs.declared.record.Key.{Key}
 use Rattle.pap_plan.specs.Plans.{Admits}
-use Rattle.year_runs.specs.Rows.{Job, Row, outputs_in}
+use Rattle.book_year.specs.Rows.{Job, Row, outputs_in}
 use Rattle.recalc_engine.specs.declared.job.Job.{Job as LentJob}
 use Rattle.recalc_engine.specs.Contents.{Contents, row_at}
 

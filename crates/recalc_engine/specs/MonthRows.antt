@@ -4,10 +4,10 @@ use Rattle.std.specs.List.{flat_map}
 use Rattle.payroll_records.specs.declared.day.Day.{Day}
 use Rattle.payroll_records.specs.declared.record.Key.{Key}
 use Rattle.plan_calendar.specs.Picking.{pick}
-use Rattle.year_runs.specs.declared.outcome.State.{State}
-use Rattle.year_runs.specs.declared.year.YearKey.{YearKey}
-use Rattle.year_runs.specs.Rows.{Planned, Row, year_rows}
-use Rattle.employee_years.specs.Books.{YearRuns}
+use Rattle.book_year.specs.declared.outcome.State.{State}
+use Rattle.book_year.specs.declared.year.YearKey.{YearKey}
+use Rattle.book_year.specs.Rows.{Planned, Row, year_rows}
+use Rattle.book_edits.specs.Books.{YearRuns}
 use Rattle.recalc_engine.specs.Contents.{Contents}
 
 -- a run with its key: the day from which its plan holds, where it has one, and its state

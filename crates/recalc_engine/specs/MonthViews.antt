@@ -3,8 +3,8 @@ use Rattle.std.specs.Prelude.{◌≡◌, ◌<◌, List, [], ◌∷◌, length}
 use Rattle.std.specs.List.{AllByRecursion, flat_map}
 use Rattle.payroll_records.specs.declared.record.Record.{Record}
 use Rattle.payroll_records.specs.Tables.{key_of}
-use Rattle.year_runs.specs.declared.outcome.Outcome.{Outcome}
-use Rattle.year_runs.specs.declared.year.Year.{Year}
+use Rattle.book_year.specs.declared.outcome.Outcome.{Outcome}
+use Rattle.book_year.specs.declared.year.Year.{Year}
 use Rattle.recalc_engine.specs.MonthRows.{KeyedRow}
 
 -- a record with what is kept of its run

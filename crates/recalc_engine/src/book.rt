@@ -2,11 +2,11 @@
 ghost use Rattle.std.specs.Prelude.{◌≡◌, [], IfOk, IfErr, OnErr, IfSome, IfNone, IsSome, option_map};
 ghost use Rattle.std.specs.Option.{option_copied};
 ghost use Rattle.plan_calendar.specs.Picking.{entry_at, with_entry, without_day};
-ghost use Rattle.employee_years.specs.Books.{added, in_month, loaded, run_at, source_of, withdrawal};
-ghost use Rattle.employee_years.specs.Refusals.{CanAdd, CountsEdit, IsAddRefused, IsChangeRefused};
-ghost use Rattle.employee_years.specs.Refusals.{IsOne, IsWithdrawRefused};
-ghost use Rattle.plan_edits.specs.Replans.{IsDropRefused, IsFull, IsPutRefused};
-ghost use Rattle.table_loads.specs.Loads.{AreDistinct, CanLoad, IsLoadRefused};
+ghost use Rattle.book_edits.specs.Books.{added, in_month, loaded, run_at, source_of, withdrawal};
+ghost use Rattle.book_edits.specs.Refusals.{CanAdd, CountsEdit, IsAddRefused, IsChangeRefused};
+ghost use Rattle.book_edits.specs.Refusals.{IsOne, IsWithdrawRefused};
+ghost use Rattle.book_edits.specs.Replans.{IsDropRefused, IsFull, IsPutRefused};
+ghost use Rattle.book_loads.specs.Loads.{AreDistinct, CanLoad, IsLoadRefused};
 ghost use Rattle.recalc_engine.specs.Contents.{IsEdit, cost_between, row_at, with_plans, with_years};
 ghost use Rattle.recalc_engine.specs.Edits.{with_change, with_withdrawal};
 ghost use Rattle.recalc_engine.specs.MonthRows.{month_rows};
@@ -14,17 +14,16 @@ ghost use Rattle.recalc_engine.specs.Jobs.{AdmitsInputs, HasNoOutputs, job_of_ke
 
 use crate::job::{Job, inputs_on, job_of, year_at};
 use crate::months::Months;
-use employee_years::{EditRefusal, InMonth, Years};
+use book_edits::{EditRefusal, InMonth, Years, drop_plan, put_plan};
+use book_loads::load;
+use book_year::{Work, YearKey};
 use pap_plan::Plan;
 use payroll_records::{Day, Employee, Key, Month, Record, When};
 use plan_calendar::Calendar;
-use plan_edits::{drop_plan, put_plan};
 use std::alloc::Global;
 use std::marker::Model;
 use std::sync::ledger::Ledger;
 use steps::Steps;
-use table_loads::load;
-use year_runs::{Work, YearKey};
 
 /// Pay runs by employee and day, plans by day, and what each run came to.
 #[derive(Drop)]
@@ -38,7 +37,7 @@ impl Model for Book {
     ghost use Rattle.std.specs.Coded.{codes};
     ghost use Rattle.pap_tree.specs.contracts.plan.Stmt as statement;
     ghost use Rattle.pap_tree.specs.contracts.expression.Expr as expression;
-    ghost use Rattle.employee_years.specs.Kept.{AreYears, years_of};
+    ghost use Rattle.book_edits.specs.Kept.{AreYears, years_of};
     ghost use Rattle.recalc_engine.specs.Contents.{Contents};
 
     ghost Value = { Contents };

@@ -5,15 +5,15 @@ ghost use Rattle.scaled_decimal.specs.Limits.{IsKept};
 ghost use Rattle.rising_lists.specs.Keyed.{at_key, IsRising};
 ghost use Rattle.rising_lists.specs.Places.{Finds, IsAt, IsGap, Misses};
 ghost use Rattle.payroll_records.specs.Orders.{day_cmp};
-ghost use Rattle.year_runs.specs.Records.{record_day};
-ghost use Rattle.employee_years.specs.Books.{year_cmp};
-ghost use Rattle.employee_years.specs.Kept.{kept_key};
+ghost use Rattle.book_year.specs.Records.{record_day};
+ghost use Rattle.book_edits.specs.Books.{year_cmp};
+ghost use Rattle.book_edits.specs.Kept.{kept_key};
 ghost use Rattle.recalc_engine.specs.JobViews.{AdmitsWhatItFills, HasInputsOf};
 
+use book_year::{Year, YearKey};
 use pap_plan::Plan;
 use payroll_records::{Day, Record};
 use scaled_decimal::Dec;
-use year_runs::{Year, YearKey};
 
 /// What a run ran: its plan and its inputs.
 #[derive(Clone, Copy)]

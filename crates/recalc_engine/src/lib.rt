@@ -7,7 +7,7 @@ mod job;
 mod months;
 
 pub use book::Book;
-pub use employee_years::{EditRefusal, InMonth};
+pub use book_edits::{EditRefusal, InMonth};
+pub use book_year::{State, Work};
 pub use job::Job;
 pub use months::{MonthRow, Months};
-pub use year_runs::{State, Work};

@@ -4,9 +4,9 @@ ghost use Rattle.std.specs.Iterator.{YieldsFirstBy, item_count};
 ghost use Rattle.recalc_engine.specs.MonthViews.{ArePaired, IsPaired, rows_kept, rows_kept_in};
 ghost use Rattle.recalc_engine.specs.RowViews.{lent_row};
 
+use book_year::{Outcome, State, Year};
 use payroll_records::{Day, Key, Record};
 use std::marker::Model;
-use year_runs::{Outcome, State, Year};
 
 /// A run of a book.
 #[derive(Clone, Copy)]

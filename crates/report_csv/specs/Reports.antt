@@ -7,8 +7,8 @@ use Rattle.payroll_records.specs.declared.values.NamedValue.{NamedValue}
 use Rattle.payroll_records.specs.Days.{day_text, month_text}
 use Rattle.carry_bindings.specs.declared.filling.Blocked.{Blocked}
 use Rattle.carry_bindings.specs.declared.filling.Blocked.TheVariants as blocked
-use Rattle.year_runs.specs.declared.outcome.State.{State}
-use Rattle.year_runs.specs.declared.outcome.State.TheVariants as state
+use Rattle.book_year.specs.declared.outcome.State.{State}
+use Rattle.book_year.specs.declared.outcome.State.TheVariants as state
 
 abbrev pub Text : Type 0
 Text = List ℕ

@@ -6,10 +6,10 @@ ghost use Rattle.report_csv.specs.Reports.{rows_text, run_text, state_rows};
 use crate::front::Front;
 use crate::rows::Rows;
 use crate::texts::{day_text, number_text};
+use book_year::State;
 use carry_bindings::Blocked;
 use payroll_records::{Day, Key, NamedValue};
 use std::alloc::{AllocError, Global};
-use year_runs::State;
 
 /// The first row of a report.
 pub(crate) fn header_text(alloc: Global) -> Result<Vec<u8>, AllocError>

@@ -1,3 +1,4 @@
+//! Comparing decimals by value.
 ghost use Rattle.std.specs.Prelude.{◌≡◌, ◌≤◌, ◌↔◌, IsTrue, ◌*ℤ◌};
 ghost use Rattle.std.specs.Ordering.{int_cmp};
 ghost use Rattle.scaled_decimal.specs.Decimals.{ten_to, comparison, lesser, greater, value_order};

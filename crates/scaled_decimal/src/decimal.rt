@@ -1,3 +1,4 @@
+//! Decimals and their operations.
 ghost use Rattle.std.specs.Prelude.{◌≡◌, ◌≢◌, ◌-◌, ◌≤◌, pos, ◌*ℤ◌};
 ghost use Rattle.scaled_decimal.specs.Decimals.{decimal, numerator_of, scale_of, numerator_at, greater_scale, ten_to, sum, difference, product, negated, magnitude, IsRescaled, IsQuotient};
 ghost use Rattle.scaled_decimal.specs.Limits.{IsWithinLimit, most_places};

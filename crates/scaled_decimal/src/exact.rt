@@ -1,3 +1,4 @@
+//! Exact division by a plain divisor.
 ghost use Rattle.std.specs.Prelude.{◌≤◌, ◌↔◌, IsTrue, pos, ◌<ℤ◌};
 ghost use Rattle.scaled_decimal.specs.Decimals.{decimal};
 ghost use Rattle.scaled_decimal.specs.ExactQuotients.{Divides, IsPlainDivisor, IsExactQuotient};

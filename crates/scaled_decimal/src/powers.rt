@@ -1,3 +1,4 @@
+//! Powers of ten.
 ghost use Rattle.std.specs.Prelude.{◌≡◌, pos, ◌<ℤ◌};
 ghost use Rattle.scaled_decimal.specs.Decimals.{ten_to};
 ghost use Rattle.scaled_decimal.specs.Limits.{IsWithinLimit};

@@ -1,3 +1,4 @@
+//! Rounding a quotient to a whole number.
 ghost use Rattle.std.specs.Prelude.{◌≡◌, ◌≢◌, ◌≤◌, pos, ◌<ℤ◌, int_div};
 ghost use Rattle.scaled_decimal.specs.Rounding.{Rounds, RoundsPositive, EachQuotientHasOneRounding};
 ghost use Rattle.scaled_decimal.specs.RoundingDecision.{moves_away};

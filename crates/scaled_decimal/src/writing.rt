@@ -1,3 +1,4 @@
+//! Writing a decimal as its plain text.
 ghost use Rattle.std.specs.Prelude.{◌≡◌, ◌+◌, ◌/◌, ◌^◌, ◌<◌, ◌≤◌, List, [], ◌∷◌, ◌++◌, length, OnOk, OnErr};
 ghost use Rattle.scaled_decimal.specs.NumberTexts.{sign_text, point_text};
 ghost use Rattle.scaled_decimal.specs.PlainTexts.{EachPlainTextSpellsItsDecimal, plain_text, whole_text, last_digits};

@@ -1,4 +1,4 @@
-// Commands of a script.
+//! Commands of a script.
 use payroll_records::{Day, Employee, Record, When};
 
 /// What a line of a script asks for.

@@ -1,4 +1,4 @@
-// Why a line is refused.
+//! Why a line is refused.
 ghost use Rattle.std.specs.Prelude.{◌≡◌};
 ghost use Rattle.script_lang.specs.declared.fault.LineFault.TheVariants.{Memory};
 

@@ -1,4 +1,4 @@
-// A line of a script.
+//! A line of a script.
 ghost use Rattle.std.specs.Prelude.{◌≡◌, ◌↔◌, ◌<◌, ◌∷◌, codes, IfErr, IfOk, IsTrue, MatchResult, length, slice_index};
 ghost use Rattle.payroll_records.specs.Tables.{Text};
 ghost use Rattle.script_lang.specs.Commands.{asked_of};

@@ -1,4 +1,4 @@
-// The words of a pay run: an employee, a month and a day, and values.
+//! The words of a pay run: an employee, a month and a day, and values.
 ghost use Rattle.std.specs.Prelude.{◌≡◌, ◌≤◌, [], ◌∷◌, IfErr, IfOk, IsTrue, MatchResult, length};
 ghost use Rattle.payroll_records.specs.Days.{IsMonthText};
 ghost use Rattle.payroll_records.specs.Employees.{is_employee};

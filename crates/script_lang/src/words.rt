@@ -1,4 +1,4 @@
-// The words of a line.
+//! The words of a line.
 ghost use Rattle.std.specs.Prelude.{◌≡◌, ◌≢◌, false, IfOk, IsTrue, MatchOption};
 ghost use Rattle.std.specs.List.{list_all};
 ghost use Rattle.script_lang.specs.Lines as lines;

@@ -1,6 +1,6 @@
-// A book under the lines of a script: what each line answers.
+//! A book under the lines of a script: what each line answers.
 ghost use Rattle.std.specs.Prelude.{◌≡◌, IfOk};
-ghost use Rattle.table_loads.specs.Loads.{AreDistinct};
+ghost use Rattle.book_loads.specs.Loads.{AreDistinct};
 
 use crate::answers::{one_line, sides};
 use outside::MemSink;

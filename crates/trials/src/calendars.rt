@@ -1,4 +1,4 @@
-// The calendar of plans: which plan a day has, and what puts and drops make of it.
+//! The calendar of plans: which plan a day has, and what puts and drops make of it.
 use payroll_records::Day;
 use plan_calendar::{Calendar, PutRefusal};
 use std::test::Fail;

@@ -1,4 +1,4 @@
-// The counter of steps: made from a blank, counted in a loop, and without a byte of its own.
+//! The counter of steps: made from a blank, counted in a loop, and without a byte of its own.
 ghost use Rattle.std.specs.Prelude.{◌≡◌, ◌+◌, ◌*◌, length};
 
 use std::marker::Brand;

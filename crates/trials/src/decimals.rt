@@ -1,4 +1,4 @@
-// Decimals: the roundings as documented, the operations, the texts.
+//! Decimals: the roundings as documented, the operations, the texts.
 ghost use Rattle.std.specs.Prelude.{◌≢◌, pos, negsuc};
 ghost use Rattle.scaled_decimal.specs.Rounding.{IsNear};
 

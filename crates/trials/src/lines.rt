@@ -1,4 +1,4 @@
-// Lines of a script: what each asks for, or why it is refused.
+//! Lines of a script: what each asks for, or why it is refused.
 use crate::answers::sides;
 use payroll_records::Record;
 use script_lang::{Command, LineFault, read_line};

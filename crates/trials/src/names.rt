@@ -1,4 +1,4 @@
-// Names, short texts, and places as they are printed.
+//! Names, short texts, and places as they are printed.
 use crate::answers::sides;
 use pap_tree::{Name, Place, ShortText, is_white};
 use std::test::Fail;

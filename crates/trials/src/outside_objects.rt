@@ -1,4 +1,4 @@
-// The objects of the outside: each public call once with ample memory, and the calls that fail.
+//! The objects of the outside: each public call once with ample memory, and the calls that fail.
 ghost use Rattle.std.specs.Prelude.{◌≡◌, ◌≢◌, AllPairs, IfOk, IsErrOf, IsSome, Some, codes};
 ghost use Rattle.outside.specs.Memory.{named_files, file_named};
 ghost use Rattle.outside.specs.Sure.{sure_files};

@@ -1,4 +1,4 @@
-// Range files: texts with their limits, and texts with each fault.
+//! Range files: texts with their limits, and texts with each fault.
 use crate::answers::sides;
 use limits_file::{Carry, InputLimit, LimitsFault, read_limits};
 use pap_tree::Name;

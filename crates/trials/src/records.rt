@@ -1,4 +1,4 @@
-// Pay runs: days against the calendar, records, and tables with their first fault.
+//! Pay runs: days against the calendar, records, and tables with their first fault.
 use crate::answers::sides;
 use jiff::civil::Date;
 use pap_tree::Name;

@@ -1,4 +1,4 @@
-// The tokens of expression texts.
+//! The tokens of expression texts.
 
 use expr_tokens::{Placed, Token, read_tokens};
 use std::alloc::AllocError;

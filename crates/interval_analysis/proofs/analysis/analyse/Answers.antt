@@ -2,7 +2,7 @@ use Rattle.std.proofs.Common.{◌≤◌, map, sym, subst}
 use Rattle.pap_tree.specs.Flowchart.{flowchart_of}
 use Rattle.pap_types.specs.Meaning.{cost_of}
 use Rattle.pap_types.proofs.Laws.{cost_at_most}
-use Rattle.range_walk.proofs.Laws.{analysis_sound}
+use Rattle.interval_walk.proofs.Laws.{analysis_sound}
 use Rattle.interval_analysis.specs.Answers.{named_range}
 use Rattle.interval_analysis.proofs.analysis.analyse.Goals as goal
 

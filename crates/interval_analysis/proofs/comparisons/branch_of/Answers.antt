@@ -1,6 +1,6 @@
 use Rattle.std.proofs.Common.{sym, ap, ◌∙◌}
 use Rattle.pap_tree.specs.Term.{term_of}
-use Rattle.range_walk.specs.Branches.{narrowed}
+use Rattle.interval_walk.specs.Branches.{narrowed}
 use Rattle.interval_analysis.specs.Changes.{changed}
 use Rattle.interval_analysis.specs.PlanViews.{ranges_in, ranges_after}
 use Rattle.interval_analysis.proofs.PartLemmas.{second_narrows}

@@ -7,7 +7,7 @@ use Rattle.interval_analysis.specs.ComparisonViews.{CanRefine}
 use Rattle.interval_analysis.proofs.NarrowLemmas.{can_refine, range_after, put_after, narrowed_none, narrowed_some}
 use Rattle.interval_analysis.proofs.comparisons.narrow.Goals as goal
 use Rattle.interval_analysis.proofs.comparisons.narrow.Goals.{After-range_now-now}
-use Rattle.range_walk.specs.Ranges.{range_named}
+use Rattle.interval_walk.specs.Ranges.{range_named}
 
 pub returns-in_default-variable : goal.returns-in_default-variable
 returns-in_default-variable c =

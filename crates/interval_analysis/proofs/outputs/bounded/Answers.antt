@@ -1,8 +1,8 @@
 use Rattle.std.proofs.Common.{[], ◌∷◌, map, get_or, sym, ap, ◌∙◌, arith}
 use Rattle.interval_num.specs.Intervals.{Interval}
-use Rattle.range_walk.specs.Ranges.{NamedRange}
+use Rattle.interval_walk.specs.Ranges.{NamedRange}
 use Rattle.std.proofs.lemmas.List.{map-append}
-use Rattle.range_walk.specs.Analysis.{is_bounded}
+use Rattle.interval_walk.specs.Analysis.{is_bounded}
 use Rattle.interval_analysis.specs.Answers.{named_range}
 use Rattle.interval_analysis.proofs.OutputLemmas.{stops, goes_on, one_more, all_bounded}
 use Rattle.interval_analysis.proofs.outputs.bounded.Goals as goal

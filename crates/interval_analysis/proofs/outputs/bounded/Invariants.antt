@@ -1,6 +1,6 @@
 use Rattle.std.proofs.Common.{◌≡◌, take, drop, map, not}
 use Rattle.std.specs.List.{find}
-use Rattle.range_walk.specs.Analysis.{is_bounded}
+use Rattle.interval_walk.specs.Analysis.{is_bounded}
 use Rattle.interval_analysis.specs.PlanViews.{with_names}
 use Rattle.interval_analysis.specs.Answers.{named_range}
 use Rattle.interval_analysis.specs.OutputViews.{output_names}

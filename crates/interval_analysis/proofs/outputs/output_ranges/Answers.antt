@@ -1,5 +1,5 @@
 use Rattle.std.proofs.Common.{◌≡◌, ◌+◌, ◌-◌, length, take, drop, sym, ap, ap₂, ◌∙◌, subst, arith}
-use Rattle.range_walk.specs.Analysis.{unless_unbounded}
+use Rattle.interval_walk.specs.Analysis.{unless_unbounded}
 use Rattle.interval_analysis.specs.PlanViews.{with_names}
 use Rattle.interval_analysis.specs.OutputViews.{OutputAnswer, output_names}
 use Rattle.interval_analysis.proofs.OutputLemmas.{output_part}

@@ -1,5 +1,5 @@
 use Rattle.std.proofs.Common.{subst}
-use Rattle.range_walk.specs.Admission.{SuitsLimit}
+use Rattle.interval_walk.specs.Admission.{SuitsLimit}
 use Rattle.interval_analysis.proofs.StartLemmas.{spans_plain, spans_factor}
 use Rattle.interval_analysis.proofs.start.limit_range.Goals as goal
 

@@ -1,5 +1,5 @@
 use Rattle.pap_types.specs.Typing.{HasItsType}
-use Rattle.range_walk.specs.Admission.{HasLimit}
+use Rattle.interval_walk.specs.Admission.{HasLimit}
 use Rattle.interval_analysis.proofs.StartLemmas.{declared_there}
 use Rattle.interval_analysis.proofs.start.push_limited.Goals as goal
 

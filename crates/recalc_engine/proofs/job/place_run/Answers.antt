@@ -3,7 +3,7 @@ use Rattle.std.proofs.lemmas.List.Sorted.{answers_always}
 use Rattle.rising_lists.proofs.Laws.{searched}
 use Rattle.payroll_records.specs.Orders.{day_cmp}
 use Rattle.payroll_records.proofs.Laws.{day_total}
-use Rattle.year_runs.specs.Records.{record_day}
+use Rattle.book_year.specs.Records.{record_day}
 use Rattle.recalc_engine.proofs.job.place_run.Goals as goal
 
 pub returns : goal.returns

@@ -1,9 +1,9 @@
 use Rattle.std.proofs.Common.{rules}
 use Rattle.std.proofs.lemmas.List.Sorted.{answers_always}
 use Rattle.rising_lists.proofs.Laws.{found}
-use Rattle.employee_years.specs.Books.{year_cmp}
-use Rattle.employee_years.specs.Kept.{kept_key}
-use Rattle.employee_years.proofs.Laws.{year_total}
+use Rattle.book_edits.specs.Books.{year_cmp}
+use Rattle.book_edits.specs.Kept.{kept_key}
+use Rattle.book_edits.proofs.Laws.{year_total}
 use Rattle.recalc_engine.proofs.job.place_year.Goals as goal
 
 pub returns : goal.returns

@@ -3,16 +3,16 @@ use Rattle.scaled_decimal.specs.Decimals.{decimal}
 use Rattle.pap_tree.specs.Term.{term_of, unary}
 use Rattle.pap_types.specs.Kinds.{kind_of, kind_of_one, kind_of_operator}
 use Rattle.pap_types.specs.Safety.{bits_of}
-use Rattle.range_walk.specs.Branches.{signs_where}
+use Rattle.interval_walk.specs.Branches.{signs_where}
 use Rattle.std.specs.Int.{w32}
 use Rattle.std.proofs.lemmas.Int.{to_z-of_z}
-use Rattle.range_walk.specs.Failures.{at_node}
-use Rattle.range_walk.specs.NodeRanges.{read_range}
-use Rattle.range_walk.specs.Ranged.{tested}
-use Rattle.range_walk.specs.Ranges.{single}
-use Rattle.range_walk.specs.Shapes.{HasShape}
+use Rattle.interval_walk.specs.Failures.{at_node}
+use Rattle.interval_walk.specs.NodeRanges.{read_range}
+use Rattle.interval_walk.specs.Ranged.{tested}
+use Rattle.interval_walk.specs.Ranges.{single}
+use Rattle.interval_walk.specs.Shapes.{HasShape}
 use Rattle.pap_types.specs.declared.kinds.NodeKind.TheVariants.{Int}
-use Rattle.range_walk.proofs.Laws.{ranged_shape, passed_node, compared_aligned, comparison_row_aligned}
+use Rattle.interval_walk.proofs.Laws.{ranged_shape, passed_node, compared_aligned, comparison_row_aligned}
 use Rattle.interval_analysis.specs.PlanViews.{scope_in, ranges_in}
 use Rattle.interval_analysis.specs.OperationViews.{TakesUnary, TakesWholes}
 use Rattle.interval_analysis.specs.ComparisonViews.{branches_in}

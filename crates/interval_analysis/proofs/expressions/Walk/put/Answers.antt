@@ -1,7 +1,7 @@
 use Rattle.std.proofs.Common.{sym, ap, ◌∙◌}
 use Rattle.std.specs.Option.{option_map_or}
 use Rattle.pap_tree.specs.Declarations.{declaration_of}
-use Rattle.range_walk.specs.Walked.{range_kept_as}
+use Rattle.interval_walk.specs.Walked.{range_kept_as}
 use Rattle.interval_analysis.specs.PlanViews.{scope_in}
 use Rattle.interval_analysis.proofs.KeptLemmas.{variable_of, put_kept, put_nothing}
 use Rattle.interval_analysis.proofs.expressions.Walk.put.Goals as goal

@@ -1,4 +1,4 @@
-use Rattle.employee_years.proofs.Laws.{kept_in_order}
+use Rattle.book_edits.proofs.Laws.{kept_in_order}
 use Rattle.recalc_engine.proofs.book.Book.find.Goals as goal
 
 pub find-requires : goal.find-requires

@@ -1,4 +1,4 @@
-use Rattle.employee_years.proofs.Laws.{kept_in_order}
+use Rattle.book_edits.proofs.Laws.{kept_in_order}
 use Rattle.recalc_engine.proofs.book.Book.in_month.Goals as goal
 
 pub in_month-requires : goal.in_month-requires

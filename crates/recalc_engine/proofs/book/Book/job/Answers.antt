@@ -1,7 +1,7 @@
 use Rattle.std.proofs.Common.{◌≡◌, Some, sym, ap, subst, ◌∙◌}
 use Rattle.plan_calendar.specs.Picking.{pick}
-use Rattle.year_runs.specs.Rows.{job_of}
-use Rattle.year_runs.specs.Kept.{job_by}
+use Rattle.book_year.specs.Rows.{job_of}
+use Rattle.book_year.specs.Kept.{job_by}
 use Rattle.recalc_engine.specs.Jobs.{HasNoOutputs, lent_job}
 use Rattle.recalc_engine.proofs.JobLemmas.{job_of_row, no_year, year_row, year_is, no_job, none_on, job_is, has_plan}
 use Rattle.recalc_engine.proofs.MonthLemmas.{year_paired}

@@ -1,0 +1,16 @@
+//! The runs of a book by employee and calendar year: what stands at a key, and the edits of its runs and of its plans, each of
+//! which runs exactly the runs whose job is new.
+#![tactic(auto)]
+
+mod edits;
+mod in_month;
+mod places;
+mod plans;
+mod redone;
+mod refusal;
+mod years;
+
+pub use in_month::InMonth;
+pub use plans::{drop_plan, put_plan};
+pub use refusal::EditRefusal;
+pub use years::{Years, years_laws};

@@ -1,0 +1,71 @@
+//! Loading many runs.
+ghost use Rattle.std.specs.Prelude.{◌≡◌, ◌≤◌, IfOk, IfErr, OnErr, length};
+ghost use Rattle.book_year.specs.Jobs.{Counts};
+ghost use Rattle.book_edits.specs.Books.{loaded};
+ghost use Rattle.book_edits.specs.Kept.{AreSameYears, AreYears, IsYearsEdit, edit_cost, runs_in, years_of};
+ghost use Rattle.book_edits.specs.Refusals.{CountsEdit};
+ghost use Rattle.book_edits.specs.Views.{AreKeptYears, IsListEdit, list_cost};
+ghost use Rattle.book_loads.specs.Loads.{AreDistinct, CanLoad, IsLoadRefused};
+
+use crate::drafts::draft_all;
+use crate::groups::grouped;
+use crate::merge::merged;
+use crate::refused::refused;
+use book_edits::{EditRefusal, Years};
+use book_year::{Work, Year};
+use pap_plan::Plan;
+use payroll_records::Record;
+use plan_calendar::Calendar;
+use std::alloc::AllocError;
+use std::mem;
+use std::sync::ledger::Ledger;
+use steps::Steps;
+
+/// Puts all these runs into the book, or none of them.
+pub fn load<L: Ledger>(
+    plans: &Calendar<Plan>,
+    years: &mut Years,
+    items: Vec<Record>,
+    steps: &mut Steps<L>,
+) -> Result<Work, EditRefusal>
+    requires years { AreYears plans.now years.old }
+    requires distinct { AreDistinct items.items }
+    ensures ok { IfOk result
+        (IsYearsEdit plans.now years.old years.new (loaded items.items (years_of years.old))) }
+    ensures can { IfOk result (λ _. CanLoad (years_of years.old) items.items) }
+    ensures err { OnErr result (AreSameYears plans.now years.old years.new) }
+    ensures refused { IfErr result (IsLoadRefused (years_of years.old) items.items) }
+    ensures counted { CountsEdit result steps.old steps.new
+        (edit_cost plans.now years.old (loaded items.items (years_of years.old))) }
+{
+    refused(years, items.as_slice())?;
+    let count = years.count + items.len();
+    let work = load_runs(plans, &mut years.list, items, steps)?;
+    years.count = count;
+    Ok(work)
+}
+
+/// Puts all these runs into the years. Without memory the years are as before.
+fn load_runs<L: Ledger>(
+    plans: &Calendar<Plan>,
+    list: &mut Vec<Year>,
+    items: Vec<Record>,
+    steps: &mut Steps<L>,
+) -> Result<Work, AllocError>
+    requires kept { AreKeptYears plans.now list.old.items }
+    requires distinct { AreDistinct items.items }
+    requires few { length items.items ≤ 50000 }
+    ensures ok { IfOk result (IsListEdit plans.now list.old.items list.new.items
+        (loaded items.items (runs_in list.old.items))) }
+    ensures err { OnErr result (list.new.items ≡ list.old.items) }
+    ensures counted { Counts result steps.old steps.new
+        (list_cost plans.now list.old.items (loaded items.items (runs_in list.old.items))) }
+{
+    let alloc = *list.allocator();
+    let groups = grouped(alloc, items)?;
+    let done = draft_all(alloc, plans, list.as_slice(), groups, steps)?;
+    let room = Vec::with_capacity(alloc, list.len() + done.drafts.len())?;
+    let olds = mem::replace(list, Vec::new(alloc));
+    *list = merged(alloc, olds, done.drafts, room);
+    Ok(done.work)
+}

@@ -1,0 +1,44 @@
+//! What stands against a load.
+ghost use Rattle.std.specs.Prelude.{◌≡◌, ◌≤◌, IfOk, IfErr};
+ghost use Rattle.book_edits.specs.Books.{AreInOrder, run_count};
+ghost use Rattle.book_edits.specs.Kept.{years_of};
+ghost use Rattle.book_edits.specs.Refusals.{most_records};
+ghost use Rattle.std.specs.List.{AllByRecursion};
+ghost use Rattle.book_loads.specs.Loads.{CanLoad, IsFree, IsLoadRefused};
+
+use crate::groups::key_of;
+use book_edits::{EditRefusal, Years};
+use payroll_records::Record;
+
+/// The most runs that all employees may have together.
+const MOST_RECORDS: usize = 50_000;
+
+/// Whether a run stands at the key of one of the records, or there is no room for all of them.
+pub(crate) fn refused(years: &Years, items: &[Record]) -> Result<(), EditRefusal>
+    requires order { AreInOrder (years_of years.now) }
+    requires count { years.now.count ≡ run_count (years_of years.now) }
+    requires few { years.now.count ≤ most_records }
+    ensures ok { IfOk result (λ _. CanLoad (years_of years.now) items.now) }
+    ensures err { IfErr result (IsLoadRefused (years_of years.now) items.now) }
+{
+    present(years, items)?;
+    if MOST_RECORDS - years.count < items.len() {
+        return Err(EditRefusal::Records);
+    }
+    Ok(())
+}
+
+/// Refuses the first record at whose key a run stands.
+fn present(years: &Years, items: &[Record]) -> Result<(), EditRefusal>
+    requires { AreInOrder (years_of years.now) }
+    ensures ok { IfOk result (λ _. AllByRecursion (IsFree (years_of years.now)) items.now) }
+    ensures err { IfErr result (IsLoadRefused (years_of years.now) items.now) }
+{
+    for item in items {
+        let key = key_of(item);
+        if years.find(&key).is_some() {
+            return Err(EditRefusal::Present { key });
+        }
+    }
+    Ok(())
+}

@@ -1,0 +1,16 @@
+-- The laws that other crates may cite.
+-- A year's runs: those of a front of its records are a front of its runs; so of the new jobs and of their cost.
+pub use Rattle.book_year.proofs.RowLemmas.{rows_append, rows_more, new_jobs_append, total_append, total_front, row_of_day}
+-- One row for each record.
+pub use Rattle.book_year.proofs.OldLemmas.{rows_length}
+-- Days that tie are one day; a year has at most 366 runs.
+pub use Rattle.book_year.proofs.DayLemmas.{day_same}
+pub use Rattle.book_year.proofs.YearLemmas.{own_few}
+-- An edit of a year's records keeps their order and what holds of each.
+pub use Rattle.book_year.proofs.RecordLemmas.{rising_put, rising_without, all_put, all_without}
+-- Inputs that are filled are admitted.
+pub use Rattle.book_year.proofs.AdmissionLemmas.{suits_kinds, filled_admitted}
+-- The inputs of an accepted plan are those of its declarations; plans that mean the same have the same outputs.
+pub use Rattle.book_year.proofs.RunLemmas.{are_slots, same_outputs}
+-- A year that stays has no new jobs; plans that agree on a year's days give the same runs, whose days rise.
+pub use Rattle.book_year.proofs.QuietLemmas.{year_quiet, rows_agree, rows_rising}

@@ -1,0 +1,26 @@
+use Rattle.std.proofs.Common.{◌≡◌, length, ap, ◌∙◌, arith}
+use Rattle.std.proofs.lemmas.List.{length-map}
+use Rattle.book_year.specs.Records.{records_of, put_run}
+use Rattle.book_year.specs.Years.{IsOwn}
+use Rattle.book_year.proofs.RecordLemmas.{now_of, rising_put, all_put}
+use Rattle.book_year.proofs.YearLemmas.{own_few, computed_done, computed_counted}
+use Rattle.book_year.proofs.year.computed_with.Goals as goal
+
+pub recalculate-requires-clause-few : goal.recalculate-requires-clause-few
+recalculate-requires-clause-few g c =
+    let year = c.args.year.now in
+    let rs = year.records.items in
+    let item = c.args.item.now in
+    let runs : records_of c.as_slice-2.result.now ≡ put_run item rs = ap records_of c.as_slice-2.ensures.value ∙ c.in_ok-runs.ensures ∙ ap (put_run item) c.as_slice.ensures.value in
+    let few = own_few year.key (put_run item rs) (rising_put item rs c.requires.year.kept.rising) (all_put (IsOwn year.key) item rs c.requires.own c.requires.year.own) in
+    omega (arith, ap length runs, length-map c.as_slice-2.result.now now_of, few)
+
+pub returns-clause-done : goal.returns-clause-done
+returns-clause-done g c =
+    let runs : records_of c.as_slice-2.result.now ≡ put_run c.args.item.now c.args.year.now.records.items = ap records_of c.as_slice-2.ensures.value ∙ c.in_ok-runs.ensures ∙ ap (put_run c.args.item.now) c.as_slice.ensures.value in
+    computed_done c.args.plans.now c.args.year.now c.old_of.result.records.now c.as_slice-2.result.now (put_run c.args.item.now c.args.year.now.records.items) c.recalculate.result c.old_of.ensures.records runs c.recalculate.ensures.done
+
+pub returns-clause-counted : goal.returns-clause-counted
+returns-clause-counted g c =
+    let runs : records_of c.as_slice-2.result.now ≡ put_run c.args.item.now c.args.year.now.records.items = ap records_of c.as_slice-2.ensures.value ∙ c.in_ok-runs.ensures ∙ ap (put_run c.args.item.now) c.as_slice.ensures.value in
+    computed_counted c.args.plans.now c.args.year.now c.old_of.result.records.now c.as_slice-2.result.now (put_run c.args.item.now c.args.year.now.records.items) c.recalculate.result c.old_of.ensures.records runs c.args.steps.now c.recalculate.new.steps c.recalculate.ensures.counted

@@ -1,0 +1,114 @@
+-- What the calls along a year's runs promise.
+use Rattle.std.specs.Prelude.{ℕ, ◌≡◌, ◌*◌, ◌+◌, ◌≤◌, List, [], ◌∷◌, Option, Some, None, map, length, Result, MatchResult, ⊤}
+use Rattle.std.specs.List.{AllByRecursion}
+use Rattle.std.specs.Option.{option_map}
+use Rattle.std.specs.Borrow.{Bor}
+use Rattle.scaled_decimal.specs.Decimals.{Decimal}
+use Rattle.payroll_records.specs.declared.day.Day.{Day}
+use Rattle.payroll_records.specs.declared.record.Record.{Record}
+use Rattle.payroll_records.specs.declared.values.NamedValue.{NamedValue}
+use Rattle.plan_calendar.specs.Picking.{Entry, plan_of}
+use Rattle.carry_bindings.specs.Conditions.{AreBounded}
+use Rattle.carry_bindings.specs.declared.filling.Filled.{Filled}
+use Rattle.carry_bindings.specs.declared.filling.Filled.TheVariants as filling
+use Rattle.pap_plan.specs.Plans.{Seen, Admits}
+use Rattle.book_year.specs.declared.outcome.Outcome.{Outcome}
+use Rattle.book_year.specs.declared.run.Finished.{Finished}
+use Rattle.book_year.specs.declared.chain.Old.{Old}
+use Rattle.book_year.specs.declared.chain.OldJob.{OldJob}
+use Rattle.book_year.specs.declared.chain.Ran.{Ran}
+use Rattle.book_year.specs.declared.chain.Recalculated.{Recalculated}
+use Rattle.book_year.specs.declared.picks.Picks.{Picks}
+use Rattle.book_year.specs.Records.{records_of}
+use Rattle.book_year.specs.Runs.{run_outputs, run_cost}
+use Rattle.book_year.specs.Rows.{Planned, Job, Row, year_rows, outputs_in}
+use Rattle.book_year.specs.Jobs.{new_job, new_jobs, total_cost, work_of}
+use Rattle.book_year.specs.Kept.{IsBounded, kept, job_by}
+use Rattle.book_year.specs.Picks.{before, after}
+
+-- the most steps of a run
+abbrev pub most_steps : ℕ
+most_steps = 1000000000
+
+-- inputs that a plan admits
+abbrev pub AdmitsFilled : Seen → Filled → Type 0
+AdmitsFilled p (filling.Inputs inputs) = Admits p inputs
+AdmitsFilled p (filling.State why) = ⊤
+
+-- the inputs are these, or there are none for this cause
+pub record Fills (p : Seen) (these filled : Filled) : Type 0 where
+  pub are : filled ≡ these
+  pub admitted : AdmitsFilled p filled
+
+-- the outputs and the cost of a plan's run
+pub record HasRun (p : Seen) (inputs : List Decimal) (f : Finished) : Type 0 where
+  pub outputs : f.outputs ≡ run_outputs p inputs
+  pub cost : f.cost ≡ run_cost p inputs
+  pub bounded : AreBounded (Some f.outputs)
+  pub cheap : f.cost ≤ most_steps
+
+-- the inputs and outputs of an outcome that has both
+abbrev pub outcome_parts :
+    Option (List Decimal) → Option (List NamedValue)
+    → Option (List Decimal × List NamedValue)
+outcome_parts None outputs = None
+outcome_parts (Some inputs) None = None
+outcome_parts (Some inputs) (Some outputs) = Some (inputs, outputs)
+
+abbrev pub outcome_job : Outcome → Option (List Decimal × List NamedValue)
+outcome_job o = outcome_parts o.inputs (outputs_in o.state)
+
+abbrev pub old_parts : OldJob → List Decimal × List NamedValue
+old_parts j = (j.inputs.now, j.outputs.now)
+
+-- the job is that of the day's plan on these inputs, and these are its outputs
+pub record HasJob (was : Option (Entry Seen)) (job : Option Job) (old : OldJob) : Type 0 where
+  pub plan : Seen
+  pub is : job ≡ Some (record { plan = plan; inputs = old.inputs.now })
+  pub outputs : old.outputs.now ≡ run_outputs plan old.inputs.now
+  pub planned : option_map plan_of was ≡ Some plan
+  pub bounded : AreBounded (Some old.outputs.now)
+
+abbrev pub IsOldJob : Option (Entry Seen) → Option Job → Option OldJob → Type 0
+IsOldJob was job None = job ≡ None
+IsOldJob was job (Some old) = HasJob was job old
+
+-- the outputs are there where the job isn't new, and they are its own
+abbrev pub KeepsOutputs : List Job → Job → Option (Bor (List NamedValue)) → Type 0
+KeepsOutputs new job None = new ≡ job ∷ []
+KeepsOutputs new job (Some outputs) =
+    (new ≡ []) × (outputs.now ≡ run_outputs job.plan job.inputs) × AreBounded (Some outputs.now)
+
+-- a run came to this row, and was run where its job is new
+pub record IsRan (row : Row) (old : Option Job) (ran : Ran) : Type 0 where
+  pub outcome : ran.outcome ≡ kept row
+  pub work : ran.work ≡ work_of (new_job old row.job)
+  pub bounded : AreBounded (outputs_in row.state)
+  pub one : ran.work.runs ≤ 1
+  pub cheap : ran.work.steps ≤ most_steps
+
+-- the counter rose by the steps of the work; where memory ran out, by none
+abbrev pub CountsRun : {E : Type 0} → Result Ran E → ℕ → ℕ → Type 0
+CountsRun r before now = MatchResult r (λ ran. now ≡ before + ran.work.steps) (λ _. now ≡ before)
+
+-- a year computed anew, with the work of the jobs that aren't the old ones of their days
+pub record IsRecalculated
+    (planned : Planned) (old : Day → Option Job) (records : List Record)
+    (r : Recalculated) : Type 0 where
+  pub outcomes : r.outcomes.items ≡ map kept (year_rows planned records)
+  pub bounded : AllByRecursion IsBounded r.outcomes.items
+  pub work : r.work ≡ work_of (new_jobs old (year_rows planned records))
+  pub few : r.work.runs ≤ length records
+  pub cheap : r.work.steps ≤ length records * most_steps
+
+-- the jobs that a day had before the edit
+abbrev pub old_jobs : Picks → Old → Day → Option Job
+old_jobs picks old = job_by (before picks) old.records.now
+
+-- the cost of the new jobs of these records
+abbrev pub chain_cost : Picks → Old → List (Bor Record) → ℕ
+chain_cost picks old items =
+    total_cost (new_jobs (old_jobs picks old) (year_rows (after picks) (records_of items)))
+
+abbrev pub IsChain : Picks → Old → List (Bor Record) → Recalculated → Type 0
+IsChain picks old items r = IsRecalculated (after picks) (old_jobs picks old) (records_of items) r

@@ -1,0 +1,71 @@
+-- What an accepted plan makes of a record: its inputs, its outputs and its cost.
+use Rattle.std.specs.Prelude.{◌≡◌, ◌≤◌, ℕ, List, [], ◌∷◌, Option, All, length}
+use Rattle.std.specs.List.{filter_map, AllByRecursion}
+use Rattle.std.specs.Option.{option_map, option_map_or}
+use Rattle.scaled_decimal.specs.Decimals.{Decimal}
+use Rattle.scaled_decimal.specs.Limits.{IsKept}
+use Rattle.pap_tree.specs.Declarations.{Declaration}
+use Rattle.limits_file.specs.declared.limits.Limits.{Limits}
+use Rattle.limits_file.specs.declared.limits.InputLimit.{InputLimit}
+use Rattle.limits_file.specs.declared.slots.Slot.{Slot}
+use Rattle.pap_types.specs.Scopes.{literal_decimal}
+use Rattle.pap_types.specs.Meaning.{outputs_of, cost_of, IsSafeFor}
+use Rattle.interval_walk.specs.Admission.{limit_named}
+use Rattle.payroll_records.specs.declared.values.NamedValue.{NamedValue}
+use Rattle.carry_bindings.specs.declared.carried.Earlier.{Earlier}
+use Rattle.carry_bindings.specs.declared.filling.Filled.{Filled}
+use Rattle.carry_bindings.specs.Filling.{filled_by}
+use Rattle.carry_bindings.specs.Conditions.{AreBounded}
+use Rattle.carry_bindings.specs.declared.filling.Filled.TheVariants as filling
+use Rattle.pap_plan.specs.Acceptance.{IsAccepted}
+use Rattle.pap_plan.specs.Inputs.{carry_named}
+use Rattle.pap_plan.specs.Plans.{Seen, flowchart, meaning}
+
+-- an input with its type, its limit, its default and what it carries over; each input of an accepted plan has a limit
+abbrev pub slot_with : Limits → Declaration → InputLimit → Slot
+slot_with l d limit = record {
+  name = d.name;
+  kind = d.kind;
+  limit = limit;
+  value = option_map literal_decimal d.value;
+  carry = carry_named l d.name;
+}
+
+abbrev pub slot_of : Limits → Declaration → Option Slot
+slot_of l d = option_map (slot_with l d) (limit_named l d.name)
+
+-- the inputs of a plan, in declared order
+abbrev pub slots_of : Seen → List Slot
+slots_of p = filter_map (slot_of p.ranges) (flowchart p).inputs
+
+-- the inputs of a run with these values after the earlier runs of its year, or why it has none
+unfoldable pub filled : Seen → List NamedValue → List Earlier → Filled
+filled p values earlier = filled_by (slots_of p) values earlier
+
+-- values under the names of declarations, one for each
+abbrev pub named_values : List Declaration → List Decimal → List NamedValue
+named_values [] vs = []
+named_values (d ∷ ds) [] = []
+named_values (d ∷ ds) (v ∷ vs) = record { name = d.name; value = v } ∷ named_values ds vs
+
+-- the outputs of a run on these inputs, in declared order; on inputs that the plan admits they are defined
+unfoldable pub run_outputs : Seen → List Decimal → List NamedValue
+run_outputs p inputs =
+    option_map_or (named_values (flowchart p).outputs) (outputs_of (flowchart p) inputs) []
+
+-- the steps of the run
+unfoldable pub run_cost : Seen → List Decimal → ℕ
+run_cost p inputs = cost_of (flowchart p) inputs
+
+-- ---- a law: a run that has inputs is defined
+
+abbrev pub IsKeptValue : NamedValue → Type 0
+IsKeptValue v = IsKept v.value
+
+-- inputs of an accepted plan that are filled from kept values, after earlier runs whose outputs keep their bound, are safe
+abbrev pub FilledRunsAreSafe : Type 0
+FilledRunsAreSafe =
+    (p : Seen) (values : List NamedValue) (earlier : List Earlier) (inputs : List Decimal)
+    → IsAccepted p.plan p.limits (meaning p) → All IsKeptValue values
+    → length earlier ≤ 366 → AllByRecursion (λ e. AreBounded e.outputs) earlier
+    → filled p values earlier ≡ filling.Inputs inputs → IsSafeFor (flowchart p) inputs

@@ -1,0 +1,50 @@
+-- What the edits of a year promise.
+use Rattle.std.specs.Prelude.{ℕ, ◌≡◌, ◌≤◌, ◌*◌, List}
+use Rattle.payroll_records.specs.declared.record.Record.{Record}
+use Rattle.plan_calendar.specs.Picking.{Entry, pick}
+use Rattle.pap_plan.specs.Plans.{Seen}
+use Rattle.book_year.specs.declared.outcome.Work.{Work}
+use Rattle.book_year.specs.declared.year.Year.{Year}
+use Rattle.book_year.specs.declared.chain.Recalculated.{Recalculated}
+use Rattle.book_year.specs.Jobs.{total_cost, work_of}
+use Rattle.book_year.specs.Kept.{most_runs, job_by}
+use Rattle.book_year.specs.ChainClauses.{IsRecalculated, most_steps}
+use Rattle.book_year.specs.declared.picks.Picks.{Picks}
+use Rattle.book_year.specs.Picks.{before, after}
+use Rattle.book_year.specs.Years.{IsYear, year_jobs}
+
+-- the year has these records now, and the work is that of its new jobs
+pub record IsYearEdit
+    (plans : List (Entry Seen)) (old new : Year) (records : List Record)
+    (work : Work) : Type 0 where
+  pub key : new.key ≡ old.key
+  pub records_are : new.records.items ≡ records
+  pub year : IsYear plans new
+  pub work_is : work ≡ work_of (year_jobs (pick plans) (pick plans) old.records.items records)
+  pub few : work.runs ≤ most_runs
+  pub cheap : work.steps ≤ most_runs * most_steps
+
+-- the year is as it was
+pub record IsSameYear (old new : Year) : Type 0 where
+  pub key : new.key ≡ old.key
+  pub records : new.records.items ≡ old.records.items
+  pub outcomes : new.outcomes.items ≡ old.outcomes.items
+
+-- the cost of the jobs that are new where the year's records become these
+abbrev pub edit_cost : List (Entry Seen) → Year → List Record → ℕ
+edit_cost plans old records =
+    total_cost (year_jobs (pick plans) (pick plans) old.records.items records)
+
+-- the year computed anew with these records
+abbrev pub IsComputed : List (Entry Seen) → Year → List Record → Recalculated → Type 0
+IsComputed plans old records r =
+    IsRecalculated (pick plans) (job_by (pick plans) old.records.items) records r
+
+-- the year computed anew for an edit of the calendar, and the cost of the jobs that are new then
+abbrev pub IsReplanned : Picks → Year → Recalculated → Type 0
+IsReplanned picks y r =
+    IsRecalculated (after picks) (job_by (before picks) y.records.items) y.records.items r
+
+abbrev pub replan_cost : Picks → Year → ℕ
+replan_cost picks y =
+    total_cost (year_jobs (before picks) (after picks) y.records.items y.records.items)

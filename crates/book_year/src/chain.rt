@@ -1,0 +1,256 @@
+//! The walk along a year's runs, in order of day.
+ghost use Rattle.std.specs.Prelude.{◌≡◌, ◌≤◌, [], List, length, Option, Some, None, IfOk, IfErr};
+ghost use Rattle.std.specs.List.{AllByRecursion};
+ghost use Rattle.std.specs.Option.{option_map};
+ghost use Rattle.payroll_records.specs.declared.day.Day.{Day as Date};
+ghost use Rattle.plan_calendar.specs.Picking.{Entry, plan_of};
+ghost use Rattle.carry_bindings.specs.Conditions.{AreBounded};
+ghost use Rattle.carry_bindings.specs.declared.filling.Filled.TheVariants.{Inputs as HasInputs};
+ghost use Rattle.pap_plan.specs.Plans.{Seen, Admits};
+ghost use Rattle.book_year.specs.Rows.{Job, job_of, row_of, row_filled, outputs_in};
+ghost use Rattle.book_year.specs.Jobs.{same_inputs, new_job, Counts};
+ghost use Rattle.book_year.specs.Kept.{IsOld};
+ghost use Rattle.book_year.specs.Picks.{before, after, KnowsSame, ArePicks, picked_entry};
+ghost use Rattle.book_year.specs.ChainClauses.{old_parts, outcome_job, IsOldJob, KeepsOutputs, IsRan, CountsRun};
+ghost use Rattle.book_year.specs.ChainClauses.{old_jobs, chain_cost, IsChain};
+
+use crate::outcome::{Outcome, State, Work};
+use crate::picks::{Picked, Picks};
+use crate::records::place;
+use crate::run::{filled, run};
+use carry_bindings::{Earlier, Filled};
+use limits_file::Items;
+use payroll_records::{Day, NamedValue, Record};
+use scaled_decimal::Dec;
+use std::alloc::{AllocError, Global};
+use std::sync::ledger::Ledger;
+use steps::Steps;
+
+/// What is kept of a year before an edit: its records in order of day, and what each came to.
+#[derive(Clone, Copy)]
+pub struct Old<'a> {
+    pub records: &'a [Record],
+    pub outcomes: &'a [Outcome],
+}
+
+/// The inputs and outputs of a run that has run.
+#[derive(Clone, Copy)]
+pub(crate) struct OldJob<'a> {
+    pub(crate) inputs: &'a Items<Dec>,
+    pub(crate) outputs: &'a Items<NamedValue>,
+}
+
+/// A run's outcome, and the work that it took.
+#[derive(Drop)]
+pub(crate) struct Ran {
+    pub(crate) outcome: Outcome,
+    pub(crate) work: Work,
+}
+
+/// A year's outcomes computed for an edit, and the work that it took.
+#[derive(Drop)]
+pub struct Recalculated {
+    pub outcomes: Vec<Outcome>,
+    pub work: Work,
+}
+
+/// Computes a year's runs in order of day, and runs those whose job isn't the old one of their day. The counter rises by
+/// exactly their steps; where memory runs out it may have risen by some of them.
+pub fn recalculate<L: Ledger>(
+    alloc: Global,
+    picks: &Picks,
+    old: Old,
+    records: &[&Record],
+    steps: &mut Steps<L>,
+) -> Result<Recalculated, AllocError>
+    requires picks { ArePicks picks.now }
+    requires old { IsOld (before picks.now) old }
+    requires few { length records.now ≤ 366 }
+    ensures done { IfOk result (IsChain picks.now old.entry records.now) }
+    ensures counted { Counts result steps.old steps.new
+        (chain_cost picks.now old.entry records.now) }
+{
+    let mut outcomes = Vec::new(alloc);
+    let mut earlier = Vec::new(alloc);
+    let mut runs = 0;
+    let mut taken = 0;
+    for item in records {
+        let ran = next_run(alloc, picks, old, item, earlier.as_slice(), steps)?;
+        runs += ran.work.runs;
+        taken += ran.work.steps;
+        let outputs = outputs_of(alloc, &ran.outcome.state)?;
+        earlier.push(Earlier {
+            day: item.day,
+            outputs,
+        })?;
+        outcomes.push(ran.outcome)?;
+    }
+    Ok(Recalculated {
+        outcomes,
+        work: Work { runs, steps: taken },
+    })
+}
+
+/// What later runs read of a state.
+fn outputs_of(alloc: Global, state: &State) -> Result<Option<Items<NamedValue>>, AllocError>
+    ensures { IfOk result (λ outputs. outputs ≡ outputs_in state.now) }
+{
+    match state {
+        State::Done(outputs) => Ok(Some(copy_of(alloc, outputs)?)),
+        _ => Ok(None),
+    }
+}
+
+/// The same values again.
+fn copy_of(alloc: Global, values: &Items<NamedValue>) -> Result<Items<NamedValue>, AllocError>
+    ensures { IfOk result (λ copy. copy ≡ values.now) }
+{
+    Ok(Items::from_vec(Vec::from_slice(alloc, values.as_slice())?))
+}
+
+/// Whether the inputs are the same, with the same scales.
+fn same_inputs(a: &Items<Dec>, b: &Items<Dec>) -> bool
+    ensures { result ≡ same_inputs a.now b.now }
+{
+    a.as_slice() == b.as_slice()
+}
+
+/// The outputs of the old job, where it is the new one.
+fn kept_outputs<'a>(
+    old: Option<OldJob<'a>>,
+    same: bool,
+    inputs: &Items<Dec>,
+) -> Option<&'a Items<NamedValue>>
+    ensures { (was : Option (Entry Seen)) (job : Option Job) (e : Entry Seen)
+        → KnowsSame was (Some e) same → IsOldJob was job old.entry
+        → KeepsOutputs (new_job job (Some (job_of (plan_of e) inputs.now)))
+        (job_of (plan_of e) inputs.now) result }
+{
+    let job = old?;
+    if !same {
+        return None;
+    }
+    if !same_inputs(job.inputs, inputs) {
+        return None;
+    }
+    Some(job.outputs)
+}
+
+/// The outcome of a run whose inputs are known. It runs where they or the plan's texts are new.
+fn run_job<L: Ledger>(
+    alloc: Global,
+    picked: Picked,
+    old: Option<OldJob>,
+    inputs: Items<Dec>,
+    steps: &mut Steps<L>,
+) -> Result<Ran, AllocError>
+    requires { Admits picked.plan.now inputs }
+    ensures ran { (was : Option (Entry Seen)) (job : Option Job) (day : Date)
+        → KnowsSame was (Some (picked_entry picked.entry)) picked.entry.same
+        → IsOldJob was job old.entry
+        → IfOk result (IsRan (row_filled (picked_entry picked.entry) day (HasInputs inputs)) job) }
+    ensures counted { CountsRun result steps.old steps.new }
+{
+    if let Some(outputs) = kept_outputs(old, picked.same, &inputs) {
+        let outputs = copy_of(alloc, outputs)?;
+        return Ok(Ran {
+            outcome: finished(picked.day, inputs, outputs),
+            work: Work { runs: 0, steps: 0 },
+        });
+    }
+    let ran = run(alloc, picked.plan, inputs.as_slice(), steps)?;
+    Ok(Ran {
+        outcome: finished(picked.day, inputs, ran.outputs),
+        work: Work {
+            runs: 1,
+            steps: ran.cost,
+        },
+    })
+}
+
+/// The outcome of a run that has run.
+fn finished(plan: Day, inputs: Items<Dec>, outputs: Items<NamedValue>) -> Outcome
+    ensures { result ≡ record {
+      plan = Some plan;
+      inputs = Some inputs;
+      state = State.Done outputs;
+    } }
+{
+    Outcome {
+        plan: Some(plan),
+        inputs: Some(inputs),
+        state: State::Done(outputs),
+    }
+}
+
+/// The run of a record, after the earlier ones of its year.
+fn next_run<L: Ledger>(
+    alloc: Global,
+    picks: &Picks,
+    old: Old,
+    item: &Record,
+    earlier: &[Earlier],
+    steps: &mut Steps<L>,
+) -> Result<Ran, AllocError>
+    requires picks { ArePicks picks.now }
+    requires old { IsOld (before picks.now) old }
+    requires few { length earlier.now ≤ 366 }
+    requires bounded { AllByRecursion (λ e. AreBounded e.outputs) earlier.now }
+    ensures ran { IfOk result
+        (IsRan (row_of (after picks.now item.now.day) earlier.now item.now)
+        (old_jobs picks.now old.entry item.now.day)) }
+    ensures counted { CountsRun result steps.old steps.new }
+{
+    let Some(picked) = picks.pick(item.day) else {
+        return Ok(idle(None, State::NoPlan));
+    };
+    match filled(alloc, picked.plan, item, earlier)? {
+        Filled::State(why) => Ok(idle(Some(picked.day), State::Blocked(why))),
+        Filled::Inputs(inputs) => run_job(
+            alloc,
+            picked,
+            old_job(picks, old, item.day),
+            inputs,
+            steps,
+        ),
+    }
+}
+
+/// A run without inputs.
+fn idle(plan: Option<Day>, state: State) -> Ran
+    ensures { result ≡ record {
+      outcome = record { plan = plan; inputs = None; state = state };
+      work = record { runs = 0; steps = 0 };
+    } }
+{
+    Ran {
+        outcome: Outcome {
+            plan,
+            inputs: None,
+            state,
+        },
+        work: Work { runs: 0, steps: 0 },
+    }
+}
+
+/// The job that a day had, where it had one.
+fn old_job<'a>(picks: &Picks, old: Old<'a>, day: Day) -> Option<OldJob<'a>>
+    requires { IsOld (before picks.now) old }
+    ensures { IsOldJob (before picks.now day) (old_jobs picks.now old.entry day) result }
+{
+    let Ok(at) = place(old.records, day) else {
+        return None;
+    };
+    job_of(&old.outcomes[at])
+}
+
+/// The inputs and outputs of an outcome that has both.
+fn job_of(outcome: &Outcome) -> Option<OldJob<'_>>
+    ensures { option_map old_parts result ≡ outcome_job outcome.now }
+{
+    let inputs = outcome.inputs.as_ref()?;
+    match &outcome.state {
+        State::Done(outputs) => Some(OldJob { inputs, outputs }),
+        _ => None,
+    }
+}

@@ -1,0 +1,122 @@
+//! The plan of each day in the calendar that will be, without a change of the one that is.
+ghost use Rattle.std.specs.Prelude.{◌≡◌, Some, None, IfSome, ◌&&◌};
+ghost use Rattle.std.specs.Option.{option_map};
+ghost use Rattle.std.specs.Bool.{OnFalse};
+ghost use Rattle.payroll_records.specs.declared.day.Day.{Day as Date};
+ghost use Rattle.plan_calendar.specs.Picking.{pick, serves};
+ghost use Rattle.plan_calendar.specs.Edits.{is_by, picked_after};
+ghost use Rattle.plan_calendar.specs.Views.{picked_entry as entry_picked};
+ghost use Rattle.book_year.specs.Picks.{before, after, same_plan, KnowsSame, ArePicks, picked_entry};
+
+use pap_plan::Plan;
+use payroll_records::Day;
+use plan_calendar::Calendar;
+
+/// A plan that is about to be put at a day, or taken away from it.
+#[derive(Clone, Copy)]
+pub struct Edit<'a> {
+    pub day: Day,
+    /// What the days that the edit decides get: the plan with the day from which it holds, or none.
+    pub entry: Option<(Day, &'a Plan)>,
+    /// Whether that plan has the texts of the one that these days had.
+    pub same: bool,
+}
+
+/// A calendar, and an edit of it that is about to be made.
+#[derive(Clone, Copy)]
+pub struct Picks<'a> {
+    pub plans: &'a Calendar<Plan>,
+    pub edit: Option<Edit<'a>>,
+}
+
+/// The plan of a day.
+#[derive(Clone, Copy)]
+pub struct Picked<'a> {
+    /// The day from which it holds.
+    pub day: Day,
+    pub plan: &'a Plan,
+    /// Whether it has the texts of the plan that the day had before the edit.
+    pub same: bool,
+}
+
+impl<'a> Picks<'a> {
+    /// The calendar once an edit at a day has left this plan, or none, to the days that it decides. Texts are compared here,
+    /// once.
+    pub fn edited(plans: &'a Calendar<Plan>, day: Day, entry: Option<(Day, &'a Plan)>) -> Picks<'a>
+        ensures are { ArePicks result }
+        ensures before { (d : Date) → before result d ≡ pick plans.now d }
+        ensures after { (d : Date)
+            → after result d ≡ picked_after plans.now day (option_map entry_picked entry.entry) d }
+    {
+        let same = keeps_texts(plans.pick(day), entry);
+        Picks {
+            plans,
+            edit: Some(Edit { day, entry, same }),
+        }
+    }
+
+    /// The plan of a day after the edit.
+    pub fn pick(&self, day: Day) -> Option<Picked<'a>>
+        requires { ArePicks self.now }
+        ensures after { option_map picked_entry result ≡ after self.now day }
+        ensures same { IfSome result
+            (λ p. KnowsSame (before self.now day) (after self.now day) p.same) }
+    {
+        let now = self.plans.pick(day);
+        if let Some(edit) = self.edit
+            && moves(edit.day, day, now)
+        {
+            return match edit.entry {
+                None => None,
+                Some((from, plan)) => Some(Picked {
+                    day: from,
+                    plan,
+                    same: edit.same,
+                }),
+            };
+        }
+        match now {
+            None => None,
+            Some((from, plan)) => Some(Picked {
+                day: from,
+                plan,
+                same: true,
+            }),
+        }
+    }
+
+    /// Whether the edit may change the plans of a year's days.
+    pub fn may_move(&self, year: u16) -> bool
+        ensures { OnFalse result
+            ((d : Date) → d.year ≡ year → after self.now d ≡ before self.now d) }
+    {
+        match self.edit {
+            None => false,
+            Some(edit) => edit.day.year == year,
+        }
+    }
+}
+
+/// Whether an edit at a day decides the plan of another day, whose plan is now this one.
+fn moves(edit: Day, day: Day, now: Option<(Day, &Plan)>) -> bool
+    ensures { result ≡ (serves edit day && is_by (option_map entry_picked now.entry) edit) }
+{
+    if edit.year != day.year || day < edit {
+        return false;
+    }
+    match now {
+        None => true,
+        Some((from, _)) => from <= edit,
+    }
+}
+
+/// Whether both plans are there, with the same texts.
+fn keeps_texts(was: Option<(Day, &Plan)>, now: Option<(Day, &Plan)>) -> bool
+    ensures { KnowsSame (option_map entry_picked was.entry)
+        (option_map entry_picked now.entry) result }
+{
+    let (Some((_, was)), Some((_, now))) = (was, now) else {
+        return false;
+    };
+    was.same_texts(now)
+}

@@ -1,4 +1,0 @@
-pub mod Books
-pub mod Refusals
-pub mod Kept
-pub mod Views

@@ -1,0 +1,26 @@
+//! The laws of the walk. The functions do nothing; their contracts are the laws.
+
+ghost use Rattle.interval_walk.specs.Reading.{NothingIsRefusedAtReading};
+ghost use Rattle.interval_walk.specs.Soundness.{AnalysisIsSound, RangesHaveShape, SomeBranchIsReached};
+
+/// Where the walk of a well-typed plan passes, each list of inputs that its limits admit is safe, and each output lies in its
+/// range and within the bound of outputs.
+pub fn admitted_inputs_are_safe()
+    ensures { AnalysisIsSound }
+{}
+
+/// The range of an expression that the walk passes is that of a whole number of its kind's bits, or has at most 30 places.
+pub fn ranges_suit_their_kinds()
+    ensures { RangesHaveShape }
+{}
+
+/// A test that the walk passes, in ranges of which none is empty, has a branch that can be reached.
+pub fn some_branch_is_reached()
+    ensures { SomeBranchIsReached }
+{}
+
+/// Where the numbers of a well-typed plan are those of its types, nothing is refused where it is read: the walk begins with
+/// ranges of the shapes of their kinds and keeps them, and in such ranges each name, each literal and each item has its range.
+pub fn reading_refuses_nothing()
+    ensures { NothingIsRefusedAtReading }
+{}

@@ -1,5 +1,0 @@
-mod YearLemmas
-mod MergeLemmas
-mod RedoneLemmas
-mod PlanLemmas
-mod EditLemmas

@@ -1,2 +1,0 @@
-pub mod Replans
-pub mod RedoneClauses

@@ -1,5 +1,0 @@
-use Rattle.range_walk.proofs.PlanSound.{analysis_sound}
-use Rattle.range_walk.proofs.soundness.admitted_inputs_are_safe.Goals as goal
-
-pub returns : goal.returns
-returns c = analysis_sound

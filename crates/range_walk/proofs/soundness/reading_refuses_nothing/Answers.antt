@@ -1,5 +1,0 @@
-use Rattle.range_walk.proofs.ReadSound.{reading_free}
-use Rattle.range_walk.proofs.soundness.reading_refuses_nothing.Goals as goal
-
-pub returns : goal.returns
-returns c = reading_free

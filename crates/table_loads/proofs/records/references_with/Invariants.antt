@@ -1,7 +1,0 @@
-use Rattle.std.proofs.Common.{◌≡◌, take}
-use Rattle.year_runs.specs.Records.{records_of}
-use Rattle.table_loads.specs.Groups.{put_runs}
-use Rattle.table_loads.proofs.records.references_with.Given as goal
-
-abbrev pub invariant-loop-item : goal.invariant-loop-item
-invariant-loop-item l = records_of l.runs.items ≡ put_runs (take l.item-index l.items) l.fn.records

@@ -1,8 +1,0 @@
-use Rattle.std.proofs.Common.{ℕ, ◌<◌, get_or}
-use Rattle.payroll_records.specs.declared.record.Record.{Record}
-use Rattle.employee_years.specs.Kept.{years_of}
-use Rattle.table_loads.specs.Loads.{IsFree}
-use Rattle.table_loads.proofs.refused.present.Given as goal
-
-abbrev pub invariant-loop-item : goal.invariant-loop-item
-invariant-loop-item l = (j : ℕ) (d : Record) → j < l.item-index → IsFree (years_of l.fn.years) (get_or l.items j d)

@@ -1,8 +1,0 @@
-use Rattle.std.proofs.Common.{sym, ◌∙◌, subst}
-use Rattle.year_runs.specs.ChainClauses.{IsOldJob}
-use Rattle.year_runs.proofs.JobLemmas.{same_job}
-use Rattle.year_runs.proofs.chain.kept_outputs.Goals as goal
-
-pub returns : goal.returns
-returns c = λ was job e knows is.
-    same_job was job e c.args.same c.in_ok-job.job c.args.inputs.now knows (subst (λ o. IsOldJob was job o) c.in_ok-job.was is) c.if-not-same.false (sym c.same_inputs.ensures ∙ c.if-not-same_inputs.false)

@@ -1,6 +1,0 @@
-use Rattle.std.proofs.Common.{[]}
-use Rattle.year_runs.proofs.QuietLemmas.{year_quiet, rows_agree}
-use Rattle.year_runs.proofs.year.year_laws.Goals as goal
-
-pub returns : goal.returns
-returns c = record { stay = year_quiet; follow = λ p q records h. rows_agree p q [] records h }
