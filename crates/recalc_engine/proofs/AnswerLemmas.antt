@@ -14,7 +14,7 @@ use Rattle.payroll_records.specs.declared.when.When.TheVariants as when
 use Rattle.payroll_records.specs.Days.{IsMonth}
 use Rattle.payroll_records.specs.Tables.{key_of}
 use Rattle.plan_calendar.specs.Picking.{Entry, day_of, entry_at}
-use Rattle.pap_plan.specs.Plans.{Seen}
+use Rattle.book_year.specs.Accepted.{Accepted}
 use Rattle.book_year.specs.declared.outcome.Work.{Work}
 use Rattle.book_year.specs.Jobs.{work_of}
 use Rattle.book_edits.specs.declared.in_month.InMonth.{InMonth}
@@ -346,7 +346,7 @@ module _ (book : Contents) (items : List Record) where
 
 -- ---- plans
 
-module _ (book : Contents) (p : Entry Seen) where
+module _ (book : Contents) (p : Entry Accepted) where
   put_full : NoRoom book.plans (day_of p) → HasOneAnswer book (put p)
   put_full full = record { answer = Err refusal.Plans; says = full; alone = by }
     where
@@ -382,7 +382,7 @@ module _ (book : Contents) (p : Entry Seen) where
   put_once : HasOneAnswer book (put p)
   put_once = by (entry_at book.plans (day_of p)) refl
     where
-      by : (o : Option (Entry Seen)) → entry_at book.plans (day_of p) ≡ o → HasOneAnswer book (put p)
+      by : (o : Option (Entry Accepted)) → entry_at book.plans (day_of p) ≡ o → HasOneAnswer book (put p)
       by None e = put_new (subst IsNone (sym e) refl)
       by (Some q) e = put_made (λ full. none_or_some (entry_at book.plans (day_of p)) full.free (subst IsSome (sym e) refl))
 
@@ -416,7 +416,7 @@ module _ (book : Contents) (d : Day) where
   drop_once : HasOneAnswer book (drop d)
   drop_once = by (entry_at book.plans d) refl
     where
-      by : (o : Option (Entry Seen)) → entry_at book.plans d ≡ o → HasOneAnswer book (drop d)
+      by : (o : Option (Entry Accepted)) → entry_at book.plans d ≡ o → HasOneAnswer book (drop d)
       by None e = drop_none (subst IsNone (sym e) refl)
       by (Some q) e = drop_made (subst IsSome (sym e) refl)
 
@@ -430,7 +430,7 @@ one_answer book (drop d) = drop_once book d
 
 -- ---- what a call comes to
 
-pub edit_made : (old : Contents) (e : Edit) (work : Work) (years : List YearRuns) (plans : List (Entry Seen)) → CanEdit old e → years ≡ (with_edit e old).years → plans ≡ (with_edit e old).plans → work ≡ work_of (jobs_between old (with_edit e old)) →
+pub edit_made : (old : Contents) (e : Edit) (work : Work) (years : List YearRuns) (plans : List (Entry Accepted)) → CanEdit old e → years ≡ (with_edit e old).years → plans ≡ (with_edit e old).plans → work ≡ work_of (jobs_between old (with_edit e old)) →
     IsEdited old e (record { years = years; plans = plans; last = work }) (Ok work)
 edit_made old e work years plans can years_are plans_are work_is = ((can, λ i. record { years = years_are i; plans = plans_are i; last = work_is i }), refl)
 
