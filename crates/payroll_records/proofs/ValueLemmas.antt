@@ -1,11 +1,13 @@
 -- The list of names and the list of numbers that values are kept as.
 use Rattle.std.proofs.Common.{◌≡◌, ℕ, zero, suc, ◌<◌, ◌≤◌, List, [], ◌∷◌, ◌++◌, length, get_or, refl, sym, ap, subst, ◌∙◌, arith, Result, Ok, Err}
-use Rattle.std.specs.Prelude.{map, IfOk, IfErr}
+use Rattle.std.specs.Prelude.{map, IfOk, IfErr, Some, true, ◌-◌}
+use Rattle.std.specs.List.{slice_get}
+use Rattle.std.proofs.lemmas.Option.{slice_get-get_or}
 use Rattle.std.specs.List.{insert}
 use Rattle.std.specs.List.Sorted.{IsBinarySearchResult, IsSearchInRange}
 use Rattle.std.specs.declared.cmp.Ordering.{Ordering}
 use Rattle.std.specs.declared.cmp.Ordering.TheVariants.{Equal, Less, Greater}
-use Rattle.std.specs.Ordering.{ordering_index}
+use Rattle.std.specs.Ordering.{ordering_index, is_lt}
 use Rattle.std.specs.Cmp.Lexicographic.{nat_list_cmp_total}
 use Rattle.std.proofs.lemmas.Cmp.{tied_itself}
 use Rattle.std.proofs.lemmas.List.{get_or-map}
@@ -14,10 +16,10 @@ use Rattle.std.proofs.Math.ListN.{get_or-map as map_at, length-map}
 use Rattle.scaled_decimal.specs.Decimals.{Decimal}
 use Rattle.rising_lists.specs.Keyed.{IsRising}
 use Rattle.rising_lists.specs.Places.{Finds, Misses}
-use Rattle.rising_lists.proofs.Laws.{found, put_rising}
+use Rattle.rising_lists.proofs.Laws.{above_all, found, misses, put_rising}
 use Rattle.payroll_records.specs.Tables.{Text}
 use Rattle.payroll_records.specs.NamedValues.{name_cmp, name_of, with_value}
-use Rattle.payroll_records.specs.ValueViews.{IsKeptAs, named_numbers}
+use Rattle.payroll_records.specs.ValueViews.{IsKeptAs, is_beyond, named_numbers}
 use Rattle.payroll_records.specs.declared.values.NamedValue.{NamedValue}
 
 -- each of both lists is there whole
@@ -86,6 +88,49 @@ places names numbers name r kept bound searched =
     found name_cmp nat_list_cmp_total name_of values name r kept.are.rising
     (subst (IsSearchInRange r) (kept.same ∙ sym (named_length names numbers kept.same)) bound)
     (searched_by (λ n. name_cmp n name) name_of values r (subst (λ ns. IsBinarySearchResult (λ n. name_cmp n name) ns r) (sym (names_are names numbers kept.same)) searched))
+
+-- ---- a name behind all others
+
+less_of : (o : Ordering) → is_lt o ≡ true → o ≡ Less
+less_of Less h = refl
+less_of Equal h = cc
+less_of Greater h = cc
+
+-- where the last name is below a name, each is
+each_below : (values : List NamedValue) (name : Text) (i j : ℕ) (d : NamedValue) → IsRising name_cmp name_of values → suc i ≡ length values → name_cmp (get_or values i d).name name ≡ Less →
+    j < length values → name_cmp (get_or values j d).name name ≡ Less
+each_below [] name i j d h e l lt = absurd (omega arith)
+each_below (v ∷ []) name zero zero d h e l lt = l
+each_below (v ∷ []) name zero (suc j) d h e l lt = absurd (omega arith)
+each_below (v ∷ []) name (suc i) j d h e l lt = absurd (omega arith)
+each_below (v ∷ (w ∷ values)) name zero j d h e l lt = absurd (omega arith)
+each_below (v ∷ (w ∷ values)) name (suc i) zero d h e l lt =
+    nat_list_cmp_total.trans v.name (get_or (w ∷ values) i d).name name (above_all name_cmp nat_list_cmp_total name_of v.name (w ∷ values) i d h.0 (omega arith)) l
+each_below (v ∷ (w ∷ values)) name (suc i) (suc j) d h e l lt = each_below (w ∷ values) name i j d h.1 (omega arith) l (omega arith)
+
+last_below : (values : List NamedValue) (name : Text) (j : ℕ) (d : NamedValue) → IsRising name_cmp name_of values → is_beyond (map name_of values) name ≡ true → j < length values →
+    name_cmp (get_or values j d).name name ≡ Less
+last_below [] name j d h b lt = absurd (omega arith)
+last_below (v ∷ values) name j d h b lt =
+    let i = length values in
+    let names = map name_of (v ∷ values) in
+    let same : length names - 1 ≡ i = omega (arith, length-map (v ∷ values) name_of) in
+    let last : slice_get names (length names - 1) ≡ Some (get_or (v ∷ values) i d).name =
+    ap (slice_get names) same ∙ slice_get-get_or names i d.name (omega (arith, length-map (v ∷ values) name_of)) ∙ ap (λ n. Some n) (map_at name_of (v ∷ values) i d) in
+    let below : is_lt (name_cmp (get_or (v ∷ values) i d).name name) ≡ true = rw last at b in
+    each_below (v ∷ values) name i j d h refl (less_of _ below) lt
+
+pub beyond : (names : List Text) (numbers : List Decimal) (name : Text) → IsKeptAs names numbers → is_beyond names name ≡ true →
+    Misses name_cmp name_of (named_numbers names numbers) name (length names)
+beyond names numbers name kept b =
+    let values = named_numbers names numbers in
+    let same = named_length names numbers kept.same in
+    let b2 : is_beyond (map name_of values) name ≡ true = subst (λ ns. is_beyond ns name ≡ true) (sym (names_are names numbers kept.same)) b in
+    misses name_cmp nat_list_cmp_total name_of values name (length names) (record {
+      within = omega (arith, same, kept.same);
+      before = λ j d lt. last_below values name j d kept.are.rising b2 (omega (arith, lt, same, kept.same));
+      after = λ j d le lt. absurd (omega (arith, le, lt, same, kept.same));
+    })
 
 -- a value put where none of its name stands
 module _ (names : List Text) (numbers : List Decimal) (i : ℕ) (v : NamedValue) (kept : IsKeptAs names numbers) (gap : Misses name_cmp name_of (named_numbers names numbers) v.name i) where
