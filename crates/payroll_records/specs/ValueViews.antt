@@ -1,7 +1,8 @@
 -- How the values of a record are kept: a list of their names, and a list of the numbers.
-use Rattle.std.specs.Prelude.{◌≡◌, ◌-◌, ℕ, Bool, true, List, [], ◌∷◌, length}
+use Rattle.std.specs.Prelude.{◌≡◌, ◌-◌, ℕ, Bool, true, false, List, [], ◌∷◌, length}
 use Rattle.std.specs.List.{slice_get}
 use Rattle.std.specs.Option.{option_map_or}
+use Rattle.std.specs.Str.{bytes_eq}
 use Rattle.std.specs.Ordering.{is_lt}
 use Rattle.std.specs.Rc.{rc_slice_items}
 use Rattle.scaled_decimal.specs.Decimals.{Decimal}
@@ -30,3 +31,7 @@ pub record IsKeptAs (names : List (List ℕ)) (numbers : List Decimal) : Type 0 
 abbrev pub is_beyond : List (List ℕ) → List ℕ → Bool
 is_beyond names name =
     option_map_or (λ n. is_lt (name_cmp n name)) (slice_get names (length names - 1)) true
+
+-- the name stands at this place of the list
+abbrev pub stands_at : List (List ℕ) → ℕ → List ℕ → Bool
+stands_at names i name = option_map_or (λ n. bytes_eq n name) (slice_get names i) false

@@ -1,8 +1,8 @@
 //! Values under names.
-ghost use Rattle.std.specs.Prelude.{◌≡◌, ◌↔◌, ◌<◌, ◌≤◌, [], length, map, IsSome, IsNone, OnOk, OnErr, IfOk, IfErr, Err, option_map};
+ghost use Rattle.std.specs.Prelude.{◌≡◌, ◌↔◌, ◌<◌, ◌≤◌, [], length, map, IsSome, IsNone, OnOk, OnErr, IfOk, IfErr, IfSome, Err, option_map};
 ghost use Rattle.rising_lists.specs.Places.{Finds, Misses};
-ghost use Rattle.payroll_records.specs.NamedValues.{AreValues, name_cmp, name_of, value_at, with_value};
-ghost use Rattle.payroll_records.specs.ValueViews.{IsKeptAs, is_beyond, named_numbers};
+ghost use Rattle.payroll_records.specs.NamedValues.{AreValues, name_cmp, name_of, place_at, value_at, with_value};
+ghost use Rattle.payroll_records.specs.ValueViews.{IsKeptAs, is_beyond, named_numbers, stands_at};
 
 use crate::names::{Names, shared};
 use pap_tree::Name;
@@ -116,6 +116,21 @@ impl Values {
         }
     }
 
+    /// Where the value of a name stands. It is looked for at `guess` first, where names that are asked for in order often are.
+    pub fn place_of(&self, name: &Name, guess: usize) -> Option<usize>
+        ensures place { result ≡ place_at self.now name.now }
+        ensures few { IfSome result (λ at. at < 256) }
+    {
+        let names = self.names.as_slice();
+        if stands_at(names, guess, name) {
+            return Some(guess);
+        }
+        match names.binary_search(name) {
+            Ok(at) => Some(at),
+            Err(_) => None,
+        }
+    }
+
     /// Puts a value under its name. After a refusal the values are as before.
     pub fn insert(&mut self, item: NamedValue) -> Result<(), InsertFault>
         ensures ok { OnOk result (self.new ≡ with_value item self.old) }
@@ -170,6 +185,16 @@ impl Values {
             return Err(names.len());
         }
         names.binary_search(name)
+    }
+}
+
+/// Whether a name stands at a place of a list.
+fn stands_at(names: &[Name], at: usize, name: &Name) -> bool
+    ensures { result ≡ stands_at names.now at name.now }
+{
+    match names.get(at) {
+        Some(there) => *there == *name,
+        None => false,
     }
 }
 
