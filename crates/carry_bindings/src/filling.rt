@@ -1,19 +1,19 @@
 //! The inputs of a run.
-ghost use Rattle.std.specs.Prelude.{◌≡◌, ◌≤◌, ℕ, IfOk, List, None, length, true};
-ghost use Rattle.std.specs.BTreeSet.{contains};
+ghost use Rattle.std.specs.Prelude.{◌≡◌, ◌≤◌, IfOk, None, length, true};
 ghost use Rattle.std.specs.List.{AllByRecursion};
 ghost use Rattle.carry_bindings.specs.Conditions.{AreBounded, SuitsKind};
-ghost use Rattle.carry_bindings.specs.Filling.{admits, filled_by, given, has_carry, input_of, inputs, missing, outside, takes};
-ghost use Rattle.carry_bindings.specs.Filling.{unknown, value_of, waits};
-ghost use Rattle.payroll_records.specs.NamedValues.{name_cmp};
+ghost use Rattle.carry_bindings.specs.Filling.{admits, filled_by, first_of, given, has_carry, input_of, inputs, missing};
+ghost use Rattle.carry_bindings.specs.Filling.{outside, value_of, waits};
+ghost use Rattle.carry_bindings.specs.Views.{places_of};
+ghost use Rattle.payroll_records.specs.NamedValues.{place_at};
 
 use crate::carried::{Earlier, carried};
+use crate::names::{places, unknown};
 use limits_file::{InputLimit, Items, Slot, Spec};
 use pap_tree::{Kind, Name};
 use payroll_records::{Day, Record, Values};
 use scaled_decimal::Dec;
 use std::alloc::{AllocError, Global};
-use std::collections::BTreeSet;
 
 /// Why a run has no inputs.
 #[derive(Debug, Drop)]
@@ -53,19 +53,17 @@ pub fn fill(
     if let Some(day) = waits(slots, earlier) {
         return Ok(Filled::State(Blocked::Waits(day)));
     }
-    if let Some(name) = unknown(alloc, slots, &item.values)? {
+    let places = places(alloc, slots, &item.values)?;
+    if let Some(name) = unknown(alloc, slots, places.as_slice(), &item.values)? {
         return Ok(Filled::State(Blocked::Unknown(name)));
     }
-    if let Some(name) = missing(slots, &item.values, earlier) {
+    if let Some(name) = missing(slots, places.as_slice(), &item.values, earlier) {
         return Ok(Filled::State(Blocked::Missing(name)));
     }
-    if let Some(name) = outside(slots, &item.values, earlier) {
-        return Ok(Filled::State(Blocked::Range(name)));
-    }
-    let inputs = inputs(alloc, slots, &item.values, earlier)?;
-    Ok(Filled::Inputs(Items::from_vec(inputs)))
+    inputs(alloc, slots, places.as_slice(), &item.values, earlier)
 }
 
+/// The day that the run waits for.
 fn waits(slots: &[Slot], earlier: &[Earlier]) -> Option<Day>
     ensures { result ≡ waits slots.now earlier.now }
 {
@@ -80,90 +78,63 @@ fn waits(slots: &[Slot], earlier: &[Earlier]) -> Option<Day>
     None
 }
 
+/// Whether some input carries.
 fn has_carry(slots: &[Slot]) -> bool
     ensures { result ≡ has_carry slots.now }
 {
     slots.iter().any(|s| s.carry.is_some())
 }
 
-/// The names of the inputs that a record may give a value.
-fn names_taken(alloc: Global, slots: &[Slot]) -> Result<BTreeSet<Name>, AllocError>
-    ensures { IfOk result (λ names. (name : List ℕ) →
-        contains name_cmp names name ≡ takes slots.now name) }
-{
-    let mut names = BTreeSet::new(alloc);
-    for slot in slots {
-        if slot.carry.is_some() {
-            continue;
-        }
-        names.insert(slot.name)?;
-    }
-    Ok(names)
-}
-
-fn unknown(alloc: Global, slots: &[Slot], values: &Values) -> Result<Option<Name>, AllocError>
-    ensures { IfOk result (λ name. name ≡ unknown slots.now values.now) }
-{
-    let taken = names_taken(alloc, slots)?;
-    for name in values.names() {
-        if !taken.contains(name) {
-            return Ok(Some(*name));
-        }
-    }
-    Ok(None)
-}
-
-/// The record's value of an input, or else its default.
-fn given(values: &Values, slot: &Slot) -> Option<Dec>
+/// The record's value of an input, which stands at a place of its values, or else the input's default.
+fn given(values: &Values, place: Option<usize>, slot: &Slot) -> Option<Dec>
+    requires { place ≡ place_at values.now slot.now.name }
     ensures { result ≡ given values.now slot.now }
 {
-    values.find(&slot.name).or(slot.value)
+    match place {
+        Some(at) => Some(values.numbers()[at]),
+        None => slot.value,
+    }
 }
 
 /// The value of an input: what it carries, or else what is given.
-fn value_of(values: &Values, earlier: &[Earlier], slot: &Slot) -> Option<Dec>
+fn value_of(values: &Values, place: Option<usize>, earlier: &[Earlier], slot: &Slot) -> Option<Dec>
+    requires place { place ≡ place_at values.now slot.now.name }
     requires few { length earlier.now ≤ 366 }
     requires bounded { AllByRecursion (λ e. AreBounded e.outputs) earlier.now }
     ensures { result ≡ value_of values.now earlier.now slot.now }
 {
     match &slot.carry {
         Some(carry) => Some(carried(carry, earlier)),
-        None => given(values, slot),
+        None => given(values, place, slot),
     }
 }
 
-fn missing(slots: &[Slot], values: &Values, earlier: &[Earlier]) -> Option<Name>
+/// The first input without a value.
+fn missing(
+    slots: &[Slot],
+    places: &[Option<usize>],
+    values: &Values,
+    earlier: &[Earlier],
+) -> Option<Name>
+    requires places { places.now ≡ places_of slots.now values.now }
     ensures { result ≡ missing slots.now values.now earlier.now }
 {
-    for slot in slots {
-        if slot.carry.is_none() && given(values, slot).is_none() {
+    for (at, slot) in slots.iter().enumerate() {
+        if slot.carry.is_none() && given(values, places[at], slot).is_none() {
             return Some(slot.name);
         }
     }
     None
 }
 
+/// Whether a range admits a value.
 fn admits(limit: &InputLimit, value: Dec) -> bool
     ensures { result ≡ admits limit.now value }
 {
     limit.fits(value)
 }
 
-fn outside(slots: &[Slot], values: &Values, earlier: &[Earlier]) -> Option<Name>
-    requires few { length earlier.now ≤ 366 }
-    requires bounded { AllByRecursion (λ e. AreBounded e.outputs) earlier.now }
-    ensures { result ≡ outside slots.now values.now earlier.now }
-{
-    for slot in slots {
-        if let Some(value) = value_of(values, earlier, slot) {
-            if !admits(&slot.limit, value) {
-                return Some(slot.name);
-            }
-        }
-    }
-    None
-}
-
+/// The value as the run takes it.
 fn input_of(slot: &Slot, value: Dec) -> Dec
     requires suits { SuitsKind slot.now }
     requires admitted { admits slot.now.limit value ≡ true }
@@ -175,23 +146,30 @@ fn input_of(slot: &Slot, value: Dec) -> Dec
     }
 }
 
+/// The inputs in declared order, or the first whose value its range doesn't admit.
 fn inputs(
     alloc: Global,
     slots: &[Slot],
+    places: &[Option<usize>],
     values: &Values,
     earlier: &[Earlier],
-) -> Result<Vec<Dec>, AllocError>
+) -> Result<Filled, AllocError>
+    requires places { places.now ≡ places_of slots.now values.now }
     requires few { length earlier.now ≤ 366 }
     requires bounded { AllByRecursion (λ e. AreBounded e.outputs) earlier.now }
     requires doubles { AllByRecursion SuitsKind slots.now }
-    requires admitted { outside slots.now values.now earlier.now ≡ None }
-    ensures { IfOk result (λ v. v.items ≡ inputs slots.now values.now earlier.now) }
+    ensures { let state = outside slots.now values.now earlier.now in
+        IfOk result (λ f. f ≡ first_of None None None state (inputs slots.now values.now earlier.now)) }
 {
-    let mut inputs = Vec::new(alloc);
-    for slot in slots {
-        if let Some(value) = value_of(values, earlier, slot) {
-            inputs.push(input_of(slot, value))?;
+    let mut inputs = Vec::with_capacity(alloc, slots.len())?;
+    for (at, slot) in slots.iter().enumerate() {
+        let Some(value) = value_of(values, places[at], earlier, slot) else {
+            continue;
+        };
+        if !admits(&slot.limit, value) {
+            return Ok(Filled::State(Blocked::Range(slot.name)));
         }
+        inputs.push(input_of(slot, value))?;
     }
-    Ok(inputs)
+    Ok(Filled::Inputs(Items::from_vec(inputs)))
 }

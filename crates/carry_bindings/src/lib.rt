@@ -3,6 +3,7 @@
 
 mod carried;
 mod filling;
+mod names;
 
 pub use carried::Earlier;
 pub use filling::{Blocked, Filled, fill};

@@ -1,23 +1,29 @@
 -- The list of names and the list of numbers that values are kept as.
-use Rattle.std.proofs.Common.{◌≡◌, ℕ, zero, suc, ◌<◌, ◌≤◌, List, [], ◌∷◌, ◌++◌, length, get_or, refl, sym, ap, subst, ◌∙◌, arith, Result, Ok, Err}
-use Rattle.std.specs.Prelude.{map, IfOk, IfErr}
+use Rattle.std.proofs.Common.{◌≡◌, ℕ, zero, suc, ◌<◌, ◌≤◌, List, [], ◌∷◌, ◌++◌, length, get_or, add-one, refl, sym, ap, subst, ◌∙◌, arith, Result, Ok, Err, inl, inr}
+use Rattle.std.specs.Prelude.{map, option_map, option_and_then, Bool, if◌then◌else◌, IfOk, IfErr, Option, Some, None, true, false, ◌-◌, ◌+◌, ◌⊎◌}
+use Rattle.std.specs.List.{slice_get}
+use Rattle.std.proofs.lemmas.Option.{slice_get-get_or, slice_get_cases}
+use Rattle.std.specs.Str.{bytes_eq}
+use Rattle.std.proofs.lemmas.Map.Text.{is_eq-slice_cmp}
 use Rattle.std.specs.List.{insert}
 use Rattle.std.specs.List.Sorted.{IsBinarySearchResult, IsSearchInRange}
 use Rattle.std.specs.declared.cmp.Ordering.{Ordering}
 use Rattle.std.specs.declared.cmp.Ordering.TheVariants.{Equal, Less, Greater}
-use Rattle.std.specs.Ordering.{ordering_index}
+use Rattle.std.specs.Ordering.{ordering_index, is_eq, is_lt}
 use Rattle.std.specs.Cmp.Lexicographic.{nat_list_cmp_total}
 use Rattle.std.proofs.lemmas.Cmp.{tied_itself}
-use Rattle.std.proofs.lemmas.List.{get_or-map}
+use Rattle.std.proofs.lemmas.List.{get_or-map, get_or_default}
 use Rattle.std.proofs.lemmas.List.Edits.{length-insert}
 use Rattle.std.proofs.Math.ListN.{get_or-map as map_at, length-map}
+use Rattle.std.proofs.lemmas.Slice.Eq.{bytes_eq-Decides}
+use Rattle.std.proofs.lemmas.Bool.{false≢true}
 use Rattle.scaled_decimal.specs.Decimals.{Decimal}
 use Rattle.rising_lists.specs.Keyed.{IsRising}
-use Rattle.rising_lists.specs.Places.{Finds, Misses}
-use Rattle.rising_lists.proofs.Laws.{found, put_rising}
+use Rattle.rising_lists.specs.Places.{IsAt, IsGap, Finds, Misses}
+use Rattle.rising_lists.proofs.Laws.{above_all, at_tail, found, gap_first, gap_tail, misses, put_rising, rising_far, searched}
 use Rattle.payroll_records.specs.Tables.{Text}
-use Rattle.payroll_records.specs.NamedValues.{name_cmp, name_of, with_value}
-use Rattle.payroll_records.specs.ValueViews.{IsKeptAs, named_numbers}
+use Rattle.payroll_records.specs.NamedValues.{name_cmp, name_of, place_at, value_at, with_value}
+use Rattle.payroll_records.specs.ValueViews.{IsKeptAs, is_beyond, named_numbers, stands_at}
 use Rattle.payroll_records.specs.declared.values.NamedValue.{NamedValue}
 
 -- each of both lists is there whole
@@ -86,6 +92,143 @@ places names numbers name r kept bound searched =
     found name_cmp nat_list_cmp_total name_of values name r kept.are.rising
     (subst (IsSearchInRange r) (kept.same ∙ sym (named_length names numbers kept.same)) bound)
     (searched_by (λ n. name_cmp n name) name_of values r (subst (λ ns. IsBinarySearchResult (λ n. name_cmp n name) ns r) (sym (names_are names numbers kept.same)) searched))
+
+-- ---- where the value of a name stands
+
+abbrev pub ok_or_none : Result ℕ ℕ → Option ℕ
+ok_or_none (Ok i) = Some i
+ok_or_none (Err i) = None
+
+same_name : (a b : Text) (o : Ordering) → name_cmp a b ≡ o → bytes_eq a b ≡ is_eq o
+same_name a b o e = sym (is_eq-slice_cmp a b) ∙ ap is_eq e
+
+equal_of : (o : Ordering) → is_eq o ≡ true → o ≡ Equal
+equal_of Less h = cc
+equal_of Equal h = refl
+equal_of Greater h = cc
+
+place_here : (values : List NamedValue) (name : Text) (i : ℕ) → IsAt name_cmp name_of values name i → place_at values name ≡ Some i
+place_here [] name i h = absurd (omega (arith, h.within))
+place_here (v ∷ values) name zero h = rw (same_name v.name name Equal (h.here v)) refl
+place_here (v ∷ values) name (suc i) h =
+    rw (same_name v.name name Less (h.before 0 v (omega arith)), place_here values name i (at_tail name_cmp nat_list_cmp_total name_of v values name i h))
+    (ap (λ n. Some n) (omega arith))
+
+place_gap : (values : List NamedValue) (name : Text) (i : ℕ) → IsGap name_cmp name_of values name i → place_at values name ≡ None
+place_gap [] name i h = refl
+place_gap (v ∷ values) name zero h =
+    rw (same_name v.name name Greater (h.after 0 v (omega arith) (omega arith)), place_gap values name zero (gap_first name_cmp nat_list_cmp_total name_of v values name h)) refl
+place_gap (v ∷ values) name (suc i) h =
+    rw (same_name v.name name Less (h.before 0 v (omega arith)), place_gap values name i (gap_tail name_cmp nat_list_cmp_total name_of v values name i h)) refl
+
+-- what a binary search of the names finds
+pub placed : (names : List Text) (numbers : List Decimal) (name : Text) (r : Result ℕ ℕ) → IsKeptAs names numbers → IsSearchInRange r (length names) → IsBinarySearchResult (λ n. name_cmp n name) names r →
+    place_at (named_numbers names numbers) name ≡ ok_or_none r
+placed names numbers name r kept bound found_at =
+    let values = named_numbers names numbers in
+    by r (searched name_cmp nat_list_cmp_total name_of values name r kept.are.rising
+    (subst (IsSearchInRange r) (kept.same ∙ sym (named_length names numbers kept.same)) bound)
+    (searched_by (λ n. name_cmp n name) name_of values r (subst (λ ns. IsBinarySearchResult (λ n. name_cmp n name) ns r) (sym (names_are names numbers kept.same)) found_at)))
+  where
+    by : (r : Result ℕ ℕ) → record { found : IfOk r (IsAt name_cmp name_of (named_numbers names numbers) name); absent : IfErr r (IsGap name_cmp name_of (named_numbers names numbers) name) } →
+        place_at (named_numbers names numbers) name ≡ ok_or_none r
+    by (Ok i) h = place_here (named_numbers names numbers) name i h.found
+    by (Err i) h = place_gap (named_numbers names numbers) name i h.absent
+
+-- a name that stands at a guessed place
+guessed_at : (values : List NamedValue) (name n : Text) (i : ℕ) → IsRising name_cmp name_of values → slice_get (map name_of values) i ≡ Some n → bytes_eq n name ≡ true → i < length values → get_or (map name_of values) i n ≡ n →
+    IsAt name_cmp name_of values name i
+guessed_at values name n i up at same within there = record {
+  within = within;
+  before = λ j d lt. subst (λ m. name_cmp (get_or values j d).name m ≡ Less) (is_name d) (rising_far name_cmp nat_list_cmp_total name_of values j i d up lt within);
+  here = λ d. subst (λ m. name_cmp m name ≡ Equal) (sym (is_name d ∙ sym named)) equal;
+}
+  where
+    equal : name_cmp n name ≡ Equal
+    equal = equal_of _ (is_eq-slice_cmp n name ∙ same)
+
+    named : n ≡ name
+    named = (bytes_eq-Decides n name).0 same
+
+    is_name : (d : NamedValue) → (get_or values i d).name ≡ name
+    is_name d =
+        sym (map_at name_of values i d) ∙ get_or_default (map name_of values) i d.name n (omega (arith, within, length-map values name_of)) ∙ there ∙ named
+
+guessed_value : (values : List NamedValue) (name : Text) (i : ℕ) → IsRising name_cmp name_of values → stands_at (map name_of values) i name ≡ true → place_at values name ≡ Some i
+guessed_value values name i up h = by (slice_get_cases (map name_of values) i).1
+  where
+    by : ((n : Text) × (i < length (map name_of values)) × (slice_get (map name_of values) i ≡ Some n) × (get_or (map name_of values) i n ≡ n)) ⊎ ((length (map name_of values) ≤ i) × (slice_get (map name_of values) i ≡ None)) → place_at values name ≡ Some i
+    by (inl p) =
+        let same : bytes_eq p.0 name ≡ true = rw p.2 at h in
+        place_here values name i (guessed_at values name p.0 i up p.2 same (omega (arith, p.1, length-map values name_of)) p.3)
+    by (inr p) = absurd (false≢true (rw p.1 at h))
+
+pub guessed : (names : List Text) (numbers : List Decimal) (name : Text) (i : ℕ) → IsKeptAs names numbers → stands_at names i name ≡ true → place_at (named_numbers names numbers) name ≡ Some i
+guessed names numbers name i kept h =
+    guessed_value (named_numbers names numbers) name i kept.are.rising (subst (λ ns. stands_at ns i name ≡ true) (sym (names_are names numbers kept.same)) h)
+
+-- what stands under a name stands at its place
+pub at_place : (values : List NamedValue) (name : Text) → value_at values name ≡ option_and_then (slice_get values) (place_at values name)
+at_place [] name = refl
+at_place (v ∷ values) name = rw (is_eq-slice_cmp v.name name) (by (bytes_eq v.name name) (place_at values name) (at_place values name))
+  where
+    by : (b : Bool) (p : Option ℕ) → value_at values name ≡ option_and_then (slice_get values) p →
+        (if b then Some v else value_at values name) ≡ option_and_then (slice_get (v ∷ values)) (if b then Some 0 else option_map (λ i. i + 1) p)
+    by true p h = refl
+    by false None h = h
+    by false (Some k) h = rw add-one h
+
+pub place_within : (values : List NamedValue) (name : Text) (i : ℕ) → place_at values name ≡ Some i → i < length values
+place_within [] name i h = absurd (cc h)
+place_within (v ∷ values) name i h = by (bytes_eq v.name name) (place_at values name) (λ k e. place_within values name k e) h
+  where
+    by : (b : Bool) (p : Option ℕ) → ((k : ℕ) → p ≡ Some k → k < length values) → (if b then Some 0 else option_map (λ i. i + 1) p) ≡ Some i → i < length (v ∷ values)
+    by true p more e = let z : 0 ≡ i = cc e in omega (arith, z)
+    by false None more e = absurd (cc e)
+    by false (Some k) more e = let z : k + 1 ≡ i = cc e in omega (arith, z, more k refl)
+
+-- ---- a name behind all others
+
+less_of : (o : Ordering) → is_lt o ≡ true → o ≡ Less
+less_of Less h = refl
+less_of Equal h = cc
+less_of Greater h = cc
+
+-- where the last name is below a name, each is
+each_below : (values : List NamedValue) (name : Text) (i j : ℕ) (d : NamedValue) → IsRising name_cmp name_of values → suc i ≡ length values → name_cmp (get_or values i d).name name ≡ Less →
+    j < length values → name_cmp (get_or values j d).name name ≡ Less
+each_below [] name i j d h e l lt = absurd (omega arith)
+each_below (v ∷ []) name zero zero d h e l lt = l
+each_below (v ∷ []) name zero (suc j) d h e l lt = absurd (omega arith)
+each_below (v ∷ []) name (suc i) j d h e l lt = absurd (omega arith)
+each_below (v ∷ (w ∷ values)) name zero j d h e l lt = absurd (omega arith)
+each_below (v ∷ (w ∷ values)) name (suc i) zero d h e l lt =
+    nat_list_cmp_total.trans v.name (get_or (w ∷ values) i d).name name (above_all name_cmp nat_list_cmp_total name_of v.name (w ∷ values) i d h.0 (omega arith)) l
+each_below (v ∷ (w ∷ values)) name (suc i) (suc j) d h e l lt = each_below (w ∷ values) name i j d h.1 (omega arith) l (omega arith)
+
+last_below : (values : List NamedValue) (name : Text) (j : ℕ) (d : NamedValue) → IsRising name_cmp name_of values → is_beyond (map name_of values) name ≡ true → j < length values →
+    name_cmp (get_or values j d).name name ≡ Less
+last_below [] name j d h b lt = absurd (omega arith)
+last_below (v ∷ values) name j d h b lt =
+    let i = length values in
+    let names = map name_of (v ∷ values) in
+    let same : length names - 1 ≡ i = omega (arith, length-map (v ∷ values) name_of) in
+    let last : slice_get names (length names - 1) ≡ Some (get_or (v ∷ values) i d).name =
+    ap (slice_get names) same ∙ slice_get-get_or names i d.name (omega (arith, length-map (v ∷ values) name_of)) ∙ ap (λ n. Some n) (map_at name_of (v ∷ values) i d) in
+    let below : is_lt (name_cmp (get_or (v ∷ values) i d).name name) ≡ true = rw last at b in
+    each_below (v ∷ values) name i j d h refl (less_of _ below) lt
+
+pub beyond : (names : List Text) (numbers : List Decimal) (name : Text) → IsKeptAs names numbers → is_beyond names name ≡ true →
+    Misses name_cmp name_of (named_numbers names numbers) name (length names)
+beyond names numbers name kept b =
+    let values = named_numbers names numbers in
+    let same = named_length names numbers kept.same in
+    let b2 : is_beyond (map name_of values) name ≡ true = subst (λ ns. is_beyond ns name ≡ true) (sym (names_are names numbers kept.same)) b in
+    misses name_cmp nat_list_cmp_total name_of values name (length names) (record {
+      within = omega (arith, same, kept.same);
+      before = λ j d lt. last_below values name j d kept.are.rising b2 (omega (arith, lt, same, kept.same));
+      after = λ j d le lt. absurd (omega (arith, le, lt, same, kept.same));
+    })
 
 -- a value put where none of its name stands
 module _ (names : List Text) (numbers : List Decimal) (i : ℕ) (v : NamedValue) (kept : IsKeptAs names numbers) (gap : Misses name_cmp name_of (named_numbers names numbers) v.name i) where

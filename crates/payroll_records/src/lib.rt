@@ -5,6 +5,7 @@ mod day;
 mod employee;
 mod header;
 mod month;
+mod names;
 mod record;
 mod row;
 mod rows;

@@ -1,16 +1,14 @@
 //! Values under names.
-ghost use Rattle.std.specs.Prelude.{◌≡◌, ◌↔◌, ◌<◌, ◌≤◌, [], length, map, IsSome, IsNone, OnOk, OnErr, IfOk, IfErr, Err, option_map};
-ghost use Rattle.std.specs.List.{insert};
-ghost use Rattle.std.specs.Rc.{rc_slice_items};
+ghost use Rattle.std.specs.Prelude.{◌≡◌, ◌↔◌, ◌<◌, ◌≤◌, [], length, map, IsSome, IsNone, OnOk, OnErr, IfOk, IfErr, IfSome, Err, option_map};
 ghost use Rattle.rising_lists.specs.Places.{Finds, Misses};
-ghost use Rattle.payroll_records.specs.NamedValues.{AreValues, name_cmp, name_of, value_at, with_value};
-ghost use Rattle.payroll_records.specs.ValueViews.{IsKeptAs, listed, named_numbers};
+ghost use Rattle.payroll_records.specs.NamedValues.{AreValues, name_cmp, name_of, place_at, value_at, with_value};
+ghost use Rattle.payroll_records.specs.ValueViews.{IsKeptAs, is_beyond, named_numbers, stands_at};
 
+use crate::names::{Names, shared};
 use pap_tree::Name;
 use scaled_decimal::Dec;
 use std::alloc::{AllocError, Global};
 use std::marker::Model;
-use std::rc::RcSlice;
 use thiserror::Error;
 
 /// A value under a name: an input of a run, or an output.
@@ -23,11 +21,10 @@ pub struct NamedValue {
 /// The values of a record: at most 256, each under a name of its own. They are kept in order of the names' bytes, whatever
 /// order they came in, and contracts see them as the list of them.
 ///
-/// The names are a list apart, which never changes once it is made, so that the records of a table can share it.
+/// The names are a list apart, so that the records of a table can share it.
 #[derive(Debug, Drop)]
 pub struct Values {
-    /// `None` as long as there are none.
-    names: Option<RcSlice<Name>>,
+    names: Names,
     /// The value of each name.
     numbers: Vec<Dec>,
 }
@@ -62,9 +59,19 @@ impl Values {
         ensures { result ≡ [] }
     {
         Values {
-            names: None,
+            names: Names::Own(Vec::new(alloc)),
             numbers: Vec::new(alloc),
         }
+    }
+
+    /// No values, with room for so many.
+    pub fn with_room(alloc: Global, count: usize) -> Result<Values, AllocError>
+        ensures { IfOk result (λ values. values ≡ []) }
+    {
+        Ok(Values {
+            names: Names::Own(Vec::with_capacity(alloc, count)?),
+            numbers: Vec::with_capacity(alloc, count)?,
+        })
     }
 
     /// The values of these names, each at its place. Where `before` has the same names, both share one list of them.
@@ -76,8 +83,11 @@ impl Values {
         requires { IsKeptAs names.items numbers.items }
         ensures { IfOk result (λ values. values ≡ named_numbers names.items numbers.items) }
     {
-        let names = Some(shared(names, before)?);
-        Ok(Values { names, numbers })
+        let names = shared(names, before.map(|values| &values.names))?;
+        Ok(Values {
+            names: Names::Shared(names),
+            numbers,
+        })
     }
 
     /// The names of the values, in order.
@@ -85,7 +95,7 @@ impl Values {
         ensures all { result.now ≡ map name_of self.now }
         ensures are { AreValues self.now }
     {
-        listed(&self.names)
+        self.names.as_slice()
     }
 
     /// The values in order of their names, each at the place of its name.
@@ -102,6 +112,21 @@ impl Values {
     {
         match self.place(name) {
             Ok(at) => Some(self.numbers[at]),
+            Err(_) => None,
+        }
+    }
+
+    /// Where the value of a name stands. It is looked for at `guess` first, where names that are asked for in order often are.
+    pub fn place_of(&self, name: &Name, guess: usize) -> Option<usize>
+        ensures place { result ≡ place_at self.now name.now }
+        ensures few { IfSome result (λ at. at < 256) }
+    {
+        let names = self.names.as_slice();
+        if stands_at(names, guess, name) {
+            return Some(guess);
+        }
+        match names.binary_search(name) {
+            Ok(at) => Some(at),
             Err(_) => None,
         }
     }
@@ -136,8 +161,7 @@ impl Values {
         self.numbers.len()
     }
 
-    /// Puts a value under a new name, at its place, and makes a new list of the names. Without memory the values are as
-    /// before.
+    /// Puts a value under a new name, at its place. Without memory the values are as before.
     fn insert_at(&mut self, at: usize, item: NamedValue) -> Result<(), AllocError>
         requires gap { Misses name_cmp name_of self.old item.name at }
         requires few { length self.old < 256 }
@@ -145,9 +169,9 @@ impl Values {
         ensures err { OnErr result (self.new ≡ self.old) }
     {
         let alloc = *self.numbers.allocator();
-        let names = with_name(alloc, listed(&self.names), at, item.name)?;
+        self.numbers.reserve(1)?;
+        self.names.insert(alloc, at, item.name)?;
         self.numbers.insert(at, item.value)?;
-        self.names = Some(names);
         Ok(())
     }
 
@@ -156,47 +180,30 @@ impl Values {
         ensures found { IfOk result (Finds name_cmp name_of self.now name.now) }
         ensures absent { IfErr result (Misses name_cmp name_of self.now name.now) }
     {
-        listed(&self.names).binary_search(name)
-    }
-}
-
-/// The names that a list has.
-fn listed(names: &Option<RcSlice<Name>>) -> &[Name]
-    ensures { result.now ≡ listed names.now }
-{
-    match names {
-        Some(names) => names.as_slice(),
-        None => &[],
-    }
-}
-
-/// A list of the names: that of `before` where it is the same, and else a new one.
-fn shared(names: Vec<Name>, before: Option<&Values>) -> Result<RcSlice<Name>, AllocError>
-    ensures { IfOk result (λ list. rc_slice_items list ≡ names.items) }
-{
-    if let Some(before) = before {
-        if let Some(list) = &before.names {
-            if list.as_slice() == names.as_slice() {
-                return list.clone();
-            }
+        let names = self.names.as_slice();
+        if is_beyond(names, name) {
+            return Err(names.len());
         }
+        names.binary_search(name)
     }
-    RcSlice::from_vec(names)
 }
 
-/// A new list of the names with one more, at a place.
-fn with_name(
-    alloc: Global,
-    names: &[Name],
-    at: usize,
-    name: Name,
-) -> Result<RcSlice<Name>, AllocError>
-    requires within { at ≤ length names.now }
-    requires few { length names.now < 256 }
-    ensures { IfOk result (λ list. rc_slice_items list ≡ insert names.now at name) }
+/// Whether a name stands at a place of a list.
+fn stands_at(names: &[Name], at: usize, name: &Name) -> bool
+    ensures { result ≡ stands_at names.now at name.now }
 {
-    let mut longer = Vec::with_capacity(alloc, names.len() + 1)?;
-    longer.extend_from_slice(names)?;
-    longer.insert(at, name)?;
-    RcSlice::from_vec(longer)
+    match names.get(at) {
+        Some(there) => *there == *name,
+        None => false,
+    }
+}
+
+/// Whether a name goes behind all names of a list in order, as where values come in order.
+fn is_beyond(names: &[Name], name: &Name) -> bool
+    ensures { result ≡ is_beyond names.now name.now }
+{
+    match names.last() {
+        Some(last) => *last < *name,
+        None => true,
+    }
 }

@@ -24,6 +24,15 @@ underway_more o m n whole piece rest h a =
       appended = Appends-then o m n h.done piece h.appended a;
     }
 
+-- a piece is gathered behind others, which are to be put together
+pub underway_longer : (o m : Option (List ℕ)) (whole rows piece rest longer : List ℕ) → IsUnderway o m whole (rows ++ (piece ++ rest)) → longer ≡ rows ++ piece → IsUnderway o m whole (longer ++ rest)
+underway_longer o m whole rows piece rest longer h e =
+    record {
+      done = h.done;
+      parts = h.parts ∙ ap (λ t. h.done ++ t) (sym (append_assoc rows piece rest) ∙ ap (λ t. t ++ rest) (sym e));
+      appended = h.appended;
+    }
+
 -- it stops before a piece, or in it
 pub underway_front : (o m : Option (List ℕ)) (whole rest : List ℕ) → IsUnderway o m whole rest → AppendsFront o m whole
 underway_front o m whole rest h = record { front = h.done; rest = rest; parts = h.parts; appended = h.appended }

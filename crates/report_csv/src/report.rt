@@ -1,16 +1,20 @@
 //! The whole report.
-ghost use Rattle.std.specs.Prelude.{◌≡◌, OnErr, OnOk};
+ghost use Rattle.std.specs.Prelude.{◌≡◌, ◌++◌, OnErr, OnOk};
 ghost use Rattle.outside.specs.Causes.{Caused};
 ghost use Rattle.outside.specs.Told.{Appends};
 ghost use Rattle.report_csv.specs.ReportTexts.{months_text, report_text};
 ghost use Rattle.report_csv.specs.Fronts.{AppendsFront};
 ghost use Rattle.report_csv.specs.declared.report.ReportFault.TheVariants.{Memory, Write};
 
-use crate::run::{header_text, run_text};
+use crate::rows::Rows;
+use crate::run::{with_header, with_run};
 use outside::{Failed, Sink, put_all};
 use recalc_engine::{Book, Months};
 use std::alloc::{AllocError, Global};
 use thiserror::Error;
+
+/// From how many bytes on the rows are handed to the sink.
+const PIECE: usize = 32_768;
 
 /// Why a report was not written whole.
 #[derive(Debug, Drop, Error)]
@@ -46,22 +50,42 @@ pub fn write_report<W: Sink>(alloc: Global, book: &Book, sink: &mut W) -> Result
         (AppendsFront (W.written sink.old) (W.written sink.new) (report_text book.now)) }
     ensures cause { Caused Write (W.faults sink.old) (W.faults sink.new) result }
 {
-    let header = header_text(alloc)?;
-    put_all(sink, header.as_slice())?;
-    write_months(alloc, book.months(), sink)
+    let rows = with_header(Rows::new(alloc)?)?;
+    write_months(alloc, rows, book.months(), sink)
 }
 
-/// Writes the rows of these runs.
-fn write_months<W: Sink>(alloc: Global, months: Months, sink: &mut W) -> Result<(), ReportFault>
+/// Writes these rows, and then those of these runs.
+fn write_months<W: Sink>(
+    alloc: Global,
+    rows: Rows,
+    months: Months,
+    sink: &mut W,
+) -> Result<(), ReportFault>
     ensures ok { OnOk result
-        (Appends (W.written sink.old) (W.written sink.new) (months_text months.entry)) }
+        (Appends (W.written sink.old) (W.written sink.new) (rows ++ months_text months.entry)) }
     ensures err { OnErr result
-        (AppendsFront (W.written sink.old) (W.written sink.new) (months_text months.entry)) }
+        (AppendsFront (W.written sink.old) (W.written sink.new) (rows ++ months_text months.entry)) }
     ensures cause { Caused Write (W.faults sink.old) (W.faults sink.new) result }
 {
+    let mut rows = rows;
     for row in months {
-        let text = run_text(alloc, &row.key, row.plan, row.state)?;
-        put_all(sink, text.as_slice())?;
+        rows = with_run(alloc, rows, &row.key, row.plan, row.state)?;
+        if rows.least_length() >= PIECE {
+            let room = put_rows(rows, sink)?;
+            rows = Rows::in_room(alloc, room)?;
+        }
     }
+    put_rows(rows, sink)?;
     Ok(())
+}
+
+/// Writes these rows, and gives the vector of their text back.
+fn put_rows<W: Sink>(rows: Rows, sink: &mut W) -> Result<Vec<u8>, ReportFault>
+    ensures ok { OnOk result (Appends (W.written sink.old) (W.written sink.new) rows) }
+    ensures err { OnErr result (AppendsFront (W.written sink.old) (W.written sink.new) rows) }
+    ensures cause { Caused Write (W.faults sink.old) (W.faults sink.new) result }
+{
+    let text = rows.into_text()?;
+    put_all(sink, text.as_slice())?;
+    Ok(text)
 }

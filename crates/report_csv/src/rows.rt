@@ -1,5 +1,5 @@
 //! Rows of a CSV text in memory.
-ghost use Rattle.std.specs.Prelude.{◌≡◌, ◌<◌, ◌++◌, [], IfOk, length, map};
+ghost use Rattle.std.specs.Prelude.{◌≡◌, ◌<◌, ◌≤◌, ◌++◌, [], IfOk, length, map};
 ghost use Rattle.std.specs.List.{AllByRecursion};
 ghost use Rattle.report_csv.specs.Reports.{row_line};
 ghost use Rattle.report_csv.specs.Views.{IsPlain};
@@ -11,7 +11,8 @@ use std::marker::Model;
 /// The rows that were written so far. Contracts see them as their text.
 #[derive(Drop)]
 pub(crate) struct Rows {
-    writer: Writer<Vec<u8>>,
+    /// In a box, since its buffer is large to move.
+    writer: Box<Writer<Vec<u8>>>,
 }
 
 impl Model for Rows {
@@ -20,19 +21,29 @@ impl Model for Rows {
 
     ghost Value = { List ℕ };
 
-    ghost view = { λ rows. written rows.writer };
+    ghost view = { λ rows. written rows.writer.value };
 
-    ghost invariant = { λ rows. IsBetweenRows rows.writer };
+    ghost invariant = { λ rows. IsBetweenRows rows.writer.value };
 }
 
 impl Rows {
     /// No rows.
-    pub(crate) fn new(alloc: Global) -> Rows
-        ensures { result ≡ [] }
+    pub(crate) fn new(alloc: Global) -> Result<Rows, AllocError>
+        ensures { IfOk result (λ rows. rows ≡ []) }
     {
-        Rows {
-            writer: WriterBuilder::new().from_writer(Vec::new(alloc)),
-        }
+        Rows::in_room(alloc, Vec::new(alloc))
+    }
+
+    /// No rows, which are to be written over the bytes of a text.
+    pub(crate) fn in_room(alloc: Global, room: Vec<u8>) -> Result<Rows, AllocError>
+        ensures { IfOk result (λ rows. rows ≡ []) }
+    {
+        let mut room = room;
+        room.clear();
+        let writer = WriterBuilder::new().from_writer(room);
+        Ok(Rows {
+            writer: Box::new(alloc, writer)?,
+        })
     }
 
     /// The rows with one more, whose fields need no quotes. Over memory `csv` has no other fault than want of memory.
@@ -48,12 +59,19 @@ impl Rows {
         }
     }
 
+    /// How many bytes the rows have, but for those that `csv` has not handed on yet.
+    pub(crate) fn least_length(&self) -> usize
+        ensures { result ≤ length self.now }
+    {
+        self.writer.get_ref().len()
+    }
+
     /// The text of the rows.
     pub(crate) fn into_text(self) -> Result<Vec<u8>, AllocError>
         ensures { IfOk result (λ text. text.items ≡ self) }
     {
         let Rows { writer } = self;
-        match writer.into_inner() {
+        match Box::into_inner(writer).into_inner() {
             Ok(text) => Ok(text),
             Err(_) => Err(AllocError),
         }

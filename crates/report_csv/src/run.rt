@@ -11,11 +11,11 @@ use carry_bindings::Blocked;
 use payroll_records::{Day, Key, NamedValue};
 use std::alloc::{AllocError, Global};
 
-/// The first row of a report.
-pub(crate) fn header_text(alloc: Global) -> Result<Vec<u8>, AllocError>
-    ensures { IfOk result (λ text. text.items ≡ row_line header) }
+/// The rows with the first row of a report.
+pub(crate) fn with_header(rows: Rows) -> Result<Rows, AllocError>
+    ensures { IfOk result (λ more. more ≡ rows ++ row_line header) }
 {
-    let rows = Rows::new(alloc).with(&[
+    rows.with(&[
         b"employee",
         b"month",
         b"day",
@@ -23,25 +23,24 @@ pub(crate) fn header_text(alloc: Global) -> Result<Vec<u8>, AllocError>
         b"state",
         b"name",
         b"value",
-    ])?;
-    rows.into_text()
+    ])
 }
 
-/// The rows of a run: one for each of its outputs in declared order, or one where it isn't ok.
-pub(crate) fn run_text(
+/// The rows with those of a run: one for each of its outputs in declared order, or one where it isn't ok.
+pub(crate) fn with_run(
     alloc: Global,
+    rows: Rows,
     key: &Key,
     plan: Option<Day>,
     state: &State,
-) -> Result<Vec<u8>, AllocError>
-    ensures { IfOk result (λ text. text.items ≡ run_text key.now plan state.now) }
+) -> Result<Rows, AllocError>
+    ensures { IfOk result (λ more. more ≡ rows ++ run_text key.now plan state.now) }
 {
     let front = Front::new(alloc, key, plan)?;
-    let rows = with_state(alloc, Rows::new(alloc), &front, state)?;
-    rows.into_text()
+    with_state(alloc, rows, &front, state)
 }
 
-/// The rows with those of a run.
+/// The rows with those of a run, which begin with `front`.
 fn with_state(alloc: Global, rows: Rows, front: &Front, state: &State) -> Result<Rows, AllocError>
     ensures { IfOk result (λ more. more ≡ rows ++ rows_text (state_rows front.now state.now)) }
 {

@@ -94,7 +94,7 @@ fn read_values(alloc: Global, words: &[&[u8]]) -> Result<Values, LineFault>
     ensures ok { IfOk result (AreValueWords (texts words.now)) }
     ensures err { IfErr result (BreaksIn (value_fields [] (texts words.now))) }
 {
-    let mut values = Values::new(alloc);
+    let mut values = Values::with_room(alloc, words.len())?;
     let mut number = FIRST_VALUE;
     for word in words {
         let Some(value) = NamedValue::read(word) else {

@@ -1,0 +1,27 @@
+use Rattle.std.proofs.Common.{refl, arith, ap, length, ◌∙◌}
+use Rattle.payroll_records.specs.ValueViews.{listed, named_numbers}
+use Rattle.payroll_records.proofs.ValueLemmas.{guessed, placed, place_within}
+use Rattle.payroll_records.proofs.values.Values.place_of.Goals as goal
+
+pub returns-then-stands_at : goal.returns-then-stands_at
+returns-then-stands_at c =
+    let there = rw (c.stands_at.ensures, c.as_slice-names.ensures) at c.if-stands_at.true in
+    let at = guessed (listed c.self.inside.names) c.self.inside.numbers.items c.args.name.now c.args.guess c.self.invariant there in
+    let within = place_within (named_numbers (listed c.self.inside.names) c.self.inside.numbers.items) c.args.name.now c.args.guess at in
+    rw (← c.self.view_is, at) (record { place = refl; few = omega (arith, within, c.self.invariant.are.few) })
+
+pub returns-in-Ok : goal.returns-in-Ok
+returns-in-Ok c =
+    let facts = c.binary_search.ensures in
+    let at = placed (listed c.self.inside.names) c.self.inside.numbers.items c.args.name.now c.binary_search.result c.self.invariant
+    (rw c.as_slice-names.ensures at facts.bound) (rw c.as_slice-names.ensures at facts.position) in
+    let here = rw c.in-Ok.is at at in
+    let within = place_within (named_numbers (listed c.self.inside.names) c.self.inside.numbers.items) c.args.name.now c.in-Ok.at here in
+    rw (← c.self.view_is, here) (record { place = refl; few = omega (arith, within, c.self.invariant.are.few) })
+
+pub returns-in-Err-clause-place : goal.returns-in-Err-clause-place
+returns-in-Err-clause-place c =
+    let facts = c.binary_search.ensures in
+    let at = placed (listed c.self.inside.names) c.self.inside.numbers.items c.args.name.now c.binary_search.result c.self.invariant
+    (rw c.as_slice-names.ensures at facts.bound) (rw c.as_slice-names.ensures at facts.position) in
+    rw (← c.self.view_is, at, c.in-Err.is) refl
