@@ -15,6 +15,7 @@ look:
 demo: build
 	build/papcalc check examples/payroll_tax.xml examples/payroll_tax.toml
 	build/papcalc once examples/payroll_tax.xml examples/payroll_tax.toml PERIOD=2 PAY=450000 TAX_CLASS=1
+	build/papcalc run < examples/month.script
 
 test:
 	bash .ci/run

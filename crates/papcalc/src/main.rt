@@ -13,15 +13,22 @@ use std::process::ExitCode;
 use std::sync::ledger::{Blank, Ledger};
 use steps::Steps;
 
-const USAGE: &str = "usage: papcalc check PLAN LIMITS | papcalc once PLAN LIMITS NAME=VALUE ..";
+const USAGE: &str =
+    "usage: papcalc check PLAN LIMITS | papcalc once PLAN LIMITS NAME=VALUE .. | papcalc run < SCRIPT";
+
+const REFUSED_LINES: &str =
+    "papcalc: some lines of the script were refused: their answers begin with `refused`, and they changed nothing; \
+    of a refused plan `papcalc check PLAN LIMITS` says in plain words what is wrong";
 
 const VERSION: &str = "papcalc 0.1.0";
 
-const HELP: &str = "papcalc checks a wage tax flowchart and runs it
+const HELP: &str =
+    "papcalc checks a wage tax flowchart, runs it, and keeps a payroll report up to date under corrections
 
 usage:
   papcalc check PLAN LIMITS                  say whether every run of the flowchart is safe on inputs within their ranges
   papcalc once PLAN LIMITS NAME=VALUE ..     run the flowchart once on these inputs, at most 256 of them
+  papcalc run < SCRIPT                       carry out a script line by line
   papcalc --help                             write this text
   papcalc --version                          write the program's version
 
@@ -34,8 +41,21 @@ output, and then `steps N`. An input that isn't given has its default. Both writ
 where the flowchart or its range file is refused, or where an input is unknown, missing or outside its range; a second
 line, on standard error, says in plain words what that means, where it is in the file, and what helps.
 
-It ends with 0 where all was written, 1 where that is a refusal, 2 where the words are none of these, 3 where a file
-can't be read, 5 where the output can't be written, 6 where memory runs out.";
+lines of a script (DAY as 2026-01-31, MONTH as 2026-01, EMP a word for an employee):
+  plan DAY PLAN LIMITS                  from this day on, at most to the end of its year, this flowchart holds
+  drop DAY                              take the flowchart of this day away
+  add EMP MONTH DAY NAME=VALUE ..       a pay run of the employee on this day, with these inputs
+  change EMP MONTH DAY NAME=VALUE ..    in place of the run of this day, or else of the only one in the month
+  withdraw EMP DAY, withdraw EMP MONTH  take away the run of this day, or the only one in the month
+  load FILE                             the pay runs of a table: CSV with the columns employee,month,day and inputs' names
+  report                                all runs with their outputs, as CSV, and then `end`
+  work                                  `work RUNS STEPS`: what the last edit had to run
+  # ..                                  nothing: a comment
+An edit answers `ok`, and `plan` `accepted steps B`. A line that is refused answers `refused ..` and changes nothing.
+
+It ends with 0 where all was written, 1 where something of that is a refusal, 2 where the words are none of these, 3 where a
+file can't be read, 4 where standard input can't be read, 5 where the output can't be written, 6 where memory runs out, 7
+where the script is longer than 67108864 bytes.";
 
 /// Runs the words, and counts the steps of the run.
 fn counted<L: Ledger, F: Files, R: Source, W: Sink>(
@@ -88,8 +108,13 @@ fn explain(rt: &HostRuntime, status: Status, failed_name: Option<&str>) {
     };
 }
 
-/// Says on standard error why the answer is a refusal, in one line. That this may fail changes nothing.
+/// Says on standard error why the answer is a refusal, in one line; of a script, how its refusals are found. That this may fail
+/// changes nothing.
 fn explain_refusal(rt: &HostRuntime, words: &[String]) {
+    if words.len() == 1 {
+        let _ = eprintln!(rt; "{REFUSED_LINES}");
+        return;
+    }
     let mut files = RealFiles::new(rt);
     if let Ok(Some(reason)) = reason(rt.alloc(), words, &mut files) {
         let _ = eprintln!(rt; "papcalc: {reason}");
