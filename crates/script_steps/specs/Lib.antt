@@ -1,0 +1,4 @@
+pub mod Steps
+pub mod Stops
+pub mod StepClauses
+pub mod StepLaws
