@@ -1,24 +1,18 @@
 -- The laws of the steps of lines, for crates above.
-use Rattle.std.proofs.Common.{inl, refl, sym, ◌∙◌}
-use Rattle.script_steps.specs.Steps.{Names, IsStep, silence}
 use Rattle.script_steps.specs.StepLaws.{LinesHaveAStep, LinesHaveOneStep, FilesAreTold, LongLinesAreOne, LongLinesNameNoFile}
+use Rattle.script_steps.proofs.StepLemmas as steps
 
 pub some : LinesHaveAStep
-unfolding IsStep
-some files from line there = record { to = from; answer = silence; is = (refl, refl) }
+some = steps.some
 
 pub one : LinesHaveOneStep
-unfolding IsStep Names
-one files from line to to' answer answer' a b = ((λ name n. absurd n), a.0 ∙ sym b.0, a.1 ∙ sym b.1)
+one = steps.one
 
 pub told : FilesAreTold
-unfolding Names
-told files line = inl (λ name n. absurd n)
+told = steps.files_told
 
 pub long : LongLinesAreOne
-unfolding IsStep
-long files from to line other answer l o is = is
+long = steps.long
 
 pub alone : LongLinesNameNoFile
-unfolding Names
-alone line name l n = n
+alone = steps.long_alone

@@ -1,1 +1,4 @@
 pub mod Laws
+mod EditLemmas
+mod KindLemmas
+mod StepLemmas

@@ -1,6 +1,13 @@
 //! The lines of a script, carried out one by one: what a line answers, what it makes of the book, and what it counts.
 #![tactic(auto)]
 
+mod command;
+mod edits;
+mod load;
+mod plan;
+mod refusals;
+mod reply;
+mod report;
 mod script;
 mod step;
 mod stop;

@@ -1,22 +1,23 @@
 //! What the lines of a script have made so far.
 ghost use Rattle.std.specs.Prelude.{◌≡◌};
-ghost use Rattle.script_steps.specs.Steps.{start};
+ghost use Rattle.script_steps.specs.Standings.{start};
 
+use recalc_engine::Book;
 use std::alloc::Global;
 use std::marker::Model;
 
 /// What the lines of a script have made so far: a book.
 #[derive(Drop)]
 pub struct Script {
-    pub(crate) stub: u64,
+    pub(crate) book: Book,
 }
 
 impl Model for Script {
-    ghost use Rattle.script_steps.specs.Steps.{Standing};
+    ghost use Rattle.script_steps.specs.Standings.{Standing};
 
     ghost Value = { Standing };
 
-    ghost view = { λ s. record { stub = s.stub } };
+    ghost view = { λ s. record { book = s.book } };
 }
 
 impl Script {
@@ -24,7 +25,15 @@ impl Script {
     pub fn new(alloc: Global) -> Script
         ensures { result ≡ start }
     {
-        let _ = alloc;
-        Script { stub: 0 }
+        Script {
+            book: Book::new(alloc),
+        }
+    }
+
+    /// The book.
+    pub fn book(&self) -> &Book
+        ensures { result.now ≡ self.now.book }
+    {
+        &self.book
     }
 }

@@ -1,14 +1,19 @@
 //! A line of a script, answered.
-ghost use Rattle.std.specs.Prelude.{◌≡◌, ◌≢◌, ◌≤◌, IfOk, Err};
+ghost use Rattle.std.specs.Prelude.{◌≡◌, ◌≢◌, IfOk, Err};
 ghost use Rattle.std.specs.Result.{ForErr};
 ghost use Rattle.outside.specs.Causes.{Caused};
 ghost use Rattle.script_steps.specs.StepClauses.{IsAnswered, IsBroken};
 ghost use Rattle.script_steps.specs.StepLaws.{LinesHaveAStep, LinesHaveOneStep, FilesAreTold};
 ghost use Rattle.script_steps.specs.StepLaws.{LongLinesAreOne, LongLinesNameNoFile};
+ghost use Rattle.script_steps.specs.StepViews.{IsRefusalUnwritten, IsRefusalWritten};
 
+use crate::command::answer_command;
+use crate::refusals::line_refusal;
+use crate::reply::write_reply;
 use crate::script::Script;
 use crate::stop::LineStop;
 use outside::{Files, Sink};
+use script_lang::{LineFault, read_line};
 use std::alloc::Global;
 use std::sync::ledger::Ledger;
 use steps::Steps;
@@ -34,7 +39,22 @@ pub fn answer_line<F: Files, W: Sink, L: Ledger>(
     ensures write { Caused LineStop.Write (W.faults sink.old) (W.faults sink.new) result }
     ensures kept { result ≢ Err LineStop.File → F.failed files.new ≡ F.failed files.old }
 {
-    Err(LineStop::Memory)
+    match read_line(alloc, line) {
+        Ok(command) => answer_command(alloc, script, command, files, sink, steps),
+        Err(LineFault::Memory(_)) => Err(LineStop::Memory),
+        Err(fault) => answer_fault(alloc, &fault, sink),
+    }
+}
+
+/// Answers a line that is refused.
+fn answer_fault<W: Sink>(alloc: Global, fault: &LineFault, sink: &mut W) -> Result<bool, LineStop>
+    ensures ok { IfOk result (IsRefusalWritten (W.written sink.old) (W.written sink.new) fault.now) }
+    ensures err { ForErr result
+        (IsRefusalUnwritten (W.written sink.old) (W.written sink.new) fault.now) }
+    ensures write { Caused LineStop.Write (W.faults sink.old) (W.faults sink.new) result }
+{
+    let reply = line_refusal(alloc, fault)?;
+    write_reply(&reply, sink)
 }
 
 /// Every line whose files are there has one step. A line of more than 65,536 bytes is answered whatever its bytes are.
