@@ -1,5 +1,5 @@
 -- What an edit of the calendar promises: the runs stay, and what is kept of them is what the new calendar gives.
-use Rattle.std.specs.Prelude.{ℕ, ◌≡◌, List, IsSome, IsNone, length}
+use Rattle.std.specs.Prelude.{ℕ, ◌≡◌, ◌+◌, ◌<◌, List, IsSome, IsNone, length}
 use Rattle.payroll_records.specs.declared.day.Day.{Day}
 use Rattle.plan_calendar.specs.Picking.{Entry, pick, entry_at}
 use Rattle.pap_plan.specs.Plans.{Seen}
@@ -33,10 +33,10 @@ pub record IsReplan
 abbrev pub most_plans : ℕ
 most_plans = 64
 
--- there are 64 plans, and none of that day
+-- no plan has that day, and with one more there would be too many
 pub record IsFull (plans : List (Entry Seen)) (day : Day) : Type 0 where
   pub free : IsNone (entry_at plans day)
-  pub full : length plans ≡ most_plans
+  pub full : most_plans < length plans + 1
 
 abbrev pub IsPutRefused : List (Entry Seen) → Day → EditRefusal → Type 0
 IsPutRefused plans day refusal.Plans = IsFull plans day

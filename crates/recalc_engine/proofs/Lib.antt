@@ -1,3 +1,5 @@
+mod AnswerLemmas
 mod JobLemmas
+pub mod Laws
 mod MonthLemmas
 mod RowLemmas

@@ -1,5 +1,6 @@
 pub mod Contents
 pub mod Edits
+pub mod EditAnswers
 pub mod MonthRows
 pub mod MonthViews
 pub mod RowViews

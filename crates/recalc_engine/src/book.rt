@@ -1,14 +1,12 @@
 //! The book.
-ghost use Rattle.std.specs.Prelude.{◌≡◌, [], IfOk, IfErr, OnErr, IfSome, IfNone, IsSome, option_map};
+ghost use Rattle.std.specs.Prelude.{◌≡◌, [], OnErr, IfSome, IfNone, option_map};
 ghost use Rattle.std.specs.Option.{option_copied};
-ghost use Rattle.plan_calendar.specs.Picking.{entry_at, with_entry, without_day};
-ghost use Rattle.book_edits.specs.Books.{added, in_month, loaded, run_at, source_of, withdrawal};
-ghost use Rattle.book_edits.specs.Refusals.{CanAdd, CountsEdit, IsAddRefused, IsChangeRefused};
-ghost use Rattle.book_edits.specs.Refusals.{IsOne, IsWithdrawRefused};
-ghost use Rattle.book_edits.specs.Replans.{IsDropRefused, IsFull, IsPutRefused};
-ghost use Rattle.book_loads.specs.Loads.{AreDistinct, CanLoad, IsLoadRefused};
-ghost use Rattle.recalc_engine.specs.Contents.{IsEdit, cost_between, row_at, with_plans, with_years};
-ghost use Rattle.recalc_engine.specs.Edits.{with_change, with_withdrawal};
+ghost use Rattle.book_edits.specs.Books.{in_month, run_at};
+ghost use Rattle.book_edits.specs.Refusals.{CountsEdit};
+ghost use Rattle.book_loads.specs.Loads.{AreDistinct};
+ghost use Rattle.recalc_engine.specs.Contents.{cost_between, row_at};
+ghost use Rattle.recalc_engine.specs.EditAnswers.{EditsHaveOneAnswer, IsEdited, edited};
+ghost use Rattle.recalc_engine.specs.EditAnswers.{add, change, drop, load, put, withdraw};
 ghost use Rattle.recalc_engine.specs.MonthRows.{month_rows};
 ghost use Rattle.recalc_engine.specs.Jobs.{AdmitsInputs, HasNoOutputs, job_of_key, lent_job};
 
@@ -118,13 +116,10 @@ impl Book {
         item: Record,
         steps: &mut Steps<L>,
     ) -> Result<Work, EditRefusal>
-        ensures ok { IfOk result
-            (IsEdit self.old (with_years (added item self.old.years) self.old) self.new) }
-        ensures can { IfOk result (λ _. CanAdd self.old.years item) }
+        ensures answers { IsEdited self.old (add item) self.new result }
         ensures err { OnErr result (self.new ≡ self.old) }
-        ensures refused { IfErr result (IsAddRefused self.old.years item) }
         ensures counted { CountsEdit result steps.old steps.new
-            (cost_between self.old (with_years (added item self.old.years) self.old)) }
+            (cost_between self.old (edited (add item) self.old)) }
     {
         let work = self.years.add(&self.plans, item, steps)?;
         self.last = work;
@@ -138,12 +133,10 @@ impl Book {
         item: Record,
         steps: &mut Steps<L>,
     ) -> Result<Work, EditRefusal>
-        ensures ok { IfOk result (IsEdit self.old (with_change item self.old) self.new) }
-        ensures can { IfOk result (λ _. IsOne (source_of self.old.years item)) }
+        ensures answers { IsEdited self.old (change item) self.new result }
         ensures err { OnErr result (self.new ≡ self.old) }
-        ensures refused { IfErr result (IsChangeRefused self.old.years item) }
         ensures counted { CountsEdit result steps.old steps.new
-            (cost_between self.old (with_change item self.old)) }
+            (cost_between self.old (edited (change item) self.old)) }
     {
         let work = self.years.change(&self.plans, item, steps)?;
         self.last = work;
@@ -157,13 +150,10 @@ impl Book {
         when: When,
         steps: &mut Steps<L>,
     ) -> Result<Work, EditRefusal>
-        ensures ok { IfOk result
-            (IsEdit self.old (with_withdrawal employee when self.old) self.new) }
-        ensures can { IfOk result (λ _. IsOne (withdrawal self.old.years employee when)) }
+        ensures answers { IsEdited self.old (withdraw employee when) self.new result }
         ensures err { OnErr result (self.new ≡ self.old) }
-        ensures refused { IfErr result (IsWithdrawRefused self.old.years employee when) }
         ensures counted { CountsEdit result steps.old steps.new
-            (cost_between self.old (with_withdrawal employee when self.old)) }
+            (cost_between self.old (edited (withdraw employee when) self.old)) }
     {
         let work = self.years.withdraw(&self.plans, employee, when, steps)?;
         self.last = work;
@@ -177,14 +167,10 @@ impl Book {
         steps: &mut Steps<L>,
     ) -> Result<Work, EditRefusal>
         requires { AreDistinct items.items }
-        ensures ok { IfOk result
-            (IsEdit self.old (with_years (loaded items.items self.old.years) self.old) self.new) }
-        ensures can { IfOk result (λ _. CanLoad self.old.years items.items) }
+        ensures answers { IsEdited self.old (load items.items) self.new result }
         ensures err { OnErr result (self.new ≡ self.old) }
-        ensures refused { IfErr result (IsLoadRefused self.old.years items.items) }
         ensures counted { CountsEdit result steps.old steps.new
-            (cost_between self.old
-            (with_years (loaded items.items self.old.years) self.old)) }
+            (cost_between self.old (edited (load items.items) self.old)) }
     {
         let work = load(&self.plans, &mut self.years, items, steps)?;
         self.last = work;
@@ -198,14 +184,10 @@ impl Book {
         plan: Plan,
         steps: &mut Steps<L>,
     ) -> Result<Work, EditRefusal>
-        ensures ok { IfOk result (IsEdit self.old
-            (with_plans (with_entry (day, plan) self.old.plans) self.old) self.new) }
-        ensures can { IfOk result (λ _. IsFull self.old.plans day → ⊥) }
+        ensures answers { IsEdited self.old (put (day, plan)) self.new result }
         ensures err { OnErr result (self.new ≡ self.old) }
-        ensures refused { IfErr result (IsPutRefused self.old.plans day) }
         ensures counted { CountsEdit result steps.old steps.new
-            (cost_between self.old
-            (with_plans (with_entry (day, plan) self.old.plans) self.old)) }
+            (cost_between self.old (edited (put (day, plan)) self.old)) }
     {
         let work = put_plan(&mut self.plans, &mut self.years, day, plan, steps)?;
         self.last = work;
@@ -218,16 +200,18 @@ impl Book {
         day: Day,
         steps: &mut Steps<L>,
     ) -> Result<Work, EditRefusal>
-        ensures ok { IfOk result (IsEdit self.old
-            (with_plans (without_day day self.old.plans) self.old) self.new) }
-        ensures can { IfOk result (λ _. IsSome (entry_at self.old.plans day)) }
+        ensures answers { IsEdited self.old (drop day) self.new result }
         ensures err { OnErr result (self.new ≡ self.old) }
-        ensures refused { IfErr result (IsDropRefused self.old.plans day) }
         ensures counted { CountsEdit result steps.old steps.new
-            (cost_between self.old (with_plans (without_day day self.old.plans) self.old)) }
+            (cost_between self.old (edited (drop day) self.old)) }
     {
         let work = drop_plan(&mut self.plans, &mut self.years, day, steps)?;
         self.last = work;
         Ok(work)
     }
 }
+
+/// A law of the definitions: every edit of every book has one answer.
+pub fn edit_laws()
+    ensures { EditsHaveOneAnswer }
+{}
