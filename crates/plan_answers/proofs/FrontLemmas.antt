@@ -135,12 +135,12 @@ module _ (n m : ℕ) (more_plan : 1048576 < n) (more_limits : 262144 < m) where
     is = checked_front plan h.verdict a h.is;
   }
 
-there : (o : Option (List ℕ)) (n : ℕ) (bytes : List ℕ) → MatchOption o ⊥ (λ content. bytes ≡ take n content) → (content : List ℕ) × (o ≡ Some content) × (bytes ≡ take n content)
-there None n bytes h = absurd h
-there (Some content) n bytes h = (content, refl, h)
+pub front_there : (o : Option (List ℕ)) (n : ℕ) (bytes : List ℕ) → MatchOption o ⊥ (λ content. bytes ≡ take n content) → (content : List ℕ) × (o ≡ Some content) × (bytes ≡ take n content)
+front_there None n bytes h = absurd h
+front_there (Some content) n bytes h = (content, refl, h)
 
 pub fronts : (told told' : Option FileMap) (files : FileMap) (plan limits front front' : List ℕ) → told ≡ Some files → told' ≡ told → IsToldFront told plan 1048577 front → IsToldFront told' limits 262145 front' → AreFronts files plan limits front front'
 fronts told told' files plan limits front front' e same first second =
-    let p = there (files plan) 1048577 front (subst (λ t. IsToldFront t plan 1048577 front) e first) in
-    let l = there (files limits) 262145 front' (subst (λ t. IsToldFront t limits 262145 front') (same ∙ e) second) in
+    let p = front_there (files plan) 1048577 front (subst (λ t. IsToldFront t plan 1048577 front) e first) in
+    let l = front_there (files limits) 262145 front' (subst (λ t. IsToldFront t limits 262145 front') (same ∙ e) second) in
     record { plan_bytes = p.0; limits_bytes = l.0; plan_there = p.1; limits_there = l.1; plan_read = p.2; limits_read = l.2 }

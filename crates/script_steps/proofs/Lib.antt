@@ -1,4 +1,7 @@
 pub mod Laws
 mod EditLemmas
+mod FileLemmas
 mod KindLemmas
+mod MadeLemmas
 mod StepLemmas
+mod WriteLemmas

@@ -130,16 +130,18 @@ all_or_one files (asked.load file) = by (told (files file))
 all_or_one files asked.report = inl (λ name n. absurd n)
 all_or_one files asked.work = inl (λ name n. absurd n)
 
+-- the file of what a line says
+abbrev IsFileSaid : Result Asked LineFault → List ℕ → Type 0
+IsFileSaid (Ok what) name = IsFileOf what name
+IsFileSaid (Err why) name = ⊥
+
+named : (line : List ℕ) (what : Asked) → LineSays line (Ok what) → (name : List ℕ) → Names line name → IsFileOf what name
+named line what h name n =
+    subst (λ said. IsFileSaid said name) (line_once line (Ok n.what) (Ok what) n.is_line h) n.is_file
+
 pub files_told : FilesAreTold
 files_told files line = let l = line_some line in by l.0 l.1
   where
-    named : (what : Asked) → LineSays line (Ok what) → (n : List ℕ) (names : Names line n) → IsFileOf what n
-    named what h n names = subst (λ (s : Result Asked LineFault). IsFileOfSaid s n) (line_once line (Ok names.what) (Ok what) names.is_line h) names.is_file
-      where
-        abbrev IsFileOfSaid : Result Asked LineFault → List ℕ → Type 0
-        IsFileOfSaid (Ok w) name = IsFileOf w name
-        IsFileOfSaid (Err why) name = ⊥
-
     by : (said : Result Asked LineFault) → LineSays line said → AreThere files line ⊎ LacksAFile files line
     by (Err why) h = inl (λ name n. absurd (never (line_once line (Ok n.what) (Err why) n.is_line h)))
       where
@@ -148,7 +150,7 @@ files_told files line = let l = line_some line in by l.0 l.1
     by (Ok what) h = of (all_or_one files what)
       where
         of : ((name : List ℕ) → IsFileOf what name → IsSome (files name)) ⊎ ((name : List ℕ) × IsFileOf what name × (files name ≡ None)) → AreThere files line ⊎ LacksAFile files line
-        of (inl all) = inl (λ name n. all name (named what h name n))
+        of (inl all) = inl (λ name n. all name (named line what h name n))
         of (inr lacks) = inr (record { name = lacks.0; names = record { what = what; is_line = h; is_file = lacks.1 }; lacks = lacks.2 })
 
 -- ---- long lines

@@ -13,9 +13,14 @@ pub struct Script {
 }
 
 impl Model for Script {
+    ghost use Rattle.std.specs.Coded.{codes};
+    ghost use Rattle.pap_tree.specs.contracts.plan.Stmt as statement;
+    ghost use Rattle.pap_tree.specs.contracts.expression.Expr as expression;
     ghost use Rattle.script_steps.specs.Standings.{Standing};
 
     ghost Value = { Standing };
+
+    ghost coded = { Prim.hlevel (codes, statement.the_row.coded, expression.the_row.coded) };
 
     ghost view = { λ s. record { book = s.book } };
 }
