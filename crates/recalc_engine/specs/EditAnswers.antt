@@ -4,7 +4,7 @@ use Rattle.payroll_records.specs.declared.day.Day.{Day}
 use Rattle.payroll_records.specs.declared.record.Record.{Record}
 use Rattle.payroll_records.specs.declared.when.When.{When}
 use Rattle.plan_calendar.specs.Picking.{Entry, day_of, entry_at, with_entry, without_day}
-use Rattle.pap_plan.specs.Plans.{Seen}
+use Rattle.book_year.specs.Accepted.{Accepted}
 use Rattle.book_year.specs.declared.outcome.Work.{Work}
 use Rattle.book_year.specs.Jobs.{work_of}
 use Rattle.book_edits.specs.declared.refusal.EditRefusal.{EditRefusal}
@@ -22,7 +22,7 @@ pub data Edit : Type 0 where
   change : Record → Edit
   withdraw : List ℕ → When → Edit
   load : List Record → Edit
-  put : Entry Seen → Edit
+  put : Entry Accepted → Edit
   drop : Day → Edit
 
 -- the book with the edit, its last work as it was

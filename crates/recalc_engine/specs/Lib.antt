@@ -1,3 +1,4 @@
+pub mod Codes
 pub mod Contents
 pub mod Edits
 pub mod EditAnswers
@@ -6,3 +7,5 @@ pub mod MonthViews
 pub mod RowViews
 pub mod Jobs
 pub mod JobViews
+pub mod BookLaws
+pub mod RunMaps
