@@ -83,8 +83,21 @@ module _ (text : List ℕ) (from : Standing) (e : Edit) (book : Contents) (befor
   made_lost (Err refusals.Plans) h counts = refused_lost refusals.Plans h.0 counts
   made_lost (Err (refusals.NoPlanThere d)) h counts = refused_lost (refusals.NoPlanThere d) h.0 counts
 
-  pub edit_made : (made : Result Work EditRefusal) (reply : Result Reply AllocError) → IsEdited from.book e book made → CountsEdit made before now (cost_between from.book (edited e from.book)) → IfOk reply (λ r. IsEditReply text made (reply_of r)) → IfOk reply (λ r. IsMade (IsEditStep text from e) after before now (reply_of r))
-  edit_made made reply h counts = if_ok_map reply _ _ (λ r is. reply_made made (reply_of r) h counts is)
+  reply_all : (made : Result Work EditRefusal) (reply : Result Reply AllocError) → IsEdited from.book e book made → CountsEdit made before now (cost_between from.book (edited e from.book)) → IfOk reply (λ r. IsEditReply text made (reply_of r)) → IfOk reply (λ r. IsMade (IsEditStep text from e) after before now (reply_of r))
+  reply_all made reply h counts = if_ok_map reply _ _ (λ r is. reply_made made (reply_of r) h counts is)
 
-  pub edit_lost : (made : Result Work EditRefusal) (reply : Result Reply AllocError) → IsEdited from.book e book made → CountsEdit made before now (cost_between from.book (edited e from.book)) → OnErr reply (IsLost (IsEditStep text from e) before now)
-  edit_lost made reply h counts = on_err_any reply _ (made_lost made h counts)
+-- a book as a standing
+abbrev standing : Contents → Standing
+standing b = record { book = b }
+
+-- an edit of the book of a standing
+module _ (text : List ℕ) (from : Standing) (e : Edit) (old : Contents) (same : standing old ≡ from) (book : Contents) (before now : ℕ) (made : Result Work EditRefusal) (reply : Result Reply AllocError) (h : IsEdited old e book made) (counts : CountsEdit made before now (cost_between old (edited e old))) where
+  pub edit_made : IfOk reply (λ r. IsEditReply text made (reply_of r)) → IfOk reply (λ r. IsMade (IsEditStep text from e) (standing book) before now (reply_of r))
+  edit_made is =
+      subst (λ s. IfOk reply (λ r. IsMade (IsEditStep text s e) (standing book) before now (reply_of r))) same
+      (reply_all text (standing old) e book before now made reply h counts is)
+
+  pub edit_lost : OnErr reply (IsLost (IsEditStep text from e) before now)
+  edit_lost =
+      subst (λ s. OnErr reply (IsLost (IsEditStep text s e) before now)) same
+      (on_err_any reply _ (made_lost text (standing old) e book before now made h counts))

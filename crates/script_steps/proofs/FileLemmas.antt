@@ -54,7 +54,9 @@ load_told told from file front read to a h = λ files e.
 module _ (n m : ℕ) (more_plan : 1048576 < n) (more_limits : 262144 < m) where
   put_front : (from : Standing) (day : Day) (plan limits : List ℕ) (v : Result Meaning PlanRefusal) (to : Standing) (a : Answer) → Answers (take n plan) (take m limits) v → IsPut from day (take n plan) (take m limits) v to a → IsPut from day plan limits v to a
   put_front from day plan limits (Ok x) to a h is =
-      ?
+      let same = accepted_whole n m more_plan more_limits plan limits x h in
+      let first = subst (λ p. IsPut from day p (take m limits) (Ok x) to a) same.0 is in
+      subst (λ l. IsPut from day plan l (Ok x) to a) same.1 first
   put_front from day plan limits (Err why) to a h is = (is.0, refusal_answer n m more_plan more_limits plan why a is.1)
 
   texts_front : (from : Standing) (day : Day) (plan limits : List ℕ) (to : Standing) (a : Answer) → IsTextsStep from day (take n plan) (take m limits) to a → IsTextsStep from day plan limits to a
@@ -77,3 +79,9 @@ plan_told told from day plan limits front front' read to a h = λ files e.
       is = texts_front 1048577 262145 (omega arith) (omega arith) from day r.plan_bytes r.limits_bytes to a
           (subst (λ b. IsTextsStep from day (take 1048577 r.plan_bytes) b to a) r.limits_read first);
     }
+
+-- the same of slices of what was read
+pub plan_bytes_told : (told : Option FileMap) (from : Standing) (day : Day) (plan limits front front' text text' : List ℕ) → text ≡ front → text' ≡ front' → ((files : FileMap) → told ≡ Some files → AreFronts files plan limits front front') → (to : Standing) (a : Answer) → IsTextsStep from day text text' to a → ToldDoes told from (Ok (asked.plan day plan limits)) to a
+plan_bytes_told told from day plan limits front front' text text' same same' read to a h =
+    let first = subst (λ b. IsTextsStep from day b text' to a) same h in
+    plan_told told from day plan limits front front' read to a (subst (λ b. IsTextsStep from day front b to a) same' first)

@@ -87,7 +87,8 @@ texts_some from day plan limits = let v = plans.some plan limits in by v.0 v.1
   where
     by : (v : Result Meaning PlanRefusal) → Answers plan limits v → Has (IsTextsStep from day plan limits)
     by (Ok m) h =
-        ?
+        let e = edit_some (bound_line (bound_of m.flowchart)) from (edits.put (day, record { plan = plan; limits = limits; meaning = m })) in
+        (e.0, e.1, record { verdict = Ok m; says = h; is = e.2 })
     by (Err why) h = let w = some_refusal plan limits why h in (from, w.0, record { verdict = Err why; says = h; is = (refl, w.1) })
 
 pub texts_one : (from : Standing) (day : Day) (plan limits : List ℕ) (to to' : Standing) (a a' : Answer) → IsTextsStep from day plan limits to a → IsTextsStep from day plan limits to' a' → Same to to' a a'
@@ -95,7 +96,7 @@ texts_one from day plan limits to to' a a' h k =
     by k.verdict (subst (λ v. IsPut from day plan limits v to a) (plans.one plan limits h.verdict k.verdict h.says k.says) h.is) k.is
   where
     by : (v : Result Meaning PlanRefusal) → IsPut from day plan limits v to a → IsPut from day plan limits v to' a' → Same to to' a a'
-    by (Ok m) p q = ?
+    by (Ok m) p q = edit_one (bound_line (bound_of m.flowchart)) from (edits.put (day, record { plan = plan; limits = limits; meaning = m })) to to' a a' p q
     by (Err why) p q = (p.0 ∙ sym q.0, one_refusal plan why a a' p.1 q.1)
 
 pub plan_one : (files : FileMap) (from : Standing) (day : Day) (plan limits : List ℕ) (to to' : Standing) (a a' : Answer) → IsPlanStep files from day plan limits to a → IsPlanStep files from day plan limits to' a' → Same to to' a a'

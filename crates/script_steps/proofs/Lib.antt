@@ -5,3 +5,5 @@ mod KindLemmas
 mod MadeLemmas
 mod StepLemmas
 mod WriteLemmas
+mod TableLemmas
+mod PlanLemmas

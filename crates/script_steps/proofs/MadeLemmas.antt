@@ -1,6 +1,6 @@
 -- What the functions of lines leave, said of the files and of what was written.
 use Rattle.std.proofs.Common.{◌≡◌, ℕ, ◌+◌, ◌<◌, ◌≤◌, List, [], ◌++◌, Bool, length, take, refl, sym, ap, ◌∙◌, subst, arith, inl, inr}
-use Rattle.std.specs.Prelude.{◌⊎◌, Option, Some, None, Result, Ok, Err}
+use Rattle.std.specs.Prelude.{◌⊎◌, Option, Some, None, Result, Ok, Err, IfOk}
 use Rattle.std.specs.Result.{ForErr}
 use Rattle.outside.specs.Told.{FileMap, Appends, AppendsPrefix, IsToldFront}
 use Rattle.outside.specs.declared.traits.FileAnswer.{FileAnswer}
@@ -11,11 +11,14 @@ use Rattle.script_lang.specs.Commands as asked
 use Rattle.script_lang.specs.Lines.{IsLine, LineSays, IsRefused}
 use Rattle.script_lang.specs.declared.fault.LineFault.{LineFault}
 use Rattle.script_lang.specs.declared.fault.LineFault.TheVariants as faults
+use Rattle.payroll_records.specs.declared.day.Day.{Day}
 use Rattle.report_csv.specs.Fronts.{AppendsFront}
+use Rattle.plan_answers.specs.Fronts.{IsMissing}
 use Rattle.plan_answers.specs.Answers.{Answer, refusal}
+use Rattle.plan_answers.proofs.Laws.{if_ok_map}
 use Rattle.script_steps.specs.declared.stop.LineStop.{LineStop}
 use Rattle.script_steps.specs.declared.stop.LineStop.TheVariants as stops
-use Rattle.script_steps.specs.LineSteps.{Does, IsFileOf}
+use Rattle.script_steps.specs.LineSteps.{Does, IsFileOf, report_answer}
 use Rattle.script_steps.specs.LineTexts.{line_detail}
 use Rattle.script_steps.specs.Standings.{Standing}
 use Rattle.script_steps.specs.Steps.{IsStep}
@@ -153,3 +156,46 @@ module _ (told : Option FileMap) (old new : Option (List ℕ)) (before now : ℕ
       let is = none why u.answer h u.is still in
       record { to = from; answer = u.answer; part = u.cut; later = omega (arith, is); within = omega (arith, is); is = refused_step why u.answer h u.is }
   fault_broken why failed stops.Memory still h u = inl (record { nothing = u; uncounted = still })
+
+-- ---- what a command's function comes to
+
+module _ (told : Option FileMap) (old new : Option (List ℕ)) (before now : ℕ) (from to : Standing) (failed : Option (List ℕ)) (what : Asked) (answer : Answer) (made : IsMade (ToldDoes told from (Ok what)) to before now answer) (result : Result Bool LineStop) where
+  pub made_answered : IfOk result (IsWritten old new answer.text answer.refused) → (line : List ℕ) → IsLine line what → IfOk result (λ refused. IsAnswered told old new before now from to line refused)
+  made_answered w line says = if_ok_map result _ _ (λ refused. answered told old new before now from line what says to answer refused made) w
+
+  pub made_broken : ForErr result (IsUnwritten old new answer.text) → (line : List ℕ) → IsLine line what → ForErr result (λ stop. IsBroken told old new before now from line failed stop)
+  made_broken u line says = λ stop e. cut told old new before now from line what says to answer failed stop made (u stop e)
+
+-- the report leaves all as it is
+pub report_made : (told : Option FileMap) (from : Standing) (steps : ℕ) → IsMade (ToldDoes told from (Ok asked.report)) from steps steps (report_answer from)
+report_made told from steps = record { is = λ files e. (refl, refl); counted = omega arith }
+
+-- the sink isn't touched where no reply was made
+pub unmade_broken : (told : Option FileMap) (old : Option (List ℕ)) (before now : ℕ) (from : Standing) (failed : Option (List ℕ)) (what : Asked) (stop : LineStop) → IsUnmade (ToldDoes told from (Ok what)) what before now failed stop → (result : Result Bool LineStop) → result ≡ Err stop → (line : List ℕ) → IsLine line what → ForErr result (λ stop. IsBroken told old old before now from line failed stop)
+unmade_broken told old before now from failed what stop u result is line says =
+    for_err (λ s. IsBroken told old old before now from line failed s) result stop is (unmade told old old before now from line what says failed stop refl u)
+
+-- out of memory before anything was done
+pub want_broken : (told : Option FileMap) (old : Option (List ℕ)) (steps : ℕ) (from : Standing) (line : List ℕ) (failed : Option (List ℕ)) (result : Result Bool LineStop) → result ≡ Err stops.Memory → ForErr result (λ stop. IsBroken told old old steps steps from line failed stop)
+want_broken told old steps from line failed result is =
+    for_err (λ s. IsBroken told old old steps steps from line failed s) result stops.Memory is (inl (record { nothing = Appends-nothing old; uncounted = refl }))
+
+-- a line that is refused
+pub faults_answered : (told : Option FileMap) (old new : Option (List ℕ)) (steps : ℕ) (from : Standing) (line : List ℕ) (why : LineFault) (result : Result Bool LineStop) → IsRefused line why → IfOk result (IsRefusalWritten old new why) → IfOk result (λ refused. IsAnswered told old new steps steps from from line refused)
+faults_answered told old new steps from line why result h =
+    if_ok_map result _ _ (λ refused. fault_answered told old new steps steps from line why refused refl h)
+
+pub faults_broken : (told : Option FileMap) (old new : Option (List ℕ)) (steps : ℕ) (from : Standing) (line : List ℕ) (failed : Option (List ℕ)) (why : LineFault) (result : Result Bool LineStop) → IsRefused line why → ForErr result (IsRefusalUnwritten old new why) → ForErr result (λ stop. IsBroken told old new steps steps from line failed stop)
+faults_broken told old new steps from line failed why result h u =
+    λ stop e. fault_broken told old new steps steps from line why failed stop refl h (u stop e)
+
+-- ---- a plan's files
+
+pub unread_plan : (Step : Doing) (day : Day) (plan limits : List ℕ) (steps : ℕ) (told : Option FileMap) (failed : Option (List ℕ)) {T : Type 0} (r : Result T LineStop) (answer : FileAnswer) → r ≡ Err (stop_of answer) → (answer ≡ answers.Failed → IsMissing told plan limits failed) → ForErr r (IsUnmade Step (asked.plan day plan limits) steps steps failed)
+unread_plan Step day plan limits steps told failed r answers.Failed is missing = by (missing refl)
+  where
+    by : IsMissing told plan limits failed → ForErr r (IsUnmade Step (asked.plan day plan limits) steps steps failed)
+    by (inl e) = unread Step (asked.plan day plan limits) steps steps failed r answers.Failed plan is refl (λ _. (inl refl, e))
+    by (inr e) = unread Step (asked.plan day plan limits) steps steps failed r answers.Failed limits is refl (λ _. (inr refl, e.0))
+unread_plan Step day plan limits steps told failed r answers.Memory is missing =
+    wanting Step (asked.plan day plan limits) steps steps failed r is (inl refl)

@@ -11,8 +11,6 @@ use Rattle.script_lang.specs.declared.fault.LineFault.{LineFault}
 use Rattle.pap_types.specs.Meaning.{bound_of}
 use Rattle.pap_plan.specs.declared.refusal.PlanRefusal.{PlanRefusal}
 use Rattle.pap_plan.specs.Acceptance.{Meaning, Answers}
-use Rattle.pap_plan.specs.AcceptanceClauses.{IsAcceptedAs}
-use Rattle.pap_plan.specs.Plans.{Seen, meaning}
 use Rattle.book_edits.specs.declared.refusal.EditRefusal.{EditRefusal}
 use Rattle.recalc_engine.specs.Contents.{Contents}
 use Rattle.recalc_engine.specs.EditAnswers as edits
@@ -64,8 +62,8 @@ pub record IsLoadStep (files : FileMap) (from : Standing) (file : List ℕ) (to 
 -- an accepted plan is put at its day, and its bound is answered; or the plan is refused, and nothing changes
 abbrev pub IsPut : Standing → Day → List ℕ → List ℕ → Result Meaning PlanRefusal → Standing → Answer → Type 0
 IsPut from day plan limits (Ok m) to answer =
-    (p : Seen) × IsAcceptedAs plan limits p × (meaning p ≡ m)
-    × IsEditStep (bound_line (bound_of m.flowchart)) from (edits.put (day, p)) to answer
+    IsEditStep (bound_line (bound_of m.flowchart)) from
+    (edits.put (day, record { plan = plan; limits = limits; meaning = m })) to answer
 IsPut from day plan limits (Err why) to answer = (to ≡ from) × IsRefusal plan why answer
 
 -- the plan of these two texts is put at a day

@@ -14,13 +14,15 @@ pub struct Script {
 
 impl Model for Script {
     ghost use Rattle.std.specs.Coded.{codes};
-    ghost use Rattle.pap_tree.specs.contracts.plan.Stmt as statement;
-    ghost use Rattle.pap_tree.specs.contracts.expression.Expr as expression;
+    ghost use Rattle.recalc_engine.specs.Codes.{body_code};
     ghost use Rattle.script_steps.specs.Standings.{Standing};
 
     ghost Value = { Standing };
 
-    ghost coded = { Prim.hlevel (codes, statement.the_row.coded, expression.the_row.coded) };
+    ghost coded = { Prim.hlevel (
+      codes,
+      body_code (Prim.hlevel codes) (Prim.hlevel codes) (Prim.hlevel codes),
+    ) };
 
     ghost view = { λ s. record { book = s.book } };
 }
