@@ -1,145 +1,29 @@
--- The answer on what is read of two files is that on their bytes: a file within its limit is read whole, and of a longer one
--- more than its limit is read.
-use Rattle.std.proofs.Common.{◌≡◌, ℕ, ◌+◌, ◌<◌, ◌≤◌, List, length, take, refl, sym, subst, arith, length-take}
-use Rattle.std.specs.Prelude.{Option, Some, None, Result, Ok, Err}
-use Rattle.std.proofs.lemmas.List.{take_all}
-use Rattle.pap_tree.specs.Flowchart.{Flowchart}
-use Rattle.pap_reader.specs.declared.fault.Which.TheVariants as which
-use Rattle.pap_reader.specs.declared.fault.ReadFault.{ReadFault}
-use Rattle.pap_reader.specs.declared.fault.ReadFault.TheVariants as reads
-use Rattle.pap_reader.specs.Elements.{IsFault, IsRefused}
-use Rattle.limits_file.specs.declared.limits.Limits.{Limits}
-use Rattle.limits_file.specs.declared.fault.LimitsFault.{LimitsFault}
-use Rattle.limits_file.specs.declared.fault.LimitsFault.TheVariants as ranges
-use Rattle.limits_file.specs.Faults.{bad_key, bad_bound}
-use Rattle.limits_file.specs.RangeFiles.{FileSays, IsNoToml}
-use Rattle.interval_analysis.specs.declared.fault.RangeFault.TheVariants as walks
-use Rattle.plan_text.specs.declared.fault.PlanFault.TheVariants as texts
-use Rattle.plan_text.specs.Plans.{IsPlan, IsPlanFault}
+-- The answer on what is read of two files is that on their bytes, whatever the command asks for.
+use Rattle.std.proofs.Common.{◌≡◌, ℕ, ◌<◌, List, take, subst, arith}
+use Rattle.std.specs.Prelude.{Result, Ok, Err}
 use Rattle.pap_plan.specs.declared.refusal.PlanRefusal.{PlanRefusal}
-use Rattle.pap_plan.specs.declared.refusal.PlanRefusal.TheVariants as refusals
-use Rattle.pap_plan.specs.Acceptance.{Meaning, Answers, IsAccepted, IsLimitsFault, IsRefused as IsRefusedPlan}
+use Rattle.pap_plan.specs.Acceptance.{Meaning}
+use Rattle.outside.specs.Told.{FileMap}
+use Rattle.plan_answers.specs.Answers.{Answer}
+use Rattle.plan_answers.specs.Fronts.{AreFronts}
+use Rattle.plan_answers.proofs.Laws.{answers_front, refusal_answer, check_front}
 use Rattle.pap_cli.specs.declared.words.Command.{Command}
 use Rattle.pap_cli.specs.declared.words.Command.TheVariants.{Check, Once}
-use Rattle.pap_cli.specs.Refusals.{HasDetail}
-use Rattle.pap_cli.specs.Answers.{Answer, IsRefusal, IsChecked, IsOnce, CheckAnswers, OnceAnswers}
+use Rattle.pap_cli.specs.RunAnswers.{IsOnce}
 use Rattle.pap_cli.specs.AnswerViews.{answers_of}
-use Rattle.outside.specs.Told.{FileMap}
 use Rattle.pap_cli.specs.FileClauses.{AnswersFiles}
-use Rattle.pap_cli.specs.FileViews.{AreFronts}
-
--- a front of more bytes than a limit that keeps the limit is the whole
-whole : (most n : ℕ) (bytes : List ℕ) → most < n → length (take n bytes) ≤ most → take n bytes ≡ bytes
-whole most n bytes lt short = take_all n bytes (omega (arith, length-take n bytes))
-
-longer : (most n : ℕ) (bytes : List ℕ) → most < length (take n bytes) → most < length bytes
-longer most n bytes h = omega (arith, length-take n bytes)
 
 module _ (n m : ℕ) (more_plan : 1048576 < n) (more_limits : 262144 < m) where
-  -- ---- the plan's text
-
-  plan_whole : (bytes : List ℕ) (f : Flowchart) → IsPlan (take n bytes) f → take n bytes ≡ bytes
-  plan_whole bytes f h = whole 1048576 n bytes more_plan h.read.short
-
-  plan_front : (bytes : List ℕ) (f : Flowchart) → IsPlan (take n bytes) f → IsPlan bytes f
-  plan_front bytes f h = subst (λ b. IsPlan b f) (plan_whole bytes f h) h
-
-  refused_front : (bytes : List ℕ) (fault : ReadFault) → (length (take n bytes) ≤ 1048576) × IsRefused (take n bytes) fault → (length bytes ≤ 1048576) × IsRefused bytes fault
-  refused_front bytes fault h = subst (λ b. (length b ≤ 1048576) × IsRefused b fault) (whole 1048576 n bytes more_plan h.0) h
-
-  fault_front : (bytes : List ℕ) (fault : ReadFault) → IsFault (take n bytes) fault → IsFault bytes fault
-  fault_front bytes (reads.Text at) h = refused_front bytes _ h
-  fault_front bytes (reads.Element at) h = refused_front bytes _ h
-  fault_front bytes (reads.Attribute at) h = refused_front bytes _ h
-  fault_front bytes (reads.Many which.Bytes) h = longer 1048576 n bytes h
-  fault_front bytes (reads.Many which.Inputs) h = refused_front bytes _ h
-  fault_front bytes (reads.Many which.Outputs) h = refused_front bytes _ h
-  fault_front bytes (reads.Many which.Internals) h = refused_front bytes _ h
-  fault_front bytes (reads.Many which.Constants) h = refused_front bytes _ h
-  fault_front bytes (reads.Many which.Methods) h = refused_front bytes _ h
-  fault_front bytes (reads.Many which.Statements) h = refused_front bytes _ h
-  fault_front bytes (reads.Many which.Depth) h = refused_front bytes _ h
-  fault_front bytes reads.Memory h = absurd h
-
-  -- ---- the range file
-
-  says_whole : (bytes : List ℕ) (l : Limits) → FileSays (take m bytes) (Ok l) → take m bytes ≡ bytes
-  says_whole bytes l h = whole 262144 m bytes more_limits h.1.short
-
-  limits_front : (bytes : List ℕ) (fault : LimitsFault) → IsLimitsFault (take m bytes) fault → IsLimitsFault bytes fault
-  limits_front bytes ranges.Toml h = subst (λ b. IsNoToml b) (whole 262144 m bytes more_limits h.short) h
-  limits_front bytes (ranges.Key label) h = subst (λ b. FileSays b (Err (bad_key label))) (whole 262144 m bytes more_limits h.1.short) h
-  limits_front bytes (ranges.Bound label) h = subst (λ b. FileSays b (Err (bad_bound label))) (whole 262144 m bytes more_limits h.1.short) h
-  limits_front bytes ranges.LimitsLong h = longer 262144 m bytes h
-  limits_front bytes (ranges.Memory e) h = absurd h
-
-  -- ---- both
-
-  moved : (P : List ℕ → List ℕ → Type 0) (plan limits : List ℕ) → take n plan ≡ plan → take m limits ≡ limits → P (take n plan) (take m limits) → P plan limits
-  moved P plan limits a b h = subst (λ x. P x limits) a (subst (λ y. P (take n plan) y) b h)
-
-  refusal_front : (plan limits : List ℕ) (r : PlanRefusal) → IsRefusedPlan (take n plan) (take m limits) r → IsRefusedPlan plan limits r
-  refusal_front plan limits (refusals.Read fault) h = fault_front plan fault h
-  refusal_front plan limits (refusals.Expr spot fault) h =
-      subst (λ b. IsPlanFault b (texts.Expr spot fault)) (whole 1048576 n plan more_plan h.1.short) h
-  refusal_front plan limits (refusals.Types fault) h = (h.0, plan_front plan h.0 h.1, h.2)
-  refusal_front plan limits (refusals.Order fault) h =
-      subst (λ b. IsRefusedPlan b limits (refusals.Order fault)) (plan_whole plan h.0 h.1.text) h
-  refusal_front plan limits (refusals.Limits fault) h =
-      let fixed : IsRefusedPlan (take n plan) limits (refusals.Limits fault) = (h.0, h.1, limits_front limits fault h.2) in
-      subst (λ b. IsRefusedPlan b limits (refusals.Limits fault)) (plan_whole plan h.0 h.1.typed.text) fixed
-  refusal_front plan limits (refusals.LimitName name) h =
-      moved (λ p l. IsRefusedPlan p l (refusals.LimitName name)) plan limits (plan_whole plan h.0 h.1.1.ordered.typed.text) (says_whole limits h.1.0 h.1.1.file) h
-  refusal_front plan limits (refusals.LimitKind name) h =
-      moved (λ p l. IsRefusedPlan p l (refusals.LimitKind name)) plan limits (plan_whole plan h.0 h.1.1.file.ordered.typed.text) (says_whole limits h.1.0 h.1.1.file.file) h
-  refusal_front plan limits (refusals.Bind name) h =
-      moved (λ p l. IsRefusedPlan p l (refusals.Bind name)) plan limits (plan_whole plan h.0 h.1.1.named.file.ordered.typed.text) (says_whole limits h.1.0 h.1.1.named.file.file) h
-  refusal_front plan limits (refusals.Range fault) h =
-      moved (λ p l. IsRefusedPlan p l (refusals.Range fault)) plan limits (plan_whole plan h.0 h.1.1.suited.named.file.ordered.typed.text) (says_whole limits h.1.0 h.1.1.suited.named.file.file) h
-  refusal_front plan limits refusals.Memory h = absurd h
-
-  answers_front : (plan limits : List ℕ) (a : Result Meaning PlanRefusal) → Answers (take n plan) (take m limits) a → Answers plan limits a
-  answers_front plan limits (Ok x) h =
-      moved (λ p l. IsAccepted p l x) plan limits (plan_whole plan x.flowchart h.bound.suited.named.file.ordered.typed.text) (says_whole limits x.limits h.bound.suited.named.file.file) h
-  answers_front plan limits (Err r) h = refusal_front plan limits r h
-
-  -- ---- what is written
-
-  detail_front : (plan : List ℕ) (r : PlanRefusal) (detail : List ℕ) → HasDetail (take n plan) r detail → HasDetail plan r detail
-  detail_front plan (refusals.Read fault) detail h = h
-  detail_front plan (refusals.Expr spot fault) detail h = h
-  detail_front plan (refusals.Types fault) detail h = h
-  detail_front plan (refusals.Order fault) detail h = h
-  detail_front plan (refusals.Limits fault) detail h = h
-  detail_front plan (refusals.LimitName name) detail h = h
-  detail_front plan (refusals.LimitKind name) detail h = h
-  detail_front plan (refusals.Bind name) detail h = h
-  detail_front plan (refusals.Range (walks.At place cause)) detail h = (h.0, plan_front plan h.0 h.1, h.2)
-  detail_front plan (refusals.Range (walks.Output name)) detail h = h
-  detail_front plan (refusals.Range (walks.Memory e)) detail h = h
-  detail_front plan refusals.Memory detail h = h
-
-  refusal_answer : (plan : List ℕ) (r : PlanRefusal) (a : Answer) → IsRefusal (take n plan) r a → IsRefusal plan r a
-  refusal_answer plan r a h = record { detail = h.detail; has = detail_front plan r h.detail h.has; is = h.is }
-
-  checked_front : (plan : List ℕ) (v : Result Meaning PlanRefusal) (a : Answer) → IsChecked (take n plan) v a → IsChecked plan v a
-  checked_front plan (Ok x) a h = h
-  checked_front plan (Err r) a h = refusal_answer plan r a h
-
-  pub command_front : (c : Command) (plan limits : List ℕ) (a : Answer) → answers_of c (take n plan) (take m limits) a → answers_of c plan limits a
-  command_front Check plan limits a h = record {
-    verdict = h.verdict;
-    accepted = answers_front plan limits h.verdict h.accepted;
-    is = checked_front plan h.verdict a h.is;
-  }
+  command_front : (c : Command) (plan limits : List ℕ) (a : Answer) → answers_of c (take n plan) (take m limits) a → answers_of c plan limits a
+  command_front Check plan limits a h = check_front n m more_plan more_limits plan limits a h
   command_front (Once values) plan limits a h = record {
     verdict = h.verdict;
-    accepted = answers_front plan limits h.verdict h.accepted;
+    accepted = answers_front n m more_plan more_limits plan limits h.verdict h.accepted;
     is = once_front h.verdict h.is;
   } where
     once_front : (v : Result Meaning PlanRefusal) → IsOnce values (take n plan) v a → IsOnce values plan v a
     once_front (Ok x) k = k
-    once_front (Err r) k = refusal_answer plan r a k
+    once_front (Err r) k = refusal_answer n m more_plan more_limits plan r a k
 
 -- the answer on what is read of two files that are there
 pub answers_both : (c : Command) (plan limits front front' : List ℕ) (files : FileMap) (a : Answer) → AreFronts files plan limits front front' → answers_of c front front' a → AnswersFiles (answers_of c) plan limits files a

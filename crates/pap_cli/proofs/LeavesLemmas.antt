@@ -7,7 +7,7 @@ use Rattle.outside.specs.Told.{FileMap, IsToldFront, Appends, AppendsPrefix}
 use Rattle.outside.proofs.Laws.{Appends-nothing}
 use Rattle.outside.specs.declared.traits.FileAnswer.{FileAnswer}
 use Rattle.outside.specs.declared.traits.FileAnswer.TheVariants as files
-use Rattle.pap_cli.specs.declared.reply.Reply.{Reply}
+use Rattle.plan_answers.specs.declared.reply.Reply.{Reply}
 use Rattle.pap_cli.specs.declared.status.Status.{Status}
 use Rattle.pap_cli.specs.declared.status.Status.TheVariants.{Done, Refused, BadWords, FileFault, ReadFault, WriteFault, NoMemory, ScriptLong}
 use Rattle.pap_cli.specs.declared.stop.Stop.{Stop}
@@ -16,11 +16,14 @@ use Rattle.pap_cli.specs.declared.words.Command.{Command}
 use Rattle.pap_cli.specs.declared.words.Command.TheVariants.{Check, Once}
 use Rattle.pap_cli.specs.Statuses.{done_status, status_of, IsDone}
 use Rattle.pap_cli.specs.Stops.{stop_of}
-use Rattle.pap_cli.specs.Answers.{Answer, CheckAnswers, OnceAnswers}
-use Rattle.pap_cli.specs.AnswerViews.{reply_of, answers_of}
+use Rattle.plan_answers.specs.Answers.{Answer, CheckAnswers}
+use Rattle.pap_cli.specs.RunAnswers.{OnceAnswers}
+use Rattle.plan_answers.specs.ReplyViews.{reply_of}
+use Rattle.pap_cli.specs.AnswerViews.{answers_of}
 use Rattle.pap_cli.specs.Outside.{Outside}
-use Rattle.pap_cli.specs.FileClauses.{Answering, AnswersFiles, IsCounted, IsUnwritten, IsMissing, LeavesOnFiles, IsAnsweredOnFiles, HeadlineOnFiles}
-use Rattle.pap_cli.specs.FileViews.{shown, AreFronts}
+use Rattle.pap_cli.specs.FileClauses.{Answering, AnswersFiles, IsCounted, IsUnwritten, LeavesOnFiles, IsAnsweredOnFiles, HeadlineOnFiles}
+use Rattle.plan_answers.specs.Fronts.{AreFronts, IsMissing}
+use Rattle.pap_cli.specs.FileViews.{shown}
 use Rattle.pap_cli.specs.CallClauses.{Leaves, Headline}
 use Rattle.pap_cli.specs.Words.{Form, check, once}
 use Rattle.pap_cli.specs.WordViews.{form_by}
@@ -210,15 +213,7 @@ never_bad (Err stops.Memory) e = cc
 
 -- ---- both files
 
-there : (o : Option (List ℕ)) (n : ℕ) (bytes : List ℕ) → MatchOption o ⊥ (λ content. bytes ≡ take n content) → (content : List ℕ) × (o ≡ Some content) × (bytes ≡ take n content)
-there None n bytes h = absurd h
-there (Some content) n bytes h = (content, refl, h)
-
-pub fronts : (told told' : Option FileMap) (files : FileMap) (plan limits front front' : List ℕ) → told ≡ Some files → told' ≡ told → IsToldFront told plan 1048577 front → IsToldFront told' limits 262145 front' → AreFronts files plan limits front front'
-fronts told told' files plan limits front front' e same first second =
-    let p = there (files plan) 1048577 front (subst (λ t. IsToldFront t plan 1048577 front) e first) in
-    let l = there (files limits) 262145 front' (subst (λ t. IsToldFront t limits 262145 front') (same ∙ e) second) in
-    record { plan_bytes = p.0; limits_bytes = l.0; plan_there = p.1; limits_there = l.1; plan_read = p.2; limits_read = l.2 }
+-- ---- both files
 
 -- what was counted where memory ran out, said of the files
 more_counted : (IsAnswer : Answer → Type 0) (began steps : ℕ) → IsCounted IsAnswer began steps → began ≤ steps

@@ -2,7 +2,6 @@ mod WordLemmas
 mod FrontLemmas
 mod AdmissionLemmas
 mod LeavesLemmas
-mod PlaceLemmas
 mod LineLemmas
 mod RunLemmas
 mod KeptLemmas

@@ -22,12 +22,14 @@ use Rattle.pap_cli.specs.declared.words.Command.{Command}
 use Rattle.pap_cli.specs.declared.words.Command.TheVariants.{Check, Once}
 use Rattle.pap_cli.specs.Words.{HasForm}
 use Rattle.pap_cli.specs.WordViews.{form_by}
-use Rattle.pap_cli.specs.Answers.{Answer, IsRefusal, IsChecked, CheckAnswers, IsRunOn, IsRunOnce, IsOnce, OnceAnswers}
+use Rattle.plan_answers.specs.Answers.{Answer, IsRefusal, IsChecked, CheckAnswers}
+use Rattle.pap_cli.specs.RunAnswers.{IsRunOn, IsRunOnce, IsOnce, OnceAnswers}
 use Rattle.pap_cli.specs.AnswerViews.{answers_of, IsFilledFrom, TellsRefused}
 use Rattle.pap_cli.specs.CallClauses.{IsRefused}
 use Rattle.pap_cli.specs.FileClauses.{AnswersFiles}
-use Rattle.pap_cli.specs.FileViews.{AreFronts}
-use Rattle.pap_cli.proofs.AnswerLemmas.{check_answers, once_answers, words_kept}
+use Rattle.plan_answers.specs.Fronts.{AreFronts}
+use Rattle.plan_answers.proofs.Laws.{check_answers}
+use Rattle.pap_cli.proofs.AnswerLemmas.{once_answers, words_kept}
 use Rattle.pap_cli.proofs.FrontLemmas.{answers_both}
 
 refused_by : {a b : Answer} → a ≡ b → b.refused ≡ a.refused

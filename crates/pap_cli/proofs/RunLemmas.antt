@@ -12,8 +12,7 @@ use Rattle.carry_bindings.specs.declared.filling.Blocked.{Blocked}
 use Rattle.carry_bindings.specs.declared.filling.Blocked.TheVariants as blocked
 use Rattle.carry_bindings.specs.Filling.{first_of, filled_by, waits, unknown, missing, outside, inputs}
 use Rattle.pap_plan.specs.declared.refusal.PlanRefusal.{PlanRefusal}
-use Rattle.pap_plan.specs.declared.refusal.PlanRefusal.TheVariants as refusals
-use Rattle.pap_plan.specs.Acceptance.{Meaning, Answers, IsRefused, IsRefusedOrMemory}
+use Rattle.pap_plan.specs.Acceptance.{Meaning, Answers, IsRefusedOrMemory}
 use Rattle.pap_plan.specs.AcceptanceClauses.{IsAcceptedAs}
 use Rattle.pap_plan.specs.Inputs.{AreSlots}
 use Rattle.pap_plan.specs.Plans.{Seen, meaning}
@@ -21,8 +20,10 @@ use Rattle.pap_tree.specs.declared.declaration.Declared.{Declared}
 use Rattle.pap_tree.specs.Declarations.{Declaration, declaration_of}
 use Rattle.pap_tree.specs.Flowchart.{Flowchart}
 use Rattle.pap_types.specs.Meaning.{outputs_of, cost_of}
-use Rattle.pap_cli.specs.Lines.{value_lines, steps_line}
-use Rattle.pap_cli.specs.Answers.{Answer, IsRefusal, IsRunOn, IsRunOnce, IsOnce, CheckAnswers, OnceAnswers, acceptance, finished}
+use Rattle.pap_cli.specs.RunLines.{value_lines, steps_line}
+use Rattle.plan_answers.specs.Answers.{Answer, IsRefusal}
+use Rattle.plan_answers.proofs.Laws.{refused_is}
+use Rattle.pap_cli.specs.RunAnswers.{IsRunOn, IsRunOnce, IsOnce, OnceAnswers, finished}
 use Rattle.pap_cli.specs.FileClauses.{IsCounted}
 use Rattle.pap_cli.proofs.AdmissionLemmas.{waits_none}
 
@@ -30,14 +31,6 @@ abbrev declared_as : List Declared → List Declaration
 declared_as ds = map declaration_of ds
 
 -- ---- answers that say more
-
-pub if_ok_map : {A E : Type 0} (r : Result A E) (P Q : A → Type 0) → ((a : A) → P a → Q a) → IfOk r P → IfOk r Q
-if_ok_map (Ok a) P Q f h = f a h
-if_ok_map (Err e) P Q f h = tt
-
-pub on_err_map : {A E : Type 0} (r : Result A E) (P Q : Type 0) → (P → Q) → OnErr r P → OnErr r Q
-on_err_map (Ok a) P Q f h = tt
-on_err_map (Err e) P Q f h = f h
 
 pub counted_map : (P Q : Answer → Type 0) (began steps : ℕ) → ((a : Answer) → P a → Q a) → IsCounted P began steps → IsCounted Q began steps
 counted_map P Q began steps f (inl e) = inl e
@@ -63,10 +56,6 @@ never_waits slots values day = not_waiting (waits slots []) (unknown slots value
 
 pub once_of_run : (values : List NamedValue) (plan limits : List ℕ) (m : Meaning) (a : Answer) → Answers plan limits (Ok m) → IsRunOnce values m a → OnceAnswers values plan limits a
 once_of_run values plan limits m a accepted h = record { verdict = Ok m; accepted = accepted; is = h }
-
-pub on_err_any : {A E : Type 0} (r : Result A E) (P : Type 0) → P → OnErr r P
-on_err_any (Ok a) P p = tt
-on_err_any (Err e) P p = p
 
 -- the run was counted
 pub counted_run : (f : Flowchart) (inputs outputs : List Decimal) (cost began steps : ℕ) → outputs_of f inputs ≡ Some outputs → cost ≡ cost_of f inputs → steps ≡ began + cost → IsCounted (IsRunOn f (Inputs inputs)) began steps
@@ -100,30 +89,8 @@ pub written_whole : (n : ℕ) (out items : List Decimal) → length out ≡ n �
 written_whole n out items h k =
     ap (λ t. take n (out ++ t)) (drop_all (length out) items (omega arith)) ∙ ap (take n) (append-nil out) ∙ take_all n out (omega arith)
 
--- a refusal that is written isn't want of memory
-pub refused_is : (plan limits : List ℕ) (r : PlanRefusal) (a : Answer) → IsRefusedOrMemory plan limits r → IsRefusal plan r a → IsRefused plan limits r
-refused_is plan limits (refusals.Read fault) a h k = h
-refused_is plan limits (refusals.Expr spot fault) a h k = h
-refused_is plan limits (refusals.Types fault) a h k = h
-refused_is plan limits (refusals.Order fault) a h k = h
-refused_is plan limits (refusals.Limits fault) a h k = h
-refused_is plan limits (refusals.LimitName name) a h k = h
-refused_is plan limits (refusals.LimitKind name) a h k = h
-refused_is plan limits (refusals.Bind name) a h k = h
-refused_is plan limits (refusals.Range fault) a h k = h
-refused_is plan limits refusals.Memory a h k = absurd k.has
-
 pub once_refused : (values : List NamedValue) (plan limits : List ℕ) (r : PlanRefusal) (a : Answer) → IsRefusedOrMemory plan limits r → IsRefusal plan r a → OnceAnswers values plan limits a
 once_refused values plan limits r a h k = record { verdict = Err r; accepted = refused_is plan limits r a h k; is = k }
 
-pub refusal_steps : (plan : List ℕ) (r : PlanRefusal) (a : Answer) → IsRefusal plan r a → a.steps ≡ 0
-refusal_steps plan r a k = ap (λ (x : Answer). x.steps) k.is
-
-pub check_accepted : (plan limits : List ℕ) (p : Seen) (a : Answer) → IsAcceptedAs plan limits p → a ≡ acceptance (meaning p) → CheckAnswers plan limits a
-check_accepted plan limits p a h e = record { verdict = Ok (meaning p); accepted = h.accepted; is = e }
-
 pub once_accepted : (values : List NamedValue) (plan limits : List ℕ) (p : Seen) (a : Answer) → IsAcceptedAs plan limits p → IsRunOnce values (meaning p) a → OnceAnswers values plan limits a
 once_accepted values plan limits p a h k = once_of_run values plan limits (meaning p) a h.accepted k
-
-pub check_refused : (plan limits : List ℕ) (r : PlanRefusal) (a : Answer) → IsRefusedOrMemory plan limits r → IsRefusal plan r a → CheckAnswers plan limits a
-check_refused plan limits r a h k = record { verdict = Err r; accepted = refused_is plan limits r a h k; is = k }

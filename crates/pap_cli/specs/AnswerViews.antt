@@ -6,10 +6,11 @@ use Rattle.carry_bindings.specs.declared.filling.Filled.{Filled}
 use Rattle.carry_bindings.specs.Filling.{filled_by}
 use Rattle.pap_plan.specs.Acceptance.{Meaning}
 use Rattle.pap_plan.specs.Inputs.{AreSlots}
-use Rattle.pap_cli.specs.declared.reply.Reply.{Reply}
+use Rattle.plan_answers.specs.declared.reply.Reply.{Reply}
 use Rattle.pap_cli.specs.declared.words.Command.{Command}
 use Rattle.pap_cli.specs.declared.words.Command.TheVariants.{Check, Once}
-use Rattle.pap_cli.specs.Answers.{Answer, CheckAnswers, OnceAnswers}
+use Rattle.plan_answers.specs.Answers.{Answer, CheckAnswers}
+use Rattle.pap_cli.specs.RunAnswers.{OnceAnswers}
 
 abbrev pub reply_of : Reply → Answer
 reply_of r = record { text = r.text.items; refused = r.refused; steps = r.steps }

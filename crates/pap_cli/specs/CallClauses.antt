@@ -3,7 +3,8 @@ use Rattle.std.specs.Prelude.{◌≡◌, ℕ, List, Bool}
 use Rattle.outside.specs.Told.{FileMap}
 use Rattle.pap_cli.specs.declared.status.Status.{Status}
 use Rattle.pap_cli.specs.Words.{Form, check, once}
-use Rattle.pap_cli.specs.Answers.{Answer, CheckAnswers, OnceAnswers}
+use Rattle.plan_answers.specs.Answers.{Answer, CheckAnswers}
+use Rattle.pap_cli.specs.RunAnswers.{OnceAnswers}
 use Rattle.pap_cli.specs.Outside.{Outside}
 use Rattle.pap_cli.specs.FileClauses.{Answering, AnswersFiles, LeavesOnFiles, HeadlineOnFiles}
 

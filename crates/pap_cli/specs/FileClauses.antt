@@ -1,12 +1,13 @@
 -- What a call leaves that answers on a plan's file and a range file, by its status (docs/DEFINITIONS.md).
-use Rattle.std.specs.Prelude.{◌≡◌, ◌≢◌, ◌⊎◌, ℕ, ◌+◌, ◌-◌, ◌≤◌, ◌<◌, List, [], ◌++◌, length, take, Option, Some, IsSome}
+use Rattle.std.specs.Prelude.{◌≡◌, ◌≢◌, ◌⊎◌, ℕ, ◌+◌, ◌-◌, ◌≤◌, ◌<◌, List, [], ◌++◌, length, take, Option, Some}
 use Rattle.std.specs.Option.{ForSome}
 use Rattle.outside.specs.Causes.{Still}
 use Rattle.outside.specs.Told.{FileMap, Appends}
 use Rattle.pap_cli.specs.declared.status.Status.{Status}
 use Rattle.pap_cli.specs.declared.status.Status.TheVariants as statuses
 use Rattle.pap_cli.specs.Statuses.{done_status, IsDone}
-use Rattle.pap_cli.specs.Answers.{Answer}
+use Rattle.plan_answers.specs.Answers.{Answer}
+use Rattle.plan_answers.specs.Fronts.{IsMissing}
 use Rattle.pap_cli.specs.Outside.{Outside}
 
 -- which answer the bytes of a plan and of a range file have
@@ -47,11 +48,6 @@ pub record IsUnwritten (IsAnswer : Answer → Type 0) (began steps : ℕ) : Type
 -- where memory ran out: nothing was counted, or the run was
 abbrev pub IsCounted : (Answer → Type 0) → ℕ → ℕ → Type 0
 IsCounted IsAnswer began steps = (steps ≡ began) ⊎ IsUnwritten IsAnswer began steps
-
--- the name at which the files failed: the plan's, or the range file's where the plan is there
-abbrev pub IsMissing : Option FileMap → List ℕ → List ℕ → Option (List ℕ) → Type 0
-IsMissing told plan limits failed =
-    (failed ≡ Some plan) ⊎ ((failed ≡ Some limits) × ForSome told (λ files. IsSome (files plan)))
 
 -- what the call leaves, by its status; of the text where the files tell what they hold, of the rest always
 pub record LeavesOnFiles (Answers : Answering) (plan limits : List ℕ) (before after : Outside) (status : Status) : Type 0 where

@@ -3,22 +3,14 @@ use Rattle.std.specs.Prelude.{◌≡◌, ℕ, List, All}
 use Rattle.payroll_records.specs.declared.values.NamedValue.{NamedValue}
 use Rattle.payroll_records.specs.ValueWords.{AreValueWords}
 use Rattle.pap_cli.specs.Words.{Form, HasForm, IsKeptValue}
-use Rattle.pap_cli.specs.Answers.{Answer, CheckAnswers, OnceAnswers}
+use Rattle.plan_answers.specs.Laws.{HasOneAnswer}
+use Rattle.pap_cli.specs.RunAnswers.{OnceAnswers}
 
 -- words have at most one form
 abbrev pub HaveOneForm : Type 0
 HaveOneForm = (words : List (List ℕ)) (a b : Form) → HasForm words a → HasForm words b → a ≡ b
 
--- there is an answer, and no other
-pub record HasOneAnswer (IsAnswer : Answer → Type 0) : Type 0 where
-  pub some : (a : Answer) × IsAnswer a
-  pub one : (a b : Answer) → IsAnswer a → IsAnswer b → a ≡ b
-
--- every two texts have one answer of `check`
-abbrev pub CheckHasOneAnswer : Type 0
-CheckHasOneAnswer = (plan limits : List ℕ) → HasOneAnswer (CheckAnswers plan limits)
-
--- and one of `once`, with each list of kept values
+-- every two texts have one answer of `once`, with each list of kept values
 abbrev pub OnceHasOneAnswer : Type 0
 OnceHasOneAnswer =
     (values : List NamedValue) → All IsKeptValue values

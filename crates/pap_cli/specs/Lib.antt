@@ -1,14 +1,12 @@
-pub mod Answers
+pub mod RunAnswers
 pub mod AnswerViews
 pub mod CallClauses
 pub mod FileClauses
 pub mod Laws
-pub mod Lines
+pub mod RunLines
 pub mod Outside
-pub mod Refusals
 pub mod Statuses
 pub mod Stops
 pub mod Words
 pub mod WordViews
-pub mod PlaceViews
 pub mod FileViews

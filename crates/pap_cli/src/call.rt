@@ -5,7 +5,8 @@ ghost use Rattle.pap_cli.specs.Words.{texts, Form, HasForm, IsBad};
 ghost use Rattle.pap_cli.specs.Outside.{IsUntouched};
 ghost use Rattle.pap_cli.specs.CallClauses.{Leaves, Headline};
 ghost use Rattle.pap_cli.specs.Statuses.{status_of};
-ghost use Rattle.pap_cli.specs.Laws.{HaveOneForm, CheckHasOneAnswer, OnceHasOneAnswer};
+ghost use Rattle.plan_answers.specs.Laws.{CheckHasOneAnswer};
+ghost use Rattle.pap_cli.specs.Laws.{HaveOneForm, OnceHasOneAnswer};
 ghost use Rattle.pap_cli.specs.Laws.{WordsGiveKeptValues};
 
 use crate::Status;

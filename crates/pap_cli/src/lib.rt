@@ -3,12 +3,8 @@
 
 mod answer;
 mod call;
-mod check;
 mod once;
-mod places;
 mod reasons;
-mod refusals;
-mod reply;
 mod status;
 mod stop;
 mod words;

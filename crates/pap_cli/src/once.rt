@@ -3,21 +3,21 @@ ghost use Rattle.std.specs.Prelude.{◌≡◌, ◌≢◌, All, ◌+◌, ◌++◌
 ghost use Rattle.pap_tree.specs.Declarations.{declaration_of};
 ghost use Rattle.pap_plan.specs.Bindings.{HasSuitedLimit};
 ghost use Rattle.pap_plan.specs.Plans.{Admits, flowchart, meaning};
-ghost use Rattle.pap_cli.specs.Lines.{value_lines};
-ghost use Rattle.pap_cli.specs.Answers.{Answer, OnceAnswers, IsRunOnce, IsRunOn, finished};
-ghost use Rattle.pap_cli.specs.AnswerViews.{reply_of};
+ghost use Rattle.pap_cli.specs.RunLines.{value_lines};
+ghost use Rattle.plan_answers.specs.Answers.{Answer};
+ghost use Rattle.pap_cli.specs.RunAnswers.{OnceAnswers, IsRunOnce, IsRunOn, finished};
+ghost use Rattle.plan_answers.specs.ReplyViews.{reply_of};
 ghost use Rattle.pap_cli.specs.FileClauses.{IsCounted};
 ghost use Rattle.carry_bindings.specs.declared.filling.Filled.TheVariants.{Inputs, State};
 ghost use Rattle.payroll_records.specs.declared.day.Day.{Day as Date};
 ghost use Rattle.pap_tree.specs.Flowchart.{Flowchart};
 ghost use Rattle.scaled_decimal.specs.Limits.{IsKept};
 
-use crate::check::refused;
-use crate::reply::{Reply, refusal};
 use carry_bindings::{Blocked, Filled, fill};
 use pap_plan::{Plan, PlanRefusal, accept};
 use pap_tree::Declared;
 use payroll_records::{Day, Employee, Record, Values};
+use plan_answers::{Reply, refusal, refused};
 use scaled_decimal::Dec;
 use std::alloc::{AllocError, Global};
 use std::sync::ledger::Ledger;

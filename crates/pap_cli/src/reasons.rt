@@ -4,18 +4,18 @@ ghost use Rattle.std.specs.Option.{ForSome};
 ghost use Rattle.outside.specs.Causes.{Caused};
 ghost use Rattle.pap_plan.specs.Bindings.{HasSuitedLimit};
 ghost use Rattle.pap_plan.specs.Plans.{flowchart, meaning};
-ghost use Rattle.pap_cli.specs.Answers.{IsRunOnce};
+ghost use Rattle.pap_cli.specs.RunAnswers.{IsRunOnce};
 ghost use Rattle.pap_cli.specs.AnswerViews.{answers_of, TellsRefused};
 ghost use Rattle.pap_cli.specs.CallClauses.{IsRefused};
 ghost use Rattle.pap_cli.specs.Words.{texts, Form, HasForm, IsBad};
 
-use crate::answer::read_both;
 use crate::once::record_of;
 use crate::words::{Command, read_words};
 use carry_bindings::{Filled, fill};
 use outside::{FileAnswer, Files};
 use pap_plan::{Plan, PlanRefusal, accept};
 use payroll_records::Values;
+use plan_answers::read_both;
 use plain_words::{plan_words, state_words};
 use std::alloc::{AllocError, Global};
 

@@ -1,4 +1,5 @@
-use Rattle.pap_cli.proofs.AnswerLemmas.{check_answers, once_answers, words_kept}
+use Rattle.plan_answers.proofs.Laws.{check_answers}
+use Rattle.pap_cli.proofs.AnswerLemmas.{once_answers, words_kept}
 use Rattle.pap_cli.proofs.call.answer_laws.Goals as goal
 
 pub returns-clause-check : goal.returns-clause-check

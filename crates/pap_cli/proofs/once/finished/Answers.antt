@@ -1,10 +1,11 @@
 use Rattle.std.proofs.Common.{◌≡◌, ◌∙◌, ap, map, refl, sym, string_bytes, rules}
 use Rattle.pap_tree.specs.Declarations.{declaration_of}
 use Rattle.pap_plan.specs.Plans.{flowchart}
-use Rattle.pap_cli.specs.Lines.{steps_line}
-use Rattle.pap_cli.specs.Answers.{IsRunOn}
+use Rattle.pap_cli.specs.RunLines.{steps_line}
+use Rattle.pap_cli.specs.RunAnswers.{IsRunOn}
 use Rattle.carry_bindings.specs.declared.filling.Filled.TheVariants.{Inputs}
-use Rattle.pap_cli.proofs.RunLemmas.{written_whole, on_err_any, counted_run, finished_reply}
+use Rattle.pap_cli.proofs.RunLemmas.{written_whole, counted_run, finished_reply}
+use Rattle.plan_answers.proofs.Laws.{on_err_any}
 use Rattle.pap_cli.proofs.once.finished.Goals as goal
 
 pub returns-in_err-write_values-clause-memory : goal.returns-in_err-write_values-clause-memory

@@ -1,9 +1,11 @@
 use Rattle.std.proofs.Common.{◌≡◌, ◌+◌, refl, inl, arith}
 use Rattle.pap_plan.specs.Plans.{meaning}
-use Rattle.pap_cli.specs.Answers.{IsRefusal, IsRunOnce, OnceAnswers}
-use Rattle.pap_cli.specs.AnswerViews.{reply_of}
+use Rattle.plan_answers.specs.Answers.{IsRefusal}
+use Rattle.pap_cli.specs.RunAnswers.{IsRunOnce, OnceAnswers}
+use Rattle.plan_answers.specs.ReplyViews.{reply_of}
 use Rattle.pap_cli.specs.FileClauses.{IsCounted}
-use Rattle.pap_cli.proofs.RunLemmas.{if_ok_map, on_err_any, on_err_map, counted_map, once_accepted, once_refused, refusal_steps}
+use Rattle.pap_cli.proofs.RunLemmas.{counted_map, once_accepted, once_refused}
+use Rattle.plan_answers.proofs.Laws.{if_ok_map, on_err_any, on_err_map, refusal_steps}
 use Rattle.pap_cli.proofs.once.once_reply.Goals as goal
 
 pub returns : goal.returns

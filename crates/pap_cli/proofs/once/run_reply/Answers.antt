@@ -2,12 +2,14 @@ use Rattle.std.proofs.Common.{◌≡◌, ◌+◌, sym, ap, ◌∙◌, subst, ari
 use Rattle.std.specs.Prelude.{Ok, All, []}
 use Rattle.scaled_decimal.specs.Limits.{IsKept}
 use Rattle.pap_plan.specs.Plans.{flowchart, meaning}
-use Rattle.pap_cli.specs.Answers.{IsRunOn, IsRunOnce, refusal}
-use Rattle.pap_cli.specs.AnswerViews.{reply_of}
+use Rattle.plan_answers.specs.Answers.{refusal}
+use Rattle.pap_cli.specs.RunAnswers.{IsRunOn, IsRunOnce}
+use Rattle.plan_answers.specs.ReplyViews.{reply_of}
 use Rattle.carry_bindings.specs.Filling.{filled_by}
 use Rattle.carry_bindings.specs.declared.filling.Filled.TheVariants.{Inputs, State}
 use Rattle.pap_cli.proofs.AdmissionLemmas.{suits_kinds, filled_admitted}
-use Rattle.pap_cli.proofs.RunLemmas.{if_ok_map, ran, state_steps}
+use Rattle.plan_answers.proofs.Laws.{if_ok_map}
+use Rattle.pap_cli.proofs.RunLemmas.{ran, state_steps}
 use Rattle.pap_cli.proofs.once.run_reply.Goals as goal
 
 pub fill-requires-clause-doubles : goal.fill-requires-clause-doubles

@@ -1,7 +1,8 @@
 use Rattle.std.proofs.Common.{◌≡◌, ◌++◌, ◌∙◌, sym, ap, map, take, string_bytes}
 use Rattle.pap_tree.specs.Declarations.{declaration_of}
-use Rattle.pap_cli.specs.Lines.{value_line, value_lines}
-use Rattle.pap_cli.proofs.LineLemmas.{values_more, value_text, text_more}
+use Rattle.pap_cli.specs.RunLines.{value_line, value_lines}
+use Rattle.pap_cli.proofs.LineLemmas.{values_more, value_text}
+use Rattle.plan_answers.proofs.Laws.{text_more}
 use Rattle.pap_cli.proofs.once.write_values.Goals as goal
 
 pub loop-at-preserved : goal.loop-at-preserved

@@ -1,6 +1,6 @@
 use Rattle.std.proofs.Common.{◌≡◌, ◌++◌, map, take}
 use Rattle.pap_tree.specs.Declarations.{declaration_of}
-use Rattle.pap_cli.specs.Lines.{value_lines}
+use Rattle.pap_cli.specs.RunLines.{value_lines}
 use Rattle.pap_cli.proofs.once.write_values.Given as goal
 
 abbrev pub invariant-loop-at : goal.invariant-loop-at

@@ -1,9 +1,9 @@
 use Rattle.std.proofs.Common.{rules, ◌≡◌, ◌≢◌, is_some}
 use Rattle.pap_plan.specs.Plans.{meaning}
 use Rattle.pap_plan.specs.declared.refusal.PlanRefusal.TheVariants as refusals
-use Rattle.pap_cli.specs.Answers.{IsRunOnce, OnceAnswers}
+use Rattle.pap_cli.specs.RunAnswers.{IsRunOnce, OnceAnswers}
 use Rattle.pap_cli.specs.AnswerViews.{TellsRefused}
-use Rattle.pap_cli.proofs.RunLemmas.{if_ok_map}
+use Rattle.plan_answers.proofs.Laws.{if_ok_map}
 use Rattle.pap_cli.proofs.ReasonLemmas.{told_accepted, told_once, refused_is, told_refused}
 use Rattle.pap_cli.proofs.reasons.reason_on_bytes.Goals as goal
 

@@ -1,7 +1,0 @@
-use Rattle.pap_cli.proofs.LeavesLemmas.{fronts}
-use Rattle.pap_cli.proofs.answer.read_both.Goals as goal
-
-pub returns-clause-read : goal.returns-clause-read
-returns-clause-read g c = λ files told.
-    fronts (g.F.Files.told c.args.files.now) (g.F.Files.told c.read_front.new.self) files c.args.plan.now c.args.limits.now c.in_ok-plan_bytes.plan_bytes.items c.in_ok-limits_bytes.limits_bytes.items
-    told c.in_ok-plan_bytes.ensures.same c.in_ok-plan_bytes.ensures.front c.in_ok-limits_bytes.ensures.front

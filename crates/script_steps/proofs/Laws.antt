@@ -1,0 +1,18 @@
+-- The laws of the steps of lines, for crates above.
+use Rattle.script_steps.specs.StepLaws.{LinesHaveAStep, LinesHaveOneStep, FilesAreTold, LongLinesAreOne, LongLinesNameNoFile}
+use Rattle.script_steps.proofs.StepLemmas as steps
+
+pub some : LinesHaveAStep
+some = steps.some
+
+pub one : LinesHaveOneStep
+one = steps.one
+
+pub told : FilesAreTold
+told = steps.files_told
+
+pub long : LongLinesAreOne
+long = steps.long
+
+pub alone : LongLinesNameNoFile
+alone = steps.long_alone

@@ -1,0 +1,53 @@
+-- What was written of a text of two parts, one after the other, and of an answer.
+use Rattle.std.proofs.Common.{◌≡◌, ℕ, ◌+◌, ◌<◌, List, [], ◌++◌, length, take, refl, sym, ap, ◌∙◌, subst, append_assoc, arith, length-append}
+use Rattle.std.specs.Prelude.{Option, Bool, Result, Err}
+use Rattle.std.specs.Result.{ForErr}
+use Rattle.std.proofs.Math.Seq.{take-append_seam, take-append-add}
+use Rattle.outside.specs.Told.{Appends, AppendsPrefix}
+use Rattle.outside.proofs.Laws.{Appends-nothing, Appends-then}
+use Rattle.script_lang.specs.declared.fault.LineFault.{LineFault}
+use Rattle.report_csv.specs.Fronts.{AppendsFront}
+use Rattle.plan_answers.specs.Answers.{Answer}
+use Rattle.script_steps.specs.declared.stop.LineStop.{LineStop}
+use Rattle.script_steps.specs.declared.stop.LineStop.TheVariants as stops
+use Rattle.script_steps.specs.StepViews.{IsUnwritten, IsLineRefusal, IsRefusalUnwritten}
+
+-- a front of the first part is one of the whole
+pub first_front : (old new : Option (List ℕ)) (first rest : List ℕ) → AppendsFront old new first → AppendsFront old new (first ++ rest)
+first_front old new first rest f = record {
+  front = f.front;
+  rest = f.rest ++ rest;
+  parts = ap (λ t. t ++ rest) f.parts ∙ append_assoc f.front f.rest rest;
+  appended = f.appended;
+}
+
+-- and not the whole where there is a second part
+pub first_prefix : (old new : Option (List ℕ)) (first rest : List ℕ) → 0 < length rest → AppendsFront old new first → AppendsPrefix old new (first ++ rest)
+first_prefix old new first rest some f =
+    let size : length first ≡ length f.front + length f.rest = ap length f.parts ∙ length-append f.front f.rest in
+    let whole = length-append first rest in
+    let text : take (length f.front) (first ++ rest) ≡ f.front =
+        ap (λ t. take (length f.front) (t ++ rest)) f.parts
+        ∙ ap (take (length f.front)) (append_assoc f.front f.rest rest)
+        ∙ take-append_seam f.front (f.rest ++ rest) in
+    record {
+      count = length f.front;
+      within = omega (arith, size, whole, some);
+      appended = subst (λ t. Appends old new t) (sym text) f.appended;
+    }
+
+-- a part of the second, after the first
+pub second_prefix : (old mid new : Option (List ℕ)) (first rest : List ℕ) → Appends old mid first → AppendsPrefix mid new rest → AppendsPrefix old new (first ++ rest)
+second_prefix old mid new first rest a p =
+    let whole = length-append first rest in
+    let less = p.within in
+    record {
+      count = length first + p.count;
+      within = omega (arith, whole, less);
+      appended = subst (λ t. Appends old new t) (sym (take-append-add first rest p.count)) (Appends-then old mid new first (take p.count rest) a p.appended);
+    }
+
+-- what was written of an answer is what was written of a line's refusal
+pub refusal_unwritten : (old new : Option (List ℕ)) (why : LineFault) (answer : Answer) (stop : LineStop) → IsLineRefusal why answer → stop ≡ stops.Write → AppendsPrefix old new answer.text → IsRefusalUnwritten old new why stop
+refusal_unwritten old new why answer stop is same p =
+    subst (λ s. IsRefusalUnwritten old new why s) (sym same) (record { answer = answer; is = is; cut = p })

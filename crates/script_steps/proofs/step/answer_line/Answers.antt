@@ -1,0 +1,21 @@
+use Rattle.std.proofs.Common.{refl}
+use Rattle.script_steps.proofs.MadeLemmas.{want_broken, faults_answered, faults_broken}
+use Rattle.script_steps.proofs.step.answer_line.Goals as goal
+
+pub returns-in-Ok-clause-answered : goal.returns-in-Ok-clause-answered
+returns-in-Ok-clause-answered g c = c.answer_command.ensures.answered c.args.line.now c.in-Ok.ensures.ok
+
+pub returns-in-Ok-clause-broken : goal.returns-in-Ok-clause-broken
+returns-in-Ok-clause-broken g c = c.answer_command.ensures.broken c.args.line.now c.in-Ok.ensures.ok
+
+pub returns-in-Err-Memory-clause-broken : goal.returns-in-Err-Memory-clause-broken
+returns-in-Err-Memory-clause-broken g c =
+    want_broken (g.F.Files.told c.args.files.now) (g.W.Sink.written c.args.sink.now) c.args.steps.now c.args.script.now c.args.line.now (g.F.Files.failed c.args.files.now) _ refl
+
+pub returns-in-Err-clause-answered : goal.returns-in-Err-clause-answered
+returns-in-Err-clause-answered g c =
+    faults_answered (g.F.Files.told c.args.files.now) (g.W.Sink.written c.args.sink.now) (g.W.Sink.written c.answer_fault.new.sink) c.args.steps.now c.args.script.now c.args.line.now c.in-Err.fault c.answer_fault.result c.in-Err.ensures.err c.answer_fault.ensures.ok
+
+pub returns-in-Err-clause-broken : goal.returns-in-Err-clause-broken
+returns-in-Err-clause-broken g c =
+    faults_broken (g.F.Files.told c.args.files.now) (g.W.Sink.written c.args.sink.now) (g.W.Sink.written c.answer_fault.new.sink) c.args.steps.now c.args.script.now c.args.line.now (g.F.Files.failed c.args.files.now) c.in-Err.fault c.answer_fault.result c.in-Err.ensures.err c.answer_fault.ensures.err

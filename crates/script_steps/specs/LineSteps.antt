@@ -1,0 +1,113 @@
+-- What each kind of line does: what it makes of the book, and what it answers.
+use Rattle.std.specs.Prelude.{◌≡◌, ◌⊎◌, ℕ, List, ◌++◌, Some, Result, Ok, Err}
+use Rattle.outside.specs.Told.{FileMap}
+use Rattle.payroll_records.specs.declared.day.Day.{Day}
+use Rattle.payroll_records.specs.declared.record.Record.{Record}
+use Rattle.payroll_records.specs.declared.table.TableFault.{TableFault}
+use Rattle.payroll_records.specs.Tables.{TableSays}
+use Rattle.script_lang.specs.Commands as asked
+use Rattle.script_lang.specs.Commands.{Asked}
+use Rattle.script_lang.specs.declared.fault.LineFault.{LineFault}
+use Rattle.pap_types.specs.Meaning.{bound_of}
+use Rattle.pap_plan.specs.declared.refusal.PlanRefusal.{PlanRefusal}
+use Rattle.pap_plan.specs.Acceptance.{Meaning, Answers}
+use Rattle.book_edits.specs.declared.refusal.EditRefusal.{EditRefusal}
+use Rattle.recalc_engine.specs.Contents.{Contents}
+use Rattle.recalc_engine.specs.EditAnswers as edits
+use Rattle.recalc_engine.specs.EditAnswers.{Edit, EditAnswers}
+use Rattle.report_csv.specs.ReportTexts.{report_text}
+use Rattle.plan_answers.specs.Answers.{Answer, refusal, IsRefusal}
+use Rattle.plan_answers.specs.Lines.{bound_line}
+use Rattle.script_steps.specs.LineTexts.{ok_line, end_line, work_line, line_detail, table_detail, edit_detail}
+use Rattle.script_steps.specs.Standings.{Standing, accepted, silence}
+
+-- nothing changes, and this is answered
+abbrev pub Stays : Standing → Standing → Answer → Answer → Type 0
+Stays from to said answer = (to ≡ from) × (answer ≡ said)
+
+-- ---- an edit of the book
+
+-- the edit is made, and this text is answered, with the steps of the edit's work; or it is refused, and nothing changes
+abbrev pub IsEditAnswered : List ℕ → Standing → Result Contents EditRefusal → Standing → Answer → Type 0
+IsEditAnswered text from (Ok book) to answer =
+    (to ≡ record { book = book }) × (answer ≡ accepted text book.last.steps)
+IsEditAnswered text from (Err why) to answer = Stays from to (refusal (edit_detail why)) answer
+
+pub record IsEditStep (text : List ℕ) (from : Standing) (e : Edit) (to : Standing) (answer : Answer) : Type 0 where
+  pub verdict : Result Contents EditRefusal
+  pub says : EditAnswers from.book e verdict
+  pub is : IsEditAnswered text from verdict to answer
+
+-- ---- load FILE
+
+-- the runs of the table are added, or the table is refused
+abbrev pub IsLoaded : Standing → Result (List Record) TableFault → Standing → Answer → Type 0
+IsLoaded from (Ok records) to answer = IsEditStep ok_line from (edits.load records) to answer
+IsLoaded from (Err why) to answer = Stays from to (refusal (table_detail why)) answer
+
+-- the table of this text is loaded
+pub record IsTableStep (from : Standing) (table : List ℕ) (to : Standing) (answer : Answer) : Type 0 where
+  pub said : Result (List Record) TableFault
+  pub says : TableSays table said
+  pub is : IsLoaded from said to answer
+
+-- the table of this file
+pub record IsLoadStep (files : FileMap) (from : Standing) (file : List ℕ) (to : Standing) (answer : Answer) : Type 0 where
+  pub table : List ℕ
+  pub there : files file ≡ Some table
+  pub is : IsTableStep from table to answer
+
+-- ---- plan DAY PLANFILE LIMITFILE
+
+-- an accepted plan is put at its day, and its bound is answered; or the plan is refused, and nothing changes
+abbrev pub IsPut : Standing → Day → List ℕ → List ℕ → Result Meaning PlanRefusal → Standing → Answer → Type 0
+IsPut from day plan limits (Ok m) to answer =
+    IsEditStep (bound_line (bound_of m.flowchart)) from
+    (edits.put (day, record { plan = plan; limits = limits; meaning = m })) to answer
+IsPut from day plan limits (Err why) to answer = (to ≡ from) × IsRefusal plan why answer
+
+-- the plan of these two texts is put at a day
+pub record IsTextsStep (from : Standing) (day : Day) (plan limits : List ℕ) (to : Standing) (answer : Answer) : Type 0 where
+  pub verdict : Result Meaning PlanRefusal
+  pub says : Answers plan limits verdict
+  pub is : IsPut from day plan limits verdict to answer
+
+-- the plan of these two files
+pub record IsPlanStep
+    (files : FileMap) (from : Standing) (day : Day) (plan limits : List ℕ)
+    (to : Standing) (answer : Answer) : Type 0 where
+  pub plan_bytes : List ℕ
+  pub limits_bytes : List ℕ
+  pub plan_there : files plan ≡ Some plan_bytes
+  pub limits_there : files limits ≡ Some limits_bytes
+  pub is : IsTextsStep from day plan_bytes limits_bytes to answer
+
+-- ---- all lines
+
+-- the report, and a last line
+abbrev pub report_answer : Standing → Answer
+report_answer from = accepted (report_text from.book ++ end_line) 0
+
+-- the work of the last edit that was accepted
+abbrev pub work_answer : Standing → Answer
+work_answer from = accepted (work_line from.book.last) 0
+
+-- what a line that says this does: a line that is refused changes nothing
+abbrev pub Does : FileMap → Standing → Result Asked LineFault → Standing → Answer → Type 0
+Does files from (Err why) to answer = Stays from to (refusal (line_detail why)) answer
+Does files from (Ok asked.nothing) to answer = Stays from to silence answer
+Does files from (Ok (asked.plan day plan limits)) to answer = IsPlanStep files from day plan limits to answer
+Does files from (Ok (asked.drop day)) to answer = IsEditStep ok_line from (edits.drop day) to answer
+Does files from (Ok (asked.add r)) to answer = IsEditStep ok_line from (edits.add r) to answer
+Does files from (Ok (asked.change r)) to answer = IsEditStep ok_line from (edits.change r) to answer
+Does files from (Ok (asked.withdraw who when)) to answer =
+    IsEditStep ok_line from (edits.withdraw who when) to answer
+Does files from (Ok (asked.load file)) to answer = IsLoadStep files from file to answer
+Does files from (Ok asked.report) to answer = Stays from to (report_answer from) answer
+Does files from (Ok asked.work) to answer = Stays from to (work_answer from) answer
+
+-- the files that are asked for
+abbrev pub IsFileOf : Asked → List ℕ → Type 0
+IsFileOf (asked.plan day plan limits) name = (name ≡ plan) ⊎ (name ≡ limits)
+IsFileOf (asked.load file) name = name ≡ file
+IsFileOf _ name = ⊥

@@ -1,0 +1,43 @@
+-- What holds of the steps of lines.
+use Rattle.std.specs.Prelude.{◌≡◌, ◌⊎◌, ◌<◌, ℕ, List, IsSome, Option, None, length}
+use Rattle.outside.specs.Told.{FileMap}
+use Rattle.script_steps.specs.Steps.{Standing, Answer, Names, AreThere, IsStep}
+
+-- a step of a line
+pub record HasStep (files : FileMap) (from : Standing) (line : List ℕ) : Type 0 where
+  pub to : Standing
+  pub answer : Answer
+  pub is : IsStep files from line to answer
+
+-- a line whose files are there has a step
+abbrev pub LinesHaveAStep : Type 0
+LinesHaveAStep =
+    (files : FileMap) (from : Standing) (line : List ℕ) → AreThere files line → HasStep files from line
+
+-- and no other; and a line that has a step has its files
+abbrev pub LinesHaveOneStep : Type 0
+LinesHaveOneStep =
+    (files : FileMap) (from : Standing) (line : List ℕ) (to to' : Standing) (answer answer' : Answer)
+    → IsStep files from line to answer → IsStep files from line to' answer'
+    → AreThere files line × (to ≡ to') × (answer ≡ answer')
+
+-- a file that the line names and that isn't there
+pub record LacksAFile (files : FileMap) (line : List ℕ) : Type 0 where
+  pub name : List ℕ
+  pub names : Names line name
+  pub lacks : files name ≡ None
+
+-- the files of a line are there, or one is not
+abbrev pub FilesAreTold : Type 0
+FilesAreTold = (files : FileMap) (line : List ℕ) → AreThere files line ⊎ LacksAFile files line
+
+-- lines of more than 65,536 bytes have one step
+abbrev pub LongLinesAreOne : Type 0
+LongLinesAreOne =
+    (files : FileMap) (from to : Standing) (line other : List ℕ) (answer : Answer)
+    → 65536 < length line → 65536 < length other
+    → IsStep files from line to answer → IsStep files from other to answer
+
+-- and name no file
+abbrev pub LongLinesNameNoFile : Type 0
+LongLinesNameNoFile = (line name : List ℕ) → 65536 < length line → Names line name → ⊥

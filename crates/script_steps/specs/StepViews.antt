@@ -1,0 +1,106 @@
+-- What the function of a kind of line leaves, before its answer is written.
+use Rattle.std.specs.Prelude.{◌≡◌, ◌⊎◌, ℕ, ◌+◌, ◌≤◌, List, [], ◌++◌, Bool, false, Option, Some, Result, Ok, Err, ⊤}
+use Rattle.std.specs.Option.{ForSome}
+use Rattle.outside.specs.Told.{FileMap, Appends, AppendsPrefix}
+use Rattle.script_lang.specs.Commands.{Asked}
+use Rattle.script_lang.specs.declared.fault.LineFault.{LineFault}
+use Rattle.script_lang.specs.declared.fault.LineFault.TheVariants as lines
+use Rattle.payroll_records.specs.declared.table.TableFault.{TableFault}
+use Rattle.payroll_records.specs.declared.table.TableFault.TheVariants as tables
+use Rattle.book_year.specs.declared.outcome.Work.{Work}
+use Rattle.book_edits.specs.declared.refusal.EditRefusal.{EditRefusal}
+use Rattle.book_edits.specs.declared.refusal.EditRefusal.TheVariants as edits
+use Rattle.report_csv.specs.Fronts.{AppendsFront}
+use Rattle.plan_answers.specs.Answers.{Answer, refusal}
+use Rattle.plan_answers.specs.declared.reply.Reply.{Reply}
+use Rattle.script_steps.specs.declared.stop.LineStop.{LineStop}
+use Rattle.script_steps.specs.declared.stop.LineStop.TheVariants as stops
+use Rattle.script_steps.specs.LineSteps.{Does, IsFileOf}
+use Rattle.script_steps.specs.LineTexts.{line_detail, table_detail, edit_detail}
+use Rattle.script_steps.specs.Standings.{Standing, accepted}
+
+-- what a line leaves and answers, for one that does this
+abbrev pub Doing : Type 1
+Doing = Standing → Answer → Type 0
+
+-- the line has left this and has this answer, whose steps were counted
+pub record IsMade (Step : Doing) (to : Standing) (before now : ℕ) (answer : Answer) : Type 0 where
+  pub is : Step to answer
+  pub counted : now ≡ before + answer.steps
+
+-- the line leaves something and has some answer, at most whose steps were counted
+pub record IsLost (Step : Doing) (before now : ℕ) : Type 0 where
+  pub to : Standing
+  pub answer : Answer
+  pub is : Step to answer
+  pub later : before ≤ now
+  pub within : now ≤ before + answer.steps
+
+-- out of memory: nothing was counted, or so much of a line
+abbrev pub IsWant : Doing → ℕ → ℕ → Type 0
+IsWant Step before now = (now ≡ before) ⊎ IsLost Step before now
+
+-- what a line does that says this, where the files tell what they hold
+abbrev pub ToldDoes : Option FileMap → Standing → Result Asked LineFault → Doing
+ToldDoes told from said to answer = ForSome told (λ files. Does files from said to answer)
+
+-- the files failed at one that is asked for, and nothing was counted
+pub record IsFileFault (what : Asked) (before now : ℕ) (failed : Option (List ℕ)) : Type 0 where
+  pub uncounted : now ≡ before
+  pub name : List ℕ
+  pub is_file : IsFileOf what name
+  pub failed_there : failed ≡ Some name
+
+-- no reply was made, by the cause
+abbrev pub IsUnmade : Doing → Asked → ℕ → ℕ → Option (List ℕ) → LineStop → Type 0
+IsUnmade Step what before now failed stops.File = IsFileFault what before now failed
+IsUnmade Step what before now failed stops.Write = ⊥
+IsUnmade Step what before now failed stops.Memory = IsWant Step before now
+
+-- ---- refusals that are written, which want of memory is not
+
+abbrev pub IsLineRefusal : LineFault → Answer → Type 0
+IsLineRefusal (lines.Memory e) answer = ⊥
+IsLineRefusal why answer = answer ≡ refusal (line_detail why)
+
+abbrev pub IsTableRefusal : TableFault → Answer → Type 0
+IsTableRefusal (tables.Memory e) answer = ⊥
+IsTableRefusal why answer = answer ≡ refusal (table_detail why)
+
+abbrev pub IsEditRefusal : EditRefusal → Answer → Type 0
+IsEditRefusal (edits.Memory e) answer = ⊥
+IsEditRefusal why answer = answer ≡ refusal (edit_detail why)
+
+-- what is answered to an edit that the book has made or refused
+abbrev pub IsEditReply : List ℕ → Result Work EditRefusal → Answer → Type 0
+IsEditReply text (Ok work) answer = answer ≡ accepted text work.steps
+IsEditReply text (Err why) answer = IsEditRefusal why answer
+
+-- ---- what was written
+
+-- the answer's text, and its mark was told
+pub record IsWritten (old new : Option (List ℕ)) (text : List ℕ) (mark refused : Bool) : Type 0 where
+  pub marked : refused ≡ mark
+  pub appended : Appends old new text
+
+-- a front of the text, which is not the whole where the sink failed
+abbrev pub IsUnwritten : Option (List ℕ) → Option (List ℕ) → List ℕ → LineStop → Type 0
+IsUnwritten old new text stops.File = ⊥
+IsUnwritten old new text stops.Write = AppendsPrefix old new text
+IsUnwritten old new text stops.Memory = AppendsFront old new text
+
+-- the same of the refusal of a line; out of memory nothing is written of it
+pub record IsRefusalWritten (old new : Option (List ℕ)) (why : LineFault) (refused : Bool) : Type 0 where
+  pub answer : Answer
+  pub is : IsLineRefusal why answer
+  pub written : IsWritten old new answer.text answer.refused refused
+
+pub record IsRefusalCut (old new : Option (List ℕ)) (why : LineFault) : Type 0 where
+  pub answer : Answer
+  pub is : IsLineRefusal why answer
+  pub cut : AppendsPrefix old new answer.text
+
+abbrev pub IsRefusalUnwritten : Option (List ℕ) → Option (List ℕ) → LineFault → LineStop → Type 0
+IsRefusalUnwritten old new why stops.File = ⊥
+IsRefusalUnwritten old new why stops.Write = IsRefusalCut old new why
+IsRefusalUnwritten old new why stops.Memory = Appends old new []

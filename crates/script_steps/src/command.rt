@@ -1,0 +1,102 @@
+//! What a line asks for, done and answered.
+ghost use Rattle.std.specs.Prelude.{◌≡◌, ◌≢◌, ℕ, List, IfOk, Ok, Err};
+ghost use Rattle.std.specs.Result.{ForErr};
+ghost use Rattle.outside.specs.Causes.{Caused};
+ghost use Rattle.plan_answers.specs.ReplyViews.{reply_of};
+ghost use Rattle.script_lang.specs.Commands.{asked_of};
+ghost use Rattle.script_lang.specs.Lines.{IsLine};
+ghost use Rattle.script_steps.specs.LineTexts.{work_line};
+ghost use Rattle.script_steps.specs.Standings.{accepted};
+ghost use Rattle.script_steps.specs.StepClauses.{IsAnswered, IsBroken};
+ghost use Rattle.script_steps.specs.StepViews.{IsMade, IsUnmade, ToldDoes};
+
+use crate::edits::{add, change, drop_plan, withdraw};
+use crate::load::load;
+use crate::plan::plan;
+use crate::reply::{accepted, write_reply};
+use crate::report::report;
+use crate::script::Script;
+use crate::stop::LineStop;
+use outside::{Files, Sink};
+use plan_answers::Reply;
+use recalc_engine::{Book, Work};
+use script_lang::Command;
+use std::alloc::{AllocError, Global};
+use std::sync::ledger::Ledger;
+use steps::Steps;
+
+/// Does what a line asks for, and writes its answer. `Ok` says whether it is a refusal.
+pub(crate) fn answer_command<F: Files, W: Sink, L: Ledger>(
+    alloc: Global,
+    script: &mut Script,
+    command: Command,
+    files: &mut F,
+    sink: &mut W,
+    steps: &mut Steps<L>,
+) -> Result<bool, LineStop>
+    ensures answered { (line : List ℕ) → IsLine line (asked_of command)
+        → IfOk result (λ refused. IsAnswered (F.told files.old)
+        (W.written sink.old) (W.written sink.new) steps.old steps.new
+        script.old script.new line refused) }
+    ensures broken { (line : List ℕ) → IsLine line (asked_of command)
+        → ForErr result (λ stop. IsBroken (F.told files.old)
+        (W.written sink.old) (W.written sink.new) steps.old steps.new
+        script.old line (F.failed files.new) stop) }
+    ensures same { F.told files.new ≡ F.told files.old }
+    ensures file { Caused LineStop.File (F.faults files.old) (F.faults files.new) result }
+    ensures write { Caused LineStop.Write (W.faults sink.old) (W.faults sink.new) result }
+    ensures kept { result ≢ Err LineStop.File → F.failed files.new ≡ F.failed files.old }
+{
+    match command {
+        Command::Report => report(alloc, &script.book, sink),
+        command => {
+            let reply = make_reply(alloc, script, command, files, steps)?;
+            write_reply(&reply, sink)
+        }
+    }
+}
+
+/// Does what a line asks for that isn't the report.
+fn make_reply<F: Files, L: Ledger>(
+    alloc: Global,
+    script: &mut Script,
+    command: Command,
+    files: &mut F,
+    steps: &mut Steps<L>,
+) -> Result<Reply, LineStop>
+    requires { command ≢ Command.Report }
+    ensures made { IfOk result (λ reply. IsMade
+        (ToldDoes (F.told files.old) script.old (Ok (asked_of command)))
+        script.new steps.old steps.new (reply_of reply)) }
+    ensures unmade { ForErr result (IsUnmade
+        (ToldDoes (F.told files.old) script.old (Ok (asked_of command)))
+        (asked_of command) steps.old steps.new (F.failed files.new)) }
+    ensures same { F.told files.new ≡ F.told files.old }
+    ensures file { Caused LineStop.File (F.faults files.old) (F.faults files.new) result }
+    ensures kept { result ≢ Err LineStop.File → F.failed files.new ≡ F.failed files.old }
+{
+    match command {
+        Command::Nothing => Ok(accepted(Vec::new(alloc), 0)),
+        Command::Plan { day, plan: file, limits } => {
+            plan(alloc, script, day, &file, &limits, files, steps)
+        }
+        Command::Drop { day } => Ok(drop_plan(alloc, script, day, steps)?),
+        Command::Add(run) => Ok(add(alloc, script, run, steps)?),
+        Command::Change(run) => Ok(change(alloc, script, run, steps)?),
+        Command::Withdraw { employee, when } => {
+            Ok(withdraw(alloc, script, employee, when, steps)?)
+        }
+        Command::Load { file } => load(alloc, script, &file, files, steps),
+        Command::Report => unreachable!(),
+        Command::Work => Ok(work(alloc, &script.book)?),
+    }
+}
+
+/// The line `work`: the runs and the steps of the last edit that was accepted.
+fn work(alloc: Global, book: &Book) -> Result<Reply, AllocError>
+    ensures { IfOk result (λ reply. reply_of reply ≡ accepted (work_line book.now.last) 0) }
+{
+    let Work { runs, steps } = book.last_work();
+    let line = format!(in alloc; "work {runs} {steps}\n")?;
+    Ok(accepted(line.into_bytes(), 0))
+}

@@ -1,0 +1,17 @@
+//! The lines of a script, carried out one by one: what a line answers, what it makes of the book, and what it counts.
+#![tactic(auto)]
+
+mod command;
+mod edits;
+mod load;
+mod plan;
+mod refusals;
+mod reply;
+mod report;
+mod script;
+mod step;
+mod stop;
+
+pub use script::Script;
+pub use step::{answer_line, step_laws};
+pub use stop::LineStop;

@@ -1,0 +1,66 @@
+//! The line `load`.
+ghost use Rattle.std.specs.Prelude.{◌≡◌, ◌≢◌, IfOk, OnErr, Ok, Err};
+ghost use Rattle.std.specs.Result.{ForErr};
+ghost use Rattle.outside.specs.Causes.{Caused};
+ghost use Rattle.plan_answers.specs.ReplyViews.{reply_of};
+ghost use Rattle.script_lang.specs.Commands as asked;
+ghost use Rattle.script_steps.specs.LineSteps.{IsTableStep};
+ghost use Rattle.script_steps.specs.StepViews.{IsMade, IsUnmade, IsWant, ToldDoes};
+
+use crate::edits::{OK, edit_reply};
+use crate::refusals::table_refusal;
+use crate::script::Script;
+use crate::stop::LineStop;
+use outside::Files;
+use payroll_records::{TableFault, read_table};
+use plan_answers::Reply;
+use std::alloc::{AllocError, Global};
+use std::sync::ledger::Ledger;
+use steps::Steps;
+
+/// The most bytes of a table.
+const LONGEST_TABLE: usize = 33_554_432;
+
+/// The line `load`, with its file's name.
+pub(crate) fn load<F: Files, L: Ledger>(
+    alloc: Global,
+    script: &mut Script,
+    file: &str,
+    files: &mut F,
+    steps: &mut Steps<L>,
+) -> Result<Reply, LineStop>
+    ensures made { IfOk result (λ reply. IsMade
+        (ToldDoes (F.told files.old) script.old (Ok (asked.load file.now)))
+        script.new steps.old steps.new (reply_of reply)) }
+    ensures unmade { ForErr result (IsUnmade
+        (ToldDoes (F.told files.old) script.old (Ok (asked.load file.now)))
+        (asked.load file.now) steps.old steps.new (F.failed files.new)) }
+    ensures same { F.told files.new ≡ F.told files.old }
+    ensures file { Caused LineStop.File (F.faults files.old) (F.faults files.new) result }
+    ensures kept { result ≢ Err LineStop.File → F.failed files.new ≡ F.failed files.old }
+{
+    let table = files.read_front(alloc, file, LONGEST_TABLE + 1)?;
+    Ok(load_table(alloc, script, &table, steps)?)
+}
+
+/// Loads the table of a text.
+fn load_table<L: Ledger>(
+    alloc: Global,
+    script: &mut Script,
+    table: &[u8],
+    steps: &mut Steps<L>,
+) -> Result<Reply, AllocError>
+    ensures made { IfOk result (λ reply. IsMade (IsTableStep script.old table.now)
+        script.new steps.old steps.new (reply_of reply)) }
+    ensures lost { OnErr result
+        (IsWant (IsTableStep script.old table.now) steps.old steps.new) }
+{
+    match read_table(alloc, table) {
+        Ok(runs) => {
+            let made = script.book.load(runs, steps);
+            edit_reply(alloc, OK, made)
+        }
+        Err(TableFault::Memory(error)) => Err(error),
+        Err(fault) => table_refusal(alloc, &fault),
+    }
+}

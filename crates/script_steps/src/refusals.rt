@@ -1,0 +1,92 @@
+//! How the refusals of lines, tables and edits are written.
+ghost use Rattle.std.specs.Prelude.{IfOk, string_bytes};
+ghost use Rattle.plan_answers.specs.Answers.{refusal};
+ghost use Rattle.plan_answers.specs.ReplyViews.{reply_of};
+ghost use Rattle.script_steps.specs.StepViews.{IsEditRefusal, IsLineRefusal, IsTableRefusal};
+
+use payroll_records::TableFault;
+use plan_answers::{Reply, refusal};
+use recalc_engine::EditRefusal;
+use script_lang::LineFault;
+use std::alloc::{AllocError, Global};
+
+/// The refusal of a line.
+pub(crate) fn line_refusal(alloc: Global, fault: &LineFault) -> Result<Reply, AllocError>
+    ensures { IfOk result (λ reply. IsLineRefusal fault.now (reply_of reply)) }
+{
+    let detail = line_detail(alloc, fault)?;
+    refusal(alloc, detail.as_bytes())
+}
+
+/// The refusal of a table.
+pub(crate) fn table_refusal(alloc: Global, fault: &TableFault) -> Result<Reply, AllocError>
+    ensures { IfOk result (λ reply. IsTableRefusal fault.now (reply_of reply)) }
+{
+    let detail = table_detail(alloc, fault)?;
+    refusal(alloc, detail.as_bytes())
+}
+
+/// The refusal of an edit of the book.
+pub(crate) fn edit_refusal(alloc: Global, why: &EditRefusal) -> Result<Reply, AllocError>
+    ensures { IfOk result (λ reply. IsEditRefusal why.now (reply_of reply)) }
+{
+    let detail = edit_detail(alloc, why)?;
+    refusal(alloc, detail.as_bytes())
+}
+
+/// The group, the name and the details of a line's refusal.
+fn line_detail(alloc: Global, fault: &LineFault) -> Result<String, AllocError>
+    ensures { IfOk result (λ detail. IsLineRefusal fault.now (refusal (string_bytes detail))) }
+{
+    match fault {
+        LineFault::Command => format!(in alloc; "line Command"),
+        LineFault::Words => format!(in alloc; "line Words"),
+        LineFault::Employee => format!(in alloc; "line Employee"),
+        LineFault::Month => format!(in alloc; "line Month"),
+        LineFault::Day => format!(in alloc; "line Day"),
+        LineFault::Value { word } => format!(in alloc; "line Value {word}"),
+        LineFault::Twice { name } => format!(in alloc; "line Twice {name}"),
+        LineFault::LineLong => format!(in alloc; "line LineLong"),
+        LineFault::Memory(_) => Err(AllocError),
+    }
+}
+
+/// The group, the name and the details of a table's refusal.
+fn table_detail(alloc: Global, fault: &TableFault) -> Result<String, AllocError>
+    ensures { IfOk result (λ detail. IsTableRefusal fault.now (refusal (string_bytes detail))) }
+{
+    match fault {
+        TableFault::Header => format!(in alloc; "table Header"),
+        TableFault::Width { row } => format!(in alloc; "table Width {row}"),
+        TableFault::Employee { row } => format!(in alloc; "table Employee {row}"),
+        TableFault::Month { row } => format!(in alloc; "table Month {row}"),
+        TableFault::Day { row } => format!(in alloc; "table Day {row}"),
+        TableFault::Value { row, name } => format!(in alloc; "table Value {row} {name}"),
+        TableFault::Repeat { row } => format!(in alloc; "table Repeat {row}"),
+        TableFault::TableLong => format!(in alloc; "table TableLong"),
+        TableFault::Memory(_) => Err(AllocError),
+    }
+}
+
+/// The group, the name and the details of an edit's refusal.
+fn edit_detail(alloc: Global, why: &EditRefusal) -> Result<String, AllocError>
+    ensures { IfOk result (λ detail. IsEditRefusal why.now (refusal (string_bytes detail))) }
+{
+    match why {
+        EditRefusal::Present { key } => {
+            let employee = key.employee;
+            let day = key.day;
+            format!(in alloc; "edit Present {employee} {day}")
+        }
+        EditRefusal::Absent { employee, when } => {
+            format!(in alloc; "edit Absent {employee} {when}")
+        }
+        EditRefusal::Several { employee, month } => {
+            format!(in alloc; "edit Several {employee} {month}")
+        }
+        EditRefusal::Records => format!(in alloc; "edit Records"),
+        EditRefusal::Plans => format!(in alloc; "edit Plans"),
+        EditRefusal::NoPlanThere { day } => format!(in alloc; "edit NoPlanThere {day}"),
+        EditRefusal::Memory(_) => Err(AllocError),
+    }
+}

@@ -1,0 +1,46 @@
+//! What the lines of a script have made so far.
+ghost use Rattle.std.specs.Prelude.{◌≡◌};
+ghost use Rattle.script_steps.specs.Standings.{start};
+
+use recalc_engine::Book;
+use std::alloc::Global;
+use std::marker::Model;
+
+/// What the lines of a script have made so far: a book.
+#[derive(Drop)]
+pub struct Script {
+    pub(crate) book: Book,
+}
+
+impl Model for Script {
+    ghost use Rattle.std.specs.Coded.{codes};
+    ghost use Rattle.recalc_engine.specs.Codes.{body_code};
+    ghost use Rattle.script_steps.specs.Standings.{Standing};
+
+    ghost Value = { Standing };
+
+    ghost coded = { Prim.hlevel (
+      codes,
+      body_code (Prim.hlevel codes) (Prim.hlevel codes) (Prim.hlevel codes),
+    ) };
+
+    ghost view = { λ s. record { book = s.book } };
+}
+
+impl Script {
+    /// Before the first line: a book without runs and without plans.
+    pub fn new(alloc: Global) -> Script
+        ensures { result ≡ start }
+    {
+        Script {
+            book: Book::new(alloc),
+        }
+    }
+
+    /// The book.
+    pub fn book(&self) -> &Book
+        ensures { result.now ≡ self.now.book }
+    {
+        &self.book
+    }
+}

@@ -1,0 +1,67 @@
+//! A line of a script, answered.
+ghost use Rattle.std.specs.Prelude.{◌≡◌, ◌≢◌, IfOk, Err};
+ghost use Rattle.std.specs.Result.{ForErr};
+ghost use Rattle.outside.specs.Causes.{Caused};
+ghost use Rattle.script_steps.specs.StepClauses.{IsAnswered, IsBroken};
+ghost use Rattle.script_steps.specs.StepLaws.{LinesHaveAStep, LinesHaveOneStep, FilesAreTold};
+ghost use Rattle.script_steps.specs.StepLaws.{LongLinesAreOne, LongLinesNameNoFile};
+ghost use Rattle.script_steps.specs.StepViews.{IsRefusalUnwritten, IsRefusalWritten};
+
+use crate::command::answer_command;
+use crate::refusals::line_refusal;
+use crate::reply::write_reply;
+use crate::script::Script;
+use crate::stop::LineStop;
+use outside::{Files, Sink};
+use script_lang::{LineFault, read_line};
+use std::alloc::Global;
+use std::sync::ledger::Ledger;
+use steps::Steps;
+
+/// Answers a line of a script, which stands without its line end. `Ok` says whether the answer is a refusal. The counter rises
+/// by the steps of the accepted edit. After a stop the script isn't to be gone on with.
+pub fn answer_line<F: Files, W: Sink, L: Ledger>(
+    alloc: Global,
+    script: &mut Script,
+    line: &[u8],
+    files: &mut F,
+    sink: &mut W,
+    steps: &mut Steps<L>,
+) -> Result<bool, LineStop>
+    ensures answered { IfOk result (λ refused. IsAnswered (F.told files.old)
+        (W.written sink.old) (W.written sink.new) steps.old steps.new
+        script.old script.new line.now refused) }
+    ensures broken { ForErr result (λ stop. IsBroken (F.told files.old)
+        (W.written sink.old) (W.written sink.new) steps.old steps.new
+        script.old line.now (F.failed files.new) stop) }
+    ensures same { F.told files.new ≡ F.told files.old }
+    ensures file { Caused LineStop.File (F.faults files.old) (F.faults files.new) result }
+    ensures write { Caused LineStop.Write (W.faults sink.old) (W.faults sink.new) result }
+    ensures kept { result ≢ Err LineStop.File → F.failed files.new ≡ F.failed files.old }
+{
+    match read_line(alloc, line) {
+        Ok(command) => answer_command(alloc, script, command, files, sink, steps),
+        Err(LineFault::Memory(_)) => Err(LineStop::Memory),
+        Err(fault) => answer_fault(alloc, &fault, sink),
+    }
+}
+
+/// Answers a line that is refused.
+fn answer_fault<W: Sink>(alloc: Global, fault: &LineFault, sink: &mut W) -> Result<bool, LineStop>
+    ensures ok { IfOk result (IsRefusalWritten (W.written sink.old) (W.written sink.new) fault.now) }
+    ensures err { ForErr result
+        (IsRefusalUnwritten (W.written sink.old) (W.written sink.new) fault.now) }
+    ensures write { Caused LineStop.Write (W.faults sink.old) (W.faults sink.new) result }
+{
+    let reply = line_refusal(alloc, fault)?;
+    write_reply(&reply, sink)
+}
+
+/// Every line whose files are there has one step. A line of more than 65,536 bytes is answered whatever its bytes are.
+pub fn step_laws()
+    ensures some { LinesHaveAStep }
+    ensures one { LinesHaveOneStep }
+    ensures told { FilesAreTold }
+    ensures long { LongLinesAreOne }
+    ensures long_alone { LongLinesNameNoFile }
+{}
