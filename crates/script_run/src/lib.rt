@@ -1,0 +1,21 @@
+//! The lines of a script, taken from a source turn by turn and answered one by one.
+#![tactic(auto)]
+
+mod laws;
+mod reading;
+mod stop;
+mod turns;
+
+
+pub use laws::transcript_laws;
+pub use turns::run;
+pub use stop::Stop;
+
+/// The most bytes of a script.
+pub const MOST_SCRIPT: usize = 67_108_864;
+
+/// The most bytes that one turn takes.
+pub const MOST_TURN: usize = 65_536;
+
+/// The most bytes of a line that may be more than too long. Of a longer one this many and one more are kept.
+pub const MOST_LINE: usize = 65_536;

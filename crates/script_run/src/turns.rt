@@ -1,0 +1,75 @@
+//! A script, run over a source.
+ghost use Rattle.std.specs.Prelude.{◌≡◌, ◌≢◌, ◌+◌, ◌≤◌, length, Err, IfOk};
+ghost use Rattle.std.specs.Option.{ForSome};
+ghost use Rattle.outside.specs.Causes.{Caused, HasCause};
+ghost use Rattle.outside.specs.Told.{ReadConsumes};
+ghost use Rattle.script_run.specs.Limits.{most_script, most_turn};
+ghost use Rattle.script_run.specs.RunClauses.{RunMeets, shown};
+
+use crate::reading::{Reading, feed, last_line};
+use crate::stop::Stop;
+use crate::{MOST_SCRIPT, MOST_TURN};
+use outside::{Failed, Files, Sink, Source};
+use std::alloc::Global;
+use std::sync::ledger::Ledger;
+use steps::Steps;
+
+/// Takes the next turn's bytes, and no byte past the limit of scripts but for one where so many were taken.
+fn next_turn<R: Source>(source: &mut R, buf: &mut [u8], taken: usize) -> Result<usize, Failed>
+    requires room { length buf.old ≡ most_turn }
+    requires within { taken ≤ most_script }
+    ensures short { IfOk result (λ count. count ≤ most_turn) }
+    ensures limit { IfOk result (λ count. taken + count ≤ most_script + 1) }
+    ensures past { IfOk result (λ count. taken + count ≡ most_script + 1 → taken ≡ most_script) }
+    ensures bytes { ReadConsumes (R.left source.old) (R.left source.new) result buf.new }
+    ensures cause { HasCause (R.faults source.old) (R.faults source.new) result }
+{
+    let ask = if taken < MOST_SCRIPT {
+        MOST_TURN.min(MOST_SCRIPT - taken)
+    } else {
+        1
+    };
+    source.take(&mut buf[..ask])
+}
+
+/// Runs a script: takes it from the source turn by turn, and answers each line before bytes past its turn are taken.
+/// `Ok` says whether an answer was a refusal. The counter rises by the steps of the accepted edits.
+///
+/// A script has at most [`MOST_SCRIPT`] bytes. A line of more than [`MOST_LINE`](crate::MOST_LINE) bytes is answered once,
+/// and of its bytes no more than that many and one are kept.
+pub fn run<F: Files, R: Source, W: Sink, L: Ledger>(
+    alloc: Global,
+    files: &mut F,
+    source: &mut R,
+    sink: &mut W,
+    steps: &mut Steps<L>,
+) -> Result<bool, Stop>
+    ensures script { ForSome (R.left source.old) (λ script. RunMeets
+        (shown (F.told files.old) (F.failed files.old) (W.written sink.old) steps.old)
+        (shown (F.told files.new) (F.failed files.new) (W.written sink.new) steps.new)
+        script (R.left source.new) result) }
+    ensures same { F.told files.new ≡ F.told files.old }
+    ensures kept { result ≢ Err Stop.File → F.failed files.new ≡ F.failed files.old }
+    ensures file { Caused Stop.File (F.faults files.old) (F.faults files.new) result }
+    ensures read { Caused Stop.Read (R.faults source.old) (R.faults source.new) result }
+    ensures write { Caused Stop.Write (W.faults sink.old) (W.faults sink.new) result }
+{
+    let mut buf = vec![in alloc; 0; MOST_TURN]?;
+    let mut reading = Reading::new(alloc);
+    let mut taken = 0;
+    'turns: loop {
+        let count = match next_turn(source, &mut buf, taken) {
+            Ok(count) => count,
+            Err(_) => return Err(Stop::Read),
+        };
+        if count == 0 {
+            break;
+        }
+        taken += count;
+        if taken > MOST_SCRIPT {
+            return Err(Stop::Long);
+        }
+        feed(alloc, &mut reading, &buf[..count], files, sink, steps)?;
+    }
+    Ok(last_line(alloc, &mut reading, files, sink, steps)?)
+}
