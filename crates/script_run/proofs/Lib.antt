@@ -1,0 +1,5 @@
+pub mod LineLaws
+pub mod KeepingLaws
+pub mod Laws
+pub mod StepLaws
+pub mod TurnLaws

@@ -1,15 +1,14 @@
 //! The lines of a script, taken from a source turn by turn and answered one by one.
 #![tactic(auto)]
 
-mod laws;
 mod reading;
 mod stop;
+mod transcript;
 mod turns;
 
-
-pub use laws::transcript_laws;
-pub use turns::run;
 pub use stop::Stop;
+pub use transcript::transcript_laws;
+pub use turns::run;
 
 /// The most bytes of a script.
 pub const MOST_SCRIPT: usize = 67_108_864;

@@ -1,5 +1,5 @@
 //! A script's bytes, one by one, and its lines as they end.
-ghost use Rattle.std.specs.Prelude.{◌≡◌, ◌≢◌, List, ℕ, [], ◌∷◌, ◌++◌, Err, OnOk, IfOk};
+ghost use Rattle.std.specs.Prelude.{◌≡◌, ◌≢◌, if◌then◌else◌, List, ℕ, [], ◌∷◌, ◌++◌, Err, OnOk};
 ghost use Rattle.std.specs.Result.{ForErr};
 ghost use Rattle.std.specs.Str.Lines.{strip_carriage_return};
 ghost use Rattle.outside.specs.Causes.{Caused};
@@ -51,6 +51,16 @@ fn without_cr(line: &[u8]) -> &[u8]
     }
 }
 
+/// What is answered of a line that an LF ends, of which these bytes are kept: all of them where it has more.
+fn ended(kept: &[u8], long: bool) -> &[u8]
+    ensures { result.now ≡ (if long then kept.now else strip_carriage_return kept.now) }
+{
+    if long {
+        return kept;
+    }
+    without_cr(kept)
+}
+
 /// One more byte of the line that is being read.
 fn push(reading: &mut Reading, byte: u8) -> Result<(), AllocError>
     ensures ok { OnOk result ((line : List ℕ) → Holds reading.old line
@@ -86,11 +96,7 @@ fn end_line<F: Files, W: Sink, L: Ledger>(
     ensures file { Caused LineStop.File (F.faults files.old) (F.faults files.new) result }
     ensures write { Caused LineStop.Write (W.faults sink.old) (W.faults sink.new) result }
 {
-    let line = if reading.long {
-        reading.line.as_slice()
-    } else {
-        without_cr(&reading.line)
-    };
+    let line = ended(&reading.line, reading.long);
     let refused = answer_line(alloc, &mut reading.script, line, files, sink, steps)?;
     reading.refused |= refused;
     reading.line.clear();

@@ -1,0 +1,1 @@
+-- What a run over a told script leaves, at each of its ends.
