@@ -88,12 +88,15 @@ says_ended kept said line true front is e =
 says_ended kept said line false front is e = inl (e ∙ ap (λ v. strip_carriage_return v) (whole_line most_line kept line front is))
 
 -- and so is one that no LF ends
-pub says_open : (kept line : List ℕ) → kept ≡ take (most_line + 1) line → SaysSame kept line
+says_open : (kept line : List ℕ) → kept ≡ take (most_line + 1) line → SaysSame kept line
 says_open kept line front =
     elim (nat_lt (most_line + 1) (length line)) as (λ t. nat_lt (most_line + 1) (length line) ≡ t → SaysSame kept line) [
       | true ↦ λ long. inr (record { said_long = kept_long most_line kept line front (sym long); line_long = last_long most_line line long })
       | false ↦ λ short. inl (whole_line most_line kept line front (sym short))
     ] refl
+
+pub says_kept : (kept said line : List ℕ) → said ≡ kept → kept ≡ take (most_line + 1) line → SaysSame said line
+says_kept kept said line same front = subst (λ v. SaysSame v line) (sym same) (says_open kept line front)
 
 -- nothing is kept of an empty line alone
 pub kept_some : (n : ℕ) (kept line : List ℕ) → kept ≡ take (n + 1) line → 0 < length kept → 0 < length line

@@ -1,14 +1,14 @@
 -- The laws of sessions and transcripts that other crates may cite.
-use Rattle.std.proofs.Common.{◌≡◌, List, [], ◌∷◌, ◌++◌, ℕ, ◌+◌, ◌≤◌, ◌⊎◌, Bool, ◌||◌, refl, sym, ap, ◌∙◌, subst, append_assoc, arith, inl, inr}
-use Rattle.std.specs.Prelude.{Option, None, IsSome, All}
+use Rattle.std.proofs.Common.{◌≡◌, List, [], ◌∷◌, ◌++◌, ℕ, ◌+◌, ◌≤◌, refl, sym, ap, ◌∙◌, subst, append_assoc, arith, inl, inr}
+use Rattle.std.specs.Prelude.{IsSome, All}
 use Rattle.std.proofs.lemmas.List.{append-nil}
 use Rattle.std.proofs.lemmas.List.Elements.{All-nil, All-cons}
 use Rattle.outside.specs.Told.{FileMap}
 use Rattle.script_steps.specs.Steps.{Standing, Answer, AreThere, IsStep}
 use Rattle.script_steps.specs.StepLaws.{LacksAFile}
 use Rattle.script_steps.proofs.Laws as step
-use Rattle.script_run.specs.Transcripts.{Session, opening, with_answer, lines_of, AreAnswered, IsHalted, IsSession, IsTranscript}
-use Rattle.script_run.specs.TranscriptLaws.{HasTranscript, ScriptsHaveATranscript, ScriptsHaveOneTranscript}
+use Rattle.script_run.specs.Transcripts.{Session, opening, with_answer, lines_of, AreAnswered, IsHalted, IsSession}
+use Rattle.script_run.specs.TranscriptLaws.{ScriptsHaveATranscript, ScriptsHaveOneTranscript}
 use Rattle.script_run.specs.RunClauses.{IsFrontOf}
 
 -- lines are answered after others

@@ -1,25 +1,25 @@
 -- How a run goes on over a script's bytes, and what a stop leaves.
-use Rattle.std.proofs.Common.{◌≡◌, List, [], ◌∷◌, ◌++◌, ℕ, ◌+◌, ◌-◌, ◌≤◌, ◌<◌, ◌==◌, ◌⊎◌, Bool, true, false, ◌||◌, length, take, drop, get_or, Option, refl, sym, ap, ◌∙◌, subst, append_assoc, arith, inl, inr, length-append}
+use Rattle.std.proofs.Common.{◌≡◌, List, [], ◌∷◌, ◌++◌, ℕ, ◌+◌, ◌-◌, ◌≤◌, ◌<◌, ◌==◌, Bool, false, ◌||◌, length, take, drop, get_or, Option, refl, sym, ap, ◌∙◌, subst, append_assoc, arith, inl, inr, length-append}
 use Rattle.std.specs.Prelude.{Result, Ok, Err, Some}
 use Rattle.std.specs.Option.{ForSome}
 use Rattle.std.specs.Str.Lines.{strip_carriage_return}
 use Rattle.std.proofs.lemmas.List.{append-nil, take-append-drop, take_more, take_all}
-use Rattle.outside.specs.Told.{FileMap, Appends, AppendsPrefix}
+use Rattle.outside.specs.Told.{FileMap, Appends}
 use Rattle.outside.proofs.Laws.{Appends-then, Appends-nothing}
-use Rattle.script_steps.specs.Steps.{Standing, Answer, start, Names, IsStep}
-use Rattle.script_steps.specs.StepClauses.{IsAnswered, IsUnbegun, IsPart, IsCutShort, IsUnread, IsBroken}
+use Rattle.script_steps.specs.Steps.{Standing, Answer, Names, IsStep}
+use Rattle.script_steps.specs.StepClauses.{IsAnswered, IsUnbegun, IsPart, IsCutShort, IsBroken}
 use Rattle.script_steps.specs.declared.stop.LineStop.{LineStop}
 use Rattle.script_steps.specs.declared.stop.LineStop.TheVariants.{File, Write, Memory}
 use Rattle.script_steps.proofs.Laws as step
 use Rattle.script_run.specs.Transcripts.{Session, opening, with_answer, lines_of, ended_lines, AreAnswered, IsSession, IsTranscript}
 use Rattle.script_run.specs.Stops.{stop_of}
-use Rattle.script_run.specs.RunClauses.{Shown, Course, IsFrontOf, IsExactly, IsWhole, IsCutAt, EndsWithLf, IsAtLine, IsFileStop, IsWriteStop, IsEnd, Tells, Leaves}
-use Rattle.script_run.specs.RunViews.{open_line, Holds, IsSameSoFar, IsAtStart, Stands, GoesOn, Breaks, Closes, run_result}
+use Rattle.script_run.specs.RunClauses.{Shown, IsFrontOf, IsAtLine, Leaves}
+use Rattle.script_run.specs.RunViews.{open_line, Holds, IsSameSoFar, IsAtStart, Stands, GoesOn, Breaks, Closes}
 use Rattle.script_run.specs.declared.stop.Stop.TheVariants as stops
 use Rattle.script_run.specs.declared.reading.Reading.{Reading}
-use Rattle.script_run.proofs.Laws.{AreAnswered-append, AreAnswered-next, AreAnswered-grows, AreAnswered-there, IsSession-rest, IsSession-whole}
+use Rattle.script_run.proofs.Laws.{AreAnswered-next, AreAnswered-grows, AreAnswered-there, IsSession-rest, IsSession-whole}
 use Rattle.script_run.proofs.LineLaws.{ended_lines-lf, open_line-lf, ended_lines-other, open_line-other, Begins, lines_of-append, lines_of-parts, last_lines, last_lines-some, last_lines-none}
-use Rattle.script_run.proofs.KeepingLaws.{AreBothLong, SaysSame}
+use Rattle.script_run.proofs.KeepingLaws.{SaysSame}
 
 -- what is kept of a line is answered as the line
 step_same : (files : FileMap) (from to : Standing) (said line : List ℕ) (answer : Answer) → SaysSame said line → IsStep files from said to answer → IsStep files from line to answer
@@ -67,19 +67,19 @@ broken_same {from = from} {said = said} {line = line} same Write broken =
     }
 broken_same {from = from} {said = said} {line = line} same Memory broken = record {
   is = elim (broken.is) [
-      | inl nothing ↦ inl nothing
-      | inr part ↦ inr (record {
-          to = part.to;
-          answer = part.answer;
-          front = part.front;
-          rest = part.rest;
-          parts = part.parts;
-          appended = part.appended;
-          later = part.later;
-          within = part.within;
-          is = λ files e. step_same files from part.to said line part.answer same (part.is files e);
-        })
-    ];
+    | inl nothing ↦ inl nothing
+    | inr part ↦ inr (record {
+      to = part.to;
+      answer = part.answer;
+      front = part.front;
+      rest = part.rest;
+      parts = part.parts;
+      appended = part.appended;
+      later = part.later;
+      within = part.within;
+      is = λ files e. step_same files from part.to said line part.answer same (part.is files e);
+    })
+  ];
 }
 
 session_same : {a a' : List ℕ} {b b' : Bool} {c c' : ℕ} {d d' : Standing} → a ≡ a' → b ≡ b' → c ≡ c' → d ≡ d' →
@@ -136,7 +136,7 @@ line_on {old = old} {new = new} {was = was} {is = is} {refused = refused} same_f
 }
 
 -- the session so far is a front of the transcript of a script that begins so
-front_so_far : (files : FileMap) (lines more : List (List ℕ)) (script : List ℕ) (session : Session) → lines_of script ≡ lines ++ more → AreAnswered files opening lines session →
+pub front_so_far : (files : FileMap) (lines more : List (List ℕ)) (script : List ℕ) (session : Session) → lines_of script ≡ lines ++ more → AreAnswered files opening lines session →
     (whole : Session) → IsTranscript files script whole → IsFrontOf whole session.text session.steps
 front_so_far files lines more script session begins answered whole transcript =
     let rest = IsSession-rest files opening session whole lines more answered (subst (λ v. IsSession files opening v whole) begins transcript) in
@@ -175,7 +175,7 @@ front_next files lines later line script session to answer begins answered is wh
     (AreAnswered-next files opening session lines line to answer answered is) whole transcript
 
 -- where a run stands it has left the answers so far
-leaves_so_far : {most : ℕ} {before now : Shown} {bytes script taken rest : List ℕ} {reading : Reading} → Begins (ended_lines bytes) (lines_of script) → Stands before now bytes reading →
+pub leaves_so_far : {most : ℕ} {before now : Shown} {bytes script taken rest : List ℕ} {reading : Reading} → Begins (ended_lines bytes) (lines_of script) → Stands before now bytes reading →
     Leaves most before now script taken rest (Err stops.Memory)
 leaves_so_far {bytes = bytes} {script = script} begins stands = record {
   out = stands.out;
@@ -405,7 +405,7 @@ closes_none {old = old} {was = was} none = record {
   on = λ before script stands.
       let all : lines_of script ≡ ended_lines script = lines_of-parts script ∙ ap (λ v. ended_lines script ++ v) (last_lines-none (open_line script) (none (open_line script) stands.held)) ∙ append-nil (ended_lines script) in
       let answered : ForSome before.files (λ files. AreAnswered files opening (lines_of script)
-          (record { text = stands.out; refused = was.refused; steps = old.steps - before.steps; standing = was.script })) = λ files e. subst (λ v. AreAnswered files opening v (record { text = stands.out; refused = was.refused; steps = old.steps - before.steps; standing = was.script })) (sym all) (stands.answered files e) in
+      (record { text = stands.out; refused = was.refused; steps = old.steps - before.steps; standing = was.script })) = λ files e. subst (λ v. AreAnswered files opening v (record { text = stands.out; refused = was.refused; steps = old.steps - before.steps; standing = was.script })) (sym all) (stands.answered files e) in
       leaves_whole stands.out stands.appended stands.counted was.script was.refused answered;
 }
 
@@ -422,10 +422,10 @@ closes_on {old = old} {new = new} {was = was} {to = to} {refused = refused} some
       let steps : (old.steps - before.steps) + (answered.answer).steps ≡ new.steps - before.steps = omega arith in
       let out = stands.out ++ (answered.answer).text in
       let whole : ForSome before.files (λ files. AreAnswered files opening (lines_of script)
-          (record { text = out; refused = was.refused || refused; steps = new.steps - before.steps; standing = to })) = λ files e.
-          subst (λ v. AreAnswered files opening v (record { text = out; refused = was.refused || refused; steps = new.steps - before.steps; standing = to })) (sym all)
-          (subst (λ v. AreAnswered files opening (ended_lines script ++ line ∷ []) v) (session_same refl (ap (λ v. was.refused || v) (sym answered.marked)) steps refl)
-          (AreAnswered-next files opening _ (ended_lines script) line to answered.answer (stands.answered files e) (answered.is files (stands.same ∙ e)))) in
+      (record { text = out; refused = was.refused || refused; steps = new.steps - before.steps; standing = to })) = λ files e.
+      subst (λ v. AreAnswered files opening v (record { text = out; refused = was.refused || refused; steps = new.steps - before.steps; standing = to })) (sym all)
+      (subst (λ v. AreAnswered files opening (ended_lines script ++ line ∷ []) v) (session_same refl (ap (λ v. was.refused || v) (sym answered.marked)) steps refl)
+      (AreAnswered-next files opening _ (ended_lines script) line to answered.answer (stands.answered files e) (answered.is files (stands.same ∙ e)))) in
       leaves_whole out (Appends-then before.written old.written new.written stands.out (answered.answer).text stands.appended answered.appended) (omega arith) to (was.refused || refused) whole;
 }
 
@@ -450,3 +450,6 @@ closes_broken same some stop broken = record {
       let all : lines_of script ≡ ended_lines script ++ line ∷ [] = lines_of-parts script ∙ ap (λ v. ended_lines script ++ v) (last_lines-some line (some line stands.held)) in
       leaves_broken same (last_place script line all) stop (broken line stands.held) stands;
 }
+
+pub closes_at : {old new : Shown} {was : Reading} {result : Result Bool LineStop} (same : Result Bool LineStop) → same ≡ result → Closes old new was result → Closes old new was same
+closes_at {old = old} {new = new} {was = was} same is closes = subst (λ v. Closes old new was v) (sym is) closes

@@ -2,10 +2,11 @@
 use Rattle.std.specs.Prelude.{◌≡◌, ℕ, ◌+◌, ◌-◌, ◌≤◌, nat_lt, ◌==◌, Bool, false, List, [], ◌∷◌, ◌++◌, length, take, Option, Result, Ok, Err}
 use Rattle.std.specs.Option.{ForSome}
 use Rattle.std.specs.List.{slice_split}
-use Rattle.outside.specs.Told.{FileMap, Appends, Consumes}
+use Rattle.std.specs.Io.KnownBytes.{IsAtEnd}
+use Rattle.outside.specs.Told.{Appends, Consumes}
 use Rattle.script_steps.specs.declared.stop.LineStop.{LineStop}
 use Rattle.script_steps.specs.Steps.{start}
-use Rattle.script_run.specs.Limits.{most_line}
+use Rattle.script_run.specs.Limits.{most_line, most_script}
 use Rattle.script_run.specs.Stops.{stop_of}
 use Rattle.script_run.specs.Transcripts.{opening, ended_lines, AreAnswered}
 use Rattle.script_run.specs.RunClauses.{Shown, Leaves}
@@ -74,3 +75,11 @@ pub record IsAtStart (reading : Reading) : Type 0 where
   pub long : reading.long ≡ false
   pub script : reading.script ≡ start
   pub refused : reading.refused ≡ false
+
+-- of a run over a source, at its end
+pub record TakesAll (before now : Shown) (left left_now : Option (List ℕ)) (reading : Reading) : Type 0 where
+  pub bytes : List ℕ
+  pub consumed : Consumes left left_now bytes
+  pub within : length bytes ≤ most_script
+  pub ends : IsAtEnd left_now
+  pub stands : Stands before now bytes reading

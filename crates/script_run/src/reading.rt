@@ -181,6 +181,13 @@ pub(crate) fn last_line<F: Files, W: Sink, L: Ledger>(
     if reading.line.is_empty() {
         return Ok(reading.refused);
     }
-    let refused = answer_line(alloc, &mut reading.script, &reading.line, files, sink, steps)?;
+    let refused = answer_line(
+        alloc,
+        &mut reading.script,
+        &reading.line,
+        files,
+        sink,
+        steps,
+    )?;
     Ok(reading.refused | refused)
 }

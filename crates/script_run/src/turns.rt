@@ -1,16 +1,18 @@
 //! A script, run over a source.
-ghost use Rattle.std.specs.Prelude.{◌≡◌, ◌≢◌, ◌+◌, ◌≤◌, length, Err, IfOk};
+ghost use Rattle.std.specs.Prelude.{◌≡◌, ◌≢◌, ◌+◌, ◌≤◌, length, Err, IfOk, OnOk};
 ghost use Rattle.std.specs.Option.{ForSome};
+ghost use Rattle.std.specs.Result.{ForErr};
 ghost use Rattle.outside.specs.Causes.{Caused, HasCause};
 ghost use Rattle.outside.specs.Told.{ReadConsumes};
 ghost use Rattle.script_run.specs.Limits.{most_script, most_turn};
 ghost use Rattle.script_run.specs.RunClauses.{RunMeets, shown};
+ghost use Rattle.script_run.specs.RunViews.{IsAtStart, TakesAll};
 
 use crate::reading::{Reading, feed, last_line};
 use crate::stop::Stop;
 use crate::{MOST_SCRIPT, MOST_TURN};
 use outside::{Failed, Files, Sink, Source};
-use std::alloc::Global;
+use std::alloc::{AllocError, Global};
 use std::sync::ledger::Ledger;
 use steps::Steps;
 
@@ -30,6 +32,56 @@ fn next_turn<R: Source>(source: &mut R, buf: &mut [u8], taken: usize) -> Result<
         1
     };
     source.take(&mut buf[..ask])
+}
+
+/// So many bytes to take a turn's bytes into.
+fn room(alloc: Global, size: usize) -> Result<Vec<u8>, AllocError>
+    ensures { IfOk result (λ buf. length buf.items ≡ size) }
+{
+    Ok(vec![in alloc; 0; size]?)
+}
+
+/// Takes the script to its end, and answers each line that ends in a turn's bytes before it takes the next turn's.
+fn take_turns<F: Files, R: Source, W: Sink, L: Ledger>(
+    alloc: Global,
+    buf: &mut [u8],
+    reading: &mut Reading,
+    files: &mut F,
+    source: &mut R,
+    sink: &mut W,
+    steps: &mut Steps<L>,
+) -> Result<(), Stop>
+    requires room { length buf.old ≡ most_turn }
+    requires start { IsAtStart reading.old }
+    ensures ok { OnOk result (TakesAll
+        (shown (F.told files.old) (F.failed files.old) (W.written sink.old) steps.old)
+        (shown (F.told files.new) (F.failed files.new) (W.written sink.new) steps.new)
+        (R.left source.old) (R.left source.new) reading.new) }
+    ensures err { ForErr result (λ stop. ForSome (R.left source.old) (λ script. RunMeets
+        (shown (F.told files.old) (F.failed files.old) (W.written sink.old) steps.old)
+        (shown (F.told files.new) (F.failed files.new) (W.written sink.new) steps.new)
+        script (R.left source.new) (Err stop))) }
+    ensures same { F.told files.new ≡ F.told files.old }
+    ensures kept { result ≢ Err Stop.File → F.failed files.new ≡ F.failed files.old }
+    ensures file { Caused Stop.File (F.faults files.old) (F.faults files.new) result }
+    ensures read { Caused Stop.Read (R.faults source.old) (R.faults source.new) result }
+    ensures write { Caused Stop.Write (W.faults sink.old) (W.faults sink.new) result }
+{
+    let mut taken = 0;
+    'turns: loop {
+        let count = match next_turn(source, buf, taken) {
+            Ok(count) => count,
+            Err(_) => return Err(Stop::Read),
+        };
+        if count == 0 {
+            return Ok(());
+        }
+        taken += count;
+        if taken > MOST_SCRIPT {
+            return Err(Stop::Long);
+        }
+        feed(alloc, reading, &buf[..count], files, sink, steps)?;
+    }
 }
 
 /// Runs a script: takes it from the source turn by turn, and answers each line before bytes past its turn are taken.
@@ -54,22 +106,8 @@ pub fn run<F: Files, R: Source, W: Sink, L: Ledger>(
     ensures read { Caused Stop.Read (R.faults source.old) (R.faults source.new) result }
     ensures write { Caused Stop.Write (W.faults sink.old) (W.faults sink.new) result }
 {
-    let mut buf = vec![in alloc; 0; MOST_TURN]?;
+    let mut buf = room(alloc, MOST_TURN)?;
     let mut reading = Reading::new(alloc);
-    let mut taken = 0;
-    'turns: loop {
-        let count = match next_turn(source, &mut buf, taken) {
-            Ok(count) => count,
-            Err(_) => return Err(Stop::Read),
-        };
-        if count == 0 {
-            break;
-        }
-        taken += count;
-        if taken > MOST_SCRIPT {
-            return Err(Stop::Long);
-        }
-        feed(alloc, &mut reading, &buf[..count], files, sink, steps)?;
-    }
+    take_turns(alloc, &mut buf, &mut reading, files, source, sink, steps)?;
     Ok(last_line(alloc, &mut reading, files, sink, steps)?)
 }

@@ -1,4 +1,4 @@
-use Rattle.std.proofs.Common.{◌≡◌, ◌≤◌, ◌<◌, ◌∙◌, ℕ, length, arith, rules}
+use Rattle.std.proofs.Common.{◌≤◌, ◌<◌, ◌∙◌, length, rules}
 use Rattle.script_run.specs.Limits.{most_line}
 use Rattle.script_run.proofs.KeepingLaws.{room_front, room_long, full_front, full_long}
 use Rattle.script_run.proofs.reading.push.Goals as goal

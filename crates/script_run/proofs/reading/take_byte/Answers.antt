@@ -1,4 +1,4 @@
-use Rattle.std.proofs.Common.{◌≡◌, ◌∙◌, ◌==◌, [], ◌∷◌, false, arith}
+use Rattle.std.proofs.Common.{◌≡◌, ◌==◌, [], ◌∷◌, false, arith}
 use Rattle.std.proofs.lemmas.Bool.Decides.{nat_tests}
 use Rattle.std.proofs.lemmas.Result.{err_from_is_err_and}
 use Rattle.script_steps.specs.declared.stop.LineStop.TheVariants.{Memory}
