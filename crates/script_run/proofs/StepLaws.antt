@@ -13,8 +13,8 @@ use Rattle.script_steps.specs.declared.stop.LineStop.TheVariants.{File, Write, M
 use Rattle.script_steps.proofs.Laws as step
 use Rattle.script_run.specs.Transcripts.{Session, opening, with_answer, lines_of, ended_lines, AreAnswered, IsSession, IsTranscript}
 use Rattle.script_run.specs.Stops.{stop_of}
-use Rattle.script_run.specs.RunClauses.{Shown, IsFrontOf, IsAtLine, Leaves}
-use Rattle.script_run.specs.RunViews.{open_line, Holds, IsSameSoFar, IsAtStart, Stands, GoesOn, Breaks, Closes}
+use Rattle.script_run.specs.RunClauses.{Shown, IsFrontOf, IsAtLine, Leaves, EndsAt}
+use Rattle.script_run.specs.RunViews.{open_line, Holds, IsSameSoFar, IsAtStart, Stands, GoesOn, Breaks, Closes, ClosesAt}
 use Rattle.script_run.specs.declared.stop.Stop.TheVariants as stops
 use Rattle.script_run.specs.declared.reading.Reading.{Reading}
 use Rattle.script_run.proofs.Laws.{AreAnswered-next, AreAnswered-grows, AreAnswered-there, IsSession-rest, IsSession-whole}
@@ -399,34 +399,79 @@ leaves_whole {before = before} {now = now} {script = script} out appended counte
   };
 }
 
--- a script that ends with a line end
-pub closes_none : {old : Shown} {was : Reading} → ((line : List ℕ) → Holds was line → length line ≡ 0) → Closes old old was (Ok was.refused)
-closes_none {old = old} {was = was} none = record {
-  on = λ before script stands.
-      let all : lines_of script ≡ ended_lines script = lines_of-parts script ∙ ap (λ v. ended_lines script ++ v) (last_lines-none (open_line script) (none (open_line script) stands.held)) ∙ append-nil (ended_lines script) in
-      let answered : ForSome before.files (λ files. AreAnswered files opening (lines_of script)
-      (record { text = stands.out; refused = was.refused; steps = old.steps - before.steps; standing = was.script })) = λ files e. subst (λ v. AreAnswered files opening v (record { text = stands.out; refused = was.refused; steps = old.steps - before.steps; standing = was.script })) (sym all) (stands.answered files e) in
-      leaves_whole stands.out stands.appended stands.counted was.script was.refused answered;
+-- what they have left
+ends_whole : {told : Option FileMap} {script : List ℕ} (session : Session) → ForSome told (λ files. AreAnswered files opening (lines_of script) session) →
+    ForSome told (λ files. EndsAt files script session.standing)
+ends_whole {script = script} session answered = λ files e. record {
+  session = session;
+  is = IsSession-whole files opening session (lines_of script) (answered files e);
+  left = refl;
 }
 
--- a last line that no LF ends is answered
+-- a script that ends with a line end has no other line
+no_last : {reading : Reading} (script : List ℕ) → ((line : List ℕ) → Holds reading line → length line ≡ 0) →
+    Holds reading (open_line script) → lines_of script ≡ ended_lines script
+no_last script none held =
+    lines_of-parts script ∙ ap (λ v. ended_lines script ++ v) (last_lines-none (open_line script) (none (open_line script) held))
+    ∙ append-nil (ended_lines script)
+
+-- one that doesn't has its last line
+one_last : {reading : Reading} (script : List ℕ) → ((line : List ℕ) → Holds reading line → 0 < length line) →
+    Holds reading (open_line script) → lines_of script ≡ ended_lines script ++ open_line script ∷ []
+one_last script some held =
+    lines_of-parts script ∙ ap (λ v. ended_lines script ++ v) (last_lines-some (open_line script) (some (open_line script) held))
+
+-- all lines of a script that ends with a line end were answered
+answered_none : {before old : Shown} {script : List ℕ} {was : Reading} → lines_of script ≡ ended_lines script → (stands : Stands before old script was) →
+    ForSome before.files (λ files. AreAnswered files opening (lines_of script)
+    (record { text = stands.out; refused = was.refused; steps = old.steps - before.steps; standing = was.script }))
+answered_none {before = before} {old = old} {was = was} all stands = λ files e.
+    let so_far : Session = record { text = stands.out; refused = was.refused; steps = old.steps - before.steps; standing = was.script } in
+    subst (λ v. AreAnswered files opening v so_far) (sym all) (stands.answered files e)
+
+pub closes_none : {old : Shown} {was : Reading} → ((line : List ℕ) → Holds was line → length line ≡ 0) → Closes old old was (Ok was.refused)
+closes_none {was = was} none = record {
+  on = λ before script stands.
+      leaves_whole stands.out stands.appended stands.counted was.script was.refused (answered_none (no_last script none stands.held) stands);
+}
+
+pub stays_none : {old : Shown} {was : Reading} → ((line : List ℕ) → Holds was line → length line ≡ 0) → ClosesAt old was was.script
+stays_none none = record {
+  on = λ before script stands.
+      ends_whole _ (λ files e. answered_none (no_last script none stands.held) stands files e);
+}
+
+-- with a last line that no LF ends all were answered
+answered_on : {before old : Shown} (new : Shown) {script : List ℕ} {was : Reading} {to : Standing} {refused : Bool} → lines_of script ≡ ended_lines script ++ open_line script ∷ [] →
+    (answered : IsAnswered old.files old.written new.written old.steps new.steps was.script to (open_line script) refused) → (stands : Stands before old script was) →
+    ForSome before.files (λ files. AreAnswered files opening (lines_of script)
+    (record { text = stands.out ++ (answered.answer).text; refused = was.refused || refused; steps = new.steps - before.steps; standing = to }))
+answered_on {before = before} {old = old} new {script = script} {was = was} {to = to} {refused = refused} all answered stands = λ files e.
+    let line = open_line script in
+    let rose : before.steps ≤ old.steps = stands.counted in
+    let counted : new.steps ≡ old.steps + (answered.answer).steps = answered.counted in
+    let steps : (old.steps - before.steps) + (answered.answer).steps ≡ new.steps - before.steps = omega arith in
+    let at_last : Session = record { text = stands.out ++ (answered.answer).text; refused = was.refused || refused; steps = new.steps - before.steps; standing = to } in
+    subst (λ v. AreAnswered files opening v at_last) (sym all)
+    (subst (λ v. AreAnswered files opening (ended_lines script ++ line ∷ []) v) (session_same refl (ap (λ v. was.refused || v) (sym answered.marked)) steps refl)
+    (AreAnswered-next files opening _ (ended_lines script) line to answered.answer (stands.answered files e) (answered.is files (stands.same ∙ e))))
+
 pub closes_on : {old new : Shown} {was : Reading} {to : Standing} {refused : Bool} → ((line : List ℕ) → Holds was line → 0 < length line) →
     ((line : List ℕ) → Holds was line → IsAnswered old.files old.written new.written old.steps new.steps was.script to line refused) → Closes old new was (Ok (was.refused || refused))
 closes_on {old = old} {new = new} {was = was} {to = to} {refused = refused} some answers = record {
   on = λ before script stands.
-      let line = open_line script in
-      let all : lines_of script ≡ ended_lines script ++ line ∷ [] = lines_of-parts script ∙ ap (λ v. ended_lines script ++ v) (last_lines-some line (some line stands.held)) in
-      let answered = answers line stands.held in
+      let answered = answers (open_line script) stands.held in
       let rose : before.steps ≤ old.steps = stands.counted in
       let counted : new.steps ≡ old.steps + (answered.answer).steps = answered.counted in
-      let steps : (old.steps - before.steps) + (answered.answer).steps ≡ new.steps - before.steps = omega arith in
-      let out = stands.out ++ (answered.answer).text in
-      let whole : ForSome before.files (λ files. AreAnswered files opening (lines_of script)
-      (record { text = out; refused = was.refused || refused; steps = new.steps - before.steps; standing = to })) = λ files e.
-      subst (λ v. AreAnswered files opening v (record { text = out; refused = was.refused || refused; steps = new.steps - before.steps; standing = to })) (sym all)
-      (subst (λ v. AreAnswered files opening (ended_lines script ++ line ∷ []) v) (session_same refl (ap (λ v. was.refused || v) (sym answered.marked)) steps refl)
-      (AreAnswered-next files opening _ (ended_lines script) line to answered.answer (stands.answered files e) (answered.is files (stands.same ∙ e)))) in
-      leaves_whole out (Appends-then before.written old.written new.written stands.out (answered.answer).text stands.appended answered.appended) (omega arith) to (was.refused || refused) whole;
+      leaves_whole (stands.out ++ (answered.answer).text) (Appends-then before.written old.written new.written stands.out (answered.answer).text stands.appended answered.appended) (omega arith)
+      to (was.refused || refused) (answered_on new (one_last script some stands.held) answered stands);
+}
+
+pub stays_on : {old : Shown} (new : Shown) {was : Reading} {to : Standing} {refused : Bool} → ((line : List ℕ) → Holds was line → 0 < length line) →
+    ((line : List ℕ) → Holds was line → IsAnswered old.files old.written new.written old.steps new.steps was.script to line refused) → ClosesAt old was to
+stays_on new some answers = record {
+  on = λ before script stands.
+      ends_whole _ (λ files e. answered_on new (one_last script some stands.held) (answers (open_line script) stands.held) stands files e);
 }
 
 last_place : (script line : List ℕ) → lines_of script ≡ ended_lines script ++ line ∷ [] → IsAtLine 0 script script (ended_lines script) line
@@ -446,9 +491,8 @@ pub closes_broken : {old new : Shown} {was : Reading} → new.files ≡ old.file
     ((line : List ℕ) → Holds was line → BreaksLine old new was.script line stop) → Closes old new was (Err stop)
 closes_broken same some stop broken = record {
   on = λ before script stands.
-      let line = open_line script in
-      let all : lines_of script ≡ ended_lines script ++ line ∷ [] = lines_of-parts script ∙ ap (λ v. ended_lines script ++ v) (last_lines-some line (some line stands.held)) in
-      leaves_broken same (last_place script line all) stop (broken line stands.held) stands;
+      leaves_broken same (last_place script (open_line script) (one_last script some stands.held)) stop
+      (broken (open_line script) stands.held) stands;
 }
 
 pub closes_at : {old new : Shown} {was : Reading} {result : Result Bool LineStop} (same : Result Bool LineStop) → same ≡ result → Closes old new was result → Closes old new was same

@@ -6,12 +6,14 @@ use Rattle.std.proofs.lemmas.List.{append-nil}
 use Rattle.std.proofs.Math.Seq.{take-append_seam}
 use Rattle.outside.specs.Told.{FileMap}
 use Rattle.outside.proofs.Laws.{Appends-nothing, Consumes-then, Consumes-kept, Consumes-nothing}
+use Rattle.std.specs.Option.{ForSome}
+use Rattle.script_steps.specs.Steps.{Standing}
 use Rattle.script_steps.specs.declared.stop.LineStop.{LineStop}
 use Rattle.script_run.specs.Limits.{most_script, most_turn}
 use Rattle.script_run.specs.Transcripts.{Session, opening, ended_lines, lines_of, AreAnswered}
 use Rattle.script_run.specs.Stops.{stop_of}
-use Rattle.script_run.specs.RunClauses.{Shown, IsExactly, Leaves, RunMeets}
-use Rattle.script_run.specs.RunViews.{IsAtStart, Stands, GoesOn, Breaks, Closes, Stood, TakesAll, run_result}
+use Rattle.script_run.specs.RunClauses.{Shown, IsExactly, Leaves, RunMeets, EndsAt}
+use Rattle.script_run.specs.RunViews.{IsAtStart, Stands, GoesOn, Breaks, Closes, ClosesAt, Stood, TakesAll, run_result}
 use Rattle.script_run.specs.declared.stop.Stop.{Stop}
 use Rattle.script_run.specs.declared.stop.Stop.TheVariants as stops
 use Rattle.script_run.specs.declared.reading.Reading.{Reading}
@@ -164,23 +166,39 @@ takes_all {l0 = l0} {l = l} {l' = l'} within consumed ends stood = record {
   stands = stood.stands;
 }
 
+-- a told script that was taken to its end was taken whole
+record IsTakenWhole (bytes script : List ℕ) (left : Option (List ℕ)) : Type 0 where
+  pub whole : bytes ≡ script
+  pub none_left : left ≡ Some []
+
+all_taken : {before mid : Shown} {l0 l' : Option (List ℕ)} {reading : Reading} (all : TakesAll before mid l0 l' reading) (script : List ℕ) →
+    l0 ≡ Some script → IsTakenWhole all.bytes script l'
+all_taken {l0 = l0} {l' = l'} all script is =
+    let left = split_told l0 l' all.bytes script is all.consumed in
+    let none = end_told l' left.rest left.left all.ends in
+    record { whole = sym (left.split ∙ ap (λ v. all.bytes ++ v) none ∙ append-nil all.bytes); none_left = left.left ∙ ap (λ v. Some v) none }
+
 -- the script is at its end
 pub meets_end : {before mid now : Shown} {l0 l' : Option (List ℕ)} {reading : Reading} → TakesAll before mid l0 l' reading →
     (line : Result Bool LineStop) → Closes mid now reading line → (script : List ℕ) → l0 ≡ Some script →
     (result : Result Bool Stop) → result ≡ run_result line → RunMeets before now script l' result
 meets_end {before = before} {mid = mid} {now = now} {l0 = l0} {l' = l'} {reading = reading} all line closes script is result result_is =
-    let left = split_told l0 l' all.bytes script is all.consumed in
-    let none = end_told l' left.rest left.left all.ends in
-    let whole : all.bytes ≡ script = sym (left.split ∙ ap (λ v. all.bytes ++ v) none ∙ append-nil all.bytes) in
-    let stands = subst (λ v. Stands before mid v reading) whole all.stands in
+    let taken = all_taken all script is in
+    let stands = subst (λ v. Stands before mid v reading) taken.whole all.stands in
     record {
       taken = script;
       rest = [];
       split = sym (append-nil script);
-      left_rest = left.left ∙ ap (λ v. Some v) none;
-      within = λ not_long. subst (λ v. length v ≤ most_script) whole all.within;
+      left_rest = taken.none_left;
+      within = λ not_long. subst (λ v. length v ≤ most_script) taken.whole all.within;
       leaves = subst (λ v. Leaves most_turn before now script script [] v) (sym result_is) (leaves_end line (closes.on before script stands));
     }
+
+-- what the script's lines have left at last
+pub ends_at : {before mid : Shown} {l0 l' : Option (List ℕ)} {reading : Reading} {standing : Standing} → TakesAll before mid l0 l' reading →
+    ClosesAt mid reading standing → (script : List ℕ) → l0 ≡ Some script → ForSome before.files (λ files. EndsAt files script standing)
+ends_at {before = before} {mid = mid} {l0 = l0} {l' = l'} {reading = reading} all closes script is =
+    closes.on before script (subst (λ v. Stands before mid v reading) (all_taken all script is).whole all.stands)
 
 -- the same stop
 pub meets_at : {before now : Shown} {script : List ℕ} {left : Option (List ℕ)} {T : Type 0} {found : Stop} (stop : Stop) → ◌≡◌ {A = Result T Stop} (Err found) (Err stop) →

@@ -5,6 +5,7 @@ use Rattle.outside.specs.Told.{FileMap, Appends}
 use Rattle.script_steps.specs.Steps.{Standing, Answer, Names, AreThere, IsStep}
 use Rattle.script_run.specs.Limits.{most_script, most_turn}
 use Rattle.script_run.specs.Transcripts.{Session, opening, lines_of, ended_lines, AreAnswered, IsTranscript}
+use Rattle.script_run.specs.declared.turns.Ended.{Ended}
 use Rattle.script_run.specs.declared.stop.Stop.{Stop}
 use Rattle.script_run.specs.declared.stop.Stop.TheVariants as stops
 
@@ -137,3 +138,14 @@ pub record RunMeets (before after : Shown) (script : List ℕ) (left : Option (L
   pub left_rest : left ≡ Some rest
   pub within : result ≢ Err stops.Long → length taken ≤ most_script
   pub leaves : Leaves most_turn before after script taken rest result
+
+-- the lines of the script have left this at last
+pub record EndsAt (files : FileMap) (script : List ℕ) (standing : Standing) : Type 0 where
+  pub session : Session
+  pub is : IsTranscript files script session
+  pub left : session.standing ≡ standing
+
+-- whether an answer was a refusal, or the stop
+abbrev pub refused_of : Result Ended Stop → Result Bool Stop
+refused_of (Ok ended) = Ok ended.refused
+refused_of (Err stop) = Err stop

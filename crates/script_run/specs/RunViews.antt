@@ -5,11 +5,11 @@ use Rattle.std.specs.List.{slice_split}
 use Rattle.std.specs.Io.KnownBytes.{IsAtEnd}
 use Rattle.outside.specs.Told.{Appends, Consumes}
 use Rattle.script_steps.specs.declared.stop.LineStop.{LineStop}
-use Rattle.script_steps.specs.Steps.{start}
+use Rattle.script_steps.specs.Steps.{Standing, start}
 use Rattle.script_run.specs.Limits.{most_line, most_script}
 use Rattle.script_run.specs.Stops.{stop_of}
 use Rattle.script_run.specs.Transcripts.{opening, ended_lines, AreAnswered}
-use Rattle.script_run.specs.RunClauses.{Shown, Leaves}
+use Rattle.script_run.specs.RunClauses.{Shown, Leaves, EndsAt}
 use Rattle.script_run.specs.declared.stop.Stop.{Stop}
 use Rattle.script_run.specs.declared.reading.Reading.{Reading}
 
@@ -61,6 +61,11 @@ run_result (Err stop) = Err (stop_of stop)
 pub record Closes (old new : Shown) (was : Reading) (result : Result Bool LineStop) : Type 0 where
   pub on : (before : Shown) (script : List ℕ) → Stands before old script was
       → Leaves 0 before new script script [] (run_result result)
+
+-- wherever the run stood over a whole script, what its lines have left
+pub record ClosesAt (old : Shown) (was : Reading) (standing : Standing) : Type 0 where
+  pub on : (before : Shown) (script : List ℕ) → Stands before old script was
+      → ForSome before.files (λ files. EndsAt files script standing)
 
 -- of a run over a source, between two turns
 pub record Stood (before now : Shown) (left left_now : Option (List ℕ)) (count : ℕ) (reading : Reading) : Type 0 where

@@ -8,7 +8,7 @@ mod turns;
 
 pub use stop::Stop;
 pub use transcript::transcript_laws;
-pub use turns::run;
+pub use turns::{Ended, run, run_to_end};
 
 /// The most bytes of a script.
 pub const MOST_SCRIPT: usize = 67_108_864;

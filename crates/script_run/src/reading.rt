@@ -5,7 +5,7 @@ ghost use Rattle.std.specs.Str.Lines.{strip_carriage_return};
 ghost use Rattle.outside.specs.Causes.{Caused};
 ghost use Rattle.script_steps.specs.Steps.{start};
 ghost use Rattle.script_run.specs.RunClauses.{shown};
-ghost use Rattle.script_run.specs.RunViews.{Holds, IsSameSoFar, IsAtStart, GoesOn, Breaks, Closes};
+ghost use Rattle.script_run.specs.RunViews.{Holds, IsSameSoFar, IsAtStart, GoesOn, Breaks, Closes, ClosesAt};
 
 use crate::MOST_LINE;
 use outside::{Files, Sink};
@@ -173,6 +173,9 @@ pub(crate) fn last_line<F: Files, W: Sink, L: Ledger>(
         (shown (F.told files.old) (F.failed files.old) (W.written sink.old) steps.old)
         (shown (F.told files.new) (F.failed files.new) (W.written sink.new) steps.new)
         reading.old result }
+    ensures standing { OnOk result (ClosesAt
+        (shown (F.told files.old) (F.failed files.old) (W.written sink.old) steps.old)
+        reading.old reading.new.script) }
     ensures same { F.told files.new ≡ F.told files.old }
     ensures kept { result ≢ Err LineStop.File → F.failed files.new ≡ F.failed files.old }
     ensures file { Caused LineStop.File (F.faults files.old) (F.faults files.new) result }

@@ -5,13 +5,14 @@ ghost use Rattle.std.specs.Result.{ForErr};
 ghost use Rattle.outside.specs.Causes.{Caused, HasCause};
 ghost use Rattle.outside.specs.Told.{ReadConsumes};
 ghost use Rattle.script_run.specs.Limits.{most_script, most_turn};
-ghost use Rattle.script_run.specs.RunClauses.{RunMeets, shown};
+ghost use Rattle.script_run.specs.RunClauses.{RunMeets, EndsAt, shown, refused_of};
 ghost use Rattle.script_run.specs.RunViews.{IsAtStart, TakesAll};
 
 use crate::reading::{Reading, feed, last_line};
 use crate::stop::Stop;
 use crate::{MOST_SCRIPT, MOST_TURN};
 use outside::{Failed, Files, Sink, Source};
+use script_steps::Script;
 use std::alloc::{AllocError, Global};
 use std::sync::ledger::Ledger;
 use steps::Steps;
@@ -84,6 +85,45 @@ fn take_turns<F: Files, R: Source, W: Sink, L: Ledger>(
     }
 }
 
+/// What a script has made that was read and answered to its end.
+#[derive(Drop)]
+pub struct Ended {
+    /// Whether an answer was a refusal.
+    pub refused: bool,
+    /// What its lines have made.
+    pub script: Script,
+}
+
+/// Runs a script as [`run`] does, and gives what its lines have made.
+pub fn run_to_end<F: Files, R: Source, W: Sink, L: Ledger>(
+    alloc: Global,
+    files: &mut F,
+    source: &mut R,
+    sink: &mut W,
+    steps: &mut Steps<L>,
+) -> Result<Ended, Stop>
+    ensures script { ForSome (R.left source.old) (λ script. RunMeets
+        (shown (F.told files.old) (F.failed files.old) (W.written sink.old) steps.old)
+        (shown (F.told files.new) (F.failed files.new) (W.written sink.new) steps.new)
+        script (R.left source.new) (refused_of result)) }
+    ensures standing { IfOk result (λ ended. ForSome (R.left source.old) (λ script.
+        ForSome (F.told files.old) (λ files. EndsAt files script ended.script))) }
+    ensures same { F.told files.new ≡ F.told files.old }
+    ensures kept { result ≢ Err Stop.File → F.failed files.new ≡ F.failed files.old }
+    ensures file { Caused Stop.File (F.faults files.old) (F.faults files.new) result }
+    ensures read { Caused Stop.Read (R.faults source.old) (R.faults source.new) result }
+    ensures write { Caused Stop.Write (W.faults sink.old) (W.faults sink.new) result }
+{
+    let mut buf = room(alloc, MOST_TURN)?;
+    let mut reading = Reading::new(alloc);
+    take_turns(alloc, &mut buf, &mut reading, files, source, sink, steps)?;
+    let refused = last_line(alloc, &mut reading, files, sink, steps)?;
+    Ok(Ended {
+        refused,
+        script: reading.script,
+    })
+}
+
 /// Runs a script: takes it from the source turn by turn, and answers each line before bytes past its turn are taken.
 /// `Ok` says whether an answer was a refusal. The counter rises by the steps of the accepted edits.
 ///
@@ -106,8 +146,6 @@ pub fn run<F: Files, R: Source, W: Sink, L: Ledger>(
     ensures read { Caused Stop.Read (R.faults source.old) (R.faults source.new) result }
     ensures write { Caused Stop.Write (W.faults sink.old) (W.faults sink.new) result }
 {
-    let mut buf = room(alloc, MOST_TURN)?;
-    let mut reading = Reading::new(alloc);
-    take_turns(alloc, &mut buf, &mut reading, files, source, sink, steps)?;
-    Ok(last_line(alloc, &mut reading, files, sink, steps)?)
+    let ended = run_to_end(alloc, files, source, sink, steps)?;
+    Ok(ended.refused)
 }
