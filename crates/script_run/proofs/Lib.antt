@@ -3,3 +3,4 @@ pub mod KeepingLaws
 pub mod Laws
 pub mod StepLaws
 pub mod TurnLaws
+pub mod MemoryLaws

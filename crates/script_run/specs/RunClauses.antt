@@ -149,3 +149,11 @@ pub record EndsAt (files : FileMap) (script : List ℕ) (standing : Standing) : 
 abbrev pub refused_of : Result Ended Stop → Result Bool Stop
 refused_of (Ok ended) = Ok ended.refused
 refused_of (Err stop) = Err stop
+
+-- the script was answered whole: this is what its transcript says
+pub record IsFinished (files : FileMap) (script : List ℕ) (began steps : ℕ) (ended : Ended) : Type 0 where
+  pub session : Session
+  pub is : IsTranscript files script session
+  pub mark : ended.refused ≡ session.refused
+  pub cost : steps ≡ began + session.steps
+  pub left : ended.script ≡ session.standing

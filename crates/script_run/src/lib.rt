@@ -1,11 +1,13 @@
 //! The lines of a script, taken from a source turn by turn and answered one by one.
 #![tactic(auto)]
 
+mod memory;
 mod reading;
 mod stop;
 mod transcript;
 mod turns;
 
+pub use memory::run_in_memory;
 pub use stop::Stop;
 pub use transcript::transcript_laws;
 pub use turns::{Ended, run, run_to_end};
