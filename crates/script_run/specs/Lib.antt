@@ -4,3 +4,4 @@ pub mod TranscriptLaws
 pub mod Stops
 pub mod RunClauses
 pub mod RunViews
+pub mod Samples

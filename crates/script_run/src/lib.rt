@@ -3,11 +3,13 @@
 
 mod memory;
 mod reading;
+mod sample;
 mod stop;
 mod transcript;
 mod turns;
 
 pub use memory::run_in_memory;
+pub use sample::{MOST_EMPLOYEES, sample_script};
 pub use stop::Stop;
 pub use transcript::transcript_laws;
 pub use turns::{Ended, run, run_to_end};
