@@ -4,3 +4,4 @@ pub mod Laws
 pub mod StepLaws
 pub mod TurnLaws
 pub mod MemoryLaws
+pub mod SampleLaws

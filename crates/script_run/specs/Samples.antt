@@ -30,7 +30,7 @@ year_lines employee = map (λ month. add_line employee month) (numbers 12)
 abbrev pub sample_lines : ℕ → List (List ℕ)
 sample_lines employees =
     codes "plan 2025-01-01 p2.xml l2.toml" ∷ flat_map year_lines (numbers employees)
-    ++ map change_line (numbers employees) ++ codes "report" ∷ []
+    ++ (map change_line (numbers employees) ++ codes "report" ∷ [])
 
 -- the lines as a script: each with an LF
 abbrev pub script_of : List (List ℕ) → List ℕ
