@@ -24,45 +24,54 @@ short_line : (n : ℕ) (kept line : List ℕ) → kept ≡ take (n + 1) line →
 short_line n kept line e room = omega (arith, ap length e, length-take (n + 1) line)
 
 -- a byte for which there is room
-pub room_front : (n : ℕ) (kept line : List ℕ) (b : ℕ) → kept ≡ take (n + 1) line → length kept ≤ n → kept ++ b ∷ [] ≡ take (n + 1) (line ++ b ∷ [])
+pub room_front : (n : ℕ) (kept line : List ℕ) (b : ℕ) → kept ≡ take (n + 1) line → length kept ≤ n →
+    kept ++ b ∷ [] ≡ take (n + 1) (line ++ b ∷ [])
 room_front n kept line b e room =
     let short = short_line n kept line e room in
     let fits : length (line ++ b ∷ []) ≤ n + 1 = omega (arith, length-append line (b ∷ [])) in
     ap (λ v. v ++ b ∷ []) (e ∙ take_all (n + 1) line (omega arith)) ∙ sym (take_all (n + 1) (line ++ b ∷ []) fits)
 
-pub room_long : (n : ℕ) (kept line : List ℕ) (b : ℕ) (long : Bool) → kept ≡ take (n + 1) line → length kept ≤ n → long ≡ nat_lt (n + 1) (length line) → long ≡ nat_lt (n + 1) (length (line ++ b ∷ []))
+pub room_long : (n : ℕ) (kept line : List ℕ) (b : ℕ) (long : Bool) → kept ≡ take (n + 1) line → length kept ≤ n →
+    long ≡ nat_lt (n + 1) (length line) → long ≡ nat_lt (n + 1) (length (line ++ b ∷ []))
 room_long n kept line b long e room is =
     let short = short_line n kept line e room in
-    is ∙ below (n + 1) (length line) (omega arith) ∙ sym (below (n + 1) (length (line ++ b ∷ [])) (omega (arith, length-append line (b ∷ []))))
+    is ∙ below (n + 1) (length line) (omega arith) ∙ sym (below (n + 1) (length (line ++ b ∷ [])) (omega
+    (arith, length-append line (b ∷ []))))
 
 -- a byte for which there is none
-pub full_front : (n : ℕ) (kept line : List ℕ) (b : ℕ) → kept ≡ take (n + 1) line → n < length kept → kept ≡ take (n + 1) (line ++ b ∷ [])
+pub full_front : (n : ℕ) (kept line : List ℕ) (b : ℕ) → kept ≡ take (n + 1) line → n < length kept →
+    kept ≡ take (n + 1) (line ++ b ∷ [])
 full_front n kept line b e full =
     let enough : n + 1 ≤ length line = omega (arith, ap length e, length-take (n + 1) line) in
     e ∙ sym (take-append-le (n + 1) line (b ∷ []) enough)
 
-pub full_long : (n : ℕ) (kept line : List ℕ) (b : ℕ) → kept ≡ take (n + 1) line → n < length kept → true ≡ nat_lt (n + 1) (length (line ++ b ∷ []))
+pub full_long : (n : ℕ) (kept line : List ℕ) (b : ℕ) → kept ≡ take (n + 1) line → n < length kept →
+    true ≡ nat_lt (n + 1) (length (line ++ b ∷ []))
 full_long n kept line b e full =
     let enough : n + 1 ≤ length line = omega (arith, ap length e, length-take (n + 1) line) in
     sym (above (n + 1) (length (line ++ b ∷ [])) (omega (arith, length-append line (b ∷ []))))
 
 -- the end of a line that is kept whole
-whole_line : (n : ℕ) (kept line : List ℕ) → kept ≡ take (n + 1) line → false ≡ nat_lt (n + 1) (length line) → kept ≡ line
+whole_line : (n : ℕ) (kept line : List ℕ) → kept ≡ take (n + 1) line → false ≡ nat_lt (n + 1) (length line) →
+    kept ≡ line
 whole_line n kept line e is = e ∙ take_all (n + 1) line (is_below (n + 1) (length line) (sym is))
 
-kept_long : (n : ℕ) (kept line : List ℕ) → kept ≡ take (n + 1) line → true ≡ nat_lt (n + 1) (length line) → n < length kept
+kept_long : (n : ℕ) (kept line : List ℕ) → kept ≡ take (n + 1) line → true ≡ nat_lt (n + 1) (length line) →
+    n < length kept
 kept_long n kept line e is =
     let more = is_above (n + 1) (length line) (sym is) in
     omega (arith, ap (λ v. length v) e, length-take (n + 1) line)
 
 stripped : (line : List ℕ) → length line - 1 ≤ length (strip_carriage_return line)
 stripped line =
-    elim (slice_index line (length line - 1) == 13) as (λ t. length line - 1 ≤ length (if t then take (length line - 1) line else line)) [
+    elim (slice_index line (length line - 1) == 13) as (λ t. length line - 1 ≤ length (if t then take
+    (length line - 1) line else line)) [
       | true ↦ omega (arith, length-take (length line - 1) line)
       | false ↦ omega arith
     ]
 
-stripped_long : (n : ℕ) (line : List ℕ) → true ≡ nat_lt (n + 1) (length line) → n < length (strip_carriage_return line)
+stripped_long : (n : ℕ) (line : List ℕ) → true ≡ nat_lt (n + 1) (length line) →
+    n < length (strip_carriage_return line)
 stripped_long n line is =
     let more = is_above (n + 1) (length line) (sym is) in
     omega (arith, stripped line)
@@ -81,17 +90,27 @@ abbrev pub SaysSame : List ℕ → List ℕ → Type 0
 SaysSame said line = (said ≡ line) ⊎ AreBothLong said line
 
 -- what is answered of a line that an LF ends
-pub says_ended : (kept said line : List ℕ) (long : Bool) → kept ≡ take (most_line + 1) line → long ≡ nat_lt (most_line + 1) (length line) →
+pub says_ended : (kept said line : List ℕ) (long : Bool) → kept ≡ take (most_line + 1) line →
+    long ≡ nat_lt (most_line + 1) (length line) →
     said ≡ (if long then kept else strip_carriage_return kept) → SaysSame said (strip_carriage_return line)
 says_ended kept said line true front is e =
-    inr (record { said_long = subst (λ v. most_line < length v) (sym e) (kept_long most_line kept line front is); line_long = stripped_long most_line line is })
-says_ended kept said line false front is e = inl (e ∙ ap (λ v. strip_carriage_return v) (whole_line most_line kept line front is))
+    inr (record {
+      said_long = subst (λ v. most_line < length v) (sym e) (kept_long most_line kept line front is);
+      line_long = stripped_long most_line line is;
+    })
+says_ended kept said line false front is e = inl (e ∙ ap (λ v. strip_carriage_return v)
+    (whole_line most_line kept line front is))
 
 -- and so is one that no LF ends
 says_open : (kept line : List ℕ) → kept ≡ take (most_line + 1) line → SaysSame kept line
 says_open kept line front =
-    elim (nat_lt (most_line + 1) (length line)) as (λ t. nat_lt (most_line + 1) (length line) ≡ t → SaysSame kept line) [
-      | true ↦ λ long. inr (record { said_long = kept_long most_line kept line front (sym long); line_long = last_long most_line line long })
+    elim (nat_lt (most_line + 1) (length line)) as (λ t. nat_lt (most_line + 1) (length line) ≡ t →
+    SaysSame kept line) [
+      | true ↦ λ long. inr (record {
+        said_long = kept_long most_line kept line front (sym long);
+        line_long =
+            last_long most_line line long;
+      })
       | false ↦ λ short. inl (whole_line most_line kept line front (sym short))
     ] refl
 

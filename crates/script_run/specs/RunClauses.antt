@@ -17,7 +17,12 @@ pub record Shown : Type 0 where
   pub steps : ℕ
 
 abbrev pub shown : Option FileMap → Option (List ℕ) → Option (List ℕ) → ℕ → Shown
-shown files failed written steps = record { files = files; failed = failed; written = written; steps = steps }
+shown files failed written steps = record {
+  files = files;
+  failed = failed;
+  written = written;
+  steps = steps;
+}
 
 -- how far a run came: the script, what was taken of it and what is left, what was written since it began, and the steps
 pub record Course : Type 0 where
@@ -34,7 +39,8 @@ pub record IsFrontOf (session : Session) (out : List ℕ) (spent : ℕ) : Type 0
   pub cost : spent ≤ session.steps
 
 -- what was written are the answers to exactly these lines, and exactly their steps were counted
-pub record IsExactly (files : FileMap) (lines : List (List ℕ)) (out : List ℕ) (spent : ℕ) : Type 0 where
+pub record IsExactly (files : FileMap) (lines : List (List ℕ)) (out : List ℕ)
+    (spent : ℕ) : Type 0 where
   pub session : Session
   pub answered : AreAnswered files opening lines session
   pub text : out ≡ session.text
@@ -42,7 +48,8 @@ pub record IsExactly (files : FileMap) (lines : List (List ℕ)) (out : List ℕ
 
 -- what was written is the whole transcript, whose lines all name files that are there; exactly its steps were counted,
 -- and this says whether an answer is a refusal
-pub record IsWhole (files : FileMap) (script out : List ℕ) (spent : ℕ) (refused : Bool) : Type 0 where
+pub record IsWhole (files : FileMap) (script out : List ℕ) (spent : ℕ)
+    (refused : Bool) : Type 0 where
   pub session : Session
   pub is : IsTranscript files script session
   pub there : All (λ line. AreThere files line) (lines_of script)
@@ -51,7 +58,8 @@ pub record IsWhole (files : FileMap) (script out : List ℕ) (spent : ℕ) (refu
   pub mark : refused ≡ session.refused
 
 -- what was written are the answers to these lines and a front of the next one's, which isn't the whole
-pub record IsCutAt (files : FileMap) (before : List (List ℕ)) (line out : List ℕ) (spent : ℕ) : Type 0 where
+pub record IsCutAt (files : FileMap) (before : List (List ℕ)) (line out : List ℕ)
+    (spent : ℕ) : Type 0 where
   pub session : Session
   pub answered : AreAnswered files opening before session
   pub to : Standing
@@ -69,7 +77,8 @@ pub record EndsWithLf (bytes : List ℕ) : Type 0 where
   pub is : bytes ≡ front ++ 10 ∷ []
 
 -- the script has this line after these, and at most so many bytes were taken after its end
-pub record IsAtLine (most : ℕ) (script taken : List ℕ) (before : List (List ℕ)) (line : List ℕ) : Type 0 where
+pub record IsAtLine (most : ℕ) (script taken : List ℕ) (before : List (List ℕ))
+    (line : List ℕ) : Type 0 where
   pub later : List (List ℕ)
   pub lines : lines_of script ≡ before ++ line ∷ later
   pub through : List ℕ
@@ -80,7 +89,8 @@ pub record IsAtLine (most : ℕ) (script taken : List ℕ) (before : List (List 
   pub short : length ahead ≤ most
 
 -- the files failed at a name of a line, the lines before it were answered, and nothing else was written
-pub record IsFileStop (most : ℕ) (told : Option FileMap) (course : Course) (failed : Option (List ℕ)) : Type 0 where
+pub record IsFileStop (most : ℕ) (told : Option FileMap) (course : Course) (failed : Option
+    (List ℕ)) : Type 0 where
   pub before : List (List ℕ)
   pub line : List ℕ
   pub place : IsAtLine most course.script course.taken before line
@@ -98,12 +108,14 @@ pub record IsWriteStop (most : ℕ) (told : Option FileMap) (course : Course) : 
 
 -- the source failed: exactly the lines were answered whose LF was taken
 abbrev pub IsReadStop : Option FileMap → Course → Type 0
-IsReadStop told course = ForSome told (λ files. IsExactly files (ended_lines course.taken) course.out course.spent)
+IsReadStop told course = ForSome told (λ files. IsExactly files
+    (ended_lines course.taken) course.out course.spent)
 
 -- the script is too long: exactly the lines were answered whose LF is within the limit, and one byte more was taken
 pub record IsLongStop (told : Option FileMap) (course : Course) : Type 0 where
   pub past : length course.taken ≡ most_script + 1
-  pub exact : ForSome told (λ files. IsExactly files (ended_lines (take most_script course.taken)) course.out course.spent)
+  pub exact : ForSome told (λ files. IsExactly files (ended_lines
+      (take most_script course.taken)) course.out course.spent)
 
 -- the script was read to its end and its transcript was written whole
 pub record IsEnd (told : Option FileMap) (course : Course) (refused : Bool) : Type 0 where
@@ -120,18 +132,27 @@ Tells most told course failed (Err stops.Memory) = ⊤
 Tells most told course failed (Err stops.Long) = IsLongStop told course
 
 -- what a run wrote and counted that took this of a script and left this of it: always a front of the transcript
-pub record Leaves (most : ℕ) (before after : Shown) (script taken rest : List ℕ) (result : Result Bool Stop) : Type 0 where
+pub record Leaves (most : ℕ) (before after : Shown) (script taken rest : List ℕ)
+    (result : Result Bool Stop) : Type 0 where
   pub out : List ℕ
   pub appended : Appends before.written after.written out
   pub counted : before.steps ≤ after.steps
   pub front : ForSome before.files (λ files. (session : Session) → IsTranscript files script session
       → IsFrontOf session out (after.steps - before.steps))
   pub tells : Tells most before.files
-      (record { script = script; taken = taken; rest = rest; out = out; spent = after.steps - before.steps })
+      (record {
+        script = script;
+        taken = taken;
+        rest = rest;
+        out = out;
+        spent =
+            after.steps - before.steps;
+      })
       after.failed result
 
 -- what a run leaves over a source that tells this script: what was taken is a front of it, within its limit
-pub record RunMeets (before after : Shown) (script : List ℕ) (left : Option (List ℕ)) (result : Result Bool Stop) : Type 0 where
+pub record RunMeets (before after : Shown) (script : List ℕ) (left : Option (List ℕ))
+    (result : Result Bool Stop) : Type 0 where
   pub taken : List ℕ
   pub rest : List ℕ
   pub split : script ≡ taken ++ rest
@@ -151,7 +172,8 @@ refused_of (Ok ended) = Ok ended.refused
 refused_of (Err stop) = Err stop
 
 -- the script was answered whole: this is what its transcript says
-pub record IsFinished (files : FileMap) (script : List ℕ) (began steps : ℕ) (ended : Ended) : Type 0 where
+pub record IsFinished (files : FileMap) (script : List ℕ) (began steps : ℕ)
+    (ended : Ended) : Type 0 where
   pub session : Session
   pub is : IsTranscript files script session
   pub mark : ended.refused ≡ session.refused

@@ -41,16 +41,24 @@ pub record Stands (before now : Shown) (bytes : List ℕ) (reading : Reading) : 
   pub counted : before.steps ≤ now.steps
   pub held : Holds reading (open_line bytes)
   pub answered : ForSome before.files (λ files. AreAnswered files opening (ended_lines bytes)
-      (record { text = out; refused = reading.refused; steps = now.steps - before.steps; standing = reading.script }))
+      (record {
+        text = out;
+        refused = reading.refused;
+        steps = now.steps - before.steps;
+        standing =
+            reading.script;
+      }))
 
 -- wherever the run stood over some bytes, it stands over these more
 pub record GoesOn (old new : Shown) (was is : Reading) (more : List ℕ) : Type 0 where
-  pub on : (before : Shown) (bytes : List ℕ) → Stands before old bytes was → Stands before new (bytes ++ more) is
+  pub on : (before : Shown) (bytes : List ℕ) → Stands before old bytes was →
+      Stands before new (bytes ++ more) is
 
 -- wherever the run stood over some bytes, what a stop within these more leaves, whatever is left of the script
 pub record Breaks (old new : Shown) (was : Reading) (more : List ℕ) (stop : LineStop) : Type 0 where
   pub on : (before : Shown) (bytes rest : List ℕ) → Stands before old bytes was
-      → Leaves (length more) before new ((bytes ++ more) ++ rest) (bytes ++ more) rest (Err (stop_of stop))
+      → Leaves (length more) before new ((bytes ++ more) ++ rest) (bytes ++ more) rest (Err
+      (stop_of stop))
 
 -- a line's result as the run's
 abbrev pub run_result : Result Bool LineStop → Result Bool Stop
@@ -68,7 +76,8 @@ pub record ClosesAt (old : Shown) (was : Reading) (standing : Standing) : Type 0
       → ForSome before.files (λ files. EndsAt files script standing)
 
 -- of a run over a source, between two turns
-pub record Stood (before now : Shown) (left left_now : Option (List ℕ)) (count : ℕ) (reading : Reading) : Type 0 where
+pub record Stood (before now : Shown) (left left_now : Option (List ℕ)) (count : ℕ)
+    (reading : Reading) : Type 0 where
   pub bytes : List ℕ
   pub consumed : Consumes left left_now bytes
   pub counted : length bytes ≡ count
@@ -82,7 +91,8 @@ pub record IsAtStart (reading : Reading) : Type 0 where
   pub refused : reading.refused ≡ false
 
 -- of a run over a source, at its end
-pub record TakesAll (before now : Shown) (left left_now : Option (List ℕ)) (reading : Reading) : Type 0 where
+pub record TakesAll (before now : Shown) (left left_now : Option (List ℕ))
+    (reading : Reading) : Type 0 where
   pub bytes : List ℕ
   pub consumed : Consumes left left_now bytes
   pub within : length bytes ≤ most_script

@@ -15,7 +15,8 @@ month_text month = codes "2025-" ++ decimal (month / 10) ++ decimal (month % 10)
 -- the record of an employee for a month
 abbrev pub add_line : ℕ → ℕ → List ℕ
 add_line employee month =
-    codes "add E" ++ decimal employee ++ codes " " ++ month_text month ++ codes " " ++ month_text month ++ codes "-28 RE4="
+    codes "add E" ++ decimal employee ++ codes " " ++ month_text month ++ codes " " ++ month_text
+    month ++ codes "-28 RE4="
     ++ decimal (100000 + 1000 * employee * month)
 
 -- the correction of an employee's March

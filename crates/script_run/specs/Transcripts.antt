@@ -5,8 +5,8 @@ use Rattle.std.specs.Str.Lines.{lines, strip_carriage_return}
 use Rattle.outside.specs.Told.{FileMap}
 use Rattle.script_steps.specs.Steps.{Standing, start, Answer, AreThere, IsStep}
 
--- the lines of a script: it is cut at each LF, a CR right before an LF is dropped, and a last line without LF counts
--- where it isn't empty
+-- the lines of a script: it is cut at each LF, a CR right before an LF is dropped, and a last line
+-- without LF counts where it isn't empty
 abbrev pub lines_of : List ℕ → List (List ℕ)
 lines_of script = lines script
 
@@ -20,8 +20,7 @@ ended_parts (part ∷ next ∷ more) = strip_carriage_return part ∷ ended_part
 abbrev pub ended_lines : List ℕ → List (List ℕ)
 ended_lines bytes = ended_parts (slice_split (λ b. b == 10) bytes)
 
--- what stands at the head of a session: all that was written, whether an answer was a refusal, all steps, and what the
--- lines have left
+-- what some lines have made: all that was written, whether an answer was a refusal, all steps, and what they have left
 pub record Session : Type 0 where
   pub text : List ℕ
   pub refused : Bool
@@ -55,7 +54,8 @@ IsHalted files [] = ⊤
 IsHalted files (line ∷ lines) = ¬ (AreThere files line)
 
 -- the lines are answered one after another, up to the first that names a file that isn't there
-pub record IsSession (files : FileMap) (from : Session) (lines : List (List ℕ)) (to : Session) : Type 0 where
+pub record IsSession (files : FileMap) (from : Session) (lines : List (List ℕ))
+    (to : Session) : Type 0 where
   pub before : List (List ℕ)
   pub after : List (List ℕ)
   pub parts : lines ≡ before ++ after

@@ -9,7 +9,7 @@ mod transcript;
 mod turns;
 
 pub use memory::run_in_memory;
-pub use sample::{MOST_EMPLOYEES, sample_script};
+pub use sample::{MOST_EMPLOYEES, run_sample, sample_script};
 pub use stop::Stop;
 pub use transcript::transcript_laws;
 pub use turns::{Ended, run, run_to_end};

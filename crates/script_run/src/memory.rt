@@ -14,8 +14,8 @@ use std::alloc::{AllocError, Global};
 use std::sync::ledger::Ledger;
 use steps::Steps;
 
-/// Runs a script over files in memory, and writes its answers nowhere. Nothing can fail but memory, since each line names
-/// files that are there.
+/// Runs a script over files in memory, and writes its answers nowhere. Nothing can fail but memory, since
+/// each line names files that are there.
 pub fn run_in_memory<L: Ledger>(
     alloc: Global,
     files: Vec<(String, Vec<u8>)>,

@@ -1,10 +1,20 @@
 //! The script of a sample: a book of so many employees for a year.
-ghost use Rattle.std.specs.Prelude.{◌≡◌, ◌≤◌, ◌∷◌, [], ◌++◌, map, OnOk, IfOk, string_bytes};
+ghost use Rattle.std.specs.Prelude.{◌≡◌, ◌≢◌, ◌≤◌, ◌∷◌, [], ◌++◌, length, map};
+ghost use Rattle.std.specs.Prelude.{All, AllPairs, OnOk, IfOk, string_bytes};
 ghost use Rattle.std.specs.List.{flat_map};
-ghost use Rattle.script_run.specs.Samples.{month_text, add_line, change_line, year_lines, sample_lines};
-ghost use Rattle.script_run.specs.Samples.{numbers, script_of};
+ghost use Rattle.script_run.specs.Samples.{month_text, add_line, change_line, year_lines};
+ghost use Rattle.script_run.specs.Samples.{sample_lines, numbers, script_of};
+ghost use Rattle.script_run.specs.Limits.{most_script};
+ghost use Rattle.script_run.specs.Transcripts.{lines_of};
+ghost use Rattle.script_run.specs.RunClauses.{IsFinished};
+ghost use Rattle.script_steps.specs.Steps.{AreThere};
+ghost use Rattle.outside.specs.Memory.{named_files, file_named};
 
+use crate::memory::run_in_memory;
+use crate::turns::Ended;
 use std::alloc::{AllocError, Global};
+use std::sync::ledger::Ledger;
+use steps::Steps;
 
 /// The most employees of a sample.
 pub const MOST_EMPLOYEES: u32 = 200;
@@ -75,12 +85,33 @@ fn push_corrections(alloc: Global, script: &mut String, employees: u32) -> Resul
 /// March, and a report.
 pub fn sample_script(alloc: Global, employees: u32) -> Result<String, AllocError>
     requires employees { employees ≤ 200 }
-    ensures { IfOk result (λ script.
+    ensures text { IfOk result (λ script.
         string_bytes script ≡ script_of (sample_lines employees)) }
+    ensures lines { IfOk result (λ script.
+        lines_of (string_bytes script) ≡ sample_lines employees) }
+    ensures short { IfOk result (λ script. length (string_bytes script) ≤ most_script) }
 {
     let mut script = String::from_str(alloc, "plan 2025-01-01 p2.xml l2.toml\n")?;
     push_years(alloc, &mut script, employees)?;
     push_corrections(alloc, &mut script, employees)?;
     script.push_str("report\n")?;
     Ok(script)
+}
+
+/// Runs the script of a sample over files in memory that has those that its lines name.
+pub fn run_sample<L: Ledger>(
+    alloc: Global,
+    employees: u32,
+    files: Vec<(String, Vec<u8>)>,
+    steps: &mut Steps<L>,
+) -> Result<Ended, AllocError>
+    requires employees { employees ≤ 200 }
+    requires distinct { AllPairs (λ a b. a.0 ≢ b.0) (named_files files.items) }
+    requires there { All (λ line. AreThere (file_named (named_files files.items)) line)
+        (sample_lines employees) }
+    ensures { IfOk result (λ ended. IsFinished (file_named (named_files files.items))
+        (script_of (sample_lines employees)) steps.old steps.new ended) }
+{
+    let script = sample_script(alloc, employees)?;
+    run_in_memory(alloc, files, script.into_bytes(), steps)
 }

@@ -127,8 +127,8 @@ pub fn run_to_end<F: Files, R: Source, W: Sink, L: Ledger>(
 /// Runs a script: takes it from the source turn by turn, and answers each line before bytes past its turn are taken.
 /// `Ok` says whether an answer was a refusal. The counter rises by the steps of the accepted edits.
 ///
-/// A script has at most [`MOST_SCRIPT`] bytes. A line of more than [`MOST_LINE`](crate::MOST_LINE) bytes is answered once,
-/// and of its bytes no more than that many and one are kept.
+/// A script has at most [`MOST_SCRIPT`] bytes. A line of more than [`MOST_LINE`](crate::MOST_LINE) bytes is
+/// answered once, and of its bytes no more than that many and one are kept.
 pub fn run<F: Files, R: Source, W: Sink, L: Ledger>(
     alloc: Global,
     files: &mut F,

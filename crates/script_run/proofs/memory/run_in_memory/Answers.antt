@@ -11,15 +11,18 @@ returns-in-Ok g c =
     let script = c.args.script.items in
     let told = told_files c.new-files.ensures.files in
     let left = ap (λ v. Some v.left) c.new-source.ensures in
-    finished files script c.in-Ok.ended (c.in-Ok.ensures.script script left) (c.in-Ok.ensures.standing script left files told) told
+    finished files script c.in-Ok.ended (c.in-Ok.ensures.script script left)
+    (c.in-Ok.ensures.standing script left files told) told
 
 pub unreachable-requires : goal.unreachable-requires
 unreachable-requires g c =
     let files = file_named (named_files c.args.files.items) in
     let script = c.args.script.items in
     let left = ap (λ v. Some v.left) c.new-source.ensures in
-    no_file_stop files script (rw c.in-Err-File.field-0-is at (c.in-Err-File.ensures.script script left)) c.requires.there
-    (λ name failed. sym (ap (λ v. file_named v name) c.new-files.ensures.files) ∙ sure_lacked c.new-files.result c.run_to_end.new.files name c.run_to_end.ensures.same failed)
+    no_file_stop files script (rw c.in-Err-File.field-0-is at
+    (c.in-Err-File.ensures.script script left)) c.requires.there
+    (λ name failed. sym (ap (λ v. file_named v name) c.new-files.ensures.files)
+    ∙ sure_lacked c.new-files.result c.run_to_end.new.files name c.run_to_end.ensures.same failed)
 
 pub unreachable-requires-in-Err-Long : goal.unreachable-requires-in-Err-Long
 unreachable-requires-in-Err-Long g c =

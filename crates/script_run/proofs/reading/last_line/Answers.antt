@@ -20,15 +20,19 @@ returns-in_err-refused-clause-closes g c =
     let some = not_empty kept c.is_empty.result c.is_empty.ensures c.if-is_empty.false in
     let stop = c.in_err-refused.field-0.0 in
     closes_at c.from_residual.result (p.1 ∙ ap (λ v. Err v) p.2)
-    (closes_broken c.answer_line.ensures.same (λ line holds. kept_some most_line kept.items line holds.front some) stop
-    (λ line holds. broken_same (says_kept kept.items c.deref.result.now line c.deref.ensures.value holds.front) stop (record { is = c.in_err-refused.ensures.broken stop refl })))
+    (closes_broken c.answer_line.ensures.same (λ line holds.
+    kept_some most_line kept.items line holds.front some) stop
+    (λ line holds. broken_same (says_kept kept.items c.deref.result.now line c.deref.ensures.value holds.front) stop
+    (record { is = c.in_err-refused.ensures.broken stop refl })))
 
 pub returns-clause-closes : goal.returns-clause-closes
 returns-clause-closes g c =
     let kept = c.args.reading.now.line in
     let some = not_empty kept c.is_empty.result c.is_empty.ensures c.if-is_empty.false in
     closes_on (λ line holds. kept_some most_line kept.items line holds.front some)
-    (λ line holds. answered_same (says_kept kept.items c.deref.result.now line c.deref.ensures.value holds.front) c.in_ok-refused.ensures.answered)
+    (λ line holds. answered_same
+    (says_kept kept.items c.deref.result.now line c.deref.ensures.value holds.front)
+    c.in_ok-refused.ensures.answered)
 
 pub returns-then-is_empty-clause-standing : goal.returns-then-is_empty-clause-standing
 returns-then-is_empty-clause-standing g c =
@@ -40,6 +44,9 @@ pub returns-clause-standing : goal.returns-clause-standing
 returns-clause-standing g c =
     let kept = c.args.reading.now.line in
     let some = not_empty kept c.is_empty.result c.is_empty.ensures c.if-is_empty.false in
-    stays_on (shown (g.F.Files.told c.answer_line.new.files) (g.F.Files.failed c.answer_line.new.files) (g.W.Sink.written c.answer_line.new.sink) c.answer_line.new.steps)
+    stays_on (shown (g.F.Files.told c.answer_line.new.files) (g.F.Files.failed c.answer_line.new.files)
+    (g.W.Sink.written c.answer_line.new.sink) c.answer_line.new.steps)
     (λ line holds. kept_some most_line kept.items line holds.front some)
-    (λ line holds. answered_same (says_kept kept.items c.deref.result.now line c.deref.ensures.value holds.front) c.in_ok-refused.ensures.answered)
+    (λ line holds. answered_same
+    (says_kept kept.items c.deref.result.now line c.deref.ensures.value holds.front)
+    c.in_ok-refused.ensures.answered)

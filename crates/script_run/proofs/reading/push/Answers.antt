@@ -7,8 +7,10 @@ pub returns-in_ok-push-clause-ok : goal.returns-in_ok-push-clause-ok
 returns-in_ok-push-clause-ok c = λ line holds.
     let room : length c.args.reading.now.line.items ≤ most_line = search rules in
     record {
-      front = c.in_ok-push.ensures.items ∙ room_front most_line c.args.reading.now.line.items line c.args.byte holds.front room;
-      long = room_long most_line c.args.reading.now.line.items line c.args.byte c.args.reading.now.long holds.front room holds.long;
+      front = c.in_ok-push.ensures.items
+          ∙ room_front most_line c.args.reading.now.line.items line c.args.byte holds.front room;
+      long = room_long most_line c.args.reading.now.line.items line c.args.byte c.args.reading.now.long holds.front
+          room holds.long;
     }
 
 pub returns-else-len-le-MOST_LINE-clause-ok : goal.returns-else-len-le-MOST_LINE-clause-ok

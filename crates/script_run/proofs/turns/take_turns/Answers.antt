@@ -21,7 +21,8 @@ turns-init g c = record {
 
 pub returns-in-Err-clause-err : goal.returns-in-Err-clause-err
 returns-in-Err-clause-err g c = λ stop stop_is script is.
-    meets_at stop stop_is (meets_read c.turns.invariant.stood c.in-Err.ensures.bytes c.turns.invariant.within script is)
+    meets_at stop stop_is
+    (meets_read c.turns.invariant.stood c.in-Err.ensures.bytes c.turns.invariant.within script is)
 
 pub returns-then-taken-gt-MOST_SCRIPT-clause-err : goal.returns-then-taken-gt-MOST_SCRIPT-clause-err
 returns-then-taken-gt-MOST_SCRIPT-clause-err g c = λ stop stop_is script is.
@@ -29,7 +30,8 @@ returns-then-taken-gt-MOST_SCRIPT-clause-err g c = λ stop stop_is script is.
     let buf = c.next_turn.new.buf in
     let size : length (take count buf) ≡ count = length-take-le count buf (omega (arith, c.in-Ok.ensures.short)) in
     let past : c.turns.taken + count ≡ most_script + 1 = omega (arith, c.in-Ok.ensures.limit) in
-    meets_at stop stop_is (meets_long (take count buf) size c.in-Ok.ensures.bytes.0 c.turns.invariant.stood (c.in-Ok.ensures.past past) past script is)
+    meets_at stop stop_is (meets_long (take count buf) size c.in-Ok.ensures.bytes.0 c.turns.invariant.stood
+    (c.in-Ok.ensures.past past) past script is)
 
 pub returns-in_err-feed-clause-err : goal.returns-in_err-feed-clause-err
 returns-in_err-feed-clause-err g c = λ stop stop_is script is.
@@ -38,7 +40,8 @@ returns-in_err-feed-clause-err g c = λ stop stop_is script is.
     let buf = c.next_turn.new.buf in
     let size : length (take count buf) ≡ count = length-take-le count buf (omega (arith, c.in-Ok.ensures.short)) in
     meets_at stop (sym (p.1 ∙ ap (λ v. Err v) p.2) ∙ stop_is)
-    (meets_break (take count buf) size c.in-Ok.ensures.short (omega arith) c.in-Ok.ensures.bytes.0 c.turns.invariant.stood
+    (meets_break (take count buf) size c.in-Ok.ensures.short
+    (omega arith) c.in-Ok.ensures.bytes.0 c.turns.invariant.stood
     (c.in_err-feed.ensures.err c.in_err-feed.field-0.0 refl) script is (Err (stop_of c.in_err-feed.field-0.0)) refl)
 
 pub turns-preserved : goal.turns-preserved

@@ -7,7 +7,8 @@ use Rattle.script_run.proofs.turns.take_turns.Given as goal
 abbrev pub invariant-turns : goal.invariant-turns
 invariant-turns g l = record {
   stood : Stood
-      (shown (g.F.Files.told l.initial.files) (g.F.Files.failed l.initial.files) (g.W.Sink.written l.initial.sink) l.initial.steps)
+      (shown (g.F.Files.told l.initial.files) (g.F.Files.failed l.initial.files)
+      (g.W.Sink.written l.initial.sink) l.initial.steps)
       (shown (g.F.Files.told l.files) (g.F.Files.failed l.files) (g.W.Sink.written l.sink) l.steps)
       (g.R.Source.left l.initial.source) (g.R.Source.left l.source) l.taken l.reading;
   room : length l.buf ≡ most_turn;
