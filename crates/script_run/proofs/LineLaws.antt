@@ -114,10 +114,12 @@ lines-parts first [] = refl
 lines-parts first (next ∷ more) = ap (λ v. strip_carriage_return first ∷ v) (lines-parts next more)
 
 -- a part before an LF is a line without a CR at its end
-pub lines_after : (line rest : List ℕ) → lines_of_parts (line ∷ parts rest) ≡ strip_carriage_return line ∷ lines_of rest
+pub lines_after : (line rest : List ℕ) → lines_of_parts (line ∷ parts rest)
+    ≡ strip_carriage_return line ∷ lines_of rest
 lines_after line rest =
     let some = some_part rest in
-    ap (λ v. lines_of_parts (line ∷ v)) some.is ∙ ap (λ v. strip_carriage_return line ∷ lines_of_parts v) (sym some.is)
+    ap (λ v. lines_of_parts (line ∷ v)) some.is ∙ ap (λ v. strip_carriage_return line ∷ lines_of_parts v)
+    (sym some.is)
 
 -- an LF ends the line that is being read
 pub ended_lines-lf : (bytes : List ℕ) → ended_lines (bytes ++ 10 ∷ []) ≡ ended_lines bytes ++ strip_carriage_return

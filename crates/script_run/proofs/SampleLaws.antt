@@ -121,7 +121,8 @@ plain_add employee month few most =
     let to_month = (head ++ codes " ") ++ month_text month in
     let to_day = ((to_month ++ codes " ") ++ month_text month) ++ codes "-28 RE4=" in
     let plain_head = both_plain (codes "add E") (decimal employee) refl (plain_decimal employee (omega arith)) in
-    let plain_to_month = both_plain (head ++ codes " ") (month_text month) (both_plain head (codes " ") plain_head refl)
+    let plain_to_month = both_plain (head ++ codes " ") (month_text month) (both_plain head
+    (codes " ") plain_head refl)
     (plain_month month most) in
     let plain_to_day = both_plain ((to_month ++ codes " ") ++ month_text month) (codes "-28 RE4=")
     (both_plain (to_month ++ codes " ") (month_text month) (both_plain to_month (codes " ") plain_to_month refl)
@@ -154,8 +155,10 @@ line_end line plain =
 inner_no_lf : (line : List ℕ) → is_plain line ≡ true → All (λ b. (b == 10) ≡ false) line
 inner_no_lf [] plain = All-nil (λ b. (b == 10) ≡ false)
 inner_no_lf (b ∷ line) plain =
-    elim (is_inner b) as (λ t. is_inner b ≡ t → (t && is_plain line) ≡ true → All (λ v. (v == 10) ≡ false) (b ∷ line)) [
-      | true ↦ λ inner rest. All-cons (λ v. (v == 10) ≡ false) b line (grind (arith, nat_tests)) (inner_no_lf line rest)
+    elim (is_inner b) as (λ t. is_inner b ≡ t → (t && is_plain line) ≡ true → All (λ v. (v == 10) ≡ false)
+    (b ∷ line)) [
+      | true ↦ λ inner rest. All-cons (λ v. (v == 10) ≡ false) b line (grind (arith, nat_tests))
+          (inner_no_lf line rest)
       | false ↦ λ _ no_line. cc
     ] refl plain
 
@@ -168,12 +171,14 @@ one_more line rest plain =
 pub lines_of-script : (lines : List (List ℕ)) → list_all is_plain lines ≡ true → lines_of (script_of lines) ≡ lines
 lines_of-script [] plain = refl
 lines_of-script (line ∷ lines) plain =
-    elim (is_plain line) as (λ t. is_plain line ≡ t → (t && list_all is_plain lines) ≡ true → lines_of (script_of (line ∷ lines)) ≡ line ∷ lines) [
+    elim (is_plain line) as (λ t. is_plain line ≡ t → (t && list_all is_plain lines) ≡ true →
+    lines_of (script_of (line ∷ lines)) ≡ line ∷ lines) [
       | true ↦ λ this rest. one_more line (script_of lines) this ∙ ap (λ v. line ∷ v) (lines_of-script lines rest)
       | false ↦ λ _ no_lines. cc
     ] refl plain
 
-plain_numbers : (line_of : ℕ → List ℕ) (n most : ℕ) → n ≤ most → ((k : ℕ) → k ≤ most → is_plain (line_of k) ≡ true) → list_all is_plain (map line_of (numbers n)) ≡ true
+plain_numbers : (line_of : ℕ → List ℕ) (n most : ℕ) → n ≤ most → ((k : ℕ) → k ≤ most → is_plain (line_of k) ≡ true) →
+    list_all is_plain (map line_of (numbers n)) ≡ true
 plain_numbers line_of zero most within each = refl
 plain_numbers line_of (suc n) most within each =
     ap (λ v. list_all is_plain v) (map-append line_of (numbers n) (suc n ∷ []))
@@ -184,13 +189,16 @@ plain_numbers line_of (suc n) most within each =
 plain_years : (n : ℕ) → n ≤ 200 → list_all is_plain (flat_map year_lines (numbers n)) ≡ true
 plain_years zero few = refl
 plain_years (suc n) few =
-    ap (λ v. list_all is_plain v) (flat_map-append year_lines (numbers n) (suc n ∷ []) ∙ ap (λ v. flat_map year_lines (numbers n) ++ v) (append-nil (year_lines (suc n))))
+    ap (λ v. list_all is_plain v) (flat_map-append year_lines (numbers n) (suc n ∷ []) ∙ ap (λ v. flat_map year_lines
+    (numbers n) ++ v) (append-nil (year_lines (suc n))))
     ∙ list_all-append is_plain (flat_map year_lines (numbers n)) (year_lines (suc n))
     ∙ ap (λ v. v && list_all is_plain (year_lines (suc n))) (plain_years n (omega arith))
-    ∙ plain_numbers (λ month. add_line (suc n) month) 12 12 (omega arith) (λ month most. plain_add (suc n) month few most)
+    ∙ plain_numbers (λ month. add_line (suc n) month) 12 12 (omega arith) (λ month most. plain_add
+    (suc n) month few most)
 
 -- the lines of the script of a sample
-pub lines_of-sample : (employees : ℕ) → employees ≤ 200 → lines_of (script_of (sample_lines employees)) ≡ sample_lines employees
+pub lines_of-sample : (employees : ℕ) → employees ≤ 200 → lines_of (script_of (sample_lines employees))
+    ≡ sample_lines employees
 lines_of-sample employees few =
     let years = flat_map year_lines (numbers employees) in
     let changes = map change_line (numbers employees) in
@@ -201,7 +209,8 @@ lines_of-sample employees few =
     ∙ ap (λ v. v && true) (plain_numbers change_line employees 200 few (λ k within. plain_change k within)))
 
 -- a script of short lines is short
-short_script : (lines : List (List ℕ)) → All (λ line. length line ≤ 150) lines → length (script_of lines) ≤ 151 * length lines
+short_script : (lines : List (List ℕ)) → All (λ line. length line ≤ 150) lines →
+    length (script_of lines) ≤ 151 * length lines
 short_script [] short = omega arith
 short_script (line ∷ lines) short =
     let rest = short_script lines (All-tail (λ v. length v ≤ 150) line lines short) in
@@ -217,7 +226,8 @@ short_number k n some fits small = length-decimal-le k n some fits small
 short_month : (month : ℕ) → month ≤ 12 → length (month_text month) ≤ 9
 short_month month most =
     both_short (codes "2025-" ++ decimal (month / 10)) (decimal (month % 10)) 7 2 9
-    (both_short (codes "2025-") (decimal (month / 10)) 5 2 7 (omega arith) (short_number 2 (month / 10) (omega arith) (omega arith) (omega arith)) (omega arith))
+    (both_short (codes "2025-") (decimal (month / 10)) 5 2 7 (omega arith) (short_number 2 (month / 10) (omega arith)
+    (omega arith) (omega arith)) (omega arith))
     (short_number 2 (month % 10) (omega arith) (omega arith) (omega arith)) (omega arith)
 
 short_add : (employee month : ℕ) → employee ≤ 200 → month ≤ 12 → length (add_line employee month) ≤ 150
@@ -227,34 +237,44 @@ short_add employee month few most =
     let head = codes "add E" ++ decimal employee in
     let to_month = (head ++ codes " ") ++ month_text month in
     let to_day = ((to_month ++ codes " ") ++ month_text month) ++ codes "-28 RE4=" in
-    let short_head = both_short (codes "add E") (decimal employee) 5 3 8 (omega arith) (short_number 3 employee (omega arith) (omega arith) (omega arith)) (omega arith) in
-    let short_to_month = both_short (head ++ codes " ") (month_text month) 9 9 18 (both_short head (codes " ") 8 1 9 short_head (omega arith) (omega arith)) (short_month month most) (omega arith) in
+    let short_head = both_short (codes "add E") (decimal employee) 5 3 8 (omega arith) (short_number 3 employee
+    (omega arith) (omega arith) (omega arith)) (omega arith) in
+    let short_to_month = both_short (head ++ codes " ") (month_text month) 9 9 18 (both_short head
+    (codes " ") 8 1 9 short_head (omega arith) (omega arith)) (short_month month most) (omega arith) in
     let short_to_day = both_short ((to_month ++ codes " ") ++ month_text month) (codes "-28 RE4=") 28 8 36
-    (both_short (to_month ++ codes " ") (month_text month) 19 9 28 (both_short to_month (codes " ") 18 1 19 short_to_month (omega arith) (omega arith)) (short_month month most) (omega arith))
+    (both_short (to_month ++ codes " ") (month_text month) 19 9 28 (both_short to_month
+    (codes " ") 18 1 19 short_to_month (omega arith) (omega arith)) (short_month month most) (omega arith))
     (omega arith) (omega arith) in
-    both_short to_day (decimal value) 36 7 150 short_to_day (short_number 7 value (omega arith) (omega arith) (omega arith)) (omega arith)
+    both_short to_day (decimal value) 36 7 150 short_to_day (short_number 7 value (omega arith) (omega arith)
+    (omega arith)) (omega arith)
 
 short_change : (employee : ℕ) → employee ≤ 200 → length (change_line employee) ≤ 150
 short_change employee few =
     both_short (codes "change E" ++ decimal employee) (codes " 2025-03 2025-03-28 RE4=50000") 11 40 150
-    (both_short (codes "change E") (decimal employee) 8 3 11 (omega arith) (short_number 3 employee (omega arith) (omega arith) (omega arith)) (omega arith)) (omega arith) (omega arith)
+    (both_short (codes "change E") (decimal employee) 8 3 11 (omega arith) (short_number 3 employee (omega arith)
+    (omega arith) (omega arith)) (omega arith)) (omega arith) (omega arith)
 
-short_numbers : (line_of : ℕ → List ℕ) (n most : ℕ) → n ≤ most → ((k : ℕ) → k ≤ most → length (line_of k) ≤ 150) → All (λ v. length v ≤ 150) (map line_of (numbers n))
+short_numbers : (line_of : ℕ → List ℕ) (n most : ℕ) → n ≤ most → ((k : ℕ) → k ≤ most → length (line_of k) ≤ 150) →
+    All (λ v. length v ≤ 150) (map line_of (numbers n))
 short_numbers line_of zero most within each = All-nil (λ v. length v ≤ 150)
 short_numbers line_of (suc n) most within each =
     subst (λ v. All (λ line. length line ≤ 150) v) (sym (map-append line_of (numbers n) (suc n ∷ [])))
-    (All-append (λ line. length line ≤ 150) (map line_of (numbers n)) (line_of (suc n) ∷ []) (short_numbers line_of n most (omega arith) each)
+    (All-append (λ line. length line ≤ 150) (map line_of (numbers n)) (line_of (suc n) ∷ [])
+    (short_numbers line_of n most (omega arith) each)
     (All-cons (λ line. length line ≤ 150) (line_of (suc n)) [] (each (suc n) within) (All-nil (λ v. length v ≤ 150))))
 
 year_after : (n : ℕ) → flat_map year_lines (numbers (suc n)) ≡ flat_map year_lines (numbers n) ++ year_lines (suc n)
-year_after n = flat_map-append year_lines (numbers n) (suc n ∷ []) ∙ ap (λ v. flat_map year_lines (numbers n) ++ v) (append-nil (year_lines (suc n)))
+year_after n = flat_map-append year_lines (numbers n) (suc n ∷ []) ∙ ap (λ v. flat_map year_lines (numbers n) ++ v)
+    (append-nil (year_lines (suc n)))
 
 short_years : (n : ℕ) → n ≤ 200 → All (λ v. length v ≤ 150) (flat_map year_lines (numbers n))
 short_years zero few = All-nil (λ v. length v ≤ 150)
 short_years (suc n) few =
     subst (λ v. All (λ line. length line ≤ 150) v) (sym (year_after n))
-    (All-append (λ line. length line ≤ 150) (flat_map year_lines (numbers n)) (year_lines (suc n)) (short_years n (omega arith))
-    (short_numbers (λ month. add_line (suc n) month) 12 12 (omega arith) (λ month most. short_add (suc n) month few most)))
+    (All-append (λ line. length line ≤ 150) (flat_map year_lines (numbers n)) (year_lines (suc n)) (short_years n
+    (omega arith))
+    (short_numbers (λ month. add_line (suc n) month) 12 12 (omega arith) (λ month most. short_add
+    (suc n) month few most)))
 
 length-numbers : (n : ℕ) → length (numbers n) ≡ n
 length-numbers zero = refl
@@ -266,9 +286,17 @@ length-year employee = refl
 length-years : (n : ℕ) → length (flat_map year_lines (numbers n)) ≡ 12 * n
 length-years zero = refl
 length-years (suc n) =
-    omega (arith, length-years n, ap (λ v. length v) (year_after n), length-append (flat_map year_lines (numbers n)) (year_lines (suc n)), length-year (suc n))
+    omega (
+      arith,
+      length-years n,
+      ap (λ v. length v) (year_after n),
+      length-append (flat_map year_lines (numbers n))
+          (year_lines (suc n)),
+      length-year (suc n),
+    )
 
-count_fits : (size lines employees : ℕ) → employees ≤ 200 → size ≤ 151 * lines → lines ≡ 13 * employees + 2 → size ≤ most_script
+count_fits : (size lines employees : ℕ) → employees ≤ 200 → size ≤ 151 * lines → lines ≡ 13 * employees + 2 →
+    size ≤ most_script
 count_fits size lines employees few short count = omega arith
 
 pub short_sample : (employees : ℕ) → employees ≤ 200 → length (script_of (sample_lines employees)) ≤ most_script
@@ -276,9 +304,22 @@ short_sample employees few =
     let years = flat_map year_lines (numbers employees) in
     let changes = map change_line (numbers employees) in
     let more = years ++ (changes ++ codes "report" ∷ []) in
-    let short_report : All (λ v. length v ≤ 150) (codes "report" ∷ []) = All-cons (λ v. length v ≤ 150) (codes "report") [] (omega arith) (All-nil (λ v. length v ≤ 150)) in
-    let short_more = All-append (λ v. length v ≤ 150) years (changes ++ codes "report" ∷ []) (short_years employees few)
-    (All-append (λ v. length v ≤ 150) changes (codes "report" ∷ []) (short_numbers change_line employees 200 few (λ k within. short_change k within)) short_report) in
-    let short = short_script (sample_lines employees) (All-cons (λ v. length v ≤ 150) (codes "plan 2025-01-01 p2.xml l2.toml") more (omega arith) short_more) in
+    let short_report : All (λ v. length v ≤ 150) (codes "report" ∷ []) = All-cons (λ v. length v ≤ 150)
+    (codes "report") [] (omega arith) (All-nil (λ v. length v ≤ 150)) in
+    let short_more = All-append (λ v. length v ≤ 150) years (changes ++ codes "report" ∷ [])
+    (short_years employees few)
+    (All-append (λ v. length v ≤ 150) changes (codes "report" ∷ []) (short_numbers change_line employees 200 few
+    (λ k within. short_change k within)) short_report) in
+    let short = short_script (sample_lines employees) (All-cons (λ v. length v ≤ 150)
+    (codes "plan 2025-01-01 p2.xml l2.toml") more (omega arith) short_more) in
     count_fits (length (script_of (sample_lines employees))) (length (sample_lines employees)) employees few short
-    (omega (arith, length-append years (changes ++ codes "report" ∷ []), length-append changes (codes "report" ∷ []), length-years employees, length-numbers employees, length-map (numbers employees) change_line))
+    (omega (
+      arith,
+      length-append years (changes ++ codes "report" ∷ []),
+      length-append changes
+          (codes "report" ∷ []),
+      length-years employees,
+      length-numbers employees,
+      length-map
+          (numbers employees) change_line,
+    ))

@@ -12,3 +12,7 @@ most_turn = 65536
 -- the most bytes of a line that may be more than too long; of a longer line one byte more is kept
 abbrev pub most_line : ℕ
 most_line = 65536
+
+-- the most employees of a sample
+abbrev pub most_employees : ℕ
+most_employees = 200

@@ -4,7 +4,7 @@ ghost use Rattle.std.specs.Prelude.{All, AllPairs, OnOk, IfOk, string_bytes};
 ghost use Rattle.std.specs.List.{flat_map};
 ghost use Rattle.script_run.specs.Samples.{month_text, add_line, change_line, year_lines};
 ghost use Rattle.script_run.specs.Samples.{sample_lines, numbers, script_of};
-ghost use Rattle.script_run.specs.Limits.{most_script};
+ghost use Rattle.script_run.specs.Limits.{most_script, most_employees};
 ghost use Rattle.script_run.specs.Transcripts.{lines_of};
 ghost use Rattle.script_run.specs.RunClauses.{IsFinished};
 ghost use Rattle.script_steps.specs.Steps.{AreThere};
@@ -29,7 +29,7 @@ fn month_words(alloc: Global, month: u32) -> Result<String, AllocError>
 
 /// The record of an employee for a month, as a line.
 fn record_line(alloc: Global, employee: u32, month: u32) -> Result<String, AllocError>
-    requires employees { employee ≤ 200 }
+    requires employees { employee ≤ most_employees }
     requires months { month ≤ 12 }
     ensures { IfOk result (λ line. string_bytes line ≡ add_line employee month ++ 10 ∷ []) }
 {
@@ -47,7 +47,7 @@ fn correction_line(alloc: Global, employee: u32) -> Result<String, AllocError>
 
 /// Appends an employee's twelve records.
 fn push_year(alloc: Global, script: &mut String, employee: u32) -> Result<(), AllocError>
-    requires employees { employee ≤ 200 }
+    requires employees { employee ≤ most_employees }
     ensures { OnOk result (string_bytes script.new
         ≡ string_bytes script.old ++ script_of (year_lines employee)) }
 {
@@ -59,7 +59,7 @@ fn push_year(alloc: Global, script: &mut String, employee: u32) -> Result<(), Al
 
 /// Appends the records of so many employees.
 fn push_years(alloc: Global, script: &mut String, employees: u32) -> Result<(), AllocError>
-    requires employees { employees ≤ 200 }
+    requires employees { employees ≤ most_employees }
     ensures { OnOk result (string_bytes script.new
         ≡ string_bytes script.old ++ script_of (flat_map year_lines (numbers employees))) }
 {
@@ -71,7 +71,7 @@ fn push_years(alloc: Global, script: &mut String, employees: u32) -> Result<(), 
 
 /// Appends the corrections of so many employees.
 fn push_corrections(alloc: Global, script: &mut String, employees: u32) -> Result<(), AllocError>
-    requires employees { employees ≤ 200 }
+    requires employees { employees ≤ most_employees }
     ensures { OnOk result (string_bytes script.new
         ≡ string_bytes script.old ++ script_of (map change_line (numbers employees))) }
 {
@@ -84,7 +84,7 @@ fn push_corrections(alloc: Global, script: &mut String, employees: u32) -> Resul
 /// The script of a sample of so many employees: a plan, each employee's records of a year, a correction of each one's
 /// March, and a report.
 pub fn sample_script(alloc: Global, employees: u32) -> Result<String, AllocError>
-    requires employees { employees ≤ 200 }
+    requires employees { employees ≤ most_employees }
     ensures text { IfOk result (λ script.
         string_bytes script ≡ script_of (sample_lines employees)) }
     ensures lines { IfOk result (λ script.
@@ -105,7 +105,7 @@ pub fn run_sample<L: Ledger>(
     files: Vec<(String, Vec<u8>)>,
     steps: &mut Steps<L>,
 ) -> Result<Ended, AllocError>
-    requires employees { employees ≤ 200 }
+    requires employees { employees ≤ most_employees }
     requires distinct { AllPairs (λ a b. a.0 ≢ b.0) (named_files files.items) }
     requires there { All (λ line. AreThere (file_named (named_files files.items)) line)
         (sample_lines employees) }

@@ -27,4 +27,5 @@ pub returns-clause-lines : goal.returns-clause-lines
 returns-clause-lines c = ap (λ v. lines_of v) (script_is c) ∙ lines_of-sample c.args.employees c.requires.employees
 
 pub returns-clause-short : goal.returns-clause-short
-returns-clause-short c = subst (λ v. length v ≤ most_script) (sym (script_is c)) (short_sample c.args.employees c.requires.employees)
+returns-clause-short c = subst (λ v. length v ≤ most_script) (sym (script_is c))
+    (short_sample c.args.employees c.requires.employees)
