@@ -1,13 +1,12 @@
 -- The inputs that are filled are admitted by the limits of an accepted plan.
-use Rattle.std.proofs.Common.{◌≡◌, ℕ, zero, suc, ◌+◌, ◌-◌, ◌*◌, ◌^◌, ◌<◌, ◌≤◌, max, List, [], ◌∷◌, length, Bool, true, false, not, ◌&&◌, cond, refl, sym, ap, ◌∙◌, subst, arith, rules}
-use Rattle.std.specs.Prelude.{Option, Some, None, option_map, All, ⊤, ℤ, pos, ◌+ℤ◌, ◌*ℤ◌, nat_le, IsFalse, is_none, is_some, if◌then◌else◌}
-use Rattle.std.specs.List.{find, filter_map, cons_option, AllByRecursion}
+use Rattle.std.proofs.Common.{◌≡◌, ℕ, zero, suc, ◌-◌, ◌^◌, ◌≤◌, max, List, [], ◌∷◌, Bool, true, false, not, ◌&&◌, cond, refl, sym, ap, ◌∙◌, subst, arith, rules}
+use Rattle.std.specs.Prelude.{Option, Some, None, option_map, All, ℤ, pos, ◌+ℤ◌, ◌*ℤ◌, nat_le, is_none, if◌then◌else◌}
+use Rattle.std.specs.List.{cons_option, AllByRecursion}
 use Rattle.std.specs.Option.{option_map_or}
 use Rattle.std.specs.Ordering.{is_gt, int_cmp}
 use Rattle.std.specs.Cmp.{int_cmp_is}
-use Rattle.std.specs.declared.cmp.Ordering.{Ordering}
 use Rattle.std.specs.declared.cmp.Ordering.TheVariants.{Equal}
-use Rattle.std.proofs.lemmas.Bool.{false≢true, leb-true}
+use Rattle.std.proofs.lemmas.Bool.{leb-true}
 use Rattle.scaled_decimal.specs.Decimals.{Decimal, decimal, scale_of, numerator_of, numerator_at, sum, value_order, ten_to}
 use Rattle.scaled_decimal.specs.Limits.{IsKept}
 use Rattle.pap_tree.specs.declared.declaration.Kind.{Kind}
@@ -22,10 +21,8 @@ use Rattle.payroll_records.specs.declared.values.NamedValue.{NamedValue}
 use Rattle.carry_bindings.specs.Conditions.{SuitsKind}
 use Rattle.carry_bindings.specs.Filling.{has_carry, value_of, admits, missing, outside, inputs, input_of, waits, unknown, first_of, filled_by}
 use Rattle.carry_bindings.specs.declared.carried.Earlier.{Earlier}
-use Rattle.carry_bindings.specs.declared.filling.Filled.{Filled}
 use Rattle.carry_bindings.specs.declared.filling.Filled.TheVariants as filled
-use Rattle.carry_bindings.specs.declared.filling.Blocked.TheVariants as blocked
-use Rattle.interval_walk.specs.Admission.{limit_named, SuitsLimit, FitsAs, FitsAsFactor, IsAdmitted, IsAdmittedFor, AllAdmitted}
+use Rattle.interval_walk.specs.Admission.{SuitsLimit, FitsAs, FitsAsFactor, AllAdmitted}
 use Rattle.pap_plan.specs.Bindings.{HasSuitedLimit}
 use Rattle.pap_plan.specs.Inputs.{IsSlot, AreSlots}
 

@@ -22,7 +22,7 @@ use Rattle.pap_plan.specs.Inputs.{AreSlots}
 use Rattle.pap_plan.proofs.Laws as plans
 use Rattle.payroll_records.specs.ValueWords.{Give, AreValueWords}
 use Rattle.pap_cli.specs.Words.{IsKeptValue}
-use Rattle.plan_answers.specs.Answers.{Answer, refusal, IsRefusal}
+use Rattle.plan_answers.specs.Answers.{Answer, refusal}
 use Rattle.plan_answers.specs.Laws.{HasOneAnswer}
 use Rattle.plan_answers.proofs.Laws.{one_refusal, some_refusal}
 use Rattle.pap_cli.specs.RunAnswers.{finished, IsRunOn, IsOnce, OnceAnswers}

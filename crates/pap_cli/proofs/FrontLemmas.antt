@@ -1,5 +1,5 @@
 -- The answer on what is read of two files is that on their bytes, whatever the command asks for.
-use Rattle.std.proofs.Common.{◌≡◌, ℕ, ◌<◌, List, take, subst, arith}
+use Rattle.std.proofs.Common.{ℕ, ◌<◌, List, take, subst, arith}
 use Rattle.std.specs.Prelude.{Result, Ok, Err}
 use Rattle.pap_plan.specs.declared.refusal.PlanRefusal.{PlanRefusal}
 use Rattle.pap_plan.specs.Acceptance.{Meaning}

@@ -1,9 +1,8 @@
 -- What a call leaves on two files, and the headline from what each status says.
-use Rattle.std.proofs.Common.{◌≡◌, ◌≢◌, ℕ, ◌+◌, ◌-◌, ◌<◌, ◌≤◌, Bool, true, false, List, [], ◌++◌, length, take, refl, sym, ap, ◌∙◌, subst, arith, inl, inr}
-use Rattle.std.specs.Prelude.{MatchOption, ◌⊎◌, Option, Some, None, Result, Ok, Err}
-use Rattle.std.specs.Option.{ForSome}
+use Rattle.std.proofs.Common.{◌≡◌, ◌≢◌, ℕ, ◌+◌, ◌≤◌, Bool, true, false, List, [], ◌++◌, take, refl, sym, ap, ◌∙◌, subst, arith, inl, inr}
+use Rattle.std.specs.Prelude.{Option, Some, None, Result, Ok, Err}
 use Rattle.outside.specs.Causes.{Rose, Still}
-use Rattle.outside.specs.Told.{FileMap, IsToldFront, Appends, AppendsPrefix}
+use Rattle.outside.specs.Told.{FileMap, Appends, AppendsPrefix}
 use Rattle.outside.proofs.Laws.{Appends-nothing}
 use Rattle.outside.specs.declared.traits.FileAnswer.{FileAnswer}
 use Rattle.outside.specs.declared.traits.FileAnswer.TheVariants as files
@@ -21,11 +20,12 @@ use Rattle.pap_cli.specs.RunAnswers.{OnceAnswers}
 use Rattle.plan_answers.specs.ReplyViews.{reply_of}
 use Rattle.pap_cli.specs.AnswerViews.{answers_of}
 use Rattle.pap_cli.specs.Outside.{Outside}
-use Rattle.pap_cli.specs.FileClauses.{Answering, AnswersFiles, IsCounted, IsUnwritten, LeavesOnFiles, IsAnsweredOnFiles, HeadlineOnFiles}
+use Rattle.pap_cli.specs.FileClauses.{Answering, AnswersFiles, IsCounted, LeavesOnFiles, HeadlineOnFiles}
 use Rattle.plan_answers.specs.Fronts.{AreFronts, IsMissing}
 use Rattle.pap_cli.specs.FileViews.{shown}
-use Rattle.pap_cli.specs.CallClauses.{Leaves, Headline}
-use Rattle.pap_cli.specs.Words.{Form, check, once}
+use Rattle.pap_cli.specs.CallClauses.{Leaves, Headline, Carries}
+use Rattle.pap_cli.specs.Words.{Form, check, once, run}
+use Rattle.pap_cli.proofs.ScriptLemmas.{script_none}
 use Rattle.pap_cli.specs.WordViews.{form_by}
 use Rattle.pap_cli.proofs.FrontLemmas.{answers_both}
 
@@ -233,6 +233,15 @@ leaves_want c plan limits front front' told told' failed failed' first began ste
     (leaves_memory (answers_of c) plan limits told told' failed failed' first began steps kept (more_counted (answers_of c front front') began steps counted) (λ files e. counted_both c plan limits front front' files began steps (read files e) counted))
 
 -- memory ran out before anything was touched
-pub leaves_none : (form : Form) (o : Outside) → Leaves form o o NoMemory
+leaves_none : (form : Form) (o : Outside) → Leaves form o o NoMemory
 leaves_none (check plan limits) o = leaves_form Check plan limits o o NoMemory (leaves_memory CheckAnswers plan limits o.files o.files o.failed o.failed o.written o.steps o.steps refl (omega arith) (λ files e. inl refl))
 leaves_none (once plan limits values) o = leaves_form (Once values) plan limits o o NoMemory (leaves_memory (OnceAnswers values) plan limits o.files o.files o.failed o.failed o.written o.steps o.steps refl (omega arith) (λ files e. inl refl))
+leaves_none run o = script_none o
+
+headline_none : (form : Form) (o : Outside) → Headline form o o NoMemory
+headline_none (check plan limits) o = λ files t written w memory. absurd (memory refl)
+headline_none (once plan limits values) o = λ files t written w memory. absurd (memory refl)
+headline_none run o = λ files t script s written w short memory. absurd (memory refl)
+
+pub carries_none : (form : Form) (o : Outside) → Carries form o o NoMemory
+carries_none form o = record { leaves = leaves_none form o; headline = headline_none form o }

@@ -1,6 +1,7 @@
 mod WordLemmas
 mod FrontLemmas
 mod AdmissionLemmas
+mod ScriptLemmas
 mod LeavesLemmas
 mod LineLemmas
 mod RunLemmas

@@ -1,6 +1,6 @@
 -- The run of `once` on filled inputs, and what was counted where memory ran out.
-use Rattle.std.proofs.Common.{◌≡◌, ◌≢◌, ℕ, ◌+◌, Bool, false, List, [], ◌++◌, map, length, take, drop, arith, refl, sym, ap, subst, ◌∙◌, inl, inr}
-use Rattle.std.specs.Prelude.{◌⊎◌, Option, Some, None, Result, Ok, Err, IfOk, OnErr, All}
+use Rattle.std.proofs.Common.{◌≡◌, ◌≢◌, ℕ, ◌+◌, Bool, false, List, [], ◌++◌, map, length, take, drop, arith, refl, ap, subst, ◌∙◌, inl, inr}
+use Rattle.std.specs.Prelude.{Option, Some, None, Ok, Err}
 use Rattle.std.proofs.lemmas.List.{take_all, drop_all, append-nil}
 use Rattle.scaled_decimal.specs.Decimals.{Decimal}
 use Rattle.limits_file.specs.declared.slots.Slot.{Slot}
@@ -23,7 +23,7 @@ use Rattle.pap_types.specs.Meaning.{outputs_of, cost_of}
 use Rattle.pap_cli.specs.RunLines.{value_lines, steps_line}
 use Rattle.plan_answers.specs.Answers.{Answer, IsRefusal}
 use Rattle.plan_answers.proofs.Laws.{refused_is}
-use Rattle.pap_cli.specs.RunAnswers.{IsRunOn, IsRunOnce, IsOnce, OnceAnswers, finished}
+use Rattle.pap_cli.specs.RunAnswers.{IsRunOn, IsRunOnce, OnceAnswers, finished}
 use Rattle.pap_cli.specs.FileClauses.{IsCounted}
 use Rattle.pap_cli.proofs.AdmissionLemmas.{waits_none}
 

@@ -1,5 +1,6 @@
 pub mod RunAnswers
 pub mod AnswerViews
+pub mod ScriptClauses
 pub mod CallClauses
 pub mod FileClauses
 pub mod Laws

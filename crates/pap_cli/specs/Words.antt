@@ -18,6 +18,8 @@ pub data Form : Type 0 where
   check : List ℕ → List ℕ → Form
   -- once PLAN LIMITS NAME=VALUE ..
   once : List ℕ → List ℕ → List NamedValue → Form
+  -- run
+  run : Form
 
 pub record HasOnceForm (words : List (List ℕ)) (plan limits : List ℕ) (values : List NamedValue) : Type 0 where
   pub rest : List (List ℕ)
@@ -28,6 +30,7 @@ pub record HasOnceForm (words : List (List ℕ)) (plan limits : List ℕ) (value
 abbrev pub HasForm : List (List ℕ) → Form → Type 0
 HasForm words (check plan limits) = words ≡ codes "check" ∷ plan ∷ limits ∷ []
 HasForm words (once plan limits values) = HasOnceForm words plan limits values
+HasForm words run = words ≡ codes "run" ∷ []
 
 -- the words have no form
 abbrev pub IsBad : List (List ℕ) → Type 0

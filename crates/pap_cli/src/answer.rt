@@ -9,7 +9,7 @@ ghost use Rattle.pap_cli.specs.Statuses.{status_of};
 
 use crate::once::once_reply;
 use crate::stop::Stop;
-use crate::words::{Command, Request};
+use crate::words::{Command, FileRequest};
 use outside::{Files, Sink, put_all};
 use plan_answers::{Reply, check_reply, read_both};
 use std::alloc::{AllocError, Global};
@@ -39,7 +39,7 @@ fn reply_on_bytes<L: Ledger>(
 /// Writes the answer that is asked for. `Ok` says whether it is a refusal.
 pub(crate) fn answer<F: Files, W: Sink, L: Ledger>(
     alloc: Global,
-    request: Request<'_>,
+    request: FileRequest<'_>,
     files: &mut F,
     sink: &mut W,
     steps: &mut Steps<L>,
@@ -53,7 +53,7 @@ pub(crate) fn answer<F: Files, W: Sink, L: Ledger>(
     ensures file { Caused Stop.File (F.faults files.old) (F.faults files.new) result }
     ensures write { Caused Stop.Write (W.faults sink.old) (W.faults sink.new) result }
 {
-    let Request {
+    let FileRequest {
         plan,
         limits,
         command,

@@ -3,7 +3,9 @@ ghost use Rattle.std.specs.Prelude.{◌≡◌, ◌≢◌};
 ghost use Rattle.outside.specs.Causes.{Rose};
 ghost use Rattle.pap_cli.specs.Words.{texts, Form, HasForm, IsBad};
 ghost use Rattle.pap_cli.specs.Outside.{IsUntouched};
-ghost use Rattle.pap_cli.specs.CallClauses.{Leaves, Headline};
+ghost use Rattle.pap_cli.specs.CallClauses.{Carries};
+ghost use Rattle.pap_cli.specs.ScriptClauses.{script_status};
+ghost use Rattle.pap_cli.specs.WordViews.{IsOnFiles};
 ghost use Rattle.pap_cli.specs.Statuses.{status_of};
 ghost use Rattle.plan_answers.specs.Laws.{CheckHasOneAnswer};
 ghost use Rattle.pap_cli.specs.Laws.{HaveOneForm, OnceHasOneAnswer};
@@ -12,8 +14,9 @@ ghost use Rattle.pap_cli.specs.Laws.{WordsGiveKeptValues};
 use crate::Status;
 use crate::answer::answer;
 use crate::stop::Stop;
-use crate::words::read_words;
+use crate::words::{Request, read_words};
 use outside::{Files, Sink, Source};
+use script_run::{Stop as ScriptStop, run};
 use std::alloc::Global;
 use std::sync::ledger::Ledger;
 use steps::Steps;
@@ -30,12 +33,27 @@ fn status(ended: Result<bool, Stop>) -> Status
     }
 }
 
+/// The status of a run over a script that ended so.
+fn script_status(ended: Result<bool, ScriptStop>) -> Status
+    ensures { result ≡ script_status ended }
+{
+    match ended {
+        Ok(false) => Status::Done,
+        Ok(true) => Status::Refused,
+        Err(ScriptStop::File) => Status::FileFault,
+        Err(ScriptStop::Read) => Status::ReadFault,
+        Err(ScriptStop::Write) => Status::WriteFault,
+        Err(ScriptStop::Memory) => Status::NoMemory,
+        Err(ScriptStop::Long) => Status::ScriptLong,
+    }
+}
+
 /// Does all that the program does: carries out the words over the files, the source and the sink, and counts the steps of
 /// runs.
 ///
 /// The forms of the words are `check PLAN LIMITS`, which says whether the flowchart of the file PLAN is accepted with the
-/// ranges of the file LIMITS, and `once PLAN LIMITS NAME=VALUE ..`, which runs it once on these inputs. All other words are
-/// [`Status::BadWords`]. Running out of memory is [`Status::NoMemory`], whatever the words are.
+/// ranges of the file LIMITS, `once PLAN LIMITS NAME=VALUE ..`, which runs it once on these inputs, and `run`, which carries out
+/// the script that the source gives, line by line. All other words are [`Status::BadWords`]. Running out of memory is [`Status::NoMemory`], whatever the words are.
 pub fn papcalc<F: Files, R: Source, W: Sink, L: Ledger>(
     alloc: Global,
     words: &[String],
@@ -60,36 +78,15 @@ pub fn papcalc<F: Files, R: Source, W: Sink, L: Ledger>(
     ensures write_fault { result ≡ Status.WriteFault
         → Rose (W.faults sink.old) (W.faults sink.new) }
 
-    // The files are only read. The source isn't touched.
+    // The files are only read. Only `run` touches the source.
     ensures files_same { F.told files.new ≡ F.told files.old }
-    ensures source_same { source.new ≡ source.old }
+    ensures source_same { (form : Form) → HasForm (texts words.now) form → IsOnFiles form
+        → source.new ≡ source.old }
 
-    // What each status of a form says of the text, of the counter and of the failed name.
-    ensures leaves { (form : Form) → HasForm (texts words.now) form → Leaves form
-        (record {
-          files = F.told files.old;
-          failed = F.failed files.old;
-          file_faults = F.faults files.old;
-          left = R.left source.old;
-          source_faults = R.faults source.old;
-          written = W.written sink.old;
-          sink_faults = W.faults sink.old;
-          steps = steps.old;
-        })
-        (record {
-          files = F.told files.new;
-          failed = F.failed files.new;
-          file_faults = F.faults files.new;
-          left = R.left source.new;
-          source_faults = R.faults source.new;
-          written = W.written sink.new;
-          sink_faults = W.faults sink.new;
-          steps = steps.new;
-        })
-        result }
-
-    // The headline: while memory is there and no outside call fails, the answer is written.
-    ensures headline { (form : Form) → HasForm (texts words.now) form → Headline form
+    // By the form of the words: what each status says of the text, of the counter, of the source and of the failed name
+    // (`leaves`), and the headline: while memory is there and no outside call fails, what is written is the defined answer or
+    // transcript.
+    ensures carries { (form : Form) → HasForm (texts words.now) form → Carries form
         (record {
           files = F.told files.old;
           failed = F.failed files.old;
@@ -113,7 +110,8 @@ pub fn papcalc<F: Files, R: Source, W: Sink, L: Ledger>(
         result }
 {
     match read_words(alloc, words) {
-        Ok(Some(request)) => status(answer(alloc, request, files, sink, steps)),
+        Ok(Some(Request::Files(request))) => status(answer(alloc, request, files, sink, steps)),
+        Ok(Some(Request::Run)) => script_status(run(alloc, files, source, sink, steps)),
         Ok(None) => Status::BadWords,
         Err(_) => Status::NoMemory,
     }

@@ -1,5 +1,5 @@
 //! The reason of a refusal, in plain words.
-ghost use Rattle.std.specs.Prelude.{◌≡◌, All, IfOk, None, Ok, is_some};
+ghost use Rattle.std.specs.Prelude.{◌≡◌, ℕ, List, All, IfOk, None, Ok, is_some};
 ghost use Rattle.std.specs.Option.{ForSome};
 ghost use Rattle.outside.specs.Causes.{Caused};
 ghost use Rattle.pap_plan.specs.Bindings.{HasSuitedLimit};
@@ -8,20 +8,21 @@ ghost use Rattle.pap_cli.specs.RunAnswers.{IsRunOnce};
 ghost use Rattle.pap_cli.specs.AnswerViews.{answers_of, TellsRefused};
 ghost use Rattle.pap_cli.specs.CallClauses.{IsRefused};
 ghost use Rattle.pap_cli.specs.Words.{texts, Form, HasForm, IsBad};
+ghost use Rattle.pap_cli.specs.WordViews.{form_on_files};
 
 use crate::once::record_of;
-use crate::words::{Command, read_words};
+use crate::words::{Command, FileRequest, Request, read_words};
 use carry_bindings::{Filled, fill};
 use outside::{FileAnswer, Files};
 use pap_plan::{Plan, PlanRefusal, accept};
 use payroll_records::Values;
-use plan_answers::read_both;
 use plain_words::{plan_words, state_words};
+use plan_answers::read_both;
 use std::alloc::{AllocError, Global};
 
 /// The reason of a refusal in plain words, in one line: for words whose answer [`papcalc`](crate::papcalc) gives as a
 /// refusal. Both files are read again. `None` where the answer is no refusal, and for words that have no form. Nothing is
-/// run.
+/// run. A script has none: its answers tell themselves what is refused.
 pub fn reason<F: Files>(
     alloc: Global,
     words: &[String],
@@ -39,9 +40,25 @@ pub fn reason<F: Files>(
     ensures same { F.told files.new ≡ F.told files.old }
     ensures fault { Caused FileAnswer.Failed (F.faults files.old) (F.faults files.new) result }
 {
-    let Some(request) = read_words(alloc, words)? else {
-        return Ok(None);
-    };
+    match read_words(alloc, words)? {
+        Some(Request::Files(request)) => reason_on_files(alloc, request, files),
+        Some(Request::Run) => Ok(None),
+        None => Ok(None),
+    }
+}
+
+/// The reason of a refusal on the file of a plan and a range file.
+fn reason_on_files<F: Files>(
+    alloc: Global,
+    request: FileRequest<'_>,
+    files: &mut F,
+) -> Result<Option<String>, FileAnswer>
+    ensures refused { (words : List (List ℕ)) → HasForm words (form_on_files request.entry)
+        → IfOk result (λ reason. ForSome (F.told files.old)
+        (λ map. IsRefused (form_on_files request.entry) map (is_some reason))) }
+    ensures same { F.told files.new ≡ F.told files.old }
+    ensures fault { Caused FileAnswer.Failed (F.faults files.old) (F.faults files.new) result }
+{
     let (plan, limits) = read_both(alloc, request.plan, request.limits, files)?;
     Ok(reason_on_bytes(alloc, request.command, &plan, &limits)?)
 }

@@ -1,16 +1,25 @@
 //! The words of the command line.
-ghost use Rattle.std.specs.Prelude.{◌≡◌, IfOk, MatchOption, List};
+ghost use Rattle.std.specs.Prelude.{◌≡◌, ◌↔◌, ◌∷◌, [], codes, IfOk, IsTrue, MatchOption, List};
 ghost use Rattle.payroll_records.specs.declared.values.NamedValue.{NamedValue as Value};
 ghost use Rattle.payroll_records.specs.ValueWords.{AreValueWords};
 ghost use Rattle.pap_cli.specs.Words.{texts, HasForm, IsBad};
-ghost use Rattle.pap_cli.specs.WordViews.{form_of};
+ghost use Rattle.pap_cli.specs.WordViews.{form_of, form_on_files, AskNoFiles};
 
 use payroll_records::{InsertFault, NamedValue, Values};
 use std::alloc::{AllocError, Global};
 
-/// What the words ask for: an answer on the file of a plan and a range file.
+/// What the words ask for.
 #[derive(Drop)]
-pub(crate) struct Request<'a> {
+pub(crate) enum Request<'a> {
+    /// An answer on two files.
+    Files(FileRequest<'a>),
+    /// `run`
+    Run,
+}
+
+/// An answer on the file of a plan and a range file.
+#[derive(Drop)]
+pub(crate) struct FileRequest<'a> {
     pub plan: &'a str,
     pub limits: &'a str,
     pub command: Command,
@@ -30,6 +39,30 @@ pub(crate) fn read_words(alloc: Global, words: &[String]) -> Result<Option<Reque
     ensures { IfOk result (λ found. MatchOption found (IsBad (texts words.now))
         (λ request. HasForm (texts words.now) (form_of request))) }
 {
+    if is_run(words) {
+        return Ok(Some(Request::Run));
+    }
+    match read_file_words(alloc, words)? {
+        Some(request) => Ok(Some(Request::Files(request))),
+        None => Ok(None),
+    }
+}
+
+/// Whether the words are `run`.
+fn is_run(words: &[String]) -> bool
+    ensures { IsTrue result ↔ (texts words.now ≡ codes "run" ∷ []) }
+{
+    match words {
+        [command] => command.as_str() == "run",
+        _ => false,
+    }
+}
+
+/// The answer on two files that the words ask for. `None` where they ask for none.
+fn read_file_words(alloc: Global, words: &[String]) -> Result<Option<FileRequest<'_>>, AllocError>
+    ensures { IfOk result (λ found. MatchOption found (AskNoFiles (texts words.now))
+        (λ request. HasForm (texts words.now) (form_on_files request))) }
+{
     let [command, plan, limits, rest @ ..] = words else {
         return Ok(None);
     };
@@ -41,7 +74,7 @@ pub(crate) fn read_words(alloc: Global, words: &[String]) -> Result<Option<Reque
         },
         _ => return Ok(None),
     };
-    Ok(Some(Request {
+    Ok(Some(FileRequest {
         plan: plan.as_str(),
         limits: limits.as_str(),
         command,

@@ -1,36 +1,51 @@
-use Rattle.std.proofs.Common.{◌≡◌, ◌∙◌, sym, ap, subst}
-use Rattle.pap_cli.specs.Words.{texts}
-use Rattle.pap_cli.specs.WordViews.{form_of}
+use Rattle.std.proofs.Common.{◌∙◌, sym, subst}
+use Rattle.pap_cli.specs.Words.{texts, run}
+use Rattle.pap_cli.specs.WordViews.{form_on_files}
 use Rattle.pap_cli.specs.Outside.{Outside}
-use Rattle.pap_cli.specs.CallClauses.{Leaves, Headline}
+use Rattle.pap_cli.specs.CallClauses.{Carries}
+use Rattle.pap_cli.specs.ScriptClauses.{LeavesOnScript}
 use Rattle.pap_cli.proofs.WordLemmas.{one_form}
-use Rattle.pap_cli.proofs.LeavesLemmas.{leaves_form, leaves_none, headline_form, file_stop, write_stop}
+use Rattle.pap_cli.proofs.ScriptLemmas.{headline_script, script_file, script_kept, script_read, script_write}
+use Rattle.pap_cli.proofs.LeavesLemmas.{leaves_form, carries_none, headline_form, file_stop, write_stop}
 use Rattle.pap_cli.proofs.call.papcalc.Goals as goal
 
-pub returns-in-Ok-Some-clause-leaves : goal.returns-in-Ok-Some-clause-leaves
-returns-in-Ok-Some-clause-leaves g c = λ form has.
-    let request = c.in-Ok-Some.request in
-    let own = rw c.in-Ok-Some.field-0-is at c.in-Ok-Some.ensures in
-    let same = one_form (texts c.args.words.now) (form_of request) form own has in
-    let before : Outside = record { files = g.F.Files.told c.args.files.now; failed = g.F.Files.failed c.args.files.now; file_faults = g.F.Files.faults c.args.files.now; left = g.R.Source.left c.args.source.now; source_faults = g.R.Source.faults c.args.source.now; written = g.W.Sink.written c.args.sink.now; sink_faults = g.W.Sink.faults c.args.sink.now; steps = c.args.steps.now } in
-    let after : Outside = record { files = g.F.Files.told c.answer.new.files; failed = g.F.Files.failed c.answer.new.files; file_faults = g.F.Files.faults c.answer.new.files; left = g.R.Source.left c.args.source.now; source_faults = g.R.Source.faults c.args.source.now; written = g.W.Sink.written c.answer.new.sink; sink_faults = g.W.Sink.faults c.answer.new.sink; steps = c.answer.new.steps } in
-    let meets = rw (← c.status.ensures) at c.answer.ensures.leaves in
-    subst (λ f. Leaves f before after c.status.result) same (leaves_form request.command request.plan.now request.limits.now before after c.status.result meets)
-
-pub returns-in-Ok-Some-clause-headline : goal.returns-in-Ok-Some-clause-headline
-returns-in-Ok-Some-clause-headline g c = λ form has.
-    let request = c.in-Ok-Some.request in
-    let own = rw c.in-Ok-Some.field-0-is at c.in-Ok-Some.ensures in
-    let same = one_form (texts c.args.words.now) (form_of request) form own has in
+pub returns-in-Ok-Some-Files-clause-carries : goal.returns-in-Ok-Some-Files-clause-carries
+returns-in-Ok-Some-Files-clause-carries g c = λ form has.
+    let request = c.in-Ok-Some-Files.request in
+    let own = rw c.in-Ok-Some-Files.field-0-0-is at (rw c.in-Ok-Some-Files.field-0-is at c.in-Ok-Some-Files.ensures) in
+    let same = one_form (texts c.args.words.now) (form_on_files request) form own has in
     let before : Outside = record { files = g.F.Files.told c.args.files.now; failed = g.F.Files.failed c.args.files.now; file_faults = g.F.Files.faults c.args.files.now; left = g.R.Source.left c.args.source.now; source_faults = g.R.Source.faults c.args.source.now; written = g.W.Sink.written c.args.sink.now; sink_faults = g.W.Sink.faults c.args.sink.now; steps = c.args.steps.now } in
     let after : Outside = record { files = g.F.Files.told c.answer.new.files; failed = g.F.Files.failed c.answer.new.files; file_faults = g.F.Files.faults c.answer.new.files; left = g.R.Source.left c.args.source.now; source_faults = g.R.Source.faults c.args.source.now; written = g.W.Sink.written c.answer.new.sink; sink_faults = g.W.Sink.faults c.answer.new.sink; steps = c.answer.new.steps } in
     let is = c.status.ensures in
     let meets = rw (← is) at c.answer.ensures.leaves in
     let all = leaves_form request.command request.plan.now request.limits.now before after c.status.result meets in
-    subst (λ f. Headline f before after c.status.result) same
-    (headline_form request.command request.plan.now request.limits.now before after c.status.result all
-    (λ e. c.answer.ensures.file.rose (file_stop c.answer.result (sym is ∙ e)))
-    (λ e. c.answer.ensures.write.rose (write_stop c.answer.result (sym is ∙ e))))
+    subst (λ f. Carries f before after c.status.result) same (record {
+      leaves = all;
+      headline = headline_form request.command request.plan.now request.limits.now before after c.status.result all
+          (λ e. c.answer.ensures.file.rose (file_stop c.answer.result (sym is ∙ e)))
+          (λ e. c.answer.ensures.write.rose (write_stop c.answer.result (sym is ∙ e)));
+    })
 
-pub returns-in-Err-clause-leaves : goal.returns-in-Err-clause-leaves
-returns-in-Err-clause-leaves g c = λ form has. leaves_none form (record { files = g.F.Files.told c.args.files.now; failed = g.F.Files.failed c.args.files.now; file_faults = g.F.Files.faults c.args.files.now; left = g.R.Source.left c.args.source.now; source_faults = g.R.Source.faults c.args.source.now; written = g.W.Sink.written c.args.sink.now; sink_faults = g.W.Sink.faults c.args.sink.now; steps = c.args.steps.now })
+pub returns-in-Ok-Some-Run-clause-carries : goal.returns-in-Ok-Some-Run-clause-carries
+returns-in-Ok-Some-Run-clause-carries g c = λ form has.
+    let own = rw c.in-Ok-Some-Run.field-0-0-is at (rw c.in-Ok-Some-Run.field-0-is at c.in-Ok-Some-Run.ensures) in
+    let same = one_form (texts c.args.words.now) run form own has in
+    let before : Outside = record { files = g.F.Files.told c.args.files.now; failed = g.F.Files.failed c.args.files.now; file_faults = g.F.Files.faults c.args.files.now; left = g.R.Source.left c.args.source.now; source_faults = g.R.Source.faults c.args.source.now; written = g.W.Sink.written c.args.sink.now; sink_faults = g.W.Sink.faults c.args.sink.now; steps = c.args.steps.now } in
+    let after : Outside = record { files = g.F.Files.told c.run.new.files; failed = g.F.Files.failed c.run.new.files; file_faults = g.F.Files.faults c.run.new.files; left = g.R.Source.left c.run.new.source; source_faults = g.R.Source.faults c.run.new.source; written = g.W.Sink.written c.run.new.sink; sink_faults = g.W.Sink.faults c.run.new.sink; steps = c.run.new.steps } in
+    let is = c.script_status.ensures in
+    let leaves : LeavesOnScript before after c.script_status.result = record {
+          result = c.run.result;
+          ended = is;
+          meets = c.run.ensures.script;
+          kept = script_kept c.run.result c.script_status.result before.failed after.failed is c.run.ensures.kept;
+        } in
+    subst (λ f. Carries f before after c.script_status.result) same (record {
+      leaves = leaves;
+      headline = headline_script before after c.script_status.result leaves
+          (λ e. c.run.ensures.file.rose (script_file c.run.result (sym is ∙ e)))
+          (λ e. c.run.ensures.read.rose (script_read c.run.result (sym is ∙ e)))
+          (λ e. c.run.ensures.write.rose (script_write c.run.result (sym is ∙ e)));
+    })
+
+pub returns-in-Err-clause-carries : goal.returns-in-Err-clause-carries
+returns-in-Err-clause-carries g c = λ form has. carries_none form (record { files = g.F.Files.told c.args.files.now; failed = g.F.Files.failed c.args.files.now; file_faults = g.F.Files.faults c.args.files.now; left = g.R.Source.left c.args.source.now; source_faults = g.R.Source.faults c.args.source.now; written = g.W.Sink.written c.args.sink.now; sink_faults = g.W.Sink.faults c.args.sink.now; steps = c.args.steps.now })

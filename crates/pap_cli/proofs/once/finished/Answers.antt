@@ -1,9 +1,6 @@
-use Rattle.std.proofs.Common.{◌≡◌, ◌∙◌, ap, map, refl, sym, string_bytes, rules}
+use Rattle.std.proofs.Common.{◌≡◌, ◌∙◌, ap, map, rules}
 use Rattle.pap_tree.specs.Declarations.{declaration_of}
 use Rattle.pap_plan.specs.Plans.{flowchart}
-use Rattle.pap_cli.specs.RunLines.{steps_line}
-use Rattle.pap_cli.specs.RunAnswers.{IsRunOn}
-use Rattle.carry_bindings.specs.declared.filling.Filled.TheVariants.{Inputs}
 use Rattle.pap_cli.proofs.RunLemmas.{written_whole, counted_run, finished_reply}
 use Rattle.plan_answers.proofs.Laws.{on_err_any}
 use Rattle.pap_cli.proofs.once.finished.Goals as goal

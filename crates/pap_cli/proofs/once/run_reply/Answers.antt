@@ -1,8 +1,7 @@
-use Rattle.std.proofs.Common.{◌≡◌, ◌+◌, sym, ap, ◌∙◌, subst, arith}
-use Rattle.std.specs.Prelude.{Ok, All, []}
+use Rattle.std.proofs.Common.{◌≡◌, ◌+◌, sym, ◌∙◌, subst, arith}
+use Rattle.std.specs.Prelude.{All, []}
 use Rattle.scaled_decimal.specs.Limits.{IsKept}
 use Rattle.pap_plan.specs.Plans.{flowchart, meaning}
-use Rattle.plan_answers.specs.Answers.{refusal}
 use Rattle.pap_cli.specs.RunAnswers.{IsRunOn, IsRunOnce}
 use Rattle.plan_answers.specs.ReplyViews.{reply_of}
 use Rattle.carry_bindings.specs.Filling.{filled_by}

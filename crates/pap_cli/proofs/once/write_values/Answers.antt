@@ -1,4 +1,4 @@
-use Rattle.std.proofs.Common.{◌≡◌, ◌++◌, ◌∙◌, sym, ap, map, take, string_bytes}
+use Rattle.std.proofs.Common.{◌++◌, ◌∙◌, sym, ap, map, take, string_bytes}
 use Rattle.pap_tree.specs.Declarations.{declaration_of}
 use Rattle.pap_cli.specs.RunLines.{value_line, value_lines}
 use Rattle.pap_cli.proofs.LineLemmas.{values_more, value_text}

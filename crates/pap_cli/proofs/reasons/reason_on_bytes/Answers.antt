@@ -1,4 +1,4 @@
-use Rattle.std.proofs.Common.{rules, ◌≡◌, ◌≢◌, is_some}
+use Rattle.std.proofs.Common.{rules, ◌≢◌, is_some}
 use Rattle.pap_plan.specs.Plans.{meaning}
 use Rattle.pap_plan.specs.declared.refusal.PlanRefusal.TheVariants as refusals
 use Rattle.pap_cli.specs.RunAnswers.{IsRunOnce, OnceAnswers}

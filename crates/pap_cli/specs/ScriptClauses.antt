@@ -1,0 +1,59 @@
+-- What `run` leaves, by its status (docs/DEFINITIONS.md).
+use Rattle.std.specs.Prelude.{◌≡◌, ◌≢◌, ℕ, ◌+◌, ◌≤◌, Bool, List, [], ◌++◌, length, All, Some, Result, Ok, Err}
+use Rattle.std.specs.Option.{ForSome}
+use Rattle.outside.specs.Causes.{Still}
+use Rattle.outside.specs.Told.{FileMap}
+use Rattle.script_steps.specs.Steps.{AreThere}
+use Rattle.script_run.specs.Limits.{most_script}
+use Rattle.script_run.specs.Transcripts.{Session, lines_of, IsTranscript}
+use Rattle.script_run.specs.RunClauses.{Shown, shown, RunMeets}
+use Rattle.script_run.specs.declared.stop.Stop.{Stop}
+use Rattle.script_run.specs.declared.stop.Stop.TheVariants as stops
+use Rattle.pap_cli.specs.declared.status.Status.{Status}
+use Rattle.pap_cli.specs.declared.status.Status.TheVariants as statuses
+use Rattle.pap_cli.specs.Statuses.{done_status}
+use Rattle.pap_cli.specs.Outside.{Outside}
+
+-- the status of a run that ended so
+abbrev pub script_status : Result Bool Stop → Status
+script_status (Ok refused) = done_status refused
+script_status (Err stops.File) = statuses.FileFault
+script_status (Err stops.Read) = statuses.ReadFault
+script_status (Err stops.Write) = statuses.WriteFault
+script_status (Err stops.Memory) = statuses.NoMemory
+script_status (Err stops.Long) = statuses.ScriptLong
+
+-- the files, the sink and the counter
+abbrev pub shown_of : Outside → Shown
+shown_of o = shown o.files o.failed o.written o.steps
+
+-- what a run leaves; of the text where the source tells the script and the files what they hold
+pub record LeavesOnScript (before after : Outside) (status : Status) : Type 0 where
+  pub result : Result Bool Stop
+  pub ended : status ≡ script_status result
+  pub meets : ForSome before.left (λ script.
+      RunMeets (shown_of before) (shown_of after) script after.left result)
+  pub kept : status ≢ statuses.FileFault → after.failed ≡ before.failed
+
+-- all files that the script names are there, its transcript was written whole, the source is at its end, the counter rose by
+-- the transcript's steps, and the status says whether it has a refusal
+pub record IsTranscribed
+    (files : FileMap) (script written : List ℕ) (before after : Outside)
+    (status : Status) : Type 0 where
+  pub session : Session
+  pub is : IsTranscript files script session
+  pub there : All (λ line. AreThere files line) (lines_of script)
+  pub text : after.written ≡ Some (written ++ session.text)
+  pub end : after.left ≡ Some []
+  pub cost : after.steps ≡ before.steps + session.steps
+  pub ended : status ≡ done_status session.refused
+
+-- the headline: where the files, the source and the sink tell what they hold, while memory is there, no call of them fails and
+-- the script has at most 67,108,864 bytes
+abbrev pub HeadlineOnScript : Outside → Outside → Status → Type 0
+HeadlineOnScript before after status =
+    ForSome before.files (λ files. ForSome before.left (λ script. ForSome before.written (λ written.
+    length script ≤ most_script → status ≢ statuses.NoMemory
+    → Still before.file_faults after.file_faults → Still before.source_faults after.source_faults
+    → Still before.sink_faults after.sink_faults
+    → IsTranscribed files script written before after status)))

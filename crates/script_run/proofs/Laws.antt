@@ -1,0 +1,198 @@
+-- The laws of sessions and transcripts that other crates may cite.
+use Rattle.std.proofs.Common.{◌≡◌, List, [], ◌∷◌, ◌++◌, ℕ, ◌+◌, ◌≤◌, refl, sym, ap, ◌∙◌, subst, append_assoc, arith, inl, inr}
+use Rattle.std.specs.Prelude.{IsSome, All}
+use Rattle.std.proofs.lemmas.List.{append-nil}
+use Rattle.std.proofs.lemmas.List.Elements.{All-nil, All-cons}
+use Rattle.outside.specs.Told.{FileMap}
+use Rattle.script_steps.specs.Steps.{Standing, Answer, AreThere, IsStep}
+use Rattle.script_steps.specs.StepLaws.{LacksAFile}
+use Rattle.script_steps.proofs.Laws as step
+use Rattle.script_run.specs.Transcripts.{Session, opening, with_answer, lines_of, AreAnswered, IsHalted, IsSession}
+use Rattle.script_run.specs.TranscriptLaws.{ScriptsHaveATranscript, ScriptsHaveOneTranscript}
+use Rattle.script_run.specs.RunClauses.{IsFrontOf}
+
+-- lines are answered after others
+pub AreAnswered-append : (files : FileMap) (from mid to : Session) (lines more : List (List ℕ)) →
+    AreAnswered files from lines mid → AreAnswered files mid more to → AreAnswered files from (lines ++ more) to
+AreAnswered-append files from mid to [] more same after = subst (λ v. AreAnswered files v more to) same after
+AreAnswered-append files from mid to (line ∷ lines) more before after = (
+  before.0,
+  before.1,
+  before.2,
+  AreAnswered-append files
+      (with_answer from before.1 before.0) mid to lines more before.3 after,
+)
+
+-- one more line is answered
+pub AreAnswered-next : (files : FileMap) (from mid : Session) (lines : List (List ℕ)) (line : List ℕ)
+    (standing : Standing) (answer : Answer) →
+    AreAnswered files from lines mid → IsStep files mid.standing line standing answer →
+    AreAnswered files from (lines ++ line ∷ []) (with_answer mid answer standing)
+AreAnswered-next files from mid lines line standing answer before is =
+    AreAnswered-append files from mid (with_answer mid answer standing) lines (line ∷ []) before
+    (standing, answer, is, refl)
+
+-- answers go onto the text, and steps onto the steps
+pub AreAnswered-grows : (files : FileMap) (from to : Session) (lines : List (List ℕ)) →
+    AreAnswered files from lines to → IsFrontOf to from.text from.steps
+AreAnswered-grows files from to [] same = record {
+  later = [];
+  text = ap (λ v. v.text) same
+      ∙ sym (append-nil from.text);
+  cost = omega (arith, ap (λ v. v.steps) same);
+}
+AreAnswered-grows files from to (line ∷ lines) answered =
+    let on = AreAnswered-grows files (with_answer from answered.1 answered.0) to lines answered.3 in
+    let more : from.steps + (answered.1).steps ≤ to.steps = on.cost in
+    record {
+      later = (answered.1).text ++ on.later;
+      text = on.text ∙ append_assoc from.text (answered.1).text on.later;
+      cost = omega (arith, more);
+    }
+
+-- a file that isn't there is one that isn't there
+not_there : (files : FileMap) (line : List ℕ) → LacksAFile files line → ¬ (AreThere files line)
+not_there files line lack = λ there. let is = subst (λ v. IsSome v) lack.lacks (there lack.name lack.names) in cc
+
+-- answered lines name files that are there
+pub AreAnswered-there : (files : FileMap) (from to : Session) (lines : List (List ℕ)) →
+    AreAnswered files from lines to → All (λ line. AreThere files line) lines
+AreAnswered-there files from to [] same = All-nil (λ line. AreThere files line)
+AreAnswered-there files from to (line ∷ lines) answered =
+    All-cons (λ line. AreThere files line) line lines
+    (step.one files from.standing line answered.0 answered.0 answered.1 answered.1 answered.2 answered.2).0
+    (AreAnswered-there files (with_answer from answered.1 answered.0) to lines answered.3)
+
+cons_head : (a b : List ℕ) (x y : List (List ℕ)) → a ∷ x ≡ b ∷ y → a ≡ b
+cons_head a b x y e = cc
+
+cons_tail : (a b : List ℕ) (x y : List (List ℕ)) → a ∷ x ≡ b ∷ y → x ≡ y
+cons_tail a b x y e = cc
+
+-- two ways to answer the first line lead to the same
+after_same : (files : FileMap) (from : Session) (line other : List ℕ) (standing standing' : Standing)
+    (answer answer' : Answer) → other ≡ line →
+    IsStep files from.standing line standing answer → IsStep files from.standing other standing' answer' →
+    with_answer from answer' standing' ≡ with_answer from answer standing
+after_same files from line other standing standing' answer answer' same a b =
+    let both = step.one files from.standing line standing standing' answer answer' a (subst
+    (λ v. IsStep files from.standing v standing' answer') same b) in
+    ap (λ v. with_answer from v standing') (sym both.2) ∙ ap (λ v. with_answer from answer v) (sym both.1)
+
+session_parts : (files : FileMap) (from mid to : Session) (lines more before after : List (List ℕ)) →
+    lines ++ more ≡ before ++ after →
+    AreAnswered files from lines mid → AreAnswered files from before to → IsHalted files after →
+    IsSession files mid more to
+session_parts files from mid to [] more before after parts same answered halted =
+    record {
+      before = before;
+      after = after;
+      parts = parts;
+      answered = subst (λ v. AreAnswered files v before to)
+          (sym same) answered;
+      halted = halted;
+    }
+session_parts files from mid to (line ∷ lines) more [] [] parts first answered halted = cc
+session_parts files from mid to (line ∷ lines) more [] (next ∷ after) parts first answered halted =
+    let there = (step.one files from.standing line first.0 first.0 first.1 first.1 first.2 first.2).0 in
+    absurd (halted (subst (λ v. AreThere files v) (cons_head line next (lines ++ more) after parts) there))
+session_parts files from mid to (line ∷ lines) more (next ∷ before) after parts first answered halted =
+    let same = after_same files from line next first.0 answered.0 first.1 answered.1 (sym (cons_head line next
+    (lines ++ more) (before ++ after) parts)) first.2 answered.2 in
+    session_parts files (with_answer from first.1 first.0) mid to lines more before after (cons_tail line next
+    (lines ++ more) (before ++ after) parts) first.3
+    (subst (λ v. AreAnswered files v before to) same answered.3) halted
+
+-- where some lines are answered, a session goes on from there
+pub IsSession-rest : (files : FileMap) (from mid to : Session) (lines more : List (List ℕ)) →
+    AreAnswered files from lines mid → IsSession files from (lines ++ more) to → IsSession files mid more to
+IsSession-rest files from mid to lines more answered session =
+    session_parts files from mid to lines more session.before session.after session.parts answered session.answered
+    session.halted
+
+nothing_more : (files : FileMap) (mid to : Session) (after before later : List (List ℕ)) → after ≡ before ++ later →
+    IsHalted files after → AreAnswered files mid before to → to ≡ mid
+nothing_more files mid to after [] later parts halted same = same
+nothing_more files mid to [] (line ∷ before) later parts halted answered = cc
+nothing_more files mid to (next ∷ after) (line ∷ before) later parts halted answered =
+    let there = (step.one files mid.standing line answered.0 answered.0 answered.1 answered.1 answered.2
+    answered.2).0 in
+    absurd (halted (subst (λ v. AreThere files v) (sym (cons_head next line after (before ++ later) parts)) there))
+
+-- lines have one session
+pub IsSession-one : (files : FileMap) (from to other : Session) (lines : List (List ℕ)) →
+    IsSession files from lines to → IsSession files from lines other → to ≡ other
+IsSession-one files from to other lines a b =
+    let rest = IsSession-rest files from to other a.before a.after a.answered (subst
+    (λ v. IsSession files from v other) a.parts b) in
+    sym (nothing_more files to other a.after rest.before rest.after rest.parts a.halted rest.answered)
+
+-- lines that are all answered are a session
+pub IsSession-whole : (files : FileMap) (from to : Session) (lines : List (List ℕ)) →
+    AreAnswered files from lines to → IsSession files from lines to
+IsSession-whole files from to lines answered = record {
+  before = lines;
+  after = [];
+  parts = sym (append-nil lines);
+  answered = answered;
+  halted = tt;
+}
+
+-- a session of lines
+record HasSession (files : FileMap) (from : Session) (lines : List (List ℕ)) : Type 0 where
+  pub session : Session
+  pub is : IsSession files from lines session
+
+halts : (files : FileMap) (from : Session) (line : List ℕ) (lines : List (List ℕ)) → ¬ (AreThere files line) →
+    HasSession files from (line ∷ lines)
+halts files from line lines lacks = record {
+  session = from;
+  is = record { before = []; after = line ∷ lines; parts = refl; answered = refl; halted = lacks };
+}
+
+goes_on : (files : FileMap) (from : Session) (line : List ℕ) (lines : List (List ℕ)) (standing : Standing)
+    (answer : Answer) → IsStep files from.standing line standing answer →
+    HasSession files (with_answer from answer standing) lines → HasSession files from (line ∷ lines)
+goes_on files from line lines standing answer is has = record {
+  session = has.session;
+  is = record {
+    before = line ∷ (has.is).before;
+    after = (has.is).after;
+    parts = ap (λ v. line ∷ v) (has.is).parts;
+    answered = (standing, answer, is, (has.is).answered);
+    halted = (has.is).halted;
+  };
+}
+
+some_session : (files : FileMap) (from : Session) (lines : List (List ℕ)) → HasSession files from lines
+some_session files from [] = record {
+  session = from;
+  is = record {
+    before = [];
+    after = [];
+    parts = refl;
+    answered =
+        refl;
+    halted = tt;
+  };
+}
+some_session files from (line ∷ lines) =
+    elim (step.told files line) [
+      | inl there ↦
+          let has = step.some files from.standing line there in
+          goes_on files from line lines has.to has.answer has.is (some_session files
+          (with_answer from has.answer has.to) lines)
+      | inr lack ↦ halts files from line lines (not_there files line lack)
+    ]
+
+-- every script has a transcript
+pub some : ScriptsHaveATranscript
+some files script = let has = some_session files opening (lines_of script) in record {
+  session = has.session;
+  is =
+      has.is;
+}
+
+-- and no other
+pub one : ScriptsHaveOneTranscript
+one files script session other a b = IsSession-one files opening session other (lines_of script) a b

@@ -1,0 +1,66 @@
+-- Over files that lack none of a script's, a run is stopped by memory alone.
+use Rattle.std.proofs.Common.{◌≡◌, List, [], ◌∷◌, ◌++◌, ℕ, ◌-◌, ◌≤◌, length, Option, sym, ap, ◌∙◌, subst, arith, length-append}
+use Rattle.std.specs.Prelude.{None, Some, IsSome, All, Ok, Err}
+use Rattle.std.proofs.lemmas.List.Elements.{All-head, All-tail}
+use Rattle.outside.specs.Told.{FileMap}
+use Rattle.outside.specs.Memory.{file_named}
+use Rattle.script_steps.specs.Steps.{AreThere}
+use Rattle.script_run.specs.Limits.{most_script}
+use Rattle.script_run.specs.Transcripts.{lines_of}
+use Rattle.script_run.specs.RunClauses.{Shown, RunMeets, EndsAt, IsFinished}
+use Rattle.script_run.specs.declared.turns.Ended.{Ended}
+use Rattle.script_run.specs.declared.stop.Stop.TheVariants as stops
+use Rattle.script_run.proofs.Laws.{one}
+
+line_there : (files : FileMap) (before later : List (List ℕ)) (line : List ℕ) → All (λ v. AreThere files v)
+    (before ++ line ∷ later) → AreThere files line
+line_there files [] later line there = All-head (λ v. AreThere files v) line later there
+line_there files (first ∷ before) later line there =
+    line_there files before later line (All-tail (λ v. AreThere files v) first (before ++ line ∷ later) there)
+
+-- a file that a line names isn't lacking
+pub no_file_stop : {before after : Shown} {left : Option (List ℕ)} (files : FileMap) (script : List ℕ) →
+    RunMeets before after script left (Err stops.File) →
+    All (λ line. AreThere files line) (lines_of script) → ((name : List ℕ) → after.failed ≡ Some name →
+    files name ≡ None) → ⊥
+no_file_stop files script meets there lacks =
+    let at = meets.leaves.tells in
+    let place = at.place in
+    let is = line_there files at.before place.later at.line (subst (λ v. All
+    (λ line. AreThere files line) v) place.lines there) at.name at.names in
+    let none = subst (λ v. IsSome v) (lacks at.name at.failed_there) is in
+    cc
+
+-- a script within the limit isn't too long
+pub no_long_stop : {before after : Shown} {left : Option (List ℕ)} (script : List ℕ) →
+    RunMeets before after script left (Err stops.Long) → length script ≤ most_script → ⊥
+no_long_stop script meets short = omega (
+  arith,
+  meets.leaves.tells.past,
+  ap
+      (λ v. length v) meets.split,
+  length-append meets.taken meets.rest,
+)
+
+-- what a whole run leaves
+pub finished : {before after : Shown} {left : Option (List ℕ)} (files : FileMap) (script : List ℕ) (ended : Ended) →
+    RunMeets before after script left (Ok ended.refused) →
+    EndsAt files script ended.script → before.files ≡ Some files →
+    IsFinished files script before.steps after.steps ended
+finished {before = before} {after = after} files script ended meets ends told =
+    let whole = meets.leaves.tells.whole files told in
+    let same = one files script whole.session ends.session whole.is ends.is in
+    let later : before.steps ≤ after.steps = meets.leaves.counted in
+    let cost : after.steps - before.steps ≡ (whole.session).steps = whole.cost in
+    record {
+      session = whole.session;
+      is = whole.is;
+      mark = whole.mark;
+      cost = omega arith;
+      left = sym (ap (λ v. v.standing) same ∙ ends.left);
+    }
+
+-- the same files tell the same
+pub told_files : {files files' : List (List ℕ × List ℕ)} → files ≡ files' → ◌≡◌ {A = Option FileMap} (Some
+    (file_named files)) (Some (file_named files'))
+told_files same = ap (λ v. Some (file_named v)) same

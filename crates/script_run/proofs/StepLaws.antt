@@ -1,0 +1,659 @@
+-- How a run goes on over a script's bytes, and what a stop leaves.
+use Rattle.std.proofs.Common.{◌≡◌, List, [], ◌∷◌, ◌++◌, ℕ, ◌+◌, ◌-◌, ◌≤◌, ◌<◌, ◌==◌, Bool, false, ◌||◌, length, take, drop, get_or, Option, refl, sym, ap, ◌∙◌, subst, append_assoc, arith, inl, inr, length-append}
+use Rattle.std.specs.Prelude.{Result, Ok, Err, Some}
+use Rattle.std.specs.Option.{ForSome}
+use Rattle.std.specs.Str.Lines.{strip_carriage_return}
+use Rattle.std.proofs.lemmas.List.{append-nil, take-append-drop, take_more, take_all}
+use Rattle.outside.specs.Told.{FileMap, Appends}
+use Rattle.outside.proofs.Laws.{Appends-then, Appends-nothing}
+use Rattle.script_steps.specs.Steps.{Standing, Answer, Names, IsStep}
+use Rattle.script_steps.specs.StepClauses.{IsAnswered, IsUnbegun, IsPart, IsCutShort, IsBroken}
+use Rattle.script_steps.specs.declared.stop.LineStop.{LineStop}
+use Rattle.script_steps.specs.declared.stop.LineStop.TheVariants.{File, Write, Memory}
+use Rattle.script_steps.proofs.Laws as step
+use Rattle.script_run.specs.Transcripts.{Session, opening, with_answer, lines_of, ended_lines, AreAnswered, IsSession, IsTranscript}
+use Rattle.script_run.specs.Stops.{stop_of}
+use Rattle.script_run.specs.RunClauses.{Shown, IsFrontOf, IsAtLine, Leaves, EndsAt}
+use Rattle.script_run.specs.RunViews.{open_line, Holds, IsSameSoFar, IsAtStart, Stands, GoesOn, Breaks, Closes, ClosesAt}
+use Rattle.script_run.specs.declared.stop.Stop.TheVariants as stops
+use Rattle.script_run.specs.declared.reading.Reading.{Reading}
+use Rattle.script_run.proofs.Laws.{AreAnswered-next, AreAnswered-grows, AreAnswered-there, IsSession-rest, IsSession-whole}
+use Rattle.script_run.proofs.LineLaws.{ended_lines-lf, open_line-lf, ended_lines-other, open_line-other, Begins, lines_of-append, lines_of-parts, last_lines, last_lines-some, last_lines-none}
+use Rattle.script_run.proofs.KeepingLaws.{SaysSame}
+
+-- what is kept of a line is answered as the line
+step_same : (files : FileMap) (from to : Standing) (said line : List ℕ) (answer : Answer) → SaysSame said line →
+    IsStep files from said to answer → IsStep files from line to answer
+step_same files from to said line answer (inl same) is = subst (λ v. IsStep files from v to answer) same is
+step_same files from to said line answer (inr long) is =
+    step.long files from to said line answer long.said_long long.line_long is
+
+names_same : (said line name : List ℕ) → SaysSame said line → Names said name → Names line name
+names_same said line name (inl same) names = subst (λ v. Names v name) same names
+names_same said line name (inr long) names = absurd (step.alone said name long.said_long names)
+
+pub answered_same : {told : Option FileMap} {old new : Option
+    (List ℕ)} {before now : ℕ} {from to : Standing} {said line : List ℕ} {refused : Bool} →
+    SaysSame said line → IsAnswered told old new before now from to said refused →
+    IsAnswered told old new before now from to line refused
+answered_same {from = from} {to = to} {said = said} {line = line} same answered = record {
+  answer = answered.answer;
+  appended = answered.appended;
+  counted = answered.counted;
+  marked = answered.marked;
+  is = λ files e. step_same files from to said line answered.answer same (answered.is files e);
+}
+
+-- what a stop leaves at a line
+pub record BreaksLine (old new : Shown) (from : Standing) (line : List ℕ) (stop : LineStop) : Type 0 where
+  pub is : IsBroken old.files old.written new.written old.steps new.steps from line new.failed stop
+
+pub broken_same : {old new : Shown} {from : Standing} {said line : List ℕ} → SaysSame said line → (stop : LineStop) →
+    BreaksLine old new from said stop → BreaksLine old new from line stop
+broken_same {said = said} {line = line} same File broken = record {
+  is = record {
+    unbegun = (broken.is).unbegun;
+    name = (broken.is).name;
+    names = names_same said line (broken.is).name same (broken.is).names;
+    failed_there = (broken.is).failed_there;
+  };
+}
+broken_same {from = from} {said = said} {line = line} same Write broken =
+    let cut = broken.is in
+    record {
+      is = record {
+        to = cut.to;
+        answer = cut.answer;
+        part = cut.part;
+        later = cut.later;
+        within = cut.within;
+        is = λ files e. step_same files from cut.to said line cut.answer same (cut.is files e);
+      };
+    }
+broken_same {from = from} {said = said} {line = line} same Memory broken = record {
+  is = elim (broken.is) [
+    | inl nothing ↦ inl nothing
+    | inr part ↦ inr (record {
+      to = part.to;
+      answer = part.answer;
+      front = part.front;
+      rest = part.rest;
+      parts = part.parts;
+      appended = part.appended;
+      later = part.later;
+      within = part.within;
+      is = λ files e. step_same files from part.to said line part.answer same (part.is files e);
+    })
+  ];
+}
+
+session_same : {a a' : List ℕ} {b b' : Bool} {c c' : ℕ} {d d' : Standing} → a ≡ a' → b ≡ b' → c ≡ c' → d ≡ d' →
+    ◌≡◌ {A = Session} (record { text = a; refused = b; steps = c; standing = d }) (record {
+      text = a';
+      refused = b';
+      steps = c';
+      standing = d';
+    })
+session_same p q r s = λ i. record { text = p i; refused = q i; steps = r i; standing = s i }
+
+-- before the first byte
+pub stands_first : (before : Shown) (reading : Reading) → IsAtStart reading → Stands before before [] reading
+stands_first before reading first = record {
+  out = [];
+  same = refl;
+  appended = Appends-nothing before.written;
+  counted = omega arith;
+  held = record { front = first.line; long = first.long };
+  answered = λ files e. session_same refl first.refused (omega arith) first.script;
+}
+
+-- a byte that ends no line
+pub push_on : {old : Shown} {was is : Reading} (b : ℕ) → (b == 10) ≡ false → ((line : List ℕ) → Holds was line →
+    Holds is (line ++ b ∷ [])) → IsSameSoFar was is → GoesOn old old was is (b ∷ [])
+push_on {old = old} {was = was} {is = is} b other held same = record {
+  on = λ before bytes stands. record {
+    out = stands.out;
+    same = stands.same;
+    appended = stands.appended;
+    counted = stands.counted;
+    held = subst (λ v. Holds is v) (sym (open_line-other bytes b other)) (held (open_line bytes) stands.held);
+    answered = λ files e.
+        subst (λ v. AreAnswered files opening v (record {
+          text = stands.out;
+          refused = is.refused;
+          steps =
+              old.steps - before.steps;
+          standing = is.script;
+        })) (sym (ended_lines-other bytes b other))
+        (subst (λ v. AreAnswered files opening (ended_lines bytes) v) (session_same refl (sym same.refused) refl
+        (sym same.script)) (stands.answered files e));
+  };
+}
+
+-- an LF, with the answer to its line
+pub line_on : {old new : Shown} {was is : Reading} {refused : Bool} → new.files ≡ old.files →
+    ((line : List ℕ) → Holds was line →
+    IsAnswered old.files old.written new.written old.steps new.steps was.script is.script
+    (strip_carriage_return line) refused) →
+    Holds is [] → is.refused ≡ (was.refused || refused) → GoesOn old new was is (10 ∷ [])
+line_on {old = old} {new = new} {was = was} {is = is} {refused = refused} same_files answers held mark = record {
+  on = λ before bytes stands.
+      let answered = answers (open_line bytes) stands.held in
+      let rose : before.steps ≤ old.steps = stands.counted in
+      let counted : new.steps ≡ old.steps + (answered.answer).steps = answered.counted in
+      let steps : (old.steps - before.steps) + (answered.answer).steps ≡ new.steps - before.steps = omega arith in
+      record {
+        out = stands.out ++ (answered.answer).text;
+        same = same_files ∙ stands.same;
+        appended = Appends-then before.written old.written new.written stands.out
+            (answered.answer).text stands.appended answered.appended;
+        counted = omega arith;
+        held = subst (λ v. Holds is v) (sym (open_line-lf bytes)) held;
+        answered = λ files e.
+            subst (λ v. AreAnswered files opening v (record {
+              text = stands.out ++ (answered.answer).text;
+              refused =
+                  is.refused;
+              steps = new.steps - before.steps;
+              standing = is.script;
+            })) (sym (ended_lines-lf bytes))
+            (subst (λ v. AreAnswered files opening (ended_lines bytes ++ strip_carriage_return
+            (open_line bytes) ∷ []) v) (session_same refl (ap (λ v. was.refused || v) (sym answered.marked)
+            ∙ sym mark) steps refl)
+            (AreAnswered-next files opening _ (ended_lines bytes) (strip_carriage_return
+            (open_line bytes)) is.script answered.answer (stands.answered files e) (answered.is files (stands.same
+            ∙ e))));
+      };
+}
+
+-- the session so far is a front of the transcript of a script that begins so
+pub front_so_far : (files : FileMap) (lines more : List (List ℕ)) (script : List ℕ) (session : Session) →
+    lines_of script ≡ lines ++ more → AreAnswered files opening lines session →
+    (whole : Session) → IsTranscript files script whole → IsFrontOf whole session.text session.steps
+front_so_far files lines more script session begins answered whole transcript =
+    let rest = IsSession-rest files opening session whole lines more answered (subst
+    (λ v. IsSession files opening v whole) begins transcript) in
+    AreAnswered-grows files session whole rest.before rest.answered
+
+-- the lines of a script that goes on after some bytes
+begins_so : (bytes more rest : List ℕ) → Begins (ended_lines bytes) (lines_of ((bytes ++ more) ++ rest))
+begins_so bytes more rest = subst (λ v. Begins (ended_lines bytes) (lines_of v)) (sym (append_assoc bytes more rest))
+    (lines_of-append bytes (more ++ rest))
+
+-- where nothing was written or counted the run stands as it stood
+nothing_on : {before old new : Shown} {bytes : List ℕ} {was : Reading} → new.files ≡ old.files →
+    IsUnbegun old.written new.written old.steps new.steps → Stands before old bytes was → Stands before new bytes was
+nothing_on {before = before} {old = old} {new = new} {bytes = bytes} {was = was} same nothing stands = record {
+  out = stands.out;
+  same = same ∙ stands.same;
+  appended = subst (λ v. Appends before.written new.written v) (append-nil stands.out)
+      (Appends-then before.written old.written new.written stands.out [] stands.appended nothing.nothing);
+  counted = subst (λ v. before.steps ≤ v) (sym nothing.uncounted) stands.counted;
+  held = stands.held;
+  answered = λ files e.
+      subst (λ v. AreAnswered files opening (ended_lines bytes) (record {
+        text = stands.out;
+        refused = was.refused;
+        steps = v - before.steps;
+        standing = was.script;
+      })) (sym nothing.uncounted) (stands.answered files e);
+}
+
+-- a front of a front
+front_part : {whole : Session} (out text front rest : List ℕ) (spent steps : ℕ) → text ≡ front ++ rest →
+    spent ≤ steps → IsFrontOf whole (out ++ text) steps → IsFrontOf whole (out ++ front) spent
+front_part out text front rest spent steps parts less is = record {
+  later = rest ++ is.later;
+  text = is.text ∙ ap (λ v. (out ++ v) ++ is.later) parts ∙ ap (λ v. v ++ is.later) (sym
+      (append_assoc out front rest)) ∙ append_assoc (out ++ front) rest is.later;
+  cost = omega (arith, is.cost);
+}
+
+-- with the answer to one more line
+front_next : (files : FileMap) (lines later : List (List ℕ)) (line script : List ℕ) (session : Session)
+    (to : Standing) (answer : Answer) → lines_of script ≡ lines ++ line ∷ later →
+    AreAnswered files opening lines session → IsStep files session.standing line to answer →
+    (whole : Session) → IsTranscript files script whole → IsFrontOf whole (session.text ++ answer.text)
+    (session.steps + answer.steps)
+front_next files lines later line script session to answer begins answered is whole transcript =
+    front_so_far files (lines ++ line ∷ []) later script (with_answer session answer to) (begins
+    ∙ sym (append_assoc lines (line ∷ []) later))
+    (AreAnswered-next files opening session lines line to answer answered is) whole transcript
+
+-- where a run stands it has left the answers so far
+pub leaves_so_far : {most : ℕ} {before now : Shown} {bytes script taken rest : List ℕ} {reading : Reading} →
+    Begins (ended_lines bytes) (lines_of script) → Stands before now bytes reading →
+    Leaves most before now script taken rest (Err stops.Memory)
+leaves_so_far {bytes = bytes} {script = script} begins stands = record {
+  out = stands.out;
+  appended = stands.appended;
+  counted = stands.counted;
+  front = λ files e whole transcript. front_so_far files (ended_lines bytes) begins.more script _ begins.is
+      (stands.answered files e) whole transcript;
+  tells = tt;
+}
+
+leaves_file : {most : ℕ} {before now : Shown} {bytes script taken rest line : List ℕ} {reading : Reading} →
+    IsAtLine most script taken (ended_lines bytes) line → (name : List ℕ) → Names line name → now.failed ≡ Some name →
+    Stands before now bytes reading → Leaves most before now script taken rest (Err stops.File)
+leaves_file {bytes = bytes} {script = script} {line = line} place name names failed stands = record {
+  out = stands.out;
+  appended = stands.appended;
+  counted = stands.counted;
+  front = λ files e whole transcript. front_so_far files (ended_lines bytes) (line ∷ place.later) script _ place.lines
+      (stands.answered files e) whole transcript;
+  tells = record {
+    before = ended_lines bytes;
+    line = line;
+    place = place;
+    name = name;
+    names = names;
+    failed_there = failed;
+    exact = λ files e. record { session = _; answered = stands.answered files e; text = refl; cost = refl };
+  };
+}
+
+leaves_part : {most : ℕ} {before old new : Shown} {bytes script taken rest line : List ℕ} {was : Reading} →
+    IsAtLine most script taken (ended_lines bytes) line →
+    IsPart old.files old.written new.written old.steps new.steps was.script line → Stands before old bytes was →
+    Leaves most before new script taken rest (Err stops.Memory)
+leaves_part {before = before} {old = old} {new = new} {bytes = bytes} {script = script} {line =
+    line} place part stands =
+    let rose : before.steps ≤ old.steps = stands.counted in
+    let later : old.steps ≤ new.steps = part.later in
+    let within : new.steps ≤ old.steps + (part.answer).steps = part.within in
+    let less : new.steps - before.steps ≤ (old.steps - before.steps) + (part.answer).steps = omega arith in
+    record {
+      out = stands.out ++ part.front;
+      appended = Appends-then before.written old.written new.written stands.out part.front stands.appended
+          part.appended;
+      counted = omega arith;
+      front = λ files e whole transcript.
+          front_part stands.out (part.answer).text part.front part.rest (new.steps - before.steps) _ part.parts less
+          (front_next files (ended_lines bytes) place.later line script _ part.to part.answer place.lines
+          (stands.answered files e) (part.is files (stands.same ∙ e)) whole transcript);
+      tells = tt;
+    }
+
+leaves_write : {most : ℕ} {before old new : Shown} {bytes script taken rest line : List ℕ} {was : Reading} →
+    IsAtLine most script taken (ended_lines bytes) line →
+    IsCutShort old.files old.written new.written old.steps new.steps was.script line → Stands before old bytes was →
+    Leaves most before new script taken rest (Err stops.Write)
+leaves_write {before = before} {old = old} {new = new} {bytes = bytes} {script = script} {line =
+    line} place cut stands =
+    let rose : before.steps ≤ old.steps = stands.counted in
+    let later : old.steps ≤ new.steps = cut.later in
+    let within : new.steps ≤ old.steps + (cut.answer).steps = cut.within in
+    let less : new.steps - before.steps ≤ (old.steps - before.steps) + (cut.answer).steps = omega arith in
+    let least : old.steps - before.steps ≤ new.steps - before.steps = omega arith in
+    let count = (cut.part).count in
+    record {
+      out = stands.out ++ take count (cut.answer).text;
+      appended = Appends-then before.written old.written new.written stands.out (take count
+          (cut.answer).text) stands.appended (cut.part).appended;
+      counted = omega arith;
+      front = λ files e whole transcript.
+          front_part stands.out (cut.answer).text (take count (cut.answer).text) (drop count (cut.answer).text)
+          (new.steps - before.steps) _ (sym (take-append-drop count (cut.answer).text)) less
+          (front_next files (ended_lines bytes) place.later line script _ cut.to cut.answer place.lines
+          (stands.answered files e) (cut.is files (stands.same ∙ e)) whole transcript);
+      tells = record {
+        before = ended_lines bytes;
+        line = line;
+        place = place;
+        cut = λ files e. record {
+          session = _;
+          answered = stands.answered files e;
+          to = cut.to;
+          answer = cut.answer;
+          step = cut.is files (stands.same ∙ e);
+          count = count;
+          within = (cut.part).within;
+          text = refl;
+          least = least;
+          most = less;
+        };
+      };
+    }
+
+-- a stop at a line
+leaves_broken : {most : ℕ} {before old new : Shown} {bytes script taken rest line : List ℕ} {was : Reading} →
+    new.files ≡ old.files → IsAtLine most script taken (ended_lines bytes) line →
+    (stop : LineStop) → BreaksLine old new was.script line stop → Stands before old bytes was →
+    Leaves most before new script taken rest (Err (stop_of stop))
+leaves_broken same place File broken stands = leaves_file place (broken.is).name (broken.is).names
+    (broken.is).failed_there (nothing_on same (broken.is).unbegun stands)
+leaves_broken same place Write broken stands = leaves_write place broken.is stands
+leaves_broken {line = line} same place Memory broken stands =
+    elim (broken.is) [
+      | inl nothing ↦ leaves_so_far (record { more = line ∷ place.later; is = place.lines })
+          (nothing_on same nothing stands)
+      | inr part ↦ leaves_part place part stands
+    ]
+
+-- the line that an LF ends, right after it
+ended_place : (bytes rest : List ℕ) → IsAtLine 1 ((bytes ++ 10 ∷ []) ++ rest) (bytes ++ 10 ∷ []) (ended_lines bytes)
+    (strip_carriage_return (open_line bytes))
+ended_place bytes rest =
+    let begins = lines_of-append (bytes ++ 10 ∷ []) rest in
+    let line = strip_carriage_return (open_line bytes) in
+    record {
+      later = begins.more;
+      lines = begins.is ∙ ap (λ v. v ++ begins.more) (ended_lines-lf bytes) ∙ append_assoc (ended_lines bytes)
+          (line ∷ []) begins.more;
+      through = bytes ++ 10 ∷ [];
+      ahead = [];
+      parts = sym (append-nil (bytes ++ 10 ∷ []));
+      through_lines = lines_of-parts (bytes ++ 10 ∷ []) ∙ ap (λ v. ended_lines (bytes ++ 10 ∷ []) ++ last_lines v)
+          (open_line-lf bytes)
+          ∙ append-nil (ended_lines (bytes ++ 10 ∷ [])) ∙ ended_lines-lf bytes;
+      ends = inl (record { front = bytes; is = refl });
+      short = omega arith;
+    }
+
+-- a stop at the line that an LF ends, where a `?` passes it on
+pub breaks_line : {old new : Shown} {was : Reading} {e stop : LineStop} → e ≡ stop → new.files ≡ old.files →
+    ((line : List ℕ) → Holds was line → BreaksLine old new was.script (strip_carriage_return line) e) →
+    Breaks old new was (10 ∷ []) stop
+breaks_line {old = old} {new = new} {was = was} {e = e} passed same broken =
+    let breaks : Breaks old new was (10 ∷ []) e = record {
+      on = λ before bytes rest stands. leaves_broken same (ended_place bytes rest) e (broken
+          (open_line bytes) stands.held) stands;
+    } in
+    subst (λ v. Breaks old new was (10 ∷ []) v) passed breaks
+
+-- want of memory before anything was done
+pub breaks_memory : {old : Shown} {was : Reading} {stop : LineStop} (more : List ℕ) → Memory ≡ stop →
+    Breaks old old was more stop
+breaks_memory {old = old} {was = was} more passed =
+    let breaks : Breaks old old was more Memory = record {
+      on = λ before bytes rest stands. leaves_so_far
+          (begins_so bytes more rest) stands;
+    } in
+    subst (λ v. Breaks old old was more v) passed breaks
+
+pub err_same : {T : Type 0} {a b : LineStop} → a ≡ b → ◌≡◌ {A = Result T LineStop} (Err a) (Err b)
+err_same e = ap (λ v. Err v) e
+
+pub goes_nowhere : {old : Shown} {was : Reading} → GoesOn old old was was []
+goes_nowhere {old = old} {was = was} = record {
+  on = λ before bytes stands. subst (λ v. Stands before old v was) (sym
+      (append-nil bytes)) stands;
+}
+
+goes_further : {old mid new : Shown} {was half is : Reading} (front more : List ℕ) → GoesOn old mid was half front →
+    GoesOn mid new half is more → GoesOn old new was is (front ++ more)
+goes_further {new = new} {is = is} front more p q = record {
+  on = λ before bytes stands. subst (λ v. Stands before new v is) (append_assoc bytes front more) (q.on before
+      (bytes ++ front) (p.on before bytes stands));
+}
+
+pub goes_byte : {old mid new : Shown} {was half is : Reading} (piece : List ℕ) (i : ℕ) → i < length piece →
+    GoesOn old mid was half (take i piece) → GoesOn mid new half is (get_or piece i 0 ∷ []) →
+    GoesOn old new was is (take (i + 1) piece)
+goes_byte {old = old} {new = new} {was = was} {is = is} piece i lt p q =
+    subst (λ v. GoesOn old new was is v) (sym (take_more piece i 0 lt)) (goes_further (take i piece)
+    (get_or piece i 0 ∷ []) p q)
+
+pub goes_all : {old new : Shown} {was is : Reading} (piece : List ℕ) (i : ℕ) → length piece ≤ i →
+    GoesOn old new was is (take i piece) → GoesOn old new was is piece
+goes_all {old = old} {new = new} {was = was} {is = is} piece i le p = subst (λ v. GoesOn old new was is v)
+    (take_all i piece le) p
+
+place_ahead : {most n : ℕ} {script taken line : List ℕ} {before : List (List ℕ)} (ahead : List ℕ) →
+    most + length ahead ≤ n → IsAtLine most script taken before line → IsAtLine n script (taken ++ ahead) before line
+place_ahead ahead fits place = record {
+  later = place.later;
+  lines = place.lines;
+  through = place.through;
+  ahead = place.ahead ++ ahead;
+  parts = ap (λ v. v ++ ahead) place.parts ∙ append_assoc place.through place.ahead ahead;
+  through_lines = place.through_lines;
+  ends = place.ends;
+  short = omega (arith, place.short, length-append place.ahead ahead);
+}
+
+-- further bytes were taken before the stop, and none of them was looked at
+pub leaves_ahead : {most n : ℕ} {before now : Shown} {script taken rest : List ℕ} (ahead : List ℕ) →
+    most + length ahead ≤ n → (stop : LineStop) →
+    Leaves most before now script taken (ahead ++ rest) (Err (stop_of stop)) → Leaves n before now script
+    (taken ++ ahead) rest (Err (stop_of stop))
+leaves_ahead ahead fits File leaves = record {
+  out = leaves.out;
+  appended = leaves.appended;
+  counted = leaves.counted;
+  front = leaves.front;
+  tells = let at = leaves.tells in record {
+    before = at.before;
+    line = at.line;
+    place = place_ahead ahead fits at.place;
+    name = at.name;
+    names = at.names;
+    failed_there = at.failed_there;
+    exact = at.exact;
+  };
+}
+leaves_ahead ahead fits Write leaves = record {
+  out = leaves.out;
+  appended = leaves.appended;
+  counted = leaves.counted;
+  front = leaves.front;
+  tells = let at = leaves.tells in record {
+    before = at.before;
+    line = at.line;
+    place =
+        place_ahead ahead fits at.place;
+    cut = at.cut;
+  };
+}
+leaves_ahead ahead fits Memory leaves = record {
+  out = leaves.out;
+  appended = leaves.appended;
+  counted =
+      leaves.counted;
+  front = leaves.front;
+  tells = tt;
+}
+
+pub at_byte : (xs : List ℕ) (i : ℕ) → i < length xs → xs ≡ (take i xs ++ get_or xs i 0 ∷ []) ++ drop (i + 1) xs
+at_byte xs i lt = sym (take-append-drop (i + 1) xs) ∙ ap (λ v. v ++ drop (i + 1) xs) (take_more xs i 0 lt)
+
+within_piece : (bytes front more later piece : List ℕ) → piece ≡ (front ++ more) ++ later →
+    ((bytes ++ front) ++ more) ++ later ≡ bytes ++ piece
+within_piece bytes front more later piece is =
+    ap (λ v. v ++ later) (append_assoc bytes front more) ∙ append_assoc bytes (front ++ more) later
+    ∙ ap (λ v. bytes ++ v) (sym is)
+
+longer : (front more later piece : List ℕ) → piece ≡ (front ++ more) ++ later →
+    length more + length later ≤ length piece
+longer front more later piece is = omega (
+  arith,
+  ap (λ v. length v) is,
+  length-append
+      (front ++ more) later,
+  length-append front more,
+)
+
+-- a stop after some bytes of a piece, and before the rest
+pub breaks_within : {old mid new : Shown} {was half : Reading} {stop : LineStop} (front more later piece : List ℕ) →
+    piece ≡ (front ++ more) ++ later →
+    GoesOn old mid was half front → Breaks mid new half more stop → Breaks old new was piece stop
+breaks_within {new = new} {stop = stop} front more later piece is p q = record {
+  on = λ before bytes rest stands.
+      let taken = ((bytes ++ front) ++ more) ++ later in
+      let leaves = leaves_ahead later (longer front more later piece is) stop (q.on before (bytes ++ front)
+      (later ++ rest) (p.on before bytes stands)) in
+      subst (λ v. Leaves (length piece) before new (v ++ rest) v rest (Err (stop_of stop)))
+      (within_piece bytes front more later piece is)
+      (subst (λ v. Leaves (length piece) before new v taken rest (Err (stop_of stop))) (sym (append_assoc
+      ((bytes ++ front) ++ more) later rest)) leaves);
+}
+
+-- all lines of a script were answered
+leaves_whole : {before now : Shown} {script : List ℕ} (out : List ℕ) → Appends before.written now.written out →
+    before.steps ≤ now.steps → (standing : Standing) (refused : Bool) →
+    ForSome before.files (λ files. AreAnswered files opening (lines_of script) (record {
+      text = out;
+      refused =
+          refused;
+      steps = now.steps - before.steps;
+      standing = standing;
+    })) →
+    Leaves 0 before now script script [] (Ok refused)
+leaves_whole {before = before} {now = now} {script = script} out appended counted standing refused answered = record {
+  out = out;
+  appended = appended;
+  counted = counted;
+  front = λ files e whole transcript. front_so_far files (lines_of script) [] script _ (sym (append-nil
+      (lines_of script))) (answered files e) whole transcript;
+  tells = record {
+    read = refl;
+    whole = λ files e. record {
+      session = _;
+      is = IsSession-whole files opening _ (lines_of script) (answered files e);
+      there = AreAnswered-there files opening _ (lines_of script) (answered files e);
+      text = refl;
+      cost = refl;
+      mark = refl;
+    };
+  };
+}
+
+-- what they have left
+ends_whole : {told : Option FileMap} {script : List ℕ} (session : Session) →
+    ForSome told (λ files. AreAnswered files opening (lines_of script) session) →
+    ForSome told (λ files. EndsAt files script session.standing)
+ends_whole {script = script} session answered = λ files e. record {
+  session = session;
+  is = IsSession-whole files opening session (lines_of script) (answered files e);
+  left = refl;
+}
+
+-- a script that ends with a line end has no other line
+no_last : {reading : Reading} (script : List ℕ) → ((line : List ℕ) → Holds reading line → length line ≡ 0) →
+    Holds reading (open_line script) → lines_of script ≡ ended_lines script
+no_last script none held =
+    lines_of-parts script ∙ ap (λ v. ended_lines script ++ v) (last_lines-none (open_line script) (none
+    (open_line script) held))
+    ∙ append-nil (ended_lines script)
+
+-- one that doesn't has its last line
+one_last : {reading : Reading} (script : List ℕ) → ((line : List ℕ) → Holds reading line → 0 < length line) →
+    Holds reading (open_line script) → lines_of script ≡ ended_lines script ++ open_line script ∷ []
+one_last script some held =
+    lines_of-parts script ∙ ap (λ v. ended_lines script ++ v) (last_lines-some (open_line script) (some
+    (open_line script) held))
+
+-- all lines of a script that ends with a line end were answered
+answered_none : {before old : Shown} {script : List ℕ} {was : Reading} → lines_of script ≡ ended_lines script →
+    (stands : Stands before old script was) →
+    ForSome before.files (λ files. AreAnswered files opening (lines_of script)
+    (record { text = stands.out; refused = was.refused; steps = old.steps - before.steps; standing = was.script }))
+answered_none {before = before} {old = old} {was = was} all stands = λ files e.
+    let so_far : Session = record {
+      text = stands.out;
+      refused = was.refused;
+      steps = old.steps - before.steps;
+      standing = was.script;
+    } in
+    subst (λ v. AreAnswered files opening v so_far) (sym all) (stands.answered files e)
+
+pub closes_none : {old : Shown} {was : Reading} → ((line : List ℕ) → Holds was line → length line ≡ 0) →
+    Closes old old was (Ok was.refused)
+closes_none {was = was} none = record {
+  on = λ before script stands.
+      leaves_whole stands.out stands.appended stands.counted was.script was.refused (answered_none
+      (no_last script none stands.held) stands);
+}
+
+pub stays_none : {old : Shown} {was : Reading} → ((line : List ℕ) → Holds was line → length line ≡ 0) →
+    ClosesAt old was was.script
+stays_none none = record {
+  on = λ before script stands.
+      ends_whole _ (λ files e. answered_none (no_last script none stands.held) stands files e);
+}
+
+-- with a last line that no LF ends all were answered
+answered_on : {before old : Shown} (new : Shown) {script : List ℕ} {was : Reading} {to : Standing} {refused : Bool} →
+    lines_of script ≡ ended_lines script ++ open_line script ∷ [] →
+    (answered : IsAnswered old.files old.written new.written old.steps new.steps was.script to
+    (open_line script) refused) → (stands : Stands before old script was) →
+    ForSome before.files (λ files. AreAnswered files opening (lines_of script)
+    (record {
+      text = stands.out ++ (answered.answer).text;
+      refused = was.refused || refused;
+      steps =
+          new.steps - before.steps;
+      standing = to;
+    }))
+answered_on {before = before} {old = old} new {script = script} {was = was} {to = to} {refused =
+    refused} all answered stands = λ files e.
+    let line = open_line script in
+    let rose : before.steps ≤ old.steps = stands.counted in
+    let counted : new.steps ≡ old.steps + (answered.answer).steps = answered.counted in
+    let steps : (old.steps - before.steps) + (answered.answer).steps ≡ new.steps - before.steps = omega arith in
+    let at_last : Session = record {
+      text = stands.out ++ (answered.answer).text;
+      refused = was.refused || refused;
+      steps = new.steps - before.steps;
+      standing = to;
+    } in
+    subst (λ v. AreAnswered files opening v at_last) (sym all)
+    (subst (λ v. AreAnswered files opening (ended_lines script ++ line ∷ []) v) (session_same refl (ap
+    (λ v. was.refused || v) (sym answered.marked)) steps refl)
+    (AreAnswered-next files opening _ (ended_lines script) line to answered.answer (stands.answered files e)
+    (answered.is files (stands.same ∙ e))))
+
+pub closes_on : {old new : Shown} {was : Reading} {to : Standing} {refused : Bool} → ((line : List ℕ) →
+    Holds was line → 0 < length line) →
+    ((line : List ℕ) → Holds was line →
+    IsAnswered old.files old.written new.written old.steps new.steps was.script to line refused) →
+    Closes old new was (Ok (was.refused || refused))
+closes_on {old = old} {new = new} {was = was} {to = to} {refused = refused} some answers = record {
+  on = λ before script stands.
+      let answered = answers (open_line script) stands.held in
+      let rose : before.steps ≤ old.steps = stands.counted in
+      let counted : new.steps ≡ old.steps + (answered.answer).steps = answered.counted in
+      leaves_whole (stands.out ++ (answered.answer).text)
+      (Appends-then before.written old.written new.written stands.out
+      (answered.answer).text stands.appended answered.appended) (omega arith)
+      to (was.refused || refused) (answered_on new (one_last script some stands.held) answered stands);
+}
+
+pub stays_on : {old : Shown} (new : Shown) {was : Reading} {to : Standing} {refused : Bool} → ((line : List ℕ) →
+    Holds was line → 0 < length line) →
+    ((line : List ℕ) → Holds was line →
+    IsAnswered old.files old.written new.written old.steps new.steps was.script to line refused) →
+    ClosesAt old was to
+stays_on new some answers = record {
+  on = λ before script stands.
+      ends_whole _ (λ files e. answered_on new (one_last script some stands.held) (answers
+      (open_line script) stands.held) stands files e);
+}
+
+last_place : (script line : List ℕ) → lines_of script ≡ ended_lines script ++ line ∷ [] → IsAtLine 0 script script
+    (ended_lines script) line
+last_place script line all = record {
+  later = [];
+  lines = all;
+  through = script;
+  ahead = [];
+  parts = sym (append-nil script);
+  through_lines = all;
+  ends = inr refl;
+  short = omega arith;
+}
+
+-- a stop at the last line
+pub closes_broken : {old new : Shown} {was : Reading} → new.files ≡ old.files → ((line : List ℕ) → Holds was line →
+    0 < length line) → (stop : LineStop) →
+    ((line : List ℕ) → Holds was line → BreaksLine old new was.script line stop) → Closes old new was (Err stop)
+closes_broken same some stop broken = record {
+  on = λ before script stands.
+      leaves_broken same (last_place script (open_line script) (one_last script some stands.held)) stop
+      (broken (open_line script) stands.held) stands;
+}
+
+pub closes_at : {old new : Shown} {was : Reading} {result : Result Bool LineStop} (same : Result Bool LineStop) →
+    same ≡ result → Closes old new was result → Closes old new was same
+closes_at {old = old} {new = new} {was = was} same is closes = subst (λ v. Closes old new was v) (sym is) closes

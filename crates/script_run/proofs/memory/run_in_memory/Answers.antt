@@ -1,0 +1,31 @@
+use Rattle.std.proofs.Common.{◌∙◌, sym, ap}
+use Rattle.std.specs.Prelude.{Some}
+use Rattle.outside.specs.Memory.{named_files, file_named}
+use Rattle.outside.proofs.Laws.{sure_lacked}
+use Rattle.script_run.proofs.MemoryLaws.{told_files, finished, no_file_stop, no_long_stop}
+use Rattle.script_run.proofs.memory.run_in_memory.Goals as goal
+
+pub returns-in-Ok : goal.returns-in-Ok
+returns-in-Ok g c =
+    let files = file_named (named_files c.args.files.items) in
+    let script = c.args.script.items in
+    let told = told_files c.new-files.ensures.files in
+    let left = ap (λ v. Some v.left) c.new-source.ensures in
+    finished files script c.in-Ok.ended (c.in-Ok.ensures.script script left)
+    (c.in-Ok.ensures.standing script left files told) told
+
+pub unreachable-requires : goal.unreachable-requires
+unreachable-requires g c =
+    let files = file_named (named_files c.args.files.items) in
+    let script = c.args.script.items in
+    let left = ap (λ v. Some v.left) c.new-source.ensures in
+    no_file_stop files script (rw c.in-Err-File.field-0-is at
+    (c.in-Err-File.ensures.script script left)) c.requires.there
+    (λ name failed. sym (ap (λ v. file_named v name) c.new-files.ensures.files)
+    ∙ sure_lacked c.new-files.result c.run_to_end.new.files name c.run_to_end.ensures.same failed)
+
+pub unreachable-requires-in-Err-Long : goal.unreachable-requires-in-Err-Long
+unreachable-requires-in-Err-Long g c =
+    let script = c.args.script.items in
+    let left = ap (λ v. Some v.left) c.new-source.ensures in
+    no_long_stop script (rw c.in-Err-Long.field-0-is at (c.in-Err-Long.ensures.script script left)) c.requires.short

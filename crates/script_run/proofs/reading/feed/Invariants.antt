@@ -1,0 +1,17 @@
+use Rattle.std.proofs.Common.{◌≡◌, ◌≤◌, take}
+use Rattle.script_run.specs.RunClauses.{shown}
+use Rattle.script_run.specs.RunViews.{GoesOn}
+use Rattle.script_run.proofs.reading.feed.Given as goal
+
+abbrev pub invariant-loop-byte : goal.invariant-loop-byte
+invariant-loop-byte g l = record {
+  on : GoesOn
+      (shown (g.F.Files.told l.initial.files) (g.F.Files.failed l.initial.files)
+      (g.W.Sink.written l.initial.sink) l.initial.steps)
+      (shown (g.F.Files.told l.files) (g.F.Files.failed l.files) (g.W.Sink.written l.sink) l.steps)
+      l.initial.reading l.reading (take l.byte-index l.piece);
+  same : g.F.Files.told l.files ≡ g.F.Files.told l.initial.files;
+  kept : g.F.Files.failed l.files ≡ g.F.Files.failed l.initial.files;
+  files_later : g.F.Files.faults l.initial.files ≤ g.F.Files.faults l.files;
+  sink_later : g.W.Sink.faults l.initial.sink ≤ g.W.Sink.faults l.sink;
+}

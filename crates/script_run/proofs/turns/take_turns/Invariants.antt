@@ -1,0 +1,24 @@
+use Rattle.std.proofs.Common.{◌≡◌, ◌≤◌, ◌-◌, length}
+use Rattle.script_run.specs.Limits.{most_script, most_turn}
+use Rattle.script_run.specs.RunClauses.{shown}
+use Rattle.script_run.specs.RunViews.{Stood}
+use Rattle.script_run.proofs.turns.take_turns.Given as goal
+
+abbrev pub invariant-turns : goal.invariant-turns
+invariant-turns g l = record {
+  stood : Stood
+      (shown (g.F.Files.told l.initial.files) (g.F.Files.failed l.initial.files)
+      (g.W.Sink.written l.initial.sink) l.initial.steps)
+      (shown (g.F.Files.told l.files) (g.F.Files.failed l.files) (g.W.Sink.written l.sink) l.steps)
+      (g.R.Source.left l.initial.source) (g.R.Source.left l.source) l.taken l.reading;
+  room : length l.buf ≡ most_turn;
+  within : l.taken ≤ most_script;
+  same : g.F.Files.told l.files ≡ g.F.Files.told l.initial.files;
+  kept : g.F.Files.failed l.files ≡ g.F.Files.failed l.initial.files;
+  files_later : g.F.Files.faults l.initial.files ≤ g.F.Files.faults l.files;
+  source_later : g.R.Source.faults l.initial.source ≤ g.R.Source.faults l.source;
+  sink_later : g.W.Sink.faults l.initial.sink ≤ g.W.Sink.faults l.sink;
+}
+
+abbrev pub decreases-turns : goal.decreases-turns
+decreases-turns g l = most_script - l.taken

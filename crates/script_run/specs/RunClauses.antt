@@ -1,0 +1,181 @@
+-- What a run over a script that is told leaves, by its result.
+use Rattle.std.specs.Prelude.{◌≡◌, ◌≢◌, ◌⊎◌, ℕ, ◌+◌, ◌-◌, ◌<◌, ◌≤◌, Bool, List, [], ◌∷◌, ◌++◌, length, take, All, Option, Some, Result, Ok, Err, ⊤}
+use Rattle.std.specs.Option.{ForSome}
+use Rattle.outside.specs.Told.{FileMap, Appends}
+use Rattle.script_steps.specs.Steps.{Standing, Answer, Names, AreThere, IsStep}
+use Rattle.script_run.specs.Limits.{most_script, most_turn}
+use Rattle.script_run.specs.Transcripts.{Session, opening, lines_of, ended_lines, AreAnswered, IsTranscript}
+use Rattle.script_run.specs.declared.turns.Ended.{Ended}
+use Rattle.script_run.specs.declared.stop.Stop.{Stop}
+use Rattle.script_run.specs.declared.stop.Stop.TheVariants as stops
+
+-- what the files tell, the name at which they failed last, what was written, and the counter of steps
+pub record Shown : Type 0 where
+  pub files : Option FileMap
+  pub failed : Option (List ℕ)
+  pub written : Option (List ℕ)
+  pub steps : ℕ
+
+abbrev pub shown : Option FileMap → Option (List ℕ) → Option (List ℕ) → ℕ → Shown
+shown files failed written steps = record {
+  files = files;
+  failed = failed;
+  written = written;
+  steps = steps;
+}
+
+-- how far a run came: the script, what was taken of it and what is left, what was written since it began, and the steps
+pub record Course : Type 0 where
+  pub script : List ℕ
+  pub taken : List ℕ
+  pub rest : List ℕ
+  pub out : List ℕ
+  pub spent : ℕ
+
+-- what was written is a front of this session's text, and at most its steps were counted
+pub record IsFrontOf (session : Session) (out : List ℕ) (spent : ℕ) : Type 0 where
+  pub later : List ℕ
+  pub text : session.text ≡ out ++ later
+  pub cost : spent ≤ session.steps
+
+-- what was written are the answers to exactly these lines, and exactly their steps were counted
+pub record IsExactly (files : FileMap) (lines : List (List ℕ)) (out : List ℕ)
+    (spent : ℕ) : Type 0 where
+  pub session : Session
+  pub answered : AreAnswered files opening lines session
+  pub text : out ≡ session.text
+  pub cost : spent ≡ session.steps
+
+-- what was written is the whole transcript, whose lines all name files that are there; exactly its steps were counted,
+-- and this says whether an answer is a refusal
+pub record IsWhole (files : FileMap) (script out : List ℕ) (spent : ℕ)
+    (refused : Bool) : Type 0 where
+  pub session : Session
+  pub is : IsTranscript files script session
+  pub there : All (λ line. AreThere files line) (lines_of script)
+  pub text : out ≡ session.text
+  pub cost : spent ≡ session.steps
+  pub mark : refused ≡ session.refused
+
+-- what was written are the answers to these lines and a front of the next one's, which isn't the whole
+pub record IsCutAt (files : FileMap) (before : List (List ℕ)) (line out : List ℕ)
+    (spent : ℕ) : Type 0 where
+  pub session : Session
+  pub answered : AreAnswered files opening before session
+  pub to : Standing
+  pub answer : Answer
+  pub step : IsStep files session.standing line to answer
+  pub count : ℕ
+  pub within : count < length answer.text
+  pub text : out ≡ session.text ++ take count answer.text
+  pub least : session.steps ≤ spent
+  pub most : spent ≤ session.steps + answer.steps
+
+-- the last byte is an LF
+pub record EndsWithLf (bytes : List ℕ) : Type 0 where
+  pub front : List ℕ
+  pub is : bytes ≡ front ++ 10 ∷ []
+
+-- the script has this line after these, and at most so many bytes were taken after its end
+pub record IsAtLine (most : ℕ) (script taken : List ℕ) (before : List (List ℕ))
+    (line : List ℕ) : Type 0 where
+  pub later : List (List ℕ)
+  pub lines : lines_of script ≡ before ++ line ∷ later
+  pub through : List ℕ
+  pub ahead : List ℕ
+  pub parts : taken ≡ through ++ ahead
+  pub through_lines : lines_of through ≡ before ++ line ∷ []
+  pub ends : EndsWithLf through ⊎ (through ≡ script)
+  pub short : length ahead ≤ most
+
+-- the files failed at a name of a line, the lines before it were answered, and nothing else was written
+pub record IsFileStop (most : ℕ) (told : Option FileMap) (course : Course) (failed : Option
+    (List ℕ)) : Type 0 where
+  pub before : List (List ℕ)
+  pub line : List ℕ
+  pub place : IsAtLine most course.script course.taken before line
+  pub name : List ℕ
+  pub names : Names line name
+  pub failed_there : failed ≡ Some name
+  pub exact : ForSome told (λ files. IsExactly files before course.out course.spent)
+
+-- the sink failed in the answer to a line
+pub record IsWriteStop (most : ℕ) (told : Option FileMap) (course : Course) : Type 0 where
+  pub before : List (List ℕ)
+  pub line : List ℕ
+  pub place : IsAtLine most course.script course.taken before line
+  pub cut : ForSome told (λ files. IsCutAt files before line course.out course.spent)
+
+-- the source failed: exactly the lines were answered whose LF was taken
+abbrev pub IsReadStop : Option FileMap → Course → Type 0
+IsReadStop told course = ForSome told (λ files. IsExactly files
+    (ended_lines course.taken) course.out course.spent)
+
+-- the script is too long: exactly the lines were answered whose LF is within the limit, and one byte more was taken
+pub record IsLongStop (told : Option FileMap) (course : Course) : Type 0 where
+  pub past : length course.taken ≡ most_script + 1
+  pub exact : ForSome told (λ files. IsExactly files (ended_lines
+      (take most_script course.taken)) course.out course.spent)
+
+-- the script was read to its end and its transcript was written whole
+pub record IsEnd (told : Option FileMap) (course : Course) (refused : Bool) : Type 0 where
+  pub read : course.rest ≡ []
+  pub whole : ForSome told (λ files. IsWhole files course.script course.out course.spent refused)
+
+-- what each result says; at a stop at most so many bytes were taken after the end of the line at which it came
+abbrev pub Tells : ℕ → Option FileMap → Course → Option (List ℕ) → Result Bool Stop → Type 0
+Tells most told course failed (Ok refused) = IsEnd told course refused
+Tells most told course failed (Err stops.File) = IsFileStop most told course failed
+Tells most told course failed (Err stops.Read) = IsReadStop told course
+Tells most told course failed (Err stops.Write) = IsWriteStop most told course
+Tells most told course failed (Err stops.Memory) = ⊤
+Tells most told course failed (Err stops.Long) = IsLongStop told course
+
+-- what a run wrote and counted that took this of a script and left this of it: always a front of the transcript
+pub record Leaves (most : ℕ) (before after : Shown) (script taken rest : List ℕ)
+    (result : Result Bool Stop) : Type 0 where
+  pub out : List ℕ
+  pub appended : Appends before.written after.written out
+  pub counted : before.steps ≤ after.steps
+  pub front : ForSome before.files (λ files. (session : Session) → IsTranscript files script session
+      → IsFrontOf session out (after.steps - before.steps))
+  pub tells : Tells most before.files
+      (record {
+        script = script;
+        taken = taken;
+        rest = rest;
+        out = out;
+        spent =
+            after.steps - before.steps;
+      })
+      after.failed result
+
+-- what a run leaves over a source that tells this script: what was taken is a front of it, within its limit
+pub record RunMeets (before after : Shown) (script : List ℕ) (left : Option (List ℕ))
+    (result : Result Bool Stop) : Type 0 where
+  pub taken : List ℕ
+  pub rest : List ℕ
+  pub split : script ≡ taken ++ rest
+  pub left_rest : left ≡ Some rest
+  pub within : result ≢ Err stops.Long → length taken ≤ most_script
+  pub leaves : Leaves most_turn before after script taken rest result
+
+-- the lines of the script have left this at last
+pub record EndsAt (files : FileMap) (script : List ℕ) (standing : Standing) : Type 0 where
+  pub session : Session
+  pub is : IsTranscript files script session
+  pub left : session.standing ≡ standing
+
+-- whether an answer was a refusal, or the stop
+abbrev pub refused_of : Result Ended Stop → Result Bool Stop
+refused_of (Ok ended) = Ok ended.refused
+refused_of (Err stop) = Err stop
+
+-- the script was answered whole: this is what its transcript says
+pub record IsFinished (files : FileMap) (script : List ℕ) (began steps : ℕ)
+    (ended : Ended) : Type 0 where
+  pub session : Session
+  pub is : IsTranscript files script session
+  pub mark : ended.refused ≡ session.refused
+  pub cost : steps ≡ began + session.steps
+  pub left : ended.script ≡ session.standing

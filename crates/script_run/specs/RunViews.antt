@@ -1,0 +1,100 @@
+-- What a run over a front of a script has done, for the contracts of its parts.
+use Rattle.std.specs.Prelude.{◌≡◌, ℕ, ◌+◌, ◌-◌, ◌≤◌, nat_lt, ◌==◌, Bool, false, List, [], ◌∷◌, ◌++◌, length, take, Option, Result, Ok, Err}
+use Rattle.std.specs.Option.{ForSome}
+use Rattle.std.specs.List.{slice_split}
+use Rattle.std.specs.Io.KnownBytes.{IsAtEnd}
+use Rattle.outside.specs.Told.{Appends, Consumes}
+use Rattle.script_steps.specs.declared.stop.LineStop.{LineStop}
+use Rattle.script_steps.specs.Steps.{Standing, start}
+use Rattle.script_run.specs.Limits.{most_line, most_script}
+use Rattle.script_run.specs.Stops.{stop_of}
+use Rattle.script_run.specs.Transcripts.{opening, ended_lines, AreAnswered}
+use Rattle.script_run.specs.RunClauses.{Shown, Leaves, EndsAt}
+use Rattle.script_run.specs.declared.stop.Stop.{Stop}
+use Rattle.script_run.specs.declared.reading.Reading.{Reading}
+
+-- of the parts between LFs, the last
+abbrev pub last_part : List (List ℕ) → List ℕ
+last_part [] = []
+last_part (part ∷ []) = part
+last_part (part ∷ next ∷ more) = last_part (next ∷ more)
+
+-- what stands after the last LF
+abbrev pub open_line : List ℕ → List ℕ
+open_line bytes = last_part (slice_split (λ b. b == 10) bytes)
+
+-- the line that is being read has these bytes so far: its front is kept, and whether there are more
+pub record Holds (reading : Reading) (line : List ℕ) : Type 0 where
+  pub front : reading.line.items ≡ take (most_line + 1) line
+  pub long : reading.long ≡ nat_lt (most_line + 1) (length line)
+
+-- the same lines were answered
+pub record IsSameSoFar (was is : Reading) : Type 0 where
+  pub script : is.script ≡ was.script
+  pub refused : is.refused ≡ was.refused
+
+-- of these bytes each line whose LF is among them was answered, and nothing else was written
+pub record Stands (before now : Shown) (bytes : List ℕ) (reading : Reading) : Type 0 where
+  pub out : List ℕ
+  pub same : now.files ≡ before.files
+  pub appended : Appends before.written now.written out
+  pub counted : before.steps ≤ now.steps
+  pub held : Holds reading (open_line bytes)
+  pub answered : ForSome before.files (λ files. AreAnswered files opening (ended_lines bytes)
+      (record {
+        text = out;
+        refused = reading.refused;
+        steps = now.steps - before.steps;
+        standing =
+            reading.script;
+      }))
+
+-- wherever the run stood over some bytes, it stands over these more
+pub record GoesOn (old new : Shown) (was is : Reading) (more : List ℕ) : Type 0 where
+  pub on : (before : Shown) (bytes : List ℕ) → Stands before old bytes was →
+      Stands before new (bytes ++ more) is
+
+-- wherever the run stood over some bytes, what a stop within these more leaves, whatever is left of the script
+pub record Breaks (old new : Shown) (was : Reading) (more : List ℕ) (stop : LineStop) : Type 0 where
+  pub on : (before : Shown) (bytes rest : List ℕ) → Stands before old bytes was
+      → Leaves (length more) before new ((bytes ++ more) ++ rest) (bytes ++ more) rest (Err
+      (stop_of stop))
+
+-- a line's result as the run's
+abbrev pub run_result : Result Bool LineStop → Result Bool Stop
+run_result (Ok refused) = Ok refused
+run_result (Err stop) = Err (stop_of stop)
+
+-- wherever the run stood over a whole script, what its end leaves
+pub record Closes (old new : Shown) (was : Reading) (result : Result Bool LineStop) : Type 0 where
+  pub on : (before : Shown) (script : List ℕ) → Stands before old script was
+      → Leaves 0 before new script script [] (run_result result)
+
+-- wherever the run stood over a whole script, what its lines have left
+pub record ClosesAt (old : Shown) (was : Reading) (standing : Standing) : Type 0 where
+  pub on : (before : Shown) (script : List ℕ) → Stands before old script was
+      → ForSome before.files (λ files. EndsAt files script standing)
+
+-- of a run over a source, between two turns
+pub record Stood (before now : Shown) (left left_now : Option (List ℕ)) (count : ℕ)
+    (reading : Reading) : Type 0 where
+  pub bytes : List ℕ
+  pub consumed : Consumes left left_now bytes
+  pub counted : length bytes ≡ count
+  pub stands : Stands before now bytes reading
+
+-- nothing of a script was read yet
+pub record IsAtStart (reading : Reading) : Type 0 where
+  pub line : reading.line.items ≡ []
+  pub long : reading.long ≡ false
+  pub script : reading.script ≡ start
+  pub refused : reading.refused ≡ false
+
+-- of a run over a source, at its end
+pub record TakesAll (before now : Shown) (left left_now : Option (List ℕ))
+    (reading : Reading) : Type 0 where
+  pub bytes : List ℕ
+  pub consumed : Consumes left left_now bytes
+  pub within : length bytes ≤ most_script
+  pub ends : IsAtEnd left_now
+  pub stands : Stands before now bytes reading

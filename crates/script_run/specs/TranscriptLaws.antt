@@ -1,0 +1,19 @@
+-- That every script has exactly one transcript.
+use Rattle.std.specs.Prelude.{◌≡◌, ℕ, List}
+use Rattle.outside.specs.Told.{FileMap}
+use Rattle.script_run.specs.Transcripts.{Session, IsTranscript}
+
+-- a transcript of a script
+pub record HasTranscript (files : FileMap) (script : List ℕ) : Type 0 where
+  pub session : Session
+  pub is : IsTranscript files script session
+
+-- every script has a transcript
+abbrev pub ScriptsHaveATranscript : Type 0
+ScriptsHaveATranscript = (files : FileMap) (script : List ℕ) → HasTranscript files script
+
+-- and no other
+abbrev pub ScriptsHaveOneTranscript : Type 0
+ScriptsHaveOneTranscript =
+    (files : FileMap) (script : List ℕ) (session other : Session)
+    → IsTranscript files script session → IsTranscript files script other → session ≡ other

@@ -1,0 +1,24 @@
+//! The lines of a script, taken from a source turn by turn and answered one by one.
+#![tactic(auto)]
+
+mod memory;
+mod reading;
+mod sample;
+mod stop;
+mod transcript;
+mod turns;
+
+pub use memory::run_in_memory;
+pub use sample::{MOST_EMPLOYEES, run_sample, sample_script};
+pub use stop::Stop;
+pub use transcript::transcript_laws;
+pub use turns::{Ended, run, run_to_end};
+
+/// The most bytes of a script.
+pub const MOST_SCRIPT: usize = 67_108_864;
+
+/// The most bytes that one turn takes.
+pub const MOST_TURN: usize = 65_536;
+
+/// The most bytes of a line that may be more than too long. Of a longer one this many and one more are kept.
+pub const MOST_LINE: usize = 65_536;

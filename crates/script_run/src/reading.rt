@@ -1,0 +1,196 @@
+//! A script's bytes, one by one, and its lines as they end.
+ghost use Rattle.std.specs.Prelude.{◌≡◌, ◌≢◌, if◌then◌else◌, List, ℕ, [], ◌∷◌, ◌++◌, Err, OnOk};
+ghost use Rattle.std.specs.Result.{ForErr};
+ghost use Rattle.std.specs.Str.Lines.{strip_carriage_return};
+ghost use Rattle.outside.specs.Causes.{Caused};
+ghost use Rattle.script_steps.specs.Steps.{start};
+ghost use Rattle.script_run.specs.RunClauses.{shown};
+ghost use Rattle.script_run.specs.RunViews.{Holds, IsSameSoFar, IsAtStart, GoesOn, Breaks, Closes, ClosesAt};
+
+use crate::MOST_LINE;
+use outside::{Files, Sink};
+use script_steps::{LineStop, Script, answer_line};
+use std::alloc::{AllocError, Global};
+use std::sync::ledger::Ledger;
+use steps::Steps;
+
+/// What is kept of the line that is being read, and what the lines before it have made.
+#[derive(Drop)]
+pub(crate) struct Reading {
+    /// The line's bytes so far, at most one more than `MOST_LINE`.
+    pub(crate) line: Vec<u8>,
+    /// Whether the line has more bytes than these.
+    pub(crate) long: bool,
+    /// What the lines before it have made.
+    pub(crate) script: Script,
+    /// Whether an answer was a refusal.
+    pub(crate) refused: bool,
+}
+
+impl Reading {
+    /// Before the first byte of a script.
+    pub(crate) fn new(alloc: Global) -> Reading
+        ensures { IsAtStart result }
+    {
+        Reading {
+            line: Vec::new(alloc),
+            long: false,
+            script: Script::new(alloc),
+            refused: false,
+        }
+    }
+}
+
+/// The line without a CR at its end.
+fn without_cr(line: &[u8]) -> &[u8]
+    ensures { result.now ≡ strip_carriage_return line.now }
+{
+    match line {
+        [front @ .., b'\r'] => front,
+        _ => line,
+    }
+}
+
+/// What is answered of a line that an LF ends, of which these bytes are kept: all of them where it has more.
+fn ended(kept: &[u8], long: bool) -> &[u8]
+    ensures { result.now ≡ (if long then kept.now else strip_carriage_return kept.now) }
+{
+    if long {
+        return kept;
+    }
+    without_cr(kept)
+}
+
+/// One more byte of the line that is being read.
+fn push(reading: &mut Reading, byte: u8) -> Result<(), AllocError>
+    ensures ok { OnOk result ((line : List ℕ) → Holds reading.old line
+        → Holds reading.new (line ++ byte ∷ [])) }
+    ensures same { IsSameSoFar reading.old reading.new }
+{
+    if reading.line.len() <= MOST_LINE {
+        reading.line.push(byte)?;
+    } else {
+        reading.long = true;
+    }
+    Ok(())
+}
+
+/// Answers the line that an LF ends. The next line begins.
+fn end_line<F: Files, W: Sink, L: Ledger>(
+    alloc: Global,
+    reading: &mut Reading,
+    files: &mut F,
+    sink: &mut W,
+    steps: &mut Steps<L>,
+) -> Result<(), LineStop>
+    ensures ok { OnOk result (GoesOn
+        (shown (F.told files.old) (F.failed files.old) (W.written sink.old) steps.old)
+        (shown (F.told files.new) (F.failed files.new) (W.written sink.new) steps.new)
+        reading.old reading.new (10 ∷ [])) }
+    ensures err { ForErr result (λ stop. Breaks
+        (shown (F.told files.old) (F.failed files.old) (W.written sink.old) steps.old)
+        (shown (F.told files.new) (F.failed files.new) (W.written sink.new) steps.new)
+        reading.old (10 ∷ []) stop) }
+    ensures same { F.told files.new ≡ F.told files.old }
+    ensures kept { result ≢ Err LineStop.File → F.failed files.new ≡ F.failed files.old }
+    ensures file { Caused LineStop.File (F.faults files.old) (F.faults files.new) result }
+    ensures write { Caused LineStop.Write (W.faults sink.old) (W.faults sink.new) result }
+{
+    let line = ended(&reading.line, reading.long);
+    let refused = answer_line(alloc, &mut reading.script, line, files, sink, steps)?;
+    reading.refused |= refused;
+    reading.line.clear();
+    reading.long = false;
+    Ok(())
+}
+
+/// Takes one more byte of the script, and answers the line that it ends.
+fn take_byte<F: Files, W: Sink, L: Ledger>(
+    alloc: Global,
+    reading: &mut Reading,
+    byte: u8,
+    files: &mut F,
+    sink: &mut W,
+    steps: &mut Steps<L>,
+) -> Result<(), LineStop>
+    ensures ok { OnOk result (GoesOn
+        (shown (F.told files.old) (F.failed files.old) (W.written sink.old) steps.old)
+        (shown (F.told files.new) (F.failed files.new) (W.written sink.new) steps.new)
+        reading.old reading.new (byte ∷ [])) }
+    ensures err { ForErr result (λ stop. Breaks
+        (shown (F.told files.old) (F.failed files.old) (W.written sink.old) steps.old)
+        (shown (F.told files.new) (F.failed files.new) (W.written sink.new) steps.new)
+        reading.old (byte ∷ []) stop) }
+    ensures same { F.told files.new ≡ F.told files.old }
+    ensures kept { result ≢ Err LineStop.File → F.failed files.new ≡ F.failed files.old }
+    ensures file { Caused LineStop.File (F.faults files.old) (F.faults files.new) result }
+    ensures write { Caused LineStop.Write (W.faults sink.old) (W.faults sink.new) result }
+{
+    if byte == b'\n' {
+        return end_line(alloc, reading, files, sink, steps);
+    }
+    push(reading, byte)?;
+    Ok(())
+}
+
+/// Takes these bytes of the script, and answers the lines that end in them.
+pub(crate) fn feed<F: Files, W: Sink, L: Ledger>(
+    alloc: Global,
+    reading: &mut Reading,
+    piece: &[u8],
+    files: &mut F,
+    sink: &mut W,
+    steps: &mut Steps<L>,
+) -> Result<(), LineStop>
+    ensures ok { OnOk result (GoesOn
+        (shown (F.told files.old) (F.failed files.old) (W.written sink.old) steps.old)
+        (shown (F.told files.new) (F.failed files.new) (W.written sink.new) steps.new)
+        reading.old reading.new piece.now) }
+    ensures err { ForErr result (λ stop. Breaks
+        (shown (F.told files.old) (F.failed files.old) (W.written sink.old) steps.old)
+        (shown (F.told files.new) (F.failed files.new) (W.written sink.new) steps.new)
+        reading.old piece.now stop) }
+    ensures same { F.told files.new ≡ F.told files.old }
+    ensures kept { result ≢ Err LineStop.File → F.failed files.new ≡ F.failed files.old }
+    ensures file { Caused LineStop.File (F.faults files.old) (F.faults files.new) result }
+    ensures write { Caused LineStop.Write (W.faults sink.old) (W.faults sink.new) result }
+{
+    for byte in piece {
+        take_byte(alloc, reading, *byte, files, sink, steps)?;
+    }
+    Ok(())
+}
+
+/// Answers a last line that no LF ends. `Ok` says whether an answer of the script was a refusal.
+pub(crate) fn last_line<F: Files, W: Sink, L: Ledger>(
+    alloc: Global,
+    reading: &mut Reading,
+    files: &mut F,
+    sink: &mut W,
+    steps: &mut Steps<L>,
+) -> Result<bool, LineStop>
+    ensures closes { Closes
+        (shown (F.told files.old) (F.failed files.old) (W.written sink.old) steps.old)
+        (shown (F.told files.new) (F.failed files.new) (W.written sink.new) steps.new)
+        reading.old result }
+    ensures standing { OnOk result (ClosesAt
+        (shown (F.told files.old) (F.failed files.old) (W.written sink.old) steps.old)
+        reading.old reading.new.script) }
+    ensures same { F.told files.new ≡ F.told files.old }
+    ensures kept { result ≢ Err LineStop.File → F.failed files.new ≡ F.failed files.old }
+    ensures file { Caused LineStop.File (F.faults files.old) (F.faults files.new) result }
+    ensures write { Caused LineStop.Write (W.faults sink.old) (W.faults sink.new) result }
+{
+    if reading.line.is_empty() {
+        return Ok(reading.refused);
+    }
+    let refused = answer_line(
+        alloc,
+        &mut reading.script,
+        &reading.line,
+        files,
+        sink,
+        steps,
+    )?;
+    Ok(reading.refused | refused)
+}

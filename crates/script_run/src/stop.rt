@@ -1,0 +1,42 @@
+//! Why a run stops before its script is answered to the end.
+ghost use Rattle.std.specs.Prelude.{◌≡◌};
+ghost use Rattle.script_run.specs.declared.stop.Stop.TheVariants.{Memory};
+ghost use Rattle.script_run.specs.Stops.{stop_of};
+
+use script_steps::LineStop;
+use std::alloc::AllocError;
+
+/// Why a run stops before its script is answered to the end.
+#[derive(Clone, Copy, Debug, PartialEq, Eq, Drop)]
+pub enum Stop {
+    /// A file that a line names could not be read.
+    File,
+    /// The source failed.
+    Read,
+    /// The sink failed.
+    Write,
+    /// Memory ran out.
+    Memory,
+    /// The script is too long.
+    Long,
+}
+
+impl From<LineStop> for Stop {
+    ghost from_gives = { λ line stop. stop ≡ stop_of line };
+
+    fn from(line: LineStop) -> Self {
+        match line {
+            LineStop::File => Stop::File,
+            LineStop::Write => Stop::Write,
+            LineStop::Memory => Stop::Memory,
+        }
+    }
+}
+
+impl From<AllocError> for Stop {
+    ghost from_gives = { λ _ stop. stop ≡ Memory };
+
+    fn from(_: AllocError) -> Self {
+        Stop::Memory
+    }
+}

@@ -1,0 +1,151 @@
+//! A script, run over a source.
+ghost use Rattle.std.specs.Prelude.{◌≡◌, ◌≢◌, ◌+◌, ◌≤◌, length, Err, IfOk, OnOk};
+ghost use Rattle.std.specs.Option.{ForSome};
+ghost use Rattle.std.specs.Result.{ForErr};
+ghost use Rattle.outside.specs.Causes.{Caused, HasCause};
+ghost use Rattle.outside.specs.Told.{ReadConsumes};
+ghost use Rattle.script_run.specs.Limits.{most_script, most_turn};
+ghost use Rattle.script_run.specs.RunClauses.{RunMeets, EndsAt, shown, refused_of};
+ghost use Rattle.script_run.specs.RunViews.{IsAtStart, TakesAll};
+
+use crate::reading::{Reading, feed, last_line};
+use crate::stop::Stop;
+use crate::{MOST_SCRIPT, MOST_TURN};
+use outside::{Failed, Files, Sink, Source};
+use script_steps::Script;
+use std::alloc::{AllocError, Global};
+use std::sync::ledger::Ledger;
+use steps::Steps;
+
+/// Takes the next turn's bytes, and no byte past the limit of scripts but for one where so many were taken.
+fn next_turn<R: Source>(source: &mut R, buf: &mut [u8], taken: usize) -> Result<usize, Failed>
+    requires room { length buf.old ≡ most_turn }
+    requires within { taken ≤ most_script }
+    ensures short { IfOk result (λ count. count ≤ most_turn) }
+    ensures limit { IfOk result (λ count. taken + count ≤ most_script + 1) }
+    ensures past { IfOk result (λ count. taken + count ≡ most_script + 1 → taken ≡ most_script) }
+    ensures bytes { ReadConsumes (R.left source.old) (R.left source.new) result buf.new }
+    ensures cause { HasCause (R.faults source.old) (R.faults source.new) result }
+{
+    let ask = if taken < MOST_SCRIPT {
+        MOST_TURN.min(MOST_SCRIPT - taken)
+    } else {
+        1
+    };
+    source.take(&mut buf[..ask])
+}
+
+/// So many bytes to take a turn's bytes into.
+fn room(alloc: Global, size: usize) -> Result<Vec<u8>, AllocError>
+    ensures { IfOk result (λ buf. length buf.items ≡ size) }
+{
+    Ok(vec![in alloc; 0; size]?)
+}
+
+/// Takes the script to its end, and answers each line that ends in a turn's bytes before it takes the next turn's.
+fn take_turns<F: Files, R: Source, W: Sink, L: Ledger>(
+    alloc: Global,
+    buf: &mut [u8],
+    reading: &mut Reading,
+    files: &mut F,
+    source: &mut R,
+    sink: &mut W,
+    steps: &mut Steps<L>,
+) -> Result<(), Stop>
+    requires room { length buf.old ≡ most_turn }
+    requires start { IsAtStart reading.old }
+    ensures ok { OnOk result (TakesAll
+        (shown (F.told files.old) (F.failed files.old) (W.written sink.old) steps.old)
+        (shown (F.told files.new) (F.failed files.new) (W.written sink.new) steps.new)
+        (R.left source.old) (R.left source.new) reading.new) }
+    ensures err { ForErr result (λ stop. ForSome (R.left source.old) (λ script. RunMeets
+        (shown (F.told files.old) (F.failed files.old) (W.written sink.old) steps.old)
+        (shown (F.told files.new) (F.failed files.new) (W.written sink.new) steps.new)
+        script (R.left source.new) (Err stop))) }
+    ensures same { F.told files.new ≡ F.told files.old }
+    ensures kept { result ≢ Err Stop.File → F.failed files.new ≡ F.failed files.old }
+    ensures file { Caused Stop.File (F.faults files.old) (F.faults files.new) result }
+    ensures read { Caused Stop.Read (R.faults source.old) (R.faults source.new) result }
+    ensures write { Caused Stop.Write (W.faults sink.old) (W.faults sink.new) result }
+{
+    let mut taken = 0;
+    'turns: loop {
+        let count = match next_turn(source, buf, taken) {
+            Ok(count) => count,
+            Err(_) => return Err(Stop::Read),
+        };
+        if count == 0 {
+            return Ok(());
+        }
+        taken += count;
+        if taken > MOST_SCRIPT {
+            return Err(Stop::Long);
+        }
+        feed(alloc, reading, &buf[..count], files, sink, steps)?;
+    }
+}
+
+/// What a script has made that was read and answered to its end.
+#[derive(Drop)]
+pub struct Ended {
+    /// Whether an answer was a refusal.
+    pub refused: bool,
+    /// What its lines have made.
+    pub script: Script,
+}
+
+/// Runs a script as [`run`] does, and gives what its lines have made.
+pub fn run_to_end<F: Files, R: Source, W: Sink, L: Ledger>(
+    alloc: Global,
+    files: &mut F,
+    source: &mut R,
+    sink: &mut W,
+    steps: &mut Steps<L>,
+) -> Result<Ended, Stop>
+    ensures script { ForSome (R.left source.old) (λ script. RunMeets
+        (shown (F.told files.old) (F.failed files.old) (W.written sink.old) steps.old)
+        (shown (F.told files.new) (F.failed files.new) (W.written sink.new) steps.new)
+        script (R.left source.new) (refused_of result)) }
+    ensures standing { IfOk result (λ ended. ForSome (R.left source.old) (λ script.
+        ForSome (F.told files.old) (λ files. EndsAt files script ended.script))) }
+    ensures same { F.told files.new ≡ F.told files.old }
+    ensures kept { result ≢ Err Stop.File → F.failed files.new ≡ F.failed files.old }
+    ensures file { Caused Stop.File (F.faults files.old) (F.faults files.new) result }
+    ensures read { Caused Stop.Read (R.faults source.old) (R.faults source.new) result }
+    ensures write { Caused Stop.Write (W.faults sink.old) (W.faults sink.new) result }
+{
+    let mut buf = room(alloc, MOST_TURN)?;
+    let mut reading = Reading::new(alloc);
+    take_turns(alloc, &mut buf, &mut reading, files, source, sink, steps)?;
+    let refused = last_line(alloc, &mut reading, files, sink, steps)?;
+    Ok(Ended {
+        refused,
+        script: reading.script,
+    })
+}
+
+/// Runs a script: takes it from the source turn by turn, and answers each line before bytes past its turn are taken.
+/// `Ok` says whether an answer was a refusal. The counter rises by the steps of the accepted edits.
+///
+/// A script has at most [`MOST_SCRIPT`] bytes. A line of more than [`MOST_LINE`](crate::MOST_LINE) bytes is
+/// answered once, and of its bytes no more than that many and one are kept.
+pub fn run<F: Files, R: Source, W: Sink, L: Ledger>(
+    alloc: Global,
+    files: &mut F,
+    source: &mut R,
+    sink: &mut W,
+    steps: &mut Steps<L>,
+) -> Result<bool, Stop>
+    ensures script { ForSome (R.left source.old) (λ script. RunMeets
+        (shown (F.told files.old) (F.failed files.old) (W.written sink.old) steps.old)
+        (shown (F.told files.new) (F.failed files.new) (W.written sink.new) steps.new)
+        script (R.left source.new) result) }
+    ensures same { F.told files.new ≡ F.told files.old }
+    ensures kept { result ≢ Err Stop.File → F.failed files.new ≡ F.failed files.old }
+    ensures file { Caused Stop.File (F.faults files.old) (F.faults files.new) result }
+    ensures read { Caused Stop.Read (R.faults source.old) (R.faults source.new) result }
+    ensures write { Caused Stop.Write (W.faults sink.old) (W.faults sink.new) result }
+{
+    let ended = run_to_end(alloc, files, source, sink, steps)?;
+    Ok(ended.refused)
+}
