@@ -14,9 +14,10 @@ pub record Accepted : Type 0 where
 abbrev pub accepted : Seen → Accepted
 accepted p = record { plan = p.plan; limits = p.limits; meaning = meaning p }
 
--- the entries of a calendar, each plan without its code
+-- an entry of a calendar, its plan without its code
 abbrev pub accepted_entry : Entry Seen → Entry Accepted
 accepted_entry e = (e.0, accepted e.1)
 
+-- the entries of a calendar, each plan without its code
 abbrev pub plans_in : List (Entry Seen) → List (Entry Accepted)
 plans_in es = map accepted_entry es

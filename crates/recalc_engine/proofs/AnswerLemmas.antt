@@ -53,7 +53,8 @@ module _ (book : Contents) (r : Record) where
     where
       by : (other : Answer) → EditAnswers book (add r) other → other ≡ Err refusal.Records
       by (Ok next) h = absurd (omega (arith, full.full, h.0.room))
-      by (Err (refusal.Present k)) h = absurd (none_or_some (run_at book.years (key_of r)) full.free (subst (λ t. IsSome (run_at book.years t)) h.0 h.1))
+      by (Err (refusal.Present k)) h =
+          absurd (none_or_some (run_at book.years (key_of r)) full.free (subst (λ t. IsSome (run_at book.years t)) h.0 h.1))
       by (Err refusal.Records) h = refl
       by (Err (refusal.Memory x)) h = absurd h
       by (Err (refusal.Absent e w)) h = absurd h
@@ -66,7 +67,8 @@ module _ (book : Contents) (r : Record) where
     where
       by : (other : Answer) → EditAnswers book (add r) other → other ≡ Ok (edited (add r) book)
       by (Ok next) h = ap (λ t. Ok t) h.1
-      by (Err (refusal.Present k)) h = absurd (none_or_some (run_at book.years (key_of r)) can.free (subst (λ t. IsSome (run_at book.years t)) h.0 h.1))
+      by (Err (refusal.Present k)) h =
+          absurd (none_or_some (run_at book.years (key_of r)) can.free (subst (λ t. IsSome (run_at book.years t)) h.0 h.1))
       by (Err refusal.Records) h = absurd (omega (arith, can.room, h.full))
       by (Err (refusal.Memory x)) h = absurd h
       by (Err (refusal.Absent e w)) h = absurd h
@@ -102,20 +104,24 @@ day_month d = search rules
 abbrev month_of : Day → Month
 month_of d = make_month d.year d.month (day_month d)
 
-same_month : (y m : ℕ) (x : IsMonth y m) (y' m' : ℕ) → y ≡ y' → m ≡ m' → (x' : IsMonth y' m') → make_month y m x ≡ make_month y' m' x'
+same_month : (y m : ℕ) (x : IsMonth y m) (y' m' : ℕ) → y ≡ y' → m ≡ m' → (x' : IsMonth y' m') →
+    make_month y m x ≡ make_month y' m' x'
 same_month y m x y' m' ey em =
     subst (λ (b : ℕ). (z : IsMonth y' b) → make_month y m x ≡ make_month y' b z) em
     (subst (λ (a : ℕ). (z : IsMonth a m) → make_month y m x ≡ make_month a m z) ey (λ z. ap (make_month y m) (month_prop y m x z)))
 
 month_is : (d : Day) (w : When) → IsMonthOf d w → w ≡ when.Month (month_of d)
-month_is d (when.Month m) h = ap (λ t. when.Month t) (same_month m.year m.month m.exists d.year d.month h.0 h.1 (month_of d).exists)
+month_is d (when.Month m) h =
+    ap (λ t. when.Month t) (same_month m.year m.month m.exists d.year d.month h.0 h.1 (month_of d).exists)
 month_is d (when.Day e) h = absurd h
 
 module _ (book : Contents) (r : Record) where
   change_absent : source_of book.years r ≡ Empty → HasOneAnswer book (change r)
-  change_absent none = record { answer = Err (refusal.Absent r.employee (when.Month (month_of r.day))); says = (refl, (refl, refl), none); alone = by }
+  change_absent none =
+      record { answer = Err (refusal.Absent r.employee (when.Month (month_of r.day))); says = (refl, (refl, refl), none); alone = by }
     where
-      by : (other : Answer) → EditAnswers book (change r) other → other ≡ Err (refusal.Absent r.employee (when.Month (month_of r.day)))
+      by : (other : Answer) → EditAnswers book (change r) other →
+          other ≡ Err (refusal.Absent r.employee (when.Month (month_of r.day)))
       by (Ok next) h = absurd (subst IsOne none h.0)
       by (Err (refusal.Absent e w)) h = λ i. Err (refusal.Absent (h.0 i) (month_is r.day w h.1 i))
       by (Err (refusal.Several e m)) h = absurd (let p = h.2 in cc)
@@ -126,12 +132,15 @@ module _ (book : Contents) (r : Record) where
       by (Err (refusal.NoPlanThere d)) h = absurd h
 
   change_several : source_of book.years r ≡ Several → HasOneAnswer book (change r)
-  change_several some = record { answer = Err (refusal.Several r.employee (month_of r.day)); says = (refl, (refl, refl), some); alone = by }
+  change_several some =
+      record { answer = Err (refusal.Several r.employee (month_of r.day)); says = (refl, (refl, refl), some); alone = by }
     where
-      by : (other : Answer) → EditAnswers book (change r) other → other ≡ Err (refusal.Several r.employee (month_of r.day))
+      by : (other : Answer) → EditAnswers book (change r) other →
+          other ≡ Err (refusal.Several r.employee (month_of r.day))
       by (Ok next) h = absurd (subst IsOne some h.0)
       by (Err (refusal.Absent e w)) h = absurd (let p = h.2 in cc)
-      by (Err (refusal.Several e m)) h = λ i. Err (refusal.Several (h.0 i) (same_month m.year m.month m.exists r.day.year r.day.month h.1.0 h.1.1 (month_of r.day).exists i))
+      by (Err (refusal.Several e m)) h =
+          λ i. Err (refusal.Several (h.0 i) (same_month m.year m.month m.exists r.day.year r.day.month h.1.0 h.1.1 (month_of r.day).exists i))
       by (Err (refusal.Present k)) h = absurd h
       by (Err refusal.Records) h = absurd h
       by (Err (refusal.Memory x)) h = absurd h
@@ -139,7 +148,8 @@ module _ (book : Contents) (r : Record) where
       by (Err (refusal.NoPlanThere d)) h = absurd h
 
   change_made : (k : Key) → source_of book.years r ≡ One k → HasOneAnswer book (change r)
-  change_made k one = record { answer = Ok (edited (change r) book); says = (subst IsOne (sym one) tt, refl); alone = by }
+  change_made k one =
+      record { answer = Ok (edited (change r) book); says = (subst IsOne (sym one) tt, refl); alone = by }
     where
       by : (other : Answer) → EditAnswers book (change r) other → other ≡ Ok (edited (change r) book)
       by (Ok next) h = ap (λ t. Ok t) h.1
@@ -176,7 +186,8 @@ module _ (book : Contents) (e : List ℕ) (w : When) where
       by (Err (refusal.NoPlanThere d)) h = absurd h
 
   withdraw_made : (k : Key) → withdrawal book.years e w ≡ One k → HasOneAnswer book (withdraw e w)
-  withdraw_made k one = record { answer = Ok (edited (withdraw e w) book); says = (subst IsOne (sym one) tt, refl); alone = by }
+  withdraw_made k one =
+      record { answer = Ok (edited (withdraw e w) book); says = (subst IsOne (sym one) tt, refl); alone = by }
     where
       by : (other : Answer) → EditAnswers book (withdraw e w) other → other ≡ Ok (edited (withdraw e w) book)
       by (Ok next) h = ap (λ t. Ok t) h.1
@@ -188,7 +199,8 @@ module _ (book : Contents) (e : List ℕ) (w : When) where
       by (Err refusal.Plans) h = absurd h
       by (Err (refusal.NoPlanThere d)) h = absurd h
 
-  withdraw_several : (m : Month) → w ≡ when.Month m → withdrawal book.years e w ≡ Several → HasOneAnswer book (withdraw e w)
+  withdraw_several : (m : Month) → w ≡ when.Month m → withdrawal book.years e w ≡ Several →
+      HasOneAnswer book (withdraw e w)
   withdraw_several m month some = record { answer = Err (refusal.Several e m); says = (refl, month, some); alone = by }
     where
       one_month : (a b : Month) → when.Month a ≡ when.Month b → a ≡ b
@@ -208,7 +220,8 @@ not_several : (b : Bool) (k : Key) → (if b then One k else Empty) ≡ Several 
 not_several true k h = cc
 not_several false k h = cc
 
-withdraw_of_several : (book : Contents) (e : List ℕ) (w : When) → withdrawal book.years e w ≡ Several → HasOneAnswer book (withdraw e w)
+withdraw_of_several : (book : Contents) (e : List ℕ) (w : When) → withdrawal book.years e w ≡ Several →
+    HasOneAnswer book (withdraw e w)
 withdraw_of_several book e (when.Month m) h = withdraw_several book e (when.Month m) m refl h
 withdraw_of_several book e (when.Day d) h =
     let k : Key = record { employee = e; day = d } in
@@ -231,7 +244,8 @@ record IsTaken (years : List YearRuns) (items : List Record) : Type 0 where
   key : Key
   is : (d : Record) → key ≡ key_of (get_or items place d)
 
-taken_first : (years : List YearRuns) (r : Record) (rs : List Record) → IsSome (run_at years (key_of r)) → IsTaken years (r ∷ rs)
+taken_first : (years : List YearRuns) (r : Record) (rs : List Record) → IsSome (run_at years (key_of r)) →
+    IsTaken years (r ∷ rs)
 taken_first years r rs there = record {
   place = 0;
   first = record { within = omega arith; present = λ d. there; earlier = λ j d lt. absurd (omega (arith, lt)) };
@@ -239,10 +253,12 @@ taken_first years r rs there = record {
   is = λ d. refl;
 }
 
-taken_later : (years : List YearRuns) (r : Record) (rs : List Record) → IsFree years r → IsTaken years rs → IsTaken years (r ∷ rs)
+taken_later : (years : List YearRuns) (r : Record) (rs : List Record) → IsFree years r → IsTaken years rs →
+    IsTaken years (r ∷ rs)
 taken_later years r rs free taken = record {
   place = suc taken.place;
-  first = record { within = omega (arith, taken.first.within); present = λ d. taken.first.present d; earlier = earlier };
+  first =
+      record { within = omega (arith, taken.first.within); present = λ d. taken.first.present d; earlier = earlier };
   key = taken.key;
   is = taken.is;
 }
@@ -251,16 +267,19 @@ taken_later years r rs free taken = record {
     earlier zero d lt = free
     earlier (suc j) d lt = taken.first.earlier j d (omega (arith, lt))
 
-taken_or_free : (years : List YearRuns) (items : List Record) → IsTaken years items ⊎ AllByRecursion (IsFree years) items
+taken_or_free : (years : List YearRuns) (items : List Record) →
+    IsTaken years items ⊎ AllByRecursion (IsFree years) items
 taken_or_free years [] = inr tt
 taken_or_free years (r ∷ rs) = by (run_at years (key_of r)) refl (taken_or_free years rs)
   where
-    by : (o : Option Record) → run_at years (key_of r) ≡ o → IsTaken years rs ⊎ AllByRecursion (IsFree years) rs → IsTaken years (r ∷ rs) ⊎ AllByRecursion (IsFree years) (r ∷ rs)
+    by : (o : Option Record) → run_at years (key_of r) ≡ o → IsTaken years rs ⊎ AllByRecursion (IsFree years) rs →
+        IsTaken years (r ∷ rs) ⊎ AllByRecursion (IsFree years) (r ∷ rs)
     by None e (inl taken) = inl (taken_later years r rs (subst IsNone (sym e) refl) taken)
     by None e (inr free) = inr (subst IsNone (sym e) refl, free)
     by (Some s) e more = inl (taken_first years r rs (subst IsSome (sym e) refl))
 
-free_at : (years : List YearRuns) (items : List Record) (i : ℕ) (d : Record) → i < length items → AllByRecursion (IsFree years) items → IsFree years (get_or items i d)
+free_at : (years : List YearRuns) (items : List Record) (i : ℕ) (d : Record) → i < length items →
+    AllByRecursion (IsFree years) items → IsFree years (get_or items i d)
 free_at years [] i d lt free = absurd (omega (arith, lt))
 free_at years (r ∷ rs) zero d lt free = free.0
 free_at years (r ∷ rs) (suc i) d lt free = free_at years rs i d (omega (arith, lt)) free.1
@@ -270,17 +289,21 @@ some_record : (items : List Record) (i : ℕ) → i < length items → Record
 some_record [] i lt = absurd (omega (arith, lt))
 some_record (r ∷ rs) i lt = r
 
-not_free : (years : List YearRuns) (items : List Record) (i : ℕ) → IsFirstPresent years items i → AllByRecursion (IsFree years) items → ⊥
+not_free : (years : List YearRuns) (items : List Record) (i : ℕ) → IsFirstPresent years items i →
+    AllByRecursion (IsFree years) items → ⊥
 not_free years items i first free =
     let d = some_record items i first.within in
-    none_or_some (run_at years (key_of (get_or items i d))) (free_at years items i d first.within free) (first.present d)
+    none_or_some (run_at years (key_of (get_or items i d))) (free_at years items i d first.within free)
+    (first.present d)
 
-not_before : (years : List YearRuns) (items : List Record) (i j : ℕ) → IsFirstPresent years items i → IsFirstPresent years items j → i < j → ⊥
+not_before : (years : List YearRuns) (items : List Record) (i j : ℕ) → IsFirstPresent years items i →
+    IsFirstPresent years items j → i < j → ⊥
 not_before years items i j first second lt =
     let d = some_record items i first.within in
     none_or_some (run_at years (key_of (get_or items i d))) (second.earlier i d lt) (first.present d)
 
-one_place : (years : List YearRuns) (items : List Record) (i j : ℕ) → IsFirstPresent years items i → IsFirstPresent years items j → i ≡ j
+one_place : (years : List YearRuns) (items : List Record) (i j : ℕ) → IsFirstPresent years items i →
+    IsFirstPresent years items j → i ≡ j
 one_place years items i j first second = elim (cases_lt i j) [
   | inl lt ↦ absurd (not_before years items i j first second lt)
   | inr ge ↦ elim (cases_lt j i) [
@@ -291,7 +314,8 @@ one_place years items i j first second = elim (cases_lt i j) [
 
 module _ (book : Contents) (items : List Record) where
   load_taken : IsTaken book.years items → HasOneAnswer book (load items)
-  load_taken taken = record { answer = Err (refusal.Present taken.key); says = (taken.place, taken.first, taken.is); alone = by }
+  load_taken taken =
+      record { answer = Err (refusal.Present taken.key); says = (taken.place, taken.first, taken.is); alone = by }
     where
       by : (other : Answer) → EditAnswers book (load items) other → other ≡ Err (refusal.Present taken.key)
       by (Ok next) h = absurd (not_free book.years items taken.place taken.first h.0.free)
@@ -381,7 +405,8 @@ module _ (book : Contents) (p : Entry Accepted) where
     where
       by : (o : Option (Entry Accepted)) → entry_at book.plans (day_of p) ≡ o → HasOneAnswer book (put p)
       by None e = put_new (subst IsNone (sym e) refl)
-      by (Some q) e = put_made (λ full. none_or_some (entry_at book.plans (day_of p)) full.free (subst IsSome (sym e) refl))
+      by (Some q) e =
+          put_made (λ full. none_or_some (entry_at book.plans (day_of p)) full.free (subst IsSome (sym e) refl))
 
 module _ (book : Contents) (d : Day) where
   drop_none : IsNone (entry_at book.plans d) → HasOneAnswer book (drop d)

@@ -43,7 +43,8 @@ module _ {K X : Type 0} (cmp : K → K → Ordering) (total : IsTotalOrder cmp) 
   no_some : (o : Option X) (y : X) → o ≡ None → o ≡ Some y → ⊥
   no_some o y e f = cc
 
-  pub put_again : (xs : List X) (y : X) → IsRising cmp key xs → at_key cmp key xs (key y) ≡ Some y → put cmp key y xs ≡ xs
+  pub put_again : (xs : List X) (y : X) → IsRising cmp key xs → at_key cmp key xs (key y) ≡ Some y →
+      put cmp key y xs ≡ xs
   put_again [] y rising h = cc
   put_again (x ∷ xs) y rising h = (elim (cmp (key y) (key x)) as (λ o. cmp (key y) (key x) ≡ o → put_by o y x xs (put cmp key y xs) ≡ x ∷ xs) [
     | Less ↦ λ e. absurd (no_some (at_key cmp key (x ∷ xs) (key y)) y
@@ -70,7 +71,8 @@ one_meaning p q hp hq plan limits =
     let m = same_meaning p.meaning q.meaning (one p.plan p.limits (Ok p.meaning) (Ok q.meaning) hp hq') in
     λ i. record { plan = plan i; limits = limits i; meaning = m i }
 
-plan_at : (es : List (Entry Accepted)) (d : Day) (e : Entry Accepted) → ArePlans es → entry_at es d ≡ Some e → IsPlan (plan_of e)
+plan_at : (es : List (Entry Accepted)) (d : Day) (e : Entry Accepted) → ArePlans es → entry_at es d ≡ Some e →
+    IsPlan (plan_of e)
 plan_at [] d e all h = cc
 plan_at (x ∷ es) d e all h = (elim (is_eq (day_cmp (day_of x) d)) as (λ b. (if b then Some x else entry_at es d) ≡ Some e → IsPlan (plan_of e)) [
   | true ↦ λ g. subst (λ t. IsPlan (plan_of t)) (one_entry x e g) all.0
@@ -81,10 +83,12 @@ plan_at (x ∷ es) d e all h = (elim (is_eq (day_cmp (day_of x) d)) as (λ b. (i
     one_entry x y e = cc e
 
 -- the plans stay as they are
-plans_stay : (book : Contents) (e : Entry Accepted) → IsBook book → IsPlan (plan_of e) → HasTexts (entry_at book.plans (day_of e)) (plan_of e) → with_entry e book.plans ≡ book.plans
+plans_stay : (book : Contents) (e : Entry Accepted) → IsBook book → IsPlan (plan_of e) →
+    HasTexts (entry_at book.plans (day_of e)) (plan_of e) → with_entry e book.plans ≡ book.plans
 plans_stay book e is plan texts = by (entry_at book.plans (day_of e)) refl texts
   where
-    by : (o : Option (Entry Accepted)) → entry_at book.plans (day_of e) ≡ o → HasTexts o (plan_of e) → with_entry e book.plans ≡ book.plans
+    by : (o : Option (Entry Accepted)) → entry_at book.plans (day_of e) ≡ o → HasTexts o (plan_of e) →
+        with_entry e book.plans ≡ book.plans
     by None h t = absurd t
     by (Some x) h t =
         let day : day_of x ≡ day_of e = day_same (day_of x) (day_of e) (at_key_tied day_cmp day_of book.plans (day_of e) x h) in
@@ -94,7 +98,10 @@ plans_stay book e is plan texts = by (entry_at book.plans (day_of e)) refl texts
 
 -- ---- a book has nothing to run against itself
 
-quiet_all : (book : Contents) (ys : List YearRuns) → AllByRecursion (λ y. at_key year_cmp runs_key book.years y.key ≡ Some y) ys → AllByRecursion (λ y. IsRising day_cmp record_day y.runs) ys → AllByRecursion (IsQuiet (pick book.plans) book.years) ys
+quiet_all : (book : Contents) (ys : List YearRuns) →
+    AllByRecursion (λ y. at_key year_cmp runs_key book.years y.key ≡ Some y) ys →
+    AllByRecursion (λ y. IsRising day_cmp record_day y.runs) ys →
+    AllByRecursion (IsQuiet (pick book.plans) book.years) ys
 quiet_all book [] found days = tt
 quiet_all book (y ∷ ys) found days =
     let runs : runs_of book.years y.key ≡ y.runs = ap runs_or_none found.0 in
@@ -102,7 +109,8 @@ quiet_all book (y ∷ ys) found days =
 
 pub book_quiet : (book : Contents) → AreInOrder book.years → jobs_between book book ≡ []
 book_quiet book order =
-    jobs_quiet (pick book.plans) book.years book.years (quiet_all book book.years (found_each year_cmp year_total runs_key book.years order.rising) order.days)
+    jobs_quiet (pick book.plans) book.years book.years
+    (quiet_all book book.years (found_each year_cmp year_total runs_key book.years order.rising) order.days)
 
 pub same_texts : SameTextsChangeNothing
 same_texts book e is plan texts =
@@ -112,14 +120,17 @@ same_texts book e is plan texts =
 
 -- ---- a run that has a job is done
 
-filled_done : (e : Entry Accepted) (d : Day) (f : Filled) (j : Job) → (row_filled e d f).job ≡ Some j → (row_filled e d f).state ≡ state.Done (run_outputs j.plan j.inputs)
-filled_done e d (filling.Inputs inputs) j h = let same = one_job (record { plan = plan_of e; inputs = inputs }) j h in ap (λ (t : Job). state.Done (run_outputs t.plan t.inputs)) same
+filled_done : (e : Entry Accepted) (d : Day) (f : Filled) (j : Job) → (row_filled e d f).job ≡ Some j →
+    (row_filled e d f).state ≡ state.Done (run_outputs j.plan j.inputs)
+filled_done e d (filling.Inputs inputs) j h =
+    let same = one_job (record { plan = plan_of e; inputs = inputs }) j h in ap (λ (t : Job). state.Done (run_outputs t.plan t.inputs)) same
   where
     one_job : (x y : Job) → ◌≡◌ {A = Option Job} (Some x) (Some y) → x ≡ y
     one_job x y e = cc e
 filled_done e d (filling.State why) j h = cc
 
-row_done : (o : Option (Entry Accepted)) (earlier : List Earlier) (r : Record) (j : Job) → (row_of o earlier r).job ≡ Some j → (row_of o earlier r).state ≡ state.Done (run_outputs j.plan j.inputs)
+row_done : (o : Option (Entry Accepted)) (earlier : List Earlier) (r : Record) (j : Job) →
+    (row_of o earlier r).job ≡ Some j → (row_of o earlier r).state ≡ state.Done (run_outputs j.plan j.inputs)
 row_done None earlier r j h = cc
 row_done (Some e) earlier r j h = filled_done e r.day (filled (plan_of e) r.values earlier) j h
 

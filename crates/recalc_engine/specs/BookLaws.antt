@@ -41,6 +41,7 @@ pub record IsBook (book : Contents) : Type 0 where
 
 -- ---- laws: the rows of a book
 
+-- the employee and the day of a row
 abbrev pub row_key : KeyedRow → Key
 row_key row = row.key
 
@@ -70,11 +71,12 @@ HasTexts (Some e) p = ((plan_of e).plan ≡ p.plan) × ((plan_of e).limits ≡ p
 abbrev pub idle : Contents → Contents
 idle book = record { years = book.years; plans = book.plans; last = record { runs = 0; steps = 0 } }
 
--- a plan put in place of one with its texts changes nothing, and makes no job new
+-- the plan put makes no job new, and leaves the book as it is
 pub record PutsTheSame (book : Contents) (e : Entry Accepted) : Type 0 where
   pub jobs : jobs_between book (edited (put e) book) ≡ []
   pub book_is : edited (put e) book ≡ idle book
 
+-- so it is of each plan put in place of one with its texts
 abbrev pub SameTextsChangeNothing : Type 0
 SameTextsChangeNothing =
     (book : Contents) (e : Entry Accepted) → IsBook book → IsPlan (plan_of e)

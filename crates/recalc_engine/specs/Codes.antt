@@ -6,11 +6,13 @@ use base.Stored.{Gv, gnil, gnum, gcons, num, Coded, coded_list, coded_ℕ}
 use Rattle.pap_tree.specs.Flowchart.{Body, done, eval, branch, execute}
 use Rattle.pap_tree.specs.Term.{Leaf, One, Two, Term, leaf, item, one, two, choice}
 
+-- the first side of a tree of numbers
 abbrev first : Gv → Gv
 first gnil = gnil
 first (gnum n) = gnil
 first (gcons a b) = a
 
+-- its second side
 abbrev second : Gv → Gv
 second gnil = gnil
 second (gnum n) = gnil
@@ -20,13 +22,16 @@ second (gcons a b) = b
 abbrev tag : Gv → ℕ
 tag g = num (first g)
 
+-- a name as such a tree
 abbrev names : Coded (List ℕ)
 names = coded_list coded_ℕ
 
+-- the tests of two tags don't agree
 differ : true ≡ false → ⊥
 differ e = false≢true (sym e)
 
 module _ (leaves : Coded Leaf) (ones : Coded One) (twos : Coded Two) where
+  -- an expression as a tree of numbers
   pub term_tree : Term → Gv
   term_tree (leaf l) = gcons (gnum 0) (leaves.code l)
   term_tree (item x t) = gcons (gnum 1) (gcons (names.code x) (term_tree t))
@@ -36,6 +41,7 @@ module _ (leaves : Coded Leaf) (ones : Coded One) (twos : Coded Two) where
   term_tree (choice c a b) =
       gcons (gnum 4) (gcons (term_tree c) (gcons (term_tree a) (term_tree b)))
 
+  -- which tells expressions apart
   pub same_term : (s t : Term) → term_tree s ≡ term_tree t → s ≡ t
   unfolding term_tree
   same_term (leaf l) (leaf m) p = ap leaf (leaves.inj l m (ap second p))
@@ -59,6 +65,7 @@ module _ (leaves : Coded Leaf) (ones : Coded One) (twos : Coded Two) where
   same_term (two o a b) t p = absurd (differ (ap (λ g. nat_eq 3 (tag g)) p))
   same_term (choice c a b) t p = absurd (differ (ap (λ g. nat_eq 4 (tag g)) p))
 
+  -- a list of statements as a tree of numbers
   pub body_tree : Body → Gv
   body_tree done = gcons (gnum 0) gnil
   body_tree (eval x t b) = gcons (gnum 1) (gcons (names.code x) (gcons (term_tree t) (body_tree b)))
@@ -66,6 +73,7 @@ module _ (leaves : Coded Leaf) (ones : Coded One) (twos : Coded Two) where
       gcons (gnum 2) (gcons (term_tree t) (gcons (body_tree a) (gcons (body_tree b) (body_tree c))))
   body_tree (execute x b) = gcons (gnum 3) (gcons (names.code x) (body_tree b))
 
+  -- which tells lists of statements apart
   pub same_body : (a b : Body) → body_tree a ≡ body_tree b → a ≡ b
   unfolding body_tree
   same_body done done p = λ i. done
@@ -86,5 +94,6 @@ module _ (leaves : Coded Leaf) (ones : Coded One) (twos : Coded Two) where
   same_body (branch t a b c) d p = absurd (differ (ap (λ g. nat_eq 2 (tag g)) p))
   same_body (execute x a) b p = absurd (differ (ap (λ g. nat_eq 3 (tag g)) p))
 
+  -- so statements have a code
   abbrev pub body_code : Coded Body
   body_code = record { code = body_tree; inj = same_body }

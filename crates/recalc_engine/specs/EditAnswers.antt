@@ -70,8 +70,7 @@ pub record HasOneAnswer (book : Contents) (e : Edit) : Type 0 where
   pub says : EditAnswers book e answer
   pub alone : (other : Result Contents EditRefusal) → EditAnswers book e other → other ≡ answer
 
--- what a call that makes an edit comes to: the book is as the edit answers; out of memory it is as before, though the edit
--- has a book
+-- what a call that makes an edit comes to; out of memory the book is as before, though the edit has one
 abbrev pub IsEdited : Contents → Edit → Contents → Result Work EditRefusal → Type 0
 IsEdited old e new (Ok work) = EditAnswers old e (Ok new) × (work ≡ new.last)
 IsEdited old e new (Err (refusal.Memory error)) =
@@ -80,5 +79,6 @@ IsEdited old e new (Err why) = EditAnswers old e (Err why) × (new ≡ old)
 
 -- ---- a law
 
+-- so it is of every edit of every book
 abbrev pub EditsHaveOneAnswer : Type 0
 EditsHaveOneAnswer = (book : Contents) (e : Edit) → HasOneAnswer book e
