@@ -1,0 +1,7 @@
+mod NameLemmas
+mod OperationLemmas
+mod ExpressionLemmas
+mod StartLemmas
+mod CountLemmas
+mod PutLemmas
+mod MethodLemmas

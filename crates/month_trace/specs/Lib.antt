@@ -1,0 +1,5 @@
+pub mod Traces
+pub mod TraceLaws
+pub mod ValueViews
+pub mod OperationViews
+pub mod WalkViews

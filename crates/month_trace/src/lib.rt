@@ -1,0 +1,11 @@
+//! The trace of a run: each statement that was executed, with what it did.
+#![tactic(auto)]
+
+mod expressions;
+mod lists;
+mod operations;
+mod statements;
+mod step;
+mod values;
+
+pub use step::TraceStep;
