@@ -5,3 +5,5 @@ mod StartLemmas
 mod CountLemmas
 mod PutLemmas
 mod MethodLemmas
+mod RunLemmas
+mod ThereLemmas

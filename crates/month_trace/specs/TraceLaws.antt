@@ -13,7 +13,7 @@ use Rattle.month_trace.specs.Traces.{trace_of}
 
 -- the value that a step puts into the variable of a name
 abbrev pub value_set : List ℕ → TraceStep → Option Decimal
-value_set x (Set m n y v) = if bytes_eq y x then Some v else None
+value_set x (Set m n y v) = if bytes_eq x y then Some v else None
 value_set x (Test m n holds) = None
 value_set x (Enter m n callee) = None
 

@@ -6,6 +6,8 @@ mod lists;
 mod operations;
 mod statements;
 mod step;
+mod trace;
 mod values;
 
 pub use step::TraceStep;
+pub use trace::{trace_laws, trace_run};
