@@ -7,3 +7,5 @@ mod PutLemmas
 mod MethodLemmas
 mod RunLemmas
 mod ThereLemmas
+mod ReplayLemmas
+mod OutputLemmas

@@ -1,22 +1,25 @@
 -- The bodies of a plan's methods.
 use Rattle.std.proofs.Common.{◌≡◌, ℕ, suc, ◌+◌, ◌<◌, ◌≤◌, ◌^◌, Bool, true, false, List, [], ◌∷◌, Some, None, refl, sym, ap, ◌∙◌, subst, arith, cond}
-use Rattle.std.specs.Prelude.{All, slice_get, not, if◌then◌else◌}
+use Rattle.std.specs.Prelude.{All, IsSome, slice_get, not, if◌then◌else◌}
 use Rattle.std.specs.Option.{option_map}
 use Rattle.std.specs.Str.{bytes_eq}
 use Rattle.std.proofs.lemmas.List.{length-map}
 use Rattle.std.proofs.lemmas.List.Elements.{All-head, All-tail}
 use Rattle.std.proofs.lemmas.Option.{slice_get_past, none-some}
+use Rattle.scaled_decimal.specs.Decimals.{Decimal}
 use Rattle.pap_tree.specs.declared.plan.PlanText.{PlanText}
 use Rattle.pap_tree.specs.Flowchart.{Body, Routine, flowchart_of}
 use Rattle.pap_tree.specs.Statements.{written}
 use Rattle.pap_types.specs.Checks.{IsWellTyped}
 use Rattle.pap_types.specs.Counts.{IsWithinCounts, methods_written}
+use Rattle.pap_types.specs.Meaning.{longest_chain, IsSafeFor}
+use Rattle.pap_types.specs.Runs.{after, IsSafeBody}
 use Rattle.pap_types.specs.Routines.{body_named, method_names}
 use Rattle.pap_types.specs.Scopes.{number_of}
 use Rattle.pap_types.specs.Typing.{IsTypedBody}
 use Rattle.pap_types.proofs.Laws.{has_types}
-use Rattle.month_trace.specs.ValueViews.{scope_in}
-use Rattle.month_trace.specs.WalkViews.{methods_in, IsMethodBody}
+use Rattle.month_trace.specs.ValueViews.{scope_in, values_in, IsStart}
+use Rattle.month_trace.specs.WalkViews.{methods_in, calls_by, CanRun, IsMethodBody}
 use Rattle.month_trace.proofs.NameLemmas.{place_of, number_in, number_past}
 
 body_at : (ms : List Routine) (x : List ℕ) → option_map (λ m. m.body) (slice_get ms (place_of (method_names ms) x)) ≡ body_named ms x
@@ -61,3 +64,19 @@ method_body p x b typed counts e =
       typed = named_has (λ m. IsTypedBody (scope_in p) (methods_in p) m.body) (IsTypedBody (scope_in p) (methods_in p)) (methods_in p) x b (λ m h. h) (has_types (flowchart_of p) typed).methods e;
       count = omega (arith, count, counts.statements);
     }
+
+-- the statements of MAIN may be run from the values with which a run begins
+pub main_runs : (p : PlanText) (inputs vs ws : List Decimal) (name : List ℕ) (b : Body) → IsWellTyped (flowchart_of p) → IsWithinCounts (flowchart_of p) → b ≡ (flowchart_of p).main → vs ≡ ws → IsStart p inputs ws → IsSafeFor (flowchart_of p) inputs
+    → CanRun p (record { method = name; at = 0; chain = longest_chain }) b vs
+main_runs p inputs vs ws name b typed counts is same begin h =
+    let f = flowchart_of p in
+    let calls = calls_by p longest_chain in
+    let leads : after (scope_in p) calls f.main (values_in p ws) ≡ Some h.ends = ap (after (scope_in p) calls f.main) begin.values ∙ h.defined in
+    let main : CanRun p (record { method = name; at = 0; chain = longest_chain }) f.main ws = record {
+      values = record { well_typed = typed; sized = begin.sized };
+      typed = (has_types f typed).main;
+      safe = subst (IsSafeBody (scope_in p) calls f.main) (sym begin.values) h.safe;
+      defined = subst (λ o. IsSome o) (sym leads) refl;
+      room = omega (arith, counts.statements);
+    } in
+    subst (λ b. CanRun p (record { method = name; at = 0; chain = longest_chain }) b vs) (sym is) (subst (CanRun p (record { method = name; at = 0; chain = longest_chain }) f.main) (sym same) main)

@@ -38,9 +38,7 @@ pub(crate) fn value_of(plan: &Typed, e: &Expr, values: &[Dec]) -> Dec
         Expr::SetScale(operand, scale, mode) => {
             value_of_rescaled(plan, operand, *scale, *mode, values)
         }
-        Expr::Choose(test, first, second) => {
-            value_of_choice(plan, test, first, second, values)
-        }
+        Expr::Choose(test, first, second) => { value_of_choice(plan, test, first, second, values) }
     }
 }
 
@@ -96,13 +94,7 @@ fn value_of_unary(plan: &Typed, op: Unary, operand: &Expr, values: &[Dec]) -> De
 
 /// `setScale`.
 #[cycle(value)]
-fn value_of_rescaled(
-    plan: &Typed,
-    operand: &Expr,
-    scale: u8,
-    mode: Mode,
-    values: &[Dec],
-) -> Dec
+fn value_of_rescaled(plan: &Typed, operand: &Expr, scale: u8, mode: Mode, values: &[Dec]) -> Dec
     requires { CanEvaluate plan.now (one_of (set_scale scale mode) operand.now) values.now }
     ensures { value_in plan.now (one_of (set_scale scale mode) operand.now) values.now
         ≡ Some result }
@@ -159,13 +151,7 @@ fn value_of_quotient(
 
 /// A conditional: the part that its test chooses.
 #[cycle(value)]
-fn value_of_choice(
-    plan: &Typed,
-    test: &Expr,
-    first: &Expr,
-    second: &Expr,
-    values: &[Dec],
-) -> Dec
+fn value_of_choice(plan: &Typed, test: &Expr, first: &Expr, second: &Expr, values: &[Dec]) -> Dec
     requires { CanEvaluate plan.now (choice_of test.now first.now second.now) values.now }
     ensures { value_in plan.now (choice_of test.now first.now second.now) values.now
         ≡ Some result }

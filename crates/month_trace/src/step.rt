@@ -15,7 +15,11 @@ pub enum TraceStep {
         value: Dec,
     },
     /// An IF, and whether its test held.
-    Test { method: Name, stmt: u32, yes: bool },
+    Test {
+        method: Name,
+        stmt: u32,
+        yes: bool,
+    },
     /// An EXECUTE, and its method.
     Enter {
         method: Name,

@@ -31,11 +31,7 @@ pub fn trace_run(alloc: Global, p: &Plan, inputs: &[Dec]) -> Result<Vec<TraceSte
 }
 
 /// The same of a plan's text.
-fn trace_text(
-    alloc: Global,
-    plan: &Typed,
-    inputs: &[Dec],
-) -> Result<Vec<TraceStep>, AllocError>
+fn trace_text(alloc: Global, plan: &Typed, inputs: &[Dec]) -> Result<Vec<TraceStep>, AllocError>
     requires { IsSafeFor (flowchart_of plan.now) inputs.now }
     ensures { IfOk result
         (λ steps. trace_of (flowchart_of plan.now) inputs.now ≡ Some steps.items) }

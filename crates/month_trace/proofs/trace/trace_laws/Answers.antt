@@ -1,8 +1,9 @@
+use Rattle.month_trace.proofs.OutputLemmas.{tells_outputs}
 use Rattle.month_trace.proofs.ThereLemmas.{one_trace}
 use Rattle.month_trace.proofs.trace.trace_laws.Goals as goal
 
 pub returns-clause-one : goal.returns-clause-one
-returns-clause-one c f inputs h = one_trace f inputs h
+returns-clause-one c = one_trace
 
 pub returns-clause-outputs : goal.returns-clause-outputs
-returns-clause-outputs c = ?
+returns-clause-outputs c = tells_outputs
