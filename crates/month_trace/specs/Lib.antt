@@ -3,3 +3,5 @@ pub mod TraceLaws
 pub mod ValueViews
 pub mod OperationViews
 pub mod WalkViews
+pub mod BookTraces
+pub mod BookViews

@@ -1,6 +1,6 @@
 use Rattle.month_trace.proofs.OutputLemmas.{tells_outputs}
 use Rattle.month_trace.proofs.ThereLemmas.{one_trace}
-use Rattle.month_trace.proofs.trace.trace_laws.Goals as goal
+use Rattle.month_trace.proofs.run.trace_laws.Goals as goal
 
 pub returns-clause-one : goal.returns-clause-one
 returns-clause-one c = one_trace

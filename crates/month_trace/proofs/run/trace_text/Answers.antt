@@ -1,7 +1,7 @@
 use Rattle.std.proofs.Common.{ap, ◌∙◌}
 use Rattle.pap_tree.specs.Flowchart.{body_of}
 use Rattle.month_trace.proofs.MethodLemmas.{main_runs}
-use Rattle.month_trace.proofs.trace.trace_text.Goals as goal
+use Rattle.month_trace.proofs.run.trace_text.Goals as goal
 
 pub run_body-requires : goal.run_body-requires
 run_body-requires c =
