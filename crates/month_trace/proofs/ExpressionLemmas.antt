@@ -1,5 +1,5 @@
 -- What may be evaluated of the parts of an expression.
-use Rattle.std.proofs.Common.{◌≡◌, ℕ, List, [], ◌∷◌, length, Bool, true, false, ◌&&◌, Option, Some, None, refl, sym, ap, ◌∙◌, subst, true≢false}
+use Rattle.std.proofs.Common.{◌≡◌, ℕ, List, [], ◌∷◌, Bool, true, false, ◌&&◌, Some, None, refl, sym, ◌∙◌, subst, true≢false}
 use Rattle.std.specs.Prelude.{IsTrue, IsSome, if◌then◌else◌}
 use Rattle.std.specs.Option.{option_and_then}
 use Rattle.std.specs.Str.{bytes_eq}
@@ -12,20 +12,20 @@ use Rattle.pap_tree.specs.declared.expression.Binary.{Binary}
 use Rattle.pap_tree.specs.declared.expression.Call.{Call}
 use Rattle.pap_tree.specs.declared.expression.Call.TheVariants as calls
 use Rattle.pap_tree.specs.Declarations.{Declaration}
-use Rattle.pap_tree.specs.Term.{Term, leaf, item, one, two, choice, Two, unary, operator, method, divide}
+use Rattle.pap_tree.specs.Term.{Term, one, two, choice, Two, unary, operator, method, divide}
 use Rattle.scaled_decimal.specs.declared.rounding.Mode.{Mode}
 use Rattle.pap_tree.specs.Flowchart.{flowchart_of}
-use Rattle.pap_types.specs.Kinds.{kind_of, is_big, shown_divisor, shows_plain_divisor, takes_two}
-use Rattle.pap_types.specs.Operations.{is_zero, of_operator, of_two}
+use Rattle.pap_types.specs.Kinds.{kind_of, is_big, shows_plain_divisor, takes_two}
+use Rattle.pap_types.specs.Operations.{is_zero, of_two}
 use Rattle.pap_types.specs.Safety.{TwoFits}
 use Rattle.pap_types.specs.Scopes.{declared_as, names_of, variables_of}
-use Rattle.pap_types.specs.Values.{look, value, goes_right}
+use Rattle.pap_types.specs.Values.{look, goes_right}
 use Rattle.pap_types.proofs.Laws.{has_types}
 use Rattle.interval_walk.specs.Soundness.{AreVariables}
 use Rattle.interval_walk.proofs.Laws.{sound_scope, shown_plain}
 use Rattle.interval_walk.proofs.ScopeLemmas.{shown_value}
 use Rattle.month_trace.specs.OperationViews.{CanTakeOne, CanOperate, IsPlainFor, CanCall, CanDivide}
-use Rattle.month_trace.specs.ValueViews.{scope_in, variables_in, with_names, values_in, value_in, HasValues, CanEvaluate}
+use Rattle.month_trace.specs.ValueViews.{scope_in, with_names, values_in, value_in, HasValues, CanEvaluate}
 use Rattle.month_trace.proofs.NameLemmas.{same_either_way}
 use Rattle.month_trace.proofs.OperationLemmas.{some_first, some_step, some_if, some_else}
 

@@ -9,3 +9,4 @@ mod RunLemmas
 mod ThereLemmas
 mod ReplayLemmas
 mod OutputLemmas
+mod BookLemmas

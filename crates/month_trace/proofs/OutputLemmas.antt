@@ -1,5 +1,5 @@
 -- The outputs behind a trace: the last values that were put.
-use Rattle.std.proofs.Common.{◌≡◌, ◌≢◌, ℕ, zero, suc, ◌+◌, ◌<◌, List, [], ◌∷◌, ◌++◌, length, map, drop, take, get_or, Bool, true, false, Option, Some, None, refl, sym, ap, ap₂, ◌∙◌, subst, arith, append_assoc, true≢false}
+use Rattle.std.proofs.Common.{◌≡◌, ◌≢◌, ℕ, suc, ◌<◌, List, [], ◌∷◌, ◌++◌, length, map, drop, take, get_or, Bool, true, false, Option, Some, None, refl, sym, ap, ap₂, ◌∙◌, subst, arith, append_assoc}
 use Rattle.std.specs.Prelude.{if◌then◌else◌, unwrap_or, ⊤}
 use Rattle.std.specs.Option.{option_or, option_map}
 use Rattle.std.specs.Str.{bytes_eq}
@@ -9,14 +9,13 @@ use Rattle.scaled_decimal.specs.Decimals.{Decimal}
 use Rattle.pap_tree.specs.Declarations.{Declaration}
 use Rattle.pap_tree.specs.Flowchart.{Flowchart}
 use Rattle.pap_types.specs.Checks.{IsWellTyped}
-use Rattle.pap_types.specs.Meaning.{AreInputs, IsSafeFor, first_entry, given, start, outputs_in, outputs_of}
-use Rattle.pap_types.specs.Scopes.{first_value, names_of, variables_of}
+use Rattle.pap_types.specs.Meaning.{AreInputs, IsSafeFor, first_entry, given, start, outputs_in}
+use Rattle.pap_types.specs.Scopes.{names_of, variables_of}
 use Rattle.pap_types.specs.Typing.{AreDistinct, declarations_of}
 use Rattle.pap_types.specs.Values.{Env, Entry, put}
 use Rattle.pap_types.proofs.Laws.{has_types, entry_names, names-put, names-start}
 use Rattle.month_trace.specs.declared.step.TraceStep.{TraceStep}
 use Rattle.month_trace.specs.declared.step.TraceStep.TheVariants.{Set, Test, Enter}
-use Rattle.month_trace.specs.Traces.{trace_of}
 use Rattle.month_trace.specs.TraceLaws.{last_set, value_set, outputs_behind, TellsOutputs}
 use Rattle.month_trace.proofs.ReplayLemmas.{replayed, replays}
 

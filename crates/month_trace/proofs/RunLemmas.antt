@@ -1,13 +1,13 @@
 -- A statement and those that follow it: where they lead, what they do, and when they may be run.
-use Rattle.std.proofs.Common.{◌≡◌, ◌≢◌, ℕ, zero, suc, ◌+◌, ◌-◌, ◌<◌, List, [], ◌∷◌, ◌++◌, length, Bool, true, false, Option, Some, None, refl, sym, ap, ◌∙◌, subst, arith, append_assoc, append-nil, true≢false}
+use Rattle.std.proofs.Common.{◌≡◌, ℕ, zero, suc, ◌+◌, ◌-◌, ◌<◌, List, [], ◌∷◌, ◌++◌, Option, Some, None, refl, sym, ap, ◌∙◌, subst, arith, append_assoc, append-nil, true≢false}
 use Rattle.std.specs.Prelude.{IsSome, not, if◌then◌else◌}
 use Rattle.std.specs.Option.{option_and_then, option_map}
 use Rattle.std.proofs.lemmas.Option.{option_and_then_some, none-some}
 use Rattle.scaled_decimal.specs.Decimals.{Decimal}
 use Rattle.pap_tree.specs.declared.plan.Stmt.{Stmt, Eval, If', Execute}
 use Rattle.pap_tree.specs.declared.plan.PlanText.{PlanText}
-use Rattle.pap_tree.specs.Term.{Term, term_of}
-use Rattle.pap_tree.specs.Flowchart.{Body, done, eval, branch, execute, body_of, body_of_row, stmt_then, Routine}
+use Rattle.pap_tree.specs.Term.{term_of}
+use Rattle.pap_tree.specs.Flowchart.{Body, done, branch, body_of_row, stmt_then, Routine}
 use Rattle.pap_tree.specs.Statements.{written}
 use Rattle.pap_types.specs.Operations.{is_zero}
 use Rattle.pap_types.specs.Routines.{body_named}
@@ -19,8 +19,8 @@ use Rattle.month_trace.specs.declared.step.TraceStep.{TraceStep}
 use Rattle.month_trace.specs.declared.step.TraceStep.TheVariants.{Set, Test, Enter}
 use Rattle.month_trace.specs.declared.statements.Spot.{Spot}
 use Rattle.month_trace.specs.Traces.{Trace, first_then, both_in_order, value_put, traced, traces_of}
-use Rattle.month_trace.specs.ValueViews.{scope_in, values_in, value_in, IsSized, HasValues, CanEvaluate, CanPut}
-use Rattle.month_trace.specs.WalkViews.{methods_in, calls_by, traces_by, after_in, traced_in, followed, CanRun, CanExecute, Progress, progress, Goes}
+use Rattle.month_trace.specs.ValueViews.{scope_in, values_in, IsSized}
+use Rattle.month_trace.specs.WalkViews.{methods_in, calls_by, traces_by, after_in, traced_in, followed, CanRun, Progress, Goes}
 use Rattle.month_trace.proofs.CountLemmas.{written-then}
 use Rattle.month_trace.proofs.OperationLemmas.{some_first, some_step}
 

@@ -1,9 +1,8 @@
 -- The trace of a run of a book, and why there is none.
-use Rattle.std.specs.Prelude.{◌≡◌, ℕ, List, Option, Some, None, IsSome, ⊤}
+use Rattle.std.specs.Prelude.{◌≡◌, ℕ, List, Some, None, IsSome}
 use Rattle.payroll_records.specs.declared.record.Key.{Key}
 use Rattle.payroll_records.specs.declared.when.When.{When}
 use Rattle.payroll_records.specs.declared.when.When.TheVariants as when
-use Rattle.pap_plan.specs.Plans.{flowchart}
 use Rattle.book_year.specs.Rows.{Job}
 use Rattle.book_edits.specs.declared.in_month.InMonth.{InMonth}
 use Rattle.book_edits.specs.declared.in_month.InMonth.TheVariants.{Empty, One, Several}
@@ -21,7 +20,7 @@ run_meant book e w = withdrawal book.years e w
 
 -- the trace of a job
 abbrev pub job_trace : Job → Trace
-job_trace j = trace_of (flowchart j.plan) j.inputs
+job_trace j = trace_of j.plan.meaning.flowchart j.inputs
 
 -- these are the steps of the run that is meant
 pub record IsTraceOf (book : Contents) (e : List ℕ) (w : When) (steps : List TraceStep) : Type 0 where

@@ -1,15 +1,14 @@
 -- What private contracts say of single operations.
-use Rattle.std.specs.Prelude.{◌≡◌, ℕ, ⊤, IsSome}
+use Rattle.std.specs.Prelude.{ℕ, ⊤, IsSome}
 use Rattle.scaled_decimal.specs.declared.rounding.Mode.{Mode}
 use Rattle.scaled_decimal.specs.Decimals.{Decimal, numerator_of}
 use Rattle.scaled_decimal.specs.ExactQuotients.{IsPlainDivisor}
 use Rattle.scaled_decimal.specs.WorkingNumbers.{QuotientFits}
 use Rattle.pap_tree.specs.declared.expression.Expr.{Expr}
-use Rattle.pap_tree.specs.declared.expression.Unary.{Unary}
 use Rattle.pap_tree.specs.declared.expression.Binary.{Binary}
 use Rattle.pap_tree.specs.declared.expression.Call.{Call}
 use Rattle.pap_tree.specs.declared.expression.Call.TheVariants as calls
-use Rattle.pap_tree.specs.Term.{Term, term_of, One, one, Two, two, choice, unary, divide}
+use Rattle.pap_tree.specs.Term.{Term, term_of, One, one, Two, two, choice, divide}
 use Rattle.pap_types.specs.declared.kinds.NodeKind.{NodeKind}
 use Rattle.pap_types.specs.Operations.{of_operator, of_two}
 use Rattle.pap_types.specs.Safety.{OneFits, OperatorFits, MethodFits}

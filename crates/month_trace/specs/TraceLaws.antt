@@ -3,7 +3,6 @@ use Rattle.std.specs.Prelude.{◌≡◌, ℕ, if◌then◌else◌, List, [], ◌
 use Rattle.std.specs.Option.{option_or}
 use Rattle.std.specs.Str.{bytes_eq}
 use Rattle.scaled_decimal.specs.Decimals.{Decimal}
-use Rattle.pap_tree.specs.Declarations.{Declaration}
 use Rattle.pap_tree.specs.Flowchart.{Flowchart}
 use Rattle.pap_types.specs.Scopes.{first_value}
 use Rattle.pap_types.specs.Meaning.{outputs_of}

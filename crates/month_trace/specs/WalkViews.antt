@@ -9,7 +9,6 @@ use Rattle.pap_tree.specs.declared.plan.Stmt.{Stmt}
 use Rattle.pap_tree.specs.Term.{term_of}
 use Rattle.pap_tree.specs.Flowchart.{Body, done, branch, body_of, Routine, flowchart_of}
 use Rattle.pap_tree.specs.Statements.{written}
-use Rattle.pap_types.specs.Counts.{IsWithinCounts}
 use Rattle.pap_types.specs.Runs.{Calls, after, IsSafeBody, calls_of}
 use Rattle.pap_types.specs.Typing.{IsTypedBody}
 use Rattle.pap_types.specs.Values.{Env}

@@ -4,8 +4,8 @@ ghost use Rattle.month_trace.specs.BookTraces.{IsTraceOf, IsTraceRefused, run_me
 ghost use Rattle.month_trace.specs.BookViews.{only_key};
 
 use crate::refusal::TraceRefusal;
-use crate::step::TraceStep;
 use crate::run::trace_run;
+use crate::step::TraceStep;
 use payroll_records::{Employee, Key, Month, When};
 use recalc_engine::{Book, InMonth};
 use std::alloc::Global;

@@ -1,4 +1,4 @@
-use Rattle.std.proofs.Common.{sym, ap, ◌∙◌}
+use Rattle.std.proofs.Common.{ap, ◌∙◌}
 use Rattle.std.specs.Option.{option_map_or}
 use Rattle.pap_types.specs.Scopes.{kept_as}
 use Rattle.month_trace.specs.ValueViews.{scope_in}
