@@ -6,7 +6,8 @@ mod CountLemmas
 mod PutLemmas
 mod MethodLemmas
 mod RunLemmas
-mod ThereLemmas
+pub mod ThereLemmas
 mod ReplayLemmas
-mod OutputLemmas
+pub mod OutputLemmas
 mod BookLemmas
+pub mod Laws

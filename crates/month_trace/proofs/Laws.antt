@@ -1,0 +1,3 @@
+-- The laws that other crates may cite: a safe run has one trace, and its outputs are those behind the trace.
+pub use Rattle.month_trace.proofs.ThereLemmas.{one_trace}
+pub use Rattle.month_trace.proofs.OutputLemmas.{tells_outputs}
