@@ -18,6 +18,7 @@ module _ (book : Contents) (e : List ℕ) (w : When) where
   pub is_done : (k : Key) (job : Job) → run_meant book e w ≡ One k → Some job ≡ job_of_key book k → IsDone book e w
   is_done k job meant ran = record { key = k; meant = meant; ran = subst (λ o. IsSome o) ran refl }
 
-  pub memory_only : (r : Result (Vec TraceStep Global) TraceRefusal) (x : AllocError) → IsErrAnd r (λ f. f ≡ Memory x) → IsDone book e w → IfErr r (IsTraceRefused book e w)
+  pub memory_only : (r : Result (Vec TraceStep Global) TraceRefusal) (x : AllocError) → IsErrAnd r (λ f. f ≡ Memory x)
+      → IsDone book e w → IfErr r (IsTraceRefused book e w)
   memory_only (Ok v) x is h = tt
   memory_only (Err f) x is h = subst (IsTraceRefused book e w) (sym is) h

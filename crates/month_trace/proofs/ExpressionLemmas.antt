@@ -34,12 +34,15 @@ some_same a b e = cc
 
 -- ---- names that aren't declared have no value
 
-undeclared : (ds : List Declaration) (vs : List Decimal) (x : List ℕ) → declared_as ds x ≡ None → look (with_names (names_of ds) vs) x ≡ None
+undeclared : (ds : List Declaration) (vs : List Decimal) (x : List ℕ) → declared_as ds x ≡ None
+    → look (with_names (names_of ds) vs) x ≡ None
 undeclared [] vs x e = refl
 undeclared (d ∷ ds) [] x e = refl
 undeclared (d ∷ ds) (v ∷ vs) x e = rw (same_either_way d.name x) (by_name (bytes_eq x d.name) e (undeclared ds vs x))
   where
-    by_name : (t : Bool) → (if t then Some d else declared_as ds x) ≡ None → (declared_as ds x ≡ None → look (with_names (names_of ds) vs) x ≡ None) → (if t then Some v else look (with_names (names_of ds) vs) x) ≡ None
+    by_name : (t : Bool) → (if t then Some d else declared_as ds x) ≡ None
+        → (declared_as ds x ≡ None → look (with_names (names_of ds) vs) x ≡ None)
+        → (if t then Some v else look (with_names (names_of ds) vs) x) ≡ None
     by_name true e later = absurd (none-some d (sym e))
     by_name false e later = later e
 
@@ -48,10 +51,13 @@ variables_only p vs x e = undeclared (variables_of (flowchart_of p)) vs x e
 
 -- ---- two operands
 
-module _ (p : PlanText) (vs : List Decimal) (op : Two) (e f : Term) (h : CanEvaluate p (two op e f) vs) (a : Decimal) (is : value_in p e vs ≡ Some a) where
+module _ (p : PlanText) (vs : List Decimal) (op : Two) (e f : Term) (h : CanEvaluate p (two op e f) vs) (a : Decimal)
+    (is : value_in p e vs ≡ Some a) where
   -- what follows the left operand has a value
   right_defined : goes_right op a ≡ true → IsSome (option_and_then (λ b. of_two op a b) (value_in p f vs))
-  right_defined goes = some_if (goes_right op a) _ (Some a) goes (some_step (λ a. if goes_right op a then option_and_then (λ b. of_two op a b) (value_in p f vs) else Some a) (value_in p e vs) a is h.defined)
+  right_defined goes =
+      some_if (goes_right op a) _ (Some a) goes
+      (some_step (λ a. if goes_right op a then option_and_then (λ b. of_two op a b) (value_in p f vs) else Some a) (value_in p e vs) a is h.defined)
 
   pub can_right : goes_right op a ≡ true → CanEvaluate p f vs
   can_right goes = record {
@@ -65,17 +71,20 @@ module _ (p : PlanText) (vs : List Decimal) (op : Two) (e f : Term) (h : CanEval
   pub two_defined : (b : Decimal) → goes_right op a ≡ true → value_in p f vs ≡ Some b → IsSome (of_two op a b)
   two_defined b goes is' = some_step (λ b. of_two op a b) (value_in p f vs) b is' (right_defined goes)
 
-  pub two_fits : (b : Decimal) → goes_right op a ≡ true → value_in p f vs ≡ Some b → TwoFits op (kind_of (scope_in p) (two op e f)) a b
+  pub two_fits : (b : Decimal) → goes_right op a ≡ true → value_in p f vs ≡ Some b
+      → TwoFits op (kind_of (scope_in p) (two op e f)) a b
   two_fits b goes is' = (h.safe.1 a is goes).1 b is'
 
-pub can_operate : (p : PlanText) (vs : List Decimal) (op : Binary) (e f : Term) (h : CanEvaluate p (two (operator op) e f) vs) (a b : Decimal) → value_in p e vs ≡ Some a → goes_right (operator op) a ≡ true → value_in p f vs ≡ Some b → CanOperate op a b
+pub can_operate : (p : PlanText) (vs : List Decimal) (op : Binary) (e f : Term) (h : CanEvaluate p (two (operator op) e f) vs) (a b : Decimal)
+    → value_in p e vs ≡ Some a → goes_right (operator op) a ≡ true → value_in p f vs ≡ Some b → CanOperate op a b
 can_operate p vs op e f h a b is goes is' = record {
   kind = kind_of (scope_in p) (two (operator op) e f);
   fits = two_fits p vs (operator op) e f h a is b goes is';
   defined = two_defined p vs (operator op) e f h a is b goes is';
 }
 
-pub can_divide : (p : PlanText) (vs : List Decimal) (s : ℕ) (mode : Mode) (e f : Term) (h : CanEvaluate p (two (divide s mode) e f) vs) (a b : Decimal) → value_in p e vs ≡ Some a → value_in p f vs ≡ Some b → CanDivide s mode a b
+pub can_divide : (p : PlanText) (vs : List Decimal) (s : ℕ) (mode : Mode) (e f : Term) (h : CanEvaluate p (two (divide s mode) e f) vs) (a b : Decimal)
+    → value_in p e vs ≡ Some a → value_in p f vs ≡ Some b → CanDivide s mode a b
 can_divide p vs s mode e f h a b is is' = record {
   fits = two_fits p vs (divide s mode) e f h a is b refl is';
   defined = two_defined p vs (divide s mode) e f h a is b refl is';
@@ -87,15 +96,21 @@ both_true : (s t : Bool) → (s && t) ≡ true → (s ≡ true) × (t ≡ true)
 both_true true t e = (refl, e)
 both_true false t e = absurd (true≢false (sym e))
 
-divisor_plain : (p : PlanText) (vs : List Decimal) (f : Term) (b : Decimal) → HasValues p vs → shows_plain_divisor (scope_in p) f ≡ true → value_in p f vs ≡ Some b → IsPlainDivisor (numerator_of b)
+divisor_plain : (p : PlanText) (vs : List Decimal) (f : Term) (b : Decimal) → HasValues p vs
+    → shows_plain_divisor (scope_in p) f ≡ true → value_in p f vs ≡ Some b → IsPlainDivisor (numerator_of b)
 divisor_plain p vs f b h plain is =
     let d = shown_plain (scope_in p) f plain in
-    let value = shown_value (scope_in p) (sound_scope (flowchart_of p) (has_types (flowchart_of p) h.well_typed)) (values_in p vs) (variables_only p vs) f d.0 d.1 in
+    let value =
+    shown_value (scope_in p) (sound_scope (flowchart_of p) (has_types (flowchart_of p) h.well_typed)) (values_in p vs)
+    (variables_only p vs) f d.0 d.1 in
     let same : d.0 ≡ b = some_same d.0 b (sym value ∙ is) in
     subst (λ b. IsPlainDivisor (numerator_of b)) same d.2
 
-module _ (p : PlanText) (vs : List Decimal) (e f : Term) (b : Decimal) (h : HasValues p vs) (is : value_in p f vs ≡ Some b) where
-  plain_for : (call : Call) → IsTrue (takes_two (scope_in p) (method call) e (kind_of (scope_in p) e) f (kind_of (scope_in p) f)) → IsPlainFor call b
+module _ (p : PlanText) (vs : List Decimal) (e f : Term) (b : Decimal) (h : HasValues p vs)
+    (is : value_in p f vs ≡ Some b) where
+  plain_for : (call : Call)
+      → IsTrue (takes_two (scope_in p) (method call) e (kind_of (scope_in p) e) f (kind_of (scope_in p) f))
+      → IsPlainFor call b
   plain_for calls.DivideExact t =
       let big = both_true (is_big (kind_of (scope_in p) e)) _ t in
       divisor_plain p vs f b h (both_true (is_big (kind_of (scope_in p) f)) _ big.1).1 is
@@ -106,7 +121,8 @@ module _ (p : PlanText) (vs : List Decimal) (e f : Term) (b : Decimal) (h : HasV
   plain_for calls.Min t = tt
   plain_for calls.Max t = tt
 
-pub can_call : (p : PlanText) (vs : List Decimal) (call : Call) (e f : Term) (h : CanEvaluate p (two (method call) e f) vs) (a b : Decimal) → value_in p e vs ≡ Some a → value_in p f vs ≡ Some b → CanCall call a b
+pub can_call : (p : PlanText) (vs : List Decimal) (call : Call) (e f : Term) (h : CanEvaluate p (two (method call) e f) vs) (a b : Decimal)
+    → value_in p e vs ≡ Some a → value_in p f vs ≡ Some b → CanCall call a b
 can_call p vs call e f h a b is is' = record {
   plain = plain_for p vs e f b h.values is' call h.typed.2;
   fits = two_fits p vs (method call) e f h a is b refl is';
@@ -114,12 +130,15 @@ can_call p vs call e f h a b is is' = record {
 
 -- ---- one operand, and the parts of a conditional
 
-pub can_unary : (p : PlanText) (vs : List Decimal) (op : Unary) (e : Term) (h : CanEvaluate p (one (unary op) e) vs) (a : Decimal) → value_in p e vs ≡ Some a → CanTakeOne (unary op) a
+pub can_unary : (p : PlanText) (vs : List Decimal) (op : Unary) (e : Term) (h : CanEvaluate p (one (unary op) e) vs) (a : Decimal)
+    → value_in p e vs ≡ Some a → CanTakeOne (unary op) a
 can_unary p vs op e h a is = record { kind = kind_of (scope_in p) (one (unary op) e); fits = h.safe.1 a is }
 
-module _ (p : PlanText) (vs : List Decimal) (c e f : Term) (h : CanEvaluate p (choice c e f) vs) (t : Decimal) (is : value_in p c vs ≡ Some t) where
+module _ (p : PlanText) (vs : List Decimal) (c e f : Term) (h : CanEvaluate p (choice c e f) vs) (t : Decimal)
+    (is : value_in p c vs ≡ Some t) where
   part_defined : IsSome (if is_zero t then value_in p f vs else value_in p e vs)
-  part_defined = some_step (λ t. if is_zero t then value_in p f vs else value_in p e vs) (value_in p c vs) t is h.defined
+  part_defined =
+      some_step (λ t. if is_zero t then value_in p f vs else value_in p e vs) (value_in p c vs) t is h.defined
 
   pub can_first : is_zero t ≡ false → CanEvaluate p e vs
   can_first z = record {

@@ -21,7 +21,8 @@ abbrev pub place_of : List (List ℕ) → List ℕ → ℕ
 place_of names x = position_or_len (bytes_eq x) names
 
 -- the number of a name is its place, within the names
-pub number_in : (names : List (List ℕ)) (x : List ℕ) (i : ℕ) → number_of names x ≡ Some i → (place_of names x ≡ i) × (i < length names)
+pub number_in : (names : List (List ℕ)) (x : List ℕ) (i : ℕ) → number_of names x ≡ Some i
+    → (place_of names x ≡ i) × (i < length names)
 number_in names x i e = elim (cases_lt (place_of names x) (length names)) [
   | inl less ↦ (let t : nat_lt (place_of names x) (length names) ≡ true = grind (arith, nat_tests) in
       let here : Some (place_of names x) ≡ Some i = rw t at e in
@@ -37,7 +38,8 @@ number_past names x e = elim (cases_lt (place_of names x) (length names)) [
 ]
 
 -- the value of a name stands at its place
-named_at : (names : List (List ℕ)) (rs : List Decimal) (x : List ℕ) → length rs ≡ length names → look (with_names names rs) x ≡ slice_get rs (place_of names x)
+named_at : (names : List (List ℕ)) (rs : List Decimal) (x : List ℕ) → length rs ≡ length names
+    → look (with_names names rs) x ≡ slice_get rs (place_of names x)
 named_at [] [] x e = refl
 named_at [] (r ∷ rs) x e = absurd (omega arith)
 named_at (n ∷ ns) [] x e = absurd (omega arith)
@@ -49,16 +51,19 @@ named_at (n ∷ ns) (r ∷ rs) x e =
           named_at ns rs x (omega arith) ∙ ap (slice_get (r ∷ rs)) more)
     ])
 
-pub named_by : (names : List (List ℕ)) (rs : List Decimal) (x : List ℕ) (i : ℕ) → length rs ≡ length names → number_of names x ≡ Some i → look (with_names names rs) x ≡ slice_get rs i
+pub named_by : (names : List (List ℕ)) (rs : List Decimal) (x : List ℕ) (i : ℕ) → length rs ≡ length names
+    → number_of names x ≡ Some i → look (with_names names rs) x ≡ slice_get rs i
 named_by names rs x i all e = named_at names rs x all ∙ ap (slice_get rs) (number_in names x i e).0
 
-pub named_none : (names : List (List ℕ)) (rs : List Decimal) (x : List ℕ) → length rs ≡ length names → number_of names x ≡ None → look (with_names names rs) x ≡ None
+pub named_none : (names : List (List ℕ)) (rs : List Decimal) (x : List ℕ) → length rs ≡ length names
+    → number_of names x ≡ None → look (with_names names rs) x ≡ None
 named_none names rs x all e =
     let past = number_past names x e in
     named_at names rs x all ∙ slice_get_past rs (place_of names x) (omega (arith, past, all))
 
 -- so does a new value
-put_at : (names : List (List ℕ)) (rs : List Decimal) (x : List ℕ) (a : Decimal) → length rs ≡ length names → put (with_names names rs) x a ≡ with_names names (set rs (place_of names x) a)
+put_at : (names : List (List ℕ)) (rs : List Decimal) (x : List ℕ) (a : Decimal) → length rs ≡ length names
+    → put (with_names names rs) x a ≡ with_names names (set rs (place_of names x) a)
 put_at [] [] x a e = refl
 put_at [] (r ∷ rs) x a e = absurd (omega arith)
 put_at (n ∷ ns) [] x a e = absurd (omega arith)
@@ -67,13 +72,18 @@ put_at (n ∷ ns) (r ∷ rs) x a e =
     (elim (bytes_eq x n) as (λ same. (if same then record { name = n; value = a } ∷ with_names ns rs else record { name = n; value = r } ∷ put (with_names ns rs) x a) ≡ with_names (n ∷ ns) (set (r ∷ rs) (cond (not same) (1 + place_of ns x) 0) a)) [
       | true ↦ refl
       | false ↦ (let more : suc (place_of ns x) ≡ 1 + place_of ns x = omega arith in
-          ap (λ vs. record { name = n; value = r } ∷ vs) (put_at ns rs x a (omega arith)) ∙ ap (λ k. with_names (n ∷ ns) (set (r ∷ rs) k a)) more)
+          ap (λ vs. record { name = n; value = r } ∷ vs) (put_at ns rs x a (omega arith)) ∙ ap
+          (λ k. with_names (n ∷ ns) (set (r ∷ rs) k a)) more)
     ])
 
-pub put_by : (names : List (List ℕ)) (rs : List Decimal) (x : List ℕ) (a : Decimal) (i : ℕ) → length rs ≡ length names → number_of names x ≡ Some i → put (with_names names rs) x a ≡ with_names names (set rs i a)
-put_by names rs x a i all e = put_at names rs x a all ∙ ap (λ k. with_names names (set rs k a)) (number_in names x i e).0
+pub put_by : (names : List (List ℕ)) (rs : List Decimal) (x : List ℕ) (a : Decimal) (i : ℕ) → length rs ≡ length names
+    → number_of names x ≡ Some i → put (with_names names rs) x a ≡ with_names names (set rs i a)
+put_by names rs x a i all e =
+    put_at names rs x a all
+    ∙ ap (λ k. with_names names (set rs k a)) (number_in names x i e).0
 
-pub put_none : (names : List (List ℕ)) (rs : List Decimal) (x : List ℕ) (a : Decimal) → length rs ≡ length names → number_of names x ≡ None → put (with_names names rs) x a ≡ with_names names rs
+pub put_none : (names : List (List ℕ)) (rs : List Decimal) (x : List ℕ) (a : Decimal) → length rs ≡ length names
+    → number_of names x ≡ None → put (with_names names rs) x a ≡ with_names names rs
 put_none names rs x a all e =
     let past = number_past names x e in
     put_at names rs x a all ∙ ap (with_names names) (set_past rs (place_of names x) a (omega (arith, past, all)))

@@ -20,7 +20,8 @@ pub some_first : {A B : Type 0} (f : A → Option B) (o : Option A) → IsSome (
 some_first f (Some a) h = refl
 some_first f None h = absurd (true≢false (sym h))
 
-pub some_step : {A B : Type 0} (f : A → Option B) (o : Option A) (a : A) → o ≡ Some a → IsSome (option_and_then f o) → IsSome (f a)
+pub some_step : {A B : Type 0} (f : A → Option B) (o : Option A) (a : A) → o ≡ Some a → IsSome (option_and_then f o)
+    → IsSome (f a)
 some_step f o a is h = subst (λ o. IsSome (option_and_then f o)) is h
 
 pub some_if : {A : Type 0} (t : Bool) (x y : Option A) → t ≡ true → IsSome (if t then x else y) → IsSome x

@@ -38,11 +38,13 @@ differs x y other = by_test (bytes_eq y x) refl
 
 none_is : (x : List ℕ) (xs : List (List ℕ)) → ((k : ℕ) (d : List ℕ) → k < length xs → x ≢ get_or xs k d) → NoneIs x xs
 none_is x [] h = tt
-none_is x (y ∷ ys) h = (differs x y (λ e. h 0 x (omega arith) (sym e)), none_is x ys (λ k d l. h (suc k) d (omega arith)))
+none_is x (y ∷ ys) h =
+    (differs x y (λ e. h 0 x (omega arith) (sym e)), none_is x ys (λ k d l. h (suc k) d (omega arith)))
 
 apart_of : (xs : List (List ℕ)) → AreDistinct xs → AreApart xs
 apart_of [] h = tt
-apart_of (x ∷ xs) h = (none_is x xs (λ k d l. h 0 (suc k) d (omega arith) (omega arith)), apart_of xs (λ i j d l w. h (suc i) (suc j) d (omega arith) (omega arith)))
+apart_of (x ∷ xs) h =
+    (none_is x xs (λ k d l. h 0 (suc k) d (omega arith) (omega arith)), apart_of xs (λ i j d l w. h (suc i) (suc j) d (omega arith) (omega arith)))
 
 front_none : (x : List ℕ) (a b : List (List ℕ)) → NoneIs x (a ++ b) → NoneIs x a
 front_none x [] b h = tt
@@ -61,35 +63,46 @@ value_behind steps v = unwrap_or (last_set v.name steps) v.value
 abbrev pub behind : List TraceStep → Entry → Entry
 behind steps v = record v { value = value_behind steps v }
 
-last_by : (o : Option Decimal) (t : Bool) (v w : Decimal) → unwrap_or o (if t then v else w) ≡ unwrap_or (option_or o (if t then Some v else None)) w
+last_by : (o : Option Decimal) (t : Bool) (v w : Decimal)
+    → unwrap_or o (if t then v else w) ≡ unwrap_or (option_or o (if t then Some v else None)) w
 last_by (Some a) t v w = refl
 last_by None true v w = refl
 last_by None false v w = refl
 
 -- variables of other names stay
-others_stay : (steps : List TraceStep) (m : List ℕ) (n : ℕ) (x : List ℕ) (v : Decimal) (env : Env) → NoneIs x (entry_names env) → map (behind steps) env ≡ map (behind (Set m n x v ∷ steps)) env
+others_stay : (steps : List TraceStep) (m : List ℕ) (n : ℕ) (x : List ℕ) (v : Decimal) (env : Env)
+    → NoneIs x (entry_names env) → map (behind steps) env ≡ map (behind (Set m n x v ∷ steps)) env
 others_stay steps m n x v [] h = refl
 others_stay steps m n x v (e ∷ env) h =
     let mine : value_behind steps e ≡ value_behind (Set m n x v ∷ steps) e =
     last_by (last_set e.name steps) false v e.value ∙ ap (λ t. unwrap_or (option_or (last_set e.name steps) (if t then Some v else None)) e.value) (sym h.0) in
     ap₂ (λ d rest. record e { value = d } ∷ rest) mine (others_stay steps m n x v env h.1)
 
-put_behind : (steps : List TraceStep) (m : List ℕ) (n : ℕ) (x : List ℕ) (v : Decimal) (env : Env) → AreApart (entry_names env) → map (behind steps) (put env x v) ≡ map (behind (Set m n x v ∷ steps)) env
+put_behind : (steps : List TraceStep) (m : List ℕ) (n : ℕ) (x : List ℕ) (v : Decimal) (env : Env)
+    → AreApart (entry_names env) → map (behind steps) (put env x v) ≡ map (behind (Set m n x v ∷ steps)) env
 put_behind steps m n x v [] h = refl
 put_behind steps m n x v (e ∷ env) h = by_name (put_behind steps m n x v env h.1) (bytes_eq e.name x) refl
   where
-    mine : (t : Bool) → bytes_eq e.name x ≡ t → unwrap_or (last_set e.name steps) (if t then v else e.value) ≡ value_behind (Set m n x v ∷ steps) e
-    mine t is = last_by (last_set e.name steps) t v e.value ∙ ap (λ t. unwrap_or (option_or (last_set e.name steps) (if t then Some v else None)) e.value) (sym is)
+    mine : (t : Bool) → bytes_eq e.name x ≡ t
+        → unwrap_or (last_set e.name steps) (if t then v else e.value) ≡ value_behind (Set m n x v ∷ steps) e
+    mine t is =
+        last_by (last_set e.name steps) t v e.value
+        ∙ ap (λ t. unwrap_or (option_or (last_set e.name steps) (if t then Some v else None)) e.value) (sym is)
 
     same_name : bytes_eq e.name x ≡ true → e.name ≡ x
     same_name is = grind (arith, bytes_eq-Decides)
 
-    by_name : map (behind steps) (put env x v) ≡ map (behind (Set m n x v ∷ steps)) env → (t : Bool) → bytes_eq e.name x ≡ t → map (behind steps) (if t then record e { value = v } ∷ env else e ∷ put env x v) ≡ map (behind (Set m n x v ∷ steps)) (e ∷ env)
-    by_name later true is = ap₂ (λ d rest. record e { value = d } ∷ rest) (mine true is) (others_stay steps m n x v env (subst (λ y. NoneIs y (entry_names env)) (same_name is) h.0))
+    by_name : map (behind steps) (put env x v) ≡ map (behind (Set m n x v ∷ steps)) env → (t : Bool)
+        → bytes_eq e.name x ≡ t
+        → map (behind steps) (if t then record e { value = v } ∷ env else e ∷ put env x v) ≡ map (behind (Set m n x v ∷ steps)) (e ∷ env)
+    by_name later true is =
+        ap₂ (λ d rest. record e { value = d } ∷ rest) (mine true is)
+        (others_stay steps m n x v env (subst (λ y. NoneIs y (entry_names env)) (same_name is) h.0))
     by_name later false is = ap₂ (λ d rest. record e { value = d } ∷ rest) (mine false is) later
 
 -- a step that puts no value
-silent : (steps : List TraceStep) (s : TraceStep) (env : Env) → ((x : List ℕ) → value_set x s ≡ None) → map (behind steps) env ≡ map (behind (s ∷ steps)) env
+silent : (steps : List TraceStep) (s : TraceStep) (env : Env) → ((x : List ℕ) → value_set x s ≡ None)
+    → map (behind steps) env ≡ map (behind (s ∷ steps)) env
 silent steps s [] h = refl
 silent steps s (e ∷ env) h =
     let mine : value_behind steps e ≡ value_behind (s ∷ steps) e =
@@ -100,7 +113,8 @@ nothing_behind : (env : Env) → env ≡ map (behind []) env
 nothing_behind [] = refl
 nothing_behind (e ∷ env) = ap (λ rest. e ∷ rest) (nothing_behind env)
 
-pub replayed_is : (steps : List TraceStep) (env : Env) → AreApart (entry_names env) → replayed steps env ≡ map (behind steps) env
+pub replayed_is : (steps : List TraceStep) (env : Env) → AreApart (entry_names env)
+    → replayed steps env ≡ map (behind steps) env
 replayed_is [] env h = nothing_behind env
 replayed_is (Set m n x v ∷ steps) env h =
     replayed_is steps (put env x v) (subst AreApart (sym (names-put env x v)) h) ∙ put_behind steps m n x v env h
@@ -109,17 +123,20 @@ replayed_is (Enter m n callee ∷ steps) env h = replayed_is steps env h ∙ sil
 
 -- ---- outputs
 
-values_behind : (steps : List TraceStep) (env : Env) → map (λ (v : Entry). v.value) (map (behind steps) env) ≡ map (value_behind steps) env
+values_behind : (steps : List TraceStep) (env : Env)
+    → map (λ (v : Entry). v.value) (map (behind steps) env) ≡ map (value_behind steps) env
 values_behind steps [] = refl
 values_behind steps (e ∷ env) = ap (λ rest. value_behind steps e ∷ rest) (values_behind steps env)
 
-past_inputs : (g : Entry → Decimal) (ds : List Declaration) (vs : List Decimal) (rest : Env) → AreInputs ds vs → drop (length ds) (map g (given ds vs ++ rest)) ≡ map g rest
+past_inputs : (g : Entry → Decimal) (ds : List Declaration) (vs : List Decimal) (rest : Env) → AreInputs ds vs
+    → drop (length ds) (map g (given ds vs ++ rest)) ≡ map g rest
 past_inputs g [] [] rest h = refl
 past_inputs g [] (v ∷ vs) rest h = absurd h
 past_inputs g (d ∷ ds) [] rest h = absurd h
 past_inputs g (d ∷ ds) (v ∷ vs) rest h = past_inputs g ds vs rest h.1
 
-up_to_internals : (g : Entry → Decimal) (ds es : List Declaration) → take (length ds) (map g (map first_entry (ds ++ es))) ≡ map (λ d. g (first_entry d)) ds
+up_to_internals : (g : Entry → Decimal) (ds es : List Declaration)
+    → take (length ds) (map g (map first_entry (ds ++ es))) ≡ map (λ d. g (first_entry d)) ds
 up_to_internals g [] es = refl
 up_to_internals g (d ∷ ds) es = ap (λ rest. g (first_entry d) ∷ rest) (up_to_internals g ds es)
 
@@ -128,15 +145,20 @@ variables_apart : (f : Flowchart) → IsWellTyped f → AreApart (names_of (vari
 variables_apart f typed =
     let whole : declarations_of f ≡ variables_of f ++ f.constants =
     ap (λ ds. f.inputs ++ ds) (sym (append_assoc f.outputs f.internals f.constants)) ∙ sym (append_assoc f.inputs (f.outputs ++ f.internals) f.constants) in
-    let names : names_of (declarations_of f) ≡ names_of (variables_of f) ++ names_of f.constants = ap names_of whole ∙ map-append (λ (d : Declaration). d.name) (variables_of f) f.constants in
-    front_apart (names_of (variables_of f)) (names_of f.constants) (subst AreApart names (apart_of (names_of (declarations_of f)) (has_types f typed).names))
+    let names : names_of (declarations_of f) ≡ names_of (variables_of f) ++ names_of f.constants =
+    ap names_of whole
+    ∙ map-append (λ (d : Declaration). d.name) (variables_of f) f.constants in
+    front_apart (names_of (variables_of f)) (names_of f.constants)
+    (subst AreApart names (apart_of (names_of (declarations_of f)) (has_types f typed).names))
 
 pub tells_outputs : (f : Flowchart) (inputs : List Decimal) → IsWellTyped f → IsSafeFor f inputs → TellsOutputs f inputs
 tells_outputs f inputs typed h steps e =
     let names = names-start f inputs h.given in
     let apart = subst AreApart (sym names) (variables_apart f typed) in
     let g = value_behind steps in
-    let ends : h.ends ≡ map (behind steps) (start f inputs) = sym (replays f inputs h.ends steps h.defined e) ∙ replayed_is steps (start f inputs) apart in
+    let ends : h.ends ≡ map (behind steps) (start f inputs) =
+    sym (replays f inputs h.ends steps h.defined e)
+    ∙ replayed_is steps (start f inputs) apart in
     let outputs : outputs_in f h.ends ≡ outputs_behind f steps =
     ap (outputs_in f) ends
     ∙ ap (λ vs. take (length f.outputs) (drop (length f.inputs) vs)) (values_behind steps (start f inputs))

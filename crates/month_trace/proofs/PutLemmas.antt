@@ -20,7 +20,8 @@ use Rattle.month_trace.specs.ValueViews.{IsSized, scope_in, variables_in, values
 use Rattle.month_trace.proofs.NameLemmas.{number_in, put_by}
 
 -- a name that has a variable's number is declared as that variable
-pub variable_of : (scope : Scope) (x : List ℕ) (i : ℕ) → Some i ≡ number_of (names_of scope.variables) x → declaration_in scope x ≡ declared_as scope.variables x
+pub variable_of : (scope : Scope) (x : List ℕ) (i : ℕ) → Some i ≡ number_of (names_of scope.variables) x
+    → declaration_in scope x ≡ declared_as scope.variables x
 variable_of scope x i number =
     let vs = scope.variables in
     let at : slice_get vs i ≡ declared_as vs x = declared_by vs x (names_of vs) (Some i) refl number in
@@ -31,10 +32,14 @@ variable_of scope x i number =
     ]
 
 -- what is no variable has no declaration as one
-pub not_declared : (scope : Scope) (x : List ℕ) (d : Declaration) → declared_as scope.variables x ≡ Some d → None ≡ number_of (names_of scope.variables) x → ⊥
-not_declared scope x d is none = none-some d (declared_by scope.variables x (names_of scope.variables) None refl none ∙ is)
+pub not_declared : (scope : Scope) (x : List ℕ) (d : Declaration) → declared_as scope.variables x ≡ Some d
+    → None ≡ number_of (names_of scope.variables) x → ⊥
+not_declared scope x d is none =
+    none-some d (declared_by scope.variables x (names_of scope.variables) None refl none ∙ is)
 
-pub put_kept : (p : PlanText) (vs : List Decimal) (x : List ℕ) (a kept : Decimal) (i : ℕ) → IsSized p vs → Some i ≡ number_of (variables_in p) x → kept ≡ value_put (scope_in p) x a → values_in p (set vs i kept) ≡ assigned (scope_in p) x a (values_in p vs)
+pub put_kept : (p : PlanText) (vs : List Decimal) (x : List ℕ) (a kept : Decimal) (i : ℕ) → IsSized p vs
+    → Some i ≡ number_of (variables_in p) x → kept ≡ value_put (scope_in p) x a
+    → values_in p (set vs i kept) ≡ assigned (scope_in p) x a (values_in p vs)
 put_kept p vs x a kept i sized number is =
     sym (put_by (variables_in p) vs x kept i sized (sym number)) ∙ ap (put (values_in p vs) x) is
 
@@ -43,7 +48,8 @@ put_kept p vs x a kept i sized number is =
 some_same : (a b : Decimal) → Some a ≡ Some b → a ≡ b
 some_same a b e = cc
 
-literal_of : (scope : Scope) (e : Term) (env : Env) (v : Decimal) → is_factor_literal e ≡ true → value scope e env ≡ Some v → IsFactorOf e v
+literal_of : (scope : Scope) (e : Term) (env : Env) (v : Decimal) → is_factor_literal e ≡ true
+    → value scope e env ≡ Some v → IsFactorOf e v
 literal_of scope (leaf (whole i)) env v f h = sym (some_same (decimal i 0) v h)
 literal_of scope (leaf (point d)) env v f h = (sym (some_same d v h), f)
 literal_of scope (leaf (long i)) env v f h = absurd (cc)
@@ -55,15 +61,18 @@ literal_of scope (one op t) env v f h = absurd (cc)
 literal_of scope (two op t u) env v f h = absurd (cc)
 literal_of scope (choice t u w) env v f h = absurd (cc)
 
-keeps : (scope : Scope) (kind : Kind) (e : Term) (k : NodeKind) (env : Env) (v : Decimal) → suits kind e k ≡ true → value scope e env ≡ Some v → CanKeep kind e v
+keeps : (scope : Scope) (kind : Kind) (e : Term) (k : NodeKind) (env : Env) (v : Decimal) → suits kind e k ≡ true
+    → value scope e env ≡ Some v → CanKeep kind e v
 keeps scope declares.Factor e k env v s h = literal_of scope e env v s h
 keeps scope declares.Int e k env v s h = tt
 keeps scope declares.Long e k env v s h = tt
 keeps scope declares.Big e k env v s h = tt
 keeps scope declares.Table e k env v s h = tt
 
-pub can_keep : (p : PlanText) (x : List ℕ) (e : Term) (vs : List Decimal) (v : Decimal) (d : Declaration) → CanPut p x e vs v → declared_as (scope_in p).variables x ≡ Some d → CanKeep d.kind e v
+pub can_keep : (p : PlanText) (x : List ℕ) (e : Term) (vs : List Decimal) (v : Decimal) (d : Declaration)
+    → CanPut p x e vs v → declared_as (scope_in p).variables x ≡ Some d → CanKeep d.kind e v
 can_keep p x e vs v d h is =
     let found = h.target.declared in
     let same : h.target.declaration ≡ d = cc in
-    subst (λ d. CanKeep d.kind e v) same (keeps (scope_in p) h.target.declaration.kind e (kind_of (scope_in p) e) (values_in p vs) v h.target.suits h.value)
+    subst (λ d. CanKeep d.kind e v) same
+    (keeps (scope_in p) h.target.declaration.kind e (kind_of (scope_in p) e) (values_in p vs) v h.target.suits h.value)

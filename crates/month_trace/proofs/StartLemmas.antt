@@ -16,16 +16,23 @@ use Rattle.month_trace.specs.ValueViews.{IsStart, with_names}
 abbrev pub begun : List Declaration → List Decimal
 begun ds = map first_value ds
 
-pub declared_there : (P : Declaration → Type 0) (ds : List Declared) (i : ℕ) (d : Declared) → d ≡ get_or ds i d → i < length ds → All P (map declaration_of ds) → P (declaration_of d)
+pub declared_there : (P : Declaration → Type 0) (ds : List Declared) (i : ℕ) (d : Declared) → d ≡ get_or ds i d
+    → i < length ds → All P (map declaration_of ds) → P (declaration_of d)
 declared_there P [] i d is l all = absurd (omega arith)
-declared_there P (x ∷ ds) zero d is l all = subst (λ y. P (declaration_of y)) (sym is) (All-head P (declaration_of x) (map declaration_of ds) all)
-declared_there P (x ∷ ds) (suc i) d is l all = declared_there P ds i d is (omega arith) (All-tail P (declaration_of x) (map declaration_of ds) all)
+declared_there P (x ∷ ds) zero d is l all =
+    subst (λ y. P (declaration_of y)) (sym is) (All-head P (declaration_of x) (map declaration_of ds) all)
+declared_there P (x ∷ ds) (suc i) d is l all =
+    declared_there P ds i d is (omega arith) (All-tail P (declaration_of x) (map declaration_of ds) all)
 
 -- one value more
-pub begun_more : (old now : List Decimal) (ds : List Declared) (i : ℕ) (d : Declared) → d ≡ get_or ds i d → i < length ds → now ≡ old ++ begun (map declaration_of (take i ds)) → now ++ (first_value (declaration_of d) ∷ []) ≡ old ++ begun (map declaration_of (take (i + 1) ds))
+pub begun_more : (old now : List Decimal) (ds : List Declared) (i : ℕ) (d : Declared) → d ≡ get_or ds i d
+    → i < length ds → now ≡ old ++ begun (map declaration_of (take i ds))
+    → now ++ (first_value (declaration_of d) ∷ []) ≡ old ++ begun (map declaration_of (take (i + 1) ds))
 begun_more old now ds i d is l before =
     let front = begun (map declaration_of (take i ds)) in
-    let taken : take (i + 1) ds ≡ take i ds ++ (d ∷ []) = take_more ds i d l ∙ ap (λ x. take i ds ++ (x ∷ [])) (sym is) in
+    let taken : take (i + 1) ds ≡ take i ds ++ (d ∷ []) =
+    take_more ds i d l
+    ∙ ap (λ x. take i ds ++ (x ∷ [])) (sym is) in
     let values : begun (map declaration_of (take (i + 1) ds)) ≡ front ++ (first_value (declaration_of d) ∷ []) =
     ap (λ xs. begun (map declaration_of xs)) taken
     ∙ ap begun (map-append declaration_of (take i ds) (d ∷ []))
@@ -40,19 +47,22 @@ begun_named : (es : List Declaration) → with_names (names_of es) (begun es) �
 begun_named [] = refl
 begun_named (d ∷ es) = ap (λ vs. first_entry d ∷ vs) (begun_named es)
 
-named : (ds es : List Declaration) (vs : List Decimal) → AreInputs ds vs → with_names (names_of (ds ++ es)) (vs ++ begun es) ≡ given ds vs ++ map first_entry es
+named : (ds es : List Declaration) (vs : List Decimal) → AreInputs ds vs
+    → with_names (names_of (ds ++ es)) (vs ++ begun es) ≡ given ds vs ++ map first_entry es
 named [] es [] h = begun_named es
 named [] es (v ∷ vs) h = absurd h
 named (d ∷ ds) es [] h = absurd h
 named (d ∷ ds) es (v ∷ vs) h = ap (λ rest. record { name = d.name; value = v } ∷ rest) (named ds es vs h.1)
 
-sized : (ds es : List Declaration) (vs : List Decimal) → AreInputs ds vs → length (vs ++ begun es) ≡ length (names_of (ds ++ es))
+sized : (ds es : List Declaration) (vs : List Decimal) → AreInputs ds vs
+    → length (vs ++ begun es) ≡ length (names_of (ds ++ es))
 sized [] es [] h = length-map es first_value ∙ sym (length-map es (λ d. d.name))
 sized [] es (v ∷ vs) h = absurd h
 sized (d ∷ ds) es [] h = absurd h
 sized (d ∷ ds) es (v ∷ vs) h = ap suc (sized ds es vs h.1)
 
-pub is_start : (p : PlanText) (inputs vs : List Decimal) → AreInputs (flowchart_of p).inputs inputs → vs ≡ inputs ++ begun (flowchart_of p).outputs ++ begun (flowchart_of p).internals → IsStart p inputs vs
+pub is_start : (p : PlanText) (inputs vs : List Decimal) → AreInputs (flowchart_of p).inputs inputs
+    → vs ≡ inputs ++ begun (flowchart_of p).outputs ++ begun (flowchart_of p).internals → IsStart p inputs vs
 is_start p inputs vs h is =
     let f = flowchart_of p in
     let others = f.outputs ++ f.internals in

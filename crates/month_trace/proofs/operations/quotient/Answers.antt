@@ -12,4 +12,5 @@ returns c =
     let s = c.args.scale in
     let whole = quotient mode s a b in
     let some = not_zero b whole c.requires.defined in
-    unless_is b whole c.requires.defined ∙ ap (λ q. Some q) (sym (quotient_only mode s a b c.div.result some c.div.ensures))
+    unless_is b whole c.requires.defined ∙ ap (λ q. Some q)
+    (sym (quotient_only mode s a b c.div.result some c.div.ensures))

@@ -20,7 +20,8 @@ run_body-run_statement-requires t c =
     let next = c.loop-stmt.next in
     let is = stmt_at body i s c.stmt-item.is c.loop-stmt-test.true in
     let count = written_at body i s c.stmt-item.is c.loop-stmt-test.true in
-    let run = subst (λ b. CanRun p (record c.args.spot { at = next }) b c.loop-stmt.values) is c.loop-stmt.invariant.run in
+    let run =
+    subst (λ b. CanRun p (record c.args.spot { at = next }) b c.loop-stmt.values) is c.loop-stmt.invariant.run in
     (omega (arith, count, c.loop-stmt.invariant.number, c.loop-stmt.invariant.above, c.decreases), can_here p (record c.args.spot { at = next }) s (body_of (drop (i + 1) body)) c.loop-stmt.values run)
 
 pub run_body-loop-stmt-preserved : goal.run_body-loop-stmt-preserved
@@ -41,7 +42,9 @@ run_body-loop-stmt-preserved t c =
     record {
       number = omega (arith, count, c.loop-stmt.invariant.number, step.1);
       above = omega (arith, c.loop-stmt.invariant.above, step.1);
-      run = can_rest p spot s rest c.loop-stmt.values c.run_statement.new.values c.in_ok-next.next run (c.run_statement.auto.values ∙ c.loop-stmt.invariant.run.values.sized) step.0.values step.1;
+      run =
+          can_rest p spot s rest c.loop-stmt.values c.run_statement.new.values c.in_ok-next.next run
+          (c.run_statement.auto.values ∙ c.loop-stmt.invariant.run.values.sized) step.0.values step.1;
       ends =
           ends_on p spot s rest old new step.0
           ∙ ap (λ b. after_in p c.args.spot.chain b (values_in p c.loop-stmt.values)) (sym is)
@@ -55,12 +58,15 @@ run_body-loop-stmt-preserved t c =
 pub run_method-unreachable-requires : goal.run_method-unreachable-requires
 run_method-unreachable-requires t c =
     let p = c.args.plan.now in
-    none_there (body_named (methods_in p) c.args.name.now) (sym c.in_default.ensures.body) (method_there (scope_in p) (methods_in p) c.args.name.now (values_in p c.args.values.now) c.args.chain c.requires.defined)
+    none_there (body_named (methods_in p) c.args.name.now) (sym c.in_default.ensures.body)
+    (method_there (scope_in p) (methods_in p) c.args.name.now (values_in p c.args.values.now) c.args.chain c.requires.defined)
 
 pub run_method-overflow_sub-spot : goal.run_method-overflow_sub-spot
 run_method-overflow_sub-spot t c =
     let p = c.args.plan.now in
-    let some = chain_some (scope_in p) (methods_in p) c.args.name.now (values_in p c.args.values.now) c.args.chain c.requires.defined in
+    let some =
+    chain_some (scope_in p) (methods_in p) c.args.name.now (values_in p c.args.values.now) c.args.chain
+    c.requires.defined in
     omega (arith, some)
 
 pub run_method-run_body-requires : goal.run_method-run_body-requires
@@ -77,7 +83,9 @@ run_method-run_body-requires t c =
         values = c.requires.values;
         typed = c.in-Some.ensures.run.typed;
         safe = safe_body (scope_in p) (methods_in p) m env b is c.args.chain some c.requires.safe;
-        defined = subst (λ o. IsSome o) (after_body (scope_in p) (methods_in p) m env b is c.args.chain some) c.requires.defined;
+        defined =
+            subst (λ o. IsSome o) (after_body (scope_in p) (methods_in p) m env b is c.args.chain some)
+            c.requires.defined;
         room = omega (arith, count);
       },
     )
@@ -93,16 +101,24 @@ run_method-returns t c =
     let run = c.in_ok-run_body.ensures.0 in
     record {
       values = after_body (scope_in p) (methods_in p) m env b is c.args.chain some ∙ run.values;
-      steps = ap (followed c.args.steps.now.items) (traced_body (scope_in p) (methods_in p) m env b is c.args.chain some) ∙ run.steps;
+      steps =
+          ap (followed c.args.steps.now.items) (traced_body (scope_in p) (methods_in p) m env b is c.args.chain some)
+          ∙ run.steps;
     }
 
 pub run_statement-run_if-requires : goal.run_statement-run_if-requires
 run_statement-run_if-requires t c =
-    let is = branch_is c.args.stmt.now c.in-If.test c.in-If.yes c.in-If.no c.deref.result.now c.deref-in-If.result.now c.in-If.is c.deref.ensures.value c.deref-in-If.ensures.value done in
+    let is =
+    branch_is c.args.stmt.now c.in-If.test c.in-If.yes c.in-If.no c.deref.result.now c.deref-in-If.result.now
+    c.in-If.is c.deref.ensures.value c.deref-in-If.ensures.value done in
     let count = ap written is in
     (omega (arith, count, c.decreases), subst (λ b. CanRun c.args.plan.now c.args.spot b c.args.values.now) is c.requires)
 
 pub run_statement-returns-in-If : goal.run_statement-returns-in-If
 run_statement-returns-in-If t c =
-    let is = branch_is c.args.stmt.now c.in-If.test c.in-If.yes c.in-If.no c.deref.result.now c.deref-in-If.result.now c.in-If.is c.deref.ensures.value c.deref-in-If.ensures.value done in
-    subst (λ b. GoesTo c.args.plan.now c.args.spot b (progress c.args.values.now c.args.steps.now.items) (progress c.run_if.new.values c.run_if.new.steps.items) c.run_if.result) (sym is) c.run_if.ensures
+    let is =
+    branch_is c.args.stmt.now c.in-If.test c.in-If.yes c.in-If.no c.deref.result.now c.deref-in-If.result.now
+    c.in-If.is c.deref.ensures.value c.deref-in-If.ensures.value done in
+    subst
+    (λ b. GoesTo c.args.plan.now c.args.spot b (progress c.args.values.now c.args.steps.now.items) (progress c.run_if.new.values c.run_if.new.steps.items) c.run_if.result)
+    (sym is) c.run_if.ensures

@@ -13,7 +13,8 @@ returns-in-Some-method_at-clause-body c =
 
 pub returns-in-Some-method_at-clause-run : goal.returns-in-Some-method_at-clause-run
 returns-in-Some-method_at-clause-run c =
-    method_body c.args.plan.now c.args.name.now (body_of c.as_slice.result.now) c.plan-counted.ensures.well_typed c.plan-counted.ensures.counted (sym (returns-in-Some-method_at-clause-body c))
+    method_body c.args.plan.now c.args.name.now (body_of c.as_slice.result.now) c.plan-counted.ensures.well_typed
+    c.plan-counted.ensures.counted (sym (returns-in-Some-method_at-clause-body c))
 
 pub returns-in-None-method_at-clause-body : goal.returns-in-None-method_at-clause-body
 returns-in-None-method_at-clause-body c =

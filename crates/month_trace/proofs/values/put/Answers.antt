@@ -7,7 +7,9 @@ use Rattle.month_trace.proofs.values.put.Goals as goal
 use Rattle.month_trace.proofs.values.put.Goals.{in-Some-declaration, in-None}
 
 pub unreachable-requires : goal.unreachable-requires
-unreachable-requires c = not_declared (scope_in c.args.plan.now) c.args.target.now c.requires.fits.target.declaration c.requires.fits.target.declared c.in_default.ensures
+unreachable-requires c =
+    not_declared (scope_in c.args.plan.now) c.args.target.now c.requires.fits.target.declaration
+    c.requires.fits.target.declared c.in_default.ensures
 
 pub returns-clause-values : goal.returns-clause-values
 returns-clause-values c =

@@ -23,12 +23,16 @@ returns-in-Some c =
 pub returns-in-Some-constant_value : goal.returns-in-Some-constant_value
 returns-in-Some-constant_value c =
     let p = c.args.plan.now in
-    let none = named_none (variables_in p) c.args.values.now c.args.name.now c.requires.values.sized (sym c.in-None.ensures) in
+    let none =
+    named_none (variables_in p) c.args.values.now c.args.name.now c.requires.values.sized (sym c.in-None.ensures) in
     ap (λ o. option_or o (constant_in (scope_in p) c.args.name.now)) none ∙ sym c.in-Some-constant_value.ensures
 
 pub unreachable-requires : goal.unreachable-requires
 unreachable-requires c =
     let p = c.args.plan.now in
-    let none = named_none (variables_in p) c.args.values.now c.args.name.now c.requires.values.sized (sym c.in-None.ensures) in
-    let nothing = ap (λ o. option_or o (constant_in (scope_in p) c.args.name.now)) none ∙ sym c.in-None-constant_value.ensures in
+    let none =
+    named_none (variables_in p) c.args.values.now c.args.name.now c.requires.values.sized (sym c.in-None.ensures) in
+    let nothing =
+    ap (λ o. option_or o (constant_in (scope_in p) c.args.name.now)) none
+    ∙ sym c.in-None-constant_value.ensures in
     none_there (name_value_in p c.args.name.now c.args.values.now) nothing c.requires.named
