@@ -57,7 +57,8 @@ module _ (p : PlanText) (vs : List Decimal) (op : Two) (e f : Term) (h : CanEval
   right_defined : goes_right op a ≡ true → IsSome (option_and_then (λ b. of_two op a b) (value_in p f vs))
   right_defined goes =
       some_if (goes_right op a) _ (Some a) goes
-      (some_step (λ a. if goes_right op a then option_and_then (λ b. of_two op a b) (value_in p f vs) else Some a) (value_in p e vs) a is h.defined)
+      (some_step (λ a. if goes_right op a then option_and_then (λ b. of_two op a b) (value_in p f vs) else Some a)
+      (value_in p e vs) a is h.defined)
 
   pub can_right : goes_right op a ≡ true → CanEvaluate p f vs
   can_right goes = record {
@@ -75,7 +76,8 @@ module _ (p : PlanText) (vs : List Decimal) (op : Two) (e f : Term) (h : CanEval
       → TwoFits op (kind_of (scope_in p) (two op e f)) a b
   two_fits b goes is' = (h.safe.1 a is goes).1 b is'
 
-pub can_operate : (p : PlanText) (vs : List Decimal) (op : Binary) (e f : Term) (h : CanEvaluate p (two (operator op) e f) vs) (a b : Decimal)
+pub can_operate : (p : PlanText) (vs : List Decimal) (op : Binary) (e f : Term)
+    (h : CanEvaluate p (two (operator op) e f) vs) (a b : Decimal)
     → value_in p e vs ≡ Some a → goes_right (operator op) a ≡ true → value_in p f vs ≡ Some b → CanOperate op a b
 can_operate p vs op e f h a b is goes is' = record {
   kind = kind_of (scope_in p) (two (operator op) e f);
@@ -83,7 +85,8 @@ can_operate p vs op e f h a b is goes is' = record {
   defined = two_defined p vs (operator op) e f h a is b goes is';
 }
 
-pub can_divide : (p : PlanText) (vs : List Decimal) (s : ℕ) (mode : Mode) (e f : Term) (h : CanEvaluate p (two (divide s mode) e f) vs) (a b : Decimal)
+pub can_divide : (p : PlanText) (vs : List Decimal) (s : ℕ) (mode : Mode) (e f : Term)
+    (h : CanEvaluate p (two (divide s mode) e f) vs) (a b : Decimal)
     → value_in p e vs ≡ Some a → value_in p f vs ≡ Some b → CanDivide s mode a b
 can_divide p vs s mode e f h a b is is' = record {
   fits = two_fits p vs (divide s mode) e f h a is b refl is';
@@ -121,7 +124,8 @@ module _ (p : PlanText) (vs : List Decimal) (e f : Term) (b : Decimal) (h : HasV
   plain_for calls.Min t = tt
   plain_for calls.Max t = tt
 
-pub can_call : (p : PlanText) (vs : List Decimal) (call : Call) (e f : Term) (h : CanEvaluate p (two (method call) e f) vs) (a b : Decimal)
+pub can_call : (p : PlanText) (vs : List Decimal) (call : Call) (e f : Term)
+    (h : CanEvaluate p (two (method call) e f) vs) (a b : Decimal)
     → value_in p e vs ≡ Some a → value_in p f vs ≡ Some b → CanCall call a b
 can_call p vs call e f h a b is is' = record {
   plain = plain_for p vs e f b h.values is' call h.typed.2;
@@ -130,7 +134,8 @@ can_call p vs call e f h a b is is' = record {
 
 -- ---- one operand, and the parts of a conditional
 
-pub can_unary : (p : PlanText) (vs : List Decimal) (op : Unary) (e : Term) (h : CanEvaluate p (one (unary op) e) vs) (a : Decimal)
+pub can_unary : (p : PlanText) (vs : List Decimal) (op : Unary) (e : Term) (h : CanEvaluate p (one (unary op) e) vs)
+    (a : Decimal)
     → value_in p e vs ≡ Some a → CanTakeOne (unary op) a
 can_unary p vs op e h a is = record { kind = kind_of (scope_in p) (one (unary op) e); fits = h.safe.1 a is }
 

@@ -26,7 +26,9 @@ body_at : (ms : List Routine) (x : List ℕ)
     → option_map (λ m. m.body) (slice_get ms (place_of (method_names ms) x)) ≡ body_named ms x
 body_at [] x = refl
 body_at (m ∷ ms) x =
-    elim (bytes_eq x m.name) as (λ same. option_map (λ m. m.body) (slice_get (m ∷ ms) (cond (not same) (1 + place_of (method_names ms) x) 0)) ≡ (if same then Some m.body else body_named ms x)) [
+    elim (bytes_eq x m.name) as (λ same. option_map (λ m. m.body)
+    (slice_get (m ∷ ms) (cond (not same) (1 + place_of (method_names ms) x) 0))
+    ≡ (if same then Some m.body else body_named ms x)) [
       | true ↦ refl
       | false ↦ (let more : 1 + place_of (method_names ms) x ≡ suc (place_of (method_names ms) x) = omega arith in
           ap (λ k. option_map (λ m. m.body) (slice_get (m ∷ ms) k)) more ∙ body_at ms x)
@@ -63,7 +65,8 @@ named_count (m ∷ ms) x b e = by_name (bytes_eq x m.name) (named_count ms x b) 
   where
     by_name : (same : Bool) → (body_named ms x ≡ Some b → written b ≤ methods_written ms)
         → (if same then Some m.body else body_named ms x) ≡ Some b → written b ≤ written m.body + methods_written ms
-    by_name true rest e = let same : m.body ≡ b = cc in let count : written m.body ≡ written b = ap written same in omega arith
+    by_name true rest e = let same : m.body ≡ b = cc in let count : written m.body ≡ written b = ap written
+        same in omega arith
     by_name false rest e = let h = rest e in omega (arith, h)
 
 pub method_body : (p : PlanText) (x : List ℕ) (b : Body) → IsWellTyped (flowchart_of p)

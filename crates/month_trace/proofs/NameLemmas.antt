@@ -28,12 +28,14 @@ number_in names x i e = elim (cases_lt (place_of names x) (length names)) [
       let here : Some (place_of names x) ≡ Some i = rw t at e in
       let same : place_of names x ≡ i = cc in
       (same, omega arith))
-  | inr past ↦ (let t : nat_lt (place_of names x) (length names) ≡ false = grind (arith, nat_tests) in absurd (none-some i (rw t at e)))
+  | inr past ↦ (let t : nat_lt (place_of names x) (length names) ≡ false = grind (arith, nat_tests) in absurd
+      (none-some i (rw t at e)))
 ]
 
 pub number_past : (names : List (List ℕ)) (x : List ℕ) → number_of names x ≡ None → length names ≤ place_of names x
 number_past names x e = elim (cases_lt (place_of names x) (length names)) [
-  | inl less ↦ (let t : nat_lt (place_of names x) (length names) ≡ true = grind (arith, nat_tests) in absurd (none-some (place_of names x) (sym (rw t at e))))
+  | inl less ↦ (let t : nat_lt (place_of names x) (length names) ≡ true = grind (arith, nat_tests) in absurd
+      (none-some (place_of names x) (sym (rw t at e))))
   | inr past ↦ past
 ]
 
@@ -45,7 +47,8 @@ named_at [] (r ∷ rs) x e = absurd (omega arith)
 named_at (n ∷ ns) [] x e = absurd (omega arith)
 named_at (n ∷ ns) (r ∷ rs) x e =
     rw (same_either_way n x)
-    (elim (bytes_eq x n) as (λ same. (if same then Some r else look (with_names ns rs) x) ≡ slice_get (r ∷ rs) (cond (not same) (1 + place_of ns x) 0)) [
+    (elim (bytes_eq x n) as (λ same. (if same then Some r else look (with_names ns rs) x) ≡ slice_get (r ∷ rs)
+    (cond (not same) (1 + place_of ns x) 0)) [
       | true ↦ refl
       | false ↦ (let more : suc (place_of ns x) ≡ 1 + place_of ns x = omega arith in
           named_at ns rs x (omega arith) ∙ ap (slice_get (r ∷ rs)) more)
@@ -69,7 +72,9 @@ put_at [] (r ∷ rs) x a e = absurd (omega arith)
 put_at (n ∷ ns) [] x a e = absurd (omega arith)
 put_at (n ∷ ns) (r ∷ rs) x a e =
     rw (same_either_way n x)
-    (elim (bytes_eq x n) as (λ same. (if same then record { name = n; value = a } ∷ with_names ns rs else record { name = n; value = r } ∷ put (with_names ns rs) x a) ≡ with_names (n ∷ ns) (set (r ∷ rs) (cond (not same) (1 + place_of ns x) 0) a)) [
+    (elim (bytes_eq x n) as (λ same. (if same then record { name = n; value = a } ∷ with_names ns rs else record
+    { name = n; value = r } ∷ put (with_names ns rs) x a) ≡ with_names (n ∷ ns)
+    (set (r ∷ rs) (cond (not same) (1 + place_of ns x) 0) a)) [
       | true ↦ refl
       | false ↦ (let more : suc (place_of ns x) ≡ 1 + place_of ns x = omega arith in
           ap (λ vs. record { name = n; value = r } ∷ vs) (put_at ns rs x a (omega arith)) ∙ ap

@@ -43,8 +43,11 @@ none_is x (y ∷ ys) h =
 
 apart_of : (xs : List (List ℕ)) → AreDistinct xs → AreApart xs
 apart_of [] h = tt
-apart_of (x ∷ xs) h =
-    (none_is x xs (λ k d l. h 0 (suc k) d (omega arith) (omega arith)), apart_of xs (λ i j d l w. h (suc i) (suc j) d (omega arith) (omega arith)))
+apart_of (x ∷ xs) h = (
+  none_is x xs (λ k d l. h 0 (suc k) d (omega arith) (omega arith)),
+  apart_of xs
+      (λ i j d l w. h (suc i) (suc j) d (omega arith) (omega arith)),
+)
 
 front_none : (x : List ℕ) (a b : List (List ℕ)) → NoneIs x (a ++ b) → NoneIs x a
 front_none x [] b h = tt
@@ -75,7 +78,8 @@ others_stay : (steps : List TraceStep) (m : List ℕ) (n : ℕ) (x : List ℕ) (
 others_stay steps m n x v [] h = refl
 others_stay steps m n x v (e ∷ env) h =
     let mine : value_behind steps e ≡ value_behind (Set m n x v ∷ steps) e =
-    last_by (last_set e.name steps) false v e.value ∙ ap (λ t. unwrap_or (option_or (last_set e.name steps) (if t then Some v else None)) e.value) (sym h.0) in
+    last_by (last_set e.name steps) false v e.value ∙ ap
+    (λ t. unwrap_or (option_or (last_set e.name steps) (if t then Some v else None)) e.value) (sym h.0) in
     ap₂ (λ d rest. record e { value = d } ∷ rest) mine (others_stay steps m n x v env h.1)
 
 put_behind : (steps : List TraceStep) (m : List ℕ) (n : ℕ) (x : List ℕ) (v : Decimal) (env : Env)
@@ -94,7 +98,8 @@ put_behind steps m n x v (e ∷ env) h = by_name (put_behind steps m n x v env h
 
     by_name : map (behind steps) (put env x v) ≡ map (behind (Set m n x v ∷ steps)) env → (t : Bool)
         → bytes_eq e.name x ≡ t
-        → map (behind steps) (if t then record e { value = v } ∷ env else e ∷ put env x v) ≡ map (behind (Set m n x v ∷ steps)) (e ∷ env)
+        → map (behind steps) (if t then record e { value = v } ∷ env else e ∷ put env x v) ≡ map
+        (behind (Set m n x v ∷ steps)) (e ∷ env)
     by_name later true is =
         ap₂ (λ d rest. record e { value = d } ∷ rest) (mine true is)
         (others_stay steps m n x v env (subst (λ y. NoneIs y (entry_names env)) (same_name is) h.0))
@@ -106,7 +111,8 @@ silent : (steps : List TraceStep) (s : TraceStep) (env : Env) → ((x : List ℕ
 silent steps s [] h = refl
 silent steps s (e ∷ env) h =
     let mine : value_behind steps e ≡ value_behind (s ∷ steps) e =
-    last_by (last_set e.name steps) false e.value e.value ∙ ap (λ o. unwrap_or (option_or (last_set e.name steps) o) e.value) (sym (h e.name)) in
+    last_by (last_set e.name steps) false e.value e.value ∙ ap
+    (λ o. unwrap_or (option_or (last_set e.name steps) o) e.value) (sym (h e.name)) in
     ap₂ (λ d rest. record e { value = d } ∷ rest) mine (silent steps s env h)
 
 nothing_behind : (env : Env) → env ≡ map (behind []) env
@@ -144,7 +150,8 @@ up_to_internals g (d ∷ ds) es = ap (λ rest. g (first_entry d) ∷ rest) (up_t
 variables_apart : (f : Flowchart) → IsWellTyped f → AreApart (names_of (variables_of f))
 variables_apart f typed =
     let whole : declarations_of f ≡ variables_of f ++ f.constants =
-    ap (λ ds. f.inputs ++ ds) (sym (append_assoc f.outputs f.internals f.constants)) ∙ sym (append_assoc f.inputs (f.outputs ++ f.internals) f.constants) in
+    ap (λ ds. f.inputs ++ ds) (sym (append_assoc f.outputs f.internals f.constants)) ∙ sym
+    (append_assoc f.inputs (f.outputs ++ f.internals) f.constants) in
     let names : names_of (declarations_of f) ≡ names_of (variables_of f) ++ names_of f.constants =
     ap names_of whole
     ∙ map-append (λ (d : Declaration). d.name) (variables_of f) f.constants in

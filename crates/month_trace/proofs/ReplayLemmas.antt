@@ -83,9 +83,11 @@ module _ (scope : Scope) (calls : Calls) (inside : List ℕ → Env → Trace) (
       ∙ q both.back back
 
   either_leads : (a b : Body) (i j : ℕ) (env middle : Env)
-      → ((ends : Env) (steps : List TraceStep) → after scope calls a env ≡ Some ends → traced scope calls inside name i a env ≡ Some steps → replayed steps env ≡ ends)
+      → ((ends : Env) (steps : List TraceStep) → after scope calls a env ≡ Some ends → traced scope calls inside name
+      i a env ≡ Some steps → replayed steps env ≡ ends)
       →
-      ((ends : Env) (steps : List TraceStep) → after scope calls b env ≡ Some ends → traced scope calls inside name j b env ≡ Some steps → replayed steps env ≡ ends)
+      ((ends : Env) (steps : List TraceStep) → after scope calls b env ≡ Some ends → traced scope calls inside name j
+      b env ≡ Some steps → replayed steps env ≡ ends)
       → (zero : Bool) → (if zero then after scope calls b env else after scope calls a env) ≡ Some middle →
       (steps : List TraceStep) →
       (if zero then traced scope calls inside name j b env else traced scope calls inside name i a env) ≡ Some steps →
@@ -105,7 +107,8 @@ module _ (scope : Scope) (calls : Calls) (inside : List ℕ → Env → Trace) (
   leads (eval x t rest) at env ends steps e h =
       option_and_then_some (λ v. after scope calls rest (assigned scope x v env)) (value scope t env) ends e
       (λ v is goes.
-      (let own = at_value (λ v. first_then (Set name at x (value_put scope x v)) (traced scope calls inside name (at + 1) rest (assigned scope x v env))) (value scope t env) v steps is h in
+      (let own = at_value (λ v. first_then (Set name at x (value_put scope x v))
+      (traced scope calls inside name (at + 1) rest (assigned scope x v env))) (value scope t env) v steps is h in
       let parts =
       rest_of (Set name at x (value_put scope x v))
       (traced scope calls inside name (at + 1) rest (assigned scope x v env)) steps own in
@@ -113,11 +116,13 @@ module _ (scope : Scope) (calls : Calls) (inside : List ℕ → Env → Trace) (
       parts.1))
   leads (branch t a b rest) at env ends steps e h =
       option_and_then_some
-      (λ v. option_and_then (after scope calls rest) (if is_zero v then after scope calls b env else after scope calls a env))
+      (λ v. option_and_then (after scope calls rest) (if is_zero v then after scope calls b env else after scope
+      calls a env))
       (value scope t env) ends e (λ v is goes.
       option_and_then_some (after scope calls rest)
       (if is_zero v then after scope calls b env else after scope calls a env) ends goes (λ middle reached more.
-      (let inner = λ (v : Decimal). if is_zero v then traced scope calls inside name (at + 1 + written a) b env else traced scope calls inside name (at + 1) a env in
+      (let inner = λ (v : Decimal). if is_zero v then traced scope calls inside name (at + 1 + written a) b env
+      else traced scope calls inside name (at + 1) a env in
       let go = traced scope calls inside name (at + 1 + written a + written b) rest in
       let lists = λ (v : Decimal). if is_zero v then after scope calls b env else after scope calls a env in
       let own =
@@ -128,7 +133,8 @@ module _ (scope : Scope) (calls : Calls) (inside : List ℕ → Env → Trace) (
       rest_of (Test name at (not (is_zero v))) (both_in_order (inner v) (option_and_then go (lists v))) steps own in
       ap (λ steps. replayed steps env) (sym parts.2)
       ∙ inner_leads (inner v) go (lists v) env middle ends parts.0 reached parts.1
-      (either_leads a b (at + 1) (at + 1 + written a) env middle (leads a (at + 1) env) (leads b (at + 1 + written a) env) (is_zero v) reached)
+      (either_leads a b (at + 1) (at + 1 + written a) env middle (leads a (at + 1) env)
+      (leads b (at + 1 + written a) env) (is_zero v) reached)
       (λ steps h. leads rest (at + 1 + written a + written b) middle ends steps more h))))
   leads (execute m rest) at env ends steps e h =
       option_and_then_some (after scope calls rest) (calls.after m env) ends e (λ middle reached more.
@@ -147,7 +153,8 @@ methods_lead scope ms zero m env ends steps e h = absurd (none-some ends e)
 methods_lead scope ms (suc n) m env ends steps e h =
     option_and_then_some (λ b. after scope (calls_of scope ms n) b env) (body_named ms m) ends e (λ b is goes.
     leads scope (calls_of scope ms n) (traces_of scope ms n) m (methods_lead scope ms n) b 0 env ends steps goes
-    (at_value (λ b. traced scope (calls_of scope ms n) (traces_of scope ms n) m 0 b env) (body_named ms m) b steps is h))
+    (at_value (λ b. traced scope (calls_of scope ms n) (traces_of scope ms n) m 0 b env) (body_named ms m) b steps is
+    h))
 
 -- the assignments of a run's trace lead from its start to its end
 pub replays : (f : Flowchart) (inputs : List Decimal) (ends : Env) (steps : List TraceStep)

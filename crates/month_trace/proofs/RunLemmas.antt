@@ -40,7 +40,9 @@ stays None = refl
 
 -- a statement with the trace of what is inside it, and what follows
 inner_then : (s : TraceStep) (inner : Trace) (ends : Option Env) (go : Env → Trace)
-    → first_then s (both_in_order inner (option_and_then go ends)) ≡ both_in_order (first_then s (both_in_order inner (option_and_then (λ env. Some []) ends))) (option_and_then go (option_and_then (λ env. Some env) ends))
+    → first_then s (both_in_order inner (option_and_then go ends)) ≡ both_in_order
+    (first_then s (both_in_order inner (option_and_then (λ env. Some []) ends)))
+    (option_and_then go (option_and_then (λ env. Some env) ends))
 inner_then s None ends go = refl
 inner_then s (Some xs) None go = refl
 inner_then s (Some xs) (Some env) go = by_rest (go env)
@@ -73,15 +75,18 @@ followed_nothing steps = ap (λ zs. Some zs) (append-nil steps)
 
 module _ (scope : Scope) (calls : Calls) where
   pub after_then : (s : Stmt) (rest : Body) (env : Env)
-      → after scope calls (stmt_then s rest) env ≡ option_and_then (after scope calls rest) (after scope calls (stmt_then s done) env)
+      → after scope calls (stmt_then s rest) env ≡ option_and_then (after scope calls rest)
+      (after scope calls (stmt_then s done) env)
   after_then (Eval x e) rest env =
       assoc (value scope (term_of e) env) (λ v. Some (assigned scope x v env)) (after scope calls rest)
   after_then (If' t m ys n zs) rest env =
       let lists =
-      λ (v : Decimal). if is_zero v then after scope calls (body_of_row zs) env else after scope calls (body_of_row ys) env in
+      λ (v : Decimal). if is_zero v then after scope calls (body_of_row zs) env else after scope calls
+      (body_of_row ys) env in
       assoc (value scope (term_of t) env) lists (after scope calls rest)
       ∙ ap (option_and_then (after scope calls rest))
-      (sym (stays (option_and_then lists (value scope (term_of t) env))) ∙ sym (assoc (value scope (term_of t) env) lists (λ env. Some env)))
+      (sym (stays (option_and_then lists (value scope (term_of t) env))) ∙ sym
+      (assoc (value scope (term_of t) env) lists (λ env. Some env)))
   after_then (Execute x) rest env = ap (option_and_then (after scope calls rest)) (sym (stays (calls.after x env)))
 
   pub safe_here : (s : Stmt) (rest : Body) (env : Env) → IsSafeBody scope calls (stmt_then s rest) env
@@ -103,7 +108,8 @@ module _ (scope : Scope) (calls : Calls) where
       same_env env e = cc
   safe_rest (If' t m ys n zs) rest env ends h leads =
       let lists =
-      λ (v : Decimal). if is_zero v then after scope calls (body_of_row zs) env else after scope calls (body_of_row ys) env in
+      λ (v : Decimal). if is_zero v then after scope calls (body_of_row zs) env else after scope calls
+      (body_of_row ys) env in
       option_and_then_some (λ v. option_and_then (λ env. Some env) (lists v)) (value scope (term_of t) env) ends leads
       (λ v is more.
       (h.1 v is).2 ends (unchanged (lists v) ends more))
@@ -113,13 +119,16 @@ module _ (scope : Scope) (calls : Calls) where
     pub traced_then : (s : Stmt) (rest : Body) (at : ℕ) (env : Env)
         → traced scope calls inside name at (stmt_then s rest) env
         ≡ both_in_order (traced scope calls inside name at (stmt_then s done) env)
-        (option_and_then (traced scope calls inside name (at + written (stmt_then s done)) rest) (after scope calls (stmt_then s done) env))
+        (option_and_then (traced scope calls inside name (at + written (stmt_then s done)) rest)
+        (after scope calls (stmt_then s done) env))
     traced_then (Eval x e) rest at env = by_value (value scope (term_of e) env)
       where
         by_value : (o : Option Decimal)
-            → option_and_then (λ v. first_then (Set name at x (value_put scope x v)) (traced scope calls inside name (at + 1) rest (assigned scope x v env))) o
+            → option_and_then (λ v. first_then (Set name at x (value_put scope x v))
+            (traced scope calls inside name (at + 1) rest (assigned scope x v env))) o
             ≡ both_in_order (option_and_then (λ v. first_then (Set name at x (value_put scope x v)) (Some [])) o)
-            (option_and_then (traced scope calls inside name (at + 1) rest) (option_and_then (λ v. Some (assigned scope x v env)) o))
+            (option_and_then (traced scope calls inside name (at + 1) rest)
+            (option_and_then (λ v. Some (assigned scope x v env)) o))
         by_value None = refl
         by_value (Some v) = refl
     traced_then (If' t m ys n zs) rest at env =
@@ -128,18 +137,29 @@ module _ (scope : Scope) (calls : Calls) where
         let count : at + 1 + written a + written b ≡ at + (1 + written a + written b + 0) = omega arith in
         by_value a b (value scope (term_of t) env)
         ∙ ap
-        (λ k. both_in_order (traced scope calls inside name at (branch (term_of t) a b done) env) (option_and_then (traced scope calls inside name k rest) (after scope calls (branch (term_of t) a b done) env)))
+        (λ k. both_in_order (traced scope calls inside name at (branch (term_of t) a b done) env)
+        (option_and_then (traced scope calls inside name k rest) (after scope calls (branch (term_of t) a b done) env)))
         count
       where
         by_value : (a b : Body) (o : Option Decimal)
-            → option_and_then (λ v. first_then (Test name at (not (is_zero v))) (both_in_order (if is_zero v then traced scope calls inside name (at + 1 + written a) b env else traced scope calls inside name (at + 1) a env) (option_and_then (traced scope calls inside name (at + 1 + written a + written b) rest) (if is_zero v then after scope calls b env else after scope calls a env)))) o
+            → option_and_then (λ v. first_then (Test name at (not (is_zero v)))
+            (both_in_order (if is_zero v then traced scope calls inside name (at + 1 + written a) b env else traced
+            scope calls inside name (at + 1) a env) (option_and_then
+            (traced scope calls inside name (at + 1 + written a + written b) rest)
+            (if is_zero v then after scope calls b env else after scope calls a env)))) o
             ≡ both_in_order
-            (option_and_then (λ v. first_then (Test name at (not (is_zero v))) (both_in_order (if is_zero v then traced scope calls inside name (at + 1 + written a) b env else traced scope calls inside name (at + 1) a env) (option_and_then (λ env. Some []) (if is_zero v then after scope calls b env else after scope calls a env)))) o)
-            (option_and_then (traced scope calls inside name (at + 1 + written a + written b) rest) (option_and_then (λ v. option_and_then (λ env. Some env) (if is_zero v then after scope calls b env else after scope calls a env)) o))
+            (option_and_then (λ v. first_then (Test name at (not (is_zero v)))
+            (both_in_order (if is_zero v then traced scope calls inside name (at + 1 + written a) b env else traced
+            scope calls inside name (at + 1) a env) (option_and_then (λ env. Some [])
+            (if is_zero v then after scope calls b env else after scope calls a env)))) o)
+            (option_and_then (traced scope calls inside name (at + 1 + written a + written b) rest)
+            (option_and_then (λ v. option_and_then (λ env. Some env)
+            (if is_zero v then after scope calls b env else after scope calls a env)) o))
         by_value a b None = refl
         by_value a b (Some v) =
             inner_then (Test name at (not (is_zero v)))
-            (if is_zero v then traced scope calls inside name (at + 1 + written a) b env else traced scope calls inside name (at + 1) a env)
+            (if is_zero v then traced scope calls inside name (at + 1 + written a) b env else traced scope calls
+            inside name (at + 1) a env)
             (if is_zero v then after scope calls b env else after scope calls a env)
             (traced scope calls inside name (at + 1 + written a + written b) rest)
     traced_then (Execute x) rest at env =

@@ -55,24 +55,34 @@ module _ (scope : Scope) (calls : Calls) (inside : List ℕ → Env → Trace) (
       option_and_then_some (λ v. after scope calls rest (assigned scope x v env)) (value scope t env) ends e
       (λ v is leads.
       subst
-      (λ o. IsSome (option_and_then (λ v. first_then (Set name at x (value_put scope x v)) (traced scope calls inside name (at + 1) rest (assigned scope x v env))) o))
+      (λ o. IsSome (option_and_then (λ v. first_then (Set name at x (value_put scope x v))
+      (traced scope calls inside name (at + 1) rest (assigned scope x v env))) o))
       (sym is)
-      (map_there (λ more. Set name at x (value_put scope x v) ∷ more) (traced scope calls inside name (at + 1) rest (assigned scope x v env)) (trace_there rest (at + 1) (assigned scope x v env) ends leads)))
+      (map_there (λ more. Set name at x (value_put scope x v) ∷ more)
+      (traced scope calls inside name (at + 1) rest (assigned scope x v env))
+      (trace_there rest (at + 1) (assigned scope x v env) ends leads)))
   trace_there (branch t a b rest) at env ends e =
       option_and_then_some
-      (λ v. option_and_then (after scope calls rest) (if is_zero v then after scope calls b env else after scope calls a env))
+      (λ v. option_and_then (after scope calls rest) (if is_zero v then after scope calls b env else after scope
+      calls a env))
       (value scope t env) ends e (λ v is leads.
       option_and_then_some (after scope calls rest)
       (if is_zero v then after scope calls b env else after scope calls a env) ends leads (λ middle reached more.
       subst
-      (λ o. IsSome (option_and_then (λ v. first_then (Test name at (not (is_zero v))) (both_in_order (if is_zero v then traced scope calls inside name (at + 1 + written a) b env else traced scope calls inside name (at + 1) a env) (option_and_then (traced scope calls inside name (at + 1 + written a + written b) rest) (if is_zero v then after scope calls b env else after scope calls a env)))) o))
+      (λ o. IsSome (option_and_then (λ v. first_then (Test name at (not (is_zero v)))
+      (both_in_order (if is_zero v then traced scope calls inside name (at + 1 + written a) b env else traced scope
+      calls inside name (at + 1) a env) (option_and_then
+      (traced scope calls inside name (at + 1 + written a + written b) rest)
+      (if is_zero v then after scope calls b env else after scope calls a env)))) o))
       (sym is)
       (inner_there (Test name at (not (is_zero v)))
-      (if is_zero v then traced scope calls inside name (at + 1 + written a) b env else traced scope calls inside name (at + 1) a env)
+      (if is_zero v then traced scope calls inside name (at + 1 + written a) b env else traced scope calls inside
+      name (at + 1) a env)
       (traced scope calls inside name (at + 1 + written a + written b) rest)
       (if is_zero v then after scope calls b env else after scope calls a env)
       middle reached
-      (either_there a b (at + 1) (at + 1 + written a) env middle (trace_there a (at + 1) env) (trace_there b (at + 1 + written a) env) (is_zero v) reached)
+      (either_there a b (at + 1) (at + 1 + written a) env middle (trace_there a (at + 1) env)
+      (trace_there b (at + 1 + written a) env) (is_zero v) reached)
       (trace_there rest (at + 1 + written a + written b) middle ends more))))
   trace_there (execute m rest) at env ends e =
       option_and_then_some (after scope calls rest) (calls.after m env) ends e (λ middle reached more.

@@ -21,7 +21,8 @@ use std::alloc::{AllocError, Global};
 const LONGEST_CHAIN: u32 = 64;
 
 /// The statements that a run of a plan on inputs that it admits executes, in their order, each with what it did. Time is
-/// linear in the statements of the executed lists, and memory in the trace and the variables.
+/// linear in the evaluated nodes and the statements of executed methods as they are written, memory in the trace and the
+/// variables.
 pub fn trace_run(alloc: Global, p: &Plan, inputs: &[Dec]) -> Result<Vec<TraceStep>, AllocError>
     requires { Admits p.now inputs.now }
     ensures { IfOk result

@@ -17,4 +17,5 @@ returns-in_err-steps-clause-refused c =
     let book = c.args.b.now in
     memory_only book c.args.employee c.args.when c.from_residual-in_err-steps.result c.in_err-steps.field-0.0
     c.from_residual-in_err-steps.ensures.1
-    (is_done book c.args.employee c.args.when c.in_ok-key.key (lent_job c.in-Some.job) c.in_ok-key.ensures.ok c.in-Some.ensures.job)
+    (is_done book c.args.employee c.args.when c.in_ok-key.key (lent_job c.in-Some.job) c.in_ok-key.ensures.ok
+    c.in-Some.ensures.job)

@@ -8,4 +8,5 @@ use Rattle.month_trace.proofs.operations.exact_quotient.Goals as goal
 pub returns : goal.returns
 returns c =
     exact_quotient_only c.args.a (numerator_of c.args.b) c.div_exact.result c.requires.plain
-    (subst (λ n. IsExactQuotient c.args.a n c.div_exact.result) (held_is c.numerator.result c.numerator.ensures.kept ∙ c.numerator.ensures.value) c.div_exact.ensures)
+    (subst (λ n. IsExactQuotient c.args.a n c.div_exact.result)
+    (held_is c.numerator.result c.numerator.ensures.kept ∙ c.numerator.ensures.value) c.div_exact.ensures)

@@ -21,8 +21,11 @@ run_body-run_statement-requires t c =
     let is = stmt_at body i s c.stmt-item.is c.loop-stmt-test.true in
     let count = written_at body i s c.stmt-item.is c.loop-stmt-test.true in
     let run =
-    subst (λ b. CanRun p (record c.args.spot { at = next }) b c.loop-stmt.values) is c.loop-stmt.invariant.run in
-    (omega (arith, count, c.loop-stmt.invariant.number, c.loop-stmt.invariant.above, c.decreases), can_here p (record c.args.spot { at = next }) s (body_of (drop (i + 1) body)) c.loop-stmt.values run)
+    subst (λ b. CanRun p (record c.args.spot { at = next }) b c.loop-stmt.values) is c.loop-stmt.invariant.run in (
+      omega (arith, count, c.loop-stmt.invariant.number, c.loop-stmt.invariant.above, c.decreases),
+      can_here p
+          (record c.args.spot { at = next }) s (body_of (drop (i + 1) body)) c.loop-stmt.values run,
+    )
 
 pub run_body-loop-stmt-preserved : goal.run_body-loop-stmt-preserved
 run_body-loop-stmt-preserved t c =
@@ -59,7 +62,8 @@ pub run_method-unreachable-requires : goal.run_method-unreachable-requires
 run_method-unreachable-requires t c =
     let p = c.args.plan.now in
     none_there (body_named (methods_in p) c.args.name.now) (sym c.in_default.ensures.body)
-    (method_there (scope_in p) (methods_in p) c.args.name.now (values_in p c.args.values.now) c.args.chain c.requires.defined)
+    (method_there (scope_in p) (methods_in p) c.args.name.now (values_in p c.args.values.now) c.args.chain
+    c.requires.defined)
 
 pub run_method-overflow_sub-spot : goal.run_method-overflow_sub-spot
 run_method-overflow_sub-spot t c =
@@ -111,8 +115,11 @@ run_statement-run_if-requires t c =
     let is =
     branch_is c.args.stmt.now c.in-If.test c.in-If.yes c.in-If.no c.deref.result.now c.deref-in-If.result.now
     c.in-If.is c.deref.ensures.value c.deref-in-If.ensures.value done in
-    let count = ap written is in
-    (omega (arith, count, c.decreases), subst (λ b. CanRun c.args.plan.now c.args.spot b c.args.values.now) is c.requires)
+    let count = ap written is in (
+      omega (arith, count, c.decreases),
+      subst (λ b. CanRun c.args.plan.now c.args.spot b c.args.values.now) is
+          c.requires,
+    )
 
 pub run_statement-returns-in-If : goal.run_statement-returns-in-If
 run_statement-returns-in-If t c =
@@ -120,5 +127,6 @@ run_statement-returns-in-If t c =
     branch_is c.args.stmt.now c.in-If.test c.in-If.yes c.in-If.no c.deref.result.now c.deref-in-If.result.now
     c.in-If.is c.deref.ensures.value c.deref-in-If.ensures.value done in
     subst
-    (λ b. GoesTo c.args.plan.now c.args.spot b (progress c.args.values.now c.args.steps.now.items) (progress c.run_if.new.values c.run_if.new.steps.items) c.run_if.result)
+    (λ b. GoesTo c.args.plan.now c.args.spot b (progress c.args.values.now c.args.steps.now.items)
+    (progress c.run_if.new.values c.run_if.new.steps.items) c.run_if.result)
     (sym is) c.run_if.ensures

@@ -31,7 +31,8 @@ invariant-run_body-loop-stmt l = record {
       ≡ after_in l.plan l.fn.spot.chain (body_of l.body) (values_in l.plan l.initial.values);
   steps :
       followed l.steps.items
-      (traced_in l.plan (record l.fn.spot { at = l.next }) (body_of (drop l.stmt-index l.body)) (values_in l.plan l.values))
+      (traced_in l.plan (record l.fn.spot { at = l.next }) (body_of (drop l.stmt-index l.body))
+      (values_in l.plan l.values))
       ≡ followed l.initial.steps.items
       (traced_in l.plan l.fn.spot (body_of l.body) (values_in l.plan l.initial.values));
 }

@@ -19,6 +19,7 @@ returns-clause-values c =
     let found = variable_of (scope_in p) x c.in-Some.number c.in-Some.ensures in
     put_kept p c.args.values.now x a c.match-declaration.kept c.in-Some.number c.requires.values.sized c.in-Some.ensures
     (elim c.match-declaration.branch [
-      | in-Some-declaration w ↦ w.kept-is ∙ w.kept_as-kept.ensures ∙ ap (λ o. option_map_or (λ d. kept_as d.kind a) o a) (w.in-Some-declaration.ensures ∙ found)
+      | in-Some-declaration w ↦ w.kept-is ∙ w.kept_as-kept.ensures ∙ ap
+          (λ o. option_map_or (λ d. kept_as d.kind a) o a) (w.in-Some-declaration.ensures ∙ found)
       | in-None w ↦ w.kept-is ∙ ap (λ o. option_map_or (λ d. kept_as d.kind a) o a) (w.in-None.ensures ∙ found)
     ])
