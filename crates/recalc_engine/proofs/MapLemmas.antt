@@ -1,13 +1,12 @@
 -- An edit of the runs changes the run at its key alone.
 use Rattle.std.proofs.Common.{◌≡◌, ◌<◌, List, [], ◌∷◌, length, Option, Some, None, Bool, true, false, IsTrue, ◌||◌, if◌then◌else◌, refl, sym, ap, subst, ◌∙◌, arith}
-use Rattle.std.specs.List.{list_any}
 use Rattle.std.specs.declared.cmp.Ordering.{Ordering}
 use Rattle.std.specs.declared.cmp.Ordering.TheVariants.{Less, Equal, Greater}
 use Rattle.std.specs.Ordering.{is_eq, nat_cmp, ordering_then}
 use Rattle.std.specs.Cmp.Lexicographic.{slice_cmp}
 use Rattle.std.proofs.lemmas.Cmp.{tied_back}
 use Rattle.rising_lists.specs.Keyed.{at_key, IsRising}
-use Rattle.rising_lists.proofs.Laws.{at_key_put, at_key_without, without_rising}
+use Rattle.rising_lists.proofs.Laws.{at_key_put, at_key_without}
 use Rattle.payroll_records.specs.declared.day.Day.{Day}
 use Rattle.payroll_records.specs.declared.record.Key.{Key}
 use Rattle.payroll_records.specs.declared.record.Record.{Record}
@@ -17,11 +16,11 @@ use Rattle.payroll_records.proofs.Laws.{day_total, key_total}
 use Rattle.plan_calendar.specs.Picking.{or_else}
 use Rattle.book_year.specs.declared.year.YearKey.{YearKey}
 use Rattle.book_year.specs.Records.{put_run, record_day, without_run}
-use Rattle.book_edits.specs.Books.{AreInOrder, YearRuns, added, changed, edited, loaded, run_at, runs_key, runs_of, runs_or_none, with_runs, withdrawn, year_cmp, year_of}
+use Rattle.book_edits.specs.Books.{AreInOrder, YearRuns, added, changed, loaded, run_at, runs_key, runs_of, runs_or_none, with_runs, withdrawn, year_cmp, year_of}
 use Rattle.book_edits.proofs.Laws.{put_some, runs_rising, year_same, year_total}
 use Rattle.book_loads.specs.Loads.{AreDistinct}
 use Rattle.recalc_engine.specs.RunMaps.{RunsAreMapped, on_day, with_none, with_run}
-use Rattle.recalc_engine.proofs.BookLemmas.{IsIn, not_tied}
+use Rattle.recalc_engine.proofs.BookLemmas.{not_tied}
 
 -- ---- the runs of a year, once a year has these
 
@@ -127,7 +126,7 @@ module _ (ys : List YearRuns) (from : Day) (r : Record) (k : Key) (order : AreIn
       let left = without_run from (its_runs ys a) in
       by_year ys a k (put_run r left) (with_run r (with_none b (run_at ys)) k) (runs_put (year_of a) (put_run r left) ys (year_of k) (put_some day_cmp record_day r left)) change_here
       (λ e. ap (λ t. if t then None else run_at ys k) (sym (others_apart b k (subst (λ (t : YearKey). is_eq (year_cmp t (year_of k)) ≡ false) (sym same_year) e)))
-        ∙ ap (λ t. if t then Some r else with_none b (run_at ys) k) (sym (others_apart a k e)))
+      ∙ ap (λ t. if t then Some r else with_none b (run_at ys) k) (sym (others_apart a k e)))
 
 -- ---- many runs
 
@@ -156,7 +155,7 @@ load_maps ys [] k distinct = refl
 load_maps ys (r ∷ rs) k distinct =
     load_maps (added r ys) rs k distinct.1 ∙ ap (or_else (at_key key_cmp key_of rs k)) (add_maps ys r k)
     ∙ (elim (key_cmp (key_of r) k) as (λ o. key_cmp (key_of r) k ≡ o →
-        or_else (at_key key_cmp key_of rs k) (if is_eq o then Some r else run_at ys k) ≡ or_else (if is_eq o then Some r else at_key key_cmp key_of rs k) (run_at ys k)) [
+    or_else (at_key key_cmp key_of rs k) (if is_eq o then Some r else run_at ys k) ≡ or_else (if is_eq o then Some r else at_key key_cmp key_of rs k) (run_at ys k)) [
       | Less ↦ λ e. refl
       | Equal ↦ λ e. ap (λ o. or_else o (Some r)) (not_listed r k rs e distinct.0)
       | Greater ↦ λ e. refl

@@ -45,8 +45,10 @@ impl Model for Book {
 
     ghost Value = { Contents };
 
-    ghost coded = { Prim.hlevel (codes,
-        body_code (Prim.hlevel codes) (Prim.hlevel codes) (Prim.hlevel codes)) };
+    ghost coded = { Prim.hlevel (
+      codes,
+      body_code (Prim.hlevel codes) (Prim.hlevel codes) (Prim.hlevel codes),
+    ) };
 
     ghost view = { λ b. record {
       years = years_of b.years;
