@@ -62,4 +62,5 @@ module _ (scope : Scope) where
 -- the trace of a run of a plan: that of MAIN
 abbrev pub trace_of : Flowchart → List Decimal → Trace
 trace_of f inputs =
-    traced (scope_of f) (calls_in f) (traces_of (scope_of f) f.methods longest_chain) main_name 0 f.main (start f inputs)
+    traced (scope_of f) (calls_in f) (traces_of (scope_of f) f.methods longest_chain)
+    main_name 0 f.main (start f inputs)
