@@ -11,3 +11,4 @@ mod ReplayLemmas
 pub mod OutputLemmas
 mod BookLemmas
 pub mod Laws
+pub mod AnswerLemmas

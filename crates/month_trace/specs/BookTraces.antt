@@ -1,5 +1,5 @@
 -- The trace of a run of a book, and why there is none.
-use Rattle.std.specs.Prelude.{◌≡◌, ℕ, List, Some, None, IsSome}
+use Rattle.std.specs.Prelude.{◌≡◌, ℕ, List, Some, None, IsSome, Result, Ok, Err}
 use Rattle.payroll_records.specs.declared.record.Key.{Key}
 use Rattle.payroll_records.specs.declared.when.When.{When}
 use Rattle.payroll_records.specs.declared.when.When.TheVariants as when
@@ -48,3 +48,15 @@ IsTraceRefused book e w (refusal.Absent e' w') = (e' ≡ e) × (w' ≡ w) × (ru
 IsTraceRefused book e w (refusal.Several e' m) = (e' ≡ e) × (w ≡ when.Month m) × (run_meant book e w ≡ Several)
 IsTraceRefused book e w (refusal.NotDone k) = IsNotDone book e w k
 IsTraceRefused book e w (refusal.Memory x) = IsDone book e w
+
+-- what a book answers, which never wants for memory: the steps of the run that is meant, or why there are none
+abbrev pub TraceAnswers : Contents → List ℕ → When → Result (List TraceStep) TraceRefusal → Type 0
+TraceAnswers book e w (Ok steps) = IsTraceOf book e w steps
+TraceAnswers book e w (Err (refusal.Memory x)) = ⊥
+TraceAnswers book e w (Err r) = IsTraceRefused book e w r
+
+-- a book has no two answers
+abbrev pub IsOneAnswer : Contents → List ℕ → When → Type 0
+IsOneAnswer book e w =
+    (one other : Result (List TraceStep) TraceRefusal)
+    → TraceAnswers book e w one → TraceAnswers book e w other → one ≡ other

@@ -1,10 +1,13 @@
 //! The trace of a plan's run.
-ghost use Rattle.std.specs.Prelude.{◌≡◌, List, Some, IfOk};
+ghost use Rattle.std.specs.Prelude.{◌≡◌, ℕ, List, Some, IfOk};
 ghost use Rattle.scaled_decimal.specs.Decimals.{Decimal};
 ghost use Rattle.pap_tree.specs.Flowchart.{Flowchart, flowchart_of};
 ghost use Rattle.pap_types.specs.Checks.{IsWellTyped};
 ghost use Rattle.pap_types.specs.Meaning.{IsSafeFor};
 ghost use Rattle.pap_plan.specs.Plans.{flowchart, Admits};
+ghost use Rattle.payroll_records.specs.declared.when.When.{When};
+ghost use Rattle.recalc_engine.specs.Contents.{Contents};
+ghost use Rattle.month_trace.specs.BookTraces.{IsOneAnswer};
 ghost use Rattle.month_trace.specs.Traces.{trace_of};
 ghost use Rattle.month_trace.specs.TraceLaws.{HasOneTrace, TellsOutputs};
 
@@ -50,10 +53,13 @@ fn trace_text(alloc: Global, plan: &Typed, inputs: &[Dec]) -> Result<Vec<TraceSt
 }
 
 /// The laws of traces; the function does nothing. A run on inputs that are safe for a plan has exactly one trace. In a
-/// well-typed plan each output is the last value that the trace puts there, and what it began with where there is none.
+/// well-typed plan each output is the last value that the trace puts there, and what it began with where there is none. A
+/// book never has two answers.
 pub fn trace_laws()
     ensures one { (f : Flowchart) (inputs : List Decimal)
         → IsSafeFor f inputs → HasOneTrace f inputs }
     ensures outputs { (f : Flowchart) (inputs : List Decimal)
         → IsWellTyped f → IsSafeFor f inputs → TellsOutputs f inputs }
+    ensures alone { (book : Contents) (employee : List ℕ) (when : When)
+        → IsOneAnswer book employee when }
 {}
