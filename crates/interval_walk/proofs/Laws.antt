@@ -31,3 +31,5 @@ pub use Rattle.interval_walk.proofs.StartSound.{at_most, start_inside, start_var
 pub use Rattle.interval_walk.proofs.ReachedSound.{some_branch}
 -- a value that fits is admitted for a `double`, brought to three places
 pub use Rattle.interval_walk.proofs.AdmissionLemmas.{factor_admitted}
+-- what a declared name shows
+pub use Rattle.interval_walk.proofs.ScopeLemmas.{shown_value}

@@ -1,0 +1,17 @@
+//! The trace of a run: each statement that was executed, with what it did.
+#![tactic(auto)]
+
+mod book;
+mod expressions;
+mod lists;
+mod operations;
+mod refusal;
+mod run;
+mod statements;
+mod step;
+mod values;
+
+pub use book::trace;
+pub use refusal::TraceRefusal;
+pub use run::{trace_laws, trace_run};
+pub use step::TraceStep;
