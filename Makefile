@@ -30,9 +30,10 @@ decimal-tool:
 
 # Nanoseconds of each operation on decimals, beside those of java.math.BigDecimal on the same amounts, whose scales and
 # modes vary; the sums of the results must be equal (needs a JDK).
-bench-decimal: decimal-tool
+bench-decimal:
+	tools/bench.sh decimal_bench 2000
+	mkdir -p build
 	javac -d build tools/BenchDecimal.java
-	build/decimal_tool bench 2000
 	java -cp build BenchDecimal 2000
 
 # Generated operations on decimals of the full range, each answer compared with that of java.math.BigDecimal (needs a JDK).
@@ -44,7 +45,7 @@ check-java: decimal-tool
 
 # Nanoseconds a step of the machine on straight-line code, beside the same statements on java.math.BigDecimal (needs a JDK).
 bench-machine:
-	cd crates/machine_bench && rt run -- straight
+	tools/bench.sh machine_bench straight
 	mkdir -p build
 	javac -d build tools/BenchMachine.java
 	java -cp build BenchMachine
@@ -58,4 +59,4 @@ bench-plan: build
 
 # Nanoseconds of each operation on intervals.
 bench-intervals:
-	cd crates/interval_bench && rt run -- intervals
+	tools/bench.sh interval_bench intervals
