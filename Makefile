@@ -1,6 +1,6 @@
 # `make look` runs the program on an example without a proof; `make demo` proves and builds build/papcalc and runs that;
 # `make test` is the whole gate.
-.PHONY: build look demo test rows decimal-tool bench-decimal bench-machine bench-plan bench-intervals check-java
+.PHONY: build look demo test rows wrong-bodies decimal-tool bench-decimal bench-machine bench-plan bench-intervals check-java
 
 build:
 	cd crates/papcalc && rt run -- --version
@@ -21,7 +21,12 @@ test:
 
 # The worked examples that lie beside the repository in development, on the built program.
 rows: build
-	python3 ../shared/run_rows.py --bin "$(CURDIR)/build/papcalc" --stage 20 --words check,once
+	python3 ../shared/run_rows.py --bin "$(CURDIR)/build/papcalc" --stage 20 --words check,once --prefixes
+	python3 tools/call_rows.py build/papcalc ../shared/rows/calls.json
+
+# Tries the wrong bodies that stand outside the gate, of all crates or of those of CRATES="a b".
+wrong-bodies:
+	tools/wrong_bodies.sh $(CRATES)
 
 decimal-tool:
 	cd crates/decimal_tool && rt run < stdin > /dev/null
