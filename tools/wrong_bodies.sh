@@ -1,7 +1,7 @@
 #!/usr/bin/env bash
-# Tries the wrong bodies of crates/NAME/wrong-bodies, of the crates that are named or of all: the check must refuse each, as it
-# refuses those of must-fail/ in the gate. They are tried in a scratch copy, where they stand in must-fail/ in place of that
-# folder's own; fails where one isn't refused or can't be applied, and says how many were refused.
+# Tries the wrong bodies of the crates that are named or of all that have some: those of crates/NAME/wrong-bodies, which the gate
+# leaves out, and those of must-fail/. The check must refuse each. They are tried in a scratch copy, where all stand in must-fail/.
+# Fails where one isn't refused or can't be applied, and says how many were refused.
 set -u
 cd "$(dirname "$0")/.." || exit 2
 crates=("$@")
@@ -21,10 +21,10 @@ trap 'rm -rf "$copy"' EXIT
 cp -r crates.txt HANDLES "$copy" && mkdir "$copy/crates" || exit 2
 tar -C crates --exclude=out -cf - . | tar -C "$copy/crates" -xf - || exit 2
 git -C "$copy" init -q || exit 2
-rm -rf "$copy"/crates/*/must-fail
 edits=0
 for crate in "${crates[@]}"; do
-    mv "$copy/crates/$crate/wrong-bodies" "$copy/crates/$crate/must-fail" || exit 2
+    mkdir -p "$copy/crates/$crate/must-fail" || exit 2
+    mv "$copy/crates/$crate/wrong-bodies"/* "$copy/crates/$crate/must-fail" || exit 2
     edits=$((edits + $(find "$copy/crates/$crate/must-fail" -name '*.edit' | wc -l)))
 done
 (cd "$copy" && rt must-fail "${crates[@]}") 2>&1 | tee "$copy/tried"
