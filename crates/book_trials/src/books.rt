@@ -25,6 +25,7 @@ const PLAN: &str = r#"<PAP><INTERFACE>
 <EVAL exec="TOTAL= BEFORE.add(TAX)"/>
 </MAIN></METHODS></PAP>"#;
 
+/// The range file of the plan.
 const LIMITS: &str = r#"[input.PAY]
 low = 0
 high = 1000000
@@ -45,6 +46,7 @@ const CARRYING_PLAN: &str = r#"<PAP><INTERFACE>
 <EVAL exec="PAID= PAY"/><EVAL exec="BEFORE= COUNT"/><EVAL exec="PRIOR= LAST"/>
 </MAIN></METHODS></PAP>"#;
 
+/// The range file of the plan that carries.
 const CARRYING_LIMITS: &str = r#"input.PAY = { low = 0, high = 1000000, places = 0 }
 input.COUNT = { low = 0, high = 366, places = 0 }
 input.LAST = { low = 0, high = 1000000, places = 0 }
@@ -82,6 +84,7 @@ withdraw E1 2025-01 => ok
 withdraw E1 2025-02 => ok
 report => employee,month,day,plan,state,name,value / E1,2026-01,2026-01-31,2026-01-01,ok,PAID,500 / E1,2026-01,2026-01-31,2026-01-01,ok,BEFORE,0 / E1,2026-01,2026-01-31,2026-01-01,ok,PRIOR,0 / E1,2026-02,2026-02-28,2026-01-01,ok,PAID,600 / E1,2026-02,2026-02-28,2026-01-01,ok,BEFORE,1 / E1,2026-02,2026-02-28,2026-01-01,ok,PRIOR,500 / E2,2024-12,2024-12-31,,noplan,,";
 
+/// The answer to an edit.
 fn edited(alloc: Global, done: Result<Work, EditRefusal>) -> Result<String, Fail> {
     match done {
         Ok(_) => Ok(String::from_str(alloc, "ok")?),
@@ -97,6 +100,7 @@ fn texts_of(plan: &str) -> (&'static str, &'static str) {
     }
 }
 
+/// Puts a plan from a day on; the answer has its bound.
 fn put<L: Ledger>(
     alloc: Global,
     book: &mut Book,
@@ -113,6 +117,7 @@ fn put<L: Ledger>(
     }
 }
 
+/// The report, with ` / ` between its lines.
 fn reported(alloc: Global, book: &Book) -> Result<String, Fail> {
     let mut sink = MemSink::new(alloc, 4000, Vec::new(alloc))?;
     write_report(alloc, book, &mut sink)?;
@@ -132,6 +137,7 @@ fn one_record(alloc: Global) -> Result<Vec<Record>, Fail>
     Ok(records)
 }
 
+/// Does what a line asks for, and gives the answer.
 fn carried_out<L: Ledger>(
     alloc: Global,
     book: &mut Book,

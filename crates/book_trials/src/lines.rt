@@ -58,6 +58,7 @@ load  ~ 256 x x => the command takes other words: their number is wrong, or a fi
 1024 x ################################################################ => nothing
 1024 x ################################################################ ~ # => the line has more than 65536 bytes"#;
 
+/// The word by which a command is asked for.
 fn first_word(command: &Command) -> &'static str {
     match command {
         Command::Nothing => "nothing",
@@ -72,6 +73,7 @@ fn first_word(command: &Command) -> &'static str {
     }
 }
 
+/// Writes which command a line asks for, or why it is refused.
 fn asked_for(asked: &str, text: &mut String) -> Result<(), Fail> {
     match read_line(*text.allocator(), asked.as_bytes()) {
         Ok(command) => text.push_str(first_word(&command))?,

@@ -31,6 +31,7 @@ const DAYS: &str = r#"2024-02-29 => 2024-02-29
 2025-1-31 => none
 2025/01/31 => none"#;
 
+/// Writes what was read, or `none`.
 fn write_read<D: Display + Drop>(read: Option<D>, text: &mut String) -> Result<(), Fail> {
     match read {
         Some(value) => write!(text, "{value}")?,
@@ -97,6 +98,7 @@ const SIZES: &str =
     "33554432 => the first row is not employee,month,day and then at most 256 different names
 33554433 => the table has more than 33554432 bytes";
 
+/// Writes a record's employee, day and values.
 fn write_record(record: &Record, text: &mut String) -> Result<(), Fail> {
     write!(text, "{} {}", record.employee, record.day)?;
     for name in record.values.names() {
@@ -107,6 +109,7 @@ fn write_record(record: &Record, text: &mut String) -> Result<(), Fail> {
     Ok(text.push_str("; ")?)
 }
 
+/// Writes records one behind another.
 fn write_records(records: &[Record], text: &mut String) -> Result<(), Fail> {
     for record in records {
         write_record(record, text)?;
@@ -114,6 +117,7 @@ fn write_records(records: &[Record], text: &mut String) -> Result<(), Fail> {
     Ok(())
 }
 
+/// Writes a table's records, or its fault.
 fn read(asked: &str, text: &mut String) -> Result<(), Fail> {
     match read_table(*text.allocator(), asked.as_bytes()) {
         Ok(records) => write_records(&records, text),
@@ -131,6 +135,7 @@ fn a_table_is_refused_with_its_first_fault(rt: HostRuntime) -> Result<(), Fail> 
     all_rows(rt.alloc(), FAULTS, read)
 }
 
+/// Writes the fault of a table of so many line ends.
 fn read_line_ends(asked: &str, text: &mut String) -> Result<(), Fail> {
     let alloc = *text.allocator();
     let table = vec![in alloc; b'\n'; asked.parse::<usize>().ok().ok_or("a number")?]?;

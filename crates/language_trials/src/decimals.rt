@@ -22,6 +22,7 @@ const TEXTS: &str = r#"00.50 => 0.50
 --1 => no number at byte 1
 10000000000000000000000000000000000001x => no number at byte 38"#;
 
+/// Writes the decimal that is read, or the fault.
 fn read(asked: &str, text: &mut String) -> Result<(), Fail> {
     match read_dec(asked.as_bytes()) {
         Ok(number) => write!(text, "{number}")?,

@@ -31,6 +31,7 @@ x => Text { at: 0 }
 <PAP>text => Text { at: 5 }
 <PAP a='>'><!-->--><PAP> => Element { at: 19 }"#;
 
+/// Writes `read`, or a text's fault.
 fn read(asked: &str, text: &mut String) -> Result<(), Fail> {
     match read_elements(*text.allocator(), asked.as_bytes()) {
         Ok(_) => text.push_str("read")?,
@@ -49,6 +50,7 @@ const MESSAGES: &str = r#"x => byte 0: expected a tag, a comment or white space
  <PAP> => byte 6: expected another element or end tag of the flowchart
 <PAP a="1" a="2"> => byte 0: expected a tag with its needed attributes in their form, none twice and none over 8192 bytes"#;
 
+/// Writes what is said of a text's fault.
 fn message(asked: &str, text: &mut String) -> Result<(), Fail> {
     if let Err(fault) = read_elements(*text.allocator(), asked.as_bytes()) {
         write!(text, "{fault}")?;
@@ -84,7 +86,8 @@ const ESCAPES: &str = r#""a &lt; b" => "a < b"
 /// The text of the test of an IF whose attribute is the one asked.
 fn decoded(asked: &str, text: &mut String) -> Result<(), Fail> {
     let alloc = *text.allocator();
-    let plan = format!(in alloc; "{BEFORE}<IF expr={asked}><THEN/></IF>{AFTER}")?;
+    let (before, after) = IN_MAIN.split_once('@').ok_or("a place")?;
+    let plan = format!(in alloc; "{before}<IF expr={asked}><THEN/></IF>{after}")?;
     match read_elements(alloc, plan.as_bytes()) {
         Ok(plan) => write_test(&plan.main, text),
         Err(_) => Ok(text.push_str("none")?),
@@ -191,40 +194,45 @@ fn frame(element: &str) -> &'static str {
     }
 }
 
+/// In PAP.
 const IN_PAP: &str =
     "<PAP><INTERFACE><OUTPUTS><OUTPUT name='A' type='int'/></OUTPUTS></INTERFACE>@<METHODS><MAIN/></METHODS></PAP>";
 
+/// In VARIABLES.
 const IN_GROUP: &str =
     "<PAP><METHODS><MAIN/></METHODS><VARIABLES>@<OUTPUTS><OUTPUT name='A' type='int'/></OUTPUTS></VARIABLES></PAP>";
 
+/// In INPUTS.
 const IN_INPUTS: &str =
     "<PAP><METHODS><MAIN/></METHODS><VARIABLES><INPUTS>@</INPUTS><OUTPUTS><OUTPUT name='A' type='int'/></OUTPUTS></VARIABLES></PAP>";
 
+/// In OUTPUTS.
 const IN_OUTPUTS: &str =
     "<PAP><METHODS><MAIN/></METHODS><VARIABLES><OUTPUTS><OUTPUT name='A' type='int'/>@</OUTPUTS></VARIABLES></PAP>";
 
+/// In INTERNALS.
 const IN_INTERNALS: &str =
     "<PAP><METHODS><MAIN/></METHODS><VARIABLES><OUTPUTS><OUTPUT name='A' type='int'/></OUTPUTS></VARIABLES><INTERNALS>@</INTERNALS></PAP>";
 
+/// In CONSTANTS.
 const IN_CONSTANTS: &str =
     "<PAP><METHODS><MAIN/></METHODS><VARIABLES><OUTPUTS><OUTPUT name='A' type='int'/></OUTPUTS></VARIABLES><CONSTANTS>@</CONSTANTS></PAP>";
 
+/// In METHODS.
 const IN_METHODS: &str =
     "<PAP><METHODS><MAIN/>@</METHODS><VARIABLES><OUTPUTS><OUTPUT name='A' type='int'/></OUTPUTS></VARIABLES></PAP>";
 
+/// In MAIN.
 const IN_MAIN: &str =
     "<PAP><METHODS><MAIN>@</MAIN></METHODS><VARIABLES><OUTPUTS><OUTPUT name='A' type='int'/></OUTPUTS></VARIABLES></PAP>";
 
+/// In an attribute.
 const IN_VALUE: &str =
     "<PAP><METHODS><MAIN><EVAL exec='@'/></MAIN></METHODS><VARIABLES><OUTPUTS><OUTPUT name='A' type='int'/></OUTPUTS></VARIABLES></PAP>";
 
+/// Behind the plan.
 const AT_END: &str =
     "<PAP><METHODS><MAIN></MAIN></METHODS><VARIABLES><OUTPUTS><OUTPUT name='A' type='int'/></OUTPUTS></VARIABLES></PAP>@";
-
-const BEFORE: &str = "<PAP><METHODS><MAIN>";
-
-const AFTER: &str =
-    "</MAIN></METHODS><VARIABLES><OUTPUTS><OUTPUT name='A' type='int'/></OUTPUTS></VARIABLES></PAP>";
 
 /// A plan with a piece in its place.
 fn framed(alloc: Global, asked: &str) -> Result<String, Fail> {
@@ -233,12 +241,14 @@ fn framed(alloc: Global, asked: &str) -> Result<String, Fail> {
     Ok(format!(in alloc; "{before}{piece}{after}")?)
 }
 
+/// Writes whether a piece may stand in its place.
 fn may_stand(asked: &str, text: &mut String) -> Result<(), Fail> {
     let plan = framed(*text.allocator(), asked)?;
     let is_read = read_elements(*text.allocator(), plan.as_bytes()).is_ok();
     Ok(text.push_str(if is_read { "read" } else { "refused" })?)
 }
 
+/// Writes `read`, or the fault of a plan with the piece in its place.
 fn read_framed(asked: &str, text: &mut String) -> Result<(), Fail> {
     let plan = framed(*text.allocator(), asked)?;
     read(plan.as_str(), text)

@@ -123,6 +123,7 @@ enum Line {
     Declared,
 }
 
+/// A text's fault.
 fn fault(alloc: Global, line: Line, text: &str) -> Option<ExprFault> {
     match line {
         Line::Test => parse_expr(alloc, text.as_bytes()).err(),
@@ -131,6 +132,7 @@ fn fault(alloc: Global, line: Line, text: &str) -> Option<ExprFault> {
     }
 }
 
+/// Writes the canonical spelling of a test.
 fn spelled(asked: &str, text: &mut String) -> Result<(), Fail> {
     let alloc = *text.allocator();
     let test = parse_expr(alloc, asked.as_bytes())?;
@@ -143,6 +145,7 @@ fn texts_stand_for_their_trees(rt: HostRuntime) -> Result<(), Fail> {
     all_rows(rt.alloc(), SPELLINGS, spelled)
 }
 
+/// Writes `read`, or a test's fault.
 fn read(asked: &str, text: &mut String) -> Result<(), Fail> {
     match fault(*text.allocator(), Line::Test, asked) {
         Some(fault) => write!(text, "{fault:?}")?,
@@ -165,6 +168,7 @@ fn tests_have_at_most_1000_tokens_and_64_levels(rt: HostRuntime) -> Result<(), F
 const ASSIGNMENTS: &str = r#"X= RE4.subtract (FREI) => X = RE4.subtract(FREI)
  X = RE4.subtract(FREI) ;  => X = RE4.subtract(FREI)"#;
 
+/// Writes the target and the canonical spelling of the value of an assignment.
 fn assigned(asked: &str, text: &mut String) -> Result<(), Fail> {
     let alloc = *text.allocator();
     let (target, value) = parse_assign(alloc, asked.as_bytes())?;
@@ -188,6 +192,7 @@ BigDecimal.TEN => Big
 new BigDecimal(-7) => Big
 {BigDecimal.valueOf (0), new BigDecimal("1.50")} => Table"#;
 
+/// What a declared literal is.
 fn class(literal: &Literal) -> &'static str {
     match literal {
         Literal::Int(_) => "Int",
@@ -198,6 +203,7 @@ fn class(literal: &Literal) -> &'static str {
     }
 }
 
+/// Writes what a declared literal is.
 fn declared(asked: &str, text: &mut String) -> Result<(), Fail> {
     let literal = parse_constant(*text.allocator(), asked.as_bytes())?;
     Ok(text.push_str(class(&literal))?)

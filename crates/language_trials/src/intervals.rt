@@ -71,6 +71,7 @@ negate : -9223372036854775808 -9223372036854775808 : 0 0 => Wide
 % : -9223372036854775808 -9223372036854775808 : -7 7 => Divisor
 % : -7 7 : -3 -1 => -2 2 0 0"#;
 
+/// Writes the ends and the scales of an answer, or why it is refused.
 fn write_answer(answer: Result<Abs, RangeCause>, text: &mut String) -> Result<(), Fail> {
     match answer {
         Ok(a) => write!(text, "{} {} {} {}", a.lo(), a.hi(), a.s_lo(), a.s_hi())?,
@@ -85,6 +86,7 @@ fn end(word: Option<&str>) -> Result<Dec, Fail> {
     Ok(read_dec(text.as_bytes()).map_err(|_| Fail::from("an end"))?)
 }
 
+/// A scale, at most 30.
 fn scale(word: Option<&str>) -> Result<u8, Fail>
     ensures { IfOk result (λ places. places ≤ most_places) }
 {
@@ -98,6 +100,7 @@ fn scale(word: Option<&str>) -> Result<u8, Fail>
     Ok(places)
 }
 
+/// An interval: its ends, and its least and greatest scale.
 fn interval(text: &str) -> Result<Abs, Fail> {
     let mut words = text.split_whitespace();
     let low = end(words.next())?.numerator();
@@ -132,6 +135,7 @@ fn operands(text: &str) -> Result<(&str, &str, &str), Fail> {
     Ok((operation, left, right))
 }
 
+/// Writes the answer of an operation.
 fn exact(asked: &str, text: &mut String) -> Result<(), Fail> {
     let (operation, left, right) = operands(asked)?;
     write_answer(combined(operation, interval(left)?, interval(right)?), text)
@@ -142,6 +146,7 @@ fn exact_operations(rt: HostRuntime) -> Result<(), Fail> {
     all_rows(rt.alloc(), EXACT, exact)
 }
 
+/// The mode of this name.
 fn mode(word: Option<&str>) -> Mode {
     match word {
         Some("Up") => Mode::Up,
@@ -160,6 +165,7 @@ fn target(text: &str) -> Result<(u8, Mode), Fail>
     Ok((places, mode(words.next())))
 }
 
+/// Writes the answer of a division.
 fn quotient(asked: &str, text: &mut String) -> Result<(), Fail> {
     let (left, right, rounding) = operands(asked)?;
     let (places, mode) = target(rounding)?;
@@ -187,6 +193,7 @@ fn shortened(a: Abs, rounding: &str) -> Result<Result<Abs, RangeCause>, Fail> {
     Ok(abs_div_exact(a, divisor))
 }
 
+/// Writes the answer of an exact division or of a change of scale.
 fn exact_quotient(asked: &str, text: &mut String) -> Result<(), Fail> {
     let (left, right) = asked.split_once(" : ").ok_or("operands")?;
     write_answer(shortened(interval(left)?, right)?, text)
@@ -197,6 +204,7 @@ fn exact_quotients_and_scales(rt: HostRuntime) -> Result<(), Fail> {
     all_rows(rt.alloc(), SHORTENED, exact_quotient)
 }
 
+/// A whole number of 64 bits.
 fn number(word: Option<&str>) -> Result<i64, Fail> {
     Ok(
         word.ok_or("a number")?
@@ -205,6 +213,7 @@ fn number(word: Option<&str>) -> Result<i64, Fail> {
     )
 }
 
+/// An interval of whole numbers of 64 bits.
 fn longs(text: &str) -> Result<Abs, Fail>
     ensures { IfOk result (IsWholeOfBits long_bits) }
 {
@@ -217,6 +226,7 @@ fn longs(text: &str) -> Result<Abs, Fail>
     Ok(Abs::new(low as i128, high as i128, 0, 0))
 }
 
+/// An interval of whole numbers of 32 bits.
 fn ints(text: &str) -> Result<Abs, Fail>
     ensures { IfOk result (IsWholeOfBits int_bits) }
 {
@@ -229,6 +239,7 @@ fn ints(text: &str) -> Result<Abs, Fail>
     Ok(Abs::new(low as i128, high as i128, 0, 0))
 }
 
+/// The operation of this name on `int`.
 fn int_answer(operation: &str, a: Abs, b: Abs) -> Result<Abs, RangeCause>
     requires left { IsWholeOfBits int_bits a }
     requires right { IsWholeOfBits int_bits b }
@@ -243,6 +254,7 @@ fn int_answer(operation: &str, a: Abs, b: Abs) -> Result<Abs, RangeCause>
     }
 }
 
+/// The operation of this name on `long`.
 fn long_answer(operation: &str, a: Abs, b: Abs) -> Result<Abs, RangeCause>
     requires left { IsWholeOfBits long_bits a }
     requires right { IsWholeOfBits long_bits b }
@@ -257,11 +269,13 @@ fn long_answer(operation: &str, a: Abs, b: Abs) -> Result<Abs, RangeCause>
     }
 }
 
+/// Writes the answer of an operation on `int`.
 fn of_ints(asked: &str, text: &mut String) -> Result<(), Fail> {
     let (operation, left, right) = operands(asked)?;
     write_answer(int_answer(operation, ints(left)?, ints(right)?), text)
 }
 
+/// Writes the answer of an operation on `long`.
 fn of_longs(asked: &str, text: &mut String) -> Result<(), Fail> {
     let (operation, left, right) = operands(asked)?;
     write_answer(long_answer(operation, longs(left)?, longs(right)?), text)

@@ -12,8 +12,10 @@ const NAMES: &str = r#"<PAP><VARIABLES>
 <CONSTANTS><CONSTANT name="C" type="BigDecimal" value="new BigDecimal(&quot;100&quot;)"/>
 <CONSTANT name="T" type="BigDecimal[]" value="{ BigDecimal.ONE, new BigDecimal(&quot;0.2&quot;) }"/>"#;
 
+/// What stands between the constants and the content of MAIN.
 const MAIN: &str = "</CONSTANTS><METHODS><MAIN>";
 
+/// What stands behind the content of MAIN.
 const END: &str = "</MAIN></METHODS></PAP>";
 
 /// Assignments of operations to operands that they take.
@@ -163,6 +165,7 @@ type="BigDecimal" value="{BigDecimal.ONE}" => the literal of `D` isn't of its ty
 type="BigDecimal[]" value="{BigDecimal.ONE}" => taken
 type="BigDecimal[]" value="BigDecimal.ONE" => the literal of `D` isn't of its type"#;
 
+/// Writes what is answered to a plan of one assignment.
 fn assigned(asked: &str, text: &mut String) -> Result<(), Fail> {
     let alloc = *text.allocator();
     let mut plan = format!(in alloc; "{NAMES}{MAIN}<EVAL exec=\"")?;
@@ -181,6 +184,7 @@ fn operations_refuse_other_operands(rt: HostRuntime) -> Result<(), Fail> {
     all_rows(rt.alloc(), REFUSED, assigned)
 }
 
+/// Writes what is answered to a plan of these statements.
 fn stated(asked: &str, text: &mut String) -> Result<(), Fail> {
     let plan = format!(in *text.allocator(); "{NAMES}{MAIN}{asked}{END}")?;
     judged(plan.as_str(), "", text)
@@ -191,6 +195,7 @@ fn statements_are_checked(rt: HostRuntime) -> Result<(), Fail> {
     all_rows(rt.alloc(), STATEMENTS, stated)
 }
 
+/// Writes what is answered to a plan with a constant of this type and value.
 fn declared(asked: &str, text: &mut String) -> Result<(), Fail> {
     let plan = format!(in *text.allocator(); "{NAMES}<CONSTANT name=\"D\" {asked}/>{MAIN}{END}")?;
     judged(plan.as_str(), "", text)

@@ -3,9 +3,11 @@ use crate::verdicts::judged;
 use std::test::Fail;
 use trial_rows::all_rows;
 
+/// What stands before the methods.
 const BEFORE: &str =
     "<PAP><VARIABLES><OUTPUTS><OUTPUT name='A' type='int'/></OUTPUTS></VARIABLES><METHODS><MAIN><EXECUTE method='TOP'/></MAIN>";
 
+/// What stands behind the methods.
 const AFTER: &str = "</METHODS></PAP>";
 
 /// The methods of a plan whose MAIN executes TOP; then the range of its output, or its refusal.
@@ -19,6 +21,7 @@ const STATEMENTS: &str =
     r#"<METHOD name='END'> ~ 199 x <EVAL exec='A=1'/> ~ </METHOD><METHOD name='M'> ~ 999 x <EXECUTE method='END'/> ~ </METHOD><METHOD name='TOP'><EXECUTE method='M'/> ~ 198 x <EVAL exec='A=1'/> ~ </METHOD> => A 1 1 0 0
 <METHOD name='END'> ~ 199 x <EVAL exec='A=1'/> ~ </METHOD><METHOD name='M'> ~ 999 x <EXECUTE method='END'/> ~ </METHOD><METHOD name='TOP'><EXECUTE method='M'/> ~ 199 x <EVAL exec='A=1'/> ~ </METHOD> => with the methods that are executed the plan has 200001 statements, and at most 200000 may be"#;
 
+/// Writes what is answered to a plan of these methods.
 fn ordered(asked: &str, text: &mut String) -> Result<(), Fail> {
     let plan = format!(in *text.allocator(); "{BEFORE}{asked}{AFTER}")?;
     judged(plan.as_str(), "", text)

@@ -64,6 +64,7 @@ const MESSAGES: &str =
 input.RE4 = { low = 1, high = 0, places = 0 } => range file, input RE4: places outside 0 to 30, low above high, an ill-formed or too long bound, or input 257
 [input.RE4 => range file: the text is no TOML"#;
 
+/// Writes how many inputs and bindings a text has, or its fault.
 fn read(asked: &str, text: &mut String) -> Result<(), Fail> {
     match read_limits(*text.allocator(), asked.as_bytes()) {
         Ok(limits) => {
@@ -86,6 +87,7 @@ fn files_are_read_up_to_their_limits(rt: HostRuntime) -> Result<(), Fail> {
     all_rows(rt.alloc(), SIZES, read)
 }
 
+/// Writes what is said of a text's fault.
 fn message(asked: &str, text: &mut String) -> Result<(), Fail> {
     if let Err(fault) = read_limits(*text.allocator(), asked.as_bytes()) {
         write!(text, "{fault}")?;

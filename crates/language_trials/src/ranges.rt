@@ -86,17 +86,21 @@ L > 0L | W= L * 100000000000000000L | W= 5 => Wide MAIN:1:2
 N > 0 | B= X.multiply(new BigDecimal("0.00000000000000000000000000001")) | B= BigDecimal.ONE => Scale MAIN:1:2
 N > 0 | B= X.multiply(new BigDecimal("0.00000000001")) | B= BigDecimal.ONE => output `B` may have more than 12 digits after its point or be beyond 10^20"#;
 
+/// The plan up to the attributes of its output.
 const BEFORE: &str = r#"<PAP><VARIABLES><INPUTS>
 <INPUT name="N" type="int"/><INPUT name="M" type="int"/><INPUT name="L" type="long"/>
 <INPUT name="F" type="double"/><INPUT name="X" type="BigDecimal"/><INPUT name="Y" type="BigDecimal"/></INPUTS>
 <OUTPUTS><OUTPUT"#;
 
+/// The plan from there to its test.
 const TABLE: &str = r#"</OUTPUTS></VARIABLES><CONSTANTS>
 <CONSTANT name="T" type="BigDecimal[]" value="{BigDecimal.ONE, BigDecimal.valueOf(2.5), BigDecimal.valueOf(3.25)}"/></CONSTANTS>
 <METHODS><MAIN><IF expr=""#;
 
+/// The plan behind the last assignment.
 const END: &str = "\"/></ELSE></IF></MAIN></METHODS></PAP>";
 
+/// The range file of the plan.
 const LIMITS: &str = r#"input.N = { low = -10, high = 10, places = 0 }
 input.M = { low = 0, high = 5, places = 0 }
 input.L = { low = -100, high = 100, places = 0 }
@@ -114,6 +118,7 @@ fn output_of(assignment: &str) -> &'static str {
     }
 }
 
+/// Writes the range of the output, or the first node that may fail.
 fn ranges(asked: &str, text: &mut String) -> Result<(), Fail> {
     let (test, rest) = asked.split_once(" | ").ok_or("a test")?;
     let (yes, no) = rest.split_once(" | ").ok_or("two branches")?;

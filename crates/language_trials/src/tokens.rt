@@ -24,6 +24,7 @@ abcdefghijklmnopqrstuvwxyzABCDEFG => 0:name 32:name
 0.0000000000000000000000000000001 => 0:beyond
 "0.0000000000000000000000000000001" => 0:beyond"#;
 
+/// What a token is.
 fn class(token: Token) -> &'static str {
     match token {
         Token::Int(_) => "int",
@@ -39,6 +40,7 @@ fn class(token: Token) -> &'static str {
     }
 }
 
+/// Writes the places and the classes of the tokens.
 fn tokens(asked: &str, text: &mut String) -> Result<(), Fail> {
     let tokens = read_tokens(*text.allocator(), asked.as_bytes())?;
     for placed in tokens.as_slice() {

@@ -18,6 +18,7 @@ pub(crate) struct Texts<'a> {
     pub(crate) limits: &'a str,
 }
 
+/// The top call with a counter of its own.
 fn counted<L: Ledger, F: Files, R: Source, W: Sink>(
     alloc: Global,
     words: &[String],
@@ -34,6 +35,7 @@ fn counted<L: Ledger, F: Files, R: Source, W: Sink>(
     papcalc(alloc, words, files, source, sink, &mut steps)
 }
 
+/// The two files.
 fn two_files(alloc: Global, texts: Texts<'_>) -> Result<Vec<(String, Vec<u8>)>, AllocError>
     ensures { IfOk result (λ files. AllPairs (λ a b. a.0 ≢ b.0) (named_files files.items)) }
 {
@@ -49,6 +51,7 @@ fn two_files(alloc: Global, texts: Texts<'_>) -> Result<Vec<(String, Vec<u8>)>, 
     Ok(files)
 }
 
+/// The words of a text.
 fn words_of(alloc: Global, text: &str) -> Result<Vec<String>, AllocError> {
     let mut words = Vec::new(alloc);
     for word in text.split_whitespace() {

@@ -7,9 +7,11 @@ use trial_rows::all_rows;
 const PLAN: &str =
     "<PAP><INTERFACE><INPUTS><INPUT name='N' type='int'/><INPUT name='D' type='int' default='2'/></INPUTS><OUTPUTS><OUTPUT name='Q' type='int'/></OUTPUTS></INTERFACE><METHODS><MAIN><IF expr='D != 0'><THEN><EVAL exec='Q = N / D'/></THEN></IF></MAIN></METHODS></PAP>\n";
 
+/// The range file of the flowchart.
 const LIMITS: &str =
     "[input.N]\nlow = 0\nhigh = 10\nplaces = 0\n[input.D]\nlow = 0\nhigh = 5\nplaces = 0\n";
 
+/// Both texts.
 const TEXTS: Texts<'static> = Texts {
     plan: PLAN,
     limits: LIMITS,
@@ -50,6 +52,7 @@ check l.toml l.toml => plan, line 1, column 1: at `[input.N]` stands text outsid
 check a.xml a.xml => range file, line 1, column 1: the text isn't TOML: invalid key, expected letters, numbers, `-`, `_` or a quoted key
 check => -"#;
 
+/// Writes what is answered to words, and the status.
 fn answered(asked: &str, text: &mut String) -> Result<(), Fail> {
     let status = write_answer(asked, TEXTS, text)?;
     let space = if text.is_empty() { "" } else { " " };

@@ -16,6 +16,7 @@ const REAL_FILES: &str = "no such folder/no such file => Failed
 /dev/null => 0 bytes
 /dev/zero => 5000 bytes";
 
+/// Writes how much is read of a file by a call for 5,000 bytes, or the fault.
 fn read_front<F: Files>(files: &mut F, name: &str, text: &mut String) -> Result<(), Fail> {
     match files.read_front(*text.allocator(), name, 5000) {
         Ok(front) => write!(text, "{} bytes", front.len())?,
@@ -56,6 +57,7 @@ fn whole_texts_are_put_into_streams(rt: HostRuntime) -> Result<(), Fail> {
     Ok(())
 }
 
+/// The file `plan`.
 fn one_file(alloc: Global) -> Result<Vec<(String, Vec<u8>)>, AllocError>
     ensures { IfOk result (λ files. AllPairs (λ a b. a.0 ≢ b.0) (named_files files.items)) }
 {

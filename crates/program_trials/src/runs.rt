@@ -55,6 +55,7 @@ Q= !(I > 0 && J > 1) || L > 5 ? 1 : 0 | I=1 J=1 L=0 => Q 1 / steps 14
 Q= !(I > 0 && J > 1) || L > 5 ? 1 : 0 | I=1 J=2 L=6 => Q 1 / steps 17
 Q= !(I > 0 && J > 1) || L > 5 ? 1 : 0 | I=1 J=2 L=5 => Q 0 / steps 16"#;
 
+/// The plan up to the attributes of its output.
 const BEFORE: &str = r#"<PAP><VARIABLES><INPUTS>
 <INPUT name="I" type="int" default="0"/><INPUT name="J" type="int" default="1"/>
 <INPUT name="K" type="int" default="0"/><INPUT name="L" type="long" default="0"/>
@@ -62,12 +63,15 @@ const BEFORE: &str = r#"<PAP><VARIABLES><INPUTS>
 <INPUT name="Y" type="BigDecimal" default="BigDecimal.ZERO"/></INPUTS>
 <OUTPUTS><OUTPUT"#;
 
+/// The plan from there to its assignment.
 const TABLE: &str = r#"</OUTPUTS></VARIABLES><CONSTANTS>
 <CONSTANT name="T" type="BigDecimal[]" value="{BigDecimal.ONE, BigDecimal.valueOf(2.5), BigDecimal.valueOf(3.25)}"/></CONSTANTS>
 <METHODS><MAIN><EVAL exec=""#;
 
+/// The plan behind its assignment.
 const END: &str = "\"/></MAIN></METHODS></PAP>";
 
+/// The range file of the plan.
 const LIMITS: &str = r#"input.I = { low = -100, high = 100, places = 0 }
 input.J = { low = 1, high = 100, places = 0 }
 input.K = { low = 0, high = 2, places = 0 }
@@ -94,6 +98,7 @@ fn plan_of(alloc: Global, assignment: &str) -> Result<String, Fail> {
     Ok(plan)
 }
 
+/// Writes the output and the steps of a run on these values.
 fn run(asked: &str, text: &mut String) -> Result<(), Fail> {
     let alloc = *text.allocator();
     let (assignment, values) = asked.split_once(" | ").ok_or("values")?;
