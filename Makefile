@@ -1,6 +1,6 @@
 # `make look` runs the program on an example without a proof; `make demo` proves and builds build/papcalc and runs that;
 # `make test` is the whole gate.
-.PHONY: build look demo test rows decimal-tool bench-decimal bench-machine bench-plan bench-intervals check-java
+.PHONY: build look demo test rows wrong-bodies decimal-tool bench-decimal bench-machine bench-plan bench-intervals check-java
 
 build:
 	cd crates/papcalc && rt run -- --version
@@ -22,7 +22,12 @@ test:
 
 # The worked examples that lie beside the repository in development, on the built program.
 rows: build
-	python3 ../shared/run_rows.py --bin "$(CURDIR)/build/papcalc" --stage 20 --words check,once
+	python3 ../shared/run_rows.py --bin "$(CURDIR)/build/papcalc" --stage 20 --words check,once --prefixes
+	python3 tools/call_rows.py build/papcalc ../shared/rows/calls.json
+
+# Tries the wrong bodies that stand outside the gate, of all crates or of those of CRATES="a b".
+wrong-bodies:
+	tools/wrong_bodies.sh $(CRATES)
 
 decimal-tool:
 	cd crates/decimal_tool && rt run < stdin > /dev/null
@@ -31,9 +36,10 @@ decimal-tool:
 
 # Nanoseconds of each operation on decimals, beside those of java.math.BigDecimal on the same amounts, whose scales and
 # modes vary; the sums of the results must be equal (needs a JDK).
-bench-decimal: decimal-tool
+bench-decimal:
+	tools/bench.sh decimal_bench 2000
+	mkdir -p build
 	javac -d build tools/BenchDecimal.java
-	build/decimal_tool bench 2000
 	java -cp build BenchDecimal 2000
 
 # Generated operations on decimals of the full range, each answer compared with that of java.math.BigDecimal (needs a JDK).
@@ -45,7 +51,7 @@ check-java: decimal-tool
 
 # Nanoseconds a step of the machine on straight-line code, beside the same statements on java.math.BigDecimal (needs a JDK).
 bench-machine:
-	cd crates/machine_bench && rt run -- straight
+	tools/bench.sh machine_bench straight
 	mkdir -p build
 	javac -d build tools/BenchMachine.java
 	java -cp build BenchMachine
@@ -59,4 +65,4 @@ bench-plan: build
 
 # Nanoseconds of each operation on intervals.
 bench-intervals:
-	cd crates/interval_bench && rt run -- intervals
+	tools/bench.sh interval_bench intervals

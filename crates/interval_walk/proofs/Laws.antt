@@ -11,7 +11,7 @@ pub use Rattle.interval_walk.proofs.RowLaws.{compared_aligned, comparison_row_al
 -- a refined range keeps its scales, and one side's refinement leaves whole numbers at the other
 pub use Rattle.interval_walk.proofs.BranchSound.{KeepsScales, refined_scales, FoundWhole, named_put, narrowed_whole}
 -- the divisor that the text of divide(d) shows is a plain one
-pub use Rattle.interval_walk.proofs.ScopeLemmas.{shown_plain}
+pub use Rattle.interval_walk.proofs.ScopeLemmas.{shown_plain, shown_value}
 -- the walk keeps the names of the variables
 pub use Rattle.interval_walk.proofs.NameLemmas.{BranchesNamed, put_names, tested_named, joined_named, walked_named, calls_named}
 -- what has the shape of its kind is read as it is, and the walk keeps the shapes of the variables' ranges
@@ -31,5 +31,3 @@ pub use Rattle.interval_walk.proofs.StartSound.{at_most, start_inside, start_var
 pub use Rattle.interval_walk.proofs.ReachedSound.{some_branch}
 -- a value that fits is admitted for a `double`, brought to three places
 pub use Rattle.interval_walk.proofs.AdmissionLemmas.{factor_admitted}
--- what a declared name shows
-pub use Rattle.interval_walk.proofs.ScopeLemmas.{shown_value}

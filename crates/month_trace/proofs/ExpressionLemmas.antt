@@ -22,8 +22,7 @@ use Rattle.pap_types.specs.Scopes.{declared_as, names_of, variables_of}
 use Rattle.pap_types.specs.Values.{look, goes_right}
 use Rattle.pap_types.proofs.Laws.{has_types}
 use Rattle.interval_walk.specs.Soundness.{AreVariables}
-use Rattle.interval_walk.proofs.Laws.{sound_scope, shown_plain}
-use Rattle.interval_walk.proofs.Laws.{shown_value}
+use Rattle.interval_walk.proofs.Laws.{sound_scope, shown_plain, shown_value}
 use Rattle.month_trace.specs.OperationViews.{CanTakeOne, CanOperate, IsPlainFor, CanCall, CanDivide}
 use Rattle.month_trace.specs.ValueViews.{scope_in, with_names, values_in, value_in, HasValues, CanEvaluate}
 use Rattle.month_trace.proofs.NameLemmas.{same_either_way}

@@ -1,0 +1,11 @@
+//! The tests of the top call and of what lies outside: answers to words, runs, real files and streams.
+#![tactic(auto)]
+
+#[cfg(test)]
+mod answers;
+#[cfg(test)]
+mod commands;
+#[cfg(test)]
+mod outside_objects;
+#[cfg(test)]
+mod runs;

@@ -1,0 +1,8 @@
+//! Tables of tests, a row a line: what is asked, ` => ` and the answer that is wanted.
+#![tactic(auto)]
+
+mod asked;
+mod rows;
+
+pub use asked::write_attribute;
+pub use rows::{all_rows, sides};
