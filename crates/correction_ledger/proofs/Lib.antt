@@ -1,0 +1,10 @@
+mod DifferenceLemmas
+mod FileLemmas
+mod JoinLemmas
+mod KeptLemmas
+mod ListedLemmas
+mod OwedLemmas
+mod PlaceLemmas
+mod ReportedLemmas
+mod RisingLemmas
+mod SomeLemmas

@@ -1,0 +1,12 @@
+pub mod Limits
+pub mod Months
+pub mod Places
+pub mod Owed
+pub mod Filings
+pub mod OwedLaws
+pub mod BookRows
+pub mod Open
+pub mod BalanceViews
+pub mod FilingViews
+pub mod Admission
+pub mod RowViews
