@@ -11,7 +11,7 @@ use Rattle.payroll_records.specs.Orders.{day_cmp}
 use Rattle.payroll_records.specs.Tables.{key_of}
 use Rattle.payroll_records.proofs.Laws.{day_total}
 use Rattle.plan_calendar.specs.Picking.{Entry}
-use Rattle.pap_plan.specs.Plans.{Seen}
+use Rattle.book_year.specs.Accepted.{Accepted}
 use Rattle.book_year.specs.declared.outcome.Work.{Work}
 use Rattle.book_year.specs.declared.year.YearKey.{YearKey}
 use Rattle.book_year.specs.Jobs.{Counts}
@@ -93,10 +93,10 @@ some_left d rs there more =
 
 -- ---- what is kept, with the number of runs and without
 
-pub kept_of : (plans : List (Entry Seen)) (ys : Years) → AreYears plans ys → AreKeptYears plans ys.list.items
+pub kept_of : (plans : List (Entry Accepted)) (ys : Years) → AreYears plans ys → AreKeptYears plans ys.list.items
 kept_of plans ys h = record { rising = h.rising; each = h.each; some = h.some }
 
-pub years_from : (plans : List (Entry Seen)) (ys : Years) → AreKeptYears plans ys.list.items → ys.count ≡ run_count (years_of ys) → ys.count ≤ most_records → AreYears plans ys
+pub years_from : (plans : List (Entry Accepted)) (ys : Years) → AreKeptYears plans ys.list.items → ys.count ≡ run_count (years_of ys) → ys.count ≤ most_records → AreYears plans ys
 years_from plans ys h count few = record { rising = h.rising; each = h.each; some = h.some; count = count; few = few }
 
 -- ---- steps

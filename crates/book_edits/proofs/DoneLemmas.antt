@@ -5,7 +5,7 @@ use Rattle.payroll_records.specs.declared.record.Record.{Record}
 use Rattle.payroll_records.specs.declared.when.When.{When}
 use Rattle.payroll_records.specs.Tables.{key_of}
 use Rattle.plan_calendar.specs.Picking.{Entry}
-use Rattle.pap_plan.specs.Plans.{Seen}
+use Rattle.book_year.specs.Accepted.{Accepted}
 use Rattle.book_year.specs.declared.outcome.Work.{Work}
 use Rattle.book_edits.specs.declared.in_month.InMonth.TheVariants.{One}
 use Rattle.book_edits.specs.declared.years.Years.{Years}
@@ -20,7 +20,7 @@ use Rattle.book_edits.proofs.YearsLemmas.{kept_in_order}
 pub in_order : YearsAreInOrder
 in_order plans ys h = kept_in_order plans ys.list.items (kept_of plans ys h)
 
-module _ (plans : List (Entry Seen)) (old new : Years) (h : AreYears plans old) where
+module _ (plans : List (Entry Accepted)) (old new : Years) (h : AreYears plans old) where
   pub same_done : IsSameList plans old.list.items new.list.items → new.count ≡ old.count → AreSameYears plans old new
   same_done same count = record {
     kept = years_from plans new same.kept (count ∙ h.count ∙ ap run_count (sym same.years_are)) (omega (arith, count, h.few));

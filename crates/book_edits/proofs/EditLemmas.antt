@@ -4,7 +4,7 @@ use Rattle.std.specs.List.{insert, remove}
 use Rattle.rising_lists.specs.Places.{Misses}
 use Rattle.payroll_records.specs.declared.record.Record.{Record}
 use Rattle.plan_calendar.specs.Picking.{Entry, pick}
-use Rattle.pap_plan.specs.Plans.{Seen}
+use Rattle.book_year.specs.Accepted.{Accepted}
 use Rattle.book_year.specs.declared.outcome.Work.{Work}
 use Rattle.book_year.specs.declared.year.Year.{Year}
 use Rattle.book_year.specs.declared.year.YearKey.{YearKey}
@@ -17,25 +17,25 @@ use Rattle.book_edits.specs.Views.{AreKeptYears, IsListEdit, IsSameList, list_co
 use Rattle.book_edits.proofs.YearsLemmas.{IsFound, insert_edit, jobs_with_runs, quiet_years, remove_edit, runs_here, runs_missed, set_edit, set_same}
 
 -- an edit of a year costs what its new jobs cost
-pub cost_edited : (plans : List (Entry Seen)) (ys : List Year) (k : YearKey) (y : Year) (edit : List Record → List Record) → AreKeptYears plans ys → runs_of (runs_in ys) k ≡ y.records.items →
+pub cost_edited : (plans : List (Entry Accepted)) (ys : List Year) (k : YearKey) (y : Year) (edit : List Record → List Record) → AreKeptYears plans ys → runs_of (runs_in ys) k ≡ y.records.items →
     list_cost plans ys (edited k edit (runs_in ys)) ≡ edit_cost plans y (edit y.records.items)
 cost_edited plans ys k y edit kept runs =
     ap total_cost (jobs_with_runs (pick plans) (runs_in ys) k (edit (runs_of (runs_in ys) k)) (runs_in ys) (quiet_years plans ys kept))
     ∙ ap (λ t. total_cost (year_jobs (pick plans) (pick plans) t (edit t))) runs
 
 -- a year that is taken away costs nothing
-pub cost_none : (plans : List (Entry Seen)) (ys : List Year) (k : YearKey) (edit : List Record → List Record) → AreKeptYears plans ys → edit (runs_of (runs_in ys) k) ≡ [] → list_cost plans ys (edited k edit (runs_in ys)) ≡ 0
+pub cost_none : (plans : List (Entry Accepted)) (ys : List Year) (k : YearKey) (edit : List Record → List Record) → AreKeptYears plans ys → edit (runs_of (runs_in ys) k) ≡ [] → list_cost plans ys (edited k edit (runs_in ys)) ≡ 0
 cost_none plans ys k edit kept none =
     ap total_cost (jobs_with_runs (pick plans) (runs_in ys) k (edit (runs_of (runs_in ys) k)) (runs_in ys) (quiet_years plans ys kept))
     ∙ ap (λ t. total_cost (year_jobs (pick plans) (pick plans) (runs_of (runs_in ys) k) t)) none
 
 -- without its last run the year goes
-pub removed_at : (plans : List (Entry Seen)) (ys : List Year) (k : YearKey) (i : ℕ) (y : Year) (edit : List Record → List Record) → AreKeptYears plans ys → IsFound ys k i y → edit (runs_of (runs_in ys) k) ≡ [] →
+pub removed_at : (plans : List (Entry Accepted)) (ys : List Year) (k : YearKey) (i : ℕ) (y : Year) (edit : List Record → List Record) → AreKeptYears plans ys → IsFound ys k i y → edit (runs_of (runs_in ys) k) ≡ [] →
     IsListEdit plans ys (remove ys i) (edited k edit (runs_in ys)) (record { runs = 0; steps = 0 })
 removed_at plans ys k i y edit kept found none =
     subst (λ t. IsListEdit plans ys (remove ys i) (with_runs k t (runs_in ys)) (record { runs = 0; steps = 0 })) (sym none) (remove_edit plans ys k i y kept found)
 
-module _ {E : Type 0} (plans : List (Entry Seen)) (ys : List Year) (k : YearKey) (i : ℕ) (y y' : Year) (r : Result Work E) (edit : List Record → List Record) (kept : AreKeptYears plans ys) where
+module _ {E : Type 0} (plans : List (Entry Accepted)) (ys : List Year) (k : YearKey) (i : ℕ) (y y' : Year) (r : Result Work E) (edit : List Record → List Record) (kept : AreKeptYears plans ys) where
   -- at a place that has the year
   module _ (found : IsFound ys k i y) where
     pub edited_at : IfOk r (IsYearEdit plans y y' (edit y.records.items)) → 0 < length (edit y.records.items) → IfOk r (IsListEdit plans ys (set ys i y') (edited k edit (runs_in ys)))

@@ -7,3 +7,7 @@ pub use Rattle.book_edits.proofs.YearsLemmas.{year_total, year_same}
 pub use Rattle.book_edits.proofs.YearsLemmas.{IsQuiet, jobs_quiet, jobs_with_runs, quiet_years, runs_kept, runs_missed, kept_in_order}
 -- An edit of one of the years that are kept: put, inserted, written at its place, taken away, or as before.
 pub use Rattle.book_edits.proofs.YearsLemmas.{IsFound, found_year, put_edit, insert_edit, runs_here, year_here, set_edit, set_same, remove_edit}
+-- The days of a year's runs rise.
+pub use Rattle.book_edits.proofs.MonthLemmas.{runs_rising}
+-- A calendar whose plans stand without their code is as long, and its days rise.
+pub use Rattle.book_edits.proofs.PlanLemmas.{plans_length, plans_rise}

@@ -3,7 +3,7 @@ use Rattle.std.proofs.Common.{◌≡◌, ◌<◌, suc, List, [], ◌∷◌, ◌+
 use Rattle.std.specs.List.{AllByRecursion}
 use Rattle.rising_lists.specs.Keyed.{AreAbove, IsRising}
 use Rattle.plan_calendar.specs.Picking.{Entry, pick}
-use Rattle.pap_plan.specs.Plans.{Seen}
+use Rattle.book_year.specs.Accepted.{Accepted}
 use Rattle.book_year.specs.declared.year.Year.{Year}
 use Rattle.book_year.specs.declared.year.YearKey.{YearKey}
 use Rattle.book_year.specs.Rows.{Planned}
@@ -70,17 +70,17 @@ merged_some (y ∷ ys) (Some v ∷ news) all = (all.0, merged_some ys news all.1
 
 -- ---- the years with their new outcomes are kept under the new plans
 
-with_kept : (plans plans' : List (Entry Seen)) (y : Year) (new : New) → IsYear plans y → YearKept (pick plans') (with_new y new) → IsYear plans' (with_new y new)
+with_kept : (plans plans' : List (Entry Accepted)) (y : Year) (new : New) → IsYear plans y → YearKept (pick plans') (with_new y new) → IsYear plans' (with_new y new)
 with_kept plans plans' y None is kept = record { kept = kept; own = is.own }
 with_kept plans plans' y (Some v) is kept = record { kept = kept; own = is.own }
 
-merged_each : (plans plans' : List (Entry Seen)) (ys : List Year) (news : List New) → AllByRecursion (IsYear plans) ys → AllRedone (pick plans') ys news → AllByRecursion (IsYear plans') (merged ys news)
+merged_each : (plans plans' : List (Entry Accepted)) (ys : List Year) (news : List New) → AllByRecursion (IsYear plans) ys → AllRedone (pick plans') ys news → AllByRecursion (IsYear plans') (merged ys news)
 merged_each plans plans' [] [] each all = tt
 merged_each plans plans' [] (new ∷ news) each all = absurd all
 merged_each plans plans' (y ∷ ys) [] each all = absurd all
 merged_each plans plans' (y ∷ ys) (new ∷ news) each all = (with_kept plans plans' y new each.0 all.0, merged_each plans plans' ys news each.1 all.1)
 
-module _ (plans wanted : List (Entry Seen)) (ys ys' : Years) (redone : Redone) (are : AreYears plans ys) (done : AreRedoneFor plans wanted ys redone) (put : ys'.list.items ≡ merged ys.list.items redone.outcomes.items) (count : ys'.count ≡ ys.count) where
+module _ (plans wanted : List (Entry Accepted)) (ys ys' : Years) (redone : Redone) (are : AreYears plans ys) (done : AreRedoneFor plans wanted ys redone) (put : ys'.list.items ≡ merged ys.list.items redone.outcomes.items) (count : ys'.count ≡ ys.count) where
   abbrev news : List New
   news = redone.outcomes.items
 
@@ -97,7 +97,7 @@ module _ (plans wanted : List (Entry Seen)) (ys ys' : Years) (redone : Redone) (
   }
 
   -- the calendar became the wanted one
-  pub replanned : (plans' : List (Entry Seen)) → plans' ≡ wanted → IsReplan plans ys plans' ys' wanted redone.work
+  pub replanned : (plans' : List (Entry Accepted)) → plans' ≡ wanted → IsReplan plans ys plans' ys' wanted redone.work
   replanned plans' is = record {
     plans_are = is;
     years_are = runs_stay;

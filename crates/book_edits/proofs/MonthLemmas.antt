@@ -17,7 +17,7 @@ use Rattle.payroll_records.specs.Orders.{day_cmp}
 use Rattle.payroll_records.specs.Tables.{key_of}
 use Rattle.payroll_records.proofs.Laws.{day_total}
 use Rattle.plan_calendar.specs.Picking.{Entry}
-use Rattle.pap_plan.specs.Plans.{Seen}
+use Rattle.book_year.specs.Accepted.{Accepted}
 use Rattle.book_year.specs.declared.year.Year.{Year}
 use Rattle.book_year.specs.declared.year.YearKey.{YearKey}
 use Rattle.book_year.specs.Records.{record_day, without_run}
@@ -79,7 +79,7 @@ pub runs_rising : (years : List YearRuns) (k : YearKey) → AreInOrder years →
 runs_rising years k order = rising_here years k order.days
 
 -- a year's runs are its own
-pub runs_own : (plans : List (Entry Seen)) (ys : List Year) (k : YearKey) → AllByRecursion (IsYear plans) ys → AllByRecursion (IsOwn k) (runs_of (runs_in ys) k)
+pub runs_own : (plans : List (Entry Accepted)) (ys : List Year) (k : YearKey) → AllByRecursion (IsYear plans) ys → AllByRecursion (IsOwn k) (runs_of (runs_in ys) k)
 runs_own plans [] k each = tt
 runs_own plans (y ∷ ys) k each = elim (year_cmp y.key k) as (λ o. year_cmp y.key k ≡ o → AllByRecursion (IsOwn k) (runs_or_none (if is_eq o then Some (runs_in_year y) else at_key year_cmp runs_key (runs_in ys) k))) [
   | Less ↦ λ e. runs_own plans ys k each.1
@@ -161,7 +161,7 @@ source_is years r k order e =
 
 -- ---- the run that is withdrawn
 
-pub withdrawal_is : (plans : List (Entry Seen)) (ys : List Year) (e : List ℕ) (w : When) (k : Key) → AreInOrder (runs_in ys) → AllByRecursion (IsYear plans) ys → withdrawal (runs_in ys) e w ≡ One k → IsSome (run_at (runs_in ys) k)
+pub withdrawal_is : (plans : List (Entry Accepted)) (ys : List Year) (e : List ℕ) (w : When) (k : Key) → AreInOrder (runs_in ys) → AllByRecursion (IsYear plans) ys → withdrawal (runs_in ys) e w ≡ One k → IsSome (run_at (runs_in ys) k)
 withdrawal_is plans ys e (when.Day d) k order each is =
     elim (is_some (run_at (runs_in ys) (record { employee = e; day = d }))) as (λ b. is_some (run_at (runs_in ys) (record { employee = e; day = d })) ≡ b → (if b then One (record { employee = e; day = d }) else Empty) ≡ One k → IsSome (run_at (runs_in ys) k)) [
       | true ↦ λ s f.

@@ -5,7 +5,7 @@ use Rattle.std.proofs.lemmas.List.Elements.{All-from_recursion}
 use Rattle.std.proofs.lemmas.List.Sums.{sum_by-cons}
 use Rattle.rising_lists.specs.Keyed.{at_key, IsRising}
 use Rattle.plan_calendar.specs.Picking.{Entry}
-use Rattle.pap_plan.specs.Plans.{Seen}
+use Rattle.book_year.specs.Accepted.{Accepted}
 use Rattle.book_year.specs.declared.year.Year.{Year}
 use Rattle.book_edits.specs.declared.years.Years.{Years}
 use Rattle.book_edits.specs.Books.{YearRuns, runs_of, run_count, year_cmp}
@@ -25,5 +25,5 @@ years_within (y ∷ ys) some =
     omega (arith, more, some.0, years_within ys some.1)
 
 -- there are at most 50,000 years
-pub years_few : (plans : List (Entry Seen)) (ys : Years) → AreYears plans ys → length ys.list.items ≤ 50000
+pub years_few : (plans : List (Entry Accepted)) (ys : Years) → AreYears plans ys → length ys.list.items ≤ 50000
 years_few plans ys are = omega (arith, years_within ys.list.items are.some, are.count, are.few)

@@ -18,7 +18,7 @@ use Rattle.rising_lists.proofs.Laws.{put_rising, without_rising}
 use Rattle.payroll_records.specs.declared.record.Record.{Record}
 use Rattle.payroll_records.specs.Orders.{day_cmp}
 use Rattle.plan_calendar.specs.Picking.{Entry, pick}
-use Rattle.pap_plan.specs.Plans.{Seen}
+use Rattle.book_year.specs.Accepted.{Accepted}
 use Rattle.book_year.specs.declared.outcome.Work.{Work}
 use Rattle.book_year.specs.declared.year.Year.{Year}
 use Rattle.book_year.specs.declared.year.YearKey.{YearKey}
@@ -92,18 +92,18 @@ pub runs_missed : (ys : List Year) (k : YearKey) → at_key year_cmp kept_key ys
 runs_missed ys k at = ap runs_or_none (at_key_map year_cmp runs_key runs_in_year ys k ∙ ap (option_map runs_in_year) at)
 
 -- the years that are kept have nothing to run against themselves
-quiet_some : (plans : List (Entry Seen)) (all some : List Year) → AllByRecursion (IsYear plans) some → AllByRecursion (λ y. at_key year_cmp kept_key all y.key ≡ Some y) some → AllByRecursion (IsQuiet (pick plans) (runs_in all)) (runs_in some)
+quiet_some : (plans : List (Entry Accepted)) (all some : List Year) → AllByRecursion (IsYear plans) some → AllByRecursion (λ y. at_key year_cmp kept_key all y.key ≡ Some y) some → AllByRecursion (IsQuiet (pick plans) (runs_in all)) (runs_in some)
 quiet_some plans all [] each found = tt
 quiet_some plans all (y ∷ ys) each found =
     let runs = runs_kept all y.key y found.0 in
     (rw runs (year_quiet (pick plans) y.records.items each.0.kept.rising), quiet_some plans all ys each.1 found.1)
 
-pub quiet_years : (plans : List (Entry Seen)) (ys : List Year) → AreKeptYears plans ys → AllByRecursion (IsQuiet (pick plans) (runs_in ys)) (runs_in ys)
+pub quiet_years : (plans : List (Entry Accepted)) (ys : List Year) → AreKeptYears plans ys → AllByRecursion (IsQuiet (pick plans) (runs_in ys)) (runs_in ys)
 quiet_years plans ys kept = quiet_some plans ys ys kept.each (found_each year_cmp year_total kept_key ys kept.rising)
 
 -- ---- years that are kept stand in order
 
-days_kept : (plans : List (Entry Seen)) (ys : List Year) → AllByRecursion (IsYear plans) ys → AllByRecursion (λ y. IsRising day_cmp record_day y.runs) (runs_in ys)
+days_kept : (plans : List (Entry Accepted)) (ys : List Year) → AllByRecursion (IsYear plans) ys → AllByRecursion (λ y. IsRising day_cmp record_day y.runs) (runs_in ys)
 days_kept plans [] each = tt
 days_kept plans (y ∷ ys) each = (each.0.kept.rising, days_kept plans ys each.1)
 
@@ -111,7 +111,7 @@ some_kept : (ys : List Year) → AllByRecursion HasRuns ys → AllByRecursion (�
 some_kept [] some = tt
 some_kept (y ∷ ys) some = (some.0, some_kept ys some.1)
 
-pub kept_in_order : (plans : List (Entry Seen)) (ys : List Year) → AreKeptYears plans ys → AreInOrder (runs_in ys)
+pub kept_in_order : (plans : List (Entry Accepted)) (ys : List Year) → AreKeptYears plans ys → AreInOrder (runs_in ys)
 kept_in_order plans ys kept = record {
   rising = map_rising year_cmp runs_key runs_in_year ys kept.rising;
   days = days_kept plans ys kept.each;
@@ -124,7 +124,7 @@ with_some : (k : YearKey) (rs : List Record) (ys : List YearRuns) → 0 < length
 with_some k [] ys l = absurd (omega arith)
 with_some k (r ∷ rs) ys l = refl
 
-pub put_edit : (plans : List (Entry Seen)) (ys : List Year) (y y' : Year) (records : List Record) (w : Work) → AreKeptYears plans ys → IsYearEdit plans y y' records w → 0 < length records →
+pub put_edit : (plans : List (Entry Accepted)) (ys : List Year) (y y' : Year) (records : List Record) (w : Work) → AreKeptYears plans ys → IsYearEdit plans y y' records w → 0 < length records →
     runs_of (runs_in ys) y.key ≡ y.records.items → IsListEdit plans ys (put year_cmp kept_key y' ys) (with_runs y.key records (runs_in ys)) w
 put_edit plans ys y y' records w kept edit some runs = record {
   kept = record {
@@ -137,7 +137,7 @@ put_edit plans ys y y' records w kept edit some runs = record {
 }
 
 -- a year that isn't there, added
-pub insert_edit : (plans : List (Entry Seen)) (ys : List Year) (y y' : Year) (i : ℕ) (records : List Record) (w : Work) → AreKeptYears plans ys → Misses year_cmp kept_key ys y.key i → y.records.items ≡ [] → IsYearEdit plans y y' records w →
+pub insert_edit : (plans : List (Entry Accepted)) (ys : List Year) (y y' : Year) (i : ℕ) (records : List Record) (w : Work) → AreKeptYears plans ys → Misses year_cmp kept_key ys y.key i → y.records.items ≡ [] → IsYearEdit plans y y' records w →
     0 < length records → IsListEdit plans ys (insert ys i y') (with_runs y.key records (runs_in ys)) w
 insert_edit plans ys y y' i records w kept gap none edit some =
     let e = gap.put y' (ap (λ k. year_cmp k y.key) edit.key ∙ tied_itself year_total y.key) in
@@ -156,7 +156,7 @@ found_year ys k i y h is =
     record { here = h; key = year_same y.key k (at_key_tied year_cmp kept_key ys k y at); is = is }
 
 -- at a place that has the year
-module _ (plans : List (Entry Seen)) (ys : List Year) (k : YearKey) (i : ℕ) (y : Year) (kept : AreKeptYears plans ys) (found : IsFound ys k i y) where
+module _ (plans : List (Entry Accepted)) (ys : List Year) (k : YearKey) (i : ℕ) (y : Year) (kept : AreKeptYears plans ys) (found : IsFound ys k i y) where
   pub runs_here : runs_of (runs_in ys) k ≡ y.records.items
   runs_here = runs_kept ys k y (found.here.at y ∙ ap (λ t. Some t) (sym found.is))
 

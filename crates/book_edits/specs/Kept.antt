@@ -3,7 +3,7 @@ use Rattle.std.specs.Prelude.{ℕ, ◌≡◌, ◌<◌, ◌≤◌, List, [], ◌�
 use Rattle.std.specs.List.{AllByRecursion}
 use Rattle.rising_lists.specs.Keyed.{IsRising}
 use Rattle.plan_calendar.specs.Picking.{Entry, pick}
-use Rattle.pap_plan.specs.Plans.{Seen}
+use Rattle.book_year.specs.Accepted.{Accepted}
 use Rattle.book_year.specs.declared.outcome.Work.{Work}
 use Rattle.book_year.specs.declared.year.Year.{Year}
 use Rattle.book_year.specs.declared.year.YearKey.{YearKey}
@@ -31,7 +31,7 @@ abbrev pub HasRuns : Year → Type 0
 HasRuns y = 0 < length y.records.items
 
 -- what is kept of each year is what computing its runs anew gives, where this is the calendar
-pub record AreYears (plans : List (Entry Seen)) (ys : Years) : Type 0 where
+pub record AreYears (plans : List (Entry Accepted)) (ys : Years) : Type 0 where
   pub rising : IsRising year_cmp kept_key ys.list.items
   pub each : AllByRecursion (IsYear plans) ys.list.items
   pub some : AllByRecursion HasRuns ys.list.items
@@ -47,24 +47,24 @@ jobs_in before after old (y ∷ ys) =
     year_jobs before after (runs_of old y.key) y.runs ++ jobs_in before after old ys
 
 -- those of an edit of the runs where this is the calendar, and their cost
-abbrev pub edit_jobs : List (Entry Seen) → List YearRuns → List YearRuns → List Job
+abbrev pub edit_jobs : List (Entry Accepted) → List YearRuns → List YearRuns → List Job
 edit_jobs plans old new = jobs_in (pick plans) (pick plans) old new
 
-abbrev pub edit_cost : List (Entry Seen) → Years → List YearRuns → ℕ
+abbrev pub edit_cost : List (Entry Accepted) → Years → List YearRuns → ℕ
 edit_cost plans old new = total_cost (edit_jobs plans (years_of old) new)
 
 -- ---- what an edit promises
 
 -- the runs are these now, and the work is that of the new jobs
 pub record IsYearsEdit
-    (plans : List (Entry Seen)) (old new : Years) (years : List YearRuns)
+    (plans : List (Entry Accepted)) (old new : Years) (years : List YearRuns)
     (work : Work) : Type 0 where
   pub kept : AreYears plans new
   pub years_are : years_of new ≡ years
   pub work_is : work ≡ work_of (edit_jobs plans (years_of old) years)
 
 -- the runs are as they were, and so is what is kept of them
-pub record AreSameYears (plans : List (Entry Seen)) (old new : Years) : Type 0 where
+pub record AreSameYears (plans : List (Entry Accepted)) (old new : Years) : Type 0 where
   pub kept : AreYears plans new
   pub years_are : years_of new ≡ years_of old
 
@@ -73,4 +73,4 @@ pub record AreSameYears (plans : List (Entry Seen)) (old new : Years) : Type 0 w
 -- years that are kept stand in order
 abbrev pub YearsAreInOrder : Type 0
 YearsAreInOrder =
-    (plans : List (Entry Seen)) (ys : Years) → AreYears plans ys → AreInOrder (years_of ys)
+    (plans : List (Entry Accepted)) (ys : Years) → AreYears plans ys → AreInOrder (years_of ys)

@@ -2,7 +2,7 @@
 use Rattle.std.specs.Prelude.{◌≡◌, ◌≤◌, ◌*◌, List, [], ◌∷◌, Option, Some, None, Vec, ⊤}
 use Rattle.std.specs.declared.alloc.Global.{Global}
 use Rattle.plan_calendar.specs.Picking.{Entry, pick}
-use Rattle.pap_plan.specs.Plans.{Seen}
+use Rattle.book_year.specs.Accepted.{Accepted}
 use Rattle.book_year.specs.declared.outcome.Outcome.{Outcome}
 use Rattle.book_year.specs.declared.year.Year.{Year}
 use Rattle.book_year.specs.ChainClauses.{most_steps}
@@ -55,5 +55,5 @@ pub record AreRedone (before after : Planned) (years : Years) (redone : Redone) 
   pub work_is : redone.work ≡ work_of (jobs_in before after (years_of years) (years_of years))
 
 -- the same where one calendar becomes another
-abbrev pub AreRedoneFor : List (Entry Seen) → List (Entry Seen) → Years → Redone → Type 0
+abbrev pub AreRedoneFor : List (Entry Accepted) → List (Entry Accepted) → Years → Redone → Type 0
 AreRedoneFor old new years redone = AreRedone (pick old) (pick new) years redone

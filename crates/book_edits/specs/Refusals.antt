@@ -1,5 +1,5 @@
 -- Why an edit of the runs is refused. Memory may run out only where nothing else stands against the edit.
-use Rattle.std.specs.Prelude.{ℕ, ◌≡◌, ◌+◌, ◌≤◌, List, IsSome, IsNone, Result, Ok, Err, ⊤}
+use Rattle.std.specs.Prelude.{ℕ, ◌≡◌, ◌+◌, ◌<◌, ◌≤◌, List, IsSome, IsNone, Result, Ok, Err, ⊤}
 use Rattle.payroll_records.specs.declared.day.Day.{Day}
 use Rattle.payroll_records.specs.declared.record.Record.{Record}
 use Rattle.payroll_records.specs.declared.when.When.{When}
@@ -20,9 +20,10 @@ pub record CanAdd (years : List YearRuns) (r : Record) : Type 0 where
   pub free : IsNone (run_at years (key_of r))
   pub room : run_count years + 1 ≤ most_records
 
+-- no run stands at the record's key, and with it there would be too many
 pub record IsFull (years : List YearRuns) (r : Record) : Type 0 where
   pub free : IsNone (run_at years (key_of r))
-  pub full : run_count years ≡ most_records
+  pub full : most_records < run_count years + 1
 
 abbrev pub IsAddRefused : List YearRuns → Record → EditRefusal → Type 0
 IsAddRefused years r (refusal.Present k) = (k ≡ key_of r) × IsSome (run_at years k)

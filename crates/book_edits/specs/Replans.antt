@@ -1,8 +1,8 @@
 -- What an edit of the calendar promises: the runs stay, and what is kept of them is what the new calendar gives.
-use Rattle.std.specs.Prelude.{ℕ, ◌≡◌, List, IsSome, IsNone, length}
+use Rattle.std.specs.Prelude.{ℕ, ◌≡◌, ◌+◌, ◌<◌, List, IsSome, IsNone, length}
 use Rattle.payroll_records.specs.declared.day.Day.{Day}
 use Rattle.plan_calendar.specs.Picking.{Entry, pick, entry_at}
-use Rattle.pap_plan.specs.Plans.{Seen}
+use Rattle.book_year.specs.Accepted.{Accepted}
 use Rattle.book_year.specs.declared.outcome.Work.{Work}
 use Rattle.book_year.specs.Jobs.{total_cost, work_of}
 use Rattle.book_year.specs.Rows.{Job}
@@ -13,16 +13,17 @@ use Rattle.book_edits.specs.Books.{YearRuns}
 use Rattle.book_edits.specs.Kept.{AreYears, jobs_in, years_of}
 
 -- the runs whose job is new where the calendar becomes this one, and their cost
-abbrev pub replan_jobs : List (Entry Seen) → List (Entry Seen) → List YearRuns → List Job
+abbrev pub replan_jobs : List (Entry Accepted) → List (Entry Accepted) → List YearRuns → List Job
 replan_jobs old new years = jobs_in (pick old) (pick new) years years
 
-abbrev pub replan_cost : List (Entry Seen) → List (Entry Seen) → Years → ℕ
+abbrev pub replan_cost : List (Entry Accepted) → List (Entry Accepted) → Years → ℕ
 replan_cost old new years = total_cost (replan_jobs old new (years_of years))
 
 -- the plans are these now, the runs are the same, and the work is that of the new jobs
 pub record IsReplan
-    (plans : List (Entry Seen)) (years : Years) (plans' : List (Entry Seen)) (years' : Years)
-    (wanted : List (Entry Seen)) (work : Work) : Type 0 where
+    (plans : List (Entry Accepted)) (years : Years)
+    (plans' : List (Entry Accepted)) (years' : Years)
+    (wanted : List (Entry Accepted)) (work : Work) : Type 0 where
   pub plans_are : plans' ≡ wanted
   pub years_are : years_of years' ≡ years_of years
   pub kept : AreYears plans' years'
@@ -33,17 +34,17 @@ pub record IsReplan
 abbrev pub most_plans : ℕ
 most_plans = 64
 
--- there are 64 plans, and none of that day
-pub record IsFull (plans : List (Entry Seen)) (day : Day) : Type 0 where
+-- no plan has that day, and with one more there would be too many
+pub record IsFull (plans : List (Entry Accepted)) (day : Day) : Type 0 where
   pub free : IsNone (entry_at plans day)
-  pub full : length plans ≡ most_plans
+  pub full : most_plans < length plans + 1
 
-abbrev pub IsPutRefused : List (Entry Seen) → Day → EditRefusal → Type 0
+abbrev pub IsPutRefused : List (Entry Accepted) → Day → EditRefusal → Type 0
 IsPutRefused plans day refusal.Plans = IsFull plans day
 IsPutRefused plans day (refusal.Memory e) = IsFull plans day → ⊥
 IsPutRefused plans day _ = ⊥
 
-abbrev pub IsDropRefused : List (Entry Seen) → Day → EditRefusal → Type 0
+abbrev pub IsDropRefused : List (Entry Accepted) → Day → EditRefusal → Type 0
 IsDropRefused plans day (refusal.NoPlanThere d) = (d ≡ day) × IsNone (entry_at plans day)
 IsDropRefused plans day (refusal.Memory e) = IsSome (entry_at plans day)
 IsDropRefused plans day _ = ⊥

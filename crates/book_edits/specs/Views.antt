@@ -8,7 +8,7 @@ use Rattle.payroll_records.specs.declared.record.Record.{Record}
 use Rattle.payroll_records.specs.declared.when.When.TheVariants as when
 use Rattle.payroll_records.specs.Tables.{key_of}
 use Rattle.plan_calendar.specs.Picking.{Entry}
-use Rattle.pap_plan.specs.Plans.{Seen}
+use Rattle.book_year.specs.Accepted.{Accepted}
 use Rattle.book_year.specs.declared.outcome.Work.{Work}
 use Rattle.book_year.specs.declared.year.Year.{Year}
 use Rattle.book_year.specs.Jobs.{total_cost, work_of}
@@ -21,26 +21,26 @@ use Rattle.book_edits.specs.Books.{YearRuns, is_in_month, year_cmp}
 use Rattle.book_edits.specs.Kept.{HasRuns, edit_jobs, kept_key, runs_in}
 
 -- what is kept of each year, without their number
-pub record AreKeptYears (plans : List (Entry Seen)) (years : List Year) : Type 0 where
+pub record AreKeptYears (plans : List (Entry Accepted)) (years : List Year) : Type 0 where
   pub rising : IsRising year_cmp kept_key years
   pub each : AllByRecursion (IsYear plans) years
   pub some : AllByRecursion HasRuns years
 
 -- the runs are these now, and the work is that of the new jobs
 pub record IsListEdit
-    (plans : List (Entry Seen)) (old new : List Year) (years : List YearRuns)
+    (plans : List (Entry Accepted)) (old new : List Year) (years : List YearRuns)
     (work : Work) : Type 0 where
   pub kept : AreKeptYears plans new
   pub years_are : runs_in new ≡ years
   pub work_is : work ≡ work_of (edit_jobs plans (runs_in old) years)
 
 -- the runs are as they were, and so is what is kept of them
-pub record IsSameList (plans : List (Entry Seen)) (old new : List Year) : Type 0 where
+pub record IsSameList (plans : List (Entry Accepted)) (old new : List Year) : Type 0 where
   pub kept : AreKeptYears plans new
   pub years_are : runs_in new ≡ runs_in old
 
 -- the cost of the jobs that are new where the runs become these
-abbrev pub list_cost : List (Entry Seen) → List Year → List YearRuns → ℕ
+abbrev pub list_cost : List (Entry Accepted) → List Year → List YearRuns → ℕ
 list_cost plans old years = total_cost (edit_jobs plans (runs_in old) years)
 
 -- the key of the only run that an employee has in a month, or why there is none

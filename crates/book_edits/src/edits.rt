@@ -4,6 +4,7 @@ ghost use Rattle.std.specs.Prelude.{◌≡◌, IfOk, IfErr, OnErr, IsSome};
 ghost use Rattle.payroll_records.specs.Orders.{day_cmp};
 ghost use Rattle.payroll_records.specs.Tables.{key_of};
 ghost use Rattle.rising_lists.specs.Keyed.{at_key};
+ghost use Rattle.book_year.specs.Accepted.{plans_in};
 ghost use Rattle.book_year.specs.Jobs.{Counts};
 ghost use Rattle.book_year.specs.Records.{record_day};
 ghost use Rattle.book_edits.specs.Books.{AreInOrder, added, changed, changed_from, run_at, source_of};
@@ -34,14 +35,14 @@ impl Years {
         item: Record,
         steps: &mut Steps<L>,
     ) -> Result<Work, EditRefusal>
-        requires { AreYears plans.now self.old }
+        requires { AreYears (plans_in plans.now) self.old }
         ensures ok { IfOk result
-            (IsYearsEdit plans.now self.old self.new (added item (years_of self.old))) }
+            (IsYearsEdit (plans_in plans.now) self.old self.new (added item (years_of self.old))) }
         ensures can { IfOk result (λ _. CanAdd (years_of self.old) item) }
-        ensures err { OnErr result (AreSameYears plans.now self.old self.new) }
+        ensures err { OnErr result (AreSameYears (plans_in plans.now) self.old self.new) }
         ensures refused { IfErr result (IsAddRefused (years_of self.old) item) }
         ensures counted { CountsEdit result steps.old steps.new
-            (edit_cost plans.now self.old (added item (years_of self.old))) }
+            (edit_cost (plans_in plans.now) self.old (added item (years_of self.old))) }
     {
         let key = key_of(&item);
         if self.find(&key).is_some() {
@@ -63,14 +64,14 @@ impl Years {
         item: Record,
         steps: &mut Steps<L>,
     ) -> Result<Work, EditRefusal>
-        requires { AreYears plans.now self.old }
-        ensures ok { IfOk result (IsYearsEdit plans.now self.old self.new
+        requires { AreYears (plans_in plans.now) self.old }
+        ensures ok { IfOk result (IsYearsEdit (plans_in plans.now) self.old self.new
             (changed_from (source_of (years_of self.old) item) item (years_of self.old))) }
         ensures can { IfOk result (λ _. IsOne (source_of (years_of self.old) item)) }
-        ensures err { OnErr result (AreSameYears plans.now self.old self.new) }
+        ensures err { OnErr result (AreSameYears (plans_in plans.now) self.old self.new) }
         ensures refused { IfErr result (IsChangeRefused (years_of self.old) item) }
         ensures counted { CountsEdit result steps.old steps.new
-            (edit_cost plans.now self.old
+            (edit_cost (plans_in plans.now) self.old
             (changed_from (source_of (years_of self.old) item) item (years_of self.old))) }
     {
         let from = self.source_of(&item)?;
@@ -85,14 +86,14 @@ impl Years {
         when: When,
         steps: &mut Steps<L>,
     ) -> Result<Work, EditRefusal>
-        requires { AreYears plans.now self.old }
-        ensures ok { IfOk result (IsYearsEdit plans.now self.old self.new
+        requires { AreYears (plans_in plans.now) self.old }
+        ensures ok { IfOk result (IsYearsEdit (plans_in plans.now) self.old self.new
             (withdrawn_from (withdrawal (years_of self.old) employee when) (years_of self.old))) }
         ensures can { IfOk result (λ _. IsOne (withdrawal (years_of self.old) employee when)) }
-        ensures err { OnErr result (AreSameYears plans.now self.old self.new) }
+        ensures err { OnErr result (AreSameYears (plans_in plans.now) self.old self.new) }
         ensures refused { IfErr result (IsWithdrawRefused (years_of self.old) employee when) }
         ensures counted { CountsEdit result steps.old steps.new
-            (edit_cost plans.now self.old
+            (edit_cost (plans_in plans.now) self.old
             (withdrawn_from (withdrawal (years_of self.old) employee when) (years_of self.old))) }
     {
         let key = self.withdrawal(employee, when)?;
@@ -156,12 +157,12 @@ fn add_run<L: Ledger>(
     item: Record,
     steps: &mut Steps<L>,
 ) -> Result<Work, AllocError>
-    requires { AreKeptYears plans.now years.old.items }
-    ensures ok { IfOk result (IsListEdit plans.now years.old.items years.new.items
+    requires { AreKeptYears (plans_in plans.now) years.old.items }
+    ensures ok { IfOk result (IsListEdit (plans_in plans.now) years.old.items years.new.items
         (added item (runs_in years.old.items))) }
-    ensures err { OnErr result (IsSameList plans.now years.old.items years.new.items) }
+    ensures err { OnErr result (IsSameList (plans_in plans.now) years.old.items years.new.items) }
     ensures counted { Counts result steps.old steps.new
-        (list_cost plans.now years.old.items (added item (runs_in years.old.items))) }
+        (list_cost (plans_in plans.now) years.old.items (added item (runs_in years.old.items))) }
 {
     let alloc = *years.allocator();
     let key = year_of(&key_of(&item));
@@ -187,14 +188,15 @@ fn change_run<L: Ledger>(
     item: Record,
     steps: &mut Steps<L>,
 ) -> Result<Work, AllocError>
-    requires years { AreKeptYears plans.now years.old.items }
+    requires years { AreKeptYears (plans_in plans.now) years.old.items }
     requires there { IsSome (at_key day_cmp record_day
         (runs_of (runs_in years.old.items) (year_of (key_of item))) from) }
-    ensures ok { IfOk result (IsListEdit plans.now years.old.items years.new.items
+    ensures ok { IfOk result (IsListEdit (plans_in plans.now) years.old.items years.new.items
         (changed from item (runs_in years.old.items))) }
-    ensures err { OnErr result (IsSameList plans.now years.old.items years.new.items) }
+    ensures err { OnErr result (IsSameList (plans_in plans.now) years.old.items years.new.items) }
     ensures counted { Counts result steps.old steps.new
-        (list_cost plans.now years.old.items (changed from item (runs_in years.old.items))) }
+        (list_cost (plans_in plans.now) years.old.items
+        (changed from item (runs_in years.old.items))) }
 {
     let alloc = *years.allocator();
     let key = year_of(&key_of(&item));
@@ -209,13 +211,14 @@ fn take_run<L: Ledger>(
     key: &Key,
     steps: &mut Steps<L>,
 ) -> Result<Work, AllocError>
-    requires years { AreKeptYears plans.now years.old.items }
+    requires years { AreKeptYears (plans_in plans.now) years.old.items }
     requires there { IsSome (run_at (runs_in years.old.items) key.now) }
-    ensures ok { IfOk result (IsListEdit plans.now years.old.items years.new.items
+    ensures ok { IfOk result (IsListEdit (plans_in plans.now) years.old.items years.new.items
         (withdrawn key.now (runs_in years.old.items))) }
-    ensures err { OnErr result (IsSameList plans.now years.old.items years.new.items) }
+    ensures err { OnErr result (IsSameList (plans_in plans.now) years.old.items years.new.items) }
     ensures counted { Counts result steps.old steps.new
-        (list_cost plans.now years.old.items (withdrawn key.now (runs_in years.old.items))) }
+        (list_cost (plans_in plans.now) years.old.items
+        (withdrawn key.now (runs_in years.old.items))) }
 {
     let alloc = *years.allocator();
     let at = place_year(years.as_slice(), &year_of(key)).unwrap();

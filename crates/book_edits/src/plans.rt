@@ -1,6 +1,7 @@
 //! Edits of the calendar.
 ghost use Rattle.std.specs.Prelude.{◌≡◌, ◌↔◌, IfOk, IfErr, OnErr, is_some, IsSome, IsTrue};
 ghost use Rattle.plan_calendar.specs.Picking.{AreEntries, entry_at, with_entry, without_day};
+ghost use Rattle.book_year.specs.Accepted.{accepted, plans_in};
 ghost use Rattle.book_year.specs.Jobs.{Counts};
 ghost use Rattle.book_edits.specs.Kept.{AreSameYears, AreYears};
 ghost use Rattle.book_edits.specs.Refusals.{CountsEdit};
@@ -28,15 +29,17 @@ pub fn put_plan<L: Ledger>(
     plan: Plan,
     steps: &mut Steps<L>,
 ) -> Result<Work, EditRefusal>
-    requires { AreYears plans.old years.old }
-    ensures ok { IfOk result (IsReplan plans.old years.old plans.new years.new
-        (with_entry (day, plan) plans.old)) }
-    ensures can { IfOk result (λ _. IsFull plans.old day → ⊥) }
+    requires { AreYears (plans_in plans.old) years.old }
+    ensures ok { IfOk result
+        (IsReplan (plans_in plans.old) years.old (plans_in plans.new) years.new
+        (with_entry (day, accepted plan) (plans_in plans.old))) }
+    ensures can { IfOk result (λ _. IsFull (plans_in plans.old) day → ⊥) }
     ensures plans_stay { OnErr result (plans.new ≡ plans.old) }
-    ensures years_stay { OnErr result (AreSameYears plans.old years.old years.new) }
-    ensures refused { IfErr result (IsPutRefused plans.old day) }
+    ensures years_stay { OnErr result (AreSameYears (plans_in plans.old) years.old years.new) }
+    ensures refused { IfErr result (IsPutRefused (plans_in plans.old) day) }
     ensures counted { CountsEdit result steps.old steps.new
-        (replan_cost plans.old (with_entry (day, plan) plans.old) years.old) }
+        (replan_cost (plans_in plans.old)
+        (with_entry (day, accepted plan) (plans_in plans.old)) years.old) }
 {
     if is_full(plans.entries(), day) {
         return Err(EditRefusal::Plans);
@@ -58,15 +61,16 @@ pub fn drop_plan<L: Ledger>(
     day: Day,
     steps: &mut Steps<L>,
 ) -> Result<Work, EditRefusal>
-    requires { AreYears plans.old years.old }
+    requires { AreYears (plans_in plans.old) years.old }
     ensures ok { IfOk result
-        (IsReplan plans.old years.old plans.new years.new (without_day day plans.old)) }
-    ensures can { IfOk result (λ _. IsSome (entry_at plans.old day)) }
+        (IsReplan (plans_in plans.old) years.old (plans_in plans.new) years.new
+        (without_day day (plans_in plans.old))) }
+    ensures can { IfOk result (λ _. IsSome (entry_at (plans_in plans.old) day)) }
     ensures plans_stay { OnErr result (plans.new ≡ plans.old) }
-    ensures years_stay { OnErr result (AreSameYears plans.old years.old years.new) }
-    ensures refused { IfErr result (IsDropRefused plans.old day) }
+    ensures years_stay { OnErr result (AreSameYears (plans_in plans.old) years.old years.new) }
+    ensures refused { IfErr result (IsDropRefused (plans_in plans.old) day) }
     ensures counted { CountsEdit result steps.old steps.new
-        (replan_cost plans.old (without_day day plans.old) years.old) }
+        (replan_cost (plans_in plans.old) (without_day day (plans_in plans.old)) years.old) }
 {
     if !has_plan(plans.entries(), day) {
         return Err(EditRefusal::NoPlanThere { day });
@@ -86,11 +90,13 @@ fn redone_with<'a, L: Ledger>(
     steps: &mut Steps<L>,
 ) -> Result<Redone, AllocError>
     requires entries { AreEntries plans.now }
-    requires years { AreYears plans.now years.now }
+    requires years { AreYears (plans_in plans.now) years.now }
     ensures done { IfOk result
-        (AreRedoneFor plans.now (with_entry (day, plan.now) plans.now) years.now) }
+        (AreRedoneFor (plans_in plans.now)
+        (with_entry (day, accepted plan.now) (plans_in plans.now)) years.now) }
     ensures counted { Counts result steps.old steps.new
-        (replan_cost plans.now (with_entry (day, plan.now) plans.now) years.now) }
+        (replan_cost (plans_in plans.now)
+        (with_entry (day, accepted plan.now) (plans_in plans.now)) years.now) }
 {
     let picks = Picks::edited(plans, day, Some((day, plan)));
     redo_years(&picks, years, steps)
@@ -104,12 +110,12 @@ fn redone_without<L: Ledger>(
     steps: &mut Steps<L>,
 ) -> Result<Redone, AllocError>
     requires entries { AreEntries plans.now }
-    requires years { AreYears plans.now years.now }
-    requires there { IsSome (entry_at plans.now day) }
+    requires years { AreYears (plans_in plans.now) years.now }
+    requires there { IsSome (entry_at (plans_in plans.now) day) }
     ensures done { IfOk result
-        (AreRedoneFor plans.now (without_day day plans.now) years.now) }
+        (AreRedoneFor (plans_in plans.now) (without_day day (plans_in plans.now)) years.now) }
     ensures counted { Counts result steps.old steps.new
-        (replan_cost plans.now (without_day day plans.now) years.now) }
+        (replan_cost (plans_in plans.now) (without_day day (plans_in plans.now)) years.now) }
 {
     let picks = Picks::edited(plans, day, plans.pick_before(day));
     redo_years(&picks, years, steps)
@@ -118,7 +124,7 @@ fn redone_without<L: Ledger>(
 /// Whether there are 64 plans, and none of a day.
 fn is_full(entries: &[(Day, Plan)], day: Day) -> bool
     requires { AreEntries entries.now }
-    ensures { IsTrue result ↔ IsFull entries.now day }
+    ensures { IsTrue result ↔ IsFull (plans_in entries.now) day }
 {
     entries.len() == 64 && !has_plan(entries, day)
 }
@@ -126,7 +132,7 @@ fn is_full(entries: &[(Day, Plan)], day: Day) -> bool
 /// Whether a plan holds from a day on.
 fn has_plan(entries: &[(Day, Plan)], day: Day) -> bool
     requires { AreEntries entries.now }
-    ensures { result ≡ is_some (entry_at entries.now day) }
+    ensures { result ≡ is_some (entry_at (plans_in entries.now) day) }
 {
     entries.binary_search_by_key(&day, |e| e.0).is_ok()
 }

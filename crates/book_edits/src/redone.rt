@@ -1,5 +1,6 @@
 //! Years computed anew for an edit of the calendar, beside those that are kept.
 ghost use Rattle.std.specs.Prelude.{◌≡◌, length, IfOk};
+ghost use Rattle.book_year.specs.Accepted.{plans_in};
 ghost use Rattle.book_year.specs.Jobs.{Counts, total_cost};
 ghost use Rattle.book_year.specs.Picks.{before, after, ArePicks};
 ghost use Rattle.book_year.specs.Years.{IsYear};
@@ -35,7 +36,7 @@ pub(crate) fn redo_years<L: Ledger>(
     steps: &mut Steps<L>,
 ) -> Result<Redone, AllocError>
     requires picks { ArePicks picks.now }
-    requires years { AreYears picks.now.plans.now years.now }
+    requires years { AreYears (plans_in picks.now.plans.now) years.now }
     ensures done { IfOk result (AreRedone (before picks.now) (after picks.now) years.now) }
     ensures counted { Counts result steps.old steps.new (total_cost
         (jobs_in (before picks.now) (after picks.now) (years_of years.now) (years_of years.now))) }
@@ -64,7 +65,7 @@ fn redo_year<L: Ledger>(
     steps: &mut Steps<L>,
 ) -> Result<RedoneYear, AllocError>
     requires picks { ArePicks picks.now }
-    requires year { IsYear picks.now.plans.now year.now }
+    requires year { IsYear (plans_in picks.now.plans.now) year.now }
     ensures done { IfOk result (IsYearRedone (before picks.now) (after picks.now) year.now) }
     ensures counted { Counts result steps.old steps.new (replan_cost picks.now year.now) }
 {

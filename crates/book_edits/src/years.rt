@@ -2,7 +2,7 @@
 ghost use Rattle.std.specs.Prelude.{◌≡◌, List, []};
 ghost use Rattle.std.specs.Option.{option_copied};
 ghost use Rattle.plan_calendar.specs.Picking.{Entry};
-ghost use Rattle.pap_plan.specs.Plans.{Seen};
+ghost use Rattle.book_year.specs.Accepted.{Accepted};
 ghost use Rattle.book_edits.specs.Books.{AreInOrder, in_month, run_at};
 ghost use Rattle.book_edits.specs.Kept.{AreYears, YearsAreInOrder, years_of};
 
@@ -25,7 +25,7 @@ impl Years {
     /// No runs.
     pub fn new(alloc: Global) -> Years
         ensures none { years_of result ≡ [] }
-        ensures years { (plans : List (Entry Seen)) → AreYears plans result }
+        ensures years { (plans : List (Entry Accepted)) → AreYears plans result }
     {
         Years {
             list: Vec::new(alloc),

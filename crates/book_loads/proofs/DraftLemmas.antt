@@ -11,7 +11,7 @@ use Rattle.rising_lists.specs.Places.{Finds}
 use Rattle.payroll_records.specs.declared.record.Record.{Record}
 use Rattle.payroll_records.specs.Orders.{day_cmp}
 use Rattle.plan_calendar.specs.Picking.{Entry, pick}
-use Rattle.pap_plan.specs.Plans.{Seen}
+use Rattle.book_year.specs.Accepted.{Accepted}
 use Rattle.book_year.specs.declared.year.Year.{Year}
 use Rattle.book_year.specs.declared.year.YearKey.{YearKey}
 use Rattle.book_year.specs.declared.chain.Recalculated.{Recalculated}
@@ -36,17 +36,17 @@ use Rattle.book_loads.proofs.RecordLemmas.{all_puts, rising_puts}
 
 -- ---- the old years
 
-none_kept : (plans : List (Entry Seen)) → AreKept (pick plans) [] []
+none_kept : (plans : List (Entry Accepted)) → AreKept (pick plans) [] []
 none_kept plans = record { are = refl; bounded = tt; rising = tt; few = omega arith }
 
 pub old_found : (list : List Year) (k : YearKey) (i : ℕ) (y : Year) → Finds year_cmp kept_key list k i → y ≡ get_or list i y → y.records.items ≡ runs_of (runs_in list) k
 old_found list k i y found is = sym (runs_kept list k y (found.at y ∙ ap (λ t. Some t) (sym is)))
 
-pub old_kept : (plans : List (Entry Seen)) (list : List Year) (k : YearKey) (i : ℕ) (y : Year) → Finds year_cmp kept_key list k i → y ≡ get_or list i y → AllByRecursion (IsYear plans) list → AreKept (pick plans) y.records.items y.outcomes.items
+pub old_kept : (plans : List (Entry Accepted)) (list : List Year) (k : YearKey) (i : ℕ) (y : Year) → Finds year_cmp kept_key list k i → y ≡ get_or list i y → AllByRecursion (IsYear plans) list → AreKept (pick plans) y.records.items y.outcomes.items
 old_kept plans list k i y found is each = (subst (IsYear plans) (sym is) (All-from_recursion (IsYear plans) list each i y found.within)).kept
 
 -- a year's runs are its own
-own_runs : (plans : List (Entry Seen)) (ys : List Year) (k : YearKey) → AllByRecursion (IsYear plans) ys → AllByRecursion (IsOwn k) (runs_of (runs_in ys) k)
+own_runs : (plans : List (Entry Accepted)) (ys : List Year) (k : YearKey) → AllByRecursion (IsYear plans) ys → AllByRecursion (IsOwn k) (runs_of (runs_in ys) k)
 own_runs plans [] k each = tt
 own_runs plans (y ∷ ys) k each = elim (year_cmp y.key k) as (λ o. year_cmp y.key k ≡ o → AllByRecursion (IsOwn k) (runs_or_none (if is_eq o then Some (runs_in_year y) else at_key year_cmp runs_key (runs_in ys) k))) [
   | Less ↦ λ e. own_runs plans ys k each.1
@@ -61,12 +61,12 @@ puts_some [] rs l = omega arith
 puts_some (i ∷ is) rs l = puts_some is (put_run i rs) (omega (arith, put_some day_cmp record_day i rs))
 
 -- the runs of a group's year are at most 366
-pub group_few : (plans : List (Entry Seen)) (list : List Year) (g : Group) → AllByRecursion (IsYear plans) list → IsGroup g → IsRising day_cmp record_day (runs_of (runs_in list) g.key) → length (group_year (runs_in list) g).runs ≤ 366
+pub group_few : (plans : List (Entry Accepted)) (list : List Year) (g : Group) → AllByRecursion (IsYear plans) list → IsGroup g → IsRising day_cmp record_day (runs_of (runs_in list) g.key) → length (group_year (runs_in list) g).runs ≤ 366
 group_few plans list g years is rising =
     let old = runs_of (runs_in list) g.key in
     own_few g.key (put_runs g.items.items old) (rising_puts g.items.items old rising) (all_puts (IsOwn g.key) g.items.items old is.own (own_runs plans list g.key years))
 
-pub computed_group : (plans : List (Entry Seen)) (list : List Year) (g : Group) (c : Computed) (done : Recalculated) → AllByRecursion (IsYear plans) list → IsGroup g → IsRising day_cmp record_day (runs_of (runs_in list) g.key) →
+pub computed_group : (plans : List (Entry Accepted)) (list : List Year) (g : Group) (c : Computed) (done : Recalculated) → AllByRecursion (IsYear plans) list → IsGroup g → IsRising day_cmp record_day (runs_of (runs_in list) g.key) →
     IsRecalculated (pick plans) (job_by (pick plans) (runs_of (runs_in list) g.key)) (group_year (runs_in list) g).runs done → c.outcomes ≡ done.outcomes → c.work ≡ done.work → HasRoom (length (runs_of (runs_in list) g.key)) (vec_len g.items) c.room →
     IsComputedGroup plans (runs_in list) g c
 computed_group plans list g c done years is rising h outcomes work room =
@@ -137,7 +137,7 @@ module _ (planned : Planned) (old : List YearRuns) where
 -- ---- one group after another
 
 -- the drafts of the groups that came, where these are left
-pub record AreDraftedSoFar (plans : List (Entry Seen)) (old : List YearRuns) (groups rest : List Group) (drafts : List Draft) (runs taken began now : ℕ) : Type 0 where
+pub record AreDraftedSoFar (plans : List (Entry Accepted)) (old : List YearRuns) (groups rest : List Group) (drafts : List Draft) (runs taken began now : ℕ) : Type 0 where
   pub years : map (draft_year old) drafts ++ group_years old rest ≡ group_years old groups
   pub each : AllByRecursion (IsDraft plans old) drafts
   pub rooms : AllByRecursion (IsRoomy old) drafts
@@ -149,7 +149,7 @@ pub record AreDraftedSoFar (plans : List (Entry Seen)) (old : List YearRuns) (gr
   pub small : runs ≤ 366 * length drafts
   pub cheap : taken ≤ 366 * 1000000000 * length drafts
 
-module _ (plans : List (Entry Seen)) (old : List YearRuns) where
+module _ (plans : List (Entry Accepted)) (old : List YearRuns) where
   abbrev first_jobs : Group → List Job
   first_jobs g = group_jobs plans old g
 

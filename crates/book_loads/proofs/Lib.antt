@@ -1,3 +1,4 @@
+pub mod Laws
 mod PutLemmas
 mod FoldLemmas
 mod OrderLemmas
@@ -8,3 +9,4 @@ mod MergeLemmas
 mod NextLemmas
 mod ErrLemmas
 mod LoadLemmas
+mod TableLemmas

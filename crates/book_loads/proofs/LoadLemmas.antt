@@ -9,10 +9,10 @@ use Rattle.rising_lists.specs.Keyed.{IsRising}
 use Rattle.payroll_records.specs.declared.record.Record.{Record}
 use Rattle.payroll_records.specs.Orders.{day_cmp}
 use Rattle.plan_calendar.specs.Picking.{Entry, pick}
-use Rattle.pap_plan.specs.Plans.{Seen}
+use Rattle.book_year.specs.Accepted.{Accepted}
 use Rattle.book_year.specs.declared.outcome.Work.{Work}
 use Rattle.book_year.specs.declared.year.Year.{Year}
-use Rattle.book_year.specs.Jobs.{total_cost, work_of}
+use Rattle.book_year.specs.Jobs.{Counts, total_cost, work_of}
 use Rattle.book_year.specs.Records.{record_day}
 use Rattle.book_year.specs.Years.{IsYear}
 use Rattle.book_edits.specs.declared.refusal.EditRefusal.{EditRefusal}
@@ -20,10 +20,10 @@ use Rattle.book_edits.specs.declared.refusal.EditRefusal.TheVariants as refusal
 use Rattle.book_edits.specs.declared.years.Years.{Years}
 use Rattle.book_edits.specs.Books.{AreInOrder, loaded, run_count, runs_key, year_cmp}
 use Rattle.book_edits.specs.Kept.{AreSameYears, AreYears, HasRuns, IsYearsEdit, edit_jobs, kept_key, runs_in, runs_in_year, years_of}
-use Rattle.book_edits.specs.Refusals.{CountsEdit}
+use Rattle.book_edits.specs.Refusals.{CountsEdit, most_records}
 use Rattle.book_edits.specs.Views.{AreKeptYears, IsListEdit, list_cost}
 use Rattle.book_edits.proofs.Laws.{kept_in_order, map_rising, quiet_years, rising_map, year_total}
-use Rattle.book_loads.specs.Loads.{AreDistinct, CanLoad, IsLoadRefused}
+use Rattle.book_loads.specs.Loads.{AreDistinct, CanLoad, IsFree, IsLoadRefused}
 use Rattle.book_loads.specs.declared.drafts.Drafted.{Drafted}
 use Rattle.book_loads.specs.declared.groups.Group.{Group}
 use Rattle.book_loads.specs.Groups.{AreGroups, group_year, group_years, with_years}
@@ -47,7 +47,7 @@ below_more P xs i x within is here below j d lt = elim (cases_lt j i) [
       subst (λ n. P (get_or xs n d)) same (subst P (is ∙ get_or_default xs i x d within) here)
 ]
 
-module _ (plans : List (Entry Seen)) (list : List Year) (kept : AreKeptYears plans list) (items : List Record) (groups : List Group) (are : AreGroups items groups) where
+module _ (plans : List (Entry Accepted)) (list : List Year) (kept : AreKeptYears plans list) (items : List Record) (groups : List Group) (are : AreGroups items groups) where
   old_rise : IsRising year_cmp runs_key (runs_in list)
   old_rise = map_rising year_cmp runs_key runs_in_year list kept.rising
 
@@ -108,7 +108,7 @@ module _ (plans : List (Entry Seen)) (list : List Year) (kept : AreKeptYears pla
 -- ---- the book
 
 -- years with the content that they had
-pub same_years : (plans : List (Entry Seen)) (old new : Years) → AreYears plans old → new.list.items ≡ old.list.items → new.count ≡ old.count → AreSameYears plans old new
+pub same_years : (plans : List (Entry Accepted)) (old new : Years) → AreYears plans old → new.list.items ≡ old.list.items → new.count ≡ old.count → AreSameYears plans old new
 same_years plans old new h list count = record {
   kept = record {
     rising = subst (IsRising year_cmp kept_key) (sym list) h.rising;
@@ -120,14 +120,14 @@ same_years plans old new h list count = record {
   years_are = ap runs_in list;
 }
 
-kept_of : (plans : List (Entry Seen)) (ys : Years) → AreYears plans ys → AreKeptYears plans ys.list.items
+kept_of : (plans : List (Entry Accepted)) (ys : Years) → AreYears plans ys → AreKeptYears plans ys.list.items
 kept_of plans ys h = record { rising = h.rising; each = h.each; some = h.some }
 
 -- what is kept of the years stands in order
-pub in_order : (plans : List (Entry Seen)) (ys : Years) → AreYears plans ys → AreInOrder (years_of ys)
+pub in_order : (plans : List (Entry Accepted)) (ys : Years) → AreYears plans ys → AreInOrder (years_of ys)
 in_order plans ys h = kept_in_order plans ys.list.items (kept_of plans ys h)
 
-pub load_edit : (plans : List (Entry Seen)) (old new : Years) (items : List Record) (work : Work) → AreYears plans old → AreDistinct items → CanLoad (years_of old) items →
+pub load_edit : (plans : List (Entry Accepted)) (old new : Years) (items : List Record) (work : Work) → AreYears plans old → AreDistinct items → CanLoad (years_of old) items →
     IsListEdit plans old.list.items new.list.items (loaded items (runs_in old.list.items)) work → new.count ≡ old.count + length items → IsYearsEdit plans old new (loaded items (years_of old)) work
 load_edit plans old new items work h distinct can edit count =
     let more = count_loaded items (years_of old) (in_order plans old h) can.free (distinct_apart items distinct) in
@@ -154,7 +154,7 @@ counts_none (refusal.NoPlanThere d) at total = refl
 counts_none (refusal.Memory e) at total = (omega arith, omega arith)
 
 -- a refusal that stood before anything was written
-pub refused_before : (plans : List (Entry Seen)) (years : Years) (items : List Record) (r : Result Work EditRefusal) (x : EditRefusal) (at total : ℕ) → AreYears plans years → r ≡ Err x → IsLoadRefused (years_of years) items x →
+pub refused_before : (plans : List (Entry Accepted)) (years : Years) (items : List Record) (r : Result Work EditRefusal) (x : EditRefusal) (at total : ℕ) → AreYears plans years → r ≡ Err x → IsLoadRefused (years_of years) items x →
     record { ok : IfOk r (IsYearsEdit plans years years (loaded items (years_of years))); can : IfOk r (λ _. CanLoad (years_of years) items); err : OnErr r (AreSameYears plans years years); refused : IfErr r (IsLoadRefused (years_of years) items); counted : CountsEdit r at at total }
 refused_before plans years items (Ok w) x at total h is refused = cc
 refused_before plans years items (Err y) x at total h is refused =
@@ -168,7 +168,7 @@ refused_before plans years items (Err y) x at total h is refused =
     }
 
 -- memory ran out
-pub refused_memory : (plans : List (Entry Seen)) (old new : Years) (items : List Record) (r : Result Work EditRefusal) (e : AllocError) (before now total : ℕ) → AreYears plans old → r ≡ Err (refusal.Memory e) → new.list.items ≡ old.list.items → new.count ≡ old.count → CanLoad (years_of old) items → before ≤ now → now ≤ before + total →
+pub refused_memory : (plans : List (Entry Accepted)) (old new : Years) (items : List Record) (r : Result Work EditRefusal) (e : AllocError) (before now total : ℕ) → AreYears plans old → r ≡ Err (refusal.Memory e) → new.list.items ≡ old.list.items → new.count ≡ old.count → CanLoad (years_of old) items → before ≤ now → now ≤ before + total →
     record { ok : IfOk r (IsYearsEdit plans old new (loaded items (years_of old))); can : IfOk r (λ _. CanLoad (years_of old) items); err : OnErr r (AreSameYears plans old new); refused : IfErr r (IsLoadRefused (years_of old) items); counted : CountsEdit r before now total }
 refused_memory plans old new items (Ok w) e before now total h is list count can low high = cc
 refused_memory plans old new items (Err y) e before now total h is list count can low high =
@@ -180,3 +180,37 @@ refused_memory plans old new items (Err y) e before now total h is list count ca
       refused = subst (IsLoadRefused (years_of old) items) same can;
       counted = subst (λ t. CountsEdit {T = Work} (Err t) before now total) same (low, high);
     }
+
+-- ---- runs put where there are none
+
+none_free : (items : List Record) → AllByRecursion (IsFree []) items
+none_free [] = tt
+none_free (r ∷ rs) = (refl, none_free rs)
+
+-- the years are those of the runs alone
+pub record IsRestored (plans : List (Entry Accepted)) (items : List Record) (new : Years) : Type 0 where
+  pub kept : AreYears plans new
+  pub years : years_of new ≡ loaded items []
+
+pub none_kept : (plans : List (Entry Accepted)) (list : List Year) → list ≡ [] → AreKeptYears plans list
+none_kept plans list none = subst (AreKeptYears plans) (sym none) (record { rising = tt; each = tt; some = tt })
+
+pub restored : (plans : List (Entry Accepted)) (old : List Year) (new : Years) (items : List Record) (work : Work) → old ≡ [] → AreDistinct items → length items ≤ most_records →
+    IsListEdit plans old new.list.items (loaded items (runs_in old)) work → new.count ≡ length items → IsRestored plans items new
+restored plans old new items work none distinct few h count =
+    let edit = subst (λ t. IsListEdit plans t new.list.items (loaded items (runs_in t)) work) none h in
+    let more = count_loaded items [] (record { rising = tt; days = tt; some = tt }) (none_free items) (distinct_apart items distinct) in
+    record {
+      kept = record {
+        rising = edit.kept.rising;
+        each = edit.kept.each;
+        some = edit.kept.some;
+        count = omega (arith, count, more, ap run_count edit.years_are);
+        few = omega (arith, count, few);
+      };
+      years = edit.years_are;
+    }
+
+pub restored_counts : {T E : Type 0} (plans : List (Entry Accepted)) (old : List Year) (items : List Record) (r : Result T E) (before now : ℕ) → old ≡ [] →
+    Counts r before now (list_cost plans old (loaded items (runs_in old))) → Counts r before now (total_cost (edit_jobs plans [] (loaded items [])))
+restored_counts plans old items r before now none h = subst (λ t. Counts r before now (total_cost (edit_jobs plans (runs_in t) (loaded items (runs_in t))))) none h

@@ -9,7 +9,7 @@ use Rattle.rising_lists.specs.Keyed.{at_key, AreAbove}
 use Rattle.rising_lists.proofs.Laws.{above_more, above_same, at_key_above}
 use Rattle.payroll_records.specs.declared.record.Record.{Record}
 use Rattle.plan_calendar.specs.Picking.{Entry, pick}
-use Rattle.pap_plan.specs.Plans.{Seen}
+use Rattle.book_year.specs.Accepted.{Accepted}
 use Rattle.book_year.specs.declared.year.Year.{Year}
 use Rattle.book_year.specs.declared.year.YearKey.{YearKey}
 use Rattle.book_year.specs.Kept.{AreKept}
@@ -40,7 +40,7 @@ module _ (y : Year) (ys : List Year) where
   rooms_beyond [] h all = tt
   rooms_beyond (d ∷ ds) h all = (subst (λ t. HasRoom (length t) (vec_len d.items) d.room) (runs_beyond y ys d.key h.0) all.0, rooms_beyond ds h.1 all.1)
 
-  drafts_beyond : (plans : List (Entry Seen)) (ds : List Draft) → AreAbove year_cmp draft_key y.key ds → AllByRecursion (IsDraft plans (runs_in (y ∷ ys))) ds → AllByRecursion (IsDraft plans (runs_in ys)) ds
+  drafts_beyond : (plans : List (Entry Accepted)) (ds : List Draft) → AreAbove year_cmp draft_key y.key ds → AllByRecursion (IsDraft plans (runs_in (y ∷ ys))) ds → AllByRecursion (IsDraft plans (runs_in ys)) ds
   drafts_beyond plans [] h all = tt
   drafts_beyond plans (d ∷ ds) h all =
       let e = runs_beyond y ys d.key h.0 in (
@@ -63,7 +63,7 @@ pub record IsWritten (d : Draft) (rs : List Record) (y : Year) : Type 0 where
 written_runs : (old : List YearRuns) (d : Draft) (rs : List Record) (y : Year) → runs_of old d.key ≡ rs → IsWritten d rs y → draft_year old d ≡ runs_in_year y
 written_runs old d rs y base w = λ i. record { key = sym w.key i; runs = (ap (put_runs d.items.items) base ∙ sym w.records) i }
 
-written_kept : (plans : List (Entry Seen)) (old : List YearRuns) (d : Draft) (rs : List Record) (y : Year) → runs_of old d.key ≡ rs → IsWritten d rs y → IsDraft plans old d → IsKeptYear plans y
+written_kept : (plans : List (Entry Accepted)) (old : List YearRuns) (d : Draft) (rs : List Record) (y : Year) → runs_of old d.key ≡ rs → IsWritten d rs y → IsDraft plans old d → IsKeptYear plans y
 written_kept plans old d rs y base w h =
     let year = written_runs old d rs y base w in
     record {
@@ -144,8 +144,8 @@ first_draft y ys d ds w can g written =
 pub record AreMergedSoFar (all : List Year) (new : List Draft) (years olds : List Year) (drafts : List Draft) : Type 0 where
   pub can : CanMerge olds drafts
   pub runs : runs_in years ++ merged_runs olds drafts ≡ merged_runs all new
-  pub kept : (plans : List (Entry Seen)) → AreMergeable plans all new → AllByRecursion (IsKeptYear plans) years
-  pub left : (plans : List (Entry Seen)) → AreMergeable plans all new → AreMergeable plans olds drafts
+  pub kept : (plans : List (Entry Accepted)) → AreMergeable plans all new → AllByRecursion (IsKeptYear plans) years
+  pub left : (plans : List (Entry Accepted)) → AreMergeable plans all new → AreMergeable plans olds drafts
 
 pub merged_first : (all : List Year) (new : List Draft) → CanMerge all new → AreMergedSoFar all new [] all new
 merged_first all new can = record { can = can; runs = refl; kept = λ plans h. tt; left = λ plans h. h }

@@ -3,7 +3,7 @@ use Rattle.std.specs.Prelude.{ℕ, ◌≡◌, ◌+◌, ◌*◌, ◌<◌, ◌≤�
 use Rattle.std.proofs.Common.{Vec, Global}
 use Rattle.std.specs.List.{AllByRecursion}
 use Rattle.plan_calendar.specs.Picking.{Entry, pick}
-use Rattle.pap_plan.specs.Plans.{Seen}
+use Rattle.book_year.specs.Accepted.{Accepted}
 use Rattle.book_year.specs.Jobs.{total_cost, work_of}
 use Rattle.book_year.specs.Kept.{AreKept}
 use Rattle.book_year.specs.Rows.{Job}
@@ -19,20 +19,20 @@ use Rattle.book_loads.specs.declared.groups.Group.{Group}
 use Rattle.book_loads.specs.Groups.{group_year, group_years, year_with}
 
 -- the jobs of a year that are new against the old years
-abbrev pub new_in : List (Entry Seen) → List YearRuns → YearRuns → List Job
+abbrev pub new_in : List (Entry Accepted) → List YearRuns → YearRuns → List Job
 new_in plans old y = year_jobs (pick plans) (pick plans) (runs_of old y.key) y.runs
 
-abbrev pub group_jobs : List (Entry Seen) → List YearRuns → Group → List Job
+abbrev pub group_jobs : List (Entry Accepted) → List YearRuns → Group → List Job
 group_jobs plans old g = new_in plans old (group_year old g)
 
-abbrev pub group_cost : List (Entry Seen) → List YearRuns → Group → ℕ
+abbrev pub group_cost : List (Entry Accepted) → List YearRuns → Group → ℕ
 group_cost plans old g = total_cost (group_jobs plans old g)
 
 -- the new jobs of several groups
-abbrev pub groups_jobs : List (Entry Seen) → List YearRuns → List Group → List Job
+abbrev pub groups_jobs : List (Entry Accepted) → List YearRuns → List Group → List Job
 groups_jobs plans old gs = jobs_in (pick plans) (pick plans) old (group_years old gs)
 
-abbrev pub groups_cost : List (Entry Seen) → List YearRuns → List Group → ℕ
+abbrev pub groups_cost : List (Entry Accepted) → List YearRuns → List Group → ℕ
 groups_cost plans old gs = total_cost (groups_jobs plans old gs)
 
 -- nothing is in a vector that has room for a year's old runs and so many new ones
@@ -43,7 +43,7 @@ pub record HasRoom (old : ℕ) (new : ℕ) (room : Vec Record Global) : Type 0 w
 
 -- what a group's year comes to
 pub record IsComputedGroup
-    (plans : List (Entry Seen)) (old : List YearRuns) (g : Group) (c : Computed) : Type 0 where
+    (plans : List (Entry Accepted)) (old : List YearRuns) (g : Group) (c : Computed) : Type 0 where
   pub kept : AreKept (pick plans) (group_year old g).runs c.outcomes.items
   pub own : AllByRecursion (IsOwn g.key) (group_year old g).runs
   pub some : 0 < length (group_year old g).runs
@@ -59,7 +59,7 @@ abbrev pub draft_year : List YearRuns → Draft → YearRuns
 draft_year old d = year_with old d.key d.items.items
 
 -- what is kept of a draft's year is what computing its runs anew gives
-pub record IsDraft (plans : List (Entry Seen)) (old : List YearRuns) (d : Draft) : Type 0 where
+pub record IsDraft (plans : List (Entry Accepted)) (old : List YearRuns) (d : Draft) : Type 0 where
   pub kept : AreKept (pick plans) (draft_year old d).runs d.outcomes.items
   pub own : AllByRecursion (IsOwn d.key) (draft_year old d).runs
   pub some : 0 < length (draft_year old d).runs
@@ -70,7 +70,7 @@ IsRoomy old d = HasRoom (length (runs_of old d.key)) (vec_len d.items) d.room
 
 -- the drafts of these groups, and the work of their new jobs
 pub record AreDrafted
-    (plans : List (Entry Seen)) (old : List YearRuns) (gs : List Group)
+    (plans : List (Entry Accepted)) (old : List YearRuns) (gs : List Group)
     (r : Drafted) : Type 0 where
   pub years : map (draft_year old) r.drafts.items ≡ group_years old gs
   pub each : AllByRecursion (IsDraft plans old) r.drafts.items

@@ -2,7 +2,7 @@
 use Rattle.std.specs.Prelude.{ℕ, ◌≡◌, ◌+◌, ◌<◌, ◌≤◌, List, [], ◌∷◌, IsSome, IsNone, length, slice_index_or, ⊤}
 use Rattle.std.specs.List.{AllByRecursion}
 use Rattle.payroll_records.specs.declared.record.Record.{Record}
-use Rattle.payroll_records.specs.Tables.{HasKeyOf, key_of}
+use Rattle.payroll_records.specs.Tables.{HasKeyOf, IsTable, key_of}
 use Rattle.book_edits.specs.declared.refusal.EditRefusal.{EditRefusal}
 use Rattle.book_edits.specs.declared.refusal.EditRefusal.TheVariants as refusal
 use Rattle.book_edits.specs.Books.{YearRuns, run_at, run_count}
@@ -38,3 +38,10 @@ IsLoadRefused years items (refusal.Present k) =
 IsLoadRefused years items refusal.Records = IsOver years items
 IsLoadRefused years items (refusal.Memory e) = CanLoad years items
 IsLoadRefused years items _ = ⊥
+
+-- ---- a law
+
+-- no two records of a table have one key
+abbrev pub TablesAreDistinct : Type 0
+TablesAreDistinct =
+    (bytes : List ℕ) (records : List Record) → IsTable bytes records → AreDistinct records

@@ -4,7 +4,7 @@ use Rattle.std.specs.List.{AllByRecursion}
 use Rattle.rising_lists.specs.Keyed.{IsRising}
 use Rattle.payroll_records.specs.Orders.{day_cmp}
 use Rattle.plan_calendar.specs.Picking.{Entry}
-use Rattle.pap_plan.specs.Plans.{Seen}
+use Rattle.book_year.specs.Accepted.{Accepted}
 use Rattle.book_year.specs.declared.year.Year.{Year}
 use Rattle.book_year.specs.Records.{record_day}
 use Rattle.book_year.specs.Years.{IsYear}
@@ -26,12 +26,12 @@ abbrev pub merged_runs : List Year → List Draft → List YearRuns
 merged_runs olds drafts = with_years (map (draft_year (runs_in olds)) drafts) (runs_in olds)
 
 -- what is kept of a year, which has a run
-pub record IsKeptYear (plans : List (Entry Seen)) (y : Year) : Type 0 where
+pub record IsKeptYear (plans : List (Entry Accepted)) (y : Year) : Type 0 where
   pub year : IsYear plans y
   pub some : HasRuns y
 
 pub record AreMergeable
-    (plans : List (Entry Seen)) (olds : List Year) (drafts : List Draft) : Type 0 where
+    (plans : List (Entry Accepted)) (olds : List Year) (drafts : List Draft) : Type 0 where
   pub years : AllByRecursion (IsKeptYear plans) olds
   pub new : AllByRecursion (IsDraft plans (runs_in olds)) drafts
 
@@ -41,6 +41,6 @@ pub record IsFirst
     (y : Year) : Type 0 where
   pub can : CanMerge olds' drafts'
   pub runs : merged_runs olds drafts ≡ runs_in_year y ∷ merged_runs olds' drafts'
-  pub kept : (plans : List (Entry Seen)) → AreMergeable plans olds drafts → IsKeptYear plans y
-  pub left : (plans : List (Entry Seen)) → AreMergeable plans olds drafts
+  pub kept : (plans : List (Entry Accepted)) → AreMergeable plans olds drafts → IsKeptYear plans y
+  pub left : (plans : List (Entry Accepted)) → AreMergeable plans olds drafts
       → AreMergeable plans olds' drafts'

@@ -4,7 +4,7 @@ ghost use Rattle.std.specs.List.{AllByRecursion};
 ghost use Rattle.rising_lists.specs.Keyed.{IsRising};
 ghost use Rattle.rising_lists.specs.Places.{Finds, Misses};
 ghost use Rattle.plan_calendar.specs.Picking.{Entry, pick};
-ghost use Rattle.pap_plan.specs.Plans.{Seen};
+ghost use Rattle.book_year.specs.Accepted.{Accepted, plans_in};
 ghost use Rattle.book_year.specs.Jobs.{Counts};
 ghost use Rattle.book_year.specs.Kept.{IsOld};
 ghost use Rattle.book_year.specs.Years.{IsYear};
@@ -60,12 +60,12 @@ pub(crate) fn draft_all<L: Ledger>(
     steps: &mut Steps<L>,
 ) -> Result<Drafted, AllocError>
     requires rising { IsRising year_cmp kept_key list.now }
-    requires years { AllByRecursion (IsYear plans.now) list.now }
+    requires years { AllByRecursion (IsYear (plans_in plans.now)) list.now }
     requires groups { AllByRecursion IsGroup groups.items }
     requires few { length groups.items ≤ 50000 }
-    ensures done { IfOk result (AreDrafted plans.now (runs_in list.now) groups.items) }
+    ensures done { IfOk result (AreDrafted (plans_in plans.now) (runs_in list.now) groups.items) }
     ensures counted { Counts result steps.old steps.new
-        (groups_cost plans.now (runs_in list.now) groups.items) }
+        (groups_cost (plans_in plans.now) (runs_in list.now) groups.items) }
 {
     let mut drafts = Vec::new(alloc);
     let mut runs = 0;
@@ -96,11 +96,11 @@ fn compute<'a, L: Ledger>(
     steps: &mut Steps<L>,
 ) -> Result<Computed, AllocError>
     requires rising { IsRising year_cmp kept_key list.now }
-    requires years { AllByRecursion (IsYear plans.now) list.now }
+    requires years { AllByRecursion (IsYear (plans_in plans.now)) list.now }
     requires group { IsGroup group.now }
-    ensures done { IfOk result (IsComputedGroup plans.now (runs_in list.now) group.now) }
+    ensures done { IfOk result (IsComputedGroup (plans_in plans.now) (runs_in list.now) group.now) }
     ensures counted { Counts result steps.old steps.new
-        (group_cost plans.now (runs_in list.now) group.now) }
+        (group_cost (plans_in plans.now) (runs_in list.now) group.now) }
 {
     let old = old_of(list, group.key);
     let runs = references_with(alloc, old.records, group.items.as_slice())?;
@@ -118,7 +118,7 @@ fn compute<'a, L: Ledger>(
 fn old_of(list: &[Year], key: YearKey) -> Old<'_>
     requires { IsRising year_cmp kept_key list.now }
     ensures records { result.records.now ≡ runs_of (runs_in list.now) key }
-    ensures kept { (plans : List (Entry Seen)) → AllByRecursion (IsYear plans) list.now
+    ensures kept { (plans : List (Entry Accepted)) → AllByRecursion (IsYear plans) list.now
         → IsOld (pick plans) result }
 {
     match place_year(list, key) {

@@ -1,11 +1,13 @@
 //! Loading many runs.
-ghost use Rattle.std.specs.Prelude.{◌≡◌, ◌≤◌, IfOk, IfErr, OnErr, length};
-ghost use Rattle.book_year.specs.Jobs.{Counts};
+ghost use Rattle.std.specs.Prelude.{◌≡◌, ◌≤◌, [], IfOk, IfErr, OnErr, length};
+ghost use Rattle.book_year.specs.Accepted.{plans_in};
+ghost use Rattle.book_year.specs.Jobs.{Counts, total_cost};
 ghost use Rattle.book_edits.specs.Books.{loaded};
-ghost use Rattle.book_edits.specs.Kept.{AreSameYears, AreYears, IsYearsEdit, edit_cost, runs_in, years_of};
-ghost use Rattle.book_edits.specs.Refusals.{CountsEdit};
+ghost use Rattle.book_edits.specs.Kept.{AreSameYears, AreYears, IsYearsEdit, edit_cost};
+ghost use Rattle.book_edits.specs.Kept.{edit_jobs, runs_in, years_of};
+ghost use Rattle.book_edits.specs.Refusals.{CountsEdit, most_records};
 ghost use Rattle.book_edits.specs.Views.{AreKeptYears, IsListEdit, list_cost};
-ghost use Rattle.book_loads.specs.Loads.{AreDistinct, CanLoad, IsLoadRefused};
+ghost use Rattle.book_loads.specs.Loads.{AreDistinct, CanLoad, IsLoadRefused, TablesAreDistinct};
 
 use crate::drafts::draft_all;
 use crate::groups::grouped;
@@ -16,7 +18,7 @@ use book_year::{Work, Year};
 use pap_plan::Plan;
 use payroll_records::Record;
 use plan_calendar::Calendar;
-use std::alloc::AllocError;
+use std::alloc::{AllocError, Global};
 use std::mem;
 use std::sync::ledger::Ledger;
 use steps::Steps;
@@ -28,21 +30,43 @@ pub fn load<L: Ledger>(
     items: Vec<Record>,
     steps: &mut Steps<L>,
 ) -> Result<Work, EditRefusal>
-    requires years { AreYears plans.now years.old }
+    requires years { AreYears (plans_in plans.now) years.old }
     requires distinct { AreDistinct items.items }
     ensures ok { IfOk result
-        (IsYearsEdit plans.now years.old years.new (loaded items.items (years_of years.old))) }
+        (IsYearsEdit (plans_in plans.now) years.old years.new
+        (loaded items.items (years_of years.old))) }
     ensures can { IfOk result (λ _. CanLoad (years_of years.old) items.items) }
-    ensures err { OnErr result (AreSameYears plans.now years.old years.new) }
+    ensures err { OnErr result (AreSameYears (plans_in plans.now) years.old years.new) }
     ensures refused { IfErr result (IsLoadRefused (years_of years.old) items.items) }
     ensures counted { CountsEdit result steps.old steps.new
-        (edit_cost plans.now years.old (loaded items.items (years_of years.old))) }
+        (edit_cost (plans_in plans.now) years.old (loaded items.items (years_of years.old))) }
 {
     refused(years, items.as_slice())?;
     let count = years.count + items.len();
     let work = load_runs(plans, &mut years.list, items, steps)?;
     years.count = count;
     Ok(work)
+}
+
+/// The years of these runs alone. The counter rises by exactly the steps of all runs that have inputs; where memory runs out it
+/// may have risen by some of them.
+pub fn restore<L: Ledger>(
+    alloc: Global,
+    plans: &Calendar<Plan>,
+    items: Vec<Record>,
+    steps: &mut Steps<L>,
+) -> Result<Years, AllocError>
+    requires distinct { AreDistinct items.items }
+    requires few { length items.items ≤ most_records }
+    ensures kept { IfOk result (AreYears (plans_in plans.now)) }
+    ensures years { IfOk result (λ years. years_of years ≡ loaded items.items []) }
+    ensures counted { Counts result steps.old steps.new
+        (total_cost (edit_jobs (plans_in plans.now) [] (loaded items.items []))) }
+{
+    let count = items.len();
+    let mut list = Vec::new(alloc);
+    load_runs(plans, &mut list, items, steps)?;
+    Ok(Years { list, count })
 }
 
 /// Puts all these runs into the years. Without memory the years are as before.
@@ -52,14 +76,15 @@ fn load_runs<L: Ledger>(
     items: Vec<Record>,
     steps: &mut Steps<L>,
 ) -> Result<Work, AllocError>
-    requires kept { AreKeptYears plans.now list.old.items }
+    requires kept { AreKeptYears (plans_in plans.now) list.old.items }
     requires distinct { AreDistinct items.items }
     requires few { length items.items ≤ 50000 }
-    ensures ok { IfOk result (IsListEdit plans.now list.old.items list.new.items
+    ensures ok { IfOk result (IsListEdit (plans_in plans.now) list.old.items list.new.items
         (loaded items.items (runs_in list.old.items))) }
     ensures err { OnErr result (list.new.items ≡ list.old.items) }
     ensures counted { Counts result steps.old steps.new
-        (list_cost plans.now list.old.items (loaded items.items (runs_in list.old.items))) }
+        (list_cost (plans_in plans.now) list.old.items
+        (loaded items.items (runs_in list.old.items))) }
 {
     let alloc = *list.allocator();
     let groups = grouped(alloc, items)?;
@@ -69,3 +94,8 @@ fn load_runs<L: Ledger>(
     *list = merged(alloc, olds, done.drafts, room);
     Ok(done.work)
 }
+
+/// A law of the definitions: the records of a table have different keys.
+pub fn load_laws()
+    ensures { TablesAreDistinct }
+{}

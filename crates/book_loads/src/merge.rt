@@ -6,7 +6,7 @@ ghost use Rattle.std.specs.declared.cmp.Ordering.TheVariants.{Greater};
 ghost use Rattle.rising_lists.specs.Keyed.{IsRising};
 ghost use Rattle.payroll_records.specs.Orders.{day_cmp};
 ghost use Rattle.plan_calendar.specs.Picking.{Entry};
-ghost use Rattle.pap_plan.specs.Plans.{Seen};
+ghost use Rattle.book_year.specs.Accepted.{Accepted};
 ghost use Rattle.book_year.specs.Records.{record_day};
 ghost use Rattle.book_edits.specs.Books.{year_cmp};
 ghost use Rattle.book_edits.specs.Kept.{runs_in};
@@ -32,7 +32,7 @@ pub(crate) fn merged(
     requires empty { years.items ≡ [] }
     requires room { vec_len years + vec_len olds + vec_len drafts ≤ vec_capacity years }
     ensures runs { runs_in result.items ≡ merged_runs olds.items drafts.items }
-    ensures kept { (plans : List (Entry Seen)) → AreMergeable plans olds.items drafts.items
+    ensures kept { (plans : List (Entry Accepted)) → AreMergeable plans olds.items drafts.items
         → AllByRecursion (IsKeptYear plans) result.items }
 {
     let mut olds = VecDeque::from_vec(olds);

@@ -10,7 +10,7 @@ use Rattle.scaled_decimal.specs.Decimals.{Decimal, numerator_of, scale_of}
 use Rattle.plan_calendar.specs.Picking.{Entry, plan_of}
 use Rattle.carry_bindings.specs.Conditions.{AreBounded}
 use Rattle.pap_plan.specs.Acceptance.{Meaning}
-use Rattle.pap_plan.specs.Plans.{Seen, meaning}
+use Rattle.book_year.specs.Accepted.{Accepted}
 use Rattle.book_year.specs.declared.chain.OldJob.{OldJob}
 use Rattle.book_year.specs.Runs.{run_outputs}
 use Rattle.book_year.specs.Rows.{Job, job_of}
@@ -42,24 +42,24 @@ decimal_decides a b = (
 inputs_same : (a b : List Decimal) → same_inputs a b ≡ true → a ≡ b
 inputs_same a b e = (slice_eq-Decides decimal_decides a b (same_inputs a b) refl).0 e
 
-texts_are : (was : Option (Entry Seen)) (p : Seen) (e : Entry Seen) → option_map plan_of was ≡ Some p → same_plan was (Some e) ≡ has_texts p (plan_of e)
+texts_are : (was : Option (Entry Accepted)) (p : Accepted) (e : Entry Accepted) → option_map plan_of was ≡ Some p → same_plan was (Some e) ≡ has_texts p (plan_of e)
 texts_are None p e h = cc
 texts_are (Some w) p e h = ap (λ x. has_texts x (plan_of e)) (some_same (plan_of w) p h)
   where
-    some_same : (x y : Seen) → ◌≡◌ {A = Option Seen} (Some x) (Some y) → x ≡ y
+    some_same : (x y : Accepted) → ◌≡◌ {A = Option Accepted} (Some x) (Some y) → x ≡ y
     some_same x y h = cc
 
-means_are : (was : Option (Entry Seen)) (p : Seen) (e : Entry Seen) → option_map plan_of was ≡ Some p → meaning_of was ≡ meaning_of (Some e) → meaning p ≡ meaning (plan_of e)
+means_are : (was : Option (Entry Accepted)) (p : Accepted) (e : Entry Accepted) → option_map plan_of was ≡ Some p → meaning_of was ≡ meaning_of (Some e) → p.meaning ≡ (plan_of e).meaning
 means_are None p e h k = cc
-means_are (Some w) p e h k = sym (ap meaning (some_same (plan_of w) p h)) ∙ same_meaning (meaning (plan_of w)) (meaning (plan_of e)) k
+means_are (Some w) p e h k = sym (ap (λ (x : Accepted). x.meaning) (some_same (plan_of w) p h)) ∙ same_meaning (plan_of w).meaning (plan_of e).meaning k
   where
-    some_same : (x y : Seen) → ◌≡◌ {A = Option Seen} (Some x) (Some y) → x ≡ y
+    some_same : (x y : Accepted) → ◌≡◌ {A = Option Accepted} (Some x) (Some y) → x ≡ y
     some_same x y h = cc
 
     same_meaning : (x y : Meaning) → ◌≡◌ {A = Option Meaning} (Some x) (Some y) → x ≡ y
     same_meaning x y h = cc
 
-module _ (was : Option (Entry Seen)) (job : Option Job) (e : Entry Seen) (same : Bool) (old : OldJob) (inputs : List Decimal) (knows : KnowsSame was (Some e) same) (has : HasJob was job old) where
+module _ (was : Option (Entry Accepted)) (job : Option Job) (e : Entry Accepted) (same : Bool) (old : OldJob) (inputs : List Decimal) (knows : KnowsSame was (Some e) same) (has : HasJob was job old) where
   abbrev next : Job
   next = job_of (plan_of e) inputs
 

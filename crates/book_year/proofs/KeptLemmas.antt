@@ -31,7 +31,7 @@ use Rattle.interval_walk.specs.Admission.{SuitsLimit, HasLimit}
 use Rattle.interval_walk.proofs.Laws.{factor_admitted}
 use Rattle.pap_plan.specs.Acceptance.{IsAccepted}
 use Rattle.pap_plan.specs.Inputs.{IsSlot, AreSlots}
-use Rattle.pap_plan.specs.Plans.{Seen, flowchart, meaning}
+use Rattle.book_year.specs.Accepted.{Accepted}
 use Rattle.pap_plan.proofs.Laws.{HasKeptValue, accepted_limits, accepted_defaults, accepted_safe, some_slots}
 use Rattle.book_year.specs.Runs.{IsKeptValue, filled}
 use Rattle.book_year.proofs.AdmissionLemmas.{fits, not_false, none_at, first_inputs, filled_admitted}
@@ -145,19 +145,19 @@ module _ (l : Limits) (values : List NamedValue) (kept : All IsKeptValue values)
 
 -- ---- so a run on them is safe
 
-filled_slots : (p : Seen) (slots : List Slot) (values : List NamedValue) (earlier : List Earlier) → AreSlots p.ranges (flowchart p).inputs slots → filled p values earlier ≡ filled_by slots values earlier
+filled_slots : (p : Accepted) (slots : List Slot) (values : List NamedValue) (earlier : List Earlier) → AreSlots p.meaning.limits p.meaning.flowchart.inputs slots → filled p values earlier ≡ filled_by slots values earlier
 unfolding filled
-filled_slots p slots values earlier are = ap (λ s. filled_by s values earlier) (are_slots p.ranges (flowchart p).inputs slots are)
+filled_slots p slots values earlier are = ap (λ s. filled_by s values earlier) (are_slots p.meaning.limits p.meaning.flowchart.inputs slots are)
 
-pub filled_safe : (p : Seen) (values : List NamedValue) (earlier : List Earlier) (vs : List Decimal) → IsAccepted p.plan p.limits (meaning p) → All IsKeptValue values → length earlier ≤ 366 →
-    AllByRecursion (λ (e : Earlier). AreBounded e.outputs) earlier → filled p values earlier ≡ filling.Inputs vs → IsSafeFor (flowchart p) vs
+pub filled_safe : (p : Accepted) (values : List NamedValue) (earlier : List Earlier) (vs : List Decimal) → IsAccepted p.plan p.limits p.meaning → All IsKeptValue values → length earlier ≤ 366 →
+    AllByRecursion (λ (e : Earlier). AreBounded e.outputs) earlier → filled p values earlier ≡ filling.Inputs vs → IsSafeFor p.meaning.flowchart vs
 filled_safe p values earlier vs accepted kept few bounded e =
-    let l = p.ranges in
-    let ds = (flowchart p).inputs in
+    let l = p.meaning.limits in
+    let ds = p.meaning.flowchart.inputs in
     let suited = accepted.bound.suited.suited in
     let slots = some_slots l ds suited in
     let by_slots = sym (filled_slots p slots.0 values earlier slots.1) ∙ e in
     let parts = first_inputs (waits slots.0 earlier) (unknown slots.0 values) (missing slots.0 values earlier) (outside slots.0 values earlier) (inputs slots.0 values earlier) vs by_slots in
-    let all = inputs_kept l values kept earlier few bounded ds slots.0 (accepted_limits p.plan p.limits (meaning p) accepted) (accepted_defaults p.plan p.limits (meaning p) accepted) slots.1 parts.1 in
-    accepted_safe p.plan p.limits (meaning p) accepted vs
+    let all = inputs_kept l values kept earlier few bounded ds slots.0 (accepted_limits p.plan p.limits p.meaning accepted) (accepted_defaults p.plan p.limits p.meaning accepted) slots.1 parts.1 in
+    accepted_safe p.plan p.limits p.meaning accepted vs
     (filled_admitted l ds slots.0 values earlier vs suited slots.1 (subst (λ t. All IsKept t) parts.2 all) by_slots)

@@ -14,3 +14,5 @@ pub use Rattle.book_year.proofs.AdmissionLemmas.{suits_kinds, filled_admitted}
 pub use Rattle.book_year.proofs.RunLemmas.{are_slots, same_outputs}
 -- A year that stays has no new jobs; plans that agree on a year's days give the same runs, whose days rise.
 pub use Rattle.book_year.proofs.QuietLemmas.{year_quiet, rows_agree, rows_rising}
+-- The plan of a day is picked alike where each plan stands without its code.
+pub use Rattle.book_year.proofs.PickLemmas.{last_map, pick_in, pick_before_in, pick_before_lent}

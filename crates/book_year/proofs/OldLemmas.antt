@@ -18,7 +18,7 @@ use Rattle.carry_bindings.specs.Conditions.{AreBounded}
 use Rattle.carry_bindings.specs.declared.carried.Earlier.{Earlier}
 use Rattle.carry_bindings.specs.declared.filling.Filled.{Filled}
 use Rattle.carry_bindings.specs.declared.filling.Filled.TheVariants as filling
-use Rattle.pap_plan.specs.Plans.{Seen}
+use Rattle.book_year.specs.Accepted.{Accepted}
 use Rattle.book_year.specs.declared.outcome.State.{State}
 use Rattle.book_year.specs.declared.outcome.State.TheVariants as state
 use Rattle.book_year.specs.declared.outcome.Outcome.{Outcome}
@@ -36,20 +36,20 @@ abbrev pub row_day : Row → Day
 row_day row = row.day
 
 -- a run with a job has run: its outputs are those of the job, whose plan is that of its day
-abbrev pub JobIsSound : Option (Entry Seen) → State → Option Job → Type 0
+abbrev pub JobIsSound : Option (Entry Accepted) → State → Option Job → Type 0
 JobIsSound o s None = Unit {0}
 JobIsSound o s (Some j) = (s ≡ state.Done (run_outputs j.plan j.inputs)) × (option_map plan_of o ≡ Some j.plan)
 
-filled_sound : (e : Entry Seen) (d : Day) (f : Filled) → JobIsSound (Some e) (row_filled e d f).state (row_filled e d f).job
+filled_sound : (e : Entry Accepted) (d : Day) (f : Filled) → JobIsSound (Some e) (row_filled e d f).state (row_filled e d f).job
 filled_sound e d (filling.Inputs is) = (refl, refl)
 filled_sound e d (filling.State why) = tt
 
-row_sound : (o : Option (Entry Seen)) (earlier : List Earlier) (r : Record) → JobIsSound o (row_of o earlier r).state (row_of o earlier r).job
+row_sound : (o : Option (Entry Accepted)) (earlier : List Earlier) (r : Record) → JobIsSound o (row_of o earlier r).state (row_of o earlier r).job
 row_sound None earlier r = tt
 row_sound (Some e) earlier r = filled_sound e r.day (filled (plan_of e) r.values earlier)
 
 -- what an outcome has kept is the old job, where there was one
-pub old_is : (was : Option (Entry Seen)) (s : State) (j : Option Job) (result : Option OldJob) → JobIsSound was s j → AreBounded (outputs_in s) →
+pub old_is : (was : Option (Entry Accepted)) (s : State) (j : Option Job) (result : Option OldJob) → JobIsSound was s j → AreBounded (outputs_in s) →
     option_map old_parts result ≡ outcome_parts (option_map (λ j. j.inputs) j) (outputs_in s) → IsOldJob was j result
 old_is was s None None sound bounded e = refl
 old_is was s None (Some o) sound bounded e = cc

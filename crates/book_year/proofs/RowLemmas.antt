@@ -8,7 +8,7 @@ use Rattle.plan_calendar.specs.Picking.{Entry, plan_of}
 use Rattle.carry_bindings.specs.declared.carried.Earlier.{Earlier}
 use Rattle.carry_bindings.specs.declared.filling.Filled.{Filled}
 use Rattle.carry_bindings.specs.declared.filling.Filled.TheVariants as filling
-use Rattle.pap_plan.specs.Plans.{Seen}
+use Rattle.book_year.specs.Accepted.{Accepted}
 use Rattle.book_year.specs.Runs.{filled}
 use Rattle.book_year.specs.Rows.{Planned, Job, Row, row_of, row_filled, rows, year_rows, earlier_of}
 use Rattle.book_year.specs.Jobs.{new_job, new_jobs, total_cost, job_cost}
@@ -42,10 +42,10 @@ total_front planned old xs ys =
     let g = total_append (new_jobs old (year_rows planned xs)) (new_jobs old (rows planned (map earlier_of (year_rows planned xs)) ys)) in
     omega arith
 
-row_filled_day : (e : Entry Seen) (d : Day) (f : Filled) → (row_filled e d f).day ≡ d
+row_filled_day : (e : Entry Accepted) (d : Day) (f : Filled) → (row_filled e d f).day ≡ d
 row_filled_day e d (filling.Inputs is) = refl
 row_filled_day e d (filling.State why) = refl
 
-pub row_of_day : (o : Option (Entry Seen)) (earlier : List Earlier) (r : Record) → (row_of o earlier r).day ≡ r.day
+pub row_of_day : (o : Option (Entry Accepted)) (earlier : List Earlier) (r : Record) → (row_of o earlier r).day ≡ r.day
 row_of_day None earlier r = refl
 row_of_day (Some e) earlier r = row_filled_day e r.day (filled (plan_of e) r.values earlier)

@@ -22,7 +22,7 @@ use Rattle.carry_bindings.specs.Conditions.{SuitsKind}
 use Rattle.carry_bindings.specs.Filling.{filled_by}
 use Rattle.pap_plan.specs.Acceptance.{Meaning, IsAccepted}
 use Rattle.pap_plan.specs.Inputs.{IsSlot, AreSlots}
-use Rattle.pap_plan.specs.Plans.{Seen, flowchart, meaning}
+use Rattle.book_year.specs.Accepted.{Accepted}
 use Rattle.book_year.specs.declared.run.Finished.{Finished}
 use Rattle.book_year.specs.Runs.{slot_of, slot_with, filled, named_values, run_outputs, run_cost}
 use Rattle.book_year.specs.ChainClauses.{HasRun, Fills, AdmitsFilled, most_steps}
@@ -42,20 +42,20 @@ are_slots l [] (s ∷ ss) h = absurd h
 are_slots l (d ∷ ds) [] h = absurd h
 are_slots l (d ∷ ds) (s ∷ ss) h = ap (λ o. cons_option o (filter_map (slot_of l) ds)) (one_slot l d s h.0) ∙ ap (λ t. s ∷ t) (are_slots l ds ss h.1)
 
-module _ (p : Seen) (accepted : IsAccepted p.plan p.limits (meaning p)) (slots : List Slot) (are : AreSlots p.ranges (flowchart p).inputs slots) where
+module _ (p : Accepted) (accepted : IsAccepted p.plan p.limits p.meaning) (slots : List Slot) (are : AreSlots p.meaning.limits p.meaning.flowchart.inputs slots) where
   pub doubles : AllByRecursion SuitsKind slots
-  doubles = suits_kinds p.ranges (flowchart p).inputs slots accepted.bound.suited.suited are
+  doubles = suits_kinds p.meaning.limits p.meaning.flowchart.inputs slots accepted.bound.suited.suited are
 
   pub filled_is : (values : List NamedValue) (earlier : List Earlier) → filled_by slots values earlier ≡ filled p values earlier
   unfolding filled
-  filled_is values earlier = ap (λ s. filled_by s values earlier) (sym (are_slots p.ranges (flowchart p).inputs slots are))
+  filled_is values earlier = ap (λ s. filled_by s values earlier) (sym (are_slots p.meaning.limits p.meaning.flowchart.inputs slots are))
 
   -- kept inputs that are filled are admitted
   pub fills_inputs : (values : List NamedValue) (earlier : List Earlier) (inputs : List Decimal) → filling.Inputs inputs ≡ filled_by slots values earlier → All IsKept inputs →
       Fills p (filled p values earlier) (filling.Inputs inputs)
   fills_inputs values earlier inputs e kept = record {
     are = e ∙ filled_is values earlier;
-    admitted = filled_admitted p.ranges (flowchart p).inputs slots values earlier inputs accepted.bound.suited.suited are kept (sym e);
+    admitted = filled_admitted p.meaning.limits p.meaning.flowchart.inputs slots values earlier inputs accepted.bound.suited.suited are kept (sym e);
   }
 
   pub fills_none : (values : List NamedValue) (earlier : List Earlier) (f : Filled) → f ≡ filled_by slots values earlier → AdmitsFilled p f → Fills p (filled p values earlier) f
@@ -89,11 +89,11 @@ named_bounded (d ∷ ds) rs [] h = tt
 named_bounded (d ∷ ds) [] (v ∷ vs) h = absurd h
 named_bounded (d ∷ ds) (r ∷ rs) (v ∷ vs) h = (h.0.bound, named_bounded ds rs vs h.1)
 
-outputs_are : (p : Seen) (inputs values : List Decimal) → outputs_of (flowchart p) inputs ≡ Some values → named_values (flowchart p).outputs values ≡ run_outputs p inputs
+outputs_are : (p : Accepted) (inputs values : List Decimal) → outputs_of p.meaning.flowchart inputs ≡ Some values → named_values p.meaning.flowchart.outputs values ≡ run_outputs p inputs
 unfolding run_outputs
-outputs_are p inputs values e = sym (ap (λ o. option_map_or (named_values (flowchart p).outputs) o []) e)
+outputs_are p inputs values e = sym (ap (λ o. option_map_or (named_values p.meaning.flowchart.outputs) o []) e)
 
-cost_is : (p : Seen) (inputs : List Decimal) → cost_of (flowchart p) inputs ≡ run_cost p inputs
+cost_is : (p : Accepted) (inputs : List Decimal) → cost_of p.meaning.flowchart inputs ≡ run_cost p inputs
 unfolding run_cost
 cost_is p inputs = refl
 
@@ -103,16 +103,16 @@ written_whole n out items h k =
     ap (λ t. take n (out ++ t)) (drop_all (length out) items (omega arith)) ∙ ap (take n) (append-nil out) ∙ take_all n out (omega arith)
 
 -- what a run of the plan gives
-pub has_run : (p : Seen) (inputs values : List Decimal) (f : Finished) (most : ℕ) → outputs_of (flowchart p) inputs ≡ Some values → AreOutputs (meaning p).outputs values → f.cost ≡ cost_of (flowchart p) inputs → f.cost ≤ most → most ≤ most_steps →
-    f.outputs ≡ named_values (flowchart p).outputs values → HasRun p inputs f
+pub has_run : (p : Accepted) (inputs values : List Decimal) (f : Finished) (most : ℕ) → outputs_of p.meaning.flowchart inputs ≡ Some values → AreOutputs p.meaning.outputs values → f.cost ≡ cost_of p.meaning.flowchart inputs → f.cost ≤ most → most ≤ most_steps →
+    f.outputs ≡ named_values p.meaning.flowchart.outputs values → HasRun p inputs f
 has_run p inputs values f most e ranges cost within bound is = record {
   outputs = is ∙ outputs_are p inputs values e;
   cost = cost ∙ cost_is p inputs;
-  bounded = subst (λ os. AllByRecursion (λ (v : NamedValue). IsWithinBound v.value) os) (sym is) (named_bounded (flowchart p).outputs (meaning p).outputs values ranges);
+  bounded = subst (λ os. AllByRecursion (λ (v : NamedValue). IsWithinBound v.value) os) (sym is) (named_bounded p.meaning.flowchart.outputs p.meaning.outputs values ranges);
   cheap = omega arith;
 }
 
 -- plans that mean the same have the same outputs
-pub same_outputs : (p q : Seen) (inputs : List Decimal) → meaning p ≡ meaning q → run_outputs p inputs ≡ run_outputs q inputs
+pub same_outputs : (p q : Accepted) (inputs : List Decimal) → p.meaning ≡ q.meaning → run_outputs p inputs ≡ run_outputs q inputs
 unfolding run_outputs
 same_outputs p q inputs e = ap (λ (m : Meaning). option_map_or (named_values m.flowchart.outputs) (outputs_of m.flowchart inputs) []) e

@@ -7,7 +7,7 @@ use Rattle.rising_lists.specs.Keyed.{IsRising}
 use Rattle.payroll_records.specs.declared.record.Record.{Record}
 use Rattle.payroll_records.specs.Orders.{day_cmp}
 use Rattle.plan_calendar.specs.Picking.{Entry, pick}
-use Rattle.pap_plan.specs.Plans.{Seen}
+use Rattle.book_year.specs.Accepted.{Accepted}
 use Rattle.book_year.specs.declared.year.Year.{Year}
 use Rattle.book_year.specs.declared.year.YearKey.{YearKey}
 use Rattle.book_year.specs.declared.chain.Recalculated.{Recalculated}
@@ -28,7 +28,7 @@ own_days key (r ∷ rs) h = (h.0.year, own_days key rs h.1)
 pub own_few : (key : YearKey) (rs : List Record) → IsRising day_cmp record_day rs → AllByRecursion (IsOwn key) rs → length rs ≤ 366
 own_few key rs rising own = year_few key.year rs rising (own_days key rs own)
 
-pub year_edit : (plans : List (Entry Seen)) (old new : Year) (records : List Record) (done : Recalculated) → IsRising day_cmp record_day records → AllByRecursion (IsOwn old.key) records →
+pub year_edit : (plans : List (Entry Accepted)) (old new : Year) (records : List Record) (done : Recalculated) → IsRising day_cmp record_day records → AllByRecursion (IsOwn old.key) records →
     new.key ≡ old.key → new.records.items ≡ records → new.outcomes.items ≡ done.outcomes.items → IsComputed plans old records done → IsYearEdit plans old new records done.work
 year_edit plans old new records done rising own key are outcomes is =
     let few = own_few old.key records rising own in
@@ -50,7 +50,7 @@ year_edit plans old new records done rising own key are outcomes is =
     }
 
 -- the year computed with these records, from what the walk along references to them gives
-module _ {E : Type 0} (plans : List (Entry Seen)) (year : Year) (old : List Record) (items : List (Bor Record)) (records : List Record) (r : Result Recalculated E) (same : old ≡ year.records.items) (are : records_of items ≡ records) where
+module _ {E : Type 0} (plans : List (Entry Accepted)) (year : Year) (old : List Record) (items : List (Bor Record)) (records : List Record) (r : Result Recalculated E) (same : old ≡ year.records.items) (are : records_of items ≡ records) where
   pub computed_done : IfOk r (IsRecalculated (pick plans) (job_by (pick plans) old) (records_of items)) → IfOk r (IsComputed plans year records)
   computed_done h =
       subst (λ t. IfOk r (IsRecalculated (pick plans) (job_by (pick plans) t) records)) same

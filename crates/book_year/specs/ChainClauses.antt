@@ -11,7 +11,8 @@ use Rattle.plan_calendar.specs.Picking.{Entry, plan_of}
 use Rattle.carry_bindings.specs.Conditions.{AreBounded}
 use Rattle.carry_bindings.specs.declared.filling.Filled.{Filled}
 use Rattle.carry_bindings.specs.declared.filling.Filled.TheVariants as filling
-use Rattle.pap_plan.specs.Plans.{Seen, Admits}
+use Rattle.interval_walk.specs.Admission.{AreAdmitted}
+use Rattle.book_year.specs.Accepted.{Accepted}
 use Rattle.book_year.specs.declared.outcome.Outcome.{Outcome}
 use Rattle.book_year.specs.declared.run.Finished.{Finished}
 use Rattle.book_year.specs.declared.chain.Old.{Old}
@@ -31,17 +32,18 @@ abbrev pub most_steps : ℕ
 most_steps = 1000000000
 
 -- inputs that a plan admits
-abbrev pub AdmitsFilled : Seen → Filled → Type 0
-AdmitsFilled p (filling.Inputs inputs) = Admits p inputs
+abbrev pub AdmitsFilled : Accepted → Filled → Type 0
+AdmitsFilled p (filling.Inputs inputs) =
+    AreAdmitted p.meaning.flowchart p.meaning.limits inputs
 AdmitsFilled p (filling.State why) = ⊤
 
 -- the inputs are these, or there are none for this cause
-pub record Fills (p : Seen) (these filled : Filled) : Type 0 where
+pub record Fills (p : Accepted) (these filled : Filled) : Type 0 where
   pub are : filled ≡ these
   pub admitted : AdmitsFilled p filled
 
 -- the outputs and the cost of a plan's run
-pub record HasRun (p : Seen) (inputs : List Decimal) (f : Finished) : Type 0 where
+pub record HasRun (p : Accepted) (inputs : List Decimal) (f : Finished) : Type 0 where
   pub outputs : f.outputs ≡ run_outputs p inputs
   pub cost : f.cost ≡ run_cost p inputs
   pub bounded : AreBounded (Some f.outputs)
@@ -62,14 +64,14 @@ abbrev pub old_parts : OldJob → List Decimal × List NamedValue
 old_parts j = (j.inputs.now, j.outputs.now)
 
 -- the job is that of the day's plan on these inputs, and these are its outputs
-pub record HasJob (was : Option (Entry Seen)) (job : Option Job) (old : OldJob) : Type 0 where
-  pub plan : Seen
+pub record HasJob (was : Option (Entry Accepted)) (job : Option Job) (old : OldJob) : Type 0 where
+  pub plan : Accepted
   pub is : job ≡ Some (record { plan = plan; inputs = old.inputs.now })
   pub outputs : old.outputs.now ≡ run_outputs plan old.inputs.now
   pub planned : option_map plan_of was ≡ Some plan
   pub bounded : AreBounded (Some old.outputs.now)
 
-abbrev pub IsOldJob : Option (Entry Seen) → Option Job → Option OldJob → Type 0
+abbrev pub IsOldJob : Option (Entry Accepted) → Option Job → Option OldJob → Type 0
 IsOldJob was job None = job ≡ None
 IsOldJob was job (Some old) = HasJob was job old
 

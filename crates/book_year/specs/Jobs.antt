@@ -7,13 +7,13 @@ use Rattle.scaled_decimal.specs.Decimals.{Decimal, numerator_of, scale_of}
 use Rattle.rising_lists.specs.Keyed.{at_key}
 use Rattle.payroll_records.specs.declared.day.Day.{Day}
 use Rattle.payroll_records.specs.Orders.{day_cmp}
-use Rattle.pap_plan.specs.Plans.{Seen}
+use Rattle.book_year.specs.Accepted.{Accepted}
 use Rattle.book_year.specs.declared.outcome.Work.{Work}
 use Rattle.book_year.specs.Runs.{run_cost}
 use Rattle.book_year.specs.Rows.{Job, Row}
 
 -- both texts are the same
-abbrev pub has_texts : Seen → Seen → Bool
+abbrev pub has_texts : Accepted → Accepted → Bool
 has_texts p q = bytes_eq p.plan q.plan && bytes_eq p.limits q.limits
 
 -- the same numerator and the same scale

@@ -1,3 +1,4 @@
+pub mod Accepted
 pub mod Records
 pub mod Runs
 pub mod Rows

@@ -8,21 +8,21 @@ use Rattle.plan_calendar.specs.Picking.{Entry, day_of, plan_of}
 use Rattle.carry_bindings.specs.declared.carried.Earlier.{Earlier}
 use Rattle.carry_bindings.specs.declared.filling.Filled.{Filled}
 use Rattle.carry_bindings.specs.declared.filling.Filled.TheVariants as filling
-use Rattle.pap_plan.specs.Plans.{Seen}
+use Rattle.book_year.specs.Accepted.{Accepted}
 use Rattle.book_year.specs.Runs.{filled, run_outputs}
 use Rattle.book_year.specs.declared.outcome.State.{State}
 use Rattle.book_year.specs.declared.outcome.State.TheVariants as state
 
 -- the plan of each day, with the day from which it holds
 abbrev pub Planned : Type 0
-Planned = Day → Option (Entry Seen)
+Planned = Day → Option (Entry Accepted)
 
 -- what a run runs: its plan and its inputs
 pub record Job : Type 0 where
-  pub plan : Seen
+  pub plan : Accepted
   pub inputs : List Decimal
 
-abbrev pub job_of : Seen → List Decimal → Job
+abbrev pub job_of : Accepted → List Decimal → Job
 job_of p inputs = record { plan = p; inputs = inputs }
 
 -- a run computed anew: its day, the day of its plan, its job where it has one, and its state
@@ -45,14 +45,14 @@ abbrev pub earlier_of : Row → Earlier
 earlier_of row = record { day = row.day; outputs = outputs_in row.state }
 
 -- a run with its plan and its inputs, or without inputs
-abbrev pub row_filled : Entry Seen → Day → Filled → Row
+abbrev pub row_filled : Entry Accepted → Day → Filled → Row
 row_filled e d (filling.Inputs inputs) =
     let job = job_of (plan_of e) inputs in
     row_with d (Some (day_of e)) (Some job) (state.Done (run_outputs (plan_of e) inputs))
 row_filled e d (filling.State why) = row_with d (Some (day_of e)) None (state.Blocked why)
 
 -- a run, from its plan and the earlier runs of its year
-abbrev pub row_of : Option (Entry Seen) → List Earlier → Record → Row
+abbrev pub row_of : Option (Entry Accepted) → List Earlier → Record → Row
 row_of None earlier r = row_with r.day None None state.NoPlan
 row_of (Some e) earlier r = row_filled e r.day (filled (plan_of e) r.values earlier)
 

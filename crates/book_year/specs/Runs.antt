@@ -19,7 +19,7 @@ use Rattle.carry_bindings.specs.Conditions.{AreBounded}
 use Rattle.carry_bindings.specs.declared.filling.Filled.TheVariants as filling
 use Rattle.pap_plan.specs.Acceptance.{IsAccepted}
 use Rattle.pap_plan.specs.Inputs.{carry_named}
-use Rattle.pap_plan.specs.Plans.{Seen, flowchart, meaning}
+use Rattle.book_year.specs.Accepted.{Accepted}
 
 -- an input with its type, its limit, its default and what it carries over; each input of an accepted plan has a limit
 abbrev pub slot_with : Limits → Declaration → InputLimit → Slot
@@ -35,11 +35,11 @@ abbrev pub slot_of : Limits → Declaration → Option Slot
 slot_of l d = option_map (slot_with l d) (limit_named l d.name)
 
 -- the inputs of a plan, in declared order
-abbrev pub slots_of : Seen → List Slot
-slots_of p = filter_map (slot_of p.ranges) (flowchart p).inputs
+abbrev pub slots_of : Accepted → List Slot
+slots_of p = filter_map (slot_of p.meaning.limits) p.meaning.flowchart.inputs
 
 -- the inputs of a run with these values after the earlier runs of its year, or why it has none
-unfoldable pub filled : Seen → List NamedValue → List Earlier → Filled
+unfoldable pub filled : Accepted → List NamedValue → List Earlier → Filled
 filled p values earlier = filled_by (slots_of p) values earlier
 
 -- values under the names of declarations, one for each
@@ -49,13 +49,14 @@ named_values (d ∷ ds) [] = []
 named_values (d ∷ ds) (v ∷ vs) = record { name = d.name; value = v } ∷ named_values ds vs
 
 -- the outputs of a run on these inputs, in declared order; on inputs that the plan admits they are defined
-unfoldable pub run_outputs : Seen → List Decimal → List NamedValue
+unfoldable pub run_outputs : Accepted → List Decimal → List NamedValue
 run_outputs p inputs =
-    option_map_or (named_values (flowchart p).outputs) (outputs_of (flowchart p) inputs) []
+    option_map_or (named_values p.meaning.flowchart.outputs)
+    (outputs_of p.meaning.flowchart inputs) []
 
 -- the steps of the run
-unfoldable pub run_cost : Seen → List Decimal → ℕ
-run_cost p inputs = cost_of (flowchart p) inputs
+unfoldable pub run_cost : Accepted → List Decimal → ℕ
+run_cost p inputs = cost_of p.meaning.flowchart inputs
 
 -- ---- a law: a run that has inputs is defined
 
@@ -65,7 +66,7 @@ IsKeptValue v = IsKept v.value
 -- inputs of an accepted plan that are filled from kept values, after earlier runs whose outputs keep their bound, are safe
 abbrev pub FilledRunsAreSafe : Type 0
 FilledRunsAreSafe =
-    (p : Seen) (values : List NamedValue) (earlier : List Earlier) (inputs : List Decimal)
-    → IsAccepted p.plan p.limits (meaning p) → All IsKeptValue values
+    (p : Accepted) (values : List NamedValue) (earlier : List Earlier) (inputs : List Decimal)
+    → IsAccepted p.plan p.limits p.meaning → All IsKeptValue values
     → length earlier ≤ 366 → AllByRecursion (λ e. AreBounded e.outputs) earlier
-    → filled p values earlier ≡ filling.Inputs inputs → IsSafeFor (flowchart p) inputs
+    → filled p values earlier ≡ filling.Inputs inputs → IsSafeFor p.meaning.flowchart inputs

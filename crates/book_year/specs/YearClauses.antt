@@ -2,7 +2,7 @@
 use Rattle.std.specs.Prelude.{ℕ, ◌≡◌, ◌≤◌, ◌*◌, List}
 use Rattle.payroll_records.specs.declared.record.Record.{Record}
 use Rattle.plan_calendar.specs.Picking.{Entry, pick}
-use Rattle.pap_plan.specs.Plans.{Seen}
+use Rattle.book_year.specs.Accepted.{Accepted}
 use Rattle.book_year.specs.declared.outcome.Work.{Work}
 use Rattle.book_year.specs.declared.year.Year.{Year}
 use Rattle.book_year.specs.declared.chain.Recalculated.{Recalculated}
@@ -15,7 +15,7 @@ use Rattle.book_year.specs.Years.{IsYear, year_jobs}
 
 -- the year has these records now, and the work is that of its new jobs
 pub record IsYearEdit
-    (plans : List (Entry Seen)) (old new : Year) (records : List Record)
+    (plans : List (Entry Accepted)) (old new : Year) (records : List Record)
     (work : Work) : Type 0 where
   pub key : new.key ≡ old.key
   pub records_are : new.records.items ≡ records
@@ -31,12 +31,12 @@ pub record IsSameYear (old new : Year) : Type 0 where
   pub outcomes : new.outcomes.items ≡ old.outcomes.items
 
 -- the cost of the jobs that are new where the year's records become these
-abbrev pub edit_cost : List (Entry Seen) → Year → List Record → ℕ
+abbrev pub edit_cost : List (Entry Accepted) → Year → List Record → ℕ
 edit_cost plans old records =
     total_cost (year_jobs (pick plans) (pick plans) old.records.items records)
 
 -- the year computed anew with these records
-abbrev pub IsComputed : List (Entry Seen) → Year → List Record → Recalculated → Type 0
+abbrev pub IsComputed : List (Entry Accepted) → Year → List Record → Recalculated → Type 0
 IsComputed plans old records r =
     IsRecalculated (pick plans) (job_by (pick plans) old.records.items) records r
 

@@ -5,7 +5,7 @@ use Rattle.rising_lists.specs.Keyed.{IsRising}
 use Rattle.payroll_records.specs.declared.record.Record.{Record}
 use Rattle.payroll_records.specs.Orders.{day_cmp}
 use Rattle.plan_calendar.specs.Picking.{Entry, pick}
-use Rattle.pap_plan.specs.Plans.{Seen}
+use Rattle.book_year.specs.Accepted.{Accepted}
 use Rattle.book_year.specs.declared.year.Year.{Year}
 use Rattle.book_year.specs.declared.year.YearKey.{YearKey}
 use Rattle.book_year.specs.Records.{record_day}
@@ -19,7 +19,7 @@ pub record IsOwn (key : YearKey) (r : Record) : Type 0 where
   pub year : r.day.year ≡ key.year
 
 -- what is kept of an employee's year, where this is the calendar
-pub record IsYear (plans : List (Entry Seen)) (y : Year) : Type 0 where
+pub record IsYear (plans : List (Entry Accepted)) (y : Year) : Type 0 where
   pub kept : AreKept (pick plans) y.records.items y.outcomes.items
   pub own : AllByRecursion (IsOwn y.key) y.records.items
 

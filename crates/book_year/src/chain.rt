@@ -6,7 +6,8 @@ ghost use Rattle.payroll_records.specs.declared.day.Day.{Day as Date};
 ghost use Rattle.plan_calendar.specs.Picking.{Entry, plan_of};
 ghost use Rattle.carry_bindings.specs.Conditions.{AreBounded};
 ghost use Rattle.carry_bindings.specs.declared.filling.Filled.TheVariants.{Inputs as HasInputs};
-ghost use Rattle.pap_plan.specs.Plans.{Seen, Admits};
+ghost use Rattle.pap_plan.specs.Plans.{Admits};
+ghost use Rattle.book_year.specs.Accepted.{Accepted};
 ghost use Rattle.book_year.specs.Rows.{Job, job_of, row_of, row_filled, outputs_in};
 ghost use Rattle.book_year.specs.Jobs.{same_inputs, new_job, Counts};
 ghost use Rattle.book_year.specs.Kept.{IsOld};
@@ -121,7 +122,7 @@ fn kept_outputs<'a>(
     same: bool,
     inputs: &Items<Dec>,
 ) -> Option<&'a Items<NamedValue>>
-    ensures { (was : Option (Entry Seen)) (job : Option Job) (e : Entry Seen)
+    ensures { (was : Option (Entry Accepted)) (job : Option Job) (e : Entry Accepted)
         → KnowsSame was (Some e) same → IsOldJob was job old.entry
         → KeepsOutputs (new_job job (Some (job_of (plan_of e) inputs.now)))
         (job_of (plan_of e) inputs.now) result }
@@ -145,7 +146,7 @@ fn run_job<L: Ledger>(
     steps: &mut Steps<L>,
 ) -> Result<Ran, AllocError>
     requires { Admits picked.plan.now inputs }
-    ensures ran { (was : Option (Entry Seen)) (job : Option Job) (day : Date)
+    ensures ran { (was : Option (Entry Accepted)) (job : Option Job) (day : Date)
         → KnowsSame was (Some (picked_entry picked.entry)) picked.entry.same
         → IsOldJob was job old.entry
         → IfOk result (IsRan (row_filled (picked_entry picked.entry) day (HasInputs inputs)) job) }

@@ -5,8 +5,9 @@ ghost use Rattle.std.specs.Bool.{OnFalse};
 ghost use Rattle.payroll_records.specs.declared.day.Day.{Day as Date};
 ghost use Rattle.plan_calendar.specs.Picking.{pick, serves};
 ghost use Rattle.plan_calendar.specs.Edits.{is_by, picked_after};
-ghost use Rattle.plan_calendar.specs.Views.{picked_entry as entry_picked};
-ghost use Rattle.book_year.specs.Picks.{before, after, same_plan, KnowsSame, ArePicks, picked_entry};
+ghost use Rattle.book_year.specs.Accepted.{plans_in};
+ghost use Rattle.book_year.specs.Picks.{before, after, same_plan, KnowsSame, ArePicks};
+ghost use Rattle.book_year.specs.Picks.{lent_entry, picked_entry};
 
 use pap_plan::Plan;
 use payroll_records::Day;
@@ -44,11 +45,11 @@ impl<'a> Picks<'a> {
     /// once.
     pub fn edited(plans: &'a Calendar<Plan>, day: Day, entry: Option<(Day, &'a Plan)>) -> Picks<'a>
         ensures are { ArePicks result }
-        ensures before { (d : Date) → before result d ≡ pick plans.now d }
-        ensures after { (d : Date)
-            → after result d ≡ picked_after plans.now day (option_map entry_picked entry.entry) d }
+        ensures before { (d : Date) → before result d ≡ pick (plans_in plans.now) d }
+        ensures after { (d : Date) → after result d
+            ≡ picked_after (plans_in plans.now) day (option_map lent_entry entry.entry) d }
     {
-        let same = keeps_texts(plans.pick(day), entry);
+        let same = keeps_texts(picked_now(plans, day), entry);
         Picks {
             plans,
             edit: Some(Edit { day, entry, same }),
@@ -62,7 +63,7 @@ impl<'a> Picks<'a> {
         ensures same { IfSome result
             (λ p. KnowsSame (before self.now day) (after self.now day) p.same) }
     {
-        let now = self.plans.pick(day);
+        let now = picked_now(self.plans, day);
         if let Some(edit) = self.edit
             && moves(edit.day, day, now)
         {
@@ -97,9 +98,16 @@ impl<'a> Picks<'a> {
     }
 }
 
+/// The plan of a day before the edit, with the day from which it holds.
+fn picked_now(plans: &Calendar<Plan>, day: Day) -> Option<(Day, &Plan)>
+    ensures { option_map lent_entry result ≡ pick (plans_in plans.now) day }
+{
+    plans.pick(day)
+}
+
 /// Whether an edit at a day decides the plan of another day, whose plan is now this one.
 fn moves(edit: Day, day: Day, now: Option<(Day, &Plan)>) -> bool
-    ensures { result ≡ (serves edit day && is_by (option_map entry_picked now.entry) edit) }
+    ensures { result ≡ (serves edit day && is_by (option_map lent_entry now.entry) edit) }
 {
     if edit.year != day.year || day < edit {
         return false;
@@ -112,8 +120,8 @@ fn moves(edit: Day, day: Day, now: Option<(Day, &Plan)>) -> bool
 
 /// Whether both plans are there, with the same texts.
 fn keeps_texts(was: Option<(Day, &Plan)>, now: Option<(Day, &Plan)>) -> bool
-    ensures { KnowsSame (option_map entry_picked was.entry)
-        (option_map entry_picked now.entry) result }
+    ensures { KnowsSame (option_map lent_entry was.entry)
+        (option_map lent_entry now.entry) result }
 {
     let (Some((_, was)), Some((_, now))) = (was, now) else {
         return false;

@@ -7,6 +7,7 @@ ghost use Rattle.scaled_decimal.specs.Limits.{IsKept};
 ghost use Rattle.carry_bindings.specs.Conditions.{AreBounded};
 ghost use Rattle.pap_plan.specs.Acceptance.{IsAccepted};
 ghost use Rattle.pap_plan.specs.Plans.{Admits, flowchart, meaning};
+ghost use Rattle.book_year.specs.Accepted.{accepted};
 ghost use Rattle.book_year.specs.Runs.{filled, named_values, FilledRunsAreSafe};
 ghost use Rattle.book_year.specs.ChainClauses.{HasRun, Fills, most_steps};
 
@@ -36,7 +37,8 @@ pub(crate) fn filled(
 ) -> Result<Filled, AllocError>
     requires few { length earlier.now ≤ 366 }
     requires bounded { AllByRecursion (λ e. AreBounded e.outputs) earlier.now }
-    ensures { IfOk result (Fills plan.now (filled plan.now item.now.values earlier.now)) }
+    ensures { IfOk result (Fills (accepted plan.now)
+        (filled (accepted plan.now) item.now.values earlier.now)) }
 {
     says_what_it_admits(plan);
     match fill(alloc, plan.spec(), item, earlier)? {
@@ -73,7 +75,7 @@ pub(crate) fn run<L: Ledger>(
     steps: &mut Steps<L>,
 ) -> Result<Finished, AllocError>
     requires { Admits plan.now inputs.now }
-    ensures ran { IfOk result (HasRun plan.now inputs.now) }
+    ensures ran { IfOk result (HasRun (accepted plan.now) inputs.now) }
     ensures counted { IfOk result (λ f. steps.new ≡ steps.old + f.cost) }
     ensures memory { OnErr result (steps.new ≡ steps.old) }
 {

@@ -1,7 +1,7 @@
 //! An employee's calendar year, and its edits.
 ghost use Rattle.std.specs.Prelude.{◌≡◌, IfOk, OnErr, List, []};
 ghost use Rattle.plan_calendar.specs.Picking.{Entry};
-ghost use Rattle.pap_plan.specs.Plans.{Seen};
+ghost use Rattle.book_year.specs.Accepted.{Accepted, plans_in};
 ghost use Rattle.book_year.specs.Picks.{ArePicks};
 ghost use Rattle.book_year.specs.Jobs.{Counts};
 ghost use Rattle.book_year.specs.Records.{put_run, without_run};
@@ -42,7 +42,7 @@ impl Year {
     pub fn new(alloc: Global, key: YearKey) -> Year
         ensures key { result.key ≡ key }
         ensures none { result.records.items ≡ [] }
-        ensures year { (plans : List (Entry Seen)) → IsYear plans result }
+        ensures year { (plans : List (Entry Accepted)) → IsYear plans result }
     {
         Year {
             key,
@@ -59,7 +59,7 @@ impl Year {
         steps: &mut Steps<L>,
     ) -> Result<Recalculated, AllocError>
         requires picks { ArePicks picks.now }
-        requires year { IsYear picks.now.plans.now self.now }
+        requires year { IsYear (plans_in picks.now.plans.now) self.now }
         ensures done { IfOk result (IsReplanned picks.now self.now) }
         ensures counted { Counts result steps.old steps.new (replan_cost picks.now self.now) }
     {
@@ -75,13 +75,14 @@ impl Year {
         item: Record,
         steps: &mut Steps<L>,
     ) -> Result<Work, AllocError>
-        requires year { IsYear plans.now self.old }
+        requires year { IsYear (plans_in plans.now) self.old }
         requires own { IsOwn self.old.key item }
         ensures ok { IfOk result
-            (IsYearEdit plans.now self.old self.new (put_run item self.old.records.items)) }
+            (IsYearEdit (plans_in plans.now) self.old self.new
+            (put_run item self.old.records.items)) }
         ensures err { OnErr result (IsSameYear self.old self.new) }
         ensures counted { Counts result steps.old steps.new
-            (edit_cost plans.now self.old (put_run item self.old.records.items)) }
+            (edit_cost (plans_in plans.now) self.old (put_run item self.old.records.items)) }
     {
         let done = computed_with(alloc, plans, self, &item, steps)?;
         put_record(&mut self.records, item)?;
@@ -98,13 +99,13 @@ impl Year {
         item: Record,
         steps: &mut Steps<L>,
     ) -> Result<Work, AllocError>
-        requires year { IsYear plans.now self.old }
+        requires year { IsYear (plans_in plans.now) self.old }
         requires own { IsOwn self.old.key item }
-        ensures ok { IfOk result (IsYearEdit plans.now self.old self.new
+        ensures ok { IfOk result (IsYearEdit (plans_in plans.now) self.old self.new
             (put_run item (without_run from self.old.records.items))) }
         ensures err { OnErr result (IsSameYear self.old self.new) }
         ensures counted { Counts result steps.old steps.new
-            (edit_cost plans.now self.old
+            (edit_cost (plans_in plans.now) self.old
             (put_run item (without_run from self.old.records.items))) }
     {
         let done = computed_with_change(alloc, plans, self, from, &item, steps)?;
@@ -123,12 +124,13 @@ impl Year {
         day: Day,
         steps: &mut Steps<L>,
     ) -> Result<Work, AllocError>
-        requires { IsYear plans.now self.old }
+        requires { IsYear (plans_in plans.now) self.old }
         ensures ok { IfOk result
-            (IsYearEdit plans.now self.old self.new (without_run day self.old.records.items)) }
+            (IsYearEdit (plans_in plans.now) self.old self.new
+            (without_run day self.old.records.items)) }
         ensures err { OnErr result (IsSameYear self.old self.new) }
         ensures counted { Counts result steps.old steps.new
-            (edit_cost plans.now self.old (without_run day self.old.records.items)) }
+            (edit_cost (plans_in plans.now) self.old (without_run day self.old.records.items)) }
     {
         let done = computed_without(alloc, plans, self, day, steps)?;
         take_record(&mut self.records, day);
@@ -145,12 +147,12 @@ fn computed_with<'a, L: Ledger>(
     item: &'a Record,
     steps: &mut Steps<L>,
 ) -> Result<Recalculated, AllocError>
-    requires year { IsYear plans.now year.now }
+    requires year { IsYear (plans_in plans.now) year.now }
     requires own { IsOwn year.now.key item.now }
     ensures done { IfOk result
-        (IsComputed plans.now year.now (put_run item.now year.now.records.items)) }
+        (IsComputed (plans_in plans.now) year.now (put_run item.now year.now.records.items)) }
     ensures counted { Counts result steps.old steps.new
-        (edit_cost plans.now year.now (put_run item.now year.now.records.items)) }
+        (edit_cost (plans_in plans.now) year.now (put_run item.now year.now.records.items)) }
 {
     let runs = runs_with(alloc, year.records.as_slice(), item)?;
     recalculate(
@@ -171,12 +173,12 @@ fn computed_with_change<'a, L: Ledger>(
     item: &'a Record,
     steps: &mut Steps<L>,
 ) -> Result<Recalculated, AllocError>
-    requires year { IsYear plans.now year.now }
+    requires year { IsYear (plans_in plans.now) year.now }
     requires own { IsOwn year.now.key item.now }
-    ensures done { IfOk result (IsComputed plans.now year.now
+    ensures done { IfOk result (IsComputed (plans_in plans.now) year.now
         (put_run item.now (without_run from year.now.records.items))) }
     ensures counted { Counts result steps.old steps.new
-        (edit_cost plans.now year.now
+        (edit_cost (plans_in plans.now) year.now
         (put_run item.now (without_run from year.now.records.items))) }
 {
     let mut runs = runs_without(alloc, year.records.as_slice(), from)?;
@@ -198,11 +200,11 @@ fn computed_without<L: Ledger>(
     day: Day,
     steps: &mut Steps<L>,
 ) -> Result<Recalculated, AllocError>
-    requires { IsYear plans.now year.now }
+    requires { IsYear (plans_in plans.now) year.now }
     ensures done { IfOk result
-        (IsComputed plans.now year.now (without_run day year.now.records.items)) }
+        (IsComputed (plans_in plans.now) year.now (without_run day year.now.records.items)) }
     ensures counted { Counts result steps.old steps.new
-        (edit_cost plans.now year.now (without_run day year.now.records.items)) }
+        (edit_cost (plans_in plans.now) year.now (without_run day year.now.records.items)) }
 {
     let runs = runs_without(alloc, year.records.as_slice(), day)?;
     recalculate(

@@ -23,7 +23,8 @@ use Rattle.carry_bindings.specs.declared.filling.Filled.{Filled}
 use Rattle.carry_bindings.specs.declared.filling.Filled.TheVariants as filling
 use Rattle.pap_plan.specs.Acceptance.{IsAccepted}
 use Rattle.pap_plan.specs.Inputs.{AreSlots}
-use Rattle.pap_plan.specs.Plans.{Seen, flowchart, meaning}
+use Rattle.pap_plan.specs.Plans.{Seen}
+use Rattle.book_year.specs.Accepted.{Accepted, accepted, accepted_entry, plans_in}
 use Rattle.book_year.specs.declared.outcome.Outcome.{Outcome}
 use Rattle.book_year.specs.declared.outcome.State.{State}
 use Rattle.book_year.specs.declared.year.Year.{Year}
@@ -32,7 +33,7 @@ use Rattle.book_year.specs.Runs.{filled}
 use Rattle.book_year.specs.Rows.{Planned, Job, Row, job_of, outputs_in, row_filled, row_of, year_rows}
 use Rattle.book_year.specs.Kept.{AreKept, job_by, kept}
 use Rattle.book_year.specs.Years.{IsYear}
-use Rattle.book_year.proofs.Laws.{are_slots, filled_admitted, rows_length}
+use Rattle.book_year.proofs.Laws.{are_slots, filled_admitted, pick_in, rows_length}
 use Rattle.book_edits.specs.Books.{runs_of, year_cmp, year_of}
 use Rattle.book_edits.specs.Kept.{kept_key, runs_in}
 use Rattle.book_edits.proofs.Laws.{runs_kept, runs_missed}
@@ -56,13 +57,13 @@ module _ {K X : Type 0} (cmp : K → K → Ordering) (key : X → K) (P : X → 
       ]) h
 
 -- the run of a key among these years, computed anew
-abbrev pub row_in : List (Entry Seen) → List Year → Key → Option Row
+abbrev pub row_in : List (Entry Accepted) → List Year → Key → Option Row
 row_in plans ys k = at_key day_cmp row_day (year_rows (pick plans) (runs_of (runs_in ys) (year_of k))) k.day
 
 abbrev pub job_of_row : Option Row → Option Job
 job_of_row o = option_and_then (λ row. row.job) o
 
-module _ (plans : List (Entry Seen)) (ys read : List Year) (k : Key) (same : read ≡ ys) where
+module _ (plans : List (Entry Accepted)) (ys read : List Year) (k : Key) (same : read ≡ ys) where
   -- where the year isn't there, nor is the run
   pub no_year : None ≡ at_key year_cmp kept_key read (year_of k) → row_in plans ys k ≡ None
   no_year h = ap (λ rs. at_key day_cmp row_day (year_rows (pick plans) rs) k.day) (runs_missed ys (year_of k) (ap (λ l. at_key year_cmp kept_key l (year_of k)) (sym same) ∙ sym h))
@@ -91,7 +92,7 @@ inputs_gap planned rs d i h = ap (λ t. option_and_then (λ (x : Row). x.job) t)
 -- ---- the job of a run that has inputs
 
 pub record IsFilled (planned : Planned) (rs : List Record) (d : Day) (inputs : List Decimal) : Type 0 where
-  pub entry : Entry Seen
+  pub entry : Entry Accepted
   pub picked : planned d ≡ Some entry
   pub job : job_by planned rs d ≡ Some (job_of (plan_of entry) inputs)
   pub values : List NamedValue
@@ -112,7 +113,7 @@ none_of x h = cc h
 
 -- the parts of a run's job
 record HasParts (planned : Planned) (d : Day) (own : Option Job) (inputs : List Decimal) : Type 0 where
-  pub entry : Entry Seen
+  pub entry : Entry Accepted
   pub picked : planned d ≡ Some entry
   pub job : own ≡ Some (job_of (plan_of entry) inputs)
   pub values : List NamedValue
@@ -120,7 +121,7 @@ record HasParts (planned : Planned) (d : Day) (own : Option Job) (inputs : List 
   pub filled : filled (plan_of entry) values earlier ≡ filling.Inputs inputs
 
 module _ (planned : Planned) (d : Day) where
-  filled_parts : (e : Entry Seen) (values : List NamedValue) (earlier : List Earlier) (f : Filled) (on : Day) (inputs : List Decimal) → planned d ≡ Some e → filled (plan_of e) values earlier ≡ f → Some inputs ≡ option_map job_inputs (row_filled e on f).job →
+  filled_parts : (e : Entry Accepted) (values : List NamedValue) (earlier : List Earlier) (f : Filled) (on : Day) (inputs : List Decimal) → planned d ≡ Some e → filled (plan_of e) values earlier ≡ f → Some inputs ≡ option_map job_inputs (row_filled e on f).job →
       HasParts planned d (row_filled e on f).job inputs
   filled_parts e values earlier (filling.Inputs these) on inputs picked is h =
       let same = one_list inputs these h in
@@ -134,15 +135,15 @@ module _ (planned : Planned) (d : Day) where
       }
   filled_parts e values earlier (filling.State why) on inputs picked is h = absurd (no_list inputs h)
 
-  row_parts : (o : Option (Entry Seen)) (earlier : List Earlier) (r : Record) (inputs : List Decimal) → planned d ≡ o → Some inputs ≡ option_map job_inputs (row_of o earlier r).job → HasParts planned d (row_of o earlier r).job inputs
+  row_parts : (o : Option (Entry Accepted)) (earlier : List Earlier) (r : Record) (inputs : List Decimal) → planned d ≡ o → Some inputs ≡ option_map job_inputs (row_of o earlier r).job → HasParts planned d (row_of o earlier r).job inputs
   row_parts None earlier r inputs picked h = absurd (no_list inputs h)
   row_parts (Some e) earlier r inputs picked h = filled_parts e r.values earlier (filled (plan_of e) r.values earlier) r.day inputs picked refl h
 
-  filled_outputs : (e : Entry Seen) (on : Day) (f : Filled) → (row_filled e on f).job ≡ None → outputs_in (row_filled e on f).state ≡ None
+  filled_outputs : (e : Entry Accepted) (on : Day) (f : Filled) → (row_filled e on f).job ≡ None → outputs_in (row_filled e on f).state ≡ None
   filled_outputs e on (filling.Inputs these) h = cc h
   filled_outputs e on (filling.State why) h = refl
 
-  row_outputs : (o : Option (Entry Seen)) (earlier : List Earlier) (r : Record) → (row_of o earlier r).job ≡ None → outputs_in (row_of o earlier r).state ≡ None
+  row_outputs : (o : Option (Entry Accepted)) (earlier : List Earlier) (r : Record) → (row_of o earlier r).job ≡ None → outputs_in (row_of o earlier r).state ≡ None
   row_outputs None earlier r h = refl
   row_outputs (Some e) earlier r h = filled_outputs e r.day (filled (plan_of e) r.values earlier) h
 
@@ -185,19 +186,19 @@ none_on planned rs d h = by_row (at_key day_cmp row_day (year_rows planned rs) d
     by_row (Some row) e = by_run row (sym (no_job row.job (h ∙ ap (λ t. option_map job_inputs (option_and_then (λ (x : Row). x.job) t)) e))) (run_on planned [] rs d row e)
 
 -- what is lent of a run's plan and inputs is its job
-pub record IsJob (planned : Planned) (rs : List Record) (d : Day) (p : Seen) (inputs : List Decimal) : Type 0 where
+pub record IsJob (planned : Planned) (rs : List Record) (d : Day) (p : Accepted) (inputs : List Decimal) : Type 0 where
   pub job : job_by planned rs d ≡ Some (job_of p inputs)
   pub values : List NamedValue
   pub earlier : List Earlier
   pub filled : filled p values earlier ≡ filling.Inputs inputs
 
 module _ (planned : Planned) (rs : List Record) (d : Day) (inputs : List Decimal) (given : Some inputs ≡ option_map job_inputs (job_by planned rs d)) where
-  same_plan : (e : Entry Seen) (from : Day) (p : Seen) → ◌≡◌ {A = Option (Entry Seen)} (Some (from, p)) (Some e) → plan_of e ≡ p
+  same_plan : (e : Entry Accepted) (from : Day) (p : Accepted) → ◌≡◌ {A = Option (Entry Accepted)} (Some (from, p)) (Some e) → plan_of e ≡ p
   same_plan e from p h =
-      let parts : ◌≡◌ {A = Entry Seen} (from, p) e = one_of (from, p) e h in
-      sym (ap (λ (t : Entry Seen). plan_of t) parts)
+      let parts : ◌≡◌ {A = Entry Accepted} (from, p) e = one_of (from, p) e h in
+      sym (ap (λ (t : Entry Accepted). plan_of t) parts)
 
-  pub job_is : (from : Day) (p : Seen) → Some (from, p) ≡ planned d → IsJob planned rs d p inputs
+  pub job_is : (from : Day) (p : Accepted) → Some (from, p) ≡ planned d → IsJob planned rs d p inputs
   job_is from p h =
       let f = filled_on planned rs d inputs given in
       let same = same_plan f.entry from p (h ∙ f.picked) in
@@ -215,8 +216,16 @@ module _ (planned : Planned) (rs : List Record) (d : Day) (inputs : List Decimal
       none_of f.entry (h ∙ f.picked)
 
 -- an accepted plan admits what it fills, if that is kept
-pub admits_filled : (p : Seen) (slots : List Slot) (inputs : List Decimal) → IsAccepted p.plan p.limits (meaning p) → AreSlots p.ranges (flowchart p).inputs slots → All IsKept inputs → AdmitsWhatItFills p inputs
+pub admits_filled : (p : Accepted) (slots : List Slot) (inputs : List Decimal) → IsAccepted p.plan p.limits p.meaning → AreSlots p.meaning.limits p.meaning.flowchart.inputs slots → All IsKept inputs → AdmitsWhatItFills p inputs
 unfolding filled
 admits_filled p slots inputs accepted are all values earlier h =
-    let by_slots : filled_by slots values earlier ≡ filling.Inputs inputs = ap (λ s. filled_by s values earlier) (sym (are_slots p.ranges (flowchart p).inputs slots are)) ∙ h in
-    filled_admitted p.ranges (flowchart p).inputs slots values earlier inputs accepted.bound.suited.suited are all by_slots
+    let by_slots : filled_by slots values earlier ≡ filling.Inputs inputs = ap (λ s. filled_by s values earlier) (sym (are_slots p.meaning.limits p.meaning.flowchart.inputs slots are)) ∙ h in
+    filled_admitted p.meaning.limits p.meaning.flowchart.inputs slots values earlier inputs accepted.bound.suited.suited are all by_slots
+
+-- ---- the plan of a day, which the calendar gives with its code
+
+pub picked_some : (es : List (Entry Seen)) (d from : Day) (p : Seen) → Some (from, p) ≡ pick es d → Some (from, accepted p) ≡ pick (plans_in es) d
+picked_some es d from p h = ap (option_map accepted_entry) h ∙ sym (pick_in es d)
+
+pub picked_none : (es : List (Entry Seen)) (d : Day) → None ≡ pick es d → None ≡ pick (plans_in es) d
+picked_none es d h = ap (option_map accepted_entry) h ∙ sym (pick_in es d)

@@ -7,7 +7,7 @@ use Rattle.std.proofs.lemmas.List.{length-map}
 use Rattle.payroll_records.specs.declared.record.Record.{Record}
 use Rattle.carry_bindings.specs.declared.carried.Earlier.{Earlier}
 use Rattle.plan_calendar.specs.Picking.{Entry, pick}
-use Rattle.pap_plan.specs.Plans.{Seen}
+use Rattle.book_year.specs.Accepted.{Accepted}
 use Rattle.book_year.specs.declared.outcome.Outcome.{Outcome}
 use Rattle.book_year.specs.declared.year.Year.{Year}
 use Rattle.book_year.specs.declared.year.YearKey.{YearKey}
@@ -22,7 +22,7 @@ use Rattle.recalc_engine.specs.MonthViews.{kept_row, kept_rows, rows_kept, rows_
 use Rattle.recalc_engine.specs.RowViews.{lent_row}
 use Rattle.recalc_engine.proofs.RowLemmas.{next}
 
-own_row : (k : YearKey) (o : Option (Entry Seen)) (earlier : List Earlier) (r : Record) → IsOwn k r → kept_row r (kept (row_of o earlier r)) ≡ keyed_row k (row_of o earlier r)
+own_row : (k : YearKey) (o : Option (Entry Accepted)) (earlier : List Earlier) (r : Record) → IsOwn k r → kept_row r (kept (row_of o earlier r)) ≡ keyed_row k (row_of o earlier r)
 own_row k o earlier r own = λ i.
     record {
       key = record { employee = own.employee i; day = sym (row_of_day o earlier r) i };
@@ -34,19 +34,19 @@ kept_are : (k : YearKey) (planned : Planned) (earlier : List Earlier) (rs : List
 kept_are k planned earlier [] own = refl
 kept_are k planned earlier (r ∷ rs) own = λ i. own_row k (planned r.day) earlier r own.0 i ∷ kept_are k planned (next planned earlier r) rs own.1 i
 
-year_kept : (plans : List (Entry Seen)) (y : Year) → IsYear plans y → rows_kept_in y ≡ keyed_rows (pick plans) (runs_in_year y)
+year_kept : (plans : List (Entry Accepted)) (y : Year) → IsYear plans y → rows_kept_in y ≡ keyed_rows (pick plans) (runs_in_year y)
 year_kept plans y h = ap (kept_rows y.records.items) h.kept.are ∙ kept_are y.key (pick plans) [] y.records.items h.own
 
-pub years_kept : (plans : List (Entry Seen)) (ys : List Year) → AllByRecursion (IsYear plans) ys → rows_kept ys ≡ flat_map (keyed_rows (pick plans)) (runs_in ys)
+pub years_kept : (plans : List (Entry Accepted)) (ys : List Year) → AllByRecursion (IsYear plans) ys → rows_kept ys ≡ flat_map (keyed_rows (pick plans)) (runs_in ys)
 years_kept plans [] each = refl
 years_kept plans (y ∷ ys) each = λ i. year_kept plans y each.0 i ++ years_kept plans ys each.1 i
 
-pub year_paired : (plans : List (Entry Seen)) (y : Year) → IsYear plans y → length y.records.items ≡ length y.outcomes.items
+pub year_paired : (plans : List (Entry Accepted)) (y : Year) → IsYear plans y → length y.records.items ≡ length y.outcomes.items
 year_paired plans y h =
     let rs = y.records.items in
     omega (arith, ap length h.kept.are, length-map (year_rows (pick plans) rs) kept, rows_length (pick plans) [] rs)
 
-pub years_paired : (plans : List (Entry Seen)) (ys : List Year) → AllByRecursion (IsYear plans) ys → AllByRecursion HasRuns ys → ArePaired ys
+pub years_paired : (plans : List (Entry Accepted)) (ys : List Year) → AllByRecursion (IsYear plans) ys → AllByRecursion HasRuns ys → ArePaired ys
 years_paired plans [] each some = tt
 years_paired plans (y ∷ ys) each some = (record { some = some.0; paired = year_paired plans y each.0 }, years_paired plans ys each.1 some.1)
 

@@ -1,19 +1,20 @@
 -- A book: its runs, its plans and the work of its last edit. What its runs came to follows from these.
-use Rattle.std.specs.Prelude.{ℕ, ◌≡◌, List, [], Option}
+use Rattle.std.specs.Prelude.{ℕ, List, [], Option}
 use Rattle.rising_lists.specs.Keyed.{at_key}
 use Rattle.payroll_records.specs.declared.record.Key.{Key}
+use Rattle.payroll_records.specs.declared.record.Record.{Record}
 use Rattle.payroll_records.specs.Orders.{day_cmp}
 use Rattle.plan_calendar.specs.Picking.{Entry, pick}
-use Rattle.pap_plan.specs.Plans.{Seen}
+use Rattle.book_year.specs.Accepted.{Accepted}
 use Rattle.book_year.specs.declared.outcome.Work.{Work}
-use Rattle.book_year.specs.Jobs.{total_cost, work_of}
+use Rattle.book_year.specs.Jobs.{total_cost}
 use Rattle.book_year.specs.Rows.{Job, Row, year_rows}
-use Rattle.book_edits.specs.Books.{YearRuns, runs_of, year_of}
+use Rattle.book_edits.specs.Books.{YearRuns, loaded, runs_of, year_of}
 use Rattle.book_edits.specs.Kept.{jobs_in}
 
 pub record Contents : Type 0 where
   pub years : List YearRuns
-  pub plans : List (Entry Seen)
+  pub plans : List (Entry Accepted)
   pub last : Work
 
 -- the runs of an employee's year, computed anew
@@ -23,7 +24,8 @@ rows_in book y = year_rows (pick book.plans) y.runs
 -- the run of a key, computed anew
 abbrev pub row_at : Contents → Key → Option Row
 row_at book k =
-    at_key day_cmp (λ row. row.day) (year_rows (pick book.plans) (runs_of book.years (year_of k))) k.day
+    let runs = runs_of book.years (year_of k) in
+    at_key day_cmp (λ row. row.day) (year_rows (pick book.plans) runs) k.day
 
 -- the runs of the new book whose job isn't their job in the old one
 abbrev pub jobs_between : Contents → Contents → List Job
@@ -33,15 +35,20 @@ jobs_between old new = jobs_in (pick old.plans) (pick new.plans) old.years new.y
 abbrev pub with_years : List YearRuns → Contents → Contents
 with_years years book = record { years = years; plans = book.plans; last = book.last }
 
-abbrev pub with_plans : List (Entry Seen) → Contents → Contents
+abbrev pub with_plans : List (Entry Accepted) → Contents → Contents
 with_plans plans book = record { years = book.years; plans = plans; last = book.last }
 
--- the book is now this one, but for the last work, which is that of the new jobs
-pub record IsEdit (old wanted new : Contents) (work : Work) : Type 0 where
-  pub years_are : new.years ≡ wanted.years
-  pub plans_are : new.plans ≡ wanted.plans
-  pub last_is : new.last ≡ work
-  pub work_is : work ≡ work_of (jobs_between old wanted)
+-- the book of these runs, with these plans and this last work
+abbrev pub book_of : List Record → List (Entry Accepted) → Work → Contents
+book_of runs plans last = record { years = loaded runs []; plans = plans; last = last }
+
+-- the book without its runs: against it, all jobs of the book are new
+abbrev pub without_runs : Contents → Contents
+without_runs book = with_years [] book
 
 abbrev pub cost_between : Contents → Contents → ℕ
 cost_between old new = total_cost (jobs_between old new)
+
+-- the cost of all jobs of a book
+abbrev pub whole_cost : Contents → ℕ
+whole_cost book = cost_between (without_runs book) book

@@ -6,8 +6,9 @@ use Rattle.payroll_records.specs.declared.day.Day.{Day}
 use Rattle.payroll_records.specs.declared.values.NamedValue.{NamedValue}
 use Rattle.carry_bindings.specs.declared.carried.Earlier.{Earlier}
 use Rattle.carry_bindings.specs.declared.filling.Filled.TheVariants as filling
-use Rattle.pap_plan.specs.Plans.{Seen, Admits}
+use Rattle.interval_walk.specs.Admission.{AreAdmitted}
 use Rattle.book_year.specs.declared.year.Year.{Year}
+use Rattle.book_year.specs.Accepted.{Accepted}
 use Rattle.book_year.specs.Runs.{filled}
 use Rattle.book_year.specs.Rows.{Planned, Job}
 use Rattle.book_year.specs.Kept.{AreKept, job_by}
@@ -23,7 +24,8 @@ HasInputsOf y d inputs =
     → inputs ≡ option_map job_inputs (job_by planned y.records.items d)
 
 -- the plan admits these inputs, if they are those that it fills from some values after some runs
-abbrev pub AdmitsWhatItFills : Seen → List Decimal → Type 0
+abbrev pub AdmitsWhatItFills : Accepted → List Decimal → Type 0
 AdmitsWhatItFills p inputs =
     (values : List NamedValue) (earlier : List Earlier)
-    → filled p values earlier ≡ filling.Inputs inputs → Admits p inputs
+    → filled p values earlier ≡ filling.Inputs inputs
+    → AreAdmitted p.meaning.flowchart p.meaning.limits inputs

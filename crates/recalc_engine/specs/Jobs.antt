@@ -3,6 +3,7 @@ use Rattle.std.specs.Prelude.{◌≡◌, Option, Some, None, ⊤}
 use Rattle.std.specs.Option.{option_and_then}
 use Rattle.payroll_records.specs.declared.record.Key.{Key}
 use Rattle.pap_plan.specs.Plans.{Admits}
+use Rattle.book_year.specs.Accepted.{accepted}
 use Rattle.book_year.specs.Rows.{Job, Row, outputs_in}
 use Rattle.recalc_engine.specs.declared.job.Job.{Job as LentJob}
 use Rattle.recalc_engine.specs.Contents.{Contents, row_at}
@@ -13,7 +14,7 @@ job_of_key book k = option_and_then (λ row. row.job) (row_at book k)
 
 -- what is lent of a job
 abbrev pub lent_job : LentJob → Job
-lent_job j = record { plan = j.plan.now; inputs = j.inputs.now }
+lent_job j = record { plan = accepted j.plan.now; inputs = j.inputs.now }
 
 -- the plan admits the inputs
 abbrev pub AdmitsInputs : LentJob → Type 0

@@ -1,26 +1,29 @@
 //! The book.
-ghost use Rattle.std.specs.Prelude.{◌≡◌, [], IfOk, IfErr, OnErr, IfSome, IfNone, IsSome, option_map};
+ghost use Rattle.std.specs.Prelude.{◌≡◌, ◌≤◌, [], length, IfOk, OnErr, IfSome, IfNone, option_map};
 ghost use Rattle.std.specs.Option.{option_copied};
-ghost use Rattle.plan_calendar.specs.Picking.{entry_at, with_entry, without_day};
-ghost use Rattle.book_edits.specs.Books.{added, in_month, loaded, run_at, source_of, withdrawal};
-ghost use Rattle.book_edits.specs.Refusals.{CanAdd, CountsEdit, IsAddRefused, IsChangeRefused};
-ghost use Rattle.book_edits.specs.Refusals.{IsOne, IsWithdrawRefused};
-ghost use Rattle.book_edits.specs.Replans.{IsDropRefused, IsFull, IsPutRefused};
-ghost use Rattle.book_loads.specs.Loads.{AreDistinct, CanLoad, IsLoadRefused};
-ghost use Rattle.recalc_engine.specs.Contents.{IsEdit, cost_between, row_at, with_plans, with_years};
-ghost use Rattle.recalc_engine.specs.Edits.{with_change, with_withdrawal};
+ghost use Rattle.book_year.specs.Accepted.{accepted, plans_in};
+ghost use Rattle.book_edits.specs.Books.{in_month, run_at};
+ghost use Rattle.book_year.specs.Jobs.{Counts};
+ghost use Rattle.book_edits.specs.Refusals.{CountsEdit, most_records};
+ghost use Rattle.book_loads.specs.Loads.{AreDistinct};
+ghost use Rattle.recalc_engine.specs.BookLaws.{ArePlans, IsBook, JobsAreDone, RowsAreCounted};
+ghost use Rattle.recalc_engine.specs.BookLaws.{RowsAreRuns, RowsRise, SameTextsChangeNothing};
+ghost use Rattle.recalc_engine.specs.Contents.{book_of, cost_between, row_at, whole_cost};
+ghost use Rattle.recalc_engine.specs.EditAnswers.{EditsHaveOneAnswer, IsEdited, edited};
+ghost use Rattle.recalc_engine.specs.EditAnswers.{add, change, drop, load, put, withdraw};
 ghost use Rattle.recalc_engine.specs.MonthRows.{month_rows};
+ghost use Rattle.recalc_engine.specs.RunMaps.{RunsAreMapped};
 ghost use Rattle.recalc_engine.specs.Jobs.{AdmitsInputs, HasNoOutputs, job_of_key, lent_job};
 
 use crate::job::{Job, inputs_on, job_of, year_at};
 use crate::months::Months;
 use book_edits::{EditRefusal, InMonth, Years, drop_plan, put_plan};
-use book_loads::load;
+use book_loads::{load, restore};
 use book_year::{Work, YearKey};
 use pap_plan::Plan;
 use payroll_records::{Day, Employee, Key, Month, Record, When};
 use plan_calendar::Calendar;
-use std::alloc::Global;
+use std::alloc::{AllocError, Global};
 use std::marker::Model;
 use std::sync::ledger::Ledger;
 use steps::Steps;
@@ -35,30 +38,61 @@ pub struct Book {
 
 impl Model for Book {
     ghost use Rattle.std.specs.Coded.{codes};
-    ghost use Rattle.pap_tree.specs.contracts.plan.Stmt as statement;
-    ghost use Rattle.pap_tree.specs.contracts.expression.Expr as expression;
+    ghost use Rattle.recalc_engine.specs.Codes.{body_code};
+    ghost use Rattle.book_year.specs.Accepted.{plans_in};
     ghost use Rattle.book_edits.specs.Kept.{AreYears, years_of};
     ghost use Rattle.recalc_engine.specs.Contents.{Contents};
 
     ghost Value = { Contents };
 
-    ghost coded = { Prim.hlevel (codes, statement.the_row.coded, expression.the_row.coded) };
+    ghost coded = { Prim.hlevel (codes,
+        body_code (Prim.hlevel codes) (Prim.hlevel codes) (Prim.hlevel codes)) };
 
-    ghost view = { λ b. record { years = years_of b.years; plans = b.plans; last = b.last } };
+    ghost view = { λ b. record {
+      years = years_of b.years;
+      plans = plans_in b.plans;
+      last = b.last;
+    } };
 
-    ghost invariant = { λ b. AreYears b.plans b.years };
+    ghost invariant = { λ b. AreYears (plans_in b.plans) b.years };
 }
 
 impl Book {
     /// A book without runs and without plans.
     pub fn new(alloc: Global) -> Book
-        ensures { result ≡ record { years = []; plans = []; last = record { runs = 0; steps = 0 } } }
+        ensures { result ≡ book_of [] [] (record { runs = 0; steps = 0 }) }
     {
         Book {
             years: Years::new(alloc),
             plans: Calendar::new(alloc),
             last: Work { runs: 0, steps: 0 },
         }
+    }
+
+    /// A book of these runs and plans, whose last work was this. Each run that has inputs is run, and the counter rises by
+    /// exactly their steps; where memory runs out it may have risen by some of them.
+    pub fn restore<L: Ledger>(
+        alloc: Global,
+        runs: Vec<Record>,
+        plans: Calendar<Plan>,
+        last: Work,
+        steps: &mut Steps<L>,
+    ) -> Result<Book, AllocError>
+        requires distinct { AreDistinct runs.items }
+        requires few { length runs.items ≤ most_records }
+        ensures ok { IfOk result (λ book. book ≡ book_of runs.items (plans_in plans) last) }
+        ensures counted { Counts result steps.old steps.new
+            (whole_cost (book_of runs.items (plans_in plans) last)) }
+    {
+        let years = restore(alloc, &plans, runs, steps)?;
+        Ok(Book { years, plans, last })
+    }
+
+    /// Each book is as `IsBook` says.
+    pub fn is_whole(&self)
+        ensures { IsBook self.now }
+    {
+        each_is_accepted(self.plans.entries());
     }
 
     /// The work of the last edit that was accepted, else zeros.
@@ -70,7 +104,7 @@ impl Book {
 
     /// The plans by day.
     pub fn plans(&self) -> &Calendar<Plan>
-        ensures { result.now ≡ self.now.plans }
+        ensures { plans_in result.now ≡ self.now.plans }
     {
         &self.plans
     }
@@ -118,13 +152,10 @@ impl Book {
         item: Record,
         steps: &mut Steps<L>,
     ) -> Result<Work, EditRefusal>
-        ensures ok { IfOk result
-            (IsEdit self.old (with_years (added item self.old.years) self.old) self.new) }
-        ensures can { IfOk result (λ _. CanAdd self.old.years item) }
+        ensures answers { IsEdited self.old (add item) self.new result }
         ensures err { OnErr result (self.new ≡ self.old) }
-        ensures refused { IfErr result (IsAddRefused self.old.years item) }
         ensures counted { CountsEdit result steps.old steps.new
-            (cost_between self.old (with_years (added item self.old.years) self.old)) }
+            (cost_between self.old (edited (add item) self.old)) }
     {
         let work = self.years.add(&self.plans, item, steps)?;
         self.last = work;
@@ -138,12 +169,10 @@ impl Book {
         item: Record,
         steps: &mut Steps<L>,
     ) -> Result<Work, EditRefusal>
-        ensures ok { IfOk result (IsEdit self.old (with_change item self.old) self.new) }
-        ensures can { IfOk result (λ _. IsOne (source_of self.old.years item)) }
+        ensures answers { IsEdited self.old (change item) self.new result }
         ensures err { OnErr result (self.new ≡ self.old) }
-        ensures refused { IfErr result (IsChangeRefused self.old.years item) }
         ensures counted { CountsEdit result steps.old steps.new
-            (cost_between self.old (with_change item self.old)) }
+            (cost_between self.old (edited (change item) self.old)) }
     {
         let work = self.years.change(&self.plans, item, steps)?;
         self.last = work;
@@ -157,13 +186,10 @@ impl Book {
         when: When,
         steps: &mut Steps<L>,
     ) -> Result<Work, EditRefusal>
-        ensures ok { IfOk result
-            (IsEdit self.old (with_withdrawal employee when self.old) self.new) }
-        ensures can { IfOk result (λ _. IsOne (withdrawal self.old.years employee when)) }
+        ensures answers { IsEdited self.old (withdraw employee when) self.new result }
         ensures err { OnErr result (self.new ≡ self.old) }
-        ensures refused { IfErr result (IsWithdrawRefused self.old.years employee when) }
         ensures counted { CountsEdit result steps.old steps.new
-            (cost_between self.old (with_withdrawal employee when self.old)) }
+            (cost_between self.old (edited (withdraw employee when) self.old)) }
     {
         let work = self.years.withdraw(&self.plans, employee, when, steps)?;
         self.last = work;
@@ -177,14 +203,10 @@ impl Book {
         steps: &mut Steps<L>,
     ) -> Result<Work, EditRefusal>
         requires { AreDistinct items.items }
-        ensures ok { IfOk result
-            (IsEdit self.old (with_years (loaded items.items self.old.years) self.old) self.new) }
-        ensures can { IfOk result (λ _. CanLoad self.old.years items.items) }
+        ensures answers { IsEdited self.old (load items.items) self.new result }
         ensures err { OnErr result (self.new ≡ self.old) }
-        ensures refused { IfErr result (IsLoadRefused self.old.years items.items) }
         ensures counted { CountsEdit result steps.old steps.new
-            (cost_between self.old
-            (with_years (loaded items.items self.old.years) self.old)) }
+            (cost_between self.old (edited (load items.items) self.old)) }
     {
         let work = load(&self.plans, &mut self.years, items, steps)?;
         self.last = work;
@@ -198,14 +220,10 @@ impl Book {
         plan: Plan,
         steps: &mut Steps<L>,
     ) -> Result<Work, EditRefusal>
-        ensures ok { IfOk result (IsEdit self.old
-            (with_plans (with_entry (day, plan) self.old.plans) self.old) self.new) }
-        ensures can { IfOk result (λ _. IsFull self.old.plans day → ⊥) }
+        ensures answers { IsEdited self.old (put (day, accepted plan)) self.new result }
         ensures err { OnErr result (self.new ≡ self.old) }
-        ensures refused { IfErr result (IsPutRefused self.old.plans day) }
         ensures counted { CountsEdit result steps.old steps.new
-            (cost_between self.old
-            (with_plans (with_entry (day, plan) self.old.plans) self.old)) }
+            (cost_between self.old (edited (put (day, accepted plan)) self.old)) }
     {
         let work = put_plan(&mut self.plans, &mut self.years, day, plan, steps)?;
         self.last = work;
@@ -218,16 +236,38 @@ impl Book {
         day: Day,
         steps: &mut Steps<L>,
     ) -> Result<Work, EditRefusal>
-        ensures ok { IfOk result (IsEdit self.old
-            (with_plans (without_day day self.old.plans) self.old) self.new) }
-        ensures can { IfOk result (λ _. IsSome (entry_at self.old.plans day)) }
+        ensures answers { IsEdited self.old (drop day) self.new result }
         ensures err { OnErr result (self.new ≡ self.old) }
-        ensures refused { IfErr result (IsDropRefused self.old.plans day) }
         ensures counted { CountsEdit result steps.old steps.new
-            (cost_between self.old (with_plans (without_day day self.old.plans) self.old)) }
+            (cost_between self.old (edited (drop day) self.old)) }
     {
         let work = drop_plan(&mut self.plans, &mut self.years, day, steps)?;
         self.last = work;
         Ok(work)
     }
 }
+
+/// The texts of each plan were accepted, as its type says.
+fn each_is_accepted(entries: &[(Day, Plan)])
+    ensures { ArePlans (plans_in entries.now) }
+{
+    for entry in entries {
+        let _ = entry.1.bound();
+    }
+}
+
+/// A law of the definitions: every edit of every book has one answer.
+pub fn edit_laws()
+    ensures { EditsHaveOneAnswer }
+{}
+
+/// Laws of the definitions: the rows of a book stand in order, one for each run; a plan with the texts that stand at its day
+/// changes nothing; a run that has a job is done, with the job's outputs; an edit of the runs changes the run at its key alone.
+pub fn book_laws()
+    ensures rise { RowsRise }
+    ensures counted { RowsAreCounted }
+    ensures runs { RowsAreRuns }
+    ensures same { SameTextsChangeNothing }
+    ensures done { JobsAreDone }
+    ensures mapped { RunsAreMapped }
+{}

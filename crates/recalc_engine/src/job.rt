@@ -6,6 +6,7 @@ ghost use Rattle.rising_lists.specs.Keyed.{at_key, IsRising};
 ghost use Rattle.rising_lists.specs.Places.{Finds, IsAt, IsGap, Misses};
 ghost use Rattle.payroll_records.specs.Orders.{day_cmp};
 ghost use Rattle.book_year.specs.Records.{record_day};
+ghost use Rattle.book_year.specs.Accepted.{accepted};
 ghost use Rattle.book_edits.specs.Books.{year_cmp};
 ghost use Rattle.book_edits.specs.Kept.{kept_key};
 ghost use Rattle.recalc_engine.specs.JobViews.{AdmitsWhatItFills, HasInputsOf};
@@ -49,7 +50,7 @@ pub(crate) fn inputs_on(year: &Year, day: Day) -> Option<&[Dec]>
 pub(crate) fn job_of<'a>(plan: &'a Plan, inputs: &'a [Dec]) -> Job<'a>
     ensures plan { result.plan.now ≡ plan.now }
     ensures inputs { result.inputs.now ≡ inputs.now }
-    ensures admitted { AdmitsWhatItFills plan.now inputs.now }
+    ensures admitted { AdmitsWhatItFills (accepted plan.now) inputs.now }
 {
     let _ = plan.bound();
     let _ = plan.spec();

@@ -6,7 +6,7 @@ mod book;
 mod job;
 mod months;
 
-pub use book::Book;
+pub use book::{Book, book_laws, edit_laws};
 pub use book_edits::{EditRefusal, InMonth};
 pub use book_year::{State, Work};
 pub use job::Job;

@@ -1,5 +1,6 @@
 use Rattle.std.proofs.Common.{◌≡◌, get_or, length, ap, ◌∙◌, arith}
 use Rattle.std.proofs.lemmas.Result.{err_from_is_err_and}
+use Rattle.book_year.specs.Accepted.{plans_in}
 use Rattle.book_year.specs.Picks.{before, after}
 use Rattle.book_edits.proofs.RedoneLemmas.{out_in, out_after, redoing_more}
 use Rattle.book_edits.proofs.YearLemmas.{years_few}
@@ -7,12 +8,12 @@ use Rattle.book_edits.proofs.redone.redo_years.Goals as goal
 
 pub overflow_add-runs : goal.overflow_add-runs
 overflow_add-runs g c =
-    let few = years_few c.args.picks.now.plans.now c.args.years.now c.requires.years in
+    let few = years_few (plans_in c.args.picks.now.plans.now) c.args.years.now c.requires.years in
     omega (arith, few, ap length c.as_slice-year-items.ensures.value, c.loop-year.invariant.runs_few, c.in_ok-done.ensures.done.few)
 
 pub overflow_add-taken : goal.overflow_add-taken
 overflow_add-taken g c =
-    let few = years_few c.args.picks.now.plans.now c.args.years.now c.requires.years in
+    let few = years_few (plans_in c.args.picks.now.plans.now) c.args.years.now c.requires.years in
     omega (arith, few, ap length c.as_slice-year-items.ensures.value, c.loop-year.invariant.taken_few, c.in_ok-done.ensures.done.cheap)
 
 pub returns-in_err-done-clause-counted : goal.returns-in_err-done-clause-counted

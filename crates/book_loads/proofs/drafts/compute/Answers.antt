@@ -3,6 +3,7 @@ use Rattle.std.proofs.lemmas.List.{length-map}
 use Rattle.rising_lists.specs.Keyed.{IsRising}
 use Rattle.payroll_records.specs.Orders.{day_cmp}
 use Rattle.plan_calendar.specs.Picking.{pick}
+use Rattle.book_year.specs.Accepted.{plans_in}
 use Rattle.book_year.specs.Kept.{job_by}
 use Rattle.book_year.specs.Records.{record_day, records_of}
 use Rattle.book_year.specs.ChainClauses.{IsRecalculated}
@@ -13,22 +14,22 @@ use Rattle.book_loads.proofs.RecordLemmas.{now_of}
 use Rattle.book_loads.proofs.drafts.compute.Goals as goal
 
 pub references_with-requires : goal.references_with-requires
-references_with-requires g c = (c.old_of-old.ensures.kept c.args.plans.now c.requires.years).rising
+references_with-requires g c = (c.old_of-old.ensures.kept (plans_in c.args.plans.now) c.requires.years).rising
 
 pub recalculate-requires-clause-old : goal.recalculate-requires-clause-old
-recalculate-requires-clause-old g c = c.old_of-old.ensures.kept c.args.plans.now c.requires.years
+recalculate-requires-clause-old g c = c.old_of-old.ensures.kept (plans_in c.args.plans.now) c.requires.years
 
 pub recalculate-requires-clause-few : goal.recalculate-requires-clause-few
 recalculate-requires-clause-few g c =
     let runs : records_of c.as_slice-2.result.now ≡ (group_year (runs_in c.args.list.now) c.args.group.now).runs =
     ap records_of c.as_slice-2.ensures.value ∙ c.in_ok-runs.ensures ∙ (λ i. put_runs (c.as_slice.ensures.value i) (c.old_of-old.ensures.records i)) in
-    let rising = subst (IsRising day_cmp record_day) c.old_of-old.ensures.records (c.old_of-old.ensures.kept c.args.plans.now c.requires.years).rising in
-    let few = group_few c.args.plans.now c.args.list.now c.args.group.now c.requires.years c.requires.group rising in
+    let rising = subst (IsRising day_cmp record_day) c.old_of-old.ensures.records (c.old_of-old.ensures.kept (plans_in c.args.plans.now) c.requires.years).rising in
+    let few = group_few (plans_in c.args.plans.now) c.args.list.now c.args.group.now c.requires.years c.requires.group rising in
     omega (arith, ap length runs, length-map c.as_slice-2.result.now now_of, few)
 
 pub returns-clause-done : goal.returns-clause-done
 returns-clause-done g c =
-    let plans = c.args.plans.now in
+    let plans = plans_in c.args.plans.now in
     let group = c.args.group.now in
     let old = c.old_of-old in
     let runs : records_of c.as_slice-2.result.now ≡ (group_year (runs_in c.args.list.now) group).runs =

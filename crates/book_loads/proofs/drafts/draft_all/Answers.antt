@@ -2,6 +2,7 @@ use Rattle.std.proofs.Common.{◌≡◌, ◌+◌, [], refl, sym, subst, arith}
 use Rattle.std.specs.List.{AllByRecursion}
 use Rattle.std.specs.Vec.Iter.{into_iter_items}
 use Rattle.std.proofs.lemmas.List.{nil_from_length}
+use Rattle.book_year.specs.Accepted.{plans_in}
 use Rattle.book_edits.specs.Kept.{runs_in}
 use Rattle.book_loads.specs.declared.drafts.Draft.{Draft}
 use Rattle.book_loads.specs.Groups.{IsGroup}
@@ -12,7 +13,7 @@ use Rattle.book_loads.proofs.drafts.draft_all.Goals as goal
 
 pub loop-group-init : goal.loop-group-init
 loop-group-init g c =
-    let plans = c.args.plans.now in
+    let plans = plans_in c.args.plans.now in
     let old = runs_in c.args.list.now in
     let groups = c.args.groups.items in
     let at = c.args.steps.now in
@@ -21,7 +22,7 @@ loop-group-init g c =
 
 pub loop-group-preserved : goal.loop-group-preserved
 loop-group-preserved g c =
-    let plans = c.args.plans.now in
+    let plans = plans_in c.args.plans.now in
     let old = runs_in c.args.list.now in
     let groups = c.args.groups.items in
     let l = c.loop-group in
@@ -48,7 +49,7 @@ compute-requires g c = record {
 
 pub returns-in_err-done : goal.returns-in_err-done
 returns-in_err-done g c =
-    let plans = c.args.plans.now in
+    let plans = plans_in c.args.plans.now in
     let old = runs_in c.args.list.now in
     let groups = c.args.groups.items in
     let l = c.loop-group in
@@ -61,7 +62,7 @@ returns-in_err-done g c =
 
 pub returns-in_err-push : goal.returns-in_err-push
 returns-in_err-push g c =
-    let plans = c.args.plans.now in
+    let plans = plans_in c.args.plans.now in
     let old = runs_in c.args.list.now in
     let groups = c.args.groups.items in
     let l = c.loop-group in
@@ -76,7 +77,7 @@ returns-in_err-push g c =
 
 pub returns : goal.returns
 returns g c =
-    let plans = c.args.plans.now in
+    let plans = plans_in c.args.plans.now in
     let old = runs_in c.args.list.now in
     let groups = c.args.groups.items in
     let l = c.loop-group in

@@ -1,5 +1,6 @@
 use Rattle.std.proofs.Common.{◌+◌, length, Err, refl, ap, subst, ◌∙◌, arith}
 use Rattle.std.proofs.lemmas.Result.{err_from_is_err_and}
+use Rattle.book_year.specs.Accepted.{plans_in}
 use Rattle.book_edits.specs.declared.years.Years.{Years}
 use Rattle.book_edits.specs.Books.{loaded}
 use Rattle.book_edits.specs.Kept.{edit_cost, years_of}
@@ -9,7 +10,7 @@ use Rattle.book_loads.proofs.loads.load.Goals as goal
 
 pub refused-requires : goal.refused-requires
 refused-requires g c = record {
-  order = in_order c.args.plans.now c.args.years.now c.requires.years;
+  order = in_order (plans_in c.args.plans.now) c.args.years.now c.requires.years;
   count = c.requires.years.count;
   few = c.requires.years.few;
 }
@@ -25,7 +26,7 @@ load_runs-requires g c =
 
 pub returns-in_err-refused : goal.returns-in_err-refused
 returns-in_err-refused g c =
-    let plans = c.args.plans.now in
+    let plans = plans_in c.args.plans.now in
     let years = c.args.years.now in
     let items = c.args.items.items in
     let x = c.in_err-refused.field-0.0 in
@@ -36,7 +37,7 @@ returns-in_err-refused g c =
 
 pub returns-in_err-work : goal.returns-in_err-work
 returns-in_err-work g c =
-    let plans = c.args.plans.now in
+    let plans = plans_in c.args.plans.now in
     let years = c.args.years.now in
     let items = c.args.items.items in
     let new : Years = record { list = c.load_runs.new.list; count = years.count } in
@@ -48,7 +49,7 @@ returns-in_err-work g c =
 
 pub returns : goal.returns
 returns g c =
-    let plans = c.args.plans.now in
+    let plans = plans_in c.args.plans.now in
     let years = c.args.years.now in
     let items = c.args.items.items in
     let new : Years = record { list = c.load_runs.new.list; count = years.count + c.len.result } in

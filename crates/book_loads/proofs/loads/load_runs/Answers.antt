@@ -1,6 +1,7 @@
 use Rattle.std.proofs.Common.{◌≡◌, refl, sym, ap, subst, ◌∙◌, arith, vec_len}
 use Rattle.std.specs.List.{AllByRecursion}
 use Rattle.rising_lists.specs.Keyed.{IsRising}
+use Rattle.book_year.specs.Accepted.{plans_in}
 use Rattle.book_year.specs.Years.{IsYear}
 use Rattle.book_edits.specs.Books.{loaded, year_cmp}
 use Rattle.book_edits.specs.Kept.{kept_key, runs_in}
@@ -14,14 +15,14 @@ use Rattle.book_loads.proofs.loads.load_runs.Goals as goal
 pub draft_all-requires : goal.draft_all-requires
 draft_all-requires g c = record {
   rising = subst (IsRising year_cmp kept_key) (sym c.as_slice.ensures.value) c.requires.kept.rising;
-  years = subst (AllByRecursion (IsYear c.args.plans.now)) (sym c.as_slice.ensures.value) c.requires.kept.each;
+  years = subst (AllByRecursion (IsYear (plans_in c.args.plans.now))) (sym c.as_slice.ensures.value) c.requires.kept.each;
   groups = c.in_ok-groups.ensures.each;
   few = omega (arith, c.in_ok-groups.ensures.few, c.requires.few);
 }
 
 pub merged-requires : goal.merged-requires
 merged-requires g c =
-    let plans = c.args.plans.now in
+    let plans = plans_in c.args.plans.now in
     let list = c.args.list.now.items in
     let groups = c.in_ok-groups.groups.items in
     let done = c.in_ok-done.done in
@@ -34,7 +35,7 @@ merged-requires g c =
 
 pub returns-in_err-groups : goal.returns-in_err-groups
 returns-in_err-groups g c =
-    let plans = c.args.plans.now in
+    let plans = plans_in c.args.plans.now in
     let list = c.args.list.now.items in
     let years = loaded c.args.items.items (runs_in list) in
     let r = c.from_residual in
@@ -46,7 +47,7 @@ returns-in_err-groups g c =
 
 pub returns-in_err-done : goal.returns-in_err-done
 returns-in_err-done g c =
-    let plans = c.args.plans.now in
+    let plans = plans_in c.args.plans.now in
     let list = c.args.list.now.items in
     let groups = c.in_ok-groups.groups.items in
     let years = loaded c.args.items.items (runs_in list) in
@@ -61,7 +62,7 @@ returns-in_err-done g c =
 
 pub returns-in_err-room : goal.returns-in_err-room
 returns-in_err-room g c =
-    let plans = c.args.plans.now in
+    let plans = plans_in c.args.plans.now in
     let list = c.args.list.now.items in
     let groups = c.in_ok-groups.groups.items in
     let years = loaded c.args.items.items (runs_in list) in
@@ -75,7 +76,7 @@ returns-in_err-room g c =
 
 pub returns : goal.returns
 returns g c =
-    let plans = c.args.plans.now in
+    let plans = plans_in c.args.plans.now in
     let list = c.args.list.now.items in
     let items = c.args.items.items in
     let groups = c.in_ok-groups.groups.items in

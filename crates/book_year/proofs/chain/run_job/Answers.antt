@@ -1,6 +1,7 @@
 use Rattle.std.proofs.Common.{sym, ap, subst, arith, zero-add}
 use Rattle.std.specs.Prelude.{Some}
 use Rattle.carry_bindings.specs.Conditions.{AreBounded}
+use Rattle.book_year.specs.Accepted.{accepted}
 use Rattle.book_year.specs.Jobs.{work_of}
 use Rattle.book_year.specs.Picks.{picked_entry}
 use Rattle.book_year.specs.ChainClauses.{HasRun}
@@ -20,7 +21,7 @@ returns-in-Some-clause-ran g c = λ was job day knows is.
 pub returns-clause-ran : goal.returns-clause-ran
 returns-clause-ran g c = λ was job day knows is.
     let k = c.in_default.ensures was job (picked_entry c.args.picked) knows is in
-    let ran = subst (λ l. HasRun c.args.picked.plan.now l c.in_ok-ran.ran) c.as_slice.ensures c.in_ok-ran.ensures.ran in
+    let ran = subst (λ l. HasRun (accepted c.args.picked.plan.now) l c.in_ok-ran.ran) c.as_slice.ensures c.in_ok-ran.ensures.ran in
     record {
       outcome = rw (c.finished-2.ensures, ran.outputs);
       work = rw (k, zero-add, ran.cost);

@@ -2,6 +2,7 @@ use Rattle.std.proofs.Common.{◌≡◌, map, ap, ◌∙◌, rules}
 use Rattle.pap_tree.specs.Declarations.{declaration_of}
 use Rattle.pap_types.specs.Meaning.{bound_of}
 use Rattle.pap_plan.specs.Plans.{flowchart}
+use Rattle.book_year.specs.Accepted.{accepted}
 use Rattle.book_year.specs.Runs.{named_values}
 use Rattle.book_year.proofs.RunLemmas.{has_run, written_whole}
 use Rattle.book_year.proofs.run.run.Goals as goal
@@ -13,4 +14,4 @@ returns-clause-ran g c =
     ap (λ l. map declaration_of l) (c.as_slice-declared.ensures.value ∙ ap (λ p. p.outputs.items) c.plan.ensures.text ∙ ap (λ p. p.outputs.items) c.text.ensures.text) in
     let values : c.deref.result.now ≡ c.run-cost.new.outputs = c.deref.ensures.value ∙ written_whole c.in_ok-values.values.len c.run-cost.new.outputs c.in_ok-values.values.items (search rules) (search rules) in
     let named = c.from_vec.ensures ∙ c.name_values.ensures ∙ ap (λ l. named_values l c.deref.result.now) declared ∙ ap (named_values f.outputs) values in
-    has_run c.args.plan.now c.args.inputs.now c.run-cost.new.outputs (record { outputs = c.from_vec.result; cost = c.run-cost.result }) (bound_of f) c.run-cost.ensures.outputs c.run-cost.ensures.ranges c.run-cost.ensures.cost c.run-cost.ensures.bound c.says_what_it_admits.ensures.bound named
+    has_run (accepted c.args.plan.now) c.args.inputs.now c.run-cost.new.outputs (record { outputs = c.from_vec.result; cost = c.run-cost.result }) (bound_of f) c.run-cost.ensures.outputs c.run-cost.ensures.ranges c.run-cost.ensures.cost c.run-cost.ensures.bound c.says_what_it_admits.ensures.bound named

@@ -1,5 +1,6 @@
 use Rattle.std.proofs.Common.{◌≡◌, length, ap, ◌∙◌, arith}
 use Rattle.std.proofs.lemmas.List.{length-map}
+use Rattle.book_year.specs.Accepted.{plans_in}
 use Rattle.book_year.specs.Records.{records_of, put_run}
 use Rattle.book_year.specs.Years.{IsOwn}
 use Rattle.book_year.proofs.RecordLemmas.{now_of, rising_put, all_put}
@@ -18,9 +19,9 @@ recalculate-requires-clause-few g c =
 pub returns-clause-done : goal.returns-clause-done
 returns-clause-done g c =
     let runs : records_of c.as_slice-2.result.now ≡ put_run c.args.item.now c.args.year.now.records.items = ap records_of c.as_slice-2.ensures.value ∙ c.in_ok-runs.ensures ∙ ap (put_run c.args.item.now) c.as_slice.ensures.value in
-    computed_done c.args.plans.now c.args.year.now c.old_of.result.records.now c.as_slice-2.result.now (put_run c.args.item.now c.args.year.now.records.items) c.recalculate.result c.old_of.ensures.records runs c.recalculate.ensures.done
+    computed_done (plans_in c.args.plans.now) c.args.year.now c.old_of.result.records.now c.as_slice-2.result.now (put_run c.args.item.now c.args.year.now.records.items) c.recalculate.result c.old_of.ensures.records runs c.recalculate.ensures.done
 
 pub returns-clause-counted : goal.returns-clause-counted
 returns-clause-counted g c =
     let runs : records_of c.as_slice-2.result.now ≡ put_run c.args.item.now c.args.year.now.records.items = ap records_of c.as_slice-2.ensures.value ∙ c.in_ok-runs.ensures ∙ ap (put_run c.args.item.now) c.as_slice.ensures.value in
-    computed_counted c.args.plans.now c.args.year.now c.old_of.result.records.now c.as_slice-2.result.now (put_run c.args.item.now c.args.year.now.records.items) c.recalculate.result c.old_of.ensures.records runs c.args.steps.now c.recalculate.new.steps c.recalculate.ensures.counted
+    computed_counted (plans_in c.args.plans.now) c.args.year.now c.old_of.result.records.now c.as_slice-2.result.now (put_run c.args.item.now c.args.year.now.records.items) c.recalculate.result c.old_of.ensures.records runs c.args.steps.now c.recalculate.new.steps c.recalculate.ensures.counted

@@ -1,4 +1,5 @@
 use Rattle.std.proofs.Common.{refl}
+use Rattle.book_year.specs.Accepted.{plans_in}
 use Rattle.book_year.specs.Records.{put_run}
 use Rattle.book_year.specs.Years.{IsOwn}
 use Rattle.book_year.proofs.RecordLemmas.{rising_put, all_put}
@@ -10,5 +11,5 @@ returns-clause-ok g c =
     let old = c.args.self.now in
     let item = c.args.item in
     let rs = old.records.items in
-    year_edit c.args.plans.now old _ (put_run item rs) c.in_ok-done.done (rising_put item rs c.requires.year.kept.rising) (all_put (IsOwn old.key) item rs c.requires.own c.requires.year.own)
+    year_edit (plans_in c.args.plans.now) old _ (put_run item rs) c.in_ok-done.done (rising_put item rs c.requires.year.kept.rising) (all_put (IsOwn old.key) item rs c.requires.own c.requires.year.own)
     refl c.in_ok-put_record.ensures.ok refl c.in_ok-done.ensures.done

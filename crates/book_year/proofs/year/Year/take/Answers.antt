@@ -1,4 +1,5 @@
 use Rattle.std.proofs.Common.{refl}
+use Rattle.book_year.specs.Accepted.{plans_in}
 use Rattle.book_year.specs.Records.{without_run}
 use Rattle.book_year.specs.Years.{IsOwn}
 use Rattle.book_year.proofs.RecordLemmas.{rising_without, all_without}
@@ -10,5 +11,5 @@ returns-clause-ok g c =
     let old = c.args.self.now in
     let day = c.args.day in
     let rs = old.records.items in
-    year_edit c.args.plans.now old _ (without_run day rs) c.in_ok-done.done (rising_without day rs c.requires.kept.rising) (all_without (IsOwn old.key) day rs c.requires.own)
+    year_edit (plans_in c.args.plans.now) old _ (without_run day rs) c.in_ok-done.done (rising_without day rs c.requires.kept.rising) (all_without (IsOwn old.key) day rs c.requires.own)
     refl c.take_record.ensures.items refl c.in_ok-done.ensures.done

@@ -1,0 +1,31 @@
+use Rattle.std.proofs.Common.{Ok, Err, Result, arith, subst}
+use Rattle.std.proofs.lemmas.Result.{err_from_is_err_and}
+use Rattle.std.specs.declared.alloc.AllocError.{AllocError}
+use Rattle.book_year.specs.Accepted.{plans_in}
+use Rattle.book_year.specs.declared.outcome.Work.{Work}
+use Rattle.book_edits.specs.declared.years.Years.{Years}
+use Rattle.book_edits.specs.Views.{AreKeptYears}
+use Rattle.book_loads.proofs.LoadLemmas.{none_kept, restored, restored_counts}
+use Rattle.book_loads.proofs.loads.restore.Goals as goal
+
+pub load_runs-requires : goal.load_runs-requires
+load_runs-requires g c = record {
+  kept = none_kept (plans_in c.args.plans.now) c.new-list.result.items c.new-list.ensures.items;
+  distinct = c.requires.distinct;
+  few = c.requires.few;
+}
+
+pub returns : goal.returns
+returns g c =
+    let plans = plans_in c.args.plans.now in
+    let items = c.args.items.items in
+    let old = c.new-list.result.items in
+    let none = c.new-list.ensures.items in
+    let new : Years = record { list = c.load_runs.new.list; count = c.len-count.result } in
+    let r : Result Work AllocError = Ok c.in_ok-load_runs.field-0 in
+    let whole = restored plans old new items c.in_ok-load_runs.field-0 none c.requires.distinct c.requires.few c.in_ok-load_runs.ensures.ok (omega (arith, c.len-count.ensures, c.args.items.ok.0)) in
+    record {
+      kept = whole.kept;
+      years = whole.years;
+      counted = restored_counts plans old items r c.args.steps.now c.load_runs.new.steps none c.in_ok-load_runs.ensures.counted;
+    }

@@ -1,0 +1,91 @@
+-- What holds of every book, and what follows from it.
+use Rattle.std.specs.Prelude.{◌≡◌, ◌≤◌, ℕ, List, [], length, Option, Some, None}
+use Rattle.std.specs.List.{AllByRecursion}
+use Rattle.std.specs.Option.{option_map}
+use Rattle.rising_lists.specs.Keyed.{at_key, IsRising}
+use Rattle.payroll_records.specs.declared.record.Key.{Key}
+use Rattle.payroll_records.specs.Orders.{key_cmp}
+use Rattle.plan_calendar.specs.Picking.{AreEntries, Entry, day_of, entry_at, plan_of}
+use Rattle.pap_plan.specs.Acceptance.{IsAccepted}
+use Rattle.book_year.specs.Accepted.{Accepted}
+use Rattle.book_year.specs.declared.outcome.State.TheVariants as state
+use Rattle.book_year.specs.Runs.{run_outputs}
+use Rattle.book_year.specs.Rows.{Job, Row}
+use Rattle.book_year.specs.Years.{IsOwn}
+use Rattle.book_edits.specs.Books.{AreInOrder, YearRuns, run_count, year_of}
+use Rattle.book_edits.specs.Refusals.{most_records}
+use Rattle.recalc_engine.specs.Contents.{Contents, jobs_between, row_at}
+use Rattle.recalc_engine.specs.EditAnswers.{edited, put}
+use Rattle.recalc_engine.specs.Jobs.{job_of_key}
+use Rattle.recalc_engine.specs.MonthRows.{KeyedRow, keyed_row, month_rows}
+
+-- the plan's texts are accepted, with what it means
+abbrev pub IsPlan : Accepted → Type 0
+IsPlan p = IsAccepted p.plan p.limits p.meaning
+
+-- so it is of each plan of a calendar
+abbrev pub ArePlans : List (Entry Accepted) → Type 0
+ArePlans es = AllByRecursion (λ (e : Entry Accepted). IsPlan (plan_of e)) es
+
+-- each run of the year is its employee's, in its calendar year
+abbrev pub HasOwnRuns : YearRuns → Type 0
+HasOwnRuns y = AllByRecursion (IsOwn y.key) y.runs
+
+-- the years stand in order, each with a run and all runs its own, 50,000 at most; at most 64 plans, their days rise
+pub record IsBook (book : Contents) : Type 0 where
+  pub order : AreInOrder book.years
+  pub own : AllByRecursion HasOwnRuns book.years
+  pub few : run_count book.years ≤ most_records
+  pub entries : AreEntries book.plans
+  pub plans : ArePlans book.plans
+
+-- ---- laws: the rows of a book
+
+abbrev pub row_key : KeyedRow → Key
+row_key row = row.key
+
+-- the keys of the rows rise, by employee and then by day
+abbrev pub RowsRise : Type 0
+RowsRise = (book : Contents) → IsBook book → IsRising key_cmp row_key (month_rows book)
+
+-- there is a row for each run
+abbrev pub RowsAreCounted : Type 0
+RowsAreCounted = (book : Contents) → length (month_rows book) ≡ run_count book.years
+
+-- the row of a key is its run, computed anew
+abbrev pub RowsAreRuns : Type 0
+RowsAreRuns =
+    (book : Contents) (k : Key) → IsBook book
+    → at_key key_cmp row_key (month_rows book) k
+    ≡ option_map (keyed_row (year_of k)) (row_at book k)
+
+-- ---- laws: plans and jobs
+
+-- the texts of the plan that stands at the day are these
+abbrev pub HasTexts : Option (Entry Accepted) → Accepted → Type 0
+HasTexts None p = ⊥
+HasTexts (Some e) p = ((plan_of e).plan ≡ p.plan) × ((plan_of e).limits ≡ p.limits)
+
+-- the book as it is, but that its last edit made no job new
+abbrev pub idle : Contents → Contents
+idle book = record { years = book.years; plans = book.plans; last = record { runs = 0; steps = 0 } }
+
+-- a plan put in place of one with its texts changes nothing, and makes no job new
+pub record PutsTheSame (book : Contents) (e : Entry Accepted) : Type 0 where
+  pub jobs : jobs_between book (edited (put e) book) ≡ []
+  pub book_is : edited (put e) book ≡ idle book
+
+abbrev pub SameTextsChangeNothing : Type 0
+SameTextsChangeNothing =
+    (book : Contents) (e : Entry Accepted) → IsBook book → IsPlan (plan_of e)
+    → HasTexts (entry_at book.plans (day_of e)) (plan_of e) → PutsTheSame book e
+
+-- the run is done, with the outputs of the job
+abbrev pub IsDoneBy : Job → Option Row → Type 0
+IsDoneBy j None = ⊥
+IsDoneBy j (Some row) = row.state ≡ state.Done (run_outputs j.plan j.inputs)
+
+-- a run that has a job is done, with the outputs of that job
+abbrev pub JobsAreDone : Type 0
+JobsAreDone =
+    (book : Contents) (k : Key) (j : Job) → job_of_key book k ≡ Some j → IsDoneBy j (row_at book k)
