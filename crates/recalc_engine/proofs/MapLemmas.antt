@@ -127,7 +127,7 @@ module _ (ys : List YearRuns) (from : Day) (r : Record) (k : Key) (order : AreIn
       let left = without_run from (its_runs ys a) in
       by_year ys a k (put_run r left) (with_run r (with_none b (run_at ys)) k) (runs_put (year_of a) (put_run r left) ys (year_of k) (put_some day_cmp record_day r left)) change_here
       (λ e. ap (λ t. if t then None else run_at ys k) (sym (others_apart b k (subst (λ (t : YearKey). is_eq (year_cmp t (year_of k)) ≡ false) (sym same_year) e)))
-        ∙ ap (λ t. if t then Some r else with_none b (run_at ys) k) (sym (others_apart a k e)))
+      ∙ ap (λ t. if t then Some r else with_none b (run_at ys) k) (sym (others_apart a k e)))
 
 -- ---- many runs
 
@@ -156,7 +156,7 @@ load_maps ys [] k distinct = refl
 load_maps ys (r ∷ rs) k distinct =
     load_maps (added r ys) rs k distinct.1 ∙ ap (or_else (at_key key_cmp key_of rs k)) (add_maps ys r k)
     ∙ (elim (key_cmp (key_of r) k) as (λ o. key_cmp (key_of r) k ≡ o →
-        or_else (at_key key_cmp key_of rs k) (if is_eq o then Some r else run_at ys k) ≡ or_else (if is_eq o then Some r else at_key key_cmp key_of rs k) (run_at ys k)) [
+    or_else (at_key key_cmp key_of rs k) (if is_eq o then Some r else run_at ys k) ≡ or_else (if is_eq o then Some r else at_key key_cmp key_of rs k) (run_at ys k)) [
       | Less ↦ λ e. refl
       | Equal ↦ λ e. ap (λ o. or_else o (Some r)) (not_listed r k rs e distinct.0)
       | Greater ↦ λ e. refl
