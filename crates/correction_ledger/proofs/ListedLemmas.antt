@@ -22,7 +22,7 @@ use Rattle.payroll_records.specs.declared.values.NamedValue.{NamedValue}
 use Rattle.payroll_records.specs.NamedValues.{name_cmp, name_of}
 use Rattle.carry_bindings.specs.Carrying.{named}
 use Rattle.correction_ledger.specs.declared.due.Due.{Due}
-use Rattle.correction_ledger.specs.BookRows.{HaveNames}
+use Rattle.recalc_engine.specs.RowLaws.{HaveNames}
 use Rattle.correction_ledger.specs.Places.{due_amount}
 use Rattle.correction_ledger.specs.RowViews.{AreListed, due_for, due_name, dues_of}
 use Rattle.correction_ledger.proofs.PlaceLemmas.{text_same}

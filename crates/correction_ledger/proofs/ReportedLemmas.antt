@@ -18,11 +18,12 @@ use Rattle.payroll_records.proofs.Laws.{key_total}
 use Rattle.carry_bindings.specs.Carrying.{named, zero_amount}
 use Rattle.carry_bindings.specs.Conditions.{AreBounded}
 use Rattle.book_year.specs.Rows.{outputs_in}
+use Rattle.recalc_engine.specs.BookLaws.{row_key}
 use Rattle.recalc_engine.specs.MonthRows.{KeyedRow}
 use Rattle.correction_ledger.specs.declared.due.Due.{Due}
-use Rattle.correction_ledger.specs.BookRows.{AreNamed, HaveNames}
+use Rattle.recalc_engine.specs.RowLaws.{AreNamed, HaveNames}
 use Rattle.correction_ledger.specs.Months.{is_up_to}
-use Rattle.correction_ledger.specs.Owed.{output_of, reported, row_key}
+use Rattle.correction_ledger.specs.Owed.{output_of, reported}
 use Rattle.correction_ledger.specs.Places.{Place, amount_at, due_amount, place_cmp, place_of}
 use Rattle.correction_ledger.specs.RowViews.{AreListed, AreReported, due_name, outputs_by, outputs_or_none}
 use Rattle.correction_ledger.proofs.PlaceLemmas.{key_same}

@@ -17,11 +17,12 @@ use Rattle.payroll_records.specs.NamedValues.{name_cmp}
 use Rattle.payroll_records.specs.Orders.{key_cmp}
 use Rattle.carry_bindings.specs.Carrying.{named, total, zero_amount}
 use Rattle.book_year.specs.Rows.{outputs_in}
+use Rattle.recalc_engine.specs.BookLaws.{row_key}
 use Rattle.recalc_engine.specs.MonthRows.{KeyedRow}
 use Rattle.correction_ledger.specs.declared.due.Due.{Due}
 use Rattle.correction_ledger.specs.declared.due.Entry.{Entry}
 use Rattle.correction_ledger.specs.Months.{is_up_to}
-use Rattle.correction_ledger.specs.Owed.{IsOwed, amount_of, filed, is_of, output_of, reported, row_key}
+use Rattle.correction_ledger.specs.Owed.{IsOwed, amount_of, filed, is_of, output_of, reported}
 use Rattle.correction_ledger.specs.OwedLaws.{HasOneOwed}
 use Rattle.correction_ledger.specs.Places.{Place, place_cmp, place_of}
 use Rattle.correction_ledger.specs.RowViews.{outputs_or_none}

@@ -4,7 +4,6 @@ pub mod Places
 pub mod Owed
 pub mod Filings
 pub mod OwedLaws
-pub mod BookRows
 pub mod Open
 pub mod BalanceViews
 pub mod FilingViews

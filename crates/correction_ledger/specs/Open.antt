@@ -3,9 +3,9 @@ use Rattle.std.specs.Prelude.{Bool, ◌&&◌, List, Option, find, is_none, optio
 use Rattle.payroll_records.specs.declared.month.Month.{Month}
 use Rattle.payroll_records.specs.declared.record.Key.{Key}
 use Rattle.book_year.specs.Rows.{outputs_in}
+use Rattle.recalc_engine.specs.BookLaws.{row_key}
 use Rattle.recalc_engine.specs.MonthRows.{KeyedRow}
 use Rattle.correction_ledger.specs.Months.{is_up_to}
-use Rattle.correction_ledger.specs.Owed.{row_key}
 
 -- whether a run of the month or of an earlier one isn't ok
 abbrev pub is_open : Month → KeyedRow → Bool

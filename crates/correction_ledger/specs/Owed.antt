@@ -5,18 +5,15 @@ use Rattle.std.specs.Ordering.{is_eq}
 use Rattle.scaled_decimal.specs.Decimals.{Decimal, difference, value_order}
 use Rattle.rising_lists.specs.Keyed.{at_key, IsRising}
 use Rattle.payroll_records.specs.declared.month.Month.{Month}
-use Rattle.payroll_records.specs.declared.record.Key.{Key}
 use Rattle.payroll_records.specs.Orders.{key_cmp}
 use Rattle.carry_bindings.specs.Carrying.{named, total, zero_amount}
 use Rattle.book_year.specs.Rows.{outputs_in}
+use Rattle.recalc_engine.specs.BookLaws.{row_key}
 use Rattle.recalc_engine.specs.MonthRows.{KeyedRow}
 use Rattle.correction_ledger.specs.declared.due.Due.{Due}
 use Rattle.correction_ledger.specs.declared.due.Entry.{Entry}
 use Rattle.correction_ledger.specs.Months.{is_up_to}
 use Rattle.correction_ledger.specs.Places.{Place, place_cmp, place_of}
-
-abbrev pub row_key : KeyedRow → Key
-row_key row = row.key
 
 -- the output of a name of a run, where the run is ok and has it
 abbrev pub output_of : List ℕ → KeyedRow → Option Decimal

@@ -1,7 +1,6 @@
 //! The ledger.
 ghost use Rattle.std.specs.Prelude.{◌≡◌, [], None, IfOk, IfErr, OnErr, OnOk};
 ghost use Rattle.recalc_engine.specs.MonthRows.{month_rows};
-ghost use Rattle.correction_ledger.specs.BookRows.{AreBookRows};
 ghost use Rattle.correction_ledger.specs.Filings.{IsClosed, IsFiling, IsFileRefused, IsOwedNow, IsOwedRefused};
 ghost use Rattle.correction_ledger.specs.Admission.{IsAdmitRefused};
 ghost use Rattle.correction_ledger.specs.OwedLaws.{FilingSettles, OwedIsOne, OwedSettles};
@@ -115,7 +114,6 @@ impl Ledger {
     /// Files a month: appends what is owed up to it, and answers how many entries that were. After a refusal the ledger is as
     /// before.
     pub fn file(&mut self, b: &Book, month: Month) -> Result<u64, FileRefusal>
-        requires { AreBookRows (month_rows b.now) }
         ensures ok { IfOk result (IsFiling (month_rows b.now) month self.old self.new) }
         ensures err { OnErr result (self.new ≡ self.old) }
         ensures refused { IfErr result (IsFileRefused (month_rows b.now) month self.old) }
@@ -143,7 +141,6 @@ impl Ledger {
 
     /// What is owed up to the last filed month, in order of key and name.
     pub fn owed(&self, alloc: Global, b: &Book) -> Result<Vec<Due>, OwedRefusal>
-        requires { AreBookRows (month_rows b.now) }
         ensures ok { IfOk result (λ dues. IsOwedNow (month_rows b.now) self.now dues.items) }
         ensures refused { IfErr result (IsOwedRefused (month_rows b.now) self.now) }
     {

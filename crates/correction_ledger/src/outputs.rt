@@ -2,7 +2,7 @@
 ghost use Rattle.std.specs.Prelude.{◌≡◌, [], OnOk};
 ghost use Rattle.std.specs.List.Sorted.{IsPermutation, IsSortedByKey};
 ghost use Rattle.payroll_records.specs.NamedValues.{name_cmp};
-ghost use Rattle.correction_ledger.specs.BookRows.{HaveNames};
+ghost use Rattle.recalc_engine.specs.RowLaws.{HaveNames};
 ghost use Rattle.correction_ledger.specs.RowViews.{AreListed, due_name, dues_of};
 
 use crate::due::Due;

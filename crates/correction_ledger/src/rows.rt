@@ -3,7 +3,6 @@ ghost use Rattle.std.specs.Prelude.{◌≡◌, IsTrue, OnOk, OnErr, IfOk, List, 
 ghost use Rattle.recalc_engine.specs.MonthRows.{month_rows};
 ghost use Rattle.recalc_engine.specs.RowViews.{lent_row};
 ghost use Rattle.correction_ledger.specs.Months.{is_up_to};
-ghost use Rattle.correction_ledger.specs.BookRows.{AreBookRows};
 ghost use Rattle.correction_ledger.specs.Open.{first_open, is_open};
 ghost use Rattle.correction_ledger.specs.RowViews.{outputs_by, AreReported};
 
@@ -54,9 +53,9 @@ fn outputs_by<'a>(row: &MonthRow<'a>, month: Month) -> &'a [NamedValue]
 
 /// What the book reports of each output up to the month, in order of key and name.
 pub(crate) fn reported(alloc: Global, b: &Book, month: Month) -> Result<Vec<Due>, AllocError>
-    requires { AreBookRows (month_rows b.now) }
     ensures { IfOk result (λ dues. AreReported (month_rows b.now) month dues.items) }
 {
+    b.has_whole_rows();
     let mut dues = Vec::new(alloc);
     let mut of_run = Vec::new(alloc);
     for row in b.months() {

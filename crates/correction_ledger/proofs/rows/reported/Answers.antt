@@ -1,6 +1,6 @@
 use Rattle.std.proofs.Common.{sym, subst, ◌∙◌}
 use Rattle.recalc_engine.specs.RowViews.{lent_row}
-use Rattle.correction_ledger.specs.BookRows.{AreBookRows, HaveNames}
+use Rattle.recalc_engine.specs.RowLaws.{AreBookRows, HaveNames}
 use Rattle.correction_ledger.specs.RowViews.{AreReported}
 use Rattle.correction_ledger.proofs.ReportedLemmas.{begins, named_there, underway_done, underway_more}
 use Rattle.correction_ledger.proofs.rows.reported.Goals as goal
@@ -13,7 +13,7 @@ loop-row-init c = record {
 
 pub loop-row-preserved : goal.loop-row-preserved
 loop-row-preserved c =
-    let rows = subst AreBookRows (sym (c.into_iter-row-iterator.ensures.into_iter_gives ∙ c.months-row-items.ensures)) c.requires in
+    let rows = subst AreBookRows (sym (c.into_iter-row-iterator.ensures.into_iter_gives ∙ c.months-row-items.ensures)) c.has_whole_rows.ensures in
     let underway = rw c.in-Some.ensures.steps at c.loop-row.invariant.underway in
     let listed = rw c.outputs_by.ensures at c.in_ok-list_outputs.ensures in
     record {
@@ -23,7 +23,7 @@ loop-row-preserved c =
 
 pub list_outputs-requires-clause-named : goal.list_outputs-requires-clause-named
 list_outputs-requires-clause-named c =
-    let rows = subst AreBookRows (sym (c.into_iter-row-iterator.ensures.into_iter_gives ∙ c.months-row-items.ensures)) c.requires in
+    let rows = subst AreBookRows (sym (c.into_iter-row-iterator.ensures.into_iter_gives ∙ c.months-row-items.ensures)) c.has_whole_rows.ensures in
     let underway = rw c.in-Some.ensures.steps at c.loop-row.invariant.underway in
     subst HaveNames (sym c.outputs_by.ensures) (named_there c.into_iter-row-iterator.result c.args.month (lent_row c.in-Some.row) c.next.new.self c.loop-row.dues.items rows.named underway)
 
