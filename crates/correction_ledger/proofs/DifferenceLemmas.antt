@@ -19,7 +19,8 @@ longer s m d l k =
     times_assoc (numerator_of d) (ten_to (s - scale_of d)) (ten_to (m - s))
     ∙ ap (λ x. numerator_of d *ℤ x) (ten_add (s - scale_of d) (m - s) (m - scale_of d) (omega arith))
 
-at_fewer : (s m n : ℕ) (d : Decimal) → scale_of d ≤ s → s ≤ m → unsigned_abs (numerator_at m d) ≤ n → unsigned_abs (numerator_at s d) ≤ n
+at_fewer : (s m n : ℕ) (d : Decimal) → scale_of d ≤ s → s ≤ m → unsigned_abs (numerator_at m d) ≤ n →
+    unsigned_abs (numerator_at s d) ≤ n
 at_fewer s m n d l k h =
     let grown = abs_grows (numerator_at s d) (m - s) in
     let same = ap unsigned_abs (longer s m d l k) in

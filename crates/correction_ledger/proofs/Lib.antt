@@ -1,10 +1,10 @@
 mod DifferenceLemmas
 mod FileLemmas
-mod JoinLemmas
+mod BalanceLemmas
 mod KeptLemmas
 mod ListedLemmas
 mod OwedLemmas
-mod PlaceLemmas
+mod AccountLemmas
 mod ReportedLemmas
 mod RisingLemmas
 mod SomeLemmas

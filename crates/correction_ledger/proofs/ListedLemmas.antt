@@ -23,9 +23,9 @@ use Rattle.payroll_records.specs.NamedValues.{name_cmp, name_of}
 use Rattle.carry_bindings.specs.Carrying.{named}
 use Rattle.correction_ledger.specs.declared.due.Due.{Due}
 use Rattle.recalc_engine.specs.RowLaws.{HaveNames}
-use Rattle.correction_ledger.specs.Places.{due_amount}
+use Rattle.correction_ledger.specs.Accounts.{due_amount}
 use Rattle.correction_ledger.specs.RowViews.{AreListed, due_for, due_name, dues_of}
-use Rattle.correction_ledger.proofs.PlaceLemmas.{text_same}
+use Rattle.correction_ledger.proofs.AccountLemmas.{text_same}
 use Rattle.correction_ledger.proofs.RisingLemmas.{In, all_in, at_key_map, contains_of_in, found_in, in_found, in_of_contains}
 
 -- ---- names that differ and are sorted rise
@@ -47,7 +47,8 @@ less_of a b s d = by (name_cmp a b) refl
 sorted_tail : (x : Due) (xs : List Due) → IsSortedByKey due_name name_cmp (x ∷ xs) → IsSortedByKey due_name name_cmp xs
 sorted_tail x xs s k e low l = rw add-one (let more = s (suc k) e (omega arith) (omega arith) in rw add-one at more)
 
-pub rising_of_sorted : (ds : List Due) → IsSortedByKey due_name name_cmp ds → IsDistinct bytes_eq (names ds) → IsRising name_cmp due_name ds
+pub rising_of_sorted : (ds : List Due) → IsSortedByKey due_name name_cmp ds → IsDistinct bytes_eq (names ds) →
+    IsRising name_cmp due_name ds
 rising_of_sorted [] s d = tt
 rising_of_sorted (x ∷ []) s d = (tt, tt)
 rising_of_sorted (x ∷ y ∷ ys) s d =
@@ -58,15 +59,18 @@ rising_of_sorted (x ∷ y ∷ ys) s d =
 
 -- ---- what stands under a name
 
-find_is : (outputs : List NamedValue) (n : List ℕ) → at_key name_cmp name_of outputs n ≡ find (λ v. bytes_eq v.name n) outputs
+find_is : (outputs : List NamedValue) (n : List ℕ) →
+    at_key name_cmp name_of outputs n ≡ find (λ v. bytes_eq v.name n) outputs
 find_is [] n = refl
 find_is (v ∷ vs) n = λ i. if is_eq-slice_cmp v.name n i then Some v else find_is vs n i
 
-amount_of_due : (key : Key) (o : Option NamedValue) → option_map due_amount (option_map (due_for key) o) ≡ option_map (λ v. v.value) o
+amount_of_due : (key : Key) (o : Option NamedValue) →
+    option_map due_amount (option_map (due_for key) o) ≡ option_map (λ v. v.value) o
 amount_of_due key None = refl
 amount_of_due key (Some v) = refl
 
-unsorted_at : (key : Key) (outputs : List NamedValue) (n : List ℕ) → option_map due_amount (at_key name_cmp due_name (dues_of key outputs) n) ≡ named n outputs
+unsorted_at : (key : Key) (outputs : List NamedValue) (n : List ℕ) →
+    option_map due_amount (at_key name_cmp due_name (dues_of key outputs) n) ≡ named n outputs
 unsorted_at key outputs n =
     ap (option_map due_amount) (at_key_map name_cmp name_of due_name (due_for key) (λ v. refl) outputs n)
     ∙ amount_of_due key (at_key name_cmp name_of outputs n)
@@ -97,7 +101,8 @@ module _ (xs ys : List Due) (p : IsPermutation xs ys) (h : IsRising name_cmp due
   sorted_at : (n : List ℕ) → at_key name_cmp due_name ys n ≡ at_key name_cmp due_name xs n
   sorted_at n = by (at_key name_cmp due_name xs n) refl (at_key name_cmp due_name ys n) refl
     where
-      by : (a : Option Due) → at_key name_cmp due_name xs n ≡ a → (b : Option Due) → at_key name_cmp due_name ys n ≡ b → at_key name_cmp due_name ys n ≡ at_key name_cmp due_name xs n
+      by : (a : Option Due) → at_key name_cmp due_name xs n ≡ a → (b : Option Due) → at_key name_cmp due_name ys n ≡ b →
+          at_key name_cmp due_name ys n ≡ at_key name_cmp due_name xs n
       by (Some d) e b f =
           let found = found_in name_cmp due_name xs n d e in
           let name = text_same (due_name d) n found.1 in
@@ -110,7 +115,8 @@ module _ (xs ys : List Due) (p : IsPermutation xs ys) (h : IsRising name_cmp due
 
 -- ---- the whole
 
-in_dues : (P : Due → Type 0) (key : Key) (outputs : List NamedValue) → AllByRecursion (λ v. P (due_for key v)) outputs → AllByRecursion P (dues_of key outputs)
+in_dues : (P : Due → Type 0) (key : Key) (outputs : List NamedValue) → AllByRecursion (λ v. P (due_for key v)) outputs →
+    AllByRecursion P (dues_of key outputs)
 in_dues P key [] h = tt
 in_dues P key (v ∷ vs) h = (h.0, in_dues P key vs h.1)
 
@@ -136,7 +142,8 @@ empty_of (y ∷ ys) e = absurd (omega arith)
 eq_flips : (a b : List ℕ) → bytes_eq a b ≡ bytes_eq b a
 eq_flips a b = one_answer (bytes_eq a b) (bytes_eq b a) (bytes_eq-Decides a b) (λ e. sym ((bytes_eq-Decides b a).0 e), λ e. (bytes_eq-Decides b a).1 (sym e))
 
-pub listed_sorted : (key : Key) (outputs : List NamedValue) (ys : List Due) → HaveNames outputs → IsPermutation (dues_of key outputs) ys → IsSortedByKey due_name name_cmp ys → AreListed key outputs ys
+pub listed_sorted : (key : Key) (outputs : List NamedValue) (ys : List Due) → HaveNames outputs →
+    IsPermutation (dues_of key outputs) ys → IsSortedByKey due_name name_cmp ys → AreListed key outputs ys
 listed_sorted key outputs ys named p s =
     let apart = subst (IsDistinct bytes_eq) (sym (names_of_dues key outputs)) (IsDistinct-from_AllPairs bytes_eq-Decides (map name_of outputs) named) in
     let still = IsDistinct-IsPermutation bytes_eq eq_flips (names (dues_of key outputs)) (names ys) (IsPermutation-map due_name (dues_of key outputs) ys p) apart in

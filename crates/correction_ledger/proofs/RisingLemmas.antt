@@ -38,15 +38,18 @@ all_in P [] x h m = absurd m
 all_in P (y ∷ ys) x h (inl e) = subst P e h.0
 all_in P (y ∷ ys) x h (inr m) = all_in P ys x h.1 m
 
-pub all_append : {X : Type 0} (P : X → Type 0) (xs ys : List X) → AllByRecursion P xs → AllByRecursion P ys → AllByRecursion P (xs ++ ys)
+pub all_append : {X : Type 0} (P : X → Type 0) (xs ys : List X) → AllByRecursion P xs → AllByRecursion P ys →
+    AllByRecursion P (xs ++ ys)
 all_append P [] ys h k = k
 all_append P (x ∷ xs) ys h k = (h.0, all_append P xs ys h.1 k)
 
-pub all_more : {X : Type 0} (P Q : X → Type 0) (xs : List X) → ((x : X) → P x → Q x) → AllByRecursion P xs → AllByRecursion Q xs
+pub all_more : {X : Type 0} (P Q : X → Type 0) (xs : List X) → ((x : X) → P x → Q x) → AllByRecursion P xs →
+    AllByRecursion Q xs
 all_more P Q [] f h = tt
 all_more P Q (x ∷ xs) f h = (f x h.0, all_more P Q xs f h.1)
 
-pub all_map : {X Y : Type 0} (P : X → Type 0) (Q : Y → Type 0) (f : X → Y) (xs : List X) → ((x : X) → P x → Q (f x)) → AllByRecursion P xs → AllByRecursion Q (map f xs)
+pub all_map : {X Y : Type 0} (P : X → Type 0) (Q : Y → Type 0) (f : X → Y) (xs : List X) → ((x : X) → P x → Q (f x)) →
+    AllByRecursion P xs → AllByRecursion Q (map f xs)
 all_map P Q f [] g h = tt
 all_map P Q f (x ∷ xs) g h = (g x h.0, all_map P Q f xs g h.1)
 
@@ -58,7 +61,8 @@ tied Equal e = refl
 tied Greater e = cc e
 
 module _ {K X : Type 0} (cmp : K → K → Ordering) (key : X → K) where
-  pub at_key_append : (xs ys : List X) (k : K) → at_key cmp key (xs ++ ys) k ≡ option_or (at_key cmp key xs k) (at_key cmp key ys k)
+  pub at_key_append : (xs ys : List X) (k : K) →
+      at_key cmp key (xs ++ ys) k ≡ option_or (at_key cmp key xs k) (at_key cmp key ys k)
   at_key_append [] ys k = refl
   at_key_append (x ∷ xs) ys k = elim (is_eq (cmp (key x) k)) as (λ b. (if b then Some x else at_key cmp key (xs ++ ys) k) ≡ option_or (if b then Some x else at_key cmp key xs k) (at_key cmp key ys k)) [
     | true ↦ refl
@@ -87,12 +91,14 @@ module _ {K X : Type 0} (cmp : K → K → Ordering) (key : X → K) where
   pub above_in : (k : K) (xs : List X) (x : X) → AreAbove cmp key k xs → In xs x → cmp k (key x) ≡ Less
   above_in k xs x h m = all_in (λ x. cmp k (key x) ≡ Less) xs x (all_above k xs h) m
 
-  above_append : (k : K) (xs ys : List X) → AreAbove cmp key k xs → AreAbove cmp key k ys → AreAbove cmp key k (xs ++ ys)
+  above_append : (k : K) (xs ys : List X) → AreAbove cmp key k xs → AreAbove cmp key k ys →
+      AreAbove cmp key k (xs ++ ys)
   above_append k [] ys g h = h
   above_append k (x ∷ xs) ys g h = (g.0, above_append k xs ys g.1 h)
 
   -- two lists with rising keys, one above the other
-  pub rising_append : (xs ys : List X) → IsRising cmp key xs → IsRising cmp key ys → AllByRecursion (λ x. AreAbove cmp key (key x) ys) xs → IsRising cmp key (xs ++ ys)
+  pub rising_append : (xs ys : List X) → IsRising cmp key xs → IsRising cmp key ys →
+      AllByRecursion (λ x. AreAbove cmp key (key x) ys) xs → IsRising cmp key (xs ++ ys)
   rising_append [] ys g h a = h
   rising_append (x ∷ xs) ys g h a = (above_append (key x) xs ys g.0 a.0, rising_append xs ys g.1 h a.1)
 
@@ -117,13 +123,15 @@ module _ {K X : Type 0} (cmp : K → K → Ordering) (total : IsTotalOrder cmp) 
       rw l (in_found ys x h.1 m)
 
   -- two lists with rising keys and the same elements are one
-  pub same_elements : (xs ys : List X) → IsRising cmp key xs → IsRising cmp key ys → ((x : X) → In xs x → In ys x) → ((x : X) → In ys x → In xs x) → xs ≡ ys
+  pub same_elements : (xs ys : List X) → IsRising cmp key xs → IsRising cmp key ys → ((x : X) → In xs x → In ys x) →
+      ((x : X) → In ys x → In xs x) → xs ≡ ys
   same_elements [] [] g h f b = refl
   same_elements [] (y ∷ ys) g h f b = absurd (b y (inl refl))
   same_elements (x ∷ xs) [] g h f b = absurd (f x (inl refl))
   same_elements (x ∷ xs) (y ∷ ys) g h f b =
       let heads : x ≡ y = first (f x (inl refl)) (b y (inl refl)) in
-      ap (λ z. z ∷ xs) heads ∙ ap (λ t. y ∷ t) (same_elements xs ys g.1 h.1 (λ z m. there heads z m (f z (inr m))) (λ z m. back heads z m (b z (inr m))))
+      ap (λ z. z ∷ xs) heads
+      ∙ ap (λ t. y ∷ t) (same_elements xs ys g.1 h.1 (λ z m. there heads z m (f z (inr m))) (λ z m. back heads z m (b z (inr m))))
     where
       first : In (y ∷ ys) x → In (x ∷ xs) y → x ≡ y
       first (inl e) n = sym e
@@ -155,7 +163,8 @@ module _ {K X Y : Type 0} (cmp : K → K → Ordering) (total : IsTotalOrder cmp
     | Some y ↦ λ e. (subst (λ k. AreAbove cmp to k (filter_map f xs)) (sym (keeps x y e)) (above_filter_map (key x) xs h.0), rising_filter_map xs h.1)
   ] refl
 
-  pub at_key_filter_map : (xs : List X) (k : K) → IsRising cmp key xs → at_key cmp to (filter_map f xs) k ≡ option_and_then f (at_key cmp key xs k)
+  pub at_key_filter_map : (xs : List X) (k : K) → IsRising cmp key xs →
+      at_key cmp to (filter_map f xs) k ≡ option_and_then f (at_key cmp key xs k)
   at_key_filter_map [] k h = refl
   at_key_filter_map (x ∷ xs) k h = elim (f x) as (λ o. f x ≡ o → at_key cmp to (cons_option o (filter_map f xs)) k ≡ option_and_then f (if is_eq (cmp (key x) k) then Some x else at_key cmp key xs k)) [
     | None ↦ λ e. (elim (cmp (key x) k) as (λ o. cmp (key x) k ≡ o → at_key cmp to (filter_map f xs) k ≡ option_and_then f (if is_eq o then Some x else at_key cmp key xs k)) [

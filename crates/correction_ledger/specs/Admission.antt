@@ -11,7 +11,8 @@ use Rattle.correction_ledger.specs.Open.{first_open}
 
 -- why a month isn't filed, but for the number of entries
 abbrev pub IsAdmitRefused : List KeyedRow → Month → Option Month → FileRefusal → Type 0
-IsAdmitRefused rows month last (file.Early since) = (last ≡ Some since) × (month_cmp since month ≢ Less)
+IsAdmitRefused rows month last (file.Early since) =
+    (last ≡ Some since) × (month_cmp since month ≢ Less)
 IsAdmitRefused rows month last (file.Open key) =
     IsLater month last × (first_open month rows ≡ Some key)
 IsAdmitRefused rows month last file.Entries = ⊥

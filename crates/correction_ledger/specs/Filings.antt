@@ -44,7 +44,7 @@ pub record IsFiling (rows : List KeyedRow) (month : Month) (old new : Filings)
   pub few : length new.entries ≤ most_entries
 
 -- there would be too many entries
-pub record IsFull (rows : List KeyedRow) (month : Month) (old : Filings) : Type 0 where
+pub record HasTooMany (rows : List KeyedRow) (month : Month) (old : Filings) : Type 0 where
   pub allowed : IsClosed rows month old.last
   pub dues : List Due
   pub owed : IsOwed rows old.entries month dues
@@ -56,7 +56,7 @@ IsFileRefused rows month old (file.Early last) =
     (old.last ≡ Some last) × (month_cmp last month ≢ Less)
 IsFileRefused rows month old (file.Open key) =
     IsLater month old.last × (first_open month rows ≡ Some key)
-IsFileRefused rows month old file.Entries = IsFull rows month old
+IsFileRefused rows month old file.Entries = HasTooMany rows month old
 IsFileRefused rows month old (file.Memory error) = ⊤
 
 -- these are owed up to the last filed month, and all runs up to it are ok

@@ -1,6 +1,6 @@
 pub mod Limits
 pub mod Months
-pub mod Places
+pub mod Accounts
 pub mod Owed
 pub mod Filings
 pub mod OwedLaws

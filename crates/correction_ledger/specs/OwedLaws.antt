@@ -9,7 +9,7 @@ use Rattle.correction_ledger.specs.declared.due.Entry.{Entry}
 use Rattle.correction_ledger.specs.Filings.{entry_with}
 use Rattle.correction_ledger.specs.Months.{is_up_to}
 use Rattle.correction_ledger.specs.Owed.{IsOwed, filed, reported}
-use Rattle.correction_ledger.specs.Places.{Place, amount_at}
+use Rattle.correction_ledger.specs.Accounts.{Account, amount_at}
 
 -- there is exactly one list of all that is owed
 pub record HasOneOwed (rows : List KeyedRow) (entries : List Entry) (month : Month) : Type 0 where
@@ -17,6 +17,7 @@ pub record HasOneOwed (rows : List KeyedRow) (entries : List Entry) (month : Mon
   pub owed : IsOwed rows entries month dues
   pub alone : (other : List Due) → IsOwed rows entries month other → other ≡ dues
 
+-- so for every book's rows, entries and month
 abbrev pub OwedIsOne : Type 0
 OwedIsOne =
     (rows : List KeyedRow) (entries : List Entry) (month : Month) → HasOneOwed rows entries month
@@ -24,7 +25,7 @@ OwedIsOne =
 -- what was filed and what is owed together are what the book reports, by value
 abbrev pub OwedSettles : Type 0
 OwedSettles =
-    (rows : List KeyedRow) (entries : List Entry) (month : Month) (dues : List Due) (p : Place)
+    (rows : List KeyedRow) (entries : List Entry) (month : Month) (dues : List Due) (p : Account)
     → IsOwed rows entries month dues → IsTrue (is_up_to month p.key.day)
     → value_order (sum (filed entries p) (amount_at dues p)) (reported rows p) ≡ Equal
 

@@ -1,8 +1,8 @@
 //! What the book reports beside what was filed, output by output.
 ghost use Rattle.std.specs.Prelude.{◌≡◌};
 ghost use Rattle.std.specs.Iterator.{YieldsFirst, item_count};
-ghost use Rattle.correction_ledger.specs.Places.{place_cmp, place_of};
-ghost use Rattle.correction_ledger.specs.BalanceViews.{IsBounded, both, due_of, filed_only, joined};
+ghost use Rattle.correction_ledger.specs.Accounts.{account_cmp, account_of};
+ghost use Rattle.correction_ledger.specs.BalanceViews.{AreBothBounded, both_sides, owed_of, filed_only, balances_of};
 ghost use Rattle.correction_ledger.specs.BalanceViews.{reported_only, settled_of};
 
 use crate::due::Due;
@@ -48,7 +48,7 @@ impl Balance {
 
     /// The balance of an output that the book reports and of which something was filed.
     fn both(reported: &Due, filed: &Due) -> Balance
-        ensures { result ≡ both reported.now filed.now }
+        ensures { result ≡ both_sides reported.now filed.now }
     {
         Balance {
             key: reported.key,
@@ -60,8 +60,8 @@ impl Balance {
 
     /// What is owed, where the values differ.
     pub(crate) fn due(&self) -> Option<Due>
-        requires { IsBounded self.now }
-        ensures { result ≡ due_of self.now }
+        requires { AreBothBounded self.now }
+        ensures { result ≡ owed_of self.now }
     {
         if self.reported.compare(self.filed) == Ordering::Equal {
             return None;
@@ -75,7 +75,7 @@ impl Balance {
 
     /// What is filed once that is filed too.
     pub(crate) fn settled(&self) -> Due
-        requires { IsBounded self.now }
+        requires { AreBothBounded self.now }
         ensures { result ≡ settled_of self.now }
     {
         let amount = match self.due() {
@@ -100,17 +100,17 @@ pub(crate) struct Balances<'a> {
 impl<'a> Model for Balances<'a> {
     ghost use Rattle.std.specs.Prelude.{List};
     ghost use Rattle.correction_ledger.specs.declared.balances.Balance.{Balance};
-    ghost use Rattle.correction_ledger.specs.BalanceViews.{joined};
+    ghost use Rattle.correction_ledger.specs.BalanceViews.{balances_of};
 
     ghost Value = { List Balance };
 
-    ghost view = { λ b. joined b.reported.now b.filed.now };
+    ghost view = { λ b. balances_of b.reported.now b.filed.now };
 }
 
 impl<'a> Balances<'a> {
     /// The balances of what is reported and what was filed.
     pub(crate) fn of(reported: &'a [Due], filed: &'a [Due]) -> Balances<'a>
-        ensures { result ≡ joined reported.now filed.now }
+        ensures { result ≡ balances_of reported.now filed.now }
     {
         Balances { reported, filed }
     }
@@ -153,7 +153,7 @@ impl<'a> Iterator for Balances<'a> {
 
 /// The order of two outputs: by key, then by name.
 fn order(a: &Due, b: &Due) -> Ordering
-    ensures { result ≡ place_cmp (place_of a.now) (place_of b.now) }
+    ensures { result ≡ account_cmp (account_of a.now) (account_of b.now) }
 {
     a.key.cmp(&b.key).then(a.name.cmp(&b.name))
 }

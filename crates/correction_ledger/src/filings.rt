@@ -1,7 +1,7 @@
 //! What is owed, and what is filed with it: one pass over the balances each.
 ghost use Rattle.std.specs.Prelude.{◌≡◌, ◌++◌, IfOk, map};
 ghost use Rattle.std.specs.List.{AllByRecursion, filter_map};
-ghost use Rattle.correction_ledger.specs.BalanceViews.{IsBounded, due_of, settled_of};
+ghost use Rattle.correction_ledger.specs.BalanceViews.{AreBothBounded, owed_of, settled_of};
 ghost use Rattle.correction_ledger.specs.Filings.{entry_with};
 
 use crate::balances::Balances;
@@ -11,8 +11,8 @@ use std::alloc::{AllocError, Global};
 
 /// What is owed.
 pub(crate) fn owed(alloc: Global, balances: Balances) -> Result<Vec<Due>, AllocError>
-    requires { AllByRecursion IsBounded balances }
-    ensures { IfOk result (λ dues. dues.items ≡ filter_map due_of balances.entry) }
+    requires { AllByRecursion AreBothBounded balances }
+    ensures { IfOk result (λ dues. dues.items ≡ filter_map owed_of balances.entry) }
 {
     let mut dues = Vec::new(alloc);
     for balance in balances {
@@ -25,7 +25,7 @@ pub(crate) fn owed(alloc: Global, balances: Balances) -> Result<Vec<Due>, AllocE
 
 /// What is filed of each output once what is owed is filed.
 pub(crate) fn settled(alloc: Global, balances: Balances) -> Result<Vec<Due>, AllocError>
-    requires { AllByRecursion IsBounded balances }
+    requires { AllByRecursion AreBothBounded balances }
     ensures { IfOk result (λ sums. sums.items ≡ map settled_of balances.entry) }
 {
     let mut sums = Vec::new(alloc);

@@ -30,13 +30,13 @@ pub struct Ledger {
 
 impl Model for Ledger {
     ghost use Rattle.correction_ledger.specs.Filings.{Filings};
-    ghost use Rattle.correction_ledger.specs.FilingViews.{AreKept};
+    ghost use Rattle.correction_ledger.specs.FilingViews.{AreSumsOf};
 
     ghost Value = { Filings };
 
     ghost view = { λ l. record { entries = l.entries.items; last = l.last } };
 
-    ghost invariant = { λ l. AreKept l.entries.items l.sums.items l.last };
+    ghost invariant = { λ l. AreSumsOf l.entries.items l.sums.items l.last };
 }
 
 /// Why a month isn't filed.

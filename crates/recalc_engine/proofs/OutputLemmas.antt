@@ -37,18 +37,21 @@ use Rattle.recalc_engine.specs.MonthViews.{kept_row, kept_rows, rows_kept, rows_
 use Rattle.recalc_engine.specs.RowLaws.{AreNamed, HasBound, HasNames, HaveNames}
 use Rattle.recalc_engine.proofs.RowLemmas.{next}
 
-all_both : {X : Type 0} (P : X → Type 0) (xs ys : List X) → AllByRecursion P xs → AllByRecursion P ys → AllByRecursion P (xs ++ ys)
+all_both : {X : Type 0} (P : X → Type 0) (xs ys : List X) → AllByRecursion P xs → AllByRecursion P ys →
+    AllByRecursion P (xs ++ ys)
 all_both P [] ys h g = g
 all_both P (x ∷ xs) ys h g = (h.0, all_both P xs ys h.1 g)
 
 -- ---- what is kept is bounded
 
-kept_bounded : (rs : List Record) (os : List Outcome) → AllByRecursion IsBounded os → AllByRecursion HasBound (kept_rows rs os)
+kept_bounded : (rs : List Record) (os : List Outcome) → AllByRecursion IsBounded os →
+    AllByRecursion HasBound (kept_rows rs os)
 kept_bounded [] os h = tt
 kept_bounded (r ∷ rs) [] h = tt
 kept_bounded (r ∷ rs) (o ∷ os) h = (h.0, kept_bounded rs os h.1)
 
-pub years_bounded : (plans : List (Entry Accepted)) (ys : List Year) → AllByRecursion (IsYear plans) ys → AllByRecursion HasBound (rows_kept ys)
+pub years_bounded : (plans : List (Entry Accepted)) (ys : List Year) → AllByRecursion (IsYear plans) ys →
+    AllByRecursion HasBound (rows_kept ys)
 years_bounded plans [] h = tt
 years_bounded plans (y ∷ ys) h =
     all_both HasBound (rows_kept_in y) (rows_kept ys) (kept_bounded y.records.items y.outcomes.items h.0.kept.bounded) (years_bounded plans ys h.1)
@@ -120,19 +123,24 @@ abbrev HasPlan : Option (Entry Accepted) → Type 0
 HasPlan None = Unit {0}
 HasPlan (Some e) = IsPlan (plan_of e)
 
-filled_named : (e : Entry Accepted) (d : Day) (f : Filled) → IsPlan (plan_of e) → AreNamed (outputs_in (row_filled e d f).state)
+filled_named : (e : Entry Accepted) (d : Day) (f : Filled) → IsPlan (plan_of e) →
+    AreNamed (outputs_in (row_filled e d f).state)
 filled_named e d (filling.Inputs inputs) h = run_named (plan_of e) inputs h
 filled_named e d (filling.State why) h = tt
 
-row_named : (o : Option (Entry Accepted)) (earlier : List Earlier) (r : Record) → HasPlan o → AreNamed (outputs_in (row_of o earlier r).state)
+row_named : (o : Option (Entry Accepted)) (earlier : List Earlier) (r : Record) → HasPlan o →
+    AreNamed (outputs_in (row_of o earlier r).state)
 row_named None earlier r h = tt
 row_named (Some e) earlier r h = filled_named e r.day (filled (plan_of e) r.values earlier) h
 
-rows_named : (k : YearKey) (planned : Planned) → ((d : Day) → HasPlan (planned d)) → (earlier : List Earlier) (rs : List Record) → AllByRecursion HasNames (map (keyed_row k) (rows planned earlier rs))
+rows_named : (k : YearKey) (planned : Planned) → ((d : Day) → HasPlan (planned d)) →
+    (earlier : List Earlier) (rs : List Record) →
+    AllByRecursion HasNames (map (keyed_row k) (rows planned earlier rs))
 rows_named k planned h earlier [] = tt
 rows_named k planned h earlier (r ∷ rs) = (row_named (planned r.day) earlier r (h r.day), rows_named k planned h (next planned earlier r) rs)
 
-all_named : (planned : Planned) → ((d : Day) → HasPlan (planned d)) → (years : List YearRuns) → AllByRecursion HasNames (flat_map (keyed_rows planned) years)
+all_named : (planned : Planned) → ((d : Day) → HasPlan (planned d)) → (years : List YearRuns) →
+    AllByRecursion HasNames (flat_map (keyed_rows planned) years)
 all_named planned h [] = tt
 all_named planned h (y ∷ ys) = all_both HasNames (keyed_rows planned y) (flat_map (keyed_rows planned) ys) (rows_named y.key planned h [] y.runs) (all_named planned h ys)
 

@@ -100,7 +100,7 @@ fn one_record(alloc: Global) -> Result<Vec<Record>, Fail>
     Ok(records)
 }
 
-fn carried_out<L: Ledger>(
+pub(crate) fn carried_out<L: Ledger>(
     alloc: Global,
     book: &mut Book,
     line: &str,

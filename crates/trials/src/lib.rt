@@ -21,6 +21,8 @@ mod element_texts;
 #[cfg(test)]
 mod expressions;
 #[cfg(test)]
+mod filings;
+#[cfg(test)]
 mod intervals;
 #[cfg(test)]
 mod kinds;

@@ -1,7 +1,7 @@
 use Rattle.std.proofs.Common.{sym, subst}
 use Rattle.scaled_decimal.specs.WorkingNumbers.{SumFits}
 use Rattle.correction_ledger.proofs.DifferenceLemmas.{sum_fits}
-use Rattle.correction_ledger.proofs.JoinLemmas.{due_amount_is}
+use Rattle.correction_ledger.proofs.BalanceLemmas.{due_amount_is}
 use Rattle.correction_ledger.proofs.balances.Balance.settled.Goals as goal
 
 pub add-amount-requires : goal.add-amount-requires

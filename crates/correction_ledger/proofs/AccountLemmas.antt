@@ -1,4 +1,4 @@
--- Places that tie are one place; the days up to a month are among those up to a later one.
+-- Accounts that tie are one account; the days up to a month are among those up to a later one.
 use Rattle.std.proofs.Common.{◌≡◌, ℕ, List, true, false, refl, sym, ap, ◌∙◌}
 use Rattle.std.specs.declared.cmp.Ordering.{Ordering}
 use Rattle.std.specs.declared.cmp.Ordering.TheVariants.{Less, Equal, Greater}
@@ -16,11 +16,11 @@ use Rattle.payroll_records.specs.NamedValues.{name_cmp}
 use Rattle.payroll_records.proofs.Laws.{key_total}
 use Rattle.book_year.proofs.Laws.{day_same}
 use Rattle.correction_ledger.specs.Months.{is_up_to, month_cmp}
-use Rattle.correction_ledger.specs.Places.{Place, place_cmp}
+use Rattle.correction_ledger.specs.Accounts.{Account, account_cmp}
 
--- places are in a total order
-pub place_total : IsTotalOrder place_cmp
-place_total = then_total (on_total (λ (p : Place). p.key) key_total) (on_total (λ (p : Place). p.name) nat_list_cmp_total)
+-- accounts are in a total order
+pub account_total : IsTotalOrder account_cmp
+account_total = then_total (on_total (λ (p : Account). p.key) key_total) (on_total (λ (p : Account). p.name) nat_list_cmp_total)
 
 first_tie : (o p : Ordering) → ordering_then o p ≡ Equal → o ≡ Equal
 first_tie Less p e = cc e
@@ -43,8 +43,8 @@ key_same a b e =
     let day = day_same a.day b.day (second_tie employees (day_cmp a.day b.day) e) in
     λ i. record { employee = employee i; day = day i }
 
-pub place_same : (p q : Place) → place_cmp p q ≡ Equal → p ≡ q
-place_same p q e =
+pub account_same : (p q : Account) → account_cmp p q ≡ Equal → p ≡ q
+account_same p q e =
     let key = key_same p.key q.key (first_tie (key_cmp p.key q.key) (name_cmp p.name q.name) e) in
     let name = text_same p.name q.name (second_tie (key_cmp p.key q.key) (name_cmp p.name q.name) e) in
     λ i. record { key = key i; name = name i }
