@@ -1,7 +1,6 @@
 -- An edit has one answer.
-use Rattle.std.proofs.Common.{◌≡◌, ℕ, zero, suc, ◌+◌, ◌<◌, ◌≤◌, ◌⊎◌, inl, inr, List, [], ◌∷◌, get_or, length, Option, Some, None, Result, Ok, Err, IsSome, IsNone, is_some, true, false, Bool, if◌then◌else◌, refl, sym, ap, subst, ◌∙◌, arith, rules}
+use Rattle.std.proofs.Common.{◌≡◌, ℕ, zero, suc, ◌+◌, ◌<◌, ◌⊎◌, inl, inr, List, [], ◌∷◌, get_or, length, Option, Some, None, Result, Ok, Err, IsSome, IsNone, is_some, true, false, Bool, if◌then◌else◌, refl, sym, ap, subst, ◌∙◌, arith, rules}
 use Rattle.std.specs.List.{AllByRecursion}
-use Rattle.std.specs.declared.alloc.AllocError.{AllocError}
 use Rattle.std.proofs.Math.Bridge.{le_prop}
 use Rattle.std.proofs.Math.Dec.{T_prop}
 use Rattle.std.proofs.lemmas.Bool.{cases_lt}
@@ -15,8 +14,6 @@ use Rattle.payroll_records.specs.Days.{IsMonth}
 use Rattle.payroll_records.specs.Tables.{key_of}
 use Rattle.plan_calendar.specs.Picking.{Entry, day_of, entry_at}
 use Rattle.book_year.specs.Accepted.{Accepted}
-use Rattle.book_year.specs.declared.outcome.Work.{Work}
-use Rattle.book_year.specs.Jobs.{work_of}
 use Rattle.book_edits.specs.declared.in_month.InMonth.{InMonth}
 use Rattle.book_edits.specs.declared.in_month.InMonth.TheVariants.{Empty, One, Several}
 use Rattle.book_edits.specs.declared.refusal.EditRefusal.{EditRefusal}
@@ -25,8 +22,8 @@ use Rattle.book_edits.specs.Books.{YearRuns, run_at, run_count, source_of, withd
 use Rattle.book_edits.specs.Refusals.{CanAdd, IsFull, IsMonthOf, IsOne, most_records}
 use Rattle.book_edits.specs.Replans.{IsFull as NoRoom, most_plans}
 use Rattle.book_loads.specs.Loads.{CanLoad, IsFirstPresent, IsFree, IsOver}
-use Rattle.recalc_engine.specs.Contents.{Contents, jobs_between}
-use Rattle.recalc_engine.specs.EditAnswers.{Edit, add, change, withdraw, load, put, drop, CanEdit, EditAnswers, EditsHaveOneAnswer, HasOneAnswer, IsEdited, IsEditRefused, edited, with_edit}
+use Rattle.recalc_engine.specs.Contents.{Contents}
+use Rattle.recalc_engine.specs.EditAnswers.{add, change, withdraw, load, put, drop, EditAnswers, EditsHaveOneAnswer, HasOneAnswer, edited}
 
 none_or_some : {X : Type 0} (o : Option X) → IsNone o → IsSome o → ⊥
 none_or_some None n s = cc
@@ -427,26 +424,3 @@ one_answer book (withdraw e w) = withdraw_once book e w
 one_answer book (load items) = load_once book items
 one_answer book (put p) = put_once book p
 one_answer book (drop d) = drop_once book d
-
--- ---- what a call comes to
-
-pub edit_made : (old : Contents) (e : Edit) (work : Work) (years : List YearRuns) (plans : List (Entry Accepted)) → CanEdit old e → years ≡ (with_edit e old).years → plans ≡ (with_edit e old).plans → work ≡ work_of (jobs_between old (with_edit e old)) →
-    IsEdited old e (record { years = years; plans = plans; last = work }) (Ok work)
-edit_made old e work years plans can years_are plans_are work_is = ((can, λ i. record { years = years_are i; plans = plans_are i; last = work_is i }), refl)
-
-can_of : (old : Contents) (e : Edit) (x : AllocError) → IsEditRefused old e (refusal.Memory x) → CanEdit old e
-can_of old (add r) x h = h
-can_of old (change r) x h = h
-can_of old (withdraw e w) x h = h
-can_of old (load items) x h = h
-can_of old (put p) x h = h
-can_of old (drop d) x h = h
-
-pub edit_refused : (old : Contents) (e : Edit) (why : EditRefusal) (new : Contents) → IsEditRefused old e why → new ≡ old → IsEdited old e new (Err why)
-edit_refused old e (refusal.Memory x) new h same = ((can_of old e x h, refl), same)
-edit_refused old e (refusal.Present k) new h same = (h, same)
-edit_refused old e (refusal.Absent f w) new h same = (h, same)
-edit_refused old e (refusal.Several f m) new h same = (h, same)
-edit_refused old e refusal.Records new h same = (h, same)
-edit_refused old e refusal.Plans new h same = (h, same)
-edit_refused old e (refusal.NoPlanThere d) new h same = (h, same)

@@ -1,5 +1,5 @@
 -- The rows of a book rise by employee and day, one for each run.
-use Rattle.std.proofs.Common.{◌≡◌, ℕ, ◌+◌, ◌<◌, List, [], ◌∷◌, ◌++◌, map, length, Option, Some, None, option_map, true, false, Bool, if◌then◌else◌, refl, sym, ap, subst, ◌∙◌, arith, get_or, suc, inl, inr}
+use Rattle.std.proofs.Common.{◌≡◌, ℕ, ◌+◌, ◌<◌, List, [], ◌∷◌, ◌++◌, map, length, Option, Some, None, option_map, true, false, if◌then◌else◌, refl, ap, subst, ◌∙◌, arith, get_or, suc, inl, inr}
 use Rattle.std.specs.List.{AllByRecursion, flat_map}
 use Rattle.std.specs.declared.cmp.Ordering.{Ordering}
 use Rattle.std.specs.declared.cmp.Ordering.TheVariants.{Less, Equal, Greater}
@@ -16,7 +16,7 @@ use Rattle.payroll_records.specs.declared.record.Key.{Key}
 use Rattle.payroll_records.specs.declared.record.Record.{Record}
 use Rattle.payroll_records.specs.Orders.{day_cmp, key_cmp}
 use Rattle.payroll_records.proofs.Laws.{key_total}
-use Rattle.plan_calendar.specs.Picking.{AreEntries, Entry, or_else, pick, plan_of}
+use Rattle.plan_calendar.specs.Picking.{AreEntries, Entry, or_else, pick}
 use Rattle.carry_bindings.specs.declared.carried.Earlier.{Earlier}
 use Rattle.pap_plan.specs.Plans.{Seen}
 use Rattle.book_year.specs.Accepted.{Accepted, accepted, plans_in}
@@ -24,16 +24,15 @@ use Rattle.book_year.specs.declared.outcome.Work.{Work}
 use Rattle.book_year.specs.declared.year.Year.{Year}
 use Rattle.book_year.specs.declared.year.YearKey.{YearKey}
 use Rattle.book_year.specs.Records.{record_day}
-use Rattle.book_year.specs.Rows.{Planned, Row, row_of, rows, year_rows}
+use Rattle.book_year.specs.Rows.{Planned, Row, rows, year_rows}
 use Rattle.book_year.specs.Years.{IsOwn, IsYear}
 use Rattle.book_year.proofs.Laws.{row_of_day, rows_length, rows_rising}
-use Rattle.book_edits.specs.Books.{AreInOrder, YearRuns, run_count, runs_key, runs_of, runs_or_none, year_cmp, year_of}
+use Rattle.book_edits.specs.Books.{YearRuns, run_count, runs_key, runs_of, runs_or_none, year_cmp, year_of}
 use Rattle.book_edits.specs.declared.years.Years.{Years}
 use Rattle.book_edits.specs.Kept.{AreYears, runs_in, years_of}
 use Rattle.book_edits.proofs.Laws.{at_key_map, kept_in_order, plans_length, plans_rise, year_same}
 use Rattle.recalc_engine.specs.BookLaws.{ArePlans, HasOwnRuns, IsBook, IsPlan, RowsAreCounted, RowsAreRuns, RowsRise, row_key}
-use Rattle.recalc_engine.specs.Contents.{Contents, row_at}
-use Rattle.recalc_engine.specs.MonthRows.{KeyedRow, keyed_row, keyed_rows, month_rows}
+use Rattle.recalc_engine.specs.MonthRows.{KeyedRow, keyed_row, keyed_rows}
 use Rattle.recalc_engine.proofs.RowLemmas.{next, row_day}
 
 -- ---- one list after another

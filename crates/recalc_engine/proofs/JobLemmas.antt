@@ -26,7 +26,6 @@ use Rattle.pap_plan.specs.Inputs.{AreSlots}
 use Rattle.pap_plan.specs.Plans.{Seen}
 use Rattle.book_year.specs.Accepted.{Accepted, accepted, accepted_entry, plans_in}
 use Rattle.book_year.specs.declared.outcome.Outcome.{Outcome}
-use Rattle.book_year.specs.declared.outcome.State.{State}
 use Rattle.book_year.specs.declared.year.Year.{Year}
 use Rattle.book_year.specs.Records.{record_day}
 use Rattle.book_year.specs.Runs.{filled}

@@ -1,13 +1,12 @@
 -- An edit of the runs changes the run at its key alone.
 use Rattle.std.proofs.Common.{◌≡◌, ◌<◌, List, [], ◌∷◌, length, Option, Some, None, Bool, true, false, IsTrue, ◌||◌, if◌then◌else◌, refl, sym, ap, subst, ◌∙◌, arith}
-use Rattle.std.specs.List.{list_any}
 use Rattle.std.specs.declared.cmp.Ordering.{Ordering}
 use Rattle.std.specs.declared.cmp.Ordering.TheVariants.{Less, Equal, Greater}
 use Rattle.std.specs.Ordering.{is_eq, nat_cmp, ordering_then}
 use Rattle.std.specs.Cmp.Lexicographic.{slice_cmp}
 use Rattle.std.proofs.lemmas.Cmp.{tied_back}
 use Rattle.rising_lists.specs.Keyed.{at_key, IsRising}
-use Rattle.rising_lists.proofs.Laws.{at_key_put, at_key_without, without_rising}
+use Rattle.rising_lists.proofs.Laws.{at_key_put, at_key_without}
 use Rattle.payroll_records.specs.declared.day.Day.{Day}
 use Rattle.payroll_records.specs.declared.record.Key.{Key}
 use Rattle.payroll_records.specs.declared.record.Record.{Record}
@@ -17,11 +16,11 @@ use Rattle.payroll_records.proofs.Laws.{day_total, key_total}
 use Rattle.plan_calendar.specs.Picking.{or_else}
 use Rattle.book_year.specs.declared.year.YearKey.{YearKey}
 use Rattle.book_year.specs.Records.{put_run, record_day, without_run}
-use Rattle.book_edits.specs.Books.{AreInOrder, YearRuns, added, changed, edited, loaded, run_at, runs_key, runs_of, runs_or_none, with_runs, withdrawn, year_cmp, year_of}
+use Rattle.book_edits.specs.Books.{AreInOrder, YearRuns, added, changed, loaded, run_at, runs_key, runs_of, runs_or_none, with_runs, withdrawn, year_cmp, year_of}
 use Rattle.book_edits.proofs.Laws.{put_some, runs_rising, year_same, year_total}
 use Rattle.book_loads.specs.Loads.{AreDistinct}
 use Rattle.recalc_engine.specs.RunMaps.{RunsAreMapped, on_day, with_none, with_run}
-use Rattle.recalc_engine.proofs.BookLemmas.{IsIn, not_tied}
+use Rattle.recalc_engine.proofs.BookLemmas.{not_tied}
 
 -- ---- the runs of a year, once a year has these
 

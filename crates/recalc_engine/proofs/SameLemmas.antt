@@ -1,5 +1,5 @@
 -- A plan put in place of one with its texts changes nothing; a run that has a job is done.
-use Rattle.std.proofs.Common.{◌≡◌, ℕ, List, [], ◌∷◌, length, Option, Some, None, true, false, if◌then◌else◌, Result, Ok, Err, refl, sym, ap, subst, ◌∙◌}
+use Rattle.std.proofs.Common.{◌≡◌, ℕ, List, [], ◌∷◌, Option, Some, None, true, false, if◌then◌else◌, Result, Ok, refl, sym, ap, subst, ◌∙◌}
 use Rattle.std.specs.List.{AllByRecursion}
 use Rattle.std.specs.Option.{option_and_then}
 use Rattle.std.specs.declared.cmp.Ordering.{Ordering}
@@ -10,7 +10,6 @@ use Rattle.std.proofs.lemmas.Cmp.{tied_back, tied_itself}
 use Rattle.rising_lists.specs.Keyed.{at_key, put, put_by, IsRising}
 use Rattle.rising_lists.proofs.Laws.{above_more, at_key_above}
 use Rattle.payroll_records.specs.declared.day.Day.{Day}
-use Rattle.payroll_records.specs.declared.record.Key.{Key}
 use Rattle.payroll_records.specs.declared.record.Record.{Record}
 use Rattle.payroll_records.specs.Orders.{day_cmp}
 use Rattle.payroll_records.proofs.Laws.{day_total}
@@ -25,17 +24,15 @@ use Rattle.book_year.specs.Accepted.{Accepted}
 use Rattle.book_year.specs.declared.outcome.State.TheVariants as state
 use Rattle.book_year.specs.Jobs.{work_of}
 use Rattle.book_year.specs.Records.{record_day}
-use Rattle.book_year.specs.Rows.{Job, Row, row_filled, row_of, year_rows}
+use Rattle.book_year.specs.Rows.{Job, Row, row_filled, row_of}
 use Rattle.book_year.specs.Runs.{filled, run_outputs}
 use Rattle.book_year.proofs.Laws.{day_same, year_quiet}
 use Rattle.book_edits.specs.Books.{AreInOrder, YearRuns, runs_key, runs_of, runs_or_none, year_cmp, year_of}
 use Rattle.book_edits.specs.Kept.{jobs_in}
 use Rattle.book_edits.proofs.Laws.{IsQuiet, at_key_tied, found_each, jobs_quiet, year_total}
-use Rattle.recalc_engine.specs.BookLaws.{ArePlans, HasTexts, IsBook, IsDoneBy, IsPlan, JobsAreDone, PutsTheSame, SameTextsChangeNothing, idle}
+use Rattle.recalc_engine.specs.BookLaws.{ArePlans, HasTexts, IsBook, IsDoneBy, IsPlan, JobsAreDone, SameTextsChangeNothing}
 use Rattle.recalc_engine.specs.Contents.{Contents, jobs_between, row_at}
-use Rattle.recalc_engine.specs.EditAnswers.{edited, put as put_plan}
-use Rattle.recalc_engine.specs.Jobs.{job_of_key}
-use Rattle.recalc_engine.proofs.RowLemmas.{IsRunOn, row_day, run_on}
+use Rattle.recalc_engine.proofs.RowLemmas.{run_on}
 
 -- ---- what stands at a key, put again
 

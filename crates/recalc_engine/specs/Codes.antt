@@ -1,5 +1,5 @@
 -- How proofs tell the trees of plans apart: each as a tree of numbers. No contract's meaning rests on this.
-use Rattle.std.specs.Prelude.{◌≡◌, ℕ, List, Bool, true, false, nat_eq}
+use Rattle.std.specs.Prelude.{◌≡◌, ℕ, List, true, false, nat_eq}
 use Rattle.std.proofs.Common.{ap, sym}
 use Rattle.std.proofs.lemmas.Bool.{false≢true}
 use base.Stored.{Gv, gnil, gnum, gcons, num, Coded, coded_list, coded_ℕ}

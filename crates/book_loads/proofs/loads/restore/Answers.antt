@@ -1,10 +1,8 @@
-use Rattle.std.proofs.Common.{Ok, Err, Result, arith, subst}
-use Rattle.std.proofs.lemmas.Result.{err_from_is_err_and}
+use Rattle.std.proofs.Common.{Ok, Result, arith}
 use Rattle.std.specs.declared.alloc.AllocError.{AllocError}
 use Rattle.book_year.specs.Accepted.{plans_in}
 use Rattle.book_year.specs.declared.outcome.Work.{Work}
 use Rattle.book_edits.specs.declared.years.Years.{Years}
-use Rattle.book_edits.specs.Views.{AreKeptYears}
 use Rattle.book_loads.proofs.LoadLemmas.{none_kept, restored, restored_counts}
 use Rattle.book_loads.proofs.loads.restore.Goals as goal
 
