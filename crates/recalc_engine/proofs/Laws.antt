@@ -3,6 +3,8 @@
 pub use Rattle.recalc_engine.proofs.AnswerLemmas.{one_answer}
 -- The rows of a book rise by key, one for each run, and the row of a key is its run computed anew.
 pub use Rattle.recalc_engine.proofs.BookLemmas.{book_rows_counted, book_rows_rise, book_rows_runs}
+-- The outputs of each of its runs have different names.
+pub use Rattle.recalc_engine.proofs.OutputLemmas.{book_rows_named}
 -- A book has nothing to run against itself; a plan with the texts that stand at its day changes nothing; jobs are done.
 pub use Rattle.recalc_engine.proofs.SameLemmas.{book_quiet, jobs_done, same_texts}
 -- An edit of the runs changes the run at its key alone.

@@ -4,5 +4,6 @@ mod JobLemmas
 pub mod Laws
 mod MapLemmas
 mod MonthLemmas
+mod OutputLemmas
 mod RowLemmas
 mod SameLemmas

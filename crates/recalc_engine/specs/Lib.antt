@@ -9,3 +9,4 @@ pub mod Jobs
 pub mod JobViews
 pub mod BookLaws
 pub mod RunMaps
+pub mod RowLaws

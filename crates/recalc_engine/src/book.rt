@@ -12,6 +12,7 @@ ghost use Rattle.recalc_engine.specs.Contents.{book_of, cost_between, row_at, wh
 ghost use Rattle.recalc_engine.specs.EditAnswers.{EditsHaveOneAnswer, IsEdited, edited};
 ghost use Rattle.recalc_engine.specs.EditAnswers.{add, change, drop, load, put, withdraw};
 ghost use Rattle.recalc_engine.specs.MonthRows.{month_rows};
+ghost use Rattle.recalc_engine.specs.RowLaws.{AreBookRows};
 ghost use Rattle.recalc_engine.specs.RunMaps.{RunsAreMapped};
 ghost use Rattle.recalc_engine.specs.Jobs.{AdmitsInputs, HasNoOutputs, job_of_key, lent_job};
 
@@ -95,6 +96,14 @@ impl Book {
         ensures { IsBook self.now }
     {
         each_is_accepted(self.plans.entries());
+    }
+
+    /// The rows of each book are as `AreBookRows` says.
+    pub fn has_whole_rows(&self)
+        ensures { AreBookRows (month_rows self.now) }
+    {
+        let _ = &self.years;
+        self.is_whole();
     }
 
     /// The work of the last edit that was accepted, else zeros.

@@ -1,0 +1,89 @@
+-- Accounts that tie are one account; the days up to a month are among those up to a later one.
+use Rattle.std.proofs.Common.{◌≡◌, ℕ, List, true, false, refl, sym, ap, ◌∙◌}
+use Rattle.std.specs.declared.cmp.Ordering.{Ordering}
+use Rattle.std.specs.declared.cmp.Ordering.TheVariants.{Less, Equal, Greater}
+use Rattle.std.specs.Ordering.{is_eq, is_gt, is_le, nat_cmp, on, ordering_reverse, ordering_then, then_cmp}
+use Rattle.std.specs.Cmp.{IsTotalOrder, nat_cmp_total, on_total, then_total}
+use Rattle.std.specs.Cmp.Lexicographic.{nat_list_cmp_total, slice_cmp}
+use Rattle.std.proofs.lemmas.Cmp.{upto}
+use Rattle.std.proofs.lemmas.Slice.Eq.{bytes_eq-Decides}
+use Rattle.std.proofs.lemmas.Map.Text.{is_eq-slice_cmp}
+use Rattle.payroll_records.specs.declared.day.Day.{Day}
+use Rattle.payroll_records.specs.declared.month.Month.{Month}
+use Rattle.payroll_records.specs.declared.record.Key.{Key}
+use Rattle.payroll_records.specs.Orders.{day_cmp, key_cmp}
+use Rattle.payroll_records.specs.NamedValues.{name_cmp}
+use Rattle.payroll_records.proofs.Laws.{key_total}
+use Rattle.book_year.proofs.Laws.{day_same}
+use Rattle.correction_ledger.specs.Months.{is_up_to, month_cmp}
+use Rattle.correction_ledger.specs.Accounts.{Account, account_cmp}
+
+-- accounts are in a total order
+pub account_total : IsTotalOrder account_cmp
+account_total = then_total (on_total (λ (p : Account). p.key) key_total) (on_total (λ (p : Account). p.name) nat_list_cmp_total)
+
+first_tie : (o p : Ordering) → ordering_then o p ≡ Equal → o ≡ Equal
+first_tie Less p e = cc e
+first_tie Equal p e = refl
+first_tie Greater p e = cc e
+
+second_tie : (o p : Ordering) → ordering_then o p ≡ Equal → p ≡ Equal
+second_tie Less p e = cc e
+second_tie Equal p e = e
+second_tie Greater p e = cc e
+
+-- texts that tie are one text
+pub text_same : (a b : List ℕ) → slice_cmp nat_cmp a b ≡ Equal → a ≡ b
+text_same a b e = (bytes_eq-Decides a b).0 (sym (is_eq-slice_cmp a b) ∙ ap is_eq e)
+
+pub key_same : (a b : Key) → key_cmp a b ≡ Equal → a ≡ b
+key_same a b e =
+    let employees = slice_cmp nat_cmp a.employee b.employee in
+    let employee = text_same a.employee b.employee (first_tie employees (day_cmp a.day b.day) e) in
+    let day = day_same a.day b.day (second_tie employees (day_cmp a.day b.day) e) in
+    λ i. record { employee = employee i; day = day i }
+
+pub account_same : (p q : Account) → account_cmp p q ≡ Equal → p ≡ q
+account_same p q e =
+    let key = key_same p.key q.key (first_tie (key_cmp p.key q.key) (name_cmp p.name q.name) e) in
+    let name = text_same p.name q.name (second_tie (key_cmp p.key q.key) (name_cmp p.name q.name) e) in
+    λ i. record { key = key i; name = name i }
+
+-- ---- months
+
+record YearMonth : Type 0 where
+  pub year : ℕ
+  pub month : ℕ
+
+abbrev order : YearMonth → YearMonth → Ordering
+order = then_cmp (on (λ m. m.year) nat_cmp) (on (λ m. m.month) nat_cmp)
+
+order_total : IsTotalOrder order
+order_total = then_total (on_total (λ (m : YearMonth). m.year) nat_cmp_total) (on_total (λ (m : YearMonth). m.month) nat_cmp_total)
+
+of_day : Day → YearMonth
+of_day d = record { year = d.year; month = d.month }
+
+of_month : Month → YearMonth
+of_month m = record { year = m.year; month = m.month }
+
+not_greater : (o : Ordering) → is_le o ≡ true → is_gt o ≡ false
+not_greater Less e = refl
+not_greater Equal e = refl
+not_greater Greater e = cc e
+
+at_most : (o : Ordering) → is_gt o ≡ false → is_le o ≡ true
+at_most Less e = refl
+at_most Equal e = refl
+at_most Greater e = cc e
+
+-- a day up to a month is up to a later one
+pub up_to_later : (m n : Month) (d : Day) → month_cmp m n ≡ Less → is_up_to m d ≡ true → is_up_to n d ≡ true
+unfolding of_day of_month
+up_to_later m n d l h =
+    at_most (order (of_day d) (of_month n)) (upto order_total (of_day d) (of_month m) (of_month n) (not_greater (order (of_day d) (of_month m)) h) (ap is_gt l))
+
+-- one of two months is before the other, or they are one
+pub month_back : (m n : Month) → month_cmp m n ≡ ordering_reverse (month_cmp n m)
+unfolding of_month
+month_back m n = order_total.antisymm (of_month m) (of_month n)

@@ -1,0 +1,10 @@
+mod DifferenceLemmas
+mod FileLemmas
+mod BalanceLemmas
+mod KeptLemmas
+mod ListedLemmas
+mod OwedLemmas
+mod AccountLemmas
+mod ReportedLemmas
+mod RisingLemmas
+mod SomeLemmas

@@ -1,0 +1,12 @@
+use Rattle.correction_ledger.proofs.OwedLemmas.{filing_settles, owed_settles}
+use Rattle.correction_ledger.proofs.SomeLemmas.{owed_one}
+use Rattle.correction_ledger.proofs.ledger.owed_laws.Goals as goal
+
+pub returns-clause-one : goal.returns-clause-one
+returns-clause-one c = owed_one
+
+pub returns-clause-settles : goal.returns-clause-settles
+returns-clause-settles c rows entries month dues p h t = owed_settles rows entries month dues h p t
+
+pub returns-clause-nothing : goal.returns-clause-nothing
+returns-clause-nothing c = filing_settles

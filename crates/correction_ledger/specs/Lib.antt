@@ -1,0 +1,11 @@
+pub mod Limits
+pub mod Months
+pub mod Accounts
+pub mod Owed
+pub mod Filings
+pub mod OwedLaws
+pub mod Open
+pub mod BalanceViews
+pub mod FilingViews
+pub mod Admission
+pub mod RowViews

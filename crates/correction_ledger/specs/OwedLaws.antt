@@ -1,0 +1,37 @@
+-- The laws of what is owed.
+use Rattle.std.specs.Prelude.{◌≡◌, List, [], ◌++◌, IsTrue, map}
+use Rattle.std.specs.declared.cmp.Ordering.TheVariants.{Equal}
+use Rattle.scaled_decimal.specs.Decimals.{sum, value_order}
+use Rattle.payroll_records.specs.declared.month.Month.{Month}
+use Rattle.recalc_engine.specs.MonthRows.{KeyedRow}
+use Rattle.correction_ledger.specs.declared.due.Due.{Due}
+use Rattle.correction_ledger.specs.declared.due.Entry.{Entry}
+use Rattle.correction_ledger.specs.Filings.{entry_with}
+use Rattle.correction_ledger.specs.Months.{is_up_to}
+use Rattle.correction_ledger.specs.Owed.{IsOwed, filed, reported}
+use Rattle.correction_ledger.specs.Accounts.{Account, amount_at}
+
+-- there is exactly one list of all that is owed
+pub record HasOneOwed (rows : List KeyedRow) (entries : List Entry) (month : Month) : Type 0 where
+  pub dues : List Due
+  pub owed : IsOwed rows entries month dues
+  pub alone : (other : List Due) → IsOwed rows entries month other → other ≡ dues
+
+-- so for every book's rows, entries and month
+abbrev pub OwedIsOne : Type 0
+OwedIsOne =
+    (rows : List KeyedRow) (entries : List Entry) (month : Month) → HasOneOwed rows entries month
+
+-- what was filed and what is owed together are what the book reports, by value
+abbrev pub OwedSettles : Type 0
+OwedSettles =
+    (rows : List KeyedRow) (entries : List Entry) (month : Month) (dues : List Due) (p : Account)
+    → IsOwed rows entries month dues → IsTrue (is_up_to month p.key.day)
+    → value_order (sum (filed entries p) (amount_at dues p)) (reported rows p) ≡ Equal
+
+-- once what is owed is filed, nothing is owed
+abbrev pub FilingSettles : Type 0
+FilingSettles =
+    (rows : List KeyedRow) (entries : List Entry) (month : Month) (dues : List Due)
+    → IsOwed rows entries month dues
+    → IsOwed rows (entries ++ map (entry_with month) dues) month []

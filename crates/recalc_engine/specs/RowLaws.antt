@@ -1,0 +1,33 @@
+-- What holds of the rows of every book.
+use Rattle.std.specs.Prelude.{List, Option, Some, None, ⊤, map}
+use Rattle.std.specs.List.{AllByRecursion}
+use Rattle.rising_lists.specs.Keyed.{IsRising}
+use Rattle.payroll_records.specs.declared.values.NamedValue.{NamedValue}
+use Rattle.payroll_records.specs.NamedValues.{name_of}
+use Rattle.payroll_records.specs.Orders.{key_cmp}
+use Rattle.pap_types.specs.Typing.{AreDistinct}
+use Rattle.carry_bindings.specs.Conditions.{AreBounded}
+use Rattle.book_year.specs.Rows.{outputs_in}
+use Rattle.recalc_engine.specs.BookLaws.{row_key}
+use Rattle.recalc_engine.specs.MonthRows.{KeyedRow}
+
+-- the values have different names
+abbrev pub HaveNames : List NamedValue → Type 0
+HaveNames values = AreDistinct (map name_of values)
+
+-- so have the outputs, where there are any
+abbrev pub AreNamed : Option (List NamedValue) → Type 0
+AreNamed None = ⊤
+AreNamed (Some outputs) = HaveNames outputs
+
+abbrev pub HasBound : KeyedRow → Type 0
+HasBound row = AreBounded (outputs_in row.state)
+
+abbrev pub HasNames : KeyedRow → Type 0
+HasNames row = AreNamed (outputs_in row.state)
+
+-- the keys rise; each output is within the bound of outputs, and those of one run have different names
+pub record AreBookRows (rows : List KeyedRow) : Type 0 where
+  pub rise : IsRising key_cmp row_key rows
+  pub bounded : AllByRecursion HasBound rows
+  pub named : AllByRecursion HasNames rows
