@@ -27,9 +27,9 @@ first_prefix old new first rest some f =
     let size : length first ≡ length f.front + length f.rest = ap length f.parts ∙ length-append f.front f.rest in
     let whole = length-append first rest in
     let text : take (length f.front) (first ++ rest) ≡ f.front =
-        ap (λ t. take (length f.front) (t ++ rest)) f.parts
-        ∙ ap (take (length f.front)) (append_assoc f.front f.rest rest)
-        ∙ take-append_seam f.front (f.rest ++ rest) in
+    ap (λ t. take (length f.front) (t ++ rest)) f.parts
+    ∙ ap (take (length f.front)) (append_assoc f.front f.rest rest)
+    ∙ take-append_seam f.front (f.rest ++ rest) in
     record {
       count = length f.front;
       within = omega (arith, size, whole, some);

@@ -34,11 +34,11 @@ returns-in-Ok-Some-Run-clause-carries g c = λ form has.
     let after : Outside = record { files = g.F.Files.told c.run.new.files; failed = g.F.Files.failed c.run.new.files; file_faults = g.F.Files.faults c.run.new.files; left = g.R.Source.left c.run.new.source; source_faults = g.R.Source.faults c.run.new.source; written = g.W.Sink.written c.run.new.sink; sink_faults = g.W.Sink.faults c.run.new.sink; steps = c.run.new.steps } in
     let is = c.script_status.ensures in
     let leaves : LeavesOnScript before after c.script_status.result = record {
-          result = c.run.result;
-          ended = is;
-          meets = c.run.ensures.script;
-          kept = script_kept c.run.result c.script_status.result before.failed after.failed is c.run.ensures.kept;
-        } in
+      result = c.run.result;
+      ended = is;
+      meets = c.run.ensures.script;
+      kept = script_kept c.run.result c.script_status.result before.failed after.failed is c.run.ensures.kept;
+    } in
     subst (λ f. Carries f before after c.script_status.result) same (record {
       leaves = leaves;
       headline = headline_script before after c.script_status.result leaves
