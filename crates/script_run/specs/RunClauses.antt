@@ -24,7 +24,8 @@ shown files failed written steps = record {
   steps = steps;
 }
 
--- how far a run came: the script, what was taken of it and what is left, what was written since it began, and the steps
+-- how far a run came: the script, what was taken of it and what is left, and what was written and
+-- counted since it began
 pub record Course : Type 0 where
   pub script : List ℕ
   pub taken : List ℕ
@@ -46,8 +47,8 @@ pub record IsExactly (files : FileMap) (lines : List (List ℕ)) (out : List ℕ
   pub text : out ≡ session.text
   pub cost : spent ≡ session.steps
 
--- what was written is the whole transcript, whose lines all name files that are there; exactly its steps were counted,
--- and this says whether an answer is a refusal
+-- what was written is the whole transcript, whose lines all name files that are there; exactly its
+-- steps were counted, and this says whether an answer is a refusal
 pub record IsWhole (files : FileMap) (script out : List ℕ) (spent : ℕ)
     (refused : Bool) : Type 0 where
   pub session : Session
@@ -89,8 +90,8 @@ pub record IsAtLine (most : ℕ) (script taken : List ℕ) (before : List (List 
   pub short : length ahead ≤ most
 
 -- the files failed at a name of a line, the lines before it were answered, and nothing else was written
-pub record IsFileStop (most : ℕ) (told : Option FileMap) (course : Course) (failed : Option
-    (List ℕ)) : Type 0 where
+pub record IsFileStop (most : ℕ) (told : Option FileMap) (course : Course)
+    (failed : Option (List ℕ)) : Type 0 where
   pub before : List (List ℕ)
   pub line : List ℕ
   pub place : IsAtLine most course.script course.taken before line
@@ -108,21 +109,22 @@ pub record IsWriteStop (most : ℕ) (told : Option FileMap) (course : Course) : 
 
 -- the source failed: exactly the lines were answered whose LF was taken
 abbrev pub IsReadStop : Option FileMap → Course → Type 0
-IsReadStop told course = ForSome told (λ files. IsExactly files
-    (ended_lines course.taken) course.out course.spent)
+IsReadStop told course =
+    ForSome told (λ files. IsExactly files (ended_lines course.taken) course.out course.spent)
 
--- the script is too long: exactly the lines were answered whose LF is within the limit, and one byte more was taken
+-- the script is too long: one byte past its limit was taken, and exactly the lines were answered
+-- whose LF is within it
 pub record IsLongStop (told : Option FileMap) (course : Course) : Type 0 where
   pub past : length course.taken ≡ most_script + 1
-  pub exact : ForSome told (λ files. IsExactly files (ended_lines
-      (take most_script course.taken)) course.out course.spent)
+  pub exact : ForSome told (λ files.
+      IsExactly files (ended_lines (take most_script course.taken)) course.out course.spent)
 
 -- the script was read to its end and its transcript was written whole
 pub record IsEnd (told : Option FileMap) (course : Course) (refused : Bool) : Type 0 where
   pub read : course.rest ≡ []
   pub whole : ForSome told (λ files. IsWhole files course.script course.out course.spent refused)
 
--- what each result says; at a stop at most so many bytes were taken after the end of the line at which it came
+-- what each result says; where a line stops the run, at most so many bytes were taken after its end
 abbrev pub Tells : ℕ → Option FileMap → Course → Option (List ℕ) → Result Bool Stop → Type 0
 Tells most told course failed (Ok refused) = IsEnd told course refused
 Tells most told course failed (Err stops.File) = IsFileStop most told course failed
@@ -131,7 +133,8 @@ Tells most told course failed (Err stops.Write) = IsWriteStop most told course
 Tells most told course failed (Err stops.Memory) = ⊤
 Tells most told course failed (Err stops.Long) = IsLongStop told course
 
--- what a run wrote and counted that took this of a script and left this of it: always a front of the transcript
+-- what a run wrote and counted that took this of a script and left the rest: always a front of the
+-- transcript, and what its result says
 pub record Leaves (most : ℕ) (before after : Shown) (script taken rest : List ℕ)
     (result : Result Bool Stop) : Type 0 where
   pub out : List ℕ
@@ -140,17 +143,11 @@ pub record Leaves (most : ℕ) (before after : Shown) (script taken rest : List 
   pub front : ForSome before.files (λ files. (session : Session) → IsTranscript files script session
       → IsFrontOf session out (after.steps - before.steps))
   pub tells : Tells most before.files
-      (record {
-        script = script;
-        taken = taken;
-        rest = rest;
-        out = out;
-        spent =
-            after.steps - before.steps;
-      })
+      (record { script = script; taken = taken; rest = rest; out = out; spent = after.steps - before.steps })
       after.failed result
 
--- what a run leaves over a source that tells this script: what was taken is a front of it, within its limit
+-- what a run leaves over a source that tells this script: what was taken is a front of it, within
+-- the limit of scripts
 pub record RunMeets (before after : Shown) (script : List ℕ) (left : Option (List ℕ))
     (result : Result Bool Stop) : Type 0 where
   pub taken : List ℕ
