@@ -2,6 +2,7 @@
 use Rattle.std.proofs.Common.{◌≡◌, ℕ, ◌+◌, ◌<◌, ◌≤◌, List, [], ◌++◌, Bool, length, take, refl, sym, ap, ◌∙◌, subst, arith, inl, inr}
 use Rattle.std.specs.Prelude.{◌⊎◌, Option, Some, None, Result, Ok, Err, IfOk}
 use Rattle.std.specs.Result.{ForErr}
+use Rattle.outside.specs.Causes.{Caused}
 use Rattle.outside.specs.Told.{FileMap, Appends, AppendsPrefix, IsToldFront}
 use Rattle.outside.specs.declared.traits.FileAnswer.{FileAnswer}
 use Rattle.outside.specs.declared.traits.FileAnswer.TheVariants as answers
@@ -199,3 +200,10 @@ unread_plan Step day plan limits steps told failed r answers.Failed is missing =
     by (inr e) = unread Step (asked.plan day plan limits) steps steps failed r answers.Failed limits is refl (λ _. (inr refl, e.0))
 unread_plan Step day plan limits steps told failed r answers.Memory is missing =
     wanting Step (asked.plan day plan limits) steps steps failed r is (inl refl)
+
+-- the sink is no cause where no reply was made
+pub unmade_cause : (Step : Doing) (what : Asked) (before now : ℕ) (failed : Option (List ℕ)) (stop : LineStop) → IsUnmade Step what before now failed stop → (result : Result Bool LineStop) → result ≡ Err stop → (count : ℕ) → Caused stops.Write count count result
+unmade_cause Step what before now failed stop u result is count = record {
+  later = omega arith;
+  rose = λ e. absurd (subst (λ s. IsUnmade Step what before now failed s) (err_same result stop stops.Write is e) u);
+}

@@ -3,6 +3,7 @@ use Rattle.std.proofs.Common.{◌≡◌, ℕ, ◌+◌, ◌<◌, List, [], ◌++�
 use Rattle.std.specs.Prelude.{Option, Bool, Result, Err}
 use Rattle.std.specs.Result.{ForErr}
 use Rattle.std.proofs.Math.Seq.{take-append_seam, take-append-add}
+use Rattle.outside.specs.Causes.{Caused}
 use Rattle.outside.specs.Told.{Appends, AppendsPrefix}
 use Rattle.outside.proofs.Laws.{Appends-nothing, Appends-then}
 use Rattle.script_lang.specs.declared.fault.LineFault.{LineFault}
@@ -48,6 +49,11 @@ second_prefix old mid new first rest a p =
     }
 
 -- what was written of an answer is what was written of a line's refusal
-pub refusal_unwritten : (old new : Option (List ℕ)) (why : LineFault) (answer : Answer) (stop : LineStop) → IsLineRefusal why answer → stop ≡ stops.Write → AppendsPrefix old new answer.text → IsRefusalUnwritten old new why stop
-refusal_unwritten old new why answer stop is same p =
-    subst (λ s. IsRefusalUnwritten old new why s) (sym same) (record { answer = answer; is = is; cut = p })
+pub refusal_unwritten : (old new : Option (List ℕ)) (why : LineFault) (answer : Answer) (stop : LineStop) → IsLineRefusal why answer → stop ≡ stops.Write → IsUnwritten old new answer.text stop → IsRefusalUnwritten old new why stop
+refusal_unwritten old new why answer stop is same u =
+    subst (λ s. IsRefusalUnwritten old new why s) (sym same)
+    (record { answer = answer; is = is; cut = subst (λ s. IsUnwritten old new answer.text s) same u })
+
+-- the files are no cause where this error doesn't come
+pub never_file : (P : LineStop → Type 0) (result : Result Bool LineStop) (faults : ℕ) → (P stops.File → ⊥) → ForErr result P → Caused stops.File faults faults result
+never_file P result faults never h = record { later = omega arith; rose = λ e. absurd (never (h stops.File e)) }

@@ -27,6 +27,7 @@ pub(crate) fn write_reply<W: Sink>(reply: &Reply, sink: &mut W) -> Result<bool, 
         reply.now.text.items reply.now.refused) }
     ensures err { ForErr result (IsUnwritten (W.written sink.old) (W.written sink.new)
         reply.now.text.items) }
+    ensures alone { ForErr result (λ stop. stop ≡ LineStop.Write) }
     ensures write { Caused LineStop.Write (W.faults sink.old) (W.faults sink.new) result }
 {
     match put_all(sink, &reply.text) {

@@ -1,5 +1,7 @@
 use Rattle.std.proofs.Common.{refl}
 use Rattle.script_steps.proofs.MadeLemmas.{want_broken, faults_answered, faults_broken}
+use Rattle.script_steps.specs.StepViews.{IsRefusalUnwritten}
+use Rattle.script_steps.proofs.WriteLemmas.{never_file}
 use Rattle.script_steps.proofs.step.answer_line.Goals as goal
 
 pub returns-in-Ok-clause-answered : goal.returns-in-Ok-clause-answered
@@ -19,3 +21,7 @@ returns-in-Err-clause-answered g c =
 pub returns-in-Err-clause-broken : goal.returns-in-Err-clause-broken
 returns-in-Err-clause-broken g c =
     faults_broken (g.F.Files.told c.args.files.now) (g.W.Sink.written c.args.sink.now) (g.W.Sink.written c.answer_fault.new.sink) c.args.steps.now c.args.script.now c.args.line.now (g.F.Files.failed c.args.files.now) c.in-Err.fault c.answer_fault.result c.in-Err.ensures.err c.answer_fault.ensures.err
+
+pub returns-in-Err-clause-file : goal.returns-in-Err-clause-file
+returns-in-Err-clause-file g c =
+    never_file (IsRefusalUnwritten (g.W.Sink.written c.args.sink.now) (g.W.Sink.written c.answer_fault.new.sink) c.in-Err.fault) c.answer_fault.result (g.F.Files.faults c.args.files.now) (λ h. h) c.answer_fault.ensures.err
