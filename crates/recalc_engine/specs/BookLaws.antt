@@ -1,9 +1,10 @@
 -- What holds of every book, and what follows from it.
 use Rattle.std.specs.Prelude.{◌≡◌, ◌≤◌, List, [], length, Option, Some, None}
-use Rattle.std.specs.List.{AllByRecursion}
+use Rattle.std.specs.List.{AllByRecursion, flat_map}
 use Rattle.std.specs.Option.{option_map}
 use Rattle.rising_lists.specs.Keyed.{at_key, IsRising}
 use Rattle.payroll_records.specs.declared.record.Key.{Key}
+use Rattle.payroll_records.specs.declared.record.Record.{Record}
 use Rattle.payroll_records.specs.Orders.{key_cmp}
 use Rattle.plan_calendar.specs.Picking.{AreEntries, Entry, day_of, entry_at, plan_of}
 use Rattle.pap_plan.specs.Acceptance.{IsAccepted}
@@ -14,7 +15,8 @@ use Rattle.book_year.specs.Rows.{Job, Row}
 use Rattle.book_year.specs.Years.{IsOwn}
 use Rattle.book_edits.specs.Books.{AreInOrder, YearRuns, run_count, year_of}
 use Rattle.book_edits.specs.Refusals.{most_records}
-use Rattle.recalc_engine.specs.Contents.{Contents, jobs_between, row_at}
+use Rattle.book_loads.specs.Loads.{AreDistinct}
+use Rattle.recalc_engine.specs.Contents.{Contents, book_of, jobs_between, row_at}
 use Rattle.recalc_engine.specs.EditAnswers.{edited, put}
 use Rattle.recalc_engine.specs.Jobs.{job_of_key}
 use Rattle.recalc_engine.specs.MonthRows.{KeyedRow, keyed_row, month_rows}
@@ -59,6 +61,21 @@ RowsAreRuns =
     (book : Contents) (k : Key) → IsBook book
     → at_key key_cmp row_key (month_rows book) k
     ≡ option_map (keyed_row (year_of k)) (row_at book k)
+
+-- ---- laws: a book and its parts
+
+-- the runs of a book, one after another
+abbrev pub runs_listed : Contents → List Record
+runs_listed book = flat_map (λ y. y.runs) book.years
+
+-- a book is the book of its runs, its plans and its last work
+abbrev pub BooksAreTheirParts : Type 0
+BooksAreTheirParts =
+    (book : Contents) → IsBook book → book_of (runs_listed book) book.plans book.last ≡ book
+
+-- no two runs of a book have one key
+abbrev pub RunsAreDistinct : Type 0
+RunsAreDistinct = (book : Contents) → IsBook book → AreDistinct (runs_listed book)
 
 -- ---- laws: plans and jobs
 

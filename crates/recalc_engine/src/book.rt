@@ -6,8 +6,8 @@ ghost use Rattle.book_edits.specs.Books.{in_month, run_at};
 ghost use Rattle.book_year.specs.Jobs.{Counts};
 ghost use Rattle.book_edits.specs.Refusals.{CountsEdit, most_records};
 ghost use Rattle.book_loads.specs.Loads.{AreDistinct};
-ghost use Rattle.recalc_engine.specs.BookLaws.{ArePlans, IsBook, JobsAreDone, RowsAreCounted};
-ghost use Rattle.recalc_engine.specs.BookLaws.{RowsAreRuns, RowsRise, SameTextsChangeNothing};
+ghost use Rattle.recalc_engine.specs.BookLaws.{ArePlans, BooksAreTheirParts, IsBook, JobsAreDone, RowsAreCounted};
+ghost use Rattle.recalc_engine.specs.BookLaws.{RowsAreRuns, RowsRise, RunsAreDistinct, SameTextsChangeNothing};
 ghost use Rattle.recalc_engine.specs.Contents.{book_of, cost_between, row_at, whole_cost};
 ghost use Rattle.recalc_engine.specs.EditAnswers.{EditsHaveOneAnswer, IsEdited, edited};
 ghost use Rattle.recalc_engine.specs.EditAnswers.{add, change, drop, load, put, withdraw};
@@ -272,12 +272,15 @@ pub fn edit_laws()
     ensures { EditsHaveOneAnswer }
 {}
 
-/// Laws of the definitions: the rows of a book stand in order, one for each run; a plan with the texts that stand at its day
-/// changes nothing; a run that has a job is done, with the job's outputs; an edit of the runs changes the run at its key alone.
+/// Laws of the definitions: the rows of a book stand in order, one for each run; a book is the book of its runs, which have
+/// different keys, its plans and its last work; a plan with the texts that stand at its day changes nothing; a run that has a
+/// job is done, with the job's outputs; an edit of the runs changes the run at its key alone.
 pub fn book_laws()
     ensures rise { RowsRise }
     ensures counted { RowsAreCounted }
     ensures runs { RowsAreRuns }
+    ensures parts { BooksAreTheirParts }
+    ensures distinct { RunsAreDistinct }
     ensures same { SameTextsChangeNothing }
     ensures done { JobsAreDone }
     ensures mapped { RunsAreMapped }

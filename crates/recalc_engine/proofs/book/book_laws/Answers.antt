@@ -1,4 +1,5 @@
 use Rattle.recalc_engine.proofs.BookLemmas.{book_rows_counted, book_rows_rise, book_rows_runs}
+use Rattle.recalc_engine.proofs.ListedLemmas.{parts_make, runs_distinct}
 use Rattle.recalc_engine.proofs.MapLemmas.{runs_mapped}
 use Rattle.recalc_engine.proofs.SameLemmas.{jobs_done, same_texts}
 use Rattle.recalc_engine.proofs.book.book_laws.Goals as goal
@@ -8,6 +9,8 @@ returns c = record {
   rise = book_rows_rise;
   counted = book_rows_counted;
   runs = book_rows_runs;
+  parts = parts_make;
+  distinct = runs_distinct;
   same = same_texts;
   done = jobs_done;
   mapped = runs_mapped;
