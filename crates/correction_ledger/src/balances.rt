@@ -2,8 +2,8 @@
 ghost use Rattle.std.specs.Prelude.{◌≡◌};
 ghost use Rattle.std.specs.Iterator.{YieldsFirst, item_count};
 ghost use Rattle.correction_ledger.specs.Accounts.{account_cmp, account_of};
-ghost use Rattle.correction_ledger.specs.BalanceViews.{AreBothBounded, both_sides, owed_of, filed_only, balances_of};
-ghost use Rattle.correction_ledger.specs.BalanceViews.{reported_only, settled_of};
+ghost use Rattle.correction_ledger.specs.BalanceViews.{AreBothBounded, balances_of, owed_of};
+ghost use Rattle.correction_ledger.specs.BalanceViews.{both_sides, filed_only, reported_only, settled_of};
 
 use crate::due::Due;
 use pap_tree::Name;

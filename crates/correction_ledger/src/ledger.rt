@@ -1,8 +1,9 @@
 //! The ledger.
 ghost use Rattle.std.specs.Prelude.{◌≡◌, [], None, IfOk, IfErr, OnErr, OnOk};
 ghost use Rattle.recalc_engine.specs.MonthRows.{month_rows};
-ghost use Rattle.correction_ledger.specs.Filings.{IsClosed, IsFiling, IsFileRefused, IsOwedNow, IsOwedRefused};
 ghost use Rattle.correction_ledger.specs.Admission.{IsAdmitRefused};
+ghost use Rattle.correction_ledger.specs.Filings.{IsClosed, IsFiling, IsFileRefused};
+ghost use Rattle.correction_ledger.specs.Filings.{IsOwedNow, IsOwedRefused};
 ghost use Rattle.correction_ledger.specs.OwedLaws.{FilingSettles, OwedIsOne, OwedSettles};
 
 use crate::balances::Balances;

@@ -1,5 +1,5 @@
 //! The runs of a book up to a month.
-ghost use Rattle.std.specs.Prelude.{◌≡◌, IsTrue, OnOk, OnErr, IfOk, List, []};
+ghost use Rattle.std.specs.Prelude.{◌≡◌, IfOk};
 ghost use Rattle.recalc_engine.specs.MonthRows.{month_rows};
 ghost use Rattle.recalc_engine.specs.RowViews.{lent_row};
 ghost use Rattle.correction_ledger.specs.Months.{is_up_to};
