@@ -77,9 +77,11 @@ fn make_reply<F: Files, L: Ledger>(
 {
     match command {
         Command::Nothing => Ok(accepted(Vec::new(alloc), 0)),
-        Command::Plan { day, plan: file, limits } => {
-            plan(alloc, script, day, &file, &limits, files, steps)
-        }
+        Command::Plan {
+            day,
+            plan: file,
+            limits,
+        } => { plan(alloc, script, day, &file, &limits, files, steps) }
         Command::Drop { day } => Ok(drop_plan(alloc, script, day, steps)?),
         Command::Add(run) => Ok(add(alloc, script, run, steps)?),
         Command::Change(run) => Ok(change(alloc, script, run, steps)?),
