@@ -1,5 +1,5 @@
 -- An edit that the book has made or refused, as the step of a line.
-use Rattle.std.proofs.Common.{◌≡◌, ℕ, ◌+◌, ◌≤◌, List, refl, sym, ap, ◌∙◌, subst, arith}
+use Rattle.std.proofs.Common.{◌≡◌, ℕ, ◌+◌, List, refl, sym, ap, ◌∙◌, subst, arith}
 use Rattle.std.specs.Prelude.{Result, Ok, Err, IfOk, OnErr}
 use Rattle.std.specs.declared.alloc.AllocError.{AllocError}
 use Rattle.book_year.specs.declared.outcome.Work.{Work}
@@ -15,7 +15,7 @@ use Rattle.plan_answers.proofs.Laws.{if_ok_map, on_err_any}
 use Rattle.script_steps.specs.LineTexts.{edit_detail}
 use Rattle.script_steps.specs.Standings.{Standing, accepted}
 use Rattle.script_steps.specs.LineSteps.{IsEditStep}
-use Rattle.script_steps.specs.StepViews.{IsMade, IsLost, IsEditRefusal, IsEditReply}
+use Rattle.script_steps.specs.StepViews.{IsMade, IsLost, IsEditReply}
 
 -- a refusal that isn't want of memory
 refused_step : (text : List ℕ) (from : Standing) (e : Edit) (why : EditRefusal) (answer : Answer) → EditAnswers from.book e (Err why) → answer ≡ refusal (edit_detail why) → IsEditStep text from e from answer

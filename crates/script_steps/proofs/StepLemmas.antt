@@ -1,10 +1,10 @@
 -- A line whose files are there has one step.
-use Rattle.std.proofs.Common.{◌≡◌, ◌<◌, ℕ, Bool, true, false, List, length, refl, sym, ap, ◌∙◌, subst, inl, inr}
+use Rattle.std.proofs.Common.{◌≡◌, ◌<◌, ℕ, List, length, refl, sym, ap, ◌∙◌, subst, inl, inr}
 use Rattle.std.specs.Prelude.{◌⊎◌, Option, Some, None, IsSome, Result, Ok, Err}
 use Rattle.outside.specs.Told.{FileMap}
 use Rattle.script_lang.specs.Commands as asked
 use Rattle.script_lang.specs.Commands.{Asked}
-use Rattle.script_lang.specs.Lines.{LineSays, IsLine}
+use Rattle.script_lang.specs.Lines.{LineSays}
 use Rattle.script_lang.specs.declared.fault.LineFault.{LineFault}
 use Rattle.script_lang.specs.declared.fault.LineFault.TheVariants as faults
 use Rattle.script_lang.proofs.Laws.{line_once, line_some}
@@ -13,8 +13,8 @@ use Rattle.recalc_engine.specs.EditAnswers as edits
 use Rattle.plan_answers.specs.Answers.{Answer, refusal}
 use Rattle.script_steps.specs.LineTexts.{ok_line, line_detail}
 use Rattle.script_steps.specs.Standings.{Standing, silence}
-use Rattle.script_steps.specs.LineSteps.{IsEditStep, IsLoadStep, IsPlanStep, Does, IsFileOf, report_answer, work_answer}
-use Rattle.script_steps.specs.Steps.{Names, AreThere, IsStep}
+use Rattle.script_steps.specs.LineSteps.{IsLoadStep, IsPlanStep, Does, IsFileOf, report_answer, work_answer}
+use Rattle.script_steps.specs.Steps.{Names, AreThere}
 use Rattle.script_steps.specs.StepLaws.{HasStep, LacksAFile, LinesHaveAStep, LinesHaveOneStep, FilesAreTold, LongLinesAreOne, LongLinesNameNoFile}
 use Rattle.script_steps.proofs.KindLemmas.{Has, Same, stays_one, edit_some, edit_one, table_step_some, load_one, texts_some, plan_one}
 

@@ -1,5 +1,5 @@
 -- What the function of a kind of line leaves, before its answer is written.
-use Rattle.std.specs.Prelude.{◌≡◌, ◌⊎◌, ℕ, ◌+◌, ◌≤◌, List, [], ◌++◌, Bool, false, Option, Some, Result, Ok, Err, ⊤}
+use Rattle.std.specs.Prelude.{◌≡◌, ◌⊎◌, ℕ, ◌+◌, ◌≤◌, List, [], Bool, Option, Some, Result, Ok, Err}
 use Rattle.std.specs.Option.{ForSome}
 use Rattle.outside.specs.Told.{FileMap, Appends, AppendsPrefix}
 use Rattle.script_lang.specs.Commands.{Asked}
@@ -12,7 +12,6 @@ use Rattle.book_edits.specs.declared.refusal.EditRefusal.{EditRefusal}
 use Rattle.book_edits.specs.declared.refusal.EditRefusal.TheVariants as edits
 use Rattle.report_csv.specs.Fronts.{AppendsFront}
 use Rattle.plan_answers.specs.Answers.{Answer, refusal}
-use Rattle.plan_answers.specs.declared.reply.Reply.{Reply}
 use Rattle.script_steps.specs.declared.stop.LineStop.{LineStop}
 use Rattle.script_steps.specs.declared.stop.LineStop.TheVariants as stops
 use Rattle.script_steps.specs.LineSteps.{Does, IsFileOf}
