@@ -213,13 +213,17 @@ fn number(word: Option<&str>) -> Result<i64, Fail> {
     )
 }
 
+/// The two ends of an interval of whole numbers.
+fn ends(text: &str) -> Result<(i64, i64), Fail> {
+    let mut words = text.split_whitespace();
+    Ok((number(words.next())?, number(words.next())?))
+}
+
 /// An interval of whole numbers of 64 bits.
 fn longs(text: &str) -> Result<Abs, Fail>
     ensures { IfOk result (IsWholeOfBits long_bits) }
 {
-    let mut words = text.split_whitespace();
-    let low = number(words.next())?;
-    let high = number(words.next())?;
+    let (low, high) = ends(text)?;
     if low > high {
         return Err(Fail::from("an interval"));
     }
@@ -230,9 +234,7 @@ fn longs(text: &str) -> Result<Abs, Fail>
 fn ints(text: &str) -> Result<Abs, Fail>
     ensures { IfOk result (IsWholeOfBits int_bits) }
 {
-    let mut words = text.split_whitespace();
-    let low = number(words.next())?;
-    let high = number(words.next())?;
+    let (low, high) = ends(text)?;
     if low < -2147483648 || low > high || high > 2147483647 {
         return Err(Fail::from("an interval"));
     }
