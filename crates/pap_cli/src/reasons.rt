@@ -15,8 +15,8 @@ use carry_bindings::{Filled, fill};
 use outside::{FileAnswer, Files};
 use pap_plan::{Plan, PlanRefusal, accept};
 use payroll_records::Values;
-use plan_answers::read_both;
 use plain_words::{plan_words, state_words};
+use plan_answers::read_both;
 use std::alloc::{AllocError, Global};
 
 /// The reason of a refusal in plain words, in one line: for words whose answer [`papcalc`](crate::papcalc) gives as a
