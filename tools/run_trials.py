@@ -1,0 +1,76 @@
+#!/usr/bin/env python3
+"""What `papcalc run` does with real streams: run_trials.py PROGRAM, from the top of the repository.
+
+A script in pieces of any size has the same answers; an answer comes before the next line is there; and each fault of the outside has
+its status, with exactly the answers that it leaves."""
+import os
+import subprocess
+import sys
+
+SCRIPT = open("examples/month.script", "rb").read()
+failed = []
+passed = 0
+
+
+def check(name, holds):
+    global passed
+    if holds:
+        passed += 1
+    else:
+        failed.append(name)
+
+
+def run(script, **streams):
+    done = subprocess.run([program, "run"], input=script, capture_output=True, timeout=60, **streams)
+    return done.returncode, done.stdout
+
+
+def run_in_pieces(script, size):
+    with subprocess.Popen([program, "run"], stdin=subprocess.PIPE, stdout=subprocess.PIPE, bufsize=0) as process:
+        reader = os.dup(process.stdout.fileno())
+        for at in range(0, len(script), size):
+            process.stdin.write(script[at:at + size])
+        process.stdin.close()
+        out = b""
+        while piece := os.read(reader, 65536):
+            out += piece
+        return process.wait(), out
+
+
+def answers_before_the_next_line():
+    with subprocess.Popen([program, "run"], stdin=subprocess.PIPE, stdout=subprocess.PIPE, bufsize=0) as process:
+        for line, answer in [(b"work\n", b"work 0 0\n"), (b"ad E1\n", b"refused line Command\n"), (b"work\n", b"work 0 0\n")]:
+            process.stdin.write(line)
+            if process.stdout.readline() != answer:
+                process.kill()
+                return False
+        process.stdin.close()
+        return process.wait() == 1
+
+
+program = os.path.abspath(sys.argv[1])
+whole = run(SCRIPT)
+check("the month's script ends well", whole[0] == 0)
+check("the month's last edit ran one run", b"\nwork 1 " in whole[1])
+check("pieces of 1 byte", run_in_pieces(SCRIPT, 1) == whole)
+check("pieces of 7 bytes", run_in_pieces(SCRIPT, 7) == whole)
+check("an answer comes before the next line", answers_before_the_next_line())
+check("no script", run(b"") == (0, b""))
+check("a last line without LF", run(b"work") == (0, b"work 0 0\n"))
+check("a CR before LF", run(b"work\r\nwork") == (0, b"work 0 0\nwork 0 0\n"))
+check("a file that isn't there", run(b"work\nload nofile\nwork\n") == (3, b"work 0 0\n"))
+check("a folder in place of a file", run(b"work\nload examples\nwork\n") == (3, b"work 0 0\n"))
+with open("/dev/full", "wb") as full:
+    done = subprocess.run([program, "run"], input=b"work\n", stdout=full, stderr=subprocess.DEVNULL, timeout=60)
+    check("a full output", done.returncode == 5)
+folder = os.open("examples", os.O_RDONLY)
+done = subprocess.run([program, "run"], stdin=folder, capture_output=True, timeout=60)
+check("an input that can't be read", (done.returncode, done.stdout) == (4, b""))
+check("a script of the greatest length", run(b"work\n" + b"\n" * 67_108_859) == (0, b"work 0 0\n"))
+check("a script of one byte more", run(b"work\n" + b"\n" * 67_108_860) == (7, b"work 0 0\n"))
+check("a line that is too long is answered once", run(b"#" * 65_537 + b"\nwork\n") == (1, b"refused line LineLong\nwork 0 0\n"))
+check("a longest line", run(b"#" * 65_536 + b"\r\nwork\n") == (0, b"work 0 0\n"))
+for name in failed:
+    print(f"run_trials: failed: {name}")
+print(f"run_trials: {passed} passed, {len(failed)} failed")
+sys.exit(1 if failed else 0)
