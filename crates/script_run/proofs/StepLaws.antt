@@ -50,14 +50,10 @@ pub record BreaksLine (old new : Shown) (from : Standing) (line : List ℕ) (sto
 
 pub broken_same : {old new : Shown} {from : Standing} {said line : List ℕ} → SaysSame said line → (stop : LineStop) →
     BreaksLine old new from said stop → BreaksLine old new from line stop
-broken_same {said = said} {line = line} same File broken = record {
-  is = record {
-    unbegun = (broken.is).unbegun;
-    name = (broken.is).name;
-    names = names_same said line (broken.is).name same (broken.is).names;
-    failed_there = (broken.is).failed_there;
-  };
-}
+broken_same {old = old} {new = new} {from = from} (inl same) File broken =
+    subst (λ v. BreaksLine old new from v File) same broken
+broken_same {said = said} (inr long) File broken =
+    absurd (step.alone said (broken.is).name long.said_long (broken.is).names)
 broken_same {from = from} {said = said} {line = line} same Write broken =
     let cut = broken.is in
     record {
