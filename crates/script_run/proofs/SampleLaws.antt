@@ -12,6 +12,8 @@ use Rattle.std.specs.Str.Lines.{lines_of_parts, strip_carriage_return}
 use Rattle.std.proofs.lemmas.List.{append-nil, map-append, length-map}
 use Rattle.std.proofs.lemmas.List.Elements.{All-nil, All-cons, All-head, All-tail, All-append}
 use Rattle.std.proofs.lemmas.List.Splits.{slice_split_at}
+use Rattle.outside.specs.Told.{FileMap}
+use Rattle.script_steps.specs.Steps.{AreThere}
 use Rattle.script_run.specs.Limits.{most_script}
 use Rattle.script_run.specs.Transcripts.{lines_of}
 use Rattle.script_run.proofs.LineLaws.{lines_after}
@@ -323,3 +325,11 @@ short_sample employees few =
       length-map
           (numbers employees) change_line,
     ))
+
+-- ---- the script as bytes
+
+-- bytes that are a script whose lines name files that are there
+pub there_in : (files : FileMap) (bytes script : List ℕ) (lines : List (List ℕ)) → bytes ≡ script → lines_of script ≡ lines →
+    All (λ line. AreThere files line) lines → All (λ line. AreThere files line) (lines_of bytes)
+there_in files bytes script lines same cut there =
+    subst (λ ls. All (λ line. AreThere files line) ls) (sym (ap (λ b. lines_of b) same ∙ cut)) there
