@@ -12,7 +12,7 @@ use Rattle.payroll_records.specs.declared.month.Month.{Month}
 use Rattle.payroll_records.proofs.Laws.{year_is, month_is}
 use Rattle.script_lang.specs.Fields.{fault_of, employee, month, day, day_in, time_field, value_fields}
 use Rattle.script_lang.specs.Lines as lines
-use Rattle.script_lang.specs.Lines.{IsFirstFault, IsDayWord, IsPlan, IsDrop, IsFiling, IsOfRecord, takes, fields_of}
+use Rattle.script_lang.specs.Lines.{IsFirstFault, IsDayWord, IsPlan, IsDrop, IsFileMonth, IsOfRecord, takes, fields_of}
 use Rattle.script_lang.specs.Views.{Breaks, BreaksIn, IsFaultOf, texts}
 use Rattle.script_lang.specs.Words.{is_file}
 use Rattle.script_lang.specs.declared.fault.LineFault.{LineFault}
@@ -56,10 +56,10 @@ filing_broken [] d f l m b = absurd (omega (arith, l))
 filing_broken (w ∷ []) d f l m b = faulty lines.filing (w.now ∷ []) f refl (first_here (month w.now) [] f b.0 b.1)
 filing_broken (w ∷ v ∷ ws) d f l m b = absurd (omega (arith, m))
 
-pub is_filing : (rest : List (Bor Text)) (d : Bor Text) (when : Month) → 1 ≤ length rest → length rest < 2 → IsMonthText (get_or rest 0 d).now when.year when.month → IsFiling (codes "file" ∷ texts rest) when
-is_filing [] d when l m b = absurd (omega (arith, l))
-is_filing (w ∷ []) d when l m b = record { word = w.now; words_are = refl; month_is = b }
-is_filing (w ∷ v ∷ ws) d when l m b = absurd (omega (arith, m))
+pub is_file_month : (rest : List (Bor Text)) (d : Bor Text) (when : Month) → 1 ≤ length rest → length rest < 2 → IsMonthText (get_or rest 0 d).now when.year when.month → IsFileMonth (codes "file" ∷ texts rest) when
+is_file_month [] d when l m b = absurd (omega (arith, l))
+is_file_month (w ∷ []) d when l m b = record { word = w.now; words_are = refl; month_is = b }
+is_file_month (w ∷ v ∷ ws) d when l m b = absurd (omega (arith, m))
 
 -- plan
 pub plan_broken : (rest : List (Bor Text)) (d : Bor Text) (f : LineFault) → 3 ≤ length rest → length rest < 4 →

@@ -21,9 +21,9 @@ pub data Asked : Type 0 where
   load : Text → Asked
   report : Asked
   work : Asked
-  -- the steps of the run of an employee in a month or on a day
+  -- the executed statements of the run of an employee in a month or on a day
   trace : Text → When → Asked
-  -- the filing of a month, whose line begins with `file`
+  -- this month is filed; its line begins with `file`
   filing : Month → Asked
   owed : Asked
 

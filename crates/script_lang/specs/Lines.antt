@@ -76,7 +76,7 @@ pub record IsLoad (words : List Text) (file : Text) : Type 0 where
   pub file_is : IsTrue (is_file file)
 
 -- file MONTH
-pub record IsFiling (words : List Text) (m : Month) : Type 0 where
+pub record IsFileMonth (words : List Text) (m : Month) : Type 0 where
   pub word : Text
   pub words_are : words ≡ codes "file" ∷ word ∷ []
   pub month_is : IsMonthText word m.year m.month
@@ -93,7 +93,7 @@ Ask words (asked.load file) = IsLoad words file
 Ask words asked.report = words ≡ codes "report" ∷ []
 Ask words asked.work = words ≡ codes "work" ∷ []
 Ask words (asked.trace who time) = IsOfRun (codes "trace") words who time
-Ask words (asked.filing m) = IsFiling words m
+Ask words (asked.filing m) = IsFileMonth words m
 Ask words asked.owed = words ≡ codes "owed" ∷ []
 
 -- what a line asks for

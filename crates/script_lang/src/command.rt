@@ -34,12 +34,12 @@ pub enum Command {
     Report,
     /// `work`
     Work,
-    /// `trace EMP WHEN`: the steps of the pay run of this employee in a month or on a day.
+    /// `trace EMP WHEN`: the executed statements of the pay run of this employee in a month or on a day.
     Trace {
         employee: Employee,
         when: When,
     },
-    /// `file MONTH`: the filing of this month.
+    /// `file MONTH`: this month is filed.
     File {
         month: Month,
     },
