@@ -1,5 +1,5 @@
 -- An edit that the book has made or refused, as the step of a line.
-use Rattle.std.proofs.Common.{◌≡◌, ℕ, ◌+◌, ◌≤◌, List, refl, sym, ap, ◌∙◌, subst, arith}
+use Rattle.std.proofs.Common.{◌≡◌, ℕ, ◌+◌, List, refl, sym, ap, ◌∙◌, subst, arith}
 use Rattle.std.specs.Prelude.{Result, Ok, Err, IfOk, OnErr}
 use Rattle.std.specs.declared.alloc.AllocError.{AllocError}
 use Rattle.book_year.specs.declared.outcome.Work.{Work}
@@ -8,6 +8,7 @@ use Rattle.book_edits.specs.declared.refusal.EditRefusal.TheVariants as refusals
 use Rattle.book_edits.specs.Refusals.{CountsEdit}
 use Rattle.recalc_engine.specs.Contents.{Contents, cost_between}
 use Rattle.recalc_engine.specs.EditAnswers.{Edit, EditAnswers, IsEdited, edited}
+use Rattle.correction_ledger.specs.Filings.{Filings}
 use Rattle.plan_answers.specs.Answers.{Answer, refusal}
 use Rattle.plan_answers.specs.declared.reply.Reply.{Reply}
 use Rattle.plan_answers.specs.ReplyViews.{reply_of}
@@ -15,7 +16,7 @@ use Rattle.plan_answers.proofs.Laws.{if_ok_map, on_err_any}
 use Rattle.script_steps.specs.LineTexts.{edit_detail}
 use Rattle.script_steps.specs.Standings.{Standing, accepted}
 use Rattle.script_steps.specs.LineSteps.{IsEditStep}
-use Rattle.script_steps.specs.StepViews.{IsMade, IsLost, IsEditRefusal, IsEditReply}
+use Rattle.script_steps.specs.StepViews.{IsMade, IsLost, IsEditReply}
 
 -- a refusal that isn't want of memory
 refused_step : (text : List ℕ) (from : Standing) (e : Edit) (why : EditRefusal) (answer : Answer) → EditAnswers from.book e (Err why) → answer ≡ refusal (edit_detail why) → IsEditStep text from e from answer
@@ -23,7 +24,7 @@ refused_step text from e why answer h is = record { verdict = Err why; says = h;
 
 module _ (text : List ℕ) (from : Standing) (e : Edit) (book : Contents) (before now : ℕ) where
   abbrev after : Standing
-  after = record { book = book }
+  after = record { book = book; filings = from.filings }
 
   -- the work's steps are the cost
   steps_are : (work : Work) → IsEdited from.book e book (Ok work) → cost_between from.book (edited e from.book) ≡ work.steps
@@ -33,7 +34,7 @@ module _ (text : List ℕ) (from : Standing) (e : Edit) (book : Contents) (befor
   made_step work h = record { verdict = Ok book; says = h.0; is = (refl, ap (λ (w : Work). accepted text w.steps) h.1) }
 
   same_book : book ≡ from.book → from ≡ after
-  same_book e i = record { book = sym e i }
+  same_book e i = record { book = sym e i; filings = from.filings }
 
   refused_made : (why : EditRefusal) (answer : Answer) → EditAnswers from.book e (Err why) → book ≡ from.book → now ≡ before → answer ≡ refusal (edit_detail why) → IsMade (IsEditStep text from e) after before now answer
   refused_made why answer h same still is = record {
@@ -70,7 +71,7 @@ module _ (text : List ℕ) (from : Standing) (e : Edit) (book : Contents) (befor
       let is = counts ∙ ap (λ n. before + n) (steps_are work h) in
       record { to = after; answer = accepted text work.steps; is = made_step work h; later = omega (arith, is); within = omega (arith, is) }
   made_lost (Err (refusals.Memory x)) h counts = record {
-    to = record { book = edited e from.book };
+    to = record { book = edited e from.book; filings = from.filings };
     answer = accepted text (cost_between from.book (edited e from.book));
     is = record { verdict = Ok (edited e from.book); says = h.0; is = (refl, refl) };
     later = counts.0;
@@ -86,18 +87,18 @@ module _ (text : List ℕ) (from : Standing) (e : Edit) (book : Contents) (befor
   reply_all : (made : Result Work EditRefusal) (reply : Result Reply AllocError) → IsEdited from.book e book made → CountsEdit made before now (cost_between from.book (edited e from.book)) → IfOk reply (λ r. IsEditReply text made (reply_of r)) → IfOk reply (λ r. IsMade (IsEditStep text from e) after before now (reply_of r))
   reply_all made reply h counts = if_ok_map reply _ _ (λ r is. reply_made made (reply_of r) h counts is)
 
--- a book as a standing
-abbrev standing : Contents → Standing
-standing b = record { book = b }
+-- a book as a standing, with what was filed
+abbrev standing : Filings → Contents → Standing
+standing filings b = record { book = b; filings = filings }
 
 -- an edit of the book of a standing
-module _ (text : List ℕ) (from : Standing) (e : Edit) (old : Contents) (same : standing old ≡ from) (book : Contents) (before now : ℕ) (made : Result Work EditRefusal) (reply : Result Reply AllocError) (h : IsEdited old e book made) (counts : CountsEdit made before now (cost_between old (edited e old))) where
-  pub edit_made : IfOk reply (λ r. IsEditReply text made (reply_of r)) → IfOk reply (λ r. IsMade (IsEditStep text from e) (standing book) before now (reply_of r))
+module _ (text : List ℕ) (from : Standing) (e : Edit) (filings : Filings) (old : Contents) (same : standing filings old ≡ from) (book : Contents) (before now : ℕ) (made : Result Work EditRefusal) (reply : Result Reply AllocError) (h : IsEdited old e book made) (counts : CountsEdit made before now (cost_between old (edited e old))) where
+  pub edit_made : IfOk reply (λ r. IsEditReply text made (reply_of r)) → IfOk reply (λ r. IsMade (IsEditStep text from e) (standing filings book) before now (reply_of r))
   edit_made is =
-      subst (λ s. IfOk reply (λ r. IsMade (IsEditStep text s e) (standing book) before now (reply_of r))) same
-      (reply_all text (standing old) e book before now made reply h counts is)
+      subst (λ s. IfOk reply (λ r. IsMade (IsEditStep text s e) (standing filings book) before now (reply_of r))) same
+      (reply_all text (standing filings old) e book before now made reply h counts is)
 
   pub edit_lost : OnErr reply (IsLost (IsEditStep text from e) before now)
   edit_lost =
       subst (λ s. OnErr reply (IsLost (IsEditStep text s e) before now)) same
-      (on_err_any reply _ (made_lost text (standing old) e book before now made h counts))
+      (on_err_any reply _ (made_lost text (standing filings old) e book before now made h counts))

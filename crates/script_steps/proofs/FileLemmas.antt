@@ -1,6 +1,6 @@
 -- What is done with the fronts of files is what is done with the files: of a file that is too long more than its limit is read.
-use Rattle.std.proofs.Common.{◌≡◌, ℕ, ◌<◌, ◌≤◌, List, length, take, refl, sym, ◌∙◌, subst, arith, inl, inr}
-use Rattle.std.specs.Prelude.{◌⊎◌, Option, Some, Result, Ok, Err}
+use Rattle.std.proofs.Common.{◌≡◌, ℕ, ◌<◌, ◌≤◌, List, length, take, subst, arith}
+use Rattle.std.specs.Prelude.{Option, Some, Result, Ok, Err}
 use Rattle.outside.specs.Told.{FileMap, IsToldFront}
 use Rattle.payroll_records.specs.declared.day.Day.{Day}
 use Rattle.payroll_records.specs.declared.record.Record.{Record}
@@ -9,16 +9,13 @@ use Rattle.payroll_records.specs.declared.table.TableFault.TheVariants as tables
 use Rattle.payroll_records.specs.CsvRows.{csv_rows}
 use Rattle.payroll_records.specs.Tables.{most_bytes, TableSays, IsTable, BreaksAt, IsNoHeader, WrongWidth, WrongEmployee, WrongMonth, WrongDay, WrongValue, Repeats}
 use Rattle.script_lang.specs.Commands as asked
-use Rattle.pap_types.specs.Meaning.{bound_of}
 use Rattle.pap_plan.specs.declared.refusal.PlanRefusal.{PlanRefusal}
 use Rattle.pap_plan.specs.Acceptance.{Meaning, Answers}
-use Rattle.recalc_engine.specs.EditAnswers as edits
 use Rattle.plan_answers.specs.Answers.{Answer}
 use Rattle.plan_answers.specs.Fronts.{AreFronts}
-use Rattle.plan_answers.specs.Lines.{bound_line}
 use Rattle.plan_answers.proofs.Laws.{whole, longer, front_there, answers_front, accepted_whole, refusal_answer}
 use Rattle.script_steps.specs.Standings.{Standing}
-use Rattle.script_steps.specs.LineSteps.{IsEditStep, IsTableStep, IsTextsStep, IsPut}
+use Rattle.script_steps.specs.LineSteps.{IsTableStep, IsTextsStep, IsPut}
 use Rattle.script_steps.specs.StepViews.{ToldDoes}
 
 -- ---- a table

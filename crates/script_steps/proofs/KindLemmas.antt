@@ -1,6 +1,6 @@
 -- What each kind of line does, it does in one way.
-use Rattle.std.proofs.Common.{◌≡◌, ℕ, List, refl, sym, ap, ◌∙◌, subst}
-use Rattle.std.specs.Prelude.{Option, Some, Result, Ok, Err}
+use Rattle.std.proofs.Common.{◌≡◌, ℕ, List, refl, sym, ◌∙◌, subst}
+use Rattle.std.specs.Prelude.{Some, Result, Ok, Err}
 use Rattle.outside.specs.Told.{FileMap}
 use Rattle.payroll_records.specs.declared.day.Day.{Day}
 use Rattle.payroll_records.specs.declared.record.Record.{Record}
@@ -16,7 +16,7 @@ use Rattle.recalc_engine.specs.Contents.{Contents}
 use Rattle.recalc_engine.specs.EditAnswers as edits
 use Rattle.recalc_engine.specs.EditAnswers.{Edit, EditAnswers}
 use Rattle.recalc_engine.proofs.Laws.{one_answer}
-use Rattle.plan_answers.specs.Answers.{Answer, refusal, IsRefusal}
+use Rattle.plan_answers.specs.Answers.{Answer, refusal}
 use Rattle.plan_answers.specs.Lines.{bound_line}
 use Rattle.plan_answers.proofs.Laws.{one_refusal, some_refusal}
 use Rattle.script_steps.specs.LineTexts.{ok_line, table_detail, edit_detail}
@@ -43,7 +43,7 @@ pub edit_some : (text : List ℕ) (from : Standing) (e : Edit) → Has (IsEditSt
 edit_some text from e = let o = one_answer from.book e in by o.answer o.says
   where
     by : (v : Result Contents EditRefusal) → EditAnswers from.book e v → Has (IsEditStep text from e)
-    by (Ok book) h = (record { book = book }, accepted text book.last.steps, record { verdict = Ok book; says = h; is = (refl, refl) })
+    by (Ok book) h = (record { book = book; filings = from.filings }, accepted text book.last.steps, record { verdict = Ok book; says = h; is = (refl, refl) })
     by (Err why) h = (from, refusal (edit_detail why), record { verdict = Err why; says = h; is = (refl, refl) })
 
 pub edit_one : (text : List ℕ) (from : Standing) (e : Edit) (to to' : Standing) (a a' : Answer) → IsEditStep text from e to a → IsEditStep text from e to' a' → Same to to' a a'

@@ -1,9 +1,9 @@
 -- What the functions of lines leave, said of the files and of what was written.
-use Rattle.std.proofs.Common.{◌≡◌, ℕ, ◌+◌, ◌<◌, ◌≤◌, List, [], ◌++◌, Bool, length, take, refl, sym, ap, ◌∙◌, subst, arith, inl, inr}
-use Rattle.std.specs.Prelude.{◌⊎◌, Option, Some, None, Result, Ok, Err, IfOk}
+use Rattle.std.proofs.Common.{◌≡◌, ℕ, ◌+◌, List, [], Bool, refl, sym, ap, subst, arith, inl, inr}
+use Rattle.std.specs.Prelude.{Option, Some, Result, Ok, Err, IfOk}
 use Rattle.std.specs.Result.{ForErr}
 use Rattle.outside.specs.Causes.{Caused}
-use Rattle.outside.specs.Told.{FileMap, Appends, AppendsPrefix, IsToldFront}
+use Rattle.outside.specs.Told.{FileMap, Appends}
 use Rattle.outside.specs.declared.traits.FileAnswer.{FileAnswer}
 use Rattle.outside.specs.declared.traits.FileAnswer.TheVariants as answers
 use Rattle.outside.proofs.Laws.{Appends-nothing}
@@ -13,19 +13,18 @@ use Rattle.script_lang.specs.Lines.{IsLine, LineSays, IsRefused}
 use Rattle.script_lang.specs.declared.fault.LineFault.{LineFault}
 use Rattle.script_lang.specs.declared.fault.LineFault.TheVariants as faults
 use Rattle.payroll_records.specs.declared.day.Day.{Day}
-use Rattle.report_csv.specs.Fronts.{AppendsFront}
 use Rattle.plan_answers.specs.Fronts.{IsMissing}
 use Rattle.plan_answers.specs.Answers.{Answer, refusal}
 use Rattle.plan_answers.proofs.Laws.{if_ok_map}
 use Rattle.script_steps.specs.declared.stop.LineStop.{LineStop}
 use Rattle.script_steps.specs.declared.stop.LineStop.TheVariants as stops
-use Rattle.script_steps.specs.LineSteps.{Does, IsFileOf, report_answer}
+use Rattle.script_steps.specs.LineSteps.{IsFileOf, report_answer}
 use Rattle.script_steps.specs.LineTexts.{line_detail}
 use Rattle.script_steps.specs.Standings.{Standing}
 use Rattle.script_steps.specs.Steps.{IsStep}
 use Rattle.script_steps.specs.Stops.{stop_of}
-use Rattle.script_steps.specs.StepClauses.{IsAnswered, IsUnbegun, IsPart, IsCutShort, IsUnread, IsBroken}
-use Rattle.script_steps.specs.StepViews.{Doing, IsMade, IsLost, IsWant, ToldDoes, IsFileFault, IsUnmade, IsLineRefusal, IsWritten, IsUnwritten, IsRefusalWritten, IsRefusalCut, IsRefusalUnwritten}
+use Rattle.script_steps.specs.StepClauses.{IsAnswered, IsBroken}
+use Rattle.script_steps.specs.StepViews.{Doing, IsMade, IsLost, IsWant, ToldDoes, IsUnmade, IsLineRefusal, IsWritten, IsUnwritten, IsRefusalWritten, IsRefusalUnwritten}
 
 err_same : {T E : Type 0} (r : Result T E) (x y : E) → r ≡ Err x → r ≡ Err y → x ≡ y
 err_same r x y a b = cc

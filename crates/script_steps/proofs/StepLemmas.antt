@@ -1,10 +1,10 @@
 -- A line whose files are there has one step.
-use Rattle.std.proofs.Common.{◌≡◌, ◌<◌, ℕ, Bool, true, false, List, length, refl, sym, ap, ◌∙◌, subst, inl, inr}
+use Rattle.std.proofs.Common.{◌≡◌, ◌<◌, ℕ, List, length, refl, sym, ap, ◌∙◌, subst, inl, inr}
 use Rattle.std.specs.Prelude.{◌⊎◌, Option, Some, None, IsSome, Result, Ok, Err}
 use Rattle.outside.specs.Told.{FileMap}
 use Rattle.script_lang.specs.Commands as asked
 use Rattle.script_lang.specs.Commands.{Asked}
-use Rattle.script_lang.specs.Lines.{LineSays, IsLine}
+use Rattle.script_lang.specs.Lines.{LineSays}
 use Rattle.script_lang.specs.declared.fault.LineFault.{LineFault}
 use Rattle.script_lang.specs.declared.fault.LineFault.TheVariants as faults
 use Rattle.script_lang.proofs.Laws.{line_once, line_some}
@@ -13,10 +13,12 @@ use Rattle.recalc_engine.specs.EditAnswers as edits
 use Rattle.plan_answers.specs.Answers.{Answer, refusal}
 use Rattle.script_steps.specs.LineTexts.{ok_line, line_detail}
 use Rattle.script_steps.specs.Standings.{Standing, silence}
-use Rattle.script_steps.specs.LineSteps.{IsEditStep, IsLoadStep, IsPlanStep, Does, IsFileOf, report_answer, work_answer}
-use Rattle.script_steps.specs.Steps.{Names, AreThere, IsStep}
+use Rattle.script_steps.specs.LineSteps.{IsLoadStep, IsPlanStep, Does, IsFileOf, report_answer, work_answer}
+use Rattle.script_steps.specs.Steps.{Names, AreThere}
 use Rattle.script_steps.specs.StepLaws.{HasStep, LacksAFile, LinesHaveAStep, LinesHaveOneStep, FilesAreTold, LongLinesAreOne, LongLinesNameNoFile}
+use Rattle.script_steps.specs.TraceSteps.{trace_answer}
 use Rattle.script_steps.proofs.KindLemmas.{Has, Same, stays_one, edit_some, edit_one, table_step_some, load_one, texts_some, plan_one}
+use Rattle.script_steps.proofs.FilingLemmas.{file_some, file_one, owed_some, owed_one}
 
 is_there : {A : Type 0} (o : Option A) → IsSome o → (x : A) × (o ≡ Some x)
 is_there None h = cc
@@ -56,6 +58,9 @@ module _ (files : FileMap) (from : Standing) where
   does_some (asked.load file) there = load_some file (there file refl)
   does_some asked.report there = (from, report_answer from, (refl, refl))
   does_some asked.work there = (from, work_answer from, (refl, refl))
+  does_some (asked.trace who when) there = (from, trace_answer from.book who when, (refl, refl))
+  does_some (asked.filing month) there = file_some from month
+  does_some asked.owed there = owed_some from
 
   does_one : (said : Result Asked LineFault) (to to' : Standing) (a a' : Answer) → Does files from said to a → Does files from said to' a' → Same to to' a a'
   does_one (Err why) to to' a a' h k = stays_one from to to' (refusal (line_detail why)) a a' h k
@@ -68,6 +73,9 @@ module _ (files : FileMap) (from : Standing) where
   does_one (Ok (asked.load file)) to to' a a' h k = load_one files from file to to' a a' h k
   does_one (Ok asked.report) to to' a a' h k = stays_one from to to' (report_answer from) a a' h k
   does_one (Ok asked.work) to to' a a' h k = stays_one from to to' (work_answer from) a a' h k
+  does_one (Ok (asked.trace who when)) to to' a a' h k = stays_one from to to' (trace_answer from.book who when) a a' h k
+  does_one (Ok (asked.filing month)) to to' a a' h k = file_one from month to to' a a' h k
+  does_one (Ok asked.owed) to to' a a' h k = owed_one from to to' a a' h k
 
   -- the files of what was done are there
   files_there : (what : Asked) (to : Standing) (a : Answer) (name : List ℕ) → Does files from (Ok what) to a → IsFileOf what name → IsSome (files name)
@@ -81,6 +89,9 @@ module _ (files : FileMap) (from : Standing) where
   files_there (asked.load file) to a name h n = there_is (files name) h.table (ap files n ∙ h.there)
   files_there asked.report to a name h n = absurd n
   files_there asked.work to a name h n = absurd n
+  files_there (asked.trace who when) to a name h n = absurd n
+  files_there (asked.filing month) to a name h n = absurd n
+  files_there asked.owed to a name h n = absurd n
 
 -- ---- a line has one step
 
@@ -129,6 +140,9 @@ all_or_one files (asked.load file) = by (told (files file))
     by (inr e) = inr (file, refl, e)
 all_or_one files asked.report = inl (λ name n. absurd n)
 all_or_one files asked.work = inl (λ name n. absurd n)
+all_or_one files (asked.trace who when) = inl (λ name n. absurd n)
+all_or_one files (asked.filing month) = inl (λ name n. absurd n)
+all_or_one files asked.owed = inl (λ name n. absurd n)
 
 -- the file of what a line says
 abbrev IsFileSaid : Result Asked LineFault → List ℕ → Type 0

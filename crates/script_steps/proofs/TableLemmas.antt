@@ -1,5 +1,5 @@
 -- A table that was read, as the step of a line.
-use Rattle.std.proofs.Common.{◌≡◌, ℕ, ◌+◌, List, refl, ap, subst, arith, inl, inr}
+use Rattle.std.proofs.Common.{◌≡◌, ℕ, List, refl, ap, arith, inr}
 use Rattle.std.specs.Prelude.{Result, Ok, Err, IfOk, OnErr}
 use Rattle.std.specs.declared.alloc.AllocError.{AllocError}
 use Rattle.payroll_records.specs.declared.record.Record.{Record}
@@ -10,7 +10,7 @@ use Rattle.recalc_engine.specs.EditAnswers as edits
 use Rattle.plan_answers.specs.Answers.{Answer, refusal}
 use Rattle.plan_answers.specs.declared.reply.Reply.{Reply}
 use Rattle.plan_answers.specs.ReplyViews.{reply_of}
-use Rattle.plan_answers.proofs.Laws.{if_ok_map, on_err_any, on_err_map}
+use Rattle.plan_answers.proofs.Laws.{if_ok_map, on_err_map}
 use Rattle.script_steps.specs.LineTexts.{ok_line, table_detail}
 use Rattle.script_steps.specs.Standings.{Standing}
 use Rattle.script_steps.specs.LineSteps.{IsEditStep, IsTableStep}

@@ -1,11 +1,11 @@
 -- What was written of a text of two parts, one after the other, and of an answer.
-use Rattle.std.proofs.Common.{◌≡◌, ℕ, ◌+◌, ◌<◌, List, [], ◌++◌, length, take, refl, sym, ap, ◌∙◌, subst, append_assoc, arith, length-append}
-use Rattle.std.specs.Prelude.{Option, Bool, Result, Err}
+use Rattle.std.proofs.Common.{◌≡◌, ℕ, ◌+◌, ◌<◌, List, ◌++◌, length, take, sym, ap, ◌∙◌, subst, append_assoc, arith, length-append}
+use Rattle.std.specs.Prelude.{Option, Bool, Result}
 use Rattle.std.specs.Result.{ForErr}
 use Rattle.std.proofs.Math.Seq.{take-append_seam, take-append-add}
 use Rattle.outside.specs.Causes.{Caused}
 use Rattle.outside.specs.Told.{Appends, AppendsPrefix}
-use Rattle.outside.proofs.Laws.{Appends-nothing, Appends-then}
+use Rattle.outside.proofs.Laws.{Appends-then}
 use Rattle.script_lang.specs.declared.fault.LineFault.{LineFault}
 use Rattle.report_csv.specs.Fronts.{AppendsFront}
 use Rattle.plan_answers.specs.Answers.{Answer}

@@ -1,5 +1,5 @@
 -- What holds of the steps of lines.
-use Rattle.std.specs.Prelude.{◌≡◌, ◌⊎◌, ◌<◌, ℕ, List, IsSome, Option, None, length}
+use Rattle.std.specs.Prelude.{◌≡◌, ◌⊎◌, ◌<◌, ℕ, List, None, length}
 use Rattle.outside.specs.Told.{FileMap}
 use Rattle.script_steps.specs.Steps.{Standing, Answer, Names, AreThere, IsStep}
 

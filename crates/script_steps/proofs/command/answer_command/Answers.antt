@@ -1,4 +1,4 @@
-use Rattle.std.proofs.Common.{◌≡◌, ◌++◌, ◌∙◌, refl, sym, ap, subst}
+use Rattle.std.proofs.Common.{◌++◌, ◌∙◌, refl, ap, subst}
 use Rattle.std.specs.Prelude.{Ok, Err, IfOk}
 use Rattle.std.specs.Result.{ForErr}
 use Rattle.std.proofs.lemmas.Result.{err_from_is_err_and}

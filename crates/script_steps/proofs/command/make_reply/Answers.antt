@@ -1,4 +1,4 @@
-use Rattle.std.proofs.Common.{◌≡◌, ◌∙◌, sym, ap, subst}
+use Rattle.std.proofs.Common.{◌∙◌, sym, ap, subst}
 use Rattle.std.specs.Prelude.{Ok, string_bytes}
 use Rattle.std.specs.Result.{ForErr}
 use Rattle.script_lang.specs.Commands as asked

@@ -1,11 +1,11 @@
-use Rattle.std.proofs.Common.{◌≡◌, ◌∙◌, refl, sym, ap, subst, inl, inr}
+use Rattle.std.proofs.Common.{◌∙◌, ap}
 use Rattle.std.specs.Prelude.{Ok, Err}
 use Rattle.std.proofs.lemmas.Result.{err_from_is_err_and}
 use Rattle.script_lang.specs.Commands as asked
 use Rattle.plan_answers.specs.ReplyViews.{reply_of}
 use Rattle.script_steps.specs.LineSteps.{IsTextsStep}
 use Rattle.script_steps.specs.StepViews.{ToldDoes}
-use Rattle.script_steps.proofs.FileLemmas.{plan_told, plan_bytes_told}
+use Rattle.script_steps.proofs.FileLemmas.{plan_bytes_told}
 use Rattle.script_steps.proofs.MadeLemmas.{made_map, want_map, unread_plan, wanting}
 use Rattle.script_steps.proofs.plan.plan.Goals as goal
 

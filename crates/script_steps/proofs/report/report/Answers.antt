@@ -1,5 +1,4 @@
-use Rattle.std.proofs.Common.{◌≡◌, ◌++◌, refl, arith}
-use Rattle.std.specs.Result.{ForErr}
+use Rattle.std.proofs.Common.{◌++◌, refl, arith}
 use Rattle.report_csv.specs.ReportTexts.{report_text}
 use Rattle.script_steps.specs.declared.stop.LineStop.TheVariants as stops
 use Rattle.script_steps.specs.LineTexts.{end_line}
