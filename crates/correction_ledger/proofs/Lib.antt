@@ -8,3 +8,4 @@ mod AccountLemmas
 mod ReportedLemmas
 mod RisingLemmas
 mod SomeLemmas
+pub mod Laws

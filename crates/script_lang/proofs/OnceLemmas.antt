@@ -17,7 +17,7 @@ use Rattle.payroll_records.proofs.Laws.{year_is, month_is, day_is, same_day, sam
 use Rattle.script_lang.specs.Commands as asked
 use Rattle.script_lang.specs.Commands.{Asked}
 use Rattle.script_lang.specs.Fields.{Field, IsGood, fault_of, time_field}
-use Rattle.script_lang.specs.Lines.{Verb, plan, drop, add, change, withdraw, load, report, work, text_of, takes, fields_of, IsSilent, IsDayWord, IsTime, IsOfRecord, Ask, HaveNoVerb, AreNotTaken, IsFirstFault, HaveFirstFault, IsLine, LineSays}
+use Rattle.script_lang.specs.Lines.{Verb, plan, drop, add, change, withdraw, load, report, work, trace, filing, owed, text_of, takes, fields_of, IsSilent, IsDayWord, IsTime, IsOfRun, IsOfRecord, Ask, HaveNoVerb, AreNotTaken, IsFirstFault, HaveFirstFault, IsLine, LineSays}
 use Rattle.script_lang.specs.Words.{words_of}
 use Rattle.script_lang.specs.declared.fault.LineFault.{LineFault}
 use Rattle.script_lang.specs.declared.fault.LineFault.TheVariants as fault
@@ -35,7 +35,10 @@ which t =
     if bytes_eq t (codes "withdraw") then Some withdraw else
     if bytes_eq t (codes "load") then Some load else
     if bytes_eq t (codes "report") then Some report else
-    if bytes_eq t (codes "work") then Some work else None
+    if bytes_eq t (codes "work") then Some work else
+    if bytes_eq t (codes "trace") then Some trace else
+    if bytes_eq t (codes "file") then Some filing else
+    if bytes_eq t (codes "owed") then Some owed else None
 
 which_of : (v : Verb) → which (text_of v) ≡ Some v
 unfolding which
@@ -47,6 +50,9 @@ which_of withdraw = refl
 which_of load = refl
 which_of report = refl
 which_of work = refl
+which_of trace = refl
+which_of filing = refl
+which_of owed = refl
 
 pub verb_once : (v w : Verb) → text_of v ≡ text_of w → v ≡ w
 verb_once v w e = let same = sym (which_of v) ∙ ap which e ∙ which_of w in cc
@@ -61,6 +67,9 @@ no_comment withdraw e = omega (arith, e)
 no_comment load e = omega (arith, e)
 no_comment report e = omega (arith, e)
 no_comment work e = omega (arith, e)
+no_comment trace e = omega (arith, e)
+no_comment filing e = omega (arith, e)
+no_comment owed e = omega (arith, e)
 
 loud : (words : List Text) (verb : Verb) (rest : List Text) → words ≡ text_of verb ∷ rest → IsSilent words → ⊥
 loud [] verb rest e silent = cc e
@@ -107,6 +116,9 @@ asked_verb (asked.withdraw e t) = Some withdraw
 asked_verb (asked.load f) = Some load
 asked_verb asked.report = Some report
 asked_verb asked.work = Some work
+asked_verb (asked.trace e t) = Some trace
+asked_verb (asked.filing m) = Some filing
+asked_verb asked.owed = Some owed
 
 record Spoken (words : List Text) (what : Asked) : Type 0 where
   verb : Verb
@@ -148,6 +160,9 @@ spoken words (asked.withdraw e t) h = inr (record { verb = withdraw; rest = e �
 spoken words (asked.load f) h = inr (record { verb = load; rest = f ∷ []; verb_is = refl; words_are = h.words_are; taken = h.file_is; good = tt })
 spoken words asked.report h = inr (record { verb = report; rest = []; verb_is = refl; words_are = h; taken = refl; good = tt })
 spoken words asked.work h = inr (record { verb = work; rest = []; verb_is = refl; words_are = h; taken = refl; good = tt })
+spoken words (asked.trace e t) h = inr (record { verb = trace; rest = e ∷ h.word ∷ []; verb_is = refl; words_are = h.words_are; taken = refl; good = (h.employee_is, (time_good h.word t h.time_is, tt)) })
+spoken words (asked.filing m) h = inr (record { verb = filing; rest = h.word ∷ []; verb_is = refl; words_are = h.words_are; taken = refl; good = ((m.year, m.month, h.month_is), tt) })
+spoken words asked.owed h = inr (record { verb = owed; rest = []; verb_is = refl; words_are = h; taken = refl; good = tt })
 
 -- why words are refused
 data Wrong (words : List Text) : LineFault → Type 0 where
@@ -235,6 +250,16 @@ runs_once command words r s h k =
     (days_once h.day_word r.day s.day h.day_is (subst (λ t. IsDayWord t s.day) days k.day_is))
     (values_once h.value_words r.values s.values h.values_are (subst (λ ws. AreValueWords ws s.values) values k.values_are))
 
+-- an employee and a time, under any constructor
+meant_once : (make : Text → When → Asked) (command : Text) (words : List Text) (e : Text) (t : When) (e' : Text) (t' : When) →
+    IsOfRun command words e t → IsOfRun command words e' t' → make e t ≡ make e' t'
+meant_once make command words e t e' t' h k =
+    let x = h.words_are in
+    let y = k.words_are in
+    let word : k.word ≡ h.word = cc in
+    let who : e ≡ e' = cc in
+    ap (λ z. make z t) who ∙ ap (make e') (times_once h.word t t' h.time_is (subst (λ z. IsTime z t') word k.time_is))
+
 by_verb : (words : List Text) (a b : Asked) → asked_verb a ≡ asked_verb b → Ask words a → Ask words b → a ≡ b
 by_verb words asked.nothing asked.nothing e h k = refl
 by_verb words (asked.plan d p l) (asked.plan d' p' l') e h k =
@@ -252,15 +277,17 @@ by_verb words (asked.drop d) (asked.drop d') e h k =
     ap asked.drop (days_once h.word d d' h.day_is (subst (λ t. IsDayWord t d') word k.day_is))
 by_verb words (asked.add r) (asked.add s) e h k = ap asked.add (runs_once (codes "add") words r s h k)
 by_verb words (asked.change r) (asked.change s) e h k = ap asked.change (runs_once (codes "change") words r s h k)
-by_verb words (asked.withdraw w t) (asked.withdraw w' t') e h k =
-    let x = h.words_are in
-    let y = k.words_are in
-    let word : k.word ≡ h.word = cc in
-    let who : w ≡ w' = cc in
-    ap (λ z. asked.withdraw z t) who ∙ ap (asked.withdraw w') (times_once h.word t t' h.time_is (subst (λ z. IsTime z t') word k.time_is))
+by_verb words (asked.withdraw w t) (asked.withdraw w' t') e h k = meant_once asked.withdraw (codes "withdraw") words w t w' t' h k
 by_verb words (asked.load f) (asked.load g) e h k = let x = h.words_are in let y = k.words_are in let same : f ≡ g = cc in ap asked.load same
 by_verb words asked.report asked.report e h k = refl
 by_verb words asked.work asked.work e h k = refl
+by_verb words (asked.trace w t) (asked.trace w' t') e h k = meant_once asked.trace (codes "trace") words w t w' t' h k
+by_verb words (asked.filing m) (asked.filing m') e h k =
+    let x = h.words_are in
+    let y = k.words_are in
+    let word : k.word ≡ h.word = cc in
+    ap asked.filing (months_once h.word m m' h.month_is (subst (λ t. IsMonthText t m'.year m'.month) word k.month_is))
+by_verb words asked.owed asked.owed e h k = refl
 by_verb words a b e h k = cc e
 
 ask_once : (words : List Text) (a b : Asked) → Ask words a → Ask words b → a ≡ b

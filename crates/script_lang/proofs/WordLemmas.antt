@@ -8,10 +8,11 @@ use Rattle.payroll_records.specs.Days.{IsDayText, IsMonthText, IsDaySpelled, IsM
 use Rattle.payroll_records.specs.Employees.{is_employee}
 use Rattle.payroll_records.specs.Tables.{Text}
 use Rattle.payroll_records.specs.declared.day.Day.{Day}
+use Rattle.payroll_records.specs.declared.month.Month.{Month}
 use Rattle.payroll_records.proofs.Laws.{year_is, month_is}
 use Rattle.script_lang.specs.Fields.{fault_of, employee, month, day, day_in, time_field, value_fields}
 use Rattle.script_lang.specs.Lines as lines
-use Rattle.script_lang.specs.Lines.{IsFirstFault, IsDayWord, IsPlan, IsDrop, IsOfRecord, takes, fields_of}
+use Rattle.script_lang.specs.Lines.{IsFirstFault, IsDayWord, IsPlan, IsDrop, IsFileMonth, IsOfRecord, takes, fields_of}
 use Rattle.script_lang.specs.Views.{Breaks, BreaksIn, IsFaultOf, texts}
 use Rattle.script_lang.specs.Words.{is_file}
 use Rattle.script_lang.specs.declared.fault.LineFault.{LineFault}
@@ -49,6 +50,17 @@ is_drop [] d when l m b = absurd (omega (arith, l))
 is_drop (w ∷ []) d when l m b = record { word = w.now; words_are = refl; day_is = b }
 is_drop (w ∷ v ∷ ws) d when l m b = absurd (omega (arith, m))
 
+-- file
+pub filing_broken : (rest : List (Bor Text)) (d : Bor Text) (f : LineFault) → 1 ≤ length rest → length rest < 2 → Breaks (month (get_or rest 0 d).now) f → IsFaultOf lines.filing (texts rest) f
+filing_broken [] d f l m b = absurd (omega (arith, l))
+filing_broken (w ∷ []) d f l m b = faulty lines.filing (w.now ∷ []) f refl (first_here (month w.now) [] f b.0 b.1)
+filing_broken (w ∷ v ∷ ws) d f l m b = absurd (omega (arith, m))
+
+pub is_file_month : (rest : List (Bor Text)) (d : Bor Text) (when : Month) → 1 ≤ length rest → length rest < 2 → IsMonthText (get_or rest 0 d).now when.year when.month → IsFileMonth (codes "file" ∷ texts rest) when
+is_file_month [] d when l m b = absurd (omega (arith, l))
+is_file_month (w ∷ []) d when l m b = record { word = w.now; words_are = refl; month_is = b }
+is_file_month (w ∷ v ∷ ws) d when l m b = absurd (omega (arith, m))
+
 -- plan
 pub plan_broken : (rest : List (Bor Text)) (d : Bor Text) (f : LineFault) → 3 ≤ length rest → length rest < 4 →
     IsTrue (is_file (get_or rest 1 d).now) → IsTrue (is_file (get_or rest 2 d).now) → Breaks (day (get_or rest 0 d).now) f → IsFaultOf lines.plan (texts rest) f
@@ -73,7 +85,7 @@ is_plan (w ∷ v ∷ u ∷ []) d when plan limits l m p e q g b = record {
 }
 is_plan (w ∷ v ∷ u ∷ t ∷ ws) d when plan limits l m p e q g b = absurd (omega (arith, m))
 
--- withdraw
+-- withdraw and trace
 pub employee_broken : (rest : List (Bor Text)) (d : Bor Text) (f : LineFault) → 2 ≤ length rest → length rest < 3 → Breaks (employee (get_or rest 0 d).now) f → IsFaultOf lines.withdraw (texts rest) f
 employee_broken [] d f l m b = absurd (omega (arith, l))
 employee_broken (w ∷ []) d f l m b = absurd (omega (arith, l))

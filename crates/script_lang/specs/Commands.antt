@@ -2,6 +2,7 @@
 use Rattle.std.specs.Prelude.{string_bytes}
 use Rattle.payroll_records.specs.Tables.{Text}
 use Rattle.payroll_records.specs.declared.day.Day.{Day}
+use Rattle.payroll_records.specs.declared.month.Month.{Month}
 use Rattle.payroll_records.specs.declared.record.Record.{Record}
 use Rattle.payroll_records.specs.declared.when.When.{When}
 use Rattle.script_lang.specs.declared.command.Command.{Command}
@@ -20,6 +21,11 @@ pub data Asked : Type 0 where
   load : Text → Asked
   report : Asked
   work : Asked
+  -- the executed statements of the run of an employee in a month or on a day
+  trace : Text → When → Asked
+  -- this month is filed; its line begins with `file`
+  filing : Month → Asked
+  owed : Asked
 
 abbrev pub asked_of : Command → Asked
 asked_of code.Nothing = nothing
@@ -31,3 +37,6 @@ asked_of (code.Withdraw employee time) = withdraw employee time
 asked_of (code.Load file) = load (string_bytes file)
 asked_of code.Report = report
 asked_of code.Work = work
+asked_of (code.Trace employee time) = trace employee time
+asked_of (code.File m) = filing m
+asked_of code.Owed = owed

@@ -47,6 +47,11 @@ fault_of (new_name before word) = fault.Twice (name_in word)
 abbrev pub time_field : Text → Field
 time_field word = if length word == 7 then month word else day word
 
+-- an employee, and a month or a day
+abbrev pub run_fields : List Text → List Field
+run_fields (who ∷ time ∷ []) = employee who ∷ time_field time ∷ []
+run_fields _ = []
+
 -- value words behind some others: each in turn is NAME=VALUE, and its name is new. The first value word of a line is its
 -- fifth word.
 abbrev pub value_fields : List Text → List Text → List Field

@@ -6,13 +6,14 @@ use Rattle.payroll_records.specs.Employees.{is_employee}
 use Rattle.payroll_records.specs.Tables.{Text}
 use Rattle.payroll_records.specs.ValueWords.{AreValueWords}
 use Rattle.payroll_records.specs.declared.day.Day.{Day}
+use Rattle.payroll_records.specs.declared.month.Month.{Month}
 use Rattle.payroll_records.specs.declared.record.Record.{Record}
 use Rattle.payroll_records.specs.declared.when.When.{When}
 use Rattle.payroll_records.specs.declared.when.When.TheVariants as when
 use Rattle.script_lang.specs.Commands as asked
 use Rattle.script_lang.specs.Commands.{Asked}
 use Rattle.script_lang.specs.Fields as field
-use Rattle.script_lang.specs.Fields.{Field, IsGood, fault_of, time_field, record_fields}
+use Rattle.script_lang.specs.Fields.{Field, IsGood, fault_of, run_fields, record_fields}
 use Rattle.script_lang.specs.Words.{words_of, is_file}
 use Rattle.script_lang.specs.declared.fault.LineFault.{LineFault}
 use Rattle.script_lang.specs.declared.fault.LineFault.TheVariants as fault
@@ -62,10 +63,10 @@ abbrev pub IsTime : Text → When → Type 0
 IsTime word (when.Month m) = IsMonthText word m.year m.month
 IsTime word (when.Day d) = IsDayWord word d
 
--- withdraw EMP WHEN
-pub record IsWithdraw (words : List Text) (who : Text) (time : When) : Type 0 where
+-- withdraw EMP WHEN and trace EMP WHEN
+pub record IsOfRun (command : Text) (words : List Text) (who : Text) (time : When) : Type 0 where
   pub word : Text
-  pub words_are : words ≡ codes "withdraw" ∷ who ∷ word ∷ []
+  pub words_are : words ≡ command ∷ who ∷ word ∷ []
   pub employee_is : IsTrue (is_employee who)
   pub time_is : IsTime word time
 
@@ -74,6 +75,12 @@ pub record IsLoad (words : List Text) (file : Text) : Type 0 where
   pub words_are : words ≡ codes "load" ∷ file ∷ []
   pub file_is : IsTrue (is_file file)
 
+-- file MONTH
+pub record IsFileMonth (words : List Text) (m : Month) : Type 0 where
+  pub word : Text
+  pub words_are : words ≡ codes "file" ∷ word ∷ []
+  pub month_is : IsMonthText word m.year m.month
+
 -- what the words ask for
 abbrev pub Ask : List Text → Asked → Type 0
 Ask words asked.nothing = IsSilent words
@@ -81,10 +88,13 @@ Ask words (asked.plan d plan limits) = IsPlan words d plan limits
 Ask words (asked.drop d) = IsDrop words d
 Ask words (asked.add r) = IsOfRecord (codes "add") words r
 Ask words (asked.change r) = IsOfRecord (codes "change") words r
-Ask words (asked.withdraw who time) = IsWithdraw words who time
+Ask words (asked.withdraw who time) = IsOfRun (codes "withdraw") words who time
 Ask words (asked.load file) = IsLoad words file
 Ask words asked.report = words ≡ codes "report" ∷ []
 Ask words asked.work = words ≡ codes "work" ∷ []
+Ask words (asked.trace who time) = IsOfRun (codes "trace") words who time
+Ask words (asked.filing m) = IsFileMonth words m
+Ask words asked.owed = words ≡ codes "owed" ∷ []
 
 -- what a line asks for
 pub record IsLine (line : Text) (what : Asked) : Type 0 where
@@ -103,6 +113,9 @@ pub data Verb : Type 0 where
   load : Verb
   report : Verb
   work : Verb
+  trace : Verb
+  filing : Verb
+  owed : Verb
 
 abbrev pub text_of : Verb → Text
 text_of plan = codes "plan"
@@ -113,11 +126,19 @@ text_of withdraw = codes "withdraw"
 text_of load = codes "load"
 text_of report = codes "report"
 text_of work = codes "work"
+text_of trace = codes "trace"
+text_of filing = codes "file"
+text_of owed = codes "owed"
 
 -- an employee, a month, a day, and at most 256 value words
 abbrev pub takes_record : List Text → Bool
 takes_record (employee ∷ month ∷ day ∷ values) = nat_le (length values) 256
 takes_record _ = false
+
+-- an employee, and a month or a day
+abbrev pub takes_run : List Text → Bool
+takes_run (employee ∷ time ∷ []) = true
+takes_run _ = false
 
 -- whether a command takes these words behind its first: as many as these, and files where it names files
 abbrev pub takes : Verb → List Text → Bool
@@ -125,10 +146,13 @@ takes plan (day ∷ file ∷ limits ∷ []) = is_file file && is_file limits
 takes drop (day ∷ []) = true
 takes add words = takes_record words
 takes change words = takes_record words
-takes withdraw (employee ∷ time ∷ []) = true
+takes withdraw words = takes_run words
 takes load (file ∷ []) = is_file file
 takes report [] = true
 takes work [] = true
+takes trace words = takes_run words
+takes filing (month ∷ []) = true
+takes owed [] = true
 takes _ _ = false
 
 -- what is asked of the words behind the first, from the left
@@ -137,7 +161,9 @@ fields_of plan (day ∷ file ∷ limits ∷ []) = field.day day ∷ []
 fields_of drop (day ∷ []) = field.day day ∷ []
 fields_of add words = record_fields words
 fields_of change words = record_fields words
-fields_of withdraw (employee ∷ time ∷ []) = field.employee employee ∷ time_field time ∷ []
+fields_of withdraw words = run_fields words
+fields_of trace words = run_fields words
+fields_of filing (month ∷ []) = field.month month ∷ []
 fields_of _ _ = []
 
 -- there is a first word, no comment, and it is that of no command

@@ -24,6 +24,9 @@ verb_of code.Withdraw = lines.withdraw
 verb_of code.Load = lines.load
 verb_of code.Report = lines.report
 verb_of code.Work = lines.work
+verb_of code.Trace = lines.trace
+verb_of code.File = lines.filing
+verb_of code.Owed = lines.owed
 
 -- the result is what the words ask for, or what is wrong with them
 abbrev pub Answers : List Text → Result Command LineFault → Type 0

@@ -1,5 +1,5 @@
 //! Commands of a script.
-use payroll_records::{Day, Employee, Record, When};
+use payroll_records::{Day, Employee, Month, Record, When};
 
 /// What a line of a script asks for.
 #[derive(Debug, Drop)]
@@ -34,4 +34,15 @@ pub enum Command {
     Report,
     /// `work`
     Work,
+    /// `trace EMP WHEN`: the executed statements of the pay run of this employee in a month or on a day.
+    Trace {
+        employee: Employee,
+        when: When,
+    },
+    /// `file MONTH`: this month is filed.
+    File {
+        month: Month,
+    },
+    /// `owed`
+    Owed,
 }

@@ -3,12 +3,13 @@ ghost use Rattle.std.specs.Prelude.{◌≡◌, ◌↔◌, ◌<◌, ◌∷◌, co
 ghost use Rattle.payroll_records.specs.Tables.{Text};
 ghost use Rattle.script_lang.specs.Commands.{asked_of};
 ghost use Rattle.script_lang.specs.Lines as lines;
-ghost use Rattle.script_lang.specs.Lines.{Ask, HasOneAnswer, IsLine, IsRefused};
+ghost use Rattle.script_lang.specs.Lines.{Ask, HasOneAnswer, IsLine, IsOfRun, IsRefused};
 ghost use Rattle.script_lang.specs.Views.{Answers, IsFaultOf, texts};
 
-use crate::run::{read_day, read_employee, read_record, read_when};
+use crate::run::{read_day, read_employee, read_month, read_record, read_when};
 use crate::words::{Verb, file, read_verb, words};
 use crate::{Command, LineFault};
+use payroll_records::{Employee, When};
 use std::alloc::Global;
 
 /// The most bytes of a line.
@@ -47,10 +48,19 @@ fn read_words(alloc: Global, words: &[&[u8]]) -> Result<Command, LineFault>
         Verb::Drop => read_drop(rest),
         Verb::Add => Ok(Command::Add(read_record(alloc, rest)?)),
         Verb::Change => Ok(Command::Change(read_record(alloc, rest)?)),
-        Verb::Withdraw => read_withdraw(rest),
+        Verb::Withdraw => {
+            let (employee, when) = read_run(rest)?;
+            Ok(Command::Withdraw { employee, when })
+        }
         Verb::Load => read_load(alloc, rest),
         Verb::Report => read_alone(rest, Command::Report),
         Verb::Work => read_alone(rest, Command::Work),
+        Verb::Trace => {
+            let (employee, when) = read_run(rest)?;
+            Ok(Command::Trace { employee, when })
+        }
+        Verb::File => read_filing(rest),
+        Verb::Owed => read_alone(rest, Command::Owed),
     }
 }
 
@@ -91,19 +101,16 @@ fn read_drop(rest: &[&[u8]]) -> Result<Command, LineFault>
     })
 }
 
-/// The words behind `withdraw`: `EMP WHEN`.
-fn read_withdraw(rest: &[&[u8]]) -> Result<Command, LineFault>
-    ensures ok { IfOk result
-        (λ command. Ask (codes "withdraw" ∷ texts rest.now) (asked_of command)) }
+/// The words behind `withdraw` and `trace`: `EMP WHEN`.
+fn read_run(rest: &[&[u8]]) -> Result<(Employee, When), LineFault>
+    ensures ok { (command : Text) → IfOk result
+        (λ run. IsOfRun command (command ∷ texts rest.now) run.0 run.1) }
     ensures err { IfErr result (IsFaultOf lines.withdraw (texts rest.now)) }
 {
     let [employee, when] = rest else {
         return Err(LineFault::Words);
     };
-    Ok(Command::Withdraw {
-        employee: read_employee(employee)?,
-        when: read_when(when)?,
-    })
+    Ok((read_employee(employee)?, read_when(when)?))
 }
 
 /// The word behind `load`: `FILE`.
@@ -117,6 +124,19 @@ fn read_load(alloc: Global, rest: &[&[u8]]) -> Result<Command, LineFault>
     let name = file(name).ok_or(LineFault::Words)?;
     Ok(Command::Load {
         file: String::from_str(alloc, name)?,
+    })
+}
+
+/// The word behind `file`: `MONTH`.
+fn read_filing(rest: &[&[u8]]) -> Result<Command, LineFault>
+    ensures ok { IfOk result (λ command. Ask (codes "file" ∷ texts rest.now) (asked_of command)) }
+    ensures err { IfErr result (IsFaultOf lines.filing (texts rest.now)) }
+{
+    let [month] = rest else {
+        return Err(LineFault::Words);
+    };
+    Ok(Command::File {
+        month: read_month(month)?,
     })
 }
 

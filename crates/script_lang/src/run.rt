@@ -57,7 +57,7 @@ pub(crate) fn read_day(word: &[u8]) -> Result<Day, LineFault>
 }
 
 /// The month of a word.
-fn read_month(word: &[u8]) -> Result<Month, LineFault>
+pub(crate) fn read_month(word: &[u8]) -> Result<Month, LineFault>
     ensures { MatchResult result (λ m. IsMonthText word.now m.year m.month)
         (Breaks (field.month word.now)) }
 {

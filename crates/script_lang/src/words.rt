@@ -23,6 +23,9 @@ pub(crate) enum Verb {
     Load,
     Report,
     Work,
+    Trace,
+    File,
+    Owed,
 }
 
 /// The words of a line.
@@ -55,6 +58,9 @@ pub(crate) fn read_verb(word: &[u8]) -> Option<Verb>
         b"load" => Some(Verb::Load),
         b"report" => Some(Verb::Report),
         b"work" => Some(Verb::Work),
+        b"trace" => Some(Verb::Trace),
+        b"file" => Some(Verb::File),
+        b"owed" => Some(Verb::Owed),
         _ => None,
     }
 }

@@ -2,6 +2,9 @@ pub mod Laws
 mod EditLemmas
 mod FileLemmas
 mod KindLemmas
+mod TraceLemmas
+mod FilingLemmas
+mod DoneLemmas
 mod MadeLemmas
 mod StepLemmas
 mod WriteLemmas

@@ -1,5 +1,7 @@
 pub mod Standings
 pub mod LineTexts
+pub mod TraceSteps
+pub mod FilingSteps
 pub mod LineSteps
 pub mod Steps
 pub mod Stops

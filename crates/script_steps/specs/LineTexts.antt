@@ -1,6 +1,8 @@
 -- The lines with which the lines of a script are answered (docs/PROFILE.md, "Scripts").
-use Rattle.std.specs.Prelude.{ℕ, List, [], ◌++◌, codes}
+use Rattle.std.specs.Prelude.{ℕ, List, [], ◌∷◌, ◌++◌, codes, true, false}
 use Rattle.std.specs.Fmt.{decimal as number}
+use Rattle.std.specs.List.{flat_map}
+use Rattle.scaled_decimal.specs.PlainTexts.{plain_text}
 use Rattle.payroll_records.specs.declared.day.Day.{Day}
 use Rattle.payroll_records.specs.declared.table.TableFault.{TableFault}
 use Rattle.payroll_records.specs.declared.table.TableFault.TheVariants as tables
@@ -11,6 +13,16 @@ use Rattle.script_lang.specs.declared.fault.LineFault.TheVariants as lines
 use Rattle.book_year.specs.declared.outcome.Work.{Work}
 use Rattle.book_edits.specs.declared.refusal.EditRefusal.{EditRefusal}
 use Rattle.book_edits.specs.declared.refusal.EditRefusal.TheVariants as edits
+use Rattle.month_trace.specs.declared.refusal.TraceRefusal.{TraceRefusal}
+use Rattle.month_trace.specs.declared.refusal.TraceRefusal.TheVariants as traces
+use Rattle.month_trace.specs.declared.step.TraceStep.{TraceStep}
+use Rattle.month_trace.specs.declared.step.TraceStep.TheVariants.{Set, Test, Enter}
+use Rattle.correction_ledger.specs.declared.due.Due.{Due}
+use Rattle.correction_ledger.specs.declared.due.Entry.{Entry}
+use Rattle.correction_ledger.specs.declared.ledger.FileRefusal.{FileRefusal}
+use Rattle.correction_ledger.specs.declared.ledger.FileRefusal.TheVariants as filing
+use Rattle.correction_ledger.specs.declared.ledger.OwedRefusal.{OwedRefusal}
+use Rattle.correction_ledger.specs.declared.ledger.OwedRefusal.TheVariants as owed
 use Rattle.plan_answers.specs.Lines.{spaced, line}
 
 -- an edit is accepted
@@ -24,6 +36,50 @@ end_line = line (codes "end")
 -- work RUNS STEPS
 abbrev pub work_line : Work → List ℕ
 work_line w = line (codes "work " ++ spaced (number w.runs) (number w.steps))
+
+-- ---- traces
+
+-- METHOD:STMT
+abbrev pub site : List ℕ → ℕ → List ℕ
+site method stmt = method ++ (58 ∷ number stmt)
+
+-- set METHOD:STMT NAME VALUE, test METHOD:STMT yes or no, call METHOD:STMT METHOD
+abbrev pub step_line : TraceStep → List ℕ
+step_line (Set m n x v) = line (codes "set " ++ spaced (site m n) (spaced x (plain_text v)))
+step_line (Test m n true) = line (codes "test " ++ spaced (site m n) (codes "yes"))
+step_line (Test m n false) = line (codes "test " ++ spaced (site m n) (codes "no"))
+step_line (Enter m n callee) = line (codes "call " ++ spaced (site m n) callee)
+
+-- a line a step, and a last line
+abbrev pub trace_text : List TraceStep → List ℕ
+trace_text steps = flat_map step_line steps ++ end_line
+
+-- ---- filings
+
+-- YYYY-MM-DD
+abbrev pub text_of_day : Day → List ℕ
+text_of_day d = day_text d.year d.month d.day
+
+-- EMP DAY NAME AMOUNT
+abbrev pub due_words : Due → List ℕ
+due_words d =
+    spaced d.key.employee (spaced (text_of_day d.key.day) (spaced d.name (plain_text d.amount)))
+
+-- due EMP DAY NAME AMOUNT
+abbrev pub due_line : Entry → List ℕ
+due_line e = line (codes "due " ++ due_words e.due)
+
+-- owed EMP DAY NAME AMOUNT
+abbrev pub owed_line : Due → List ℕ
+owed_line d = line (codes "owed " ++ due_words d)
+
+-- a line for each entry that is filed, and their number
+abbrev pub filed_text : List Entry → ℕ → List ℕ
+filed_text entries count = flat_map due_line entries ++ line (codes "filed " ++ number count)
+
+-- a line for each amount that is owed, and a last line
+abbrev pub owed_text : List Due → List ℕ
+owed_text dues = flat_map owed_line dues ++ end_line
 
 -- ---- what is written after `refused`: the group, the name and the details; want of memory has none
 
@@ -51,10 +107,6 @@ table_detail (tables.Repeat row) = codes "table Repeat " ++ number row
 table_detail tables.TableLong = codes "table TableLong"
 table_detail (tables.Memory e) = []
 
--- YYYY-MM-DD
-abbrev pub text_of_day : Day → List ℕ
-text_of_day d = day_text d.year d.month d.day
-
 -- why an edit of the book is refused
 abbrev pub edit_detail : EditRefusal → List ℕ
 edit_detail (edits.Present k) = codes "edit Present " ++ spaced k.employee (text_of_day k.day)
@@ -64,3 +116,23 @@ edit_detail edits.Records = codes "edit Records"
 edit_detail edits.Plans = codes "edit Plans"
 edit_detail (edits.NoPlanThere d) = codes "edit NoPlanThere " ++ text_of_day d
 edit_detail (edits.Memory e) = []
+
+-- why no trace is told
+abbrev pub trace_detail : TraceRefusal → List ℕ
+trace_detail (traces.Absent e w) = codes "trace Absent " ++ spaced e (when_text w)
+trace_detail (traces.Several e m) = codes "trace Several " ++ spaced e (month_text m.year m.month)
+trace_detail (traces.NotDone k) = codes "trace NotDone " ++ spaced k.employee (text_of_day k.day)
+trace_detail (traces.Memory e) = []
+
+-- why a month isn't filed
+abbrev pub file_detail : FileRefusal → List ℕ
+file_detail (filing.Early last) = codes "file Early " ++ month_text last.year last.month
+file_detail (filing.Open k) = codes "file Open " ++ spaced k.employee (text_of_day k.day)
+file_detail filing.Entries = codes "file Entries"
+file_detail (filing.Memory e) = []
+
+-- why it isn't known what is owed
+abbrev pub owed_detail : OwedRefusal → List ℕ
+owed_detail owed.NothingFiled = codes "file NothingFiled"
+owed_detail (owed.Open k) = codes "file Open " ++ spaced k.employee (text_of_day k.day)
+owed_detail (owed.Memory e) = []

@@ -10,12 +10,18 @@ use Rattle.payroll_records.specs.declared.table.TableFault.TheVariants as tables
 use Rattle.book_year.specs.declared.outcome.Work.{Work}
 use Rattle.book_edits.specs.declared.refusal.EditRefusal.{EditRefusal}
 use Rattle.book_edits.specs.declared.refusal.EditRefusal.TheVariants as edits
+use Rattle.month_trace.specs.declared.refusal.TraceRefusal.{TraceRefusal}
+use Rattle.month_trace.specs.declared.refusal.TraceRefusal.TheVariants as traces
+use Rattle.correction_ledger.specs.declared.ledger.FileRefusal.{FileRefusal}
+use Rattle.correction_ledger.specs.declared.ledger.FileRefusal.TheVariants as filing
+use Rattle.correction_ledger.specs.declared.ledger.OwedRefusal.{OwedRefusal}
+use Rattle.correction_ledger.specs.declared.ledger.OwedRefusal.TheVariants as owed
 use Rattle.report_csv.specs.Fronts.{AppendsFront}
 use Rattle.plan_answers.specs.Answers.{Answer, refusal}
 use Rattle.script_steps.specs.declared.stop.LineStop.{LineStop}
 use Rattle.script_steps.specs.declared.stop.LineStop.TheVariants as stops
-use Rattle.script_steps.specs.LineSteps.{Does, IsFileOf, IsNextFile}
-use Rattle.script_steps.specs.LineTexts.{line_detail, table_detail, edit_detail}
+use Rattle.script_steps.specs.LineSteps.{Does, IsFileOf}
+use Rattle.script_steps.specs.LineTexts.{line_detail, table_detail, edit_detail, trace_detail, file_detail, owed_detail}
 use Rattle.script_steps.specs.Standings.{Standing, accepted}
 
 -- what a line leaves and answers, for one that does this
@@ -44,18 +50,17 @@ abbrev pub ToldDoes : Option FileMap → Standing → Result Asked LineFault →
 ToldDoes told from said to answer = ForSome told (λ files. Does files from said to answer)
 
 -- the files failed at one that is asked for, and nothing was counted
-pub record IsFileFault (told : Option FileMap) (what : Asked) (before now : ℕ) (failed : Option (List ℕ)) : Type 0 where
+pub record IsFileFault (what : Asked) (before now : ℕ) (failed : Option (List ℕ)) : Type 0 where
   pub uncounted : now ≡ before
   pub name : List ℕ
   pub is_file : IsFileOf what name
-  pub in_order : ForSome told (λ files. IsNextFile files what name)
   pub failed_there : failed ≡ Some name
 
 -- no reply was made, by the cause
-abbrev pub IsUnmade : Option FileMap → Doing → Asked → ℕ → ℕ → Option (List ℕ) → LineStop → Type 0
-IsUnmade told Step what before now failed stops.File = IsFileFault told what before now failed
-IsUnmade told Step what before now failed stops.Write = ⊥
-IsUnmade told Step what before now failed stops.Memory = IsWant Step before now
+abbrev pub IsUnmade : Doing → Asked → ℕ → ℕ → Option (List ℕ) → LineStop → Type 0
+IsUnmade Step what before now failed stops.File = IsFileFault what before now failed
+IsUnmade Step what before now failed stops.Write = ⊥
+IsUnmade Step what before now failed stops.Memory = IsWant Step before now
 
 -- ---- refusals that are written, which want of memory is not
 
@@ -70,6 +75,18 @@ IsTableRefusal why answer = answer ≡ refusal (table_detail why)
 abbrev pub IsEditRefusal : EditRefusal → Answer → Type 0
 IsEditRefusal (edits.Memory e) answer = ⊥
 IsEditRefusal why answer = answer ≡ refusal (edit_detail why)
+
+abbrev pub IsTraceRefusal : TraceRefusal → Answer → Type 0
+IsTraceRefusal (traces.Memory e) answer = ⊥
+IsTraceRefusal why answer = answer ≡ refusal (trace_detail why)
+
+abbrev pub IsFileRefusal : FileRefusal → Answer → Type 0
+IsFileRefusal (filing.Memory e) answer = ⊥
+IsFileRefusal why answer = answer ≡ refusal (file_detail why)
+
+abbrev pub IsOwedRefusal : OwedRefusal → Answer → Type 0
+IsOwedRefusal (owed.Memory e) answer = ⊥
+IsOwedRefusal why answer = answer ≡ refusal (owed_detail why)
 
 -- what is answered to an edit that the book has made or refused
 abbrev pub IsEditReply : List ℕ → Result Work EditRefusal → Answer → Type 0

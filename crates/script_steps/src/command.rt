@@ -11,12 +11,14 @@ ghost use Rattle.script_steps.specs.StepClauses.{IsAnswered, IsBroken};
 ghost use Rattle.script_steps.specs.StepViews.{IsMade, IsUnmade, ToldDoes};
 
 use crate::edits::{add, change, drop_plan, withdraw};
+use crate::filings::{file, owed};
 use crate::load::load;
 use crate::plan::plan;
 use crate::reply::{accepted, write_reply};
 use crate::report::report;
 use crate::script::Script;
 use crate::stop::LineStop;
+use crate::trace::trace;
 use outside::{Files, Sink};
 use plan_answers::Reply;
 use recalc_engine::{Book, Work};
@@ -68,7 +70,7 @@ fn make_reply<F: Files, L: Ledger>(
     ensures made { IfOk result (λ reply. IsMade
         (ToldDoes (F.told files.old) script.old (Ok (asked_of command)))
         script.new steps.old steps.new (reply_of reply)) }
-    ensures unmade { ForErr result (IsUnmade (F.told files.old)
+    ensures unmade { ForErr result (IsUnmade
         (ToldDoes (F.told files.old) script.old (Ok (asked_of command)))
         (asked_of command) steps.old steps.new (F.failed files.new)) }
     ensures same { F.told files.new ≡ F.told files.old }
@@ -91,6 +93,9 @@ fn make_reply<F: Files, L: Ledger>(
         Command::Load { file } => load(alloc, script, &file, files, steps),
         Command::Report => unreachable!(),
         Command::Work => Ok(work(alloc, &script.book)?),
+        Command::Trace { employee, when } => Ok(trace(alloc, &script.book, employee, when)?),
+        Command::File { month } => Ok(file(alloc, script, month)?),
+        Command::Owed => Ok(owed(alloc, script)?),
     }
 }
 

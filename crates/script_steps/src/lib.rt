@@ -3,6 +3,7 @@
 
 mod command;
 mod edits;
+mod filings;
 mod load;
 mod plan;
 mod refusals;
@@ -11,6 +12,7 @@ mod report;
 mod script;
 mod step;
 mod stop;
+mod trace;
 
 pub use script::Script;
 pub use step::{answer_line, step_laws};

@@ -3,7 +3,10 @@ ghost use Rattle.std.specs.Prelude.{IfOk, string_bytes};
 ghost use Rattle.plan_answers.specs.Answers.{refusal};
 ghost use Rattle.plan_answers.specs.ReplyViews.{reply_of};
 ghost use Rattle.script_steps.specs.StepViews.{IsEditRefusal, IsLineRefusal, IsTableRefusal};
+ghost use Rattle.script_steps.specs.StepViews.{IsFileRefusal, IsOwedRefusal, IsTraceRefusal};
 
+use correction_ledger::{FileRefusal, OwedRefusal};
+use month_trace::TraceRefusal;
 use payroll_records::TableFault;
 use plan_answers::{Reply, refusal};
 use recalc_engine::EditRefusal;
@@ -31,6 +34,30 @@ pub(crate) fn edit_refusal(alloc: Global, why: &EditRefusal) -> Result<Reply, Al
     ensures { IfOk result (λ reply. IsEditRefusal why.now (reply_of reply)) }
 {
     let detail = edit_detail(alloc, why)?;
+    refusal(alloc, detail.as_bytes())
+}
+
+/// The refusal of a trace.
+pub(crate) fn trace_refusal(alloc: Global, why: &TraceRefusal) -> Result<Reply, AllocError>
+    ensures { IfOk result (λ reply. IsTraceRefusal why.now (reply_of reply)) }
+{
+    let detail = trace_detail(alloc, why)?;
+    refusal(alloc, detail.as_bytes())
+}
+
+/// The refusal of a filing.
+pub(crate) fn file_refusal(alloc: Global, why: &FileRefusal) -> Result<Reply, AllocError>
+    ensures { IfOk result (λ reply. IsFileRefusal why.now (reply_of reply)) }
+{
+    let detail = file_detail(alloc, why)?;
+    refusal(alloc, detail.as_bytes())
+}
+
+/// The refusal of what is owed.
+pub(crate) fn owed_refusal(alloc: Global, why: &OwedRefusal) -> Result<Reply, AllocError>
+    ensures { IfOk result (λ reply. IsOwedRefusal why.now (reply_of reply)) }
+{
+    let detail = owed_detail(alloc, why)?;
     refusal(alloc, detail.as_bytes())
 }
 
@@ -88,5 +115,56 @@ fn edit_detail(alloc: Global, why: &EditRefusal) -> Result<String, AllocError>
         EditRefusal::Plans => format!(in alloc; "edit Plans"),
         EditRefusal::NoPlanThere { day } => format!(in alloc; "edit NoPlanThere {day}"),
         EditRefusal::Memory(_) => Err(AllocError),
+    }
+}
+
+/// The group, the name and the details of a trace's refusal.
+fn trace_detail(alloc: Global, why: &TraceRefusal) -> Result<String, AllocError>
+    ensures { IfOk result (λ detail. IsTraceRefusal why.now (refusal (string_bytes detail))) }
+{
+    match why {
+        TraceRefusal::Absent { employee, when } => {
+            format!(in alloc; "trace Absent {employee} {when}")
+        }
+        TraceRefusal::Several { employee, month } => {
+            format!(in alloc; "trace Several {employee} {month}")
+        }
+        TraceRefusal::NotDone { key } => {
+            let employee = key.employee;
+            let day = key.day;
+            format!(in alloc; "trace NotDone {employee} {day}")
+        }
+        TraceRefusal::Memory(_) => Err(AllocError),
+    }
+}
+
+/// The group, the name and the details of a filing's refusal.
+fn file_detail(alloc: Global, why: &FileRefusal) -> Result<String, AllocError>
+    ensures { IfOk result (λ detail. IsFileRefusal why.now (refusal (string_bytes detail))) }
+{
+    match why {
+        FileRefusal::Early { last } => format!(in alloc; "file Early {last}"),
+        FileRefusal::Open { key } => {
+            let employee = key.employee;
+            let day = key.day;
+            format!(in alloc; "file Open {employee} {day}")
+        }
+        FileRefusal::Entries => format!(in alloc; "file Entries"),
+        FileRefusal::Memory(_) => Err(AllocError),
+    }
+}
+
+/// The group, the name and the details of why it isn't known what is owed.
+fn owed_detail(alloc: Global, why: &OwedRefusal) -> Result<String, AllocError>
+    ensures { IfOk result (λ detail. IsOwedRefusal why.now (refusal (string_bytes detail))) }
+{
+    match why {
+        OwedRefusal::NothingFiled => format!(in alloc; "file NothingFiled"),
+        OwedRefusal::Open { key } => {
+            let employee = key.employee;
+            let day = key.day;
+            format!(in alloc; "file Open {employee} {day}")
+        }
+        OwedRefusal::Memory(_) => Err(AllocError),
     }
 }

@@ -2,14 +2,16 @@
 ghost use Rattle.std.specs.Prelude.{◌≡◌};
 ghost use Rattle.script_steps.specs.Standings.{start};
 
+use correction_ledger::Ledger;
 use recalc_engine::Book;
 use std::alloc::Global;
 use std::marker::Model;
 
-/// What the lines of a script have made so far: a book.
+/// What the lines of a script have made so far: a book, and what was filed of it.
 #[derive(Drop)]
 pub struct Script {
     pub(crate) book: Book,
+    pub(crate) ledger: Ledger,
 }
 
 impl Model for Script {
@@ -24,16 +26,17 @@ impl Model for Script {
       body_code (Prim.hlevel codes) (Prim.hlevel codes) (Prim.hlevel codes),
     ) };
 
-    ghost view = { λ s. record { book = s.book } };
+    ghost view = { λ s. record { book = s.book; filings = s.ledger } };
 }
 
 impl Script {
-    /// Before the first line: a book without runs and without plans.
+    /// Before the first line: a book without runs and without plans, of which nothing was filed.
     pub fn new(alloc: Global) -> Script
         ensures { result ≡ start }
     {
         Script {
             book: Book::new(alloc),
+            ledger: Ledger::new(alloc),
         }
     }
 

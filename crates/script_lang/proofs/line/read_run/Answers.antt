@@ -1,6 +1,6 @@
 use Rattle.std.proofs.lemmas.Result.{err_from_is_err_and}
 use Rattle.script_lang.proofs.WordLemmas.{employee_broken, time_broken}
-use Rattle.script_lang.proofs.line.read_withdraw.Goals as goal
+use Rattle.script_lang.proofs.line.read_run.Goals as goal
 
 pub returns-in_err-read_employee-clause-err : goal.returns-in_err-read_employee-clause-err
 returns-in_err-read_employee-clause-err c =

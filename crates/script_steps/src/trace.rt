@@ -1,0 +1,68 @@
+//! The line `trace`.
+ghost use Rattle.std.specs.Prelude.{◌≡◌, IfOk, string_bytes};
+ghost use Rattle.plan_answers.specs.ReplyViews.{reply_of};
+ghost use Rattle.script_steps.specs.LineTexts.{step_line, trace_text};
+ghost use Rattle.script_steps.specs.TraceSteps.{trace_answer};
+
+use crate::refusals::trace_refusal;
+use crate::reply::accepted;
+use month_trace::{TraceRefusal, TraceStep};
+use payroll_records::{Employee, When};
+use plan_answers::Reply;
+use recalc_engine::Book;
+use std::alloc::{AllocError, Global};
+
+/// The line `trace`.
+pub(crate) fn trace(
+    alloc: Global,
+    book: &Book,
+    employee: Employee,
+    when: When,
+) -> Result<Reply, AllocError>
+    ensures { IfOk result (λ reply. reply_of reply ≡ trace_answer book.now employee when) }
+{
+    match month_trace::trace(alloc, book, employee, when) {
+        Ok(steps) => Ok(accepted(trace_text(alloc, steps.as_slice())?, 0)),
+        Err(TraceRefusal::Memory(error)) => Err(error),
+        Err(why) => trace_refusal(alloc, &why),
+    }
+}
+
+/// A line for each step, and the line `end`.
+fn trace_text(alloc: Global, steps: &[TraceStep]) -> Result<Vec<u8>, AllocError>
+    ensures { IfOk result (λ text. text.items ≡ trace_text steps.now) }
+{
+    let mut text = Vec::new(alloc);
+    for step in steps {
+        let line = step_line(alloc, step)?;
+        text.extend_from_slice(line.as_bytes())?;
+    }
+    text.extend_from_slice(b"end\n")?;
+    Ok(text)
+}
+
+/// The line of a step.
+fn step_line(alloc: Global, step: &TraceStep) -> Result<String, AllocError>
+    ensures { IfOk result (λ line. string_bytes line ≡ step_line step.now) }
+{
+    match step {
+        TraceStep::Set {
+            method,
+            stmt,
+            target,
+            value,
+        } => format!(in alloc; "set {method}:{stmt} {target} {value}\n"),
+        TraceStep::Test { method, stmt, yes } => {
+            if *yes {
+                format!(in alloc; "test {method}:{stmt} yes\n")
+            } else {
+                format!(in alloc; "test {method}:{stmt} no\n")
+            }
+        }
+        TraceStep::Enter {
+            method,
+            stmt,
+            callee,
+        } => format!(in alloc; "call {method}:{stmt} {callee}\n"),
+    }
+}
