@@ -156,7 +156,8 @@ fn carried_out<L: Ledger>(
             let Work { runs, steps } = book.last_work();
             Ok(format!(in alloc; "{runs} run, {steps} steps")?)
         }
-        Command::Nothing => Ok(String::new(alloc)),
+        // The other lines ask nothing of a book alone.
+        _ => Ok(String::new(alloc)),
     }
 }
 

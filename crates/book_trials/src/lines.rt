@@ -16,12 +16,16 @@ withdraw E1 2025-01 => withdraw
 withdraw E1 2025-01-31 => withdraw
 load runs.csv => load
 report => report
-work => work"#;
+work => work
+trace E1 2025-01 => trace
+trace E1 2025-01-31 => trace
+file 2025-01 => file
+owed => owed"#;
 
 /// Lines with the text of their fault.
 const FAULTS: &str =
-    r#"Report => the first word is no command: plan, drop, add, change, withdraw, load, report or work
-plans x => the first word is no command: plan, drop, add, change, withdraw, load, report or work
+    r#"Report => the first word is no command: plan, drop, add, change, withdraw, load, report, work, trace, file or owed
+plans x => the first word is no command: plan, drop, add, change, withdraw, load, report, work, trace, file or owed
 report now => the command takes other words: their number is wrong, or a file's name is not at most 255 visible ASCII characters
 plan x a.xml => the command takes other words: their number is wrong, or a file's name is not at most 255 visible ASCII characters
 plan x a.xml b.toml c => the command takes other words: their number is wrong, or a file's name is not at most 255 visible ASCII characters
@@ -47,7 +51,7 @@ change E1 2025-01 2025-01-31 N=1 M=1 N=2 M=x => an earlier word gives N a value 
 const WHITE_SPACE: &str = " \t  => nothing
 \t#add E1 => nothing
 \tplan  2025-01-01\t\ta.xml b.toml  => plan
-report\r => the first word is no command: plan, drop, add, change, withdraw, load, report or work
+report\r => the first word is no command: plan, drop, add, change, withdraw, load, report, work, trace, file or owed
 load a\r => the command takes other words: their number is wrong, or a file's name is not at most 255 visible ASCII characters";
 
 /// Lines at each limit and one past it.
@@ -70,6 +74,9 @@ fn first_word(command: &Command) -> &'static str {
         Command::Load { .. } => "load",
         Command::Report => "report",
         Command::Work => "work",
+        Command::Trace { .. } => "trace",
+        Command::File { .. } => "file",
+        Command::Owed => "owed",
     }
 }
 
