@@ -50,6 +50,10 @@ lines of a script (DAY as 2026-01-31, MONTH as 2026-01, EMP a word for an employ
   load FILE                             the pay runs of a table: CSV with the columns employee,month,day and inputs' names
   report                                all runs with their outputs, as CSV, and then `end`
   work                                  `work RUNS STEPS`: what the last edit had to run
+  trace EMP DAY, trace EMP MONTH        each executed statement of a run: `set METHOD:N NAME VALUE`, `test METHOD:N yes` or
+                                        `no`, `call METHOD:N METHOD`, and then `end`
+  file MONTH                            what is filed with this month: `due EMP DAY NAME AMOUNT` each, and then `filed N`
+  owed                                  what changed since the last filing: `owed EMP DAY NAME AMOUNT` each, and then `end`
   # ..                                  nothing: a comment
 An edit answers `ok`, and `plan` `accepted steps B`. A line that is refused answers `refused ..` and changes nothing.
 
