@@ -1,5 +1,6 @@
 -- What was traced, filed and owed, as the step of a line: texts of many lines, and the standing that is left.
-use Rattle.std.proofs.Common.{◌≡◌, ℕ, ◌+◌, ◌<◌, List, [], ◌∷◌, ◌++◌, length, take, drop, map, get_or, refl, sym, ap, ◌∙◌, subst, inl, inr, append_assoc}
+use Rattle.std.proofs.Common.{◌≡◌, ℕ, ◌+◌, ◌<◌, List, [], ◌∷◌, ◌++◌, length, take, drop, map, get_or, refl, sym, ap}
+use Rattle.std.proofs.Common.{◌∙◌, subst, inl, inr, append_assoc}
 use Rattle.std.specs.Prelude.{Result, Ok, Err}
 use Rattle.std.specs.List.{flat_map}
 use Rattle.std.proofs.lemmas.Grind.{flat_map-append}
@@ -23,7 +24,8 @@ use Rattle.script_steps.specs.StepViews.{IsFileRefusal, IsOwedRefusal}
 -- ---- lines, one after the other
 
 -- the line of one element more
-pub lines_more : {X : Type 0} (f : X → List ℕ) (xs : List X) (i : ℕ) (x : X) → x ≡ get_or xs i x → i < length xs → flat_map f (take (i + 1) xs) ≡ flat_map f (take i xs) ++ f x
+pub lines_more : {X : Type 0} (f : X → List ℕ) (xs : List X) (i : ℕ) (x : X) → x ≡ get_or xs i x → i < length xs →
+    flat_map f (take (i + 1) xs) ≡ flat_map f (take i xs) ++ f x
 lines_more f xs i x is lt =
     ap (flat_map f) (take_more xs i x lt)
     ∙ flat_map-append f (take i xs) (get_or xs i x ∷ [])
@@ -31,7 +33,9 @@ lines_more f xs i x is lt =
     ∙ ap (λ y. flat_map f (take i xs) ++ f y) (sym is)
 
 -- a text with it
-pub text_with : {X : Type 0} (f : X → List ℕ) (xs : List X) (i : ℕ) (x : X) (after before text : List ℕ) → x ≡ get_or xs i x → i < length xs → after ≡ before ++ text → before ≡ flat_map f (take i xs) → text ≡ f x → after ≡ flat_map f (take (i + 1) xs)
+pub text_with : {X : Type 0} (f : X → List ℕ) (xs : List X) (i : ℕ) (x : X) (after before text : List ℕ) →
+    x ≡ get_or xs i x → i < length xs → after ≡ before ++ text → before ≡ flat_map f (take i xs) → text ≡ f x →
+    after ≡ flat_map f (take (i + 1) xs)
 text_with f xs i x after before text is lt e b t =
     e ∙ ap (λ z. z ++ text) b ∙ ap (λ z. flat_map f (take i xs) ++ z) t ∙ sym (lines_more f xs i x is lt)
 
@@ -42,9 +46,12 @@ abbrev pub standing : Filings → Contents → Standing
 standing filings b = record { book = b; filings = filings }
 
 module _ (from : Standing) (month : Month) (book : Contents) (old : Filings) (same : standing old book ≡ from) where
-  pub file_made : (new : Filings) (count : ℕ) (entries : List Entry) (answer : Answer) → IsFiling (month_rows book) month old new count → entries ≡ drop (length old.entries) new.entries → answer ≡ accepted (filed_text entries count) 0 → IsFileStep from month (standing new book) answer
+  pub file_made : (new : Filings) (count : ℕ) (entries : List Entry) (answer : Answer) →
+      IsFiling (month_rows book) month old new count → entries ≡ drop (length old.entries) new.entries →
+      answer ≡ accepted (filed_text entries count) 0 → IsFileStep from month (standing new book) answer
   file_made new count entries answer h is_rest is =
-      let appended = is_rest ∙ ap (drop (length old.entries)) h.entries ∙ drop_at old.entries (map (entry_with month) h.dues) (length old.entries) refl in
+      let appended = is_rest ∙ ap (drop (length old.entries)) h.entries
+      ∙ drop_at old.entries (map (entry_with month) h.dues) (length old.entries) refl in
       subst (λ s. IsFileStep s month (standing new book) answer) same
       (inl (record {
         filings = new;
@@ -54,13 +61,16 @@ module _ (from : Standing) (month : Month) (book : Contents) (old : Filings) (sa
         told = is ∙ ap (λ es. accepted (filed_text es count) 0) appended;
       }))
 
-  unfiled : (why : FileRefusal) (answer : Answer) → IsFileRefused (month_rows book) month old why → IsFileRefusal why answer → IsUnfiled (month_rows book) month old why × (answer ≡ refusal (file_detail why))
+  unfiled : (why : FileRefusal) (answer : Answer) → IsFileRefused (month_rows book) month old why →
+      IsFileRefusal why answer → IsUnfiled (month_rows book) month old why × (answer ≡ refusal (file_detail why))
   unfiled (file.Memory e) answer h is = absurd is
   unfiled (file.Early since) answer h is = (h, is)
   unfiled (file.Open k) answer h is = (h, is)
   unfiled file.Entries answer h is = (h, is)
 
-  pub file_refused : (new : Filings) (why : FileRefusal) (answer : Answer) → new ≡ old → IsFileRefused (month_rows book) month old why → IsFileRefusal why answer → IsFileStep from month (standing new book) answer
+  pub file_refused : (new : Filings) (why : FileRefusal) (answer : Answer) → new ≡ old →
+      IsFileRefused (month_rows book) month old why → IsFileRefusal why answer →
+      IsFileStep from month (standing new book) answer
   file_refused new why answer stays h is =
       let u = unfiled why answer h is in
       subst (λ s. IsFileStep s month (standing new book) answer) same
@@ -69,23 +79,27 @@ module _ (from : Standing) (month : Month) (book : Contents) (old : Filings) (sa
 -- ---- what is owed
 
 module _ (from : Standing) (book : Contents) (now : Filings) (same : standing now book ≡ from) where
-  pub owed_told : (verdict : Result (List Due) OwedRefusal) (answer : Answer) → OwedSays (month_rows book) now verdict → answer ≡ owed_answer verdict → IsOwedAnswer from answer
+  pub owed_told : (verdict : Result (List Due) OwedRefusal) (answer : Answer) →
+      OwedSays (month_rows book) now verdict → answer ≡ owed_answer verdict → IsOwedAnswer from answer
   owed_told verdict answer h is =
       subst (λ s. IsOwedAnswer s answer) same (record { verdict = verdict; says = h; told = is })
 
-  says_refused : (why : OwedRefusal) (answer : Answer) → IsOwedRefused (month_rows book) now why → IsOwedRefusal why answer → OwedSays (month_rows book) now (Err why) × (answer ≡ refusal (owed_detail why))
+  says_refused : (why : OwedRefusal) (answer : Answer) → IsOwedRefused (month_rows book) now why →
+      IsOwedRefusal why answer → OwedSays (month_rows book) now (Err why) × (answer ≡ refusal (owed_detail why))
   says_refused (owed.Memory e) answer h is = absurd is
   says_refused owed.NothingFiled answer h is = (h, is)
   says_refused (owed.Open k) answer h is = (h, is)
 
-  pub owed_refused : (why : OwedRefusal) (answer : Answer) → IsOwedRefused (month_rows book) now why → IsOwedRefusal why answer → IsOwedAnswer from answer
+  pub owed_refused : (why : OwedRefusal) (answer : Answer) → IsOwedRefused (month_rows book) now why →
+      IsOwedRefusal why answer → IsOwedAnswer from answer
   owed_refused why answer h is =
       let s = says_refused why answer h is in
       owed_told (Err why) answer s.0 s.1
 
 -- ---- neither counts steps
 
-pub file_steps : (from to : Standing) (month : Month) (answer : Answer) → IsFileStep from month to answer → answer.steps ≡ 0
+pub file_steps : (from to : Standing) (month : Month) (answer : Answer) → IsFileStep from month to answer →
+    answer.steps ≡ 0
 file_steps from to month answer (inl h) = ap (λ (a : Answer). a.steps) h.told
 file_steps from to month answer (inr h) = ap (λ (a : Answer). a.steps) h.told
 
@@ -98,11 +112,16 @@ owed_steps from answer h = by h.verdict h.told
 
 -- ---- the line end behind the words of a line
 
-pub ended_due : (p a b c d : List ℕ) → p ++ (a ++ (32 ∷ (b ++ (32 ∷ (c ++ (32 ∷ (d ++ (10 ∷ [])))))))) ≡ (p ++ (a ++ (32 ∷ (b ++ (32 ∷ (c ++ (32 ∷ d))))))) ++ (10 ∷ [])
+pub ended_due : (p a b c d : List ℕ) →
+    p ++ (a ++ (32 ∷ (b ++ (32 ∷ (c ++ (32 ∷ (d ++ (10 ∷ [])))))))) ≡
+    (p ++ (a ++ (32 ∷ (b ++ (32 ∷ (c ++ (32 ∷ d))))))) ++ (10 ∷ [])
 ended_due p a b c d = simp append_assoc
 
-pub ended_set : (p m n x v : List ℕ) → p ++ (m ++ (58 ∷ (n ++ (32 ∷ (x ++ (32 ∷ (v ++ (10 ∷ [])))))))) ≡ (p ++ ((m ++ (58 ∷ n)) ++ (32 ∷ (x ++ (32 ∷ v))))) ++ (10 ∷ [])
+pub ended_set : (p m n x v : List ℕ) →
+    p ++ (m ++ (58 ∷ (n ++ (32 ∷ (x ++ (32 ∷ (v ++ (10 ∷ [])))))))) ≡
+    (p ++ ((m ++ (58 ∷ n)) ++ (32 ∷ (x ++ (32 ∷ v))))) ++ (10 ∷ [])
 ended_set p m n x v = simp append_assoc
 
-pub ended_site : (p m n x : List ℕ) → p ++ (m ++ (58 ∷ (n ++ (32 ∷ (x ++ (10 ∷ [])))))) ≡ (p ++ ((m ++ (58 ∷ n)) ++ (32 ∷ x))) ++ (10 ∷ [])
+pub ended_site : (p m n x : List ℕ) →
+    p ++ (m ++ (58 ∷ (n ++ (32 ∷ (x ++ (10 ∷ [])))))) ≡ (p ++ ((m ++ (58 ∷ n)) ++ (32 ∷ x))) ++ (10 ∷ [])
 ended_site p m n x = simp append_assoc

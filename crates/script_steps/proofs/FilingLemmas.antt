@@ -1,5 +1,6 @@
 -- What the lines `file` and `owed` do, they do in one way.
-use Rattle.std.proofs.Common.{◌≡◌, ◌≢◌, ◌⊎◌, ℕ, zero, suc, ◌+◌, ◌<◌, ◌≤◌, List, ◌++◌, length, map, refl, sym, ap, ap₂, ◌∙◌, subst, arith, inl, inr, length-append}
+use Rattle.std.proofs.Common.{◌≡◌, ◌≢◌, ◌⊎◌, ℕ, zero, suc, ◌+◌, ◌<◌, ◌≤◌, List, ◌++◌, length, map, refl, sym, ap, ap₂}
+use Rattle.std.proofs.Common.{◌∙◌, subst, arith, inl, inr, length-append}
 use Rattle.std.specs.Prelude.{Option, Some, None, Result, Ok, Err}
 use Rattle.std.proofs.lemmas.List.{length-map}
 use Rattle.std.specs.declared.cmp.Ordering.{Ordering}
@@ -44,7 +45,8 @@ few_or_many (suc n) (suc limit) = by (few_or_many n limit)
 -- ---- what is owed
 
 module _ (rows : List KeyedRow) where
-  owed_same : (entries : List Entry) (month : Month) (xs ys : List Due) → IsOwed rows entries month xs → IsOwed rows entries month ys → xs ≡ ys
+  owed_same : (entries : List Entry) (month : Month) (xs ys : List Due) → IsOwed rows entries month xs →
+      IsOwed rows entries month ys → xs ≡ ys
   owed_same entries month xs ys h k = let o = one rows entries month in o.alone xs h ∙ sym (o.alone ys k)
 
   module _ (now : Filings) where
@@ -53,7 +55,8 @@ module _ (rows : List KeyedRow) where
         let m = both_some now.last h.month k.month h.last k.last in
         owed_same now.entries k.month xs ys (subst (λ m. IsOwed rows now.entries m xs) m h.owed) k.owed
 
-    told_or_open : (xs : List Due) (key : Key) (month : Month) → IsOwedNow rows now xs → now.last ≡ Some month → first_open month rows ≡ Some key → ⊥
+    told_or_open : (xs : List Due) (key : Key) (month : Month) → IsOwedNow rows now xs → now.last ≡ Some month →
+        first_open month rows ≡ Some key → ⊥
     told_or_open xs key month h last open_there =
         let m = both_some now.last h.month month h.last last in
         none_or_some (first_open month rows) key (subst (λ m. first_open m rows ≡ None) m h.closed) open_there
@@ -84,7 +87,16 @@ module _ (rows : List KeyedRow) where
         by (Some m) e = of (first_open m rows) refl
           where
             of : (o : Option Key) → first_open m rows ≡ o → (v : Result (List Due) OwedRefusal) × OwedSays rows now v
-            of None c = let o = one rows now.entries m in (Ok o.dues, record { month = m; last = e; closed = c; owed = o.owed })
+            of None c = let o = one rows now.entries m in (
+              Ok o.dues,
+              record {
+                month = m;
+                last = e;
+                closed = c;
+                owed =
+                    o.owed;
+              },
+            )
             of (Some k) c = (Err (owed.Open k), (m, e, c))
 
 pub owed_some : (from : Standing) → Has (IsOwedStep from)
@@ -92,7 +104,8 @@ owed_some from =
     let v = says_some (month_rows from.book) from.filings in
     (from, owed_answer v.0, (refl, record { verdict = v.0; says = v.1; told = refl }))
 
-pub owed_one : (from to to' : Standing) (a a' : Answer) → IsOwedStep from to a → IsOwedStep from to' a' → Same to to' a a'
+pub owed_one : (from to to' : Standing) (a a' : Answer) → IsOwedStep from to a → IsOwedStep from to' a' →
+    Same to to' a a'
 owed_one from to to' a a' h k =
     let same = says_one (month_rows from.book) from.filings h.1.verdict k.1.verdict h.1.says k.1.says in
     (h.0 ∙ sym k.0, h.1.told ∙ ap owed_answer same ∙ sym k.1.told)
@@ -113,11 +126,13 @@ module _ (from : Standing) (month : Month) where
   abbrev old : List Entry
   old = from.filings.entries
 
-  later_or_not : (last : Option Month) → IsLater month last ⊎ ((since : Month) × (last ≡ Some since) × (month_cmp since month ≢ Less))
+  later_or_not : (last : Option Month) →
+      IsLater month last ⊎ ((since : Month) × (last ≡ Some since) × (month_cmp since month ≢ Less))
   later_or_not None = inl tt
   later_or_not (Some since) = by (month_cmp since month) refl
     where
-      by : (o : Ordering) → month_cmp since month ≡ o → IsLater month (Some since) ⊎ ((m : Month) × (Some since ≡ Some m) × (month_cmp m month ≢ Less))
+      by : (o : Ordering) → month_cmp since month ≡ o →
+          IsLater month (Some since) ⊎ ((m : Month) × (Some since ≡ Some m) × (month_cmp m month ≢ Less))
       by Less e = inl e
       by Equal e = inr (since, refl, λ l. cc)
       by Greater e = inr (since, refl, λ l. cc)
@@ -128,7 +143,8 @@ module _ (from : Standing) (month : Month) where
       unfiled : (why : FileRefusal) → IsUnfiled rows month from.filings why → Has (IsFileStep from month)
       unfiled why h = (from, refusal (file_detail why), inr (record { why = why; says = h; left = refl; told = refl }))
 
-      by : IsLater month from.filings.last ⊎ ((since : Month) × (from.filings.last ≡ Some since) × (month_cmp since month ≢ Less)) → Has (IsFileStep from month)
+      by : IsLater month from.filings.last ⊎ ((since : Month) × (from.filings.last ≡ Some since) × (month_cmp since
+          month ≢ Less)) → Has (IsFileStep from month)
       by (inr h) = unfiled (file.Early h.0) (h.1, h.2)
       by (inl later) = of (first_open month rows) refl
         where
@@ -138,8 +154,19 @@ module _ (from : Standing) (month : Month) where
               let o = one rows old month in
               all o.dues o.owed (few_or_many (length old + length o.dues) most_entries)
             where
-              all : (dues : List Due) → IsOwed rows old month dues → (length old + length dues ≤ most_entries) ⊎ (most_entries < length old + length dues) → Has (IsFileStep from month)
-              all dues is (inr many) = unfiled file.Entries (record { allowed = record { later = later; closed = closed }; dues = dues; owed = is; many = many })
+              all : (dues : List Due) → IsOwed rows old month dues →
+                  (length old + length dues ≤ most_entries) ⊎ (most_entries < length old + length dues) →
+                  Has (IsFileStep from month)
+              all dues is (inr many) = unfiled file.Entries (record {
+                allowed = record {
+                  later = later;
+                  closed =
+                      closed;
+                };
+                dues = dues;
+                owed = is;
+                many = many;
+              })
               all dues is (inl few) =
                   let filings : Filings = record { entries = old ++ map (entry_with month) dues; last = Some month } in
                   let size = length-append old (map (entry_with month) dues) in
@@ -163,7 +190,8 @@ module _ (from : Standing) (month : Month) where
                     }),
                   )
 
-  filed_one : (to to' : Standing) (a a' : Answer) → IsFiled from month to a → IsFiled from month to' a' → Same to to' a a'
+  filed_one : (to to' : Standing) (a a' : Answer) → IsFiled from month to a → IsFiled from month to' a' →
+      Same to to' a a'
   filed_one to to' a a' h k =
       let dues = owed_same rows old month h.filing.dues k.filing.dues h.filing.owed k.filing.owed in
       let entries = h.filing.entries ∙ ap (λ ds. old ++ map (entry_with month) ds) dues ∙ sym k.filing.entries in
@@ -173,10 +201,12 @@ module _ (from : Standing) (month : Month) where
         h.told ∙ ap₂ (λ ds n. accepted (filed_text (map (entry_with month) ds) n) 0) dues count ∙ sym k.told,
       )
 
-  later_not : (since : Month) → IsLater month from.filings.last → from.filings.last ≡ Some since → month_cmp since month ≢ Less → ⊥
+  later_not : (since : Month) → IsLater month from.filings.last → from.filings.last ≡ Some since →
+      month_cmp since month ≢ Less → ⊥
   later_not since later e n = n (subst (λ l. IsLater month l) e later)
 
-  filed_or_not : (to : Standing) (a : Answer) → IsFiled from month to a → (why : FileRefusal) → IsUnfiled rows month from.filings why → ⊥
+  filed_or_not : (to : Standing) (a : Answer) → IsFiled from month to a → (why : FileRefusal) →
+      IsUnfiled rows month from.filings why → ⊥
   filed_or_not to a h (file.Memory e) k = k
   filed_or_not to a h (file.Early since) k = later_not since h.filing.allowed.later k.0 k.1
   filed_or_not to a h (file.Open key) k = none_or_some (first_open month rows) key h.filing.allowed.closed k.1
@@ -188,7 +218,8 @@ module _ (from : Standing) (month : Month) where
       let many = k.many in
       omega (arith, dues, size, mapped, few, many)
 
-  why_one : (why other : FileRefusal) → IsUnfiled rows month from.filings why → IsUnfiled rows month from.filings other → why ≡ other
+  why_one : (why other : FileRefusal) → IsUnfiled rows month from.filings why →
+      IsUnfiled rows month from.filings other → why ≡ other
   why_one (file.Memory e) other h k = absurd h
   why_one (file.Early a) (file.Memory e) h k = absurd k
   why_one (file.Early a) (file.Early b) h k = ap file.Early (both_some from.filings.last a b h.0 k.0)
@@ -203,7 +234,8 @@ module _ (from : Standing) (month : Month) where
   why_one file.Entries (file.Open y) h k = absurd (none_or_some (first_open month rows) y h.allowed.closed k.1)
   why_one file.Entries file.Entries h k = refl
 
-  pub file_one : (to to' : Standing) (a a' : Answer) → IsFileStep from month to a → IsFileStep from month to' a' → Same to to' a a'
+  pub file_one : (to to' : Standing) (a a' : Answer) → IsFileStep from month to a → IsFileStep from month to' a' →
+      Same to to' a a'
   file_one to to' a a' (inl h) (inl k) = filed_one to to' a a' h k
   file_one to to' a a' (inl h) (inr k) = absurd (filed_or_not to a h k.why k.says)
   file_one to to' a a' (inr h) (inl k) = absurd (filed_or_not to' a' k h.why h.says)

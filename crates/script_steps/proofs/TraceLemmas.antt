@@ -22,7 +22,8 @@ module _ (book : Contents) (e : List ℕ) (w : When) where
       ∙ ap (run_answer h.key) h.ran
       ∙ ap (λ t. accepted (trace_text (unwrap_or t [])) 0) h.steps_are
 
-  pub refused : (why : TraceRefusal) (answer : Answer) → IsTraceRefused book e w why → IsTraceRefusal why answer → answer ≡ trace_answer book e w
+  pub refused : (why : TraceRefusal) (answer : Answer) → IsTraceRefused book e w why → IsTraceRefusal why answer →
+      answer ≡ trace_answer book e w
   refused (traces.Memory x) answer h is = absurd is
   refused (traces.Absent f v) answer h is =
       is ∙ ap₂ (λ x y. refusal (trace_detail (traces.Absent x y))) h.0 h.1 ∙ sym (ap (meant_answer book e w) h.2)

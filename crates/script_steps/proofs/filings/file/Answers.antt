@@ -19,13 +19,18 @@ returns c =
     elim c.match-file.branch [
       | in-Ok+in_ok-text-in-Ok w ↦
           subst (λ r. IfOk r (λ reply. IsFileStep from month (standing new book) (reply_of reply))) (sym w.result-is)
-          (file_made from month book old c.script.view_is new w.in-Ok.count _ (reply_of w.accepted.result) w.in-Ok.ensures.ok
-          (take_rest w.entries.result.now (length c.entries-before.result.now) ∙ ap (drop (length c.entries-before.result.now)) w.entries.ensures ∙ ap (λ b. drop (length b) new.entries) c.entries-before.ensures)
+          (file_made from month book old c.script.view_is new w.in-Ok.count _ (reply_of w.accepted.result)
+          w.in-Ok.ensures.ok
+          (take_rest w.entries.result.now (length c.entries-before.result.now)
+          ∙ ap (drop (length c.entries-before.result.now)) w.entries.ensures
+          ∙ ap (λ b. drop (length b) new.entries) c.entries-before.ensures)
           (w.accepted.ensures ∙ ap (λ t. accepted t 0) w.in_ok-text-in-Ok.ensures))
-      | in-Err-Memory w ↦ subst (λ r. IfOk r (λ reply. IsFileStep from month (standing new book) (reply_of reply))) (sym w.result-is) tt
+      | in-Err-Memory w ↦ subst (λ r. IfOk r (λ reply. IsFileStep from month (standing new book) (reply_of reply)))
+          (sym w.result-is) tt
       | in-Err w ↦
           subst (λ r. IfOk r (λ reply. IsFileStep from month (standing new book) (reply_of reply))) (sym w.result-is)
           (if_ok_map w.file_refusal.result _ _
-          (λ r is. file_refused from month book old c.script.view_is new w.in-Err.why (reply_of r) w.in-Err.ensures.err w.in-Err.ensures.refused is)
+          (λ r is. file_refused from month book old c.script.view_is new w.in-Err.why (reply_of r)
+          w.in-Err.ensures.err w.in-Err.ensures.refused is)
           w.file_refusal.ensures)
     ]

@@ -12,21 +12,24 @@ pub returns-in-Set : goal.returns-in-Set
 returns-in-Set c =
     let s = c.in-Set in
     IfOk-weaker c.format.result _ (λ line. string_bytes line ≡ step_line c.args.step.now)
-    (λ line e. e ∙ ended_set (codes "set ") s.method (number s.stmt) s.target (plain_text s.value) ∙ sym (ap step_line s.is))
+    (λ line e. e ∙ ended_set (codes "set ") s.method (number s.stmt) s.target (plain_text s.value)
+    ∙ sym (ap step_line s.is))
     c.format.ensures.ok
 
 pub returns-then-yes : goal.returns-then-yes
 returns-then-yes c =
     let s = c.in-Test in
     IfOk-weaker c.format-then-yes.result _ (λ line. string_bytes line ≡ step_line c.args.step.now)
-    (λ line e. e ∙ ended_site (codes "test ") s.method (number s.stmt) (codes "yes") ∙ sym (ap step_line (s.is ∙ ap (Test s.method s.stmt) c.if-yes.true)))
+    (λ line e. e ∙ ended_site (codes "test ") s.method (number s.stmt) (codes "yes") ∙ sym (ap step_line (s.is
+    ∙ ap (Test s.method s.stmt) c.if-yes.true)))
     c.format-then-yes.ensures.ok
 
 pub returns-else-yes : goal.returns-else-yes
 returns-else-yes c =
     let s = c.in-Test in
     IfOk-weaker c.format-else-yes.result _ (λ line. string_bytes line ≡ step_line c.args.step.now)
-    (λ line e. e ∙ ended_site (codes "test ") s.method (number s.stmt) (codes "no") ∙ sym (ap step_line (s.is ∙ ap (Test s.method s.stmt) c.if-yes.false)))
+    (λ line e. e ∙ ended_site (codes "test ") s.method (number s.stmt) (codes "no") ∙ sym (ap step_line (s.is
+    ∙ ap (Test s.method s.stmt) c.if-yes.false)))
     c.format-else-yes.ensures.ok
 
 pub returns-in-Enter : goal.returns-in-Enter
