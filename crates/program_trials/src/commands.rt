@@ -41,7 +41,8 @@ once a.xml l.toml =1 => (BadWords)
 once a.xml l.toml N=1=2 => (BadWords)
 once a.xml l.toml N=x => (BadWords)
 once a.xml l.toml N=1 N=2 => (BadWords)
-run => (BadWords)"#;
+run x => (BadWords)
+run => (Done)"#;
 
 /// Words, and the reason of their refusal.
 const REASONS: &str = r#"check a.xml l.toml => -
