@@ -1,6 +1,6 @@
 -- A range as a variable of a type keeps it.
 use Rattle.std.proofs.Common.{◌≡◌, ℕ, ◌-◌, ◌≤◌, Bool, true, false, ◌&&◌, nat_le, ℤ, ◌*ℤ◌, List, Some, None, Ok, refl, sym, ap, ◌∙◌, subst, arith}
-use Rattle.std.specs.Prelude.{unsigned_abs, slice_get}
+use Rattle.std.specs.Prelude.{Result, Err, OnOk, unsigned_abs, slice_get}
 use Rattle.std.specs.Int.{w128}
 use Rattle.std.specs.Option.{option_map_or}
 use Rattle.std.proofs.Common.{to_z, of_z, set, inl, inr}
@@ -118,3 +118,9 @@ put_kept p rs x a kept i sized number is =
 
 pub put_nothing : (p : PlanText) (rs : List Interval) (x : List ℕ) (a : Interval) → IsSized p rs → None ≡ number_of (variables_in p) x → ranges_in p rs ≡ assigned_range (scope_in p) x a (ranges_in p rs)
 put_nothing p rs x a sized number = sym (put_none (variables_in p) rs x (option_map_or (λ d. range_kept_as d.kind a) (declared_as (scope_in p).variables x) a) sized (sym number))
+
+-- so it is where it is put
+pub put_done : {E : Type 0} (p : PlanText) (rs new : List Interval) (x : List ℕ) (a kept : Interval) (i : ℕ) (r : Result (Unit {0}) E) → IsSized p rs → Some i ≡ number_of (variables_in p) x → kept ≡ option_map_or (λ d. range_kept_as d.kind a) (declared_as (scope_in p).variables x) a
+    → OnOk r (new ≡ set rs i kept) → OnOk r (ranges_in p new ≡ assigned_range (scope_in p) x a (ranges_in p rs))
+put_done p rs new x a kept i (Ok u) sized number is h = ap (ranges_in p) h ∙ put_kept p rs x a kept i sized number is
+put_done p rs new x a kept i (Err e) sized number is h = tt

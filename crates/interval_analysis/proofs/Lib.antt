@@ -3,11 +3,12 @@ pub mod ChangeLemmas
 pub mod ComparisonLemmas
 pub mod CountLemmas
 pub mod ExpressionLemmas
-pub mod JoinLemmas
 pub mod KeptLemmas
+pub mod MeetLemmas
 pub mod MethodLemmas
 pub mod NameLemmas
 pub mod NarrowLemmas
+pub mod NoteLemmas
 pub mod OutputLemmas
 pub mod PartLemmas
 pub mod StartLemmas

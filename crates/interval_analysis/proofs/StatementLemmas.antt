@@ -1,5 +1,5 @@
 -- Steps of the walk of statements.
-use Rattle.std.proofs.Common.{◌≡◌, ℕ, zero, suc, ◌+◌, ◌-◌, ◌≢◌, List, Some, None, Result, Ok, Err, refl, sym, ap, ◌∙◌, subst, arith}
+use Rattle.std.proofs.Common.{◌≡◌, ℕ, zero, suc, ◌+◌, ◌-◌, ◌≢◌, List, length, set, Some, None, Result, Ok, Err, refl, sym, ap, ◌∙◌, subst, arith}
 use Rattle.pap_tree.specs.declared.plan.Stmt.{Stmt, Eval, If', Execute}
 use Rattle.pap_tree.specs.Term.{term_of}
 use Rattle.pap_tree.specs.Flowchart.{Body, done, body_of, body_of_row, stmt_then, Routine}
@@ -15,8 +15,26 @@ use Rattle.interval_walk.specs.Ranged.{ranged, tested}
 use Rattle.interval_analysis.specs.declared.expressions.Walk.{Walk}
 use Rattle.interval_analysis.specs.declared.fault.RangeFault.{RangeFault}
 use Rattle.interval_analysis.specs.declared.fault.RangeFault.TheVariants as faults
-use Rattle.interval_analysis.specs.PlanViews.{IsSized, scope_in, variables_in, with_names, ranges_in}
-use Rattle.interval_analysis.proofs.JoinLemmas.{joined_by_name}
+use Rattle.interval_analysis.specs.PlanViews.{IsSized, ranges_after, scope_in, variables_in, with_names, ranges_in}
+use Rattle.interval_analysis.specs.declared.branches.Change.{Change}
+use Rattle.interval_analysis.specs.declared.variables.Variables.{Variables}
+use Rattle.interval_analysis.specs.Changes.{AreKept, changed}
+use Rattle.interval_analysis.specs.Notes.{AreOwn, IsNoted, IsTold}
+use Rattle.interval_analysis.specs.StatementViews.{AreHeld, GoesOn, PassesAside, through_body, through_both, through_if, if_of, end_of, fault_of}
+use Rattle.std.specs.Prelude.{OnOk}
+use Rattle.std.proofs.Common.{Vec, Global}
+use Rattle.pap_tree.specs.declared.expression.Expr.{Expr}
+use Rattle.interval_analysis.specs.declared.branches.Branches.{Branches}
+use Rattle.interval_analysis.specs.declared.expressions.Stop.{Stop}
+use Rattle.interval_analysis.specs.declared.expressions.Stop.TheVariants as stops
+use Rattle.interval_analysis.specs.declared.statements.Aside.{Aside}
+use Rattle.interval_analysis.specs.ComparisonViews.{branches_in}
+use Rattle.interval_analysis.specs.ExpressionViews.{tested_in}
+use Rattle.interval_analysis.specs.Meetings.{MeetsAnswer}
+use Rattle.interval_analysis.proofs.ChangeLemmas.{length-changed}
+use Rattle.interval_analysis.proofs.NoteLemmas.{noted_length, noted_none, noted_then}
+use Rattle.std.proofs.lemmas.List.{length-set}
+use Rattle.interval_analysis.proofs.MeetLemmas.{joined_by_name}
 use Rattle.std.specs.Result.{IsErrAnd}
 use Rattle.pap_tree.specs.declared.plan.PlanText.{PlanText}
 use Rattle.interval_num.specs.declared.cause.RangeCause.{RangeCause}
@@ -126,3 +144,86 @@ meets p name at node rs ss new e f h =
 pub meets_not : (p : PlanText) (name : List ℕ) (at node : ℕ) (rs ss : List Interval) (c : RangeCause) → IsSized p rs → IsSized p ss → joined_lists rs ss ≡ Err c → at_stmt name at (at_node node (joined (ranges_in p rs) (ranges_in p ss))) ≡ Err (node_fails (place name at node) c)
 meets_not p name at node rs ss c e f h =
     ap (λ j. at_stmt name at (at_node node j)) (joined_by_name (variables_in p) rs ss e f ∙ ap (λ o. and_then o (λ ts. Ok (with_names (variables_in p) ts))) h)
+
+-- ---- the variables of a walk
+
+module _ (p : PlanText) where
+  pub held_same : (was now : Variables) → now.ranges.items ≡ was.ranges.items → AreHeld p was → AreHeld p now
+  held_same was now same h = record { sized = ap length same ∙ h.sized; kept = subst AreKept (sym same) h.kept }
+
+  pub goes_none : (v : Variables) → AreHeld p v → GoesOn p v v
+  goes_none v h = record { held = h; noted = noted_none v }
+
+  pub goes_then : (a b c : Variables) → GoesOn p a b → GoesOn p b c → GoesOn p a c
+  goes_then a b c h k = record { held = k.held; noted = noted_then a b c h.noted k.noted }
+
+  pub goes_apply : (was now : Variables) (cs : List Change) → AreHeld p was → now.ranges.items ≡ changed was.ranges.items cs → IsNoted was now → AreKept now.ranges.items → GoesOn p was now
+  goes_apply was now cs h value noted kept = record {
+    held = record { sized = ap length value ∙ length-changed was.ranges.items cs ∙ h.sized; kept = kept };
+    noted = noted;
+  }
+
+  pub goes_put : (was now : Variables) (n : ℕ) (a : Interval) → AreHeld p was → now.ranges.items ≡ set was.ranges.items n a → IsNoted was now → AreKept now.ranges.items → GoesOn p was now
+  goes_put was now n a h value noted kept = record {
+    held = record { sized = ap length value ∙ length-set was.ranges.items n a ∙ h.sized; kept = kept };
+    noted = noted;
+  }
+
+  pub goes_noted : (was now : Variables) → AreHeld p was → IsNoted was now → AreKept now.ranges.items → GoesOn p was now
+  goes_noted was now h noted kept = record {
+    held = record { sized = noted_length was now noted ∙ h.sized; kept = kept };
+    noted = noted;
+  }
+
+  pub goes_on_then : {A E : Type 0} (a b c : Variables) (r : Result A E) → GoesOn p a b → OnOk r (GoesOn p b c) → OnOk r (GoesOn p a c)
+  goes_on_then a b c (Ok x) h k = goes_then a b c h k
+  goes_on_then a b c (Err e) h k = tt
+
+-- both branches of an IF, where both can be reached
+pub if_meets : (w : Walk) (spot : Spot) (t : Expr) (f : Fork) (rs hs fs : List Interval) (b : Branches) → tested_in w (term_of t) 0 rs ≡ Ok (branches_in w.plan.now rs b) → ranges_after w.plan.now rs b.holds ≡ Some (ranges_in w.plan.now hs) → ranges_after w.plan.now rs b.fails ≡ Some (ranges_in w.plan.now fs)
+    → f.root ≡ last_node (term_of t) → walked_in w spot (if_of t f.yes.now f.no.now) rs ≡ met_in w spot f hs fs
+if_meets w spot t f rs hs fs b test holds fails root =
+    let p = w.plan.now in
+    let none = node_fails (place spot.method spot.at (last_node (term_of t))) Wide in
+    let first : Ranges → Result Ranges WalkFault = λ e. walked (scope_in p) (calls_in w spot.chain) spot.method (spot.at + 1) (body_of f.yes.now) e in
+    let second : Ranges → Result Ranges WalkFault = λ e. walked (scope_in p) (calls_in w spot.chain) spot.method (spot.at + 1 + written (body_of f.yes.now)) (body_of f.no.now) e in
+    let meet : ℕ → Ranges → Ranges → Result Ranges WalkFault = λ n x y. at_stmt spot.method spot.at (at_node n (joined x y)) in
+    let last = last_node (term_of t) in
+    ap (λ q. and_then (at_stmt spot.method spot.at q) (λ br. and_then (either_way none first second (meet last) br.holds br.fails) (λ e. Ok e))) test
+    ∙ and_then-Ok (either_way none first second (meet last) (ranges_after p rs b.holds) (ranges_after p rs b.fails))
+    ∙ ap (λ o. either_way none first second (meet last) o (ranges_after p rs b.fails)) holds
+    ∙ ap (either_way none first second (meet last) (Some (ranges_in p hs))) fails
+    ∙ ap (λ n. and_then (first (ranges_in p hs)) (λ x. and_then (second (ranges_in p fs)) (λ y. meet n x y))) (sym root)
+
+pub if_passes : (w : Walk) (spot : Spot) (t : Expr) (f : Fork) (rs hs fs new : List Interval) (res : Result ℕ RangeFault) → walked_in w spot (if_of t f.yes.now f.no.now) rs ≡ met_in w spot f hs fs → Passes (through_both w spot f hs fs) new res → Passes (through_if w spot t f.yes.now f.no.now rs) new res
+if_passes w spot t f rs hs fs new res e h = subst (λ q. Passes (record { plan = w.plan.now; ranges = q; next = end_of spot f }) new res) (sym e) h
+
+-- two lists that were walked aside, from the ranges of before
+module _ (w : Walk) (spot : Spot) (f : Fork) (rs hs fs : List Interval) (a b : Aside) where
+  pub aside_meet : PassesAside (through_body w (first_spot spot) (body_of f.yes.now) hs) rs a → PassesAside (through_body w (record spot { at = a.next }) (body_of f.no.now) fs) rs b
+      → met_in w spot f hs fs ≡ at_stmt spot.method spot.at (at_node f.root (joined (ranges_in w.plan.now (changed rs a.changes.items)) (ranges_in w.plan.now (changed rs b.changes.items))))
+  aside_meet h k = both_meet w spot f a.next hs fs (changed rs a.changes.items) (changed rs b.changes.items) h.passes.0 k.passes.0 h.passes.1
+
+  sized_aside : (cs : List Change) → IsSized w.plan.now rs → IsSized w.plan.now (changed rs cs)
+  sized_aside cs h = length-changed rs cs ∙ h
+
+  pub aside_joins : IsSized w.plan.now rs → PassesAside (through_body w (first_spot spot) (body_of f.yes.now) hs) rs a → PassesAside (through_body w (record spot { at = a.next }) (body_of f.no.now) fs) rs b
+      → (new : List Interval) → joined_lists (changed rs a.changes.items) (changed rs b.changes.items) ≡ Ok new → met_in w spot f hs fs ≡ Ok (ranges_in w.plan.now new)
+  aside_joins sized h k new e =
+      aside_meet h k
+      ∙ meets w.plan.now spot.method spot.at f.root (changed rs a.changes.items) (changed rs b.changes.items) new (sized_aside a.changes.items sized) (sized_aside b.changes.items sized) e
+
+  pub aside_stops : IsSized w.plan.now rs → PassesAside (through_body w (first_spot spot) (body_of f.yes.now) hs) rs a → PassesAside (through_body w (record spot { at = a.next }) (body_of f.no.now) fs) rs b
+      → (stop : Stop) (new : List Interval) → MeetsAnswer f.root rs a.changes.items b.changes.items new (Err stop) → FaultOf (met_in w spot f hs fs) (fault_of stop spot)
+  aside_stops sized h k (stops.At node cause) new e =
+      aside_meet h k
+      ∙ meets_not w.plan.now spot.method spot.at f.root (changed rs a.changes.items) (changed rs b.changes.items) cause (sized_aside a.changes.items sized) (sized_aside b.changes.items sized) e.1
+      ∙ ap (λ n. Err (node_fails (place spot.method spot.at n) cause)) (sym e.0)
+  aside_stops sized h k stops.Memory new e = tt
+
+-- what was walked aside is what its changes make of the ranges of before
+pub passes_aside : (q : Passage) (was now : List Interval) (cs : Vec Change Global) (next : ℕ) → IsTold was now cs.items → Passes q now (Ok next) → PassesAside q was (record { changes = cs; next = next })
+passes_aside q was now cs next told h = record {
+  passes = subst (λ rs. Passes q rs (Ok next)) (sym told.whole) h;
+  told = record { whole = refl; own = subst (λ rs. AreOwn rs cs.items) (sym told.whole) told.own };
+}

@@ -3,6 +3,8 @@ pub mod BoundViews
 pub mod Changes
 pub mod ComparisonViews
 pub mod ExpressionViews
+pub mod Meetings
+pub mod Notes
 pub mod OperationViews
 pub mod OutlineViews
 pub mod OutputViews

@@ -29,7 +29,11 @@ use Rattle.interval_analysis.specs.declared.statements.Fork.{Fork}
 use Rattle.interval_analysis.specs.declared.statements.Spot.{Spot}
 use Rattle.interval_analysis.specs.declared.fault.RangeFault.{RangeFault}
 use Rattle.interval_analysis.specs.declared.fault.RangeFault.TheVariants as faults
-use Rattle.interval_analysis.specs.PlanViews.{scope_in, ranges_in}
+use Rattle.interval_analysis.specs.declared.statements.Aside.{Aside}
+use Rattle.interval_analysis.specs.declared.variables.Variables.{Variables}
+use Rattle.interval_analysis.specs.Changes.{AreKept, changed}
+use Rattle.interval_analysis.specs.Notes.{IsNoted, IsTold}
+use Rattle.interval_analysis.specs.PlanViews.{IsSized, scope_in, ranges_in}
 
 abbrev pub methods_in : PlanText → List Routine
 methods_in p = (flowchart_of p).methods
@@ -119,6 +123,16 @@ pub record IsMethodBody (p : PlanText) (b : Body) : Type 0 where
   pub small : AreSmallTerms b
   pub count : written b < 2 ^ 32
 
+-- the variables of a plan, each with a range that the code keeps
+pub record AreHeld (p : PlanText) (v : Variables) : Type 0 where
+  pub sized : IsSized p v.ranges.items
+  pub kept : AreKept v.ranges.items
+
+-- so they are afterwards, and what has changed is noted
+pub record GoesOn (p : PlanText) (was now : Variables) : Type 0 where
+  pub held : AreHeld p now
+  pub noted : IsNoted was now
+
 -- ---- what is answered; memory is free
 
 abbrev pub FaultOf : Result Ranges WalkFault → RangeFault → Type 0
@@ -141,6 +155,15 @@ pub record Passage : Type 0 where
 abbrev pub Passes : Passage → List Interval → Result ℕ RangeFault → Type 0
 Passes p new (Ok next) = (p.ranges ≡ Ok (ranges_in p.plan new)) × (next ≡ p.next)
 Passes p new (Err f) = FaultOf p.ranges f
+
+-- statements that were walked aside have made these changes of the ranges of before
+pub record PassesAside (p : Passage) (was : List Interval) (a : Aside) : Type 0 where
+  pub passes : Passes p (changed was a.changes.items) (Ok a.next)
+  pub told : IsTold was (changed was a.changes.items) a.changes.items
+
+abbrev pub AsideAnswer : Passage → List Interval → Result Aside RangeFault → Type 0
+AsideAnswer p was (Ok a) = PassesAside p was a
+AsideAnswer p was (Err f) = FaultOf p.ranges f
 
 abbrev pub through_body : Walk → Spot → Body → List Interval → Passage
 through_body w spot b rs = record {
@@ -187,7 +210,3 @@ abbrev pub joined_lists : List Interval → List Interval → Result (List Inter
 joined_lists [] ss = Ok []
 joined_lists (r ∷ rs) [] = Err Wide
 joined_lists (r ∷ rs) (s ∷ ss) = and_then (join_row r s) (λ a. and_then (joined_lists rs ss) (λ rest. Ok (a ∷ rest)))
-
-abbrev pub JoinAnswer : List Interval → List Interval → List Interval → Result (Unit {0}) RangeCause → Type 0
-JoinAnswer old others new (Ok u) = joined_lists old others ≡ Ok new
-JoinAnswer old others new (Err cause) = joined_lists old others ≡ Err cause

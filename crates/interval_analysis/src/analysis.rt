@@ -15,6 +15,7 @@ use crate::expressions::Walk;
 use crate::outputs::output_ranges;
 use crate::start::start_ranges;
 use crate::statements::Spot;
+use crate::variables::Variables;
 use crate::{OutputRange, RangeFault, Verdict};
 use limits_file::Limits;
 use pap_tree::Name;
@@ -63,7 +64,8 @@ fn walked_outputs(
     requires { HaveLimits (flowchart_of plan.now) limits.now }
     ensures { OutputAnswer (analysed (flowchart_of plan.now) limits.now) result }
 {
-    let mut ranges = start_ranges(alloc, plan, limits)?;
+    let ranges = start_ranges(alloc, plan, limits)?;
+    let mut variables = Variables::new(alloc, ranges);
     let main = plan.plan().main.as_slice();
     let walk = Walk { alloc, plan };
     let start = Spot {
@@ -71,6 +73,6 @@ fn walked_outputs(
         at: 0,
         chain: LONGEST_CHAIN,
     };
-    walk.walk_body(start, main, &mut ranges)?;
-    output_ranges(alloc, plan, &ranges)
+    walk.walk_body(start, main, &mut variables)?;
+    output_ranges(alloc, plan, &variables.ranges)
 }

@@ -21,7 +21,7 @@ pub(crate) struct Branches {
 }
 
 /// Gives variables their new ranges.
-pub(crate) fn apply(ranges: &mut [Abs], changes: &[Change])
+fn apply(ranges: &mut [Abs], changes: &[Change])
     ensures { ranges.new ≡ changed ranges.old changes.now }
 {
     for change in changes {

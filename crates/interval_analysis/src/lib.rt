@@ -15,6 +15,7 @@ mod outlines;
 mod outputs;
 mod start;
 mod statements;
+mod variables;
 mod verdict;
 
 pub use analysis::analyse;

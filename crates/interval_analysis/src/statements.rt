@@ -1,19 +1,20 @@
 //! The walk of statements.
-ghost use Rattle.std.specs.Prelude.{◌≡◌, IfSome, slice_get};
+ghost use Rattle.std.specs.Prelude.{◌≡◌, IfSome, OnOk, slice_get};
 ghost use Rattle.std.specs.Option.{option_map};
 ghost use Rattle.pap_tree.specs.Flowchart.{routine_of, body_of, stmt_then, done};
 ghost use Rattle.pap_types.specs.Checks.{place};
 ghost use Rattle.pap_types.specs.Routines.{body_named};
 ghost use Rattle.interval_walk.specs.Walked.{range_kept_as};
 ghost use Rattle.interval_analysis.specs.Changes.{changed};
-ghost use Rattle.interval_analysis.specs.PlanViews.{IsSized, ranges_in};
-ghost use Rattle.interval_analysis.specs.StatementViews.{CanWalkBody, CanWalkLists, CanAssign, CanPut, CanKeep, IsMethodBody, Passes, EnvAnswer, through_body, through_if, through_first, through_second, through_both, if_of, evaluated, executed, assigned_in, methods_in, fault_of};
+ghost use Rattle.interval_analysis.specs.PlanViews.{ranges_in};
+ghost use Rattle.interval_analysis.specs.StatementViews.{AreHeld, GoesOn, AsideAnswer, CanWalkBody, CanWalkLists, CanAssign, CanPut, CanKeep, IsMethodBody, Passes, EnvAnswer, through_body, through_if, through_first, through_second, through_both, if_of, evaluated, executed, assigned_in, methods_in, fault_of};
 
 use crate::RangeFault;
-use crate::branches::{Branches, Change, apply, changed};
+use crate::branches::{Branches, Change};
 use crate::expressions::{Stop, Tested, Walk};
-use crate::joins::join_into;
+use crate::joins::meet;
 use crate::lists::written;
+use crate::variables::{Variables, taken_back};
 use interval_num::{Abs, RangeCause};
 use pap_tree::{Expr, Kind, Method, Name, Place, Stmt};
 use pap_types::Typed;
@@ -39,6 +40,14 @@ struct Fork<'a> {
     no: &'a [Stmt],
 }
 
+/// What a list of statements has changed that was walked aside.
+#[derive(Drop)]
+struct Aside {
+    changes: Vec<Change>,
+    /// The number behind its statements.
+    next: u32,
+}
+
 impl Walk<'_> {
     /// Takes the ranges of the variables through statements of a method, the first of which stands there. Answers the number
     /// behind them, or the first node that may fail.
@@ -47,36 +56,43 @@ impl Walk<'_> {
         &self,
         spot: Spot,
         body: &[Stmt],
-        ranges: &mut [Abs],
+        variables: &mut Variables,
     ) -> Result<u32, RangeFault>
         requires walk { CanWalkBody self.now (body_of body.now) spot.at }
-        requires sized { IsSized self.now.plan.now ranges.old }
-        ensures { Passes (through_body self.now spot (body_of body.now) ranges.old)
-            ranges.new result }
+        requires held { AreHeld self.now.plan.now variables.old }
+        ensures passes { Passes (through_body self.now spot (body_of body.now) variables.old.ranges.items)
+            variables.new.ranges.items result }
+        ensures on { OnOk result (GoesOn self.now.plan.now variables.old variables.new) }
     {
         let mut next = spot.at;
         for stmt in body {
-            next = self.walk_statement(Spot { at: next, ..spot }, stmt, ranges)?;
+            next = self.walk_statement(Spot { at: next, ..spot }, stmt, variables)?;
         }
         Ok(next)
     }
 
     #[cycle(statements)]
-    fn walk_statement(&self, spot: Spot, stmt: &Stmt, ranges: &mut [Abs]) -> Result<u32, RangeFault>
+    fn walk_statement(
+        &self,
+        spot: Spot,
+        stmt: &Stmt,
+        variables: &mut Variables,
+    ) -> Result<u32, RangeFault>
         requires walk { CanWalkBody self.now (stmt_then stmt.now done) spot.at }
-        requires sized { IsSized self.now.plan.now ranges.old }
-        ensures { Passes (through_body self.now spot (stmt_then stmt.now done) ranges.old)
-            ranges.new result }
+        requires held { AreHeld self.now.plan.now variables.old }
+        ensures passes { Passes (through_body self.now spot (stmt_then stmt.now done) variables.old.ranges.items)
+            variables.new.ranges.items result }
+        ensures on { OnOk result (GoesOn self.now.plan.now variables.old variables.new) }
     {
         let Spot { at, chain, .. } = spot;
         match stmt {
             Stmt::Eval { target, value } => {
-                self.assign(spot, target, value, ranges)?;
+                self.assign(spot, target, value, variables)?;
                 Ok(at + 1)
             }
-            Stmt::If { test, yes, no } => self.walk_if(spot, test, yes, no, ranges),
+            Stmt::If { test, yes, no } => self.walk_if(spot, test, yes, no, variables),
             Stmt::Execute { method } => {
-                self.walk_method(method, chain, ranges)?;
+                self.walk_method(method, chain, variables)?;
                 Ok(at + 1)
             }
         }
@@ -88,16 +104,17 @@ impl Walk<'_> {
         spot: Spot,
         target: &Name,
         value: &Expr,
-        ranges: &mut [Abs],
+        variables: &mut Variables,
     ) -> Result<(), RangeFault>
         requires walk { CanAssign self.now target.now value.now }
-        requires sized { IsSized self.now.plan.now ranges.old }
-        ensures { EnvAnswer self.now (evaluated self.now spot target.now value.now ranges.old)
-            ranges.new result }
+        requires held { AreHeld self.now.plan.now variables.old }
+        ensures passes { EnvAnswer self.now (evaluated self.now spot target.now value.now variables.old.ranges.items)
+            variables.new.ranges.items result }
+        ensures on { OnOk result (GoesOn self.now.plan.now variables.old variables.new) }
     {
-        match self.range_of(value, 0, ranges) {
+        match self.range_of(value, 0, &variables.ranges) {
             Ok(value) => {
-                self.put(target, value.range, ranges);
+                self.put(target, value.range, variables)?;
                 Ok(())
             }
             Err(stop) => Err(fault_of(stop, spot)),
@@ -105,20 +122,21 @@ impl Walk<'_> {
     }
 
     /// Gives a variable a range, as one of its kind keeps it.
-    fn put(&self, target: &Name, range: Abs, ranges: &mut [Abs])
+    fn put(&self, target: &Name, range: Abs, variables: &mut Variables) -> Result<(), AllocError>
         requires walk { CanPut self.now.plan.now target.now range }
-        requires sized { IsSized self.now.plan.now ranges.old }
-        ensures { ranges_in self.now.plan.now ranges.new
-            ≡ assigned_in self.now.plan.now target.now range ranges.old }
+        requires held { AreHeld self.now.plan.now variables.old }
+        ensures put { OnOk result (ranges_in self.now.plan.now variables.new.ranges.items
+            ≡ assigned_in self.now.plan.now target.now range variables.old.ranges.items) }
+        ensures on { OnOk result (GoesOn self.now.plan.now variables.old variables.new) }
     {
         let Some(number) = self.plan.variable(target) else {
-            return;
+            return Ok(());
         };
         let kept = match self.plan.declaration(target) {
             Some(declared) => kept_as(declared.kind, range),
             None => range,
         };
-        ranges[number] = kept;
+        variables.put(number, kept)
     }
 
     /// Walks each list that can be reached, and joins the ranges where both can.
@@ -129,14 +147,15 @@ impl Walk<'_> {
         test: &Expr,
         yes: &'b [Stmt],
         no: &'b [Stmt],
-        ranges: &mut [Abs],
+        variables: &mut Variables,
     ) -> Result<u32, RangeFault>
         requires walk { CanWalkBody self.now (if_of test.now yes.now no.now) spot.at }
-        requires sized { IsSized self.now.plan.now ranges.old }
-        ensures { Passes (through_if self.now spot test.now yes.now no.now ranges.old)
-            ranges.new result }
+        requires held { AreHeld self.now.plan.now variables.old }
+        ensures passes { Passes (through_if self.now spot test.now yes.now no.now variables.old.ranges.items)
+            variables.new.ranges.items result }
+        ensures on { OnOk result (GoesOn self.now.plan.now variables.old variables.new) }
     {
-        let Tested { branches, next } = match self.test(test, 0, ranges) {
+        let Tested { branches, next } = match self.test(test, 0, &variables.ranges) {
             Ok(tested) => tested,
             Err(stop) => return Err(fault_of(stop, spot)),
         };
@@ -146,11 +165,11 @@ impl Walk<'_> {
         match holds {
             None => match fails {
                 None => Err(fault_at(spot, root, RangeCause::Wide)),
-                Some(failed) => self.walk_second(spot, &fork, &failed, ranges),
+                Some(failed) => self.walk_second(spot, &fork, &failed, variables),
             },
             Some(held) => match fails {
-                None => self.walk_first(spot, &fork, &held, ranges),
-                Some(failed) => self.walk_both(spot, &fork, &held, &failed, ranges),
+                None => self.walk_first(spot, &fork, &held, variables),
+                Some(failed) => self.walk_both(spot, &fork, &held, &failed, variables),
             },
         }
     }
@@ -161,17 +180,18 @@ impl Walk<'_> {
         spot: Spot,
         fork: &Fork,
         held: &[Change],
-        ranges: &mut [Abs],
+        variables: &mut Variables,
     ) -> Result<u32, RangeFault>
         requires walk { CanWalkLists self.now spot fork.now }
-        requires sized { IsSized self.now.plan.now ranges.old }
-        ensures { Passes (through_first self.now spot fork.now (changed ranges.old held.now))
-            ranges.new result }
+        requires held { AreHeld self.now.plan.now variables.old }
+        ensures passes { Passes (through_first self.now spot fork.now (changed variables.old.ranges.items held.now))
+            variables.new.ranges.items result }
+        ensures on { OnOk result (GoesOn self.now.plan.now variables.old variables.new) }
     {
-        apply(ranges, held);
+        variables.apply(held)?;
         let at = spot.at;
         let first = Spot { at: at + 1, ..spot };
-        let next = self.walk_body(first, fork.yes, ranges)?;
+        let next = self.walk_body(first, fork.yes, variables)?;
         Ok(next + written(fork.no))
     }
 
@@ -181,23 +201,25 @@ impl Walk<'_> {
         spot: Spot,
         fork: &Fork,
         failed: &[Change],
-        ranges: &mut [Abs],
+        variables: &mut Variables,
     ) -> Result<u32, RangeFault>
         requires walk { CanWalkLists self.now spot fork.now }
-        requires sized { IsSized self.now.plan.now ranges.old }
-        ensures { Passes (through_second self.now spot fork.now (changed ranges.old failed.now))
-            ranges.new result }
+        requires held { AreHeld self.now.plan.now variables.old }
+        ensures passes { Passes (through_second self.now spot fork.now (changed variables.old.ranges.items failed.now))
+            variables.new.ranges.items result }
+        ensures on { OnOk result (GoesOn self.now.plan.now variables.old variables.new) }
     {
-        apply(ranges, failed);
+        variables.apply(failed)?;
         let at = spot.at;
         let second = Spot {
             at: at + 1 + written(fork.yes),
             ..spot
         };
-        self.walk_body(second, fork.no, ranges)
+        self.walk_body(second, fork.no, variables)
     }
 
-    /// Walks both lists, and joins the ranges behind them; a join that fails is at the test's root.
+    /// Walks both lists, each from the ranges that the test leaves it, and joins the ranges behind them; a join that fails is at
+    /// the test's root.
     #[cycle(statements)]
     fn walk_both(
         &self,
@@ -205,54 +227,69 @@ impl Walk<'_> {
         fork: &Fork,
         held: &[Change],
         failed: &[Change],
-        ranges: &mut [Abs],
+        variables: &mut Variables,
     ) -> Result<u32, RangeFault>
         requires walk { CanWalkLists self.now spot fork.now }
-        requires sized { IsSized self.now.plan.now ranges.old }
-        ensures { Passes
-            (through_both self.now spot fork.now (changed ranges.old held.now)
-            (changed ranges.old failed.now))
-            ranges.new result }
+        requires held { AreHeld self.now.plan.now variables.old }
+        ensures passes { Passes
+            (through_both self.now spot fork.now
+            (changed variables.old.ranges.items held.now)
+            (changed variables.old.ranges.items failed.now))
+            variables.new.ranges.items result }
+        ensures on { OnOk result (GoesOn self.now.plan.now variables.old variables.new) }
     {
-        let mut others = match changed(self.alloc, ranges, failed) {
-            Ok(others) => others,
-            Err(_) => return Err(RangeFault::Memory(AllocError)),
+        let first = Spot {
+            at: spot.at + 1,
+            ..spot
         };
-        apply(ranges, held);
-        self.walk_meeting(spot, fork, ranges, &mut others)
+        let yes = self.walk_aside(first, fork.yes, held, variables)?;
+        let second = Spot {
+            at: yes.next,
+            ..spot
+        };
+        let no = self.walk_aside(second, fork.no, failed, variables)?;
+        match meet(self.alloc, fork.root, variables, &yes.changes, &no.changes) {
+            Ok(()) => Ok(no.next),
+            Err(stop) => Err(fault_of(stop, spot)),
+        }
     }
 
-    /// Walks the first list from some ranges and the second one from others, and joins the ranges behind them.
+    /// Walks a list after changes, and takes back what they and the list have changed.
     #[cycle(statements)]
-    fn walk_meeting(
+    fn walk_aside(
         &self,
         spot: Spot,
-        fork: &Fork,
-        ranges: &mut [Abs],
-        others: &mut [Abs],
-    ) -> Result<u32, RangeFault>
-        requires walk { CanWalkLists self.now spot fork.now }
-        requires sized { IsSized self.now.plan.now ranges.old }
-        requires others { IsSized self.now.plan.now others.old }
-        ensures { Passes (through_both self.now spot fork.now ranges.old others.old)
-            ranges.new result }
+        body: &[Stmt],
+        changes: &[Change],
+        variables: &mut Variables,
+    ) -> Result<Aside, RangeFault>
+        requires walk { CanWalkBody self.now (body_of body.now) spot.at }
+        requires held { AreHeld self.now.plan.now variables.old }
+        ensures passes { AsideAnswer (through_body self.now spot (body_of body.now)
+            (changed variables.old.ranges.items changes.now))
+            variables.old.ranges.items result }
+        ensures ranges { OnOk result (variables.new.ranges.items ≡ variables.old.ranges.items) }
+        ensures notes { OnOk result (variables.new.notes.items ≡ variables.old.notes.items) }
     {
-        let at = spot.at;
-        let first = Spot { at: at + 1, ..spot };
-        let second = self.walk_body(first, fork.yes, ranges)?;
-        let next = self.walk_body(Spot { at: second, ..spot }, fork.no, others)?;
-        match join_into(ranges, others) {
-            Ok(()) => Ok(next),
-            Err(cause) => Err(fault_at(spot, fork.root, cause)),
-        }
+        let mark = variables.notes.len();
+        variables.apply(changes)?;
+        let next = self.walk_body(spot, body, variables)?;
+        let changes = taken_back(self.alloc, variables, mark)?;
+        Ok(Aside { changes, next })
     }
 
     /// Walks the body of a method in place.
     #[cycle(statements)]
-    fn walk_method(&self, name: &Name, chain: u32, ranges: &mut [Abs]) -> Result<(), RangeFault>
-        requires { IsSized self.now.plan.now ranges.old }
-        ensures { EnvAnswer self.now (executed self.now name.now chain ranges.old)
-            ranges.new result }
+    fn walk_method(
+        &self,
+        name: &Name,
+        chain: u32,
+        variables: &mut Variables,
+    ) -> Result<(), RangeFault>
+        requires { AreHeld self.now.plan.now variables.old }
+        ensures passes { EnvAnswer self.now (executed self.now name.now chain variables.old.ranges.items)
+            variables.new.ranges.items result }
+        ensures on { OnOk result (GoesOn self.now.plan.now variables.old variables.new) }
     {
         let start = Spot {
             method: *name,
@@ -268,7 +305,7 @@ impl Walk<'_> {
                     chain: chain - 1,
                     ..start
                 };
-                self.walk_body(within, body, ranges)?;
+                self.walk_body(within, body, variables)?;
                 Ok(())
             }
             None => Err(fault_at(start, 0, RangeCause::Wide)),

@@ -1,7 +1,7 @@
 use Rattle.std.proofs.Common.{◌≡◌, ◌+◌, ◌*◌, ◌^◌, ◌≤◌, drop}
 use Rattle.pap_tree.specs.Flowchart.{body_of, stmt_then, done}
 use Rattle.pap_tree.specs.Statements.{written}
-use Rattle.interval_analysis.specs.StatementViews.{CanWalkBody, walked_in}
+use Rattle.interval_analysis.specs.StatementViews.{GoesOn, CanWalkBody, walked_in}
 use Rattle.interval_analysis.proofs.expressions.Walk.+statements.Given as goal
 
 -- the chain of methods that is left counts first, and then the statements
@@ -23,8 +23,8 @@ decreases-walk_second l = l.spot.chain * 2 ^ 40 + 6 * (written (body_of l.fork.n
 abbrev pub decreases-walk_both : goal.decreases-walk_both
 decreases-walk_both l = l.spot.chain * 2 ^ 40 + 6 * (written (body_of l.fork.now.yes.now) + written (body_of l.fork.now.no.now)) + 4
 
-abbrev pub decreases-walk_meeting : goal.decreases-walk_meeting
-decreases-walk_meeting l = l.spot.chain * 2 ^ 40 + 6 * (written (body_of l.fork.now.yes.now) + written (body_of l.fork.now.no.now)) + 3
+abbrev pub decreases-walk_aside : goal.decreases-walk_aside
+decreases-walk_aside l = l.spot.chain * 2 ^ 40 + 6 * written (body_of l.body.now) + 2
 
 abbrev pub decreases-walk_method : goal.decreases-walk_method
 decreases-walk_method l = l.chain * 2 ^ 40
@@ -35,6 +35,7 @@ invariant-walk_body-loop-stmt l = record {
   above : l.fn.spot.at ≤ l.next;
   walk : CanWalkBody l.self (body_of (drop l.stmt-index l.body)) l.next;
   left :
-      walked_in l.self (record l.fn.spot { at = l.next }) (body_of (drop l.stmt-index l.body)) l.ranges
-      ≡ walked_in l.self l.fn.spot (body_of l.body) l.initial.ranges;
+      walked_in l.self (record l.fn.spot { at = l.next }) (body_of (drop l.stmt-index l.body)) l.variables.ranges.items
+      ≡ walked_in l.self l.fn.spot (body_of l.body) l.initial.variables.ranges.items;
+  on : GoesOn l.self.plan.now l.initial.variables l.variables;
 }

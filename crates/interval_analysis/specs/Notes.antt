@@ -1,0 +1,46 @@
+-- What is noted of changes of ranges, so that they can be taken back.
+use Rattle.std.specs.Prelude.{◌≡◌, ◌<◌, ℕ, suc, List, [], ◌∷◌, ◌++◌, Option, Some, None, slice_get, slice_set}
+use Rattle.std.specs.List.{AllByRecursion}
+use Rattle.interval_num.specs.Intervals.{Interval}
+use Rattle.interval_analysis.specs.declared.branches.Change.{Change}
+use Rattle.interval_analysis.specs.declared.variables.Variables.{Variables}
+use Rattle.interval_analysis.specs.Changes.{changed}
+
+-- the ranges before changes, of which each is noted with what it replaced: the last one is taken back first
+abbrev pub taken_back : List Interval → List Change → List Interval
+taken_back ranges [] = ranges
+taken_back ranges (c ∷ cs) = slice_set (taken_back ranges cs) c.number c.range
+
+-- what has changed between two times is noted behind the notes of before
+pub record IsNoted (was now : Variables) : Type 0 where
+  pub more : List Change
+  pub grown : now.notes.items ≡ was.notes.items ++ more
+  pub back : taken_back now.ranges.items more ≡ was.ranges.items
+
+-- a variable with its range, where there is one of this number
+abbrev pub range_there : ℕ → Option Interval → List Change
+range_there n None = []
+range_there n (Some r) = record { number = n; range = r } ∷ []
+
+-- the ranges that the variables of changes have
+abbrev pub own_ranges : List Interval → List Change → List Change
+own_ranges ranges [] = []
+own_ranges ranges (c ∷ cs) = range_there c.number (slice_get ranges c.number) ++ own_ranges ranges cs
+
+-- each is the range that its variable has
+abbrev pub AreOwn : List Interval → List Change → Type 0
+AreOwn ranges cs = AllByRecursion (λ c. slice_get ranges c.number ≡ Some c.range) cs
+
+-- each is of one of so many variables
+abbrev pub AreIn : ℕ → List Change → Type 0
+AreIn count cs = AllByRecursion (λ c. c.number < count) cs
+
+-- these changes make the ranges of before those of now, and each is a range of now
+pub record IsTold (was now : List Interval) (cs : List Change) : Type 0 where
+  pub whole : changed was cs ≡ now
+  pub own : AreOwn now cs
+
+-- ranges with their numbers, the first of which is this
+abbrev pub numbered : ℕ → List Interval → List Change
+numbered n [] = []
+numbered n (r ∷ rs) = record { number = n; range = r } ∷ numbered (suc n) rs
