@@ -88,3 +88,7 @@ bench-plan: build
 # Nanoseconds of each operation on intervals.
 bench-intervals:
 	tools/bench.sh interval_bench intervals
+
+# Pay runs a second with 1, 2 and 4 processes, each with a table of its own of 49,992 runs.
+bench-processes: build
+	python3 tools/bench_processes.py build/papcalc

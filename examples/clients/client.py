@@ -3,7 +3,6 @@
 
 Loads a month's pay runs from a table, corrects one of them, and prints what the correction changed. Paste the class Payroll into a
 program of your own: it sends a line and reads its whole answer before it sends the next."""
-import csv
 import subprocess
 import sys
 
@@ -47,9 +46,14 @@ class Payroll:
 
     def report(self):
         """Each reported amount by employee, day and name; of a run without amounts its state by employee and day."""
-        rows = list(csv.reader(self.ask("report")[:-1]))[1:]
-        return {(employee, day, name) if state == "ok" else (employee, day, ""): value if state == "ok" else f"{state} {name}".strip()
-                for employee, _, day, _, state, name, value in rows}
+        amounts = {}
+        for row in self.ask("report")[1:-1]:
+            employee, _, day, _, state, name, value = row.split(",")
+            if state == "ok":
+                amounts[employee, day, name] = value
+            else:
+                amounts[employee, day, ""] = f"{state} {name}".strip()
+        return amounts
 
 
 def print_changes(before, after):
