@@ -2,14 +2,14 @@
 """The index of printed words at the head of docs/DEFINITIONS.md: check_index.py, from the top of the repository.
 
 Each text that the definitions of answers print (`codes ".."` in the specs/ of these crates) has a row; each row's words are printed by
-its definition, which stands in its file."""
+its definition, which stands in its file. Each first word of a script's line has its place in docs/USE.md and in the manual page."""
 import glob
 import re
 import sys
 
-ANSWERS = ["plan_answers", "script_steps", "report_csv", "pap_cli", "script_run", "saved_items", "book_file", "what_if"]
-# What these files say is what the program takes, and not what it prints.
-TAKEN = ["crates/pap_cli/specs/Words.antt", "crates/script_run/specs/Samples.antt"]
+ANSWERS = ["plan_answers", "script_steps", "report_csv", "pap_cli", "saved_items", "book_file", "what_if"]
+# What this file says is what the program takes, and not what it prints.
+TAKEN = ["crates/pap_cli/specs/Words.antt"]
 PRINTED = re.compile(r'codes "([^"]*)"')
 
 
@@ -34,8 +34,17 @@ def rows():
             yield words, names, cells[3].strip("`")
 
 
+def undocumented():
+    """The first words of lines that a document lacks."""
+    lines = open("crates/script_lang/specs/Lines.antt", encoding="utf-8").read()
+    for verb in re.findall(r'^text_of \S+ = codes "(\w+)"', lines, re.M):
+        for path, form in [("docs/USE.md", f"| `{verb}"), ("docs/papcalc.1", f".It Cm {verb}")]:
+            if not re.search(rf"^{re.escape(form)}\b", open(path, encoding="utf-8").read(), re.M):
+                yield f"the line {verb} isn't in {path}"
+
+
 def main():
-    wrong, indexed = [], set()
+    wrong, indexed = list(undocumented()), set()
     for words, names, path in rows():
         files = glob.glob(f"crates/{path}.antt")
         if not files:

@@ -17,7 +17,7 @@ class Refused(Exception):
 class Payroll:
     def __init__(self, program="papcalc"):
         self.process = subprocess.Popen(
-            [program, "run"], stdin=subprocess.PIPE, stdout=subprocess.PIPE, encoding="ascii", newline="\n")
+            [program, "run"], stdin=subprocess.PIPE, stdout=subprocess.PIPE, encoding="ascii")
 
     def __enter__(self):
         return self
