@@ -80,7 +80,7 @@ def compare(payroll, rows, expected):
         print(said, f"    {put_by(payroll, number, name)}", sep="\n")
     if found[MOST_SHOWN:]:
         print(f".. and {len(found) - MOST_SHOWN} more")
-    print(f"{len(rows)} runs, {compared} amounts, {len(found)} of them differ")
+    print(f"{len(rows)} runs, {compared} amounts, {len(found)} different")
     return 1 if found else 0
 
 
