@@ -1,0 +1,113 @@
+import java.io.IOException;
+import java.nio.file.Files;
+import java.nio.file.Path;
+import java.util.ArrayList;
+import java.util.List;
+
+/**
+ * Writes the flowchart that is slowest to look names up in: `java CollidingNames.java FOLDER`.
+ *
+ * The names of a flowchart are looked up in tables of hashes whose seed is fixed, so that a file can choose names that collide. In
+ * FOLDER/collide.xml all names begin their search in one group of their table and have one tag there, so that each search goes over
+ * all of them; FOLDER/spread.xml is the same flowchart with other names. Both are as large as a flowchart may be, and have one range
+ * file each. `make bench-names` times `check` on both.
+ */
+public final class CollidingNames {
+    private static final long INITIAL = 0x243f6a8885a308d3L;
+    private static final long MULTIPLIER = 0x9e3779b97f4a7c15L;
+    private static final String LETTERS = "ABCDEFGHIJKLMNOPQRSTUVWXYZabcdefghijklmnopqrstuvwxyz0123456789_";
+    private static final String FRONT = "A_NAME_THAT_COLLIDES_WITH_A";
+    private static final int INPUTS = 256;
+    private static final int VARIABLES = 1_536;
+    private static final int CONSTANTS = 512;
+    private static final int METHODS = 256;
+    private static final int MOST_BYTES = 1_048_576;
+    private static final int NAMES_A_STATEMENT = 240;
+
+    /** The halves of the product of two unsigned numbers, joined by xor. */
+    static long folded(long a, long b) {
+        long high = Math.multiplyHigh(a, b) + ((a >> 63) & b) + ((b >> 63) & a);
+        return (a * b) ^ high;
+    }
+
+    static long after(long state, int letter) {
+        return folded(state ^ (letter * 0x010101L), MULTIPLIER ^ 2);
+    }
+
+    /** The group (of 256) at which a search begins, and the tag there. */
+    static long placeOf(long state) {
+        long hash = (state ^ (state >>> 32)) & 0xffffffffL;
+        return hash & 0xff0000ffL;
+    }
+
+    static List<String> collidingNames(int count) {
+        long front = folded(INITIAL ^ (FRONT.length() + 5), MULTIPLIER ^ 16);
+        for (char letter : FRONT.toCharArray()) {
+            front = after(front, letter);
+        }
+        List<String> names = new ArrayList<>();
+        int base = LETTERS.length();
+        for (long number = 0; names.size() < count; number++) {
+            char[] ending = new char[5];
+            long rest = number;
+            long state = front;
+            for (int at = 0; at < ending.length; at++) {
+                ending[at] = LETTERS.charAt((int) (rest % base));
+                rest /= base;
+                state = after(state, ending[at]);
+            }
+            if (placeOf(state) == 0x77000011L) {
+                names.add(FRONT + new String(ending));
+            }
+        }
+        return names;
+    }
+
+    static List<String> otherNames(int count) {
+        List<String> names = new ArrayList<>();
+        for (int number = 0; number < count; number++) {
+            names.add(String.format("A_NAME_THAT_COLLIDES_WITH_B%05d", number));
+        }
+        return names;
+    }
+
+    static String declared(String tag, List<String> names, String more) {
+        StringBuilder text = new StringBuilder();
+        for (String name : names) {
+            text.append("<").append(tag).append(" name=\"").append(name).append("\" type=\"int\"").append(more).append("/>");
+        }
+        return text.toString();
+    }
+
+    static String flowchart(List<String> names) {
+        List<String> variables = names.subList(0, VARIABLES);
+        List<String> constants = names.subList(VARIABLES, VARIABLES + CONSTANTS);
+        String head = "<PAP><INTERFACE><INPUTS>" + declared("INPUT", variables.subList(0, INPUTS), "") + "</INPUTS><OUTPUTS>"
+            + declared("OUTPUT", variables.subList(INPUTS, 2 * INPUTS), "") + "</OUTPUTS></INTERFACE><INTERNALS>"
+            + declared("INTERNAL", variables.subList(2 * INPUTS, VARIABLES), "") + "</INTERNALS><CONSTANTS>"
+            + declared("CONSTANT", constants, " value=\"1\"") + "</CONSTANTS><METHODS><MAIN>";
+        StringBuilder foot = new StringBuilder("</MAIN>");
+        for (String name : names.subList(VARIABLES + CONSTANTS, names.size())) {
+            foot.append("<METHOD name=\"").append(name).append("\"/>");
+        }
+        foot.append("</METHODS></PAP>");
+        List<String> last = variables.subList(VARIABLES - NAMES_A_STATEMENT, VARIABLES);
+        String statement = "<EVAL exec=\"" + last.get(0) + "=" + String.join("+", last.subList(1, last.size())) + "\"/>";
+        return head + statement.repeat((MOST_BYTES - head.length() - foot.length()) / statement.length()) + foot;
+    }
+
+    static void write(Path folder, String name, List<String> names) throws IOException {
+        StringBuilder limits = new StringBuilder();
+        for (String input : names.subList(0, INPUTS)) {
+            limits.append("[input.").append(input).append("]\nlow = 0\nhigh = 9\nplaces = 0\n");
+        }
+        Files.writeString(folder.resolve(name + ".xml"), flowchart(names));
+        Files.writeString(folder.resolve(name + ".toml"), limits);
+    }
+
+    public static void main(String[] words) throws IOException {
+        int count = VARIABLES + CONSTANTS + METHODS;
+        write(Path.of(words[0]), "collide", collidingNames(count));
+        write(Path.of(words[0]), "spread", otherNames(count));
+    }
+}
