@@ -46,18 +46,18 @@ public final class CollidingNames {
             front = after(front, letter);
         }
         List<String> names = new ArrayList<>();
-        int base = LETTERS.length();
-        for (long number = 0; names.size() < count; number++) {
-            char[] ending = new char[5];
-            long rest = number;
+        for (int number = 0; names.size() < count; number++) {
+            String middle = "";
             long state = front;
-            for (int at = 0; at < ending.length; at++) {
-                ending[at] = LETTERS.charAt((int) (rest % base));
-                rest /= base;
-                state = after(state, ending[at]);
+            for (int rest = number, at = 0; at < 4; at++, rest /= LETTERS.length()) {
+                char letter = LETTERS.charAt(rest % LETTERS.length());
+                middle += letter;
+                state = after(state, letter);
             }
-            if (placeOf(state) == 0x77000011L) {
-                names.add(FRONT + new String(ending));
+            for (char last : LETTERS.toCharArray()) {
+                if (placeOf(after(state, last)) == 0x77000011L && names.size() < count) {
+                    names.add(FRONT + middle + last);
+                }
             }
         }
         return names;
