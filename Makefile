@@ -93,8 +93,9 @@ bench-intervals:
 bench-processes: build
 	python3 tools/bench_processes.py build/papcalc
 
-# Seconds of `check` on a flowchart whose names collide, and on the same with other names (needs a JDK).
+# Seconds of `check` on a flowchart whose names collide, and on the same with other names; DOUBLINGS=N has their statements executed 2^N
+# times (needs a JDK).
 bench-names: build
-	java tools/CollidingNames.java build
+	java tools/CollidingNames.java build $(DOUBLINGS)
 	bash -c 'time build/papcalc check build/spread.xml build/spread.toml > build/spread'
 	bash -c 'time build/papcalc check build/collide.xml build/collide.toml > build/collide'

@@ -5,12 +5,13 @@ import java.util.ArrayList;
 import java.util.List;
 
 /**
- * Writes the flowchart that is slowest to look names up in: `java CollidingNames.java FOLDER`.
+ * Writes the flowchart that is slowest to look names up in: `java CollidingNames.java FOLDER [DOUBLINGS]`.
  *
  * The names of a flowchart are looked up in tables of hashes whose seed is fixed, so that a file can choose names that collide. In
  * FOLDER/collide.xml all names begin their search in one group of their table and have one tag there, so that each search goes over
- * all of them; FOLDER/spread.xml is the same flowchart with other names. Both are as large as a flowchart may be, and have one range
- * file each. `make bench-names` times `check` on both.
+ * all of them; FOLDER/spread.xml is the same flowchart with other names. Both are about as large as a flowchart may be, and have one
+ * range file each. Their statements stand in a method that MAIN executes 2^DOUBLINGS times (at most 2^10, where none is said once):
+ * the walk over ranges goes over it each time. `make bench-names` times `check` on both.
  */
 public final class CollidingNames {
     private static final long INITIAL = 0x243f6a8885a308d3L;
@@ -79,35 +80,47 @@ public final class CollidingNames {
         return text.toString();
     }
 
-    static String flowchart(List<String> names) {
+    /** A method with these statements, and methods each of which executes the one before twice; the others are empty. */
+    static String methods(List<String> names, String statements, int doublings) {
+        StringBuilder text = new StringBuilder();
+        for (int number = 0; number < names.size(); number++) {
+            String body = number == 0 ? statements : "";
+            if (0 < number && number <= doublings) {
+                body = ("<EXECUTE method=\"" + names.get(number - 1) + "\"/>").repeat(2);
+            }
+            text.append("<METHOD name=\"").append(names.get(number)).append("\">").append(body).append("</METHOD>");
+        }
+        return text.toString();
+    }
+
+    static String flowchart(List<String> names, int doublings) {
         List<String> variables = names.subList(0, VARIABLES);
         List<String> constants = names.subList(VARIABLES, VARIABLES + CONSTANTS);
         String head = "<PAP><INTERFACE><INPUTS>" + declared("INPUT", variables.subList(0, INPUTS), "") + "</INPUTS><OUTPUTS>"
             + declared("OUTPUT", variables.subList(INPUTS, 2 * INPUTS), "") + "</OUTPUTS></INTERFACE><INTERNALS>"
             + declared("INTERNAL", variables.subList(2 * INPUTS, VARIABLES), "") + "</INTERNALS><CONSTANTS>"
-            + declared("CONSTANT", constants, " value=\"1\"") + "</CONSTANTS><METHODS><MAIN>";
-        StringBuilder foot = new StringBuilder("</MAIN>");
-        for (String name : names.subList(VARIABLES + CONSTANTS, names.size())) {
-            foot.append("<METHOD name=\"").append(name).append("\"/>");
-        }
-        foot.append("</METHODS></PAP>");
+            + declared("CONSTANT", constants, " value=\"1\"") + "</CONSTANTS><METHODS><MAIN><EXECUTE method=\"";
+        List<String> methods = names.subList(VARIABLES + CONSTANTS, names.size());
         List<String> last = variables.subList(VARIABLES - NAMES_A_STATEMENT, VARIABLES);
         String statement = "<EVAL exec=\"" + last.get(0) + "=" + String.join("+", last.subList(1, last.size())) + "\"/>";
-        return head + statement.repeat((MOST_BYTES - head.length() - foot.length()) / statement.length()) + foot;
+        String start = head + methods.get(doublings) + "\"/></MAIN>";
+        int room = MOST_BYTES - start.length() - methods(methods, "", doublings).length() - "</METHODS></PAP>".length();
+        return start + methods(methods, statement.repeat(room / statement.length()), doublings) + "</METHODS></PAP>";
     }
 
-    static void write(Path folder, String name, List<String> names) throws IOException {
+    static void write(Path folder, String name, List<String> names, int doublings) throws IOException {
         StringBuilder limits = new StringBuilder();
         for (String input : names.subList(0, INPUTS)) {
             limits.append("[input.").append(input).append("]\nlow = 0\nhigh = 9\nplaces = 0\n");
         }
-        Files.writeString(folder.resolve(name + ".xml"), flowchart(names));
+        Files.writeString(folder.resolve(name + ".xml"), flowchart(names, doublings));
         Files.writeString(folder.resolve(name + ".toml"), limits);
     }
 
     public static void main(String[] words) throws IOException {
         int count = VARIABLES + CONSTANTS + METHODS;
-        write(Path.of(words[0]), "collide", collidingNames(count));
-        write(Path.of(words[0]), "spread", otherNames(count));
+        int doublings = words.length > 1 ? Integer.parseInt(words[1]) : 0;
+        write(Path.of(words[0]), "collide", collidingNames(count), doublings);
+        write(Path.of(words[0]), "spread", otherNames(count), doublings);
     }
 }
