@@ -1,3 +1,4 @@
 mod FrontLemmas
+mod JoinLemmas
 mod PlainLemmas
 mod RowLemmas

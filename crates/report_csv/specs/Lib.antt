@@ -1,4 +1,5 @@
 pub mod Reports
 pub mod ReportTexts
+pub mod ReportLaws
 pub mod Fronts
 pub mod Views

@@ -7,4 +7,4 @@ mod rows;
 mod run;
 mod texts;
 
-pub use report::{ReportFault, write_report};
+pub use report::{ReportFault, report_laws, write_report};

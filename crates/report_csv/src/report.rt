@@ -2,6 +2,7 @@
 ghost use Rattle.std.specs.Prelude.{◌≡◌, ◌++◌, OnErr, OnOk};
 ghost use Rattle.outside.specs.Causes.{Caused};
 ghost use Rattle.outside.specs.Told.{Appends};
+ghost use Rattle.report_csv.specs.ReportLaws.{ReportsAreJoined, ReportsAreTheirYears};
 ghost use Rattle.report_csv.specs.ReportTexts.{months_text, report_text};
 ghost use Rattle.report_csv.specs.Fronts.{AppendsFront};
 ghost use Rattle.report_csv.specs.declared.report.ReportFault.TheVariants.{Memory, Write};
@@ -89,3 +90,11 @@ fn put_rows<W: Sink>(rows: Rows, sink: &mut W) -> Result<Vec<u8>, ReportFault>
     put_all(sink, text.as_slice())?;
     Ok(text)
 }
+
+/// The laws of reports: the rows of a book are those of its employees' years, one after another, each of which depends on the
+/// plans and on that employee's own runs alone; so the reports of two books with the same plans, between which the employees
+/// are split in order, are the rows of one book.
+pub fn report_laws()
+    ensures years { ReportsAreTheirYears }
+    ensures joined { ReportsAreJoined }
+{}

@@ -1,0 +1,26 @@
+-- The laws of reports: the rows of an employee depend on the plans and on that employee's own runs alone.
+use Rattle.std.specs.Prelude.{◌≡◌, List, ◌++◌}
+use Rattle.std.specs.List.{flat_map}
+use Rattle.plan_calendar.specs.Picking.{Entry, pick}
+use Rattle.book_year.specs.Accepted.{Accepted}
+use Rattle.book_edits.specs.Books.{YearRuns}
+use Rattle.recalc_engine.specs.Contents.{Contents, with_years}
+use Rattle.recalc_engine.specs.MonthRows.{keyed_rows, month_rows}
+use Rattle.report_csv.specs.Reports.{Text}
+use Rattle.report_csv.specs.ReportTexts.{months_text}
+
+-- the rows of an employee's calendar year under these plans
+abbrev pub year_text : List (Entry Accepted) → YearRuns → Text
+year_text plans y = months_text (keyed_rows (pick plans) y)
+
+-- the rows of a book are those of its employees' years, one after another
+abbrev pub ReportsAreTheirYears : Type 0
+ReportsAreTheirYears =
+    (book : Contents) → months_text (month_rows book) ≡ flat_map (year_text book.plans) book.years
+
+-- where the years of a book are split into two books with its plans, its rows are those of the one, and then of the other
+abbrev pub ReportsAreJoined : Type 0
+ReportsAreJoined =
+    (book : Contents) (first rest : List YearRuns) → book.years ≡ first ++ rest
+    → months_text (month_rows book)
+    ≡ months_text (month_rows (with_years first book)) ++ months_text (month_rows (with_years rest book))
