@@ -43,8 +43,8 @@ client-java:
 
 # The worked examples that lie beside the repository in development, on the built program.
 rows: build
-	python3 ../shared/run_rows.py --bin "$(CURDIR)/build/papcalc" --stage 20 --words check,once,run \
-	    --lines plan,drop,add,change,withdraw,load,report,work,trace,file,owed --prefixes
+	python3 ../shared/run_rows.py --bin "$(CURDIR)/build/papcalc" --stage 20 --words check,once,run,sample,save \
+	    --lines plan,drop,add,change,withdraw,load,report,work,trace,file,owed,open,try --prefixes
 	python3 tools/call_rows.py build/papcalc ../shared/rows/calls.json
 
 # Tries the wrong bodies that stand outside the gate, of all crates or of those of CRATES="a b".

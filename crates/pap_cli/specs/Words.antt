@@ -1,4 +1,4 @@
--- The forms of the words (README.md, "Use").
+-- The forms of the words (docs/USE.md).
 use Rattle.std.specs.Prelude.{◌≡◌, ℕ, List, [], ◌∷◌, map, codes, String, string_bytes}
 use Rattle.std.specs.declared.alloc.Global.{Global}
 use Rattle.scaled_decimal.specs.Limits.{IsKept}
