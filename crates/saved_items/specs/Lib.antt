@@ -1,0 +1,5 @@
+pub mod Limits
+pub mod SavedBooks
+pub mod Fronts
+pub mod Texts
+pub mod Views
