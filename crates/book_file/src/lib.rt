@@ -1,0 +1,13 @@
+//! A saved book: one text for each book, and the book of a text.
+#![tactic(auto)]
+
+mod read;
+mod refusal;
+mod write;
+
+pub use read::read_book;
+pub use refusal::{BookFault, SaveRefusal};
+pub use write::write_book;
+
+/// The most bytes of a saved book's text.
+pub const MOST_BOOK_TEXT: usize = 268_435_456;
