@@ -78,12 +78,22 @@ day_word d = day_text d.year d.month d.day
 abbrev pub value_word : NamedValue → Text
 value_word v = v.name ++ (codes "=" ++ plain_text v.value)
 
+-- value words, each with a space before it
+abbrev pub values_text : List NamedValue → Text
+values_text values = flat_map (λ v. codes " " ++ value_word v) values
+
 -- the lines before the plans
+abbrev pub title_words : List Text
+title_words = codes "papbook" ∷ codes "1" ∷ []
+
 abbrev pub title_text : Text
-title_text = line_of (codes "papbook" ∷ codes "1" ∷ [])
+title_text = line_of title_words
+
+abbrev pub work_words : ℕ → ℕ → List Text
+work_words runs steps = codes "work" ∷ whole_text runs ∷ whole_text steps ∷ []
 
 abbrev pub work_text : ℕ → ℕ → Text
-work_text runs steps = line_of (codes "work" ∷ whole_text runs ∷ whole_text steps ∷ [])
+work_text runs steps = line_of (work_words runs steps)
 
 abbrev pub plan_count_text : ℕ → Text
 plan_count_text count = line_of (codes "plans" ∷ whole_text count ∷ [])
@@ -92,12 +102,13 @@ abbrev pub head_text : ℕ → ℕ → ℕ → Text
 head_text runs steps count = title_text ++ (work_text runs steps ++ plan_count_text count)
 
 -- a plan: its day and the lengths of its texts on a line, the two texts, and a line feed
-abbrev pub plan_line : SavedPlan → Text
-plan_line p =
-    line_of (codes "plan" ∷ day_word p.day ∷ whole_text (length p.plan) ∷ whole_text (length p.limits) ∷ [])
+abbrev pub plan_words : Day → ℕ → ℕ → List Text
+plan_words day plan limits = codes "plan" ∷ day_word day ∷ whole_text plan ∷ whole_text limits ∷ []
 
 abbrev pub plan_text : SavedPlan → Text
-plan_text p = plan_line p ++ (p.plan ++ (p.limits ++ (10 ∷ [])))
+plan_text p =
+    line_of (plan_words p.day (length p.plan) (length p.limits))
+    ++ (p.plan ++ (p.limits ++ (10 ∷ [])))
 
 -- the line before the runs, and a run
 abbrev pub run_count_text : ℕ → Text

@@ -40,3 +40,14 @@ pub enum ItemFault<'a> {
     #[error("memory ran out")]
     Memory(AllocError),
 }
+
+impl<'a> From<AllocError> for ItemFault<'a> {
+    ghost use Rattle.std.specs.Prelude.{◌≡◌};
+    ghost use Rattle.saved_items.specs.declared.items.ItemFault.TheVariants.{Memory};
+
+    ghost from_gives = { λ error fault. fault ≡ Memory error };
+
+    fn from(error: AllocError) -> ItemFault<'a> {
+        ItemFault::Memory(error)
+    }
+}
