@@ -1,11 +1,18 @@
 //! The book of a text.
 ghost use Rattle.std.specs.Prelude.{IfOk, IfErr, Ok};
+ghost use Rattle.saved_items.specs.SavedBooks.{IsSaved};
+ghost use Rattle.saved_items.specs.Views.{saved_in};
+ghost use Rattle.book_file.specs.BookLaws.{FrontsTell, TextsAreOfOneBook};
+ghost use Rattle.book_file.specs.BookLaws.{TextsSayOneThing, TextsSaySomething};
 ghost use Rattle.book_file.specs.BookSays.{BookSays};
 ghost use Rattle.book_file.specs.Clauses.{CountsRead, IsUnread};
+ghost use Rattle.book_file.specs.Views.{CountsMade, HasNoPlan, IsBookOf};
 
-use crate::BookFault;
-use recalc_engine::Book;
-use std::alloc::{AllocError, Global};
+use crate::plans::accept_plans;
+use crate::{BookFault, MOST_BOOK_TEXT};
+use recalc_engine::{Book, Work};
+use saved_items::{ItemFault, Items, read_items};
+use std::alloc::Global;
 use std::sync::ledger::Ledger;
 use steps::Steps;
 
@@ -21,5 +28,43 @@ pub fn read_book<L: Ledger>(
     ensures refused { IfErr result (IsUnread bytes.now) }
     ensures counted { CountsRead bytes.now result steps.old steps.new }
 {
-    Err(BookFault::Memory(AllocError))
+    if bytes.len() > MOST_BOOK_TEXT {
+        return Err(BookFault::Long);
+    }
+    match read_items(alloc, bytes) {
+        Ok(items) => restore(alloc, items, steps),
+        Err(ItemFault::Form { item, plans }) => {
+            accept_plans(alloc, &plans)?;
+            Err(BookFault::Form { item })
+        }
+        Err(ItemFault::Memory(error)) => Err(BookFault::Memory(error)),
+    }
 }
+
+/// The book of what is saved, once its plans are accepted.
+fn restore<L: Ledger>(
+    alloc: Global,
+    items: Items<'_>,
+    steps: &mut Steps<L>,
+) -> Result<Book, BookFault>
+    requires { IsSaved (saved_in items) }
+    ensures made { IfOk result (IsBookOf (saved_in items.entry)) }
+    ensures refused { IfErr result (HasNoPlan (saved_in items.entry).plans) }
+    ensures counted { CountsMade (saved_in items.entry) result steps.old steps.new }
+{
+    let plans = accept_plans(alloc, &items.plans)?;
+    let last = Work {
+        runs: items.runs,
+        steps: items.steps,
+    };
+    Ok(Book::restore(alloc, items.records, plans, last, steps)?)
+}
+
+/// Every text says one thing: a book, or what is wrong with it; its first bytes tell, one more than the limit. So a text is that
+/// of at most one book.
+pub fn text_laws()
+    ensures some { TextsSaySomething }
+    ensures one { TextsSayOneThing }
+    ensures fronts { FrontsTell }
+    ensures book { TextsAreOfOneBook }
+{}
