@@ -1,8 +1,7 @@
 -- What the private functions say of items, and of what was read so far.
-use Rattle.std.specs.Prelude.{◌≡◌, ◌≢◌, ℕ, ◌^◌, ◌<◌, List, [], ◌∷◌, ◌++◌, map, length, Option, MatchOption}
+use Rattle.std.specs.Prelude.{◌≡◌, List, [], ◌∷◌, ◌++◌, map, length, Option, MatchOption}
 use denote.Ref.{Bor}
 use Rattle.payroll_records.specs.Tables.{Text}
-use Rattle.payroll_records.specs.declared.record.Record.{Record}
 use Rattle.saved_items.specs.Fronts as front
 use Rattle.saved_items.specs.ItemDecisions as items
 use Rattle.saved_items.specs.ItemDecisions.{item_text}
