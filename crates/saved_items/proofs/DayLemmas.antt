@@ -1,9 +1,9 @@
 -- The words of days: what the calendar's days are written as is read as those days, and nothing else is.
-use Rattle.std.proofs.Common.{◌≡◌, ℕ, ◌+◌, ◌*◌, ◌-◌, ◌/◌, ◌%◌, ◌<◌, ◌≤◌, Bool, true, false, List, [], ◌∷◌, ◌++◌, length, pos, ℤ, refl, sym, ap, ◌∙◌, subst, arith}
+use Rattle.std.proofs.Common.{◌≡◌, ℕ, ◌+◌, ◌*◌, ◌-◌, ◌/◌, ◌%◌, ◌<◌, Bool, true, false, [], ◌∷◌, ◌++◌, pos, ℤ, refl, sym, ap, ◌∙◌, subst, arith}
 use Rattle.std.specs.Prelude.{if◌then◌else◌}
 use Rattle.std.proofs.lemmas.Int.{ints}
-use Rattle.jiff.specs.Words.{IsDate, days_in_month}
-use Rattle.payroll_records.specs.Days.{AreDigits, spelled, IsDay, SpellsMonth, IsDayText, two_digits, day_text}
+use Rattle.jiff.specs.Words.{days_in_month}
+use Rattle.payroll_records.specs.Days.{AreDigits, spelled, IsDay, IsDayText, two_digits, day_text}
 use Rattle.payroll_records.specs.Tables.{Text}
 use Rattle.payroll_records.specs.declared.day.Day.{Day}
 use Rattle.payroll_records.proofs.Laws.{year_is, month_is, day_is, same_day}

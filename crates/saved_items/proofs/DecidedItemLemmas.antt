@@ -1,17 +1,16 @@
 -- Whether an item stands next, and what a text says: always decided.
-use Rattle.std.proofs.Common.{◌≡◌, ◌≢◌, ℕ, zero, suc, ◌+◌, ◌^◌, ◌<◌, ◌≤◌, List, [], ◌∷◌, ◌++◌, length, take, map, pos, ℤ, negsuc, Result, Ok, Err, refl, sym, ap, ap₂, ◌∙◌, subst, arith, ◌⊎◌, inl, inr, append_assoc, length-append}
+use Rattle.std.proofs.Common.{◌≡◌, ℕ, zero, suc, ◌+◌, ◌^◌, ◌<◌, ◌≤◌, List, [], ◌∷◌, ◌++◌, length, take, map, pos, ℤ, negsuc, Result, Ok, Err, refl, sym, ap, ap₂, ◌∙◌, subst, arith, ◌⊎◌, inl, inr, append_assoc, length-append}
 use Rattle.std.specs.Prelude.{codes, IsTrue}
-use Rattle.std.specs.List.{AllByRecursion, join_with_byte, slice_split}
+use Rattle.std.specs.List.{AllByRecursion, slice_split}
 use Rattle.std.specs.declared.cmp.Ordering.{Ordering}
 use Rattle.std.specs.declared.cmp.Ordering.TheVariants.{Less, Equal, Greater}
 use Rattle.std.proofs.lemmas.Bool.{cases_lt, cases_eq}
-use Rattle.std.proofs.lemmas.List.{take_all}
 use Rattle.rising_lists.specs.Keyed.{IsRising, AreAbove}
 use Rattle.scaled_decimal.specs.Decimals.{Decimal, decimal}
 use Rattle.scaled_decimal.specs.NumberTexts.{Spells}
-use Rattle.scaled_decimal.specs.PlainTexts.{whole_text, plain_text}
+use Rattle.scaled_decimal.specs.PlainTexts.{whole_text}
 use Rattle.scaled_decimal.proofs.Laws.{number_once, number_or_none}
-use Rattle.payroll_records.specs.Days.{IsDay, IsDayText, IsDaySpelled}
+use Rattle.payroll_records.specs.Days.{IsDay, IsDayText}
 use Rattle.payroll_records.specs.Employees.{is_employee}
 use Rattle.payroll_records.specs.NamedValues.{AreValues, name_cmp, name_of}
 use Rattle.payroll_records.specs.Orders.{day_cmp, key_cmp}
@@ -24,16 +23,16 @@ use Rattle.payroll_records.proofs.Laws.{Decided, both, by_iff, true_decided, eq_
 use Rattle.saved_items.specs.Fronts.{Front, nothing, titled, worked, planning, running, items_in, plans_in, front_text, IsFront}
 use Rattle.saved_items.specs.ItemDecisions.{Item, title, work, plan_count, plan, run_count, run, item_text, Fits, with_item, IsLater, IsBeyond, Goes, all_of, Ends}
 use Rattle.saved_items.specs.LineViews.{Misses, is_space, IsLine}
-use Rattle.saved_items.specs.SavedBooks.{SavedPlan, Saved, saved_plan, IsWork, IsRun, IsValue, IsText, line_of, day_word, value_word, title_words, work_words, plan_words, plan_text, run_words, run_text, end_text}
+use Rattle.saved_items.specs.SavedBooks.{SavedPlan, Saved, saved_plan, IsRun, IsValue, line_of, day_word, value_word, title_words, work_words, plan_words, plan_text, run_words, run_text, end_text}
 use Rattle.saved_items.specs.Texts.{Stop, TextSays}
-use Rattle.saved_items.proofs.DayLemmas.{day_spells, day_text_only, day_word_once}
+use Rattle.saved_items.proofs.DayLemmas.{day_spells, day_text_only}
 use Rattle.saved_items.proofs.FrontLemmas.{sound_more, text_more}
-use Rattle.saved_items.proofs.ItemLemmas.{lines_once, same_length_cut, run_words_once}
-use Rattle.saved_items.proofs.LineLemmas.{AreWords, cut_at, missing, line_once, split_join, join_split}
+use Rattle.saved_items.proofs.ItemLemmas.{same_length_cut, run_words_once}
+use Rattle.saved_items.proofs.LineLemmas.{cut_at}
 use Rattle.saved_items.proofs.NextLemmas.{no_item, line_is, none_nothing, none_titled, none_worked, many_worked, none_planned, many_planned, plan_is, plan_words_once, work_words_once, run_seen, run_few}
-use Rattle.saved_items.proofs.NumberLemmas.{whole_once, whole_spells}
+use Rattle.saved_items.proofs.NumberLemmas.{whole_spells}
 use Rattle.saved_items.proofs.TextLemmas.{ends_text, stops}
-use Rattle.saved_items.proofs.WordLemmas.{work_are_words, plan_count_are_words, run_count_are_words, plan_are_words, run_are_words, value_given, values_once}
+use Rattle.saved_items.proofs.WordLemmas.{value_given, values_once}
 
 -- ---- words
 

@@ -1,11 +1,10 @@
 -- Whether all items were read.
-use Rattle.std.proofs.Common.{◌≡◌, ℕ, Bool, true, false, List, length, refl, sym, ap, ◌∙◌}
+use Rattle.std.proofs.Common.{◌≡◌, ℕ, Bool, true, false, length, sym, ap, ◌∙◌}
 use Rattle.std.specs.Prelude.{MatchBool}
 use Rattle.std.specs.Str.{bytes_eq}
 use Rattle.std.proofs.lemmas.Bool.{false≢true}
 use Rattle.std.proofs.lemmas.Slice.Eq.{bytes_eq-Decides}
 use Rattle.payroll_records.specs.Tables.{Text}
-use Rattle.saved_items.specs.Fronts as front
 use Rattle.saved_items.specs.ItemDecisions.{all_of, Ends}
 use Rattle.saved_items.specs.ItemViews.{front_at, front_in, IsComplete, EndsWith}
 use Rattle.saved_items.specs.SavedBooks.{Saved, end_text}

@@ -1,9 +1,9 @@
 -- The first items of a saved book, item by item.
-use Rattle.std.proofs.Common.{◌≡◌, ◌≢◌, ℕ, zero, suc, ◌+◌, ◌<◌, ◌≤◌, List, [], ◌∷◌, ◌++◌, length, refl, sym, ap, ap₂, ◌∙◌, subst, arith, append_assoc, length-append, add-one, inl, inr, ◌⊎◌}
+use Rattle.std.proofs.Common.{◌≡◌, ℕ, zero, suc, ◌+◌, ◌<◌, List, [], ◌∷◌, ◌++◌, length, refl, sym, ap, ap₂, ◌∙◌, subst, arith, append_assoc, length-append, inl, inr}
 use Rattle.std.specs.List.{AllByRecursion, flat_map}
 use Rattle.std.specs.declared.cmp.Ordering.{Ordering}
 use Rattle.std.specs.declared.cmp.Ordering.TheVariants.{Less}
-use Rattle.std.proofs.lemmas.Bool.{cases_lt, cases_eq}
+use Rattle.std.proofs.lemmas.Bool.{cases_lt}
 use Rattle.std.proofs.lemmas.List.{append-nil, flat_map_more}
 use Rattle.rising_lists.specs.Keyed.{IsRising, AreAbove}
 use Rattle.rising_lists.proofs.Laws.{rising_append}
@@ -11,9 +11,9 @@ use Rattle.payroll_records.specs.Orders.{day_cmp, key_cmp}
 use Rattle.payroll_records.specs.Tables.{Text, key_of}
 use Rattle.payroll_records.specs.declared.record.Record.{Record}
 use Rattle.payroll_records.proofs.Laws.{day_total, key_total}
-use Rattle.saved_items.specs.Fronts.{Front, nothing, titled, worked, planning, running, items_in, front_text, IsFront, IsPlanning, IsRunning}
-use Rattle.saved_items.specs.ItemDecisions.{Item, title, work, plan_count, plan, run_count, run, item_text, Fits, with_item, IsLater, IsBeyond}
-use Rattle.saved_items.specs.SavedBooks.{SavedPlan, day_of, IsWork, ArePlans, IsRun, title_text, work_text, plan_count_text, head_text, plan_text, run_count_text, run_text}
+use Rattle.saved_items.specs.Fronts.{Front, nothing, titled, worked, planning, running, items_in, front_text, IsFront}
+use Rattle.saved_items.specs.ItemDecisions.{Item, title, work, plan_count, plan, run_count, run, item_text, Fits, with_item}
+use Rattle.saved_items.specs.SavedBooks.{SavedPlan, day_of, IsRun, title_text, work_text, plan_count_text, head_text, plan_text, run_count_text, run_text}
 use Rattle.saved_items.proofs.ItemLemmas.{fit_once}
 
 -- ---- lists with one more element

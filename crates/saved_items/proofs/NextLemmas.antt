@@ -1,14 +1,14 @@
 -- The next item of a text, by the words of its first line.
-use Rattle.std.proofs.Common.{◌≡◌, ◌≢◌, ℕ, ◌+◌, ◌^◌, ◌<◌, ◌≤◌, List, [], ◌∷◌, ◌++◌, length, take, drop, map, refl, sym, ap, ap₂, ◌∙◌, subst, arith, append_assoc, length-append}
+use Rattle.std.proofs.Common.{◌≡◌, ◌≢◌, ℕ, ◌^◌, ◌<◌, ◌≤◌, List, [], ◌∷◌, ◌++◌, length, take, map, sym, ap, ◌∙◌, subst, arith, append_assoc, length-append}
 use Rattle.std.specs.Prelude.{codes}
-use Rattle.std.specs.List.{AllByRecursion, join_with_byte, slice_split}
+use Rattle.std.specs.List.{join_with_byte, slice_split}
 use Rattle.std.proofs.lemmas.List.{take_all, length-take}
 use Rattle.std.proofs.Math.ListN.{length-map}
 use Rattle.scaled_decimal.specs.PlainTexts.{whole_text}
 use Rattle.payroll_records.specs.Tables.{Text}
 use Rattle.payroll_records.specs.declared.day.Day.{Day}
 use Rattle.payroll_records.specs.declared.record.Record.{Record}
-use Rattle.saved_items.specs.Fronts.{Front, nothing, titled, worked, planning, running}
+use Rattle.saved_items.specs.Fronts.{nothing, titled, worked, planning, running}
 use Rattle.saved_items.specs.ItemDecisions.{Item, title, work, plan_count, plan, run_count, run, item_text, Fits, IsLater, IsBeyond}
 use Rattle.saved_items.specs.ItemViews.{HasTexts, HasNoTexts}
 use Rattle.saved_items.specs.LineViews.{Misses, is_space, IsLine}

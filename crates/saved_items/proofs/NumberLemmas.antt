@@ -1,5 +1,5 @@
 -- Whole numbers in digits.
-use Rattle.std.proofs.Common.{◌≡◌, ℕ, ◌<◌, ◌^◌, Result, Ok, Err, List, [], ltb, false, arith, pos, ◌++◌, ◌/◌, ◌∙◌, ap, sym, subst}
+use Rattle.std.proofs.Common.{◌≡◌, ℕ, ◌<◌, ◌^◌, Result, Ok, List, [], ltb, false, arith, pos, ◌++◌, ◌/◌, ◌∙◌, ap, sym, subst}
 use Rattle.std.proofs.lemmas.List.{append-nil}
 use Rattle.std.proofs.lemmas.Bool.Decides.{nat_tests}
 use Rattle.std.proofs.Math.Nat.{div-one}

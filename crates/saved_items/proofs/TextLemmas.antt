@@ -1,14 +1,14 @@
 -- What a text says: at most one thing, and what it says where no item goes on.
-use Rattle.std.proofs.Common.{◌≡◌, ◌≢◌, ℕ, zero, suc, ◌+◌, ◌<◌, ◌≤◌, List, [], ◌∷◌, ◌++◌, length, Result, Ok, Err, refl, sym, ap, ap₂, ◌∙◌, subst, arith, append_assoc, inl, inr, ◌⊎◌}
+use Rattle.std.proofs.Common.{◌≡◌, ℕ, ◌+◌, ◌<◌, List, ◌++◌, length, Result, Ok, Err, refl, sym, ap, ap₂, ◌∙◌, subst, arith, append_assoc, inl, inr}
 use Rattle.std.specs.List.{flat_map}
-use Rattle.std.proofs.lemmas.Bool.{cases_lt, cases_eq}
+use Rattle.std.proofs.lemmas.Bool.{cases_lt}
 use Rattle.payroll_records.specs.Tables.{Text}
 use Rattle.payroll_records.specs.declared.record.Record.{Record}
-use Rattle.saved_items.specs.Fronts.{Front, nothing, titled, worked, planning, running, items_in, plans_in, front_text, IsFront}
-use Rattle.saved_items.specs.ItemDecisions.{Item, title, work, plan_count, plan, run_count, run, item_text, Fits, with_item, Goes, all_of, Ends}
+use Rattle.saved_items.specs.Fronts.{Front, items_in, plans_in, front_text, IsFront}
+use Rattle.saved_items.specs.ItemDecisions.{Item, run, item_text, Fits, with_item, Goes, all_of, Ends}
 use Rattle.saved_items.specs.SavedBooks.{SavedPlan, Saved, IsSaved, IsText, head_text, plan_text, run_count_text, run_text, end_text, saved_text}
-use Rattle.saved_items.specs.Texts.{Shows, Stop, StopsAt, TextSays}
-use Rattle.saved_items.proofs.FrontLemmas.{Step, step, fronts_once, sound_more, items_more, text_more}
+use Rattle.saved_items.specs.Texts.{Stop, StopsAt, TextSays}
+use Rattle.saved_items.proofs.FrontLemmas.{step, fronts_once, sound_more, items_more, text_more}
 
 pub all_sound : (s : Saved) → IsSaved s → IsFront (all_of s)
 all_sound s h = (

@@ -1,6 +1,6 @@
 -- Values that are read one by one, and lists with one more element behind the others.
-use Rattle.std.proofs.Common.{◌≡◌, ◌≢◌, ℕ, zero, suc, ◌+◌, ◌-◌, ◌<◌, ◌≤◌, Bool, true, false, List, [], ◌∷◌, ◌++◌, length, take, get_or, map, refl, sym, ap, ◌∙◌, subst, arith}
-use Rattle.std.specs.Prelude.{Option, Some, None, IsSome, IsNone, IsTrue, MatchBool, if◌then◌else◌}
+use Rattle.std.proofs.Common.{◌≡◌, ℕ, zero, suc, ◌+◌, ◌<◌, Bool, List, [], ◌∷◌, ◌++◌, length, take, get_or, map, refl, sym, ap, ◌∙◌, subst, arith}
+use Rattle.std.specs.Prelude.{Some, None, IsTrue, MatchBool, if◌then◌else◌}
 use Rattle.std.specs.List.{AllByRecursion, slice_get}
 use Rattle.std.specs.Cmp.{IsTotalOrder}
 use Rattle.std.specs.Ordering.{is_eq, is_lt, ordering_reverse}
@@ -13,7 +13,7 @@ use denote.Ref.{Bor}
 use Rattle.scaled_decimal.specs.Decimals.{Decimal}
 use Rattle.scaled_decimal.specs.Limits.{IsKept}
 use Rattle.pap_tree.specs.Names.{is_name}
-use Rattle.rising_lists.specs.Keyed.{IsRising, AreAbove, put_by}
+use Rattle.rising_lists.specs.Keyed.{IsRising, put_by}
 use Rattle.rising_lists.proofs.Laws.{above_all}
 use Rattle.payroll_records.specs.NamedValues.{AreValues, name_cmp, name_of, value_at, with_value}
 use Rattle.payroll_records.specs.Tables.{Text}

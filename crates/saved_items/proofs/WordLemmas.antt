@@ -1,5 +1,5 @@
 -- The words of items have neither a space nor a line feed, and no two values have the same words.
-use Rattle.std.proofs.Common.{◌≡◌, ℕ, zero, suc, ◌+◌, ◌/◌, ◌%◌, ◌^◌, ◌<◌, ◌≤◌, ◌==◌, Bool, true, false, List, [], ◌∷◌, ◌++◌, length, map, pos, refl, sym, ap, ap₂, ◌∙◌, subst, arith, inl, inr}
+use Rattle.std.proofs.Common.{◌≡◌, ℕ, zero, suc, ◌/◌, ◌%◌, ◌^◌, ◌≤◌, ◌==◌, Bool, true, false, List, [], ◌∷◌, map, pos, refl, sym, ap₂, ◌∙◌, subst, arith, inl, inr}
 use Rattle.std.specs.Prelude.{IsTrue, ◌&&◌, if◌then◌else◌, int_lt, unsigned_abs, codes}
 use Rattle.std.specs.List.{AllByRecursion, list_all}
 use Rattle.std.specs.Int.Digits.{digits_of}
@@ -10,7 +10,7 @@ use Rattle.scaled_decimal.specs.NumberTexts.{sign_text, point_text}
 use Rattle.scaled_decimal.specs.PlainTexts.{digit_byte, whole_text, last_digits, plain_text}
 use Rattle.scaled_decimal.proofs.Laws.{plain_text_spells}
 use Rattle.pap_tree.specs.Names.{is_name, is_word}
-use Rattle.payroll_records.specs.Days.{two_digits, month_text, day_text}
+use Rattle.payroll_records.specs.Days.{two_digits}
 use Rattle.payroll_records.specs.Employees.{is_employee, is_employee_byte}
 use Rattle.payroll_records.specs.Tables.{Text}
 use Rattle.payroll_records.specs.ValueWords.{IsValueWord}
@@ -19,7 +19,7 @@ use Rattle.payroll_records.specs.declared.record.Record.{Record}
 use Rattle.payroll_records.specs.declared.values.NamedValue.{NamedValue}
 use Rattle.payroll_records.proofs.Laws.{value_once}
 use Rattle.saved_items.specs.SavedBooks.{IsValue, IsRun, day_word, value_word, work_words, plan_words, run_words}
-use Rattle.saved_items.proofs.LineLemmas.{IsWord, IsWordByte, AreWords, word_append}
+use Rattle.saved_items.proofs.LineLemmas.{IsWord, AreWords, word_append}
 
 -- ---- digits
 

@@ -1,5 +1,5 @@
 -- What the private functions say of items, and of what was read so far.
-use Rattle.std.specs.Prelude.{◌≡◌, ◌≢◌, ℕ, ◌^◌, ◌<◌, List, [], ◌∷◌, ◌++◌, map, length, Option, MatchOption}
+use Rattle.std.specs.Prelude.{◌≡◌, List, [], ◌∷◌, ◌++◌, map, length, Option, MatchOption}
 use denote.Ref.{Bor}
 use Rattle.payroll_records.specs.Tables.{Text}
 use Rattle.payroll_records.specs.declared.record.Record.{Record}
@@ -41,9 +41,17 @@ front_at (stage.Runs count) s = front.running s.runs s.steps s.plans count s.rec
 abbrev pub front_in : Front → front.Front
 front_in f = front_at f.stage (saved_in f.items)
 
--- the plans of the items so far are those that were read
-abbrev pub KnowsPlans : Front → Type 0
-KnowsPlans f = front.plans_in (front_in f) ≡ map plan_in f.items.plans.items
+abbrev pub records_in : front.Front → List Record
+records_in front.nothing = []
+records_in front.titled = []
+records_in (front.worked runs steps) = []
+records_in (front.planning runs steps count plans) = []
+records_in (front.running runs steps plans count records) = records
+
+-- the plans and the runs of the items so far are all that were read
+pub record IsKnown (f : Front) : Type 0 where
+  pub plans : front.plans_in (front_in f) ≡ map plan_in f.items.plans.items
+  pub records : records_in (front_in f) ≡ f.items.records.items
 
 abbrev pub plans_of : List PlanItem → List SavedPlan
 plans_of plans = map plan_in plans

@@ -1,5 +1,5 @@
 -- What was read, as contracts see it: texts as their bytes.
-use Rattle.std.specs.Prelude.{List, map, ⊤}
+use Rattle.std.specs.Prelude.{map, ⊤}
 use Rattle.payroll_records.specs.Tables.{Text}
 use Rattle.saved_items.specs.SavedBooks.{SavedPlan, Saved, saved_plan}
 use Rattle.saved_items.specs.Texts.{StopsAt}

@@ -2,7 +2,7 @@
 ghost use Rattle.std.specs.Prelude.{◌≡◌, OnOk};
 ghost use Rattle.saved_items.specs.Fronts.{nothing};
 ghost use Rattle.saved_items.specs.ItemDecisions.{Fits, with_item};
-ghost use Rattle.saved_items.specs.ItemViews.{KnowsPlans, front_in, item_in};
+ghost use Rattle.saved_items.specs.ItemViews.{IsKnown, front_in, item_in};
 
 use crate::item::Item;
 use crate::{ItemFault, Items};
@@ -31,7 +31,7 @@ impl<'a> Front<'a> {
     /// No items.
     pub(crate) fn new(alloc: Global) -> Front<'a>
         ensures none { front_in result ≡ nothing }
-        ensures plans { KnowsPlans result }
+        ensures known { IsKnown result }
     {
         Front {
             stage: Stage::Title,
@@ -47,10 +47,10 @@ impl<'a> Front<'a> {
     /// The items with one more, which is of its form behind them.
     pub(crate) fn add(&mut self, item: Item<'a>) -> Result<(), AllocError>
         requires fits { Fits (front_in self.old) (item_in item) }
-        requires plans { KnowsPlans self.old }
+        requires known { IsKnown self.old }
         ensures more { OnOk result
             (front_in self.new ≡ with_item (front_in self.old) (item_in item.entry)) }
-        ensures plans { OnOk result (KnowsPlans self.new) }
+        ensures known { OnOk result (IsKnown self.new) }
     {
         match item {
             Item::Title => self.stage = Stage::Work,
@@ -59,15 +59,9 @@ impl<'a> Front<'a> {
                 self.items.steps = steps;
                 self.stage = Stage::PlanCount;
             }
-            Item::PlanCount(count) => {
-                self.items.plans.clear();
-                self.stage = Stage::Plans { count };
-            }
+            Item::PlanCount(count) => self.stage = Stage::Plans { count },
             Item::Plan(plan) => self.items.plans.push(plan)?,
-            Item::RunCount(count) => {
-                self.items.records.clear();
-                self.stage = Stage::Runs { count };
-            }
+            Item::RunCount(count) => self.stage = Stage::Runs { count },
             Item::Run(run) => self.items.records.push(run)?,
         }
         Ok(())

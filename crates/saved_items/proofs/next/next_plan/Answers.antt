@@ -1,4 +1,4 @@
-use Rattle.std.proofs.Common.{arith, ◌<◌, ◌^◌, length, refl, sym, ap, ◌∙◌}
+use Rattle.std.proofs.Common.{arith}
 use Rattle.std.proofs.Math.ListN.{length-map}
 use Rattle.saved_items.specs.ItemViews.{plans_of}
 use Rattle.saved_items.specs.LineViews.{AreWordsOf, texts}

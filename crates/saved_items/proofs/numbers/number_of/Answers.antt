@@ -1,6 +1,5 @@
-use Rattle.std.proofs.Common.{◌≡◌, ℕ, ◌<◌, ◌^◌, ap, sym, ◌∙◌, pos}
-use Rattle.std.specs.Prelude.{Ok, Err, Result}
-use Rattle.scaled_decimal.specs.Decimals.{numerator_of, decimal}
+use Rattle.std.proofs.Common.{sym, ◌∙◌, pos}
+use Rattle.scaled_decimal.specs.Decimals.{decimal}
 use Rattle.saved_items.proofs.NumberLemmas.{whole_read, ok_once}
 use Rattle.saved_items.proofs.numbers.number_of.Goals as goal
 

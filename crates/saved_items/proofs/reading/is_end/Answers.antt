@@ -1,4 +1,4 @@
-use Rattle.std.proofs.Common.{◌≡◌, ap, sym, ◌∙◌}
+use Rattle.std.proofs.Common.{ap, ◌∙◌}
 use Rattle.std.specs.Str.{bytes_eq}
 use Rattle.saved_items.specs.Views.{saved_in}
 use Rattle.saved_items.proofs.EndLemmas.{complete_of, ends_by}

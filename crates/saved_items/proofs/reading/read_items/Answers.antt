@@ -1,7 +1,7 @@
-use Rattle.std.proofs.Common.{◌≡◌, ◌+◌, ◌<◌, length, sym, ap, ◌∙◌, refl, arith, length-append}
+use Rattle.std.proofs.Common.{◌+◌, length, sym, ap, arith, length-append}
 use Rattle.saved_items.specs.ItemViews.{front_in, item_in}
 use Rattle.saved_items.specs.ItemDecisions.{item_text}
-use Rattle.saved_items.specs.Views.{saved_in, plan_in}
+use Rattle.saved_items.specs.Views.{saved_in}
 use Rattle.saved_items.proofs.DecidedItemLemmas.{item_some}
 use Rattle.saved_items.proofs.TextLemmas.{goes_on, ends_text, stops_as}
 use Rattle.saved_items.proofs.reading.read_items.Goals as goal
@@ -11,7 +11,7 @@ loop-front-preserved c =
     let h = c.loop-front.invariant in
     let read = rw c.in-Some.is at c.in_ok-item.ensures in
     let on = goes_on c.args.bytes.now (front_in c.loop-front.front) (front_in c.add.new.self) c.loop-front.rest.now c.in-Some.left.now (item_in c.in-Some.item) h.sound h.text read.0 read.1 c.in_ok-add.ensures.more in
-    record { sound = on.0; text = on.1; plans = c.in_ok-add.ensures.plans }
+    record { sound = on.0; text = on.1; known = c.in_ok-add.ensures.known }
 
 pub loop-front-smaller : goal.loop-front-smaller
 loop-front-smaller c =
@@ -32,4 +32,4 @@ returns-clause-err c =
     let h = c.loop-front.invariant in
     let none = rw c.in_default.is at c.in_ok-item.ensures in
     stops_as c.args.bytes.now (front_in c.loop-front.front) c.loop-front.rest.now h.sound h.text (λ g. none g.item g.rest g.fits g.text)
-    _ _ (ap (λ n. n + 1) c.item_count.ensures.count) (sym h.plans) c.if-is_end.ensures
+    _ _ (ap (λ n. n + 1) c.item_count.ensures.count) (sym h.known.plans) c.if-is_end.ensures

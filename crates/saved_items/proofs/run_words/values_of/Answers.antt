@@ -1,5 +1,5 @@
-use Rattle.std.proofs.Common.{◌≡◌, ap, sym, ◌∙◌, length}
-use Rattle.std.specs.Prelude.{Err, Some, None, IsSome}
+use Rattle.std.proofs.Common.{ap, sym, ◌∙◌, length}
+use Rattle.std.specs.Prelude.{Err}
 use Rattle.std.proofs.lemmas.Bool.{false≢true}
 use Rattle.payroll_records.specs.NamedValues.{value_at, with_value}
 use Rattle.saved_items.proofs.ValueListLemmas.{some_value, is_new, put_here, has_room}
