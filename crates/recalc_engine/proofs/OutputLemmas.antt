@@ -30,7 +30,7 @@ use Rattle.book_year.specs.Rows.{Planned, Row, outputs_in, row_filled, row_of, r
 use Rattle.book_year.specs.Runs.{filled, named_values, run_outputs}
 use Rattle.book_year.specs.Years.{IsYear}
 use Rattle.book_edits.specs.Books.{YearRuns}
-use Rattle.recalc_engine.specs.BookLaws.{ArePlans, IsBook, IsPlan}
+use Rattle.recalc_engine.specs.BookLaws.{ArePlans, HasPlan, IsBook, IsPlan}
 use Rattle.recalc_engine.specs.Contents.{Contents}
 use Rattle.recalc_engine.specs.MonthRows.{KeyedRow, keyed_row, keyed_rows, month_rows}
 use Rattle.recalc_engine.specs.MonthViews.{kept_row, kept_rows, rows_kept, rows_kept_in}
@@ -118,11 +118,6 @@ run_named p inputs h = by (outputs_of p.meaning.flowchart inputs)
 
 -- ---- each row
 
--- the plan that is picked, if there is one, is accepted
-abbrev HasPlan : Option (Entry Accepted) → Type 0
-HasPlan None = Unit {0}
-HasPlan (Some e) = IsPlan (plan_of e)
-
 filled_named : (e : Entry Accepted) (d : Day) (f : Filled) → IsPlan (plan_of e) →
     AreNamed (outputs_in (row_filled e d f).state)
 filled_named e d (filling.Inputs inputs) h = run_named (plan_of e) inputs h
@@ -133,7 +128,7 @@ row_named : (o : Option (Entry Accepted)) (earlier : List Earlier) (r : Record) 
 row_named None earlier r h = tt
 row_named (Some e) earlier r h = filled_named e r.day (filled (plan_of e) r.values earlier) h
 
-rows_named : (k : YearKey) (planned : Planned) → ((d : Day) → HasPlan (planned d)) →
+pub rows_named : (k : YearKey) (planned : Planned) → ((d : Day) → HasPlan (planned d)) →
     (earlier : List Earlier) (rs : List Record) →
     AllByRecursion HasNames (map (keyed_row k) (rows planned earlier rs))
 rows_named k planned h earlier [] = tt
@@ -144,7 +139,7 @@ all_named : (planned : Planned) → ((d : Day) → HasPlan (planned d)) → (yea
 all_named planned h [] = tt
 all_named planned h (y ∷ ys) = all_both HasNames (keyed_rows planned y) (flat_map (keyed_rows planned) ys) (rows_named y.key planned h [] y.runs) (all_named planned h ys)
 
-picked_plan : (plans : List (Entry Accepted)) (d : Day) → AreEntries plans → ArePlans plans → HasPlan (pick plans d)
+pub picked_plan : (plans : List (Entry Accepted)) (d : Day) → AreEntries plans → ArePlans plans → HasPlan (pick plans d)
 picked_plan plans d entries all = by (pick plans d) (pick_latest plans d entries.rising)
   where
     by : (o : Option (Entry Accepted)) → IsLatest plans (λ a. serves a d) o → HasPlan o

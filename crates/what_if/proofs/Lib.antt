@@ -1,0 +1,2 @@
+mod FullLemmas
+pub mod Laws
