@@ -41,7 +41,7 @@ pub fn put_plan<L: Ledger>(
         (replan_cost (plans_in plans.old)
         (with_entry (day, accepted plan) (plans_in plans.old)) years.old) }
 {
-    if is_full(plans, day) {
+    if is_full(plans.entries(), day) {
         return Err(EditRefusal::Plans);
     }
     let done = redone_with(plans, years, day, &plan, steps)?;
@@ -122,10 +122,11 @@ fn redone_without<L: Ledger>(
 }
 
 /// Whether there are 64 plans, and none of a day.
-pub fn is_full(plans: &Calendar<Plan>, day: Day) -> bool
-    ensures { IsTrue result ↔ IsFull (plans_in plans.now) day }
+pub fn is_full(entries: &[(Day, Plan)], day: Day) -> bool
+    requires { AreEntries entries.now }
+    ensures { IsTrue result ↔ IsFull (plans_in entries.now) day }
 {
-    plans.len() == 64 && !has_plan(plans.entries(), day)
+    entries.len() == 64 && !has_plan(entries, day)
 }
 
 /// Whether a plan holds from a day on.
