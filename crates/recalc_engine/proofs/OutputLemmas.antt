@@ -102,7 +102,7 @@ outputs_differ p h =
     let behind = pairs_after Differ (names_of f.inputs) (names_of (f.outputs ++ (f.internals ++ f.constants))) (subst AreDistinct (names_append f.inputs (f.outputs ++ (f.internals ++ f.constants))) all) in
     pairs_before Differ (names_of f.outputs) (names_of (f.internals ++ f.constants)) (subst AreDistinct (names_append f.outputs (f.internals ++ f.constants)) behind)
 
-no_names : HaveNames []
+pub no_names : HaveNames []
 no_names i j d l m = absurd (nothing j m)
   where
     nothing : (j : ℕ) → j < 0 → ⊥

@@ -2,8 +2,11 @@
 //! as it is.
 #![tactic(auto)]
 
+mod rows;
+mod sides;
+mod states;
 mod trial;
-mod try_plan;
+mod trials;
 
 pub use trial::{Shown, Trial, TrialRow, TryRefusal};
-pub use try_plan::try_plan;
+pub use trials::{trial_laws, try_plan};

@@ -1,5 +1,6 @@
 //! What a trial of a plan shows.
-ghost use Rattle.std.specs.Prelude.{◌≡◌};
+ghost use Rattle.std.specs.Prelude.{◌≡◌, [], ◌∷◌, ◌++◌, OnOk};
+ghost use Rattle.what_if.specs.declared.trial.TrialRow.TheVariants.{Changed};
 ghost use Rattle.what_if.specs.declared.trial.TryRefusal.TheVariants.{Memory};
 
 use book_year::Work;
@@ -28,7 +29,7 @@ pub enum Shown {
 }
 
 /// What a plan would change: a run, or a value of such a run.
-#[derive(Clone, Copy, Debug)]
+#[derive(Debug, Drop)]
 pub enum TrialRow {
     /// The run would come to another state.
     Changed {
@@ -68,4 +69,24 @@ impl From<AllocError> for TryRefusal {
     fn from(error: AllocError) -> TryRefusal {
         TryRefusal::Memory(error)
     }
+}
+
+/// Appends the row of a run that would come to another state.
+pub(crate) fn push_changed(
+    rows: &mut Vec<TrialRow>,
+    key: &Key,
+    before: Shown,
+    after: Shown,
+) -> Result<(), AllocError>
+    ensures { OnOk result (rows.new.items ≡ rows.old.items ++ Changed key.now before after ∷ []) }
+{
+    // The check of a pushed row looks for the types of all variants among those that the function names.
+    let _none: Option<Dec> = None;
+    rows.reserve(1)?;
+    rows.push_reserved(TrialRow::Changed {
+        key: *key,
+        before,
+        after,
+    });
+    Ok(())
 }
