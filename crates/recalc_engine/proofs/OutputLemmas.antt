@@ -1,22 +1,20 @@
 -- The outputs of a book's runs: they are within their bound, and those of one run have different names.
-use Rattle.std.proofs.Common.{◌≡◌, ◌≢◌, ℕ, suc, ◌+◌, ◌<◌, List, [], ◌∷◌, ◌++◌, map, length, get_or, Option, Some, None, refl, sym, ap, subst, ◌∙◌, arith}
-use Rattle.std.specs.Prelude.{AllPairs, Contains}
+use Rattle.std.proofs.Common.{◌≡◌, ◌≢◌, ℕ, suc, ◌<◌, List, [], ◌∷◌, ◌++◌, map, get_or, Option, Some, None, refl, ap, subst, arith}
+use Rattle.std.specs.Prelude.{AllPairs}
 use Rattle.std.specs.List.{AllByRecursion, flat_map}
 use Rattle.std.specs.Option.{option_map_or}
-use Rattle.std.proofs.lemmas.List.{get_or_append_left, length-append, map-append}
+use Rattle.std.proofs.lemmas.List.{get_or_append_left, length-append}
 use Rattle.std.proofs.lemmas.List.Elements.{All-from_recursion}
 use Rattle.scaled_decimal.specs.Decimals.{Decimal}
 use Rattle.pap_tree.specs.Declarations.{Declaration}
-use Rattle.pap_tree.specs.Flowchart.{Flowchart}
 use Rattle.payroll_records.specs.declared.day.Day.{Day}
 use Rattle.payroll_records.specs.declared.record.Record.{Record}
-use Rattle.payroll_records.specs.declared.values.NamedValue.{NamedValue}
 use Rattle.payroll_records.specs.NamedValues.{name_of}
 use Rattle.plan_calendar.specs.Picking.{AreEntries, Entry, IsLatest, pick, plan_of, serves}
 use Rattle.plan_calendar.proofs.Laws.{pick_latest}
 use Rattle.pap_types.specs.Meaning.{outputs_of}
 use Rattle.pap_types.specs.Scopes.{names_of}
-use Rattle.pap_types.specs.Typing.{AreDistinct, declarations_of}
+use Rattle.pap_types.specs.Typing.{AreDistinct}
 use Rattle.pap_types.proofs.Laws.{has_types}
 use Rattle.carry_bindings.specs.declared.carried.Earlier.{Earlier}
 use Rattle.carry_bindings.specs.declared.filling.Filled.{Filled}
@@ -26,14 +24,14 @@ use Rattle.book_year.specs.declared.outcome.Outcome.{Outcome}
 use Rattle.book_year.specs.declared.year.Year.{Year}
 use Rattle.book_year.specs.declared.year.YearKey.{YearKey}
 use Rattle.book_year.specs.Kept.{IsBounded}
-use Rattle.book_year.specs.Rows.{Planned, Row, outputs_in, row_filled, row_of, rows, year_rows}
+use Rattle.book_year.specs.Rows.{Planned, outputs_in, row_filled, row_of, rows}
 use Rattle.book_year.specs.Runs.{filled, named_values, run_outputs}
 use Rattle.book_year.specs.Years.{IsYear}
 use Rattle.book_edits.specs.Books.{YearRuns}
 use Rattle.recalc_engine.specs.BookLaws.{ArePlans, HasPlan, IsBook, IsPlan}
 use Rattle.recalc_engine.specs.Contents.{Contents}
-use Rattle.recalc_engine.specs.MonthRows.{KeyedRow, keyed_row, keyed_rows, month_rows}
-use Rattle.recalc_engine.specs.MonthViews.{kept_row, kept_rows, rows_kept, rows_kept_in}
+use Rattle.recalc_engine.specs.MonthRows.{keyed_row, keyed_rows, month_rows}
+use Rattle.recalc_engine.specs.MonthViews.{kept_rows, rows_kept, rows_kept_in}
 use Rattle.recalc_engine.specs.RowLaws.{AreNamed, HasBound, HasNames, HaveNames}
 use Rattle.recalc_engine.proofs.RowLemmas.{next}
 
