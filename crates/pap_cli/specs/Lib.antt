@@ -8,6 +8,8 @@ pub mod RunLines
 pub mod Outside
 pub mod Statuses
 pub mod Stops
+pub mod Kept
+pub mod Reasons
 pub mod Words
 pub mod WordViews
 pub mod FileViews

@@ -3,6 +3,7 @@
 
 mod answer;
 mod call;
+mod kept;
 mod once;
 mod reasons;
 mod status;
@@ -10,5 +11,6 @@ mod stop;
 mod words;
 
 pub use call::{answer_laws, papcalc, word_laws};
-pub use reasons::reason;
+pub use kept::KeptFiles;
+pub use reasons::{MOST_GIVEN, reason};
 pub use status::Status;

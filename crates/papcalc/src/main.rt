@@ -4,7 +4,8 @@
 ghost use Rattle.std.specs.Prelude.{◌≡◌};
 
 use outside::{Files, RealFiles, Sink, Source, StdSink, StdSource};
-use pap_cli::{Status, papcalc, reason};
+use pap_cli::{KeptFiles, MOST_GIVEN, Status, papcalc, reason};
+use plain_words::one_line;
 use std::alloc::Global;
 use std::env;
 use std::io::{self, ErrorKind};
@@ -102,26 +103,32 @@ fn explain(rt: &HostRuntime, status: Status, failed_name: Option<&str>) {
         Status::Done | Status::Refused => Ok(()),
         Status::BadWords => eprintln!(rt; "{USAGE}"),
         Status::FileFault => {
-            let name = failed_name.unwrap_or("");
-            eprintln!(rt; "papcalc: the file {name} can't be read")
+            explain_file_fault(rt, failed_name.unwrap_or(""));
+            Ok(())
         }
         Status::ReadFault => eprintln!(rt; "papcalc: standard input can't be read"),
         Status::WriteFault => eprintln!(rt; "papcalc: standard output can't be written"),
-        Status::NoMemory => eprintln!(rt; "papcalc: memory ran out"),
+        Status::NoMemory => eprintln!(rt; "papcalc: out of memory"),
         Status::ScriptLong => eprintln!(rt; "papcalc: the script is longer than 67108864 bytes"),
     };
 }
 
-/// Says on standard error why the answer is a refusal, in one line; of a script, how its refusals are found. That this may fail
-/// changes nothing.
-fn explain_refusal(rt: &HostRuntime, words: &[String]) {
+/// Says on standard error which file can't be read, in one line whatever its name is. That this may fail changes nothing.
+fn explain_file_fault(rt: &HostRuntime, name: &str) {
+    if let Ok(name) = one_line(rt.alloc(), name) {
+        let _ = eprintln!(rt; "papcalc: the file {name} can't be read");
+    }
+}
+
+/// Says on standard error why the answer is a refusal, in one line, from the bytes that were given for it; of a script, how its
+/// refusals are found. That this may fail changes nothing.
+fn explain_refusal(rt: &HostRuntime, words: &[String], given: &[Vec<u8>]) {
     if words.len() == 1 {
         let _ = eprintln!(rt; "{REFUSED_LINES}");
         return;
     }
-    let mut files = RealFiles::new(rt);
-    if let Ok(Some(reason)) = reason(rt.alloc(), words, &mut files) {
-        let _ = eprintln!(rt; "papcalc: {reason}");
+    if let Ok(Some(reason)) = reason(rt.alloc(), words, given) {
+        let _ = eprintln!(rt; "{reason}");
     }
 }
 
@@ -146,7 +153,7 @@ fn main(rt: HostRuntime) -> ExitCode {
         explain(&rt, status, None);
         return ExitCode::from(status.number());
     }
-    let mut files = RealFiles::new(&rt);
+    let mut files = KeptFiles::new(rt.alloc(), RealFiles::new(&rt), MOST_GIVEN);
     let mut source = StdSource::new(rt.reader());
     let mut sink = StdSink::new(io::writer(&rt));
     let status = counted::<Brand, _, _, _>(
@@ -157,9 +164,9 @@ fn main(rt: HostRuntime) -> ExitCode {
         &mut sink,
         Blank::new(1),
     );
-    explain(&rt, status, files.failed_name());
+    explain(&rt, status, files.inner().failed_name());
     if status == Status::Refused {
-        explain_refusal(&rt, &words);
+        explain_refusal(&rt, &words, files.fronts());
     }
     ExitCode::from(status.number())
 }

@@ -6,7 +6,7 @@ use Rattle.std.proofs.lemmas.Str.{encodes-append}
 use Rattle.std.proofs.lemmas.Iterator.{YieldsList-from_chars}
 use Rattle.std.proofs.lemmas.Iterator.Consumers.{YieldsList-end}
 use Rattle.plain_words.specs.Lines.{is_shown, shown_char}
-use Rattle.plain_words.proofs.one_line.one_line.Goals as goal
+use Rattle.plain_words.proofs.lines.one_line.Goals as goal
 
 -- the text of one character more
 text_more : (line cs : List ℕ) (c shown : ℕ) → line ≡ encode_utf8_all (map shown_char cs) → shown ≡ shown_char c

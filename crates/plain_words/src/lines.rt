@@ -7,7 +7,7 @@ use std::alloc::{AllocError, Global};
 
 /// The text with a space for each tab and line end, and with `?` for each other character that isn't printable ASCII or of
 /// Latin script.
-pub(crate) fn one_line(alloc: Global, text: &str) -> Result<String, AllocError>
+pub fn one_line(alloc: Global, text: &str) -> Result<String, AllocError>
     ensures text { IfOk result (λ line. string_bytes line ≡ shown_text text.now) }
     ensures shown { IfOk result (λ line. IsOneLine (string_bytes line)) }
 {
