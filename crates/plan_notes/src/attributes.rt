@@ -36,7 +36,11 @@ pub(crate) fn attribute(
             Some(_) => {}
             None if *byte == b'"' || *byte == b'\'' => reading.value = Some((*byte, at + 1)),
             None if is_name_byte(*byte) => {
-                reading.word = if end == at { (start, at + 1) } else { (at, at + 1) };
+                reading.word = if end == at {
+                    (start, at + 1)
+                } else {
+                    (at, at + 1)
+                };
             }
             None => {}
         }
@@ -85,7 +89,9 @@ fn decoded_byte(escape: &[u8]) -> u8 {
 fn number(digits: &[u8], radix: u8) -> u8 {
     let mut number: u8 = 0;
     for digit in digits {
-        number = number.saturating_mul(radix).saturating_add(digit_value(*digit));
+        number = number
+            .saturating_mul(radix)
+            .saturating_add(digit_value(*digit));
     }
     number
 }

@@ -10,3 +10,4 @@ mod text;
 pub use notes::{Notes, Walk};
 pub use scan::read_notes;
 pub use tag::{Element, Mark};
+pub use text::one_line;

@@ -3,7 +3,7 @@ use std::alloc::{AllocError, Global};
 
 /// A text in one line: white space and control characters are one space, none stands at its ends, and bytes that aren't
 /// UTF-8 are U+FFFD.
-pub(crate) fn one_line(alloc: Global, bytes: &[u8]) -> Result<String, AllocError> {
+pub fn one_line(alloc: Global, bytes: &[u8]) -> Result<String, AllocError> {
     let text = String::from_utf8_lossy(alloc, bytes)?;
     let mut line = String::new(alloc);
     let mut is_gap = false;

@@ -8,7 +8,8 @@ use std::alloc::{AllocError, Global};
 const LONGEST_COMMENT: usize = 200;
 
 /// What stands first.
-const HEAD: &str = "# Ranges to begin with: for each input the widest that makes sense for its type. A flowchart is accepted only if no run on
+const HEAD: &str =
+    "# Ranges to begin with: for each input the widest that makes sense for its type. A flowchart is accepted only if no run on
 # inputs within their ranges can fail, so narrow them to what the payroll needs. An input that takes its value from
 # earlier runs of the year needs a table [bind.NAME] with a kind, and of an output (sum, last) its name, besides.
 ";
@@ -55,7 +56,10 @@ fn write_input(
     let low = bounds.low;
     let high = bounds.high;
     let places = bounds.places;
-    write!(text, "# {advice}\n[input.{name}]\nlow = {low}\nhigh = {high}\nplaces = {places}\n")
+    write!(
+        text,
+        "# {advice}\n[input.{name}]\nlow = {low}\nhigh = {high}\nplaces = {places}\n"
+    )
 }
 
 /// Appends a comment, of a long one the front that has room.
