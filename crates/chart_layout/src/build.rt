@@ -3,7 +3,7 @@ use crate::choice::{Arm, Choice};
 use crate::figure::{Body, Figure, row_height};
 use crate::note::Note;
 use crate::px::Px;
-use crate::statement::{Call, Site, Statement};
+use crate::statement::{BOX_SIDES, Call, Site, Statement, TEST_SIDES};
 use pap_expr::{ExprFault, parse_assign, parse_expr};
 use pap_reader::RawStmt;
 use pap_tree::{Name, print_expr};
@@ -85,7 +85,7 @@ impl Builder<'_> {
         match statement {
             RawStmt::Eval { exec } => {
                 let text = spelled_assignment(self.alloc, exec)?;
-                let statement = self.written(text, depth)?;
+                let statement = self.written(text, depth, BOX_SIDES)?;
                 push_evaluation(self.alloc, figures, statement)?;
             }
             RawStmt::Execute { method } => {
@@ -94,46 +94,38 @@ impl Builder<'_> {
             }
             RawStmt::If { test, yes, no } => {
                 let text = spelled_test(self.alloc, test)?;
-                let test = self.written(text, depth)?;
-                let choice = self.choice(test, yes, no, depth)?;
+                let test = self.written(text, depth, TEST_SIDES)?;
+                let then = self.branch(yes, depth.saturating_add(1))?;
+                let otherwise = self.otherwise(no, depth, then.is_empty())?;
+                let choice = joined(self.alloc, test, Body::new(then), otherwise)?;
                 figures.push(Figure::Choice(choice))?;
             }
         }
         self.next_tag(depth, figures)
     }
 
-    /// The branches of an IF.
-    #[cycle(build)]
-    fn choice(
-        &mut self,
-        test: Statement,
-        yes: &[RawStmt],
-        no: &[RawStmt],
-        depth: u32,
-    ) -> Result<Choice, AllocError> {
-        let inner = depth.saturating_add(1);
-        let mut then = Vec::new(self.alloc);
-        self.next_tag(inner, &mut then)?;
-        self.body(yes, inner, &mut then)?;
-        let depth = else_depth(depth, then.is_empty(), no);
-        let mut otherwise = Vec::new(self.alloc);
-        self.otherwise(no, depth, &mut otherwise)?;
-        joined(self.alloc, test, Body::new(then), otherwise)
-    }
-
-    /// Appends the figures of an ELSE, where there is one.
+    /// The figures of ELSE, none where there is no ELSE. `is_alone` says that THEN has none.
     #[cycle(build)]
     fn otherwise(
         &mut self,
         no: &[RawStmt],
         depth: u32,
-        figures: &mut Vec<Figure>,
-    ) -> Result<(), AllocError> {
-        if !self.walk.is_at(Element::Else) {
-            return Ok(());
+        is_alone: bool,
+    ) -> Result<Vec<Figure>, AllocError> {
+        if self.walk.is_at(Element::Else) {
+            self.branch(no, else_depth(depth, is_alone, no))
+        } else {
+            Ok(Vec::new(self.alloc))
         }
-        self.next_tag(depth, figures)?;
-        self.body(no, depth, figures)
+    }
+
+    /// The figures of a branch, with the comments before its start tag.
+    #[cycle(build)]
+    fn branch(&mut self, statements: &[RawStmt], depth: u32) -> Result<Vec<Figure>, AllocError> {
+        let mut figures = Vec::new(self.alloc);
+        self.next_tag(depth, &mut figures)?;
+        self.body(statements, depth, &mut figures)?;
+        Ok(figures)
     }
 
     /// Appends the comments before the next tag, and goes past it.
@@ -153,10 +145,11 @@ impl Builder<'_> {
         Ok(())
     }
 
-    /// The next statement, of a text.
-    fn written(&mut self, text: Vec<u8>, depth: u32) -> Result<Statement, AllocError> {
+    /// The next statement, of a text that stands in a symbol with so much room at its sides.
+    fn written(&mut self, text: Vec<u8>, depth: u32, sides: u32) -> Result<Statement, AllocError> {
         let site = self.site();
-        Statement::new(self.alloc, site, text, room_at(depth))
+        let room = room_at(depth).saturating_sub(sides);
+        Statement::new(self.alloc, site, text, room)
     }
 
     /// The place of the next statement.
@@ -164,11 +157,12 @@ impl Builder<'_> {
         let number = self.count;
         self.count = number.saturating_add(1);
         let is_refused = self.refused == Some(number);
-        let word = if is_refused { 8 } else { 0 };
+        let signs = if is_refused { 9 } else { 1 };
+        let name = self.method.bytes().len();
         Site {
             number,
             is_refused,
-            chars: self.method.bytes().len() + 1 + digits(number) + word,
+            chars: name.saturating_add(digits(number)).saturating_add(signs),
         }
     }
 }

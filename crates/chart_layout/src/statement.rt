@@ -5,6 +5,12 @@ use crate::px::{Px, tenths};
 use pap_tree::Name;
 use std::alloc::{AllocError, Global};
 
+/// The room beside the text in a box, in px.
+pub(crate) const BOX_SIDES: u32 = 24;
+
+/// The room beside the text in a hexagon, in px.
+pub(crate) const TEST_SIDES: u32 = 48;
+
 /// A text in lines.
 #[derive(Drop)]
 pub struct Written {
@@ -45,7 +51,7 @@ pub(crate) struct Site {
 }
 
 impl Statement {
-    /// A statement of a text, where the symbols have some room in px.
+    /// A statement of a text, of which a line may take some px.
     pub(crate) fn new(
         alloc: Global,
         site: Site,
@@ -79,12 +85,12 @@ impl Statement {
 
     /// The width of a box in which it stands alone.
     pub(crate) fn box_width(&self) -> Px {
-        (self.width + 24).symbol_width()
+        (self.width + BOX_SIDES).symbol_width()
     }
 
     /// The width of its hexagon, where it is a test.
     pub fn test_width(&self) -> Px {
-        (self.width + 48).symbol_width()
+        (self.width + TEST_SIDES).symbol_width()
     }
 
     /// The height of its hexagon.
