@@ -44,14 +44,14 @@ pub fn draw_chart(
                 file,
                 elements: &elements,
                 notes: &notes,
-                limits: limits.as_ref(),
+                limits: &limits,
                 verdict: &verdict,
-                reason: reason.as_ref(),
+                reason: &reason,
             };
-            write_page(&mut page, source)?;
+            write_page(&mut page, &source)?;
         }
         Err(ReadFault::Memory) => return Err(AllocError),
-        Err(_) => write_nothing(&mut page, file, &verdict, reason.as_ref())?,
+        Err(_) => write_nothing(&mut page, file, &verdict, &reason)?,
     }
     Ok(Chart {
         page: page.bytes,
@@ -99,14 +99,14 @@ fn reason_of(
 }
 
 /// What a page is made of.
-#[derive(Clone, Copy)]
+#[derive(Drop)]
 struct Source<'a> {
     file: &'a str,
     elements: &'a Elements,
     notes: &'a Notes,
-    limits: Option<&'a Limits>,
+    limits: &'a Option<Limits>,
     verdict: &'a Verdict,
-    reason: Option<&'a Reason>,
+    reason: &'a Option<Reason>,
 }
 
 /// Appends the page of a file that is no plan: its head alone.
@@ -114,17 +114,17 @@ fn write_nothing(
     page: &mut Page,
     file: &str,
     verdict: &Verdict,
-    reason: Option<&Reason>,
+    reason: &Option<Reason>,
 ) -> Result<(), AllocError> {
     write_head(page, file, None)?;
-    write_verdict(page, verdict, reason, Site::Nowhere)?;
+    write_verdict(page, verdict, reason, &Site::Nowhere)?;
     page.own(
         "<p class=\"sub\" id=\"methods\">There is nothing to draw: the file is not read as a flowchart.</p></header></body></html>\n",
     )
 }
 
 /// Appends the page of a plan whose elements are read.
-fn write_page(page: &mut Page, source: Source<'_>) -> Result<(), AllocError> {
+fn write_page(page: &mut Page, source: &Source<'_>) -> Result<(), AllocError> {
     let alloc = page.alloc;
     let site = match source.verdict {
         Verdict::Refused(refusal) => site_of(source.elements, refusal),
@@ -139,23 +139,21 @@ fn write_page(page: &mut Page, source: Source<'_>) -> Result<(), AllocError> {
         Some(version) => Some(version.as_str()),
         None => None,
     };
-    let chapters = read_chapters(alloc, source, site)?;
+    let chapters = read_chapters(alloc, source, &site)?;
     write_head(page, name, version)?;
     write_lead(page, notes.walk().skip_to(Element::Pap))?;
-    write_verdict(page, source.verdict, source.reason, site)?;
+    write_verdict(page, source.verdict, source.reason, &site)?;
     write_counts(page, &chapters)?;
-    write_index(page, &chapters, site)?;
-    write_declarations(
-        page,
-        Declarations {
-            elements: source.elements,
-            notes,
-            limits: source.limits,
-            verdict: source.verdict,
-            site,
-        },
-    )?;
-    write_drawings(page, source, &chapters, site)?;
+    write_index(page, &chapters, &site)?;
+    let declarations = Declarations {
+        elements: source.elements,
+        notes,
+        limits: source.limits,
+        verdict: source.verdict,
+        site: &site,
+    };
+    write_declarations(page, &declarations)?;
+    write_drawings(page, source, &chapters, &site)?;
     page.own("</section></main></div></body></html>\n")
 }
 
@@ -181,8 +179,8 @@ fn write_counts(page: &mut Page, chapters: &[Chapter<'_>]) -> Result<(), AllocEr
 /// The methods, MAIN first, with the comments before each.
 fn read_chapters<'a>(
     alloc: Global,
-    source: Source<'a>,
-    site: Site,
+    source: &Source<'a>,
+    site: &Site,
 ) -> Result<Vec<Chapter<'a>>, AllocError> {
     let mut chapters = Vec::new(alloc);
     let mut walk = source.notes.walk();
@@ -207,9 +205,9 @@ fn read_chapters<'a>(
 }
 
 /// The number of the statement of a method that a refusal names.
-fn refused_in(site: Site, name: &Name) -> Option<u32> {
+fn refused_in(site: &Site, name: &Name) -> Option<u32> {
     match site {
-        Site::Statement { method, number } if method == *name => Some(number),
+        Site::Statement { method, number } if method == name => Some(*number),
         _ => None,
     }
 }
@@ -217,9 +215,9 @@ fn refused_in(site: Site, name: &Name) -> Option<u32> {
 /// Appends the drawings of the methods.
 fn write_drawings(
     page: &mut Page,
-    source: Source<'_>,
+    source: &Source<'_>,
     chapters: &[Chapter<'_>],
-    site: Site,
+    site: &Site,
 ) -> Result<(), AllocError> {
     let alloc = page.alloc;
     let callers = Callers::new(alloc, source.elements)?;

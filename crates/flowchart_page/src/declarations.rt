@@ -12,81 +12,77 @@ use scaled_decimal::Dec;
 use std::alloc::{AllocError, Global};
 
 /// What the table is made of.
-#[derive(Clone, Copy)]
+#[derive(Drop)]
 pub(crate) struct Declarations<'a> {
     pub elements: &'a Elements,
     pub notes: &'a Notes,
     /// The range file, where it is read.
-    pub limits: Option<&'a Limits>,
+    pub limits: &'a Option<Limits>,
     pub verdict: &'a Verdict,
     /// What the refusal names.
-    pub site: Site,
-}
-
-/// Names of a kind.
-#[derive(Clone, Copy)]
-struct Group<'a> {
-    title: &'static str,
-    element: Element,
-    declared: &'a [RawDeclared],
+    pub site: &'a Site,
 }
 
 /// Appends the table: inputs, outputs, internals and constants.
 pub(crate) fn write_declarations(
     page: &mut Page,
-    declarations: Declarations<'_>,
+    declarations: &Declarations<'_>,
 ) -> Result<(), AllocError> {
     page.own(
         "<section id=\"declarations\"><h2>Declarations</h2>\n<div class=\"scroll\"><table><thead><tr><th scope=\"col\">Name<th scope=\"col\">Type<th scope=\"col\">Default or value<th scope=\"col\">Range<th scope=\"col\">Comment</tr></thead>\n",
     )?;
     let elements = declarations.elements;
-    let groups = [
-        Group {
-            title: "Inputs",
-            element: Element::Input,
-            declared: &elements.inputs,
-        },
-        Group {
-            title: "Outputs",
-            element: Element::Output,
-            declared: &elements.outputs,
-        },
-        Group {
-            title: "Internals",
-            element: Element::Internal,
-            declared: &elements.internals,
-        },
-        Group {
-            title: "Constants",
-            element: Element::Constant,
-            declared: &elements.constants,
-        },
-    ];
-    for group in groups {
-        write_group(page, declarations, group)?;
-    }
+    write_group(
+        page,
+        declarations,
+        "Inputs",
+        Element::Input,
+        &elements.inputs,
+    )?;
+    write_group(
+        page,
+        declarations,
+        "Outputs",
+        Element::Output,
+        &elements.outputs,
+    )?;
+    write_group(
+        page,
+        declarations,
+        "Internals",
+        Element::Internal,
+        &elements.internals,
+    )?;
+    write_group(
+        page,
+        declarations,
+        "Constants",
+        Element::Constant,
+        &elements.constants,
+    )?;
     page.own("</table></div></section>\n")
 }
 
 /// Appends the rows of a kind of names, under its title. A kind without names has none.
 fn write_group(
     page: &mut Page,
-    declarations: Declarations<'_>,
-    group: Group<'_>,
+    declarations: &Declarations<'_>,
+    title: &str,
+    element: Element,
+    group: &[RawDeclared],
 ) -> Result<(), AllocError> {
-    let count = group.declared.len();
+    let count = group.len();
     if count == 0 {
         return Ok(());
     }
     let alloc = page.alloc;
-    let title = group.title;
     page.own(&format!(in alloc;
         "<tbody><tr><th class=\"g\" colspan=\"5\" scope=\"rowgroup\">{title} <span>{count}</span></tr>\n"
     )?)?;
     let mut walk = declarations.notes.walk();
-    for (i, declared) in group.declared.iter().enumerate() {
-        let comments = walk.skip_to(group.element);
-        let range = range_of(alloc, declarations, group.element, i, &declared.name)?;
+    for (i, declared) in group.iter().enumerate() {
+        let comments = walk.skip_to(element);
+        let range = range_of(alloc, declarations, element, i, &declared.name)?;
         write_row(page, declarations.site, declared, &range, comments)?;
     }
     page.own("</tbody>\n")
@@ -95,7 +91,7 @@ fn write_group(
 /// The range of the name of a number among those of its kind.
 fn range_of(
     alloc: Global,
-    declarations: Declarations<'_>,
+    declarations: &Declarations<'_>,
     element: Element,
     number: usize,
     name: &Name,
@@ -113,7 +109,7 @@ fn range_of(
 /// Appends the row of a name.
 fn write_row(
     page: &mut Page,
-    site: Site,
+    site: &Site,
     declared: &RawDeclared,
     range: &str,
     comments: &[String],
@@ -121,7 +117,7 @@ fn write_row(
     let alloc = page.alloc;
     let name = declared.name;
     let kind = kind_word(declared.kind);
-    let class = if site == Site::Declared(name) {
+    let class = if *site == Site::Declared(name) {
         " class=\"bad\""
     } else {
         ""

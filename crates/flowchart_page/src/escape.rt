@@ -30,5 +30,5 @@ fn push_byte(page: &mut Vec<u8>, byte: u8) -> Result<(), AllocError>
 
 /// The law of texts in a page: none begins or ends a tag, or the value of an attribute.
 pub fn escape_laws()
-    ensures { (text : List ℕ) → All (λ byte. IsTrue (is_inert byte)) (escaped text) }
+    ensures inert { (text : List ℕ) → All (λ byte. IsTrue (is_inert byte)) (escaped text) }
 {}

@@ -50,8 +50,8 @@ pub(crate) fn write_lead(page: &mut Page, comments: &[String]) -> Result<(), All
 pub(crate) fn write_verdict(
     page: &mut Page,
     verdict: &Verdict,
-    reason: Option<&Reason>,
-    site: Site,
+    reason: &Option<Reason>,
+    site: &Site,
 ) -> Result<(), AllocError> {
     let alloc = page.alloc;
     match (verdict, reason) {
@@ -69,7 +69,7 @@ pub(crate) fn write_verdict(
 }
 
 /// Appends why the plan is refused.
-fn write_reason(page: &mut Page, reason: &Reason, site: Site) -> Result<(), AllocError> {
+fn write_reason(page: &mut Page, reason: &Reason, site: &Site) -> Result<(), AllocError> {
     page.own("<div class=\"no\"><p><b>Refused.</b> ")?;
     write_words(page, &reason.words)?;
     page.element(".</p>\n<p><code>", reason.line.as_bytes(), "</code>")?;
@@ -97,7 +97,7 @@ fn write_words(page: &mut Page, words: &str) -> Result<(), AllocError> {
 }
 
 /// Appends the link to what a refusal names.
-fn write_link(page: &mut Page, site: Site) -> Result<(), AllocError> {
+fn write_link(page: &mut Page, site: &Site) -> Result<(), AllocError> {
     let alloc = page.alloc;
     match site {
         Site::Statement { method, number } => page.own(&format!(in alloc;

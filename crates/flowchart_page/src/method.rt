@@ -23,7 +23,7 @@ const KEY: &str =
 pub(crate) fn write_index(
     page: &mut Page,
     chapters: &[Chapter<'_>],
-    site: Site,
+    site: &Site,
 ) -> Result<(), AllocError> {
     let alloc = page.alloc;
     page.own(
@@ -45,10 +45,10 @@ pub(crate) fn write_index(
 }
 
 /// Whether a refusal names a method or one of its statements.
-fn is_in(site: Site, name: &Name) -> bool {
+fn is_in(site: &Site, name: &Name) -> bool {
     match site {
-        Site::Statement { method, .. } => method == *name,
-        Site::Method(method) => method == *name,
+        Site::Statement { method, .. } => method == name,
+        Site::Method(method) => method == name,
         Site::Declared(_) | Site::Nowhere => false,
     }
 }
@@ -64,11 +64,11 @@ pub(crate) fn write_method(
     chapter: &Chapter<'_>,
     callers: &[Name],
     methods: &[Name],
-    site: Site,
+    site: &Site,
 ) -> Result<(), AllocError> {
     let alloc = page.alloc;
     let name = chapter.text.name;
-    let is_refused = site == Site::Method(name);
+    let is_refused = *site == Site::Method(name);
     let class = if is_refused { "m bad" } else { "m" };
     page.own(&format!(in alloc;
         "<section class=\"{class}\" id=\"method-{name}\" aria-labelledby=\"h-{name}\"><h3 id=\"h-{name}\">{name}</h3>\n"

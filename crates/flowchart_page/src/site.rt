@@ -20,14 +20,19 @@ pub(crate) enum Site {
 /// What a refusal names, where the page has it.
 pub(crate) fn site_of(elements: &Elements, refusal: &PlanRefusal) -> Site {
     match named_by(refusal) {
-        Site::Declared(name) if !is_declared(elements, &name) => {
-            if has_method(elements, &name) {
-                Site::Method(name)
-            } else {
-                Site::Nowhere
-            }
-        }
+        Site::Declared(name) => named_site(elements, &name),
         site => site,
+    }
+}
+
+/// Where a name stands: among the declared names, or else as a method's.
+fn named_site(elements: &Elements, name: &Name) -> Site {
+    if is_declared(elements, name) {
+        Site::Declared(*name)
+    } else if has_method(elements, name) {
+        Site::Method(*name)
+    } else {
+        Site::Nowhere
     }
 }
 
