@@ -1,0 +1,97 @@
+//! An IF, with those that stand alone in its ELSE.
+use crate::figure::{Body, End};
+use crate::note::Note;
+use crate::px::Px;
+use crate::statement::Statement;
+
+/// One step to the right.
+pub(crate) const STEP: u32 = 44;
+
+/// A test with its THEN. An ELSE with one IF and nothing else makes that test the next arm.
+#[cycle(figure)]
+#[derive(Drop)]
+pub struct Arm {
+    /// The comments above the test of a later arm.
+    pub note: Option<Note>,
+    pub test: Statement,
+    pub then: Body,
+}
+
+/// The tests of an IF and its last ELSE, which may be empty.
+#[cycle(figure)]
+#[derive(Drop)]
+pub struct Choice {
+    /// From the last to the first; there is at least one.
+    pub arms: Vec<Arm>,
+    pub otherwise: Body,
+}
+
+/// How the branches of an IF come together.
+#[derive(Clone, Copy, Debug, PartialEq, Eq)]
+pub(crate) enum Shape {
+    /// THEN alone: to the right and back.
+    Then,
+    /// ELSE alone: to the right and back, with the words exchanged.
+    Else,
+    /// Nothing on either way.
+    Nothing,
+    /// By a rail at the right.
+    Rail,
+}
+
+impl Choice {
+    pub(crate) fn shape(&self) -> Shape {
+        match self.arms.as_slice() {
+            [arm] => match (arm.then.is_empty(), self.otherwise.is_empty()) {
+                (false, true) => Shape::Then,
+                (true, false) => Shape::Else,
+                (true, true) => Shape::Nothing,
+                (false, false) => Shape::Rail,
+            },
+            _ => Shape::Rail,
+        }
+    }
+
+    /// Whether the last arm's branch is all that its end has: there is no ELSE.
+    pub(crate) fn ends_in_branch(&self) -> bool {
+        match self.arms.first() {
+            Some(last) => self.otherwise.is_empty() && !last.then.is_empty(),
+            None => false,
+        }
+    }
+
+    /// The room inside its rail, or all where it has none.
+    pub(crate) fn inner(&self) -> Px {
+        let shape = self.shape();
+        let end = if shape == Shape::Rail {
+            End::Rail
+        } else {
+            End::Spine
+        };
+        let indent = if shape == Shape::Else { STEP } else { 0 };
+        let mut width = self.otherwise.width(end) + indent;
+        for arm in &self.arms {
+            width = width.or(arm.width(end));
+        }
+        width
+    }
+
+    /// How much room it takes, where it stands at the end of a body with that end: 20 px for a rail of its own.
+    pub(crate) fn width(&self, end: End) -> Px {
+        match (self.shape(), end) {
+            (Shape::Rail, End::Spine) => self.inner() + 20,
+            _ => self.inner(),
+        }
+    }
+}
+
+impl Arm {
+    fn width(&self, end: End) -> Px {
+        let note = match &self.note {
+            Some(note) => note.width(),
+            None => Px(0),
+        };
+        let then = self.then.width(end) + STEP;
+        self.test.test_width().or(note).or(then)
+    }
+}

@@ -1,0 +1,99 @@
+//! A method's drawing: symbols and words in reading order, lines, arrowheads.
+use crate::note::Note;
+use crate::px::Px;
+use crate::statement::{Call, Statement};
+
+/// The drawing of a method, in parts for print: each begins at its top and ends where the next begins, or at the height.
+#[derive(Drop)]
+pub struct Drawing<'a> {
+    pub width: Px,
+    pub height: Px,
+    pub parts: Vec<Part<'a>>,
+}
+
+/// A part of a drawing.
+#[derive(Drop)]
+pub struct Part<'a> {
+    pub top: Px,
+    /// The symbols and words, in the order in which they are read.
+    pub rows: Vec<Row<'a>>,
+    pub verticals: Vec<Stroke>,
+    pub horizontals: Vec<Stroke>,
+    pub heads: Vec<Head>,
+}
+
+/// A line from one place to another of the same height, or of the same distance from the left.
+#[derive(Clone, Copy, Debug)]
+pub struct Stroke {
+    pub x: Px,
+    pub y: Px,
+    /// Where it ends: its `y` if it is vertical, else its `x`.
+    pub end: Px,
+}
+
+/// An arrowhead, by its point.
+#[derive(Clone, Copy, Debug)]
+pub struct Head {
+    pub x: Px,
+    pub y: Px,
+    /// It points to the left, at a join; else down, at an entry.
+    pub is_left: bool,
+}
+
+/// A symbol or a word. `x` is the left edge, of a comment and a word the place of the text.
+#[derive(Clone, Copy)]
+pub enum Row<'a> {
+    Start {
+        x: Px,
+        y: Px,
+        width: Px,
+    },
+    End {
+        x: Px,
+        y: Px,
+        width: Px,
+    },
+    Box {
+        x: Px,
+        y: Px,
+        width: Px,
+        height: Px,
+        row: &'a [Statement],
+    },
+    Test {
+        x: Px,
+        y: Px,
+        test: &'a Statement,
+    },
+    Call {
+        x: Px,
+        y: Px,
+        call: &'a Call,
+    },
+    Note {
+        x: Px,
+        y: Px,
+        note: &'a Note,
+    },
+    Word {
+        x: Px,
+        y: Px,
+        word: Word,
+        anchor: Anchor,
+    },
+}
+
+/// Which way of a test a line is.
+#[derive(Clone, Copy, Debug, PartialEq, Eq)]
+pub enum Word {
+    Yes,
+    No,
+    YesOrNo,
+}
+
+/// Whether a word begins or ends at its place.
+#[derive(Clone, Copy, Debug, PartialEq, Eq)]
+pub enum Anchor {
+    Begins,
+    Ends,
+}

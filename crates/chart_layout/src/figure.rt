@@ -1,0 +1,96 @@
+//! What a body is drawn as.
+use crate::choice::Choice;
+use crate::note::Note;
+use crate::px::Px;
+use crate::statement::{Call, Statement};
+
+/// A symbol, or a comment beside the spine.
+#[cycle(figure)]
+#[derive(Drop)]
+pub enum Figure {
+    Note(Note),
+    /// EVALs in a row, in one box.
+    Box(Vec<Statement>),
+    Call(Call),
+    Choice(Choice),
+}
+
+/// The statements of a method, a THEN or an ELSE, from the top to the bottom.
+#[cycle(figure)]
+#[derive(Drop)]
+pub struct Body {
+    pub figures: Vec<Figure>,
+    /// Its width where it ends on its own spine.
+    alone: Px,
+    /// Its width where its end leads to a rail, which an IF at its end takes.
+    shared: Px,
+}
+
+/// Whose line a body's end joins.
+#[derive(Clone, Copy, Debug, PartialEq, Eq)]
+pub(crate) enum End {
+    /// That of its own spine.
+    Spine,
+    /// The rail at the right.
+    Rail,
+}
+
+impl Body {
+    pub(crate) fn new(figures: Vec<Figure>) -> Body {
+        let mut front = Px(0);
+        let mut alone = Px(0);
+        let mut shared = Px(0);
+        for figure in &figures {
+            front = alone;
+            alone = front.or(figure.width(End::Spine));
+            shared = front.or(figure.width(End::Rail));
+        }
+        Body {
+            figures,
+            alone,
+            shared,
+        }
+    }
+
+    pub fn is_empty(&self) -> bool {
+        self.figures.is_empty()
+    }
+
+    /// How much room it takes.
+    pub(crate) fn width(&self, end: End) -> Px {
+        match end {
+            End::Spine => self.alone,
+            End::Rail => self.shared,
+        }
+    }
+}
+
+impl Figure {
+    /// How much room it takes, where it stands at the end of a body with that end.
+    fn width(&self, end: End) -> Px {
+        match self {
+            Figure::Note(note) => note.width(),
+            Figure::Box(row) => row_width(row),
+            Figure::Call(call) => call.width(),
+            Figure::Choice(choice) => choice.width(end),
+        }
+    }
+}
+
+/// The width of the box of some statements.
+pub(crate) fn row_width(row: &[Statement]) -> Px {
+    let mut width = Px(200);
+    for statement in row {
+        width = width.or(statement.box_width());
+    }
+    width
+}
+
+/// The height of the box of some statements: 4 px between two of them, 8 above and below.
+pub(crate) fn row_height(row: &[Statement]) -> Px {
+    let mut height = Px(12);
+    for statement in row {
+        height = height + statement.height() + 4;
+    }
+    height
+}

@@ -1,0 +1,28 @@
+//! The drawing of a method as a flowchart, in numbers: its symbols, lines and words with their places.
+//!
+//! Everything stands below everything else: at each height there is one symbol, and beside it only vertical lines. The line
+//! of a body (its spine) runs at its left. After a test `no` goes straight down the spine, `yes` one step to the right and
+//! back. So an ELSE takes no width, and a chain of ELSEs with one IF each goes down the page.
+#![tactic(auto)]
+
+mod build;
+mod choice;
+mod drawing;
+mod figure;
+mod lines;
+mod note;
+mod pen;
+mod pieces;
+mod px;
+mod statement;
+
+pub use build::{MethodText, read_method};
+pub use choice::Choice;
+pub use drawing::{Anchor, Drawing, Head, Part, Row, Stroke, Word};
+pub use figure::{Body, Figure};
+pub use lines::Line;
+pub use note::Note;
+pub use pen::draw;
+pub use pieces::Piece;
+pub use px::Px;
+pub use statement::{Call, Statement, Written};

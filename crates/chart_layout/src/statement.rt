@@ -1,0 +1,142 @@
+//! Statements with their texts in lines.
+use crate::lines::{Line, Room, break_lines};
+use crate::pieces::{Piece, read_pieces};
+use crate::px::{Px, tenths};
+use pap_tree::Name;
+use std::alloc::{AllocError, Global};
+
+/// The room beside the text in a box, in px.
+pub(crate) const BOX_SIDES: u32 = 24;
+
+/// The room beside the text in a hexagon, in px.
+pub(crate) const TEST_SIDES: u32 = 48;
+
+/// A text in lines.
+#[derive(Drop)]
+pub struct Written {
+    pub text: Vec<u8>,
+    pub pieces: Vec<Piece>,
+    pub lines: Vec<Line>,
+}
+
+/// An EVAL or the test of an IF.
+#[derive(Drop)]
+pub struct Statement {
+    /// Its number in its method.
+    pub number: u32,
+    /// It is the one for which the plan is refused.
+    pub is_refused: bool,
+    pub written: Written,
+    /// The width of its text with its place.
+    width: Px,
+}
+
+/// An EXECUTE.
+#[derive(Clone, Copy)]
+pub struct Call {
+    pub number: u32,
+    pub is_refused: bool,
+    /// The method that is executed.
+    pub method: Name,
+    width: Px,
+}
+
+/// A statement's number with what its place is written with.
+#[derive(Clone, Copy)]
+pub(crate) struct Site {
+    pub number: u32,
+    pub is_refused: bool,
+    /// How many characters its place has, as `refused TARIFF:2`.
+    pub chars: usize,
+}
+
+impl Statement {
+    /// A statement of a text, of which a line may take some px.
+    pub(crate) fn new(
+        alloc: Global,
+        site: Site,
+        text: Vec<u8>,
+        room: u32,
+    ) -> Result<Statement, AllocError> {
+        let beside = beside_place(site.chars);
+        let room = Room {
+            first: chars_in(room.saturating_mul(10).saturating_sub(beside)),
+            other: chars_in(room.saturating_mul(10)),
+        };
+        let pieces = read_pieces(alloc, &text)?;
+        let lines = break_lines(alloc, &pieces, room)?;
+        let width = text_width(&lines, beside);
+        Ok(Statement {
+            number: site.number,
+            is_refused: site.is_refused,
+            written: Written {
+                text,
+                pieces,
+                lines,
+            },
+            width,
+        })
+    }
+
+    /// The height of its lines: 18 px each, of an empty text one.
+    pub fn height(&self) -> Px {
+        Px(tenths(self.written.lines.len().max(1), 18))
+    }
+
+    /// The width of a box in which it stands alone.
+    pub(crate) fn box_width(&self) -> Px {
+        (self.width + BOX_SIDES).symbol_width()
+    }
+
+    /// The width of its hexagon, where it is a test.
+    pub fn test_width(&self) -> Px {
+        (self.width + TEST_SIDES).symbol_width()
+    }
+
+    /// The height of its hexagon.
+    pub fn test_height(&self) -> Px {
+        self.height() + 16
+    }
+}
+
+impl Call {
+    pub(crate) fn new(site: Site, method: Name) -> Call {
+        let name = tenths(method.bytes().len(), 73);
+        let place = tenths(site.chars, 59);
+        Call {
+            number: site.number,
+            is_refused: site.is_refused,
+            method,
+            width: (Px::of_tenths(name.saturating_add(place)) + 54).symbol_width(),
+        }
+    }
+
+    pub fn width(&self) -> Px {
+        self.width
+    }
+}
+
+/// How many tenths of a px a place of some characters takes in a statement's first line.
+fn beside_place(chars: usize) -> u32 {
+    tenths(chars, 59).saturating_add(140)
+}
+
+/// How many characters have room in tenths of a px.
+fn chars_in(room: u32) -> usize {
+    (room / 73) as usize
+}
+
+/// The width of lines, the first of which has a place beside it.
+fn text_width(lines: &[Line], beside: u32) -> Px {
+    let mut widest = 0;
+    for (i, line) in lines.iter().enumerate() {
+        let width = tenths(line.chars, 73).saturating_add(tenths(line.indent, 70));
+        let width = if i == 0 {
+            width.saturating_add(beside)
+        } else {
+            width
+        };
+        widest = width.max(widest);
+    }
+    Px::of_tenths(widest)
+}
