@@ -11,7 +11,7 @@ use limits_file::{Limits, read_limits};
 use pap_plan::PlanRefusal;
 use pap_reader::{Elements, ReadFault, read_elements};
 use pap_tree::Name;
-use plain_words::plan_words;
+use plain_words::{TextFile, plan_words};
 use plan_answers::refused;
 use plan_notes::{Element, Notes, read_notes};
 use std::alloc::{AllocError, Global};
@@ -25,23 +25,26 @@ pub struct Chart {
 }
 
 /// The page of a plan's bytes: with a range file whether the plan is accepted with it, without one what can be said before.
-/// `file` is the name of the plan's file, which stands for the plan's own name where that has none. Takes time linear in the
-/// plan beside what judging it takes, and fails only for want of memory.
+/// The name of the plan's file stands for the plan's own name where that has none. Takes time linear in the plan beside what
+/// judging it takes, and fails only for want of memory.
 pub fn draw_chart(
     alloc: Global,
-    file: &str,
-    plan: &[u8],
-    limits: Option<&[u8]>,
+    plan: TextFile<'_>,
+    limits: Option<TextFile<'_>>,
 ) -> Result<Chart, AllocError> {
-    let verdict = judge(alloc, plan, limits);
+    let ranges = match limits {
+        Some(file) => Some(file.bytes),
+        None => None,
+    };
+    let verdict = judge(alloc, plan.bytes, ranges);
     let reason = reason_of(alloc, plan, limits, &verdict)?;
     let mut page = Page::new(alloc);
-    match read_elements(alloc, plan) {
+    match read_elements(alloc, plan.bytes) {
         Ok(elements) => {
-            let notes = read_notes(alloc, plan)?;
-            let limits = limits_of(alloc, limits)?;
+            let notes = read_notes(alloc, plan.bytes)?;
+            let limits = limits_of(alloc, ranges)?;
             let source = Source {
-                file,
+                file: plan.name,
                 elements: &elements,
                 notes: &notes,
                 limits: &limits,
@@ -51,7 +54,7 @@ pub fn draw_chart(
             write_page(&mut page, &source)?;
         }
         Err(ReadFault::Memory) => return Err(AllocError),
-        Err(_) => write_nothing(&mut page, file, &verdict, &reason)?,
+        Err(_) => write_nothing(&mut page, plan.name, &verdict, &reason)?,
     }
     Ok(Chart {
         page: page.bytes,
@@ -82,16 +85,20 @@ fn limits_of(alloc: Global, limits: Option<&[u8]>) -> Result<Option<Limits>, All
 /// Why a plan is refused, where it is.
 fn reason_of(
     alloc: Global,
-    plan: &[u8],
-    limits: Option<&[u8]>,
+    plan: TextFile<'_>,
+    limits: Option<TextFile<'_>>,
     verdict: &Verdict,
 ) -> Result<Option<Reason>, AllocError> {
     match verdict {
         Verdict::Refused(PlanRefusal::Memory) => Err(AllocError),
         Verdict::Refused(refusal) => {
-            let reply = refused(alloc, plan, refusal)?;
+            let reply = refused(alloc, plan.bytes, refusal)?;
             let line = plan_notes::one_line(alloc, &reply.text)?;
-            let words = plan_words(alloc, plan, limits.unwrap_or(&[]), refusal)?;
+            let ranges = limits.unwrap_or(TextFile {
+                name: "",
+                bytes: &[],
+            });
+            let words = plan_words(alloc, plan, ranges, refusal)?;
             Ok(Some(Reason { line, words }))
         }
         Verdict::Accepted(_) | Verdict::InOrder => Ok(None),

@@ -5,7 +5,7 @@ use flowchart_page::draw_chart;
 use outside::{FileAnswer, Files};
 use pap_plan::PlanRefusal;
 use pap_reader::{ReadFault, read_elements};
-use plain_words::plan_words;
+use plain_words::{TextFile, plan_words};
 use plan_answers::refused;
 use plan_notes::read_notes;
 use range_draft::draft_ranges;
@@ -48,13 +48,21 @@ fn answer_chart<F: Files>(
     limits: Option<&str>,
     files: &mut F,
 ) -> Result<Answer, FileAnswer> {
-    let plan = files.read_front(alloc, name, LONGEST_PLAN)?;
+    let bytes = files.read_front(alloc, name, LONGEST_PLAN)?;
+    let plan = TextFile {
+        name,
+        bytes: &bytes,
+    };
     let chart = match limits {
-        Some(limits) => {
-            let limits = files.read_front(alloc, limits, LONGEST_LIMITS)?;
-            draw_chart(alloc, name, &plan, Some(&limits))?
+        Some(name) => {
+            let bytes = files.read_front(alloc, name, LONGEST_LIMITS)?;
+            let limits = TextFile {
+                name,
+                bytes: &bytes,
+            };
+            draw_chart(alloc, plan, Some(limits))?
         }
-        None => draw_chart(alloc, name, &plan, None)?,
+        None => draw_chart(alloc, plan, None)?,
     };
     Ok(Answer {
         text: chart.page,
@@ -65,14 +73,20 @@ fn answer_chart<F: Files>(
 /// A range file to begin with.
 fn answer_ranges<F: Files>(alloc: Global, name: &str, files: &mut F) -> Result<Answer, FileAnswer> {
     let plan = files.read_front(alloc, name, LONGEST_PLAN)?;
-    Ok(ranges_of(alloc, &plan)?)
+    Ok(ranges_of(
+        alloc,
+        TextFile {
+            name,
+            bytes: &plan,
+        },
+    )?)
 }
 
 /// A range file for a plan's bytes, or the line of its refusal where it isn't read.
-fn ranges_of(alloc: Global, plan: &[u8]) -> Result<Answer, AllocError> {
-    match read_elements(alloc, plan) {
+fn ranges_of(alloc: Global, plan: TextFile<'_>) -> Result<Answer, AllocError> {
+    match read_elements(alloc, plan.bytes) {
         Ok(elements) => {
-            let notes = read_notes(alloc, plan)?;
+            let notes = read_notes(alloc, plan.bytes)?;
             let draft = draft_ranges(alloc, &elements, &notes)?;
             Ok(Answer {
                 text: draft.into_bytes(),
@@ -82,8 +96,12 @@ fn ranges_of(alloc: Global, plan: &[u8]) -> Result<Answer, AllocError> {
         Err(ReadFault::Memory) => Err(AllocError),
         Err(fault) => {
             let refusal = PlanRefusal::Read(fault);
-            let reply = refused(alloc, plan, &refusal)?;
-            let reason = plan_words(alloc, plan, &[], &refusal)?;
+            let reply = refused(alloc, plan.bytes, &refusal)?;
+            let ranges = TextFile {
+                name: "",
+                bytes: &[],
+            };
+            let reason = plan_words(alloc, plan, ranges, &refusal)?;
             Ok(Answer {
                 text: reply.text,
                 reason: Some(reason),

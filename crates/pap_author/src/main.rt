@@ -70,7 +70,7 @@ fn write_answer(rt: &HostRuntime, answer: Answer) -> Status {
     }
     match &answer.reason {
         Some(reason) => {
-            let _ = eprintln!(rt; "pap_author: {reason}");
+            let _ = eprintln!(rt; "{reason}");
             Status::Refused
         }
         None => Status::Done,
