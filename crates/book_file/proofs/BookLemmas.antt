@@ -1,20 +1,16 @@
 -- A book and what is saved of it: each is that of the other.
-use Rattle.std.proofs.Common.{◌≡◌, ◌+◌, ◌≤◌, ℕ, List, [], ◌∷◌, ◌++◌, length, map, sum_by, refl, sym, ap, subst, ◌∙◌, arith}
-use Rattle.std.specs.List.{AllByRecursion}
+use Rattle.std.proofs.Common.{◌≡◌, ◌+◌, ◌≤◌, ℕ, List, [], ◌∷◌, length, map, refl, sym, ap, subst, ◌∙◌}
 use Rattle.std.proofs.lemmas.List.{length-append, length-map}
 use Rattle.std.proofs.lemmas.List.Sums.{sum_by-cons}
 use Rattle.rising_lists.specs.Keyed.{IsRising}
-use Rattle.payroll_records.specs.declared.record.Record.{Record}
-use Rattle.payroll_records.specs.Orders.{day_cmp, key_cmp}
-use Rattle.payroll_records.specs.Tables.{key_of}
-use Rattle.plan_calendar.specs.Picking.{AreEntries, Entry, day_of}
+use Rattle.payroll_records.specs.Orders.{day_cmp}
+use Rattle.plan_calendar.specs.Picking.{AreEntries, Entry}
 use Rattle.saved_items.specs.SavedBooks.{IsSaved, IsText, Saved}
 use Rattle.saved_items.specs.SavedBooks as saved
 use Rattle.book_year.specs.Accepted.{Accepted}
-use Rattle.book_year.specs.declared.outcome.Work.{Work}
-use Rattle.book_edits.specs.Books.{AreInOrder, YearRuns, loaded, run_count}
+use Rattle.book_edits.specs.Books.{YearRuns, loaded, run_count}
 use Rattle.book_edits.proofs.Laws.{rising_map}
-use Rattle.recalc_engine.specs.BookLaws.{ArePlans, IsBook, runs_listed}
+use Rattle.recalc_engine.specs.BookLaws.{IsBook}
 use Rattle.recalc_engine.specs.Contents.{Contents, book_of}
 use Rattle.recalc_engine.proofs.Laws.{parts_make}
 use Rattle.book_file.specs.BookTexts.{IsTextOf, saved_of, saved_entry}

@@ -17,7 +17,6 @@ use Rattle.saved_items.specs.SavedBooks as saved
 use Rattle.saved_items.specs.Texts.{Stop, StopsAt}
 use Rattle.saved_items.specs.Views.{plan_in}
 use Rattle.saved_items.specs.declared.items.PlanItem.{PlanItem}
-use Rattle.saved_items.proofs.Laws.{text_once}
 use Rattle.pap_plan.specs.Acceptance.{IsAccepted}
 use Rattle.pap_plan.specs.Plans.{Seen, meaning}
 use Rattle.std.specs.declared.alloc.AllocError.{AllocError}
@@ -26,7 +25,7 @@ use Rattle.book_year.specs.Jobs.{Counts}
 use Rattle.book_edits.proofs.Laws.{map_put}
 use Rattle.recalc_engine.specs.BookLaws.{ArePlans, IsPlan}
 use Rattle.recalc_engine.specs.Contents.{Contents, whole_cost}
-use Rattle.recalc_engine.proofs.Laws.{front_below, parts_make, put_end}
+use Rattle.recalc_engine.proofs.Laws.{front_below, put_end}
 use Rattle.book_file.specs.BookSays.{BookSays, BreaksAt, IsAcceptable}
 use Rattle.book_file.specs.BookTexts.{IsTextOf, saved_entry}
 use Rattle.book_file.specs.Clauses.{CountsRead, IsUnread, said_cost}

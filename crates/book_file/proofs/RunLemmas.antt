@@ -1,5 +1,5 @@
 -- Runs whose keys rise, put one after another into a book, are its runs in this order.
-use Rattle.std.proofs.Common.{◌≡◌, ◌⊎◌, inl, inr, ◌<◌, ◌+◌, List, [], ◌∷◌, ◌++◌, length, refl, sym, ap, subst, ◌∙◌, arith}
+use Rattle.std.proofs.Common.{◌≡◌, ◌⊎◌, inl, inr, ◌<◌, List, [], ◌∷◌, ◌++◌, length, refl, sym, ap, subst, ◌∙◌, arith}
 use Rattle.std.specs.List.{AllByRecursion, flat_map}
 use Rattle.std.specs.declared.cmp.Ordering.{Ordering}
 use Rattle.std.specs.declared.cmp.Ordering.TheVariants.{Less, Equal, Greater}
@@ -15,7 +15,7 @@ use Rattle.payroll_records.proofs.Laws.{day_total}
 use Rattle.book_year.specs.declared.year.YearKey.{YearKey}
 use Rattle.book_year.specs.Records.{record_day}
 use Rattle.book_year.specs.Years.{IsOwn}
-use Rattle.book_edits.specs.Books.{AreInOrder, YearRuns, loaded, run_count, runs_key, year_cmp, year_of}
+use Rattle.book_edits.specs.Books.{YearRuns, loaded, runs_key, year_cmp, year_of}
 use Rattle.book_edits.proofs.Laws.{year_same, year_total}
 use Rattle.recalc_engine.specs.BookLaws.{HasOwnRuns}
 use Rattle.recalc_engine.proofs.Laws.{years_listed}

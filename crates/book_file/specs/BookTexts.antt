@@ -1,5 +1,5 @@
 -- The text as which a book is saved.
-use Rattle.std.specs.Prelude.{◌≡◌, ◌≤◌, ℕ, List, length, map}
+use Rattle.std.specs.Prelude.{◌≤◌, ℕ, List, length, map}
 use Rattle.plan_calendar.specs.Picking.{Entry, day_of, plan_of}
 use Rattle.saved_items.specs.SavedBooks.{IsText, Saved, SavedPlan, saved_text}
 use Rattle.book_year.specs.Accepted.{Accepted}
