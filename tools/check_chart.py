@@ -4,7 +4,7 @@
 Of each drawing: no line meets a symbol but where it enters or leaves it, no horizontal line crosses a vertical one, no two
 vertical lines lie over one another, no two symbols share a height, all is inside the drawing, and no cut goes through a
 symbol, a word or a comment. Of each page: each statement is there once, each link leads to a place of the page, each id stands
-once, and the drawings are well-formed XML. Of each range file that is begun: papcalc, where it is given by PAPCALC, reads it."""
+once, and the drawings are well-formed XML. Of a range file that is begun for a plan of random inputs: the plan is accepted with it."""
 import os
 import random
 import re
@@ -203,13 +203,32 @@ def check_page(plan, page):
     return faults
 
 
-def check_ranges(papcalc, folder, plan, ranges):
-    with open(os.path.join(folder, "draft.toml"), "wb") as file:
-        file.write(ranges)
-    done = subprocess.run([papcalc, "check", plan, os.path.join(folder, "draft.toml")], capture_output=True)
-    answer = done.stdout.split()
-    if answer[:2] == [b"refused", b"limits"] or answer[2:3] in ([b"LimitName"], [b"LimitKind"], [b"Bind"]):
-        return ["the range file is refused: %s" % done.stdout]
+def plan_of_inputs(rng):
+    """A plan with up to 256 random inputs and long comments, whose only statement is safe whatever the inputs are."""
+    lines = ["<PAP><VARIABLES><INPUTS>"]
+    for number in range(rng.choice([0, 1, 5, 256])):
+        for _ in range(rng.randrange(3)):
+            words = [rng.choice(["x", "\U0001f4b6" * 90, "\u00fc\u00e4", "\t\r\n\x7f\x01", "#", '"""', "=", "a" * 300])
+                     for _ in range(rng.randrange(60))]
+            lines.append("<!-- %s -->" % " ".join(words))
+        kind = rng.choice(["int", "long", "BigDecimal", "double"])
+        lines.append('<INPUT name="%s%d" type="%s"/>' % (some_name(rng, 20), number, kind))
+    lines.append('</INPUTS><OUTPUTS><OUTPUT name="out" type="BigDecimal"/></OUTPUTS></VARIABLES>')
+    lines.append('<METHODS><MAIN><EVAL exec="out = BigDecimal.ZERO"/></MAIN></METHODS></PAP>')
+    return "\n".join(lines).encode("utf-8")
+
+
+def check_ranges(binary, folder, plan):
+    """Faults of the range file that is begun for a plan."""
+    path, draft = os.path.join(folder, "inputs.xml"), os.path.join(folder, "draft.toml")
+    with open(path, "wb") as file:
+        file.write(plan)
+    ranges = subprocess.run([binary, "ranges", path], capture_output=True)
+    with open(draft, "wb") as file:
+        file.write(ranges.stdout)
+    done = subprocess.run([binary, "chart", path, draft], capture_output=True)
+    if ranges.returncode != 0 or done.returncode != 0:
+        return ["the range file is refused: %s %s" % (ranges.stderr, done.stderr)]
     return []
 
 
@@ -217,7 +236,6 @@ def main():
     binary = sys.argv[1]
     count = int(sys.argv[2]) if len(sys.argv) > 2 else 200
     rng = random.Random(int(sys.argv[3]) if len(sys.argv) > 3 else 1)
-    papcalc = os.environ.get("PAPCALC")
     failed, parts = 0, 0
     with tempfile.TemporaryDirectory() as folder:
         path = os.path.join(folder, "plan.xml")
@@ -229,11 +247,7 @@ def main():
             faults = [] if done.returncode in (0, 1) else ["status %d %s" % (done.returncode, done.stderr)]
             faults += check_page(plan, done.stdout)
             parts += done.stdout.count(b", part ")
-            ranges = subprocess.run([binary, "ranges", path], capture_output=True)
-            if ranges.returncode != 0:
-                faults.append("ranges: status %d" % ranges.returncode)
-            if papcalc:
-                faults += check_ranges(papcalc, folder, path, ranges.stdout)
+            faults += check_ranges(binary, folder, plan_of_inputs(rng))
             if faults:
                 failed += 1
                 print("case %d: %s" % (case, "; ".join(faults[:3])))
