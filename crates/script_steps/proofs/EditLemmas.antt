@@ -19,7 +19,8 @@ use Rattle.script_steps.specs.LineSteps.{IsEditStep}
 use Rattle.script_steps.specs.StepViews.{IsMade, IsLost, IsEditReply}
 
 -- a refusal that isn't want of memory
-refused_step : (text : List ℕ) (from : Standing) (e : Edit) (why : EditRefusal) (answer : Answer) → EditAnswers from.book e (Err why) → answer ≡ refusal (edit_detail why) → IsEditStep text from e from answer
+refused_step : (text : List ℕ) (from : Standing) (e : Edit) (why : EditRefusal) (answer : Answer)
+    → EditAnswers from.book e (Err why) → answer ≡ refusal (edit_detail why) → IsEditStep text from e from answer
 refused_step text from e why answer h is = record { verdict = Err why; says = h; is = (refl, is) }
 
 module _ (text : List ℕ) (from : Standing) (e : Edit) (book : Contents) (before now : ℕ) where
@@ -27,36 +28,45 @@ module _ (text : List ℕ) (from : Standing) (e : Edit) (book : Contents) (befor
   after = record { book = book; filings = from.filings }
 
   -- the work's steps are the cost
-  steps_are : (work : Work) → IsEdited from.book e book (Ok work) → cost_between from.book (edited e from.book) ≡ work.steps
+  steps_are : (work : Work) → IsEdited from.book e book (Ok work)
+      → cost_between from.book (edited e from.book) ≡ work.steps
   steps_are work h = sym (ap (λ (w : Work). w.steps) h.1 ∙ ap (λ (b : Contents). b.last.steps) h.0.1)
 
-  made_step : (work : Work) → IsEdited from.book e book (Ok work) → IsEditStep text from e after (accepted text work.steps)
+  made_step : (work : Work) → IsEdited from.book e book (Ok work)
+      → IsEditStep text from e after (accepted text work.steps)
   made_step work h = record { verdict = Ok book; says = h.0; is = (refl, ap (λ (w : Work). accepted text w.steps) h.1) }
 
   same_book : book ≡ from.book → from ≡ after
   same_book e i = record { book = sym e i; filings = from.filings }
 
-  refused_made : (why : EditRefusal) (answer : Answer) → EditAnswers from.book e (Err why) → book ≡ from.book → now ≡ before → answer ≡ refusal (edit_detail why) → IsMade (IsEditStep text from e) after before now answer
+  refused_made : (why : EditRefusal) (answer : Answer) → EditAnswers from.book e (Err why) → book ≡ from.book
+      → now ≡ before → answer ≡ refusal (edit_detail why) → IsMade (IsEditStep text from e) after before now answer
   refused_made why answer h same still is = record {
     is = subst (λ s. IsEditStep text from e s answer) (same_book same) (refused_step text from e why answer h is);
     counted = let none : answer.steps ≡ 0 = ap (λ (a : Answer). a.steps) is in omega (arith, none, still);
   }
 
   -- the reply to an edit is its step's answer
-  reply_made : (made : Result Work EditRefusal) (answer : Answer) → IsEdited from.book e book made → CountsEdit made before now (cost_between from.book (edited e from.book)) → IsEditReply text made answer → IsMade (IsEditStep text from e) after before now answer
+  reply_made : (made : Result Work EditRefusal) (answer : Answer) → IsEdited from.book e book made
+      → CountsEdit made before now (cost_between from.book (edited e from.book)) → IsEditReply text made answer
+      → IsMade (IsEditStep text from e) after before now answer
   reply_made (Ok work) answer h counts is = record {
     is = subst (λ a. IsEditStep text from e after a) (sym is) (made_step work h);
     counted = counts ∙ ap (λ n. before + n) (steps_are work h ∙ sym (ap (λ (a : Answer). a.steps) is));
   }
   reply_made (Err (refusals.Memory x)) answer h counts is = absurd is
   reply_made (Err (refusals.Present k)) answer h counts is = refused_made (refusals.Present k) answer h.0 h.1 counts is
-  reply_made (Err (refusals.Absent f w)) answer h counts is = refused_made (refusals.Absent f w) answer h.0 h.1 counts is
-  reply_made (Err (refusals.Several f m)) answer h counts is = refused_made (refusals.Several f m) answer h.0 h.1 counts is
+  reply_made (Err (refusals.Absent f w)) answer h counts is =
+      refused_made (refusals.Absent f w) answer h.0 h.1 counts is
+  reply_made (Err (refusals.Several f m)) answer h counts is =
+      refused_made (refusals.Several f m) answer h.0 h.1 counts is
   reply_made (Err refusals.Records) answer h counts is = refused_made refusals.Records answer h.0 h.1 counts is
   reply_made (Err refusals.Plans) answer h counts is = refused_made refusals.Plans answer h.0 h.1 counts is
-  reply_made (Err (refusals.NoPlanThere d)) answer h counts is = refused_made (refusals.NoPlanThere d) answer h.0 h.1 counts is
+  reply_made (Err (refusals.NoPlanThere d)) answer h counts is =
+      refused_made (refusals.NoPlanThere d) answer h.0 h.1 counts is
 
-  refused_lost : (why : EditRefusal) → EditAnswers from.book e (Err why) → now ≡ before → IsLost (IsEditStep text from e) before now
+  refused_lost : (why : EditRefusal) → EditAnswers from.book e (Err why) → now ≡ before
+      → IsLost (IsEditStep text from e) before now
   refused_lost why h still = record {
     to = from;
     answer = refusal (edit_detail why);
@@ -66,10 +76,19 @@ module _ (text : List ℕ) (from : Standing) (e : Edit) (book : Contents) (befor
   }
 
   -- where memory ran out at the edit or after it
-  made_lost : (made : Result Work EditRefusal) → IsEdited from.book e book made → CountsEdit made before now (cost_between from.book (edited e from.book)) → IsLost (IsEditStep text from e) before now
+  made_lost : (made : Result Work EditRefusal) → IsEdited from.book e book made
+      → CountsEdit made before now (cost_between from.book (edited e from.book))
+      → IsLost (IsEditStep text from e) before now
   made_lost (Ok work) h counts =
       let is = counts ∙ ap (λ n. before + n) (steps_are work h) in
-      record { to = after; answer = accepted text work.steps; is = made_step work h; later = omega (arith, is); within = omega (arith, is) }
+      record {
+        to = after;
+        answer = accepted text work.steps;
+        is = made_step work h;
+        later = omega (arith, is);
+        within
+            = omega (arith, is);
+      }
   made_lost (Err (refusals.Memory x)) h counts = record {
     to = record { book = edited e from.book; filings = from.filings };
     answer = accepted text (cost_between from.book (edited e from.book));
@@ -84,7 +103,10 @@ module _ (text : List ℕ) (from : Standing) (e : Edit) (book : Contents) (befor
   made_lost (Err refusals.Plans) h counts = refused_lost refusals.Plans h.0 counts
   made_lost (Err (refusals.NoPlanThere d)) h counts = refused_lost (refusals.NoPlanThere d) h.0 counts
 
-  reply_all : (made : Result Work EditRefusal) (reply : Result Reply AllocError) → IsEdited from.book e book made → CountsEdit made before now (cost_between from.book (edited e from.book)) → IfOk reply (λ r. IsEditReply text made (reply_of r)) → IfOk reply (λ r. IsMade (IsEditStep text from e) after before now (reply_of r))
+  reply_all : (made : Result Work EditRefusal) (reply : Result Reply AllocError) → IsEdited from.book e book made
+      → CountsEdit made before now (cost_between from.book (edited e from.book))
+      → IfOk reply (λ r. IsEditReply text made (reply_of r))
+      → IfOk reply (λ r. IsMade (IsEditStep text from e) after before now (reply_of r))
   reply_all made reply h counts = if_ok_map reply _ _ (λ r is. reply_made made (reply_of r) h counts is)
 
 -- a book as a standing, with what was filed
@@ -92,8 +114,12 @@ abbrev standing : Filings → Contents → Standing
 standing filings b = record { book = b; filings = filings }
 
 -- an edit of the book of a standing
-module _ (text : List ℕ) (from : Standing) (e : Edit) (filings : Filings) (old : Contents) (same : standing filings old ≡ from) (book : Contents) (before now : ℕ) (made : Result Work EditRefusal) (reply : Result Reply AllocError) (h : IsEdited old e book made) (counts : CountsEdit made before now (cost_between old (edited e old))) where
-  pub edit_made : IfOk reply (λ r. IsEditReply text made (reply_of r)) → IfOk reply (λ r. IsMade (IsEditStep text from e) (standing filings book) before now (reply_of r))
+module _ (text : List ℕ) (from : Standing) (e : Edit) (filings : Filings) (old : Contents)
+    (same : standing filings old ≡ from) (book : Contents) (before now : ℕ) (made : Result Work EditRefusal)
+    (reply : Result Reply AllocError) (h : IsEdited old e book made)
+    (counts : CountsEdit made before now (cost_between old (edited e old))) where
+  pub edit_made : IfOk reply (λ r. IsEditReply text made (reply_of r))
+      → IfOk reply (λ r. IsMade (IsEditStep text from e) (standing filings book) before now (reply_of r))
   edit_made is =
       subst (λ s. IfOk reply (λ r. IsMade (IsEditStep text s e) (standing filings book) before now (reply_of r))) same
       (reply_all text (standing filings old) e book before now made reply h counts is)

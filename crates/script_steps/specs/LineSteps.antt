@@ -1,5 +1,5 @@
 -- What each kind of line does: what it makes of the book and of what was filed, and what it answers.
-use Rattle.std.specs.Prelude.{◌≡◌, ◌⊎◌, ℕ, List, ◌++◌, Some, Result, Ok, Err}
+use Rattle.std.specs.Prelude.{◌≡◌, ◌⊎◌, ℕ, List, ◌++◌, Some, IsSome, Result, Ok, Err}
 use Rattle.outside.specs.Told.{FileMap}
 use Rattle.payroll_records.specs.declared.day.Day.{Day}
 use Rattle.payroll_records.specs.declared.record.Record.{Record}
@@ -116,3 +116,9 @@ abbrev pub IsFileOf : Asked → List ℕ → Type 0
 IsFileOf (asked.plan day plan limits) name = (name ≡ plan) ⊎ (name ≡ limits)
 IsFileOf (asked.load file) name = name ≡ file
 IsFileOf _ name = ⊥
+
+-- this one is asked for, and those that are read before it are there
+abbrev pub IsNextFile : FileMap → Asked → List ℕ → Type 0
+IsNextFile files (asked.plan day plan limits) name = (name ≡ plan) ⊎ ((name ≡ limits) × IsSome (files plan))
+IsNextFile files (asked.load file) name = name ≡ file
+IsNextFile files _ name = ⊥

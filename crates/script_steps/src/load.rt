@@ -32,7 +32,7 @@ pub(crate) fn load<F: Files, L: Ledger>(
     ensures made { IfOk result (λ reply. IsMade
         (ToldDoes (F.told files.old) script.old (Ok (asked.load file.now)))
         script.new steps.old steps.new (reply_of reply)) }
-    ensures unmade { ForErr result (IsUnmade
+    ensures unmade { ForErr result (IsUnmade (F.told files.old)
         (ToldDoes (F.told files.old) script.old (Ok (asked.load file.now)))
         (asked.load file.now) steps.old steps.new (F.failed files.new)) }
     ensures same { F.told files.new ≡ F.told files.old }
