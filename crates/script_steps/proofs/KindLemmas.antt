@@ -20,7 +20,7 @@ use Rattle.plan_answers.specs.Answers.{Answer, refusal}
 use Rattle.plan_answers.specs.Lines.{bound_line}
 use Rattle.plan_answers.proofs.Laws.{one_refusal, some_refusal}
 use Rattle.script_steps.specs.LineTexts.{ok_line, table_detail, edit_detail}
-use Rattle.script_steps.specs.Standings.{Standing, accepted}
+use Rattle.script_steps.specs.Standings.{Standing, accepted, after_edit}
 use Rattle.script_steps.specs.LineSteps.{Stays, IsEditAnswered, IsEditStep, IsLoaded, IsTableStep, IsLoadStep, IsPut}
 use Rattle.script_steps.specs.LineSteps.{IsTextsStep, IsPlanStep}
 
@@ -46,7 +46,7 @@ edit_some text from e = let o = one_answer from.book e in by o.answer o.says
   where
     by : (v : Result Contents EditRefusal) → EditAnswers from.book e v → Has (IsEditStep text from e)
     by (Ok book) h = (
-      record { book = book; filings = from.filings },
+      after_edit from book,
       accepted text book.last.steps,
       record { verdict = Ok book; says = h; is = (refl, refl) },
     )

@@ -22,7 +22,7 @@ use Rattle.script_steps.specs.declared.stop.LineStop.{LineStop}
 use Rattle.script_steps.specs.declared.stop.LineStop.TheVariants as stops
 use Rattle.script_steps.specs.LineSteps.{Does, IsFileOf, IsNextFile}
 use Rattle.script_steps.specs.LineTexts.{line_detail, table_detail, edit_detail, trace_detail, file_detail, owed_detail}
-use Rattle.script_steps.specs.Standings.{Standing, accepted}
+use Rattle.script_steps.specs.Standings.{Standing, accepted, more_work}
 
 -- what a line leaves and answers, for one that does this
 abbrev pub Doing : Type 1
@@ -89,10 +89,10 @@ abbrev pub IsOwedRefusal : OwedRefusal → Answer → Type 0
 IsOwedRefusal (owed.Memory e) answer = ⊥
 IsOwedRefusal why answer = answer ≡ refusal (owed_detail why)
 
--- what is answered to an edit that the book has made or refused
-abbrev pub IsEditReply : List ℕ → Result Work EditRefusal → Answer → Type 0
-IsEditReply text (Ok work) answer = answer ≡ accepted text work.steps
-IsEditReply text (Err why) answer = IsEditRefusal why answer
+-- what is answered to an edit that the book has made or refused, and what its work makes of the work of all edits
+abbrev pub IsEditReply : List ℕ → Result Work EditRefusal → Work → Work → Answer → Type 0
+IsEditReply text (Ok work) before now answer = (answer ≡ accepted text work.steps) × (now ≡ more_work before work)
+IsEditReply text (Err why) before now answer = IsEditRefusal why answer × (now ≡ before)
 
 -- ---- what was written
 

@@ -58,7 +58,7 @@ fn load_table<L: Ledger>(
     match read_table(alloc, table) {
         Ok(runs) => {
             let made = script.book.load(runs, steps);
-            edit_reply(alloc, OK, made)
+            edit_reply(alloc, &mut script.made, OK, made)
         }
         Err(TableFault::Memory(error)) => Err(error),
         Err(fault) => table_refusal(alloc, &fault),

@@ -61,7 +61,7 @@ fn put_texts<L: Ledger>(
         Ok(accepted) => {
             let line = bound_line(alloc, &accepted)?;
             let made = script.book.put_plan(day, accepted, steps);
-            edit_reply(alloc, line.as_bytes(), made)
+            edit_reply(alloc, &mut script.made, line.as_bytes(), made)
         }
         Err(PlanRefusal::Memory) => Err(AllocError),
         Err(fault) => refused(alloc, plan, &fault),

@@ -31,7 +31,8 @@ returns-in_err-load_table-clause-unmade g c =
     let front = c.deref.result.now in
     let read = subst (λ b. IsToldFront told c.args.file.now 33554433 b) (sym c.deref.ensures.value)
     c.in_ok-table.ensures.front in
-    let p = err_from_is_err_and c.from_residual-in_err-load_table.result c.from_residual-in_err-load_table.ensures.1 in
+    let p = err_from_is_err_and c.from_residual-in_err-load_table.result c.from_residual-in_err-load_table.ensures.1
+    in
     wanting told (ToldDoes told c.args.script.now (Ok what)) what c.args.steps.now c.load_table.new.steps
     (g.F.Files.failed c.read_front.new.self) c.from_residual-in_err-load_table.result
     (p.1 ∙ ap (λ s. Err s) p.2)

@@ -14,17 +14,20 @@ pub returns-in-Ok-clause-made : goal.returns-in-Ok-clause-made
 returns-in-Ok-clause-made g c =
     let e = edits.load c.in-Ok.runs.items in
     table_made c.args.script.now c.args.table.now c.args.steps.now c.load-made.new.steps c.in-Ok.runs.items
-    (record { book = c.load-made.new.self; filings = c.script.inside.ledger }) c.edit_reply.result c.in-Ok.ensures.ok
-    (edit_made ok_line c.args.script.now e c.script.inside.ledger c.script.inside.book c.script.view_is c.load-made.new.self c.args.steps.now
+    (record { book = c.load-made.new.self; filings = c.script.inside.ledger; made = c.edit_reply.new.total })
+    c.edit_reply.result c.in-Ok.ensures.ok
+    (edit_made ok_line c.args.script.now e c.script.inside.ledger c.script.inside.made c.script.inside.book
+    c.script.view_is c.load-made.new.self c.args.steps.now
     c.load-made.new.steps c.load-made.result c.edit_reply.result c.load-made.ensures.answers
-    c.load-made.ensures.counted c.edit_reply.ensures)
+    c.load-made.ensures.counted c.edit_reply.new.total c.edit_reply.ensures)
 
 pub returns-in-Ok-clause-lost : goal.returns-in-Ok-clause-lost
 returns-in-Ok-clause-lost g c =
     let e = edits.load c.in-Ok.runs.items in
     table_lost c.args.script.now c.args.table.now c.args.steps.now c.load-made.new.steps c.in-Ok.runs.items
     c.edit_reply.result c.in-Ok.ensures.ok
-    (edit_lost ok_line c.args.script.now e c.script.inside.ledger c.script.inside.book c.script.view_is c.load-made.new.self c.args.steps.now
+    (edit_lost ok_line c.args.script.now e c.script.inside.ledger c.script.inside.made c.script.inside.book
+    c.script.view_is c.load-made.new.self c.args.steps.now
     c.load-made.new.steps c.load-made.result c.edit_reply.result c.load-made.ensures.answers
     c.load-made.ensures.counted)
 
