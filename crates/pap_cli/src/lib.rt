@@ -5,6 +5,7 @@ mod answer;
 mod call;
 mod once;
 mod reasons;
+mod sample;
 mod status;
 mod stop;
 mod words;

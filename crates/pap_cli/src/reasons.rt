@@ -42,8 +42,7 @@ pub fn reason<F: Files>(
 {
     match read_words(alloc, words)? {
         Some(Request::Files(request)) => reason_on_files(alloc, request, files),
-        Some(Request::Run) => Ok(None),
-        None => Ok(None),
+        Some(_) | None => Ok(None),
     }
 }
 
