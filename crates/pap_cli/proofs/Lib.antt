@@ -2,6 +2,8 @@ mod WordLemmas
 mod FrontLemmas
 mod AdmissionLemmas
 mod ScriptLemmas
+mod SampleLemmas
+mod TaxLemmas
 mod LeavesLemmas
 mod LineLemmas
 mod RunLemmas

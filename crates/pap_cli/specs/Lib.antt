@@ -1,6 +1,9 @@
 pub mod RunAnswers
 pub mod AnswerViews
 pub mod ScriptClauses
+pub mod SampleAnswers
+pub mod SampleClauses
+pub mod SampleViews
 pub mod CallClauses
 pub mod FileClauses
 pub mod Laws

@@ -6,6 +6,7 @@ mod call;
 mod kept;
 mod once;
 mod reasons;
+mod sample;
 mod status;
 mod stop;
 mod words;

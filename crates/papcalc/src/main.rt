@@ -15,7 +15,7 @@ use std::sync::ledger::{Blank, Ledger};
 use steps::Steps;
 
 const USAGE: &str =
-    "usage: papcalc check PLAN LIMITS | papcalc once PLAN LIMITS NAME=VALUE .. | papcalc run < SCRIPT";
+    "usage: papcalc check PLAN LIMITS | papcalc once PLAN LIMITS NAME=VALUE .. | papcalc run < SCRIPT | papcalc sample N";
 
 const REFUSED_LINES: &str =
     "papcalc: some lines of the script were refused: their answers begin with `refused`, and they changed nothing; \
@@ -30,6 +30,7 @@ usage:
   papcalc check PLAN LIMITS                  say whether every run of the flowchart is safe on inputs within their ranges
   papcalc once PLAN LIMITS NAME=VALUE ..     run the flowchart once on these inputs, at most 256 of them
   papcalc run < SCRIPT                       carry out a script line by line
+  papcalc sample N                           run a made-up payroll of N employees, 1 to 200, and write its sums
   papcalc --help                             write this text
   papcalc --version                          write the program's version
 
@@ -41,6 +42,10 @@ the greatest value, and the least and the greatest number of digits after the po
 output, and then `steps N`. An input that isn't given has its default. Both write one line that begins with `refused`
 where the flowchart or its range file is refused, or where an input is unknown, missing or outside its range; a second
 line, on standard error, says in plain words what that means, where it is in the file, and what helps.
+
+sample puts a flowchart, adds a run a month for each employee, corrects each one's March and makes the report, all in memory.
+It writes the lines `lines K` (of that script), `records K` (runs in the end), `runs K` and `steps K` (what all edits had to
+run) and `LST K` (the tax of all runs).
 
 lines of a script (DAY as 2026-01-31, MONTH as 2026-01, EMP a word for an employee):
   plan DAY PLAN LIMITS                  from this day on, at most to the end of its year, this flowchart holds

@@ -7,7 +7,8 @@ use Rattle.payroll_records.specs.declared.record.Record.{Record}
 use Rattle.payroll_records.specs.declared.table.TableFault.{TableFault}
 use Rattle.payroll_records.specs.declared.table.TableFault.TheVariants as tables
 use Rattle.payroll_records.specs.CsvRows.{csv_rows}
-use Rattle.payroll_records.specs.Tables.{most_bytes, TableSays, IsTable, BreaksAt, IsNoHeader, WrongWidth, WrongEmployee, WrongMonth, WrongDay, WrongValue, Repeats}
+use Rattle.payroll_records.specs.Tables.{most_bytes, TableSays, IsTable, BreaksAt, IsNoHeader, WrongWidth}
+use Rattle.payroll_records.specs.Tables.{WrongEmployee, WrongMonth, WrongDay, WrongValue, Repeats}
 use Rattle.script_lang.specs.Commands as asked
 use Rattle.pap_plan.specs.declared.refusal.PlanRefusal.{PlanRefusal}
 use Rattle.pap_plan.specs.Acceptance.{Meaning, Answers}
@@ -24,20 +25,29 @@ module _ (n : ℕ) (more : most_bytes < n) where
   table_front : (bytes : List ℕ) (v : Result (List Record) TableFault) → TableSays (take n bytes) v → TableSays bytes v
   table_front bytes (Ok records) h = subst (λ b. IsTable b records) (whole most_bytes n bytes more h.short) h
   table_front bytes (Err tables.TableLong) h = longer most_bytes n bytes h
-  table_front bytes (Err tables.Header) h = subst (λ b. (length b ≤ most_bytes) × IsNoHeader (csv_rows b)) (whole most_bytes n bytes more h.0) h
-  table_front bytes (Err (tables.Width row)) h = subst (λ b. BreaksAt b row WrongWidth) (whole most_bytes n bytes more h.short) h
-  table_front bytes (Err (tables.Employee row)) h = subst (λ b. BreaksAt b row WrongEmployee) (whole most_bytes n bytes more h.short) h
-  table_front bytes (Err (tables.Month row)) h = subst (λ b. BreaksAt b row WrongMonth) (whole most_bytes n bytes more h.short) h
-  table_front bytes (Err (tables.Day row)) h = subst (λ b. BreaksAt b row WrongDay) (whole most_bytes n bytes more h.short) h
-  table_front bytes (Err (tables.Value row name)) h = subst (λ b. BreaksAt b row (WrongValue name)) (whole most_bytes n bytes more h.short) h
-  table_front bytes (Err (tables.Repeat row)) h = subst (λ b. BreaksAt b row Repeats) (whole most_bytes n bytes more h.short) h
+  table_front bytes (Err tables.Header) h =
+      subst (λ b. (length b ≤ most_bytes) × IsNoHeader (csv_rows b)) (whole most_bytes n bytes more h.0) h
+  table_front bytes (Err (tables.Width row)) h =
+      subst (λ b. BreaksAt b row WrongWidth) (whole most_bytes n bytes more h.short) h
+  table_front bytes (Err (tables.Employee row)) h =
+      subst (λ b. BreaksAt b row WrongEmployee) (whole most_bytes n bytes more h.short) h
+  table_front bytes (Err (tables.Month row)) h =
+      subst (λ b. BreaksAt b row WrongMonth) (whole most_bytes n bytes more h.short) h
+  table_front bytes (Err (tables.Day row)) h =
+      subst (λ b. BreaksAt b row WrongDay) (whole most_bytes n bytes more h.short) h
+  table_front bytes (Err (tables.Value row name)) h =
+      subst (λ b. BreaksAt b row (WrongValue name)) (whole most_bytes n bytes more h.short) h
+  table_front bytes (Err (tables.Repeat row)) h =
+      subst (λ b. BreaksAt b row Repeats) (whole most_bytes n bytes more h.short) h
   table_front bytes (Err (tables.Memory e)) h = absurd h
 
-  table_step_front : (from : Standing) (bytes : List ℕ) (to : Standing) (a : Answer) → IsTableStep from (take n bytes) to a → IsTableStep from bytes to a
+  table_step_front : (from : Standing) (bytes : List ℕ) (to : Standing) (a : Answer)
+      → IsTableStep from (take n bytes) to a → IsTableStep from bytes to a
   table_step_front from bytes to a h = record { said = h.said; says = table_front bytes h.said h.says; is = h.is }
 
 -- the table that was read of a file
-pub load_told : (told : Option FileMap) (from : Standing) (file front : List ℕ) → IsToldFront told file 33554433 front → (to : Standing) (a : Answer) → IsTableStep from front to a → ToldDoes told from (Ok (asked.load file)) to a
+pub load_told : (told : Option FileMap) (from : Standing) (file front : List ℕ) → IsToldFront told file 33554433 front
+    → (to : Standing) (a : Answer) → IsTableStep from front to a → ToldDoes told from (Ok (asked.load file)) to a
 load_told told from file front read to a h = λ files e.
     let f = front_there (files file) 33554433 front (subst (λ t. IsToldFront t file 33554433 front) e read) in
     record {
@@ -49,14 +59,17 @@ load_told told from file front read to a h = λ files e.
 -- ---- a plan
 
 module _ (n m : ℕ) (more_plan : 1048576 < n) (more_limits : 262144 < m) where
-  put_front : (from : Standing) (day : Day) (plan limits : List ℕ) (v : Result Meaning PlanRefusal) (to : Standing) (a : Answer) → Answers (take n plan) (take m limits) v → IsPut from day (take n plan) (take m limits) v to a → IsPut from day plan limits v to a
+  put_front : (from : Standing) (day : Day) (plan limits : List ℕ) (v : Result Meaning PlanRefusal) (to : Standing)
+      (a : Answer) → Answers (take n plan) (take m limits) v → IsPut from day (take n plan) (take m limits) v to a
+      → IsPut from day plan limits v to a
   put_front from day plan limits (Ok x) to a h is =
       let same = accepted_whole n m more_plan more_limits plan limits x h in
       let first = subst (λ p. IsPut from day p (take m limits) (Ok x) to a) same.0 is in
       subst (λ l. IsPut from day plan l (Ok x) to a) same.1 first
   put_front from day plan limits (Err why) to a h is = (is.0, refusal_answer n m more_plan more_limits plan why a is.1)
 
-  texts_front : (from : Standing) (day : Day) (plan limits : List ℕ) (to : Standing) (a : Answer) → IsTextsStep from day (take n plan) (take m limits) to a → IsTextsStep from day plan limits to a
+  texts_front : (from : Standing) (day : Day) (plan limits : List ℕ) (to : Standing) (a : Answer)
+      → IsTextsStep from day (take n plan) (take m limits) to a → IsTextsStep from day plan limits to a
   texts_front from day plan limits to a h = record {
     verdict = h.verdict;
     says = answers_front n m more_plan more_limits plan limits h.verdict h.says;
@@ -64,7 +77,10 @@ module _ (n m : ℕ) (more_plan : 1048576 < n) (more_limits : 262144 < m) where
   }
 
 -- the texts that were read of two files
-pub plan_told : (told : Option FileMap) (from : Standing) (day : Day) (plan limits front front' : List ℕ) → ((files : FileMap) → told ≡ Some files → AreFronts files plan limits front front') → (to : Standing) (a : Answer) → IsTextsStep from day front front' to a → ToldDoes told from (Ok (asked.plan day plan limits)) to a
+pub plan_told : (told : Option FileMap) (from : Standing) (day : Day) (plan limits front front' : List ℕ)
+    → ((files : FileMap) → told ≡ Some files → AreFronts files plan limits front front')
+    → (to : Standing) (a : Answer) → IsTextsStep from day front front' to a
+    → ToldDoes told from (Ok (asked.plan day plan limits)) to a
 plan_told told from day plan limits front front' read to a h = λ files e.
     let r = read files e in
     let first = subst (λ b. IsTextsStep from day b front' to a) r.plan_read h in
@@ -78,7 +94,12 @@ plan_told told from day plan limits front front' read to a h = λ files e.
     }
 
 -- the same of slices of what was read
-pub plan_bytes_told : (told : Option FileMap) (from : Standing) (day : Day) (plan limits front front' text text' : List ℕ) → text ≡ front → text' ≡ front' → ((files : FileMap) → told ≡ Some files → AreFronts files plan limits front front') → (to : Standing) (a : Answer) → IsTextsStep from day text text' to a → ToldDoes told from (Ok (asked.plan day plan limits)) to a
+pub plan_bytes_told : (told : Option FileMap) (from : Standing) (day : Day)
+    (plan limits front front' text text' : List ℕ) → text ≡ front → text' ≡ front'
+    → ((files : FileMap) → told ≡ Some files → AreFronts files plan limits front front')
+    → (to : Standing) (a : Answer) → IsTextsStep from day text text' to a
+    → ToldDoes told from (Ok (asked.plan day plan limits)) to a
 plan_bytes_told told from day plan limits front front' text text' same same' read to a h =
     let first = subst (λ b. IsTextsStep from day b text' to a) same h in
-    plan_told told from day plan limits front front' read to a (subst (λ b. IsTextsStep from day front b to a) same' first)
+    plan_told told from day plan limits front front' read to a (subst (λ b. IsTextsStep from day front b to a) same'
+    first)

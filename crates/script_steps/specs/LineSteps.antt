@@ -1,5 +1,5 @@
 -- What each kind of line does: what it makes of the book and of what was filed, and what it answers.
-use Rattle.std.specs.Prelude.{◌≡◌, ◌⊎◌, ℕ, List, ◌++◌, Some, Result, Ok, Err}
+use Rattle.std.specs.Prelude.{◌≡◌, ◌⊎◌, ℕ, List, ◌++◌, Some, IsSome, Result, Ok, Err}
 use Rattle.outside.specs.Told.{FileMap}
 use Rattle.payroll_records.specs.declared.day.Day.{Day}
 use Rattle.payroll_records.specs.declared.record.Record.{Record}
@@ -19,7 +19,7 @@ use Rattle.report_csv.specs.ReportTexts.{report_text}
 use Rattle.plan_answers.specs.Answers.{Answer, refusal, IsRefusal}
 use Rattle.plan_answers.specs.Lines.{bound_line}
 use Rattle.script_steps.specs.LineTexts.{ok_line, end_line, work_line, line_detail, table_detail, edit_detail}
-use Rattle.script_steps.specs.Standings.{Standing, accepted, silence}
+use Rattle.script_steps.specs.Standings.{Standing, accepted, after_edit, silence}
 use Rattle.script_steps.specs.TraceSteps.{trace_answer}
 use Rattle.script_steps.specs.FilingSteps.{IsFileStep, IsOwedStep}
 
@@ -32,7 +32,7 @@ Stays from to said answer = (to ≡ from) × (answer ≡ said)
 -- the edit is made, and this text is answered, with the steps of the edit's work; or it is refused, and nothing changes
 abbrev pub IsEditAnswered : List ℕ → Standing → Result Contents EditRefusal → Standing → Answer → Type 0
 IsEditAnswered text from (Ok book) to answer =
-    (to ≡ record { book = book; filings = from.filings }) × (answer ≡ accepted text book.last.steps)
+    (to ≡ after_edit from book) × (answer ≡ accepted text book.last.steps)
 IsEditAnswered text from (Err why) to answer = Stays from to (refusal (edit_detail why)) answer
 
 pub record IsEditStep (text : List ℕ) (from : Standing) (e : Edit) (to : Standing) (answer : Answer) : Type 0 where
@@ -116,3 +116,9 @@ abbrev pub IsFileOf : Asked → List ℕ → Type 0
 IsFileOf (asked.plan day plan limits) name = (name ≡ plan) ⊎ (name ≡ limits)
 IsFileOf (asked.load file) name = name ≡ file
 IsFileOf _ name = ⊥
+
+-- this one is asked for, and those that are read before it are there
+abbrev pub IsNextFile : FileMap → Asked → List ℕ → Type 0
+IsNextFile files (asked.plan day plan limits) name = (name ≡ plan) ⊎ ((name ≡ limits) × IsSome (files plan))
+IsNextFile files (asked.load file) name = name ≡ file
+IsNextFile files _ name = ⊥

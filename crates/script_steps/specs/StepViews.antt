@@ -20,9 +20,9 @@ use Rattle.report_csv.specs.Fronts.{AppendsFront}
 use Rattle.plan_answers.specs.Answers.{Answer, refusal}
 use Rattle.script_steps.specs.declared.stop.LineStop.{LineStop}
 use Rattle.script_steps.specs.declared.stop.LineStop.TheVariants as stops
-use Rattle.script_steps.specs.LineSteps.{Does, IsFileOf}
+use Rattle.script_steps.specs.LineSteps.{Does, IsFileOf, IsNextFile}
 use Rattle.script_steps.specs.LineTexts.{line_detail, table_detail, edit_detail, trace_detail, file_detail, owed_detail}
-use Rattle.script_steps.specs.Standings.{Standing, accepted}
+use Rattle.script_steps.specs.Standings.{Standing, accepted, more_work}
 
 -- what a line leaves and answers, for one that does this
 abbrev pub Doing : Type 1
@@ -50,17 +50,18 @@ abbrev pub ToldDoes : Option FileMap → Standing → Result Asked LineFault →
 ToldDoes told from said to answer = ForSome told (λ files. Does files from said to answer)
 
 -- the files failed at one that is asked for, and nothing was counted
-pub record IsFileFault (what : Asked) (before now : ℕ) (failed : Option (List ℕ)) : Type 0 where
+pub record IsFileFault (told : Option FileMap) (what : Asked) (before now : ℕ) (failed : Option (List ℕ)) : Type 0 where
   pub uncounted : now ≡ before
   pub name : List ℕ
   pub is_file : IsFileOf what name
+  pub in_order : ForSome told (λ files. IsNextFile files what name)
   pub failed_there : failed ≡ Some name
 
 -- no reply was made, by the cause
-abbrev pub IsUnmade : Doing → Asked → ℕ → ℕ → Option (List ℕ) → LineStop → Type 0
-IsUnmade Step what before now failed stops.File = IsFileFault what before now failed
-IsUnmade Step what before now failed stops.Write = ⊥
-IsUnmade Step what before now failed stops.Memory = IsWant Step before now
+abbrev pub IsUnmade : Option FileMap → Doing → Asked → ℕ → ℕ → Option (List ℕ) → LineStop → Type 0
+IsUnmade told Step what before now failed stops.File = IsFileFault told what before now failed
+IsUnmade told Step what before now failed stops.Write = ⊥
+IsUnmade told Step what before now failed stops.Memory = IsWant Step before now
 
 -- ---- refusals that are written, which want of memory is not
 
@@ -88,10 +89,10 @@ abbrev pub IsOwedRefusal : OwedRefusal → Answer → Type 0
 IsOwedRefusal (owed.Memory e) answer = ⊥
 IsOwedRefusal why answer = answer ≡ refusal (owed_detail why)
 
--- what is answered to an edit that the book has made or refused
-abbrev pub IsEditReply : List ℕ → Result Work EditRefusal → Answer → Type 0
-IsEditReply text (Ok work) answer = answer ≡ accepted text work.steps
-IsEditReply text (Err why) answer = IsEditRefusal why answer
+-- what is answered to an edit that the book has made or refused, and what its work makes of the work of all edits
+abbrev pub IsEditReply : List ℕ → Result Work EditRefusal → Work → Work → Answer → Type 0
+IsEditReply text (Ok work) before now answer = (answer ≡ accepted text work.steps) × (now ≡ more_work before work)
+IsEditReply text (Err why) before now answer = IsEditRefusal why answer × (now ≡ before)
 
 -- ---- what was written
 

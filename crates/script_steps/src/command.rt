@@ -70,7 +70,7 @@ fn make_reply<F: Files, L: Ledger>(
     ensures made { IfOk result (λ reply. IsMade
         (ToldDoes (F.told files.old) script.old (Ok (asked_of command)))
         script.new steps.old steps.new (reply_of reply)) }
-    ensures unmade { ForErr result (IsUnmade
+    ensures unmade { ForErr result (IsUnmade (F.told files.old)
         (ToldDoes (F.told files.old) script.old (Ok (asked_of command)))
         (asked_of command) steps.old steps.new (F.failed files.new)) }
     ensures same { F.told files.new ≡ F.told files.old }

@@ -31,7 +31,7 @@ pub(crate) fn plan<F: Files, L: Ledger>(
     ensures made { IfOk result (λ reply. IsMade
         (ToldDoes (F.told files.old) script.old (Ok (asked.plan day plan.now limits.now)))
         script.new steps.old steps.new (reply_of reply)) }
-    ensures unmade { ForErr result (IsUnmade
+    ensures unmade { ForErr result (IsUnmade (F.told files.old)
         (ToldDoes (F.told files.old) script.old (Ok (asked.plan day plan.now limits.now)))
         (asked.plan day plan.now limits.now) steps.old steps.new (F.failed files.new)) }
     ensures same { F.told files.new ≡ F.told files.old }
@@ -61,7 +61,7 @@ fn put_texts<L: Ledger>(
         Ok(accepted) => {
             let line = bound_line(alloc, &accepted)?;
             let made = script.book.put_plan(day, accepted, steps);
-            edit_reply(alloc, line.as_bytes(), made)
+            edit_reply(alloc, &mut script.made, line.as_bytes(), made)
         }
         Err(PlanRefusal::Memory) => Err(AllocError),
         Err(fault) => refused(alloc, plan, &fault),

@@ -9,11 +9,16 @@ use Rattle.script_steps.proofs.command.make_reply.Goals as goal
 pub returns-in-Plan-clause-unmade : goal.returns-in-Plan-clause-unmade
 returns-in-Plan-clause-unmade g c =
     let day = c.in-Plan.day in
-    let files = ap (λ f. asked.plan day f c.deref-in-Plan.result.now) c.deref.ensures ∙ ap (λ l. asked.plan day (string_bytes c.in-Plan.file) l) c.deref-in-Plan.ensures in
-    subst (λ (w : Asked). ForErr c.plan.result (IsUnmade (ToldDoes (g.F.Files.told c.args.files.now) c.args.script.now (Ok w)) w c.args.steps.now c.plan.new.steps (g.F.Files.failed c.plan.new.files)))
+    let files = ap (λ f. asked.plan day f c.deref-in-Plan.result.now) c.deref.ensures ∙ ap
+    (λ l. asked.plan day (string_bytes c.in-Plan.file) l) c.deref-in-Plan.ensures in
+    subst (λ (w : Asked). ForErr c.plan.result (IsUnmade (g.F.Files.told c.args.files.now)
+    (ToldDoes (g.F.Files.told c.args.files.now) c.args.script.now (Ok w)) w c.args.steps.now c.plan.new.steps
+    (g.F.Files.failed c.plan.new.files)))
     (files ∙ sym (ap asked_of c.in-Plan.is)) c.plan.ensures.unmade
 
 pub returns-in-Load-clause-unmade : goal.returns-in-Load-clause-unmade
 returns-in-Load-clause-unmade g c =
-    subst (λ (w : Asked). ForErr c.load.result (IsUnmade (ToldDoes (g.F.Files.told c.args.files.now) c.args.script.now (Ok w)) w c.args.steps.now c.load.new.steps (g.F.Files.failed c.load.new.files)))
+    subst (λ (w : Asked). ForErr c.load.result (IsUnmade (g.F.Files.told c.args.files.now)
+    (ToldDoes (g.F.Files.told c.args.files.now) c.args.script.now (Ok w)) w c.args.steps.now c.load.new.steps
+    (g.F.Files.failed c.load.new.files)))
     (ap (λ f. asked.load f) c.deref-in-Load.ensures ∙ sym (ap asked_of c.in-Load.is)) c.load.ensures.unmade

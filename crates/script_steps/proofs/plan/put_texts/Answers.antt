@@ -11,20 +11,31 @@ returns-in_ok-line-in-Ok-clause-made g c =
     let p = c.in-Ok.accepted in
     let e = edits.put (c.args.day, accepted p) in
     let text = c.as_bytes.result.now in
-    put_made c.args.script.now c.args.day c.args.plan.now c.args.limits.now c.args.steps.now c.put_plan-made.new.steps p text c.in-Ok.ensures.accepted (c.as_bytes.ensures.value ∙ c.in_ok-line-in-Ok.ensures) (record { book = c.put_plan-made.new.self; filings = c.script.inside.ledger }) c.edit_reply.result
-    (edit_made text c.args.script.now e c.script.inside.ledger c.script.inside.book c.script.view_is c.put_plan-made.new.self c.args.steps.now c.put_plan-made.new.steps c.put_plan-made.result c.edit_reply.result c.put_plan-made.ensures.answers c.put_plan-made.ensures.counted c.edit_reply.ensures)
+    put_made c.args.script.now c.args.day c.args.plan.now c.args.limits.now c.args.steps.now c.put_plan-made.new.steps
+    p text c.in-Ok.ensures.accepted (c.as_bytes.ensures.value ∙ c.in_ok-line-in-Ok.ensures)
+    (record { book = c.put_plan-made.new.self; filings = c.script.inside.ledger; made = c.edit_reply.new.total })
+    c.edit_reply.result
+    (edit_made text c.args.script.now e c.script.inside.ledger c.script.inside.made c.script.inside.book
+    c.script.view_is c.put_plan-made.new.self
+    c.args.steps.now c.put_plan-made.new.steps c.put_plan-made.result c.edit_reply.result
+    c.put_plan-made.ensures.answers c.put_plan-made.ensures.counted c.edit_reply.new.total c.edit_reply.ensures)
 
 pub returns-in_ok-line-in-Ok-clause-lost : goal.returns-in_ok-line-in-Ok-clause-lost
 returns-in_ok-line-in-Ok-clause-lost g c =
     let p = c.in-Ok.accepted in
     let e = edits.put (c.args.day, accepted p) in
     let text = c.as_bytes.result.now in
-    put_lost c.args.script.now c.args.day c.args.plan.now c.args.limits.now c.args.steps.now c.put_plan-made.new.steps p text c.in-Ok.ensures.accepted (c.as_bytes.ensures.value ∙ c.in_ok-line-in-Ok.ensures) c.edit_reply.result
-    (edit_lost text c.args.script.now e c.script.inside.ledger c.script.inside.book c.script.view_is c.put_plan-made.new.self c.args.steps.now c.put_plan-made.new.steps c.put_plan-made.result c.edit_reply.result c.put_plan-made.ensures.answers c.put_plan-made.ensures.counted)
+    put_lost c.args.script.now c.args.day c.args.plan.now c.args.limits.now c.args.steps.now c.put_plan-made.new.steps
+    p text c.in-Ok.ensures.accepted (c.as_bytes.ensures.value ∙ c.in_ok-line-in-Ok.ensures) c.edit_reply.result
+    (edit_lost text c.args.script.now e c.script.inside.ledger c.script.inside.made c.script.inside.book
+    c.script.view_is c.put_plan-made.new.self
+    c.args.steps.now c.put_plan-made.new.steps c.put_plan-made.result c.edit_reply.result
+    c.put_plan-made.ensures.answers c.put_plan-made.ensures.counted)
 
 pub returns-in-Err-clause-made : goal.returns-in-Err-clause-made
 returns-in-Err-clause-made g c =
-    put_refused c.args.script.now c.args.day c.args.plan.now c.args.limits.now c.args.steps.now c.in-Err.fault c.refused.result c.in-Err.ensures.refused c.refused.ensures
+    put_refused c.args.script.now c.args.day c.args.plan.now c.args.limits.now c.args.steps.now c.in-Err.fault
+    c.refused.result c.in-Err.ensures.refused c.refused.ensures
 
 pub returns-in-Err-clause-lost : goal.returns-in-Err-clause-lost
 returns-in-Err-clause-lost g c = on_err_any c.refused.result _ (inl refl)
