@@ -11,3 +11,8 @@ pub use Rattle.book_edits.proofs.YearsLemmas.{IsFound, found_year, put_edit, ins
 pub use Rattle.book_edits.proofs.MonthLemmas.{runs_rising}
 -- A calendar whose plans stand without their code is as long, and its days rise.
 pub use Rattle.book_edits.proofs.PlanLemmas.{plans_length, plans_rise}
+-- Years that are kept by one calendar are kept by another that gives each day the same plan.
+pub use Rattle.book_edits.proofs.PlanLemmas.{same_years}
+-- There are at most 50,000 years; years computed anew, one after another.
+pub use Rattle.book_edits.proofs.YearLemmas.{years_few}
+pub use Rattle.book_edits.proofs.RedoneLemmas.{IsRedoing, redoing_more, out_in, out_after}

@@ -10,7 +10,8 @@ use Rattle.book_year.specs.declared.year.Year.{Year}
 use Rattle.book_edits.specs.declared.years.Years.{Years}
 use Rattle.book_edits.specs.Books.{YearRuns, runs_of, run_count, year_cmp}
 use Rattle.book_edits.specs.Kept.{AreYears, HasRuns, kept_key, runs_in, runs_in_year}
-use Rattle.book_edits.proofs.Laws.{found_each, runs_kept, year_total}
+use Rattle.book_edits.proofs.ListLemmas.{found_each}
+use Rattle.book_edits.proofs.YearsLemmas.{runs_kept, year_total}
 
 -- the runs at the key of a year are that year's
 pub runs_at : (ys : List Year) (i : ℕ) (y : Year) → IsRising year_cmp kept_key ys → i < length ys → y ≡ get_or ys i y → runs_of (runs_in ys) y.key ≡ y.records.items

@@ -11,6 +11,7 @@ mod refusal;
 mod years;
 
 pub use in_month::InMonth;
-pub use plans::{drop_plan, put_plan};
+pub use plans::{drop_plan, is_full, put_plan};
+pub use redone::{RedoneYear, redo_year};
 pub use refusal::EditRefusal;
 pub use years::{Years, years_laws};

@@ -122,7 +122,7 @@ fn redone_without<L: Ledger>(
 }
 
 /// Whether there are 64 plans, and none of a day.
-fn is_full(entries: &[(Day, Plan)], day: Day) -> bool
+pub fn is_full(entries: &[(Day, Plan)], day: Day) -> bool
     requires { AreEntries entries.now }
     ensures { IsTrue result ↔ IsFull (plans_in entries.now) day }
 {

@@ -23,9 +23,9 @@ pub(crate) struct Redone {
 
 /// New outcomes of a year, where its plans may change, and the work that they took.
 #[derive(Drop)]
-struct RedoneYear {
-    outcomes: Option<Vec<Outcome>>,
-    work: Work,
+pub struct RedoneYear {
+    pub outcomes: Option<Vec<Outcome>>,
+    pub work: Work,
 }
 
 /// Computes the years anew whose plans may change. The counter rises by exactly their steps; where memory runs out it may have
@@ -57,8 +57,9 @@ pub(crate) fn redo_years<L: Ledger>(
     })
 }
 
-/// Computes a year anew, where its plans may change.
-fn redo_year<L: Ledger>(
+/// Computes a year anew, where its plans may change. The year stays as it is. The counter rises by exactly the steps of the
+/// work; where memory runs out it may have risen by some of them.
+pub fn redo_year<L: Ledger>(
     alloc: Global,
     picks: &Picks,
     year: &Year,

@@ -16,3 +16,5 @@ pub use Rattle.book_year.proofs.RunLemmas.{are_slots, same_outputs}
 pub use Rattle.book_year.proofs.QuietLemmas.{year_quiet, rows_agree, rows_rising}
 -- The plan of a day is picked alike where each plan stands without its code.
 pub use Rattle.book_year.proofs.PickLemmas.{last_map, pick_in, pick_before_in, pick_before_lent}
+-- Two decimals are told the same exactly where they are.
+pub use Rattle.book_year.proofs.JobLemmas.{decimal_decides}

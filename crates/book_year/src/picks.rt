@@ -1,9 +1,9 @@
 //! The plan of each day in the calendar that will be, without a change of the one that is.
 ghost use Rattle.std.specs.Prelude.{◌≡◌, Some, None, IfSome, ◌&&◌};
 ghost use Rattle.std.specs.Option.{option_map};
-ghost use Rattle.std.specs.Bool.{OnFalse};
+ghost use Rattle.std.specs.Bool.{OnFalse, OnTrue};
 ghost use Rattle.payroll_records.specs.declared.day.Day.{Day as Date};
-ghost use Rattle.plan_calendar.specs.Picking.{pick, serves};
+ghost use Rattle.plan_calendar.specs.Picking.{day_of, pick, serves};
 ghost use Rattle.plan_calendar.specs.Edits.{is_by, picked_after};
 ghost use Rattle.book_year.specs.Accepted.{plans_in};
 ghost use Rattle.book_year.specs.Picks.{before, after, same_plan, KnowsSame, ArePicks};
@@ -42,14 +42,18 @@ pub struct Picked<'a> {
 
 impl<'a> Picks<'a> {
     /// The calendar once an edit at a day has left this plan, or none, to the days that it decides. Texts are compared here,
-    /// once.
+    /// once. A plan with the texts of the one that stood at its day changes nothing, so it is no edit.
     pub fn edited(plans: &'a Calendar<Plan>, day: Day, entry: Option<(Day, &'a Plan)>) -> Picks<'a>
         ensures are { ArePicks result }
         ensures before { (d : Date) → before result d ≡ pick (plans_in plans.now) d }
         ensures after { (d : Date) → after result d
             ≡ picked_after (plans_in plans.now) day (option_map lent_entry entry.entry) d }
     {
-        let same = keeps_texts(picked_now(plans, day), entry);
+        let was = picked_now(plans, day);
+        let same = keeps_texts(was, entry);
+        if same && keeps_day(was, entry) {
+            return Picks { plans, edit: None };
+        }
         Picks {
             plans,
             edit: Some(Edit { day, entry, same }),
@@ -127,4 +131,15 @@ fn keeps_texts(was: Option<(Day, &Plan)>, now: Option<(Day, &Plan)>) -> bool
         return false;
     };
     was.same_texts(now)
+}
+
+/// Whether both plans are there, and hold from the same day.
+fn keeps_day(was: Option<(Day, &Plan)>, now: Option<(Day, &Plan)>) -> bool
+    ensures { OnTrue result (option_map day_of (option_map lent_entry was.entry)
+        ≡ option_map day_of (option_map lent_entry now.entry)) }
+{
+    let (Some((was, _)), Some((now, _))) = (was, now) else {
+        return false;
+    };
+    was == now
 }

@@ -11,3 +11,6 @@ pub use Rattle.recalc_engine.proofs.ListedLemmas.{parts_make, runs_distinct}
 pub use Rattle.recalc_engine.proofs.SameLemmas.{book_quiet, jobs_done, same_texts}
 -- An edit of the runs changes the run at its key alone.
 pub use Rattle.recalc_engine.proofs.MapLemmas.{runs_mapped}
+-- What is kept of a year is the rows of its runs; the plan of each day is accepted; outputs of each run have different names.
+pub use Rattle.recalc_engine.proofs.MonthLemmas.{year_kept_by}
+pub use Rattle.recalc_engine.proofs.OutputLemmas.{no_names, picked_plan, rows_named}

@@ -12,7 +12,7 @@ use Rattle.book_year.specs.declared.outcome.Outcome.{Outcome}
 use Rattle.book_year.specs.declared.year.Year.{Year}
 use Rattle.book_year.specs.declared.year.YearKey.{YearKey}
 use Rattle.book_year.specs.Rows.{Planned, row_of, rows, year_rows}
-use Rattle.book_year.specs.Kept.{kept}
+use Rattle.book_year.specs.Kept.{AreKept, kept}
 use Rattle.book_year.specs.Years.{IsOwn, IsYear}
 use Rattle.book_year.proofs.Laws.{row_of_day, rows_length}
 use Rattle.book_edits.specs.Kept.{HasRuns, runs_in, runs_in_year}
@@ -34,8 +34,13 @@ kept_are : (k : YearKey) (planned : Planned) (earlier : List Earlier) (rs : List
 kept_are k planned earlier [] own = refl
 kept_are k planned earlier (r ∷ rs) own = λ i. own_row k (planned r.day) earlier r own.0 i ∷ kept_are k planned (next planned earlier r) rs own.1 i
 
+-- a year that is kept where these are the plans of the days
+pub year_kept_by : (planned : Planned) (y : Year) → AllByRecursion (IsOwn y.key) y.records.items →
+    AreKept planned y.records.items y.outcomes.items → rows_kept_in y ≡ keyed_rows planned (runs_in_year y)
+year_kept_by planned y own h = ap (kept_rows y.records.items) h.are ∙ kept_are y.key planned [] y.records.items own
+
 year_kept : (plans : List (Entry Accepted)) (y : Year) → IsYear plans y → rows_kept_in y ≡ keyed_rows (pick plans) (runs_in_year y)
-year_kept plans y h = ap (kept_rows y.records.items) h.kept.are ∙ kept_are y.key (pick plans) [] y.records.items h.own
+year_kept plans y h = year_kept_by (pick plans) y h.own h.kept
 
 pub years_kept : (plans : List (Entry Accepted)) (ys : List Year) → AllByRecursion (IsYear plans) ys → rows_kept ys ≡ flat_map (keyed_rows (pick plans)) (runs_in ys)
 years_kept plans [] each = refl

@@ -1,22 +1,20 @@
 -- The outputs of a book's runs: they are within their bound, and those of one run have different names.
-use Rattle.std.proofs.Common.{◌≡◌, ◌≢◌, ℕ, suc, ◌+◌, ◌<◌, List, [], ◌∷◌, ◌++◌, map, length, get_or, Option, Some, None, refl, sym, ap, subst, ◌∙◌, arith}
-use Rattle.std.specs.Prelude.{AllPairs, Contains}
+use Rattle.std.proofs.Common.{◌≡◌, ◌≢◌, ℕ, suc, ◌<◌, List, [], ◌∷◌, ◌++◌, map, get_or, Option, Some, None, refl, ap, subst, arith}
+use Rattle.std.specs.Prelude.{AllPairs}
 use Rattle.std.specs.List.{AllByRecursion, flat_map}
 use Rattle.std.specs.Option.{option_map_or}
-use Rattle.std.proofs.lemmas.List.{get_or_append_left, length-append, map-append}
+use Rattle.std.proofs.lemmas.List.{get_or_append_left, length-append}
 use Rattle.std.proofs.lemmas.List.Elements.{All-from_recursion}
 use Rattle.scaled_decimal.specs.Decimals.{Decimal}
 use Rattle.pap_tree.specs.Declarations.{Declaration}
-use Rattle.pap_tree.specs.Flowchart.{Flowchart}
 use Rattle.payroll_records.specs.declared.day.Day.{Day}
 use Rattle.payroll_records.specs.declared.record.Record.{Record}
-use Rattle.payroll_records.specs.declared.values.NamedValue.{NamedValue}
 use Rattle.payroll_records.specs.NamedValues.{name_of}
 use Rattle.plan_calendar.specs.Picking.{AreEntries, Entry, IsLatest, pick, plan_of, serves}
 use Rattle.plan_calendar.proofs.Laws.{pick_latest}
 use Rattle.pap_types.specs.Meaning.{outputs_of}
 use Rattle.pap_types.specs.Scopes.{names_of}
-use Rattle.pap_types.specs.Typing.{AreDistinct, declarations_of}
+use Rattle.pap_types.specs.Typing.{AreDistinct}
 use Rattle.pap_types.proofs.Laws.{has_types}
 use Rattle.carry_bindings.specs.declared.carried.Earlier.{Earlier}
 use Rattle.carry_bindings.specs.declared.filling.Filled.{Filled}
@@ -26,14 +24,14 @@ use Rattle.book_year.specs.declared.outcome.Outcome.{Outcome}
 use Rattle.book_year.specs.declared.year.Year.{Year}
 use Rattle.book_year.specs.declared.year.YearKey.{YearKey}
 use Rattle.book_year.specs.Kept.{IsBounded}
-use Rattle.book_year.specs.Rows.{Planned, Row, outputs_in, row_filled, row_of, rows, year_rows}
+use Rattle.book_year.specs.Rows.{Planned, outputs_in, row_filled, row_of, rows}
 use Rattle.book_year.specs.Runs.{filled, named_values, run_outputs}
 use Rattle.book_year.specs.Years.{IsYear}
 use Rattle.book_edits.specs.Books.{YearRuns}
-use Rattle.recalc_engine.specs.BookLaws.{ArePlans, IsBook, IsPlan}
+use Rattle.recalc_engine.specs.BookLaws.{ArePlans, HasPlan, IsBook, IsPlan}
 use Rattle.recalc_engine.specs.Contents.{Contents}
-use Rattle.recalc_engine.specs.MonthRows.{KeyedRow, keyed_row, keyed_rows, month_rows}
-use Rattle.recalc_engine.specs.MonthViews.{kept_row, kept_rows, rows_kept, rows_kept_in}
+use Rattle.recalc_engine.specs.MonthRows.{keyed_row, keyed_rows, month_rows}
+use Rattle.recalc_engine.specs.MonthViews.{kept_rows, rows_kept, rows_kept_in}
 use Rattle.recalc_engine.specs.RowLaws.{AreNamed, HasBound, HasNames, HaveNames}
 use Rattle.recalc_engine.proofs.RowLemmas.{next}
 
@@ -102,7 +100,7 @@ outputs_differ p h =
     let behind = pairs_after Differ (names_of f.inputs) (names_of (f.outputs ++ (f.internals ++ f.constants))) (subst AreDistinct (names_append f.inputs (f.outputs ++ (f.internals ++ f.constants))) all) in
     pairs_before Differ (names_of f.outputs) (names_of (f.internals ++ f.constants)) (subst AreDistinct (names_append f.outputs (f.internals ++ f.constants)) behind)
 
-no_names : HaveNames []
+pub no_names : HaveNames []
 no_names i j d l m = absurd (nothing j m)
   where
     nothing : (j : ℕ) → j < 0 → ⊥
@@ -118,11 +116,6 @@ run_named p inputs h = by (outputs_of p.meaning.flowchart inputs)
 
 -- ---- each row
 
--- the plan that is picked, if there is one, is accepted
-abbrev HasPlan : Option (Entry Accepted) → Type 0
-HasPlan None = Unit {0}
-HasPlan (Some e) = IsPlan (plan_of e)
-
 filled_named : (e : Entry Accepted) (d : Day) (f : Filled) → IsPlan (plan_of e) →
     AreNamed (outputs_in (row_filled e d f).state)
 filled_named e d (filling.Inputs inputs) h = run_named (plan_of e) inputs h
@@ -133,7 +126,7 @@ row_named : (o : Option (Entry Accepted)) (earlier : List Earlier) (r : Record) 
 row_named None earlier r h = tt
 row_named (Some e) earlier r h = filled_named e r.day (filled (plan_of e) r.values earlier) h
 
-rows_named : (k : YearKey) (planned : Planned) → ((d : Day) → HasPlan (planned d)) →
+pub rows_named : (k : YearKey) (planned : Planned) → ((d : Day) → HasPlan (planned d)) →
     (earlier : List Earlier) (rs : List Record) →
     AllByRecursion HasNames (map (keyed_row k) (rows planned earlier rs))
 rows_named k planned h earlier [] = tt
@@ -144,7 +137,7 @@ all_named : (planned : Planned) → ((d : Day) → HasPlan (planned d)) → (yea
 all_named planned h [] = tt
 all_named planned h (y ∷ ys) = all_both HasNames (keyed_rows planned y) (flat_map (keyed_rows planned) ys) (rows_named y.key planned h [] y.runs) (all_named planned h ys)
 
-picked_plan : (plans : List (Entry Accepted)) (d : Day) → AreEntries plans → ArePlans plans → HasPlan (pick plans d)
+pub picked_plan : (plans : List (Entry Accepted)) (d : Day) → AreEntries plans → ArePlans plans → HasPlan (pick plans d)
 picked_plan plans d entries all = by (pick plans d) (pick_latest plans d entries.rising)
   where
     by : (o : Option (Entry Accepted)) → IsLatest plans (λ a. serves a d) o → HasPlan o

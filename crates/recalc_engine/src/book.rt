@@ -4,6 +4,7 @@ ghost use Rattle.std.specs.Option.{option_copied};
 ghost use Rattle.book_year.specs.Accepted.{accepted, plans_in};
 ghost use Rattle.book_edits.specs.Books.{in_month, run_at};
 ghost use Rattle.book_year.specs.Jobs.{Counts};
+ghost use Rattle.book_edits.specs.Kept.{AreYears, years_of};
 ghost use Rattle.book_edits.specs.Refusals.{CountsEdit, most_records};
 ghost use Rattle.book_loads.specs.Loads.{AreDistinct};
 ghost use Rattle.recalc_engine.specs.BookLaws.{ArePlans, BooksAreTheirParts, IsBook, JobsAreDone, RowsAreCounted};
@@ -111,6 +112,14 @@ impl Book {
         ensures { result ≡ self.now.last }
     {
         self.last
+    }
+
+    /// The runs by employee and calendar year, in order, with what is kept of each.
+    pub fn years(&self) -> &Years
+        ensures years { years_of result.now ≡ self.now.years }
+        ensures kept { AreYears self.now.plans result.now }
+    {
+        &self.years
     }
 
     /// The plans by day.

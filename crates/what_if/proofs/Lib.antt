@@ -1,0 +1,10 @@
+mod ChangeLemmas
+mod FullLemmas
+pub mod Laws
+mod OrderLemmas
+mod RisingLemmas
+mod SideLemmas
+mod StateLemmas
+mod TrialLemmas
+mod ValueLemmas
+mod YearLemmas

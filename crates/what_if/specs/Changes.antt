@@ -1,0 +1,101 @@
+-- What differs between the states of the runs of two books that have the same runs.
+use Rattle.std.specs.Prelude.{ℕ, List, [], ◌∷◌, ◌++◌, Option, Some, None, Bool, true, false, ◌&&◌, if◌then◌else◌, map}
+use Rattle.std.specs.List.{filter_map}
+use Rattle.std.specs.Ordering.{is_eq}
+use Rattle.std.specs.Str.{bytes_eq}
+use Rattle.std.specs.Cmp.Lexicographic.{pointwise}
+use Rattle.scaled_decimal.specs.Decimals.{Decimal}
+use Rattle.rising_lists.specs.Keyed.{put}
+use Rattle.payroll_records.specs.declared.record.Key.{Key}
+use Rattle.payroll_records.specs.declared.values.NamedValue.{NamedValue}
+use Rattle.payroll_records.specs.NamedValues.{name_cmp, name_of}
+use Rattle.payroll_records.specs.Orders.{day_cmp}
+use Rattle.carry_bindings.specs.Carrying.{named}
+use Rattle.carry_bindings.specs.declared.filling.Blocked.{Blocked}
+use Rattle.carry_bindings.specs.declared.filling.Blocked.TheVariants as blocked
+use Rattle.book_year.specs.declared.outcome.State.{State}
+use Rattle.book_year.specs.declared.outcome.State.TheVariants as state
+use Rattle.book_year.specs.Jobs.{same_decimal}
+use Rattle.recalc_engine.specs.MonthRows.{KeyedRow}
+use Rattle.what_if.specs.declared.trial.Shown.{Shown}
+use Rattle.what_if.specs.declared.trial.Shown.TheVariants as shown
+use Rattle.what_if.specs.declared.trial.TrialRow.{TrialRow}
+use Rattle.what_if.specs.declared.trial.TrialRow.TheVariants.{Changed, Value}
+
+-- ---- the same state
+
+-- the same cause, with the same day or the same name
+abbrev pub same_cause : Blocked → Blocked → Bool
+same_cause (blocked.Waits d) (blocked.Waits e) = is_eq (day_cmp d e)
+same_cause (blocked.Unknown m) (blocked.Unknown n) = bytes_eq m n
+same_cause (blocked.Missing m) (blocked.Missing n) = bytes_eq m n
+same_cause (blocked.Range m) (blocked.Range n) = bytes_eq m n
+same_cause _ _ = false
+
+-- the same name, number and scale
+abbrev pub same_output : NamedValue → NamedValue → Bool
+same_output v w = bytes_eq v.name w.name && same_decimal v.value w.value
+
+-- no plan in both, the same cause, or the same outputs in the same order
+abbrev pub same_state : State → State → Bool
+same_state state.NoPlan state.NoPlan = true
+same_state (state.Blocked b) (state.Blocked c) = same_cause b c
+same_state (state.Done vs) (state.Done ws) = pointwise same_output vs ws
+same_state _ _ = false
+
+-- ---- what is shown
+
+-- a state without its values
+abbrev pub shown_cause : Blocked → Shown
+shown_cause (blocked.Waits d) = shown.Waits
+shown_cause (blocked.Unknown n) = shown.Unknown
+shown_cause (blocked.Missing n) = shown.Missing
+shown_cause (blocked.Range n) = shown.Range
+
+abbrev pub shown_state : State → Shown
+shown_state state.NoPlan = shown.NoPlan
+shown_state (state.Blocked b) = shown_cause b
+shown_state (state.Done vs) = shown.Done
+
+-- the outputs of a state, none where it has none
+abbrev pub outputs_of : State → List NamedValue
+outputs_of (state.Done vs) = vs
+outputs_of _ = []
+
+-- ---- the rows
+
+-- in neither state, or in both with the same number and scale
+abbrev pub same_amount : Option Decimal → Option Decimal → Bool
+same_amount None None = true
+same_amount (Some a) (Some b) = same_decimal a b
+same_amount _ _ = false
+
+-- the row of a name, where its value among the outputs differs
+abbrev pub value_row : Key → List NamedValue → List NamedValue → List ℕ → Option TrialRow
+value_row k before after name =
+    let was = named name before in
+    let is = named name after in
+    if same_amount was is then None else Some (Value k name was is)
+
+-- names in the order of their bytes, each once
+abbrev pub in_order : List (List ℕ) → List (List ℕ)
+in_order [] = []
+in_order (n ∷ ns) = put name_cmp (λ m. m) n (in_order ns)
+
+-- the rows of the outputs of a run, in order of their names
+abbrev pub value_rows : Key → List NamedValue → List NamedValue → List TrialRow
+value_rows k before after =
+    filter_map (value_row k before after) (in_order (map name_of (before ++ after)))
+
+-- the rows of a run: none where its state stays, else its own and those of its outputs
+abbrev pub run_changes : Key → State → State → List TrialRow
+run_changes k before after =
+    if same_state before after then []
+    else Changed k (shown_state before) (shown_state after)
+    ∷ value_rows k (outputs_of before) (outputs_of after)
+
+-- the rows of all runs, one after another, where the second list has the runs of the first
+abbrev pub changes : List KeyedRow → List KeyedRow → List TrialRow
+changes [] after = []
+changes (b ∷ before) [] = []
+changes (b ∷ before) (a ∷ after) = run_changes b.key b.state a.state ++ changes before after

@@ -1,0 +1,5 @@
+pub mod Changes
+pub mod Trials
+pub mod TrialLaws
+pub mod SideViews
+pub mod YearViews

@@ -1,0 +1,87 @@
+//! The trial of a plan.
+ghost use Rattle.std.specs.Prelude.{◌≡◌, IfOk, IfErr};
+ghost use Rattle.book_year.specs.Accepted.{accepted, plans_in};
+ghost use Rattle.book_year.specs.Jobs.{Counts, total_cost};
+ghost use Rattle.book_year.specs.Picks.{before, after, ArePicks};
+ghost use Rattle.book_edits.specs.Kept.{AreYears, jobs_in, years_of};
+ghost use Rattle.recalc_engine.specs.EditAnswers.{CanEdit, put};
+ghost use Rattle.what_if.specs.TrialLaws.{SameStatesAreOne, UnnamedRunsStay};
+ghost use Rattle.what_if.specs.Trials.{CountsTry, IsTryRefused, trial_of};
+ghost use Rattle.what_if.specs.YearViews.{ArePlanned, IsTried};
+
+use crate::rows::push_year;
+use crate::trial::{Trial, TryRefusal};
+use book_edits::{Years, is_full, redo_year};
+use book_year::{Picks, Work};
+use limits_file::Items;
+use pap_plan::Plan;
+use payroll_records::Day;
+use recalc_engine::Book;
+use std::alloc::{AllocError, Global};
+use std::sync::ledger::Ledger;
+use steps::Steps;
+
+/// What putting a plan at its day would change of a book, and the work that it would be: the runs whose job would be new are
+/// run, and nothing of it is kept. `Plans` exactly where there are 64 plans and none of that day, else `Memory` where memory
+/// runs out. The counter rises by exactly the steps of that work; after `Plans` it stays, after `Memory` it may have risen by
+/// some of them.
+pub fn try_plan<L: Ledger>(
+    alloc: Global,
+    b: &Book,
+    day: Day,
+    p: Plan,
+    steps: &mut Steps<L>,
+) -> Result<Trial, TryRefusal>
+    ensures ok { IfOk result (λ trial. trial ≡ trial_of b.now (day, accepted p)) }
+    ensures can { IfOk result (λ _. CanEdit b.now (put (day, accepted p))) }
+    ensures refused { IfErr result (IsTryRefused b.now (day, accepted p)) }
+    ensures counted { CountsTry result (trial_of b.now (day, accepted p)).work.steps
+        steps.old steps.new }
+{
+    if is_full(b.plans().entries(), day) {
+        return Err(TryRefusal::Plans);
+    }
+    b.is_whole();
+    let _ = p.bound();
+    let picks = Picks::edited(b.plans(), day, Some((day, &p)));
+    let trial = try_years(alloc, &picks, b.years(), steps)?;
+    Ok(trial)
+}
+
+/// What the plans that the days are about to get change of all years. The counter rises by exactly the steps of the work;
+/// where memory runs out it may have risen by some of them.
+fn try_years<L: Ledger>(
+    alloc: Global,
+    picks: &Picks,
+    years: &Years,
+    steps: &mut Steps<L>,
+) -> Result<Trial, AllocError>
+    requires picks { ArePicks picks.now }
+    requires years { AreYears (plans_in picks.now.plans.now) years.now }
+    requires before { ArePlanned (before picks.now) }
+    requires after { ArePlanned (after picks.now) }
+    ensures ok { IfOk result (IsTried (before picks.now) (after picks.now) years.now) }
+    ensures counted { Counts result steps.old steps.new (total_cost
+        (jobs_in (before picks.now) (after picks.now) (years_of years.now) (years_of years.now))) }
+{
+    let mut rows = Vec::new(alloc);
+    let mut runs = 0;
+    let mut taken = 0;
+    for year in years.list.as_slice() {
+        let done = redo_year(alloc, picks, year, steps)?;
+        runs += done.work.runs;
+        taken += done.work.steps;
+        push_year(&mut rows, year, &done)?;
+    }
+    Ok(Trial {
+        rows: Items::from_vec(rows),
+        work: Work { runs, steps: taken },
+    })
+}
+
+/// Laws of the definitions: two states are told the same exactly where they are; a run that no row of a trial names has the
+/// same state once the plan is put.
+pub fn trial_laws()
+    ensures one { SameStatesAreOne }
+    ensures stay { UnnamedRunsStay }
+{}
