@@ -45,4 +45,10 @@ pub enum Command {
     },
     /// `owed`
     Owed,
+    /// `try DAY PLANFILE LIMITFILE`: what the plan and the limits of these files would change.
+    Try {
+        day: Day,
+        plan: String,
+        limits: String,
+    },
 }

@@ -26,6 +26,7 @@ pub(crate) enum Verb {
     Trace,
     File,
     Owed,
+    Try,
 }
 
 /// The words of a line.
@@ -61,6 +62,7 @@ pub(crate) fn read_verb(word: &[u8]) -> Option<Verb>
         b"trace" => Some(Verb::Trace),
         b"file" => Some(Verb::File),
         b"owed" => Some(Verb::Owed),
+        b"try" => Some(Verb::Try),
         _ => None,
     }
 }

@@ -111,6 +111,9 @@ owed_steps from answer h = by h.verdict h.told
 
 -- ---- the line end behind the words of a line
 
+pub ended_pair : (p a b : List ℕ) → p ++ (a ++ (32 ∷ (b ++ (10 ∷ [])))) ≡ (p ++ (a ++ (32 ∷ b))) ++ (10 ∷ [])
+ended_pair p a b = simp append_assoc
+
 pub ended_due : (p a b c d : List ℕ) →
     p ++ (a ++ (32 ∷ (b ++ (32 ∷ (c ++ (32 ∷ (d ++ (10 ∷ [])))))))) ≡
     (p ++ (a ++ (32 ∷ (b ++ (32 ∷ (c ++ (32 ∷ d))))))) ++ (10 ∷ [])
@@ -124,3 +127,8 @@ ended_set p m n x v = simp append_assoc
 pub ended_site : (p m n x : List ℕ) →
     p ++ (m ++ (58 ∷ (n ++ (32 ∷ (x ++ (10 ∷ [])))))) ≡ (p ++ ((m ++ (58 ∷ n)) ++ (32 ∷ x))) ++ (10 ∷ [])
 ended_site p m n x = simp append_assoc
+
+pub ended_value : (p a b c d e : List ℕ) →
+    p ++ (a ++ (32 ∷ (b ++ (32 ∷ (c ++ (32 ∷ (d ++ (32 ∷ (e ++ (10 ∷ [])))))))))) ≡
+    (p ++ (a ++ (32 ∷ (b ++ (32 ∷ (c ++ (32 ∷ (d ++ (32 ∷ e))))))))) ++ (10 ∷ [])
+ended_value p a b c d e = simp append_assoc

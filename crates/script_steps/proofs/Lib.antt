@@ -10,3 +10,4 @@ mod StepLemmas
 mod WriteLemmas
 mod TableLemmas
 mod PlanLemmas
+mod TrialLemmas

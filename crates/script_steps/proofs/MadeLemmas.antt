@@ -1,5 +1,5 @@
 -- What the functions of lines leave, said of the files and of what was written.
-use Rattle.std.proofs.Common.{◌≡◌, ℕ, ◌+◌, List, [], Bool, refl, sym, ap, subst, arith, inl, inr}
+use Rattle.std.proofs.Common.{◌≡◌, ◌⊎◌, ℕ, ◌+◌, List, [], Bool, refl, sym, ap, subst, arith, inl, inr}
 use Rattle.std.specs.Prelude.{Option, Some, Result, Ok, Err, IfOk}
 use Rattle.std.specs.Option.{ForSome}
 use Rattle.std.specs.Result.{ForErr}
@@ -13,20 +13,19 @@ use Rattle.script_lang.specs.Commands as asked
 use Rattle.script_lang.specs.Lines.{IsLine, LineSays, IsRefused}
 use Rattle.script_lang.specs.declared.fault.LineFault.{LineFault}
 use Rattle.script_lang.specs.declared.fault.LineFault.TheVariants as faults
-use Rattle.payroll_records.specs.declared.day.Day.{Day}
-use Rattle.plan_answers.specs.Fronts.{IsMissing}
 use Rattle.plan_answers.specs.Answers.{Answer, refusal}
 use Rattle.plan_answers.proofs.Laws.{if_ok_map}
 use Rattle.script_steps.specs.declared.stop.LineStop.{LineStop}
 use Rattle.script_steps.specs.declared.stop.LineStop.TheVariants as stops
-use Rattle.script_steps.specs.LineSteps.{IsFileOf, report_answer, IsNextFile}
+use Rattle.script_steps.specs.LineSteps.{IsFileOf, report_answer, IsNextFile, IsNextOfPlan}
 use Rattle.script_steps.specs.LineTexts.{line_detail}
-use Rattle.script_steps.specs.Standings.{Standing}
+use Rattle.script_steps.specs.Standings.{Standing, Doing}
 use Rattle.script_steps.specs.Steps.{IsStep}
 use Rattle.script_steps.specs.Stops.{stop_of}
 use Rattle.script_steps.specs.StepClauses.{IsAnswered, IsBroken}
-use Rattle.script_steps.specs.StepViews.{Doing, IsMade, IsLost, IsWant, ToldDoes, IsUnmade, IsLineRefusal, IsWritten}
+use Rattle.script_steps.specs.StepViews.{IsMade, IsLost, IsWant, ToldDoes, IsUnmade, IsLineRefusal, IsWritten}
 use Rattle.script_steps.specs.StepViews.{IsUnwritten, IsRefusalWritten, IsRefusalUnwritten}
+use Rattle.script_steps.specs.PlanViews.{IsUnjudged}
 
 err_same : {T E : Type 0} (r : Result T E) (x y : E) → r ≡ Err x → r ≡ Err y → x ≡ y
 err_same r x y a b = cc
@@ -40,6 +39,11 @@ for_err P r x is h = λ e same. subst P (err_same r x e is same) h
 pub made_map : (P Q : Doing) (to : Standing) (before now : ℕ) (answer : Answer)
     → ((to : Standing) (a : Answer) → P to a → Q to a) → IsMade P to before now answer → IsMade Q to before now answer
 made_map P Q to before now answer f m = record { is = f to answer m.is; counted = m.counted }
+
+-- nothing was counted
+pub made_still : (Step : Doing) (to : Standing) (steps : ℕ) (reply : Answer) → Step to reply → reply.steps ≡ 0
+    → IsMade Step to steps steps reply
+made_still Step to steps reply is none = record { is = is; counted = omega (arith, none) }
 
 pub lost_map : (P Q : Doing) (before now : ℕ) → ((to : Standing) (a : Answer) → P to a → Q to a) → IsLost P before now
     → IsLost Q before now
@@ -109,8 +113,7 @@ module _ (told : Option FileMap) (old new : Option (List ℕ)) (before now : ℕ
           part = u;
           later = omega (arith, is);
           within = omega (arith, is);
-          is =
-              step_of to answer m.is;
+          is = step_of to answer m.is;
         }
     cut to answer failed stops.Memory m u =
         let is = m.counted in
@@ -228,7 +231,8 @@ module _ (told : Option FileMap) (old new : Option (List ℕ)) (before now : ℕ
 -- the report leaves all as it is
 pub report_made : (told : Option FileMap) (from : Standing) (steps : ℕ)
     → IsMade (ToldDoes told from (Ok asked.report)) from steps steps (report_answer from)
-report_made told from steps = record { is = λ files e. (refl, refl); counted = omega arith }
+report_made told from steps =
+    made_still (ToldDoes told from (Ok asked.report)) from steps (report_answer from) (λ files e. (refl, refl)) refl
 
 -- the sink isn't touched where no reply was made
 pub unmade_broken : (told : Option FileMap) (old : Option (List ℕ)) (before now : ℕ) (from : Standing)
@@ -265,20 +269,34 @@ faults_broken told old new steps from line failed why result h u =
 
 -- ---- a plan's files
 
-pub unread_plan : (Step : Doing) (day : Day) (plan limits : List ℕ) (steps : ℕ) (told : Option FileMap)
-    (failed : Option (List ℕ)) {T : Type 0} (r : Result T LineStop) (answer : FileAnswer) → r ≡ Err (stop_of answer)
-    → (answer ≡ answers.Failed → IsMissing told plan limits failed)
-    → ForErr r (IsUnmade told Step (asked.plan day plan limits) steps steps failed)
-unread_plan Step day plan limits steps told failed r answers.Failed is missing = by (missing refl)
-  where
-    by : IsMissing told plan limits failed
-        → ForErr r (IsUnmade told Step (asked.plan day plan limits) steps steps failed)
-    by (inl e) = unread told Step (asked.plan day plan limits) steps steps failed r answers.Failed plan is refl
-        (λ _. (inl refl, e, λ files t. inl refl))
-    by (inr e) = unread told Step (asked.plan day plan limits) steps steps failed r answers.Failed limits is refl
-        (λ _. (inr refl, e.0, λ files t. inr (refl, e.1 files t)))
-unread_plan Step day plan limits steps told failed r answers.Memory is missing =
-    wanting told Step (asked.plan day plan limits) steps steps failed r is (inl refl)
+-- the plan of two files wasn't judged
+pub unjudged : (Step : Doing) (what : Asked) (plan limits : List ℕ) (steps : ℕ) (told : Option FileMap)
+    (failed : Option (List ℕ))
+    → ((name : List ℕ) → (name ≡ plan) ⊎ (name ≡ limits) → IsFileOf what name)
+    → ((files : FileMap) (name : List ℕ) → IsNextOfPlan files plan limits name → IsNextFile files what name)
+    → (stop : LineStop) → IsUnjudged told plan limits failed stop → {T : Type 0} (r : Result T LineStop)
+    → r ≡ Err stop → ForErr r (IsUnmade told Step what steps steps failed)
+unjudged Step what plan limits steps told failed of next stops.File (inl e) r is =
+    for_err (IsUnmade told Step what steps steps failed) r stops.File is
+    (record {
+      uncounted = refl;
+      name = plan;
+      is_file = of plan (inl refl);
+      in_order = λ files t. next files plan (inl refl);
+      failed_there = e;
+    })
+unjudged Step what plan limits steps told failed of next stops.File (inr e) r is =
+    for_err (IsUnmade told Step what steps steps failed) r stops.File is
+    (record {
+      uncounted = refl;
+      name = limits;
+      is_file = of limits (inr refl);
+      in_order = λ files t. next files limits (inr (refl, e.1 files t));
+      failed_there = e.0;
+    })
+unjudged Step what plan limits steps told failed of next stops.Write u r is = absurd u
+unjudged Step what plan limits steps told failed of next stops.Memory u r is =
+    for_err (IsUnmade told Step what steps steps failed) r stops.Memory is (inl refl)
 
 -- the sink is no cause where no reply was made
 pub unmade_cause : (told : Option FileMap) (Step : Doing) (what : Asked) (before now : ℕ) (failed : Option (List ℕ))

@@ -8,3 +8,4 @@ pub mod Stops
 pub mod StepClauses
 pub mod StepLaws
 pub mod StepViews
+pub mod PlanViews

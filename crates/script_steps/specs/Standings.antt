@@ -1,5 +1,5 @@
 -- What the lines of a script leave, and what a line answers.
-use Rattle.std.specs.Prelude.{ℕ, ◌+◌, List, [], false, None, min}
+use Rattle.std.specs.Prelude.{◌≡◌, ℕ, ◌+◌, List, [], false, None, min}
 use Rattle.book_year.specs.declared.outcome.Work.{Work}
 use Rattle.recalc_engine.specs.Contents.{Contents}
 use Rattle.correction_ledger.specs.Filings.{Filings}
@@ -40,6 +40,14 @@ start = record {
 -- an answer that is no refusal: its text, and the steps that it counts
 abbrev pub accepted : List ℕ → ℕ → Answer
 accepted text steps = record { text = text; refused = false; steps = steps }
+
+-- what a line leaves and answers
+abbrev pub Doing : Type 1
+Doing = Standing → Answer → Type 0
+
+-- nothing changes, and this is answered
+abbrev pub Stays : Standing → Standing → Answer → Answer → Type 0
+Stays from to said answer = (to ≡ from) × (answer ≡ said)
 
 -- nothing is written
 abbrev pub silence : Answer

@@ -1,5 +1,5 @@
 -- What the function of a kind of line leaves, before its answer is written.
-use Rattle.std.specs.Prelude.{◌≡◌, ◌⊎◌, ℕ, ◌+◌, ◌≤◌, List, [], Bool, Option, Some, Result, Ok, Err}
+use Rattle.std.specs.Prelude.{◌≡◌, ◌⊎◌, ℕ, ◌+◌, ◌≤◌, List, [], ◌++◌, Bool, Option, Some, Result, Ok, Err}
 use Rattle.std.specs.Option.{ForSome}
 use Rattle.outside.specs.Told.{FileMap, Appends, AppendsPrefix}
 use Rattle.script_lang.specs.Commands.{Asked}
@@ -16,17 +16,17 @@ use Rattle.correction_ledger.specs.declared.ledger.FileRefusal.{FileRefusal}
 use Rattle.correction_ledger.specs.declared.ledger.FileRefusal.TheVariants as filing
 use Rattle.correction_ledger.specs.declared.ledger.OwedRefusal.{OwedRefusal}
 use Rattle.correction_ledger.specs.declared.ledger.OwedRefusal.TheVariants as owed
+use Rattle.what_if.specs.declared.trial.Trial.{Trial}
+use Rattle.what_if.specs.declared.trial.TryRefusal.{TryRefusal}
+use Rattle.what_if.specs.declared.trial.TryRefusal.TheVariants as trying
 use Rattle.report_csv.specs.Fronts.{AppendsFront}
 use Rattle.plan_answers.specs.Answers.{Answer, refusal}
 use Rattle.script_steps.specs.declared.stop.LineStop.{LineStop}
 use Rattle.script_steps.specs.declared.stop.LineStop.TheVariants as stops
 use Rattle.script_steps.specs.LineSteps.{Does, IsFileOf, IsNextFile}
 use Rattle.script_steps.specs.LineTexts.{line_detail, table_detail, edit_detail, trace_detail, file_detail, owed_detail}
-use Rattle.script_steps.specs.Standings.{Standing, accepted, more_work}
-
--- what a line leaves and answers, for one that does this
-abbrev pub Doing : Type 1
-Doing = Standing → Answer → Type 0
+use Rattle.script_steps.specs.LineTexts.{trial_text}
+use Rattle.script_steps.specs.Standings.{Standing, Doing, accepted, more_work}
 
 -- the line has left this and has this answer, whose steps were counted
 pub record IsMade (Step : Doing) (to : Standing) (before now : ℕ) (answer : Answer) : Type 0 where
@@ -88,6 +88,12 @@ IsFileRefusal why answer = answer ≡ refusal (file_detail why)
 abbrev pub IsOwedRefusal : OwedRefusal → Answer → Type 0
 IsOwedRefusal (owed.Memory e) answer = ⊥
 IsOwedRefusal why answer = answer ≡ refusal (owed_detail why)
+
+-- what is answered to a trial, behind the line of the plan's bound
+abbrev pub IsTrialReply : List ℕ → Result Trial TryRefusal → Answer → Type 0
+IsTrialReply bound (Ok trial) answer = answer ≡ accepted (bound ++ trial_text trial) trial.work.steps
+IsTrialReply bound (Err trying.Plans) answer = IsEditRefusal edits.Plans answer
+IsTrialReply bound (Err (trying.Memory e)) answer = ⊥
 
 -- what is answered to an edit that the book has made or refused, and what its work makes of the work of all edits
 abbrev pub IsEditReply : List ℕ → Result Work EditRefusal → Work → Work → Answer → Type 0

@@ -13,7 +13,7 @@ ghost use Rattle.script_steps.specs.StepViews.{IsMade, IsUnmade, ToldDoes};
 use crate::edits::{add, change, drop_plan, withdraw};
 use crate::filings::{file, owed};
 use crate::load::load;
-use crate::plan::plan;
+use crate::plan::{plan, trial};
 use crate::reply::{accepted, write_reply};
 use crate::report::report;
 use crate::script::Script;
@@ -96,6 +96,11 @@ fn make_reply<F: Files, L: Ledger>(
         Command::Trace { employee, when } => Ok(trace(alloc, &script.book, employee, when)?),
         Command::File { month } => Ok(file(alloc, script, month)?),
         Command::Owed => Ok(owed(alloc, script)?),
+        Command::Try {
+            day,
+            plan: file,
+            limits,
+        } => { trial(alloc, script, day, &file, &limits, files, steps) }
     }
 }
 

@@ -13,6 +13,7 @@ mod script;
 mod step;
 mod stop;
 mod trace;
+mod trial;
 
 pub use script::Script;
 pub use step::{answer_line, step_laws};

@@ -22,3 +22,13 @@ returns-in-Load-clause-unmade g c =
     (ToldDoes (g.F.Files.told c.args.files.now) c.args.script.now (Ok w)) w c.args.steps.now c.load.new.steps
     (g.F.Files.failed c.load.new.files)))
     (ap (λ f. asked.load f) c.deref-in-Load.ensures ∙ sym (ap asked_of c.in-Load.is)) c.load.ensures.unmade
+
+pub returns-in-Try-clause-unmade : goal.returns-in-Try-clause-unmade
+returns-in-Try-clause-unmade g c =
+    let told = g.F.Files.told c.args.files.now in
+    let day = c.in-Try.day in
+    let files = ap (λ f. asked.trial day f c.deref-in-Try-2.result.now) c.deref-in-Try.ensures
+    ∙ ap (λ l. asked.trial day (string_bytes c.in-Try.file) l) c.deref-in-Try-2.ensures in
+    subst (λ (w : Asked). ForErr c.trial.result (IsUnmade told (ToldDoes told c.args.script.now (Ok w)) w
+    c.args.steps.now c.trial.new.steps (g.F.Files.failed c.trial.new.files)))
+    (files ∙ sym (ap asked_of c.in-Try.is)) c.trial.ensures.unmade
