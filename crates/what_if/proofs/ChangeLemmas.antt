@@ -52,7 +52,7 @@ pub changes_by_year : (p q : Planned) (ys : List YearRuns) →
 changes_by_year p q [] = refl
 changes_by_year p q (y ∷ ys) =
     changes_append (keyed_rows p y) (keyed_rows q y) (flat_map (keyed_rows p) ys) (flat_map (keyed_rows q) ys)
-        (rows_as_long p q y)
+    (rows_as_long p q y)
     ∙ ap (λ t. year_changes p q y ++ t) (changes_by_year p q ys)
 
 -- ---- a run that stays
@@ -89,7 +89,7 @@ pub changes_more : (rs : List Record) (bs ns : List Outcome) (r : Record) (b a :
 changes_more rs bs ns r b a e f =
     ap₂ changes (kept_more rs bs r b e) (kept_more rs ns r a f)
     ∙ changes_append (kept_rows rs bs) (kept_rows rs ns) (kept_row r b ∷ []) (kept_row r a ∷ []) (kept_long rs bs e
-        ∙ sym (kept_long rs ns f))
+    ∙ sym (kept_long rs ns f))
     ∙ ap (λ t. changes (kept_rows rs bs) (kept_rows rs ns) ++ t) (append-nil (run_changes (key_of r) b.state a.state))
 
 take_long : {X Y : Type 0} (i : ℕ) (xs : List X) (ys : List Y) → length xs ≡ length ys →
@@ -109,7 +109,7 @@ pub runs_more : (rs : List Record) (bs ns : List Outcome) (i : ℕ) (r : Record)
     length rs ≡ length ns → i < length rs → r ≡ get_or rs i r → b ≡ get_or bs i b → a ≡ get_or ns i a →
     changes (kept_rows (take (i + 1) rs) (take (i + 1) bs)) (kept_rows (take (i + 1) rs) (take (i + 1) ns))
     ≡ changes (kept_rows (take i rs) (take i bs)) (kept_rows (take i rs) (take i ns)) ++ run_changes (key_of r)
-        b.state a.state
+    b.state a.state
 runs_more rs bs ns i r b a e f l r_is b_is a_is =
     let rs_step = next_taken rs i r l r_is in
     let bs_step = next_taken bs i b (omega (arith, l, e)) b_is in
@@ -173,9 +173,9 @@ unnamed_at (b ∷ bs) (a ∷ ns) k e h = by (unnamed_at bs ns k) (key_cmp b.key 
     by more Equal t =
         let key : b.key ≡ k = key_same b.key k t in
         let one : a.state ≡ b.state = unnamed_run b.key b.state a.state
-            (subst (IsUnnamed (run_changes b.key b.state a.state)) (sym key) parts.0) in
+        (subst (IsUnnamed (run_changes b.key b.state a.state)) (sym key) parts.0) in
         ap (λ o. first o a ns) (ap (λ x. key_cmp x k) (sym same) ∙ t) ∙ ap (λ s. Some s) one
-            ∙ sym (ap (λ o. first o b bs) t)
+        ∙ sym (ap (λ o. first o b bs) t)
     by more Greater t = ap (λ o. first o a ns) (ap (λ x. key_cmp x k) (sym same) ∙ t) ∙ rest more
         ∙ sym (ap (λ o. first o b bs) t)
 

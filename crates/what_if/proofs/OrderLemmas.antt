@@ -73,7 +73,7 @@ rising_of_sorted [] s d = tt
 rising_of_sorted (x ∷ []) s d = (tt, tt)
 rising_of_sorted (x ∷ y ∷ ys) s d =
     let more = rising_of_sorted (y ∷ ys) (sorted_tail x (y ∷ ys) s)
-        (IsDistinct-tail bytes_eq (name_of x) (names (y ∷ ys)) d) in
+    (IsDistinct-tail bytes_eq (name_of x) (names (y ∷ ys)) d) in
     let head = IsDistinct-head bytes_eq (name_of x) (names (y ∷ ys)) d in
     let less = less_of (name_of x) (name_of y) (s 0 x (omega arith) (omega arith)) head.0 in
     ((less, above_more name_cmp nat_list_cmp_total name_of (name_of x) (name_of y) ys less more.0), more)
@@ -88,14 +88,14 @@ in_some : (vs : List NamedValue) (d : NamedValue) → In vs d → value_at vs (n
 in_some [] d m e = m
 in_some (x ∷ xs) d (inl s) e = (elim (is_eq (name_cmp (name_of x) (name_of d))) as
     (λ b. is_eq (name_cmp (name_of x) (name_of d)) ≡ b → (if b then Some x else value_at xs (name_of d)) ≡ None → ⊥) [
-  | true ↦ λ t f. cc f
-  | false ↦ λ t f. apart_from x d t s
-]) refl e
+      | true ↦ λ t f. cc f
+      | false ↦ λ t f. apart_from x d t s
+    ]) refl e
 in_some (x ∷ xs) d (inr m) e = (elim (is_eq (name_cmp (name_of x) (name_of d))) as
     (λ b. (if b then Some x else value_at xs (name_of d)) ≡ None → ⊥) [
-  | true ↦ λ f. cc f
-  | false ↦ λ f. in_some xs d m f
-]) e
+      | true ↦ λ f. cc f
+      | false ↦ λ f. in_some xs d m f
+    ]) e
 
 module _ (xs ys : List NamedValue) (p : IsPermutation xs ys) (h : IsRising name_cmp name_of ys) where
   there : (d : NamedValue) → In xs d → In ys d
@@ -114,7 +114,7 @@ module _ (xs ys : List NamedValue) (p : IsPermutation xs ys) (h : IsRising name_
           let found = found_in name_cmp name_of xs n d e in
           let name = name_same (name_of d) n found.1 in
           ap (λ t. value_at ys t) (sym name) ∙ in_found name_cmp nat_list_cmp_total name_of ys d h (there d found.0)
-              ∙ sym e
+          ∙ sym e
       by None e None f = f ∙ sym e
       by None e (Some d) f =
           let found = found_in name_cmp name_of ys n d f in
@@ -131,6 +131,6 @@ pub ordered_sorted : (outputs ys : List NamedValue) → HaveNames outputs → Is
 ordered_sorted outputs ys named p s =
     let apart = IsDistinct-from_AllPairs bytes_eq-Decides (map name_of outputs) named in
     let still = IsDistinct-IsPermutation bytes_eq eq_flips (names outputs) (names ys)
-        (IsPermutation-map name_of outputs ys p) apart in
+    (IsPermutation-map name_of outputs ys p) apart in
     let rising = rising_of_sorted ys s still in
     record { rising = rising; at = sorted_at outputs ys p rising }

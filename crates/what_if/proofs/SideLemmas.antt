@@ -68,12 +68,15 @@ rising_with v vs [] g h go = (above_sides v.name vs [] g.0 tt, go [] tt)
 rising_with v vs (w ∷ ws) g h go = elim (name_cmp v.name w.name) as (λ o. name_cmp v.name w.name ≡ o →
     IsRising name_cmp side_name
     (sides_by o v w (sides_of vs (w ∷ ws)) (sides_of vs ws) (sides_with v (sides_of vs) ws))) [
-  | Less ↦ λ e. (above_sides v.name vs (w ∷ ws) g.0 (e, above_next v.name w.name ws e h.0), go (w ∷ ws) h)
-  | Equal ↦ λ e. (above_sides v.name vs ws g.0 (above_same name_cmp nat_list_cmp_total name_of v.name w.name ws e
-      h.0), go ws h.1)
-  | Greater ↦ λ e. (let l = to_less v.name w.name e in
-      (above_sides w.name (v ∷ vs) ws (l, above_next w.name v.name vs l g.0) h.0, rising_with v vs ws g h.1 go))
-] refl
+      | Less ↦ λ e. (above_sides v.name vs (w ∷ ws) g.0 (e, above_next v.name w.name ws e h.0), go (w ∷ ws) h)
+      | Equal ↦ λ e. (
+        above_sides v.name vs ws g.0 (above_same name_cmp nat_list_cmp_total name_of v.name w.name ws e
+            h.0),
+        go ws h.1,
+      )
+      | Greater ↦ λ e. (let l = to_less v.name w.name e in
+          (above_sides w.name (v ∷ vs) ws (l, above_next w.name v.name vs l g.0) h.0, rising_with v vs ws g h.1 go))
+    ] refl
 
 pub sides_rising : (vs ws : List NamedValue) → Rises vs → Rises ws → IsRising name_cmp side_name (sides_of vs ws)
 sides_rising [] ws g h = rising_map name_cmp name_of side_name right_only (λ w. refl) ws h
@@ -106,38 +109,38 @@ module _ (n : List ℕ) where
   at_with v vs [] g h go = elim (is_eq (name_cmp v.name n)) as
       (λ b. (if b then Some (left_only v) else side_at (sides_of vs []) n) ≡ met
       (if b then Some v else value_at vs n) None) [
-    | true ↦ refl
-    | false ↦ go [] tt
-  ]
+        | true ↦ refl
+        | false ↦ go [] tt
+      ]
   at_with v vs (w ∷ ws) g h go = elim (name_cmp v.name w.name) as (λ o. name_cmp v.name w.name ≡ o →
       side_at (sides_by o v w (sides_of vs (w ∷ ws)) (sides_of vs ws) (sides_with v (sides_of vs) ws)) n ≡ met
       (value_at (v ∷ vs) n) (value_at (w ∷ ws) n)) [
-    | Less ↦ λ e. (elim (name_cmp v.name n) as (λ o. name_cmp v.name n ≡ o →
-        (if is_eq o then Some (left_only v) else side_at (sides_of vs (w ∷ ws)) n) ≡ met
-        (if is_eq o then Some v else value_at vs n) (value_at (w ∷ ws) n)) [
-      | Less ↦ λ t. go (w ∷ ws) h
-      | Equal ↦ λ t. sym (ap (λ x. met (Some v) x) (none_at v.name (w ∷ ws) (e, above_next v.name w.name ws e h.0) t))
-      | Greater ↦ λ t. go (w ∷ ws) h
-    ] refl)
-    | Equal ↦ λ e. (let same = nat_list_cmp_total.congr v.name w.name n e in
-        subst (λ o. (if is_eq (name_cmp v.name n) then Some (both_sides v w) else side_at (sides_of vs ws) n) ≡ met
+        | Less ↦ λ e. (elim (name_cmp v.name n) as (λ o. name_cmp v.name n ≡ o →
+            (if is_eq o then Some (left_only v) else side_at (sides_of vs (w ∷ ws)) n) ≡ met
+            (if is_eq o then Some v else value_at vs n) (value_at (w ∷ ws) n)) [
+              | Less ↦ λ t. go (w ∷ ws) h
+              | Equal ↦ λ t. sym (ap (λ x. met (Some v) x) (none_at v.name (w ∷ ws) (e, above_next v.name w.name ws e h.0) t))
+              | Greater ↦ λ t. go (w ∷ ws) h
+            ] refl)
+        | Equal ↦ λ e. (let same = nat_list_cmp_total.congr v.name w.name n e in
+            subst (λ o. (if is_eq (name_cmp v.name n) then Some (both_sides v w) else side_at (sides_of vs ws) n) ≡ met
             (value_at (v ∷ vs) n) (if is_eq o then Some w else value_at ws n)) same
-        (elim (is_eq (name_cmp v.name n)) as
+            (elim (is_eq (name_cmp v.name n)) as
             (λ b. (if b then Some (both_sides v w) else side_at (sides_of vs ws) n) ≡ met
             (if b then Some v else value_at vs n) (if b then Some w else value_at ws n)) [
-          | true ↦ refl
-          | false ↦ go ws h.1
-        ]))
-    | Greater ↦ λ e. (let l = to_less v.name w.name e in
-        elim (name_cmp w.name n) as (λ o. name_cmp w.name n ≡ o →
+              | true ↦ refl
+              | false ↦ go ws h.1
+            ]))
+        | Greater ↦ λ e. (let l = to_less v.name w.name e in
+            elim (name_cmp w.name n) as (λ o. name_cmp w.name n ≡ o →
             (if is_eq o then Some (right_only w) else side_at (sides_with v (sides_of vs) ws) n) ≡ met
             (value_at (v ∷ vs) n) (if is_eq o then Some w else value_at ws n)) [
-          | Less ↦ λ t. at_with v vs ws g h.1 go
-          | Equal ↦ λ t. sym (ap (λ x. met x (Some w))
-              (none_at w.name (v ∷ vs) (l, above_next w.name v.name vs l g.0) t))
-          | Greater ↦ λ t. at_with v vs ws g h.1 go
-        ] refl)
-  ] refl
+              | Less ↦ λ t. at_with v vs ws g h.1 go
+              | Equal ↦ λ t. sym (ap (λ x. met x (Some w))
+                  (none_at w.name (v ∷ vs) (l, above_next w.name v.name vs l g.0) t))
+              | Greater ↦ λ t. at_with v vs ws g h.1 go
+            ] refl)
+      ] refl
 
   pub at_sides : (vs ws : List NamedValue) → Rises vs → Rises ws →
       side_at (sides_of vs ws) n ≡ met (value_at vs n) (value_at ws n)

@@ -91,14 +91,14 @@ module _ (p q : Planned) (years : List Year) (i : ℕ) (rows : List TrialRow) (r
       IsYearRedone p q y r →
       now' ≡ now + total_cost (year_jobs p q y.records.items y.records.items) →
       IsTrying p q years (i + 1) (rows ++ changes (rows_kept_in y) (rows_kept_in (with_new y r.outcomes)))
-          (runs + r.work.runs) (taken + r.work.steps) began now'
+      (runs + r.work.runs) (taken + r.work.steps) began now'
   trying_more r now' own was done counted = record {
     news = so_far.news ++ r.outcomes ∷ [];
     redoing = redoing_more p q years i so_far.news runs taken began now so_far.redoing rising y l is r now' done
         counted;
     rows_are =
         ap₂ (λ a b. a ++ b) so_far.rows_are (year_rows_are p q y r.outcomes own was done.kept
-            ∙ sym (append-nil (year_changes p q (runs_in_year y))))
+        ∙ sym (append-nil (year_changes p q (runs_in_year y))))
         ∙ sym (flat_map-append (year_changes p q) (runs_in (take i years)) (runs_in_year y ∷ []))
         ∙ ap (flat_map (year_changes p q)) (sym runs_step);
   }
