@@ -1,5 +1,5 @@
 #!/usr/bin/env python3
-"""Proves the libraries that the program stands on, several side by side: build.py [JOBS], from the top of the repository.
+"""Proves the libraries that a program stands on, several side by side: build.py [JOBS [PROGRAM]], from the top of the repository.
 
 A crate begins once those that it stands on are proved. A line for each that is done says how many are left. The program itself is
 proved and built by `rt run` afterwards. What a crate's check wrote is in build/proofs/NAME; where one fails, its end is shown."""
@@ -9,7 +9,6 @@ import sys
 import time
 from concurrent.futures import FIRST_COMPLETED, ThreadPoolExecutor, wait
 
-PROGRAM = "papcalc"
 GIGABYTES_A_JOB = 2
 
 
@@ -45,7 +44,7 @@ def prove(name):
 def main():
     os.makedirs("build/proofs", exist_ok=True)
     stands_on = crates()
-    waiting = below(PROGRAM, stands_on, [])
+    waiting = below(sys.argv[2] if sys.argv[2:] else "papcalc", stands_on, [])
     count, proved, running = len(waiting), set(), set()
     with ThreadPoolExecutor(int(sys.argv[1]) if sys.argv[1:] else jobs()) as pool:
         while waiting or running:
