@@ -1,6 +1,5 @@
 # `make look` runs the program on an example without a proof; `make build` proves and builds build/papcalc, `make demo` runs
 # that on the examples; `make install` puts it and its manual page under PREFIX; `make test` is the whole gate.
-JOBS ?= $(shell nproc)
 .PHONY: build author look demo install uninstall test rows client-java wrong-bodies decimal-tool bench-decimal bench-machine bench-plan \
     bench-intervals bench-processes bench-names check-java
 
@@ -15,7 +14,7 @@ build:
 
 # The companion program for authors of flowcharts: build/pap_author draws a flowchart as a page, and begins a range file.
 author:
-	python3 tools/build.py $(JOBS) pap_author
+	python3 tools/build.py "$(JOBS)" pap_author
 	cd crates/pap_author && rt run -- --version
 	mkdir -p build
 	cp crates/pap_author/out/pap_author build/pap_author

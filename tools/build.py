@@ -46,7 +46,7 @@ def main():
     stands_on = crates()
     waiting = below(sys.argv[2] if sys.argv[2:] else "papcalc", stands_on, [])
     count, proved, running = len(waiting), set(), set()
-    with ThreadPoolExecutor(int(sys.argv[1]) if sys.argv[1:] else jobs()) as pool:
+    with ThreadPoolExecutor(int(sys.argv[1]) if sys.argv[1:] and sys.argv[1] else jobs()) as pool:
         while waiting or running:
             ready = [name for name in waiting if proved.issuperset(stands_on[name])]
             running.update(pool.submit(prove, name) for name in ready)
