@@ -42,7 +42,14 @@ once a.xml l.toml N=1=2 => (BadWords)
 once a.xml l.toml N=x => (BadWords)
 once a.xml l.toml N=1 N=2 => (BadWords)
 run x => (BadWords)
-run => (Done)"#;
+run => (Done)
+sample 1 => lines 15 / records 12 / runs 22 / steps 487 / LST 10500 (Done)
+sample => (BadWords)
+sample 0 => (BadWords)
+sample 01 => (BadWords)
+sample +1 => (BadWords)
+sample 201 => (BadWords)
+sample 1 2 => (BadWords)"#;
 
 /// Words, and the reason of their refusal.
 const REASONS: &str = r#"check a.xml l.toml => -
@@ -51,7 +58,8 @@ once a.xml l.toml => the input N has no value; give one as N=VALUE or in the tab
 once a.xml l.toml N=1 M=2 => a value is given for M, and the plan has no such input, or the range file fills it from earlier runs; leave the value out, or correct its name
 check l.toml l.toml => plan, line 1, column 1: at `[input.N]` stands text outside of a tag; write it as a comment, or as an attribute of a tag
 check a.xml a.xml => range file, line 1, column 1: the text isn't TOML: invalid key, expected letters, numbers, `-`, `_` or a quoted key
-check => -"#;
+check => -
+sample 1 => -"#;
 
 /// Writes what is answered to words, and the status.
 fn answered(asked: &str, text: &mut String) -> Result<(), Fail> {
