@@ -43,7 +43,14 @@ once a.xml l.toml N=1=2 => (BadWords)
 once a.xml l.toml N=x => (BadWords)
 once a.xml l.toml N=1 N=2 => (BadWords)
 run x => (BadWords)
-run => (Done)"#;
+run => (Done)
+sample 1 => lines 15 / records 12 / runs 22 / steps 487 / LST 10500 (Done)
+sample => (BadWords)
+sample 0 => (BadWords)
+sample 01 => (BadWords)
+sample +1 => (BadWords)
+sample 201 => (BadWords)
+sample 1 2 => (BadWords)"#;
 
 /// Words, and the reason of their refusal.
 const REASONS: &str = r#"check a.xml l.toml => -
@@ -54,7 +61,8 @@ once a.xml l.toml N=1 M=2 => a.xml: a value is given for M, and the plan has no 
 check l.toml l.toml => l.toml:1:1: at `[input.N]` stands text outside of a tag; write it as a comment, or as an attribute of a tag
 check a.xml a.xml => a.xml:1:1: the range file is not valid TOML: invalid key, expected letters, numbers, `-`, `_` or a quoted key
 check nofile l.toml => -
-check => -"#;
+check => -
+sample 1 => -"#;
 
 /// Assignments of a flowchart, each as its file has it, and the reason why the flowchart is refused, without what helps.
 const REASONED: &str =
