@@ -1,4 +1,4 @@
-//! The tests of the book and of what it is made of: pay runs, the lines of a script, and a book under them.
+//! The tests of the book and of what it is made of: pay runs, the lines of a script, a book under them, and its saved text.
 #![tactic(auto)]
 
 #[cfg(test)]
@@ -7,3 +7,5 @@ mod books;
 mod lines;
 #[cfg(test)]
 mod records;
+#[cfg(test)]
+mod saved_books;
