@@ -1,4 +1,4 @@
-//! The tests of the book and of what it is made of: pay runs, the lines of a script, a book under them, and its saved text.
+//! The tests of the book and of what it is made of: pay runs, the lines of a script, and a book under them.
 #![tactic(auto)]
 
 #[cfg(test)]
@@ -7,5 +7,3 @@ mod books;
 mod lines;
 #[cfg(test)]
 mod records;
-#[cfg(test)]
-mod saved_books;
