@@ -1,4 +1,4 @@
--- What differs between the runs of two books: one list of runs after another, none where they are the same, none of a run.
+-- What differs between the runs of two books: list after list, and nothing of a run that stays.
 use Rattle.std.proofs.Common.{◌≡◌, ℕ, zero, ◌+◌, ◌<◌, suc, List, [], ◌∷◌, ◌++◌, append_assoc, length, map, take, get_or, Bool, true, false, if◌then◌else◌, Option, Some, option_map, refl, sym, ap, ap₂, subst, ◌∙◌, arith}
 use Rattle.std.specs.List.{flat_map}
 use Rattle.std.specs.declared.cmp.Ordering.{Ordering}
@@ -51,7 +51,8 @@ pub changes_by_year : (p q : Planned) (ys : List YearRuns) →
     changes (flat_map (keyed_rows p) ys) (flat_map (keyed_rows q) ys) ≡ flat_map (year_changes p q) ys
 changes_by_year p q [] = refl
 changes_by_year p q (y ∷ ys) =
-    changes_append (keyed_rows p y) (keyed_rows q y) (flat_map (keyed_rows p) ys) (flat_map (keyed_rows q) ys) (rows_as_long p q y)
+    changes_append (keyed_rows p y) (keyed_rows q y) (flat_map (keyed_rows p) ys) (flat_map (keyed_rows q) ys)
+    (rows_as_long p q y)
     ∙ ap (λ t. year_changes p q y ++ t) (changes_by_year p q ys)
 
 -- ---- a run that stays
@@ -87,24 +88,28 @@ pub changes_more : (rs : List Record) (bs ns : List Outcome) (r : Record) (b a :
     ≡ changes (kept_rows rs bs) (kept_rows rs ns) ++ run_changes (key_of r) b.state a.state
 changes_more rs bs ns r b a e f =
     ap₂ changes (kept_more rs bs r b e) (kept_more rs ns r a f)
-    ∙ changes_append (kept_rows rs bs) (kept_rows rs ns) (kept_row r b ∷ []) (kept_row r a ∷ []) (kept_long rs bs e ∙ sym (kept_long rs ns f))
+    ∙ changes_append (kept_rows rs bs) (kept_rows rs ns) (kept_row r b ∷ []) (kept_row r a ∷ []) (kept_long rs bs e
+    ∙ sym (kept_long rs ns f))
     ∙ ap (λ t. changes (kept_rows rs bs) (kept_rows rs ns) ++ t) (append-nil (run_changes (key_of r) b.state a.state))
 
-take_long : {X Y : Type 0} (i : ℕ) (xs : List X) (ys : List Y) → length xs ≡ length ys → length (take i xs) ≡ length (take i ys)
+take_long : {X Y : Type 0} (i : ℕ) (xs : List X) (ys : List Y) → length xs ≡ length ys →
+    length (take i xs) ≡ length (take i ys)
 take_long zero xs ys e = refl
 take_long (suc i) [] [] e = refl
 take_long (suc i) [] (y ∷ ys) e = absurd (omega (arith, e))
 take_long (suc i) (x ∷ xs) [] e = absurd (omega (arith, e))
 take_long (suc i) (x ∷ xs) (y ∷ ys) e = ap suc (take_long i xs ys (omega (arith, e)))
 
-next_taken : {X : Type 0} (xs : List X) (i : ℕ) (x : X) → i < length xs → x ≡ get_or xs i x → take (i + 1) xs ≡ take i xs ++ x ∷ []
+next_taken : {X : Type 0} (xs : List X) (i : ℕ) (x : X) → i < length xs → x ≡ get_or xs i x →
+    take (i + 1) xs ≡ take i xs ++ x ∷ []
 next_taken xs i x l is = take_more xs i x l ∙ ap (λ t. take i xs ++ t ∷ []) (sym is)
 
 -- what differs between the first runs of a year, and one more
 pub runs_more : (rs : List Record) (bs ns : List Outcome) (i : ℕ) (r : Record) (b a : Outcome) → length rs ≡ length bs →
     length rs ≡ length ns → i < length rs → r ≡ get_or rs i r → b ≡ get_or bs i b → a ≡ get_or ns i a →
     changes (kept_rows (take (i + 1) rs) (take (i + 1) bs)) (kept_rows (take (i + 1) rs) (take (i + 1) ns))
-    ≡ changes (kept_rows (take i rs) (take i bs)) (kept_rows (take i rs) (take i ns)) ++ run_changes (key_of r) b.state a.state
+    ≡ changes (kept_rows (take i rs) (take i bs)) (kept_rows (take i rs) (take i ns)) ++ run_changes (key_of r)
+    b.state a.state
 runs_more rs bs ns i r b a e f l r_is b_is a_is =
     let rs_step = next_taken rs i r l r_is in
     let bs_step = next_taken bs i b (omega (arith, l, e)) b_is in
@@ -117,7 +122,8 @@ runs_more rs bs ns i r b a e f l r_is b_is a_is =
 abbrev state_at : List KeyedRow → Key → Option State
 state_at rows k = option_map row_state (at_key key_cmp row_key rows k)
 
-unnamed_front : (front more : List TrialRow) (k : Key) → IsUnnamed (front ++ more) k → IsUnnamed front k × IsUnnamed more k
+unnamed_front : (front more : List TrialRow) (k : Key) → IsUnnamed (front ++ more) k →
+    IsUnnamed front k × IsUnnamed more k
 unnamed_front [] more k h = (tt, h)
 unnamed_front (r ∷ front) more k h = let rest = unnamed_front front more k h.1 in ((h.0, rest.0), rest.1)
 
@@ -139,7 +145,8 @@ head_key a b ns bs e = cc e
 tail_keys : (a b : Key) (ns bs : List Key) → a ∷ ns ≡ b ∷ bs → ns ≡ bs
 tail_keys a b ns bs e = cc e
 
-unnamed_at : (bs ns : List KeyedRow) (k : Key) → HaveKeys bs ns → IsUnnamed (changes bs ns) k → state_at ns k ≡ state_at bs k
+unnamed_at : (bs ns : List KeyedRow) (k : Key) → HaveKeys bs ns → IsUnnamed (changes bs ns) k →
+    state_at ns k ≡ state_at bs k
 unnamed_at [] [] k e h = refl
 unnamed_at [] (a ∷ ns) k e h = absurd (omega (arith, ap length e))
 unnamed_at (b ∷ bs) [] k e h = absurd (omega (arith, ap length e))
@@ -161,12 +168,16 @@ unnamed_at (b ∷ bs) (a ∷ ns) k e h = by (unnamed_at bs ns k) (key_cmp b.key 
     first o row more = option_map row_state (if is_eq o then Some row else at_key key_cmp row_key more k)
 
     by : More → (o : Ordering) → key_cmp b.key k ≡ o → state_at (a ∷ ns) k ≡ state_at (b ∷ bs) k
-    by more Less t = ap (λ o. first o a ns) (ap (λ x. key_cmp x k) (sym same) ∙ t) ∙ rest more ∙ sym (ap (λ o. first o b bs) t)
+    by more Less t = ap (λ o. first o a ns) (ap (λ x. key_cmp x k) (sym same) ∙ t) ∙ rest more
+        ∙ sym (ap (λ o. first o b bs) t)
     by more Equal t =
         let key : b.key ≡ k = key_same b.key k t in
-        let one : a.state ≡ b.state = unnamed_run b.key b.state a.state (subst (IsUnnamed (run_changes b.key b.state a.state)) (sym key) parts.0) in
-        ap (λ o. first o a ns) (ap (λ x. key_cmp x k) (sym same) ∙ t) ∙ ap (λ s. Some s) one ∙ sym (ap (λ o. first o b bs) t)
-    by more Greater t = ap (λ o. first o a ns) (ap (λ x. key_cmp x k) (sym same) ∙ t) ∙ rest more ∙ sym (ap (λ o. first o b bs) t)
+        let one : a.state ≡ b.state = unnamed_run b.key b.state a.state
+        (subst (IsUnnamed (run_changes b.key b.state a.state)) (sym key) parts.0) in
+        ap (λ o. first o a ns) (ap (λ x. key_cmp x k) (sym same) ∙ t) ∙ ap (λ s. Some s) one
+        ∙ sym (ap (λ o. first o b bs) t)
+    by more Greater t = ap (λ o. first o a ns) (ap (λ x. key_cmp x k) (sym same) ∙ t) ∙ rest more
+        ∙ sym (ap (λ o. first o b bs) t)
 
 abbrev next : Planned → List Earlier → Record → List Earlier
 next planned earlier r = earlier ++ earlier_of (row_of (planned r.day) earlier r) ∷ []
@@ -190,4 +201,5 @@ all_keys p q (y ∷ ys) =
     ∙ sym (keys_append (keyed_rows q y) (flat_map (keyed_rows q) ys))
 
 pub unnamed_stay : UnnamedRunsStay
-unnamed_stay book e k h = unnamed_at (month_rows book) (month_rows (book_with book e)) k (all_keys (pick book.plans) (pick (with_entry e book.plans)) book.years) h
+unnamed_stay book e k h = unnamed_at (month_rows book) (month_rows (book_with book e)) k
+    (all_keys (pick book.plans) (pick (with_entry e book.plans)) book.years) h

@@ -63,7 +63,8 @@ less_of a b s d = by (name_cmp a b) refl
     by Equal e = absurd (differs a b d e)
     by Greater e = absurd (false≢true (sym s ∙ ap is_lt (nat_list_cmp_total.antisymm b a ∙ ap ordering_reverse e)))
 
-sorted_tail : (x : NamedValue) (xs : List NamedValue) → IsSortedByKey name_of name_cmp (x ∷ xs) → IsSortedByKey name_of name_cmp xs
+sorted_tail : (x : NamedValue) (xs : List NamedValue) → IsSortedByKey name_of name_cmp (x ∷ xs) →
+    IsSortedByKey name_of name_cmp xs
 sorted_tail x xs s k e low l = rw add-one (let more = s (suc k) e (omega arith) (omega arith) in rw add-one at more)
 
 rising_of_sorted : (vs : List NamedValue) → IsSortedByKey name_of name_cmp vs → IsDistinct bytes_eq (names vs) →
@@ -71,7 +72,8 @@ rising_of_sorted : (vs : List NamedValue) → IsSortedByKey name_of name_cmp vs 
 rising_of_sorted [] s d = tt
 rising_of_sorted (x ∷ []) s d = (tt, tt)
 rising_of_sorted (x ∷ y ∷ ys) s d =
-    let more = rising_of_sorted (y ∷ ys) (sorted_tail x (y ∷ ys) s) (IsDistinct-tail bytes_eq (name_of x) (names (y ∷ ys)) d) in
+    let more = rising_of_sorted (y ∷ ys) (sorted_tail x (y ∷ ys) s)
+    (IsDistinct-tail bytes_eq (name_of x) (names (y ∷ ys)) d) in
     let head = IsDistinct-head bytes_eq (name_of x) (names (y ∷ ys)) d in
     let less = less_of (name_of x) (name_of y) (s 0 x (omega arith) (omega arith)) head.0 in
     ((less, above_more name_cmp nat_list_cmp_total name_of (name_of x) (name_of y) ys less more.0), more)
@@ -79,18 +81,21 @@ rising_of_sorted (x ∷ y ∷ ys) s d =
 -- ---- what stands under a name
 
 apart_from : (x d : NamedValue) → is_eq (name_cmp (name_of x) (name_of d)) ≡ false → x ≡ d → ⊥
-apart_from x d t s = false≢true (sym t ∙ is_eq-slice_cmp (name_of x) (name_of d) ∙ (bytes_eq-Decides (name_of x) (name_of d)).1 (ap name_of s))
+apart_from x d t s = false≢true (sym t ∙ is_eq-slice_cmp (name_of x) (name_of d)
+    ∙ (bytes_eq-Decides (name_of x) (name_of d)).1 (ap name_of s))
 
 in_some : (vs : List NamedValue) (d : NamedValue) → In vs d → value_at vs (name_of d) ≡ None → ⊥
 in_some [] d m e = m
-in_some (x ∷ xs) d (inl s) e = (elim (is_eq (name_cmp (name_of x) (name_of d))) as (λ b. is_eq (name_cmp (name_of x) (name_of d)) ≡ b → (if b then Some x else value_at xs (name_of d)) ≡ None → ⊥) [
-  | true ↦ λ t f. cc f
-  | false ↦ λ t f. apart_from x d t s
-]) refl e
-in_some (x ∷ xs) d (inr m) e = (elim (is_eq (name_cmp (name_of x) (name_of d))) as (λ b. (if b then Some x else value_at xs (name_of d)) ≡ None → ⊥) [
-  | true ↦ λ f. cc f
-  | false ↦ λ f. in_some xs d m f
-]) e
+in_some (x ∷ xs) d (inl s) e = (elim (is_eq (name_cmp (name_of x) (name_of d))) as
+    (λ b. is_eq (name_cmp (name_of x) (name_of d)) ≡ b → (if b then Some x else value_at xs (name_of d)) ≡ None → ⊥) [
+      | true ↦ λ t f. cc f
+      | false ↦ λ t f. apart_from x d t s
+    ]) refl e
+in_some (x ∷ xs) d (inr m) e = (elim (is_eq (name_cmp (name_of x) (name_of d))) as
+    (λ b. (if b then Some x else value_at xs (name_of d)) ≡ None → ⊥) [
+      | true ↦ λ f. cc f
+      | false ↦ λ f. in_some xs d m f
+    ]) e
 
 module _ (xs ys : List NamedValue) (p : IsPermutation xs ys) (h : IsRising name_cmp name_of ys) where
   there : (d : NamedValue) → In xs d → In ys d
@@ -108,7 +113,8 @@ module _ (xs ys : List NamedValue) (p : IsPermutation xs ys) (h : IsRising name_
       by (Some d) e b f =
           let found = found_in name_cmp name_of xs n d e in
           let name = name_same (name_of d) n found.1 in
-          ap (λ t. value_at ys t) (sym name) ∙ in_found name_cmp nat_list_cmp_total name_of ys d h (there d found.0) ∙ sym e
+          ap (λ t. value_at ys t) (sym name) ∙ in_found name_cmp nat_list_cmp_total name_of ys d h (there d found.0)
+          ∙ sym e
       by None e None f = f ∙ sym e
       by None e (Some d) f =
           let found = found_in name_cmp name_of ys n d f in
@@ -116,13 +122,15 @@ module _ (xs ys : List NamedValue) (p : IsPermutation xs ys) (h : IsRising name_
           absurd (in_some xs d (back d found.0) (ap (λ t. value_at xs t) name ∙ e))
 
 eq_flips : (a b : List ℕ) → bytes_eq a b ≡ bytes_eq b a
-eq_flips a b = one_answer (bytes_eq a b) (bytes_eq b a) (bytes_eq-Decides a b) (λ e. sym ((bytes_eq-Decides b a).0 e), λ e. (bytes_eq-Decides b a).1 (sym e))
+eq_flips a b = one_answer (bytes_eq a b) (bytes_eq b a) (bytes_eq-Decides a b)
+    (λ e. sym ((bytes_eq-Decides b a).0 e), λ e. (bytes_eq-Decides b a).1 (sym e))
 
 -- outputs with different names, sorted by them
 pub ordered_sorted : (outputs ys : List NamedValue) → HaveNames outputs → IsPermutation outputs ys →
     IsSortedByKey name_of name_cmp ys → AreOrdered outputs ys
 ordered_sorted outputs ys named p s =
     let apart = IsDistinct-from_AllPairs bytes_eq-Decides (map name_of outputs) named in
-    let still = IsDistinct-IsPermutation bytes_eq eq_flips (names outputs) (names ys) (IsPermutation-map name_of outputs ys p) apart in
+    let still = IsDistinct-IsPermutation bytes_eq eq_flips (names outputs) (names ys)
+    (IsPermutation-map name_of outputs ys p) apart in
     let rising = rising_of_sorted ys s still in
     record { rising = rising; at = sorted_at outputs ys p rising }

@@ -54,10 +54,15 @@ module _ {K X : Type 0} (cmp : K → K → Ordering) (key : X → K) where
   -- what stands at a key is an element with that key
   pub found_in : (xs : List X) (k : K) (x : X) → at_key cmp key xs k ≡ Some x → In xs x × (cmp (key x) k ≡ Equal)
   found_in [] k x h = absurd (cc h)
-  found_in (y ∷ ys) k x h = (elim (is_eq (cmp (key y) k)) as (λ b. is_eq (cmp (key y) k) ≡ b → (if b then Some y else at_key cmp key ys k) ≡ Some x → In (y ∷ ys) x × (cmp (key x) k ≡ Equal)) [
-    | true ↦ λ t e. (inl (some_same y x e), subst (λ z. cmp (key z) k ≡ Equal) (some_same y x e) (tied (cmp (key y) k) t))
-    | false ↦ λ t e. (let more = found_in ys k x e in (inr more.0, more.1))
-  ]) refl h
+  found_in (y ∷ ys) k x h = (elim (is_eq (cmp (key y) k)) as (λ b. is_eq (cmp (key y) k) ≡ b →
+      (if b then Some y else at_key cmp key ys k) ≡ Some x → In (y ∷ ys) x × (cmp (key x) k ≡ Equal)) [
+        | true ↦ λ t e. (
+          inl (some_same y x e),
+          subst (λ z. cmp (key z) k ≡ Equal) (some_same y x e)
+              (tied (cmp (key y) k) t),
+        )
+        | false ↦ λ t e. (let more = found_in ys k x e in (inr more.0, more.1))
+      ]) refl h
 
   pub all_above : (k : K) (xs : List X) → AreAbove cmp key k xs → AllByRecursion (λ x. cmp k (key x) ≡ Less) xs
   all_above k [] h = tt
@@ -101,11 +106,13 @@ module _ {K X : Type 0} (cmp : K → K → Ordering) (total : IsTotalOrder cmp) 
   same_at (x ∷ xs) (y ∷ ys) g h e = by (same_at xs ys g.1 h.1) (cmp (key x) (key y)) refl
     where
       tail : x ≡ y → (k : K) → at xs k ≡ at ys k
-      tail s k = (elim (cmp (key x) k) as (λ o. cmp (key x) k ≡ o → (if is_eq o then Some x else at xs k) ≡ (if is_eq o then Some y else at ys k) → at xs k ≡ at ys k) [
-        | Less ↦ λ t f. f
-        | Equal ↦ λ t f. at_key_above cmp total key (key x) k xs g.0 t ∙ sym (at_key_above cmp total key (key y) k ys h.0 (ap (λ z. cmp (key z) k) (sym s) ∙ t))
-        | Greater ↦ λ t f. f
-      ]) refl (e k ∙ ap (λ z. if is_eq (cmp (key z) k) then Some y else at ys k) (sym s))
+      tail s k = (elim (cmp (key x) k) as (λ o. cmp (key x) k ≡ o →
+          (if is_eq o then Some x else at xs k) ≡ (if is_eq o then Some y else at ys k) → at xs k ≡ at ys k) [
+            | Less ↦ λ t f. f
+            | Equal ↦ λ t f. at_key_above cmp total key (key x) k xs g.0 t
+                ∙ sym (at_key_above cmp total key (key y) k ys h.0 (ap (λ z. cmp (key z) k) (sym s) ∙ t))
+            | Greater ↦ λ t f. f
+          ]) refl (e k ∙ ap (λ z. if is_eq (cmp (key z) k) then Some y else at ys k) (sym s))
 
       by : (((k : K) → at xs k ≡ at ys k) → xs ≡ ys) → (o : Ordering) → cmp (key x) (key y) ≡ o → x ∷ xs ≡ y ∷ ys
       by more Less t = absurd (none_some x (sym (below_at (key x) y ys t h.0) ∙ sym (e (key x)) ∙ head_at x xs))
@@ -119,7 +126,8 @@ module _ {K X : Type 0} (cmp : K → K → Ordering) (total : IsTotalOrder cmp) 
 
 -- ---- mapped lists
 
-module _ {K X Y : Type 0} (cmp : K → K → Ordering) (total : IsTotalOrder cmp) (key : X → K) (to : Y → K) (f : X → Option Y) (keeps : (x : X) (y : Y) → f x ≡ Some y → to y ≡ key x) where
+module _ {K X Y : Type 0} (cmp : K → K → Ordering) (total : IsTotalOrder cmp) (key : X → K) (to : Y → K)
+    (f : X → Option Y) (keeps : (x : X) (y : Y) → f x ≡ Some y → to y ≡ key x) where
   pub above_filter_map : (k : K) (xs : List X) → AreAbove cmp key k xs → AreAbove cmp to k (filter_map f xs)
   above_filter_map k [] h = tt
   above_filter_map k (x ∷ xs) h = elim (f x) as (λ o. f x ≡ o → AreAbove cmp to k (cons_option o (filter_map f xs))) [
@@ -131,38 +139,52 @@ module _ {K X Y : Type 0} (cmp : K → K → Ordering) (total : IsTotalOrder cmp
   rising_filter_map [] h = tt
   rising_filter_map (x ∷ xs) h = elim (f x) as (λ o. f x ≡ o → IsRising cmp to (cons_option o (filter_map f xs))) [
     | None ↦ λ e. rising_filter_map xs h.1
-    | Some y ↦ λ e. (subst (λ k. AreAbove cmp to k (filter_map f xs)) (sym (keeps x y e)) (above_filter_map (key x) xs h.0), rising_filter_map xs h.1)
+    | Some y ↦ λ e. (
+      subst (λ k. AreAbove cmp to k (filter_map f xs)) (sym (keeps x y e))
+          (above_filter_map (key x) xs h.0),
+      rising_filter_map xs h.1,
+    )
   ] refl
 
   pub at_key_filter_map : (xs : List X) (k : K) → IsRising cmp key xs →
       at_key cmp to (filter_map f xs) k ≡ option_and_then f (at_key cmp key xs k)
   at_key_filter_map [] k h = refl
-  at_key_filter_map (x ∷ xs) k h = elim (f x) as (λ o. f x ≡ o → at_key cmp to (cons_option o (filter_map f xs)) k ≡ option_and_then f (if is_eq (cmp (key x) k) then Some x else at_key cmp key xs k)) [
-    | None ↦ λ e. (elim (cmp (key x) k) as (λ o. cmp (key x) k ≡ o → at_key cmp to (filter_map f xs) k ≡ option_and_then f (if is_eq o then Some x else at_key cmp key xs k)) [
-      | Less ↦ λ t. at_key_filter_map xs k h.1
-      | Equal ↦ λ t. at_key_above cmp total to (key x) k (filter_map f xs) (above_filter_map (key x) xs h.0) t ∙ sym e
-      | Greater ↦ λ t. at_key_filter_map xs k h.1
-    ] refl)
-    | Some y ↦ λ e. ap (λ o. if is_eq (cmp o k) then Some y else at_key cmp to (filter_map f xs) k) (keeps x y e)
-        ∙ (elim (is_eq (cmp (key x) k)) as (λ b. (if b then Some y else at_key cmp to (filter_map f xs) k) ≡ option_and_then f (if b then Some x else at_key cmp key xs k)) [
-          | true ↦ sym e
-          | false ↦ at_key_filter_map xs k h.1
-        ])
-  ] refl
+  at_key_filter_map (x ∷ xs) k h = elim (f x) as (λ o. f x ≡ o →
+      at_key cmp to (cons_option o (filter_map f xs)) k ≡ option_and_then f
+      (if is_eq (cmp (key x) k) then Some x else at_key cmp key xs k)) [
+        | None ↦ λ e. (elim (cmp (key x) k) as (λ o. cmp (key x) k ≡ o →
+            at_key cmp to (filter_map f xs) k ≡ option_and_then f (if is_eq o then Some x else at_key cmp key xs k)) [
+              | Less ↦ λ t. at_key_filter_map xs k h.1
+              | Equal ↦ λ t. at_key_above cmp total to (key x) k (filter_map f xs) (above_filter_map (key x) xs h.0) t ∙ sym e
+              | Greater ↦ λ t. at_key_filter_map xs k h.1
+            ] refl)
+        | Some y ↦ λ e. ap (λ o. if is_eq (cmp o k) then Some y else at_key cmp to (filter_map f xs) k) (keeps x y e)
+            ∙ (elim (is_eq (cmp (key x) k)) as
+            (λ b. (if b then Some y else at_key cmp to (filter_map f xs) k) ≡ option_and_then f
+            (if b then Some x else at_key cmp key xs k)) [
+              | true ↦ sym e
+              | false ↦ at_key_filter_map xs k h.1
+            ])
+      ] refl
 
-module _ {K X Y : Type 0} (cmp : K → K → Ordering) (key : X → K) (to : Y → K) (f : X → Y) (keeps : (x : X) → to (f x) ≡ key x) where
+module _ {K X Y : Type 0} (cmp : K → K → Ordering) (key : X → K) (to : Y → K) (f : X → Y) (keeps : (x : X) →
+    to (f x) ≡ key x) where
   pub above_map : (k : K) (xs : List X) → AreAbove cmp key k xs → AreAbove cmp to k (map f xs)
   above_map k [] h = tt
   above_map k (x ∷ xs) h = (ap (cmp k) (keeps x) ∙ h.0, above_map k xs h.1)
 
   pub rising_map : (xs : List X) → IsRising cmp key xs → IsRising cmp to (map f xs)
   rising_map [] h = tt
-  rising_map (x ∷ xs) h = (subst (λ k. AreAbove cmp to k (map f xs)) (sym (keeps x)) (above_map (key x) xs h.0), rising_map xs h.1)
+  rising_map (x ∷ xs) h = (
+    subst (λ k. AreAbove cmp to k (map f xs)) (sym (keeps x)) (above_map (key x) xs h.0),
+    rising_map xs h.1,
+  )
 
   pub at_key_map : (xs : List X) (k : K) → at_key cmp to (map f xs) k ≡ option_map f (at_key cmp key xs k)
   at_key_map [] k = refl
   at_key_map (x ∷ xs) k = ap (λ t. if is_eq (cmp t k) then Some (f x) else at_key cmp to (map f xs) k) (keeps x)
-      ∙ (elim (is_eq (cmp (key x) k)) as (λ b. (if b then Some (f x) else at_key cmp to (map f xs) k) ≡ option_map f (if b then Some x else at_key cmp key xs k)) [
+      ∙ (elim (is_eq (cmp (key x) k)) as (λ b. (if b then Some (f x) else at_key cmp to (map f xs) k) ≡ option_map f
+      (if b then Some x else at_key cmp key xs k)) [
         | true ↦ refl
         | false ↦ at_key_map xs k
       ])

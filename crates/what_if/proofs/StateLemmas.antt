@@ -34,7 +34,9 @@ output_decides v w = (
       let n = (bytes_eq-Decides v.name w.name).0 h.0 in
       let d = (decimal_decides v.value w.value).0 h.1 in
       λ i. record { name = n i; value = d i },
-  λ e. and_true (bytes_eq v.name w.name) (same_decimal v.value w.value) ((bytes_eq-Decides v.name w.name).1 (ap (λ (x : NamedValue). x.name) e)) ((decimal_decides v.value w.value).1 (ap (λ (x : NamedValue). x.value) e)),
+  λ e. and_true (bytes_eq v.name w.name) (same_decimal v.value w.value)
+      ((bytes_eq-Decides v.name w.name).1 (ap (λ (x : NamedValue). x.name) e))
+      ((decimal_decides v.value w.value).1 (ap (λ (x : NamedValue). x.value) e)),
 )
 
 outputs_decide : (vs ws : List NamedValue) → Decides (pointwise same_output vs ws) (vs ≡ ws)

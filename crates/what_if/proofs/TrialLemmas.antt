@@ -24,7 +24,9 @@ use Rattle.what_if.specs.Trials.{CountsTry, book_with, trial_of}
 use Rattle.what_if.specs.YearViews.{ArePlanned, IsTried, year_changes}
 use Rattle.what_if.proofs.ChangeLemmas.{changes_by_year}
 
-module _ (book : Contents) (e : Entry Accepted) (is : IsBook book) (plans : List (Entry Accepted)) (plans_are : plans ≡ book.plans) (p q : Planned) (old : (d : Day) → p d ≡ pick plans d) (new : (d : Day) → q d ≡ picked_after plans (day_of e) (Some e) d) where
+module _ (book : Contents) (e : Entry Accepted) (is : IsBook book) (plans : List (Entry Accepted))
+    (plans_are : plans ≡ book.plans) (p q : Planned) (old : (d : Day) → p d ≡ pick plans d) (new : (d : Day) →
+    q d ≡ picked_after plans (day_of e) (Some e) d) where
   abbrev wanted : List (Entry Accepted)
   wanted = with_entry e book.plans
 
@@ -32,7 +34,8 @@ module _ (book : Contents) (e : Entry Accepted) (is : IsBook book) (plans : List
   old_is = (λ i. λ d. old d i) ∙ ap (λ t. pick t) plans_are
 
   new_day : (d : Day) → q d ≡ pick wanted d
-  new_day d = new d ∙ ap (λ t. picked_after t (day_of e) (Some e) d) plans_are ∙ sym (pick_put book.plans e d is.entries.rising)
+  new_day d = new d ∙ ap (λ t. picked_after t (day_of e) (Some e) d) plans_are
+      ∙ sym (pick_put book.plans e d is.entries.rising)
 
   new_is : q ≡ pick wanted
   new_is = λ i. λ d. new_day d i
@@ -50,7 +53,8 @@ module _ (book : Contents) (e : Entry Accepted) (is : IsBook book) (plans : List
 
   module _ (years : Years) (years_are : years_of years ≡ book.years) where
     rows_are : flat_map (year_changes p q) (years_of years) ≡ changes (month_rows book) (month_rows (book_with book e))
-    rows_are = (λ i. flat_map (year_changes (old_is i) (new_is i)) (years_are i)) ∙ sym (changes_by_year (pick book.plans) (pick wanted) book.years)
+    rows_are = (λ i. flat_map (year_changes (old_is i) (new_is i)) (years_are i))
+        ∙ sym (changes_by_year (pick book.plans) (pick wanted) book.years)
 
     work_is : work_of (jobs_in p q (years_of years) (years_of years)) ≡ (book_with book e).last
     work_is = λ i. work_of (jobs_in (old_is i) (new_is i) (years_are i) (years_are i))
@@ -62,6 +66,7 @@ module _ (book : Contents) (e : Entry Accepted) (is : IsBook book) (plans : List
     cost_is = ap (λ (w : Work). w.steps) work_is
 
 -- where memory ran out within the computing
-pub counts_try : {T E : Type 0} (r : Result Trial TryRefusal) (e : TryRefusal) (a : AllocError) (s : Result T E) (f : E) (before now total : ℕ) →
+pub counts_try : {T E : Type 0} (r : Result Trial TryRefusal) (e : TryRefusal) (a : AllocError) (s : Result T E)
+    (f : E) (before now total : ℕ) →
     r ≡ Err e → e ≡ trying.Memory a → s ≡ Err f → Counts s before now total → CountsTry r total before now
 counts_try r e a s f before now total is memory was counts = rw (is, memory) (rw was at counts)

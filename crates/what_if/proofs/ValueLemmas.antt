@@ -78,7 +78,8 @@ row_name (Value k n b a) = n
 abbrev row_with : Key → List ℕ → Option Decimal → Option Decimal → Option TrialRow
 row_with k n was is = if same_amount was is then None else Some (Value k n was is)
 
-row_keeps : (k : Key) (n : List ℕ) (was is : Option Decimal) (row : TrialRow) → row_with k n was is ≡ Some row → row_name row ≡ n
+row_keeps : (k : Key) (n : List ℕ) (was is : Option Decimal) (row : TrialRow) → row_with k n was is ≡ Some row →
+    row_name row ≡ n
 row_keeps k n was is row e = by (same_amount was is) e
   where
     by : (b : Bool) → (if b then None else Some (Value k n was is)) ≡ Some row → row_name row ≡ n
@@ -94,21 +95,26 @@ module _ (k : Key) (before after : List NamedValue) where
 
   rows_rising : IsRising name_cmp row_name (value_rows k before after)
   rows_rising = rising_filter_map name_cmp nat_list_cmp_total itself row_name (value_row k before after)
-      (λ n row e. row_keeps k n (named n before) (named n after) row e) listed (names_rising (map name_of (before ++ after)))
+      (λ n row e. row_keeps k n (named n before) (named n after) row e) listed
+      (names_rising (map name_of (before ++ after)))
 
   -- the row of a name is that of its two values, whether or not they are there
   rows_at : (n : List ℕ) → at_key name_cmp row_name (value_rows k before after) n ≡ value_row k before after n
   rows_at n =
       at_key_filter_map name_cmp nat_list_cmp_total itself row_name (value_row k before after)
-      (λ m row e. row_keeps k m (named m before) (named m after) row e) listed n (names_rising (map name_of (before ++ after)))
+      (λ m row e. row_keeps k m (named m before) (named m after) row e) listed n
+      (names_rising (map name_of (before ++ after)))
       ∙ by (name_at listed n) refl
     where
-      by : (o : Option (List ℕ)) → name_at listed n ≡ o → option_and_then (value_row k before after) o ≡ value_row k before after n
+      by : (o : Option (List ℕ)) → name_at listed n ≡ o → option_and_then (value_row k before after) o ≡ value_row k
+          before after n
       by (Some m) e = ap (value_row k before after) (name_same m n (found_in name_cmp itself listed n m e).1)
       by None e =
           let none = not_named (before ++ after) n e in
-          let was : named n before ≡ None = sym (named_at before n) ∙ ap (option_map value_of) (none_before before after n none) in
-          let is : named n after ≡ None = sym (named_at after n) ∙ ap (option_map value_of) (none_after before after n none) in
+          let was : named n before ≡ None = sym (named_at before n)
+          ∙ ap (option_map value_of) (none_before before after n none) in
+          let is : named n after ≡ None = sym (named_at after n)
+          ∙ ap (option_map value_of) (none_after before after n none) in
           sym (ap₂ (row_with k n) was is)
 
   module _ (vs ws : List NamedValue) (left : AreOrdered before vs) (right : AreOrdered after ws) where
@@ -118,18 +124,26 @@ module _ (k : Key) (before after : List NamedValue) where
     sides_row : (n : List ℕ) (v w : Option NamedValue) → value_at vs n ≡ v → value_at ws n ≡ w →
         option_and_then (side_row k) (met v w) ≡ row_with k n (option_map value_of v) (option_map value_of w)
     sides_row n None None e f = refl
-    sides_row n None (Some w) e f = ap (λ m. row_with k m None (Some w.value)) (name_same w.name n (found_in name_cmp name_of ws n w f).1)
-    sides_row n (Some v) None e f = ap (λ m. row_with k m (Some v.value) None) (name_same v.name n (found_in name_cmp name_of vs n v e).1)
-    sides_row n (Some v) (Some w) e f = ap (λ m. row_with k m (Some v.value) (Some w.value)) (name_same v.name n (found_in name_cmp name_of vs n v e).1)
+    sides_row n None (Some w) e f = ap (λ m. row_with k m None (Some w.value))
+        (name_same w.name n (found_in name_cmp name_of ws n w f).1)
+    sides_row n (Some v) None e f = ap (λ m. row_with k m (Some v.value) None)
+        (name_same v.name n (found_in name_cmp name_of vs n v e).1)
+    sides_row n (Some v) (Some w) e f = ap (λ m. row_with k m (Some v.value) (Some w.value))
+        (name_same v.name n (found_in name_cmp name_of vs n v e).1)
 
-    sides_at : (n : List ℕ) → at_key name_cmp row_name (filter_map (side_row k) (sides_of vs ws)) n ≡ value_row k before after n
+    sides_at : (n : List ℕ) → at_key name_cmp row_name (filter_map (side_row k) (sides_of vs ws)) n ≡ value_row k
+        before after n
     sides_at n =
-        at_key_filter_map name_cmp nat_list_cmp_total side_name row_name (side_row k) side_keeps (sides_of vs ws) n (sides_rising vs ws left.rising right.rising)
+        at_key_filter_map name_cmp nat_list_cmp_total side_name row_name (side_row k) side_keeps (sides_of vs ws) n
+        (sides_rising vs ws left.rising right.rising)
         ∙ ap (option_and_then (side_row k)) (at_sides n vs ws left.rising right.rising)
         ∙ sides_row n (value_at vs n) (value_at ws n) refl refl
-        ∙ ap₂ (row_with k n) (ap (option_map value_of) (left.at n) ∙ named_at before n) (ap (option_map value_of) (right.at n) ∙ named_at after n)
+        ∙ ap₂ (row_with k n) (ap (option_map value_of) (left.at n) ∙ named_at before n)
+        (ap (option_map value_of) (right.at n) ∙ named_at after n)
 
     pub side_rows : filter_map (side_row k) (sides_of vs ws) ≡ value_rows k before after
-    side_rows = same_at name_cmp nat_list_cmp_total row_name (filter_map (side_row k) (sides_of vs ws)) (value_rows k before after)
-        (rising_filter_map name_cmp nat_list_cmp_total side_name row_name (side_row k) side_keeps (sides_of vs ws) (sides_rising vs ws left.rising right.rising))
+    side_rows = same_at name_cmp nat_list_cmp_total row_name (filter_map (side_row k) (sides_of vs ws))
+        (value_rows k before after)
+        (rising_filter_map name_cmp nat_list_cmp_total side_name row_name (side_row k) side_keeps (sides_of vs ws)
+        (sides_rising vs ws left.rising right.rising))
         rows_rising (λ n. sides_at n ∙ sym (rows_at n))

@@ -5,4 +5,5 @@ use Rattle.what_if.proofs.rows.push_runs.Given as goal
 
 abbrev pub invariant-loop-at : goal.invariant-loop-at
 invariant-loop-at l =
-    l.rows.items ≡ l.initial.rows.items ++ changes (kept_rows (take l.at l.records) (take l.at l.before)) (kept_rows (take l.at l.records) (take l.at l.after))
+    l.rows.items ≡ l.initial.rows.items ++ changes (kept_rows (take l.at l.records) (take l.at l.before))
+    (kept_rows (take l.at l.records) (take l.at l.after))

@@ -9,5 +9,6 @@ use Rattle.what_if.proofs.rows.push_year.Goals as goal
 pub returns-in-None : goal.returns-in-None
 returns-in-None c =
     let y = c.args.year.now in
-    let none = ap (λ (new : New). changes (rows_kept_in y) (rows_kept_in (with_new y new))) c.in-None.is ∙ changes_none (rows_kept_in y) in
+    let none = ap (λ (new : New). changes (rows_kept_in y) (rows_kept_in (with_new y new))) c.in-None.is
+    ∙ changes_none (rows_kept_in y) in
     sym (ap (λ t. c.args.rows.now.items ++ t) none ∙ append-nil c.args.rows.now.items)

@@ -10,12 +10,24 @@ use Rattle.what_if.proofs.trials.try_years.Goals as goal
 pub overflow_add-runs : goal.overflow_add-runs
 overflow_add-runs g c =
     let few = years_few (plans_in c.args.picks.now.plans.now) c.args.years.now c.requires.years in
-    omega (arith, few, ap length c.as_slice-year-items.ensures.value, c.loop-year.invariant.redoing.runs_few, c.in_ok-done.ensures.done.few)
+    omega (
+      arith,
+      few,
+      ap length c.as_slice-year-items.ensures.value,
+      c.loop-year.invariant.redoing.runs_few,
+      c.in_ok-done.ensures.done.few,
+    )
 
 pub overflow_add-taken : goal.overflow_add-taken
 overflow_add-taken g c =
     let few = years_few (plans_in c.args.picks.now.plans.now) c.args.years.now c.requires.years in
-    omega (arith, few, ap length c.as_slice-year-items.ensures.value, c.loop-year.invariant.redoing.taken_few, c.in_ok-done.ensures.done.cheap)
+    omega (
+      arith,
+      few,
+      ap length c.as_slice-year-items.ensures.value,
+      c.loop-year.invariant.redoing.taken_few,
+      c.in_ok-done.ensures.done.cheap,
+    )
 
 pub push_year-requires-clause-before : goal.push_year-requires-clause-before
 push_year-requires-clause-before g c =
@@ -29,7 +41,8 @@ push_year-requires-clause-before g c =
 
 pub push_year-requires-clause-after : goal.push_year-requires-clause-after
 push_year-requires-clause-after g c =
-    has_outcomes (after c.args.picks.now) (with_new c.year-item.result c.in_ok-done.done.outcomes) c.requires.after c.in_ok-done.ensures.done.kept
+    has_outcomes (after c.args.picks.now) (with_new c.year-item.result c.in_ok-done.done.outcomes) c.requires.after
+    c.in_ok-done.ensures.done.kept
 
 pub returns-in_err-done-clause-counted : goal.returns-in_err-done-clause-counted
 returns-in_err-done-clause-counted g c =
@@ -39,8 +52,10 @@ returns-in_err-done-clause-counted g c =
     let i = c.loop-year.year-index in
     let is : y ≡ get_or ys i y = c.year-item.is ∙ ap (λ t. get_or t i y) c.as_slice-year-items.ensures.value in
     let e = err_from_is_err_and c.from_residual.result c.from_residual.ensures.1 in
-    out_in (before picks) (after picks) ys i _ _ _ _ _ c.loop-year.invariant.redoing c.requires.years.rising y (omega (arith, ap length c.as_slice-year-items.ensures.value, c.loop-year-test.true)) is
-    c.from_residual.result e.0 c.redo_year.result c.in_err-done.field-0.0 c.redo_year.new.steps e.1 c.in_err-done.was c.redo_year.ensures.counted
+    out_in (before picks) (after picks) ys i _ _ _ _ _ c.loop-year.invariant.redoing c.requires.years.rising y
+    (omega (arith, ap length c.as_slice-year-items.ensures.value, c.loop-year-test.true)) is
+    c.from_residual.result e.0 c.redo_year.result c.in_err-done.field-0.0 c.redo_year.new.steps e.1 c.in_err-done.was
+    c.redo_year.ensures.counted
 
 pub returns-in_err-push_year-clause-counted : goal.returns-in_err-push_year-clause-counted
 returns-in_err-push_year-clause-counted g c =
@@ -50,7 +65,8 @@ returns-in_err-push_year-clause-counted g c =
     let i = c.loop-year.year-index in
     let is : y ≡ get_or ys i y = c.year-item.is ∙ ap (λ t. get_or t i y) c.as_slice-year-items.ensures.value in
     let e = err_from_is_err_and c.from_residual-in_err-push_year.result c.from_residual-in_err-push_year.ensures.1 in
-    out_after (before picks) (after picks) ys i _ _ _ _ _ c.loop-year.invariant.redoing c.requires.years.rising y (omega (arith, ap length c.as_slice-year-items.ensures.value, c.loop-year-test.true)) is
+    out_after (before picks) (after picks) ys i _ _ _ _ _ c.loop-year.invariant.redoing c.requires.years.rising y
+    (omega (arith, ap length c.as_slice-year-items.ensures.value, c.loop-year-test.true)) is
     c.from_residual-in_err-push_year.result e.0 c.redo_year.new.steps e.1 c.in_ok-done.ensures.counted
 
 pub loop-year-preserved : goal.loop-year-preserved

@@ -4,4 +4,5 @@ use Rattle.what_if.proofs.trials.try_years.Given as goal
 
 abbrev pub invariant-loop-year : goal.invariant-loop-year
 invariant-loop-year g l =
-    IsTrying (before l.picks) (after l.picks) l.years.list.items l.year-index l.rows.items l.runs l.taken l.initial.steps l.steps
+    IsTrying (before l.picks) (after l.picks) l.years.list.items l.year-index l.rows.items l.runs l.taken
+    l.initial.steps l.steps
