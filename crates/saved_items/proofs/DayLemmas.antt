@@ -14,7 +14,8 @@ either_below true x y l r = l
 either_below false x y l r = r
 
 length_below_100 : (year : ℤ) (month : ℕ) → days_in_month year month < 100
-length_below_100 year month = either_below _ _ _ (either_below _ 29 28 (omega arith) (omega arith)) (either_below _ 30 31 (omega arith) (omega arith))
+length_below_100 year month = either_below _ _ _ (either_below _ 29 28 (omega arith) (omega arith))
+    (either_below _ 30 31 (omega arith) (omega arith))
 
 day_below_100 : (year month day : ℕ) → IsDay year month day → (month < 100) × (day < 100)
 day_below_100 year month day h =
@@ -51,7 +52,8 @@ day_spells d =
         century = digits_are (d.year / 100) high;
         years = digits_are (d.year % 100) low;
         months = digits_are d.month few.0;
-        year_is = year_back d.year _ _ (omega (arith, years.1)) (sym (spelled_back (d.year / 100) high)) (sym (spelled_back (d.year % 100) low));
+        year_is = year_back d.year _ _ (omega (arith, years.1)) (sym (spelled_back (d.year / 100) high))
+            (sym (spelled_back (d.year % 100) low));
         month_is = spelled_back d.month few.0;
       };
       dash = refl;
@@ -64,7 +66,8 @@ pub day_word_once : (d e : Day) → day_word d ≡ day_word e → d ≡ e
 day_word_once d e same =
     let h = subst (λ t. IsDayText t d.year d.month d.day) same (day_spells d) in
     let k = day_spells e in
-    same_day d e (year_is _ _ _ h.spells ∙ sym (year_is _ _ _ k.spells)) (month_is _ _ _ h.spells ∙ sym (month_is _ _ _ k.spells)) (day_is _ _ _ _ h ∙ sym (day_is _ _ _ _ k))
+    same_day d e (year_is _ _ _ h.spells ∙ sym (year_is _ _ _ k.spells))
+    (month_is _ _ _ h.spells ∙ sym (month_is _ _ _ k.spells)) (day_is _ _ _ _ h ∙ sym (day_is _ _ _ _ k))
 
 hundreds : (c d : ℕ) → d < 100 → (100 * c + d) / 100 ≡ c
 hundreds c d small = omega arith
@@ -76,13 +79,17 @@ spelled_below : (a b : ℕ) → AreDigits a b → spelled a b < 100
 spelled_below a b h = omega (arith, h.0, h.1, h.2, h.3)
 
 -- ten bytes that spell a day are its word
-ten_bytes : (a b c d e f g h i j year month day : ℕ) → IsDayText (a ∷ b ∷ c ∷ d ∷ e ∷ f ∷ g ∷ h ∷ i ∷ j ∷ []) year month day → a ∷ b ∷ c ∷ d ∷ e ∷ f ∷ g ∷ h ∷ i ∷ j ∷ [] ≡ day_text year month day
+ten_bytes : (a b c d e f g h i j year month day : ℕ) → IsDayText
+    (a ∷ b ∷ c ∷ d ∷ e ∷ f ∷ g ∷ h ∷ i ∷ j ∷ []) year month day →
+    a ∷ b ∷ c ∷ d ∷ e ∷ f ∷ g ∷ h ∷ i ∷ j ∷ [] ≡ day_text year month day
 ten_bytes a b c d e f g h i j year month day t =
     let low = spelled_below c d t.spells.years in
     let century : two_digits (year / 100) ≡ a ∷ b ∷ [] =
-    ap two_digits (ap (λ y. y / 100) t.spells.year_is ∙ hundreds (spelled a b) (spelled c d) low) ∙ digits_back a b t.spells.century in
+    ap two_digits (ap (λ y. y / 100) t.spells.year_is ∙ hundreds (spelled a b) (spelled c d) low)
+    ∙ digits_back a b t.spells.century in
     let years : two_digits (year % 100) ≡ c ∷ d ∷ [] =
-    ap two_digits (ap (λ y. y % 100) t.spells.year_is ∙ ones (spelled a b) (spelled c d) low) ∙ digits_back c d t.spells.years in
+    ap two_digits (ap (λ y. y % 100) t.spells.year_is ∙ ones (spelled a b) (spelled c d) low)
+    ∙ digits_back c d t.spells.years in
     let months : two_digits month ≡ f ∷ g ∷ [] = ap two_digits t.spells.month_is ∙ digits_back f g t.spells.months in
     let days : two_digits day ≡ i ∷ j ∷ [] = ap two_digits t.day_is ∙ digits_back i j t.days in
     let dash : e ≡ 45 = t.spells.dash in
@@ -95,7 +102,8 @@ ten_bytes a b c d e f g h i j year month day t =
     ∙ ap (λ x. a ∷ b ∷ c ∷ d ∷ e ∷ f ∷ g ∷ x ∷ i ∷ j ∷ []) (sym second))
 
 pub day_text_only : (t : Text) (year month day : ℕ) → IsDayText t year month day → t ≡ day_text year month day
-day_text_only (a ∷ b ∷ c ∷ d ∷ e ∷ f ∷ g ∷ h ∷ i ∷ j ∷ []) year month day t = ten_bytes a b c d e f g h i j year month day t
+day_text_only (a ∷ b ∷ c ∷ d ∷ e ∷ f ∷ g ∷ h ∷ i ∷ j ∷ []) year month day t = ten_bytes a b c d e f g h i j year month
+    day t
 day_text_only [] year month day t = absurd (omega (arith, t.long))
 day_text_only (a ∷ []) year month day t = absurd (omega (arith, t.long))
 day_text_only (a ∷ b ∷ []) year month day t = absurd (omega (arith, t.long))

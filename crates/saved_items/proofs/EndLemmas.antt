@@ -23,6 +23,10 @@ complete_of (stage.Runs n) s t e =
     let same : s.records ≡ t.records = cc in
     ap (λ (m : ℕ). stage.Runs m) (count ∙ ap length (sym same))
 
-pub ends_by : (f : Front) (rest : Text) (b : Bool) → b ≡ bytes_eq rest end_text → IsComplete f → MatchBool b (EndsWith f rest) (Ends (front_in f) rest → ⊥)
-ends_by f rest true e complete = (ap (λ (st : Stage). front_at st (saved_in f.items)) complete, (bytes_eq-Decides rest end_text).0 (sym e))
+pub ends_by : (f : Front) (rest : Text) (b : Bool) → b ≡ bytes_eq rest end_text → IsComplete f →
+    MatchBool b (EndsWith f rest) (Ends (front_in f) rest → ⊥)
+ends_by f rest true e complete = (
+  ap (λ (st : Stage). front_at st (saved_in f.items)) complete,
+  (bytes_eq-Decides rest end_text).0 (sym e),
+)
 ends_by f rest false e complete = λ h. false≢true (e ∙ (bytes_eq-Decides rest end_text).1 h.last)

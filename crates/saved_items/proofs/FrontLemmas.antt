@@ -18,19 +18,23 @@ use Rattle.saved_items.proofs.ItemLemmas.{fit_once}
 
 -- ---- lists with one more element
 
-pub all_push : {X : Type 0} (P : X → Type 0) (xs : List X) (y : X) → AllByRecursion P xs → P y → AllByRecursion P (xs ++ (y ∷ []))
+pub all_push : {X : Type 0} (P : X → Type 0) (xs : List X) (y : X) → AllByRecursion P xs → P y →
+    AllByRecursion P (xs ++ (y ∷ []))
 all_push P [] y h p = (p, tt)
 all_push P (x ∷ xs) y h p = (h.0, all_push P xs y h.1 p)
 
-all_front : {X : Type 0} (P : X → Type 0) (xs : List X) (y : X) → AllByRecursion P (xs ++ (y ∷ [])) → AllByRecursion P xs × P y
+all_front : {X : Type 0} (P : X → Type 0) (xs : List X) (y : X) → AllByRecursion P (xs ++ (y ∷ [])) →
+    AllByRecursion P xs × P y
 all_front P [] y h = (tt, h.0)
 all_front P (x ∷ xs) y h = let more = all_front P xs y h.1 in ((h.0, more.0), more.1)
 
-above_front : {K X : Type 0} (cmp : K → K → Ordering) (key : X → K) (k : K) (xs : List X) (y : X) → AreAbove cmp key k (xs ++ (y ∷ [])) → AreAbove cmp key k xs × (cmp k (key y) ≡ Less)
+above_front : {K X : Type 0} (cmp : K → K → Ordering) (key : X → K) (k : K) (xs : List X) (y : X) →
+    AreAbove cmp key k (xs ++ (y ∷ [])) → AreAbove cmp key k xs × (cmp k (key y) ≡ Less)
 above_front cmp key k [] y h = (tt, h.0)
 above_front cmp key k (x ∷ xs) y h = let more = above_front cmp key k xs y h.1 in ((h.0, more.0), more.1)
 
-rising_front : {K X : Type 0} (cmp : K → K → Ordering) (key : X → K) (xs : List X) (y : X) → IsRising cmp key (xs ++ (y ∷ [])) → IsRising cmp key xs × AllByRecursion (λ x. cmp (key x) (key y) ≡ Less) xs
+rising_front : {K X : Type 0} (cmp : K → K → Ordering) (key : X → K) (xs : List X) (y : X) →
+    IsRising cmp key (xs ++ (y ∷ [])) → IsRising cmp key xs × AllByRecursion (λ x. cmp (key x) (key y) ≡ Less) xs
 rising_front cmp key [] y h = (tt, tt)
 rising_front cmp key (x ∷ xs) y h =
     let first = above_front cmp key (key x) xs y h.0 in
@@ -47,14 +51,19 @@ record Ending {X : Type 0} (xs : List X) : Type 0 where
 
 ending : {X : Type 0} (x : X) (xs : List X) → Ending (x ∷ xs)
 ending x [] = record { front = []; last = x; whole = refl }
-ending x (y ∷ ys) = let more = ending y ys in record { front = x ∷ more.front; last = more.last; whole = ap (λ zs. x ∷ zs) more.whole }
+ending x (y ∷ ys) = let more = ending y ys in record {
+  front = x ∷ more.front;
+  last = more.last;
+  whole = ap (λ zs. x ∷ zs) more.whole;
+}
 
 -- ---- with an item that fits
 
 pub text_more : (f : Front) (i : Item) → Fits f i → front_text (with_item f i) ≡ front_text f ++ item_text i
 text_more nothing title h = refl
 text_more titled (work a b) h = refl
-text_more (worked a b) (plan_count n) h = append-nil (head_text a b n) ∙ sym (append_assoc title_text (work_text a b) (plan_count_text n))
+text_more (worked a b) (plan_count n) h = append-nil (head_text a b n)
+    ∙ sym (append_assoc title_text (work_text a b) (plan_count_text n))
 text_more (planning a b n ps) (plan p) h = sym (flat_map_more plan_text (head_text a b n) ps p)
 text_more (planning a b n ps) (run_count m) h =
     let head = head_text a b (length ps) in
@@ -128,7 +137,8 @@ pub record Parent (g : Front) : Type 0 where
   pub fits : Fits front item
   pub whole : g ≡ with_item front item
 
-planning_parent : (a b n : ℕ) (ps : List SavedPlan) (p : SavedPlan) → IsFront (planning a b n (ps ++ (p ∷ []))) → Parent (planning a b n (ps ++ (p ∷ [])))
+planning_parent : (a b n : ℕ) (ps : List SavedPlan) (p : SavedPlan) → IsFront (planning a b n (ps ++ (p ∷ []))) →
+    Parent (planning a b n (ps ++ (p ∷ [])))
 planning_parent a b n ps p s =
     let rising = rising_front day_cmp day_of ps p s.1.rising in
     let below : length ps < n = omega (arith, s.1.within, length_one_more ps p) in
@@ -140,7 +150,8 @@ planning_parent a b n ps p s =
       whole = refl;
     }
 
-running_parent : (a b n : ℕ) (ps : List SavedPlan) (rs : List Record) (r : Record) → IsFront (running a b ps n (rs ++ (r ∷ []))) → Parent (running a b ps n (rs ++ (r ∷ [])))
+running_parent : (a b n : ℕ) (ps : List SavedPlan) (rs : List Record) (r : Record) →
+    IsFront (running a b ps n (rs ++ (r ∷ []))) → Parent (running a b ps n (rs ++ (r ∷ [])))
 running_parent a b n ps rs r s =
     let rising = rising_front key_cmp key_of rs r s.2.rising in
     let each = all_front IsRun rs r s.2.each in
@@ -157,7 +168,13 @@ pub parent : (g : Front) → IsFront g → 0 < items_in g → Parent g
 parent nothing s some = absurd (omega (arith, some))
 parent titled s some = record { front = nothing; item = title; sound = tt; fits = tt; whole = refl }
 parent (worked a b) s some = record { front = titled; item = work a b; sound = tt; fits = s; whole = refl }
-parent (planning a b n []) s some = record { front = worked a b; item = plan_count n; sound = s.0; fits = s.1.counted; whole = refl }
+parent (planning a b n []) s some = record {
+  front = worked a b;
+  item = plan_count n;
+  sound = s.0;
+  fits = s.1.counted;
+  whole = refl;
+}
 parent (planning a b n (p ∷ ps)) s some =
     let e = ending p ps in
     subst (λ xs. Parent (planning a b n xs)) (sym e.whole)
@@ -218,7 +235,8 @@ step_by (suc n) g k s e lt =
             rest = more.rest ++ item_text p.item;
             text = text ∙ ap (λ t. t ++ item_text p.item) more.text
                 ∙ append_assoc (front_text more.front) (item_text more.item ++ more.rest) (item_text p.item)
-                ∙ ap (λ t. front_text more.front ++ t) (append_assoc (item_text more.item) more.rest (item_text p.item));
+                ∙ ap (λ t. front_text more.front ++ t) (append_assoc (item_text more.item) more.rest
+                (item_text p.item));
           }
     ]
 
@@ -234,7 +252,8 @@ no_items (worked a b) e = absurd (omega (arith, e))
 no_items (planning a b n ps) e = absurd (omega (arith, e))
 no_items (running a b ps n rs) e = absurd (omega (arith, e))
 
-pub fronts_once : (n : ℕ) (f g : Front) (r q : Text) → items_in f ≡ n → items_in g ≡ n → IsFront f → IsFront g → front_text f ++ r ≡ front_text g ++ q → (f ≡ g) × (r ≡ q)
+pub fronts_once : (n : ℕ) (f g : Front) (r q : Text) → items_in f ≡ n → items_in g ≡ n → IsFront f → IsFront g →
+    front_text f ++ r ≡ front_text g ++ q → (f ≡ g) × (r ≡ q)
 fronts_once zero f g r q a b s t e =
     let x = no_items f a in
     let y = no_items g b in
@@ -242,7 +261,9 @@ fronts_once zero f g r q a b s t e =
 fronts_once (suc n) f g r q a b s t e =
     let x = parent f s (omega (arith, a)) in
     let y = parent g t (omega (arith, b)) in
-    let earlier = fronts_once n x.front y.front (item_text x.item ++ r) (item_text y.item ++ q) (omega (arith, a, parent_items f x)) (omega (arith, b, parent_items g y)) x.sound y.sound
-    (sym (append_assoc (front_text x.front) (item_text x.item) r) ∙ ap (λ z. z ++ r) (sym (parent_text f x)) ∙ e ∙ ap (λ z. z ++ q) (parent_text g y) ∙ append_assoc (front_text y.front) (item_text y.item) q) in
+    let earlier = fronts_once n x.front y.front (item_text x.item ++ r) (item_text y.item ++ q)
+    (omega (arith, a, parent_items f x)) (omega (arith, b, parent_items g y)) x.sound y.sound
+    (sym (append_assoc (front_text x.front) (item_text x.item) r) ∙ ap (λ z. z ++ r) (sym (parent_text f x)) ∙ e
+    ∙ ap (λ z. z ++ q) (parent_text g y) ∙ append_assoc (front_text y.front) (item_text y.item) q) in
     let here = fit_once y.front x.item y.item (subst (λ h. Fits h x.item) earlier.0 x.fits) y.fits r q earlier.1 in
     (x.whole ∙ ap₂ with_item earlier.0 here.0 ∙ sym y.whole, here.1)

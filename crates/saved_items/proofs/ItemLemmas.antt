@@ -17,11 +17,13 @@ use Rattle.saved_items.proofs.NumberLemmas.{whole_once}
 use Rattle.saved_items.proofs.WordLemmas.{values_once, work_are_words, plan_count_are_words, run_count_are_words, plan_are_words, run_are_words}
 
 -- two lines that begin one text have the same words, and the same follows them
-pub lines_once : (a : Text) (xs : List Text) (b : Text) (ys : List Text) (r q : Text) → AreWords (a ∷ xs) → AreWords (b ∷ ys) → line_of (a ∷ xs) ++ r ≡ line_of (b ∷ ys) ++ q → (a ∷ xs ≡ b ∷ ys) × (r ≡ q)
+pub lines_once : (a : Text) (xs : List Text) (b : Text) (ys : List Text) (r q : Text) → AreWords (a ∷ xs) →
+    AreWords (b ∷ ys) → line_of (a ∷ xs) ++ r ≡ line_of (b ∷ ys) ++ q → (a ∷ xs ≡ b ∷ ys) × (r ≡ q)
 lines_once a xs b ys r q h k e =
     let x = join_with_byte 32 (a ∷ xs) in
     let y = join_with_byte 32 (b ∷ ys) in
-    let cut = cut_once 10 x y r q (join_misses (a ∷ xs) h) (join_misses (b ∷ ys) k) (sym (append_assoc x (10 ∷ []) r) ∙ e ∙ append_assoc y (10 ∷ []) q) in
+    let cut = cut_once 10 x y r q (join_misses (a ∷ xs) h) (join_misses (b ∷ ys) k)
+    (sym (append_assoc x (10 ∷ []) r) ∙ e ∙ append_assoc y (10 ∷ []) q) in
     (sym (split_join a xs h) ∙ ap (slice_split is_space) cut.0 ∙ split_join b ys k, cut.1)
 
 pub same_length_cut : (a c b d : Text) → length a ≡ length c → a ++ b ≡ c ++ d → (a ≡ c) × (b ≡ d)
@@ -36,13 +38,16 @@ same_length_cut (x ∷ a) (y ∷ c) b d l e =
 
 pub same_plan : (p q : SavedPlan) → p.day ≡ q.day → p.plan ≡ q.plan → p.limits ≡ q.limits → p ≡ q
 same_plan p q ed et el =
-    ap (λ (x : Day). make x p.plan p.limits) ed ∙ ap (λ (x : Text). make q.day x p.limits) et ∙ ap (λ (x : Text). make q.day q.plan x) el
+    ap (λ (x : Day). make x p.plan p.limits) ed ∙ ap (λ (x : Text). make q.day x p.limits) et
+    ∙ ap (λ (x : Text). make q.day q.plan x) el
   where
     make : Day → Text → Text → SavedPlan
     make d t l = record { day = d; plan = t; limits = l }
 
 -- what follows a plan's line
-bodies_once : (p q : SavedPlan) (r s : Text) → length p.plan ≡ length q.plan → length p.limits ≡ length q.limits → (p.plan ++ (p.limits ++ (10 ∷ []))) ++ r ≡ (q.plan ++ (q.limits ++ (10 ∷ []))) ++ s → (p.plan ≡ q.plan) × (p.limits ≡ q.limits) × (r ≡ s)
+bodies_once : (p q : SavedPlan) (r s : Text) → length p.plan ≡ length q.plan → length p.limits ≡ length q.limits →
+    (p.plan ++ (p.limits ++ (10 ∷ []))) ++ r ≡ (q.plan ++ (q.limits ++ (10 ∷ []))) ++ s →
+    (p.plan ≡ q.plan) × (p.limits ≡ q.limits) × (r ≡ s)
 bodies_once p q r s a b e =
     let first = same_length_cut p.plan q.plan ((p.limits ++ (10 ∷ [])) ++ r) ((q.limits ++ (10 ∷ [])) ++ s) a
     (sym (append_assoc p.plan (p.limits ++ (10 ∷ [])) r) ∙ e ∙ append_assoc q.plan (q.limits ++ (10 ∷ [])) s) in
@@ -57,7 +62,9 @@ plan_once p q r s e =
     let qw = plan_words q.day (length q.plan) (length q.limits) in
     let pb = p.plan ++ (p.limits ++ (10 ∷ [])) in
     let qb = q.plan ++ (q.limits ++ (10 ∷ [])) in
-    let lines = lines_once (codes "plan") (day_word p.day ∷ whole_text (length p.plan) ∷ whole_text (length p.limits) ∷ []) (codes "plan") (day_word q.day ∷ whole_text (length q.plan) ∷ whole_text (length q.limits) ∷ []) (pb ++ r) (qb ++ s)
+    let lines = lines_once (codes "plan") (day_word p.day ∷ whole_text (length p.plan) ∷ whole_text
+    (length p.limits) ∷ []) (codes "plan") (day_word q.day ∷ whole_text (length q.plan) ∷ whole_text
+    (length q.limits) ∷ []) (pb ++ r) (qb ++ s)
     (plan_are_words p.day (length p.plan) (length p.limits)) (plan_are_words q.day (length q.plan) (length q.limits))
     (sym (append_assoc (line_of pw) pb r) ∙ e ∙ append_assoc (line_of qw) qb s) in
     let words = three_words _ _ _ _ _ _ _ lines.0 in
@@ -68,7 +75,9 @@ plan_once p q r s e =
     three_words f a b c x y z e = (cc, cc, cc)
 
 -- a number behind a word
-pub count_once : (f : Text) (m n : ℕ) (r q : Text) → AreWords (f ∷ whole_text m ∷ []) → AreWords (f ∷ whole_text n ∷ []) → line_of (f ∷ whole_text m ∷ []) ++ r ≡ line_of (f ∷ whole_text n ∷ []) ++ q → (m ≡ n) × (r ≡ q)
+pub count_once : (f : Text) (m n : ℕ) (r q : Text) → AreWords (f ∷ whole_text m ∷ []) →
+    AreWords (f ∷ whole_text n ∷ []) → line_of (f ∷ whole_text m ∷ []) ++ r ≡ line_of (f ∷ whole_text n ∷ []) ++ q →
+    (m ≡ n) × (r ≡ q)
 count_once f m n r q h k e =
     let lines = lines_once f (whole_text m ∷ []) f (whole_text n ∷ []) r q h k e in
     (whole_once m n (second _ _ _ lines.0), lines.1)
@@ -76,9 +85,11 @@ count_once f m n r q h k e =
     second : (f a b : Text) → f ∷ a ∷ [] ≡ f ∷ b ∷ [] → a ≡ b
     second f a b e = cc
 
-pub work_once : (a b c d : ℕ) (r q : Text) → line_of (work_words a b) ++ r ≡ line_of (work_words c d) ++ q → (a ≡ c) × (b ≡ d) × (r ≡ q)
+pub work_once : (a b c d : ℕ) (r q : Text) → line_of (work_words a b) ++ r ≡ line_of (work_words c d) ++ q →
+    (a ≡ c) × (b ≡ d) × (r ≡ q)
 work_once a b c d r q e =
-    let lines = lines_once (codes "work") (whole_text a ∷ whole_text b ∷ []) (codes "work") (whole_text c ∷ whole_text d ∷ []) r q (work_are_words a b) (work_are_words c d) e in
+    let lines = lines_once (codes "work") (whole_text a ∷ whole_text b ∷ []) (codes "work")
+    (whole_text c ∷ whole_text d ∷ []) r q (work_are_words a b) (work_are_words c d) e in
     let words = two _ _ _ _ _ lines.0 in
     (whole_once a c words.0, whole_once b d words.1, lines.1)
   where
@@ -95,23 +106,27 @@ run_words_once a b h k e =
 
 pub run_once : (a b : Record) (r q : Text) → IsRun a → IsRun b → run_text a ++ r ≡ run_text b ++ q → (a ≡ b) × (r ≡ q)
 run_once a b r q h k e =
-    let lines = lines_once (codes "run") (a.employee ∷ day_word a.day ∷ map value_word a.values) (codes "run") (b.employee ∷ day_word b.day ∷ map value_word b.values) r q (run_are_words a h) (run_are_words b k) e in
+    let lines = lines_once (codes "run") (a.employee ∷ day_word a.day ∷ map value_word a.values) (codes "run")
+    (b.employee ∷ day_word b.day ∷ map value_word b.values) r q (run_are_words a h) (run_are_words b k) e in
     (run_words_once a b h k lines.0, lines.1)
 
 append_same : (t r q : Text) → t ++ r ≡ t ++ q → r ≡ q
 append_same [] r q e = e
 append_same (x ∷ t) r q e = (let s : t ++ r ≡ t ++ q = cc in append_same t r q s)
 
-pub fit_once : (f : Front) (i j : Item) → Fits f i → Fits f j → (r q : Text) → item_text i ++ r ≡ item_text j ++ q → (i ≡ j) × (r ≡ q)
+pub fit_once : (f : Front) (i j : Item) → Fits f i → Fits f j → (r q : Text) → item_text i ++ r ≡ item_text j ++ q →
+    (i ≡ j) × (r ≡ q)
 fit_once nothing title title h k r q e = (refl, append_same (item_text title) r q e)
 fit_once titled (work a b) (work c d) h k r q e = let s = work_once a b c d r q e in (ap₂ work s.0 s.1, s.2)
 fit_once (worked a b) (plan_count m) (plan_count n) h k r q e =
-    let s = count_once (codes "plans") m n r q (plan_count_are_words m) (plan_count_are_words n) e in (ap plan_count s.0, s.1)
+    let s = count_once (codes "plans") m n r q (plan_count_are_words m) (plan_count_are_words n) e in
+    (ap plan_count s.0, s.1)
 fit_once (planning a b n ps) (plan x) (plan y) h k r q e = let s = plan_once x y r q e in (ap plan s.0, s.1)
 fit_once (planning a b n ps) (plan x) (run_count m) h k r q e = absurd (omega (arith, h.0, k.0))
 fit_once (planning a b n ps) (run_count m) (plan x) h k r q e = absurd (omega (arith, h.0, k.0))
 fit_once (planning a b n ps) (run_count l) (run_count m) h k r q e =
-    let s = count_once (codes "runs") l m r q (run_count_are_words l) (run_count_are_words m) e in (ap run_count s.0, s.1)
+    let s = count_once (codes "runs") l m r q (run_count_are_words l) (run_count_are_words m) e in
+    (ap run_count s.0, s.1)
 fit_once (running a b ps n rs) (run x) (run y) h k r q e = let s = run_once x y r q h.1 k.1 e in (ap run s.0, s.1)
 fit_once nothing title j h k r q e = absurd k
 fit_once nothing i j h k r q e = absurd h

@@ -73,12 +73,15 @@ join_misses (w ∷ v ∷ words) h =
     misses_append 10 w _ (word_misses 10 w (omega arith) h.0) ((λ e. omega arith), join_misses (v ∷ words) h.1)
 
 -- the text up to a line's end is its words, and what follows it follows them
-pub line_once : (bytes line more : Text) (words : List Text) (rest : Text) → Misses 10 line → bytes ≡ line ++ (10 ∷ more) → AreWords words → bytes ≡ line_of words ++ rest → (line ≡ join_with_byte 32 words) × (more ≡ rest)
+pub line_once : (bytes line more : Text) (words : List Text) (rest : Text) → Misses 10 line →
+    bytes ≡ line ++ (10 ∷ more) → AreWords words → bytes ≡ line_of words ++ rest →
+    (line ≡ join_with_byte 32 words) × (more ≡ rest)
 line_once bytes line more words rest m cut h e =
     cut_once 10 line (join_with_byte 32 words) more rest m (join_misses words h)
     (sym cut ∙ e ∙ append_assoc (join_with_byte 32 words) (10 ∷ []) rest)
 
-split_word : (w : Text) (rest : Text) → IsWord w → slice_split is_space (w ++ (32 ∷ rest)) ≡ w ∷ slice_split is_space rest
+split_word : (w : Text) (rest : Text) → IsWord w → slice_split is_space
+    (w ++ (32 ∷ rest)) ≡ w ∷ slice_split is_space rest
 split_word [] rest h = refl
 split_word (b ∷ w) rest h =
     let other : (b == 32) ≡ false = grind (arith, nat_tests) in
@@ -91,7 +94,8 @@ split_last (b ∷ w) h =
     slice_split-cons_no is_space b w other ∙ ap (onto_first b) (split_last w h.1)
 
 -- words are found again between the spaces
-pub split_join : (w : Text) (words : List Text) → AreWords (w ∷ words) → slice_split is_space (join_with_byte 32 (w ∷ words)) ≡ w ∷ words
+pub split_join : (w : Text) (words : List Text) → AreWords (w ∷ words) →
+    slice_split is_space (join_with_byte 32 (w ∷ words)) ≡ w ∷ words
 split_join w [] h = split_last w h.0
 split_join w (v ∷ words) h =
     split_word w (join_with_byte 32 (v ∷ words)) h.0 ∙ ap (λ x. w ∷ x) (split_join v words h.1)

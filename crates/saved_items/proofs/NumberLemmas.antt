@@ -35,7 +35,8 @@ plain_once a b e =
     number_once (plain_text b) a b (subst (λ t. Spells t a) e (plain_text_spells a)) (plain_text_spells b)
 
 -- digits are read as their number
-pub whole_read : (word : List ℕ) (n : ℕ) → n < 2 ^ 64 → word ≡ whole_text n → Spells word (decimal (pos n) 0) × IsKept (decimal (pos n) 0)
+pub whole_read : (word : List ℕ) (n : ℕ) → n < 2 ^ 64 → word ≡ whole_text n →
+    Spells word (decimal (pos n) 0) × IsKept (decimal (pos n) 0)
 whole_read word n small e = (
   subst (λ t. Spells t (decimal (pos n) 0)) (sym e) (whole_spells n),
   record { numerator = omega (arith, small); scale = omega arith },

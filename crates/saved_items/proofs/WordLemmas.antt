@@ -49,7 +49,8 @@ pub plain_word : (d : Decimal) → IsWord (plain_text d)
 plain_word d =
     let n = unsigned_abs (numerator_of d) in
     word_append _ _ (sign_word (int_lt (numerator_of d) (pos 0)))
-    (word_append (whole_text (n / 10 ^ scale_of d)) _ (whole_word (n / 10 ^ scale_of d)) (point_word (last_digits (scale_of d) n) (last_word (scale_of d) n)))
+    (word_append (whole_text (n / 10 ^ scale_of d)) _ (whole_word (n / 10 ^ scale_of d))
+    (point_word (last_digits (scale_of d) n) (last_word (scale_of d) n)))
 
 -- ---- days
 
@@ -104,12 +105,20 @@ value_words (v ∷ vs) h = (value_is_word v h.0, value_words vs h.1)
 
 -- a value word gives its value
 pub value_given : (v : NamedValue) → IsValue v → IsValueWord (value_word v) v
-value_given v h = record { text = plain_text v.value; split = refl; named = h.named; spelled = plain_text_spells v.value; kept = h.kept }
+value_given v h = record {
+  text = plain_text v.value;
+  split = refl;
+  named = h.named;
+  spelled = plain_text_spells v.value;
+  kept = h.kept;
+}
 
 pub value_word_once : (v w : NamedValue) → IsValue v → IsValue w → value_word v ≡ value_word w → v ≡ w
-value_word_once v w h k e = value_once (value_word w) v w (subst (λ t. IsValueWord t v) e (value_given v h)) (value_given w k)
+value_word_once v w h k e = value_once (value_word w) v w (subst (λ t. IsValueWord t v) e (value_given v h))
+    (value_given w k)
 
-pub values_once : (vs ws : List NamedValue) → AllByRecursion IsValue vs → AllByRecursion IsValue ws → map value_word vs ≡ map value_word ws → vs ≡ ws
+pub values_once : (vs ws : List NamedValue) → AllByRecursion IsValue vs → AllByRecursion IsValue ws →
+    map value_word vs ≡ map value_word ws → vs ≡ ws
 values_once [] [] h k e = refl
 values_once [] (w ∷ ws) h k e = cc
 values_once (v ∷ vs) [] h k e = cc
@@ -120,7 +129,8 @@ values_once (v ∷ vs) (w ∷ ws) h k e =
 
 -- ---- the words of items
 
-pub literal_word : IsWord (codes "papbook") × IsWord (codes "1") × IsWord (codes "work") × IsWord (codes "plans") × IsWord (codes "plan") × IsWord (codes "runs") × IsWord (codes "run") × IsWord (codes "end")
+pub literal_word : IsWord (codes "papbook") × IsWord (codes "1") × IsWord (codes "work") × IsWord
+    (codes "plans") × IsWord (codes "plan") × IsWord (codes "runs") × IsWord (codes "run") × IsWord (codes "end")
 literal_word = (
   (omega arith, (omega arith, (omega arith, (omega arith, (omega arith, (omega arith, (omega arith, tt))))))),
   (omega arith, tt),
@@ -145,4 +155,10 @@ pub plan_are_words : (d : Day) (a b : ℕ) → AreWords (plan_words d a b)
 plan_are_words d a b = (literal_word.4, (day_is_word d, (whole_word a, (whole_word b, tt))))
 
 pub run_are_words : (r : Record) → IsRun r → AreWords (run_words r)
-run_are_words r h = (literal_word.6, (employee_word r.employee h.employee, (day_is_word r.day, value_words r.values h.each)))
+run_are_words r h = (
+  literal_word.6,
+  (
+    employee_word r.employee h.employee,
+    (day_is_word r.day, value_words r.values h.each),
+  ),
+)

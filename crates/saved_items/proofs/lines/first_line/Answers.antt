@@ -6,4 +6,7 @@ pub returns-in_default : goal.returns-in_default
 returns-in_default c = no_feed c.args.bytes.now (sym c.line_length.ensures ∙ c.in_default.is)
 
 pub returns : goal.returns
-returns c = record { is = feed_at c.args.bytes.now c.in-Some.end (sym c.line_length.ensures ∙ c.in-Some.is); words = c.in_ok-words.ensures }
+returns c = record {
+  is = feed_at c.args.bytes.now c.in-Some.end (sym c.line_length.ensures ∙ c.in-Some.is);
+  words = c.in_ok-words.ensures;
+}

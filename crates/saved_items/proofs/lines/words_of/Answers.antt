@@ -9,5 +9,6 @@ pub returns : goal.returns
 returns c =
     map_from_collect _ c.collect.ensures.ran
     (YieldsList-from_take 260
-    (YieldsList-at c.take.ensures.source (YieldsList-from_slice_split _ is_space c.args.line.now c.split.ensures.rest c.split.ensures.done c.split.ensures.closure (λ x b q k. search (rules, tests))))
+    (YieldsList-at c.take.ensures.source (YieldsList-from_slice_split _ is_space c.args.line.now c.split.ensures.rest
+    c.split.ensures.done c.split.ensures.closure (λ x b q k. search (rules, tests))))
     c.take.ensures.count)

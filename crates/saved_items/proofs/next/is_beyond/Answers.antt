@@ -18,6 +18,10 @@ returns-in-Some c =
     let last = c.in-Some.last.now in
     let there : slice_get records (length records - 1) ≡ Some last = sym c.in-Some.ensures.value in
     let long : length records ≡ length records - 1 + 1 = omega (arith, c.in-Some.ensures.item.3.0) in
-    by_less (key_cmp (key_of last) (key_of run)) c.is_lt.result (IsBeyond records run) (c.is_lt.ensures ∙ ap is_lt c.cmp.ensures ∙ ap₂ (λ a b. is_lt (key_cmp a b)) c.key.ensures c.key-in-Some.ensures)
-    (λ less. last_above key_cmp key_total key_of records (length records - 1) last (key_of run) c.requires long there less)
-    (λ all. all_get (λ (q : Record). key_cmp (key_of q) (key_of run) ≡ Less) records (length records - 1) last all there)
+    by_less (key_cmp (key_of last) (key_of run)) c.is_lt.result (IsBeyond records run)
+    (c.is_lt.ensures ∙ ap is_lt c.cmp.ensures ∙ ap₂ (λ a b. is_lt (key_cmp a b)) c.key.ensures
+    c.key-in-Some.ensures)
+    (λ less. last_above key_cmp key_total key_of records (length records - 1) last
+    (key_of run) c.requires long there less)
+    (λ all. all_get (λ (q : Record). key_cmp (key_of q) (key_of run) ≡ Less) records
+    (length records - 1) last all there)

@@ -17,8 +17,13 @@ pub returns-in-Some : goal.returns-in-Some
 returns-in-Some c = λ p same.
     let plans = c.args.plans.now in
     let last = plan_in c.in-Some.last.now in
-    let there : slice_get (plans_of plans) (length plans - 1) ≡ Some last = last_of_map plan_in plans (length plans - 1) c.in-Some.last.now (sym c.in-Some.ensures.value) in
-    let long : length (plans_of plans) ≡ length plans - 1 + 1 = omega (arith, length-map plans plan_in, c.in-Some.ensures.item.3.0) in
-    by_less (day_cmp last.day c.args.day) c.is_lt.result (IsLater (plans_of plans) p) (c.is_lt.ensures ∙ ap is_lt c.cmp.ensures)
-    (λ less. last_above day_cmp day_total day_of (plans_of plans) (length plans - 1) last p.day c.requires long there (ap (day_cmp last.day) same ∙ less))
-    (λ all. ap (day_cmp last.day) (sym same) ∙ all_get (λ (q : SavedPlan). day_cmp (day_of q) (day_of p) ≡ Less) (plans_of plans) (length plans - 1) last all there)
+    let there : slice_get (plans_of plans) (length plans - 1) ≡ Some last = last_of_map plan_in plans
+    (length plans - 1) c.in-Some.last.now (sym c.in-Some.ensures.value) in
+    let long : length (plans_of plans) ≡ length plans - 1 + 1 = omega
+    (arith, length-map plans plan_in, c.in-Some.ensures.item.3.0) in
+    by_less (day_cmp last.day c.args.day) c.is_lt.result (IsLater (plans_of plans) p)
+    (c.is_lt.ensures ∙ ap is_lt c.cmp.ensures)
+    (λ less. last_above day_cmp day_total day_of (plans_of plans) (length plans - 1) last p.day c.requires long there
+    (ap (day_cmp last.day) same ∙ less))
+    (λ all. ap (day_cmp last.day) (sym same) ∙ all_get (λ (q : SavedPlan). day_cmp (day_of q) (day_of p) ≡ Less)
+    (plans_of plans) (length plans - 1) last all there)

@@ -11,7 +11,8 @@ returns-in_default-2 c =
     let line = rw c.in-Some.is at c.in_ok-line.ensures in
     let split : AreWordsOf c.in-Some.line.text.now c.as_slice.result.now = rw c.as_slice.ensures.value line.words in
     λ runs steps count more.
-    none_plan c.args.rest.now c.in-Some.line.text.now c.in-Some.line.rest.now (texts c.as_slice.result.now) line.is split c.is_short.ensures (rw c.in_default-2.is at c.in_ok-front.ensures)
+    none_plan c.args.rest.now c.in-Some.line.text.now c.in-Some.line.rest.now
+    (texts c.as_slice.result.now) line.is split c.is_short.ensures (rw c.in_default-2.is at c.in_ok-front.ensures)
     runs steps count (plans_of c.args.plans.now) (omega (arith, more, length-map c.args.plans.now plan_in))
 
 pub returns-in_default-plan_texts : goal.returns-in_default-plan_texts
@@ -20,7 +21,8 @@ returns-in_default-plan_texts c =
     let split : AreWordsOf c.in-Some.line.text.now c.as_slice.result.now = rw c.as_slice.ensures.value line.words in
     let is = rw c.in-Some-2.is at c.in_ok-front.ensures in
     λ runs steps count more.
-    no_texts c.args.rest.now c.in-Some.line.text.now c.in-Some.line.rest.now (texts c.as_slice.result.now) line.is split c.in-Some-2.front is c.in_default-plan_texts.ensures
+    no_texts c.args.rest.now c.in-Some.line.text.now c.in-Some.line.rest.now
+    (texts c.as_slice.result.now) line.is split c.in-Some-2.front is c.in_default-plan_texts.ensures
     runs steps count (plans_of c.args.plans.now) (omega (arith, more, length-map c.args.plans.now plan_in))
 
 pub returns-then-not-is_later : goal.returns-then-not-is_later
@@ -29,8 +31,10 @@ returns-then-not-is_later c =
     let split : AreWordsOf c.in-Some.line.text.now c.as_slice.result.now = rw c.as_slice.ensures.value line.words in
     let is = rw c.in-Some-2.is at c.in_ok-front.ensures in
     λ runs steps count more.
-    not_later c.args.rest.now c.in-Some.line.text.now c.in-Some.line.rest.now (texts c.as_slice.result.now) line.is split c.in-Some-2.front is (plans_of c.args.plans.now)
-    (λ p same. c.if-not-is_later.ensures p same) runs steps count (omega (arith, more, length-map c.args.plans.now plan_in))
+    not_later c.args.rest.now c.in-Some.line.text.now c.in-Some.line.rest.now
+    (texts c.as_slice.result.now) line.is split c.in-Some-2.front is (plans_of c.args.plans.now)
+    (λ p same. c.if-not-is_later.ensures p same) runs steps count
+    (omega (arith, more, length-map c.args.plans.now plan_in))
 
 pub returns : goal.returns
 returns c =
@@ -39,6 +43,12 @@ returns c =
     let is = rw c.in-Some-2.is at c.in_ok-front.ensures in
     let plan = c.in-Some-plan_texts.plan in
     λ runs steps count more. (
-      (omega (arith, more, length-map c.args.plans.now plan_in), c.if-not-is_later.ensures (plan_in plan) c.in-Some-plan_texts.ensures.day),
-      plan_read c.args.rest.now c.in-Some.line.text.now c.in-Some.line.rest.now (texts c.as_slice.result.now) line.is split c.in-Some-2.front is plan c.in-Some-plan_texts.left.now c.in-Some-plan_texts.ensures,
+      (
+        omega (arith, more, length-map c.args.plans.now plan_in),
+        c.if-not-is_later.ensures
+            (plan_in plan) c.in-Some-plan_texts.ensures.day,
+      ),
+      plan_read c.args.rest.now c.in-Some.line.text.now c.in-Some.line.rest.now
+          (texts c.as_slice.result.now) line.is split c.in-Some-2.front is plan c.in-Some-plan_texts.left.now
+          c.in-Some-plan_texts.ensures,
     )

@@ -7,7 +7,8 @@ returns-in_default-2 c =
     let line = rw c.in-Some.is at c.in_ok-line.ensures in
     let split : AreWordsOf c.in-Some.line.text.now c.as_slice.result.now = rw c.as_slice.ensures.value line.words in
     λ runs steps count plans more.
-    none_run c.args.rest.now c.in-Some.line.text.now c.in-Some.line.rest.now (texts c.as_slice.result.now) line.is split (rw c.in_default-2.is at c.in_ok-run.ensures)
+    none_run c.args.rest.now c.in-Some.line.text.now c.in-Some.line.rest.now
+    (texts c.as_slice.result.now) line.is split (rw c.in_default-2.is at c.in_ok-run.ensures)
     runs steps count plans c.args.records.now
 
 pub returns-then-not-is_beyond : goal.returns-then-not-is_beyond
@@ -16,5 +17,7 @@ returns-then-not-is_beyond c =
     let split : AreWordsOf c.in-Some.line.text.now c.as_slice.result.now = rw c.as_slice.ensures.value line.words in
     let read = rw c.in-Some-2.is at c.in_ok-run.ensures in
     λ runs steps count plans more.
-    not_beyond c.args.rest.now c.in-Some.line.text.now c.in-Some.line.rest.now (texts c.as_slice.result.now) line.is split c.in-Some-2.run' read.0 read.1 c.args.records.now c.if-not-is_beyond.ensures
+    not_beyond c.args.rest.now c.in-Some.line.text.now c.in-Some.line.rest.now
+    (texts c.as_slice.result.now) line.is split c.in-Some-2.run' read.0 read.1 c.args.records.now
+    c.if-not-is_beyond.ensures
     runs steps count plans

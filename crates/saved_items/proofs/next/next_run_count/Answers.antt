@@ -8,16 +8,24 @@ pub returns-in_default-2 : goal.returns-in_default-2
 returns-in_default-2 c =
     let line = rw c.in-Some.is at c.in_ok-line.ensures in
     let split : AreWordsOf c.in-Some.line.text.now c.as_slice.result.now = rw c.as_slice.ensures.value line.words in
-    none_planned c.args.rest.now c.in-Some.line.text.now c.in-Some.line.rest.now (texts c.as_slice.result.now) line.is split (rw c.in_default-2.is at c.in_ok-count.ensures)
+    none_planned c.args.rest.now c.in-Some.line.text.now c.in-Some.line.rest.now
+    (texts c.as_slice.result.now) line.is split (rw c.in_default-2.is at c.in_ok-count.ensures)
 
 pub returns-then-count-gt-MOST_RUNS : goal.returns-then-count-gt-MOST_RUNS
 returns-then-count-gt-MOST_RUNS c =
     let line = rw c.in-Some.is at c.in_ok-line.ensures in
     let split : AreWordsOf c.in-Some.line.text.now c.as_slice.result.now = rw c.as_slice.ensures.value line.words in
-    many_planned c.args.rest.now c.in-Some.line.text.now c.in-Some.line.rest.now (texts c.as_slice.result.now) line.is split c.in-Some-2.count (rw c.in-Some-2.is at c.in_ok-count.ensures) c.if-count-gt-MOST_RUNS.true
+    many_planned c.args.rest.now c.in-Some.line.text.now c.in-Some.line.rest.now
+    (texts c.as_slice.result.now) line.is split c.in-Some-2.count
+    (rw c.in-Some-2.is at c.in_ok-count.ensures) c.if-count-gt-MOST_RUNS.true
 
 pub returns : goal.returns
 returns c =
     let line = rw c.in-Some.is at c.in_ok-line.ensures in
     let split : AreWordsOf c.in-Some.line.text.now c.as_slice.result.now = rw c.as_slice.ensures.value line.words in
-    λ runs steps plans. ((refl, c.if-count-gt-MOST_RUNS.false), line_is c.args.rest.now c.in-Some.line.text.now c.in-Some.line.rest.now (texts c.as_slice.result.now) line.is split (codes "runs" ∷ whole_text c.in-Some-2.count ∷ []) (omega arith) (rw c.in-Some-2.is at c.in_ok-count.ensures))
+    λ runs steps plans. (
+      (refl, c.if-count-gt-MOST_RUNS.false),
+      line_is c.args.rest.now c.in-Some.line.text.now c.in-Some.line.rest.now
+          (texts c.as_slice.result.now) line.is split (codes "runs" ∷ whole_text c.in-Some-2.count ∷ []) (omega arith)
+          (rw c.in-Some-2.is at c.in_ok-count.ensures),
+    )

@@ -8,10 +8,14 @@ pub returns-then-not-is_title : goal.returns-then-not-is_title
 returns-then-not-is_title c =
     let line = rw c.in-Some.is at c.in_ok-line.ensures in
     let split : AreWordsOf c.in-Some.line.text.now c.as_slice.result.now = rw c.as_slice.ensures.value line.words in
-    none_nothing c.args.rest.now c.in-Some.line.text.now c.in-Some.line.rest.now (texts c.as_slice.result.now) line.is split c.if-not-is_title.ensures
+    none_nothing c.args.rest.now c.in-Some.line.text.now c.in-Some.line.rest.now
+    (texts c.as_slice.result.now) line.is split c.if-not-is_title.ensures
 
 pub returns : goal.returns
 returns c =
     let line = rw c.in-Some.is at c.in_ok-line.ensures in
-    let split : AreWordsOf c.in-Some.line.text.now c.as_slice.result.now = rw c.as_slice.ensures.value line.words in
-    (tt, line_is c.args.rest.now c.in-Some.line.text.now c.in-Some.line.rest.now (texts c.as_slice.result.now) line.is split title_words (omega arith) c.if-not-is_title.ensures)
+    let split : AreWordsOf c.in-Some.line.text.now c.as_slice.result.now = rw c.as_slice.ensures.value line.words in (
+      tt,
+      line_is c.args.rest.now c.in-Some.line.text.now c.in-Some.line.rest.now
+          (texts c.as_slice.result.now) line.is split title_words (omega arith) c.if-not-is_title.ensures,
+    )

@@ -10,7 +10,9 @@ pub loop-front-preserved : goal.loop-front-preserved
 loop-front-preserved c =
     let h = c.loop-front.invariant in
     let read = rw c.in-Some.is at c.in_ok-item.ensures in
-    let on = goes_on c.args.bytes.now (front_in c.loop-front.front) (front_in c.add.new.self) c.loop-front.rest.now c.in-Some.left.now (item_in c.in-Some.item) h.sound h.text read.0 read.1 c.in_ok-add.ensures.more in
+    let on = goes_on c.args.bytes.now (front_in c.loop-front.front)
+    (front_in c.add.new.self) c.loop-front.rest.now c.in-Some.left.now
+    (item_in c.in-Some.item) h.sound h.text read.0 read.1 c.in_ok-add.ensures.more in
     record { sound = on.0; text = on.1; known = c.in_ok-add.ensures.known }
 
 pub loop-front-smaller : goal.loop-front-smaller
@@ -25,11 +27,13 @@ returns-then-is_end-clause-ok c =
     let h = c.loop-front.invariant in
     let all = c.if-is_end.ensures.0 in
     let last = c.if-is_end.ensures.1 in
-    ends_text c.args.bytes.now (front_in c.loop-front.front) c.loop-front.rest.now h.sound h.text (record { saved = saved_in c.loop-front.front.items; all = all; last = last })
+    ends_text c.args.bytes.now (front_in c.loop-front.front) c.loop-front.rest.now h.sound h.text
+    (record { saved = saved_in c.loop-front.front.items; all = all; last = last })
 
 pub returns-clause-err : goal.returns-clause-err
 returns-clause-err c =
     let h = c.loop-front.invariant in
     let none = rw c.in_default.is at c.in_ok-item.ensures in
-    stops_as c.args.bytes.now (front_in c.loop-front.front) c.loop-front.rest.now h.sound h.text (λ g. none g.item g.rest g.fits g.text)
+    stops_as c.args.bytes.now (front_in c.loop-front.front) c.loop-front.rest.now h.sound h.text
+    (λ g. none g.item g.rest g.fits g.text)
     _ _ (ap (λ n. n + 1) c.item_count.ensures.count) (sym h.known.plans) c.if-is_end.ensures

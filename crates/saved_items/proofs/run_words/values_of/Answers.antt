@@ -7,21 +7,25 @@ use Rattle.saved_items.proofs.run_words.values_of.Goals as goal
 
 pub returns-in_default : goal.returns-in_default
 returns-in_default c = λ vs are each e.
-    absurd (some_value c.args.words.now c.loop-word.word-index _ c.loop-word-test.true vs are each e c.in_default.ensures.none)
+    absurd (some_value c.args.words.now c.loop-word.word-index _ c.loop-word-test.true vs are each e
+    c.in_default.ensures.none)
 
 pub returns-in-Err-Twice : goal.returns-in-Err-Twice
 returns-in-Err-Twice c = λ vs are each e.
     let there = c.insert.ensures.twice.0 (c.in-Err-Twice.is ∙ ap (λ f. Err f) c.in-Err-Twice.field-0-is) in
-    let none = is_new c.args.words.now c.loop-word.word-index _ c.loop-word-test.true vs are each e c.in-Some.value c.in-Some.ensures.read in
+    let none = is_new c.args.words.now c.loop-word.word-index _ c.loop-word-test.true vs are each e c.in-Some.value
+    c.in-Some.ensures.read in
     let now = ap (λ us. value_at us c.in-Some.value.name) (c.loop-word.invariant vs are each e) ∙ none in
     absurd (false≢true (rw now at there))
 
 pub returns-in-Err-Full : goal.returns-in-Err-Full
 returns-in-Err-Full c = λ vs are each e.
     let full = c.insert.ensures.full.0 (c.in-Err-Full.is ∙ ap (λ f. Err f) c.in-Err-Full.field-0-is) in
-    absurd (has_room c.args.words.now c.loop-word.word-index _ c.loop-word-test.true vs are each e c.in-Some.value c.in-Some.ensures.read (ap length (sym (c.loop-word.invariant vs are each e)) ∙ full.1))
+    absurd (has_room c.args.words.now c.loop-word.word-index _ c.loop-word-test.true vs are each e c.in-Some.value
+    c.in-Some.ensures.read (ap length (sym (c.loop-word.invariant vs are each e)) ∙ full.1))
 
 pub loop-word-preserved : goal.loop-word-preserved
 loop-word-preserved c = λ vs are each e.
     c.in-Ok.ensures.ok ∙ ap (with_value c.in-Some.value) (c.loop-word.invariant vs are each e)
-    ∙ put_here c.args.words.now c.loop-word.word-index _ c.loop-word-test.true vs are each e c.in-Some.value c.in-Some.ensures.read
+    ∙ put_here c.args.words.now c.loop-word.word-index _ c.loop-word-test.true vs are each e c.in-Some.value
+    c.in-Some.ensures.read

@@ -8,4 +8,5 @@ use Rattle.saved_items.proofs.run_words.values_of.Given as goal
 
 abbrev pub invariant-loop-word : goal.invariant-loop-word
 invariant-loop-word l =
-    (vs : List NamedValue) → AreValues vs → AllByRecursion IsValue vs → texts l.words ≡ map value_word vs → l.values ≡ take l.word-index vs
+    (vs : List NamedValue) → AreValues vs → AllByRecursion IsValue vs → texts l.words ≡ map value_word vs →
+    l.values ≡ take l.word-index vs

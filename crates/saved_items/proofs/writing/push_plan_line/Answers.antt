@@ -11,7 +11,9 @@ returns c =
     let plan = whole_text c.args.plan in
     let limits = whole_text c.args.limits in
     on_ok_weaker c.push_count.result
-    (λ written. five_pieces old (codes "plan ") (day_word c.args.day) (codes " ") plan (codes " " ++ (limits ++ (10 ∷ [])))
+    (λ written. five_pieces old (codes "plan ") (day_word c.args.day) (codes " ") plan
+    (codes " " ++ (limits ++ (10 ∷ [])))
     c.in_ok-push.ensures c.in_ok-push_day.ensures c.in_ok-push-2.ensures c.in_ok-push_number.ensures written
-    ∙ ap (λ t. old ++ (codes "plan " ++ (day_word c.args.day ++ (32 ∷ t)))) (sym (append_assoc plan (32 ∷ limits) (10 ∷ []))))
+    ∙ ap (λ t. old ++ (codes "plan " ++ (day_word c.args.day ++ (32 ∷ t))))
+    (sym (append_assoc plan (32 ∷ limits) (10 ∷ []))))
     c.push_count.ensures

@@ -9,6 +9,7 @@ loop-at-preserved c =
     let values = c.args.values.now in
     let named = rw c.names-name-items.ensures.all at c.loop-at-test.true in
     let within : c.loop-at.at < length values = omega (arith, length-map values name_of) in
-    values_more c.args.out.now.items c.push_value.new.out.items values c.loop-at.at c.name-item.result c.index-numbers-at.result within
+    values_more c.args.out.now.items c.push_value.new.out.items values c.loop-at.at c.name-item.result
+    c.index-numbers-at.result within
     (rw c.names-name-items.ensures.all at c.name-item.is) (rw c.numbers-numbers.ensures.all at c.index-numbers-at.is)
     (rw c.loop-at.invariant at c.in_ok-push_value.ensures)
