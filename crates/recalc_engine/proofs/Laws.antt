@@ -5,8 +5,10 @@ pub use Rattle.recalc_engine.proofs.AnswerLemmas.{one_answer}
 pub use Rattle.recalc_engine.proofs.BookLemmas.{book_rows_counted, book_rows_rise, book_rows_runs}
 -- The outputs of each of its runs have different names.
 pub use Rattle.recalc_engine.proofs.OutputLemmas.{book_rows_named}
--- A book is the book of its runs, plans and last work, and its runs have different keys.
-pub use Rattle.recalc_engine.proofs.ListedLemmas.{parts_make, runs_distinct}
+-- A book is the book of its runs, plans and last work, and its runs have different keys, which rise.
+pub use Rattle.recalc_engine.proofs.ListedLemmas.{parts_make, runs_distinct, runs_rise, rising_distinct}
+-- Years in order are those of their runs, put one after another; an element put behind all others of a rising list.
+pub use Rattle.recalc_engine.proofs.ListedLemmas.{AllBelow, front_below, put_end, years_listed}
 -- A book has nothing to run against itself; a plan with the texts that stand at its day changes nothing; jobs are done.
 pub use Rattle.recalc_engine.proofs.SameLemmas.{book_quiet, jobs_done, same_texts}
 -- An edit of the runs changes the run at its key alone.

@@ -34,13 +34,13 @@ use Rattle.recalc_engine.proofs.RowLemmas.{next}
 -- ---- elements put behind all others
 
 module _ {K X : Type 0} (cmp : K → K → Ordering) (total : IsTotalOrder cmp) (key : X → K) where
-  abbrev AllBelow : K → List X → Type 0
+  abbrev pub AllBelow : K → List X → Type 0
   AllBelow k xs = AllByRecursion (λ x. cmp (key x) k ≡ Less) xs
 
   back : (y x : X) → cmp (key x) (key y) ≡ Less → cmp (key y) (key x) ≡ Greater
   back y x l = total.antisymm (key y) (key x) ∙ ap ordering_reverse l
 
-  put_end : (y : X) (xs : List X) → AllBelow (key y) xs → put cmp key y xs ≡ xs ++ y ∷ []
+  pub put_end : (y : X) (xs : List X) → AllBelow (key y) xs → put cmp key y xs ≡ xs ++ y ∷ []
   put_end y [] h = refl
   put_end y (x ∷ xs) h =
       ap (λ o. put_by o y x xs (put cmp key y xs)) (back y x h.0) ∙ ap (λ t. x ∷ t) (put_end y xs h.1)
@@ -68,7 +68,7 @@ module _ {K X : Type 0} (cmp : K → K → Ordering) (total : IsTotalOrder cmp) 
   above_here k (x ∷ xs) y ys h = above_here k xs y ys h.1
 
   -- what stands in front of an element of a rising list is below it
-  front_below : (xs : List X) (y : X) (ys : List X) → IsRising cmp key (xs ++ y ∷ ys) → AllBelow (key y) xs
+  pub front_below : (xs : List X) (y : X) (ys : List X) → IsRising cmp key (xs ++ y ∷ ys) → AllBelow (key y) xs
   front_below [] y ys h = tt
   front_below (x ∷ xs) y ys h = (above_here (key x) xs y ys h.0, front_below xs y ys h.1)
 
@@ -176,7 +176,7 @@ all_keys planned (y ∷ ys) own =
     ∙ (λ i. year_keys y.key planned [] y.runs own.0 i ++ all_keys planned ys own.1 i)
     ∙ sym (map-append key_of y.runs (runs_in_years ys))
 
-runs_rise : (book : Contents) → IsBook book → IsRising key_cmp key_of (runs_listed book)
+pub runs_rise : (book : Contents) → IsBook book → IsRising key_cmp key_of (runs_listed book)
 runs_rise book h =
     let rows = month_rows book in
     let keys = all_keys (pick book.plans) book.years h.own in
@@ -189,7 +189,7 @@ not_above r [] above h = false≢true h
 not_above r (s ∷ rs) above h =
     not_above r rs above.1 (subst (λ o. IsTrue (is_eq o || list_any (λ t. is_eq (key_cmp (key_of r) (key_of t))) rs)) above.0 h)
 
-rising_distinct : (rs : List Record) → IsRising key_cmp key_of rs → AreDistinct rs
+pub rising_distinct : (rs : List Record) → IsRising key_cmp key_of rs → AreDistinct rs
 rising_distinct [] h = tt
 rising_distinct (r ∷ rs) h = (not_above r rs h.0, rising_distinct rs h.1)
 

@@ -1,0 +1,8 @@
+pub mod Laws
+mod RunLemmas
+mod PlanLemmas
+mod BookLemmas
+mod AnswerLemmas
+mod ReadLemmas
+mod WriteLemmas
+mod SoundLemmas

@@ -1,0 +1,25 @@
+-- What the reading of a saved book promises.
+use Rattle.std.specs.Prelude.{◌≡◌, ◌≤◌, ◌+◌, ℕ, List, Result, Ok, Err, ⊤}
+use Rattle.recalc_engine.specs.Contents.{Contents, whole_cost}
+use Rattle.book_file.specs.BookSays.{BookSays}
+use Rattle.book_file.specs.declared.refusal.BookFault.{BookFault}
+use Rattle.book_file.specs.declared.refusal.BookFault.TheVariants as fault
+
+-- the fault is what the text says; want of memory comes whatever it says
+abbrev pub IsUnread : List ℕ → BookFault → Type 0
+IsUnread bytes (fault.Memory e) = ⊤
+IsUnread bytes why = BookSays bytes (Err why)
+
+-- the cost of all jobs of the book, where the text says one
+abbrev pub said_cost : Result Contents BookFault → ℕ
+said_cost (Ok book) = whole_cost book
+said_cost (Err why) = 0
+
+-- a counter rose by the cost of all jobs of the book that was read; it stayed where a fault was found; where memory ran out
+-- it rose by at most the cost of the book that the text says, and stayed where it says none
+abbrev pub CountsRead : List ℕ → Result Contents BookFault → ℕ → ℕ → Type 0
+CountsRead bytes (Ok book) before now = now ≡ before + whole_cost book
+CountsRead bytes (Err (fault.Memory e)) before now =
+    (before ≤ now)
+    × ((said : Result Contents BookFault) → BookSays bytes said → now ≤ before + said_cost said)
+CountsRead bytes (Err why) before now = now ≡ before

@@ -1,0 +1,8 @@
+pub mod Limits
+pub mod BookTexts
+pub mod Saving
+pub mod BookSays
+pub mod BookLaws
+pub mod Clauses
+pub mod Views
+pub mod WritingViews

@@ -1,0 +1,84 @@
+//! The text of a book.
+ghost use Rattle.std.specs.Prelude.{◌≡◌, ◌++◌, IfOk, IfErr, OnOk, Ok};
+ghost use Rattle.std.specs.List.{flat_map};
+ghost use Rattle.saved_items.specs.SavedBooks.{run_text};
+ghost use Rattle.book_year.specs.Accepted.{plans_in};
+ghost use Rattle.book_edits.specs.Kept.{runs_in};
+ghost use Rattle.book_file.specs.BookLaws.{BooksAreSaved, BooksAreSavedOneWay};
+ghost use Rattle.book_file.specs.BookSays.{BookSays};
+ghost use Rattle.book_file.specs.Saving.{IsUnsaved, SaveSays};
+ghost use Rattle.book_file.specs.WritingViews.{IsCutFrom, entry_text, year_text};
+
+use crate::sound::is_sound;
+use crate::{MOST_BOOK_TEXT, SaveRefusal};
+use book_year::Year;
+use pap_plan::Plan;
+use payroll_records::{Day, Record};
+use recalc_engine::Book;
+use saved_items::{push_end, push_head, push_plan, push_run, push_run_count};
+use std::alloc::{AllocError, Global};
+
+/// The text as which a book is saved, of at most 268,435,456 bytes. It is the text of this book and of no other.
+pub fn write_book(alloc: Global, b: &Book) -> Result<Vec<u8>, SaveRefusal>
+    ensures saved { IfOk result (λ text. SaveSays b.now (Ok text.items)) }
+    ensures refused { IfErr result (IsUnsaved b.now) }
+    ensures read { IfOk result (λ text. BookSays text.items (Ok b.now)) }
+{
+    is_sound(b);
+    let work = b.last_work();
+    let plans = b.plans();
+    let years = b.years();
+    let mut text = Vec::new(alloc);
+    push_head(&mut text, work.runs, work.steps, plans.len() as u64)?;
+    write_plans(&mut text, plans.entries())?;
+    push_run_count(&mut text, years.count as u64)?;
+    write_years(&mut text, years.list.as_slice())?;
+    push_end(&mut text)?;
+    if text.len() > MOST_BOOK_TEXT {
+        return Err(SaveRefusal::Long);
+    }
+    Ok(text)
+}
+
+/// Appends the plans.
+fn write_plans(text: &mut Vec<u8>, plans: &[(Day, Plan)]) -> Result<(), AllocError>
+    ensures { OnOk result (text.new.items
+        ≡ text.old.items ++ flat_map entry_text (plans_in plans.now)) }
+{
+    for entry in plans {
+        push_plan(text, entry.0, entry.1.plan_bytes(), entry.1.limits_bytes())?;
+    }
+    Ok(())
+}
+
+/// Appends the runs of these years, as long as the text isn't too long.
+fn write_years(text: &mut Vec<u8>, years: &[Year]) -> Result<(), SaveRefusal>
+    ensures ok { OnOk result
+        (text.new.items ≡ text.old.items ++ flat_map year_text (runs_in years.now)) }
+    ensures refused { IfErr result
+        (IsCutFrom (text.old.items ++ flat_map year_text (runs_in years.now))) }
+{
+    for year in years {
+        write_runs(text, year.records.as_slice())?;
+        if text.len() > MOST_BOOK_TEXT {
+            return Err(SaveRefusal::Long);
+        }
+    }
+    Ok(())
+}
+
+/// Appends these runs.
+fn write_runs(text: &mut Vec<u8>, runs: &[Record]) -> Result<(), AllocError>
+    ensures { OnOk result (text.new.items ≡ text.old.items ++ flat_map run_text runs.now) }
+{
+    for run in runs {
+        push_run(text, run)?;
+    }
+    Ok(())
+}
+
+/// Every book is saved as one text, or its text is too long.
+pub fn saving_laws()
+    ensures some { BooksAreSaved }
+    ensures one { BooksAreSavedOneWay }
+{}

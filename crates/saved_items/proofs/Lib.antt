@@ -1,0 +1,15 @@
+pub mod NumberLemmas
+pub mod LineLemmas
+pub mod WordLemmas
+pub mod PieceLemmas
+pub mod DayLemmas
+pub mod ItemLemmas
+pub mod FrontLemmas
+pub mod TextLemmas
+pub mod NextLemmas
+pub mod FeedLemmas
+pub mod DecidedItemLemmas
+pub mod ValueListLemmas
+pub mod WordListLemmas
+pub mod EndLemmas
+pub mod Laws

@@ -1,0 +1,67 @@
+-- What the first items of a saved book say. Its items are its first three lines, each plan, the line before the runs, each
+-- run, and the last line.
+use Rattle.std.specs.Prelude.{ℕ, ◌+◌, ◌≤◌, List, [], ◌++◌, length, ⊤}
+use Rattle.std.specs.List.{AllByRecursion, flat_map}
+use Rattle.rising_lists.specs.Keyed.{IsRising}
+use Rattle.payroll_records.specs.Orders.{day_cmp, key_cmp}
+use Rattle.payroll_records.specs.Tables.{Text, key_of}
+use Rattle.payroll_records.specs.declared.record.Record.{Record}
+use Rattle.saved_items.specs.Limits.{most_saved_plans, most_saved_runs}
+use Rattle.saved_items.specs.SavedBooks.{SavedPlan, day_of, IsWork, ArePlans, IsRun, title_text, work_text, head_text, plan_text, run_count_text, run_text}
+
+pub data Front : Type 0 where
+  nothing : Front
+  titled : Front
+  -- the runs and the steps of the last work
+  worked : ℕ → ℕ → Front
+  -- the same, how many plans there will be, and the plans so far
+  planning : ℕ → ℕ → ℕ → List SavedPlan → Front
+  -- the same with all plans, how many runs there will be, and the runs so far
+  running : ℕ → ℕ → List SavedPlan → ℕ → List Record → Front
+
+-- how many items they are
+abbrev pub items_in : Front → ℕ
+items_in nothing = 0
+items_in titled = 1
+items_in (worked runs steps) = 2
+items_in (planning runs steps count plans) = 3 + length plans
+items_in (running runs steps plans count records) = 4 + length plans + length records
+
+-- the plans among them
+abbrev pub plans_in : Front → List SavedPlan
+plans_in nothing = []
+plans_in titled = []
+plans_in (worked runs steps) = []
+plans_in (planning runs steps count plans) = plans
+plans_in (running runs steps plans count records) = plans
+
+abbrev pub front_text : Front → Text
+front_text nothing = []
+front_text titled = title_text
+front_text (worked runs steps) = title_text ++ work_text runs steps
+front_text (planning runs steps count plans) = head_text runs steps count ++ flat_map plan_text plans
+front_text (running runs steps plans count records) =
+    head_text runs steps (length plans)
+    ++ (flat_map plan_text plans ++ (run_count_text count ++ flat_map run_text records))
+
+-- plans whose days rise, of as many as a number within the limit says
+pub record IsPlanning (count : ℕ) (plans : List SavedPlan) : Type 0 where
+  pub counted : count ≤ most_saved_plans
+  pub within : length plans ≤ count
+  pub rising : IsRising day_cmp day_of plans
+
+-- the same of runs, whose keys rise
+pub record IsRunning (count : ℕ) (records : List Record) : Type 0 where
+  pub counted : count ≤ most_saved_runs
+  pub within : length records ≤ count
+  pub rising : IsRising key_cmp key_of records
+  pub each : AllByRecursion IsRun records
+
+-- each item is of its form after the earlier ones
+abbrev pub IsFront : Front → Type 0
+IsFront nothing = ⊤
+IsFront titled = ⊤
+IsFront (worked runs steps) = IsWork runs steps
+IsFront (planning runs steps count plans) = IsWork runs steps × IsPlanning count plans
+IsFront (running runs steps plans count records) =
+    IsWork runs steps × ArePlans plans × IsRunning count records

@@ -1,0 +1,137 @@
+-- A saved book as the tree of what it says, and its text (docs/PROFILE.md, "Saved books").
+use Rattle.std.specs.Prelude.{◌≡◌, ℕ, ◌^◌, ◌<◌, ◌≤◌, List, [], ◌∷◌, ◌++◌, length, map, codes, IsTrue}
+use Rattle.std.specs.List.{AllByRecursion, flat_map, join_with_byte}
+use Rattle.rising_lists.specs.Keyed.{IsRising}
+use Rattle.scaled_decimal.specs.Limits.{IsKept}
+use Rattle.scaled_decimal.specs.PlainTexts.{plain_text, whole_text}
+use Rattle.pap_tree.specs.Names.{is_name}
+use Rattle.payroll_records.specs.Days.{day_text}
+use Rattle.payroll_records.specs.Employees.{is_employee}
+use Rattle.payroll_records.specs.NamedValues.{AreValues}
+use Rattle.payroll_records.specs.Orders.{day_cmp, key_cmp}
+use Rattle.payroll_records.specs.Tables.{Text, key_of}
+use Rattle.payroll_records.specs.declared.day.Day.{Day}
+use Rattle.payroll_records.specs.declared.record.Record.{Record}
+use Rattle.payroll_records.specs.declared.values.NamedValue.{NamedValue}
+use Rattle.saved_items.specs.Limits.{most_saved_plans, most_saved_runs}
+
+-- a plan that holds from a day on: the text of the plan, and that of its range file
+pub record SavedPlan : Type 0 where
+  pub day : Day
+  pub plan : Text
+  pub limits : Text
+
+-- how many runs the last work ran and in how many steps, the plans, and the runs' records
+pub record Saved : Type 0 where
+  pub runs : ℕ
+  pub steps : ℕ
+  pub plans : List SavedPlan
+  pub records : List Record
+
+abbrev pub saved_plan : Day → Text → Text → SavedPlan
+saved_plan day plan limits = record { day = day; plan = plan; limits = limits }
+
+abbrev pub day_of : SavedPlan → Day
+day_of p = p.day
+
+-- the work's numbers fit 64 bits
+pub record IsWork (runs steps : ℕ) : Type 0 where
+  pub runs_fit : runs < 2 ^ 64
+  pub steps_fit : steps < 2 ^ 64
+
+-- the days of the plans rise, and there are at most 64
+pub record ArePlans (plans : List SavedPlan) : Type 0 where
+  pub rising : IsRising day_cmp day_of plans
+  pub few : length plans ≤ most_saved_plans
+
+-- a value under a name, as a record keeps it
+pub record IsValue (v : NamedValue) : Type 0 where
+  pub named : IsTrue (is_name v.name)
+  pub kept : IsKept v.value
+
+-- a record of an employee, with at most 256 values, whose names rise
+pub record IsRun (r : Record) : Type 0 where
+  pub employee : IsTrue (is_employee r.employee)
+  pub values : AreValues r.values
+  pub each : AllByRecursion IsValue r.values
+
+-- the keys of the runs rise, and there are at most 50,000
+pub record AreRuns (records : List Record) : Type 0 where
+  pub rising : IsRising key_cmp key_of records
+  pub each : AllByRecursion IsRun records
+  pub few : length records ≤ most_saved_runs
+
+-- a tree that has a text
+pub record IsSaved (s : Saved) : Type 0 where
+  pub work : IsWork s.runs s.steps
+  pub plans : ArePlans s.plans
+  pub records : AreRuns s.records
+
+-- words with one space between each two, and a line feed
+abbrev pub line_of : List Text → Text
+line_of words = join_with_byte 32 words ++ (10 ∷ [])
+
+abbrev pub day_word : Day → Text
+day_word d = day_text d.year d.month d.day
+
+-- NAME=VALUE
+abbrev pub value_word : NamedValue → Text
+value_word v = v.name ++ (codes "=" ++ plain_text v.value)
+
+-- value words, each with a space before it
+abbrev pub values_text : List NamedValue → Text
+values_text values = flat_map (λ v. codes " " ++ value_word v) values
+
+-- the lines before the plans
+abbrev pub title_words : List Text
+title_words = codes "papbook" ∷ codes "1" ∷ []
+
+abbrev pub title_text : Text
+title_text = line_of title_words
+
+abbrev pub work_words : ℕ → ℕ → List Text
+work_words runs steps = codes "work" ∷ whole_text runs ∷ whole_text steps ∷ []
+
+abbrev pub work_text : ℕ → ℕ → Text
+work_text runs steps = line_of (work_words runs steps)
+
+abbrev pub plan_count_text : ℕ → Text
+plan_count_text count = line_of (codes "plans" ∷ whole_text count ∷ [])
+
+abbrev pub head_text : ℕ → ℕ → ℕ → Text
+head_text runs steps count = title_text ++ (work_text runs steps ++ plan_count_text count)
+
+-- a plan: its day and the lengths of its texts on a line, the two texts, and a line feed
+abbrev pub plan_words : Day → ℕ → ℕ → List Text
+plan_words day plan limits = codes "plan" ∷ day_word day ∷ whole_text plan ∷ whole_text limits ∷ []
+
+abbrev pub plan_text : SavedPlan → Text
+plan_text p =
+    line_of (plan_words p.day (length p.plan) (length p.limits))
+    ++ (p.plan ++ (p.limits ++ (10 ∷ [])))
+
+-- the line before the runs, and a run
+abbrev pub run_count_text : ℕ → Text
+run_count_text count = line_of (codes "runs" ∷ whole_text count ∷ [])
+
+abbrev pub run_words : Record → List Text
+run_words r = codes "run" ∷ r.employee ∷ day_word r.day ∷ map value_word r.values
+
+abbrev pub run_text : Record → Text
+run_text r = line_of (run_words r)
+
+abbrev pub end_text : Text
+end_text = line_of (codes "end" ∷ [])
+
+-- the text of a saved book
+abbrev pub saved_text : Saved → Text
+saved_text s =
+    head_text s.runs s.steps (length s.plans)
+    ++ (flat_map plan_text s.plans
+    ++ (run_count_text (length s.records)
+    ++ (flat_map run_text s.records ++ end_text)))
+
+-- the bytes are the text of this tree
+pub record IsText (bytes : Text) (s : Saved) : Type 0 where
+  pub sound : IsSaved s
+  pub text : bytes ≡ saved_text s

@@ -1,0 +1,36 @@
+-- What a text says: a saved book, or the first item that isn't of its form.
+use Rattle.std.specs.Prelude.{◌≡◌, ◌≢◌, ℕ, ◌+◌, List, ◌++◌, Result, Ok, Err}
+use Rattle.payroll_records.specs.Tables.{Text}
+use Rattle.saved_items.specs.Fronts.{Front, items_in, plans_in, front_text, IsFront}
+use Rattle.saved_items.specs.SavedBooks.{SavedPlan, Saved, IsText}
+
+-- the bytes begin with these items
+pub record Shows (bytes : Text) (front : Front) : Type 0 where
+  pub sound : IsFront front
+  pub rest : Text
+  pub begins : bytes ≡ front_text front ++ rest
+
+-- the number of an item, counted from 1, and the plans of the items before it
+pub record Stop : Type 0 where
+  pub item : ℕ
+  pub plans : List SavedPlan
+
+-- the item of this number isn't of its form after the earlier ones: the bytes begin with those, and with no more; nor are
+-- they a whole text, whose last item is its last line with nothing after it
+pub record StopsAt (bytes : Text) (stop : Stop) : Type 0 where
+  pub front : Front
+  pub shown : Shows bytes front
+  pub item : stop.item ≡ items_in front + 1
+  pub plans : stop.plans ≡ plans_in front
+  pub stuck : (longer : Front) → Shows bytes longer → items_in longer ≢ stop.item
+  pub unfinished : (s : Saved) → IsText bytes s → ⊥
+
+abbrev pub TextSays : Text → Result Saved Stop → Type 0
+TextSays bytes (Ok s) = IsText bytes s
+TextSays bytes (Err stop) = StopsAt bytes stop
+
+-- a text says one thing
+pub record HasOneAnswer (bytes : Text) : Type 0 where
+  pub answer : Result Saved Stop
+  pub says : TextSays bytes answer
+  pub alone : (other : Result Saved Stop) → TextSays bytes other → other ≡ answer

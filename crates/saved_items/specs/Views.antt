@@ -1,0 +1,26 @@
+-- What was read, as contracts see it: texts as their bytes.
+use Rattle.std.specs.Prelude.{map, ⊤}
+use Rattle.payroll_records.specs.Tables.{Text}
+use Rattle.saved_items.specs.SavedBooks.{SavedPlan, Saved, saved_plan}
+use Rattle.saved_items.specs.Texts.{StopsAt}
+use Rattle.saved_items.specs.declared.items.Items.{Items}
+use Rattle.saved_items.specs.declared.items.PlanItem.{PlanItem}
+use Rattle.saved_items.specs.declared.items.ItemFault.{ItemFault}
+use Rattle.saved_items.specs.declared.items.ItemFault.TheVariants as fault
+
+abbrev pub plan_in : PlanItem → SavedPlan
+plan_in p = saved_plan p.day p.plan.now p.limits.now
+
+abbrev pub saved_in : Items → Saved
+saved_in items = record {
+  runs = items.runs;
+  steps = items.steps;
+  plans = map plan_in items.plans.items;
+  records = items.records.items;
+}
+
+-- why a text is refused; want of memory is free
+abbrev pub IsRefused : Text → ItemFault → Type 0
+IsRefused bytes (fault.Form item plans) =
+    StopsAt bytes (record { item = item; plans = map plan_in plans.items })
+IsRefused bytes (fault.Memory error) = ⊤

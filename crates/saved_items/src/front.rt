@@ -1,0 +1,69 @@
+//! What was read of a saved book so far.
+ghost use Rattle.std.specs.Prelude.{◌≡◌, OnOk};
+ghost use Rattle.saved_items.specs.Fronts.{nothing};
+ghost use Rattle.saved_items.specs.ItemDecisions.{Fits, with_item};
+ghost use Rattle.saved_items.specs.ItemViews.{IsKnown, front_in, item_in};
+
+use crate::item::Item;
+use crate::{ItemFault, Items};
+use std::alloc::{AllocError, Global};
+
+/// Which item comes next.
+#[derive(Clone, Copy)]
+pub(crate) enum Stage {
+    Title,
+    Work,
+    PlanCount,
+    /// A plan, of so many, or behind the last one the line before the runs.
+    Plans { count: u64 },
+    /// A run, of so many, or behind the last one the last line.
+    Runs { count: u64 },
+}
+
+/// The first items of a saved book.
+#[derive(Drop)]
+pub(crate) struct Front<'a> {
+    pub(crate) stage: Stage,
+    pub(crate) items: Items<'a>,
+}
+
+impl<'a> Front<'a> {
+    /// No items.
+    pub(crate) fn new(alloc: Global) -> Front<'a>
+        ensures none { front_in result ≡ nothing }
+        ensures known { IsKnown result }
+    {
+        Front {
+            stage: Stage::Title,
+            items: Items {
+                runs: 0,
+                steps: 0,
+                plans: Vec::new(alloc),
+                records: Vec::new(alloc),
+            },
+        }
+    }
+
+    /// The items with one more, which is of its form behind them.
+    pub(crate) fn add(&mut self, item: Item<'a>) -> Result<(), AllocError>
+        requires fits { Fits (front_in self.old) (item_in item) }
+        requires known { IsKnown self.old }
+        ensures more { OnOk result
+            (front_in self.new ≡ with_item (front_in self.old) (item_in item.entry)) }
+        ensures known { OnOk result (IsKnown self.new) }
+    {
+        match item {
+            Item::Title => self.stage = Stage::Work,
+            Item::Work { runs, steps } => {
+                self.items.runs = runs;
+                self.items.steps = steps;
+                self.stage = Stage::PlanCount;
+            }
+            Item::PlanCount(count) => self.stage = Stage::Plans { count },
+            Item::Plan(plan) => self.items.plans.push(plan)?,
+            Item::RunCount(count) => self.stage = Stage::Runs { count },
+            Item::Run(run) => self.items.records.push(run)?,
+        }
+        Ok(())
+    }
+}

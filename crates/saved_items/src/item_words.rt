@@ -1,0 +1,99 @@
+//! The words of items but for runs.
+ghost use Rattle.std.specs.Prelude.{◌≡◌, ◌≢◌, ◌^◌, ◌<◌, ℕ, [], ◌∷◌, IfOk, MatchBool, MatchOption};
+ghost use Rattle.scaled_decimal.specs.PlainTexts.{whole_text};
+ghost use Rattle.payroll_records.specs.declared.day.Day.{Day as Date};
+ghost use Rattle.saved_items.specs.LineViews.{texts};
+ghost use Rattle.saved_items.specs.SavedBooks.{IsWork, plan_words, title_words, work_words};
+
+use crate::lines::behind;
+use crate::numbers::read_number;
+use payroll_records::Day;
+use std::alloc::{AllocError, Global};
+
+/// Whether the words are the title.
+pub(crate) fn is_title(words: &[&[u8]]) -> bool
+    ensures { MatchBool result (texts words.now ≡ title_words) (texts words.now ≢ title_words) }
+{
+    let Some(rest) = behind(b"papbook", words) else {
+        return false;
+    };
+    let Some(rest) = behind(b"1", rest) else {
+        return false;
+    };
+    rest.is_empty()
+}
+
+/// The last work: how many runs it ran, in how many steps.
+pub(crate) fn read_work(alloc: Global, words: &[&[u8]]) -> Result<Option<(u64, u64)>, AllocError>
+    ensures { IfOk result (λ work. MatchOption work
+        ((runs steps : ℕ) → IsWork runs steps → texts words.now ≢ work_words runs steps)
+        (λ w. IsWork w.0 w.1 × (texts words.now ≡ work_words w.0 w.1))) }
+{
+    let Some(rest) = behind(b"work", words) else {
+        return Ok(None);
+    };
+    let [runs, steps] = rest else {
+        return Ok(None);
+    };
+    let Some(runs) = read_number(alloc, runs)? else {
+        return Ok(None);
+    };
+    let Some(steps) = read_number(alloc, steps)? else {
+        return Ok(None);
+    };
+    Ok(Some((runs, steps)))
+}
+
+/// The number behind a first word.
+pub(crate) fn read_count(
+    alloc: Global,
+    first: &[u8],
+    words: &[&[u8]],
+) -> Result<Option<u64>, AllocError>
+    ensures { IfOk result (λ count. MatchOption count
+        ((n : ℕ) → n < 2 ^ 64 → texts words.now ≢ first.now ∷ whole_text n ∷ [])
+        (λ n. texts words.now ≡ first.now ∷ whole_text n ∷ [])) }
+{
+    let Some(rest) = behind(first, words) else {
+        return Ok(None);
+    };
+    let [count] = rest else {
+        return Ok(None);
+    };
+    read_number(alloc, count)
+}
+
+/// What a plan's line says.
+#[derive(Clone, Copy)]
+pub(crate) struct PlanLine {
+    pub(crate) day: Day,
+    /// How many bytes the plan's text has.
+    pub(crate) plan: u64,
+    /// How many bytes its range file has.
+    pub(crate) limits: u64,
+}
+
+/// The line of a plan.
+pub(crate) fn read_plan_line(alloc: Global, words: &[&[u8]]) -> Result<Option<PlanLine>, AllocError>
+    ensures { IfOk result (λ line. MatchOption line
+        ((day : Date) (plan limits : ℕ) → plan < 2 ^ 64 → limits < 2 ^ 64
+        → texts words.now ≢ plan_words day plan limits)
+        (λ l. texts words.now ≡ plan_words l.day l.plan l.limits)) }
+{
+    let Some(rest) = behind(b"plan", words) else {
+        return Ok(None);
+    };
+    let [day, plan, limits] = rest else {
+        return Ok(None);
+    };
+    let Some(day) = Day::read(day) else {
+        return Ok(None);
+    };
+    let Some(plan) = read_number(alloc, plan)? else {
+        return Ok(None);
+    };
+    let Some(limits) = read_number(alloc, limits)? else {
+        return Ok(None);
+    };
+    Ok(Some(PlanLine { day, plan, limits }))
+}

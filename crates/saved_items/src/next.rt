@@ -1,0 +1,231 @@
+//! The next item of a text, behind what was read so far.
+ghost use Rattle.std.specs.Prelude.{◌≡◌, ◌+◌, ◌<◌, ◌≤◌, ◌^◌, [], ◌∷◌, ◌++◌, ℕ, List, IfOk, MatchBool, MatchOption, length};
+ghost use Rattle.std.specs.List.{AllByRecursion};
+ghost use Rattle.rising_lists.specs.Keyed.{IsRising};
+ghost use Rattle.payroll_records.specs.Orders.{day_cmp, key_cmp};
+ghost use Rattle.payroll_records.specs.Tables.{Text, key_of};
+ghost use Rattle.saved_items.specs.Fronts.{IsFront, nothing, titled, worked, planning, running};
+ghost use Rattle.saved_items.specs.ItemDecisions.{Fits, IsBeyond, IsLater};
+ghost use Rattle.saved_items.specs.ItemViews.{HasNoTexts, HasTexts, Reads, front_in, item_in, plans_of};
+ghost use Rattle.saved_items.specs.Limits.{most_saved_plans, most_saved_runs};
+ghost use Rattle.saved_items.specs.SavedBooks.{SavedPlan, day_of};
+
+use crate::PlanItem;
+use crate::front::{Front, Stage};
+use crate::item::Item;
+use crate::item_words::{PlanLine, is_title, read_count, read_plan_line, read_work};
+use crate::lines::first_line;
+use crate::run_words::read_run;
+use payroll_records::{Day, Key, Record};
+use std::alloc::{AllocError, Global};
+
+/// The most plans of a saved book.
+const MOST_PLANS: u64 = 64;
+
+/// The most runs of a saved book.
+const MOST_RUNS: u64 = 50_000;
+
+/// The item that comes next and what follows it, where the text goes on with one that is of its form. The last line is no
+/// such item.
+pub(crate) fn next_item<'a>(
+    alloc: Global,
+    front: &Front<'a>,
+    rest: &'a [u8],
+) -> Result<Option<(Item<'a>, &'a [u8])>, AllocError>
+    requires { IsFront (front_in front.now) }
+    ensures { IfOk result (Reads (Fits (front_in front.now)) rest.now) }
+{
+    let plans = front.items.plans.as_slice();
+    let records = front.items.records.as_slice();
+    match front.stage {
+        Stage::Title => next_title(alloc, rest),
+        Stage::Work => next_work(alloc, rest),
+        Stage::PlanCount => next_plan_count(alloc, rest),
+        Stage::Plans { count } if (plans.len() as u64) < count => next_plan(alloc, plans, rest),
+        Stage::Plans { .. } => next_run_count(alloc, rest),
+        Stage::Runs { count } if (records.len() as u64) < count => next_run(alloc, records, rest),
+        Stage::Runs { .. } => Ok(None),
+    }
+}
+
+fn next_title<'a>(alloc: Global, rest: &'a [u8]) -> Result<Option<(Item<'a>, &'a [u8])>, AllocError>
+    ensures { IfOk result (Reads (Fits nothing) rest.now) }
+{
+    let Some(line) = first_line(alloc, rest)? else {
+        return Ok(None);
+    };
+    if !is_title(line.words.as_slice()) {
+        return Ok(None);
+    }
+    Ok(Some((Item::Title, line.rest)))
+}
+
+fn next_work<'a>(alloc: Global, rest: &'a [u8]) -> Result<Option<(Item<'a>, &'a [u8])>, AllocError>
+    ensures { IfOk result (Reads (Fits titled) rest.now) }
+{
+    let Some(line) = first_line(alloc, rest)? else {
+        return Ok(None);
+    };
+    let Some(work) = read_work(alloc, line.words.as_slice())? else {
+        return Ok(None);
+    };
+    let (runs, steps) = work;
+    Ok(Some((Item::Work { runs, steps }, line.rest)))
+}
+
+fn next_plan_count<'a>(
+    alloc: Global,
+    rest: &'a [u8],
+) -> Result<Option<(Item<'a>, &'a [u8])>, AllocError>
+    ensures { (runs steps : ℕ) → IfOk result (Reads (Fits (worked runs steps)) rest.now) }
+{
+    let Some(line) = first_line(alloc, rest)? else {
+        return Ok(None);
+    };
+    let Some(count) = read_count(alloc, b"plans", line.words.as_slice())? else {
+        return Ok(None);
+    };
+    if count > MOST_PLANS {
+        return Ok(None);
+    }
+    Ok(Some((Item::PlanCount(count), line.rest)))
+}
+
+/// The line before the runs, behind the last plan.
+fn next_run_count<'a>(
+    alloc: Global,
+    rest: &'a [u8],
+) -> Result<Option<(Item<'a>, &'a [u8])>, AllocError>
+    ensures { (runs steps : ℕ) (plans : List SavedPlan) →
+        IfOk result (Reads (Fits (planning runs steps (length plans) plans)) rest.now) }
+{
+    let Some(line) = first_line(alloc, rest)? else {
+        return Ok(None);
+    };
+    let Some(count) = read_count(alloc, b"runs", line.words.as_slice())? else {
+        return Ok(None);
+    };
+    if count > MOST_RUNS {
+        return Ok(None);
+    }
+    Ok(Some((Item::RunCount(count), line.rest)))
+}
+
+/// A plan behind others, where there are to be more.
+fn next_plan<'a>(
+    alloc: Global,
+    plans: &[PlanItem<'a>],
+    rest: &'a [u8],
+) -> Result<Option<(Item<'a>, &'a [u8])>, AllocError>
+    requires { IsRising day_cmp day_of (plans_of plans.now) }
+    ensures { (runs steps count : ℕ) → length plans.now < count →
+        IfOk result (Reads (Fits (planning runs steps count (plans_of plans.now))) rest.now) }
+{
+    is_short(rest);
+    let Some(line) = first_line(alloc, rest)? else {
+        return Ok(None);
+    };
+    let Some(front) = read_plan_line(alloc, line.words.as_slice())? else {
+        return Ok(None);
+    };
+    let Some((plan, left)) = plan_texts(front, line.rest) else {
+        return Ok(None);
+    };
+    if !is_later(plans, front.day) {
+        return Ok(None);
+    }
+    Ok(Some((Item::Plan(plan), left)))
+}
+
+/// A law, with nothing to run: 64 bits count the bytes of a text.
+fn is_short(bytes: &[u8])
+    ensures { length bytes.now < 2 ^ 64 }
+{
+    let _ = bytes.len();
+}
+
+/// Whether a day is behind those of all plans.
+fn is_later(plans: &[PlanItem], day: Day) -> bool
+    requires { IsRising day_cmp day_of (plans_of plans.now) }
+    ensures { (p : SavedPlan) → p.day ≡ day →
+        MatchBool result (IsLater (plans_of plans.now) p) (IsLater (plans_of plans.now) p → ⊥) }
+{
+    match plans.last() {
+        Some(last) => last.day.cmp(&day).is_lt(),
+        None => true,
+    }
+}
+
+/// The texts of a plan behind its line, and what follows their line feed.
+fn plan_texts<'a>(line: PlanLine, rest: &'a [u8]) -> Option<(PlanItem<'a>, &'a [u8])>
+    ensures { MatchOption result (HasNoTexts line rest.now) (λ n. HasTexts line rest.now n.0 n.1.now) }
+{
+    let (plan, rest) = front_of(rest, line.plan)?;
+    let (limits, rest) = front_of(rest, line.limits)?;
+    let (end, rest) = rest.split_first()?;
+    if *end != b'\n' {
+        return None;
+    }
+    Some((
+        PlanItem {
+            day: line.day,
+            plan,
+            limits,
+        },
+        rest,
+    ))
+}
+
+/// The first so many bytes, and the others.
+fn front_of(bytes: &[u8], count: u64) -> Option<(&[u8], &[u8])>
+    ensures { MatchOption result (length bytes.now < count)
+        (λ p. (length p.0.now ≡ count) × (bytes.now ≡ p.0.now ++ p.1.now)) }
+{
+    if (bytes.len() as u64) < count {
+        return None;
+    }
+    Some(bytes.split_at(count as usize))
+}
+
+/// A run behind others, where there are to be more.
+fn next_run<'a>(
+    alloc: Global,
+    records: &[Record],
+    rest: &'a [u8],
+) -> Result<Option<(Item<'a>, &'a [u8])>, AllocError>
+    requires { IsRising key_cmp key_of records.now }
+    ensures { (runs steps count : ℕ) (plans : List SavedPlan) → length records.now < count →
+        IfOk result (Reads (Fits (running runs steps plans count records.now)) rest.now) }
+{
+    let Some(line) = first_line(alloc, rest)? else {
+        return Ok(None);
+    };
+    let Some(run) = read_run(alloc, line.text, line.words.as_slice())? else {
+        return Ok(None);
+    };
+    if !is_beyond(records, &run) {
+        return Ok(None);
+    }
+    Ok(Some((Item::Run(run), line.rest)))
+}
+
+/// Whether a run's key is behind those of all runs.
+fn is_beyond(records: &[Record], run: &Record) -> bool
+    requires { IsRising key_cmp key_of records.now }
+    ensures { MatchBool result (IsBeyond records.now run.now) (IsBeyond records.now run.now → ⊥) }
+{
+    match records.last() {
+        Some(last) => key(last).cmp(&key(run)).is_lt(),
+        None => true,
+    }
+}
+
+/// What a run is known by.
+fn key(run: &Record) -> Key
+    ensures { result ≡ key_of run.now }
+{
+    Key {
+        employee: run.employee,
+        day: run.day,
+    }
+}
