@@ -1,7 +1,7 @@
 -- The text of a saved book, opened, as the step of a line.
-use Rattle.std.proofs.Common.{◌≡◌, ◌⊎◌, ℕ, zero, suc, ◌+◌, ◌<◌, ◌≤◌, List, [], ◌∷◌, length, take, refl, sym, ap, ◌∙◌, subst, arith}
+use Rattle.std.proofs.Common.{◌≡◌, ◌⊎◌, ℕ, zero, suc, ◌+◌, ◌<◌, ◌≤◌, List, [], ◌∷◌, take, refl, sym, ap, ◌∙◌, subst, arith}
 use Rattle.std.proofs.Common.{inl, inr}
-use Rattle.std.specs.Prelude.{◌≢◌, ◌↔◌, Bool, IsTrue, IsSome, Option, Some, None, Result, Ok, Err, IfOk, OnErr}
+use Rattle.std.specs.Prelude.{◌≢◌, ◌↔◌, Bool, IsTrue, IsSome, Option, Some, None, Result, Ok, Err, IfOk}
 use Rattle.std.specs.declared.alloc.AllocError.{AllocError}
 use Rattle.payroll_records.specs.declared.month.Month.{Month}
 use Rattle.plan_calendar.specs.Picking.{Entry}
@@ -17,7 +17,7 @@ use Rattle.book_file.proofs.Laws as texts
 use Rattle.plan_answers.specs.Answers.{Answer, refusal}
 use Rattle.plan_answers.specs.declared.reply.Reply.{Reply}
 use Rattle.plan_answers.specs.ReplyViews.{reply_of}
-use Rattle.plan_answers.proofs.Laws.{if_ok_map, on_err_any}
+use Rattle.plan_answers.proofs.Laws.{if_ok_map}
 use Rattle.script_steps.specs.LineTexts.{book_detail, ok_line}
 use Rattle.script_steps.specs.OpenSteps.{IsEmpty, IsFresh, IsOpenStep, IsOpened, OpenRefusal, OpenSays, open_detail}
 use Rattle.script_steps.specs.OpenSteps.{not_empty, filed, faulty}

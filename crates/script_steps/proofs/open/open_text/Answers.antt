@@ -1,4 +1,4 @@
-use Rattle.std.proofs.Common.{◌≡◌, sym, ap, subst, ◌∙◌}
+use Rattle.std.proofs.Common.{sym, ap, subst, ◌∙◌}
 use Rattle.std.specs.Prelude.{◌≢◌, IsTrue, None, is_some}
 use Rattle.script_steps.specs.OpenSteps.{IsEmpty, not_empty, filed}
 use Rattle.script_steps.specs.Standings.{Standing}
