@@ -21,16 +21,18 @@ trace E1 2025-01 => trace
 trace E1 2025-01-31 => trace
 file 2025-01 => file
 owed => owed
+open saved.book => open
 try 2025-01-01 a.xml b.toml => try"#;
 
 /// Lines with the text of their fault.
 const FAULTS: &str =
-    r#"Report => the first word is no command: plan, drop, add, change, withdraw, load, report, work, trace, file, owed or try
-plans x => the first word is no command: plan, drop, add, change, withdraw, load, report, work, trace, file, owed or try
+    r#"Report => the first word is no command: plan, drop, add, change, withdraw, load, report, work, trace, file, owed, open or try
+plans x => the first word is no command: plan, drop, add, change, withdraw, load, report, work, trace, file, owed, open or try
 report now => the command takes other words: their number is wrong, or a file's name is not at most 255 visible ASCII characters
 plan x a.xml => the command takes other words: their number is wrong, or a file's name is not at most 255 visible ASCII characters
 plan x a.xml b.toml c => the command takes other words: their number is wrong, or a file's name is not at most 255 visible ASCII characters
 try x a.xml => the command takes other words: their number is wrong, or a file's name is not at most 255 visible ASCII characters
+open a b => the command takes other words: their number is wrong, or a file's name is not at most 255 visible ASCII characters
 plan x ä b.toml => the command takes other words: their number is wrong, or a file's name is not at most 255 visible ASCII characters
 add ? 2025-01 => the command takes other words: their number is wrong, or a file's name is not at most 255 visible ASCII characters
 withdraw ? => the command takes other words: their number is wrong, or a file's name is not at most 255 visible ASCII characters
@@ -54,7 +56,7 @@ change E1 2025-01 2025-01-31 N=1 M=1 N=2 M=x => an earlier word gives N a value 
 const WHITE_SPACE: &str = " \t  => nothing
 \t#add E1 => nothing
 \tplan  2025-01-01\t\ta.xml b.toml  => plan
-report\r => the first word is no command: plan, drop, add, change, withdraw, load, report, work, trace, file, owed or try
+report\r => the first word is no command: plan, drop, add, change, withdraw, load, report, work, trace, file, owed, open or try
 load a\r => the command takes other words: their number is wrong, or a file's name is not at most 255 visible ASCII characters";
 
 /// Lines at each limit and one past it.
@@ -80,6 +82,7 @@ fn first_word(command: &Command) -> &'static str {
         Command::Trace { .. } => "trace",
         Command::File { .. } => "file",
         Command::Owed => "owed",
+        Command::Open { .. } => "open",
         Command::Try { .. } => "try",
     }
 }

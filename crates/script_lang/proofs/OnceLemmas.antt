@@ -17,7 +17,7 @@ use Rattle.payroll_records.proofs.Laws.{year_is, month_is, day_is, same_day, sam
 use Rattle.script_lang.specs.Commands as asked
 use Rattle.script_lang.specs.Commands.{Asked}
 use Rattle.script_lang.specs.Fields.{Field, IsGood, fault_of, time_field}
-use Rattle.script_lang.specs.Lines.{Verb, plan, drop, add, change, withdraw, load, report, work, trace, filing, owed, trial}
+use Rattle.script_lang.specs.Lines.{Verb, plan, drop, add, change, withdraw, load, report, work, trace, filing, owed, opening, trial}
 use Rattle.script_lang.specs.Lines.{text_of, takes, fields_of, IsSilent, IsDayWord, IsTime, IsOfRun, IsOfRecord, IsOfPlan}
 use Rattle.script_lang.specs.Lines.{IsOfFile, Ask, HaveNoVerb, AreNotTaken, IsFirstFault, HaveFirstFault, IsLine, LineSays}
 use Rattle.script_lang.specs.Words.{words_of}
@@ -41,6 +41,7 @@ which t =
     if bytes_eq t (codes "trace") then Some trace else
     if bytes_eq t (codes "file") then Some filing else
     if bytes_eq t (codes "owed") then Some owed else
+    if bytes_eq t (codes "open") then Some opening else
     if bytes_eq t (codes "try") then Some trial else None
 
 which_of : (v : Verb) → which (text_of v) ≡ Some v
@@ -56,6 +57,7 @@ which_of work = refl
 which_of trace = refl
 which_of filing = refl
 which_of owed = refl
+which_of opening = refl
 which_of trial = refl
 
 pub verb_once : (v w : Verb) → text_of v ≡ text_of w → v ≡ w
@@ -74,6 +76,7 @@ no_comment work e = omega (arith, e)
 no_comment trace e = omega (arith, e)
 no_comment filing e = omega (arith, e)
 no_comment owed e = omega (arith, e)
+no_comment opening e = omega (arith, e)
 no_comment trial e = omega (arith, e)
 
 loud : (words : List Text) (verb : Verb) (rest : List Text) → words ≡ text_of verb ∷ rest → IsSilent words → ⊥
@@ -124,6 +127,7 @@ asked_verb asked.work = Some work
 asked_verb (asked.trace e t) = Some trace
 asked_verb (asked.filing m) = Some filing
 asked_verb asked.owed = Some owed
+asked_verb (asked.opening f) = Some opening
 asked_verb (asked.trial d p l) = Some trial
 
 record Spoken (words : List Text) (what : Asked) : Type 0 where
@@ -176,6 +180,14 @@ spoken words asked.work h = inr (record { verb = work; rest = []; verb_is = refl
 spoken words (asked.trace e t) h = inr (record { verb = trace; rest = e ∷ h.word ∷ []; verb_is = refl; words_are = h.words_are; taken = refl; good = (h.employee_is, (time_good h.word t h.time_is, tt)) })
 spoken words (asked.filing m) h = inr (record { verb = filing; rest = h.word ∷ []; verb_is = refl; words_are = h.words_are; taken = refl; good = ((m.year, m.month, h.month_is), tt) })
 spoken words asked.owed h = inr (record { verb = owed; rest = []; verb_is = refl; words_are = h; taken = refl; good = tt })
+spoken words (asked.opening f) h = inr (record {
+  verb = opening;
+  rest = f ∷ [];
+  verb_is = refl;
+  words_are = h.words_are;
+  taken = h.file_is;
+  good = tt;
+})
 spoken words (asked.trial d p l) h =
     inr (plan_spoken (asked.trial d p l) trial words d p l refl (λ rest t. t) (λ rest t. t) h)
 
@@ -317,6 +329,7 @@ by_verb words (asked.filing m) (asked.filing m') e h k =
     let word : k.word ≡ h.word = cc in
     ap asked.filing (months_once h.word m m' h.month_is (subst (λ t. IsMonthText t m'.year m'.month) word k.month_is))
 by_verb words asked.owed asked.owed e h k = refl
+by_verb words (asked.opening f) (asked.opening g) e h k = files_once asked.opening (codes "open") words f g h k
 by_verb words (asked.trial d p l) (asked.trial d' p' l') e h k =
     plans_once asked.trial (codes "try") words d p l d' p' l' h k
 by_verb words a b e h k = cc e

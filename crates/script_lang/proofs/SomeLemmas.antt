@@ -14,7 +14,7 @@ use Rattle.payroll_records.proofs.Laws.{Decided, both, by_iff, true_decided, eq_
 use Rattle.script_lang.specs.Commands as asked
 use Rattle.script_lang.specs.Commands.{Asked}
 use Rattle.script_lang.specs.Fields.{Field, IsGood, fault_of, employee, month, day, day_in, value, new_name, name_in, time_field}
-use Rattle.script_lang.specs.Lines.{Verb, plan, drop, add, change, withdraw, load, report, work, trace, filing, owed, trial}
+use Rattle.script_lang.specs.Lines.{Verb, plan, drop, add, change, withdraw, load, report, work, trace, filing, owed, opening, trial}
 use Rattle.script_lang.specs.Lines.{text_of, takes, fields_of, IsSilent, IsTime, IsOfRun, IsOfRecord, IsOfPlan, IsOfFile}
 use Rattle.script_lang.specs.Lines.{Ask, IsFirstFault, HaveFirstFault, LineSays}
 use Rattle.script_lang.specs.Words.{words_of}
@@ -87,9 +87,12 @@ verb_or_none w = elim (text_decided w (codes "plan")) [
                     | inl e ↦ inl (filing, e)
                     | inr k ↦ elim (text_decided w (codes "owed")) [
                       | inl e ↦ inl (owed, e)
-                      | inr l ↦ elim (text_decided w (codes "try")) [
-                        | inl e ↦ inl (trial, e)
-                        | inr m ↦ inr (none a b c d f g h i j k l m)
+                      | inr l ↦ elim (text_decided w (codes "open")) [
+                        | inl e ↦ inl (opening, e)
+                        | inr m ↦ elim (text_decided w (codes "try")) [
+                          | inl e ↦ inl (trial, e)
+                          | inr n ↦ inr (none a b c d f g h i j k l m n)
+                        ]
                       ]
                     ]
                   ]
@@ -104,19 +107,20 @@ verb_or_none w = elim (text_decided w (codes "plan")) [
 ] where
   none : w ≢ codes "plan" → w ≢ codes "drop" → w ≢ codes "add" → w ≢ codes "change" → w ≢ codes "withdraw" → w ≢ codes "load" →
       w ≢ codes "report" → w ≢ codes "work" → w ≢ codes "trace" → w ≢ codes "file" → w ≢ codes "owed" →
-      w ≢ codes "try" → (v : Verb) → w ≢ text_of v
-  none a b c d f g h i j k l m plan = a
-  none a b c d f g h i j k l m drop = b
-  none a b c d f g h i j k l m add = c
-  none a b c d f g h i j k l m change = d
-  none a b c d f g h i j k l m withdraw = f
-  none a b c d f g h i j k l m load = g
-  none a b c d f g h i j k l m report = h
-  none a b c d f g h i j k l m work = i
-  none a b c d f g h i j k l m trace = j
-  none a b c d f g h i j k l m filing = k
-  none a b c d f g h i j k l m owed = l
-  none a b c d f g h i j k l m trial = m
+      w ≢ codes "open" → w ≢ codes "try" → (v : Verb) → w ≢ text_of v
+  none a b c d f g h i j k l m n plan = a
+  none a b c d f g h i j k l m n drop = b
+  none a b c d f g h i j k l m n add = c
+  none a b c d f g h i j k l m n change = d
+  none a b c d f g h i j k l m n withdraw = f
+  none a b c d f g h i j k l m n load = g
+  none a b c d f g h i j k l m n report = h
+  none a b c d f g h i j k l m n work = i
+  none a b c d f g h i j k l m n trace = j
+  none a b c d f g h i j k l m n filing = k
+  none a b c d f g h i j k l m n owed = l
+  none a b c d f g h i j k l m n opening = m
+  none a b c d f g h i j k l m n trial = n
 
 -- ---- what good words ask for
 
@@ -174,6 +178,7 @@ asked_by trace rest taken good = let r = meant_of (codes "trace") rest taken goo
 asked_by filing (w ∷ []) taken good =
     (asked.filing (record { year = good.0.0; month = good.0.1; exists = good.0.2.exists }), record { word = w; words_are = refl; month_is = good.0.2 })
 asked_by owed [] taken good = (asked.owed, refl)
+asked_by opening rest taken good = let f = file_of (codes "open") rest taken in (asked.opening f.0, f.1)
 asked_by trial rest taken good = let p = plan_of (codes "try") rest taken good in (asked.trial p.0 p.1 p.2, p.3)
 asked_by verb rest taken good = absurd (false≢true taken)
 

@@ -70,7 +70,7 @@ pub record IsOfRun (command : Text) (words : List Text) (who : Text) (time : Whe
   pub employee_is : IsTrue (is_employee who)
   pub time_is : IsTime word time
 
--- load FILE
+-- load FILE and open FILE
 pub record IsOfFile (command : Text) (words : List Text) (file : Text) : Type 0 where
   pub words_are : words ≡ command ∷ file ∷ []
   pub file_is : IsTrue (is_file file)
@@ -95,6 +95,7 @@ Ask words asked.work = words ≡ codes "work" ∷ []
 Ask words (asked.trace who time) = IsOfRun (codes "trace") words who time
 Ask words (asked.filing m) = IsFileMonth words m
 Ask words asked.owed = words ≡ codes "owed" ∷ []
+Ask words (asked.opening file) = IsOfFile (codes "open") words file
 Ask words (asked.trial d plan limits) = IsOfPlan (codes "try") words d plan limits
 
 -- what a line asks for
@@ -117,6 +118,7 @@ pub data Verb : Type 0 where
   trace : Verb
   filing : Verb
   owed : Verb
+  opening : Verb
   trial : Verb
 
 abbrev pub text_of : Verb → Text
@@ -131,6 +133,7 @@ text_of work = codes "work"
 text_of trace = codes "trace"
 text_of filing = codes "file"
 text_of owed = codes "owed"
+text_of opening = codes "open"
 text_of trial = codes "try"
 
 -- an employee, a month, a day, and at most 256 value words
@@ -166,6 +169,7 @@ takes work [] = true
 takes trace words = takes_run words
 takes filing (month ∷ []) = true
 takes owed [] = true
+takes opening words = takes_file words
 takes trial words = takes_plan words
 takes _ _ = false
 

@@ -67,6 +67,10 @@ fn read_words(alloc: Global, words: &[&[u8]]) -> Result<Command, LineFault>
         }
         Verb::File => read_filing(rest),
         Verb::Owed => read_alone(rest, Command::Owed),
+        Verb::Open => {
+            let file = read_file(alloc, rest)?;
+            Ok(Command::Open { file })
+        }
         Verb::Try => {
             let (day, plan, limits) = read_plan(alloc, rest)?;
             Ok(Command::Try { day, plan, limits })
@@ -125,7 +129,7 @@ fn read_run(rest: &[&[u8]]) -> Result<(Employee, When), LineFault>
     Ok((read_employee(employee)?, read_when(when)?))
 }
 
-/// The word behind `load`: `FILE`.
+/// The word behind `load` and `open`: `FILE`.
 fn read_file(alloc: Global, rest: &[&[u8]]) -> Result<String, LineFault>
     ensures ok { (command : Text) → IfOk result
         (λ file. IsOfFile command (command ∷ texts rest.now) (string_bytes file)) }

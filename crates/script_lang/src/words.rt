@@ -26,6 +26,7 @@ pub(crate) enum Verb {
     Trace,
     File,
     Owed,
+    Open,
     Try,
 }
 
@@ -62,6 +63,7 @@ pub(crate) fn read_verb(word: &[u8]) -> Option<Verb>
         b"trace" => Some(Verb::Trace),
         b"file" => Some(Verb::File),
         b"owed" => Some(Verb::Owed),
+        b"open" => Some(Verb::Open),
         b"try" => Some(Verb::Try),
         _ => None,
     }

@@ -18,40 +18,42 @@ head_same a b x y e = cc
 
 -- words whose first is of no command that names a file
 names_none : (word : List ℕ) (more words : List (List ℕ)) → words ≡ word ∷ more → word ≢ codes "plan" →
-    word ≢ codes "load" → word ≢ codes "try" → (what : Asked) → Ask words what → (name : List ℕ) → IsFileOf what name → ⊥
-names_none word more words cut no_plan no_load no_try asked.nothing ask name file = file
-names_none word more words cut no_plan no_load no_try (asked.plan day plan limits) ask name file =
+    word ≢ codes "load" → word ≢ codes "try" → word ≢ codes "open" → (what : Asked) → Ask words what → (name : List ℕ) → IsFileOf what name → ⊥
+names_none word more words cut no_plan no_load no_try no_open asked.nothing ask name file = file
+names_none word more words cut no_plan no_load no_try no_open (asked.plan day plan limits) ask name file =
     no_plan (head_same word (codes "plan") more _ (sym cut ∙ ask.words_are))
-names_none word more words cut no_plan no_load no_try (asked.drop day) ask name file = file
-names_none word more words cut no_plan no_load no_try (asked.add run) ask name file = file
-names_none word more words cut no_plan no_load no_try (asked.change run) ask name file = file
-names_none word more words cut no_plan no_load no_try (asked.withdraw who when) ask name file = file
-names_none word more words cut no_plan no_load no_try (asked.load table) ask name file =
+names_none word more words cut no_plan no_load no_try no_open (asked.drop day) ask name file = file
+names_none word more words cut no_plan no_load no_try no_open (asked.add run) ask name file = file
+names_none word more words cut no_plan no_load no_try no_open (asked.change run) ask name file = file
+names_none word more words cut no_plan no_load no_try no_open (asked.withdraw who when) ask name file = file
+names_none word more words cut no_plan no_load no_try no_open (asked.load table) ask name file =
     no_load (head_same word (codes "load") more _ (sym cut ∙ ask.words_are))
-names_none word more words cut no_plan no_load no_try asked.report ask name file = file
-names_none word more words cut no_plan no_load no_try asked.work ask name file = file
-names_none word more words cut no_plan no_load no_try (asked.trace who when) ask name file = file
-names_none word more words cut no_plan no_load no_try (asked.filing month) ask name file = file
-names_none word more words cut no_plan no_load no_try asked.owed ask name file = file
-names_none word more words cut no_plan no_load no_try (asked.trial day plan limits) ask name file =
+names_none word more words cut no_plan no_load no_try no_open (asked.opening table) ask name file =
+    no_open (head_same word (codes "open") more _ (sym cut ∙ ask.words_are))
+names_none word more words cut no_plan no_load no_try no_open asked.report ask name file = file
+names_none word more words cut no_plan no_load no_try no_open asked.work ask name file = file
+names_none word more words cut no_plan no_load no_try no_open (asked.trace who when) ask name file = file
+names_none word more words cut no_plan no_load no_try no_open (asked.filing month) ask name file = file
+names_none word more words cut no_plan no_load no_try no_open asked.owed ask name file = file
+names_none word more words cut no_plan no_load no_try no_open (asked.trial day plan limits) ask name file =
     no_try (head_same word (codes "try") more _ (sym cut ∙ ask.words_are))
 
 -- so it is of a line that begins with such a word
 there_by : (files : FileMap) (word line : List ℕ) (more : List (List ℕ)) → words_of line ≡ word ∷ more →
-    word ≢ codes "plan" → word ≢ codes "load" → word ≢ codes "try" → AreThere files line
-there_by files word line more cut no_plan no_load no_try = λ name names.
-    absurd (names_none word more (words_of line) cut no_plan no_load no_try names.what (names.is_line).ask name names.is_file)
+    word ≢ codes "plan" → word ≢ codes "load" → word ≢ codes "try" → word ≢ codes "open" → AreThere files line
+there_by files word line more cut no_plan no_load no_try no_open = λ name names.
+    absurd (names_none word more (words_of line) cut no_plan no_load no_try no_open names.what (names.is_line).ask name names.is_file)
 
 add_there : (files : FileMap) (employee month : ℕ) → AreThere files (add_line employee month)
 add_there files employee month =
-    there_by files (codes "add") (add_line employee month) _ refl (λ e. cc) (λ e. cc) (λ e. cc)
+    there_by files (codes "add") (add_line employee month) _ refl (λ e. cc) (λ e. cc) (λ e. cc) (λ e. cc)
 
 change_there : (files : FileMap) (employee : ℕ) → AreThere files (change_line employee)
 change_there files employee =
-    there_by files (codes "change") (change_line employee) _ refl (λ e. cc) (λ e. cc) (λ e. cc)
+    there_by files (codes "change") (change_line employee) _ refl (λ e. cc) (λ e. cc) (λ e. cc) (λ e. cc)
 
 report_there : (files : FileMap) → AreThere files (codes "report")
-report_there files = there_by files (codes "report") (codes "report") _ refl (λ e. cc) (λ e. cc) (λ e. cc)
+report_there files = there_by files (codes "report") (codes "report") _ refl (λ e. cc) (λ e. cc) (λ e. cc) (λ e. cc)
 
 -- the words of the line of a sample's plan
 abbrev plan_line : List ℕ
@@ -81,6 +83,8 @@ plan_names files plan_is limits_is (asked.change run) ask name file = absurd fil
 plan_names files plan_is limits_is (asked.withdraw who when) ask name file = absurd file
 plan_names files plan_is limits_is (asked.load table) ask name file =
     let same = head_same (codes "plan") (codes "load") _ _ ask.words_are in cc
+plan_names files plan_is limits_is (asked.opening table) ask name file =
+    let same = head_same (codes "plan") (codes "open") _ _ ask.words_are in cc
 plan_names files plan_is limits_is asked.report ask name file = absurd file
 plan_names files plan_is limits_is asked.work ask name file = absurd file
 plan_names files plan_is limits_is (asked.trace who when) ask name file = absurd file

@@ -17,8 +17,10 @@ use Rattle.plan_answers.proofs.Laws.{whole, longer, front_there, answers_front, 
 use Rattle.script_steps.specs.Standings.{Standing, Doing}
 use Rattle.script_steps.specs.declared.plan.Judged.{Judged}
 use Rattle.script_steps.specs.LineSteps.{IsPlanStep, IsReadStep, IsTableStep, IsTextsStep, IsUsed, PlanUse}
+use Rattle.script_steps.specs.OpenSteps.{IsOpenStep}
 use Rattle.script_steps.specs.PlanViews.{AreJudged}
 use Rattle.script_steps.specs.StepViews.{ToldDoes}
+use Rattle.script_steps.proofs.OpenLemmas.{open_front}
 
 -- ---- a table
 
@@ -56,11 +58,16 @@ read_told Step n whole told file front read to a h = λ files e.
     let f = front_there (files file) n front (subst (λ t. IsToldFront t file n front) e read) in
     record { bytes = f.0; there = f.1; is = whole f.0 to a (subst (λ b. Step b to a) f.2 h) }
 
--- a table
+-- a table, and a saved book
 pub load_told : (told : Option FileMap) (from : Standing) (file front : List ℕ) → IsToldFront told file 33554433 front
     → (to : Standing) (a : Answer) → IsTableStep from front to a → ToldDoes told from (Ok (asked.load file)) to a
 load_told told from file front read to a h =
     read_told (IsTableStep from) 33554433 (table_step_front 33554433 (omega arith) from) told file front read to a h
+
+pub open_told : (told : Option FileMap) (from : Standing) (file front : List ℕ) → IsToldFront told file 268435457 front
+    → (to : Standing) (a : Answer) → IsOpenStep from front to a → ToldDoes told from (Ok (asked.opening file)) to a
+open_told told from file front read to a h =
+    read_told (IsOpenStep from) 268435457 (open_front 268435457 (omega arith) from) told file front read to a h
 
 -- ---- a plan
 

@@ -11,3 +11,4 @@ mod WriteLemmas
 mod TableLemmas
 mod PlanLemmas
 mod TrialLemmas
+mod OpenLemmas

@@ -17,12 +17,14 @@ use Rattle.script_steps.specs.LineTexts.{ok_line, line_detail}
 use Rattle.script_steps.specs.Standings.{Standing, Doing, silence}
 use Rattle.script_steps.specs.LineSteps.{IsTableStep, IsReadStep, IsPut, IsTried, IsPlanStep, PlanUse, Does, IsFileOf}
 use Rattle.script_steps.specs.LineSteps.{report_answer, work_answer}
+use Rattle.script_steps.specs.OpenSteps.{IsOpenStep}
 use Rattle.script_steps.specs.Steps.{Names, AreThere}
 use Rattle.script_steps.specs.StepLaws.{HasStep, LacksAFile, LinesHaveAStep, LinesHaveOneStep, FilesAreTold}
 use Rattle.script_steps.specs.StepLaws.{LongLinesAreOne, LongLinesNameNoFile}
 use Rattle.script_steps.specs.TraceSteps.{trace_answer}
 use Rattle.script_steps.proofs.KindLemmas.{Has, Same, stays_one, edit_some, edit_one, table_step_some}
 use Rattle.script_steps.proofs.KindLemmas.{table_step_one, read_one, put_some, put_one, tried_some, tried_one, texts_some, plan_one}
+use Rattle.script_steps.proofs.OpenLemmas.{open_some, open_one}
 use Rattle.script_steps.proofs.FilingLemmas.{file_some, file_one, owed_some, owed_one}
 
 is_there : {A : Type 0} (o : Option A) → IsSome o → (x : A) × (o ≡ Some x)
@@ -70,6 +72,7 @@ module _ (files : FileMap) (from : Standing) where
   does_some (asked.trace who when) there = (from, trace_answer from.book who when, (refl, refl))
   does_some (asked.filing month) there = file_some from month
   does_some asked.owed there = owed_some from
+  does_some (asked.opening file) there = read_some (IsOpenStep from) (open_some from) file (there file refl)
   does_some (asked.trial day plan limits) there =
       plan_some IsTried (tried_some from) day plan limits (there plan (inl refl)) (there limits (inr refl))
 
@@ -91,6 +94,8 @@ module _ (files : FileMap) (from : Standing) where
   does_one (Ok (asked.trace who when)) to to' a a' h k = stays_one from to to' (trace_answer from.book who when) a a' h k
   does_one (Ok (asked.filing month)) to to' a a' h k = file_one from month to to' a a' h k
   does_one (Ok asked.owed) to to' a a' h k = owed_one from to to' a a' h k
+  does_one (Ok (asked.opening file)) to to' a a' h k =
+      read_one (IsOpenStep from) (open_one from) files file to to' a a' h k
   does_one (Ok (asked.trial day plan limits)) to to' a a' h k =
       plan_one IsTried from day tried_one files plan limits to to' a a' h k
 
@@ -112,6 +117,7 @@ module _ (files : FileMap) (from : Standing) where
   files_there (asked.trace who when) to a name h n = absurd n
   files_there (asked.filing month) to a name h n = absurd n
   files_there asked.owed to a name h n = absurd n
+  files_there (asked.opening file) to a name h n = there_is (files name) h.bytes (ap files n ∙ h.there)
   files_there (asked.trial day plan limits) to a name h (inl e) =
       there_is (files name) h.plan_bytes (ap files e ∙ h.plan_there)
   files_there (asked.trial day plan limits) to a name h (inr e) =
@@ -188,6 +194,7 @@ all_or_one files asked.work = no_file files
 all_or_one files (asked.trace who when) = no_file files
 all_or_one files (asked.filing month) = no_file files
 all_or_one files asked.owed = no_file files
+all_or_one files (asked.opening file) = one_file files file
 all_or_one files (asked.trial day plan limits) = two_files files plan limits
 
 -- the file of what a line says

@@ -2,6 +2,7 @@ pub mod Standings
 pub mod LineTexts
 pub mod TraceSteps
 pub mod FilingSteps
+pub mod OpenSteps
 pub mod LineSteps
 pub mod Steps
 pub mod Stops

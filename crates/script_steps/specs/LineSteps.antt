@@ -25,6 +25,7 @@ use Rattle.script_steps.specs.LineTexts.{ok_line, end_line, work_line, line_deta
 use Rattle.script_steps.specs.Standings.{Standing, Doing, Stays, accepted, after_edit, silence}
 use Rattle.script_steps.specs.TraceSteps.{trace_answer}
 use Rattle.script_steps.specs.FilingSteps.{IsFileStep, IsOwedStep}
+use Rattle.script_steps.specs.OpenSteps.{IsOpenStep}
 
 -- ---- an edit of the book
 
@@ -39,7 +40,7 @@ pub record IsEditStep (text : List ℕ) (from : Standing) (e : Edit) (to : Stand
   pub says : EditAnswers from.book e verdict
   pub is : IsEditAnswered text from verdict to answer
 
--- ---- a line that names a file: load FILE
+-- ---- a line that names a file: load FILE, open FILE
 
 -- what is done with the bytes of the file
 pub record IsReadStep
@@ -136,12 +137,14 @@ Does files from (Ok asked.work) to answer = Stays from to (work_answer from) ans
 Does files from (Ok (asked.trace who when)) to answer = Stays from to (trace_answer from.book who when) answer
 Does files from (Ok (asked.filing month)) to answer = IsFileStep from month to answer
 Does files from (Ok asked.owed) to answer = IsOwedStep from to answer
+Does files from (Ok (asked.opening file)) to answer = IsReadStep (IsOpenStep from) files file to answer
 Does files from (Ok (asked.trial day plan limits)) to answer = IsPlanStep IsTried files from day plan limits to answer
 
 -- the files that are asked for
 abbrev pub IsFileOf : Asked → List ℕ → Type 0
 IsFileOf (asked.plan day plan limits) name = (name ≡ plan) ⊎ (name ≡ limits)
 IsFileOf (asked.load file) name = name ≡ file
+IsFileOf (asked.opening file) name = name ≡ file
 IsFileOf (asked.trial day plan limits) name = (name ≡ plan) ⊎ (name ≡ limits)
 IsFileOf _ name = ⊥
 
@@ -153,5 +156,6 @@ IsNextOfPlan files plan limits name = (name ≡ plan) ⊎ ((name ≡ limits) × 
 abbrev pub IsNextFile : FileMap → Asked → List ℕ → Type 0
 IsNextFile files (asked.plan day plan limits) name = IsNextOfPlan files plan limits name
 IsNextFile files (asked.load file) name = name ≡ file
+IsNextFile files (asked.opening file) name = name ≡ file
 IsNextFile files (asked.trial day plan limits) name = IsNextOfPlan files plan limits name
 IsNextFile files _ name = ⊥

@@ -24,6 +24,8 @@ use Rattle.correction_ledger.specs.declared.ledger.FileRefusal.{FileRefusal}
 use Rattle.correction_ledger.specs.declared.ledger.FileRefusal.TheVariants as filing
 use Rattle.correction_ledger.specs.declared.ledger.OwedRefusal.{OwedRefusal}
 use Rattle.correction_ledger.specs.declared.ledger.OwedRefusal.TheVariants as owed
+use Rattle.book_file.specs.declared.refusal.BookFault.{BookFault}
+use Rattle.book_file.specs.declared.refusal.BookFault.TheVariants as books
 use Rattle.what_if.specs.declared.trial.Shown.{Shown}
 use Rattle.what_if.specs.declared.trial.Shown.TheVariants as shown
 use Rattle.what_if.specs.declared.trial.Trial.{Trial}
@@ -174,3 +176,10 @@ abbrev pub owed_detail : OwedRefusal → List ℕ
 owed_detail owed.NothingFiled = codes "file NothingFiled"
 owed_detail (owed.Open k) = codes "file Open " ++ spaced k.employee (text_of_day k.day)
 owed_detail (owed.Memory e) = []
+
+-- why a text isn't that of a saved book
+abbrev pub book_detail : BookFault → List ℕ
+book_detail books.Long = codes "book Long"
+book_detail (books.Form item) = codes "book Form " ++ number item
+book_detail (books.Plan day) = codes "book Plan " ++ text_of_day day
+book_detail (books.Memory e) = []

@@ -29,6 +29,10 @@ after_edit from book = record {
   made = more_work from.made book.last;
 }
 
+-- another book takes the place of its book
+abbrev pub with_book : Standing → Contents → Standing
+with_book from book = record { book = book; filings = from.filings; made = from.made }
+
 -- before the first line
 abbrev pub start : Standing
 start = record {

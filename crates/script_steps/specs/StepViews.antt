@@ -16,6 +16,8 @@ use Rattle.correction_ledger.specs.declared.ledger.FileRefusal.{FileRefusal}
 use Rattle.correction_ledger.specs.declared.ledger.FileRefusal.TheVariants as filing
 use Rattle.correction_ledger.specs.declared.ledger.OwedRefusal.{OwedRefusal}
 use Rattle.correction_ledger.specs.declared.ledger.OwedRefusal.TheVariants as owed
+use Rattle.book_file.specs.declared.refusal.BookFault.{BookFault}
+use Rattle.book_file.specs.declared.refusal.BookFault.TheVariants as books
 use Rattle.what_if.specs.declared.trial.Trial.{Trial}
 use Rattle.what_if.specs.declared.trial.TryRefusal.{TryRefusal}
 use Rattle.what_if.specs.declared.trial.TryRefusal.TheVariants as trying
@@ -25,13 +27,22 @@ use Rattle.script_steps.specs.declared.stop.LineStop.{LineStop}
 use Rattle.script_steps.specs.declared.stop.LineStop.TheVariants as stops
 use Rattle.script_steps.specs.LineSteps.{Does, IsFileOf, IsNextFile}
 use Rattle.script_steps.specs.LineTexts.{line_detail, table_detail, edit_detail, trace_detail, file_detail, owed_detail}
-use Rattle.script_steps.specs.LineTexts.{trial_text}
+use Rattle.script_steps.specs.LineTexts.{book_detail, trial_text}
 use Rattle.script_steps.specs.Standings.{Standing, Doing, accepted, more_work}
 
 -- the line has left this and has this answer, whose steps were counted
 pub record IsMade (Step : Doing) (to : Standing) (before now : ℕ) (answer : Answer) : Type 0 where
   pub is : Step to answer
   pub counted : now ≡ before + answer.steps
+
+-- the answer of a reply that doesn't tell its steps
+abbrev pub counting : Answer → ℕ → Answer
+counting reply steps = record { text = reply.text; refused = reply.refused; steps = steps }
+
+-- the line has left this and has the answer of this reply with some steps, which were counted
+pub record IsMadeUntold (Step : Doing) (to : Standing) (before now : ℕ) (reply : Answer) : Type 0 where
+  pub steps : ℕ
+  pub made : IsMade Step to before now (counting reply steps)
 
 -- the line leaves something and has some answer, at most whose steps were counted
 pub record IsLost (Step : Doing) (before now : ℕ) : Type 0 where
@@ -88,6 +99,10 @@ IsFileRefusal why answer = answer ≡ refusal (file_detail why)
 abbrev pub IsOwedRefusal : OwedRefusal → Answer → Type 0
 IsOwedRefusal (owed.Memory e) answer = ⊥
 IsOwedRefusal why answer = answer ≡ refusal (owed_detail why)
+
+abbrev pub IsBookRefusal : BookFault → Answer → Type 0
+IsBookRefusal (books.Memory e) answer = ⊥
+IsBookRefusal why answer = answer ≡ refusal (book_detail why)
 
 -- what is answered to a trial, behind the line of the plan's bound
 abbrev pub IsTrialReply : List ℕ → Result Trial TryRefusal → Answer → Type 0

@@ -5,6 +5,7 @@ mod command;
 mod edits;
 mod filings;
 mod load;
+mod open;
 mod plan;
 mod refusals;
 mod reply;

@@ -7,3 +7,9 @@ returns-in_ok-file-in-Load c =
     let is = c.in_ok-file-in-Load.ensures.ok (codes "load") in
     let split = (words_split c.args.words.now c.in-len1-up.len_at_least).1 in
     grind arith
+
+pub returns-in_ok-file-in-Open : goal.returns-in_ok-file-in-Open
+returns-in_ok-file-in-Open c =
+    let is = c.in_ok-file-in-Open.ensures.ok (codes "open") in
+    let split = (words_split c.args.words.now c.in-len1-up.len_at_least).1 in
+    grind arith

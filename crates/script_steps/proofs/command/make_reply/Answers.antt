@@ -1,4 +1,4 @@
-use Rattle.std.proofs.Common.{◌∙◌, sym, ap, subst}
+use Rattle.std.proofs.Common.{◌∙◌, sym, ap, subst, inl, inr}
 use Rattle.std.specs.Prelude.{Ok, string_bytes}
 use Rattle.std.specs.Result.{ForErr}
 use Rattle.script_lang.specs.Commands as asked
@@ -32,3 +32,9 @@ returns-in-Try-clause-unmade g c =
     subst (λ (w : Asked). ForErr c.trial.result (IsUnmade told (ToldDoes told c.args.script.now (Ok w)) w
     c.args.steps.now c.trial.new.steps (g.F.Files.failed c.trial.new.files)))
     (files ∙ sym (ap asked_of c.in-Try.is)) c.trial.ensures.unmade
+
+pub unreachable-requires : goal.unreachable-requires
+unreachable-requires g c = elim c.in-Report.is [
+  | inl e ↦ c.requires.alone e
+  | inr e ↦ c.requires.told (string_bytes e.0) (ap asked_of e.1)
+]
