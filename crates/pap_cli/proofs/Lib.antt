@@ -3,6 +3,8 @@ mod FrontLemmas
 mod AdmissionLemmas
 mod ScriptLemmas
 mod SampleLemmas
+mod SaveLemmas
+mod SaveLawLemmas
 mod TaxLemmas
 mod LeavesLemmas
 mod LineLemmas

@@ -15,7 +15,7 @@ use Rattle.payroll_records.proofs.Laws.{values_once}
 use Rattle.std.specs.Fmt.{decimal as number}
 use Rattle.std.proofs.lemmas.Fmt.{decimal_injective, parse-decimal}
 use Rattle.std.specs.Str.Parse.{ParsesUnsigned}
-use Rattle.pap_cli.specs.Words.{texts, Form, check, once, run, sample, HasForm, HasSampleForm, IsBad}
+use Rattle.pap_cli.specs.Words.{texts, Form, check, once, run, sample, save, HasForm, HasSampleForm, IsBad}
 use Rattle.pap_cli.specs.WordViews.{AskNoFiles, AskNoSample, IsInRange, IsSampleWord}
 
 -- ---- the words of the program
@@ -43,6 +43,7 @@ command_of (check plan limits) = codes "check"
 command_of (once plan limits values) = codes "once"
 command_of run = codes "run"
 command_of (sample employees) = codes "sample"
+command_of save = codes "save"
 
 -- it is the first word
 begins : (words : List (List ℕ)) (form : Form) → HasForm words form → get_or words 0 [] ≡ command_of form
@@ -50,6 +51,7 @@ begins words (check plan limits) h = ap (λ w. get_or w 0 []) h
 begins words (once plan limits values) h = ap (λ w. get_or w 0 []) h.words_are
 begins words run h = ap (λ w. get_or w 0 []) h
 begins words (sample employees) h = ap (λ w. get_or w 0 []) h.words_are
+begins words save h = ap (λ w. get_or w 0 []) h
 
 one_command : (words : List (List ℕ)) (a b : Form) → HasForm words a → HasForm words b → command_of a ≡ command_of b
 one_command words a b h k = sym (begins words a h) ∙ begins words b k
@@ -97,6 +99,30 @@ sample_once e = cc
 sample_run : codes "sample" ≡ codes "run" → ⊥
 sample_run e = cc
 
+check_save : codes "check" ≡ codes "save" → ⊥
+check_save e = cc
+
+save_check : codes "save" ≡ codes "check" → ⊥
+save_check e = cc
+
+once_save : codes "once" ≡ codes "save" → ⊥
+once_save e = let h : 111 ≡ 115 = ap (λ w. get_or w 0 0) e in omega (arith, h)
+
+save_once : codes "save" ≡ codes "once" → ⊥
+save_once e = let h : 115 ≡ 111 = ap (λ w. get_or w 0 0) e in omega (arith, h)
+
+run_save : codes "run" ≡ codes "save" → ⊥
+run_save e = cc
+
+save_run : codes "save" ≡ codes "run" → ⊥
+save_run e = cc
+
+sample_save : codes "sample" ≡ codes "save" → ⊥
+sample_save e = cc
+
+save_sample : codes "save" ≡ codes "sample" → ⊥
+save_sample e = cc
+
 pub one_form : (words : List (List ℕ)) (a b : Form) → HasForm words a → HasForm words b → a ≡ b
 one_form words (check p l) (check p' l') h k = same_check words p p' l l' h k
 one_form words (once p l vs) (once p' l' vs') h k =
@@ -117,6 +143,15 @@ one_form words run (sample m) h k = absurd (run_sample (one_command words run (s
 one_form words (sample n) (check p' l') h k = absurd (sample_check (one_command words (sample n) (check p' l') h k))
 one_form words (sample n) (once p' l' vs') h k = absurd (sample_once (one_command words (sample n) (once p' l' vs') h k))
 one_form words (sample n) run h k = absurd (sample_run (one_command words (sample n) run h k))
+one_form words save save h k = refl
+one_form words (check p l) save h k = absurd (check_save (one_command words (check p l) save h k))
+one_form words save (check p l) h k = absurd (save_check (one_command words save (check p l) h k))
+one_form words (once p l vs) save h k = absurd (once_save (one_command words (once p l vs) save h k))
+one_form words save (once p l vs) h k = absurd (save_once (one_command words save (once p l vs) h k))
+one_form words run save h k = absurd (run_save (one_command words run save h k))
+one_form words save run h k = absurd (save_run (one_command words save run h k))
+one_form words (sample n) save h k = absurd (sample_save (one_command words (sample n) save h k))
+one_form words save (sample n) h k = absurd (save_sample (one_command words save (sample n) h k))
 
 -- ---- no form
 
@@ -136,18 +171,20 @@ no_form ws w command (Some vs) is same once_is found e form two h = cc e
 no_form ws w command None is same once_is found e (check p l) two h = not_both (sym (first_text ws w (codes "check") _ is h) ∙ sym same ∙ once_is)
 no_form ws w command None is same once_is found e run two h = two
 no_form ws w command None is same once_is found e (sample n) two h = two
+no_form ws w command None is same once_is found e save two h = two
 no_form ws w command None is same once_is found e (once p l values) two h =
     let whole : take (length ws - 3) (drop 3 ws) ≡ drop 3 ws = take_all (length ws - 3) (drop 3 ws) (omega (arith, length-drop 3 ws)) in
     found values (subst (λ r. AreValueWords r values) (sym (ap (λ l. drop 3 l) h.words_are) ∙ drop_texts 3 ws ∙ ap texts (sym whole)) h.values_are)
 
 -- ---- all forms
 
--- the words ask for no answer on two files, they aren't `run`, and they ask for no sample
-pub no_form_at_all : (words : List (List ℕ)) → AskNoFiles words → ¬ (words ≡ codes "run" ∷ []) → AskNoSample words → IsBad words
-no_form_at_all words none other no_sample (check p l) h = none (check p l) tt h
-no_form_at_all words none other no_sample (once p l values) h = none (once p l values) tt h
-no_form_at_all words none other no_sample run h = other h
-no_form_at_all words none other no_sample (sample n) h = no_sample n h
+-- the words ask for no answer on two files, they are neither `run` nor `save`, and they ask for no sample
+pub no_form_at_all : (words : List (List ℕ)) → AskNoFiles words → ¬ (words ≡ codes "run" ∷ []) → ¬ (words ≡ codes "save" ∷ []) → AskNoSample words → IsBad words
+no_form_at_all words none other unsaved no_sample (check p l) h = none (check p l) tt h
+no_form_at_all words none other unsaved no_sample (once p l values) h = none (once p l values) tt h
+no_form_at_all words none other unsaved no_sample run h = other h
+no_form_at_all words none other unsaved no_sample (sample n) h = no_sample n h
+no_form_at_all words none other unsaved no_sample save h = unsaved h
 
 -- the only word
 one_item : {X : Type 0} (xs : List X) (x : X) → 1 ≤ length xs → length xs < 2 → x ≡ get_or xs 0 x → xs ≡ x ∷ []

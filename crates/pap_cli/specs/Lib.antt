@@ -3,6 +3,9 @@ pub mod AnswerViews
 pub mod ScriptClauses
 pub mod SampleAnswers
 pub mod SampleClauses
+pub mod SaveAnswers
+pub mod SaveViews
+pub mod SaveClauses
 pub mod SampleViews
 pub mod CallClauses
 pub mod FileClauses

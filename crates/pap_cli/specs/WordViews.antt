@@ -7,7 +7,7 @@ use Rattle.pap_cli.specs.declared.words.Request.{Request}
 use Rattle.pap_cli.specs.declared.words.Request.TheVariants as requests
 use Rattle.pap_cli.specs.declared.words.Command.{Command}
 use Rattle.pap_cli.specs.declared.words.Command.TheVariants.{Check, Once}
-use Rattle.pap_cli.specs.Words.{Form, check, once, run, sample, HasForm}
+use Rattle.pap_cli.specs.Words.{Form, check, once, run, sample, save, HasForm}
 
 abbrev pub form_by : Command → List ℕ → List ℕ → Form
 form_by Check plan limits = check plan limits
@@ -20,6 +20,7 @@ abbrev pub form_of : Request → Form
 form_of (requests.Files request) = form_on_files request
 form_of requests.Run = run
 form_of (requests.Sample employees) = sample employees
+form_of requests.Save = save
 
 -- an answer on the file of a plan and a range file is asked for, and no script is read
 abbrev pub IsOnFiles : Form → Type 0
@@ -27,6 +28,7 @@ IsOnFiles (check plan limits) = ⊤
 IsOnFiles (once plan limits values) = ⊤
 IsOnFiles run = ⊥
 IsOnFiles (sample employees) = ⊥
+IsOnFiles save = ⊥
 
 -- the source's script is read
 abbrev pub ReadsScript : Form → Type 0
@@ -34,6 +36,7 @@ ReadsScript (check plan limits) = ⊥
 ReadsScript (once plan limits values) = ⊥
 ReadsScript run = ⊤
 ReadsScript (sample employees) = ⊥
+ReadsScript save = ⊤
 
 -- a number of employees of a sample
 pub record IsInRange (employees : ℕ) : Type 0 where

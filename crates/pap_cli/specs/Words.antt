@@ -24,6 +24,8 @@ pub data Form : Type 0 where
   run : Form
   -- sample N
   sample : ℕ → Form
+  -- save
+  save : Form
 
 pub record HasOnceForm (words : List (List ℕ)) (plan limits : List ℕ) (values : List NamedValue) : Type 0 where
   pub rest : List (List ℕ)
@@ -42,6 +44,7 @@ HasForm words (check plan limits) = words ≡ codes "check" ∷ plan ∷ limits 
 HasForm words (once plan limits values) = HasOnceForm words plan limits values
 HasForm words run = words ≡ codes "run" ∷ []
 HasForm words (sample employees) = HasSampleForm words employees
+HasForm words save = words ≡ codes "save" ∷ []
 
 -- the words have no form
 abbrev pub IsBad : List (List ℕ) → Type 0

@@ -14,6 +14,7 @@ ghost use Rattle.pap_cli.specs.Laws.{WordsGiveKeptValues};
 use crate::Status;
 use crate::answer::answer;
 use crate::sample::sample;
+use crate::save::save;
 use crate::stop::Stop;
 use crate::words::{Request, read_words};
 use outside::{Files, Sink, Source};
@@ -54,8 +55,9 @@ fn script_status(ended: Result<bool, ScriptStop>) -> Status
 ///
 /// The forms of the words are `check PLAN LIMITS`, which says whether the flowchart of the file PLAN is accepted with the
 /// ranges of the file LIMITS, `once PLAN LIMITS NAME=VALUE ..`, which runs it once on these inputs, `run`, which carries out
-/// the script that the source gives, line by line, and `sample N`, which runs a generated script of N employees in memory and
-/// writes what came of it. All other words are [`Status::BadWords`]. Running out of memory is [`Status::NoMemory`], whatever the
+/// the script that the source gives, line by line, `sample N`, which runs a generated script of N employees in memory and
+/// writes what came of it, and `save`, which carries out a script as `run` does, writes none of its answers, and then writes its
+/// last book as a text. All other words are [`Status::BadWords`]. Running out of memory is [`Status::NoMemory`], whatever the
 /// words are.
 pub fn papcalc<F: Files, R: Source, W: Sink, L: Ledger>(
     alloc: Global,
@@ -81,7 +83,7 @@ pub fn papcalc<F: Files, R: Source, W: Sink, L: Ledger>(
     ensures write_fault { result ≡ Status.WriteFault
         → Rose (W.faults sink.old) (W.faults sink.new) }
 
-    // The files are only read, and by a sample not even that. Only `run` touches the source.
+    // The files are only read, and by a sample not even that. Only `run` and `save` touch the source.
     ensures files_same { F.told files.new ≡ F.told files.old }
     ensures source_same { (form : Form) → HasForm (texts words.now) form
         → ¬ (ReadsScript form) → source.new ≡ source.old }
@@ -118,6 +120,7 @@ pub fn papcalc<F: Files, R: Source, W: Sink, L: Ledger>(
         Ok(Some(Request::Files(request))) => status(answer(alloc, request, files, sink, steps)),
         Ok(Some(Request::Run)) => script_status(run(alloc, files, source, sink, steps)),
         Ok(Some(Request::Sample(employees))) => status(sample(alloc, employees, sink, steps)),
+        Ok(Some(Request::Save)) => script_status(save(alloc, files, source, sink, steps)),
         Ok(None) => Status::BadWords,
         Err(_) => Status::NoMemory,
     }

@@ -19,6 +19,8 @@ pub(crate) enum Request<'a> {
     Run,
     /// `sample N`, with the number of employees.
     Sample(u32),
+    /// `save`
+    Save,
 }
 
 /// An answer on the file of a plan and a range file.
@@ -43,8 +45,11 @@ pub(crate) fn read_words(alloc: Global, words: &[String]) -> Result<Option<Reque
     ensures { IfOk result (λ found. MatchOption found (IsBad (texts words.now))
         (λ request. HasForm (texts words.now) (form_of request))) }
 {
-    if is_run(words) {
+    if is_command(words, "run") {
         return Ok(Some(Request::Run));
+    }
+    if is_command(words, "save") {
+        return Ok(Some(Request::Save));
     }
     if let Some(employees) = read_sample(alloc, words)? {
         return Ok(Some(Request::Sample(employees)));
@@ -55,12 +60,12 @@ pub(crate) fn read_words(alloc: Global, words: &[String]) -> Result<Option<Reque
     }
 }
 
-/// Whether the words are `run`.
-fn is_run(words: &[String]) -> bool
-    ensures { IsTrue result ↔ (texts words.now ≡ codes "run" ∷ []) }
+/// Whether the words are this command alone.
+fn is_command(words: &[String], name: &str) -> bool
+    ensures { IsTrue result ↔ (texts words.now ≡ name.now ∷ []) }
 {
     match words {
-        [command] => command.as_str() == "run",
+        [command] => command.as_str() == name,
         _ => false,
     }
 }

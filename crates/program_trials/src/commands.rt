@@ -44,6 +44,8 @@ once a.xml l.toml N=x => (BadWords)
 once a.xml l.toml N=1 N=2 => (BadWords)
 run x => (BadWords)
 run => (Done)
+save x => (BadWords)
+save => papbook 1 / work 0 0 / plans 0 / runs 0 / end (Done)
 sample 1 => lines 15 / records 12 / runs 22 / steps 487 / LST 10500 (Done)
 sample => (BadWords)
 sample 0 => (BadWords)
@@ -62,7 +64,8 @@ check l.toml l.toml => l.toml:1:1: at `[input.N]` stands text outside of a tag; 
 check a.xml a.xml => a.xml:1:1: the range file is not valid TOML: invalid key, expected letters, numbers, `-`, `_` or a quoted key
 check nofile l.toml => -
 check => -
-sample 1 => -"#;
+sample 1 => -
+save => -"#;
 
 /// Assignments of a flowchart, each as its file has it, and the reason why the flowchart is refused, without what helps.
 const REASONED: &str =
