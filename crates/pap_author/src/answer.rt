@@ -73,13 +73,7 @@ fn answer_chart<F: Files>(
 /// A range file to begin with.
 fn answer_ranges<F: Files>(alloc: Global, name: &str, files: &mut F) -> Result<Answer, FileAnswer> {
     let plan = files.read_front(alloc, name, LONGEST_PLAN)?;
-    Ok(ranges_of(
-        alloc,
-        TextFile {
-            name,
-            bytes: &plan,
-        },
-    )?)
+    Ok(ranges_of(alloc, TextFile { name, bytes: &plan })?)
 }
 
 /// A range file for a plan's bytes, or the line of its refusal where it isn't read.
