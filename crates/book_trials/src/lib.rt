@@ -7,5 +7,3 @@ mod books;
 mod lines;
 #[cfg(test)]
 mod records;
-#[cfg(test)]
-mod trials;

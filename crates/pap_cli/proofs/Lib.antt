@@ -2,10 +2,6 @@ mod WordLemmas
 mod FrontLemmas
 mod AdmissionLemmas
 mod ScriptLemmas
-mod SampleLemmas
-mod SaveLemmas
-mod SaveLawLemmas
-mod TaxLemmas
 mod LeavesLemmas
 mod LineLemmas
 mod RunLemmas

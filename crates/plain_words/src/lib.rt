@@ -1,15 +1,12 @@
 //! What is wrong with a plan, its range file or the inputs of a run, in plain words for the one who writes them.
 #![tactic(auto)]
 
-mod advice;
-mod attributes;
 mod counting;
 mod elements;
 mod expressions;
 mod kinds;
-mod lines;
 mod methods;
-mod operands;
+mod one_line;
 mod ordinal;
 mod place;
 mod plan;
@@ -22,7 +19,6 @@ mod statements;
 mod tags;
 
 pub use counting::position;
-pub use lines::one_line;
-pub use place::{Position, TextFile};
+pub use place::Position;
 pub use plan::plan_words;
 pub use state::state_words;

@@ -5,4 +5,3 @@ pub mod Stops
 pub mod RunClauses
 pub mod RunViews
 pub mod Samples
-pub mod SampleFiles

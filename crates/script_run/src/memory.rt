@@ -1,10 +1,10 @@
 //! A script run in memory, by the code that runs a script over the outside.
-ghost use Rattle.std.specs.Prelude.{◌≢◌, ◌≤◌, length, All, AllPairs, IfOk, OnErr};
+ghost use Rattle.std.specs.Prelude.{◌≢◌, ◌≤◌, length, All, AllPairs, IfOk};
 ghost use Rattle.outside.specs.Memory.{named_files, file_named};
 ghost use Rattle.script_steps.specs.Steps.{AreThere};
 ghost use Rattle.script_run.specs.Limits.{most_script};
 ghost use Rattle.script_run.specs.Transcripts.{lines_of};
-ghost use Rattle.script_run.specs.RunClauses.{IsFinished, IsSpentWithin};
+ghost use Rattle.script_run.specs.RunClauses.{IsFinished};
 
 use crate::MOST_TURN;
 use crate::stop::Stop;
@@ -15,7 +15,7 @@ use std::sync::ledger::Ledger;
 use steps::Steps;
 
 /// Runs a script over files in memory, and writes its answers nowhere. Nothing can fail but memory, since
-/// each line names files that are there. The counter rises by the script's steps; where memory runs out, by at most these.
+/// each line names files that are there.
 pub fn run_in_memory<L: Ledger>(
     alloc: Global,
     files: Vec<(String, Vec<u8>)>,
@@ -26,15 +26,13 @@ pub fn run_in_memory<L: Ledger>(
     requires there { All (λ line. AreThere (file_named (named_files files.items)) line)
         (lines_of script.items) }
     requires short { length script.items ≤ most_script }
-    ensures ok { IfOk result (λ ended. IsFinished (file_named (named_files files.items))
-        script.items steps.old steps.new ended) }
-    ensures memory { OnErr result (IsSpentWithin (file_named (named_files files.items))
-        script.items steps.old steps.new) }
+    ensures { IfOk result (λ ended. IsFinished (file_named (named_files files.items)) script.items
+        steps.old steps.new ended) }
 {
     let mut files = SureFiles::new(files);
     let mut source = SureSource::new(script, MOST_TURN);
     let mut sink = SureSink::new();
-    match run_to_end(alloc, None, &mut files, &mut source, &mut sink, steps) {
+    match run_to_end(alloc, &mut files, &mut source, &mut sink, steps) {
         Ok(ended) => Ok(ended),
         Err(Stop::Memory) => Err(AllocError),
         Err(Stop::File) => unreachable!(),

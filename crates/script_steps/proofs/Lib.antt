@@ -10,5 +10,3 @@ mod StepLemmas
 mod WriteLemmas
 mod TableLemmas
 mod PlanLemmas
-mod TrialLemmas
-mod OpenLemmas

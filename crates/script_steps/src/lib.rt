@@ -5,7 +5,6 @@ mod command;
 mod edits;
 mod filings;
 mod load;
-mod open;
 mod plan;
 mod refusals;
 mod reply;
@@ -14,7 +13,6 @@ mod script;
 mod step;
 mod stop;
 mod trace;
-mod trial;
 
 pub use script::Script;
 pub use step::{answer_line, step_laws};

@@ -3,16 +3,15 @@ ghost use Rattle.std.specs.Prelude.{◌≡◌};
 ghost use Rattle.script_steps.specs.Standings.{start};
 
 use correction_ledger::Ledger;
-use recalc_engine::{Book, Work};
+use recalc_engine::Book;
 use std::alloc::Global;
 use std::marker::Model;
 
-/// What the lines of a script have made so far: a book, what was filed of it, and the work of all edits that were accepted.
+/// What the lines of a script have made so far: a book, and what was filed of it.
 #[derive(Drop)]
 pub struct Script {
     pub(crate) book: Book,
     pub(crate) ledger: Ledger,
-    pub(crate) made: Work,
 }
 
 impl Model for Script {
@@ -27,7 +26,7 @@ impl Model for Script {
       body_code (Prim.hlevel codes) (Prim.hlevel codes) (Prim.hlevel codes),
     ) };
 
-    ghost view = { λ s. record { book = s.book; filings = s.ledger; made = s.made } };
+    ghost view = { λ s. record { book = s.book; filings = s.ledger } };
 }
 
 impl Script {
@@ -38,7 +37,6 @@ impl Script {
         Script {
             book: Book::new(alloc),
             ledger: Ledger::new(alloc),
-            made: Work { runs: 0, steps: 0 },
         }
     }
 
@@ -47,19 +45,5 @@ impl Script {
         ensures { result.now ≡ self.now.book }
     {
         &self.book
-    }
-
-    /// What was filed of it.
-    pub fn ledger(&self) -> &Ledger
-        ensures { result.now ≡ self.now.filings }
-    {
-        &self.ledger
-    }
-
-    /// The runs and the steps of all edits that were accepted, each no more than the greatest number of 64 bits.
-    pub fn made(&self) -> Work
-        ensures { result ≡ self.now.made }
-    {
-        self.made
     }
 }
