@@ -1,11 +1,23 @@
-# `make look` runs the program on an example without a proof; `make demo` proves and builds build/papcalc and runs that;
-# `make test` is the whole gate.
-.PHONY: build look demo test rows wrong-bodies decimal-tool bench-decimal bench-machine bench-plan bench-intervals check-java
+# `make look` runs the program on an example without a proof; `make build` proves and builds build/papcalc, `make demo` runs
+# that on the examples; `make install` puts it and its manual page under PREFIX; `make test` is the whole gate.
+.PHONY: build author look demo install uninstall test rows client-java wrong-bodies decimal-tool bench-decimal bench-machine bench-plan \
+    bench-intervals bench-processes bench-names check-java
 
+PREFIX ?= /usr/local
+
+# The crates below the program are proved side by side, on as many processors as there are; JOBS=N says otherwise.
 build:
+	python3 tools/build.py $(JOBS)
 	cd crates/papcalc && rt run -- --version
 	mkdir -p build
 	cp crates/papcalc/out/papcalc build/papcalc
+
+# The companion program for authors of flowcharts: build/pap_author draws a flowchart as a page, and begins a range file.
+author:
+	python3 tools/build.py "$(JOBS)" pap_author
+	cd crates/pap_author && rt run -- --version
+	mkdir -p build
+	cp crates/pap_author/out/pap_author build/pap_author
 
 # Proves nothing and keeps nothing: the kit compiles the program with tests at run time and prints what it wrote.
 look:
@@ -17,13 +29,29 @@ demo: build
 	build/papcalc once examples/payroll_tax.xml examples/payroll_tax.toml PERIOD=2 PAY=450000 TAX_CLASS=1
 	build/papcalc run < examples/month.script
 
+# The program that `make build` made, and its manual page. DESTDIR stands before PREFIX, for packages.
+install:
+	@test -x build/papcalc || { echo 'install: there is no build/papcalc yet: make build makes it' >&2; exit 1; }
+	install -D -m 755 build/papcalc '$(DESTDIR)$(PREFIX)/bin/papcalc'
+	install -D -m 644 docs/papcalc.1 '$(DESTDIR)$(PREFIX)/share/man/man1/papcalc.1'
+
+uninstall:
+	rm -f '$(DESTDIR)$(PREFIX)/bin/papcalc' '$(DESTDIR)$(PREFIX)/share/man/man1/papcalc.1'
+
 test:
 	bash .ci/run
 
+# The client in Java (needs a JDK) says the same as that in Python.
+client-java:
+	python3 examples/clients/client.py build/papcalc > build/client-python
+	java examples/clients/Client.java build/papcalc > build/client-java
+	cmp build/client-python build/client-java
+	cat build/client-java
+
 # The worked examples that lie beside the repository in development, on the built program.
 rows: build
-	python3 ../shared/run_rows.py --bin "$(CURDIR)/build/papcalc" --stage 20 --words check,once,run \
-	    --lines plan,drop,add,change,withdraw,load,report,work,trace,file,owed --prefixes
+	python3 ../shared/run_rows.py --bin "$(CURDIR)/build/papcalc" --stage 20 --words check,once,run,sample,save \
+	    --lines plan,drop,add,change,withdraw,load,report,work,trace,file,owed,open,try --prefixes
 	python3 tools/call_rows.py build/papcalc ../shared/rows/calls.json
 
 # Tries the wrong bodies that stand outside the gate, of all crates or of those of CRATES="a b".
@@ -67,3 +95,14 @@ bench-plan: build
 # Nanoseconds of each operation on intervals.
 bench-intervals:
 	tools/bench.sh interval_bench intervals
+
+# Pay runs a second with 1, 2 and 4 processes, each with a table of its own of 49,992 runs.
+bench-processes: build
+	python3 tools/bench_processes.py build/papcalc
+
+# Seconds of `check` on a flowchart whose names collide, and on the same with other names; DOUBLINGS=N has their statements executed 2^N
+# times (needs a JDK).
+bench-names: build
+	java tools/CollidingNames.java build $(DOUBLINGS)
+	bash -c 'time build/papcalc check build/spread.xml build/spread.toml > build/spread'
+	bash -c 'time build/papcalc check build/collide.xml build/collide.toml > build/collide'

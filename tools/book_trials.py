@@ -2,7 +2,8 @@
 """Random books on the built program: book_trials.py PROGRAM.
 
 After a random script of edits, refused ones among them, the report is that of a book made anew from the runs and plans that are left.
-The last values that a trace puts are the reported ones. What was filed and what is owed add up to the report."""
+The last values that a trace puts are the reported ones. What was filed and what is owed add up to the report. A trial of a plan tells what
+differs between the reports before and after it is put, and its work."""
 import os
 import random
 import subprocess
@@ -142,6 +143,35 @@ def adds_up(rng):
     return "refused file" not in "\n".join(said) and all(total.get(key, 0) == values.get(key, 0) for key in keys)
 
 
+def states(lines):
+    """The runs of a report in order: what their state is, with its outputs or the name that it tells, whatever their plan."""
+    first = lines.index("employee,month,day,plan,state,name,value") + 1
+    found = {}
+    for employee, _, day, _, state, name, value in (line.split(",") for line in lines[first:lines.index("end", first)]):
+        found.setdefault((employee, day), []).append((state, name, value))
+    return found
+
+
+def is_tried(rng):
+    """A trial against the reports before and after the same plan is put."""
+    book, _, _ = random_book(rng, 30)
+    day, name = random_day(rng), f"p{rng.randrange(len(PLANS))}"
+    script = book.script()
+    tried = answers(script + [f"try {day} {name}.xml {name}.toml"])[len(script):]
+    before = states(answers(script + ["report"]))
+    put = answers(script + [f"plan {day} {name}.xml {name}.toml", "work", "report"])[len(script):]
+    after, wanted = states(put), [put[0]]
+    for run in before:
+        was, now = before[run], after[run]
+        if was == now:
+            continue
+        wanted.append(f"changed {run[0]} {run[1]} {was[0][0]} {now[0][0]}")
+        old, new = ({name: value for state, name, value in rows if state == "ok"} for rows in (was, now))
+        wanted += [f"value {run[0]} {run[1]} {name} {old.get(name, '-')} {new.get(name, '-')}"
+                   for name in sorted(old.keys() | new.keys()) if old.get(name) != new.get(name)]
+    return tried == wanted + [put[1].replace("work", "would")]
+
+
 program = os.path.abspath(sys.argv[1])
 passed, failed = 0, 0
 with tempfile.TemporaryDirectory() as folder:
@@ -151,7 +181,7 @@ with tempfile.TemporaryDirectory() as folder:
             plan.write(PLAN.replace("RATE", rate).replace("PLACES", places))
             limits.write(LIMITS)
     for seed in range(40):
-        for trial in (is_made_anew, is_traced, adds_up):
+        for trial in (is_made_anew, is_traced, adds_up, is_tried):
             if trial(random.Random(seed)):
                 passed += 1
             else:

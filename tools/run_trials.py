@@ -1,7 +1,7 @@
 #!/usr/bin/env python3
 """What `papcalc run` does with real streams: run_trials.py PROGRAM, from the top of the repository.
 
-What README.md shows is what comes. A script in pieces of any size has the same answers; an answer comes before the next line is there; and each fault of the outside has
+A script in pieces of any size has the same answers; an answer comes before the next line is there; and each fault of the outside has
 its status, with exactly the answers that it leaves."""
 import os
 import subprocess
@@ -49,37 +49,12 @@ def answers_before_the_next_line():
 
 
 program = os.path.abspath(sys.argv[1])
-def shown(command):
-    """What README.md shows of a command, up to the end of its block or the next command."""
-    lines = open("README.md").read().split(f"$ build/papcalc {command}\n")[1].split("\n")
-    ends = [at for at, line in enumerate(lines) if line.startswith(("```", "$ "))]
-    return "\n".join(lines[:ends[0]]) + "\n"
-
-
-def answers_as_shown(command):
-    words, _, script = command.partition(" < ")
-    text = open(script, "rb").read() if script else b""
-    done = subprocess.run([program, *words.split()], input=text, capture_output=True, timeout=60)
-    answers = done.stdout.decode().splitlines()
-    for part in shown(command).split("..\n"):
-        wanted = part.splitlines()
-        starts = [at for at in range(len(answers) + 1) if answers[at:at + len(wanted)] == wanted]
-        if not starts:
-            return False
-        answers = answers[starts[0] + len(wanted):]
-    return not answers
-
-
 whole = run(SCRIPT)
 check("the month's script ends well", whole[0] == 0)
 check("the month's last edit ran one run", b"\nwork 1 " in whole[1])
 check("pieces of 1 byte", run_in_pieces(SCRIPT, 1) == whole)
 check("pieces of 7 bytes", run_in_pieces(SCRIPT, 7) == whole)
 check("an answer comes before the next line", answers_before_the_next_line())
-for command in ["check examples/payroll_tax.xml examples/payroll_tax.toml",
-                "once examples/payroll_tax.xml examples/payroll_tax.toml PERIOD=2 PAY=450000 TAX_CLASS=1",
-                "run < examples/month.script", "run < examples/correction.script"]:
-    check(f"README.md's {command}", answers_as_shown(command))
 check("no script", run(b"") == (0, b""))
 check("a last line without LF", run(b"work") == (0, b"work 0 0\n"))
 check("a CR before LF", run(b"work\r\nwork") == (0, b"work 0 0\nwork 0 0\n"))

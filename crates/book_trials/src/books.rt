@@ -17,7 +17,7 @@ use steps::Steps;
 use trial_rows::sides;
 
 /// A tenth of the pay, and the sum of these tenths in the calendar year. A run takes 11 steps.
-const PLAN: &str = r#"<PAP><INTERFACE>
+pub(crate) const PLAN: &str = r#"<PAP><INTERFACE>
 <INPUTS><INPUT name="PAY" type="BigDecimal"/><INPUT name="BEFORE" type="BigDecimal"/></INPUTS>
 <OUTPUTS><OUTPUT name="TAX" type="BigDecimal"/><OUTPUT name="TOTAL" type="BigDecimal"/></OUTPUTS>
 </INTERFACE><METHODS><MAIN>
@@ -26,7 +26,7 @@ const PLAN: &str = r#"<PAP><INTERFACE>
 </MAIN></METHODS></PAP>"#;
 
 /// The range file of the plan.
-const LIMITS: &str = r#"[input.PAY]
+pub(crate) const LIMITS: &str = r#"[input.PAY]
 low = 0
 high = 1000000
 places = 0
@@ -39,7 +39,7 @@ kind = "sum"
 output = "TAX""#;
 
 /// The pay, how many runs came before it in the calendar year, and what the last of them paid. A run takes 7 steps.
-const CARRYING_PLAN: &str = r#"<PAP><INTERFACE>
+pub(crate) const CARRYING_PLAN: &str = r#"<PAP><INTERFACE>
 <INPUTS><INPUT name="PAY" type="BigDecimal"/><INPUT name="COUNT" type="int"/><INPUT name="LAST" type="BigDecimal"/></INPUTS>
 <OUTPUTS><OUTPUT name="PAID" type="BigDecimal"/><OUTPUT name="BEFORE" type="int"/><OUTPUT name="PRIOR" type="BigDecimal"/></OUTPUTS>
 </INTERFACE><METHODS><MAIN>
@@ -47,7 +47,7 @@ const CARRYING_PLAN: &str = r#"<PAP><INTERFACE>
 </MAIN></METHODS></PAP>"#;
 
 /// The range file of the plan that carries.
-const CARRYING_LIMITS: &str = r#"input.PAY = { low = 0, high = 1000000, places = 0 }
+pub(crate) const CARRYING_LIMITS: &str = r#"input.PAY = { low = 0, high = 1000000, places = 0 }
 input.COUNT = { low = 0, high = 366, places = 0 }
 input.LAST = { low = 0, high = 1000000, places = 0 }
 bind.COUNT = { kind = "count" }

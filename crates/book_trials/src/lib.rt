@@ -7,3 +7,5 @@ mod books;
 mod lines;
 #[cfg(test)]
 mod records;
+#[cfg(test)]
+mod trials;

@@ -20,15 +20,19 @@ work => work
 trace E1 2025-01 => trace
 trace E1 2025-01-31 => trace
 file 2025-01 => file
-owed => owed"#;
+owed => owed
+open saved.book => open
+try 2025-01-01 a.xml b.toml => try"#;
 
 /// Lines with the text of their fault.
 const FAULTS: &str =
-    r#"Report => the first word is no command: plan, drop, add, change, withdraw, load, report, work, trace, file or owed
-plans x => the first word is no command: plan, drop, add, change, withdraw, load, report, work, trace, file or owed
+    r#"Report => the first word is no command: plan, drop, add, change, withdraw, load, report, work, trace, file, owed, open or try
+plans x => the first word is no command: plan, drop, add, change, withdraw, load, report, work, trace, file, owed, open or try
 report now => the command takes other words: their number is wrong, or a file's name is not at most 255 visible ASCII characters
 plan x a.xml => the command takes other words: their number is wrong, or a file's name is not at most 255 visible ASCII characters
 plan x a.xml b.toml c => the command takes other words: their number is wrong, or a file's name is not at most 255 visible ASCII characters
+try x a.xml => the command takes other words: their number is wrong, or a file's name is not at most 255 visible ASCII characters
+open a b => the command takes other words: their number is wrong, or a file's name is not at most 255 visible ASCII characters
 plan x ä b.toml => the command takes other words: their number is wrong, or a file's name is not at most 255 visible ASCII characters
 add ? 2025-01 => the command takes other words: their number is wrong, or a file's name is not at most 255 visible ASCII characters
 withdraw ? => the command takes other words: their number is wrong, or a file's name is not at most 255 visible ASCII characters
@@ -39,6 +43,7 @@ withdraw E1 2025-13 => the month is not of the form YYYY-MM, or not of the years
 withdraw E1 2025-1- => the month is not of the form YYYY-MM, or not of the years 1900 to 2999
 withdraw E1 2025-02-30 => the day is not of the form YYYY-MM-DD, not in the calendar or not in the month
 withdraw E1 2025-1 => the day is not of the form YYYY-MM-DD, not in the calendar or not in the month
+try 2025-01 a.xml b.toml => the day is not of the form YYYY-MM-DD, not in the calendar or not in the month
 drop 2025-01 => the day is not of the form YYYY-MM-DD, not in the calendar or not in the month
 add E1 2025-01 2025-02-01 y => the day is not of the form YYYY-MM-DD, not in the calendar or not in the month
 add E1 2025-01 2025-01-31 N => word 5 is not of the form NAME=VALUE with a name and a number
@@ -51,7 +56,7 @@ change E1 2025-01 2025-01-31 N=1 M=1 N=2 M=x => an earlier word gives N a value 
 const WHITE_SPACE: &str = " \t  => nothing
 \t#add E1 => nothing
 \tplan  2025-01-01\t\ta.xml b.toml  => plan
-report\r => the first word is no command: plan, drop, add, change, withdraw, load, report, work, trace, file or owed
+report\r => the first word is no command: plan, drop, add, change, withdraw, load, report, work, trace, file, owed, open or try
 load a\r => the command takes other words: their number is wrong, or a file's name is not at most 255 visible ASCII characters";
 
 /// Lines at each limit and one past it.
@@ -77,6 +82,8 @@ fn first_word(command: &Command) -> &'static str {
         Command::Trace { .. } => "trace",
         Command::File { .. } => "file",
         Command::Owed => "owed",
+        Command::Open { .. } => "open",
+        Command::Try { .. } => "try",
     }
 }
 

@@ -24,8 +24,10 @@ use Rattle.pap_cli.specs.FileClauses.{Answering, AnswersFiles, IsCounted, Leaves
 use Rattle.plan_answers.specs.Fronts.{AreFronts, IsMissing}
 use Rattle.pap_cli.specs.FileViews.{shown}
 use Rattle.pap_cli.specs.CallClauses.{Leaves, Headline, Carries}
-use Rattle.pap_cli.specs.Words.{Form, check, once, run}
+use Rattle.pap_cli.specs.Words.{Form, check, once, run, sample, save}
 use Rattle.pap_cli.proofs.ScriptLemmas.{script_none}
+use Rattle.pap_cli.proofs.SampleLemmas.{sample_none}
+use Rattle.pap_cli.proofs.SaveLemmas.{save_none}
 use Rattle.pap_cli.specs.WordViews.{form_by}
 use Rattle.pap_cli.proofs.FrontLemmas.{answers_both}
 
@@ -237,11 +239,15 @@ leaves_none : (form : Form) (o : Outside) → Leaves form o o NoMemory
 leaves_none (check plan limits) o = leaves_form Check plan limits o o NoMemory (leaves_memory CheckAnswers plan limits o.files o.files o.failed o.failed o.written o.steps o.steps refl (omega arith) (λ files e. inl refl))
 leaves_none (once plan limits values) o = leaves_form (Once values) plan limits o o NoMemory (leaves_memory (OnceAnswers values) plan limits o.files o.files o.failed o.failed o.written o.steps o.steps refl (omega arith) (λ files e. inl refl))
 leaves_none run o = script_none o
+leaves_none (sample employees) o = sample_none employees o
+leaves_none save o = save_none o
 
 headline_none : (form : Form) (o : Outside) → Headline form o o NoMemory
 headline_none (check plan limits) o = λ files t written w memory. absurd (memory refl)
 headline_none (once plan limits values) o = λ files t written w memory. absurd (memory refl)
 headline_none run o = λ files t script s written w short memory. absurd (memory refl)
+headline_none (sample employees) o = λ written w memory. absurd (memory refl)
+headline_none save o = λ files t script s written w short memory. absurd (memory refl)
 
 pub carries_none : (form : Form) (o : Outside) → Carries form o o NoMemory
 carries_none form o = record { leaves = leaves_none form o; headline = headline_none form o }

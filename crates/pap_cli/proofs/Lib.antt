@@ -2,6 +2,10 @@ mod WordLemmas
 mod FrontLemmas
 mod AdmissionLemmas
 mod ScriptLemmas
+mod SampleLemmas
+mod SaveLemmas
+mod SaveLawLemmas
+mod TaxLemmas
 mod LeavesLemmas
 mod LineLemmas
 mod RunLemmas

@@ -1,6 +1,7 @@
 -- Whether the answer on two texts is a refusal.
-use Rattle.std.proofs.Common.{◌≡◌, ◌≢◌, ℕ, Bool, true, false, List, [], refl, sym, ap, ◌∙◌, subst}
-use Rattle.std.specs.Prelude.{Ok, Err}
+use Rattle.std.proofs.Common.{◌≡◌, ◌≢◌, ◌<◌, ◌≤◌, ℕ, Bool, true, false, List, [], ◌∷◌, length, get_or, refl, sym, ap, ◌∙◌, subst, arith}
+use Rattle.std.specs.Prelude.{Ok, Err, Vec}
+use Rattle.std.specs.declared.alloc.Global.{Global}
 use Rattle.scaled_decimal.specs.Decimals.{Decimal}
 use Rattle.pap_tree.specs.Flowchart.{Flowchart}
 use Rattle.payroll_records.specs.declared.values.NamedValue.{NamedValue}
@@ -11,7 +12,6 @@ use Rattle.carry_bindings.specs.declared.filling.Blocked.TheVariants as blocked
 use Rattle.carry_bindings.specs.Filling.{filled_by}
 use Rattle.limits_file.specs.declared.slots.Slot.{Slot}
 use Rattle.pap_plan.specs.Inputs.{AreSlots}
-use Rattle.outside.specs.Told.{FileMap}
 use Rattle.pap_plan.specs.declared.refusal.PlanRefusal.{PlanRefusal}
 use Rattle.pap_plan.specs.declared.refusal.PlanRefusal.TheVariants as refusals
 use Rattle.pap_plan.specs.Acceptance.{Meaning, IsRefused as IsRefusedPlan, IsRefusedOrMemory}
@@ -20,17 +20,14 @@ use Rattle.pap_plan.specs.Plans.{Seen, meaning}
 use Rattle.pap_plan.proofs.Laws as plans
 use Rattle.pap_cli.specs.declared.words.Command.{Command}
 use Rattle.pap_cli.specs.declared.words.Command.TheVariants.{Check, Once}
-use Rattle.pap_cli.specs.Words.{HasForm}
-use Rattle.pap_cli.specs.WordViews.{form_by}
+use Rattle.pap_cli.specs.Words.{Form, check, once, run, HasForm}
+use Rattle.pap_cli.specs.WordViews.{form_by, IsOnFiles}
 use Rattle.plan_answers.specs.Answers.{Answer, IsRefusal, IsChecked, CheckAnswers}
 use Rattle.pap_cli.specs.RunAnswers.{IsRunOn, IsRunOnce, IsOnce, OnceAnswers}
 use Rattle.pap_cli.specs.AnswerViews.{answers_of, IsFilledFrom, TellsRefused}
-use Rattle.pap_cli.specs.CallClauses.{IsRefused}
-use Rattle.pap_cli.specs.FileClauses.{AnswersFiles}
-use Rattle.plan_answers.specs.Fronts.{AreFronts}
+use Rattle.pap_cli.specs.Reasons.{bytes_of, SaysRefused, SaysRefusedOn}
 use Rattle.plan_answers.proofs.Laws.{check_answers}
 use Rattle.pap_cli.proofs.AnswerLemmas.{once_answers, words_kept}
-use Rattle.pap_cli.proofs.FrontLemmas.{answers_both}
 
 refused_by : {a b : Answer} → a ≡ b → b.refused ≡ a.refused
 refused_by e = sym (ap (λ (x : Answer). x.refused) e)
@@ -116,13 +113,47 @@ unfolding HasAnswer
 some_answer Check words plan limits front front' h = (check_answers front front').some
 some_answer (Once values) words plan limits front front' h = (once_answers values (words_kept h.rest values h.values_are) front front').some
 
-refused_form : (c : Command) (plan limits : List ℕ) (files : FileMap) (told : Bool) (a : Answer) → AnswersFiles (answers_of c) plan limits files a → told ≡ a.refused → IsRefused (form_by c plan limits) files told
-refused_form Check plan limits files told a h e = record { answer = a; answers = h; refused = e }
-refused_form (Once values) plan limits files told a h e = record { answer = a; answers = h; refused = e }
-
--- what is told on what was read is told of both files
-pub told_files : (c : Command) (words : List (List ℕ)) (plan limits front front' : List ℕ) (files : FileMap) (told : Bool) → HasForm words (form_by c plan limits) → AreFronts files plan limits front front' → TellsRefused (answers_of c front front') told → IsRefused (form_by c plan limits) files told
+-- there is an answer on two texts
+says_refused : (c : Command) (words : List (List ℕ)) (plan limits bytes ranges : List ℕ) (told : Bool) → HasForm words (form_by c plan limits)
+    → TellsRefused (answers_of c bytes ranges) told → SaysRefused (answers_of c bytes ranges) told
 unfolding HasAnswer
-told_files c words plan limits front front' files told has read t =
-    let a = some_answer c words plan limits front front' has in
-    refused_form c plan limits files told a.0 (answers_both c plan limits front front' files a.0 read a.1) (t a.0 a.1)
+says_refused c words plan limits bytes ranges told has t =
+    let a = some_answer c words plan limits bytes ranges has in
+    record { answer = a.0; is = a.1; refused = t a.0 a.1 }
+
+says_of_form : (c : Command) (plan limits bytes ranges : List ℕ) (more : List (List ℕ)) (told : Bool) → SaysRefused (answers_of c bytes ranges) told
+    → SaysRefusedOn (form_by c plan limits) (bytes ∷ ranges ∷ more) told
+says_of_form Check plan limits bytes ranges more told h = h
+says_of_form (Once values) plan limits bytes ranges more told h = h
+
+-- the bytes of the first two files
+first_two : (given : List (Vec ℕ Global)) (plan limits : Vec ℕ Global) → 2 ≤ length given → plan ≡ get_or given 0 plan → limits ≡ get_or given 1 limits
+    → (more : List (List ℕ)) × (bytes_of given ≡ plan.items ∷ limits.items ∷ more)
+first_two [] plan limits few is is' = absurd (omega arith)
+first_two (a ∷ []) plan limits few is is' = absurd (omega arith)
+first_two (a ∷ b ∷ more) plan limits few is is' = (bytes_of more, cc)
+
+-- what is told on two texts is told on what was given, where they are its first two
+pub told_given : (c : Command) (words : List (List ℕ)) (plan limits : List ℕ) (given : List (Vec ℕ Global)) (bytes ranges : Vec ℕ Global) (told : Bool)
+    → HasForm words (form_by c plan limits) → 2 ≤ length given → bytes ≡ get_or given 0 bytes → ranges ≡ get_or given 1 ranges
+    → TellsRefused (answers_of c bytes.items ranges.items) told → SaysRefusedOn (form_by c plan limits) (bytes_of given) told
+told_given c words plan limits given bytes ranges told has few is is' t =
+    let first = first_two given bytes ranges few is is' in
+    let says = says_refused c words plan limits bytes.items ranges.items told has t in
+    subst (λ g. SaysRefusedOn (form_by c plan limits) g told) (sym first.1) (says_of_form c plan limits bytes.items ranges.items first.0 told says)
+
+-- where no two files were given there is no answer
+pub none_given : (form : Form) (given : List (Vec ℕ Global)) → length given < 2 → SaysRefusedOn form (bytes_of given) false
+none_given (check plan limits) [] few = refl
+none_given (check plan limits) (a ∷ []) few = refl
+none_given (check plan limits) (a ∷ b ∷ more) few = absurd (omega arith)
+none_given (once plan limits values) [] few = refl
+none_given (once plan limits values) (a ∷ []) few = refl
+none_given (once plan limits values) (a ∷ b ∷ more) few = absurd (omega arith)
+none_given _ given few = refl
+
+-- words that ask for no answer on two files
+pub none_asked : (form : Form) (given : List (List ℕ)) → ¬ (IsOnFiles form) → SaysRefusedOn form given false
+none_asked (check plan limits) given not = absurd (not tt)
+none_asked (once plan limits values) given not = absurd (not tt)
+none_asked _ given not = refl

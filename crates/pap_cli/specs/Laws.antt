@@ -1,10 +1,14 @@
 -- What holds of the definitions of words and answers.
 use Rattle.std.specs.Prelude.{◌≡◌, ℕ, List, All}
+use Rattle.outside.specs.Told.{FileMap}
 use Rattle.payroll_records.specs.declared.values.NamedValue.{NamedValue}
 use Rattle.payroll_records.specs.ValueWords.{AreValueWords}
 use Rattle.pap_cli.specs.Words.{Form, HasForm, IsKeptValue}
 use Rattle.plan_answers.specs.Laws.{HasOneAnswer}
+use Rattle.script_steps.specs.Steps.{AreThere}
+use Rattle.script_run.specs.Transcripts.{lines_of}
 use Rattle.pap_cli.specs.RunAnswers.{OnceAnswers}
+use Rattle.pap_cli.specs.SaveAnswers.{IsSaved}
 
 -- words have at most one form
 abbrev pub HaveOneForm : Type 0
@@ -20,3 +24,9 @@ OnceHasOneAnswer =
 abbrev pub WordsGiveKeptValues : Type 0
 WordsGiveKeptValues =
     (words : List (List ℕ)) (values : List NamedValue) → AreValueWords words values → All IsKeptValue values
+
+-- a script whose lines name files that are there has one answer of `save`
+abbrev pub ScriptsHaveOneSave : Type 0
+ScriptsHaveOneSave =
+    (files : FileMap) (script : List ℕ) → All (λ line. AreThere files line) (lines_of script)
+    → HasOneAnswer (IsSaved files script)

@@ -1,6 +1,12 @@
 pub mod RunAnswers
 pub mod AnswerViews
 pub mod ScriptClauses
+pub mod SampleAnswers
+pub mod SampleClauses
+pub mod SaveAnswers
+pub mod SaveViews
+pub mod SaveClauses
+pub mod SampleViews
 pub mod CallClauses
 pub mod FileClauses
 pub mod Laws
@@ -8,6 +14,8 @@ pub mod RunLines
 pub mod Outside
 pub mod Statuses
 pub mod Stops
+pub mod Kept
+pub mod Reasons
 pub mod Words
 pub mod WordViews
 pub mod FileViews

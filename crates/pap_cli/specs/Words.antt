@@ -1,9 +1,11 @@
--- The forms of the words (README.md, "Use").
-use Rattle.std.specs.Prelude.{◌≡◌, ℕ, List, [], ◌∷◌, map, codes, String, string_bytes}
+-- The forms of the words (docs/USE.md).
+use Rattle.std.specs.Prelude.{◌≡◌, ◌≤◌, ℕ, List, [], ◌∷◌, map, codes, String, string_bytes}
+use Rattle.std.specs.Fmt.{decimal as number}
 use Rattle.std.specs.declared.alloc.Global.{Global}
 use Rattle.scaled_decimal.specs.Limits.{IsKept}
 use Rattle.payroll_records.specs.declared.values.NamedValue.{NamedValue}
 use Rattle.payroll_records.specs.ValueWords.{AreValueWords}
+use Rattle.script_run.specs.Limits.{most_employees}
 
 abbrev pub texts : List (String Global) → List (List ℕ)
 texts words = map (λ word. string_bytes word) words
@@ -20,17 +22,29 @@ pub data Form : Type 0 where
   once : List ℕ → List ℕ → List NamedValue → Form
   -- run
   run : Form
+  -- sample N
+  sample : ℕ → Form
+  -- save
+  save : Form
 
 pub record HasOnceForm (words : List (List ℕ)) (plan limits : List ℕ) (values : List NamedValue) : Type 0 where
   pub rest : List (List ℕ)
   pub words_are : words ≡ codes "once" ∷ plan ∷ limits ∷ rest
   pub values_are : AreValueWords rest values
 
+-- N in decimal, without leading zeros: from 1 to 200
+pub record HasSampleForm (words : List (List ℕ)) (employees : ℕ) : Type 0 where
+  pub least : 1 ≤ employees
+  pub most : employees ≤ most_employees
+  pub words_are : words ≡ codes "sample" ∷ number employees ∷ []
+
 -- the words have this form
 abbrev pub HasForm : List (List ℕ) → Form → Type 0
 HasForm words (check plan limits) = words ≡ codes "check" ∷ plan ∷ limits ∷ []
 HasForm words (once plan limits values) = HasOnceForm words plan limits values
 HasForm words run = words ≡ codes "run" ∷ []
+HasForm words (sample employees) = HasSampleForm words employees
+HasForm words save = words ≡ codes "save" ∷ []
 
 -- the words have no form
 abbrev pub IsBad : List (List ℕ) → Type 0

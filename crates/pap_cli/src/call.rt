@@ -1,11 +1,11 @@
 //! The top call.
-ghost use Rattle.std.specs.Prelude.{◌≡◌, ◌≢◌};
+ghost use Rattle.std.specs.Prelude.{◌≡◌, ◌≢◌, ℕ};
 ghost use Rattle.outside.specs.Causes.{Rose};
-ghost use Rattle.pap_cli.specs.Words.{texts, Form, HasForm, IsBad};
+ghost use Rattle.pap_cli.specs.Words.{texts, Form, HasForm, IsBad, sample};
 ghost use Rattle.pap_cli.specs.Outside.{IsUntouched};
 ghost use Rattle.pap_cli.specs.CallClauses.{Carries};
 ghost use Rattle.pap_cli.specs.ScriptClauses.{script_status};
-ghost use Rattle.pap_cli.specs.WordViews.{IsOnFiles};
+ghost use Rattle.pap_cli.specs.WordViews.{ReadsScript};
 ghost use Rattle.pap_cli.specs.Statuses.{status_of};
 ghost use Rattle.plan_answers.specs.Laws.{CheckHasOneAnswer};
 ghost use Rattle.pap_cli.specs.Laws.{HaveOneForm, OnceHasOneAnswer};
@@ -13,6 +13,8 @@ ghost use Rattle.pap_cli.specs.Laws.{WordsGiveKeptValues};
 
 use crate::Status;
 use crate::answer::answer;
+use crate::sample::sample;
+use crate::save::save;
 use crate::stop::Stop;
 use crate::words::{Request, read_words};
 use outside::{Files, Sink, Source};
@@ -52,8 +54,11 @@ fn script_status(ended: Result<bool, ScriptStop>) -> Status
 /// runs.
 ///
 /// The forms of the words are `check PLAN LIMITS`, which says whether the flowchart of the file PLAN is accepted with the
-/// ranges of the file LIMITS, `once PLAN LIMITS NAME=VALUE ..`, which runs it once on these inputs, and `run`, which carries out
-/// the script that the source gives, line by line. All other words are [`Status::BadWords`]. Running out of memory is [`Status::NoMemory`], whatever the words are.
+/// ranges of the file LIMITS, `once PLAN LIMITS NAME=VALUE ..`, which runs it once on these inputs, `run`, which carries out
+/// the script that the source gives, line by line, `sample N`, which runs a generated script of N employees in memory and
+/// writes what came of it, and `save`, which carries out a script as `run` does, writes none of its answers, and then writes its
+/// last book as a text. All other words are [`Status::BadWords`]. Running out of memory is [`Status::NoMemory`], whatever the
+/// words are.
 pub fn papcalc<F: Files, R: Source, W: Sink, L: Ledger>(
     alloc: Global,
     words: &[String],
@@ -78,10 +83,12 @@ pub fn papcalc<F: Files, R: Source, W: Sink, L: Ledger>(
     ensures write_fault { result ≡ Status.WriteFault
         → Rose (W.faults sink.old) (W.faults sink.new) }
 
-    // The files are only read. Only `run` touches the source.
+    // The files are only read, and by a sample not even that. Only `run` and `save` touch the source.
     ensures files_same { F.told files.new ≡ F.told files.old }
-    ensures source_same { (form : Form) → HasForm (texts words.now) form → IsOnFiles form
-        → source.new ≡ source.old }
+    ensures source_same { (form : Form) → HasForm (texts words.now) form
+        → ¬ (ReadsScript form) → source.new ≡ source.old }
+    ensures sample_reads_no_file { (employees : ℕ) → HasForm (texts words.now) (sample employees)
+        → files.new ≡ files.old }
 
     // By the form of the words: what each status says of the text, of the counter, of the source and of the failed name
     // (`leaves`), and the headline: while memory is there and no outside call fails, what is written is the defined answer or
@@ -112,6 +119,8 @@ pub fn papcalc<F: Files, R: Source, W: Sink, L: Ledger>(
     match read_words(alloc, words) {
         Ok(Some(Request::Files(request))) => status(answer(alloc, request, files, sink, steps)),
         Ok(Some(Request::Run)) => script_status(run(alloc, files, source, sink, steps)),
+        Ok(Some(Request::Sample(employees))) => status(sample(alloc, employees, sink, steps)),
+        Ok(Some(Request::Save)) => script_status(save(alloc, files, source, sink, steps)),
         Ok(None) => Status::BadWords,
         Err(_) => Status::NoMemory,
     }

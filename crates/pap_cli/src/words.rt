@@ -1,11 +1,13 @@
 //! The words of the command line.
-ghost use Rattle.std.specs.Prelude.{◌≡◌, ◌↔◌, ◌∷◌, [], codes, IfOk, IsTrue, MatchOption, List};
+ghost use Rattle.std.specs.Prelude.{◌≡◌, ◌↔◌, ◌∷◌, [], codes, IfOk, IsTrue, MatchOption, List, ℕ};
 ghost use Rattle.payroll_records.specs.declared.values.NamedValue.{NamedValue as Value};
 ghost use Rattle.payroll_records.specs.ValueWords.{AreValueWords};
-ghost use Rattle.pap_cli.specs.Words.{texts, HasForm, IsBad};
-ghost use Rattle.pap_cli.specs.WordViews.{form_of, form_on_files, AskNoFiles};
+ghost use Rattle.pap_cli.specs.Words.{texts, HasForm, IsBad, sample};
+ghost use Rattle.pap_cli.specs.WordViews.{form_of, form_on_files, AskNoFiles, AskNoSample};
+ghost use Rattle.pap_cli.specs.WordViews.{IsInRange, IsSampleWord};
 
 use payroll_records::{InsertFault, NamedValue, Values};
+use script_run::MOST_EMPLOYEES;
 use std::alloc::{AllocError, Global};
 
 /// What the words ask for.
@@ -15,6 +17,10 @@ pub(crate) enum Request<'a> {
     Files(FileRequest<'a>),
     /// `run`
     Run,
+    /// `sample N`, with the number of employees.
+    Sample(u32),
+    /// `save`
+    Save,
 }
 
 /// An answer on the file of a plan and a range file.
@@ -39,8 +45,14 @@ pub(crate) fn read_words(alloc: Global, words: &[String]) -> Result<Option<Reque
     ensures { IfOk result (λ found. MatchOption found (IsBad (texts words.now))
         (λ request. HasForm (texts words.now) (form_of request))) }
 {
-    if is_run(words) {
+    if is_command(words, "run") {
         return Ok(Some(Request::Run));
+    }
+    if is_command(words, "save") {
+        return Ok(Some(Request::Save));
+    }
+    if let Some(employees) = read_sample(alloc, words)? {
+        return Ok(Some(Request::Sample(employees)));
     }
     match read_file_words(alloc, words)? {
         Some(request) => Ok(Some(Request::Files(request))),
@@ -48,13 +60,51 @@ pub(crate) fn read_words(alloc: Global, words: &[String]) -> Result<Option<Reque
     }
 }
 
-/// Whether the words are `run`.
-fn is_run(words: &[String]) -> bool
-    ensures { IsTrue result ↔ (texts words.now ≡ codes "run" ∷ []) }
+/// Whether the words are this command alone.
+fn is_command(words: &[String], name: &str) -> bool
+    ensures { IsTrue result ↔ (texts words.now ≡ name.now ∷ []) }
 {
     match words {
-        [command] => command.as_str() == "run",
+        [command] => command.as_str() == name,
         _ => false,
+    }
+}
+
+/// The number of employees of the sample that the words ask for. `None` where they ask for none.
+fn read_sample(alloc: Global, words: &[String]) -> Result<Option<u32>, AllocError>
+    ensures { IfOk result (λ found. MatchOption found (AskNoSample (texts words.now))
+        (λ employees. HasForm (texts words.now) (sample employees))) }
+{
+    match words {
+        [command, count] if command.as_str() == "sample" => read_employees(alloc, count.as_str()),
+        _ => Ok(None),
+    }
+}
+
+/// A number of employees from 1 to 200, in decimal without leading zeros.
+fn read_employees(alloc: Global, word: &str) -> Result<Option<u32>, AllocError>
+    ensures { IfOk result (λ found. MatchOption found
+        ((employees : ℕ) → ¬ (IsSampleWord word.now employees)) (IsSampleWord word.now)) }
+{
+    let Ok(employees) = word.parse::<u32>() else {
+        return Ok(None);
+    };
+    let spelled = format!(in alloc; "{employees}")?;
+    if spelled.as_str() == word {
+        return Ok(in_range(employees));
+    }
+    Ok(None)
+}
+
+/// The number of employees, where it is from 1 to 200.
+fn in_range(employees: u32) -> Option<u32>
+    ensures { MatchOption result (¬ (IsInRange employees))
+        (λ found. (found ≡ employees) × IsInRange employees) }
+{
+    if 1 <= employees && employees <= MOST_EMPLOYEES {
+        Some(employees)
+    } else {
+        None
     }
 }
 

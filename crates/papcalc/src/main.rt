@@ -4,7 +4,8 @@
 ghost use Rattle.std.specs.Prelude.{◌≡◌};
 
 use outside::{Files, RealFiles, Sink, Source, StdSink, StdSource};
-use pap_cli::{Status, papcalc, reason};
+use pap_cli::{KeptFiles, MOST_GIVEN, Status, papcalc, reason};
+use plain_words::one_line;
 use std::alloc::Global;
 use std::env;
 use std::io::{self, ErrorKind};
@@ -14,11 +15,16 @@ use std::sync::ledger::{Blank, Ledger};
 use steps::Steps;
 
 const USAGE: &str =
-    "usage: papcalc check PLAN LIMITS | papcalc once PLAN LIMITS NAME=VALUE .. | papcalc run < SCRIPT";
+    "usage: papcalc check PLAN LIMITS | papcalc once PLAN LIMITS NAME=VALUE .. | papcalc run < SCRIPT | \
+    papcalc save < SCRIPT | papcalc sample N";
 
 const REFUSED_LINES: &str =
     "papcalc: some lines of the script were refused: their answers begin with `refused`, and they changed nothing; \
     of a refused plan `papcalc check PLAN LIMITS` says in plain words what is wrong";
+
+const UNSAVED_LINE: &str =
+    "papcalc: the book isn't saved: the answers of the refused lines are written in its place, `refused book Filed` where a month \
+    was filed, or `refused book Long` where its text would have more than 268435456 bytes";
 
 const VERSION: &str = "papcalc 0.1.0";
 
@@ -29,6 +35,8 @@ usage:
   papcalc check PLAN LIMITS                  say whether every run of the flowchart is safe on inputs within their ranges
   papcalc once PLAN LIMITS NAME=VALUE ..     run the flowchart once on these inputs, at most 256 of them
   papcalc run < SCRIPT                       carry out a script line by line
+  papcalc save < SCRIPT                      carry out a script, and write the book that it leaves in place of its answers
+  papcalc sample N                           run a made-up payroll of N employees, 1 to 200, and write its sums
   papcalc --help                             write this text
   papcalc --version                          write the program's version
 
@@ -41,6 +49,14 @@ output, and then `steps N`. An input that isn't given has its default. Both writ
 where the flowchart or its range file is refused, or where an input is unknown, missing or outside its range; a second
 line, on standard error, says in plain words what that means, where it is in the file, and what helps.
 
+save writes the runs and the flowcharts that the script leaves, as a text that the line `open FILE` reads. Where lines are
+refused it writes their answers and no book; where a month was filed, `refused book Filed`; where the text would have more
+than 268435456 bytes, `refused book Long`.
+
+sample puts a flowchart, adds a run a month for each employee, corrects each one's March and makes the report, all in memory.
+It writes the lines `lines K` (of that script), `records K` (runs in the end), `runs K` and `steps K` (what all edits had to
+run) and `LST K` (the tax of all runs).
+
 lines of a script (DAY as 2026-01-31, MONTH as 2026-01, EMP a word for an employee):
   plan DAY PLAN LIMITS                  from this day on, at most to the end of its year, this flowchart holds
   drop DAY                              take the flowchart of this day away
@@ -48,12 +64,15 @@ lines of a script (DAY as 2026-01-31, MONTH as 2026-01, EMP a word for an employ
   change EMP MONTH DAY NAME=VALUE ..    in place of the run of this day, or else of the only one in the month
   withdraw EMP DAY, withdraw EMP MONTH  take away the run of this day, or the only one in the month
   load FILE                             the pay runs of a table: CSV with the columns employee,month,day and inputs' names
+  open FILE                             a saved book, in place of an empty one
   report                                all runs with their outputs, as CSV, and then `end`
   work                                  `work RUNS STEPS`: what the last edit had to run
   trace EMP DAY, trace EMP MONTH        each executed statement of a run: `set METHOD:N NAME VALUE`, `test METHOD:N yes` or
                                         `no`, `call METHOD:N METHOD`, and then `end`
   file MONTH                            what is filed with this month: `due EMP DAY NAME AMOUNT` each, and then `filed N`
   owed                                  what changed since the last filing: `owed EMP DAY NAME AMOUNT` each, and then `end`
+  try DAY PLAN LIMITS                   what `plan` would change, without changing it: `accepted steps B`, what differs, and then
+                                        `would RUNS STEPS`
   # ..                                  nothing: a comment
 An edit answers `ok`, and `plan` `accepted steps B`. A line that is refused answers `refused ..` and changes nothing.
 
@@ -102,26 +121,37 @@ fn explain(rt: &HostRuntime, status: Status, failed_name: Option<&str>) {
         Status::Done | Status::Refused => Ok(()),
         Status::BadWords => eprintln!(rt; "{USAGE}"),
         Status::FileFault => {
-            let name = failed_name.unwrap_or("");
-            eprintln!(rt; "papcalc: the file {name} can't be read")
+            explain_file_fault(rt, failed_name.unwrap_or(""));
+            Ok(())
         }
         Status::ReadFault => eprintln!(rt; "papcalc: standard input can't be read"),
         Status::WriteFault => eprintln!(rt; "papcalc: standard output can't be written"),
-        Status::NoMemory => eprintln!(rt; "papcalc: memory ran out"),
+        Status::NoMemory => eprintln!(rt; "papcalc: out of memory"),
         Status::ScriptLong => eprintln!(rt; "papcalc: the script is longer than 67108864 bytes"),
     };
 }
 
-/// Says on standard error why the answer is a refusal, in one line; of a script, how its refusals are found. That this may fail
-/// changes nothing.
-fn explain_refusal(rt: &HostRuntime, words: &[String]) {
-    if words.len() == 1 {
-        let _ = eprintln!(rt; "{REFUSED_LINES}");
+/// Says on standard error which file can't be read, in one line whatever its name is. That this may fail changes nothing.
+fn explain_file_fault(rt: &HostRuntime, name: &str) {
+    if let Ok(name) = one_line(rt.alloc(), name) {
+        let _ = eprintln!(rt; "papcalc: the file {name} can't be read");
+    }
+}
+
+/// Says on standard error why the answer is a refusal, in one line, from the bytes that were given for it; of a script, how its
+/// refusals are found. That this may fail changes nothing.
+fn explain_refusal(rt: &HostRuntime, words: &[String], given: &[Vec<u8>]) {
+    let of_script = match words {
+        [word] if word.as_str() == "save" => Some(UNSAVED_LINE),
+        [_] => Some(REFUSED_LINES),
+        _ => None,
+    };
+    if let Some(line) = of_script {
+        let _ = eprintln!(rt; "{line}");
         return;
     }
-    let mut files = RealFiles::new(rt);
-    if let Ok(Some(reason)) = reason(rt.alloc(), words, &mut files) {
-        let _ = eprintln!(rt; "papcalc: {reason}");
+    if let Ok(Some(reason)) = reason(rt.alloc(), words, given) {
+        let _ = eprintln!(rt; "{reason}");
     }
 }
 
@@ -146,7 +176,7 @@ fn main(rt: HostRuntime) -> ExitCode {
         explain(&rt, status, None);
         return ExitCode::from(status.number());
     }
-    let mut files = RealFiles::new(&rt);
+    let mut files = KeptFiles::new(rt.alloc(), RealFiles::new(&rt), MOST_GIVEN);
     let mut source = StdSource::new(rt.reader());
     let mut sink = StdSink::new(io::writer(&rt));
     let status = counted::<Brand, _, _, _>(
@@ -157,9 +187,9 @@ fn main(rt: HostRuntime) -> ExitCode {
         &mut sink,
         Blank::new(1),
     );
-    explain(&rt, status, files.failed_name());
+    explain(&rt, status, files.inner().failed_name());
     if status == Status::Refused {
-        explain_refusal(&rt, &words);
+        explain_refusal(&rt, &words, files.fronts());
     }
     ExitCode::from(status.number())
 }

@@ -26,6 +26,6 @@ line_of text at = line_number (take at text)
 abbrev pub column_of : List ℕ → ℕ → ℕ
 column_of text at = column_number (take at text)
 
--- line L, column C
+-- LINE:COLUMN
 abbrev pub position_text : ℕ → ℕ → List ℕ
-position_text line column = codes "line " ++ (decimal line ++ (codes ", column " ++ decimal column))
+position_text line column = decimal line ++ (codes ":" ++ decimal column)

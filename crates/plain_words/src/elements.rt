@@ -1,5 +1,5 @@
 //! What is wrong with the elements of a plan's file.
-use crate::position;
+use crate::place::TextFile;
 use crate::quotes::quoted;
 use crate::tags::{Group, Tags, letters, start_tag};
 use pap_reader::{ReadFault, Which};
@@ -8,25 +8,25 @@ use std::alloc::{AllocError, Global};
 /// What is wrong with the elements of a plan's file, and where.
 pub(crate) fn element_words(
     alloc: Global,
-    plan: &[u8],
+    plan: TextFile<'_>,
     fault: &ReadFault,
 ) -> Result<String, AllocError> {
     match fault {
         ReadFault::Text { at } => {
-            let place = position(plan, *at);
-            let text = line_from(plan, *at);
+            let site = plan.site(Some(*at));
+            let text = line_from(plan.bytes, *at);
             let shown = quoted(alloc, text, 0)?;
             let why = text_reason(text);
-            format!(in alloc; "plan, {place}: at {shown} {why}")
+            format!(in alloc; "{site}: at {shown} {why}")
         }
         ReadFault::Element { at } => misplaced_words(alloc, plan, *at),
         ReadFault::Attribute { at } => {
-            let place = position(plan, *at);
-            let text = line_from(plan, *at);
+            let site = plan.site(Some(*at));
+            let text = line_from(plan.bytes, *at);
             let shown = quoted(alloc, text, 0)?;
             let needed = needed_attributes(element_name(text));
             format!(in alloc;
-                "plan, {place}: the tag {shown} lacks a needed attribute or has one that isn't of its form, stands twice or is longer than 8192 bytes; {needed}"
+                "{site}: the tag {shown} lacks a needed attribute or has one that isn't of its form, stands twice or is longer than 8192 bytes; {needed}"
             )
         }
         ReadFault::Many { which } => many_words(alloc, plan, *which),
@@ -50,22 +50,22 @@ fn text_reason(text: &[u8]) -> &'static str {
 }
 
 /// A tag that isn't allowed where it stands, or a file that ends too early.
-fn misplaced_words(alloc: Global, plan: &[u8], at: usize) -> Result<String, AllocError> {
-    let place = position(plan, at);
-    let text = line_from(plan, at);
+fn misplaced_words(alloc: Global, plan: TextFile<'_>, at: usize) -> Result<String, AllocError> {
+    let site = plan.site(Some(at));
+    let text = line_from(plan.bytes, at);
     if text.is_empty() {
         return format!(in alloc;
-            "plan, {place}: the file ends too early; an end tag or a needed element is missing"
+            "{site}: the file ends too early; an end tag or a needed element is missing"
         );
     }
     let shown = quoted(alloc, text, 0)?;
     if text.starts_with(b"</") {
         format!(in alloc;
-            "plan, {place}: the end tag {shown} isn't that of the open element, or that element lacks something that it needs (a PAP its METHODS, METHODS a MAIN, OUTPUTS an OUTPUT, an IF its THEN)"
+            "{site}: the end tag {shown} isn't that of the open element, or that element lacks something that it needs (a PAP its METHODS, METHODS a MAIN, OUTPUTS an OUTPUT, an IF its THEN)"
         )
     } else {
         let home = home_of(element_name(text));
-        format!(in alloc; "plan, {place}: the element {shown} may not stand here; {home}")
+        format!(in alloc; "{site}: the element {shown} may not stand here; {home}")
     }
 }
 
@@ -157,16 +157,19 @@ fn needed_attributes(name: &[u8]) -> &'static str {
 }
 
 /// Too much of something, and where the first one too many stands.
-fn many_words(alloc: Global, plan: &[u8], which: Which) -> Result<String, AllocError> {
+fn many_words(alloc: Global, plan: TextFile<'_>, which: Which) -> Result<String, AllocError> {
     let remedy = "split the flowchart, or join what can be joined";
-    match excess_tag(plan, which) {
+    match excess_tag(plan.bytes, which) {
         Some(at) => {
-            let place = position(plan, at);
+            let site = plan.site(Some(at));
             format!(in alloc;
-                "plan, {place}: this is one too many, there may be at most {which}; {remedy}"
+                "{site}: this is one too many, there may be at most {which}; {remedy}"
             )
         }
-        None => format!(in alloc; "plan: there may be at most {which}; {remedy}"),
+        None => {
+            let site = plan.whole();
+            format!(in alloc; "{site}: there may be at most {which}; {remedy}")
+        }
     }
 }
 

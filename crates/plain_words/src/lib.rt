@@ -1,12 +1,15 @@
 //! What is wrong with a plan, its range file or the inputs of a run, in plain words for the one who writes them.
 #![tactic(auto)]
 
+mod advice;
+mod attributes;
 mod counting;
 mod elements;
 mod expressions;
 mod kinds;
+mod lines;
 mod methods;
-mod one_line;
+mod operands;
 mod ordinal;
 mod place;
 mod plan;
@@ -19,6 +22,7 @@ mod statements;
 mod tags;
 
 pub use counting::position;
-pub use place::Position;
+pub use lines::one_line;
+pub use place::{Position, TextFile};
 pub use plan::plan_words;
 pub use state::state_words;

@@ -6,20 +6,21 @@ ghost use Rattle.plain_words.specs.Lines.{IsOneLine};
 use crate::elements::element_words;
 use crate::expressions::expression_words;
 use crate::kinds::kind_words;
+use crate::lines::one_line;
 use crate::methods::order_words;
-use crate::one_line::one_line;
+use crate::place::TextFile;
 use crate::range_file::{binding_words, limit_kind_words, limit_name_words, range_file_words};
 use crate::ranges::range_words;
-use crate::sites::Source;
+use crate::sites::{Source, elements_of};
 use pap_plan::PlanRefusal;
-use pap_reader::{ReadFault, read_elements};
 use std::alloc::{AllocError, Global};
 
-/// What is wrong with a plan or its range file, in one line of plain words, and where. Fails only for want of memory.
+/// What is wrong with a plan or its range file, in one line of plain words that begins with the file and the place in it, as
+/// `plan.xml:12:7: `. Fails only for want of memory.
 pub fn plan_words(
     alloc: Global,
-    plan: &[u8],
-    limits: &[u8],
+    plan: TextFile<'_>,
+    limits: TextFile<'_>,
     refusal: &PlanRefusal,
 ) -> Result<String, AllocError>
     ensures { IfOk result (λ words. IsOneLine (string_bytes words)) }
@@ -31,25 +32,23 @@ pub fn plan_words(
 /// What is wrong, with the bytes of the files as they are.
 fn refusal_words(
     alloc: Global,
-    plan: &[u8],
-    limits: &[u8],
+    plan: TextFile<'_>,
+    limits: TextFile<'_>,
     refusal: &PlanRefusal,
 ) -> Result<String, AllocError> {
     match refusal {
         PlanRefusal::Read(fault) => element_words(alloc, plan, fault),
         PlanRefusal::Limits(fault) => range_file_words(alloc, limits, fault),
         PlanRefusal::Memory => Err(AllocError),
-        _ => match read_elements(alloc, plan) {
-            Ok(elements) => {
+        _ => match elements_of(alloc, plan)? {
+            Some(elements) => {
                 let source = Source {
                     file: plan,
                     elements: &elements,
                 };
                 placed_words(alloc, source, limits, refusal)
             }
-            Err(ReadFault::Memory) => Err(AllocError),
-            // The refusal is that of another plan.
-            Err(_) => format!(in alloc; "{refusal}"),
+            None => other_words(alloc, plan),
         },
     }
 }
@@ -58,7 +57,7 @@ fn refusal_words(
 fn placed_words(
     alloc: Global,
     source: Source<'_>,
-    limits: &[u8],
+    limits: TextFile<'_>,
     refusal: &PlanRefusal,
 ) -> Result<String, AllocError> {
     match refusal {
@@ -70,7 +69,13 @@ fn placed_words(
         PlanRefusal::Bind { name } => binding_words(alloc, source, limits, name),
         PlanRefusal::Range(fault) => range_words(alloc, source, fault),
         PlanRefusal::Read(_) | PlanRefusal::Limits(_) | PlanRefusal::Memory => {
-            format!(in alloc; "{refusal}")
+            other_words(alloc, source.file)
         }
     }
+}
+
+/// Of a refusal that isn't that of these files.
+fn other_words(alloc: Global, plan: TextFile<'_>) -> Result<String, AllocError> {
+    let site = plan.whole();
+    format!(in alloc; "{site}: the flowchart is refused")
 }

@@ -1,7 +1,6 @@
 //! Parts of a file as they are quoted.
 ghost use Rattle.std.specs.Prelude.{◌≤◌, length};
 
-use crate::position;
 use pap_tree::is_word;
 use std::alloc::{AllocError, Global};
 
@@ -64,16 +63,4 @@ fn character(text: &[u8]) -> &[u8] {
         .take_while(|byte| (0x80..=0xBF).contains(*byte))
         .count();
     &text[..count.saturating_add(1).min(text.len())]
-}
-
-/// A place in an attribute's text: `character 6`, and its line where there are several before it.
-pub(crate) fn character_words(alloc: Global, text: &[u8], at: usize) -> Result<String, AllocError> {
-    let place = position(text, at);
-    let line = place.line;
-    let column = place.column;
-    if line == 1 {
-        format!(in alloc; "character {column}")
-    } else {
-        format!(in alloc; "character {column} of its line {line}")
-    }
 }

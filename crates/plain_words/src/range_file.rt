@@ -1,6 +1,7 @@
 //! What is wrong with a range file, by itself or beside its plan.
-use crate::position;
-use crate::sites::{Source, declaration_of, declaration_words};
+use crate::place::{Site, TextFile};
+use crate::sites::{DeclaredSite, Source, declaration_of, declaration_site};
+use crate::tags::Group;
 use limits_file::LimitsFault;
 use pap_tree::{Kind, Name};
 use std::alloc::{AllocError, Global};
@@ -9,21 +10,22 @@ use toml::{Table, Value};
 /// What is wrong with a range file by itself.
 pub(crate) fn range_file_words(
     alloc: Global,
-    limits: &[u8],
+    limits: TextFile<'_>,
     fault: &LimitsFault,
 ) -> Result<String, AllocError> {
     match fault {
         LimitsFault::Toml => toml_words(alloc, limits),
         LimitsFault::Key { name } => key_words(alloc, limits, name.as_str()),
         LimitsFault::Bound { name } => {
-            let site = entry_words(alloc, limits, "input", name.as_str())?;
+            let site = entry_site(alloc, limits, "input", name.as_str())?;
             format!(in alloc;
-                "{site}: low is above high, one of them isn't a number, has more digits after its point than places or is beyond 10^37, or places isn't from 0 to 30; or this is the 257th input"
+                "{site}: in the entry [input.{name}] low is above high, one of them isn't a number, has more digits after its point than places or is beyond 10^37, or places isn't from 0 to 30, or this is the 257th input; correct the entry"
             )
         }
         LimitsFault::LimitsLong => {
+            let site = limits.whole();
             format!(in alloc;
-                "range file: it has more than 262144 bytes; take out what no input needs"
+                "{site}: the range file has more than 262144 bytes; take out what no input needs"
             )
         }
         LimitsFault::Memory(_) => Err(AllocError),
@@ -31,31 +33,45 @@ pub(crate) fn range_file_words(
 }
 
 /// A key that isn't allowed, or an entry that lacks one.
-fn key_words(alloc: Global, limits: &[u8], key: &str) -> Result<String, AllocError> {
-    let Ok(table) = toml::table_from_slice(alloc, limits) else {
-        return format!(in alloc; "range file, at the key {key}");
-    };
-    for section in SECTIONS {
-        if let Some(Value::Table(entries)) = table.get(section.name) {
-            if let Some(name) = entry_with(entries, section, key) {
-                let site = entry_words(alloc, limits, section.name, name)?;
-                let rule = section.rule;
-                return format!(in alloc;
-                    "{site}: the key {key} isn't one of such an entry, or its value isn't of its form; {rule}"
-                );
-            }
-            if entries.contains_key(key) {
-                let site = entry_words(alloc, limits, section.name, key)?;
-                let rule = section.rule;
-                return format!(in alloc;
-                    "{site}: the entry lacks a key, is no table or has a name that no input can have; {rule}"
-                );
+fn key_words(alloc: Global, limits: TextFile<'_>, key: &str) -> Result<String, AllocError> {
+    if let Ok(table) = toml::table_from_slice(alloc, limits.bytes) {
+        for section in SECTIONS {
+            if let Some(Value::Table(entries)) = table.get(section.name)
+                && let Some(words) = section_words(alloc, limits, section, entries, key)?
+            {
+                return Ok(words);
             }
         }
     }
+    let site = limits.whole();
     format!(in alloc;
-        "range file, at the key {key}: a range file has entries [input.NAME] and [bind.NAME] alone"
+        "{site}: at the key {key} stands something that isn't part of a range file; it has entries [input.NAME] and [bind.NAME] alone"
     )
+}
+
+/// The entry of a section in which a key isn't allowed, or that has this name and isn't one. `None` where the section has
+/// neither.
+fn section_words(
+    alloc: Global,
+    limits: TextFile<'_>,
+    section: Section,
+    entries: &Table,
+    key: &str,
+) -> Result<Option<String>, AllocError> {
+    let Section { name: part, rule } = section;
+    if let Some(name) = entry_with(entries, section, key) {
+        let site = entry_site(alloc, limits, part, name)?;
+        return Ok(Some(format!(in alloc;
+            "{site}: in the entry [{part}.{name}] the key {key} isn't one of such an entry, or its value isn't of its form; {rule}"
+        )?));
+    }
+    if !entries.contains_key(key) {
+        return Ok(None);
+    }
+    let site = entry_site(alloc, limits, part, key)?;
+    Ok(Some(format!(in alloc;
+        "{site}: the entry [{part}.{key}] lacks a key, is no table or has a name that no input can have; {rule}"
+    )?))
 }
 
 /// A section of a range file.
@@ -122,42 +138,42 @@ fn suits_binding(entry: &Table, key: &str, text: &str) -> bool {
 }
 
 /// What the reader of TOML says of a text, and where.
-fn toml_words(alloc: Global, limits: &[u8]) -> Result<String, AllocError> {
-    match toml::table_from_slice(alloc, limits) {
-        Ok(_) => format!(in alloc; "range file: the text isn't TOML"),
+fn toml_words(alloc: Global, limits: TextFile<'_>) -> Result<String, AllocError> {
+    match toml::table_from_slice(alloc, limits.bytes) {
+        Ok(_) => {
+            let site = limits.whole();
+            format!(in alloc; "{site}: the range file is not valid TOML")
+        }
         Err(error) => match error.span() {
             Some(span) => {
-                let place = position(limits, span.start);
+                let site = limits.site(Some(span.start));
                 let message = error.message();
-                format!(in alloc; "range file, {place}: the text isn't TOML: {message}")
+                format!(in alloc; "{site}: the range file is not valid TOML: {message}")
             }
             None => Err(AllocError),
         },
     }
 }
 
-/// An entry of the range file, with the line of its heading where there is one: `range file, line 4, the entry [input.RE4]`.
-fn entry_words(
+/// The place of an entry's heading, as `[input.RE4]`, where a line begins with it.
+pub(crate) fn entry_site<'a>(
     alloc: Global,
-    limits: &[u8],
+    limits: TextFile<'a>,
     section: &str,
     name: &str,
-) -> Result<String, AllocError> {
+) -> Result<Site<'a>, AllocError> {
     let heading = format!(in alloc; "[{section}.{name}]")?;
-    match heading_line(limits, heading.as_bytes()) {
-        Some(line) => format!(in alloc; "range file, line {line}, the entry {heading}"),
-        None => format!(in alloc; "range file, the entry {heading}"),
-    }
+    Ok(limits.site(heading_byte(limits.bytes, heading.as_bytes())))
 }
 
-/// The line that begins with a heading.
-fn heading_line(limits: &[u8], heading: &[u8]) -> Option<usize> {
-    let mut line = 1usize;
+/// The byte at which the first line that begins with a heading does.
+fn heading_byte(limits: &[u8], heading: &[u8]) -> Option<usize> {
+    let mut at = 0usize;
     for text in limits.split(|byte| *byte == b'\n') {
         if text.starts_with(heading) {
-            return Some(line);
+            return Some(at);
         }
-        line = line.saturating_add(1);
+        at = at.saturating_add(text.len()).saturating_add(1);
     }
     None
 }
@@ -166,19 +182,20 @@ fn heading_line(limits: &[u8], heading: &[u8]) -> Option<usize> {
 pub(crate) fn limit_name_words(
     alloc: Global,
     source: Source<'_>,
-    limits: &[u8],
+    limits: TextFile<'_>,
     name: &Name,
 ) -> Result<String, AllocError> {
-    match input_words(alloc, source, name)? {
-        Some(site) => {
+    match input_of(source, name) {
+        Some(found) => {
+            let site = declaration_site(source, found);
             format!(in alloc;
-                "{site} has no range; add an entry [input.{name}] with low, high and places to the range file"
+                "{site}: the INPUT {name} has no range; add an entry [input.{name}] with low, high and places to the range file"
             )
         }
         None => {
-            let site = entry_words(alloc, limits, "input", name.as_str())?;
+            let site = entry_site(alloc, limits, "input", name.as_str())?;
             format!(in alloc;
-                "{site}: the plan has no INPUT {name}; correct the name, or take the entry out"
+                "{site}: in the entry [input.{name}], the plan has no INPUT {name}; correct the name, or take the entry out"
             )
         }
     }
@@ -188,15 +205,17 @@ pub(crate) fn limit_name_words(
 pub(crate) fn limit_kind_words(
     alloc: Global,
     source: Source<'_>,
-    limits: &[u8],
+    limits: TextFile<'_>,
     name: &Name,
 ) -> Result<String, AllocError> {
-    let site = entry_words(alloc, limits, "input", name.as_str())?;
+    let site = entry_site(alloc, limits, "input", name.as_str())?;
     let rule = match declaration_of(source, name) {
         Some(found) => kind_rule(found.declared.kind),
         None => "see its type",
     };
-    format!(in alloc; "{site}: the range doesn't suit the type of the INPUT {name}; {rule}")
+    format!(in alloc;
+        "{site}: the range of the entry [input.{name}] doesn't suit the type of the INPUT {name}; {rule}"
+    )
 }
 
 /// Which ranges suit a type.
@@ -215,34 +234,28 @@ fn kind_rule(kind: Kind) -> &'static str {
 pub(crate) fn binding_words(
     alloc: Global,
     source: Source<'_>,
-    limits: &[u8],
+    limits: TextFile<'_>,
     name: &Name,
 ) -> Result<String, AllocError> {
-    let site = entry_words(alloc, limits, "bind", name.as_str())?;
-    match input_words(alloc, source, name)? {
+    let site = entry_site(alloc, limits, "bind", name.as_str())?;
+    match input_of(source, name) {
         Some(_) => {
-            format!(in alloc; "{site}: its output isn't an OUTPUT of the plan; correct that name")
+            format!(in alloc;
+                "{site}: the output of the entry [bind.{name}] isn't an OUTPUT of the plan; correct that name"
+            )
         }
         None => {
             format!(in alloc;
-                "{site}: the plan has no INPUT {name}; correct the name, or take the entry out"
+                "{site}: in the entry [bind.{name}], the plan has no INPUT {name}; correct the name, or take the entry out"
             )
         }
     }
 }
 
-/// An input and where it stands. `None` where there is none of the name.
-fn input_words(
-    alloc: Global,
-    source: Source<'_>,
-    name: &Name,
-) -> Result<Option<String>, AllocError> {
-    let inputs = &source.elements.inputs;
-    if !inputs.iter().any(|input| input.name == *name) {
-        return Ok(None);
-    }
+/// The declaration of an input. `None` where there is none of the name.
+fn input_of<'a>(source: Source<'a>, name: &Name) -> Option<DeclaredSite<'a>> {
     match declaration_of(source, name) {
-        Some(site) => Ok(Some(declaration_words(alloc, source, site)?)),
-        None => Ok(None),
+        Some(found) if found.group == Group::Input => Some(found),
+        _ => None,
     }
 }

@@ -1,18 +1,31 @@
 //! Where the statements, the methods and the declared names of a plan stand in its file.
+use crate::attributes::text_byte;
 use crate::ordinal::Ordinal;
-use crate::position;
+use crate::place::{Site, TextFile};
 use crate::quotes::quoted;
 use crate::statements::{expression_text, statement_in};
 use crate::tags::{Group, Tags, start_tag};
-use pap_reader::{Elements, RawDeclared, RawStmt};
+use pap_reader::{Elements, RawDeclared, RawStmt, ReadFault, read_elements};
 use pap_tree::Name;
 use std::alloc::{AllocError, Global};
 
 /// A plan's file with its elements.
 #[derive(Clone, Copy)]
 pub(crate) struct Source<'a> {
-    pub file: &'a [u8],
+    pub file: TextFile<'a>,
     pub elements: &'a Elements,
+}
+
+/// The elements of a plan's file. `None` where it has none.
+pub(crate) fn elements_of(
+    alloc: Global,
+    plan: TextFile<'_>,
+) -> Result<Option<Elements>, AllocError> {
+    match read_elements(alloc, plan.bytes) {
+        Ok(elements) => Ok(Some(elements)),
+        Err(ReadFault::Memory) => Err(AllocError),
+        Err(_) => Ok(None),
+    }
 }
 
 /// The statement of a number in a method.
@@ -32,49 +45,54 @@ pub(crate) fn statement_of<'a>(
     statement_in(&found.body, number)
 }
 
-/// The line of a byte of the file.
-fn line_at(source: Source<'_>, at: Option<usize>) -> Option<usize> {
-    Some(position(source.file, at?).line)
-}
-
 /// The byte at which a method's start tag begins.
 fn method_tag(source: Source<'_>, method: &Name) -> Option<usize> {
     if *method == Name::main() {
-        return start_tag(source.file, 0, Tags::Main, 0);
+        return start_tag(source.file.bytes, 0, Tags::Main, 0);
     }
     let methods = &source.elements.methods;
     let number = methods
         .iter()
         .position(|candidate| candidate.name == *method)?;
-    start_tag(source.file, 0, Tags::Method, number)
+    start_tag(source.file.bytes, 0, Tags::Method, number)
+}
+
+/// The place of a method.
+pub(crate) fn method_site<'a>(source: Source<'a>, method: &Name) -> Site<'a> {
+    source.file.site(method_tag(source, method))
 }
 
 /// The byte at which the start tag of a statement begins.
 fn statement_tag(source: Source<'_>, method: &Name, number: u32) -> Option<usize> {
     let from = method_tag(source, method)?;
-    start_tag(source.file, from, Tags::Statement, number as usize)
+    start_tag(source.file.bytes, from, Tags::Statement, number as usize)
 }
 
-/// The file, and the line where it is known.
-fn line_words(alloc: Global, line: Option<usize>) -> Result<String, AllocError> {
-    match line {
-        Some(line) => format!(in alloc; "plan, line {line}"),
-        None => format!(in alloc; "plan"),
-    }
-}
-
-/// A method and where it stands: `plan, line 30, the method MZVE`.
-pub(crate) fn method_words(
-    alloc: Global,
-    source: Source<'_>,
+/// The place of a byte of a statement's text: of its assignment, its test or the name of its method.
+pub(crate) fn statement_site<'a>(
+    source: Source<'a>,
     method: &Name,
-) -> Result<String, AllocError> {
-    let line = line_words(alloc, line_at(source, method_tag(source, method)))?;
-    format!(in alloc; "{line}, the method {method}")
+    number: u32,
+    at: usize,
+) -> Site<'a> {
+    let tag = statement_tag(source, method, number);
+    source
+        .file
+        .site(statement_byte(source, method, number, at).or(tag))
 }
 
-/// A statement and where it stands: ``plan, line 34, the 4th statement of the method MZVE, EVAL `A= B` ``. Of a long text
-/// the part round a place is shown.
+/// The byte of the file at which a byte of a statement's text stands.
+fn statement_byte(source: Source<'_>, method: &Name, number: u32, at: usize) -> Option<usize> {
+    let tag = statement_tag(source, method, number)?;
+    let attribute = match statement_of(source, method, number)? {
+        RawStmt::Eval { .. } => b"exec".as_slice(),
+        RawStmt::If { .. } => b"expr".as_slice(),
+        RawStmt::Execute { .. } => b"method".as_slice(),
+    };
+    text_byte(source.file.bytes, tag, attribute, at)
+}
+
+/// A statement as it is quoted: ``EVAL `A= B`, the 4th statement of MZVE``. Of a long text the part round a place is shown.
 pub(crate) fn statement_words(
     alloc: Global,
     source: Source<'_>,
@@ -84,14 +102,10 @@ pub(crate) fn statement_words(
 ) -> Result<String, AllocError> {
     let count = Ordinal(u64::from(number) + 1);
     let Some(statement) = statement_of(source, method, number) else {
-        return format!(in alloc; "plan, the {count} statement of the method {method}");
+        return format!(in alloc; "the {count} statement of {method}");
     };
-    let line = line_words(
-        alloc,
-        line_at(source, statement_tag(source, method, number)),
-    )?;
     let text = tag_words(alloc, statement, at)?;
-    format!(in alloc; "{line}, the {count} statement of the method {method}, {text}")
+    format!(in alloc; "{text}, the {count} statement of {method}")
 }
 
 /// A statement's element with its text.
@@ -176,53 +190,59 @@ fn next_declaration<'a>(source: Source<'a>, site: DeclaredSite<'a>) -> Option<De
 }
 
 /// The first two places where a name is declared, or else those of the first and the last method that has it.
-pub(crate) fn repeated_words(
-    alloc: Global,
-    source: Source<'_>,
-    name: &Name,
-) -> Result<Option<(String, String)>, AllocError> {
+pub(crate) fn repeated_sites<'a>(source: Source<'a>, name: &Name) -> Option<(Site<'a>, Site<'a>)> {
     let declared = declaration_of(source, name);
     if let Some(first) = declared
         && let Some(second) = next_declaration(source, first)
     {
-        let first = declaration_words(alloc, source, first)?;
-        let second = declaration_words(alloc, source, second)?;
-        return Ok(Some((first, second)));
+        return Some((
+            declaration_site(source, first),
+            declaration_site(source, second),
+        ));
     }
-    repeated_methods(alloc, source, name)
+    repeated_methods(source, name)
 }
 
 /// The first and the last method of a name, of which MAIN may be the first.
-fn repeated_methods(
-    alloc: Global,
-    source: Source<'_>,
-    name: &Name,
-) -> Result<Option<(String, String)>, AllocError> {
-    let Some(first) = method_tag(source, name) else {
-        return Ok(None);
-    };
+fn repeated_methods<'a>(source: Source<'a>, name: &Name) -> Option<(Site<'a>, Site<'a>)> {
+    let first = method_tag(source, name)?;
     let methods = &source.elements.methods;
-    let Some(number) = methods.iter().rposition(|method| method.name == *name) else {
-        return Ok(None);
-    };
-    let second = start_tag(source.file, 0, Tags::Method, number);
-    let first = line_words(alloc, line_at(source, Some(first)))?;
-    let second = line_words(alloc, line_at(source, second))?;
-    Ok(Some((
-        format!(in alloc; "{first}, the method {name}")?,
-        format!(in alloc; "{second}, the method {name}")?,
-    )))
+    let number = methods.iter().rposition(|method| method.name == *name)?;
+    let second = start_tag(source.file.bytes, 0, Tags::Method, number);
+    Some((source.file.site(Some(first)), source.file.site(second)))
 }
 
-/// A declared name and where it stands: `plan, line 7, the INPUT RE4`.
-pub(crate) fn declaration_words(
-    alloc: Global,
-    source: Source<'_>,
-    site: DeclaredSite<'_>,
-) -> Result<String, AllocError> {
-    let tag = start_tag(source.file, 0, Tags::Declaration(site.group), site.number);
-    let line = line_words(alloc, line_at(source, tag))?;
-    let element = site.group.element();
-    let name = site.declared.name;
-    format!(in alloc; "{line}, the {element} {name}")
+/// The byte at which a declaration's tag begins.
+pub(crate) fn declaration_tag(source: Source<'_>, site: DeclaredSite<'_>) -> Option<usize> {
+    start_tag(
+        source.file.bytes,
+        0,
+        Tags::Declaration(site.group),
+        site.number,
+    )
+}
+
+/// The place of a declaration.
+pub(crate) fn declaration_site<'a>(source: Source<'a>, site: DeclaredSite<'_>) -> Site<'a> {
+    source.file.site(declaration_tag(source, site))
+}
+
+/// The place of a byte of a declaration's literal.
+pub(crate) fn literal_site<'a>(source: Source<'a>, site: DeclaredSite<'_>, at: usize) -> Site<'a> {
+    let tag = declaration_tag(source, site);
+    source.file.site(literal_byte(source, site, at).or(tag))
+}
+
+/// The byte of the file at which a byte of a declaration's literal stands.
+fn literal_byte(source: Source<'_>, site: DeclaredSite<'_>, at: usize) -> Option<usize> {
+    let attribute = match site.group {
+        Group::Constant => b"value".as_slice(),
+        _ => b"default".as_slice(),
+    };
+    text_byte(
+        source.file.bytes,
+        declaration_tag(source, site)?,
+        attribute,
+        at,
+    )
 }

@@ -1,4 +1,5 @@
 //! The statements of a plan by their numbers.
+use crate::operands::operand_byte;
 use pap_expr::{ExprFault, parse_assign, parse_expr};
 use pap_reader::RawStmt;
 use pap_tree::{Binary, Call, Expr, Name, Unary, find_node, print_expr};
@@ -74,6 +75,14 @@ fn expression_of(alloc: Global, statement: &RawStmt) -> Result<Option<(Role, Exp
     }
 }
 
+/// How many tokens stand before the expression of this role: an assignment's target and its `=`.
+fn tokens_before(role: Role) -> usize {
+    match role {
+        Role::Value(_) => 2,
+        Role::Part | Role::Test => 0,
+    }
+}
+
 /// Whether the expression of a statement is read.
 pub(crate) fn is_read(alloc: Global, statement: &RawStmt) -> Result<bool, AllocError> {
     Ok(expression_of(alloc, statement)?.is_some())
@@ -92,7 +101,10 @@ pub(crate) fn node_words(
         return Ok(None);
     };
     let is_part = find_node(&expression, number.saturating_add(1)).is_some();
+    let text = expression_text(statement);
+    let at = operand_byte(alloc, text, tokens_before(role), &expression, number)?;
     Ok(Some(NodeWords {
+        at: at.unwrap_or(0),
         spelling: print_expr(alloc, node)?,
         takes: taken_kinds(node),
         role: if is_part { Role::Part } else { role },
@@ -102,6 +114,8 @@ pub(crate) fn node_words(
 /// What is said of a node of an expression.
 #[derive(Drop)]
 pub(crate) struct NodeWords {
+    /// The byte of the statement's text at which its first operand stands.
+    pub at: usize,
     /// Its canonical spelling.
     pub spelling: Vec<u8>,
     /// Which operands it takes.

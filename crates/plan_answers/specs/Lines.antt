@@ -1,4 +1,4 @@
--- The lines of answers (README.md, "Use").
+-- The lines of answers (docs/USE.md).
 use Rattle.std.specs.Prelude.{ℕ, List, [], ◌∷◌, ◌++◌, codes}
 use Rattle.std.specs.Fmt.{decimal as number}
 use Rattle.scaled_decimal.specs.Decimals.{decimal}

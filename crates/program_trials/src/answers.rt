@@ -3,7 +3,7 @@ ghost use Rattle.std.specs.Prelude.{◌≡◌, ◌≢◌, AllPairs, IfOk};
 ghost use Rattle.outside.specs.Memory.{named_files};
 
 use outside::{Files, MemFiles, MemSink, MemSource, Sink, Source};
-use pap_cli::{Status, papcalc, reason};
+use pap_cli::{KeptFiles, MOST_GIVEN, Status, papcalc, reason};
 use std::alloc::{AllocError, Global};
 use std::marker::Brand;
 use std::str::from_utf8;
@@ -60,13 +60,31 @@ fn words_of(alloc: Global, text: &str) -> Result<Vec<String>, AllocError> {
     Ok(words)
 }
 
-/// Writes the reason of a refusal, `-` where the answer is none.
+/// Carries out words over these files, with an empty script, and gives the status.
+fn answered<F: Files>(
+    alloc: Global,
+    words: &[String],
+    files: &mut F,
+    sink: &mut MemSink,
+) -> Status {
+    let mut source = MemSource::new(Vec::new(alloc), 1, Vec::new(alloc));
+    counted::<Brand, _, _, _>(alloc, words, files, &mut source, sink, Blank::new(1))
+}
+
+/// Writes the reason of a refusal, from the bytes that were given for the answer; `-` where the answer is none.
 pub(crate) fn write_reason(words: &str, texts: Texts<'_>, text: &mut String) -> Result<(), Fail> {
     let alloc = *text.allocator();
     let words = words_of(alloc, words)?;
-    let mut files = MemFiles::new(two_files(alloc, texts)?, Vec::new(alloc));
-    let given = reason(alloc, &words, &mut files).ok().ok_or("an answer")?;
-    Ok(text.push_str(given.as_ref().map_or("-", |reason| reason.as_str()))?)
+    let inner = MemFiles::new(two_files(alloc, texts)?, Vec::new(alloc));
+    let mut files = KeptFiles::new(alloc, inner, MOST_GIVEN);
+    answered(
+        alloc,
+        &words,
+        &mut files,
+        &mut MemSink::new(alloc, 4000, Vec::new(alloc))?,
+    );
+    let reason = reason(alloc, &words, files.fronts())?;
+    Ok(text.push_str(reason.as_ref().map_or("-", |reason| reason.as_str()))?)
 }
 
 /// Writes the lines that are written, with ` / ` between them, and gives the status.
@@ -78,16 +96,8 @@ pub(crate) fn write_answer(
     let alloc = *text.allocator();
     let words = words_of(alloc, words)?;
     let mut files = MemFiles::new(two_files(alloc, texts)?, Vec::new(alloc));
-    let mut source = MemSource::new(Vec::new(alloc), 1, Vec::new(alloc));
     let mut sink = MemSink::new(alloc, 4000, Vec::new(alloc))?;
-    let status = counted::<Brand, _, _, _>(
-        alloc,
-        &words,
-        &mut files,
-        &mut source,
-        &mut sink,
-        Blank::new(1),
-    );
+    let status = answered(alloc, &words, &mut files, &mut sink);
     write_lines(sink.written(), text)?;
     Ok(status)
 }

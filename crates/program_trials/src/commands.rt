@@ -1,5 +1,6 @@
 //! The top call over objects in memory: its answers, its statuses and the reasons of its refusals.
 use crate::answers::{Texts, write_answer, write_reason};
+use std::alloc::Global;
 use std::test::Fail;
 use trial_rows::all_rows;
 
@@ -42,16 +43,40 @@ once a.xml l.toml N=1=2 => (BadWords)
 once a.xml l.toml N=x => (BadWords)
 once a.xml l.toml N=1 N=2 => (BadWords)
 run x => (BadWords)
-run => (Done)"#;
+run => (Done)
+save x => (BadWords)
+save => papbook 1 / work 0 0 / plans 0 / runs 0 / end (Done)
+sample 1 => lines 15 / records 12 / runs 22 / steps 487 / LST 10500 (Done)
+sample => (BadWords)
+sample 0 => (BadWords)
+sample 01 => (BadWords)
+sample +1 => (BadWords)
+sample 201 => (BadWords)
+sample 1 2 => (BadWords)"#;
 
 /// Words, and the reason of their refusal.
 const REASONS: &str = r#"check a.xml l.toml => -
 once a.xml l.toml N=7 => -
-once a.xml l.toml => the input N has no value; give one as N=VALUE or in the table, or write a default at its INPUT
-once a.xml l.toml N=1 M=2 => a value is given for M, and the plan has no such input, or the range file fills it from earlier runs; leave the value out, or correct its name
-check l.toml l.toml => plan, line 1, column 1: at `[input.N]` stands text outside of a tag; write it as a comment, or as an attribute of a tag
-check a.xml a.xml => range file, line 1, column 1: the text isn't TOML: invalid key, expected letters, numbers, `-`, `_` or a quoted key
-check => -"#;
+once a.xml l.toml => a.xml:1:25: the input N has no value; give one as N=VALUE or in the table, or write a default at its INPUT
+once a.xml l.toml N=11 => l.toml:1:1: the value of the input N is below its low, above its high or has more digits after the point than its places in the range file; correct the value, or widen the entry [input.N] and check the plan again
+once a.xml l.toml N=1 M=2 => a.xml: a value is given for M, and the plan has no such input, or the range file fills it from earlier runs; leave the value out, or correct its name
+check l.toml l.toml => l.toml:1:1: at `[input.N]` stands text outside of a tag; write it as a comment, or as an attribute of a tag
+check a.xml a.xml => a.xml:1:1: the range file is not valid TOML: invalid key, expected letters, numbers, `-`, `_` or a quoted key
+check nofile l.toml => -
+check => -
+sample 1 => -
+save => -"#;
+
+/// Assignments of a flowchart, each as its file has it, and the reason why the flowchart is refused, without what helps.
+const REASONED: &str =
+    r#"Q = N + D / (D - 1) => a.xml:4:10: the divisor may be 0 on inputs within their ranges, at `D / (D - 1)` in EVAL `  Q = N + D / (D - 1)`, the 1st statement of MAIN
+Q = M => a.xml:4:6: the name M isn't declared, or isn't one that may stand here, in EVAL `  Q = M`, the 1st statement of MAIN
+Q = N &lt; D ? 1 : ) => a.xml:4:21: this isn't expected here, at `)` in EVAL `  Q = N < D ? 1 : )`, the 1st statement of MAIN
+Q = N + => a.xml:4:9: the text ends too early, in EVAL `  Q = N +`, the 1st statement of MAIN
+T = 1 => a.xml:4:2: the target is a CONSTANT, which can't be given a value, in EVAL `  T = 1`, the 1st statement of MAIN
+Q = N + 1 > 2 ? BigDecimal.ONE : BigDecimal.TEN => a.xml:4:6: the types don't go together, at `N + 1 > 2 ? BigDecimal.ONE : BigDecimal.TEN` in EVAL `  Q = N + 1 > 2 ? BigDecimal.ONE : BigDecimal.TEN`, the 1st statement of MAIN
+Q = T[0].add(BigDecimal.ONE.setScale(2, BigDecimal.ROUND_DOWN)) > 1 ? 1 : 0 => a.xml:4:6: the types don't go together, at `T[0].add(BigDecimal.ONE.setScale(2, BigDecimal.ROUND_DOWN)) > 1` in EVAL `  Q = T[0].add(BigDecimal.ONE.setScale(2, BigDecimal.ROUND_DOWN)) > 1 ? 1 : 0`, the 1st statement of MAIN
+Q = 1 + T[0].compareTo(BigDecimal.ONE + 1) => a.xml:4:25: the types don't go together, at `BigDecimal.ONE + 1` in EVAL `  Q = 1 + T[0].compareTo(BigDecimal.ONE + 1)`, the 1st statement of MAIN"#;
 
 /// Writes what is answered to words, and the status.
 fn answered(asked: &str, text: &mut String) -> Result<(), Fail> {
@@ -72,4 +97,30 @@ fn refusals_have_reasons(rt: HostRuntime) -> Result<(), Fail> {
         REASONS,
         |asked, text| write_reason(asked, TEXTS, text),
     )
+}
+
+/// A flowchart of one assignment, which begins at column 2 of line 4.
+fn plan_of(alloc: Global, assignment: &str) -> Result<String, Fail> {
+    Ok(format!(in alloc;
+        "<PAP><INTERFACE><INPUTS><INPUT name='N' type='int'/><INPUT name='D' type='int' default='2'/></INPUTS><OUTPUTS><OUTPUT name='Q' type='int'/></OUTPUTS></INTERFACE>\n<CONSTANTS><CONSTANT name='T' type='BigDecimal[]' value='{{BigDecimal.ONE}}'/></CONSTANTS>\n<METHODS><MAIN><EVAL exec=\"\n {assignment}\"/></MAIN></METHODS></PAP>\n"
+    )?)
+}
+
+/// Writes the reason of a refusal up to what helps.
+fn reasoned(assignment: &str, text: &mut String) -> Result<(), Fail> {
+    let alloc = *text.allocator();
+    let plan = plan_of(alloc, assignment)?;
+    let texts = Texts {
+        plan: plan.as_str(),
+        limits: LIMITS,
+    };
+    let mut reason = String::new(alloc);
+    write_reason("check a.xml l.toml", texts, &mut reason)?;
+    let (wrong, _) = reason.as_str().split_once("; ").ok_or("what helps")?;
+    Ok(text.push_str(wrong)?)
+}
+
+#[test]
+fn reasons_name_the_place(rt: HostRuntime) -> Result<(), Fail> {
+    all_rows(rt.alloc(), REASONED, reasoned)
 }

@@ -17,7 +17,9 @@ use Rattle.payroll_records.proofs.Laws.{year_is, month_is, day_is, same_day, sam
 use Rattle.script_lang.specs.Commands as asked
 use Rattle.script_lang.specs.Commands.{Asked}
 use Rattle.script_lang.specs.Fields.{Field, IsGood, fault_of, time_field}
-use Rattle.script_lang.specs.Lines.{Verb, plan, drop, add, change, withdraw, load, report, work, trace, filing, owed, text_of, takes, fields_of, IsSilent, IsDayWord, IsTime, IsOfRun, IsOfRecord, Ask, HaveNoVerb, AreNotTaken, IsFirstFault, HaveFirstFault, IsLine, LineSays}
+use Rattle.script_lang.specs.Lines.{Verb, plan, drop, add, change, withdraw, load, report, work, trace, filing, owed, opening, trial}
+use Rattle.script_lang.specs.Lines.{text_of, takes, fields_of, IsSilent, IsDayWord, IsTime, IsOfRun, IsOfRecord, IsOfPlan}
+use Rattle.script_lang.specs.Lines.{IsOfFile, Ask, HaveNoVerb, AreNotTaken, IsFirstFault, HaveFirstFault, IsLine, LineSays}
 use Rattle.script_lang.specs.Words.{words_of}
 use Rattle.script_lang.specs.declared.fault.LineFault.{LineFault}
 use Rattle.script_lang.specs.declared.fault.LineFault.TheVariants as fault
@@ -38,7 +40,9 @@ which t =
     if bytes_eq t (codes "work") then Some work else
     if bytes_eq t (codes "trace") then Some trace else
     if bytes_eq t (codes "file") then Some filing else
-    if bytes_eq t (codes "owed") then Some owed else None
+    if bytes_eq t (codes "owed") then Some owed else
+    if bytes_eq t (codes "open") then Some opening else
+    if bytes_eq t (codes "try") then Some trial else None
 
 which_of : (v : Verb) → which (text_of v) ≡ Some v
 unfolding which
@@ -53,6 +57,8 @@ which_of work = refl
 which_of trace = refl
 which_of filing = refl
 which_of owed = refl
+which_of opening = refl
+which_of trial = refl
 
 pub verb_once : (v w : Verb) → text_of v ≡ text_of w → v ≡ w
 verb_once v w e = let same = sym (which_of v) ∙ ap which e ∙ which_of w in cc
@@ -70,6 +76,8 @@ no_comment work e = omega (arith, e)
 no_comment trace e = omega (arith, e)
 no_comment filing e = omega (arith, e)
 no_comment owed e = omega (arith, e)
+no_comment opening e = omega (arith, e)
+no_comment trial e = omega (arith, e)
 
 loud : (words : List Text) (verb : Verb) (rest : List Text) → words ≡ text_of verb ∷ rest → IsSilent words → ⊥
 loud [] verb rest e silent = cc e
@@ -119,6 +127,8 @@ asked_verb asked.work = Some work
 asked_verb (asked.trace e t) = Some trace
 asked_verb (asked.filing m) = Some filing
 asked_verb asked.owed = Some owed
+asked_verb (asked.opening f) = Some opening
+asked_verb (asked.trial d p l) = Some trial
 
 record Spoken (words : List Text) (what : Asked) : Type 0 where
   verb : Verb
@@ -143,16 +153,23 @@ run_good command words r verb is take good h = (
   good _ (h.employee_is, ((r.day.year, r.day.month, h.month_is), ((r.day.year, r.day.month, r.day.day, h.day_is, h.month_is), words_good h.value_words r.values h.values_are))),
 )
 
+plan_spoken : (what : Asked) (verb : Verb) (words : List Text) (d : Day) (p l : Text) → asked_verb what ≡ Some verb →
+    ((rest : List Text) → IsTrue (takes plan rest) → IsTrue (takes verb rest)) →
+    ((rest : List Text) → AllByRecursion IsGood (fields_of plan rest) → AllByRecursion IsGood (fields_of verb rest)) →
+    IsOfPlan (text_of verb) words d p l → Spoken words what
+plan_spoken what verb words d p l is take good h = record {
+  verb = verb;
+  rest = h.word ∷ p ∷ l ∷ [];
+  verb_is = is;
+  words_are = h.words_are;
+  taken = take (h.word ∷ p ∷ l ∷ []) (both_true _ _ h.plan_is h.limits_is);
+  good = good (h.word ∷ p ∷ l ∷ []) ((d.year, d.month, d.day, h.day_is), tt);
+}
+
 spoken : (words : List Text) (what : Asked) → Ask words what → (what ≡ asked.nothing) ⊎ Spoken words what
 spoken words asked.nothing h = inl refl
-spoken words (asked.plan d p l) h = inr (record {
-  verb = plan;
-  rest = h.word ∷ p ∷ l ∷ [];
-  verb_is = refl;
-  words_are = h.words_are;
-  taken = both_true _ _ h.plan_is h.limits_is;
-  good = ((d.year, d.month, d.day, h.day_is), tt);
-})
+spoken words (asked.plan d p l) h =
+    inr (plan_spoken (asked.plan d p l) plan words d p l refl (λ rest t. t) (λ rest t. t) h)
 spoken words (asked.drop d) h = inr (record { verb = drop; rest = h.word ∷ []; verb_is = refl; words_are = h.words_are; taken = refl; good = ((d.year, d.month, d.day, h.day_is), tt) })
 spoken words (asked.add r) h = let g = run_good (codes "add") words r add refl (λ rest t. t) (λ rest t. t) h in inr (record { verb = add; rest = g.0; verb_is = refl; words_are = g.1; taken = g.2; good = g.3 })
 spoken words (asked.change r) h = let g = run_good (codes "change") words r change refl (λ rest t. t) (λ rest t. t) h in inr (record { verb = change; rest = g.0; verb_is = refl; words_are = g.1; taken = g.2; good = g.3 })
@@ -163,6 +180,16 @@ spoken words asked.work h = inr (record { verb = work; rest = []; verb_is = refl
 spoken words (asked.trace e t) h = inr (record { verb = trace; rest = e ∷ h.word ∷ []; verb_is = refl; words_are = h.words_are; taken = refl; good = (h.employee_is, (time_good h.word t h.time_is, tt)) })
 spoken words (asked.filing m) h = inr (record { verb = filing; rest = h.word ∷ []; verb_is = refl; words_are = h.words_are; taken = refl; good = ((m.year, m.month, h.month_is), tt) })
 spoken words asked.owed h = inr (record { verb = owed; rest = []; verb_is = refl; words_are = h; taken = refl; good = tt })
+spoken words (asked.opening f) h = inr (record {
+  verb = opening;
+  rest = f ∷ [];
+  verb_is = refl;
+  words_are = h.words_are;
+  taken = h.file_is;
+  good = tt;
+})
+spoken words (asked.trial d p l) h =
+    inr (plan_spoken (asked.trial d p l) trial words d p l refl (λ rest t. t) (λ rest t. t) h)
 
 -- why words are refused
 data Wrong (words : List Text) : LineFault → Type 0 where
@@ -260,16 +287,30 @@ meant_once make command words e t e' t' h k =
     let who : e ≡ e' = cc in
     ap (λ z. make z t) who ∙ ap (make e') (times_once h.word t t' h.time_is (subst (λ z. IsTime z t') word k.time_is))
 
-by_verb : (words : List Text) (a b : Asked) → asked_verb a ≡ asked_verb b → Ask words a → Ask words b → a ≡ b
-by_verb words asked.nothing asked.nothing e h k = refl
-by_verb words (asked.plan d p l) (asked.plan d' p' l') e h k =
+-- a day and two files, and one file, under any constructor
+plans_once : (make : Day → Text → Text → Asked) (command : Text) (words : List Text) (d : Day) (p l : Text)
+    (d' : Day) (p' l' : Text) → IsOfPlan command words d p l → IsOfPlan command words d' p' l' → make d p l ≡ make d' p' l'
+plans_once make command words d p l d' p' l' h k =
     let x = h.words_are in
     let y = k.words_are in
     let word : k.word ≡ h.word = cc in
     let days : d ≡ d' = days_once h.word d d' h.day_is (subst (λ t. IsDayWord t d') word k.day_is) in
     let plans : p ≡ p' = cc in
     let limits : l ≡ l' = cc in
-    ap (λ z. asked.plan z p l) days ∙ ap (λ z. asked.plan d' z l) plans ∙ ap (λ z. asked.plan d' p' z) limits
+    ap (λ z. make z p l) days ∙ ap (λ z. make d' z l) plans ∙ ap (λ z. make d' p' z) limits
+
+files_once : (make : Text → Asked) (command : Text) (words : List Text) (f g : Text) → IsOfFile command words f →
+    IsOfFile command words g → make f ≡ make g
+files_once make command words f g h k =
+    let x = h.words_are in
+    let y = k.words_are in
+    let same : f ≡ g = cc in
+    ap make same
+
+by_verb : (words : List Text) (a b : Asked) → asked_verb a ≡ asked_verb b → Ask words a → Ask words b → a ≡ b
+by_verb words asked.nothing asked.nothing e h k = refl
+by_verb words (asked.plan d p l) (asked.plan d' p' l') e h k =
+    plans_once asked.plan (codes "plan") words d p l d' p' l' h k
 by_verb words (asked.drop d) (asked.drop d') e h k =
     let x = h.words_are in
     let y = k.words_are in
@@ -278,7 +319,7 @@ by_verb words (asked.drop d) (asked.drop d') e h k =
 by_verb words (asked.add r) (asked.add s) e h k = ap asked.add (runs_once (codes "add") words r s h k)
 by_verb words (asked.change r) (asked.change s) e h k = ap asked.change (runs_once (codes "change") words r s h k)
 by_verb words (asked.withdraw w t) (asked.withdraw w' t') e h k = meant_once asked.withdraw (codes "withdraw") words w t w' t' h k
-by_verb words (asked.load f) (asked.load g) e h k = let x = h.words_are in let y = k.words_are in let same : f ≡ g = cc in ap asked.load same
+by_verb words (asked.load f) (asked.load g) e h k = files_once asked.load (codes "load") words f g h k
 by_verb words asked.report asked.report e h k = refl
 by_verb words asked.work asked.work e h k = refl
 by_verb words (asked.trace w t) (asked.trace w' t') e h k = meant_once asked.trace (codes "trace") words w t w' t' h k
@@ -288,6 +329,9 @@ by_verb words (asked.filing m) (asked.filing m') e h k =
     let word : k.word ≡ h.word = cc in
     ap asked.filing (months_once h.word m m' h.month_is (subst (λ t. IsMonthText t m'.year m'.month) word k.month_is))
 by_verb words asked.owed asked.owed e h k = refl
+by_verb words (asked.opening f) (asked.opening g) e h k = files_once asked.opening (codes "open") words f g h k
+by_verb words (asked.trial d p l) (asked.trial d' p' l') e h k =
+    plans_once asked.trial (codes "try") words d p l d' p' l' h k
 by_verb words a b e h k = cc e
 
 ask_once : (words : List Text) (a b : Asked) → Ask words a → Ask words b → a ≡ b

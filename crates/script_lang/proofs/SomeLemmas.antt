@@ -14,7 +14,9 @@ use Rattle.payroll_records.proofs.Laws.{Decided, both, by_iff, true_decided, eq_
 use Rattle.script_lang.specs.Commands as asked
 use Rattle.script_lang.specs.Commands.{Asked}
 use Rattle.script_lang.specs.Fields.{Field, IsGood, fault_of, employee, month, day, day_in, value, new_name, name_in, time_field}
-use Rattle.script_lang.specs.Lines.{Verb, plan, drop, add, change, withdraw, load, report, work, trace, filing, owed, text_of, takes, fields_of, IsSilent, IsTime, IsOfRun, IsOfRecord, Ask, IsFirstFault, HaveFirstFault, LineSays}
+use Rattle.script_lang.specs.Lines.{Verb, plan, drop, add, change, withdraw, load, report, work, trace, filing, owed, opening, trial}
+use Rattle.script_lang.specs.Lines.{text_of, takes, fields_of, IsSilent, IsTime, IsOfRun, IsOfRecord, IsOfPlan, IsOfFile}
+use Rattle.script_lang.specs.Lines.{Ask, IsFirstFault, HaveFirstFault, LineSays}
 use Rattle.script_lang.specs.Words.{words_of}
 use Rattle.script_lang.specs.declared.fault.LineFault.{LineFault}
 use Rattle.script_lang.specs.declared.fault.LineFault.TheVariants as fault
@@ -85,7 +87,13 @@ verb_or_none w = elim (text_decided w (codes "plan")) [
                     | inl e ↦ inl (filing, e)
                     | inr k ↦ elim (text_decided w (codes "owed")) [
                       | inl e ↦ inl (owed, e)
-                      | inr l ↦ inr (none a b c d f g h i j k l)
+                      | inr l ↦ elim (text_decided w (codes "open")) [
+                        | inl e ↦ inl (opening, e)
+                        | inr m ↦ elim (text_decided w (codes "try")) [
+                          | inl e ↦ inl (trial, e)
+                          | inr n ↦ inr (none a b c d f g h i j k l m n)
+                        ]
+                      ]
                     ]
                   ]
                 ]
@@ -98,18 +106,21 @@ verb_or_none w = elim (text_decided w (codes "plan")) [
   ]
 ] where
   none : w ≢ codes "plan" → w ≢ codes "drop" → w ≢ codes "add" → w ≢ codes "change" → w ≢ codes "withdraw" → w ≢ codes "load" →
-      w ≢ codes "report" → w ≢ codes "work" → w ≢ codes "trace" → w ≢ codes "file" → w ≢ codes "owed" → (v : Verb) → w ≢ text_of v
-  none a b c d f g h i j k l plan = a
-  none a b c d f g h i j k l drop = b
-  none a b c d f g h i j k l add = c
-  none a b c d f g h i j k l change = d
-  none a b c d f g h i j k l withdraw = f
-  none a b c d f g h i j k l load = g
-  none a b c d f g h i j k l report = h
-  none a b c d f g h i j k l work = i
-  none a b c d f g h i j k l trace = j
-  none a b c d f g h i j k l filing = k
-  none a b c d f g h i j k l owed = l
+      w ≢ codes "report" → w ≢ codes "work" → w ≢ codes "trace" → w ≢ codes "file" → w ≢ codes "owed" →
+      w ≢ codes "open" → w ≢ codes "try" → (v : Verb) → w ≢ text_of v
+  none a b c d f g h i j k l m n plan = a
+  none a b c d f g h i j k l m n drop = b
+  none a b c d f g h i j k l m n add = c
+  none a b c d f g h i j k l m n change = d
+  none a b c d f g h i j k l m n withdraw = f
+  none a b c d f g h i j k l m n load = g
+  none a b c d f g h i j k l m n report = h
+  none a b c d f g h i j k l m n work = i
+  none a b c d f g h i j k l m n trace = j
+  none a b c d f g h i j k l m n filing = k
+  none a b c d f g h i j k l m n owed = l
+  none a b c d f g h i j k l m n opening = m
+  none a b c d f g h i j k l m n trial = n
 
 -- ---- what good words ask for
 
@@ -140,22 +151,35 @@ meant_of command (e ∷ w ∷ []) taken good =
     (e, t.0, record { word = w; words_are = refl; employee_is = good.0; time_is = t.1 })
 meant_of command rest taken good = absurd (false≢true taken)
 
-asked_by : (verb : Verb) (rest : List Text) → IsTrue (takes verb rest) → AllByRecursion IsGood (fields_of verb rest) → (what : Asked) × Ask (text_of verb ∷ rest) what
-asked_by plan (w ∷ p ∷ l ∷ []) taken good = (
-  asked.plan (day_of_text w good.0) p l,
+plan_of : (command : Text) (rest : List Text) → IsTrue (takes plan rest) → AllByRecursion IsGood (fields_of plan rest) →
+    (d : Day) × (p : Text) × (l : Text) × IsOfPlan command (command ∷ rest) d p l
+plan_of command (w ∷ p ∷ l ∷ []) taken good = (
+  day_of_text w good.0,
+  p,
+  l,
   record { word = w; words_are = refl; plan_is = and_first _ _ taken; limits_is = and_second _ _ taken; day_is = good.0.3 },
 )
+plan_of command rest taken good = absurd (false≢true taken)
+
+file_of : (command : Text) (rest : List Text) → IsTrue (takes load rest) → (f : Text) × IsOfFile command (command ∷ rest) f
+file_of command (f ∷ []) taken = (f, record { words_are = refl; file_is = taken })
+file_of command rest taken = absurd (false≢true taken)
+
+asked_by : (verb : Verb) (rest : List Text) → IsTrue (takes verb rest) → AllByRecursion IsGood (fields_of verb rest) → (what : Asked) × Ask (text_of verb ∷ rest) what
+asked_by plan rest taken good = let p = plan_of (codes "plan") rest taken good in (asked.plan p.0 p.1 p.2, p.3)
 asked_by drop (w ∷ []) taken good = (asked.drop (day_of_text w good.0), record { word = w; words_are = refl; day_is = good.0.3 })
 asked_by add rest taken good = let r = run_of (codes "add") rest taken good in (asked.add r.0, r.1)
 asked_by change rest taken good = let r = run_of (codes "change") rest taken good in (asked.change r.0, r.1)
 asked_by withdraw rest taken good = let r = meant_of (codes "withdraw") rest taken good in (asked.withdraw r.0 r.1, r.2)
-asked_by load (f ∷ []) taken good = (asked.load f, record { words_are = refl; file_is = taken })
+asked_by load rest taken good = let f = file_of (codes "load") rest taken in (asked.load f.0, f.1)
 asked_by report [] taken good = (asked.report, refl)
 asked_by work [] taken good = (asked.work, refl)
 asked_by trace rest taken good = let r = meant_of (codes "trace") rest taken good in (asked.trace r.0 r.1, r.2)
 asked_by filing (w ∷ []) taken good =
     (asked.filing (record { year = good.0.0; month = good.0.1; exists = good.0.2.exists }), record { word = w; words_are = refl; month_is = good.0.2 })
 asked_by owed [] taken good = (asked.owed, refl)
+asked_by opening rest taken good = let f = file_of (codes "open") rest taken in (asked.opening f.0, f.1)
+asked_by trial rest taken good = let p = plan_of (codes "try") rest taken good in (asked.trial p.0 p.1 p.2, p.3)
 asked_by verb rest taken good = absurd (false≢true taken)
 
 -- ---- lines

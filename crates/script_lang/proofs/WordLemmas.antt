@@ -1,8 +1,8 @@
 -- The words behind a command's first, command by command.
-use Rattle.std.proofs.Common.{◌≡◌, ◌∙◌, ℕ, ◌<◌, ◌≤◌, true, List, [], ◌∷◌, length, drop, get_or, refl, sym, ap, subst, arith}
+use Rattle.std.proofs.Common.{◌≡◌, ◌∙◌, ℕ, ◌-◌, ◌<◌, ◌≤◌, true, List, [], ◌∷◌, length, take, drop, get_or, refl, sym, ap, subst, arith}
 use Rattle.std.specs.Prelude.{IsTrue, ◌&&◌, not, nat_eq, nat_le, codes}
 use Rattle.std.proofs.lemmas.Bool.{false≢true, eq-eqb, le-leb}
-use Rattle.std.proofs.lemmas.List.{length-map}
+use Rattle.std.proofs.lemmas.List.{length-map, take_all}
 use denote.Ref.{Bor}
 use Rattle.payroll_records.specs.Days.{IsDayText, IsMonthText, IsDaySpelled, IsMonthSpelled}
 use Rattle.payroll_records.specs.Employees.{is_employee}
@@ -12,13 +12,20 @@ use Rattle.payroll_records.specs.declared.month.Month.{Month}
 use Rattle.payroll_records.proofs.Laws.{year_is, month_is}
 use Rattle.script_lang.specs.Fields.{fault_of, employee, month, day, day_in, time_field, value_fields}
 use Rattle.script_lang.specs.Lines as lines
-use Rattle.script_lang.specs.Lines.{IsFirstFault, IsDayWord, IsPlan, IsDrop, IsFileMonth, IsOfRecord, takes, fields_of}
+use Rattle.script_lang.specs.Lines.{IsFirstFault, IsDayWord, IsOfPlan, IsDrop, IsFileMonth, IsOfRecord, takes, fields_of}
 use Rattle.script_lang.specs.Views.{Breaks, BreaksIn, IsFaultOf, texts}
 use Rattle.script_lang.specs.Words.{is_file}
 use Rattle.script_lang.specs.declared.fault.LineFault.{LineFault}
 use Rattle.script_lang.specs.declared.fault.LineFault.TheVariants as fault
 use Rattle.script_lang.proofs.FileLemmas.{both_true}
 use Rattle.script_lang.proofs.FieldLemmas.{first_here, first_later, first_front, breaks_of, faulty, faulty_in}
+
+-- the first of some words, and those behind it
+pub words_split : (words : List (Bor Text)) → 1 ≤ length words →
+    (w : Bor Text) × (words ≡ w ∷ take (length words - 1) (drop 1 words))
+words_split [] some = absurd (omega (arith, some))
+words_split (w ∷ ws) some =
+    (w, ap (λ vs. w ∷ vs) (sym (take_all (length (w ∷ ws) - 1) ws (omega arith))))
 
 -- a month and a day in it
 pub month_breaks : (first second : Text) (f : LineFault) → Breaks (month first) f → BreaksIn (month first ∷ day_in first second ∷ []) f
@@ -61,7 +68,7 @@ is_file_month [] d when l m b = absurd (omega (arith, l))
 is_file_month (w ∷ []) d when l m b = record { word = w.now; words_are = refl; month_is = b }
 is_file_month (w ∷ v ∷ ws) d when l m b = absurd (omega (arith, m))
 
--- plan
+-- plan and try
 pub plan_broken : (rest : List (Bor Text)) (d : Bor Text) (f : LineFault) → 3 ≤ length rest → length rest < 4 →
     IsTrue (is_file (get_or rest 1 d).now) → IsTrue (is_file (get_or rest 2 d).now) → Breaks (day (get_or rest 0 d).now) f → IsFaultOf lines.plan (texts rest) f
 plan_broken [] d f l m p q b = absurd (omega (arith, l))
@@ -70,20 +77,20 @@ plan_broken (w ∷ v ∷ []) d f l m p q b = absurd (omega (arith, l))
 plan_broken (w ∷ v ∷ u ∷ []) d f l m p q b = faulty lines.plan (w.now ∷ v.now ∷ u.now ∷ []) f (both_true _ _ p q) (first_here (day w.now) [] f b.0 b.1)
 plan_broken (w ∷ v ∷ u ∷ t ∷ ws) d f l m p q b = absurd (omega (arith, m))
 
-pub is_plan : (rest : List (Bor Text)) (d : Bor Text) (when : Day) (plan limits : Text) → 3 ≤ length rest → length rest < 4 →
+pub is_plan : (command : Text) (rest : List (Bor Text)) (d : Bor Text) (when : Day) (plan limits : Text) → 3 ≤ length rest → length rest < 4 →
     IsTrue (is_file (get_or rest 1 d).now) → plan ≡ (get_or rest 1 d).now → IsTrue (is_file (get_or rest 2 d).now) → limits ≡ (get_or rest 2 d).now →
-    IsDayWord (get_or rest 0 d).now when → IsPlan (codes "plan" ∷ texts rest) when plan limits
-is_plan [] d when plan limits l m p e q g b = absurd (omega (arith, l))
-is_plan (w ∷ []) d when plan limits l m p e q g b = absurd (omega (arith, l))
-is_plan (w ∷ v ∷ []) d when plan limits l m p e q g b = absurd (omega (arith, l))
-is_plan (w ∷ v ∷ u ∷ []) d when plan limits l m p e q g b = record {
+    IsDayWord (get_or rest 0 d).now when → IsOfPlan command (command ∷ texts rest) when plan limits
+is_plan command [] d when plan limits l m p e q g b = absurd (omega (arith, l))
+is_plan command (w ∷ []) d when plan limits l m p e q g b = absurd (omega (arith, l))
+is_plan command (w ∷ v ∷ []) d when plan limits l m p e q g b = absurd (omega (arith, l))
+is_plan command (w ∷ v ∷ u ∷ []) d when plan limits l m p e q g b = record {
   word = w.now;
-  words_are = ap (λ x. codes "plan" ∷ w.now ∷ x ∷ u.now ∷ []) (sym e) ∙ ap (λ x. codes "plan" ∷ w.now ∷ plan ∷ x ∷ []) (sym g);
+  words_are = ap (λ x. command ∷ w.now ∷ x ∷ u.now ∷ []) (sym e) ∙ ap (λ x. command ∷ w.now ∷ plan ∷ x ∷ []) (sym g);
   plan_is = subst (λ x. IsTrue (is_file x)) (sym e) p;
   limits_is = subst (λ x. IsTrue (is_file x)) (sym g) q;
   day_is = b;
 }
-is_plan (w ∷ v ∷ u ∷ t ∷ ws) d when plan limits l m p e q g b = absurd (omega (arith, m))
+is_plan command (w ∷ v ∷ u ∷ t ∷ ws) d when plan limits l m p e q g b = absurd (omega (arith, m))
 
 -- withdraw and trace
 pub employee_broken : (rest : List (Bor Text)) (d : Bor Text) (f : LineFault) → 2 ≤ length rest → length rest < 3 → Breaks (employee (get_or rest 0 d).now) f → IsFaultOf lines.withdraw (texts rest) f

@@ -26,6 +26,10 @@ pub data Asked : Type 0 where
   -- this month is filed; its line begins with `file`
   filing : Month → Asked
   owed : Asked
+  -- the book of a saved text, which this file holds; its line begins with `open`
+  opening : Text → Asked
+  -- what the plan and the limits of these files would change if they stood from a day on; its line begins with `try`
+  trial : Day → Text → Text → Asked
 
 abbrev pub asked_of : Command → Asked
 asked_of code.Nothing = nothing
@@ -40,3 +44,5 @@ asked_of code.Work = work
 asked_of (code.Trace employee time) = trace employee time
 asked_of (code.File m) = filing m
 asked_of code.Owed = owed
+asked_of (code.Open file) = opening (string_bytes file)
+asked_of (code.Try day file limits) = trial day (string_bytes file) (string_bytes limits)

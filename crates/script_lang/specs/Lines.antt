@@ -32,10 +32,10 @@ IsSilent (word ∷ words) = slice_index word 0 ≡ 35
 abbrev pub IsDayWord : Text → Day → Type 0
 IsDayWord word d = IsDayText word d.year d.month d.day
 
--- plan DAY PLANFILE LIMITFILE
-pub record IsPlan (words : List Text) (d : Day) (plan limits : Text) : Type 0 where
+-- plan DAY PLANFILE LIMITFILE and try DAY PLANFILE LIMITFILE
+pub record IsOfPlan (command : Text) (words : List Text) (d : Day) (plan limits : Text) : Type 0 where
   pub word : Text
-  pub words_are : words ≡ codes "plan" ∷ word ∷ plan ∷ limits ∷ []
+  pub words_are : words ≡ command ∷ word ∷ plan ∷ limits ∷ []
   pub plan_is : IsTrue (is_file plan)
   pub limits_is : IsTrue (is_file limits)
   pub day_is : IsDayWord word d
@@ -70,9 +70,9 @@ pub record IsOfRun (command : Text) (words : List Text) (who : Text) (time : Whe
   pub employee_is : IsTrue (is_employee who)
   pub time_is : IsTime word time
 
--- load FILE
-pub record IsLoad (words : List Text) (file : Text) : Type 0 where
-  pub words_are : words ≡ codes "load" ∷ file ∷ []
+-- load FILE and open FILE
+pub record IsOfFile (command : Text) (words : List Text) (file : Text) : Type 0 where
+  pub words_are : words ≡ command ∷ file ∷ []
   pub file_is : IsTrue (is_file file)
 
 -- file MONTH
@@ -84,17 +84,19 @@ pub record IsFileMonth (words : List Text) (m : Month) : Type 0 where
 -- what the words ask for
 abbrev pub Ask : List Text → Asked → Type 0
 Ask words asked.nothing = IsSilent words
-Ask words (asked.plan d plan limits) = IsPlan words d plan limits
+Ask words (asked.plan d plan limits) = IsOfPlan (codes "plan") words d plan limits
 Ask words (asked.drop d) = IsDrop words d
 Ask words (asked.add r) = IsOfRecord (codes "add") words r
 Ask words (asked.change r) = IsOfRecord (codes "change") words r
 Ask words (asked.withdraw who time) = IsOfRun (codes "withdraw") words who time
-Ask words (asked.load file) = IsLoad words file
+Ask words (asked.load file) = IsOfFile (codes "load") words file
 Ask words asked.report = words ≡ codes "report" ∷ []
 Ask words asked.work = words ≡ codes "work" ∷ []
 Ask words (asked.trace who time) = IsOfRun (codes "trace") words who time
 Ask words (asked.filing m) = IsFileMonth words m
 Ask words asked.owed = words ≡ codes "owed" ∷ []
+Ask words (asked.opening file) = IsOfFile (codes "open") words file
+Ask words (asked.trial d plan limits) = IsOfPlan (codes "try") words d plan limits
 
 -- what a line asks for
 pub record IsLine (line : Text) (what : Asked) : Type 0 where
@@ -116,6 +118,8 @@ pub data Verb : Type 0 where
   trace : Verb
   filing : Verb
   owed : Verb
+  opening : Verb
+  trial : Verb
 
 abbrev pub text_of : Verb → Text
 text_of plan = codes "plan"
@@ -129,6 +133,8 @@ text_of work = codes "work"
 text_of trace = codes "trace"
 text_of filing = codes "file"
 text_of owed = codes "owed"
+text_of opening = codes "open"
+text_of trial = codes "try"
 
 -- an employee, a month, a day, and at most 256 value words
 abbrev pub takes_record : List Text → Bool
@@ -140,29 +146,47 @@ abbrev pub takes_run : List Text → Bool
 takes_run (employee ∷ time ∷ []) = true
 takes_run _ = false
 
+-- a day and two files
+abbrev pub takes_plan : List Text → Bool
+takes_plan (day ∷ file ∷ limits ∷ []) = is_file file && is_file limits
+takes_plan _ = false
+
+-- a file
+abbrev pub takes_file : List Text → Bool
+takes_file (file ∷ []) = is_file file
+takes_file _ = false
+
 -- whether a command takes these words behind its first: as many as these, and files where it names files
 abbrev pub takes : Verb → List Text → Bool
-takes plan (day ∷ file ∷ limits ∷ []) = is_file file && is_file limits
+takes plan words = takes_plan words
 takes drop (day ∷ []) = true
 takes add words = takes_record words
 takes change words = takes_record words
 takes withdraw words = takes_run words
-takes load (file ∷ []) = is_file file
+takes load words = takes_file words
 takes report [] = true
 takes work [] = true
 takes trace words = takes_run words
 takes filing (month ∷ []) = true
 takes owed [] = true
+takes opening words = takes_file words
+takes trial words = takes_plan words
 takes _ _ = false
+
+-- the day of a plan
+abbrev pub plan_fields : List Text → List Field
+plan_fields (day ∷ file ∷ limits ∷ []) = field.day day ∷ []
+plan_fields _ = []
 
 -- what is asked of the words behind the first, from the left
 abbrev pub fields_of : Verb → List Text → List Field
-fields_of plan (day ∷ file ∷ limits ∷ []) = field.day day ∷ []
+fields_of plan words = plan_fields words
 fields_of drop (day ∷ []) = field.day day ∷ []
 fields_of add words = record_fields words
 fields_of change words = record_fields words
 fields_of withdraw words = run_fields words
 fields_of trace words = run_fields words
+fields_of trial words = plan_fields words
 fields_of filing (month ∷ []) = field.month month ∷ []
 fields_of _ _ = []
 

@@ -27,6 +27,8 @@ verb_of code.Work = lines.work
 verb_of code.Trace = lines.trace
 verb_of code.File = lines.filing
 verb_of code.Owed = lines.owed
+verb_of code.Open = lines.opening
+verb_of code.Try = lines.trial
 
 -- the result is what the words ask for, or what is wrong with them
 abbrev pub Answers : List Text → Result Command LineFault → Type 0

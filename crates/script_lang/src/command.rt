@@ -45,4 +45,14 @@ pub enum Command {
     },
     /// `owed`
     Owed,
+    /// `open FILE`: the book of a saved text.
+    Open {
+        file: String,
+    },
+    /// `try DAY PLANFILE LIMITFILE`: what the plan and the limits of these files would change.
+    Try {
+        day: Day,
+        plan: String,
+        limits: String,
+    },
 }

@@ -9,7 +9,7 @@ use thiserror::Error;
 /// Why a line of a script is refused. Words are counted from 1, the command being word 1.
 #[derive(Debug, Drop, Error)]
 pub enum LineFault {
-    #[error("the first word is no command: plan, drop, add, change, withdraw, load, report, work, trace, file or owed")]
+    #[error("the first word is no command: plan, drop, add, change, withdraw, load, report, work, trace, file, owed, open or try")]
     Command,
     #[error("the command takes other words: their number is wrong, or a file's name is not at most 255 visible ASCII characters")]
     Words,

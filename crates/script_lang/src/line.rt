@@ -1,15 +1,15 @@
 //! A line of a script.
-ghost use Rattle.std.specs.Prelude.{◌≡◌, ◌↔◌, ◌<◌, ◌∷◌, codes, IfErr, IfOk, IsTrue, MatchResult, length, slice_index};
+ghost use Rattle.std.specs.Prelude.{◌≡◌, ◌↔◌, ◌<◌, ◌∷◌, codes, IfErr, IfOk, IsTrue, MatchResult, length, slice_index, string_bytes};
 ghost use Rattle.payroll_records.specs.Tables.{Text};
 ghost use Rattle.script_lang.specs.Commands.{asked_of};
 ghost use Rattle.script_lang.specs.Lines as lines;
-ghost use Rattle.script_lang.specs.Lines.{Ask, HasOneAnswer, IsLine, IsOfRun, IsRefused};
+ghost use Rattle.script_lang.specs.Lines.{Ask, HasOneAnswer, IsLine, IsOfFile, IsOfPlan, IsOfRun, IsRefused};
 ghost use Rattle.script_lang.specs.Views.{Answers, IsFaultOf, texts};
 
 use crate::run::{read_day, read_employee, read_month, read_record, read_when};
 use crate::words::{Verb, file, read_verb, words};
 use crate::{Command, LineFault};
-use payroll_records::{Employee, When};
+use payroll_records::{Day, Employee, When};
 use std::alloc::Global;
 
 /// The most bytes of a line.
@@ -44,7 +44,10 @@ fn read_words(alloc: Global, words: &[&[u8]]) -> Result<Command, LineFault>
         return Ok(Command::Nothing);
     }
     match read_verb(first).ok_or(LineFault::Command)? {
-        Verb::Plan => read_plan(alloc, rest),
+        Verb::Plan => {
+            let (day, plan, limits) = read_plan(alloc, rest)?;
+            Ok(Command::Plan { day, plan, limits })
+        }
         Verb::Drop => read_drop(rest),
         Verb::Add => Ok(Command::Add(read_record(alloc, rest)?)),
         Verb::Change => Ok(Command::Change(read_record(alloc, rest)?)),
@@ -52,7 +55,10 @@ fn read_words(alloc: Global, words: &[&[u8]]) -> Result<Command, LineFault>
             let (employee, when) = read_run(rest)?;
             Ok(Command::Withdraw { employee, when })
         }
-        Verb::Load => read_load(alloc, rest),
+        Verb::Load => {
+            let file = read_file(alloc, rest)?;
+            Ok(Command::Load { file })
+        }
         Verb::Report => read_alone(rest, Command::Report),
         Verb::Work => read_alone(rest, Command::Work),
         Verb::Trace => {
@@ -61,6 +67,14 @@ fn read_words(alloc: Global, words: &[&[u8]]) -> Result<Command, LineFault>
         }
         Verb::File => read_filing(rest),
         Verb::Owed => read_alone(rest, Command::Owed),
+        Verb::Open => {
+            let file = read_file(alloc, rest)?;
+            Ok(Command::Open { file })
+        }
+        Verb::Try => {
+            let (day, plan, limits) = read_plan(alloc, rest)?;
+            Ok(Command::Try { day, plan, limits })
+        }
     }
 }
 
@@ -71,9 +85,11 @@ fn is_comment(word: &[u8]) -> bool
     word.first() == Some(&b'#')
 }
 
-/// The words behind `plan`: `DAY PLANFILE LIMITFILE`.
-fn read_plan(alloc: Global, rest: &[&[u8]]) -> Result<Command, LineFault>
-    ensures ok { IfOk result (λ command. Ask (codes "plan" ∷ texts rest.now) (asked_of command)) }
+/// The words behind `plan` and `try`: `DAY PLANFILE LIMITFILE`.
+fn read_plan(alloc: Global, rest: &[&[u8]]) -> Result<(Day, String, String), LineFault>
+    ensures ok { (command : Text) → IfOk result
+        (λ plan. IsOfPlan command (command ∷ texts rest.now) plan.0
+        (string_bytes plan.1) (string_bytes plan.2)) }
     ensures err { IfErr result (IsFaultOf lines.plan (texts rest.now)) }
 {
     let [day, plan, limits] = rest else {
@@ -81,11 +97,11 @@ fn read_plan(alloc: Global, rest: &[&[u8]]) -> Result<Command, LineFault>
     };
     let plan = file(plan).ok_or(LineFault::Words)?;
     let limits = file(limits).ok_or(LineFault::Words)?;
-    Ok(Command::Plan {
-        day: read_day(day)?,
-        plan: String::from_str(alloc, plan)?,
-        limits: String::from_str(alloc, limits)?,
-    })
+    Ok((
+        read_day(day)?,
+        String::from_str(alloc, plan)?,
+        String::from_str(alloc, limits)?,
+    ))
 }
 
 /// The word behind `drop`: `DAY`.
@@ -113,18 +129,17 @@ fn read_run(rest: &[&[u8]]) -> Result<(Employee, When), LineFault>
     Ok((read_employee(employee)?, read_when(when)?))
 }
 
-/// The word behind `load`: `FILE`.
-fn read_load(alloc: Global, rest: &[&[u8]]) -> Result<Command, LineFault>
-    ensures ok { IfOk result (λ command. Ask (codes "load" ∷ texts rest.now) (asked_of command)) }
+/// The word behind `load` and `open`: `FILE`.
+fn read_file(alloc: Global, rest: &[&[u8]]) -> Result<String, LineFault>
+    ensures ok { (command : Text) → IfOk result
+        (λ file. IsOfFile command (command ∷ texts rest.now) (string_bytes file)) }
     ensures err { IfErr result (IsFaultOf lines.load (texts rest.now)) }
 {
     let [name] = rest else {
         return Err(LineFault::Words);
     };
     let name = file(name).ok_or(LineFault::Words)?;
-    Ok(Command::Load {
-        file: String::from_str(alloc, name)?,
-    })
+    Ok(String::from_str(alloc, name)?)
 }
 
 /// The word behind `file`: `MONTH`.

@@ -26,6 +26,8 @@ pub(crate) enum Verb {
     Trace,
     File,
     Owed,
+    Open,
+    Try,
 }
 
 /// The words of a line.
@@ -61,6 +63,8 @@ pub(crate) fn read_verb(word: &[u8]) -> Option<Verb>
         b"trace" => Some(Verb::Trace),
         b"file" => Some(Verb::File),
         b"owed" => Some(Verb::Owed),
+        b"open" => Some(Verb::Open),
+        b"try" => Some(Verb::Try),
         _ => None,
     }
 }

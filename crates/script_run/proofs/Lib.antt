@@ -3,5 +3,7 @@ pub mod KeepingLaws
 pub mod Laws
 pub mod StepLaws
 pub mod TurnLaws
+pub mod DeliverLaws
 pub mod MemoryLaws
 pub mod SampleLaws
+pub mod ThereLaws

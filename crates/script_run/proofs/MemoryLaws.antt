@@ -1,16 +1,17 @@
 -- Over files that lack none of a script's, a run is stopped by memory alone.
 use Rattle.std.proofs.Common.{◌≡◌, List, [], ◌∷◌, ◌++◌, ℕ, ◌-◌, ◌≤◌, length, Option, sym, ap, ◌∙◌, subst, arith, length-append}
-use Rattle.std.specs.Prelude.{None, Some, IsSome, All, Ok, Err}
+use Rattle.std.specs.Prelude.{None, Some, IsSome, All, Bool, Vec, Result, Ok, Err, OnErr}
+use Rattle.std.specs.declared.alloc.Global.{Global}
 use Rattle.std.proofs.lemmas.List.Elements.{All-head, All-tail}
 use Rattle.outside.specs.Told.{FileMap}
 use Rattle.outside.specs.Memory.{file_named}
-use Rattle.script_steps.specs.Steps.{AreThere}
+use Rattle.script_steps.specs.Steps.{Standing, AreThere}
 use Rattle.script_run.specs.Limits.{most_script}
 use Rattle.script_run.specs.Transcripts.{lines_of}
-use Rattle.script_run.specs.RunClauses.{Shown, RunMeets, EndsAt, IsFinished}
+use Rattle.script_run.specs.RunClauses.{Shown, RunMeets, EndsAt, EndsUnwritten, IsFinished, IsSpentWithin}
 use Rattle.script_run.specs.declared.turns.Ended.{Ended}
 use Rattle.script_run.specs.declared.stop.Stop.TheVariants as stops
-use Rattle.script_run.proofs.Laws.{one}
+use Rattle.script_run.proofs.Laws.{one, some}
 
 line_there : (files : FileMap) (before later : List (List ℕ)) (line : List ℕ) → All (λ v. AreThere files v)
     (before ++ line ∷ later) → AreThere files line
@@ -45,7 +46,7 @@ no_long_stop script meets short = omega (
 -- what a whole run leaves
 pub finished : {before after : Shown} {left : Option (List ℕ)} (files : FileMap) (script : List ℕ) (ended : Ended) →
     RunMeets before after script left (Ok ended.refused) →
-    EndsAt files script ended.script → before.files ≡ Some files →
+    EndsAt files script ended.script ended.refusals → before.files ≡ Some files →
     IsFinished files script before.steps after.steps ended
 finished {before = before} {after = after} files script ended meets ends told =
     let whole = meets.leaves.tells.whole files told in
@@ -60,7 +61,45 @@ finished {before = before} {after = after} files script ended meets ends told =
       left = sym (ap (λ v. v.standing) same ∙ ends.left);
     }
 
+-- what a whole run has made whose refusals were kept
+pub ends_unwritten : {before after : Shown} {left : Option (List ℕ)} (files : FileMap) (script : List ℕ)
+    (refused : Bool) (standing : Standing) (kept : Vec ℕ Global) →
+    RunMeets before after script left (Ok refused) → EndsAt files script standing (Some kept) →
+    before.files ≡ Some files →
+    EndsUnwritten files script (record { refused = refused; refusals = kept; script = standing })
+ends_unwritten files script refused standing kept meets ends told =
+    let whole = meets.leaves.tells.whole files told in
+    let same = one files script whole.session ends.session whole.is ends.is in
+    record {
+      session = ends.session;
+      is = ends.is;
+      mark = whole.mark ∙ ap (λ v. v.refused) same;
+      refusals = ends.refusals;
+      left = sym ends.left;
+    }
+
+-- what a run leaves that memory stopped
+pub spent_within : {before after : Shown} {left : Option (List ℕ)} (files : FileMap) (script : List ℕ) →
+    RunMeets before after script left (Err stops.Memory) → before.files ≡ Some files →
+    IsSpentWithin files script before.steps after.steps
+spent_within {before = before} {after = after} files script meets told =
+    let has = some files script in
+    let front = meets.leaves.front files told has.session has.is in
+    let later : before.steps ≤ after.steps = meets.leaves.counted in
+    let cost : after.steps - before.steps ≤ (has.session).steps = front.cost in
+    record { session = has.session; is = has.is; later = later; within = omega arith }
+
+-- before anything was done
+pub spent_nothing : (files : FileMap) (script : List ℕ) (steps : ℕ) → IsSpentWithin files script steps steps
+spent_nothing files script steps =
+    let has = some files script in
+    record { session = has.session; is = has.is; later = omega arith; within = omega arith }
+
 -- the same files tell the same
 pub told_files : {files files' : List (List ℕ × List ℕ)} → files ≡ files' → ◌≡◌ {A = Option FileMap} (Some
     (file_named files)) (Some (file_named files'))
 told_files same = ap (λ v. Some (file_named v)) same
+
+pub on_err : {T E : Type 0} (P : Type 0) (r : Result T E) → P → OnErr r P
+on_err P (Ok value) is = tt
+on_err P (Err error) is = is

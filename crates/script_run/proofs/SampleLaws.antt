@@ -256,27 +256,38 @@ short_change employee few =
     (both_short (codes "change E") (decimal employee) 8 3 11 (omega arith) (short_number 3 employee (omega arith)
     (omega arith) (omega arith)) (omega arith)) (omega arith) (omega arith)
 
-short_numbers : (line_of : ℕ → List ℕ) (n most : ℕ) → n ≤ most → ((k : ℕ) → k ≤ most → length (line_of k) ≤ 150) →
-    All (λ v. length v ≤ 150) (map line_of (numbers n))
-short_numbers line_of zero most within each = All-nil (λ v. length v ≤ 150)
-short_numbers line_of (suc n) most within each =
-    subst (λ v. All (λ line. length line ≤ 150) v) (sym (map-append line_of (numbers n) (suc n ∷ [])))
-    (All-append (λ line. length line ≤ 150) (map line_of (numbers n)) (line_of (suc n) ∷ [])
-    (short_numbers line_of n most (omega arith) each)
-    (All-cons (λ line. length line ≤ 150) (line_of (suc n)) [] (each (suc n) within) (All-nil (λ v. length v ≤ 150))))
+-- what holds of each of these lines
+pub each_number : (P : List ℕ → Type 0) (line_of : ℕ → List ℕ) (n most : ℕ) → n ≤ most → ((k : ℕ) → k ≤ most →
+    P (line_of k)) → All P (map line_of (numbers n))
+each_number P line_of zero most within each = All-nil P
+each_number P line_of (suc n) most within each =
+    subst (λ v. All P v) (sym (map-append line_of (numbers n) (suc n ∷ [])))
+    (All-append P (map line_of (numbers n)) (line_of (suc n) ∷ []) (each_number P line_of n most (omega arith) each)
+    (All-cons P (line_of (suc n)) [] (each (suc n) within) (All-nil P)))
 
 year_after : (n : ℕ) → flat_map year_lines (numbers (suc n)) ≡ flat_map year_lines (numbers n) ++ year_lines (suc n)
 year_after n = flat_map-append year_lines (numbers n) (suc n ∷ []) ∙ ap (λ v. flat_map year_lines (numbers n) ++ v)
     (append-nil (year_lines (suc n)))
 
-short_years : (n : ℕ) → n ≤ 200 → All (λ v. length v ≤ 150) (flat_map year_lines (numbers n))
-short_years zero few = All-nil (λ v. length v ≤ 150)
-short_years (suc n) few =
-    subst (λ v. All (λ line. length line ≤ 150) v) (sym (year_after n))
-    (All-append (λ line. length line ≤ 150) (flat_map year_lines (numbers n)) (year_lines (suc n)) (short_years n
-    (omega arith))
-    (short_numbers (λ month. add_line (suc n) month) 12 12 (omega arith) (λ month most. short_add
-    (suc n) month few most)))
+pub each_year : (P : List ℕ → Type 0) (n : ℕ) → n ≤ 200 → ((employee month : ℕ) → employee ≤ 200 → month ≤ 12 →
+    P (add_line employee month)) → All P (flat_map year_lines (numbers n))
+each_year P zero few each = All-nil P
+each_year P (suc n) few each =
+    subst (λ v. All P v) (sym (year_after n))
+    (All-append P (flat_map year_lines (numbers n)) (year_lines (suc n)) (each_year P n (omega arith) each)
+    (each_number P (λ month. add_line (suc n) month) 12 12 (omega arith) (λ month most. each (suc n) month few most)))
+
+-- what holds of each line of a sample
+pub each_line : (P : List ℕ → Type 0) (employees : ℕ) → employees ≤ 200 → P (codes "plan 2025-01-01 p2.xml l2.toml") →
+    ((employee month : ℕ) → employee ≤ 200 → month ≤ 12 → P (add_line employee month)) →
+    ((employee : ℕ) → employee ≤ 200 → P (change_line employee)) → P (codes "report") → All P (sample_lines employees)
+each_line P employees few plan adds changes report =
+    let years = flat_map year_lines (numbers employees) in
+    let corrections = map change_line (numbers employees) in
+    All-cons P (codes "plan 2025-01-01 p2.xml l2.toml") (years ++ (corrections ++ codes "report" ∷ [])) plan
+    (All-append P years (corrections ++ codes "report" ∷ []) (each_year P employees few adds)
+    (All-append P corrections (codes "report" ∷ []) (each_number P change_line employees 200 few
+    (λ k within. changes k within)) (All-cons P (codes "report") [] report (All-nil P))))
 
 length-numbers : (n : ℕ) → length (numbers n) ≡ n
 length-numbers zero = refl
@@ -301,21 +312,12 @@ count_fits : (size lines employees : ℕ) → employees ≤ 200 → size ≤ 151
     size ≤ most_script
 count_fits size lines employees few short count = omega arith
 
-pub short_sample : (employees : ℕ) → employees ≤ 200 → length (script_of (sample_lines employees)) ≤ most_script
-short_sample employees few =
+-- the number of a sample's lines
+pub length-sample : (employees : ℕ) → length (sample_lines employees) ≡ 13 * employees + 2
+length-sample employees =
     let years = flat_map year_lines (numbers employees) in
     let changes = map change_line (numbers employees) in
-    let more = years ++ (changes ++ codes "report" ∷ []) in
-    let short_report : All (λ v. length v ≤ 150) (codes "report" ∷ []) = All-cons (λ v. length v ≤ 150)
-    (codes "report") [] (omega arith) (All-nil (λ v. length v ≤ 150)) in
-    let short_more = All-append (λ v. length v ≤ 150) years (changes ++ codes "report" ∷ [])
-    (short_years employees few)
-    (All-append (λ v. length v ≤ 150) changes (codes "report" ∷ []) (short_numbers change_line employees 200 few
-    (λ k within. short_change k within)) short_report) in
-    let short = short_script (sample_lines employees) (All-cons (λ v. length v ≤ 150)
-    (codes "plan 2025-01-01 p2.xml l2.toml") more (omega arith) short_more) in
-    count_fits (length (script_of (sample_lines employees))) (length (sample_lines employees)) employees few short
-    (omega (
+    omega (
       arith,
       length-append years (changes ++ codes "report" ∷ []),
       length-append changes
@@ -324,7 +326,14 @@ short_sample employees few =
       length-numbers employees,
       length-map
           (numbers employees) change_line,
-    ))
+    )
+
+pub short_sample : (employees : ℕ) → employees ≤ 200 → length (script_of (sample_lines employees)) ≤ most_script
+short_sample employees few =
+    let short = short_script (sample_lines employees) (each_line (λ v. length v ≤ 150) employees few (omega arith)
+    (λ employee month e m. short_add employee month e m) (λ employee e. short_change employee e) (omega arith)) in
+    count_fits (length (script_of (sample_lines employees))) (length (sample_lines employees)) employees few short
+    (length-sample employees)
 
 -- ---- the script as bytes
 

@@ -1,20 +1,22 @@
 -- How a run goes on over a script's bytes, and what a stop leaves.
 use Rattle.std.proofs.Common.{◌≡◌, List, [], ◌∷◌, ◌++◌, ℕ, ◌+◌, ◌-◌, ◌≤◌, ◌<◌, ◌==◌, Bool, false, ◌||◌, length, take, drop, get_or, Option, refl, sym, ap, ◌∙◌, subst, append_assoc, arith, inl, inr, length-append}
-use Rattle.std.specs.Prelude.{Result, Ok, Err, Some}
+use Rattle.std.specs.Prelude.{Result, Ok, Err, Some, None, Vec}
+use Rattle.std.specs.declared.alloc.Global.{Global}
 use Rattle.std.specs.Option.{ForSome}
 use Rattle.std.specs.Str.Lines.{strip_carriage_return}
 use Rattle.std.proofs.lemmas.List.{append-nil, take-append-drop, take_more, take_all}
 use Rattle.outside.specs.Told.{FileMap, Appends}
 use Rattle.outside.proofs.Laws.{Appends-then, Appends-nothing}
 use Rattle.script_steps.specs.Steps.{Standing, Answer, Names, IsStep}
+use Rattle.script_steps.specs.LineSteps.{IsNextFile}
 use Rattle.script_steps.specs.StepClauses.{IsAnswered, IsUnbegun, IsPart, IsCutShort, IsBroken}
 use Rattle.script_steps.specs.declared.stop.LineStop.{LineStop}
 use Rattle.script_steps.specs.declared.stop.LineStop.TheVariants.{File, Write, Memory}
 use Rattle.script_steps.proofs.Laws as step
-use Rattle.script_run.specs.Transcripts.{Session, opening, with_answer, lines_of, ended_lines, AreAnswered, IsSession, IsTranscript}
+use Rattle.script_run.specs.Transcripts.{Session, opening, with_answer, refusal_of, lines_of, ended_lines, AreAnswered, IsSession, IsTranscript}
 use Rattle.script_run.specs.Stops.{stop_of}
-use Rattle.script_run.specs.RunClauses.{Shown, IsFrontOf, IsAtLine, Leaves, EndsAt}
-use Rattle.script_run.specs.RunViews.{open_line, Holds, IsSameSoFar, IsAtStart, Stands, GoesOn, Breaks, Closes, ClosesAt}
+use Rattle.script_run.specs.RunClauses.{Shown, shown, told_by, IsFrontOf, IsAtLine, Leaves, EndsAt, AreKept}
+use Rattle.script_run.specs.RunViews.{open_line, Holds, IsSameSoFar, IsAtStart, Keeps, IsDelivered, Stands, GoesOn, Breaks, Closes, ClosesAt}
 use Rattle.script_run.specs.declared.stop.Stop.TheVariants as stops
 use Rattle.script_run.specs.declared.reading.Reading.{Reading}
 use Rattle.script_run.proofs.Laws.{AreAnswered-next, AreAnswered-grows, AreAnswered-there, IsSession-rest, IsSession-whole}
@@ -43,6 +45,25 @@ answered_same {from = from} {to = to} {said = said} {line = line} same answered 
   marked = answered.marked;
   is = λ files e. step_same files from to said line answered.answer same (answered.is files e);
 }
+
+pub delivered_same : {told : Option FileMap} {old new : Option
+    (List ℕ)} {before now : ℕ} {from to : Standing} {was is : Option
+    (Vec ℕ Global)} {said line : List ℕ} {refused : Bool} →
+    SaysSame said line → IsDelivered told old new before now from to was is said refused →
+    IsDelivered told old new before now from to was is line refused
+unfolding answered_same
+delivered_same same delivered = record {
+  answered = answered_same same delivered.answered;
+  kept = delivered.kept;
+}
+
+-- the refusals with one more answer
+kept_more : (was is : Option (Vec ℕ Global)) (answer : Answer) (refusals : List ℕ) → Keeps was is answer →
+    AreKept was refusals → AreKept is (refusals ++ refusal_of answer)
+kept_more None None answer refusals keeps kept = tt
+kept_more None (Some more) answer refusals keeps kept = absurd keeps
+kept_more (Some few) None answer refusals keeps kept = absurd keeps
+kept_more (Some few) (Some more) answer refusals keeps kept = keeps ∙ ap (λ v. v ++ refusal_of answer) kept
 
 -- what a stop leaves at a line
 pub record BreaksLine (old new : Shown) (from : Standing) (line : List ℕ) (stop : LineStop) : Type 0 where
@@ -83,23 +104,26 @@ broken_same {from = from} {said = said} {line = line} same Memory broken = recor
   ];
 }
 
-session_same : {a a' : List ℕ} {b b' : Bool} {c c' : ℕ} {d d' : Standing} → a ≡ a' → b ≡ b' → c ≡ c' → d ≡ d' →
-    ◌≡◌ {A = Session} (record { text = a; refused = b; steps = c; standing = d }) (record {
+session_same : {a a' e : List ℕ} {b b' : Bool} {c c' : ℕ} {d d' : Standing} → a ≡ a' → b ≡ b' → c ≡ c' → d ≡ d' →
+    ◌≡◌ {A = Session} (record { text = a; refused = b; refusals = e; steps = c; standing = d }) (record {
       text = a';
       refused = b';
+      refusals = e;
       steps = c';
       standing = d';
     })
-session_same p q r s = λ i. record { text = p i; refused = q i; steps = r i; standing = s i }
+session_same {e = e} p q r s = λ i. record { text = p i; refused = q i; refusals = e; steps = r i; standing = s i }
 
 -- before the first byte
 pub stands_first : (before : Shown) (reading : Reading) → IsAtStart reading → Stands before before [] reading
 stands_first before reading first = record {
   out = [];
+  refusals = [];
   same = refl;
   appended = Appends-nothing before.written;
   counted = omega arith;
   held = record { front = first.line; long = first.long };
+  kept = first.refusals;
   answered = λ files e. session_same refl first.refused (omega arith) first.script;
 }
 
@@ -109,14 +133,17 @@ pub push_on : {old : Shown} {was is : Reading} (b : ℕ) → (b == 10) ≡ false
 push_on {old = old} {was = was} {is = is} b other held same = record {
   on = λ before bytes stands. record {
     out = stands.out;
+    refusals = stands.refusals;
     same = stands.same;
     appended = stands.appended;
     counted = stands.counted;
     held = subst (λ v. Holds is v) (sym (open_line-other bytes b other)) (held (open_line bytes) stands.held);
+    kept = subst (λ v. AreKept v stands.refusals) (sym same.refusals) stands.kept;
     answered = λ files e.
         subst (λ v. AreAnswered files opening v (record {
           text = stands.out;
           refused = is.refused;
+          refusals = stands.refusals;
           steps =
               old.steps - before.steps;
           standing = is.script;
@@ -126,30 +153,55 @@ push_on {old = old} {was = was} {is = is} b other held same = record {
   };
 }
 
+-- of the sink the same is shown, since refusals are kept or not as before
+pub goes_told : (files : Option FileMap) (failed w : Option (List ℕ)) (steps : ℕ) (was is : Reading) (more : List ℕ) →
+    is.refusals ≡ was.refusals →
+    GoesOn (shown files failed (told_by was.refusals w) steps) (shown files failed (told_by was.refusals w) steps) was is
+    more →
+    GoesOn (shown files failed (told_by was.refusals w) steps) (shown files failed (told_by is.refusals w) steps) was is
+    more
+goes_told files failed w steps was is more same goes =
+    subst (λ r. GoesOn (shown files failed (told_by was.refusals w) steps) (shown files failed (told_by r w) steps) was is
+    more) (sym same) goes
+
+pub breaks_told : (files : Option FileMap) (failed w : Option (List ℕ)) (steps : ℕ) (was is : Reading) (more : List ℕ)
+    (stop : LineStop) → is.refusals ≡ was.refusals →
+    Breaks (shown files failed (told_by was.refusals w) steps) (shown files failed (told_by was.refusals w) steps) was
+    more stop →
+    Breaks (shown files failed (told_by was.refusals w) steps) (shown files failed (told_by is.refusals w) steps) was
+    more stop
+breaks_told files failed w steps was is more stop same breaks =
+    subst (λ r. Breaks (shown files failed (told_by was.refusals w) steps) (shown files failed (told_by r w) steps) was
+    more stop) (sym same) breaks
+
 -- an LF, with the answer to its line
 pub line_on : {old new : Shown} {was is : Reading} {refused : Bool} → new.files ≡ old.files →
     ((line : List ℕ) → Holds was line →
-    IsAnswered old.files old.written new.written old.steps new.steps was.script is.script
+    IsDelivered old.files old.written new.written old.steps new.steps was.script is.script was.refusals is.refusals
     (strip_carriage_return line) refused) →
     Holds is [] → is.refused ≡ (was.refused || refused) → GoesOn old new was is (10 ∷ [])
 line_on {old = old} {new = new} {was = was} {is = is} {refused = refused} same_files answers held mark = record {
   on = λ before bytes stands.
-      let answered = answers (open_line bytes) stands.held in
+      let delivered = answers (open_line bytes) stands.held in
+      let answered = delivered.answered in
       let rose : before.steps ≤ old.steps = stands.counted in
       let counted : new.steps ≡ old.steps + (answered.answer).steps = answered.counted in
       let steps : (old.steps - before.steps) + (answered.answer).steps ≡ new.steps - before.steps = omega arith in
       record {
         out = stands.out ++ (answered.answer).text;
+        refusals = stands.refusals ++ refusal_of answered.answer;
         same = same_files ∙ stands.same;
         appended = Appends-then before.written old.written new.written stands.out
             (answered.answer).text stands.appended answered.appended;
         counted = omega arith;
         held = subst (λ v. Holds is v) (sym (open_line-lf bytes)) held;
+        kept = kept_more was.refusals is.refusals answered.answer stands.refusals delivered.kept stands.kept;
         answered = λ files e.
             subst (λ v. AreAnswered files opening v (record {
               text = stands.out ++ (answered.answer).text;
               refused =
                   is.refused;
+              refusals = stands.refusals ++ refusal_of answered.answer;
               steps = new.steps - before.steps;
               standing = is.script;
             })) (sym (ended_lines-lf bytes))
@@ -181,15 +233,18 @@ nothing_on : {before old new : Shown} {bytes : List ℕ} {was : Reading} → new
     IsUnbegun old.written new.written old.steps new.steps → Stands before old bytes was → Stands before new bytes was
 nothing_on {before = before} {old = old} {new = new} {bytes = bytes} {was = was} same nothing stands = record {
   out = stands.out;
+  refusals = stands.refusals;
   same = same ∙ stands.same;
   appended = subst (λ v. Appends before.written new.written v) (append-nil stands.out)
       (Appends-then before.written old.written new.written stands.out [] stands.appended nothing.nothing);
   counted = subst (λ v. before.steps ≤ v) (sym nothing.uncounted) stands.counted;
   held = stands.held;
+  kept = stands.kept;
   answered = λ files e.
       subst (λ v. AreAnswered files opening (ended_lines bytes) (record {
         text = stands.out;
         refused = was.refused;
+        refusals = stands.refusals;
         steps = v - before.steps;
         standing = was.script;
       })) (sym nothing.uncounted) (stands.answered files e);
@@ -230,9 +285,10 @@ leaves_so_far {bytes = bytes} {script = script} begins stands = record {
 }
 
 leaves_file : {most : ℕ} {before now : Shown} {bytes script taken rest line : List ℕ} {reading : Reading} →
-    IsAtLine most script taken (ended_lines bytes) line → (name : List ℕ) → Names line name → now.failed ≡ Some name →
+    IsAtLine most script taken (ended_lines bytes) line → (name : List ℕ) (names : Names line name) →
+    ForSome before.files (λ files. IsNextFile files names.what name) → now.failed ≡ Some name →
     Stands before now bytes reading → Leaves most before now script taken rest (Err stops.File)
-leaves_file {bytes = bytes} {script = script} {line = line} place name names failed stands = record {
+leaves_file {bytes = bytes} {script = script} {line = line} place name names in_order failed stands = record {
   out = stands.out;
   appended = stands.appended;
   counted = stands.counted;
@@ -244,6 +300,7 @@ leaves_file {bytes = bytes} {script = script} {line = line} place name names fai
     place = place;
     name = name;
     names = names;
+    in_order = in_order;
     failed_there = failed;
     exact = λ files e. record { session = _; answered = stands.answered files e; text = refl; cost = refl };
   };
@@ -318,7 +375,8 @@ leaves_broken : {most : ℕ} {before old new : Shown} {bytes script taken rest l
     (stop : LineStop) → BreaksLine old new was.script line stop → Stands before old bytes was →
     Leaves most before new script taken rest (Err (stop_of stop))
 leaves_broken same place File broken stands = leaves_file place (broken.is).name (broken.is).names
-    (broken.is).failed_there (nothing_on same (broken.is).unbegun stands)
+    (λ files e. (broken.is).in_order files (stands.same ∙ e)) (broken.is).failed_there
+    (nothing_on same (broken.is).unbegun stands)
 leaves_broken same place Write broken stands = leaves_write place broken.is stands
 leaves_broken {line = line} same place Memory broken stands =
     elim (broken.is) [
@@ -425,6 +483,7 @@ leaves_ahead ahead fits File leaves = record {
     place = place_ahead ahead fits at.place;
     name = at.name;
     names = at.names;
+    in_order = at.in_order;
     failed_there = at.failed_there;
     exact = at.exact;
   };
@@ -487,16 +546,17 @@ breaks_within {new = new} {stop = stop} front more later piece is p q = record {
 
 -- all lines of a script were answered
 leaves_whole : {before now : Shown} {script : List ℕ} (out : List ℕ) → Appends before.written now.written out →
-    before.steps ≤ now.steps → (standing : Standing) (refused : Bool) →
+    before.steps ≤ now.steps → (standing : Standing) (refused : Bool) (refusals : List ℕ) →
     ForSome before.files (λ files. AreAnswered files opening (lines_of script) (record {
       text = out;
       refused =
           refused;
+      refusals = refusals;
       steps = now.steps - before.steps;
       standing = standing;
     })) →
     Leaves 0 before now script script [] (Ok refused)
-leaves_whole {before = before} {now = now} {script = script} out appended counted standing refused answered = record {
+leaves_whole {before = before} {now = now} {script = script} out appended counted standing refused refusals answered = record {
   out = out;
   appended = appended;
   counted = counted;
@@ -516,13 +576,14 @@ leaves_whole {before = before} {now = now} {script = script} out appended counte
 }
 
 -- what they have left
-ends_whole : {told : Option FileMap} {script : List ℕ} (session : Session) →
-    ForSome told (λ files. AreAnswered files opening (lines_of script) session) →
-    ForSome told (λ files. EndsAt files script session.standing)
-ends_whole {script = script} session answered = λ files e. record {
+ends_whole : {told : Option FileMap} {script : List ℕ} (session : Session) (kept : Option (Vec ℕ Global)) →
+    ForSome told (λ files. AreAnswered files opening (lines_of script) session) → AreKept kept session.refusals →
+    ForSome told (λ files. EndsAt files script session.standing kept)
+ends_whole {script = script} session kept answered are = λ files e. record {
   session = session;
   is = IsSession-whole files opening session (lines_of script) (answered files e);
   left = refl;
+  refusals = are;
 }
 
 -- a script that ends with a line end has no other line
@@ -544,11 +605,18 @@ one_last script some held =
 answered_none : {before old : Shown} {script : List ℕ} {was : Reading} → lines_of script ≡ ended_lines script →
     (stands : Stands before old script was) →
     ForSome before.files (λ files. AreAnswered files opening (lines_of script)
-    (record { text = stands.out; refused = was.refused; steps = old.steps - before.steps; standing = was.script }))
+    (record {
+      text = stands.out;
+      refused = was.refused;
+      refusals = stands.refusals;
+      steps = old.steps - before.steps;
+      standing = was.script;
+    }))
 answered_none {before = before} {old = old} {was = was} all stands = λ files e.
     let so_far : Session = record {
       text = stands.out;
       refused = was.refused;
+      refusals = stands.refusals;
       steps = old.steps - before.steps;
       standing = was.script;
     } in
@@ -558,15 +626,15 @@ pub closes_none : {old : Shown} {was : Reading} → ((line : List ℕ) → Holds
     Closes old old was (Ok was.refused)
 closes_none {was = was} none = record {
   on = λ before script stands.
-      leaves_whole stands.out stands.appended stands.counted was.script was.refused (answered_none
+      leaves_whole stands.out stands.appended stands.counted was.script was.refused stands.refusals (answered_none
       (no_last script none stands.held) stands);
 }
 
 pub stays_none : {old : Shown} {was : Reading} → ((line : List ℕ) → Holds was line → length line ≡ 0) →
-    ClosesAt old was was.script
-stays_none none = record {
+    ClosesAt old was was.script was.refusals
+stays_none {was = was} none = record {
   on = λ before script stands.
-      ends_whole _ (λ files e. answered_none (no_last script none stands.held) stands files e);
+      ends_whole _ was.refusals (λ files e. answered_none (no_last script none stands.held) stands files e) stands.kept;
 }
 
 -- with a last line that no LF ends all were answered
@@ -578,6 +646,7 @@ answered_on : {before old : Shown} (new : Shown) {script : List ℕ} {was : Read
     (record {
       text = stands.out ++ (answered.answer).text;
       refused = was.refused || refused;
+      refusals = stands.refusals ++ refusal_of answered.answer;
       steps =
           new.steps - before.steps;
       standing = to;
@@ -591,6 +660,7 @@ answered_on {before = before} {old = old} new {script = script} {was = was} {to 
     let at_last : Session = record {
       text = stands.out ++ (answered.answer).text;
       refused = was.refused || refused;
+      refusals = stands.refusals ++ refusal_of answered.answer;
       steps = new.steps - before.steps;
       standing = to;
     } in
@@ -600,31 +670,35 @@ answered_on {before = before} {old = old} new {script = script} {was = was} {to 
     (AreAnswered-next files opening _ (ended_lines script) line to answered.answer (stands.answered files e)
     (answered.is files (stands.same ∙ e))))
 
-pub closes_on : {old new : Shown} {was : Reading} {to : Standing} {refused : Bool} → ((line : List ℕ) →
+pub closes_on : {old new : Shown} {was : Reading} {to : Standing} {kept : Option
+    (Vec ℕ Global)} {refused : Bool} → ((line : List ℕ) →
     Holds was line → 0 < length line) →
     ((line : List ℕ) → Holds was line →
-    IsAnswered old.files old.written new.written old.steps new.steps was.script to line refused) →
+    IsDelivered old.files old.written new.written old.steps new.steps was.script to was.refusals kept line refused) →
     Closes old new was (Ok (was.refused || refused))
 closes_on {old = old} {new = new} {was = was} {to = to} {refused = refused} some answers = record {
   on = λ before script stands.
-      let answered = answers (open_line script) stands.held in
+      let answered = (answers (open_line script) stands.held).answered in
       let rose : before.steps ≤ old.steps = stands.counted in
       let counted : new.steps ≡ old.steps + (answered.answer).steps = answered.counted in
       leaves_whole (stands.out ++ (answered.answer).text)
       (Appends-then before.written old.written new.written stands.out
       (answered.answer).text stands.appended answered.appended) (omega arith)
-      to (was.refused || refused) (answered_on new (one_last script some stands.held) answered stands);
+      to (was.refused || refused) (stands.refusals ++ refusal_of answered.answer) (answered_on new (one_last script some stands.held) answered stands);
 }
 
-pub stays_on : {old : Shown} (new : Shown) {was : Reading} {to : Standing} {refused : Bool} → ((line : List ℕ) →
+pub stays_on : {old : Shown} (new : Shown) {was : Reading} {to : Standing} {kept : Option
+    (Vec ℕ Global)} {refused : Bool} → ((line : List ℕ) →
     Holds was line → 0 < length line) →
     ((line : List ℕ) → Holds was line →
-    IsAnswered old.files old.written new.written old.steps new.steps was.script to line refused) →
-    ClosesAt old was to
-stays_on new some answers = record {
+    IsDelivered old.files old.written new.written old.steps new.steps was.script to was.refusals kept line refused) →
+    ClosesAt old was to kept
+stays_on new {was = was} {kept = kept} some answers = record {
   on = λ before script stands.
-      ends_whole _ (λ files e. answered_on new (one_last script some stands.held) (answers
-      (open_line script) stands.held) stands files e);
+      let delivered = answers (open_line script) stands.held in
+      ends_whole _ kept (λ files e. answered_on new (one_last script some stands.held) delivered.answered stands
+      files e)
+      (kept_more was.refusals kept (delivered.answered).answer stands.refusals delivered.kept stands.kept);
 }
 
 last_place : (script line : List ℕ) → lines_of script ≡ ended_lines script ++ line ∷ [] → IsAtLine 0 script script

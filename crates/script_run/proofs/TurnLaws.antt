@@ -1,6 +1,7 @@
 -- What a run over a told script leaves, at each of its ends.
 use Rattle.std.proofs.Common.{◌≡◌, List, [], ◌++◌, ℕ, ◌+◌, ◌≤◌, Bool, length, take, Option, refl, sym, ap, ◌∙◌, subst, append_assoc, arith, length-append}
-use Rattle.std.specs.Prelude.{None, Some, Result, Ok, Err}
+use Rattle.std.specs.Prelude.{None, Some, is_some, if◌then◌else◌, Vec, Result, Ok, Err}
+use Rattle.std.specs.declared.alloc.Global.{Global}
 use Rattle.std.specs.Io.KnownBytes.{Consumes, Keeps, IsAtEnd}
 use Rattle.std.proofs.lemmas.List.{append-nil}
 use Rattle.std.proofs.Math.Seq.{take-append_seam}
@@ -12,7 +13,7 @@ use Rattle.script_steps.specs.declared.stop.LineStop.{LineStop}
 use Rattle.script_run.specs.Limits.{most_script, most_turn}
 use Rattle.script_run.specs.Transcripts.{Session, opening, ended_lines, lines_of, AreAnswered}
 use Rattle.script_run.specs.Stops.{stop_of}
-use Rattle.script_run.specs.RunClauses.{Shown, IsExactly, Leaves, RunMeets, EndsAt}
+use Rattle.script_run.specs.RunClauses.{Shown, shown, told_by, IsExactly, Leaves, RunMeets, EndsAt}
 use Rattle.script_run.specs.RunViews.{IsAtStart, Stands, GoesOn, Breaks, Closes, ClosesAt, Stood, TakesAll, run_result}
 use Rattle.script_run.specs.declared.stop.Stop.{Stop}
 use Rattle.script_run.specs.declared.stop.Stop.TheVariants as stops
@@ -254,10 +255,11 @@ meets_end {before = before} {mid = mid} {now = now} {l0 = l0} {l' = l'} {reading
     }
 
 -- what the script's lines have left at last
-pub ends_at : {before mid : Shown} {l0 l' : Option (List ℕ)} {reading : Reading} {standing : Standing} →
+pub ends_at : {before mid : Shown} {l0 l' : Option (List ℕ)} {reading : Reading} {standing : Standing} {kept : Option
+    (Vec ℕ Global)} →
     TakesAll before mid l0 l' reading →
-    ClosesAt mid reading standing → (script : List ℕ) → l0 ≡ Some script →
-    ForSome before.files (λ files. EndsAt files script standing)
+    ClosesAt mid reading standing kept → (script : List ℕ) → l0 ≡ Some script →
+    ForSome before.files (λ files. EndsAt files script standing kept)
 ends_at {before = before} {mid = mid} {l0 = l0} {l' = l'} {reading = reading} all closes script is =
     closes.on before script (subst (λ v. Stands before mid v reading) (all_taken all script is).whole all.stands)
 
@@ -275,3 +277,16 @@ pub meets_stop : {before now : Shown} {l0 l' : Option (List ℕ)} {stop : Stop} 
     (result : Result Bool Stop) → result ≡ Err stop → RunMeets before now script l' result
 meets_stop {before = before} {now = now} {l' = l'} meets script is result result_is =
     subst (λ v. RunMeets before now script l' v) (sym result_is) (meets script is)
+
+-- ---- what is shown of the sink
+
+pub told_same : (a b : Option (Vec ℕ Global)) (written : Option (List ℕ)) → is_some a ≡ is_some b → told_by a written ≡ told_by b written
+told_same a b written same = ap (λ (t : Bool). if t then None else written) same
+
+-- the same run, of which the same is shown
+pub meets_shown : {files files' : Option FileMap} {failed failed' w w' u u' : Option (List ℕ)} {began steps : ℕ} {script : List ℕ} {left : Option (List ℕ)} {result : Result Bool Stop} →
+    w ≡ u → w' ≡ u' → RunMeets (shown files failed w began) (shown files' failed' w' steps) script left result →
+    RunMeets (shown files failed u began) (shown files' failed' u' steps) script left result
+meets_shown {files = files} {files' = files'} {failed = failed} {failed' = failed'} {w' = w'} {u = u} {began = began} {steps = steps} {script = script} {left = left} {result = result} p q meets =
+    subst (λ v. RunMeets (shown files failed u began) (shown files' failed' v steps) script left result) q
+    (subst (λ v. RunMeets (shown files failed v began) (shown files' failed' w' steps) script left result) p meets)

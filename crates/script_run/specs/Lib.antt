@@ -5,3 +5,4 @@ pub mod Stops
 pub mod RunClauses
 pub mod RunViews
 pub mod Samples
+pub mod SampleFiles

@@ -1,11 +1,14 @@
 -- What a run over a script that is told leaves, by its result.
-use Rattle.std.specs.Prelude.{◌≡◌, ◌≢◌, ◌⊎◌, ℕ, ◌+◌, ◌-◌, ◌<◌, ◌≤◌, Bool, List, [], ◌∷◌, ◌++◌, length, take, All, Option, Some, Result, Ok, Err, ⊤}
+use Rattle.std.specs.Prelude.{◌≡◌, ◌≢◌, ◌⊎◌, ℕ, ◌+◌, ◌-◌, ◌<◌, ◌≤◌, Bool, if◌then◌else◌, List, [], ◌∷◌, ◌++◌, length, take, All, Option, Some, None, is_some, Vec, Result, Ok, Err, ⊤}
+use Rattle.std.specs.declared.alloc.Global.{Global}
 use Rattle.std.specs.Option.{ForSome}
 use Rattle.outside.specs.Told.{FileMap, Appends}
 use Rattle.script_steps.specs.Steps.{Standing, Answer, Names, AreThere, IsStep}
+use Rattle.script_steps.specs.LineSteps.{IsNextFile}
 use Rattle.script_run.specs.Limits.{most_script, most_turn}
 use Rattle.script_run.specs.Transcripts.{Session, opening, lines_of, ended_lines, AreAnswered, IsTranscript}
 use Rattle.script_run.specs.declared.turns.Ended.{Ended}
+use Rattle.script_run.specs.declared.turns.Unwritten.{Unwritten}
 use Rattle.script_run.specs.declared.stop.Stop.{Stop}
 use Rattle.script_run.specs.declared.stop.Stop.TheVariants as stops
 
@@ -23,6 +26,15 @@ shown files failed written steps = record {
   written = written;
   steps = steps;
 }
+
+-- what is shown of a sink: nothing, where answers are kept and not written
+abbrev pub told_by : Option (Vec ℕ Global) → Option (List ℕ) → Option (List ℕ)
+told_by kept written = if is_some kept then None else written
+
+-- where refusals are kept, they are these
+abbrev pub AreKept : Option (Vec ℕ Global) → List ℕ → Type 0
+AreKept None refusals = ⊤
+AreKept (Some kept) refusals = kept.items ≡ refusals
 
 -- how far a run came: the script, what was taken of it and what is left, and what was written and
 -- counted since it began
@@ -89,7 +101,8 @@ pub record IsAtLine (most : ℕ) (script taken : List ℕ) (before : List (List 
   pub ends : EndsWithLf through ⊎ (through ≡ script)
   pub short : length ahead ≤ most
 
--- the files failed at a name of a line, the lines before it were answered, and nothing else was written
+-- the files failed at a name of a line, each that it names before it was there, the lines before it were answered, and
+-- nothing else was written
 pub record IsFileStop (most : ℕ) (told : Option FileMap) (course : Course)
     (failed : Option (List ℕ)) : Type 0 where
   pub before : List (List ℕ)
@@ -97,6 +110,7 @@ pub record IsFileStop (most : ℕ) (told : Option FileMap) (course : Course)
   pub place : IsAtLine most course.script course.taken before line
   pub name : List ℕ
   pub names : Names line name
+  pub in_order : ForSome told (λ files. IsNextFile files names.what name)
   pub failed_there : failed ≡ Some name
   pub exact : ForSome told (λ files. IsExactly files before course.out course.spent)
 
@@ -157,16 +171,30 @@ pub record RunMeets (before after : Shown) (script : List ℕ) (left : Option (L
   pub within : result ≢ Err stops.Long → length taken ≤ most_script
   pub leaves : Leaves most_turn before after script taken rest result
 
--- the lines of the script have left this at last
-pub record EndsAt (files : FileMap) (script : List ℕ) (standing : Standing) : Type 0 where
+-- the lines of the script have left this at last, and where refusals were kept they are these
+pub record EndsAt (files : FileMap) (script : List ℕ) (standing : Standing)
+    (kept : Option (Vec ℕ Global)) : Type 0 where
   pub session : Session
   pub is : IsTranscript files script session
   pub left : session.standing ≡ standing
+  pub refusals : AreKept kept session.refusals
 
 -- whether an answer was a refusal, or the stop
 abbrev pub refused_of : Result Ended Stop → Result Bool Stop
 refused_of (Ok ended) = Ok ended.refused
 refused_of (Err stop) = Err stop
+
+abbrev pub unwritten_refused : Result Unwritten Stop → Result Bool Stop
+unwritten_refused (Ok ended) = Ok ended.refused
+unwritten_refused (Err stop) = Err stop
+
+-- the lines of a script whose answers weren't written have made this at last
+pub record EndsUnwritten (files : FileMap) (script : List ℕ) (ended : Unwritten) : Type 0 where
+  pub session : Session
+  pub is : IsTranscript files script session
+  pub mark : ended.refused ≡ session.refused
+  pub refusals : (ended.refusals).items ≡ session.refusals
+  pub left : ended.script ≡ session.standing
 
 -- the script was answered whole: this is what its transcript says
 pub record IsFinished (files : FileMap) (script : List ℕ) (began steps : ℕ)
@@ -176,3 +204,10 @@ pub record IsFinished (files : FileMap) (script : List ℕ) (began steps : ℕ)
   pub mark : ended.refused ≡ session.refused
   pub cost : steps ≡ began + session.steps
   pub left : ended.script ≡ session.standing
+
+-- the script wasn't answered whole: at most the steps of its transcript were counted
+pub record IsSpentWithin (files : FileMap) (script : List ℕ) (began steps : ℕ) : Type 0 where
+  pub session : Session
+  pub is : IsTranscript files script session
+  pub later : began ≤ steps
+  pub within : steps ≤ began + session.steps

@@ -1,15 +1,18 @@
 -- What a run over a front of a script has done, for the contracts of its parts.
-use Rattle.std.specs.Prelude.{◌≡◌, ℕ, ◌+◌, ◌-◌, ◌≤◌, nat_lt, ◌==◌, Bool, false, List, [], ◌∷◌, ◌++◌, length, take, Option, Result, Ok, Err}
+use Rattle.std.specs.Prelude.{◌≡◌, ℕ, ◌+◌, ◌-◌, ◌≤◌, nat_lt, ◌==◌, Bool, false, List, [], ◌∷◌, ◌++◌, length, take, Option, Some, None, Vec, Result, Ok, Err, ⊤}
+use Rattle.std.specs.declared.alloc.Global.{Global}
 use Rattle.std.specs.Option.{ForSome}
 use Rattle.std.specs.List.{slice_split}
 use Rattle.std.specs.Io.KnownBytes.{IsAtEnd}
 use Rattle.outside.specs.Told.{Appends, Consumes}
 use Rattle.script_steps.specs.declared.stop.LineStop.{LineStop}
-use Rattle.script_steps.specs.Steps.{Standing, start}
+use Rattle.script_steps.specs.Steps.{Standing, Answer, start}
+use Rattle.script_steps.specs.StepClauses.{IsAnswered}
+use Rattle.outside.specs.Told.{FileMap}
 use Rattle.script_run.specs.Limits.{most_line, most_script}
 use Rattle.script_run.specs.Stops.{stop_of}
-use Rattle.script_run.specs.Transcripts.{opening, ended_lines, AreAnswered}
-use Rattle.script_run.specs.RunClauses.{Shown, Leaves, EndsAt}
+use Rattle.script_run.specs.Transcripts.{opening, ended_lines, refusal_of, AreAnswered}
+use Rattle.script_run.specs.RunClauses.{Shown, Leaves, EndsAt, AreKept}
 use Rattle.script_run.specs.declared.stop.Stop.{Stop}
 use Rattle.script_run.specs.declared.reading.Reading.{Reading}
 
@@ -32,18 +35,35 @@ pub record Holds (reading : Reading) (line : List ℕ) : Type 0 where
 pub record IsSameSoFar (was is : Reading) : Type 0 where
   pub script : is.script ≡ was.script
   pub refused : is.refused ≡ was.refused
+  pub refusals : is.refusals ≡ was.refusals
 
--- of these bytes each line whose LF is among them was answered, and nothing else was written
+-- where refusals are kept, the answer was put to them where it is one
+abbrev pub Keeps : Option (Vec ℕ Global) → Option (Vec ℕ Global) → Answer → Type 0
+Keeps None None answer = ⊤
+Keeps (Some was) (Some is) answer = is.items ≡ was.items ++ refusal_of answer
+Keeps was is answer = ⊥
+
+-- the line was answered, and its answer was written or kept
+pub record IsDelivered
+    (told : Option FileMap) (old new : Option (List ℕ)) (before now : ℕ) (from to : Standing)
+    (was is : Option (Vec ℕ Global)) (line : List ℕ) (refused : Bool) : Type 0 where
+  pub answered : IsAnswered told old new before now from to line refused
+  pub kept : Keeps was is answered.answer
+
+-- of these bytes each line whose LF is among them was answered, and nothing else was written or kept
 pub record Stands (before now : Shown) (bytes : List ℕ) (reading : Reading) : Type 0 where
   pub out : List ℕ
+  pub refusals : List ℕ
   pub same : now.files ≡ before.files
   pub appended : Appends before.written now.written out
   pub counted : before.steps ≤ now.steps
   pub held : Holds reading (open_line bytes)
+  pub kept : AreKept reading.refusals refusals
   pub answered : ForSome before.files (λ files. AreAnswered files opening (ended_lines bytes)
       (record {
         text = out;
         refused = reading.refused;
+        refusals = refusals;
         steps = now.steps - before.steps;
         standing =
             reading.script;
@@ -71,9 +91,10 @@ pub record Closes (old new : Shown) (was : Reading) (result : Result Bool LineSt
       → Leaves 0 before new script script [] (run_result result)
 
 -- wherever the run stood over a whole script, what its lines have left
-pub record ClosesAt (old : Shown) (was : Reading) (standing : Standing) : Type 0 where
+pub record ClosesAt (old : Shown) (was : Reading) (standing : Standing)
+    (kept : Option (Vec ℕ Global)) : Type 0 where
   pub on : (before : Shown) (script : List ℕ) → Stands before old script was
-      → ForSome before.files (λ files. EndsAt files script standing)
+      → ForSome before.files (λ files. EndsAt files script standing kept)
 
 -- of a run over a source, between two turns
 pub record Stood (before now : Shown) (left left_now : Option (List ℕ)) (count : ℕ)
@@ -89,6 +110,7 @@ pub record IsAtStart (reading : Reading) : Type 0 where
   pub long : reading.long ≡ false
   pub script : reading.script ≡ start
   pub refused : reading.refused ≡ false
+  pub refusals : AreKept reading.refusals []
 
 -- of a run over a source, at its end
 pub record TakesAll (before now : Shown) (left left_now : Option (List ℕ))

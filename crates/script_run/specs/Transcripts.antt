@@ -1,5 +1,5 @@
 -- What a script answers over files that stay as they are, line by line.
-use Rattle.std.specs.Prelude.{◌≡◌, ℕ, ◌+◌, Bool, false, ◌||◌, ◌==◌, List, [], ◌∷◌, ◌++◌, ⊤}
+use Rattle.std.specs.Prelude.{◌≡◌, ℕ, ◌+◌, Bool, false, ◌||◌, ◌==◌, if◌then◌else◌, List, [], ◌∷◌, ◌++◌, ⊤}
 use Rattle.std.specs.List.{slice_split}
 use Rattle.std.specs.Str.Lines.{lines, strip_carriage_return}
 use Rattle.outside.specs.Told.{FileMap}
@@ -20,22 +20,29 @@ ended_parts (part ∷ next ∷ more) = strip_carriage_return part ∷ ended_part
 abbrev pub ended_lines : List ℕ → List (List ℕ)
 ended_lines bytes = ended_parts (slice_split (λ b. b == 10) bytes)
 
--- what some lines have made: all that was written, whether an answer was a refusal, all steps, and what they have left
+-- what some lines have made: all that was written, whether an answer was a refusal, the answers that were, all steps, and
+-- what they have left
 pub record Session : Type 0 where
   pub text : List ℕ
   pub refused : Bool
+  pub refusals : List ℕ
   pub steps : ℕ
   pub standing : Standing
 
 -- before the first line
 abbrev pub opening : Session
-opening = record { text = []; refused = false; steps = 0; standing = start }
+opening = record { text = []; refused = false; refusals = []; steps = 0; standing = start }
+
+-- the answer where it is a refusal, else nothing
+abbrev pub refusal_of : Answer → List ℕ
+refusal_of answer = if answer.refused then answer.text else []
 
 -- after one more line, which has this answer and leaves this standing
 abbrev pub with_answer : Session → Answer → Standing → Session
 with_answer session answer standing = record {
   text = session.text ++ answer.text;
   refused = session.refused || answer.refused;
+  refusals = session.refusals ++ refusal_of answer;
   steps = session.steps + answer.steps;
   standing = standing;
 }

@@ -1,6 +1,8 @@
 //! The lines of a script, taken from a source turn by turn and answered one by one.
 #![tactic(auto)]
 
+mod buffer;
+mod deliver;
 mod memory;
 mod reading;
 mod sample;
@@ -9,10 +11,12 @@ mod transcript;
 mod turns;
 
 pub use memory::run_in_memory;
-pub use sample::{MOST_EMPLOYEES, run_sample, sample_script};
+pub use sample::{
+    MOST_EMPLOYEES, SAMPLE_LIMITS, SAMPLE_PLAN, run_sample, sample_line_count, sample_script,
+};
 pub use stop::Stop;
 pub use transcript::transcript_laws;
-pub use turns::{Ended, run, run_to_end};
+pub use turns::{Ended, Unwritten, run, run_unwritten};
 
 /// The most bytes of a script.
 pub const MOST_SCRIPT: usize = 67_108_864;

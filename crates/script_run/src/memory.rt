@@ -1,10 +1,10 @@
 //! A script run in memory, by the code that runs a script over the outside.
-ghost use Rattle.std.specs.Prelude.{◌≢◌, ◌≤◌, length, All, AllPairs, IfOk};
+ghost use Rattle.std.specs.Prelude.{◌≢◌, ◌≤◌, length, All, AllPairs, IfOk, OnErr};
 ghost use Rattle.outside.specs.Memory.{named_files, file_named};
 ghost use Rattle.script_steps.specs.Steps.{AreThere};
 ghost use Rattle.script_run.specs.Limits.{most_script};
 ghost use Rattle.script_run.specs.Transcripts.{lines_of};
-ghost use Rattle.script_run.specs.RunClauses.{IsFinished};
+ghost use Rattle.script_run.specs.RunClauses.{IsFinished, IsSpentWithin};
 
 use crate::MOST_TURN;
 use crate::stop::Stop;
@@ -15,7 +15,7 @@ use std::sync::ledger::Ledger;
 use steps::Steps;
 
 /// Runs a script over files in memory, and writes its answers nowhere. Nothing can fail but memory, since
-/// each line names files that are there.
+/// each line names files that are there. The counter rises by the script's steps; where memory runs out, by at most these.
 pub fn run_in_memory<L: Ledger>(
     alloc: Global,
     files: Vec<(String, Vec<u8>)>,
@@ -26,13 +26,15 @@ pub fn run_in_memory<L: Ledger>(
     requires there { All (λ line. AreThere (file_named (named_files files.items)) line)
         (lines_of script.items) }
     requires short { length script.items ≤ most_script }
-    ensures { IfOk result (λ ended. IsFinished (file_named (named_files files.items)) script.items
-        steps.old steps.new ended) }
+    ensures ok { IfOk result (λ ended. IsFinished (file_named (named_files files.items))
+        script.items steps.old steps.new ended) }
+    ensures memory { OnErr result (IsSpentWithin (file_named (named_files files.items))
+        script.items steps.old steps.new) }
 {
     let mut files = SureFiles::new(files);
     let mut source = SureSource::new(script, MOST_TURN);
     let mut sink = SureSink::new();
-    match run_to_end(alloc, &mut files, &mut source, &mut sink, steps) {
+    match run_to_end(alloc, None, &mut files, &mut source, &mut sink, steps) {
         Ok(ended) => Ok(ended),
         Err(Stop::Memory) => Err(AllocError),
         Err(Stop::File) => unreachable!(),

@@ -1,15 +1,17 @@
 //! A script's bytes, one by one, and its lines as they end.
 ghost use Rattle.std.specs.Prelude.{◌≡◌, ◌≢◌, if◌then◌else◌, List, ℕ, [], ◌∷◌, ◌++◌, Err, OnOk};
+ghost use Rattle.std.specs.Prelude.{is_some};
 ghost use Rattle.std.specs.Result.{ForErr};
 ghost use Rattle.std.specs.Str.Lines.{strip_carriage_return};
 ghost use Rattle.outside.specs.Causes.{Caused};
 ghost use Rattle.script_steps.specs.Steps.{start};
-ghost use Rattle.script_run.specs.RunClauses.{shown};
+ghost use Rattle.script_run.specs.RunClauses.{AreKept, shown, told_by};
 ghost use Rattle.script_run.specs.RunViews.{Holds, IsSameSoFar, IsAtStart, GoesOn, Breaks, Closes, ClosesAt};
 
 use crate::MOST_LINE;
+use crate::deliver::deliver;
 use outside::{Files, Sink};
-use script_steps::{LineStop, Script, answer_line};
+use script_steps::{LineStop, Script};
 use std::alloc::{AllocError, Global};
 use std::sync::ledger::Ledger;
 use steps::Steps;
@@ -25,18 +27,23 @@ pub(crate) struct Reading {
     pub(crate) script: Script,
     /// Whether an answer was a refusal.
     pub(crate) refused: bool,
+    /// The answers that were refusals, where they are kept and no answer is written.
+    pub(crate) refusals: Option<Vec<u8>>,
 }
 
 impl Reading {
-    /// Before the first byte of a script.
-    pub(crate) fn new(alloc: Global) -> Reading
-        ensures { IsAtStart result }
+    /// Before the first byte of a script whose refusals are put to these, or else whose answers are written.
+    pub(crate) fn new(alloc: Global, refusals: Option<Vec<u8>>) -> Reading
+        requires { AreKept refusals [] }
+        ensures start { IsAtStart result }
+        ensures kept { result.refusals ≡ refusals }
     {
         Reading {
             line: Vec::new(alloc),
             long: false,
             script: Script::new(alloc),
             refused: false,
+            refusals,
         }
     }
 }
@@ -84,20 +91,29 @@ fn end_line<F: Files, W: Sink, L: Ledger>(
     steps: &mut Steps<L>,
 ) -> Result<(), LineStop>
     ensures ok { OnOk result (GoesOn
-        (shown (F.told files.old) (F.failed files.old) (W.written sink.old) steps.old)
-        (shown (F.told files.new) (F.failed files.new) (W.written sink.new) steps.new)
+        (shown (F.told files.old) (F.failed files.old) (told_by reading.old.refusals (W.written sink.old)) steps.old)
+        (shown (F.told files.new) (F.failed files.new) (told_by reading.new.refusals (W.written sink.new)) steps.new)
         reading.old reading.new (10 ∷ [])) }
     ensures err { ForErr result (λ stop. Breaks
-        (shown (F.told files.old) (F.failed files.old) (W.written sink.old) steps.old)
-        (shown (F.told files.new) (F.failed files.new) (W.written sink.new) steps.new)
+        (shown (F.told files.old) (F.failed files.old) (told_by reading.old.refusals (W.written sink.old)) steps.old)
+        (shown (F.told files.new) (F.failed files.new) (told_by reading.new.refusals (W.written sink.new)) steps.new)
         reading.old (10 ∷ []) stop) }
+    ensures mode { is_some reading.new.refusals ≡ is_some reading.old.refusals }
     ensures same { F.told files.new ≡ F.told files.old }
     ensures kept { result ≢ Err LineStop.File → F.failed files.new ≡ F.failed files.old }
     ensures file { Caused LineStop.File (F.faults files.old) (F.faults files.new) result }
     ensures write { Caused LineStop.Write (W.faults sink.old) (W.faults sink.new) result }
 {
     let line = ended(&reading.line, reading.long);
-    let refused = answer_line(alloc, &mut reading.script, line, files, sink, steps)?;
+    let refused = deliver(
+        alloc,
+        &mut reading.refusals,
+        &mut reading.script,
+        line,
+        files,
+        sink,
+        steps,
+    )?;
     reading.refused |= refused;
     reading.line.clear();
     reading.long = false;
@@ -114,13 +130,14 @@ fn take_byte<F: Files, W: Sink, L: Ledger>(
     steps: &mut Steps<L>,
 ) -> Result<(), LineStop>
     ensures ok { OnOk result (GoesOn
-        (shown (F.told files.old) (F.failed files.old) (W.written sink.old) steps.old)
-        (shown (F.told files.new) (F.failed files.new) (W.written sink.new) steps.new)
+        (shown (F.told files.old) (F.failed files.old) (told_by reading.old.refusals (W.written sink.old)) steps.old)
+        (shown (F.told files.new) (F.failed files.new) (told_by reading.new.refusals (W.written sink.new)) steps.new)
         reading.old reading.new (byte ∷ [])) }
     ensures err { ForErr result (λ stop. Breaks
-        (shown (F.told files.old) (F.failed files.old) (W.written sink.old) steps.old)
-        (shown (F.told files.new) (F.failed files.new) (W.written sink.new) steps.new)
+        (shown (F.told files.old) (F.failed files.old) (told_by reading.old.refusals (W.written sink.old)) steps.old)
+        (shown (F.told files.new) (F.failed files.new) (told_by reading.new.refusals (W.written sink.new)) steps.new)
         reading.old (byte ∷ []) stop) }
+    ensures mode { is_some reading.new.refusals ≡ is_some reading.old.refusals }
     ensures same { F.told files.new ≡ F.told files.old }
     ensures kept { result ≢ Err LineStop.File → F.failed files.new ≡ F.failed files.old }
     ensures file { Caused LineStop.File (F.faults files.old) (F.faults files.new) result }
@@ -143,13 +160,14 @@ pub(crate) fn feed<F: Files, W: Sink, L: Ledger>(
     steps: &mut Steps<L>,
 ) -> Result<(), LineStop>
     ensures ok { OnOk result (GoesOn
-        (shown (F.told files.old) (F.failed files.old) (W.written sink.old) steps.old)
-        (shown (F.told files.new) (F.failed files.new) (W.written sink.new) steps.new)
+        (shown (F.told files.old) (F.failed files.old) (told_by reading.old.refusals (W.written sink.old)) steps.old)
+        (shown (F.told files.new) (F.failed files.new) (told_by reading.new.refusals (W.written sink.new)) steps.new)
         reading.old reading.new piece.now) }
     ensures err { ForErr result (λ stop. Breaks
-        (shown (F.told files.old) (F.failed files.old) (W.written sink.old) steps.old)
-        (shown (F.told files.new) (F.failed files.new) (W.written sink.new) steps.new)
+        (shown (F.told files.old) (F.failed files.old) (told_by reading.old.refusals (W.written sink.old)) steps.old)
+        (shown (F.told files.new) (F.failed files.new) (told_by reading.new.refusals (W.written sink.new)) steps.new)
         reading.old piece.now stop) }
+    ensures mode { is_some reading.new.refusals ≡ is_some reading.old.refusals }
     ensures same { F.told files.new ≡ F.told files.old }
     ensures kept { result ≢ Err LineStop.File → F.failed files.new ≡ F.failed files.old }
     ensures file { Caused LineStop.File (F.faults files.old) (F.faults files.new) result }
@@ -170,12 +188,13 @@ pub(crate) fn last_line<F: Files, W: Sink, L: Ledger>(
     steps: &mut Steps<L>,
 ) -> Result<bool, LineStop>
     ensures closes { Closes
-        (shown (F.told files.old) (F.failed files.old) (W.written sink.old) steps.old)
-        (shown (F.told files.new) (F.failed files.new) (W.written sink.new) steps.new)
+        (shown (F.told files.old) (F.failed files.old) (told_by reading.old.refusals (W.written sink.old)) steps.old)
+        (shown (F.told files.new) (F.failed files.new) (told_by reading.new.refusals (W.written sink.new)) steps.new)
         reading.old result }
     ensures standing { OnOk result (ClosesAt
-        (shown (F.told files.old) (F.failed files.old) (W.written sink.old) steps.old)
-        reading.old reading.new.script) }
+        (shown (F.told files.old) (F.failed files.old) (told_by reading.old.refusals (W.written sink.old)) steps.old)
+        reading.old reading.new.script reading.new.refusals) }
+    ensures mode { is_some reading.new.refusals ≡ is_some reading.old.refusals }
     ensures same { F.told files.new ≡ F.told files.old }
     ensures kept { result ≢ Err LineStop.File → F.failed files.new ≡ F.failed files.old }
     ensures file { Caused LineStop.File (F.faults files.old) (F.faults files.new) result }
@@ -184,8 +203,9 @@ pub(crate) fn last_line<F: Files, W: Sink, L: Ledger>(
     if reading.line.is_empty() {
         return Ok(reading.refused);
     }
-    let refused = answer_line(
+    let refused = deliver(
         alloc,
+        &mut reading.refusals,
         &mut reading.script,
         &reading.line,
         files,

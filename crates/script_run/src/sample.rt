@@ -1,14 +1,14 @@
 //! The script of a sample: a book of so many employees for a year.
-ghost use Rattle.std.specs.Prelude.{◌≡◌, ◌≢◌, ◌≤◌, ◌∷◌, [], ◌++◌, length, map};
-ghost use Rattle.std.specs.Prelude.{All, AllPairs, OnOk, IfOk, string_bytes};
+ghost use Rattle.std.specs.Prelude.{◌≡◌, ◌≤◌, ◌∷◌, [], ◌++◌, length, map};
+ghost use Rattle.std.specs.Prelude.{OnOk, OnErr, IfOk, string_bytes, codes};
 ghost use Rattle.std.specs.List.{flat_map};
 ghost use Rattle.script_run.specs.Samples.{month_text, add_line, change_line, year_lines};
 ghost use Rattle.script_run.specs.Samples.{sample_lines, numbers, script_of};
 ghost use Rattle.script_run.specs.Limits.{most_script, most_employees};
 ghost use Rattle.script_run.specs.Transcripts.{lines_of};
-ghost use Rattle.script_run.specs.RunClauses.{IsFinished};
-ghost use Rattle.script_steps.specs.Steps.{AreThere};
-ghost use Rattle.outside.specs.Memory.{named_files, file_named};
+ghost use Rattle.script_run.specs.RunClauses.{IsFinished, IsSpentWithin};
+ghost use Rattle.script_run.specs.SampleFiles.{named_texts, plan_text, limits_text, sample_files};
+ghost use Rattle.outside.specs.Memory.{named_files};
 
 use crate::memory::run_in_memory;
 use crate::turns::Ended;
@@ -18,6 +18,39 @@ use steps::Steps;
 
 /// The most employees of a sample.
 pub const MOST_EMPLOYEES: u32 = 200;
+
+/// The flowchart of a sample: the tax is 14 % of the pay above 100,000, and KUM the tax of the year so far.
+pub const SAMPLE_PLAN: &[u8] = br#"<PAP><INTERFACE>
+<INPUTS><INPUT name="RE4" type="BigDecimal"/><INPUT name="SUMV" type="BigDecimal"/></INPUTS>
+<OUTPUTS type="STANDARD"><OUTPUT name="LST" type="BigDecimal"/><OUTPUT name="KUM" type="BigDecimal"/></OUTPUTS>
+</INTERFACE>
+<INTERNALS><INTERNAL name="X" type="BigDecimal"/></INTERNALS>
+<CONSTANTS>
+<CONSTANT name="FREI" type="BigDecimal" value="BigDecimal.valueOf(100000)"/>
+<CONSTANT name="SATZ" type="BigDecimal" value="BigDecimal.valueOf(0.14)"/>
+</CONSTANTS>
+<METHODS><MAIN>
+<EXECUTE method="TARIF"/><EVAL exec="KUM= SUMV.add(LST)"/>
+</MAIN><METHOD name="TARIF">
+<EVAL exec="X= RE4.subtract(FREI)"/>
+<IF expr="X.compareTo(BigDecimal.ZERO) == -1"><THEN><EVAL exec="X= BigDecimal.ZERO"/></THEN></IF>
+<EVAL exec="LST= X.multiply(SATZ).setScale(0, BigDecimal.ROUND_DOWN)"/>
+</METHOD></METHODS></PAP>
+"#;
+
+/// The range file of a sample: the pay is at most 10,000,000,000, and SUMV is the sum of the year's earlier LST.
+pub const SAMPLE_LIMITS: &[u8] = br#"[input.RE4]
+low = 0
+high = "10000000000"
+places = 0
+[input.SUMV]
+low = 0
+high = 100000000
+places = 0
+[bind.SUMV]
+kind = "sum"
+output = "LST"
+"#;
 
 /// A month of the year, in two digits.
 fn month_words(alloc: Global, month: u32) -> Result<String, AllocError>
@@ -98,20 +131,59 @@ pub fn sample_script(alloc: Global, employees: u32) -> Result<String, AllocError
     Ok(script)
 }
 
-/// Runs the script of a sample over files in memory that has those that its lines name.
+/// The number of lines of the script of a sample.
+pub fn sample_line_count(employees: u32) -> u32
+    requires { employees ≤ most_employees }
+    ensures { result ≡ length (sample_lines employees) }
+{
+    13 * employees + 2
+}
+
+/// The flowchart of a sample, with its name.
+fn plan_file(alloc: Global) -> Result<(String, Vec<u8>), AllocError>
+    ensures name { IfOk result (λ file. string_bytes file.0 ≡ codes "p2.xml") }
+    ensures text { IfOk result (λ file. file.1.items ≡ plan_text) }
+{
+    Ok((
+        String::from_str(alloc, "p2.xml")?,
+        Vec::from_slice(alloc, SAMPLE_PLAN)?,
+    ))
+}
+
+/// The range file of a sample, with its name.
+fn limits_file(alloc: Global) -> Result<(String, Vec<u8>), AllocError>
+    ensures name { IfOk result (λ file. string_bytes file.0 ≡ codes "l2.toml") }
+    ensures text { IfOk result (λ file. file.1.items ≡ limits_text) }
+{
+    Ok((
+        String::from_str(alloc, "l2.toml")?,
+        Vec::from_slice(alloc, SAMPLE_LIMITS)?,
+    ))
+}
+
+/// Both files of a sample.
+fn sample_files(alloc: Global) -> Result<Vec<(String, Vec<u8>)>, AllocError>
+    ensures { IfOk result (λ files. named_files files.items ≡ named_texts) }
+{
+    let plan = plan_file(alloc)?;
+    let limits = limits_file(alloc)?;
+    Ok(vec![in alloc; plan, limits]?)
+}
+
+/// Runs the script of a sample in memory, over the two files that its lines name. Nothing outside is touched. The counter
+/// rises by the script's steps; where memory runs out, by at most these.
 pub fn run_sample<L: Ledger>(
     alloc: Global,
     employees: u32,
-    files: Vec<(String, Vec<u8>)>,
     steps: &mut Steps<L>,
 ) -> Result<Ended, AllocError>
-    requires employees { employees ≤ most_employees }
-    requires distinct { AllPairs (λ a b. a.0 ≢ b.0) (named_files files.items) }
-    requires there { All (λ line. AreThere (file_named (named_files files.items)) line)
-        (sample_lines employees) }
-    ensures { IfOk result (λ ended. IsFinished (file_named (named_files files.items))
+    requires { employees ≤ most_employees }
+    ensures ok { IfOk result (λ ended. IsFinished sample_files
         (script_of (sample_lines employees)) steps.old steps.new ended) }
+    ensures memory { OnErr result (IsSpentWithin sample_files
+        (script_of (sample_lines employees)) steps.old steps.new) }
 {
     let script = sample_script(alloc, employees)?;
+    let files = sample_files(alloc)?;
     run_in_memory(alloc, files, script.into_bytes(), steps)
 }

@@ -1,17 +1,18 @@
 //! A script, run over a source.
-ghost use Rattle.std.specs.Prelude.{◌≡◌, ◌≢◌, ◌+◌, ◌≤◌, length, Err, IfOk, OnOk};
+ghost use Rattle.std.specs.Prelude.{◌≡◌, ◌≢◌, ◌+◌, ◌≤◌, [], length, is_some, None, Err, IfOk, OnOk};
 ghost use Rattle.std.specs.Option.{ForSome};
 ghost use Rattle.std.specs.Result.{ForErr};
 ghost use Rattle.outside.specs.Causes.{Caused, HasCause};
 ghost use Rattle.outside.specs.Told.{ReadConsumes};
 ghost use Rattle.script_run.specs.Limits.{most_script, most_turn};
-ghost use Rattle.script_run.specs.RunClauses.{RunMeets, EndsAt, shown, refused_of};
+ghost use Rattle.script_run.specs.RunClauses.{RunMeets, AreKept, EndsAt, shown, told_by};
+ghost use Rattle.script_run.specs.RunClauses.{EndsUnwritten, refused_of, unwritten_refused};
 ghost use Rattle.script_run.specs.RunViews.{IsAtStart, TakesAll};
 
 use crate::reading::{Reading, feed, last_line};
 use crate::stop::Stop;
 use crate::{MOST_SCRIPT, MOST_TURN};
-use outside::{Failed, Files, Sink, Source};
+use outside::{Failed, Files, Sink, Source, SureSink};
 use script_steps::Script;
 use std::alloc::{AllocError, Global};
 use std::sync::ledger::Ledger;
@@ -55,13 +56,14 @@ fn take_turns<F: Files, R: Source, W: Sink, L: Ledger>(
     requires room { length buf.old ≡ most_turn }
     requires start { IsAtStart reading.old }
     ensures ok { OnOk result (TakesAll
-        (shown (F.told files.old) (F.failed files.old) (W.written sink.old) steps.old)
-        (shown (F.told files.new) (F.failed files.new) (W.written sink.new) steps.new)
+        (shown (F.told files.old) (F.failed files.old) (told_by reading.old.refusals (W.written sink.old)) steps.old)
+        (shown (F.told files.new) (F.failed files.new) (told_by reading.new.refusals (W.written sink.new)) steps.new)
         (R.left source.old) (R.left source.new) reading.new) }
     ensures err { ForErr result (λ stop. ForSome (R.left source.old) (λ script. RunMeets
-        (shown (F.told files.old) (F.failed files.old) (W.written sink.old) steps.old)
-        (shown (F.told files.new) (F.failed files.new) (W.written sink.new) steps.new)
+        (shown (F.told files.old) (F.failed files.old) (told_by reading.old.refusals (W.written sink.old)) steps.old)
+        (shown (F.told files.new) (F.failed files.new) (told_by reading.new.refusals (W.written sink.new)) steps.new)
         script (R.left source.new) (Err stop))) }
+    ensures mode { is_some reading.new.refusals ≡ is_some reading.old.refusals }
     ensures same { F.told files.new ≡ F.told files.old }
     ensures kept { result ≢ Err Stop.File → F.failed files.new ≡ F.failed files.old }
     ensures file { Caused Stop.File (F.faults files.old) (F.faults files.new) result }
@@ -92,22 +94,30 @@ pub struct Ended {
     pub refused: bool,
     /// What its lines have made.
     pub script: Script,
+    /// The answers that are refusals, where they were kept and no answer was written.
+    pub refusals: Option<Vec<u8>>,
 }
 
-/// Runs a script as [`run`] does, and gives what its lines have made.
-pub fn run_to_end<F: Files, R: Source, W: Sink, L: Ledger>(
+/// Runs a script as [`run`] does, and gives what its lines have made. Where refusals are to be kept the answers that are
+/// refusals are put to them, and no answer is written.
+pub(crate) fn run_to_end<F: Files, R: Source, W: Sink, L: Ledger>(
     alloc: Global,
+    refusals: Option<Vec<u8>>,
     files: &mut F,
     source: &mut R,
     sink: &mut W,
     steps: &mut Steps<L>,
 ) -> Result<Ended, Stop>
+    requires { AreKept refusals [] }
     ensures script { ForSome (R.left source.old) (λ script. RunMeets
-        (shown (F.told files.old) (F.failed files.old) (W.written sink.old) steps.old)
-        (shown (F.told files.new) (F.failed files.new) (W.written sink.new) steps.new)
+        (shown (F.told files.old) (F.failed files.old)
+        (told_by refusals (W.written sink.old)) steps.old)
+        (shown (F.told files.new) (F.failed files.new)
+        (told_by refusals (W.written sink.new)) steps.new)
         script (R.left source.new) (refused_of result)) }
     ensures standing { IfOk result (λ ended. ForSome (R.left source.old) (λ script.
-        ForSome (F.told files.old) (λ files. EndsAt files script ended.script))) }
+        ForSome (F.told files.old) (λ files. EndsAt files script ended.script ended.refusals))) }
+    ensures mode { IfOk result (λ ended. is_some ended.refusals ≡ is_some refusals) }
     ensures same { F.told files.new ≡ F.told files.old }
     ensures kept { result ≢ Err Stop.File → F.failed files.new ≡ F.failed files.old }
     ensures file { Caused Stop.File (F.faults files.old) (F.faults files.new) result }
@@ -115,12 +125,13 @@ pub fn run_to_end<F: Files, R: Source, W: Sink, L: Ledger>(
     ensures write { Caused Stop.Write (W.faults sink.old) (W.faults sink.new) result }
 {
     let mut buf = room(alloc, MOST_TURN)?;
-    let mut reading = Reading::new(alloc);
+    let mut reading = Reading::new(alloc, refusals);
     take_turns(alloc, &mut buf, &mut reading, files, source, sink, steps)?;
     let refused = last_line(alloc, &mut reading, files, sink, steps)?;
     Ok(Ended {
         refused,
         script: reading.script,
+        refusals: reading.refusals,
     })
 }
 
@@ -146,6 +157,54 @@ pub fn run<F: Files, R: Source, W: Sink, L: Ledger>(
     ensures read { Caused Stop.Read (R.faults source.old) (R.faults source.new) result }
     ensures write { Caused Stop.Write (W.faults sink.old) (W.faults sink.new) result }
 {
-    let ended = run_to_end(alloc, files, source, sink, steps)?;
+    let ended = run_to_end(alloc, None, files, source, sink, steps)?;
     Ok(ended.refused)
+}
+
+/// What a script has made none of whose answers was written.
+#[derive(Drop)]
+pub struct Unwritten {
+    /// Whether an answer was a refusal.
+    pub refused: bool,
+    /// The answers that are refusals, one after another.
+    pub refusals: Vec<u8>,
+    /// What its lines have made.
+    pub script: Script,
+}
+
+/// Runs a script as [`run`] does, but writes none of its answers, and gives what its lines have made, with the answers that are
+/// refusals.
+pub fn run_unwritten<F: Files, R: Source, L: Ledger>(
+    alloc: Global,
+    files: &mut F,
+    source: &mut R,
+    steps: &mut Steps<L>,
+) -> Result<Unwritten, Stop>
+    ensures script { ForSome (R.left source.old) (λ script. RunMeets
+        (shown (F.told files.old) (F.failed files.old) None steps.old)
+        (shown (F.told files.new) (F.failed files.new) None steps.new)
+        script (R.left source.new) (unwritten_refused result)) }
+    ensures standing { IfOk result (λ ended. ForSome (R.left source.old) (λ script.
+        ForSome (F.told files.old) (λ files. EndsUnwritten files script ended))) }
+    ensures same { F.told files.new ≡ F.told files.old }
+    ensures kept { result ≢ Err Stop.File → F.failed files.new ≡ F.failed files.old }
+    ensures file { Caused Stop.File (F.faults files.old) (F.faults files.new) result }
+    ensures read { Caused Stop.Read (R.faults source.old) (R.faults source.new) result }
+    ensures no_write { result ≢ Err Stop.Write }
+{
+    let mut sink = SureSink::new();
+    let kept = Some(Vec::new(alloc));
+    let Ended {
+        refused,
+        script,
+        refusals,
+    } = run_to_end(alloc, kept, files, source, &mut sink, steps)?;
+    match refusals {
+        Some(refusals) => Ok(Unwritten {
+            refused,
+            refusals,
+            script,
+        }),
+        None => unreachable!(),
+    }
 }

@@ -6,6 +6,7 @@ use Rattle.std.specs.List.{flat_map}
 use Rattle.std.proofs.lemmas.Grind.{flat_map-append}
 use Rattle.std.proofs.lemmas.List.{append-nil, take_more, drop_at}
 use Rattle.payroll_records.specs.declared.month.Month.{Month}
+use Rattle.book_year.specs.declared.outcome.Work.{Work}
 use Rattle.recalc_engine.specs.Contents.{Contents}
 use Rattle.recalc_engine.specs.MonthRows.{month_rows}
 use Rattle.correction_ledger.specs.declared.due.Due.{Due}
@@ -20,6 +21,7 @@ use Rattle.script_steps.specs.LineTexts.{file_detail, owed_detail, filed_text}
 use Rattle.script_steps.specs.Standings.{Standing, accepted}
 use Rattle.script_steps.specs.FilingSteps.{IsFileStep, IsUnfiled, IsOwedAnswer, OwedSays, owed_answer}
 use Rattle.script_steps.specs.StepViews.{IsFileRefusal, IsOwedRefusal}
+use Rattle.script_steps.proofs.EditLemmas.{standing}
 
 -- ---- lines, one after the other
 
@@ -41,18 +43,15 @@ text_with f xs i x after before text is lt e b t =
 
 -- ---- a filing
 
--- a book as a standing, with what was filed
-abbrev pub standing : Filings → Contents → Standing
-standing filings b = record { book = b; filings = filings }
-
-module _ (from : Standing) (month : Month) (book : Contents) (old : Filings) (same : standing old book ≡ from) where
+module _ (from : Standing) (month : Month) (book : Contents) (old : Filings) (made : Work)
+    (same : standing old made book ≡ from) where
   pub file_made : (new : Filings) (count : ℕ) (entries : List Entry) (answer : Answer) →
       IsFiling (month_rows book) month old new count → entries ≡ drop (length old.entries) new.entries →
-      answer ≡ accepted (filed_text entries count) 0 → IsFileStep from month (standing new book) answer
+      answer ≡ accepted (filed_text entries count) 0 → IsFileStep from month (standing new made book) answer
   file_made new count entries answer h is_rest is =
       let appended = is_rest ∙ ap (drop (length old.entries)) h.entries
       ∙ drop_at old.entries (map (entry_with month) h.dues) (length old.entries) refl in
-      subst (λ s. IsFileStep s month (standing new book) answer) same
+      subst (λ s. IsFileStep s month (standing new made book) answer) same
       (inl (record {
         filings = new;
         count = count;
@@ -70,15 +69,15 @@ module _ (from : Standing) (month : Month) (book : Contents) (old : Filings) (sa
 
   pub file_refused : (new : Filings) (why : FileRefusal) (answer : Answer) → new ≡ old →
       IsFileRefused (month_rows book) month old why → IsFileRefusal why answer →
-      IsFileStep from month (standing new book) answer
+      IsFileStep from month (standing new made book) answer
   file_refused new why answer stays h is =
       let u = unfiled why answer h is in
-      subst (λ s. IsFileStep s month (standing new book) answer) same
-      (inr (record { why = why; says = u.0; left = ap (λ f. standing f book) stays; told = u.1 }))
+      subst (λ s. IsFileStep s month (standing new made book) answer) same
+      (inr (record { why = why; says = u.0; left = ap (λ f. standing f made book) stays; told = u.1 }))
 
 -- ---- what is owed
 
-module _ (from : Standing) (book : Contents) (now : Filings) (same : standing now book ≡ from) where
+module _ (from : Standing) (book : Contents) (now : Filings) (made : Work) (same : standing now made book ≡ from) where
   pub owed_told : (verdict : Result (List Due) OwedRefusal) (answer : Answer) →
       OwedSays (month_rows book) now verdict → answer ≡ owed_answer verdict → IsOwedAnswer from answer
   owed_told verdict answer h is =
@@ -112,6 +111,9 @@ owed_steps from answer h = by h.verdict h.told
 
 -- ---- the line end behind the words of a line
 
+pub ended_pair : (p a b : List ℕ) → p ++ (a ++ (32 ∷ (b ++ (10 ∷ [])))) ≡ (p ++ (a ++ (32 ∷ b))) ++ (10 ∷ [])
+ended_pair p a b = simp append_assoc
+
 pub ended_due : (p a b c d : List ℕ) →
     p ++ (a ++ (32 ∷ (b ++ (32 ∷ (c ++ (32 ∷ (d ++ (10 ∷ [])))))))) ≡
     (p ++ (a ++ (32 ∷ (b ++ (32 ∷ (c ++ (32 ∷ d))))))) ++ (10 ∷ [])
@@ -125,3 +127,8 @@ ended_set p m n x v = simp append_assoc
 pub ended_site : (p m n x : List ℕ) →
     p ++ (m ++ (58 ∷ (n ++ (32 ∷ (x ++ (10 ∷ [])))))) ≡ (p ++ ((m ++ (58 ∷ n)) ++ (32 ∷ x))) ++ (10 ∷ [])
 ended_site p m n x = simp append_assoc
+
+pub ended_value : (p a b c d e : List ℕ) →
+    p ++ (a ++ (32 ∷ (b ++ (32 ∷ (c ++ (32 ∷ (d ++ (32 ∷ (e ++ (10 ∷ [])))))))))) ≡
+    (p ++ (a ++ (32 ∷ (b ++ (32 ∷ (c ++ (32 ∷ (d ++ (32 ∷ e))))))))) ++ (10 ∷ [])
+ended_value p a b c d e = simp append_assoc

@@ -14,49 +14,82 @@ use Rattle.plan_answers.specs.declared.reply.Reply.{Reply}
 use Rattle.plan_answers.specs.ReplyViews.{reply_of}
 use Rattle.plan_answers.proofs.Laws.{if_ok_map, on_err_any}
 use Rattle.script_steps.specs.LineTexts.{edit_detail}
-use Rattle.script_steps.specs.Standings.{Standing, accepted}
+use Rattle.script_steps.specs.Standings.{Standing, accepted, after_edit, more_work}
 use Rattle.script_steps.specs.LineSteps.{IsEditStep}
 use Rattle.script_steps.specs.StepViews.{IsMade, IsLost, IsEditReply}
 
 -- a refusal that isn't want of memory
-refused_step : (text : List ℕ) (from : Standing) (e : Edit) (why : EditRefusal) (answer : Answer) → EditAnswers from.book e (Err why) → answer ≡ refusal (edit_detail why) → IsEditStep text from e from answer
+refused_step : (text : List ℕ) (from : Standing) (e : Edit) (why : EditRefusal) (answer : Answer)
+    → EditAnswers from.book e (Err why) → answer ≡ refusal (edit_detail why) → IsEditStep text from e from answer
 refused_step text from e why answer h is = record { verdict = Err why; says = h; is = (refl, is) }
 
-module _ (text : List ℕ) (from : Standing) (e : Edit) (book : Contents) (before now : ℕ) where
-  abbrev after : Standing
-  after = record { book = book; filings = from.filings }
-
-  -- the work's steps are the cost
-  steps_are : (work : Work) → IsEdited from.book e book (Ok work) → cost_between from.book (edited e from.book) ≡ work.steps
+-- the steps of the work of an edit are the cost, and its line is answered
+module _ (text : List ℕ) (from : Standing) (e : Edit) (book : Contents) where
+  steps_are : (work : Work) → IsEdited from.book e book (Ok work)
+      → cost_between from.book (edited e from.book) ≡ work.steps
   steps_are work h = sym (ap (λ (w : Work). w.steps) h.1 ∙ ap (λ (b : Contents). b.last.steps) h.0.1)
 
-  made_step : (work : Work) → IsEdited from.book e book (Ok work) → IsEditStep text from e after (accepted text work.steps)
+  made_step : (work : Work) → IsEdited from.book e book (Ok work)
+      → IsEditStep text from e (after_edit from book) (accepted text work.steps)
   made_step work h = record { verdict = Ok book; says = h.0; is = (refl, ap (λ (w : Work). accepted text w.steps) h.1) }
 
-  same_book : book ≡ from.book → from ≡ after
-  same_book e i = record { book = sym e i; filings = from.filings }
+-- what is left of an edit, with the work of all edits
+module _ (text : List ℕ) (from : Standing) (e : Edit) (book : Contents) (total : Work) (before now : ℕ) where
+  abbrev left : Standing
+  left = record { book = book; filings = from.filings; made = total }
 
-  refused_made : (why : EditRefusal) (answer : Answer) → EditAnswers from.book e (Err why) → book ≡ from.book → now ≡ before → answer ≡ refusal (edit_detail why) → IsMade (IsEditStep text from e) after before now answer
-  refused_made why answer h same still is = record {
-    is = subst (λ s. IsEditStep text from e s answer) (same_book same) (refused_step text from e why answer h is);
+  same_left : book ≡ from.book → total ≡ from.made → from ≡ left
+  same_left b t i = record { book = sym b i; filings = from.filings; made = sym t i }
+
+  after_left : (work : Work) → work ≡ book.last → total ≡ more_work from.made work → after_edit from book ≡ left
+  after_left work w t i = record {
+    book = book;
+    filings = from.filings;
+    made = sym (t ∙ ap (more_work from.made) w) i;
+  }
+
+  refused_made : (why : EditRefusal) (answer : Answer) → EditAnswers from.book e (Err why) → book ≡ from.book
+      → now ≡ before → answer ≡ refusal (edit_detail why) → total ≡ from.made
+      → IsMade (IsEditStep text from e) left before now answer
+  refused_made why answer h same still is t = record {
+    is = subst (λ s. IsEditStep text from e s answer) (same_left same t) (refused_step text from e why answer h is);
     counted = let none : answer.steps ≡ 0 = ap (λ (a : Answer). a.steps) is in omega (arith, none, still);
   }
 
   -- the reply to an edit is its step's answer
-  reply_made : (made : Result Work EditRefusal) (answer : Answer) → IsEdited from.book e book made → CountsEdit made before now (cost_between from.book (edited e from.book)) → IsEditReply text made answer → IsMade (IsEditStep text from e) after before now answer
+  reply_made : (made : Result Work EditRefusal) (answer : Answer) → IsEdited from.book e book made
+      → CountsEdit made before now (cost_between from.book (edited e from.book))
+      → IsEditReply text made from.made total answer
+      → IsMade (IsEditStep text from e) left before now answer
   reply_made (Ok work) answer h counts is = record {
-    is = subst (λ a. IsEditStep text from e after a) (sym is) (made_step work h);
-    counted = counts ∙ ap (λ n. before + n) (steps_are work h ∙ sym (ap (λ (a : Answer). a.steps) is));
+    is = subst (λ s. IsEditStep text from e s answer) (after_left work h.1 is.1)
+        (subst (λ a. IsEditStep text from e (after_edit from book) a) (sym is.0) (made_step text from e book work h));
+    counted = counts
+        ∙ ap (λ n. before + n) (steps_are text from e book work h ∙ sym (ap (λ (a : Answer). a.steps) is.0));
   }
-  reply_made (Err (refusals.Memory x)) answer h counts is = absurd is
-  reply_made (Err (refusals.Present k)) answer h counts is = refused_made (refusals.Present k) answer h.0 h.1 counts is
-  reply_made (Err (refusals.Absent f w)) answer h counts is = refused_made (refusals.Absent f w) answer h.0 h.1 counts is
-  reply_made (Err (refusals.Several f m)) answer h counts is = refused_made (refusals.Several f m) answer h.0 h.1 counts is
-  reply_made (Err refusals.Records) answer h counts is = refused_made refusals.Records answer h.0 h.1 counts is
-  reply_made (Err refusals.Plans) answer h counts is = refused_made refusals.Plans answer h.0 h.1 counts is
-  reply_made (Err (refusals.NoPlanThere d)) answer h counts is = refused_made (refusals.NoPlanThere d) answer h.0 h.1 counts is
+  reply_made (Err (refusals.Memory x)) answer h counts is = absurd is.0
+  reply_made (Err (refusals.Present k)) answer h counts is =
+      refused_made (refusals.Present k) answer h.0 h.1 counts is.0 is.1
+  reply_made (Err (refusals.Absent f w)) answer h counts is =
+      refused_made (refusals.Absent f w) answer h.0 h.1 counts is.0 is.1
+  reply_made (Err (refusals.Several f m)) answer h counts is =
+      refused_made (refusals.Several f m) answer h.0 h.1 counts is.0 is.1
+  reply_made (Err refusals.Records) answer h counts is =
+      refused_made refusals.Records answer h.0 h.1 counts is.0 is.1
+  reply_made (Err refusals.Plans) answer h counts is = refused_made refusals.Plans answer h.0 h.1 counts is.0 is.1
+  reply_made (Err (refusals.NoPlanThere d)) answer h counts is =
+      refused_made (refusals.NoPlanThere d) answer h.0 h.1 counts is.0 is.1
 
-  refused_lost : (why : EditRefusal) → EditAnswers from.book e (Err why) → now ≡ before → IsLost (IsEditStep text from e) before now
+  reply_all : (made : Result Work EditRefusal) (reply : Result Reply AllocError) → IsEdited from.book e book made
+      → CountsEdit made before now (cost_between from.book (edited e from.book))
+      → IfOk reply (λ r. IsEditReply text made from.made total (reply_of r))
+      → IfOk reply (λ r. IsMade (IsEditStep text from e) left before now (reply_of r))
+  reply_all made reply h counts = if_ok_map reply _ _ (λ r is. reply_made made (reply_of r) h counts is)
+
+-- an edit of which no answer was made
+module _ (text : List ℕ) (from : Standing) (e : Edit) (book : Contents) (before now : ℕ) where
+  refused_lost : (why : EditRefusal) → EditAnswers from.book e (Err why) → now ≡ before
+      → IsLost (IsEditStep text from e) before now
   refused_lost why h still = record {
     to = from;
     answer = refusal (edit_detail why);
@@ -66,12 +99,20 @@ module _ (text : List ℕ) (from : Standing) (e : Edit) (book : Contents) (befor
   }
 
   -- where memory ran out at the edit or after it
-  made_lost : (made : Result Work EditRefusal) → IsEdited from.book e book made → CountsEdit made before now (cost_between from.book (edited e from.book)) → IsLost (IsEditStep text from e) before now
+  made_lost : (made : Result Work EditRefusal) → IsEdited from.book e book made
+      → CountsEdit made before now (cost_between from.book (edited e from.book))
+      → IsLost (IsEditStep text from e) before now
   made_lost (Ok work) h counts =
-      let is = counts ∙ ap (λ n. before + n) (steps_are work h) in
-      record { to = after; answer = accepted text work.steps; is = made_step work h; later = omega (arith, is); within = omega (arith, is) }
+      let is = counts ∙ ap (λ n. before + n) (steps_are text from e book work h) in
+      record {
+        to = after_edit from book;
+        answer = accepted text work.steps;
+        is = made_step text from e book work h;
+        later = omega (arith, is);
+        within = omega (arith, is);
+      }
   made_lost (Err (refusals.Memory x)) h counts = record {
-    to = record { book = edited e from.book; filings = from.filings };
+    to = after_edit from (edited e from.book);
     answer = accepted text (cost_between from.book (edited e from.book));
     is = record { verdict = Ok (edited e from.book); says = h.0; is = (refl, refl) };
     later = counts.0;
@@ -84,21 +125,23 @@ module _ (text : List ℕ) (from : Standing) (e : Edit) (book : Contents) (befor
   made_lost (Err refusals.Plans) h counts = refused_lost refusals.Plans h.0 counts
   made_lost (Err (refusals.NoPlanThere d)) h counts = refused_lost (refusals.NoPlanThere d) h.0 counts
 
-  reply_all : (made : Result Work EditRefusal) (reply : Result Reply AllocError) → IsEdited from.book e book made → CountsEdit made before now (cost_between from.book (edited e from.book)) → IfOk reply (λ r. IsEditReply text made (reply_of r)) → IfOk reply (λ r. IsMade (IsEditStep text from e) after before now (reply_of r))
-  reply_all made reply h counts = if_ok_map reply _ _ (λ r is. reply_made made (reply_of r) h counts is)
-
--- a book as a standing, with what was filed
-abbrev standing : Filings → Contents → Standing
-standing filings b = record { book = b; filings = filings }
+-- a book as a standing, with what was filed and the work of all edits
+abbrev pub standing : Filings → Work → Contents → Standing
+standing filings made b = record { book = b; filings = filings; made = made }
 
 -- an edit of the book of a standing
-module _ (text : List ℕ) (from : Standing) (e : Edit) (filings : Filings) (old : Contents) (same : standing filings old ≡ from) (book : Contents) (before now : ℕ) (made : Result Work EditRefusal) (reply : Result Reply AllocError) (h : IsEdited old e book made) (counts : CountsEdit made before now (cost_between old (edited e old))) where
-  pub edit_made : IfOk reply (λ r. IsEditReply text made (reply_of r)) → IfOk reply (λ r. IsMade (IsEditStep text from e) (standing filings book) before now (reply_of r))
-  edit_made is =
-      subst (λ s. IfOk reply (λ r. IsMade (IsEditStep text s e) (standing filings book) before now (reply_of r))) same
-      (reply_all text (standing filings old) e book before now made reply h counts is)
+module _ (text : List ℕ) (from : Standing) (e : Edit) (filings : Filings) (total : Work) (old : Contents)
+    (same : standing filings total old ≡ from) (book : Contents) (before now : ℕ) (made : Result Work EditRefusal)
+    (reply : Result Reply AllocError) (h : IsEdited old e book made)
+    (counts : CountsEdit made before now (cost_between old (edited e old))) where
+  pub edit_made : (after : Work) → IfOk reply (λ r. IsEditReply text made total after (reply_of r))
+      → IfOk reply (λ r. IsMade (IsEditStep text from e) (standing filings after book) before now (reply_of r))
+  edit_made after is =
+      let left = standing filings after book in
+      subst (λ s. IfOk reply (λ r. IsMade (IsEditStep text s e) left before now (reply_of r))) same
+      (reply_all text (standing filings total old) e book after before now made reply h counts is)
 
   pub edit_lost : OnErr reply (IsLost (IsEditStep text from e) before now)
   edit_lost =
       subst (λ s. OnErr reply (IsLost (IsEditStep text s e) before now)) same
-      (on_err_any reply _ (made_lost text (standing filings old) e book before now made h counts))
+      (on_err_any reply _ (made_lost text (standing filings total old) e book before now made h counts))

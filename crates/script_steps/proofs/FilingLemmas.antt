@@ -7,7 +7,6 @@ use Rattle.std.specs.declared.cmp.Ordering.{Ordering}
 use Rattle.std.specs.declared.cmp.Ordering.TheVariants.{Less, Equal, Greater}
 use Rattle.payroll_records.specs.declared.month.Month.{Month}
 use Rattle.payroll_records.specs.declared.record.Key.{Key}
-use Rattle.recalc_engine.specs.Contents.{Contents}
 use Rattle.recalc_engine.specs.MonthRows.{KeyedRow, month_rows}
 use Rattle.correction_ledger.specs.declared.due.Due.{Due}
 use Rattle.correction_ledger.specs.declared.due.Entry.{Entry}
@@ -112,9 +111,9 @@ owed_one from to to' a a' h k =
 
 -- ---- file MONTH
 
--- a book with what was filed
-abbrev with_filings : Contents → Filings → Standing
-with_filings book filings = record { book = book; filings = filings }
+-- a standing with other filings
+abbrev with_filings : Standing → Filings → Standing
+with_filings from filings = record { book = from.book; filings = filings; made = from.made }
 
 filings_same : (x y : Filings) → x.entries ≡ y.entries → x.last ≡ y.last → x ≡ y
 filings_same x y e l i = record { entries = e i; last = l i }
@@ -171,7 +170,7 @@ module _ (from : Standing) (month : Month) where
                   let filings : Filings = record { entries = old ++ map (entry_with month) dues; last = Some month } in
                   let size = length-append old (map (entry_with month) dues) in
                   let mapped = length-map dues (entry_with month) in (
-                    with_filings from.book filings,
+                    with_filings from filings,
                     accepted (filed_text (map (entry_with month) dues) (length dues)) 0,
                     inl (record {
                       filings = filings;
@@ -197,7 +196,7 @@ module _ (from : Standing) (month : Month) where
       let entries = h.filing.entries ∙ ap (λ ds. old ++ map (entry_with month) ds) dues ∙ sym k.filing.entries in
       let filings = filings_same h.filings k.filings entries (h.filing.last ∙ sym k.filing.last) in
       let count = h.filing.counted ∙ ap length dues ∙ sym k.filing.counted in (
-        h.left ∙ ap (with_filings from.book) filings ∙ sym k.left,
+        h.left ∙ ap (with_filings from) filings ∙ sym k.left,
         h.told ∙ ap₂ (λ ds n. accepted (filed_text (map (entry_with month) ds) n) 0) dues count ∙ sym k.told,
       )
 

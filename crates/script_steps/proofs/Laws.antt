@@ -1,5 +1,6 @@
 -- The laws of the steps of lines, for crates above.
-use Rattle.script_steps.specs.StepLaws.{LinesHaveAStep, LinesHaveOneStep, FilesAreTold, LongLinesAreOne, LongLinesNameNoFile}
+use Rattle.script_steps.specs.StepLaws.{LinesHaveAStep, LinesHaveOneStep, FilesAreTold, LongLinesAreOne}
+use Rattle.script_steps.specs.StepLaws.{LongLinesNameNoFile}
 use Rattle.script_steps.proofs.StepLemmas as steps
 
 pub some : LinesHaveAStep

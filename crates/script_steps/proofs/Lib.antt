@@ -10,3 +10,5 @@ mod StepLemmas
 mod WriteLemmas
 mod TableLemmas
 mod PlanLemmas
+mod TrialLemmas
+mod OpenLemmas

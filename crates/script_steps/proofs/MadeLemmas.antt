@@ -1,6 +1,7 @@
 -- What the functions of lines leave, said of the files and of what was written.
-use Rattle.std.proofs.Common.{◌≡◌, ℕ, ◌+◌, List, [], Bool, refl, sym, ap, subst, arith, inl, inr}
+use Rattle.std.proofs.Common.{◌≡◌, ◌⊎◌, ℕ, ◌+◌, List, [], Bool, refl, sym, ap, subst, arith, inl, inr}
 use Rattle.std.specs.Prelude.{Option, Some, Result, Ok, Err, IfOk}
+use Rattle.std.specs.Option.{ForSome}
 use Rattle.std.specs.Result.{ForErr}
 use Rattle.outside.specs.Causes.{Caused}
 use Rattle.outside.specs.Told.{FileMap, Appends}
@@ -12,19 +13,19 @@ use Rattle.script_lang.specs.Commands as asked
 use Rattle.script_lang.specs.Lines.{IsLine, LineSays, IsRefused}
 use Rattle.script_lang.specs.declared.fault.LineFault.{LineFault}
 use Rattle.script_lang.specs.declared.fault.LineFault.TheVariants as faults
-use Rattle.payroll_records.specs.declared.day.Day.{Day}
-use Rattle.plan_answers.specs.Fronts.{IsMissing}
 use Rattle.plan_answers.specs.Answers.{Answer, refusal}
 use Rattle.plan_answers.proofs.Laws.{if_ok_map}
 use Rattle.script_steps.specs.declared.stop.LineStop.{LineStop}
 use Rattle.script_steps.specs.declared.stop.LineStop.TheVariants as stops
-use Rattle.script_steps.specs.LineSteps.{IsFileOf, report_answer}
+use Rattle.script_steps.specs.LineSteps.{IsFileOf, report_answer, IsNextFile, IsNextOfPlan}
 use Rattle.script_steps.specs.LineTexts.{line_detail}
-use Rattle.script_steps.specs.Standings.{Standing}
+use Rattle.script_steps.specs.Standings.{Standing, Doing}
 use Rattle.script_steps.specs.Steps.{IsStep}
 use Rattle.script_steps.specs.Stops.{stop_of}
 use Rattle.script_steps.specs.StepClauses.{IsAnswered, IsBroken}
-use Rattle.script_steps.specs.StepViews.{Doing, IsMade, IsLost, IsWant, ToldDoes, IsUnmade, IsLineRefusal, IsWritten, IsUnwritten, IsRefusalWritten, IsRefusalUnwritten}
+use Rattle.script_steps.specs.StepViews.{IsMade, IsLost, IsWant, ToldDoes, IsUnmade, IsLineRefusal, IsWritten}
+use Rattle.script_steps.specs.StepViews.{IsUnwritten, IsRefusalWritten, IsRefusalUnwritten}
+use Rattle.script_steps.specs.PlanViews.{IsUnjudged}
 
 err_same : {T E : Type 0} (r : Result T E) (x y : E) → r ≡ Err x → r ≡ Err y → x ≡ y
 err_same r x y a b = cc
@@ -35,37 +36,62 @@ for_err P r x is h = λ e same. subst P (err_same r x e is same) h
 
 -- ---- of another step
 
-pub made_map : (P Q : Doing) (to : Standing) (before now : ℕ) (answer : Answer) → ((to : Standing) (a : Answer) → P to a → Q to a) → IsMade P to before now answer → IsMade Q to before now answer
+pub made_map : (P Q : Doing) (to : Standing) (before now : ℕ) (answer : Answer)
+    → ((to : Standing) (a : Answer) → P to a → Q to a) → IsMade P to before now answer → IsMade Q to before now answer
 made_map P Q to before now answer f m = record { is = f to answer m.is; counted = m.counted }
 
-pub lost_map : (P Q : Doing) (before now : ℕ) → ((to : Standing) (a : Answer) → P to a → Q to a) → IsLost P before now → IsLost Q before now
-lost_map P Q before now f l = record { to = l.to; answer = l.answer; is = f l.to l.answer l.is; later = l.later; within = l.within }
+-- nothing was counted
+pub made_still : (Step : Doing) (to : Standing) (steps : ℕ) (reply : Answer) → Step to reply → reply.steps ≡ 0
+    → IsMade Step to steps steps reply
+made_still Step to steps reply is none = record { is = is; counted = omega (arith, none) }
 
-pub want_map : (P Q : Doing) (before now : ℕ) → ((to : Standing) (a : Answer) → P to a → Q to a) → IsWant P before now → IsWant Q before now
+pub lost_map : (P Q : Doing) (before now : ℕ) → ((to : Standing) (a : Answer) → P to a → Q to a) → IsLost P before now
+    → IsLost Q before now
+lost_map P Q before now f l = record {
+  to = l.to;
+  answer = l.answer;
+  is = f l.to l.answer l.is;
+  later = l.later;
+  within = l.within;
+}
+
+pub want_map : (P Q : Doing) (before now : ℕ) → ((to : Standing) (a : Answer) → P to a → Q to a) → IsWant P before now
+    → IsWant Q before now
 want_map P Q before now f (inl e) = inl e
 want_map P Q before now f (inr l) = inr (lost_map P Q before now f l)
 
 -- ---- no reply was made
 
-module _ (Step : Doing) (what : Asked) (before now : ℕ) (failed : Option (List ℕ)) where
+module _ (told : Option FileMap) (Step : Doing) (what : Asked) (before now : ℕ) (failed : Option (List ℕ)) where
   -- the files didn't give one that is asked for
-  pub unread : {T : Type 0} (r : Result T LineStop) (answer : FileAnswer) (name : List ℕ) → r ≡ Err (stop_of answer) → now ≡ before → (answer ≡ answers.Failed → IsFileOf what name × (failed ≡ Some name)) → ForErr r (IsUnmade Step what before now failed)
+  pub unread : {T : Type 0} (r : Result T LineStop) (answer : FileAnswer) (name : List ℕ) → r ≡ Err (stop_of answer)
+      → now ≡ before
+      → (answer ≡ answers.Failed
+      → IsFileOf what name × (failed ≡ Some name) × ForSome told (λ files. IsNextFile files what name))
+      → ForErr r (IsUnmade told Step what before now failed)
   unread r answers.Failed name is still there =
       let f = there refl in
-      for_err (IsUnmade Step what before now failed) r stops.File is (record { uncounted = still; name = name; is_file = f.0; failed_there = f.1 })
-  unread r answers.Memory name is still there = for_err (IsUnmade Step what before now failed) r stops.Memory is (inl still)
+      for_err (IsUnmade told Step what before now failed) r stops.File is
+      (record { uncounted = still; name = name; is_file = f.0; failed_there = f.1; in_order = f.2 })
+  unread r answers.Memory name is still there =
+      for_err (IsUnmade told Step what before now failed) r stops.Memory is (inl still)
 
-  pub wanting : {T : Type 0} (r : Result T LineStop) → r ≡ Err stops.Memory → IsWant Step before now → ForErr r (IsUnmade Step what before now failed)
-  wanting r is w = for_err (IsUnmade Step what before now failed) r stops.Memory is w
+  pub wanting : {T : Type 0} (r : Result T LineStop) → r ≡ Err stops.Memory → IsWant Step before now
+      → ForErr r (IsUnmade told Step what before now failed)
+  wanting r is w = for_err (IsUnmade told Step what before now failed) r stops.Memory is w
 
 -- ---- what a line does that asks for this
 
 module _ (told : Option FileMap) (old new : Option (List ℕ)) (before now : ℕ) (from : Standing) (line : List ℕ) where
   module _ (what : Asked) (says : IsLine line what) where
-    step_of : (to : Standing) (answer : Answer) → ToldDoes told from (Ok what) to answer → (files : FileMap) → told ≡ Some files → IsStep files from line to answer
+    step_of : (to : Standing) (answer : Answer) → ToldDoes told from (Ok what) to answer → (files : FileMap)
+        → told ≡ Some files → IsStep files from line to answer
     step_of to answer h files e = record { said = Ok what; says = says; does = h files e }
 
-    pub answered : (to : Standing) (answer : Answer) (refused : Bool) → IsMade (ToldDoes told from (Ok what)) to before now answer → IsWritten old new answer.text answer.refused refused → IsAnswered told old new before now from to line refused
+    pub answered : (to : Standing) (answer : Answer) (refused : Bool)
+        → IsMade (ToldDoes told from (Ok what)) to before now answer
+        → IsWritten old new answer.text answer.refused refused
+        → IsAnswered told old new before now from to line refused
     answered to answer refused m w = record {
       answer = answer;
       appended = w.appended;
@@ -75,11 +101,20 @@ module _ (told : Option FileMap) (old new : Option (List ℕ)) (before now : ℕ
     }
 
     -- the answer wasn't written whole
-    pub cut : (to : Standing) (answer : Answer) (failed : Option (List ℕ)) (stop : LineStop) → IsMade (ToldDoes told from (Ok what)) to before now answer → IsUnwritten old new answer.text stop → IsBroken told old new before now from line failed stop
+    pub cut : (to : Standing) (answer : Answer) (failed : Option (List ℕ)) (stop : LineStop)
+        → IsMade (ToldDoes told from (Ok what)) to before now answer → IsUnwritten old new answer.text stop
+        → IsBroken told old new before now from line failed stop
     cut to answer failed stops.File m u = absurd u
     cut to answer failed stops.Write m u =
         let is = m.counted in
-        record { to = to; answer = answer; part = u; later = omega (arith, is); within = omega (arith, is); is = step_of to answer m.is }
+        record {
+          to = to;
+          answer = answer;
+          part = u;
+          later = omega (arith, is);
+          within = omega (arith, is);
+          is = step_of to answer m.is;
+        }
     cut to answer failed stops.Memory m u =
         let is = m.counted in
         inr (record {
@@ -95,11 +130,18 @@ module _ (told : Option FileMap) (old new : Option (List ℕ)) (before now : ℕ
         })
 
     -- nothing was written
-    pub unmade : (failed : Option (List ℕ)) (stop : LineStop) → new ≡ old → IsUnmade (ToldDoes told from (Ok what)) what before now failed stop → IsBroken told old new before now from line failed stop
+    pub unmade : (failed : Option (List ℕ)) (stop : LineStop) → new ≡ old
+        → IsUnmade told (ToldDoes told from (Ok what)) what before now failed stop
+        → IsBroken told old new before now from line failed stop
     unmade failed stops.File same u = record {
-      unbegun = record { nothing = subst (λ n. Appends old n []) (sym same) (Appends-nothing old); uncounted = u.uncounted };
+      unbegun = record {
+        nothing = subst (λ n. Appends old n []) (sym same) (Appends-nothing old);
+        uncounted =
+            u.uncounted;
+      };
       name = u.name;
       names = record { what = what; is_line = says; is_file = u.is_file };
+      in_order = u.in_order;
       failed_there = u.failed_there;
     }
     unmade failed stops.Write same u = absurd u
@@ -120,7 +162,8 @@ module _ (told : Option FileMap) (old new : Option (List ℕ)) (before now : ℕ
   -- ---- a line that is refused
 
   -- the refusal is what the line says, and want of memory is not
-  says_refused : (why : LineFault) (answer : Answer) → IsRefused line why → IsLineRefusal why answer → LineSays line (Err why) × (answer ≡ refusal (line_detail why))
+  says_refused : (why : LineFault) (answer : Answer) → IsRefused line why → IsLineRefusal why answer
+      → LineSays line (Err why) × (answer ≡ refusal (line_detail why))
   says_refused (faults.Memory e) answer h is = absurd is
   says_refused faults.LineLong answer h is = (h, is)
   says_refused faults.Command answer h is = (h, is)
@@ -131,17 +174,20 @@ module _ (told : Option FileMap) (old new : Option (List ℕ)) (before now : ℕ
   says_refused (faults.Value word) answer h is = (h, is)
   says_refused (faults.Twice name) answer h is = (h, is)
 
-  refused_step : (why : LineFault) (answer : Answer) → IsRefused line why → IsLineRefusal why answer → (files : FileMap) → told ≡ Some files → IsStep files from line from answer
+  refused_step : (why : LineFault) (answer : Answer) → IsRefused line why → IsLineRefusal why answer
+      → (files : FileMap) → told ≡ Some files → IsStep files from line from answer
   refused_step why answer h is files e =
       let s = says_refused why answer h is in
       record { said = Err why; says = s.0; does = (refl, s.1) }
 
-  none : (why : LineFault) (answer : Answer) → IsRefused line why → IsLineRefusal why answer → now ≡ before → now ≡ before + answer.steps
+  none : (why : LineFault) (answer : Answer) → IsRefused line why → IsLineRefusal why answer → now ≡ before
+      → now ≡ before + answer.steps
   none why answer h is still =
       let steps : answer.steps ≡ 0 = ap (λ (a : Answer). a.steps) (says_refused why answer h is).1 in
       omega (arith, steps, still)
 
-  pub fault_answered : (why : LineFault) (refused : Bool) → now ≡ before → IsRefused line why → IsRefusalWritten old new why refused → IsAnswered told old new before now from from line refused
+  pub fault_answered : (why : LineFault) (refused : Bool) → now ≡ before → IsRefused line why
+      → IsRefusalWritten old new why refused → IsAnswered told old new before now from from line refused
   fault_answered why refused still h w = record {
     answer = w.answer;
     appended = w.written.appended;
@@ -150,59 +196,114 @@ module _ (told : Option FileMap) (old new : Option (List ℕ)) (before now : ℕ
     is = refused_step why w.answer h w.is;
   }
 
-  pub fault_broken : (why : LineFault) (failed : Option (List ℕ)) (stop : LineStop) → now ≡ before → IsRefused line why → IsRefusalUnwritten old new why stop → IsBroken told old new before now from line failed stop
+  pub fault_broken : (why : LineFault) (failed : Option (List ℕ)) (stop : LineStop) → now ≡ before
+      → IsRefused line why → IsRefusalUnwritten old new why stop
+      → IsBroken told old new before now from line failed stop
   fault_broken why failed stops.File still h u = absurd u
   fault_broken why failed stops.Write still h u =
       let is = none why u.answer h u.is still in
-      record { to = from; answer = u.answer; part = u.cut; later = omega (arith, is); within = omega (arith, is); is = refused_step why u.answer h u.is }
+      record {
+        to = from;
+        answer = u.answer;
+        part = u.cut;
+        later = omega (arith, is);
+        within = omega (arith, is);
+        is =
+            refused_step why u.answer h u.is;
+      }
   fault_broken why failed stops.Memory still h u = inl (record { nothing = u; uncounted = still })
 
 -- ---- what a command's function comes to
 
-module _ (told : Option FileMap) (old new : Option (List ℕ)) (before now : ℕ) (from to : Standing) (failed : Option (List ℕ)) (what : Asked) (answer : Answer) (made : IsMade (ToldDoes told from (Ok what)) to before now answer) (result : Result Bool LineStop) where
-  pub made_answered : IfOk result (IsWritten old new answer.text answer.refused) → (line : List ℕ) → IsLine line what → IfOk result (λ refused. IsAnswered told old new before now from to line refused)
-  made_answered w line says = if_ok_map result _ _ (λ refused. answered told old new before now from line what says to answer refused made) w
+module _ (told : Option FileMap) (old new : Option (List ℕ)) (before now : ℕ) (from to : Standing)
+    (failed : Option (List ℕ)) (what : Asked) (answer : Answer) (made : IsMade (ToldDoes told from (Ok what)) to
+    before now answer) (result : Result Bool LineStop) where
+  pub made_answered : IfOk result (IsWritten old new answer.text answer.refused) → (line : List ℕ) → IsLine line what
+      → IfOk result (λ refused. IsAnswered told old new before now from to line refused)
+  made_answered w line says = if_ok_map result _ _ (λ refused. answered told old new before now from line what says to
+      answer refused made) w
 
-  pub made_broken : ForErr result (IsUnwritten old new answer.text) → (line : List ℕ) → IsLine line what → ForErr result (λ stop. IsBroken told old new before now from line failed stop)
-  made_broken u line says = λ stop e. cut told old new before now from line what says to answer failed stop made (u stop e)
+  pub made_broken : ForErr result (IsUnwritten old new answer.text) → (line : List ℕ) → IsLine line what
+      → ForErr result (λ stop. IsBroken told old new before now from line failed stop)
+  made_broken u line says = λ stop e. cut told old new before now from line what says to answer failed stop made
+      (u stop e)
 
 -- the report leaves all as it is
-pub report_made : (told : Option FileMap) (from : Standing) (steps : ℕ) → IsMade (ToldDoes told from (Ok asked.report)) from steps steps (report_answer from)
-report_made told from steps = record { is = λ files e. (refl, refl); counted = omega arith }
+pub report_made : (told : Option FileMap) (from : Standing) (steps : ℕ)
+    → IsMade (ToldDoes told from (Ok asked.report)) from steps steps (report_answer from)
+report_made told from steps =
+    made_still (ToldDoes told from (Ok asked.report)) from steps (report_answer from) (λ files e. (refl, refl)) refl
 
 -- the sink isn't touched where no reply was made
-pub unmade_broken : (told : Option FileMap) (old : Option (List ℕ)) (before now : ℕ) (from : Standing) (failed : Option (List ℕ)) (what : Asked) (stop : LineStop) → IsUnmade (ToldDoes told from (Ok what)) what before now failed stop → (result : Result Bool LineStop) → result ≡ Err stop → (line : List ℕ) → IsLine line what → ForErr result (λ stop. IsBroken told old old before now from line failed stop)
+pub unmade_broken : (told : Option FileMap) (old : Option (List ℕ)) (before now : ℕ) (from : Standing)
+    (failed : Option (List ℕ)) (what : Asked) (stop : LineStop)
+    → IsUnmade told (ToldDoes told from (Ok what)) what before now failed stop → (result : Result Bool LineStop)
+    → result ≡ Err stop → (line : List ℕ) → IsLine line what
+    → ForErr result (λ stop. IsBroken told old old before now from line failed stop)
 unmade_broken told old before now from failed what stop u result is line says =
-    for_err (λ s. IsBroken told old old before now from line failed s) result stop is (unmade told old old before now from line what says failed stop refl u)
+    for_err (λ s. IsBroken told old old before now from line failed s) result stop is
+    (unmade told old old before now from line what says failed stop refl u)
 
 -- out of memory before anything was done
-pub want_broken : (told : Option FileMap) (old : Option (List ℕ)) (steps : ℕ) (from : Standing) (line : List ℕ) (failed : Option (List ℕ)) (result : Result Bool LineStop) → result ≡ Err stops.Memory → ForErr result (λ stop. IsBroken told old old steps steps from line failed stop)
+pub want_broken : (told : Option FileMap) (old : Option (List ℕ)) (steps : ℕ) (from : Standing) (line : List ℕ)
+    (failed : Option (List ℕ)) (result : Result Bool LineStop) → result ≡ Err stops.Memory
+    → ForErr result (λ stop. IsBroken told old old steps steps from line failed stop)
 want_broken told old steps from line failed result is =
-    for_err (λ s. IsBroken told old old steps steps from line failed s) result stops.Memory is (inl (record { nothing = Appends-nothing old; uncounted = refl }))
+    for_err (λ s. IsBroken told old old steps steps from line failed s) result stops.Memory is
+    (inl (record { nothing = Appends-nothing old; uncounted = refl }))
 
 -- a line that is refused
-pub faults_answered : (told : Option FileMap) (old new : Option (List ℕ)) (steps : ℕ) (from : Standing) (line : List ℕ) (why : LineFault) (result : Result Bool LineStop) → IsRefused line why → IfOk result (IsRefusalWritten old new why) → IfOk result (λ refused. IsAnswered told old new steps steps from from line refused)
+pub faults_answered : (told : Option FileMap) (old new : Option (List ℕ)) (steps : ℕ) (from : Standing)
+    (line : List ℕ) (why : LineFault) (result : Result Bool LineStop) → IsRefused line why
+    → IfOk result (IsRefusalWritten old new why)
+    → IfOk result (λ refused. IsAnswered told old new steps steps from from line refused)
 faults_answered told old new steps from line why result h =
     if_ok_map result _ _ (λ refused. fault_answered told old new steps steps from line why refused refl h)
 
-pub faults_broken : (told : Option FileMap) (old new : Option (List ℕ)) (steps : ℕ) (from : Standing) (line : List ℕ) (failed : Option (List ℕ)) (why : LineFault) (result : Result Bool LineStop) → IsRefused line why → ForErr result (IsRefusalUnwritten old new why) → ForErr result (λ stop. IsBroken told old new steps steps from line failed stop)
+pub faults_broken : (told : Option FileMap) (old new : Option (List ℕ)) (steps : ℕ) (from : Standing) (line : List ℕ)
+    (failed : Option (List ℕ)) (why : LineFault) (result : Result Bool LineStop) → IsRefused line why
+    → ForErr result (IsRefusalUnwritten old new why)
+    → ForErr result (λ stop. IsBroken told old new steps steps from line failed stop)
 faults_broken told old new steps from line failed why result h u =
     λ stop e. fault_broken told old new steps steps from line why failed stop refl h (u stop e)
 
 -- ---- a plan's files
 
-pub unread_plan : (Step : Doing) (day : Day) (plan limits : List ℕ) (steps : ℕ) (told : Option FileMap) (failed : Option (List ℕ)) {T : Type 0} (r : Result T LineStop) (answer : FileAnswer) → r ≡ Err (stop_of answer) → (answer ≡ answers.Failed → IsMissing told plan limits failed) → ForErr r (IsUnmade Step (asked.plan day plan limits) steps steps failed)
-unread_plan Step day plan limits steps told failed r answers.Failed is missing = by (missing refl)
-  where
-    by : IsMissing told plan limits failed → ForErr r (IsUnmade Step (asked.plan day plan limits) steps steps failed)
-    by (inl e) = unread Step (asked.plan day plan limits) steps steps failed r answers.Failed plan is refl (λ _. (inl refl, e))
-    by (inr e) = unread Step (asked.plan day plan limits) steps steps failed r answers.Failed limits is refl (λ _. (inr refl, e.0))
-unread_plan Step day plan limits steps told failed r answers.Memory is missing =
-    wanting Step (asked.plan day plan limits) steps steps failed r is (inl refl)
+-- the plan of two files wasn't judged
+pub unjudged : (Step : Doing) (what : Asked) (plan limits : List ℕ) (steps : ℕ) (told : Option FileMap)
+    (failed : Option (List ℕ))
+    → ((name : List ℕ) → (name ≡ plan) ⊎ (name ≡ limits) → IsFileOf what name)
+    → ((files : FileMap) (name : List ℕ) → IsNextOfPlan files plan limits name → IsNextFile files what name)
+    → (stop : LineStop) → IsUnjudged told plan limits failed stop → {T : Type 0} (r : Result T LineStop)
+    → r ≡ Err stop → ForErr r (IsUnmade told Step what steps steps failed)
+unjudged Step what plan limits steps told failed of next stops.File (inl e) r is =
+    for_err (IsUnmade told Step what steps steps failed) r stops.File is
+    (record {
+      uncounted = refl;
+      name = plan;
+      is_file = of plan (inl refl);
+      in_order = λ files t. next files plan (inl refl);
+      failed_there = e;
+    })
+unjudged Step what plan limits steps told failed of next stops.File (inr e) r is =
+    for_err (IsUnmade told Step what steps steps failed) r stops.File is
+    (record {
+      uncounted = refl;
+      name = limits;
+      is_file = of limits (inr refl);
+      in_order = λ files t. next files limits (inr (refl, e.1 files t));
+      failed_there = e.0;
+    })
+unjudged Step what plan limits steps told failed of next stops.Write u r is = absurd u
+unjudged Step what plan limits steps told failed of next stops.Memory u r is =
+    for_err (IsUnmade told Step what steps steps failed) r stops.Memory is (inl refl)
 
 -- the sink is no cause where no reply was made
-pub unmade_cause : (Step : Doing) (what : Asked) (before now : ℕ) (failed : Option (List ℕ)) (stop : LineStop) → IsUnmade Step what before now failed stop → (result : Result Bool LineStop) → result ≡ Err stop → (count : ℕ) → Caused stops.Write count count result
-unmade_cause Step what before now failed stop u result is count = record {
+pub unmade_cause : (told : Option FileMap) (Step : Doing) (what : Asked) (before now : ℕ) (failed : Option (List ℕ))
+    (stop : LineStop) → IsUnmade told Step what before now failed stop → (result : Result Bool LineStop)
+    → result ≡ Err stop → (count : ℕ) → Caused stops.Write count count result
+unmade_cause told Step what before now failed stop u result is count = record {
   later = omega arith;
-  rose = λ e. absurd (subst (λ s. IsUnmade Step what before now failed s) (err_same result stop stops.Write is e) u);
+  rose = λ e. absurd (subst (λ s. IsUnmade told Step what before now failed s) (err_same result stop stops.Write is e)
+      u);
 }

@@ -19,19 +19,27 @@ use Rattle.script_steps.proofs.MadeLemmas.{made_map, lost_map}
 
 module _ (from : Standing) (table : List ℕ) (before now : ℕ) where
   -- the runs of the table were added, or not
-  loaded : (records : List Record) → IsTable table records → (to : Standing) (a : Answer) → IsEditStep ok_line from (edits.load records) to a → IsTableStep from table to a
+  loaded : (records : List Record) → IsTable table records → (to : Standing) (a : Answer)
+      → IsEditStep ok_line from (edits.load records) to a → IsTableStep from table to a
   loaded records t to a h = record { said = Ok records; says = t; is = h }
 
-  pub table_made : (records : List Record) (to : Standing) (reply : Result Reply AllocError) → IsTable table records → IfOk reply (λ r. IsMade (IsEditStep ok_line from (edits.load records)) to before now (reply_of r)) → IfOk reply (λ r. IsMade (IsTableStep from table) to before now (reply_of r))
+  pub table_made : (records : List Record) (to : Standing) (reply : Result Reply AllocError) → IsTable table records
+      → IfOk reply (λ r. IsMade (IsEditStep ok_line from (edits.load records)) to before now (reply_of r))
+      → IfOk reply (λ r. IsMade (IsTableStep from table) to before now (reply_of r))
   table_made records to reply t =
-      if_ok_map reply _ _ (λ r. made_map (IsEditStep ok_line from (edits.load records)) (IsTableStep from table) to before now (reply_of r) (loaded records t))
+      if_ok_map reply _ _ (λ r. made_map (IsEditStep ok_line from (edits.load records)) (IsTableStep from table) to
+      before now (reply_of r) (loaded records t))
 
-  pub table_lost : (records : List Record) (reply : Result Reply AllocError) → IsTable table records → OnErr reply (IsLost (IsEditStep ok_line from (edits.load records)) before now) → OnErr reply (IsWant (IsTableStep from table) before now)
+  pub table_lost : (records : List Record) (reply : Result Reply AllocError) → IsTable table records
+      → OnErr reply (IsLost (IsEditStep ok_line from (edits.load records)) before now)
+      → OnErr reply (IsWant (IsTableStep from table) before now)
   table_lost records reply t =
-      on_err_map reply _ _ (λ l. inr (lost_map (IsEditStep ok_line from (edits.load records)) (IsTableStep from table) before now (loaded records t) l))
+      on_err_map reply _ _ (λ l. inr (lost_map (IsEditStep ok_line from (edits.load records)) (IsTableStep from table)
+      before now (loaded records t) l))
 
 -- a table that is refused
-refused_says : (table : List ℕ) (why : TableFault) (a : Answer) → IsRefused table why → IsTableRefusal why a → TableSays table (Err why) × (a ≡ refusal (table_detail why))
+refused_says : (table : List ℕ) (why : TableFault) (a : Answer) → IsRefused table why → IsTableRefusal why a
+    → TableSays table (Err why) × (a ≡ refusal (table_detail why))
 refused_says table (tables.Memory e) a h is = absurd is
 refused_says table tables.TableLong a h is = (h, is)
 refused_says table tables.Header a h is = (h, is)
@@ -42,7 +50,9 @@ refused_says table (tables.Day row) a h is = (h, is)
 refused_says table (tables.Value row name) a h is = (h, is)
 refused_says table (tables.Repeat row) a h is = (h, is)
 
-pub table_refused : (from : Standing) (table : List ℕ) (steps : ℕ) (why : TableFault) (reply : Result Reply AllocError) → IsRefused table why → IfOk reply (λ r. IsTableRefusal why (reply_of r)) → IfOk reply (λ r. IsMade (IsTableStep from table) from steps steps (reply_of r))
+pub table_refused : (from : Standing) (table : List ℕ) (steps : ℕ) (why : TableFault)
+    (reply : Result Reply AllocError) → IsRefused table why → IfOk reply (λ r. IsTableRefusal why (reply_of r))
+    → IfOk reply (λ r. IsMade (IsTableStep from table) from steps steps (reply_of r))
 table_refused from table steps why reply h = if_ok_map reply _ _ (λ r is. made (reply_of r) is)
   where
     made : (a : Answer) → IsTableRefusal why a → IsMade (IsTableStep from table) from steps steps a

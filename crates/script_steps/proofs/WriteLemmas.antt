@@ -1,5 +1,6 @@
 -- What was written of a text of two parts, one after the other, and of an answer.
-use Rattle.std.proofs.Common.{◌≡◌, ℕ, ◌+◌, ◌<◌, List, ◌++◌, length, take, sym, ap, ◌∙◌, subst, append_assoc, arith, length-append}
+use Rattle.std.proofs.Common.{◌≡◌, ℕ, ◌+◌, ◌<◌, List, ◌++◌, length, take, sym, ap, ◌∙◌, subst, append_assoc, arith}
+use Rattle.std.proofs.Common.{length-append}
 use Rattle.std.specs.Prelude.{Option, Bool, Result}
 use Rattle.std.specs.Result.{ForErr}
 use Rattle.std.proofs.Math.Seq.{take-append_seam, take-append-add}
@@ -14,7 +15,8 @@ use Rattle.script_steps.specs.declared.stop.LineStop.TheVariants as stops
 use Rattle.script_steps.specs.StepViews.{IsUnwritten, IsLineRefusal, IsRefusalUnwritten}
 
 -- a front of the first part is one of the whole
-pub first_front : (old new : Option (List ℕ)) (first rest : List ℕ) → AppendsFront old new first → AppendsFront old new (first ++ rest)
+pub first_front : (old new : Option (List ℕ)) (first rest : List ℕ) → AppendsFront old new first
+    → AppendsFront old new (first ++ rest)
 first_front old new first rest f = record {
   front = f.front;
   rest = f.rest ++ rest;
@@ -23,7 +25,8 @@ first_front old new first rest f = record {
 }
 
 -- and not the whole where there is a second part
-pub first_prefix : (old new : Option (List ℕ)) (first rest : List ℕ) → 0 < length rest → AppendsFront old new first → AppendsPrefix old new (first ++ rest)
+pub first_prefix : (old new : Option (List ℕ)) (first rest : List ℕ) → 0 < length rest → AppendsFront old new first
+    → AppendsPrefix old new (first ++ rest)
 first_prefix old new first rest some f =
     let size : length first ≡ length f.front + length f.rest = ap length f.parts ∙ length-append f.front f.rest in
     let whole = length-append first rest in
@@ -38,22 +41,27 @@ first_prefix old new first rest some f =
     }
 
 -- a part of the second, after the first
-pub second_prefix : (old mid new : Option (List ℕ)) (first rest : List ℕ) → Appends old mid first → AppendsPrefix mid new rest → AppendsPrefix old new (first ++ rest)
+pub second_prefix : (old mid new : Option (List ℕ)) (first rest : List ℕ) → Appends old mid first
+    → AppendsPrefix mid new rest → AppendsPrefix old new (first ++ rest)
 second_prefix old mid new first rest a p =
     let whole = length-append first rest in
     let less = p.within in
     record {
       count = length first + p.count;
       within = omega (arith, whole, less);
-      appended = subst (λ t. Appends old new t) (sym (take-append-add first rest p.count)) (Appends-then old mid new first (take p.count rest) a p.appended);
+      appended = subst (λ t. Appends old new t) (sym (take-append-add first rest p.count))
+          (Appends-then old mid new first (take p.count rest) a p.appended);
     }
 
 -- what was written of an answer is what was written of a line's refusal
-pub refusal_unwritten : (old new : Option (List ℕ)) (why : LineFault) (answer : Answer) (stop : LineStop) → IsLineRefusal why answer → stop ≡ stops.Write → IsUnwritten old new answer.text stop → IsRefusalUnwritten old new why stop
+pub refusal_unwritten : (old new : Option (List ℕ)) (why : LineFault) (answer : Answer) (stop : LineStop)
+    → IsLineRefusal why answer → stop ≡ stops.Write → IsUnwritten old new answer.text stop
+    → IsRefusalUnwritten old new why stop
 refusal_unwritten old new why answer stop is same u =
     subst (λ s. IsRefusalUnwritten old new why s) (sym same)
     (record { answer = answer; is = is; cut = subst (λ s. IsUnwritten old new answer.text s) same u })
 
 -- the files are no cause where this error doesn't come
-pub never_file : (P : LineStop → Type 0) (result : Result Bool LineStop) (faults : ℕ) → (P stops.File → ⊥) → ForErr result P → Caused stops.File faults faults result
+pub never_file : (P : LineStop → Type 0) (result : Result Bool LineStop) (faults : ℕ) → (P stops.File → ⊥)
+    → ForErr result P → Caused stops.File faults faults result
 never_file P result faults never h = record { later = omega arith; rose = λ e. absurd (never (h stops.File e)) }

@@ -19,7 +19,7 @@ pub record IsFiled (from : Standing) (month : Month) (to : Standing) (answer : A
   pub filings : Filings
   pub count : ℕ
   pub filing : IsFiling (month_rows from.book) month from.filings filings count
-  pub left : to ≡ record { book = from.book; filings = filings }
+  pub left : to ≡ record { book = from.book; filings = filings; made = from.made }
   pub told : answer ≡ accepted (filed_text (map (entry_with month) filing.dues) count) 0
 
 -- why the month isn't filed, which is never want of memory

@@ -2,9 +2,11 @@ pub mod Standings
 pub mod LineTexts
 pub mod TraceSteps
 pub mod FilingSteps
+pub mod OpenSteps
 pub mod LineSteps
 pub mod Steps
 pub mod Stops
 pub mod StepClauses
 pub mod StepLaws
 pub mod StepViews
+pub mod PlanViews

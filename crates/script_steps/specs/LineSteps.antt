@@ -1,10 +1,12 @@
 -- What each kind of line does: what it makes of the book and of what was filed, and what it answers.
-use Rattle.std.specs.Prelude.{◌≡◌, ◌⊎◌, ℕ, List, ◌++◌, Some, Result, Ok, Err}
+use Rattle.std.specs.Prelude.{◌≡◌, ◌⊎◌, ℕ, List, ◌++◌, Some, IsSome, Result, Ok, Err}
 use Rattle.outside.specs.Told.{FileMap}
 use Rattle.payroll_records.specs.declared.day.Day.{Day}
 use Rattle.payroll_records.specs.declared.record.Record.{Record}
 use Rattle.payroll_records.specs.declared.table.TableFault.{TableFault}
 use Rattle.payroll_records.specs.Tables.{TableSays}
+use Rattle.plan_calendar.specs.Picking.{Entry, plan_of}
+use Rattle.book_year.specs.Accepted.{Accepted}
 use Rattle.script_lang.specs.Commands as asked
 use Rattle.script_lang.specs.Commands.{Asked}
 use Rattle.script_lang.specs.declared.fault.LineFault.{LineFault}
@@ -15,24 +17,22 @@ use Rattle.book_edits.specs.declared.refusal.EditRefusal.{EditRefusal}
 use Rattle.recalc_engine.specs.Contents.{Contents}
 use Rattle.recalc_engine.specs.EditAnswers as edits
 use Rattle.recalc_engine.specs.EditAnswers.{Edit, EditAnswers}
+use Rattle.what_if.specs.Trials.{trial_of}
 use Rattle.report_csv.specs.ReportTexts.{report_text}
 use Rattle.plan_answers.specs.Answers.{Answer, refusal, IsRefusal}
 use Rattle.plan_answers.specs.Lines.{bound_line}
-use Rattle.script_steps.specs.LineTexts.{ok_line, end_line, work_line, line_detail, table_detail, edit_detail}
-use Rattle.script_steps.specs.Standings.{Standing, accepted, silence}
+use Rattle.script_steps.specs.LineTexts.{ok_line, end_line, work_line, line_detail, table_detail, edit_detail, trial_text}
+use Rattle.script_steps.specs.Standings.{Standing, Doing, Stays, accepted, after_edit, silence}
 use Rattle.script_steps.specs.TraceSteps.{trace_answer}
 use Rattle.script_steps.specs.FilingSteps.{IsFileStep, IsOwedStep}
-
--- nothing changes, and this is answered
-abbrev pub Stays : Standing → Standing → Answer → Answer → Type 0
-Stays from to said answer = (to ≡ from) × (answer ≡ said)
+use Rattle.script_steps.specs.OpenSteps.{IsOpenStep}
 
 -- ---- an edit of the book
 
 -- the edit is made, and this text is answered, with the steps of the edit's work; or it is refused, and nothing changes
 abbrev pub IsEditAnswered : List ℕ → Standing → Result Contents EditRefusal → Standing → Answer → Type 0
 IsEditAnswered text from (Ok book) to answer =
-    (to ≡ record { book = book; filings = from.filings }) × (answer ≡ accepted text book.last.steps)
+    (to ≡ after_edit from book) × (answer ≡ accepted text book.last.steps)
 IsEditAnswered text from (Err why) to answer = Stays from to (refusal (edit_detail why)) answer
 
 pub record IsEditStep (text : List ℕ) (from : Standing) (e : Edit) (to : Standing) (answer : Answer) : Type 0 where
@@ -40,7 +40,16 @@ pub record IsEditStep (text : List ℕ) (from : Standing) (e : Edit) (to : Stand
   pub says : EditAnswers from.book e verdict
   pub is : IsEditAnswered text from verdict to answer
 
--- ---- load FILE
+-- ---- a line that names a file: load FILE, open FILE
+
+-- what is done with the bytes of the file
+pub record IsReadStep
+    (Step : List ℕ → Doing) (files : FileMap) (file : List ℕ) (to : Standing) (answer : Answer) : Type 0 where
+  pub bytes : List ℕ
+  pub there : files file ≡ Some bytes
+  pub is : Step bytes to answer
+
+-- ---- load
 
 -- the runs of the table are added, or the table is refused
 abbrev pub IsLoaded : Standing → Result (List Record) TableFault → Standing → Answer → Type 0
@@ -53,36 +62,54 @@ pub record IsTableStep (from : Standing) (table : List ℕ) (to : Standing) (ans
   pub says : TableSays table said
   pub is : IsLoaded from said to answer
 
--- the table of this file
-pub record IsLoadStep (files : FileMap) (from : Standing) (file : List ℕ) (to : Standing) (answer : Answer) : Type 0 where
-  pub table : List ℕ
-  pub there : files file ≡ Some table
-  pub is : IsTableStep from table to answer
+-- ---- a line that names a plan for a day: plan DAY PLANFILE LIMITFILE, try DAY PLANFILE LIMITFILE
 
--- ---- plan DAY PLANFILE LIMITFILE
+-- what is done with a plan that is accepted, for its day
+abbrev pub PlanUse : Type 1
+PlanUse = Standing → Entry Accepted → Doing
 
--- an accepted plan is put at its day, and its bound is answered; or the plan is refused, and nothing changes
-abbrev pub IsPut : Standing → Day → List ℕ → List ℕ → Result Meaning PlanRefusal → Standing → Answer → Type 0
-IsPut from day plan limits (Ok m) to answer =
-    IsEditStep (bound_line (bound_of m.flowchart)) from
-    (edits.put (day, record { plan = plan; limits = limits; meaning = m })) to answer
-IsPut from day plan limits (Err why) to answer = (to ≡ from) × IsRefusal plan why answer
+-- it is done with this plan; or the plan is refused, and nothing changes
+abbrev pub IsUsed : PlanUse → Standing → Day → List ℕ → List ℕ → Result Meaning PlanRefusal → Standing → Answer → Type 0
+IsUsed Use from day plan limits (Ok m) to answer =
+    Use from (day, record { plan = plan; limits = limits; meaning = m }) to answer
+IsUsed Use from day plan limits (Err why) to answer = (to ≡ from) × IsRefusal plan why answer
 
--- the plan of these two texts is put at a day
-pub record IsTextsStep (from : Standing) (day : Day) (plan limits : List ℕ) (to : Standing) (answer : Answer) : Type 0 where
+-- the plan of these two texts
+pub record IsTextsStep
+    (Use : PlanUse) (from : Standing) (day : Day) (plan limits : List ℕ) (to : Standing) (answer : Answer) : Type 0 where
   pub verdict : Result Meaning PlanRefusal
   pub says : Answers plan limits verdict
-  pub is : IsPut from day plan limits verdict to answer
+  pub is : IsUsed Use from day plan limits verdict to answer
 
 -- the plan of these two files
 pub record IsPlanStep
-    (files : FileMap) (from : Standing) (day : Day) (plan limits : List ℕ)
+    (Use : PlanUse) (files : FileMap) (from : Standing) (day : Day) (plan limits : List ℕ)
     (to : Standing) (answer : Answer) : Type 0 where
   pub plan_bytes : List ℕ
   pub limits_bytes : List ℕ
   pub plan_there : files plan ≡ Some plan_bytes
   pub limits_there : files limits ≡ Some limits_bytes
-  pub is : IsTextsStep from day plan_bytes limits_bytes to answer
+  pub is : IsTextsStep Use from day plan_bytes limits_bytes to answer
+
+-- the line of its bound
+abbrev pub bound_text : Entry Accepted → List ℕ
+bound_text e = bound_line (bound_of (plan_of e).meaning.flowchart)
+
+-- `plan`: it is put at its day, and its bound is answered
+abbrev pub IsPut : PlanUse
+IsPut from e to answer = IsEditStep (bound_text e) from (edits.put e) to answer
+
+-- `try`: what putting it would change is answered, behind its bound, or that it can't be put
+abbrev pub trial_answer : Contents → Entry Accepted → Result Contents EditRefusal → Answer
+trial_answer book e (Ok next) =
+    accepted (bound_text e ++ trial_text (trial_of book e)) (trial_of book e).work.steps
+trial_answer book e (Err why) = refusal (edit_detail why)
+
+-- and nothing changes
+pub record IsTried (from : Standing) (e : Entry Accepted) (to : Standing) (answer : Answer) : Type 0 where
+  pub verdict : Result Contents EditRefusal
+  pub says : EditAnswers from.book (edits.put e) verdict
+  pub is : Stays from to (trial_answer from.book e verdict) answer
 
 -- ---- all lines
 
@@ -98,21 +125,37 @@ work_answer from = accepted (work_line from.book.last) 0
 abbrev pub Does : FileMap → Standing → Result Asked LineFault → Standing → Answer → Type 0
 Does files from (Err why) to answer = Stays from to (refusal (line_detail why)) answer
 Does files from (Ok asked.nothing) to answer = Stays from to silence answer
-Does files from (Ok (asked.plan day plan limits)) to answer = IsPlanStep files from day plan limits to answer
+Does files from (Ok (asked.plan day plan limits)) to answer = IsPlanStep IsPut files from day plan limits to answer
 Does files from (Ok (asked.drop day)) to answer = IsEditStep ok_line from (edits.drop day) to answer
 Does files from (Ok (asked.add r)) to answer = IsEditStep ok_line from (edits.add r) to answer
 Does files from (Ok (asked.change r)) to answer = IsEditStep ok_line from (edits.change r) to answer
 Does files from (Ok (asked.withdraw who when)) to answer =
     IsEditStep ok_line from (edits.withdraw who when) to answer
-Does files from (Ok (asked.load file)) to answer = IsLoadStep files from file to answer
+Does files from (Ok (asked.load file)) to answer = IsReadStep (IsTableStep from) files file to answer
 Does files from (Ok asked.report) to answer = Stays from to (report_answer from) answer
 Does files from (Ok asked.work) to answer = Stays from to (work_answer from) answer
 Does files from (Ok (asked.trace who when)) to answer = Stays from to (trace_answer from.book who when) answer
 Does files from (Ok (asked.filing month)) to answer = IsFileStep from month to answer
 Does files from (Ok asked.owed) to answer = IsOwedStep from to answer
+Does files from (Ok (asked.opening file)) to answer = IsReadStep (IsOpenStep from) files file to answer
+Does files from (Ok (asked.trial day plan limits)) to answer = IsPlanStep IsTried files from day plan limits to answer
 
 -- the files that are asked for
 abbrev pub IsFileOf : Asked → List ℕ → Type 0
 IsFileOf (asked.plan day plan limits) name = (name ≡ plan) ⊎ (name ≡ limits)
 IsFileOf (asked.load file) name = name ≡ file
+IsFileOf (asked.opening file) name = name ≡ file
+IsFileOf (asked.trial day plan limits) name = (name ≡ plan) ⊎ (name ≡ limits)
 IsFileOf _ name = ⊥
+
+-- it is the plan's, or the range file's where the plan's is there
+abbrev pub IsNextOfPlan : FileMap → List ℕ → List ℕ → List ℕ → Type 0
+IsNextOfPlan files plan limits name = (name ≡ plan) ⊎ ((name ≡ limits) × IsSome (files plan))
+
+-- this one is asked for, and those that are read before it are there
+abbrev pub IsNextFile : FileMap → Asked → List ℕ → Type 0
+IsNextFile files (asked.plan day plan limits) name = IsNextOfPlan files plan limits name
+IsNextFile files (asked.load file) name = name ≡ file
+IsNextFile files (asked.opening file) name = name ≡ file
+IsNextFile files (asked.trial day plan limits) name = IsNextOfPlan files plan limits name
+IsNextFile files _ name = ⊥

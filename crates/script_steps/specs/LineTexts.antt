@@ -1,7 +1,8 @@
 -- The lines with which the lines of a script are answered (docs/PROFILE.md, "Scripts").
-use Rattle.std.specs.Prelude.{ℕ, List, [], ◌∷◌, ◌++◌, codes, true, false}
+use Rattle.std.specs.Prelude.{ℕ, List, [], ◌∷◌, ◌++◌, codes, Option, Some, None, true, false}
 use Rattle.std.specs.Fmt.{decimal as number}
 use Rattle.std.specs.List.{flat_map}
+use Rattle.scaled_decimal.specs.Decimals.{Decimal}
 use Rattle.scaled_decimal.specs.PlainTexts.{plain_text}
 use Rattle.payroll_records.specs.declared.day.Day.{Day}
 use Rattle.payroll_records.specs.declared.table.TableFault.{TableFault}
@@ -23,6 +24,13 @@ use Rattle.correction_ledger.specs.declared.ledger.FileRefusal.{FileRefusal}
 use Rattle.correction_ledger.specs.declared.ledger.FileRefusal.TheVariants as filing
 use Rattle.correction_ledger.specs.declared.ledger.OwedRefusal.{OwedRefusal}
 use Rattle.correction_ledger.specs.declared.ledger.OwedRefusal.TheVariants as owed
+use Rattle.book_file.specs.declared.refusal.BookFault.{BookFault}
+use Rattle.book_file.specs.declared.refusal.BookFault.TheVariants as books
+use Rattle.what_if.specs.declared.trial.Shown.{Shown}
+use Rattle.what_if.specs.declared.trial.Shown.TheVariants as shown
+use Rattle.what_if.specs.declared.trial.Trial.{Trial}
+use Rattle.what_if.specs.declared.trial.TrialRow.{TrialRow}
+use Rattle.what_if.specs.declared.trial.TrialRow.TheVariants.{Changed, Value}
 use Rattle.plan_answers.specs.Lines.{spaced, line}
 
 -- an edit is accepted
@@ -81,6 +89,38 @@ filed_text entries count = flat_map due_line entries ++ line (codes "filed " ++ 
 abbrev pub owed_text : List Due → List ℕ
 owed_text dues = flat_map owed_line dues ++ end_line
 
+-- ---- trials
+
+-- the state of a run
+abbrev pub shown_word : Shown → List ℕ
+shown_word shown.NoPlan = codes "noplan"
+shown_word shown.Waits = codes "waits"
+shown_word shown.Unknown = codes "unknown"
+shown_word shown.Missing = codes "missing"
+shown_word shown.Range = codes "range"
+shown_word shown.Done = codes "ok"
+
+-- the value of an output, or that there is none
+abbrev pub amount_word : Option Decimal → List ℕ
+amount_word None = codes "-"
+amount_word (Some v) = plain_text v
+
+-- changed EMP DAY OLD NEW, value EMP DAY NAME OLD NEW
+abbrev pub trial_line : TrialRow → List ℕ
+trial_line (Changed k before after) =
+    line (codes "changed " ++ spaced k.employee (spaced (text_of_day k.day) (spaced (shown_word before) (shown_word after))))
+trial_line (Value k name before after) =
+    line (codes "value " ++ spaced k.employee (spaced (text_of_day k.day)
+    (spaced name (spaced (amount_word before) (amount_word after)))))
+
+-- would RUNS STEPS: the work of putting the plan
+abbrev pub would_line : Work → List ℕ
+would_line w = line (codes "would " ++ spaced (number w.runs) (number w.steps))
+
+-- a line a row, and this work
+abbrev pub trial_text : Trial → List ℕ
+trial_text t = flat_map trial_line t.rows ++ would_line t.work
+
 -- ---- what is written after `refused`: the group, the name and the details; want of memory has none
 
 -- why a line is refused
@@ -136,3 +176,10 @@ abbrev pub owed_detail : OwedRefusal → List ℕ
 owed_detail owed.NothingFiled = codes "file NothingFiled"
 owed_detail (owed.Open k) = codes "file Open " ++ spaced k.employee (text_of_day k.day)
 owed_detail (owed.Memory e) = []
+
+-- why a text isn't that of a saved book
+abbrev pub book_detail : BookFault → List ℕ
+book_detail books.Long = codes "book Long"
+book_detail (books.Form item) = codes "book Form " ++ number item
+book_detail (books.Plan day) = codes "book Plan " ++ text_of_day day
+book_detail (books.Memory e) = []

@@ -1,24 +1,57 @@
 -- What the lines of a script leave, and what a line answers.
-use Rattle.std.specs.Prelude.{ℕ, List, [], false, None}
+use Rattle.std.specs.Prelude.{◌≡◌, ℕ, ◌+◌, List, [], false, None, min}
+use Rattle.book_year.specs.declared.outcome.Work.{Work}
 use Rattle.recalc_engine.specs.Contents.{Contents}
 use Rattle.correction_ledger.specs.Filings.{Filings}
 use Rattle.plan_answers.specs.Answers.{Answer}
 
--- what the lines before have left: the book, and what was filed of it
+-- what the lines before have left: the book, what was filed of it, and the work of all edits that were accepted
 pub record Standing : Type 0 where
   pub book : Contents
   pub filings : Filings
+  pub made : Work
+
+-- work and more work: a total stands still at the greatest number of 64 bits
+abbrev pub last_total : ℕ
+last_total = 18446744073709551615
+
+abbrev pub more_work : Work → Work → Work
+more_work made work = record {
+  runs = min (made.runs + work.runs) last_total;
+  steps = min (made.steps + work.steps) last_total;
+}
+
+-- an edit was accepted, and has left this book
+abbrev pub after_edit : Standing → Contents → Standing
+after_edit from book = record {
+  book = book;
+  filings = from.filings;
+  made = more_work from.made book.last;
+}
+
+-- another book takes the place of its book
+abbrev pub with_book : Standing → Contents → Standing
+with_book from book = record { book = book; filings = from.filings; made = from.made }
 
 -- before the first line
 abbrev pub start : Standing
 start = record {
   book = record { years = []; plans = []; last = record { runs = 0; steps = 0 } };
   filings = record { entries = []; last = None };
+  made = record { runs = 0; steps = 0 };
 }
 
 -- an answer that is no refusal: its text, and the steps that it counts
 abbrev pub accepted : List ℕ → ℕ → Answer
 accepted text steps = record { text = text; refused = false; steps = steps }
+
+-- what a line leaves and answers
+abbrev pub Doing : Type 1
+Doing = Standing → Answer → Type 0
+
+-- nothing changes, and this is answered
+abbrev pub Stays : Standing → Standing → Answer → Answer → Type 0
+Stays from to said answer = (to ≡ from) × (answer ≡ said)
 
 -- nothing is written
 abbrev pub silence : Answer

@@ -4,6 +4,7 @@ use Rattle.std.specs.Option.{ForSome}
 use Rattle.outside.specs.Told.{FileMap, Appends, AppendsPrefix}
 use Rattle.script_steps.specs.declared.stop.LineStop.{LineStop}
 use Rattle.script_steps.specs.declared.stop.LineStop.TheVariants as stops
+use Rattle.script_steps.specs.LineSteps.{IsNextFile}
 use Rattle.script_steps.specs.Steps.{Standing, Answer, Names, IsStep}
 
 -- the line's answer was written whole, its steps were counted, and its mark was told
@@ -46,20 +47,21 @@ pub record IsCutShort
   pub within : now ≤ before + answer.steps
   pub is : ForSome told (λ files. IsStep files from line to answer)
 
--- the files failed at a name of the line
+-- the files failed at a name of the line, where those that are read before it are there
 pub record IsUnread
-    (old new : Option (List ℕ)) (before now : ℕ) (line : List ℕ)
+    (told : Option FileMap) (old new : Option (List ℕ)) (before now : ℕ) (line : List ℕ)
     (failed : Option (List ℕ)) : Type 0 where
   pub unbegun : IsUnbegun old new before now
   pub name : List ℕ
   pub names : Names line name
+  pub in_order : ForSome told (λ files. IsNextFile files names.what name)
   pub failed_there : failed ≡ Some name
 
 -- what is left of a line that was not answered to its end, by the cause
 abbrev pub IsBroken :
     Option FileMap → Option (List ℕ) → Option (List ℕ) → ℕ → ℕ
     → Standing → List ℕ → Option (List ℕ) → LineStop → Type 0
-IsBroken told old new before now from line failed stops.File = IsUnread old new before now line failed
+IsBroken told old new before now from line failed stops.File = IsUnread told old new before now line failed
 IsBroken told old new before now from line failed stops.Write = IsCutShort told old new before now from line
 IsBroken told old new before now from line failed stops.Memory =
     IsUnbegun old new before now ⊎ IsPart told old new before now from line

@@ -1,5 +1,5 @@
 -- What the function of a kind of line leaves, before its answer is written.
-use Rattle.std.specs.Prelude.{◌≡◌, ◌⊎◌, ℕ, ◌+◌, ◌≤◌, List, [], Bool, Option, Some, Result, Ok, Err}
+use Rattle.std.specs.Prelude.{◌≡◌, ◌⊎◌, ℕ, ◌+◌, ◌≤◌, List, [], ◌++◌, Bool, Option, Some, Result, Ok, Err}
 use Rattle.std.specs.Option.{ForSome}
 use Rattle.outside.specs.Told.{FileMap, Appends, AppendsPrefix}
 use Rattle.script_lang.specs.Commands.{Asked}
@@ -16,22 +16,33 @@ use Rattle.correction_ledger.specs.declared.ledger.FileRefusal.{FileRefusal}
 use Rattle.correction_ledger.specs.declared.ledger.FileRefusal.TheVariants as filing
 use Rattle.correction_ledger.specs.declared.ledger.OwedRefusal.{OwedRefusal}
 use Rattle.correction_ledger.specs.declared.ledger.OwedRefusal.TheVariants as owed
+use Rattle.book_file.specs.declared.refusal.BookFault.{BookFault}
+use Rattle.book_file.specs.declared.refusal.BookFault.TheVariants as books
+use Rattle.what_if.specs.declared.trial.Trial.{Trial}
+use Rattle.what_if.specs.declared.trial.TryRefusal.{TryRefusal}
+use Rattle.what_if.specs.declared.trial.TryRefusal.TheVariants as trying
 use Rattle.report_csv.specs.Fronts.{AppendsFront}
 use Rattle.plan_answers.specs.Answers.{Answer, refusal}
 use Rattle.script_steps.specs.declared.stop.LineStop.{LineStop}
 use Rattle.script_steps.specs.declared.stop.LineStop.TheVariants as stops
-use Rattle.script_steps.specs.LineSteps.{Does, IsFileOf}
+use Rattle.script_steps.specs.LineSteps.{Does, IsFileOf, IsNextFile}
 use Rattle.script_steps.specs.LineTexts.{line_detail, table_detail, edit_detail, trace_detail, file_detail, owed_detail}
-use Rattle.script_steps.specs.Standings.{Standing, accepted}
-
--- what a line leaves and answers, for one that does this
-abbrev pub Doing : Type 1
-Doing = Standing → Answer → Type 0
+use Rattle.script_steps.specs.LineTexts.{book_detail, trial_text}
+use Rattle.script_steps.specs.Standings.{Standing, Doing, accepted, more_work}
 
 -- the line has left this and has this answer, whose steps were counted
 pub record IsMade (Step : Doing) (to : Standing) (before now : ℕ) (answer : Answer) : Type 0 where
   pub is : Step to answer
   pub counted : now ≡ before + answer.steps
+
+-- the answer of a reply that doesn't tell its steps
+abbrev pub counting : Answer → ℕ → Answer
+counting reply steps = record { text = reply.text; refused = reply.refused; steps = steps }
+
+-- the line has left this and has the answer of this reply with some steps, which were counted
+pub record IsMadeUntold (Step : Doing) (to : Standing) (before now : ℕ) (reply : Answer) : Type 0 where
+  pub steps : ℕ
+  pub made : IsMade Step to before now (counting reply steps)
 
 -- the line leaves something and has some answer, at most whose steps were counted
 pub record IsLost (Step : Doing) (before now : ℕ) : Type 0 where
@@ -50,17 +61,18 @@ abbrev pub ToldDoes : Option FileMap → Standing → Result Asked LineFault →
 ToldDoes told from said to answer = ForSome told (λ files. Does files from said to answer)
 
 -- the files failed at one that is asked for, and nothing was counted
-pub record IsFileFault (what : Asked) (before now : ℕ) (failed : Option (List ℕ)) : Type 0 where
+pub record IsFileFault (told : Option FileMap) (what : Asked) (before now : ℕ) (failed : Option (List ℕ)) : Type 0 where
   pub uncounted : now ≡ before
   pub name : List ℕ
   pub is_file : IsFileOf what name
+  pub in_order : ForSome told (λ files. IsNextFile files what name)
   pub failed_there : failed ≡ Some name
 
 -- no reply was made, by the cause
-abbrev pub IsUnmade : Doing → Asked → ℕ → ℕ → Option (List ℕ) → LineStop → Type 0
-IsUnmade Step what before now failed stops.File = IsFileFault what before now failed
-IsUnmade Step what before now failed stops.Write = ⊥
-IsUnmade Step what before now failed stops.Memory = IsWant Step before now
+abbrev pub IsUnmade : Option FileMap → Doing → Asked → ℕ → ℕ → Option (List ℕ) → LineStop → Type 0
+IsUnmade told Step what before now failed stops.File = IsFileFault told what before now failed
+IsUnmade told Step what before now failed stops.Write = ⊥
+IsUnmade told Step what before now failed stops.Memory = IsWant Step before now
 
 -- ---- refusals that are written, which want of memory is not
 
@@ -88,10 +100,20 @@ abbrev pub IsOwedRefusal : OwedRefusal → Answer → Type 0
 IsOwedRefusal (owed.Memory e) answer = ⊥
 IsOwedRefusal why answer = answer ≡ refusal (owed_detail why)
 
--- what is answered to an edit that the book has made or refused
-abbrev pub IsEditReply : List ℕ → Result Work EditRefusal → Answer → Type 0
-IsEditReply text (Ok work) answer = answer ≡ accepted text work.steps
-IsEditReply text (Err why) answer = IsEditRefusal why answer
+abbrev pub IsBookRefusal : BookFault → Answer → Type 0
+IsBookRefusal (books.Memory e) answer = ⊥
+IsBookRefusal why answer = answer ≡ refusal (book_detail why)
+
+-- what is answered to a trial, behind the line of the plan's bound
+abbrev pub IsTrialReply : List ℕ → Result Trial TryRefusal → Answer → Type 0
+IsTrialReply bound (Ok trial) answer = answer ≡ accepted (bound ++ trial_text trial) trial.work.steps
+IsTrialReply bound (Err trying.Plans) answer = IsEditRefusal edits.Plans answer
+IsTrialReply bound (Err (trying.Memory e)) answer = ⊥
+
+-- what is answered to an edit that the book has made or refused, and what its work makes of the work of all edits
+abbrev pub IsEditReply : List ℕ → Result Work EditRefusal → Work → Work → Answer → Type 0
+IsEditReply text (Ok work) before now answer = (answer ≡ accepted text work.steps) × (now ≡ more_work before work)
+IsEditReply text (Err why) before now answer = IsEditRefusal why answer × (now ≡ before)
 
 -- ---- what was written
 

@@ -3,6 +3,7 @@ ghost use Rattle.std.specs.Prelude.{◌≡◌, ◌≢◌, ℕ, List, IfOk, Ok, E
 ghost use Rattle.std.specs.Result.{ForErr};
 ghost use Rattle.outside.specs.Causes.{Caused};
 ghost use Rattle.plan_answers.specs.ReplyViews.{reply_of};
+ghost use Rattle.script_lang.specs.Commands as asked;
 ghost use Rattle.script_lang.specs.Commands.{asked_of};
 ghost use Rattle.script_lang.specs.Lines.{IsLine};
 ghost use Rattle.script_steps.specs.LineTexts.{work_line};
@@ -13,7 +14,8 @@ ghost use Rattle.script_steps.specs.StepViews.{IsMade, IsUnmade, ToldDoes};
 use crate::edits::{add, change, drop_plan, withdraw};
 use crate::filings::{file, owed};
 use crate::load::load;
-use crate::plan::plan;
+use crate::open::open;
+use crate::plan::{plan, trial};
 use crate::reply::{accepted, write_reply};
 use crate::report::report;
 use crate::script::Script;
@@ -51,6 +53,10 @@ pub(crate) fn answer_command<F: Files, W: Sink, L: Ledger>(
 {
     match command {
         Command::Report => report(alloc, &script.book, sink),
+        Command::Open { file } => {
+            let reply = open(alloc, script, &file, files, steps)?;
+            write_reply(&reply, sink)
+        }
         command => {
             let reply = make_reply(alloc, script, command, files, steps)?;
             write_reply(&reply, sink)
@@ -58,7 +64,7 @@ pub(crate) fn answer_command<F: Files, W: Sink, L: Ledger>(
     }
 }
 
-/// Does what a line asks for that isn't the report.
+/// Does what a line asks for whose reply tells its steps, and that isn't the report.
 fn make_reply<F: Files, L: Ledger>(
     alloc: Global,
     script: &mut Script,
@@ -66,11 +72,12 @@ fn make_reply<F: Files, L: Ledger>(
     files: &mut F,
     steps: &mut Steps<L>,
 ) -> Result<Reply, LineStop>
-    requires { command ≢ Command.Report }
+    requires alone { command ≢ Command.Report }
+    requires told { (file : List ℕ) → asked_of command ≢ asked.opening file }
     ensures made { IfOk result (λ reply. IsMade
         (ToldDoes (F.told files.old) script.old (Ok (asked_of command)))
         script.new steps.old steps.new (reply_of reply)) }
-    ensures unmade { ForErr result (IsUnmade
+    ensures unmade { ForErr result (IsUnmade (F.told files.old)
         (ToldDoes (F.told files.old) script.old (Ok (asked_of command)))
         (asked_of command) steps.old steps.new (F.failed files.new)) }
     ensures same { F.told files.new ≡ F.told files.old }
@@ -91,11 +98,16 @@ fn make_reply<F: Files, L: Ledger>(
             Ok(withdraw(alloc, script, employee, when, steps)?)
         }
         Command::Load { file } => load(alloc, script, &file, files, steps),
-        Command::Report => unreachable!(),
+        Command::Report | Command::Open { .. } => unreachable!(),
         Command::Work => Ok(work(alloc, &script.book)?),
         Command::Trace { employee, when } => Ok(trace(alloc, &script.book, employee, when)?),
         Command::File { month } => Ok(file(alloc, script, month)?),
         Command::Owed => Ok(owed(alloc, script)?),
+        Command::Try {
+            day,
+            plan: file,
+            limits,
+        } => { trial(alloc, script, day, &file, &limits, files, steps) }
     }
 }
 

@@ -1,9 +1,10 @@
 //! Lines that edit the book.
-ghost use Rattle.std.specs.Prelude.{IfOk, OnErr};
+ghost use Rattle.std.specs.Prelude.{◌≡◌, IfOk, OnErr};
 ghost use Rattle.plan_answers.specs.ReplyViews.{reply_of};
 ghost use Rattle.recalc_engine.specs.EditAnswers.{add, change, drop, withdraw};
 ghost use Rattle.script_steps.specs.LineSteps.{IsEditStep};
 ghost use Rattle.script_steps.specs.LineTexts.{ok_line};
+ghost use Rattle.script_steps.specs.Standings.{more_work};
 ghost use Rattle.script_steps.specs.StepViews.{IsEditReply, IsLost, IsMade};
 
 use crate::refusals::edit_refusal;
@@ -19,18 +20,34 @@ use steps::Steps;
 /// What is answered to an edit that is accepted.
 pub(crate) const OK: &[u8] = b"ok\n";
 
-/// What is answered to an edit that the book has made, with this text, or has refused.
+/// What is answered to an edit that the book has made, with this text, or has refused. The work of one that it has made
+/// joins that of all edits.
 pub(crate) fn edit_reply(
     alloc: Global,
+    total: &mut Work,
     text: &[u8],
     made: Result<Work, EditRefusal>,
 ) -> Result<Reply, AllocError>
-    ensures { IfOk result (λ reply. IsEditReply text.now made (reply_of reply)) }
+    ensures { IfOk result
+        (λ reply. IsEditReply text.now made total.old total.new (reply_of reply)) }
 {
     match made {
-        Ok(work) => Ok(accepted(Vec::from_slice(alloc, text)?, work.steps)),
+        Ok(work) => {
+            *total = more_work(*total, work);
+            Ok(accepted(Vec::from_slice(alloc, text)?, work.steps))
+        }
         Err(EditRefusal::Memory(error)) => Err(error),
         Err(why) => edit_refusal(alloc, &why),
+    }
+}
+
+/// Work and more work, each total no more than the greatest number of 64 bits.
+fn more_work(made: Work, work: Work) -> Work
+    ensures { result ≡ more_work made work }
+{
+    Work {
+        runs: made.runs.saturating_add(work.runs),
+        steps: made.steps.saturating_add(work.steps),
     }
 }
 
@@ -47,7 +64,7 @@ pub(crate) fn add<L: Ledger>(
         (IsLost (IsEditStep ok_line script.old (add run)) steps.old steps.new) }
 {
     let made = script.book.add(run, steps);
-    edit_reply(alloc, OK, made)
+    edit_reply(alloc, &mut script.made, OK, made)
 }
 
 /// The line `change`.
@@ -63,7 +80,7 @@ pub(crate) fn change<L: Ledger>(
         (IsLost (IsEditStep ok_line script.old (change run)) steps.old steps.new) }
 {
     let made = script.book.change(run, steps);
-    edit_reply(alloc, OK, made)
+    edit_reply(alloc, &mut script.made, OK, made)
 }
 
 /// The line `withdraw`.
@@ -81,7 +98,7 @@ pub(crate) fn withdraw<L: Ledger>(
         (IsLost (IsEditStep ok_line script.old (withdraw employee when)) steps.old steps.new) }
 {
     let made = script.book.withdraw(employee, when, steps);
-    edit_reply(alloc, OK, made)
+    edit_reply(alloc, &mut script.made, OK, made)
 }
 
 /// The line `drop`.
@@ -97,5 +114,5 @@ pub(crate) fn drop_plan<L: Ledger>(
         (IsLost (IsEditStep ok_line script.old (drop day)) steps.old steps.new) }
 {
     let made = script.book.drop_plan(day, steps);
-    edit_reply(alloc, OK, made)
+    edit_reply(alloc, &mut script.made, OK, made)
 }

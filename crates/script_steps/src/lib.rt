@@ -5,6 +5,7 @@ mod command;
 mod edits;
 mod filings;
 mod load;
+mod open;
 mod plan;
 mod refusals;
 mod reply;
@@ -13,6 +14,7 @@ mod script;
 mod step;
 mod stop;
 mod trace;
+mod trial;
 
 pub use script::Script;
 pub use step::{answer_line, step_laws};

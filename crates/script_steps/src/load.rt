@@ -32,7 +32,7 @@ pub(crate) fn load<F: Files, L: Ledger>(
     ensures made { IfOk result (λ reply. IsMade
         (ToldDoes (F.told files.old) script.old (Ok (asked.load file.now)))
         script.new steps.old steps.new (reply_of reply)) }
-    ensures unmade { ForErr result (IsUnmade
+    ensures unmade { ForErr result (IsUnmade (F.told files.old)
         (ToldDoes (F.told files.old) script.old (Ok (asked.load file.now)))
         (asked.load file.now) steps.old steps.new (F.failed files.new)) }
     ensures same { F.told files.new ≡ F.told files.old }
@@ -58,7 +58,7 @@ fn load_table<L: Ledger>(
     match read_table(alloc, table) {
         Ok(runs) => {
             let made = script.book.load(runs, steps);
-            edit_reply(alloc, OK, made)
+            edit_reply(alloc, &mut script.made, OK, made)
         }
         Err(TableFault::Memory(error)) => Err(error),
         Err(fault) => table_refusal(alloc, &fault),

@@ -1,22 +1,34 @@
-//! The line `plan`.
-ghost use Rattle.std.specs.Prelude.{◌≡◌, ◌≢◌, IfOk, OnErr, Ok, Err};
+//! The lines `plan` and `try`.
+ghost use Rattle.std.specs.Prelude.{◌≡◌, ◌≢◌, ℕ, List, IfOk, OnErr, Ok, Err};
 ghost use Rattle.std.specs.Result.{ForErr};
 ghost use Rattle.outside.specs.Causes.{Caused};
 ghost use Rattle.plan_answers.specs.ReplyViews.{reply_of};
 ghost use Rattle.script_lang.specs.Commands as asked;
-ghost use Rattle.script_steps.specs.LineSteps.{IsTextsStep};
+ghost use Rattle.script_steps.specs.LineSteps.{IsPut, IsTextsStep, IsTried};
+ghost use Rattle.script_steps.specs.PlanViews.{AreJudged, IsJudged, IsUnjudged};
 ghost use Rattle.script_steps.specs.StepViews.{IsMade, IsUnmade, IsWant, ToldDoes};
 
 use crate::edits::edit_reply;
 use crate::script::Script;
 use crate::stop::LineStop;
+use crate::trial::trial_reply;
 use outside::Files;
-use pap_plan::{PlanRefusal, accept};
+use pap_plan::{Plan, PlanRefusal, accept};
 use payroll_records::Day;
 use plan_answers::{Reply, bound_line, read_both, refused};
 use std::alloc::{AllocError, Global};
 use std::sync::ledger::Ledger;
 use steps::Steps;
+use what_if::try_plan;
+
+/// A plan of two texts.
+#[derive(Drop)]
+pub(crate) enum Judged {
+    /// It is accepted, and its bound has this line.
+    Accepted { plan: Plan, line: String },
+    /// It is refused with this answer.
+    Refused(Reply),
+}
 
 /// The line `plan`, with the names of its files.
 pub(crate) fn plan<F: Files, L: Ledger>(
@@ -31,39 +43,118 @@ pub(crate) fn plan<F: Files, L: Ledger>(
     ensures made { IfOk result (λ reply. IsMade
         (ToldDoes (F.told files.old) script.old (Ok (asked.plan day plan.now limits.now)))
         script.new steps.old steps.new (reply_of reply)) }
-    ensures unmade { ForErr result (IsUnmade
+    ensures unmade { ForErr result (IsUnmade (F.told files.old)
         (ToldDoes (F.told files.old) script.old (Ok (asked.plan day plan.now limits.now)))
         (asked.plan day plan.now limits.now) steps.old steps.new (F.failed files.new)) }
     ensures same { F.told files.new ≡ F.told files.old }
     ensures file { Caused LineStop.File (F.faults files.old) (F.faults files.new) result }
     ensures kept { result ≢ Err LineStop.File → F.failed files.new ≡ F.failed files.old }
 {
-    let (plan_bytes, limits_bytes) = read_both(alloc, plan, limits, files)?;
-    Ok(put_texts(alloc, script, day, &plan_bytes, &limits_bytes, steps)?)
+    let judged = judge(alloc, plan, limits, files)?;
+    Ok(put(alloc, script, day, judged, steps)?)
 }
 
-/// Puts the plan of two texts at its day.
-fn put_texts<L: Ledger>(
+/// The line `try`, with the names of its files.
+pub(crate) fn trial<F: Files, L: Ledger>(
     alloc: Global,
-    script: &mut Script,
+    script: &Script,
     day: Day,
-    plan: &[u8],
-    limits: &[u8],
+    plan: &str,
+    limits: &str,
+    files: &mut F,
     steps: &mut Steps<L>,
-) -> Result<Reply, AllocError>
+) -> Result<Reply, LineStop>
     ensures made { IfOk result (λ reply. IsMade
-        (IsTextsStep script.old day plan.now limits.now)
-        script.new steps.old steps.new (reply_of reply)) }
-    ensures lost { OnErr result
-        (IsWant (IsTextsStep script.old day plan.now limits.now) steps.old steps.new) }
+        (ToldDoes (F.told files.old) script.now (Ok (asked.trial day plan.now limits.now)))
+        script.now steps.old steps.new (reply_of reply)) }
+    ensures unmade { ForErr result (IsUnmade (F.told files.old)
+        (ToldDoes (F.told files.old) script.now (Ok (asked.trial day plan.now limits.now)))
+        (asked.trial day plan.now limits.now) steps.old steps.new (F.failed files.new)) }
+    ensures same { F.told files.new ≡ F.told files.old }
+    ensures file { Caused LineStop.File (F.faults files.old) (F.faults files.new) result }
+    ensures kept { result ≢ Err LineStop.File → F.failed files.new ≡ F.failed files.old }
+{
+    let judged = judge(alloc, plan, limits, files)?;
+    Ok(tried(alloc, script, day, judged, steps)?)
+}
+
+/// The plan of two files, the plan's read first.
+fn judge<F: Files>(
+    alloc: Global,
+    plan: &str,
+    limits: &str,
+    files: &mut F,
+) -> Result<Judged, LineStop>
+    ensures judged { IfOk result (AreJudged (F.told files.old) plan.now limits.now) }
+    ensures unjudged { ForErr result
+        (IsUnjudged (F.told files.old) plan.now limits.now (F.failed files.new)) }
+    ensures same { F.told files.new ≡ F.told files.old }
+    ensures file { Caused LineStop.File (F.faults files.old) (F.faults files.new) result }
+    ensures kept { result ≢ Err LineStop.File → F.failed files.new ≡ F.failed files.old }
+{
+    let (plan_bytes, limits_bytes) = read_both(alloc, plan, limits, files)?;
+    Ok(judge_texts(alloc, &plan_bytes, &limits_bytes)?)
+}
+
+/// The plan of two texts.
+fn judge_texts(alloc: Global, plan: &[u8], limits: &[u8]) -> Result<Judged, AllocError>
+    ensures { IfOk result (IsJudged plan.now limits.now) }
 {
     match accept(alloc, plan, limits) {
         Ok(accepted) => {
             let line = bound_line(alloc, &accepted)?;
-            let made = script.book.put_plan(day, accepted, steps);
-            edit_reply(alloc, line.as_bytes(), made)
+            Ok(Judged::Accepted {
+                plan: accepted,
+                line,
+            })
         }
         Err(PlanRefusal::Memory) => Err(AllocError),
-        Err(fault) => refused(alloc, plan, &fault),
+        Err(fault) => Ok(Judged::Refused(refused(alloc, plan, &fault)?)),
+    }
+}
+
+/// Puts a plan at its day, where it is accepted.
+fn put<L: Ledger>(
+    alloc: Global,
+    script: &mut Script,
+    day: Day,
+    judged: Judged,
+    steps: &mut Steps<L>,
+) -> Result<Reply, AllocError>
+    ensures made { (plan limits : List ℕ) → IsJudged plan limits judged → IfOk result
+        (λ reply. IsMade (IsTextsStep IsPut script.old day plan limits)
+        script.new steps.old steps.new (reply_of reply)) }
+    ensures lost { (plan limits : List ℕ) → IsJudged plan limits judged → OnErr result
+        (IsWant (IsTextsStep IsPut script.old day plan limits) steps.old steps.new) }
+{
+    match judged {
+        Judged::Accepted { plan, line } => {
+            let made = script.book.put_plan(day, plan, steps);
+            edit_reply(alloc, &mut script.made, line.as_bytes(), made)
+        }
+        Judged::Refused(reply) => Ok(reply),
+    }
+}
+
+/// Tries a plan for its day, where it is accepted.
+fn tried<L: Ledger>(
+    alloc: Global,
+    script: &Script,
+    day: Day,
+    judged: Judged,
+    steps: &mut Steps<L>,
+) -> Result<Reply, AllocError>
+    ensures made { (plan limits : List ℕ) → IsJudged plan limits judged → IfOk result
+        (λ reply. IsMade (IsTextsStep IsTried script.now day plan limits)
+        script.now steps.old steps.new (reply_of reply)) }
+    ensures lost { (plan limits : List ℕ) → IsJudged plan limits judged → OnErr result
+        (IsWant (IsTextsStep IsTried script.now day plan limits) steps.old steps.new) }
+{
+    match judged {
+        Judged::Accepted { plan, line } => {
+            let trial = try_plan(alloc, &script.book, day, plan, steps);
+            trial_reply(alloc, line, trial)
+        }
+        Judged::Refused(reply) => Ok(reply),
     }
 }

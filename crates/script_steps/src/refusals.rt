@@ -2,9 +2,10 @@
 ghost use Rattle.std.specs.Prelude.{IfOk, string_bytes};
 ghost use Rattle.plan_answers.specs.Answers.{refusal};
 ghost use Rattle.plan_answers.specs.ReplyViews.{reply_of};
-ghost use Rattle.script_steps.specs.StepViews.{IsEditRefusal, IsLineRefusal, IsTableRefusal};
+ghost use Rattle.script_steps.specs.StepViews.{IsBookRefusal, IsEditRefusal, IsLineRefusal, IsTableRefusal};
 ghost use Rattle.script_steps.specs.StepViews.{IsFileRefusal, IsOwedRefusal, IsTraceRefusal};
 
+use book_file::BookFault;
 use correction_ledger::{FileRefusal, OwedRefusal};
 use month_trace::TraceRefusal;
 use payroll_records::TableFault;
@@ -58,6 +59,14 @@ pub(crate) fn owed_refusal(alloc: Global, why: &OwedRefusal) -> Result<Reply, Al
     ensures { IfOk result (λ reply. IsOwedRefusal why.now (reply_of reply)) }
 {
     let detail = owed_detail(alloc, why)?;
+    refusal(alloc, detail.as_bytes())
+}
+
+/// The refusal of a text that isn't that of a saved book.
+pub(crate) fn book_refusal(alloc: Global, fault: &BookFault) -> Result<Reply, AllocError>
+    ensures { IfOk result (λ reply. IsBookRefusal fault.now (reply_of reply)) }
+{
+    let detail = book_detail(alloc, fault)?;
     refusal(alloc, detail.as_bytes())
 }
 
@@ -166,5 +175,17 @@ fn owed_detail(alloc: Global, why: &OwedRefusal) -> Result<String, AllocError>
             format!(in alloc; "file Open {employee} {day}")
         }
         OwedRefusal::Memory(_) => Err(AllocError),
+    }
+}
+
+/// The group, the name and the details of why a text isn't that of a saved book.
+fn book_detail(alloc: Global, fault: &BookFault) -> Result<String, AllocError>
+    ensures { IfOk result (λ detail. IsBookRefusal fault.now (refusal (string_bytes detail))) }
+{
+    match fault {
+        BookFault::Long => format!(in alloc; "book Long"),
+        BookFault::Form { item } => format!(in alloc; "book Form {item}"),
+        BookFault::Plan { day } => format!(in alloc; "book Plan {day}"),
+        BookFault::Memory(_) => Err(AllocError),
     }
 }

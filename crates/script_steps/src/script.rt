@@ -3,15 +3,16 @@ ghost use Rattle.std.specs.Prelude.{◌≡◌};
 ghost use Rattle.script_steps.specs.Standings.{start};
 
 use correction_ledger::Ledger;
-use recalc_engine::Book;
+use recalc_engine::{Book, Work};
 use std::alloc::Global;
 use std::marker::Model;
 
-/// What the lines of a script have made so far: a book, and what was filed of it.
+/// What the lines of a script have made so far: a book, what was filed of it, and the work of all edits that were accepted.
 #[derive(Drop)]
 pub struct Script {
     pub(crate) book: Book,
     pub(crate) ledger: Ledger,
+    pub(crate) made: Work,
 }
 
 impl Model for Script {
@@ -26,7 +27,7 @@ impl Model for Script {
       body_code (Prim.hlevel codes) (Prim.hlevel codes) (Prim.hlevel codes),
     ) };
 
-    ghost view = { λ s. record { book = s.book; filings = s.ledger } };
+    ghost view = { λ s. record { book = s.book; filings = s.ledger; made = s.made } };
 }
 
 impl Script {
@@ -37,6 +38,7 @@ impl Script {
         Script {
             book: Book::new(alloc),
             ledger: Ledger::new(alloc),
+            made: Work { runs: 0, steps: 0 },
         }
     }
 
@@ -45,5 +47,19 @@ impl Script {
         ensures { result.now ≡ self.now.book }
     {
         &self.book
+    }
+
+    /// What was filed of it.
+    pub fn ledger(&self) -> &Ledger
+        ensures { result.now ≡ self.now.filings }
+    {
+        &self.ledger
+    }
+
+    /// The runs and the steps of all edits that were accepted, each no more than the greatest number of 64 bits.
+    pub fn made(&self) -> Work
+        ensures { result ≡ self.now.made }
+    {
+        self.made
     }
 }

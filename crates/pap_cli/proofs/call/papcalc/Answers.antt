@@ -1,11 +1,15 @@
 use Rattle.std.proofs.Common.{◌∙◌, sym, subst}
-use Rattle.pap_cli.specs.Words.{texts, run}
+use Rattle.pap_cli.specs.Words.{texts, run, sample, save}
 use Rattle.pap_cli.specs.WordViews.{form_on_files}
 use Rattle.pap_cli.specs.Outside.{Outside}
 use Rattle.pap_cli.specs.CallClauses.{Carries}
 use Rattle.pap_cli.specs.ScriptClauses.{LeavesOnScript}
 use Rattle.pap_cli.proofs.WordLemmas.{one_form}
 use Rattle.pap_cli.proofs.ScriptLemmas.{headline_script, script_file, script_kept, script_read, script_write}
+use Rattle.pap_cli.specs.SampleClauses.{LeavesOnSample}
+use Rattle.pap_cli.proofs.SampleLemmas.{headline_sample, leaves_sample}
+use Rattle.pap_cli.specs.SaveClauses.{LeavesOnSave}
+use Rattle.pap_cli.proofs.SaveLemmas.{headline_save, leaves_save}
 use Rattle.pap_cli.proofs.LeavesLemmas.{leaves_form, carries_none, headline_form, file_stop, write_stop}
 use Rattle.pap_cli.proofs.call.papcalc.Goals as goal
 
@@ -45,6 +49,39 @@ returns-in-Ok-Some-Run-clause-carries g c = λ form has.
           (λ e. c.run.ensures.file.rose (script_file c.run.result (sym is ∙ e)))
           (λ e. c.run.ensures.read.rose (script_read c.run.result (sym is ∙ e)))
           (λ e. c.run.ensures.write.rose (script_write c.run.result (sym is ∙ e)));
+    })
+
+pub returns-in-Ok-Some-Sample-clause-carries : goal.returns-in-Ok-Some-Sample-clause-carries
+returns-in-Ok-Some-Sample-clause-carries g c = λ form has.
+    let employees = c.in-Ok-Some-Sample.employees in
+    let own = rw c.in-Ok-Some-Sample.field-0-0-is at (rw c.in-Ok-Some-Sample.field-0-is at c.in-Ok-Some-Sample.ensures) in
+    let same = one_form (texts c.args.words.now) (sample employees) form own has in
+    let before : Outside = record { files = g.F.Files.told c.args.files.now; failed = g.F.Files.failed c.args.files.now; file_faults = g.F.Files.faults c.args.files.now; left = g.R.Source.left c.args.source.now; source_faults = g.R.Source.faults c.args.source.now; written = g.W.Sink.written c.args.sink.now; sink_faults = g.W.Sink.faults c.args.sink.now; steps = c.args.steps.now } in
+    let after : Outside = record { files = g.F.Files.told c.args.files.now; failed = g.F.Files.failed c.args.files.now; file_faults = g.F.Files.faults c.args.files.now; left = g.R.Source.left c.args.source.now; source_faults = g.R.Source.faults c.args.source.now; written = g.W.Sink.written c.sample.new.sink; sink_faults = g.W.Sink.faults c.sample.new.sink; steps = c.sample.new.steps } in
+    let is = c.status-in-Ok-Some-Sample.ensures in
+    let meets = rw (← is) at c.sample.ensures.leaves in
+    let all : LeavesOnSample employees before after c.status-in-Ok-Some-Sample.result = leaves_sample employees before after c.status-in-Ok-Some-Sample.result meets in
+    subst (λ f. Carries f before after c.status-in-Ok-Some-Sample.result) same (record {
+      leaves = all;
+      headline = headline_sample employees before after c.status-in-Ok-Some-Sample.result all
+          (λ e. c.sample.ensures.write.rose (write_stop c.sample.result (sym is ∙ e)));
+    })
+
+pub returns-in-Ok-Some-Save-clause-carries : goal.returns-in-Ok-Some-Save-clause-carries
+returns-in-Ok-Some-Save-clause-carries g c = λ form has.
+    let own = rw c.in-Ok-Some-Save.field-0-0-is at (rw c.in-Ok-Some-Save.field-0-is at c.in-Ok-Some-Save.ensures) in
+    let same = one_form (texts c.args.words.now) save form own has in
+    let before : Outside = record { files = g.F.Files.told c.args.files.now; failed = g.F.Files.failed c.args.files.now; file_faults = g.F.Files.faults c.args.files.now; left = g.R.Source.left c.args.source.now; source_faults = g.R.Source.faults c.args.source.now; written = g.W.Sink.written c.args.sink.now; sink_faults = g.W.Sink.faults c.args.sink.now; steps = c.args.steps.now } in
+    let after : Outside = record { files = g.F.Files.told c.save.new.files; failed = g.F.Files.failed c.save.new.files; file_faults = g.F.Files.faults c.save.new.files; left = g.R.Source.left c.save.new.source; source_faults = g.R.Source.faults c.save.new.source; written = g.W.Sink.written c.save.new.sink; sink_faults = g.W.Sink.faults c.save.new.sink; steps = c.save.new.steps } in
+    let is = c.script_status-in-Ok-Some-Save.ensures in
+    let meets = rw (← is) at c.save.ensures.leaves in
+    let all : LeavesOnSave before after c.script_status-in-Ok-Some-Save.result = leaves_save before after c.script_status-in-Ok-Some-Save.result meets in
+    subst (λ f. Carries f before after c.script_status-in-Ok-Some-Save.result) same (record {
+      leaves = all;
+      headline = headline_save before after c.script_status-in-Ok-Some-Save.result all
+          (λ e. c.save.ensures.file.rose (script_file c.save.result (sym is ∙ e)))
+          (λ e. c.save.ensures.read.rose (script_read c.save.result (sym is ∙ e)))
+          (λ e. c.save.ensures.write.rose (script_write c.save.result (sym is ∙ e)));
     })
 
 pub returns-in-Err-clause-carries : goal.returns-in-Err-clause-carries

@@ -1,17 +1,29 @@
 use Rattle.std.proofs.Common.{is_some, subst}
 use Rattle.std.specs.Prelude.{IfOk}
-use Rattle.std.specs.Option.{ForSome}
+use Rattle.plan_answers.proofs.Laws.{if_ok_map}
 use Rattle.pap_cli.specs.Words.{texts, HasForm}
 use Rattle.pap_cli.specs.WordViews.{form_on_files}
-use Rattle.pap_cli.specs.CallClauses.{IsRefused}
+use Rattle.pap_cli.specs.AnswerViews.{answers_of, TellsRefused}
+use Rattle.pap_cli.specs.Reasons.{bytes_of, SaysRefusedOn}
 use Rattle.pap_cli.proofs.WordLemmas.{one_form}
+use Rattle.pap_cli.proofs.ReasonLemmas.{told_given}
 use Rattle.pap_cli.proofs.reasons.reason.Goals as goal
 
-pub returns-in-Some-Files-clause-refused : goal.returns-in-Some-Files-clause-refused
-returns-in-Some-Files-clause-refused g c = λ form has.
+pub returns-in-len2-up-clause-refused : goal.returns-in-len2-up-clause-refused
+returns-in-len2-up-clause-refused c = λ form has.
     let request = c.in-Some-Files.request in
     let words = texts c.args.words.now in
+    let given = c.args.given.now in
+    let plan = c.plan-item.result in
+    let limits = c.limits-item.result in
     let own : HasForm words (form_on_files request) = rw c.in-Some-Files.field-0-is at (rw c.in-Some-Files.is at c.in_ok-request.ensures) in
     let same = one_form words (form_on_files request) form own has in
-    subst (λ f. IfOk c.reason_on_files.result (λ reason. ForSome (g.F.Files.told c.args.files.now) (λ map. IsRefused f map (is_some reason)))) same
-    (c.reason_on_files.ensures.refused words own)
+    let first = subst (λ b. IfOk c.reason_on_bytes.result (λ reason. TellsRefused (answers_of request.command b c.deref-in-len2-up.result.now) (is_some reason)))
+    c.deref.ensures.value c.reason_on_bytes.ensures.refused in
+    let both = subst (λ b. IfOk c.reason_on_bytes.result (λ reason. TellsRefused (answers_of request.command plan.items b) (is_some reason)))
+    c.deref-in-len2-up.ensures.value first in
+    subst (λ f. IfOk c.reason_on_bytes.result (λ reason. SaysRefusedOn f (bytes_of given) (is_some reason))) same
+    (if_ok_map c.reason_on_bytes.result (λ reason. TellsRefused (answers_of request.command plan.items limits.items) (is_some reason))
+    (λ reason. SaysRefusedOn (form_on_files request) (bytes_of given) (is_some reason))
+    (λ reason told. told_given request.command words request.plan.now request.limits.now given plan limits (is_some reason) own
+    c.in-len2-up.len_at_least c.plan-item.is c.limits-item.is told) both)

@@ -7,20 +7,20 @@ use Rattle.pap_cli.proofs.ReasonLemmas.{filled_from, told_inputs, told_state}
 use Rattle.pap_cli.proofs.reasons.state_reason.Goals as goal
 
 pub fill-requires-clause-doubles : goal.fill-requires-clause-doubles
-fill-requires-clause-doubles c = suits_kinds c.args.plan.now.ranges (flowchart c.args.plan.now).inputs c.spec.result.now.slots c.requires c.spec.ensures
+fill-requires-clause-doubles c = suits_kinds c.args.accepted.now.ranges (flowchart c.args.accepted.now).inputs c.spec.result.now.slots c.requires c.spec.ensures
 
-pub returns-in-Inputs : goal.returns-in-Inputs
-returns-in-Inputs c =
+pub returns-in-Inputs-clause-refused : goal.returns-in-Inputs-clause-refused
+returns-in-Inputs-clause-refused c =
     let slots = c.spec.result.now.slots in
     let filled = sym c.in-Inputs.is ∙ c.in_ok-filled.ensures in
     let values = subst (λ v. Inputs c.in-Inputs.field-0 ≡ filled_by slots v []) c.record_of-record.ensures filled in
-    told_inputs c.args.values (meaning c.args.plan.now) c.in-Inputs.field-0
-    (filled_from c.args.values (meaning c.args.plan.now) slots (Inputs c.in-Inputs.field-0) c.spec.ensures values)
+    told_inputs c.args.values (meaning c.args.accepted.now) c.in-Inputs.field-0
+    (filled_from c.args.values (meaning c.args.accepted.now) slots (Inputs c.in-Inputs.field-0) c.spec.ensures values)
 
-pub returns : goal.returns
-returns c =
+pub returns-clause-refused : goal.returns-clause-refused
+returns-clause-refused c =
     let slots = c.spec.result.now.slots in
     let filled = sym c.in-State.is ∙ c.in_ok-filled.ensures in
     let values = subst (λ v. State c.in-State.state ≡ filled_by slots v []) c.record_of-record.ensures filled in
-    told_state c.args.values (meaning c.args.plan.now) c.in-State.state
-    (filled_from c.args.values (meaning c.args.plan.now) slots (State c.in-State.state) c.spec.ensures values)
+    told_state c.args.values (meaning c.args.accepted.now) c.in-State.state
+    (filled_from c.args.values (meaning c.args.accepted.now) slots (State c.in-State.state) c.spec.ensures values)

@@ -2,11 +2,11 @@ use Rattle.std.proofs.Common.{◌∙◌, sym, ap}
 use Rattle.std.specs.Prelude.{Some}
 use Rattle.outside.specs.Memory.{named_files, file_named}
 use Rattle.outside.proofs.Laws.{sure_lacked}
-use Rattle.script_run.proofs.MemoryLaws.{told_files, finished, no_file_stop, no_long_stop}
+use Rattle.script_run.proofs.MemoryLaws.{told_files, finished, spent_within, no_file_stop, no_long_stop}
 use Rattle.script_run.proofs.memory.run_in_memory.Goals as goal
 
-pub returns-in-Ok : goal.returns-in-Ok
-returns-in-Ok g c =
+pub returns-in-Ok-clause-ok : goal.returns-in-Ok-clause-ok
+returns-in-Ok-clause-ok g c =
     let files = file_named (named_files c.args.files.items) in
     let script = c.args.script.items in
     let told = told_files c.new-files.ensures.files in
@@ -29,3 +29,11 @@ unreachable-requires-in-Err-Long g c =
     let script = c.args.script.items in
     let left = ap (λ v. Some v.left) c.new-source.ensures in
     no_long_stop script (rw c.in-Err-Long.field-0-is at (c.in-Err-Long.ensures.script script left)) c.requires.short
+
+pub returns-in-Err-Memory-clause-memory : goal.returns-in-Err-Memory-clause-memory
+returns-in-Err-Memory-clause-memory g c =
+    let files = file_named (named_files c.args.files.items) in
+    let script = c.args.script.items in
+    let told = told_files c.new-files.ensures.files in
+    let left = ap (λ v. Some v.left) c.new-source.ensures in
+    spent_within files script (rw c.in-Err-Memory.field-0-is at (c.in-Err-Memory.ensures.script script left)) told

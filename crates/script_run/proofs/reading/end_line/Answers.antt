@@ -3,7 +3,7 @@ use Rattle.std.specs.Prelude.{if◌then◌else◌}
 use Rattle.std.specs.Str.Lines.{strip_carriage_return}
 use Rattle.std.proofs.lemmas.Result.{err_from_is_err_and}
 use Rattle.script_run.proofs.KeepingLaws.{says_ended}
-use Rattle.script_run.proofs.StepLaws.{answered_same, broken_same, line_on, breaks_line}
+use Rattle.script_run.proofs.StepLaws.{delivered_same, broken_same, line_on, breaks_line}
 use Rattle.script_run.proofs.reading.end_line.Goals as goal
 
 pub returns-in_err-refused-clause-err : goal.returns-in_err-refused-clause-err
@@ -13,7 +13,7 @@ returns-in_err-refused-clause-err g c = λ stop is.
     let said = c.ended-line.ensures
     ∙ ap (λ v. if reading.long then v else strip_carriage_return v) c.deref.ensures.value in
     let same : c.in_err-refused.field-0.0 ≡ stop = cc (p.1, p.2) in
-    breaks_line same c.answer_line.ensures.same (λ line holds.
+    breaks_line same c.deliver.ensures.same (λ line holds.
     broken_same (says_ended reading.line.items c.ended-line.result.now line reading.long holds.front holds.long said)
     c.in_err-refused.field-0.0
     (record { is = c.in_err-refused.ensures.broken c.in_err-refused.field-0.0 refl }))
@@ -23,8 +23,8 @@ returns-clause-ok g c =
     let reading = c.args.reading.now in
     let said = c.ended-line.ensures
     ∙ ap (λ v. if reading.long then v else strip_carriage_return v) c.deref.ensures.value in
-    line_on c.answer_line.ensures.same
-    (λ line holds. answered_same
+    line_on c.deliver.ensures.same
+    (λ line holds. delivered_same
     (says_ended reading.line.items c.ended-line.result.now line reading.long holds.front holds.long said)
-    c.in_ok-refused.ensures.answered)
+    c.in_ok-refused.ensures.delivered)
     (record { front = c.clear.ensures.items; long = refl }) refl

@@ -17,6 +17,7 @@ pub loop-byte-preserved : goal.loop-byte-preserved
 loop-byte-preserved g c = record {
   on = goes_byte c.args.piece.now c.loop-byte.byte-index c.loop-byte-test.true c.loop-byte.invariant.on
       c.in_ok-take_byte.ensures.ok;
+  mode = c.take_byte.ensures.mode ∙ c.loop-byte.invariant.mode;
   same = c.take_byte.ensures.same ∙ c.loop-byte.invariant.same;
   kept = c.in_ok-take_byte.ensures.kept (λ e. cc) ∙ c.loop-byte.invariant.kept;
   files_later = omega (arith, c.take_byte.ensures.file.later);

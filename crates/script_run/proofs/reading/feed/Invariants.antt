@@ -1,5 +1,6 @@
 use Rattle.std.proofs.Common.{◌≡◌, ◌≤◌, take}
-use Rattle.script_run.specs.RunClauses.{shown}
+use Rattle.std.specs.Prelude.{is_some}
+use Rattle.script_run.specs.RunClauses.{shown, told_by}
 use Rattle.script_run.specs.RunViews.{GoesOn}
 use Rattle.script_run.proofs.reading.feed.Given as goal
 
@@ -7,9 +8,10 @@ abbrev pub invariant-loop-byte : goal.invariant-loop-byte
 invariant-loop-byte g l = record {
   on : GoesOn
       (shown (g.F.Files.told l.initial.files) (g.F.Files.failed l.initial.files)
-      (g.W.Sink.written l.initial.sink) l.initial.steps)
-      (shown (g.F.Files.told l.files) (g.F.Files.failed l.files) (g.W.Sink.written l.sink) l.steps)
+      (told_by l.initial.reading.refusals (g.W.Sink.written l.initial.sink)) l.initial.steps)
+      (shown (g.F.Files.told l.files) (g.F.Files.failed l.files) (told_by l.reading.refusals (g.W.Sink.written l.sink)) l.steps)
       l.initial.reading l.reading (take l.byte-index l.piece);
+  mode : is_some l.reading.refusals ≡ is_some l.initial.reading.refusals;
   same : g.F.Files.told l.files ≡ g.F.Files.told l.initial.files;
   kept : g.F.Files.failed l.files ≡ g.F.Files.failed l.initial.files;
   files_later : g.F.Files.faults l.initial.files ≤ g.F.Files.faults l.files;

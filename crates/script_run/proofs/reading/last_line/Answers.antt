@@ -2,9 +2,9 @@ use Rattle.std.proofs.Common.{◌∙◌, refl, ap}
 use Rattle.std.specs.Prelude.{Err}
 use Rattle.std.proofs.lemmas.Result.{err_from_is_err_and}
 use Rattle.script_run.specs.Limits.{most_line}
-use Rattle.script_run.specs.RunClauses.{shown}
+use Rattle.script_run.specs.RunClauses.{shown, told_by}
 use Rattle.script_run.proofs.KeepingLaws.{says_kept, kept_some, kept_none, not_empty, empty}
-use Rattle.script_run.proofs.StepLaws.{answered_same, broken_same, closes_none, closes_on, closes_broken, closes_at, stays_none, stays_on}
+use Rattle.script_run.proofs.StepLaws.{delivered_same, broken_same, closes_none, closes_on, closes_broken, closes_at, stays_none, stays_on}
 use Rattle.script_run.proofs.reading.last_line.Goals as goal
 
 pub returns-then-is_empty-clause-closes : goal.returns-then-is_empty-clause-closes
@@ -20,7 +20,7 @@ returns-in_err-refused-clause-closes g c =
     let some = not_empty kept c.is_empty.result c.is_empty.ensures c.if-is_empty.false in
     let stop = c.in_err-refused.field-0.0 in
     closes_at c.from_residual.result (p.1 ∙ ap (λ v. Err v) p.2)
-    (closes_broken c.answer_line.ensures.same (λ line holds.
+    (closes_broken c.deliver.ensures.same (λ line holds.
     kept_some most_line kept.items line holds.front some) stop
     (λ line holds. broken_same (says_kept kept.items c.deref.result.now line c.deref.ensures.value holds.front) stop
     (record { is = c.in_err-refused.ensures.broken stop refl })))
@@ -30,9 +30,9 @@ returns-clause-closes g c =
     let kept = c.args.reading.now.line in
     let some = not_empty kept c.is_empty.result c.is_empty.ensures c.if-is_empty.false in
     closes_on (λ line holds. kept_some most_line kept.items line holds.front some)
-    (λ line holds. answered_same
+    (λ line holds. delivered_same
     (says_kept kept.items c.deref.result.now line c.deref.ensures.value holds.front)
-    c.in_ok-refused.ensures.answered)
+    c.in_ok-refused.ensures.delivered)
 
 pub returns-then-is_empty-clause-standing : goal.returns-then-is_empty-clause-standing
 returns-then-is_empty-clause-standing g c =
@@ -44,9 +44,9 @@ pub returns-clause-standing : goal.returns-clause-standing
 returns-clause-standing g c =
     let kept = c.args.reading.now.line in
     let some = not_empty kept c.is_empty.result c.is_empty.ensures c.if-is_empty.false in
-    stays_on (shown (g.F.Files.told c.answer_line.new.files) (g.F.Files.failed c.answer_line.new.files)
-    (g.W.Sink.written c.answer_line.new.sink) c.answer_line.new.steps)
+    stays_on (shown (g.F.Files.told c.deliver.new.files) (g.F.Files.failed c.deliver.new.files)
+    (told_by c.deliver.new.kept (g.W.Sink.written c.deliver.new.sink)) c.deliver.new.steps)
     (λ line holds. kept_some most_line kept.items line holds.front some)
-    (λ line holds. answered_same
+    (λ line holds. delivered_same
     (says_kept kept.items c.deref.result.now line c.deref.ensures.value holds.front)
-    c.in_ok-refused.ensures.answered)
+    c.in_ok-refused.ensures.delivered)

@@ -12,6 +12,7 @@ turns-init g c = record {
   stood = stood_first _ _ c.args.reading.now c.requires.start;
   room = c.requires.room;
   within = omega arith;
+  mode = refl;
   same = refl;
   kept = refl;
   files_later = omega arith;
@@ -53,6 +54,7 @@ turns-preserved g c = record {
       stood_on (take count buf) size c.in-Ok.ensures.bytes.0 c.in_ok-feed.ensures.ok c.turns.invariant.stood;
   room = omega arith;
   within = omega arith;
+  mode = c.feed.ensures.mode ∙ c.turns.invariant.mode;
   same = c.feed.ensures.same ∙ c.turns.invariant.same;
   kept = c.in_ok-feed.ensures.kept (λ e. cc) ∙ c.turns.invariant.kept;
   files_later = omega (arith, c.feed.ensures.file.later);

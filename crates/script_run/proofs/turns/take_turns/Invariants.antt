@@ -1,6 +1,7 @@
 use Rattle.std.proofs.Common.{◌≡◌, ◌≤◌, ◌-◌, length}
 use Rattle.script_run.specs.Limits.{most_script, most_turn}
-use Rattle.script_run.specs.RunClauses.{shown}
+use Rattle.std.specs.Prelude.{is_some}
+use Rattle.script_run.specs.RunClauses.{shown, told_by}
 use Rattle.script_run.specs.RunViews.{Stood}
 use Rattle.script_run.proofs.turns.take_turns.Given as goal
 
@@ -8,11 +9,12 @@ abbrev pub invariant-turns : goal.invariant-turns
 invariant-turns g l = record {
   stood : Stood
       (shown (g.F.Files.told l.initial.files) (g.F.Files.failed l.initial.files)
-      (g.W.Sink.written l.initial.sink) l.initial.steps)
-      (shown (g.F.Files.told l.files) (g.F.Files.failed l.files) (g.W.Sink.written l.sink) l.steps)
+      (told_by l.initial.reading.refusals (g.W.Sink.written l.initial.sink)) l.initial.steps)
+      (shown (g.F.Files.told l.files) (g.F.Files.failed l.files) (told_by l.reading.refusals (g.W.Sink.written l.sink)) l.steps)
       (g.R.Source.left l.initial.source) (g.R.Source.left l.source) l.taken l.reading;
   room : length l.buf ≡ most_turn;
   within : l.taken ≤ most_script;
+  mode : is_some l.reading.refusals ≡ is_some l.initial.reading.refusals;
   same : g.F.Files.told l.files ≡ g.F.Files.told l.initial.files;
   kept : g.F.Files.failed l.files ≡ g.F.Files.failed l.initial.files;
   files_later : g.F.Files.faults l.initial.files ≤ g.F.Files.faults l.files;

@@ -5,7 +5,8 @@ use Rattle.plan_answers.specs.ReplyViews.{reply_of}
 use Rattle.plan_answers.proofs.Laws.{if_ok_map}
 use Rattle.script_steps.specs.FilingSteps.{IsFileStep}
 use Rattle.script_steps.specs.Standings.{accepted}
-use Rattle.script_steps.proofs.DoneLemmas.{standing, file_made, file_refused}
+use Rattle.script_steps.proofs.DoneLemmas.{file_made, file_refused}
+use Rattle.script_steps.proofs.EditLemmas.{standing}
 use Rattle.script_steps.proofs.filings.file.Goals as goal
 use Rattle.script_steps.proofs.filings.file.Goals.{in-Ok+in_ok-text-in-Ok, in-Err-Memory, in-Err}
 
@@ -15,22 +16,26 @@ returns c =
     let month = c.args.month in
     let book = c.script.inside.book in
     let old = c.script.inside.ledger in
+    let made = c.script.inside.made in
     let new = c.file.new.self in
     elim c.match-file.branch [
       | in-Ok+in_ok-text-in-Ok w ↦
-          subst (λ r. IfOk r (λ reply. IsFileStep from month (standing new book) (reply_of reply))) (sym w.result-is)
-          (file_made from month book old c.script.view_is new w.in-Ok.count _ (reply_of w.accepted.result)
+          subst (λ r. IfOk r (λ reply. IsFileStep from month (standing new made book) (reply_of reply))) (sym
+          w.result-is)
+          (file_made from month book old made c.script.view_is new w.in-Ok.count _ (reply_of w.accepted.result)
           w.in-Ok.ensures.ok
           (take_rest w.entries.result.now (length c.entries-before.result.now)
           ∙ ap (drop (length c.entries-before.result.now)) w.entries.ensures
           ∙ ap (λ b. drop (length b) new.entries) c.entries-before.ensures)
           (w.accepted.ensures ∙ ap (λ t. accepted t 0) w.in_ok-text-in-Ok.ensures))
-      | in-Err-Memory w ↦ subst (λ r. IfOk r (λ reply. IsFileStep from month (standing new book) (reply_of reply)))
+      | in-Err-Memory w ↦ subst (λ r. IfOk r (λ reply. IsFileStep from month (standing new made book) (reply_of
+          reply)))
           (sym w.result-is) tt
       | in-Err w ↦
-          subst (λ r. IfOk r (λ reply. IsFileStep from month (standing new book) (reply_of reply))) (sym w.result-is)
+          subst (λ r. IfOk r (λ reply. IsFileStep from month (standing new made book) (reply_of reply))) (sym
+          w.result-is)
           (if_ok_map w.file_refusal.result _ _
-          (λ r is. file_refused from month book old c.script.view_is new w.in-Err.why (reply_of r)
+          (λ r is. file_refused from month book old made c.script.view_is new w.in-Err.why (reply_of r)
           w.in-Err.ensures.err w.in-Err.ensures.refused is)
           w.file_refusal.ensures)
     ]

@@ -13,18 +13,28 @@ load-made-requires g c = table_is_distinct c.args.table.now c.in-Ok.runs.items c
 pub returns-in-Ok-clause-made : goal.returns-in-Ok-clause-made
 returns-in-Ok-clause-made g c =
     let e = edits.load c.in-Ok.runs.items in
-    table_made c.args.script.now c.args.table.now c.args.steps.now c.load-made.new.steps c.in-Ok.runs.items (record { book = c.load-made.new.self; filings = c.script.inside.ledger }) c.edit_reply.result c.in-Ok.ensures.ok
-    (edit_made ok_line c.args.script.now e c.script.inside.ledger c.script.inside.book c.script.view_is c.load-made.new.self c.args.steps.now c.load-made.new.steps c.load-made.result c.edit_reply.result c.load-made.ensures.answers c.load-made.ensures.counted c.edit_reply.ensures)
+    table_made c.args.script.now c.args.table.now c.args.steps.now c.load-made.new.steps c.in-Ok.runs.items
+    (record { book = c.load-made.new.self; filings = c.script.inside.ledger; made = c.edit_reply.new.total })
+    c.edit_reply.result c.in-Ok.ensures.ok
+    (edit_made ok_line c.args.script.now e c.script.inside.ledger c.script.inside.made c.script.inside.book
+    c.script.view_is c.load-made.new.self c.args.steps.now
+    c.load-made.new.steps c.load-made.result c.edit_reply.result c.load-made.ensures.answers
+    c.load-made.ensures.counted c.edit_reply.new.total c.edit_reply.ensures)
 
 pub returns-in-Ok-clause-lost : goal.returns-in-Ok-clause-lost
 returns-in-Ok-clause-lost g c =
     let e = edits.load c.in-Ok.runs.items in
-    table_lost c.args.script.now c.args.table.now c.args.steps.now c.load-made.new.steps c.in-Ok.runs.items c.edit_reply.result c.in-Ok.ensures.ok
-    (edit_lost ok_line c.args.script.now e c.script.inside.ledger c.script.inside.book c.script.view_is c.load-made.new.self c.args.steps.now c.load-made.new.steps c.load-made.result c.edit_reply.result c.load-made.ensures.answers c.load-made.ensures.counted)
+    table_lost c.args.script.now c.args.table.now c.args.steps.now c.load-made.new.steps c.in-Ok.runs.items
+    c.edit_reply.result c.in-Ok.ensures.ok
+    (edit_lost ok_line c.args.script.now e c.script.inside.ledger c.script.inside.made c.script.inside.book
+    c.script.view_is c.load-made.new.self c.args.steps.now
+    c.load-made.new.steps c.load-made.result c.edit_reply.result c.load-made.ensures.answers
+    c.load-made.ensures.counted)
 
 pub returns-in-Err-clause-made : goal.returns-in-Err-clause-made
 returns-in-Err-clause-made g c =
-    table_refused c.args.script.now c.args.table.now c.args.steps.now c.in-Err.fault c.table_refusal.result c.in-Err.ensures.err c.table_refusal.ensures
+    table_refused c.args.script.now c.args.table.now c.args.steps.now c.in-Err.fault c.table_refusal.result
+    c.in-Err.ensures.err c.table_refusal.ensures
 
 pub returns-in-Err-clause-lost : goal.returns-in-Err-clause-lost
 returns-in-Err-clause-lost g c = on_err_any c.table_refusal.result _ (inl refl)

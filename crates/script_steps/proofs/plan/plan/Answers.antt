@@ -1,37 +1,45 @@
-use Rattle.std.proofs.Common.{◌∙◌, ap}
+use Rattle.std.proofs.Common.{◌∙◌, refl, ap}
 use Rattle.std.specs.Prelude.{Ok, Err}
 use Rattle.std.proofs.lemmas.Result.{err_from_is_err_and}
 use Rattle.script_lang.specs.Commands as asked
 use Rattle.plan_answers.specs.ReplyViews.{reply_of}
-use Rattle.script_steps.specs.LineSteps.{IsTextsStep}
+use Rattle.script_steps.specs.LineSteps.{IsPut, IsTextsStep}
 use Rattle.script_steps.specs.StepViews.{ToldDoes}
-use Rattle.script_steps.proofs.FileLemmas.{plan_bytes_told}
-use Rattle.script_steps.proofs.MadeLemmas.{made_map, want_map, unread_plan, wanting}
+use Rattle.script_steps.proofs.FileLemmas.{plan_told}
+use Rattle.script_steps.proofs.MadeLemmas.{made_map, want_map, unjudged, wanting}
 use Rattle.script_steps.proofs.plan.plan.Goals as goal
 
-pub returns-in_err-plan_bytes-clause-unmade : goal.returns-in_err-plan_bytes-clause-unmade
-returns-in_err-plan_bytes-clause-unmade g c =
+pub returns-in_err-judged-clause-unmade : goal.returns-in_err-judged-clause-unmade
+returns-in_err-judged-clause-unmade g c =
     let what = asked.plan c.args.day c.args.plan.now c.args.limits.now in
     let told = g.F.Files.told c.args.files.now in
+    let stop = c.in_err-judged.field-0.0 in
     let p = err_from_is_err_and c.from_residual.result c.from_residual.ensures.1 in
-    unread_plan (ToldDoes told c.args.script.now (Ok what)) c.args.day c.args.plan.now c.args.limits.now c.args.steps.now told (g.F.Files.failed c.read_both.new.files) c.from_residual.result c.in_err-plan_bytes.field-0.0
-    (p.1 ∙ ap (λ s. Err s) p.2) (λ e. c.in_err-plan_bytes.ensures.failed (ap (λ f. Err f) e))
+    unjudged (ToldDoes told c.args.script.now (Ok what)) what c.args.plan.now c.args.limits.now c.args.steps.now told
+    (g.F.Files.failed c.judge.new.files) (λ name h. h) (λ files name h. h) stop
+    (c.in_err-judged.ensures.unjudged stop refl) c.from_residual.result (p.1 ∙ ap (λ s. Err s) p.2)
 
-pub returns-in_err-put_texts-clause-unmade : goal.returns-in_err-put_texts-clause-unmade
-returns-in_err-put_texts-clause-unmade g c =
+pub returns-in_err-put-clause-unmade : goal.returns-in_err-put-clause-unmade
+returns-in_err-put-clause-unmade g c =
     let what = asked.plan c.args.day c.args.plan.now c.args.limits.now in
     let told = g.F.Files.told c.args.files.now in
-    let p = err_from_is_err_and c.from_residual-in_err-put_texts.result c.from_residual-in_err-put_texts.ensures.1 in
-    wanting (ToldDoes told c.args.script.now (Ok what)) what c.args.steps.now c.put_texts.new.steps (g.F.Files.failed c.read_both.new.files) c.from_residual-in_err-put_texts.result
-    (p.1 ∙ ap (λ s. Err s) p.2)
-    (want_map (IsTextsStep c.args.script.now c.args.day c.deref.result.now c.deref-2.result.now) (ToldDoes told c.args.script.now (Ok what)) c.args.steps.now c.put_texts.new.steps
-    (plan_bytes_told told c.args.script.now c.args.day c.args.plan.now c.args.limits.now c.in_ok-plan_bytes.plan_bytes.items c.in_ok-plan_bytes.limits_bytes.items c.deref.result.now c.deref-2.result.now c.deref.ensures.value c.deref-2.ensures.value c.in_ok-plan_bytes.ensures.read)
-    c.in_err-put_texts.ensures.lost)
+    let from = c.args.script.now in
+    let j = c.in_ok-judged.ensures.judged in
+    let p = err_from_is_err_and c.from_residual-in_err-put.result c.from_residual-in_err-put.ensures.1 in
+    wanting told (ToldDoes told from (Ok what)) what c.args.steps.now c.put.new.steps
+    (g.F.Files.failed c.judge.new.files) c.from_residual-in_err-put.result (p.1 ∙ ap (λ s. Err s) p.2)
+    (want_map (IsTextsStep IsPut from c.args.day j.plan_front j.limits_front) (ToldDoes told from (Ok what))
+    c.args.steps.now c.put.new.steps
+    (plan_told IsPut told from c.args.day c.args.plan.now c.args.limits.now c.in_ok-judged.judged j)
+    (c.in_err-put.ensures.lost j.plan_front j.limits_front j.is))
 
 pub returns-clause-made : goal.returns-clause-made
 returns-clause-made g c =
     let what = asked.plan c.args.day c.args.plan.now c.args.limits.now in
     let told = g.F.Files.told c.args.files.now in
-    made_map (IsTextsStep c.args.script.now c.args.day c.deref.result.now c.deref-2.result.now) (ToldDoes told c.args.script.now (Ok what)) c.put_texts.new.script c.args.steps.now c.put_texts.new.steps (reply_of c.in_ok-put_texts.field-0)
-    (plan_bytes_told told c.args.script.now c.args.day c.args.plan.now c.args.limits.now c.in_ok-plan_bytes.plan_bytes.items c.in_ok-plan_bytes.limits_bytes.items c.deref.result.now c.deref-2.result.now c.deref.ensures.value c.deref-2.ensures.value c.in_ok-plan_bytes.ensures.read)
-    c.in_ok-put_texts.ensures.made
+    let from = c.args.script.now in
+    let j = c.in_ok-judged.ensures.judged in
+    made_map (IsTextsStep IsPut from c.args.day j.plan_front j.limits_front) (ToldDoes told from (Ok what))
+    c.put.new.script c.args.steps.now c.put.new.steps (reply_of c.in_ok-put.field-0)
+    (plan_told IsPut told from c.args.day c.args.plan.now c.args.limits.now c.in_ok-judged.judged j)
+    (c.in_ok-put.ensures.made j.plan_front j.limits_front j.is)

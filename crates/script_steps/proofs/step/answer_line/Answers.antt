@@ -12,16 +12,23 @@ returns-in-Ok-clause-broken g c = c.answer_command.ensures.broken c.args.line.no
 
 pub returns-in-Err-Memory-clause-broken : goal.returns-in-Err-Memory-clause-broken
 returns-in-Err-Memory-clause-broken g c =
-    want_broken (g.F.Files.told c.args.files.now) (g.W.Sink.written c.args.sink.now) c.args.steps.now c.args.script.now c.args.line.now (g.F.Files.failed c.args.files.now) _ refl
+    want_broken (g.F.Files.told c.args.files.now) (g.W.Sink.written c.args.sink.now) c.args.steps.now
+    c.args.script.now c.args.line.now (g.F.Files.failed c.args.files.now) _ refl
 
 pub returns-in-Err-clause-answered : goal.returns-in-Err-clause-answered
 returns-in-Err-clause-answered g c =
-    faults_answered (g.F.Files.told c.args.files.now) (g.W.Sink.written c.args.sink.now) (g.W.Sink.written c.answer_fault.new.sink) c.args.steps.now c.args.script.now c.args.line.now c.in-Err.fault c.answer_fault.result c.in-Err.ensures.err c.answer_fault.ensures.ok
+    faults_answered (g.F.Files.told c.args.files.now) (g.W.Sink.written c.args.sink.now)
+    (g.W.Sink.written c.answer_fault.new.sink) c.args.steps.now c.args.script.now c.args.line.now c.in-Err.fault
+    c.answer_fault.result c.in-Err.ensures.err c.answer_fault.ensures.ok
 
 pub returns-in-Err-clause-broken : goal.returns-in-Err-clause-broken
 returns-in-Err-clause-broken g c =
-    faults_broken (g.F.Files.told c.args.files.now) (g.W.Sink.written c.args.sink.now) (g.W.Sink.written c.answer_fault.new.sink) c.args.steps.now c.args.script.now c.args.line.now (g.F.Files.failed c.args.files.now) c.in-Err.fault c.answer_fault.result c.in-Err.ensures.err c.answer_fault.ensures.err
+    faults_broken (g.F.Files.told c.args.files.now) (g.W.Sink.written c.args.sink.now)
+    (g.W.Sink.written c.answer_fault.new.sink) c.args.steps.now c.args.script.now c.args.line.now
+    (g.F.Files.failed c.args.files.now) c.in-Err.fault c.answer_fault.result c.in-Err.ensures.err
+    c.answer_fault.ensures.err
 
 pub returns-in-Err-clause-file : goal.returns-in-Err-clause-file
 returns-in-Err-clause-file g c =
-    never_file (IsRefusalUnwritten (g.W.Sink.written c.args.sink.now) (g.W.Sink.written c.answer_fault.new.sink) c.in-Err.fault) c.answer_fault.result (g.F.Files.faults c.args.files.now) (λ h. h) c.answer_fault.ensures.err
+    never_file (IsRefusalUnwritten (g.W.Sink.written c.args.sink.now) (g.W.Sink.written c.answer_fault.new.sink)
+    c.in-Err.fault) c.answer_fault.result (g.F.Files.faults c.args.files.now) (λ h. h) c.answer_fault.ensures.err

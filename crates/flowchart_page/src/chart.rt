@@ -1,0 +1,241 @@
+//! The whole page.
+use crate::callers::Callers;
+use crate::declarations::{Declarations, write_declarations};
+use crate::header::{Reason, write_head, write_lead, write_verdict};
+use crate::method::{Chapter, write_index, write_key, write_method};
+use crate::page::Page;
+use crate::site::{Site, site_of};
+use crate::verdict::{Verdict, judge};
+use chart_layout::read_method;
+use limits_file::{Limits, read_limits};
+use pap_plan::PlanRefusal;
+use pap_reader::{Elements, ReadFault, read_elements};
+use pap_tree::Name;
+use plain_words::{TextFile, plan_words};
+use plan_answers::refused;
+use plan_notes::{Element, Notes, read_notes};
+use std::alloc::{AllocError, Global};
+
+/// A page, and why the plan is refused.
+#[derive(Drop)]
+pub struct Chart {
+    pub page: Vec<u8>,
+    /// Why the plan is refused, in plain words in one line; `None` where it isn't.
+    pub reason: Option<String>,
+}
+
+/// The page of a plan's bytes: with a range file whether the plan is accepted with it, without one what can be said before.
+/// The name of the plan's file stands for the plan's own name where that has none. Takes time linear in the plan beside what
+/// judging it takes, and fails only for want of memory.
+pub fn draw_chart(
+    alloc: Global,
+    plan: TextFile<'_>,
+    limits: Option<TextFile<'_>>,
+) -> Result<Chart, AllocError> {
+    let ranges = match limits {
+        Some(file) => Some(file.bytes),
+        None => None,
+    };
+    let verdict = judge(alloc, plan.bytes, ranges);
+    let reason = reason_of(alloc, plan, limits, &verdict)?;
+    let mut page = Page::new(alloc);
+    match read_elements(alloc, plan.bytes) {
+        Ok(elements) => {
+            let notes = read_notes(alloc, plan.bytes)?;
+            let limits = limits_of(alloc, ranges)?;
+            let source = Source {
+                file: plan.name,
+                elements: &elements,
+                notes: &notes,
+                limits: &limits,
+                verdict: &verdict,
+                reason: &reason,
+            };
+            write_page(&mut page, &source)?;
+        }
+        Err(ReadFault::Memory) => return Err(AllocError),
+        Err(_) => write_nothing(&mut page, plan.name, &verdict, &reason)?,
+    }
+    Ok(Chart {
+        page: page.bytes,
+        reason: words_of(reason),
+    })
+}
+
+/// The words of a reason.
+fn words_of(reason: Option<Reason>) -> Option<String> {
+    match reason {
+        Some(Reason { line: _, words }) => Some(words),
+        None => None,
+    }
+}
+
+/// The ranges of a range file, where it is read.
+fn limits_of(alloc: Global, limits: Option<&[u8]>) -> Result<Option<Limits>, AllocError> {
+    match limits {
+        Some(limits) => match read_limits(alloc, limits) {
+            Ok(limits) => Ok(Some(limits)),
+            Err(limits_file::LimitsFault::Memory(error)) => Err(error),
+            Err(_) => Ok(None),
+        },
+        None => Ok(None),
+    }
+}
+
+/// Why a plan is refused, where it is.
+fn reason_of(
+    alloc: Global,
+    plan: TextFile<'_>,
+    limits: Option<TextFile<'_>>,
+    verdict: &Verdict,
+) -> Result<Option<Reason>, AllocError> {
+    match verdict {
+        Verdict::Refused(PlanRefusal::Memory) => Err(AllocError),
+        Verdict::Refused(refusal) => {
+            let reply = refused(alloc, plan.bytes, refusal)?;
+            let line = plan_notes::one_line(alloc, &reply.text)?;
+            let ranges = limits.unwrap_or(TextFile {
+                name: "",
+                bytes: &[],
+            });
+            let words = plan_words(alloc, plan, ranges, refusal)?;
+            Ok(Some(Reason { line, words }))
+        }
+        Verdict::Accepted(_) | Verdict::InOrder => Ok(None),
+    }
+}
+
+/// What a page is made of.
+#[derive(Drop)]
+struct Source<'a> {
+    file: &'a str,
+    elements: &'a Elements,
+    notes: &'a Notes,
+    limits: &'a Option<Limits>,
+    verdict: &'a Verdict,
+    reason: &'a Option<Reason>,
+}
+
+/// Appends the page of a file that is no plan: its head alone.
+fn write_nothing(
+    page: &mut Page,
+    file: &str,
+    verdict: &Verdict,
+    reason: &Option<Reason>,
+) -> Result<(), AllocError> {
+    write_head(page, file, None)?;
+    write_verdict(page, verdict, reason, &Site::Nowhere)?;
+    page.own(
+        "<p class=\"sub\" id=\"methods\">There is nothing to draw: the file is not read as a flowchart.</p></header></body></html>\n",
+    )
+}
+
+/// Appends the page of a plan whose elements are read.
+fn write_page(page: &mut Page, source: &Source<'_>) -> Result<(), AllocError> {
+    let alloc = page.alloc;
+    let site = match source.verdict {
+        Verdict::Refused(refusal) => site_of(source.elements, refusal),
+        Verdict::Accepted(_) | Verdict::InOrder => Site::Nowhere,
+    };
+    let notes = source.notes;
+    let name = match &notes.name {
+        Some(name) => name.as_str(),
+        None => source.file,
+    };
+    let version = match &notes.version {
+        Some(version) => Some(version.as_str()),
+        None => None,
+    };
+    let chapters = read_chapters(alloc, source, &site)?;
+    write_head(page, name, version)?;
+    write_lead(page, notes.walk().skip_to(Element::Pap))?;
+    write_verdict(page, source.verdict, source.reason, &site)?;
+    write_counts(page, &chapters)?;
+    write_index(page, &chapters, &site)?;
+    let declarations = Declarations {
+        elements: source.elements,
+        notes,
+        limits: source.limits,
+        verdict: source.verdict,
+        site: &site,
+    };
+    write_declarations(page, &declarations)?;
+    write_drawings(page, source, &chapters, &site)?;
+    page.own("</section></main></div></body></html>\n")
+}
+
+/// Appends how many methods and statements there are.
+fn write_counts(page: &mut Page, chapters: &[Chapter<'_>]) -> Result<(), AllocError> {
+    let alloc = page.alloc;
+    let mut statements: u32 = 0;
+    for chapter in chapters {
+        statements = statements.saturating_add(chapter.text.count);
+    }
+    let methods = chapters.len();
+    let method = if methods == 1 { "method" } else { "methods" };
+    let statement = if statements == 1 {
+        "statement"
+    } else {
+        "statements"
+    };
+    page.own(&format!(in alloc;
+        "<p class=\"sub\">{methods} {method}, {statements} {statement}</p></header>\n"
+    )?)
+}
+
+/// The methods, MAIN first, with the comments before each.
+fn read_chapters<'a>(
+    alloc: Global,
+    source: &Source<'a>,
+    site: &Site,
+) -> Result<Vec<Chapter<'a>>, AllocError> {
+    let mut chapters = Vec::new(alloc);
+    let mut walk = source.notes.walk();
+    let comments = walk.skip_to(Element::Main);
+    let main = Name::main();
+    let text = read_method(
+        alloc,
+        main,
+        &source.elements.main,
+        &mut walk,
+        refused_in(site, &main),
+    )?;
+    chapters.push(Chapter { text, comments })?;
+    let mut walk = source.notes.walk();
+    for method in &source.elements.methods {
+        let comments = walk.skip_to(Element::Method);
+        let refused = refused_in(site, &method.name);
+        let text = read_method(alloc, method.name, &method.body, &mut walk, refused)?;
+        chapters.push(Chapter { text, comments })?;
+    }
+    Ok(chapters)
+}
+
+/// The number of the statement of a method that a refusal names.
+fn refused_in(site: &Site, name: &Name) -> Option<u32> {
+    match site {
+        Site::Statement { method, number } if method == name => Some(*number),
+        _ => None,
+    }
+}
+
+/// Appends the drawings of the methods.
+fn write_drawings(
+    page: &mut Page,
+    source: &Source<'_>,
+    chapters: &[Chapter<'_>],
+    site: &Site,
+) -> Result<(), AllocError> {
+    let alloc = page.alloc;
+    let callers = Callers::new(alloc, source.elements)?;
+    let mut names = Vec::new(alloc);
+    for chapter in chapters {
+        names.push(chapter.text.name)?;
+    }
+    names.sort()?;
+    write_key(page)?;
+    for (i, chapter) in chapters.iter().enumerate() {
+        write_method(page, chapter, callers.of(i), &names, site)?;
+    }
+    Ok(())
+}

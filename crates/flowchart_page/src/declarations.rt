@@ -1,0 +1,213 @@
+//! The table of declared names.
+use crate::page::Page;
+use crate::ranges::{input_range, output_range};
+use crate::site::Site;
+use crate::verdict::Verdict;
+use limits_file::Limits;
+use pap_expr::{ExprFault, parse_constant};
+use pap_reader::{Elements, RawDeclared};
+use pap_tree::{Kind, Literal, Name};
+use plan_notes::{Element, Notes};
+use scaled_decimal::Dec;
+use std::alloc::{AllocError, Global};
+
+/// What the table is made of.
+#[derive(Drop)]
+pub(crate) struct Declarations<'a> {
+    pub elements: &'a Elements,
+    pub notes: &'a Notes,
+    /// The range file, where it is read.
+    pub limits: &'a Option<Limits>,
+    pub verdict: &'a Verdict,
+    /// What the refusal names.
+    pub site: &'a Site,
+}
+
+/// Appends the table: inputs, outputs, internals and constants.
+pub(crate) fn write_declarations(
+    page: &mut Page,
+    declarations: &Declarations<'_>,
+) -> Result<(), AllocError> {
+    page.own(
+        "<section id=\"declarations\"><h2>Declarations</h2>\n<div class=\"scroll\"><table><thead><tr><th scope=\"col\">Name<th scope=\"col\">Type<th scope=\"col\">Default or value<th scope=\"col\">Range<th scope=\"col\">Comment</tr></thead>\n",
+    )?;
+    let elements = declarations.elements;
+    write_group(
+        page,
+        declarations,
+        "Inputs",
+        Element::Input,
+        &elements.inputs,
+    )?;
+    write_group(
+        page,
+        declarations,
+        "Outputs",
+        Element::Output,
+        &elements.outputs,
+    )?;
+    write_group(
+        page,
+        declarations,
+        "Internals",
+        Element::Internal,
+        &elements.internals,
+    )?;
+    write_group(
+        page,
+        declarations,
+        "Constants",
+        Element::Constant,
+        &elements.constants,
+    )?;
+    page.own("</table></div></section>\n")
+}
+
+/// Appends the rows of a kind of names, under its title. A kind without names has none.
+fn write_group(
+    page: &mut Page,
+    declarations: &Declarations<'_>,
+    title: &str,
+    element: Element,
+    group: &[RawDeclared],
+) -> Result<(), AllocError> {
+    let count = group.len();
+    if count == 0 {
+        return Ok(());
+    }
+    let alloc = page.alloc;
+    page.own(&format!(in alloc;
+        "<tbody><tr><th class=\"g\" colspan=\"5\" scope=\"rowgroup\">{title} <span>{count}</span></tr>\n"
+    )?)?;
+    let mut walk = declarations.notes.walk();
+    for (i, declared) in group.iter().enumerate() {
+        let comments = walk.skip_to(element);
+        let range = range_of(alloc, declarations, element, i, &declared.name)?;
+        write_row(page, declarations.site, declared, &range, comments)?;
+    }
+    page.own("</tbody>\n")
+}
+
+/// The range of the name of a number among those of its kind.
+fn range_of(
+    alloc: Global,
+    declarations: &Declarations<'_>,
+    element: Element,
+    number: usize,
+    name: &Name,
+) -> Result<String, AllocError> {
+    match (element, declarations.limits, declarations.verdict) {
+        (Element::Input, Some(limits), _) => input_range(alloc, limits, name),
+        (Element::Output, _, Verdict::Accepted(plan)) => match plan.outputs().get(number) {
+            Some(output) => output_range(alloc, output),
+            None => Ok(String::new(alloc)),
+        },
+        _ => Ok(String::new(alloc)),
+    }
+}
+
+/// Appends the row of a name.
+fn write_row(
+    page: &mut Page,
+    site: &Site,
+    declared: &RawDeclared,
+    range: &str,
+    comments: &[String],
+) -> Result<(), AllocError> {
+    let alloc = page.alloc;
+    let name = declared.name;
+    let kind = kind_word(declared.kind);
+    let class = if *site == Site::Declared(name) {
+        " class=\"bad\""
+    } else {
+        ""
+    };
+    page.own(&format!(in alloc;
+        "<tr id=\"name-{name}\"{class}><th scope=\"row\">{name}<td>{kind}"
+    )?)?;
+    let text = match &declared.value {
+        Some(text) => text.as_slice(),
+        None => &[],
+    };
+    match literal_of(alloc, text)? {
+        Some(Literal::Table(items)) => write_items(page, &items, comments)?,
+        Some(literal) => {
+            let value = literal_text(alloc, &literal)?;
+            write_cells(page, value.as_bytes(), range, comments)?;
+        }
+        None => {
+            let value = plan_notes::one_line(alloc, text)?;
+            write_cells(page, value.as_bytes(), range, comments)?;
+        }
+    }
+    page.own("</tr>\n")
+}
+
+/// The literal of a text, where it is one.
+fn literal_of(alloc: Global, text: &[u8]) -> Result<Option<Literal>, AllocError> {
+    match parse_constant(alloc, text) {
+        Ok(literal) => Ok(Some(literal)),
+        Err(ExprFault::Memory) => Err(AllocError),
+        Err(_) => Ok(None),
+    }
+}
+
+/// Appends the cells of a value, a range and comments.
+fn write_cells(
+    page: &mut Page,
+    value: &[u8],
+    range: &str,
+    comments: &[String],
+) -> Result<(), AllocError> {
+    page.element("<td class=\"num\">", value, "<td class=\"num\">")?;
+    page.text(range.as_bytes())?;
+    page.own("<td>")?;
+    write_comments(page, comments)
+}
+
+/// Appends comments, with a space between two of them.
+pub(crate) fn write_comments(page: &mut Page, comments: &[String]) -> Result<(), AllocError> {
+    for (i, comment) in comments.iter().enumerate() {
+        if i > 0 {
+            page.own(" ")?;
+        }
+        page.text(comment.as_bytes())?;
+    }
+    Ok(())
+}
+
+/// Appends one cell for the values of a table, each with its index, below its comments.
+fn write_items(page: &mut Page, items: &[Dec], comments: &[String]) -> Result<(), AllocError> {
+    let alloc = page.alloc;
+    page.own("<td colspan=\"3\">")?;
+    write_comments(page, comments)?;
+    if !comments.is_empty() {
+        page.own("<br>")?;
+    }
+    page.own("<span class=\"tab\">")?;
+    for (i, item) in items.iter().enumerate() {
+        let space = if i > 0 { " " } else { "" };
+        page.own(&format!(in alloc; "{space}<span><i>{i}</i>{item}</span>")?)?;
+    }
+    page.own("</span>")
+}
+
+/// The number of a literal that is no table.
+fn literal_text(alloc: Global, literal: &Literal) -> Result<String, AllocError> {
+    match literal {
+        Literal::Int(number) => format!(in alloc; "{number}"),
+        Literal::Long(number) => format!(in alloc; "{number}"),
+        Literal::Point(number) | Literal::Big(number) => format!(in alloc; "{number}"),
+        Literal::Table(_) => Ok(String::new(alloc)),
+    }
+}
+
+fn kind_word(kind: Kind) -> &'static str {
+    match kind {
+        Kind::Int => "int",
+        Kind::Long => "long",
+        Kind::Big => "BigDecimal",
+        Kind::Factor => "double",
+        Kind::Table => "BigDecimal[]",
+    }
+}

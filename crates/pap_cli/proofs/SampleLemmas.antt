@@ -1,0 +1,191 @@
+-- What the call leaves that runs a sample, and the headline from what each status says.
+use Rattle.std.proofs.Common.{◌≡◌, ◌≢◌, ℕ, ◌+◌, ◌-◌, ◌≤◌, ◌<◌, Bool, true, false, List, [], ◌++◌, length, take, refl, sym, ap, ◌∙◌, subst, arith}
+use Rattle.std.specs.Prelude.{Option, Some, None, Result, Ok, Err}
+use Rattle.outside.specs.Causes.{Rose, Still}
+use Rattle.outside.specs.Told.{Appends, AppendsPrefix}
+use Rattle.outside.proofs.Laws.{Appends-nothing}
+use Rattle.plan_answers.specs.Answers.{Answer}
+use Rattle.script_run.specs.RunClauses.{IsFinished, IsSpentWithin as IsRunWithin}
+use Rattle.script_run.specs.Samples.{sample_lines, script_of}
+use Rattle.script_run.specs.SampleFiles.{sample_files}
+use Rattle.script_run.specs.Transcripts.{Session, IsTranscript}
+use Rattle.script_run.specs.declared.turns.Ended.{Ended}
+use Rattle.script_run.proofs.Laws.{some}
+use Rattle.pap_cli.specs.declared.status.Status.{Status}
+use Rattle.pap_cli.specs.declared.status.Status.TheVariants.{Done, Refused, BadWords, FileFault, ReadFault, WriteFault, NoMemory, ScriptLong}
+use Rattle.pap_cli.specs.declared.stop.Stop.{Stop}
+use Rattle.pap_cli.specs.declared.stop.Stop.TheVariants as stops
+use Rattle.pap_cli.specs.Statuses.{done_status, status_of, IsDone}
+use Rattle.pap_cli.specs.Outside.{Outside}
+use Rattle.pap_cli.specs.FileViews.{shown}
+use Rattle.pap_cli.specs.SampleAnswers.{IsSampled, summary_text}
+use Rattle.pap_cli.specs.SampleClauses.{IsSpentWithin, LeavesOnSample, HeadlineOnSample}
+
+-- ---- the answer
+
+-- the answer of a session
+abbrev answer_of : ℕ → Session → Answer
+answer_of employees session = record { text = summary_text employees session.standing; refused = session.refused; steps = session.steps }
+
+sampled : (employees : ℕ) (session : Session) → IsTranscript sample_files (script_of (sample_lines employees)) session → IsSampled employees (answer_of employees session)
+sampled employees session is = record { session = session; is = is; text = refl; refused = refl; cost = refl }
+
+-- what was counted where memory ran out
+pub spent_within : (employees began steps : ℕ) → IsRunWithin sample_files (script_of (sample_lines employees)) began steps → IsSpentWithin employees began steps
+spent_within employees began steps h = record { answer = answer_of employees h.session; is = sampled employees h.session h.is; within = h.within }
+
+-- ---- statuses of what was written whole
+
+no_write : (r : Bool) → done_status r ≢ WriteFault
+no_write true e = cc
+no_write false e = cc
+
+no_file : (r : Bool) → done_status r ≢ FileFault
+no_file true e = cc
+no_file false e = cc
+
+no_memory : (r : Bool) → done_status r ≢ NoMemory
+no_memory true e = cc
+no_memory false e = cc
+
+not_bad : (r : Bool) → done_status r ≢ BadWords
+not_bad true e = cc
+not_bad false e = cc
+
+not_read : (r : Bool) → done_status r ≢ ReadFault
+not_read true e = cc
+not_read false e = cc
+
+not_long : (r : Bool) → done_status r ≢ ScriptLong
+not_long true e = cc
+not_long false e = cc
+
+-- ---- a sample that was run to its end
+
+module _ (employees began steps : ℕ) (first written : Option (List ℕ)) (ended : Ended) (text : List ℕ) (is : IsFinished sample_files (script_of (sample_lines employees)) began steps ended) (text_is : text ≡ summary_text employees ended.script) where
+  whole_text : text ≡ summary_text employees (is.session).standing
+  whole_text = text_is ∙ ap (λ v. summary_text employees v) is.left
+
+  -- its summary was written whole
+  pub leaves_whole : Appends first written text → LeavesOnSample employees (shown None None first began) (shown None None written steps) (done_status ended.refused)
+  leaves_whole appended =
+      let cost : steps ≡ began + (is.session).steps = is.cost in
+      record {
+        out = text;
+        appended = appended;
+        counted = omega arith;
+        whole = λ done. record { answer = answer_of employees is.session; is = sampled employees is.session is.is; text = whole_text; cost = omega arith; ended = ap (λ r. done_status r) is.mark };
+        cut = λ e. absurd (no_write ended.refused e);
+        memory = λ e. absurd (no_memory ended.refused e);
+        memory_counted = λ e. absurd (no_memory ended.refused e);
+        words_are_good = not_bad ended.refused;
+        reads_no_file = no_file ended.refused;
+        reads_no_script = not_read ended.refused;
+        takes_no_script = not_long ended.refused;
+      }
+
+  -- the sink failed
+  pub leaves_cut : AppendsPrefix first written text → LeavesOnSample employees (shown None None first began) (shown None None written steps) WriteFault
+  leaves_cut part =
+      let cost : steps ≡ began + (is.session).steps = is.cost in
+      record {
+        out = take part.count text;
+        appended = part.appended;
+        counted = omega arith;
+        whole = λ done. absurd done;
+        cut = λ e. record { answer = answer_of employees is.session; is = sampled employees is.session is.is; count = part.count; within = subst (λ v. part.count < length v) whole_text part.within; text = ap (λ v. take part.count v) whole_text; cost = omega arith };
+        memory = λ e. cc;
+        memory_counted = λ e. cc;
+        words_are_good = λ e. cc;
+        reads_no_file = λ e. cc;
+        reads_no_script = λ e. cc;
+        takes_no_script = λ e. cc;
+      }
+
+-- memory ran out before anything was written
+pub leaves_memory : (employees began steps : ℕ) (first : Option (List ℕ)) → began ≤ steps → IsSpentWithin employees began steps →
+    LeavesOnSample employees (shown None None first began) (shown None None first steps) NoMemory
+leaves_memory employees began steps first later spent = record {
+  out = [];
+  appended = Appends-nothing first;
+  counted = later;
+  whole = λ done. absurd done;
+  cut = λ e. cc;
+  memory = λ e. refl;
+  memory_counted = λ e. spent;
+  words_are_good = λ e. cc;
+  reads_no_file = λ e. cc;
+  reads_no_script = λ e. cc;
+  takes_no_script = λ e. cc;
+}
+
+-- at a stop
+pub leaves_stop : (employees began steps : ℕ) (first : Option (List ℕ)) → IsRunWithin sample_files (script_of (sample_lines employees)) began steps → (r : Result Bool Stop) → r ≡ Err stops.Memory →
+    LeavesOnSample employees (shown None None first began) (shown None None first steps) (status_of r)
+leaves_stop employees began steps first h r is =
+    subst (λ x. LeavesOnSample employees (shown None None first began) (shown None None first steps) (status_of x)) (sym is)
+    (leaves_memory employees began steps first h.later (spent_within employees began steps h))
+
+-- memory ran out after the script was run
+pub leaves_unsaid : (employees began steps : ℕ) (first : Option (List ℕ)) (ended : Ended) → IsFinished sample_files (script_of (sample_lines employees)) began steps ended → (r : Result Bool Stop) → r ≡ Err stops.Memory →
+    LeavesOnSample employees (shown None None first began) (shown None None first steps) (status_of r)
+leaves_unsaid employees began steps first ended is r r_is =
+    let cost : steps ≡ began + (is.session).steps = is.cost in
+    leaves_stop employees began steps first (record { session = is.session; is = is.is; later = omega arith; within = omega arith }) r r_is
+
+-- ---- all that the outside shows
+
+pub leaves_sample : (employees : ℕ) (before after : Outside) (status : Status) →
+    LeavesOnSample employees (shown None None before.written before.steps) (shown None None after.written after.steps) status → LeavesOnSample employees before after status
+leaves_sample employees before after status h = record {
+  out = h.out;
+  appended = h.appended;
+  counted = h.counted;
+  whole = h.whole;
+  cut = h.cut;
+  memory = h.memory;
+  memory_counted = h.memory_counted;
+  words_are_good = h.words_are_good;
+  reads_no_file = h.reads_no_file;
+  reads_no_script = h.reads_no_script;
+  takes_no_script = h.takes_no_script;
+}
+
+-- memory ran out before anything was touched
+pub sample_none : (employees : ℕ) (o : Outside) → LeavesOnSample employees o o NoMemory
+sample_none employees o =
+    let has = some sample_files (script_of (sample_lines employees)) in
+    leaves_sample employees o o NoMemory
+    (leaves_memory employees o.steps o.steps o.written (omega arith) (record { answer = answer_of employees has.session; is = sampled employees has.session has.is; within = omega arith }))
+
+-- ---- the headline
+
+rose_and_still : (before now : ℕ) → Rose before now → Still before now → ⊥
+rose_and_still before now rose still = omega arith
+
+appended_told : (first written : Option (List ℕ)) (before out : List ℕ) → first ≡ Some before → Appends first written out → written ≡ Some (before ++ out)
+appended_told first None before out e a = absurd (subst (λ v. Appends v None out) e a)
+appended_told first (Some now) before out e a = ap (λ v. Some v) (subst (λ v. Appends v (Some now) out) e a)
+
+is_done : (status : Status) → status ≢ BadWords → status ≢ FileFault → status ≢ ReadFault → status ≢ WriteFault → status ≢ NoMemory → status ≢ ScriptLong → IsDone status
+is_done Done b f r w m l = tt
+is_done Refused b f r w m l = tt
+is_done BadWords b f r w m l = b refl
+is_done FileFault b f r w m l = f refl
+is_done ReadFault b f r w m l = r refl
+is_done WriteFault b f r w m l = w refl
+is_done NoMemory b f r w m l = m refl
+is_done ScriptLong b f r w m l = l refl
+
+pub headline_sample : (employees : ℕ) (before after : Outside) (status : Status) → LeavesOnSample employees before after status →
+    (status ≡ WriteFault → Rose before.sink_faults after.sink_faults) → HeadlineOnSample employees before after status
+headline_sample employees before after status h write written said memory still_sink =
+    let done = is_done status h.words_are_good h.reads_no_file h.reads_no_script (λ e. rose_and_still before.sink_faults after.sink_faults (write e) still_sink) memory h.takes_no_script in
+    let whole = h.whole done in
+    record {
+      answer = whole.answer;
+      is = whole.is;
+      text = appended_told before.written after.written written h.out said h.appended ∙ ap (λ v. Some (written ++ v)) whole.text;
+      cost = omega (arith, whole.cost, h.counted);
+      ended = whole.ended;
+    }

@@ -1,0 +1,258 @@
+-- What `save` leaves, and the headline from what each status says.
+use Rattle.std.proofs.Common.{◌≡◌, ◌≢◌, ℕ, ◌+◌, ◌-◌, ◌≤◌, Bool, true, false, List, [], ◌++◌, length, take, refl, sym, ap, ◌∙◌, subst, arith, inl, inr, length-append}
+use Rattle.std.specs.Prelude.{Option, Some, None, Result, Ok, Err, codes}
+use Rattle.std.specs.Option.{ForSome}
+use Rattle.outside.specs.Causes.{Rose, Still}
+use Rattle.outside.specs.Told.{FileMap, Appends, AppendsPrefix}
+use Rattle.outside.proofs.Laws.{Appends-nothing}
+use Rattle.plan_answers.specs.Answers.{Answer, refusal}
+use Rattle.plan_answers.specs.ReplyViews.{reply_of}
+use Rattle.plan_answers.specs.declared.reply.Reply.{Reply}
+use Rattle.script_run.specs.Limits.{most_script}
+use Rattle.script_run.specs.RunClauses.{Shown, RunMeets, EndsUnwritten}
+use Rattle.script_run.specs.Transcripts.{Session}
+use Rattle.script_run.specs.declared.turns.Unwritten.{Unwritten}
+use Rattle.script_run.specs.declared.stop.Stop.{Stop}
+use Rattle.script_run.specs.declared.stop.Stop.TheVariants as stops
+use Rattle.script_run.proofs.Laws.{one}
+use Rattle.pap_cli.specs.declared.status.Status.{Status}
+use Rattle.pap_cli.specs.declared.status.Status.TheVariants.{FileFault, ReadFault, WriteFault, NoMemory}
+use Rattle.pap_cli.specs.Statuses.{done_status, IsDone}
+use Rattle.pap_cli.specs.Outside.{Outside}
+use Rattle.pap_cli.specs.ScriptClauses.{script_status}
+use Rattle.recalc_engine.specs.Contents.{Contents}
+use Rattle.book_file.specs.Saving.{SaveSays}
+use Rattle.book_file.specs.declared.refusal.SaveRefusal.TheVariants as unsaved
+use Rattle.pap_cli.specs.SaveAnswers.{Written, IsBookWritten, IsSave, IsSaved, was_filed}
+use Rattle.pap_cli.specs.SaveClauses.{unwritten, IsSaveEnd, SaveEnds, LeavesOnSave, IsSavedWhole, HeadlineOnSave}
+use Rattle.pap_cli.specs.SaveViews.{seen, written_of}
+
+is_done_status : (r : Bool) → IsDone (done_status r)
+is_done_status true = tt
+is_done_status false = tt
+
+not_write : (r : Bool) → done_status r ≢ WriteFault
+not_write true e = cc
+not_write false e = cc
+
+-- ---- a script that was answered to its end
+
+-- the answer of its session
+abbrev save_of : (reply : Reply) → ℕ → Answer
+save_of reply steps = record { text = reply.text.items; refused = reply.refused; steps = steps }
+
+same_save : (ended : Unwritten) (session : Session) (reply : Reply) → ended.refused ≡ session.refused → (ended.refusals).items ≡ session.refusals → ended.script ≡ session.standing →
+    IsSave ended.refused (was_filed ended.script) (ended.refusals).items (ended.script).book (written_of reply) →
+    IsSave session.refused (was_filed session.standing) session.refusals (session.standing).book (written_of reply)
+same_save ended session reply p q r h =
+    subst (λ v. IsSave session.refused (was_filed v) session.refusals v.book (written_of reply)) r
+    (subst (λ v. IsSave session.refused (was_filed ended.script) v (ended.script).book (written_of reply)) q
+    (subst (λ v. IsSave v (was_filed ended.script) (ended.refusals).items (ended.script).book (written_of reply)) p h))
+
+-- what was counted of it
+pub record IsSavedWith (files : FileMap) (script : List ℕ) (reply : Reply) (spent : ℕ) : Type 0 where
+  pub answer : Answer
+  pub is : IsSaved files script answer
+  pub text : reply.text.items ≡ answer.text
+  pub refused : reply.refused ≡ answer.refused
+  pub cost : spent ≡ answer.steps
+
+pub saved_with : (before after : Outside) {script : List ℕ} (files : FileMap) (ended : Unwritten) (reply : Reply) →
+    RunMeets (unwritten before) (unwritten after) script after.left (Ok ended.refused) → EndsUnwritten files script ended → before.files ≡ Some files →
+    IsSave ended.refused (was_filed ended.script) (ended.refusals).items (ended.script).book (written_of reply) → IsSavedWith files script reply (after.steps - before.steps)
+saved_with before after {script = script} files ended reply meets ends told save =
+    let whole = meets.leaves.tells.whole files told in
+    let same = one files script whole.session ends.session whole.is ends.is in
+    let session = ends.session in
+    record {
+      answer = save_of reply session.steps;
+      is = record {
+        session = session;
+        is = ends.is;
+        there = whole.there;
+        save = same_save ended session reply ends.mark ends.refusals ends.left save;
+        cost = refl;
+      };
+      text = refl;
+      refused = refl;
+      cost = whole.cost ∙ ap (λ v. v.steps) same;
+    }
+
+module _ (before after : Outside) (ended : Unwritten) (reply : Reply)
+    (meets : ForSome before.left (λ script. RunMeets (unwritten before) (unwritten after) script after.left (Ok ended.refused)))
+    (ends : ForSome before.left (λ script. ForSome before.files (λ files. EndsUnwritten files script ended)))
+    (save : IsSave ended.refused (was_filed ended.script) (ended.refusals).items (ended.script).book (written_of reply))
+    (kept : after.failed ≡ before.failed) where
+  -- the answer was written whole
+  pub leaves_whole : Appends before.written after.written reply.text.items → LeavesOnSave before after (done_status reply.refused)
+  leaves_whole appended = record {
+    result = Ok ended.refused;
+    meets = meets;
+    out = reply.text.items;
+    appended = appended;
+    ends = record {
+      ended = inl (is_done_status reply.refused);
+      whole = λ done script left files told.
+          let with = saved_with before after files ended reply (meets script left) (ends script left files told) told save in
+          record { answer = with.answer; is = with.is; text = with.text; cost = with.cost; ended = ap (λ r. done_status r) with.refused };
+      cut = λ e. absurd (not_write reply.refused e);
+    };
+    kept = λ e. kept;
+  }
+
+  -- the sink failed
+  pub leaves_cut : AppendsPrefix before.written after.written reply.text.items → LeavesOnSave before after WriteFault
+  unfolding saved_with
+  leaves_cut part = record {
+    result = Ok ended.refused;
+    meets = meets;
+    out = take part.count reply.text.items;
+    appended = part.appended;
+    ends = record {
+      ended = inr refl;
+      whole = λ done. absurd done;
+      cut = λ e script left files told.
+          let with = saved_with before after files ended reply (meets script left) (ends script left files told) told save in
+          record { answer = with.answer; is = with.is; count = part.count; within = part.within; text = refl; cost = with.cost };
+    };
+    kept = λ e. kept;
+  }
+
+-- ---- the book
+
+-- no answer is a refusal, and no month was filed: this is written of the book
+pub saved_book : (ended : Unwritten) (written : Written) → ended.refused ≡ false → was_filed ended.script ≡ false → IsBookWritten (ended.script).book written →
+    IsSave ended.refused (was_filed ended.script) (ended.refusals).items (ended.script).book written
+saved_book ended written p q h =
+    subst (λ r. IsSave r (was_filed ended.script) (ended.refusals).items (ended.script).book written) (sym p)
+    (subst (λ f. IsSave false f (ended.refusals).items (ended.script).book written) (sym q) h)
+
+-- its text is too long
+pub long_book : (ended : Unwritten) (book : Contents) (reply : Reply) → ended.refused ≡ false → was_filed ended.script ≡ false → book ≡ (ended.script).book → SaveSays book (Err unsaved.Long) →
+    reply_of reply ≡ refusal (codes "book Long") → IsSave ended.refused (was_filed ended.script) (ended.refusals).items (ended.script).book (written_of reply)
+long_book ended book reply p q b says is =
+    saved_book ended (written_of reply) p q (record {
+      verdict = Err unsaved.Long;
+      says = subst (λ v. SaveSays v (Err unsaved.Long)) b says;
+      is = ap (λ a. record { text = a.text; refused = a.refused }) is;
+    })
+
+-- ---- a stop before the end
+
+no_more : {before after : Shown} {script : List ℕ} {left : Option (List ℕ)} {refused : Bool} → RunMeets before after script left (Ok refused) → RunMeets before after script left (Err stops.Memory)
+no_more {refused = refused} meets = record {
+  taken = meets.taken;
+  rest = meets.rest;
+  split = meets.split;
+  left_rest = meets.left_rest;
+  within = λ e. meets.within (λ k. cc);
+  leaves = record {
+    out = meets.leaves.out;
+    appended = meets.leaves.appended;
+    counted = meets.leaves.counted;
+    front = meets.leaves.front;
+    tells = tt;
+  };
+}
+
+pub leaves_stop : (before after : Outside) (stop : Stop) → ForSome before.left (λ script. RunMeets (unwritten before) (unwritten after) script after.left (Err stop)) →
+    after.written ≡ before.written → (stop ≢ stops.File → after.failed ≡ before.failed) → stop ≢ stops.Write → LeavesOnSave before after (script_status (Err stop))
+leaves_stop before after stop meets same kept no_write = record {
+  result = Err stop;
+  meets = meets;
+  out = [];
+  appended = subst (λ w. Appends before.written w []) (sym same) (Appends-nothing before.written);
+  ends = record { nothing = refl; ended = refl; not_at_sink = no_write };
+  kept = λ e. kept (λ s. e (ap (λ v. script_status (Err v)) s));
+}
+
+-- memory ran out after the script was answered
+pub leaves_unsaid : (before after : Outside) (refused : Bool) → ForSome before.left (λ script. RunMeets (unwritten before) (unwritten after) script after.left (Ok refused)) →
+    after.written ≡ before.written → after.failed ≡ before.failed → LeavesOnSave before after (script_status (Err stops.Memory))
+leaves_unsaid before after refused meets same kept =
+    leaves_stop before after stops.Memory (λ script left. no_more (meets script left)) same (λ e. kept) (λ e. cc)
+
+-- memory ran out before anything was touched
+pub save_none : (o : Outside) → LeavesOnSave o o NoMemory
+save_none o =
+    record {
+      result = Err stops.Memory;
+      meets = λ script left. record {
+        taken = [];
+        rest = script;
+        split = refl;
+        left_rest = left;
+        within = λ e. omega arith;
+        leaves = record {
+          out = [];
+          appended = Appends-nothing None;
+          counted = omega arith;
+          front = λ files t session of. record { later = session.text; text = refl; cost = omega arith };
+          tells = tt;
+        };
+      };
+      out = [];
+      appended = Appends-nothing o.written;
+      ends = record { nothing = refl; ended = refl; not_at_sink = λ e. cc };
+      kept = λ e. refl;
+    }
+
+-- ---- the headline
+
+rose_and_still : (before now : ℕ) → Rose before now → Still before now → ⊥
+rose_and_still before now rose still = omega arith
+
+appended_told : (first written : Option (List ℕ)) (before out : List ℕ) → first ≡ Some before → Appends first written out → written ≡ Some (before ++ out)
+appended_told first None before out e a = absurd (subst (λ v. Appends v None out) e a)
+appended_told first (Some now) before out e a = ap (λ v. Some v) (subst (λ v. Appends v (Some now) out) e a)
+
+not_long : (before after : Outside) (script : List ℕ) → RunMeets (unwritten before) (unwritten after) script after.left (Err stops.Long) → length script ≤ most_script → ⊥
+not_long before after script meets short = omega (arith, meets.leaves.tells.past, ap (λ v. length v) meets.split, length-append meets.taken meets.rest)
+
+-- the script was answered to its end
+at_end : (before after : Outside) (script written : List ℕ) (files : FileMap) (out : List ℕ) (status : Status) (refused : Bool) → RunMeets (unwritten before) (unwritten after) script after.left (Ok refused) →
+    IsSaveEnd before after out status → Appends before.written after.written out → (status ≡ WriteFault → ⊥) →
+    before.files ≡ Some files → before.left ≡ Some script → before.written ≡ Some written → IsSavedWhole files script written before after status
+at_end before after script written files out status refused meets end appended no_fault told left said =
+    let whole = end.whole (elim (end.ended) [
+      | inl done ↦ done
+      | inr fault ↦ absurd (no_fault fault)
+    ]) script left files told in
+    record {
+      answer = whole.answer;
+      is = whole.is;
+      text = appended_told before.written after.written written out said appended ∙ ap (λ v. Some (written ++ v)) whole.text;
+      end = meets.left_rest ∙ ap (λ v. Some v) meets.leaves.tells.read;
+      cost = omega (arith, whole.cost, meets.leaves.counted);
+      ended = whole.ended;
+    }
+
+headline_by : (before after : Outside) (script written : List ℕ) (files : FileMap) (out : List ℕ) (status : Status) (r : Result Bool Stop) → RunMeets (unwritten before) (unwritten after) script after.left r →
+    SaveEnds before after out status r → Appends before.written after.written out →
+    (status ≡ FileFault → ⊥) → (status ≡ ReadFault → ⊥) → (status ≡ WriteFault → ⊥) → (status ≡ NoMemory → ⊥) → length script ≤ most_script →
+    before.files ≡ Some files → before.left ≡ Some script → before.written ≡ Some written → IsSavedWhole files script written before after status
+headline_by before after script written files out status (Ok refused) meets ends appended file read write memory short told left said = at_end before after script written files out status refused meets ends appended write told left said
+headline_by before after script written files out status (Err stops.File) meets ends appended file read write memory short told left said = absurd (file ends.ended)
+headline_by before after script written files out status (Err stops.Read) meets ends appended file read write memory short told left said = absurd (read ends.ended)
+headline_by before after script written files out status (Err stops.Write) meets ends appended file read write memory short told left said = absurd (write ends.ended)
+headline_by before after script written files out status (Err stops.Memory) meets ends appended file read write memory short told left said = absurd (memory ends.ended)
+headline_by before after script written files out status (Err stops.Long) meets ends appended file read write memory short told left said = absurd (not_long before after script meets short)
+
+pub headline_save : (before after : Outside) (status : Status) → LeavesOnSave before after status →
+    (status ≡ FileFault → Rose before.file_faults after.file_faults) → (status ≡ ReadFault → Rose before.source_faults after.source_faults) →
+    (status ≡ WriteFault → Rose before.sink_faults after.sink_faults) → HeadlineOnSave before after status
+headline_save before after status leaves file read write files told script left written said short memory still_f still_r still_w =
+    headline_by before after script written files leaves.out status leaves.result (leaves.meets script left) leaves.ends leaves.appended
+    (λ e. rose_and_still before.file_faults after.file_faults (file e) still_f) (λ e. rose_and_still before.source_faults after.source_faults (read e) still_r)
+    (λ e. rose_and_still before.sink_faults after.sink_faults (write e) still_w) memory short told left said
+
+-- ---- all that the outside shows
+
+same_ends : (before after : Outside) (out : List ℕ) (status : Status) (r : Result Bool Stop) →
+    SaveEnds (seen before.files before.failed before.left before.written before.steps) (seen after.files after.failed after.left after.written after.steps) out status r → SaveEnds before after out status r
+same_ends before after out status (Ok refused) ends = record { ended = ends.ended; whole = ends.whole; cut = ends.cut }
+same_ends before after out status (Err stop) ends = ends
+
+pub leaves_save : (before after : Outside) (status : Status) →
+    LeavesOnSave (seen before.files before.failed before.left before.written before.steps) (seen after.files after.failed after.left after.written after.steps) status → LeavesOnSave before after status
+leaves_save before after status h = record { result = h.result; meets = h.meets; out = h.out; appended = h.appended; ends = same_ends before after h.out status h.result h.ends; kept = h.kept }

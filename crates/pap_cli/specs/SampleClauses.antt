@@ -1,0 +1,47 @@
+-- What `sample N` leaves, by its status (docs/DEFINITIONS.md).
+use Rattle.std.specs.Prelude.{◌≡◌, ◌≢◌, ℕ, ◌+◌, ◌-◌, ◌≤◌, List, [], ◌++◌, Some}
+use Rattle.std.specs.Option.{ForSome}
+use Rattle.outside.specs.Causes.{Still}
+use Rattle.outside.specs.Told.{Appends}
+use Rattle.plan_answers.specs.Answers.{Answer}
+use Rattle.pap_cli.specs.declared.status.Status.{Status}
+use Rattle.pap_cli.specs.declared.status.Status.TheVariants as statuses
+use Rattle.pap_cli.specs.Statuses.{done_status, IsDone}
+use Rattle.pap_cli.specs.Outside.{Outside}
+use Rattle.pap_cli.specs.FileClauses.{IsWhole, IsCutShort}
+use Rattle.pap_cli.specs.SampleAnswers.{IsSampled}
+
+-- where memory ran out, at most the steps of the sample were counted
+pub record IsSpentWithin (employees began steps : ℕ) : Type 0 where
+  pub answer : Answer
+  pub is : IsSampled employees answer
+  pub within : steps ≤ began + answer.steps
+
+-- what the call leaves; nothing but the sink and the counter is touched
+pub record LeavesOnSample (employees : ℕ) (before after : Outside) (status : Status) : Type 0 where
+  pub out : List ℕ
+  pub appended : Appends before.written after.written out
+  pub counted : before.steps ≤ after.steps
+  pub whole : IsDone status → IsWhole (IsSampled employees) out (after.steps - before.steps) status
+  pub cut : status ≡ statuses.WriteFault → IsCutShort (IsSampled employees) out (after.steps - before.steps)
+  pub memory : status ≡ statuses.NoMemory → out ≡ []
+  pub memory_counted : status ≡ statuses.NoMemory → IsSpentWithin employees before.steps after.steps
+  pub words_are_good : status ≢ statuses.BadWords
+  pub reads_no_file : status ≢ statuses.FileFault
+  pub reads_no_script : status ≢ statuses.ReadFault
+  pub takes_no_script : status ≢ statuses.ScriptLong
+
+-- the answer was written whole, the counter rose by its steps, and the status says whether the sample had a refusal
+pub record IsSampledWhole (employees : ℕ) (written : List ℕ) (before after : Outside) (status : Status) : Type 0 where
+  pub answer : Answer
+  pub is : IsSampled employees answer
+  pub text : after.written ≡ Some (written ++ answer.text)
+  pub cost : after.steps ≡ before.steps + answer.steps
+  pub ended : status ≡ done_status answer.refused
+
+-- the headline: where the sink tells what it holds, while memory is there and no call of it fails
+abbrev pub HeadlineOnSample : ℕ → Outside → Outside → Status → Type 0
+HeadlineOnSample employees before after status =
+    ForSome before.written (λ written.
+    status ≢ statuses.NoMemory → Still before.sink_faults after.sink_faults →
+    IsSampledWhole employees written before after status)

@@ -1,0 +1,71 @@
+-- What `save` leaves, by its status (docs/DEFINITIONS.md).
+use Rattle.std.specs.Prelude.{◌≡◌, ◌≢◌, ◌⊎◌, ℕ, ◌+◌, ◌-◌, ◌≤◌, Bool, List, [], ◌++◌, length, Some, None, Result, Ok, Err}
+use Rattle.std.specs.Option.{ForSome}
+use Rattle.outside.specs.Causes.{Still}
+use Rattle.outside.specs.Told.{FileMap, Appends}
+use Rattle.plan_answers.specs.Answers.{Answer}
+use Rattle.script_run.specs.Limits.{most_script}
+use Rattle.script_run.specs.RunClauses.{Shown, shown, RunMeets}
+use Rattle.script_run.specs.declared.stop.Stop.{Stop}
+use Rattle.script_run.specs.declared.stop.Stop.TheVariants as stops
+use Rattle.pap_cli.specs.declared.status.Status.{Status}
+use Rattle.pap_cli.specs.declared.status.Status.TheVariants as statuses
+use Rattle.pap_cli.specs.Statuses.{done_status, IsDone}
+use Rattle.pap_cli.specs.Outside.{Outside}
+use Rattle.pap_cli.specs.FileClauses.{IsWhole, IsCutShort}
+use Rattle.pap_cli.specs.SaveAnswers.{IsSaved}
+use Rattle.pap_cli.specs.ScriptClauses.{script_status}
+
+-- what is shown of a run that writes nothing: the files and the counter
+abbrev pub unwritten : Outside → Shown
+unwritten o = shown o.files o.failed None o.steps
+
+-- the script was answered to its end: the answer was written whole, or a front of it where the sink failed
+pub record IsSaveEnd (before after : Outside) (out : List ℕ) (status : Status) : Type 0 where
+  pub ended : IsDone status ⊎ (status ≡ statuses.WriteFault)
+  pub whole : IsDone status → ForSome before.left (λ script. ForSome before.files (λ files.
+      IsWhole (IsSaved files script) out (after.steps - before.steps) status))
+  pub cut : status ≡ statuses.WriteFault → ForSome before.left (λ script. ForSome before.files (λ files.
+      IsCutShort (IsSaved files script) out (after.steps - before.steps)))
+
+-- the script's run stopped, never at the sink: nothing was written
+pub record IsSaveStop (out : List ℕ) (status : Status) (stop : Stop) : Type 0 where
+  pub nothing : out ≡ []
+  pub ended : status ≡ script_status (Err stop)
+  pub not_at_sink : stop ≢ stops.Write
+
+abbrev pub SaveEnds : Outside → Outside → List ℕ → Status → Result Bool Stop → Type 0
+SaveEnds before after out status (Ok refused) = IsSaveEnd before after out status
+SaveEnds before after out status (Err stop) = IsSaveStop out status stop
+
+-- what the call leaves: how the script's run ended, which wrote nothing, and what was written then
+pub record LeavesOnSave (before after : Outside) (status : Status) : Type 0 where
+  pub result : Result Bool Stop
+  pub meets : ForSome before.left (λ script.
+      RunMeets (unwritten before) (unwritten after) script after.left result)
+  pub out : List ℕ
+  pub appended : Appends before.written after.written out
+  pub ends : SaveEnds before after out status result
+  pub kept : status ≢ statuses.FileFault → after.failed ≡ before.failed
+
+-- all files that the script names are there, the answer was written whole, the source is at its end, the counter rose by the
+-- steps of the script's lines, and the status says whether the answer is a refusal
+pub record IsSavedWhole
+    (files : FileMap) (script written : List ℕ) (before after : Outside)
+    (status : Status) : Type 0 where
+  pub answer : Answer
+  pub is : IsSaved files script answer
+  pub text : after.written ≡ Some (written ++ answer.text)
+  pub end : after.left ≡ Some []
+  pub cost : after.steps ≡ before.steps + answer.steps
+  pub ended : status ≡ done_status answer.refused
+
+-- the headline: where the files, the source and the sink tell what they hold, while memory is there, no call of them fails and
+-- the script has at most 67,108,864 bytes
+abbrev pub HeadlineOnSave : Outside → Outside → Status → Type 0
+HeadlineOnSave before after status =
+    ForSome before.files (λ files. ForSome before.left (λ script. ForSome before.written (λ written.
+    length script ≤ most_script → status ≢ statuses.NoMemory
+    → Still before.file_faults after.file_faults → Still before.source_faults after.source_faults
+    → Still before.sink_faults after.sink_faults
+    → IsSavedWhole files script written before after status)))

@@ -1,0 +1,134 @@
+//! The answer of `sample`: what came of a generated script.
+ghost use Rattle.std.specs.Prelude.{◌≡◌, ◌≤◌, length, codes, IfOk, None, string_bytes};
+ghost use Rattle.recalc_engine.specs.MonthRows.{month_rows};
+ghost use Rattle.outside.specs.Causes.{Caused};
+ghost use Rattle.carry_bindings.specs.Carrying.{named};
+ghost use Rattle.recalc_engine.specs.RowViews.{lent_row};
+ghost use Rattle.script_run.specs.Limits.{most_employees};
+ghost use Rattle.pap_cli.specs.FileViews.{shown};
+ghost use Rattle.pap_cli.specs.SampleAnswers.{book_lines, work_lines};
+ghost use Rattle.pap_cli.specs.SampleAnswers.{summary_text, tax_of, tax_sum};
+ghost use Rattle.pap_cli.specs.SampleClauses.{LeavesOnSample};
+ghost use Rattle.pap_cli.specs.SampleViews.{add_if, TaxFits};
+ghost use Rattle.pap_cli.specs.Statuses.{status_of};
+
+use crate::stop::Stop;
+use outside::{Sink, put_all};
+use payroll_records::NamedValue;
+use recalc_engine::{Book, MonthRow, State, Work};
+use scaled_decimal::Dec;
+use script_run::{run_sample, sample_line_count};
+use script_steps::Script;
+use std::alloc::{AllocError, Global};
+use std::sync::ledger::Ledger;
+use steps::Steps;
+
+/// Runs the script of a sample in memory, and writes what came of it. `Ok` says whether an answer of the script was a refusal.
+pub(crate) fn sample<W: Sink, L: Ledger>(
+    alloc: Global,
+    employees: u32,
+    sink: &mut W,
+    steps: &mut Steps<L>,
+) -> Result<bool, Stop>
+    requires { employees ≤ most_employees }
+    ensures leaves { LeavesOnSample employees
+        (shown None None (W.written sink.old) steps.old)
+        (shown None None (W.written sink.new) steps.new)
+        (status_of result) }
+    ensures write { Caused Stop.Write (W.faults sink.old) (W.faults sink.new) result }
+{
+    let ended = run_sample(alloc, employees, steps)?;
+    let text = summary(alloc, employees, &ended.script)?;
+    match put_all(sink, text.as_bytes()) {
+        Ok(()) => Ok(ended.refused),
+        Err(_) => Err(Stop::Write),
+    }
+}
+
+/// What came of the script of a sample, in five lines.
+fn summary(alloc: Global, employees: u32, script: &Script) -> Result<String, AllocError>
+    requires { employees ≤ most_employees }
+    ensures { IfOk result (λ text. string_bytes text ≡ summary_text employees script.now) }
+{
+    let counts = book_lines(alloc, employees, script.book())?;
+    let work = work_lines(alloc, script.made())?;
+    let tax = tax_sum(script.book());
+    Ok(format!(in alloc; "{counts}{work}LST {tax}\n")?)
+}
+
+/// How many lines the script has, and how many runs the book.
+fn book_lines(alloc: Global, employees: u32, book: &Book) -> Result<String, AllocError>
+    requires { employees ≤ most_employees }
+    ensures { IfOk result (λ text. string_bytes text ≡ book_lines employees book.now) }
+{
+    let lines = sample_line_count(employees);
+    let records = run_count(book);
+    Ok(format!(in alloc; "lines {lines}\nrecords {records}\n")?)
+}
+
+/// What all edits had to run.
+fn work_lines(alloc: Global, made: Work) -> Result<String, AllocError>
+    ensures { IfOk result (λ text. string_bytes text ≡ work_lines made) }
+{
+    let (runs, steps) = (made.runs, made.steps);
+    Ok(format!(in alloc; "runs {runs}\nsteps {steps}\n")?)
+}
+
+/// The number of a book's runs.
+fn run_count(book: &Book) -> u32
+    ensures { result ≡ length (month_rows book.now) }
+{
+    book.is_whole();
+    let mut count = 0;
+    for run in book.months() {
+        let _ = &run;
+        count += 1;
+    }
+    count
+}
+
+/// The LST of all runs of a book, added up.
+fn tax_sum(book: &Book) -> Dec
+    ensures { result ≡ tax_sum book.now }
+{
+    book.is_whole();
+    book.has_whole_rows();
+    let mut total = Dec::new(0, 0);
+    for row in book.months() {
+        total = with_tax(total, &row);
+    }
+    total
+}
+
+/// A sum with the LST of one more run, where it has one.
+fn with_tax(total: Dec, row: &MonthRow) -> Dec
+    requires { TaxFits total (lent_row row.now) }
+    ensures { result ≡ add_if total (tax_of (lent_row row.now)) }
+{
+    match tax_of(row) {
+        Some(tax) => total.add(tax),
+        None => total,
+    }
+}
+
+/// The LST of a run, where it has one.
+fn tax_of(row: &MonthRow) -> Option<Dec>
+    ensures { result ≡ tax_of (lent_row row.now) }
+{
+    match row.state {
+        State::Done(outputs) => tax_in(outputs.as_slice()),
+        State::NoPlan | State::Blocked(_) => None,
+    }
+}
+
+/// The LST among a run's outputs.
+fn tax_in(outputs: &[NamedValue]) -> Option<Dec>
+    ensures { result ≡ named (codes "LST") outputs.now }
+{
+    for output in outputs {
+        if output.name.as_str() == "LST" {
+            return Some(output.value);
+        }
+    }
+    None
+}

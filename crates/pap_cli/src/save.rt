@@ -1,0 +1,78 @@
+//! The answer of `save`: the last book of a script as a text.
+ghost use Rattle.std.specs.Prelude.{◌≡◌, ◌≢◌, IfOk, Err};
+ghost use Rattle.outside.specs.Causes.{Caused};
+ghost use Rattle.pap_cli.specs.Laws.{ScriptsHaveOneSave};
+ghost use Rattle.pap_cli.specs.SaveAnswers.{IsSave, was_filed};
+ghost use Rattle.pap_cli.specs.SaveClauses.{LeavesOnSave};
+ghost use Rattle.pap_cli.specs.SaveViews.{seen, written_of};
+ghost use Rattle.pap_cli.specs.ScriptClauses.{script_status};
+
+use book_file::{SaveRefusal, saving_laws, write_book};
+use outside::{Files, Sink, Source, put_all};
+use plan_answers::{Reply, refusal};
+use script_run::{Stop, Unwritten, run_unwritten};
+use std::alloc::{AllocError, Global};
+use std::sync::ledger::Ledger;
+use steps::Steps;
+
+/// Runs the script that the source gives, writes none of its answers, and then writes the text of the last book, or why there
+/// is none. `Ok` says whether that is a refusal.
+pub(crate) fn save<F: Files, R: Source, W: Sink, L: Ledger>(
+    alloc: Global,
+    files: &mut F,
+    source: &mut R,
+    sink: &mut W,
+    steps: &mut Steps<L>,
+) -> Result<bool, Stop>
+    ensures leaves { LeavesOnSave
+        (seen (F.told files.old) (F.failed files.old) (R.left source.old)
+        (W.written sink.old) steps.old)
+        (seen (F.told files.new) (F.failed files.new) (R.left source.new)
+        (W.written sink.new) steps.new)
+        (script_status result) }
+    ensures same { F.told files.new ≡ F.told files.old }
+    ensures file { Caused Stop.File (F.faults files.old) (F.faults files.new) result }
+    ensures read { Caused Stop.Read (R.faults source.old) (R.faults source.new) result }
+    ensures write { Caused Stop.Write (W.faults sink.old) (W.faults sink.new) result }
+{
+    let ended = run_unwritten(alloc, files, source, steps)?;
+    let reply = saved(alloc, ended)?;
+    match put_all(sink, &reply.text) {
+        Ok(()) => Ok(reply.refused),
+        Err(_) => Err(Stop::Write),
+    }
+}
+
+/// What is written of a script that was answered to its end: its refusals alone, where it has some; that a month was filed; or the
+/// text of the last book.
+fn saved(alloc: Global, ended: Unwritten) -> Result<Reply, AllocError>
+    ensures { IfOk result (λ reply. IsSave ended.refused (was_filed ended.script)
+        ended.refusals.items ended.script.book (written_of reply)) }
+{
+    if ended.refused {
+        return Ok(Reply {
+            text: ended.refusals,
+            refused: true,
+            steps: 0,
+        });
+    }
+    if ended.script.ledger().last().is_some() {
+        return refusal(alloc, b"book Filed");
+    }
+    match write_book(alloc, ended.script.book()) {
+        Ok(text) => Ok(Reply {
+            text,
+            refused: false,
+            steps: 0,
+        }),
+        Err(SaveRefusal::Long) => refusal(alloc, b"book Long"),
+        Err(SaveRefusal::Memory(error)) => Err(error),
+    }
+}
+
+/// A script whose lines name files that are there has one answer of `save`.
+pub fn save_laws()
+    ensures { ScriptsHaveOneSave }
+{
+    saving_laws();
+}

@@ -1,0 +1,49 @@
+-- The two files of a sample: its flowchart and the ranges of its inputs.
+use Rattle.std.specs.Prelude.{ℕ, List, [], ◌∷◌, codes}
+use Rattle.outside.specs.Told.{FileMap}
+use Rattle.outside.specs.Memory.{file_named}
+use Rattle.script_run.specs.Samples.{script_of}
+
+-- the tax is 14 % of the pay above 100,000, and KUM the tax of the year so far
+abbrev pub plan_text : List ℕ
+plan_text = script_of (
+    codes "<PAP><INTERFACE>"
+    ∷ codes "<INPUTS><INPUT name=\"RE4\" type=\"BigDecimal\"/><INPUT name=\"SUMV\" type=\"BigDecimal\"/></INPUTS>"
+    ∷ codes "<OUTPUTS type=\"STANDARD\"><OUTPUT name=\"LST\" type=\"BigDecimal\"/><OUTPUT name=\"KUM\" type=\"BigDecimal\"/></OUTPUTS>"
+    ∷ codes "</INTERFACE>"
+    ∷ codes "<INTERNALS><INTERNAL name=\"X\" type=\"BigDecimal\"/></INTERNALS>"
+    ∷ codes "<CONSTANTS>"
+    ∷ codes "<CONSTANT name=\"FREI\" type=\"BigDecimal\" value=\"BigDecimal.valueOf(100000)\"/>"
+    ∷ codes "<CONSTANT name=\"SATZ\" type=\"BigDecimal\" value=\"BigDecimal.valueOf(0.14)\"/>"
+    ∷ codes "</CONSTANTS>"
+    ∷ codes "<METHODS><MAIN>"
+    ∷ codes "<EXECUTE method=\"TARIF\"/><EVAL exec=\"KUM= SUMV.add(LST)\"/>"
+    ∷ codes "</MAIN><METHOD name=\"TARIF\">"
+    ∷ codes "<EVAL exec=\"X= RE4.subtract(FREI)\"/>"
+    ∷ codes "<IF expr=\"X.compareTo(BigDecimal.ZERO) == -1\"><THEN><EVAL exec=\"X= BigDecimal.ZERO\"/></THEN></IF>"
+    ∷ codes "<EVAL exec=\"LST= X.multiply(SATZ).setScale(0, BigDecimal.ROUND_DOWN)\"/>"
+    ∷ codes "</METHOD></METHODS></PAP>"
+    ∷ [])
+
+-- the pay is at most 10,000,000,000; SUMV is the sum of the year's earlier LST
+abbrev pub limits_text : List ℕ
+limits_text = script_of (
+    codes "[input.RE4]"
+    ∷ codes "low = 0"
+    ∷ codes "high = \"10000000000\""
+    ∷ codes "places = 0"
+    ∷ codes "[input.SUMV]"
+    ∷ codes "low = 0"
+    ∷ codes "high = 100000000"
+    ∷ codes "places = 0"
+    ∷ codes "[bind.SUMV]"
+    ∷ codes "kind = \"sum\""
+    ∷ codes "output = \"LST\""
+    ∷ [])
+
+-- their names and texts
+abbrev pub named_texts : List (List ℕ × List ℕ)
+named_texts = (codes "p2.xml", plan_text) ∷ (codes "l2.toml", limits_text) ∷ []
+
+abbrev pub sample_files : FileMap
+sample_files = file_named named_texts

@@ -1,0 +1,84 @@
+//! A line's answer, written or kept.
+ghost use Rattle.std.specs.Prelude.{◌≡◌, ◌≢◌, ◌++◌, [], if◌then◌else◌, is_some, None, Some, IfOk, OnOk, Err};
+ghost use Rattle.std.specs.Result.{ForErr};
+ghost use Rattle.outside.specs.Causes.{Caused};
+ghost use Rattle.script_steps.specs.StepClauses.{IsBroken};
+ghost use Rattle.script_run.specs.RunClauses.{told_by};
+ghost use Rattle.script_run.specs.RunViews.{IsDelivered};
+
+use crate::buffer::Buffer;
+use outside::{Files, Sink};
+use script_steps::{LineStop, Script, answer_line};
+use std::alloc::{AllocError, Global};
+use std::sync::ledger::Ledger;
+use steps::Steps;
+
+/// Answers a line. Its answer is written; but where refusals are kept, it is put to them where it is one, and not written.
+pub(crate) fn deliver<F: Files, W: Sink, L: Ledger>(
+    alloc: Global,
+    kept: &mut Option<Vec<u8>>,
+    script: &mut Script,
+    line: &[u8],
+    files: &mut F,
+    sink: &mut W,
+    steps: &mut Steps<L>,
+) -> Result<bool, LineStop>
+    ensures delivered { IfOk result (λ refused. IsDelivered (F.told files.old)
+        (told_by kept.old (W.written sink.old)) (told_by kept.new (W.written sink.new))
+        steps.old steps.new script.old script.new kept.old kept.new line.now refused) }
+    ensures broken { ForErr result (λ stop. IsBroken (F.told files.old)
+        (told_by kept.old (W.written sink.old)) (told_by kept.new (W.written sink.new))
+        steps.old steps.new script.old line.now (F.failed files.new) stop) }
+    ensures mode { is_some kept.new ≡ is_some kept.old }
+    ensures same { F.told files.new ≡ F.told files.old }
+    ensures file { Caused LineStop.File (F.faults files.old) (F.faults files.new) result }
+    ensures write { Caused LineStop.Write (W.faults sink.old) (W.faults sink.new) result }
+    ensures kept { result ≢ Err LineStop.File → F.failed files.new ≡ F.failed files.old }
+{
+    match kept {
+        None => answer_line(alloc, script, line, files, sink, steps),
+        Some(refusals) => keep_answer(alloc, refusals, script, line, files, steps),
+    }
+}
+
+/// Answers a line, and puts its answer to the refusals where it is one.
+fn keep_answer<F: Files, L: Ledger>(
+    alloc: Global,
+    refusals: &mut Vec<u8>,
+    script: &mut Script,
+    line: &[u8],
+    files: &mut F,
+    steps: &mut Steps<L>,
+) -> Result<bool, LineStop>
+    ensures delivered { IfOk result (λ refused. IsDelivered (F.told files.old) None None
+        steps.old steps.new script.old script.new (Some refusals.old) (Some refusals.new)
+        line.now refused) }
+    ensures broken { ForErr result (λ stop. IsBroken (F.told files.old) None None
+        steps.old steps.new script.old line.now (F.failed files.new) stop) }
+    ensures same { F.told files.new ≡ F.told files.old }
+    ensures file { Caused LineStop.File (F.faults files.old) (F.faults files.new) result }
+    ensures never { result ≢ Err LineStop.Write }
+    ensures kept { result ≢ Err LineStop.File → F.failed files.new ≡ F.failed files.old }
+{
+    let mut buffer = Buffer::new(alloc);
+    match answer_line(alloc, script, line, files, &mut buffer, steps) {
+        Ok(refused) => {
+            put_refusal(refusals, refused, buffer.bytes())?;
+            Ok(refused)
+        }
+        Err(LineStop::File) => Err(LineStop::File),
+        Err(LineStop::Write) => Err(LineStop::Memory),
+        Err(LineStop::Memory) => Err(LineStop::Memory),
+    }
+}
+
+/// Puts an answer to the refusals where it is one.
+fn put_refusal(refusals: &mut Vec<u8>, refused: bool, answer: &[u8]) -> Result<(), AllocError>
+    ensures { OnOk result (refusals.new.items
+        ≡ refusals.old.items ++ (if refused then answer.now else [])) }
+{
+    if refused {
+        refusals.extend_from_slice(answer)?;
+    }
+    Ok(())
+}

@@ -1,0 +1,49 @@
+use Rattle.std.proofs.Common.{◌∙◌, refl, sym, ap, subst}
+use Rattle.std.specs.Prelude.{Ok, Err}
+use Rattle.std.proofs.lemmas.Result.{err_from_is_err_and}
+use Rattle.outside.specs.Told.{IsToldFront}
+use Rattle.script_lang.specs.Commands as asked
+use Rattle.plan_answers.specs.ReplyViews.{reply_of}
+use Rattle.script_steps.specs.OpenSteps.{IsOpenStep}
+use Rattle.script_steps.specs.StepViews.{ToldDoes}
+use Rattle.script_steps.proofs.FileLemmas.{open_told}
+use Rattle.script_steps.proofs.MadeLemmas.{want_map, unread, wanting}
+use Rattle.script_steps.proofs.OpenLemmas.{untold_map}
+use Rattle.script_steps.proofs.open.open.Goals as goal
+
+pub returns-in_err-text-clause-unmade : goal.returns-in_err-text-clause-unmade
+returns-in_err-text-clause-unmade g c =
+    let what = asked.opening c.args.file.now in
+    let told = g.F.Files.told c.args.files.now in
+    let p = err_from_is_err_and c.from_residual.result c.from_residual.ensures.1 in
+    unread told (ToldDoes told c.args.script.now (Ok what)) what c.args.steps.now c.args.steps.now
+    (g.F.Files.failed c.read_front.new.self) c.from_residual.result c.in_err-text.field-0.0 c.args.file.now
+    (p.1 ∙ ap (λ s. Err s) p.2) refl
+    (λ e. (refl, c.in_err-text.ensures.cause.named (ap (λ f. Err f) e), λ files t. refl))
+
+pub returns-in_err-open_text-clause-unmade : goal.returns-in_err-open_text-clause-unmade
+returns-in_err-open_text-clause-unmade g c =
+    let what = asked.opening c.args.file.now in
+    let told = g.F.Files.told c.args.files.now in
+    let front = c.deref.result.now in
+    let read = subst (λ b. IsToldFront told c.args.file.now 268435457 b) (sym c.deref.ensures.value)
+    c.in_ok-text.ensures.front in
+    let p = err_from_is_err_and c.from_residual-in_err-open_text.result c.from_residual-in_err-open_text.ensures.1
+    in
+    wanting told (ToldDoes told c.args.script.now (Ok what)) what c.args.steps.now c.open_text.new.steps
+    (g.F.Files.failed c.read_front.new.self) c.from_residual-in_err-open_text.result
+    (p.1 ∙ ap (λ s. Err s) p.2)
+    (want_map (IsOpenStep c.args.script.now front) (ToldDoes told c.args.script.now (Ok what)) c.args.steps.now
+    c.open_text.new.steps (open_told told c.args.script.now c.args.file.now front read)
+    c.in_err-open_text.ensures.lost)
+
+pub returns-clause-made : goal.returns-clause-made
+returns-clause-made g c =
+    let what = asked.opening c.args.file.now in
+    let told = g.F.Files.told c.args.files.now in
+    let front = c.deref.result.now in
+    let read = subst (λ b. IsToldFront told c.args.file.now 268435457 b) (sym c.deref.ensures.value)
+    c.in_ok-text.ensures.front in
+    untold_map (IsOpenStep c.args.script.now front) (ToldDoes told c.args.script.now (Ok what)) c.open_text.new.script
+    c.args.steps.now c.open_text.new.steps (reply_of c.in_ok-open_text.field-0)
+    (open_told told c.args.script.now c.args.file.now front read) c.in_ok-open_text.ensures.made

@@ -1,0 +1,39 @@
+use Rattle.std.proofs.Common.{◌∙◌, sym, ap, subst}
+use Rattle.plan_answers.specs.ReplyViews.{reply_of}
+use Rattle.plan_answers.proofs.Laws.{on_err_any}
+use Rattle.script_steps.specs.OpenSteps.{IsOpenStep}
+use Rattle.script_steps.specs.Standings.{Standing, accepted, with_book}
+use Rattle.script_steps.specs.StepViews.{IsMadeUntold}
+use Rattle.script_steps.proofs.OpenLemmas.{book_lost, book_made, fault_made, read_lost}
+use Rattle.script_steps.proofs.open.open_fresh.Goals as goal
+
+pub returns-in_err-from_slice-in-Ok-clause-lost : goal.returns-in_err-from_slice-in-Ok-clause-lost
+returns-in_err-from_slice-in-Ok-clause-lost g c =
+    on_err_any c.from_residual.result _
+    (book_lost c.args.script.now c.args.text.now c.requires c.args.steps.now c.read_book.new.steps c.in-Ok.book
+    c.in-Ok.ensures.read c.in-Ok.ensures.counted)
+
+pub returns-in_ok-from_slice-in-Ok-clause-made : goal.returns-in_ok-from_slice-in-Ok-clause-made
+returns-in_ok-from_slice-in-Ok-clause-made g c =
+    let text = c.args.text.now in
+    subst (λ (s : Standing). IsMadeUntold (IsOpenStep c.args.script.now text) (with_book s c.in-Ok.book)
+    c.args.steps.now c.read_book.new.steps (reply_of c.accepted.result)) (sym c.script.view_is)
+    (book_made c.args.script.now text c.requires c.args.steps.now c.read_book.new.steps c.in-Ok.book
+    (reply_of c.accepted.result) c.in-Ok.ensures.read c.in-Ok.ensures.counted
+    (c.accepted.ensures ∙ ap (λ t. accepted t 0) c.in_ok-from_slice-in-Ok.ensures.items))
+
+pub returns-in-Err-Memory-clause-lost : goal.returns-in-Err-Memory-clause-lost
+returns-in-Err-Memory-clause-lost g c =
+    read_lost c.args.script.now c.args.text.now c.requires c.args.steps.now c.read_book.new.steps
+    c.in-Err-Memory.field-0 c.in-Err-Memory.ensures.counted
+
+pub returns-in-Err-clause-made : goal.returns-in-Err-clause-made
+returns-in-Err-clause-made g c =
+    fault_made c.args.script.now c.args.text.now c.requires c.args.steps.now c.read_book.new.steps c.in-Err.fault
+    c.book_refusal.result c.in-Err.ensures.refused c.in-Err.ensures.counted c.book_refusal.ensures
+
+pub returns-in-Err-clause-lost : goal.returns-in-Err-clause-lost
+returns-in-Err-clause-lost g c =
+    on_err_any c.book_refusal.result _
+    (read_lost c.args.script.now c.args.text.now c.requires c.args.steps.now c.read_book.new.steps c.in-Err.fault
+    c.in-Err.ensures.counted)

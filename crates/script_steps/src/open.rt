@@ -1,0 +1,94 @@
+//! The line `open`.
+ghost use Rattle.std.specs.Prelude.{◌≡◌, ◌≢◌, ◌↔◌, IfOk, IsTrue, OnErr, Ok, Err};
+ghost use Rattle.std.specs.Result.{ForErr};
+ghost use Rattle.outside.specs.Causes.{Caused};
+ghost use Rattle.plan_answers.specs.ReplyViews.{reply_of};
+ghost use Rattle.script_lang.specs.Commands as asked;
+ghost use Rattle.script_steps.specs.OpenSteps.{IsEmpty, IsFresh, IsOpenStep};
+ghost use Rattle.script_steps.specs.StepViews.{IsMadeUntold, IsUnmade, IsWant, ToldDoes};
+
+use crate::edits::OK;
+use crate::refusals::book_refusal;
+use crate::reply::accepted;
+use crate::script::Script;
+use crate::stop::LineStop;
+use book_file::{BookFault, MOST_BOOK_TEXT, read_book};
+use outside::Files;
+use plan_answers::{Reply, refusal};
+use recalc_engine::Book;
+use std::alloc::{AllocError, Global};
+use std::sync::ledger::Ledger;
+use steps::Steps;
+
+/// The line `open`, with its file's name.
+pub(crate) fn open<F: Files, L: Ledger>(
+    alloc: Global,
+    script: &mut Script,
+    file: &str,
+    files: &mut F,
+    steps: &mut Steps<L>,
+) -> Result<Reply, LineStop>
+    ensures made { IfOk result (λ reply. IsMadeUntold
+        (ToldDoes (F.told files.old) script.old (Ok (asked.opening file.now)))
+        script.new steps.old steps.new (reply_of reply)) }
+    ensures unmade { ForErr result (IsUnmade (F.told files.old)
+        (ToldDoes (F.told files.old) script.old (Ok (asked.opening file.now)))
+        (asked.opening file.now) steps.old steps.new (F.failed files.new)) }
+    ensures same { F.told files.new ≡ F.told files.old }
+    ensures file { Caused LineStop.File (F.faults files.old) (F.faults files.new) result }
+    ensures kept { result ≢ Err LineStop.File → F.failed files.new ≡ F.failed files.old }
+{
+    let text = files.read_front(alloc, file, MOST_BOOK_TEXT + 1)?;
+    Ok(open_text(alloc, script, &text, steps)?)
+}
+
+/// Opens the book of a text in place of an empty one, of which nothing was filed.
+fn open_text<L: Ledger>(
+    alloc: Global,
+    script: &mut Script,
+    text: &[u8],
+    steps: &mut Steps<L>,
+) -> Result<Reply, AllocError>
+    ensures made { IfOk result (λ reply. IsMadeUntold (IsOpenStep script.old text.now)
+        script.new steps.old steps.new (reply_of reply)) }
+    ensures lost { OnErr result
+        (IsWant (IsOpenStep script.old text.now) steps.old steps.new) }
+{
+    if !is_empty(&script.book) {
+        return refusal(alloc, b"book NotEmpty");
+    }
+    if script.ledger.last().is_some() {
+        return refusal(alloc, b"book Filed");
+    }
+    open_fresh(alloc, script, text, steps)
+}
+
+/// Opens the book of a text before the first edit.
+fn open_fresh<L: Ledger>(
+    alloc: Global,
+    script: &mut Script,
+    text: &[u8],
+    steps: &mut Steps<L>,
+) -> Result<Reply, AllocError>
+    requires { IsFresh script.old }
+    ensures made { IfOk result (λ reply. IsMadeUntold (IsOpenStep script.old text.now)
+        script.new steps.old steps.new (reply_of reply)) }
+    ensures lost { OnErr result
+        (IsWant (IsOpenStep script.old text.now) steps.old steps.new) }
+{
+    match read_book(alloc, text, steps) {
+        Ok(book) => {
+            script.book = book;
+            Ok(accepted(Vec::from_slice(alloc, OK)?, 0))
+        }
+        Err(BookFault::Memory(error)) => Err(error),
+        Err(fault) => book_refusal(alloc, &fault),
+    }
+}
+
+/// Whether a book has no run and no plan.
+fn is_empty(book: &Book) -> bool
+    ensures { IsTrue result ↔ IsEmpty book.now }
+{
+    book.years().count == 0 && book.plans().is_empty()
+}

@@ -1,0 +1,259 @@
+#!/usr/bin/env python3
+"""Draws random flowcharts with pap_author and checks the pages: python3 tools/check_chart.py BINARY [COUNT [SEED]].
+
+Of each drawing: no line meets a symbol but where it enters or leaves it, no horizontal line crosses a vertical one, no two
+vertical lines lie over one another, no two symbols share a height, all is inside the drawing, and no cut goes through a
+symbol, a word or a comment. Of each page: each statement is there once, each link leads to a place of the page, each id stands
+once, and the drawings are well-formed XML. Of a range file that is begun for a plan of random inputs: the plan is accepted with it."""
+import os
+import random
+import re
+import subprocess
+import sys
+import tempfile
+import xml.etree.ElementTree as ET
+
+LETTERS = "ABCDEFGHIJKLMNOPQRSTUVWXYZ"
+NUMBER = r"-?\d+"
+
+
+def some_name(rng, most=32):
+    return rng.choice(LETTERS) + "".join(rng.choice(LETTERS + "_0123456789") for _ in range(rng.randrange(most)))
+
+
+class Plan:
+    """A random plan: its text, and for each method the number of its statements."""
+
+    def __init__(self, rng):
+        self.rng = rng
+        self.names = sorted({some_name(rng) for _ in range(8)})
+        self.methods = sorted({some_name(rng) for _ in range(rng.randrange(4))} - {"MAIN"} - set(self.names))
+        self.counts = {}
+        self.lines = []
+        self.write()
+
+    def comment(self, chance):
+        if self.rng.random() < chance:
+            words = ["pr\u00fcfen", "<&>", "'x'", '"y"', "tax", "a" * self.rng.randrange(1, 40), "--", "of the year"]
+            text = " ".join(self.rng.choice(words) for _ in range(self.rng.randrange(1, 30)))
+            self.lines.append("<!-- " + text.replace("-->", "") + " -->")
+
+    def term(self, depth):
+        rng = self.rng
+        if depth == 0 or rng.random() < 0.3:
+            return rng.choice([rng.choice(self.names), "BigDecimal.ZERO", "BigDecimal.valueOf(%d)" % rng.randrange(1000)])
+        call = rng.choice(["add", "subtract", "multiply", "max"])
+        return "%s.%s(%s)" % (self.term(depth - 1), call, self.term(depth - 1))
+
+    def test(self):
+        rng = self.rng
+        tests = ["%s.compareTo(%s) %s 0" % (self.term(2), self.term(2), rng.choice(["&lt;", "&gt;", "=="]))
+                 for _ in range(rng.randrange(1, 4))]
+        return rng.choice([" &amp;&amp; ", " || "]).join(tests)
+
+    def body(self, method, depth, most):
+        rng = self.rng
+        for _ in range(rng.randrange(most)):
+            self.comment(0.15)
+            self.counts[method] += 1
+            kind = rng.random()
+            if kind < 0.45:
+                text = "%s = %s" % (rng.choice(self.names), self.term(rng.randrange(4)))
+                if rng.random() < 0.05:
+                    text += " + &lt;&quot;%d" % rng.randrange(9)
+                self.lines.append('<EVAL exec="%s"/>' % text)
+            elif kind < 0.6 and self.methods:
+                self.lines.append('<EXECUTE method="%s"/>' % rng.choice(self.methods + ["NOWHERE"]))
+            elif depth > 0:
+                self.lines.append('<IF expr="%s">' % self.test())
+                self.comment(0.1)
+                self.lines.append("<THEN>")
+                self.body(method, depth - 1, 4)
+                self.lines.append("</THEN>")
+                if rng.random() < 0.6:
+                    self.comment(0.1)
+                    self.lines.append("<ELSE>")
+                    self.body(method, depth - 1, rng.choice([1, 2, 2, 4]))
+                    self.lines.append("</ELSE>")
+                self.comment(0.05)
+                self.lines.append("</IF>")
+            else:
+                self.lines.append('<EVAL exec="%s = 1"/>' % rng.choice(self.names))
+        self.comment(0.1)
+
+    def write(self):
+        rng = self.rng
+        self.lines.append('<PAP name="A &amp; &lt;b&gt; &quot;c&quot;" version="1"><VARIABLES><INPUTS>')
+        for name in self.names[:4]:
+            self.comment(0.5)
+            kind = rng.choice(["int", "long", "BigDecimal", "double"])
+            self.lines.append('<INPUT name="%s" type="%s"/>' % (name, kind))
+        if rng.random() < 0.2:
+            self.lines.append('<INPUT name="%s" type="int"/>' % self.names[0])
+        self.lines.append("</INPUTS><OUTPUTS>")
+        self.lines.append('<OUTPUT name="%s" type="BigDecimal"/>' % self.names[-1])
+        self.lines.append("</OUTPUTS></VARIABLES><METHODS>")
+        for method in ["MAIN"] + self.methods:
+            self.counts[method] = 0
+            self.comment(0.3)
+            self.lines.append("<MAIN>" if method == "MAIN" else '<METHOD name="%s">' % method)
+            self.body(method, rng.randrange(7), rng.choice([3, 6, 12]))
+            self.lines.append("</MAIN>" if method == "MAIN" else "</METHOD>")
+        self.lines.append("</METHODS></PAP>")
+
+    def text(self):
+        return "\n".join(self.lines).encode("utf-8")
+
+
+def number(element, key):
+    return int(element.get(key))
+
+
+class Part:
+    """A part of a drawing: its frame, its lines, and the boxes of its symbols, words and comments."""
+
+    def __init__(self, svg):
+        _, self.top, self.width, self.height = [int(n) for n in svg.get("viewBox").split()]
+        self.symbols, self.words, self.notes, self.verticals, self.horizontals, self.ids = [], [], [], [], [], []
+        for element in svg.iter():
+            if element.get("id") and not element.tag == "title":
+                self.ids.append(element.get("id"))
+            getattr(self, "take_" + element.tag, lambda _: None)(element)
+
+    def take_rect(self, rect):
+        if rect.get("class"):
+            x, y = number(rect, "x"), number(rect, "y")
+            self.symbols.append((x, y, x + number(rect, "width"), y + number(rect, "height")))
+
+    def take_path(self, path):
+        kind, data = path.get("class").split()[0], path.get("d")
+        if kind == "l":
+            for x, y, way, end in re.findall(r"M(%s) (%s)([VH])(%s)" % ((NUMBER,) * 3), data):
+                where = self.verticals if way == "V" else self.horizontals
+                where.append((int(x), int(y), int(end)))
+        elif kind == "d":
+            x, middle, half, flat = [int(n) for n in re.match(
+                r"M(%s) (%s)l12 -(%s)h(%s)" % ((NUMBER,) * 4), data).groups()]
+            self.symbols.append((x, middle - half, x + flat + 24, middle + half))
+        elif kind == "k":
+            right, top, height = [int(n) for n in re.search(r"M(%s) (%s)h-6v(%s)" % ((NUMBER,) * 3), data).groups()]
+            self.notes.append((right - 6, top, right, top + height))
+
+    def take_text(self, text):
+        if text.get("class") in ("y", "e"):
+            x, y = number(text, "x"), number(text, "y")
+            self.words.append((x, y - 10, x, y + 3))
+
+
+def check_drawing(parts):
+    faults = []
+    symbols = [s for part in parts for s in part.symbols]
+    width, bottom = parts[0].width, parts[-1].top + parts[-1].height
+    for one, other in zip(sorted(symbols, key=lambda s: s[1]), sorted(symbols, key=lambda s: s[1])[1:]):
+        if other[1] < one[3]:
+            faults.append("two symbols at one height %s %s" % (one, other))
+    for left, top, right, low in symbols:
+        if left < 0 or top < 0 or right > width or low > bottom:
+            faults.append("outside %s" % ((left, top, right, low),))
+    for part in parts:
+        low = part.top + part.height
+        for name, boxes in (("symbol", part.symbols), ("word", part.words), ("comment", part.notes)):
+            for box in boxes:
+                if box[1] < part.top or box[3] > low:
+                    faults.append("a cut goes through a %s %s, part %d to %d" % (name, box, part.top, low))
+        for x, y, end in part.verticals:
+            if not (0 <= x <= width and part.top <= y <= end <= low):
+                faults.append("a vertical line outside its part %s" % ((x, y, end),))
+            for left, top, right, under in part.symbols:
+                if left <= x <= right and y < under and end > top:
+                    faults.append("a vertical line meets a symbol %s %s" % ((x, y, end), (left, top, right, under)))
+        for x, y, end in part.horizontals:
+            if not (0 <= x < end <= width and part.top <= y <= low):
+                faults.append("a horizontal line outside %s" % ((x, y, end),))
+            for left, top, right, under in part.symbols:
+                if top <= y <= under:
+                    faults.append("a horizontal line meets a symbol %s" % ((x, y, end),))
+            for column, above, below in part.verticals:
+                if x < column < end and above < y < below:
+                    faults.append("lines cross at %d %d" % (column, y))
+        ordered = sorted(part.verticals)
+        for one, other in zip(ordered, ordered[1:]):
+            if one[0] == other[0] and other[1] < one[2]:
+                faults.append("two lines over one another %s %s" % (one, other))
+    return faults
+
+
+def check_page(plan, page):
+    faults = []
+    text = page.decode("utf-8")
+    ids = re.findall(r'\sid="([^"]*)"', text)
+    twice = {i for i in ids if ids.count(i) > 1 and not i.startswith("name-")}
+    if twice:
+        faults.append("ids twice: %s" % sorted(twice)[:3])
+    for link in re.findall(r'href="#([^"]*)"', text):
+        if link not in ids:
+            faults.append("a link to nowhere: %s" % link)
+    for method, count in plan.counts.items():
+        for statement in range(count):
+            if "%s:%d" % (method, statement) not in ids:
+                faults.append("no statement %s:%d" % (method, statement))
+    for section in re.findall(r'<section class="m.*?</section>', text, re.S):
+        parts = [Part(ET.fromstring(svg)) for svg in re.findall(r"<svg role.*?</svg>", section, re.S)]
+        faults += check_drawing(parts)
+    return faults
+
+
+def plan_of_inputs(rng):
+    """A plan with up to 256 random inputs and long comments, whose only statement is safe whatever the inputs are."""
+    lines = ["<PAP><VARIABLES><INPUTS>"]
+    for number in range(rng.choice([0, 1, 5, 256])):
+        for _ in range(rng.randrange(3)):
+            words = [rng.choice(["x", "\U0001f4b6" * 90, "\u00fc\u00e4", "\t\r\n\x7f\x01", "#", '"""', "=", "a" * 300])
+                     for _ in range(rng.randrange(60))]
+            lines.append("<!-- %s -->" % " ".join(words))
+        kind = rng.choice(["int", "long", "BigDecimal", "double"])
+        lines.append('<INPUT name="%s%d" type="%s"/>' % (some_name(rng, 20), number, kind))
+    lines.append('</INPUTS><OUTPUTS><OUTPUT name="out" type="BigDecimal"/></OUTPUTS></VARIABLES>')
+    lines.append('<METHODS><MAIN><EVAL exec="out = BigDecimal.ZERO"/></MAIN></METHODS></PAP>')
+    return "\n".join(lines).encode("utf-8")
+
+
+def check_ranges(binary, folder, plan):
+    """Faults of the range file that is begun for a plan."""
+    path, draft = os.path.join(folder, "inputs.xml"), os.path.join(folder, "draft.toml")
+    with open(path, "wb") as file:
+        file.write(plan)
+    ranges = subprocess.run([binary, "ranges", path], capture_output=True)
+    with open(draft, "wb") as file:
+        file.write(ranges.stdout)
+    done = subprocess.run([binary, "chart", path, draft], capture_output=True)
+    if ranges.returncode != 0 or done.returncode != 0:
+        return ["the range file is refused: %s %s" % (ranges.stderr, done.stderr)]
+    return []
+
+
+def main():
+    binary = sys.argv[1]
+    count = int(sys.argv[2]) if len(sys.argv) > 2 else 200
+    rng = random.Random(int(sys.argv[3]) if len(sys.argv) > 3 else 1)
+    failed, parts = 0, 0
+    with tempfile.TemporaryDirectory() as folder:
+        path = os.path.join(folder, "plan.xml")
+        for case in range(count):
+            plan = Plan(rng)
+            with open(path, "wb") as file:
+                file.write(plan.text())
+            done = subprocess.run([binary, "chart", path], capture_output=True)
+            faults = [] if done.returncode in (0, 1) else ["status %d %s" % (done.returncode, done.stderr)]
+            faults += check_page(plan, done.stdout)
+            parts += done.stdout.count(b", part ")
+            faults += check_ranges(binary, folder, plan_of_inputs(rng))
+            if faults:
+                failed += 1
+                print("case %d: %s" % (case, "; ".join(faults[:3])))
+    print("%d pages, %d with faults, %d parts of cut drawings" % (count, failed, parts))
+    sys.exit(1 if failed else 0)
+
+
+if __name__ == "__main__":
+    main()

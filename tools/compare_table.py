@@ -1,0 +1,105 @@
+#!/usr/bin/env python3
+"""A test table against a flowchart: compare_table.py PROGRAM PLAN LIMITS TABLE, from the top of the repository.
+
+The first row of the table names its columns: inputs of the flowchart and outputs that are expected of it. Each further row is one run.
+Each expected amount that isn't the computed one is listed, with the line that shows the run's trace and the statement that put the
+amount. An empty cell gives no input, and expects nothing. The status is 0 where all is as expected, 1 where it isn't, 2 where the
+flowchart, its range file or the table is refused. With a fifth word, a row's number, the trace of that row is printed."""
+import csv
+import os
+import subprocess
+import sys
+import tempfile
+from decimal import Decimal
+
+sys.path.insert(0, os.path.join(os.path.dirname(os.path.abspath(__file__)), "..", "examples", "clients"))
+from client import Payroll, Refused  # noqa: E402
+
+DAY = "2026-01-01"
+MOST_SHOWN = 20
+
+
+def outputs_of(program, plan, limits):
+    """The names of the flowchart's outputs, or an end with status 2."""
+    done = subprocess.run([program, "check", plan, limits], stdout=subprocess.PIPE, text=True)
+    lines = done.stdout.splitlines()
+    if done.returncode:
+        give_up(lines[0] if lines else "the flowchart can't be checked")
+    return [line.split(" ")[0] for line in lines[1:]]
+
+
+def give_up(reason):
+    print(f"compare_table: {reason}")
+    sys.exit(2)
+
+
+def employee(number):
+    return f"row-{number:05d}"
+
+
+def load(payroll, rows, inputs):
+    """Hands the runs over as a table."""
+    with tempfile.NamedTemporaryFile("w", suffix=".csv", newline="") as table:
+        writer = csv.writer(table, lineterminator="\n")
+        writer.writerow(["employee", "month", "day", *inputs])
+        writer.writerows([employee(number), DAY[:7], DAY, *(row[name] for name in inputs)] for number, row in enumerate(rows, 1))
+        table.flush()
+        payroll.ask("load", table.name)
+
+
+def difference(number, row, name, report):
+    """What is wrong with an expected amount, or nothing."""
+    computed = report.get((employee(number), DAY, name))
+    if not row[name]:
+        return None
+    if computed is None:
+        return f"row {number}, {name}: {row[name]} is expected, and the run has no amounts: {report[employee(number), DAY, '']}"
+    if Decimal(computed) == Decimal(row[name]):
+        return None
+    less = Decimal(computed) - Decimal(row[name])
+    return f"row {number}, {name}: {row[name]} is expected, {computed} was computed ({less:+})"
+
+
+def put_by(payroll, number, name):
+    """The line that shows the trace of a row, and its last statement that put the output."""
+    line = f"trace {employee(number)} {DAY}"
+    try:
+        sets = [step for step in payroll.ask(*line.split(" ")) if step.startswith("set ") and step.split(" ")[2] == name]
+    except Refused:
+        return line
+    return f"{line}: {sets[-1] if sets else 'no statement puts it'}"
+
+
+def compare(payroll, rows, expected):
+    """How many expected amounts are compared, and how many of them differ; the first ones are listed."""
+    report = payroll.report()
+    compared = sum(1 for row in rows for name in expected if row[name])
+    found = [(number, name, said) for number, row in enumerate(rows, 1) for name in expected
+             if (said := difference(number, row, name, report))]
+    for number, name, said in found[:MOST_SHOWN]:
+        print(said, f"    {put_by(payroll, number, name)}", sep="\n")
+    if found[MOST_SHOWN:]:
+        print(f".. and {len(found) - MOST_SHOWN} more")
+    print(f"{len(rows)} runs, {compared} amounts, {len(found)} different")
+    return 1 if found else 0
+
+
+def main(program, plan, limits, table, *number):
+    outputs = outputs_of(program, plan, limits)
+    with open(table, encoding="utf-8-sig", newline="") as text:
+        reader = csv.DictReader(text, restval="")
+        rows, columns = list(reader), reader.fieldnames
+    with Payroll(program) as payroll:
+        try:
+            payroll.ask("plan", DAY, plan, limits)
+            load(payroll, rows, [name for name in columns if name not in outputs])
+        except Refused as refused:
+            give_up(refused)
+        if number:
+            print(*payroll.ask("trace", employee(int(number[0])), DAY), sep="\n")
+            return 0
+        return compare(payroll, rows, [name for name in columns if name in outputs])
+
+
+if __name__ == "__main__":
+    sys.exit(main(*sys.argv[1:]))
