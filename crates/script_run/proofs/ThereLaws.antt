@@ -1,6 +1,6 @@
 -- The lines of a sample name no file but its two, and these are there.
 use Rattle.std.proofs.Common.{◌≡◌, ◌≢◌, ℕ, ◌≤◌, List, [], ◌∷◌, sym, ap, ◌∙◌, subst, refl, inl, inr, arith}
-use Rattle.std.specs.Prelude.{IsSome, All, codes}
+use Rattle.std.specs.Prelude.{IsSome, All, codes, slice_index}
 use Rattle.outside.specs.Told.{FileMap}
 use Rattle.outside.specs.Memory.{file_named}
 use Rattle.script_lang.specs.Commands as asked
@@ -44,16 +44,10 @@ there_by : (files : FileMap) (word line : List ℕ) (more : List (List ℕ)) →
 there_by files word line more cut no_plan no_load no_try no_open = λ name names.
     absurd (names_none word more (words_of line) cut no_plan no_load no_try no_open names.what (names.is_line).ask name names.is_file)
 
--- a word is another one where its first byte is another one
-first_byte : List ℕ → ℕ
-first_byte [] = 0
-first_byte (b ∷ bs) = b
-
 add_there : (files : FileMap) (employee month : ℕ) → AreThere files (add_line employee month)
 add_there files employee month =
     there_by files (codes "add") (add_line employee month) _ refl (λ e. cc) (λ e. cc)
-    (λ e. let h : 97 ≡ 116 = ap first_byte e in omega (arith, h))
-    (λ e. let h : 97 ≡ 111 = ap first_byte e in omega (arith, h))
+    (λ e. let first = ap (λ word. slice_index word 0) e in omega (arith, first)) (λ e. cc)
 
 change_there : (files : FileMap) (employee : ℕ) → AreThere files (change_line employee)
 change_there files employee =
