@@ -1,7 +1,7 @@
 # `make look` runs the program on an example without a proof; `make build` proves and builds build/papcalc, `make demo` runs
 # that on the examples; `make install` puts it and its manual page under PREFIX; `make test` is the whole gate.
 .PHONY: build author look demo install uninstall test rows client-java wrong-bodies decimal-tool bench-decimal bench-machine bench-plan \
-    bench-intervals bench-processes bench-names check-java
+    bench-book bench-intervals bench-processes bench-names check-java
 
 PREFIX ?= /usr/local
 
@@ -85,12 +85,17 @@ bench-machine:
 	javac -d build tools/BenchMachine.java
 	java -cp build BenchMachine
 
-# Picoseconds a step of the flowchart of a pay period on the built program, beside a Java class of the same flowchart on
-# java.math.BigDecimal (needs a JDK).
+# Picoseconds a step of the flowchart of a pay period and of a full-size one on the built program, each beside the same flowchart as a
+# Java class on java.math.BigDecimal (needs a JDK).
 bench-plan: build
-	javac -d build tools/BenchPlan.java
+	python3 tools/full_plan.py build
 	python3 tools/bench_plan.py build/papcalc examples/payroll_tax.xml examples/payroll_tax.toml PERIOD=2 PAY=450000
-	java -cp build BenchPlan
+	python3 tools/bench_plan.py build/papcalc build/full.xml build/full.toml PERIOD=2 RATE_1=0.1 $(foreach k,1 3 5 7 9 11 13,AMOUNT_$(k)=450000)
+
+# Milliseconds of each kind of edit in books of 300 and of 49,992 runs, and of a script of `add` lines with its report beside a plain
+# Java program, whose report has to be the same (needs a JDK).
+bench-book: build
+	python3 tools/bench_book.py build/papcalc
 
 # Nanoseconds of each operation on intervals.
 bench-intervals:

@@ -1,8 +1,8 @@
-"""Nanoseconds a step of examples/payroll_tax.xml on the built program.
+"""Picoseconds a step of a flowchart on the built program, and of the same flowchart as a Java class on java.math.BigDecimal:
+bench_plan.py PROGRAM PLAN LIMITS NAME=VALUE .., from the top of the repository (needs a JDK).
 
-A copy of the flowchart is made whose MAIN runs the whole flowchart 1,536 times, by methods that execute each other
-twice. `check` reads, proves and compiles it, `once` runs it besides: what `once` takes more is the run.
-"""
+A copy of the flowchart is made whose MAIN runs the whole flowchart 1,536 times, by methods that execute each other twice. `check` reads,
+proves and compiles it, `once` runs it besides: what `once` takes more is the run."""
 import os
 import re
 import resource
@@ -38,17 +38,28 @@ def processor_time(words):
     return least
 
 
+def bench_java(steps, folder):
+    with open(f"{folder}/Plan.java", "w", encoding="utf-8") as java:
+        subprocess.run([sys.executable, "tools/java_of_plan.py", PLAN, "Plan"], stdout=java, check=True)
+    subprocess.run(["javac", "-nowarn", "-d", folder, f"{folder}/Plan.java", "tools/BenchPlan.java"], check=True)
+    subprocess.run(["java", "-cp", folder, "BenchPlan", str(steps), *VALUES], check=True)
+
+
+def steps_of(plan):
+    written = subprocess.run([PROGRAM, "once", plan, LIMITS, *VALUES], capture_output=True, text=True, check=True).stdout
+    return int(written.rsplit("steps ", 1)[1])
+
+
 def main():
     with tempfile.TemporaryDirectory() as folder:
         plan = os.path.join(folder, "plan.xml")
         with open(PLAN, encoding="utf-8") as source, open(plan, "w", encoding="utf-8") as copy:
             copy.write(repeated(source.read()))
-        once = [PROGRAM, "once", plan, LIMITS, *VALUES]
-        written = subprocess.run(once, capture_output=True, text=True, check=True).stdout
-        steps = int(written.rsplit("steps ", 1)[1])
+        steps = steps_of(plan)
         for _ in range(ROUNDS):
-            run = processor_time(once) - processor_time([PROGRAM, "check", plan, LIMITS])
-            print(f"papcalc: {run * 1e12 / steps:.0f} ps a step of {steps} ({written.splitlines()[0]})")
+            run = processor_time([PROGRAM, "once", plan, LIMITS, *VALUES]) - processor_time([PROGRAM, "check", plan, LIMITS])
+            print(f"papcalc: {run * 1e12 / steps:.0f} ps a step of {steps}")
+        bench_java(steps_of(PLAN), folder)
 
 
 main()

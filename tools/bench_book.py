@@ -1,0 +1,128 @@
+#!/usr/bin/env python3
+"""What an edit of a book costs: bench_book.py PROGRAM, from the top of the repository (needs a JDK).
+
+Books of 300 and of 49,992 runs (twelve months an employee), with the flowchart of examples/ and with one as large as the published ones
+(tools/full_plan.py, 25 values a run). Each time is that from a line to the end of its answer, in milliseconds; `adds and report` are all
+lines of a script, which a plain Java program (tools/BenchBook.java) carries out besides: its report has to be the same."""
+import random
+import subprocess
+import sys
+import tempfile
+import time
+
+PROGRAM = sys.argv[1]
+EDITS = 20
+
+
+def small_values(rng):
+    return {"PERIOD": 2, "PAY": rng.randint(150_000, 900_000), "TAX_CLASS": rng.randint(1, 6), "CHURCH_RATE": rng.choice([0, 8, 9])}
+
+
+def full_values(rng):
+    values = {f"AMOUNT_{number}": rng.randint(0, 900_000) for number in range(1, 22)}
+    values |= {f"RATE_{number}": f"0.{rng.randint(0, 4_999):04d}" for number in range(1, 3)}
+    return values | {"TAX_CLASS": rng.randint(1, 6), "PERIOD": rng.randint(1, 4)}
+
+
+def records(employees, values):
+    """Employee, month, day and values of each run, in order."""
+    rng = random.Random(7)
+    for employee in range(employees):
+        for month in range(1, 13):
+            yield f"E{employee:05d}", f"2026-{month:02d}", f"2026-{month:02d}-28", values(rng)
+
+
+def line_of(verb, employee, month, day, values):
+    return f"{verb} {employee} {month} {day} " + " ".join(f"{name}={value}" for name, value in values.items())
+
+
+class Session:
+    """A program that carries out a script line by line."""
+
+    def __init__(self):
+        self.process = subprocess.Popen([PROGRAM, "run"], stdin=subprocess.PIPE, stdout=subprocess.PIPE, bufsize=1 << 20)
+
+    def answer(self, line):
+        """The lines of an answer, and milliseconds."""
+        began = time.perf_counter()
+        self.process.stdin.write(line.encode() + b"\n")
+        self.process.stdin.flush()
+        lines = []
+        is_whole = line in ("report", "owed") or line.startswith("trace")
+        while True:
+            lines.append(self.process.stdout.readline())
+            if lines[-1].startswith(b"refused"):
+                sys.exit(f"bench_book: {line[:80]}: {lines[-1].decode()}")
+            if not is_whole or lines[-1] == b"end\n":
+                return lines, 1000 * (time.perf_counter() - began)
+
+    def plan(self, day, plan):
+        return self.answer(f"plan {day} {plan}.xml {plan}.toml")[1]
+
+
+def edits(plan, values, employees, folder):
+    """Milliseconds of each kind of edit."""
+    rows = list(records(employees, values))
+    names = list(rows[0][3])
+    table = f"{folder}/table.csv"
+    with open(table, "w") as file:
+        file.write(",".join(["employee", "month", "day", *names]) + "\n")
+        for employee, month, day, given in rows:
+            file.write(",".join([employee, month, day, *[str(given[name]) for name in names]]) + "\n")
+    session = Session()
+    session.plan("2026-01-01", plan)
+    told = {"load": session.answer(f"load {table}")[1], "report": session.answer("report")[1]}
+    rng = random.Random(11)
+    for name, month in [("change in January", 0), ("change in December", 11)]:
+        spent = []
+        for _ in range(EDITS):
+            employee, at, day, _ = rows[12 * rng.randrange(employees) + month]
+            spent.append(session.answer(line_of("change", employee, at, day, values(rng)))[1])
+        told[name] = sum(spent) / EDITS
+    told["plan, the same"] = session.plan("2026-01-01", plan)
+    told["plan in mid-year"] = session.plan("2026-07-01", plan)
+    told["drop"] = session.answer("drop 2026-07-01")[1]
+    session.process.stdin.close()
+    session.process.wait()
+    return told
+
+
+def java_classes(plan, folder):
+    """The Java program for a flowchart."""
+    with open(f"{folder}/Plan.java", "w") as java:
+        subprocess.run([sys.executable, "tools/java_of_plan.py", f"{plan}.xml", "Plan"], stdout=java, check=True)
+    subprocess.run(["javac", "-nowarn", "-d", folder, f"{folder}/Plan.java", "tools/BenchBook.java"], check=True)
+
+
+def whole_script(plan, values, employees, folder):
+    """Milliseconds of a script of `add` lines with its report, and of the Java program on it."""
+    name = f"{folder}/adds.script"
+    with open(name, "w") as file:
+        file.write(f"plan 2026-01-01 {plan}.xml {plan}.toml\n")
+        for row in records(employees, values):
+            file.write(line_of("add", *row) + "\n")
+        file.write("report\n")
+    java_classes(plan, folder)
+    told, reports = {}, []
+    for who, words in [("adds and report", [PROGRAM, "run"]), ("the same in Java", ["java", "-cp", folder, "BenchBook", name])]:
+        with open(name) as script:
+            began = time.perf_counter()
+            done = subprocess.run(words, stdin=script, stdout=subprocess.PIPE, check=True)
+            told[who] = 1000 * (time.perf_counter() - began)
+        reports.append([line for line in done.stdout.split(b"\n") if line.startswith(b"E")])
+    if reports[0] != reports[1]:
+        sys.exit("bench_book: the reports differ")
+    return told
+
+
+def main():
+    with tempfile.TemporaryDirectory(prefix="papcalc-bench-") as folder:
+        subprocess.run([sys.executable, "tools/full_plan.py", folder], check=True)
+        for plan, values in [("examples/payroll_tax", small_values), (f"{folder}/full", full_values)]:
+            for employees in [25, 4_166]:
+                print(f"{plan.rsplit('/', 1)[-1]}, {12 * employees} runs")
+                for name, spent in {**whole_script(plan, values, employees, folder), **edits(plan, values, employees, folder)}.items():
+                    print(f"    {name:20} {spent:9.2f} ms")
+
+
+main()
