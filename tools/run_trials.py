@@ -21,7 +21,7 @@ def check(name, holds):
 
 
 def run(script, **streams):
-    done = subprocess.run([program, "run"], input=script, capture_output=True, timeout=60, **streams)
+    done = subprocess.run([program, "run"], input=script, capture_output=True, timeout=300, **streams)
     return done.returncode, done.stdout
 
 
@@ -61,10 +61,10 @@ check("a CR before LF", run(b"work\r\nwork") == (0, b"work 0 0\nwork 0 0\n"))
 check("a file that isn't there", run(b"work\nload nofile\nwork\n") == (3, b"work 0 0\n"))
 check("a folder in place of a file", run(b"work\nload examples\nwork\n") == (3, b"work 0 0\n"))
 with open("/dev/full", "wb") as full:
-    done = subprocess.run([program, "run"], input=b"work\n", stdout=full, stderr=subprocess.DEVNULL, timeout=60)
+    done = subprocess.run([program, "run"], input=b"work\n", stdout=full, stderr=subprocess.DEVNULL, timeout=300)
     check("a full output", done.returncode == 5)
 folder = os.open("examples", os.O_RDONLY)
-done = subprocess.run([program, "run"], stdin=folder, capture_output=True, timeout=60)
+done = subprocess.run([program, "run"], stdin=folder, capture_output=True, timeout=300)
 check("an input that can't be read", (done.returncode, done.stdout) == (4, b""))
 check("a script of the greatest length", run(b"work\n" + b"\n" * 67_108_859) == (0, b"work 0 0\n"))
 check("a script of one byte more", run(b"work\n" + b"\n" * 67_108_860) == (7, b"work 0 0\n"))
