@@ -1,7 +1,7 @@
 # `make look` runs the program on an example without a proof; `make build` proves and builds build/papcalc, `make demo` runs
 # that on the examples; `make install` puts it and its manual page under PREFIX; `make test` is the whole gate.
 .PHONY: build author look demo install uninstall test rows client-java wrong-bodies decimal-tool bench-decimal bench-machine bench-plan \
-    bench-book bench-intervals bench-processes bench-names check-java
+    bench-book bench-intervals bench-processes check-java
 
 PREFIX ?= /usr/local
 
@@ -104,10 +104,3 @@ bench-intervals:
 # Pay runs a second with 1, 2 and 4 processes, each with a table of its own of 49,992 runs.
 bench-processes: build
 	python3 tools/bench_processes.py build/papcalc
-
-# Seconds of `check` on a flowchart whose names collide, and on the same with other names; DOUBLINGS=N has their statements executed 2^N
-# times (needs a JDK).
-bench-names: build
-	java tools/CollidingNames.java build $(DOUBLINGS)
-	bash -c 'time build/papcalc check build/spread.xml build/spread.toml > build/spread'
-	bash -c 'time build/papcalc check build/collide.xml build/collide.toml > build/collide'

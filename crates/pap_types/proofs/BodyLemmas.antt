@@ -105,13 +105,13 @@ pub is_named : (ms : List Routine) (x : List ℕ) → list_any (bytes_eq x) (met
 is_named [] x = refl
 is_named (m ∷ ms) x = named_or_not ms m x (is_named ms x) (bytes_eq x m.name)
 
-module _ (c : Checking) (at : ℕ) (x : List ℕ) (keys : List (List ℕ)) (are : keys ≡ method_names (flowchart_of c.scope.plan.now).methods) where
-  pub execute_passes : list_any (bytes_eq x) keys ≡ true → first_fault (checks_from c at (execute x done)) ≡ None
+module _ (c : Checking) (at : ℕ) (x : List ℕ) (names : List (List ℕ)) (are : names ≡ method_names (flowchart_of c.scope.plan.now).methods) where
+  pub execute_passes : list_any (bytes_eq x) names ≡ true → first_fault (checks_from c at (execute x done)) ≡ None
   execute_passes found =
       let there : is_some (body_named (flowchart_of c.scope.plan.now).methods x) ≡ true = sym (is_named (flowchart_of c.scope.plan.now).methods x) ∙ sym (ap (list_any (bytes_eq x)) are) ∙ found in
       rw there refl
 
-  pub execute_fails : (p : Place) → list_any (bytes_eq x) keys ≡ false → p ≡ place c.method at 0 → first_fault (checks_from c at (execute x done)) ≡ Some (faults.NoMethod p)
+  pub execute_fails : (p : Place) → list_any (bytes_eq x) names ≡ false → p ≡ place c.method at 0 → first_fault (checks_from c at (execute x done)) ≡ Some (faults.NoMethod p)
   execute_fails p found is =
       let there : is_some (body_named (flowchart_of c.scope.plan.now).methods x) ≡ false = sym (is_named (flowchart_of c.scope.plan.now).methods x) ∙ sym (ap (list_any (bytes_eq x)) are) ∙ found in
       rw there (ap (λ q. Some (faults.NoMethod q)) (sym is))

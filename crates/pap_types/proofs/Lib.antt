@@ -1,3 +1,4 @@
+pub mod NameLemmas
 pub mod ScopeLemmas
 pub mod CheckLemmas
 pub mod DeclarationLemmas

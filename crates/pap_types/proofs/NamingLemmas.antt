@@ -63,7 +63,7 @@ module _ (f : Flowchart) (none old variables : List (List ℕ)) (n : none ≡ []
       names_pass k = methods_left ∙ k
 
 -- all names of a plan
-pub filled : (plan : PlanText) (names : Names) (none old before start : List (List ℕ)) (ms : List Routine) → none ≡ [] → old ≡ [] → before ≡ [] → start ≡ [] → ms ≡ (flowchart_of plan).methods → AreDeclared none old names.variables.keys (variables_of (flowchart_of plan)) (Ok tt) → AreDeclared names.variables.keys before names.constants.keys (flowchart_of plan).constants (Ok tt) → (r : Result (Unit {0}) TypeFault) → AreMethodNames start names.methods.keys ms r → IsFilled plan names r
+pub filled : (plan : PlanText) (names : Names) (none old before start : List (List ℕ)) (ms : List Routine) → none ≡ [] → old ≡ [] → before ≡ [] → start ≡ [] → ms ≡ (flowchart_of plan).methods → AreDeclared none old names.variables (variables_of (flowchart_of plan)) (Ok tt) → AreDeclared names.variables before names.constants (flowchart_of plan).constants (Ok tt) → (r : Result (Unit {0}) TypeFault) → AreMethodNames start names.methods ms r → IsFilled plan names r
 filled plan names none old before start ms n o b s same v c (Ok u) m =
     let f = flowchart_of plan in (
       record {
@@ -71,11 +71,11 @@ filled plan names none old before start ms n o b s same v c (Ok u) m =
         constants = c.0 ∙ ap (λ a. a ++ names_of f.constants) b;
         methods = m.0 ∙ ap₂ (λ a l. a ++ method_names l) s same;
       },
-      names_pass f none old names.variables.keys n o v before names.constants.keys b c start names.methods.keys s (ap (λ l. first_fault (method_checks (main_name ∷ start) l)) (sym same) ∙ m.1),
+      names_pass f none old names.variables n o v before names.constants b c start names.methods s (ap (λ l. first_fault (method_checks (main_name ∷ start) l)) (sym same) ∙ m.1),
     )
 filled plan names none old before start ms n o b s same v c (Err g) m =
     let f = flowchart_of plan in
-    methods_fail f none old names.variables.keys n o v before names.constants.keys b c start names.methods.keys s g (unless_memory g _ _ (λ k. ap (λ l. first_fault (method_checks (main_name ∷ start) l)) (sym same) ∙ k) m)
+    methods_fail f none old names.variables n o v before names.constants b c start names.methods s g (unless_memory g _ _ (λ k. ap (λ l. first_fault (method_checks (main_name ∷ start) l)) (sym same) ∙ k) m)
 
 -- ---- the whole plan
 

@@ -30,8 +30,8 @@ within ds at =
     ])
 
 -- the declaration of a name stands at its number
-pub declared_by : (ds : List Declaration) (x : List ℕ) (keys : List (List ℕ)) (number : Option ℕ) → keys ≡ names_of ds → number ≡ position (bytes_eq x) keys → option_and_then (slice_get ds) number ≡ declared_as ds x
-declared_by ds x keys number e is =
+pub declared_by : (ds : List Declaration) (x : List ℕ) (names : List (List ℕ)) (number : Option ℕ) → names ≡ names_of ds → number ≡ position (bytes_eq x) names → option_and_then (slice_get ds) number ≡ declared_as ds x
+declared_by ds x names number e is =
     let at = position_or_len (bytes_eq x) (names_of ds) in
     ap (option_and_then (slice_get ds)) (is ∙ ap (position (bytes_eq x)) e)
     ∙ within ds at

@@ -11,6 +11,7 @@ pub mod Safety
 pub mod Runs
 pub mod Bounds
 pub mod Meaning
+pub mod NameViews
 pub mod ScopeViews
 pub mod CheckViews
 pub mod StatementViews

@@ -35,9 +35,9 @@ AreMethodNames old new ms (Err f) = UnlessMemory f (first_fault (method_checks (
 
 -- no name has a number
 pub record AreEmpty (names : Names) : Type 0 where
-  pub variables : names.variables.keys ≡ []
-  pub constants : names.constants.keys ≡ []
-  pub methods : names.methods.keys ≡ []
+  pub variables : names.variables ≡ []
+  pub constants : names.constants ≡ []
+  pub methods : names.methods ≡ []
 
 abbrev pub IsFilled : PlanText → Names → Result (Unit {0}) TypeFault → Type 0
 IsFilled plan names (Ok u) = IsNumbered plan names × (first_fault (name_checks (flowchart_of plan)) ≡ None)

@@ -8,6 +8,6 @@ use Rattle.pap_types.specs.Routines.{method_names}
 
 -- the names of the variables, of the constants and of the methods, in declared order
 pub record IsNumbered (plan : PlanText) (names : Names) : Type 0 where
-  pub variables : names.variables.keys ≡ names_of (variables_of (flowchart_of plan))
-  pub constants : names.constants.keys ≡ names_of (flowchart_of plan).constants
-  pub methods : names.methods.keys ≡ method_names (flowchart_of plan).methods
+  pub variables : names.variables ≡ names_of (variables_of (flowchart_of plan))
+  pub constants : names.constants ≡ names_of (flowchart_of plan).constants
+  pub methods : names.methods ≡ method_names (flowchart_of plan).methods

@@ -10,19 +10,18 @@ ghost use Rattle.pap_types.specs.PlanViews.{AreMethodNames};
 ghost use Rattle.pap_types.specs.DeclarationViews.{AreDeclared, IsDeclared, IsAdded};
 
 use crate::TypeFault;
+use crate::declared_names::DeclaredNames;
 use crate::kinds::has_few_places;
-use indexmap::IndexSet;
 use pap_tree::{Declared, Kind, Literal, Method, Name};
-use std::alloc::AllocError;
 
 /// Adds the names of declarations behind earlier names. Each is new and has a literal of its type, or the first that
 /// isn't so is answered.
 pub(crate) fn declare(
-    names: &mut IndexSet<Name>,
-    earlier: &IndexSet<Name>,
+    names: &mut DeclaredNames,
+    earlier: &DeclaredNames,
     declared: &[Declared],
 ) -> Result<(), TypeFault>
-    ensures { AreDeclared earlier.now.keys names.old.keys names.new.keys
+    ensures { AreDeclared earlier.now names.old names.new
         (map declaration_of declared.now) result }
 {
     for declaration in declared {
@@ -32,11 +31,11 @@ pub(crate) fn declare(
 }
 
 fn declare_one(
-    names: &mut IndexSet<Name>,
-    earlier: &IndexSet<Name>,
+    names: &mut DeclaredNames,
+    earlier: &DeclaredNames,
     declared: &Declared,
 ) -> Result<(), TypeFault>
-    ensures { IsDeclared earlier.now.keys names.old.keys names.new.keys
+    ensures { IsDeclared earlier.now names.old names.new
         (declaration_of declared.now) result }
 {
     let name = declared.name;
@@ -51,20 +50,20 @@ fn declare_one(
 }
 
 /// Adds a name, which is new.
-pub(crate) fn add(names: &mut IndexSet<Name>, name: Name) -> Result<(), TypeFault>
-    ensures { IsAdded names.old.keys names.new.keys name result }
+pub(crate) fn add(names: &mut DeclaredNames, name: Name) -> Result<(), TypeFault>
+    ensures { IsAdded names.old names.new name result }
 {
-    match names.insert_full(name) {
-        Ok((_, true)) => Ok(()),
-        Ok((_, false)) => Err(TypeFault::Twice { name }),
-        Err(_) => Err(TypeFault::Memory(AllocError)),
+    match names.insert(name) {
+        Ok(true) => Ok(()),
+        Ok(false) => Err(TypeFault::Twice { name }),
+        Err(failed) => Err(TypeFault::Memory(failed)),
     }
 }
 
 /// Adds the names of methods behind earlier ones. Each is new and isn't that of MAIN, or the first that isn't so is
 /// answered.
-pub(crate) fn name_methods(names: &mut IndexSet<Name>, methods: &[Method]) -> Result<(), TypeFault>
-    ensures { AreMethodNames names.old.keys names.new.keys (map routine_of methods.now) result }
+pub(crate) fn name_methods(names: &mut DeclaredNames, methods: &[Method]) -> Result<(), TypeFault>
+    ensures { AreMethodNames names.old names.new (map routine_of methods.now) result }
 {
     for method in methods {
         name_method(names, method.name)?;
@@ -72,8 +71,8 @@ pub(crate) fn name_methods(names: &mut IndexSet<Name>, methods: &[Method]) -> Re
     Ok(())
 }
 
-fn name_method(names: &mut IndexSet<Name>, name: Name) -> Result<(), TypeFault>
-    ensures { IsAdded (main_name ∷ names.old.keys) (main_name ∷ names.new.keys) name result }
+fn name_method(names: &mut DeclaredNames, name: Name) -> Result<(), TypeFault>
+    ensures { IsAdded (main_name ∷ names.old) (main_name ∷ names.new) name result }
 {
     if name == Name::main() {
         return Err(TypeFault::Twice { name });

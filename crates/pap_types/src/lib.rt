@@ -2,6 +2,7 @@
 #![tactic(auto)]
 
 mod declarations;
+mod declared_names;
 mod fault;
 mod kinds;
 mod literals;

@@ -12,7 +12,7 @@ ghost use Rattle.pap_types.specs.DeclarationViews.{AreDeclared};
 
 use crate::TypeFault;
 use crate::declarations::{declare, name_methods};
-use indexmap::IndexSet;
+use crate::declared_names::DeclaredNames;
 use pap_tree::{Declared, Expr, Literal, Name, PlanText};
 use scaled_decimal::Dec;
 use std::alloc::Global;
@@ -21,9 +21,9 @@ use std::alloc::Global;
 /// internals, the methods those other than MAIN.
 #[derive(Drop)]
 pub(crate) struct Names {
-    pub variables: IndexSet<Name>,
-    pub constants: IndexSet<Name>,
-    pub methods: IndexSet<Name>,
+    pub variables: DeclaredNames,
+    pub constants: DeclaredNames,
+    pub methods: DeclaredNames,
 }
 
 impl Names {
@@ -33,18 +33,18 @@ impl Names {
         ensures { IsNamed plan.now result }
     {
         let mut names = Names {
-            variables: IndexSet::new(alloc),
-            constants: IndexSet::new(alloc),
-            methods: IndexSet::new(alloc),
+            variables: DeclaredNames::new(alloc),
+            constants: DeclaredNames::new(alloc),
+            methods: DeclaredNames::new(alloc),
         };
-        let none = IndexSet::new(alloc);
+        let none = DeclaredNames::new(alloc);
         names.fill(&none, plan)?;
         Ok(names)
     }
 
-    fn fill(&mut self, none: &IndexSet<Name>, plan: &PlanText) -> Result<(), TypeFault>
+    fn fill(&mut self, none: &DeclaredNames, plan: &PlanText) -> Result<(), TypeFault>
         requires nothing { AreEmpty self.old }
-        requires none { none.now.keys ≡ [] }
+        requires none { none.now ≡ [] }
         ensures { IsFilled plan.now self.new result }
     {
         name_variables(&mut self.variables, none, plan)?;
@@ -54,11 +54,11 @@ impl Names {
 }
 
 fn name_variables(
-    names: &mut IndexSet<Name>,
-    none: &IndexSet<Name>,
+    names: &mut DeclaredNames,
+    none: &DeclaredNames,
     plan: &PlanText,
 ) -> Result<(), TypeFault>
-    ensures { AreDeclared none.now.keys names.old.keys names.new.keys
+    ensures { AreDeclared none.now names.old names.new
         (variables_of (flowchart_of plan.now)) result }
 {
     declare(names, none, &plan.inputs)?;
@@ -92,7 +92,7 @@ impl<'a> Scope<'a> {
         ensures { option_map (λ d. declaration_of d.now) result
             ≡ declared_as (variables_of (flowchart_of self.now.plan.now)) name.now }
     {
-        match self.names.variables.get_index_of(name) {
+        match self.names.variables.number_of(name) {
             Some(number) => variable_at(self.plan, number),
             None => None,
         }
@@ -104,7 +104,7 @@ impl<'a> Scope<'a> {
         ensures { option_map (λ d. declaration_of d.now) result
             ≡ declared_as (flowchart_of self.now.plan.now).constants name.now }
     {
-        match self.names.constants.get_index_of(name) {
+        match self.names.constants.number_of(name) {
             Some(number) => constant_at(self.plan, number),
             None => None,
         }

@@ -48,7 +48,8 @@ impl Model for Typed {
 
 /// Whether a plan is well typed (docs/PROFILE.md, "Kinds"): then the plan as it is given, with its names by number.
 /// Else the first fault in this order: of the declarations (inputs, outputs, internals, constants), of the names of the
-/// methods, of the statements of MAIN, and of those of the methods. Takes time linear in the plan.
+/// methods, of the statements of MAIN, and of those of the methods. Takes time linear in the plan, with a factor logarithmic
+/// in the number of its names.
 pub fn check_types(alloc: Global, plan: PlanText) -> Result<Typed, TypeFault>
     requires counted { IsWithinCounts (flowchart_of plan) }
     ensures kept { IfOk result (λ t. t ≡ plan) }
@@ -82,21 +83,21 @@ impl Typed {
     pub fn variable(&self, name: &Name) -> Option<usize>
         ensures { result ≡ number_of (names_of (variables_of (flowchart_of self.now))) name.now }
     {
-        self.names.variables.get_index_of(name)
+        self.names.variables.number_of(name)
     }
 
     /// The number of a constant, from 0 in declared order.
     pub fn constant(&self, name: &Name) -> Option<usize>
         ensures { result ≡ number_of (names_of (flowchart_of self.now).constants) name.now }
     {
-        self.names.constants.get_index_of(name)
+        self.names.constants.number_of(name)
     }
 
     /// The number of a method other than MAIN, from 0 in the order of the text.
     pub fn method(&self, name: &Name) -> Option<usize>
         ensures { result ≡ number_of (method_names (flowchart_of self.now).methods) name.now }
     {
-        self.names.methods.get_index_of(name)
+        self.names.methods.number_of(name)
     }
 
     /// The declaration of a variable's or a constant's name.

@@ -4,4 +4,4 @@ use Rattle.pap_types.proofs.DeclarationLemmas.{IsLeft}
 use Rattle.pap_types.proofs.declarations.declare.Given as goal
 
 abbrev pub invariant-loop-declaration : goal.invariant-loop-declaration
-invariant-loop-declaration l = IsLeft l.fn.earlier.keys l.fn.names.keys l.names.keys (map declaration_of l.declared) (map declaration_of (drop l.declaration-index l.declared))
+invariant-loop-declaration l = IsLeft l.fn.earlier l.fn.names l.names (map declaration_of l.declared) (map declaration_of (drop l.declaration-index l.declared))

@@ -5,8 +5,8 @@ use Rattle.pap_types.proofs.scope.Scope.constant.Goals as goal
 
 pub returns-in-None : goal.returns-in-None
 returns-in-None c =
-    declared_by (flowchart_of c.args.self.now.plan.now).constants c.args.name.now _ None c.requires.constants (sym c.in-None.is ∙ c.get_index_of.ensures.index)
+    declared_by (flowchart_of c.args.self.now.plan.now).constants c.args.name.now _ None c.requires.constants (sym c.in-None.is ∙ c.number_of.ensures)
 
 pub returns-in-Some : goal.returns-in-Some
 returns-in-Some c =
-    c.constant_at.ensures ∙ declared_by (flowchart_of c.args.self.now.plan.now).constants c.args.name.now _ (Some c.in-Some.number) c.requires.constants (sym c.in-Some.is ∙ c.get_index_of.ensures.index)
+    c.constant_at.ensures ∙ declared_by (flowchart_of c.args.self.now.plan.now).constants c.args.name.now _ (Some c.in-Some.number) c.requires.constants (sym c.in-Some.is ∙ c.number_of.ensures)

@@ -6,8 +6,8 @@ use Rattle.pap_types.proofs.scope.Scope.variable.Goals as goal
 
 pub returns-in-Some : goal.returns-in-Some
 returns-in-Some c =
-    c.variable_at.ensures ∙ declared_by (variables_of (flowchart_of c.args.self.now.plan.now)) c.args.name.now _ (Some c.in-Some.number) c.requires.variables (sym c.in-Some.is ∙ c.get_index_of.ensures.index)
+    c.variable_at.ensures ∙ declared_by (variables_of (flowchart_of c.args.self.now.plan.now)) c.args.name.now _ (Some c.in-Some.number) c.requires.variables (sym c.in-Some.is ∙ c.number_of.ensures)
 
 pub returns-in-None : goal.returns-in-None
 returns-in-None c =
-    declared_by (variables_of (flowchart_of c.args.self.now.plan.now)) c.args.name.now _ None c.requires.variables (sym c.in-None.is ∙ c.get_index_of.ensures.index)
+    declared_by (variables_of (flowchart_of c.args.self.now.plan.now)) c.args.name.now _ None c.requires.variables (sym c.in-None.is ∙ c.number_of.ensures)

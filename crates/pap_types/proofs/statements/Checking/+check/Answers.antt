@@ -40,14 +40,14 @@ check_statement-returns-then-not-contains t c =
     let x = c.in-Execute.method in
     let at : c.place.result ≡ place c.args.self.now.method c.args.number 0 = c.place.ensures ∙ ap (λ (s : Statement). place s.method s.number 0) c.statement-statement.ensures in
     ap (λ s. first_fault (checks_from c.args.self.now c.args.number (stmt_then s done))) c.in-Execute.is
-    ∙ execute_fails c.args.self.now c.args.number x c.args.self.now.scope.names.now.methods.keys c.requires.numbered.methods c.place.result (sym c.contains.ensures ∙ c.if-not-contains.true) at
+    ∙ execute_fails c.args.self.now c.args.number x c.args.self.now.scope.names.now.methods c.requires.numbered.methods c.place.result (sym c.contains.ensures ∙ c.if-not-contains.true) at
 
 pub check_statement-returns-else-not-contains : goal.check_statement-returns-else-not-contains
 check_statement-returns-else-not-contains t c =
     let x = c.in-Execute.method in
     let count = ap (λ s. written (stmt_then s done)) c.in-Execute.is in (
       ap (λ s. first_fault (checks_from c.args.self.now c.args.number (stmt_then s done))) c.in-Execute.is
-          ∙ execute_passes c.args.self.now c.args.number x c.args.self.now.scope.names.now.methods.keys c.requires.numbered.methods (sym c.contains.ensures ∙ c.if-not-contains.false),
+          ∙ execute_passes c.args.self.now c.args.number x c.args.self.now.scope.names.now.methods c.requires.numbered.methods (sym c.contains.ensures ∙ c.if-not-contains.false),
       omega arith,
     )
 
