@@ -2,6 +2,8 @@
 use Rattle.script_steps.specs.StepLaws.{LinesHaveAStep, LinesHaveOneStep, FilesAreTold, LongLinesAreOne}
 use Rattle.script_steps.specs.StepLaws.{LongLinesNameNoFile}
 use Rattle.script_steps.proofs.StepLemmas as steps
+-- What lines answer follows from the book and from what was filed; a script that is cut goes on from the saved book.
+pub use Rattle.script_steps.proofs.GoingOnLemmas.{follow, follow_files, go_on}
 
 pub some : LinesHaveAStep
 some = steps.some

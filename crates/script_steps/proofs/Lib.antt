@@ -12,3 +12,4 @@ mod TableLemmas
 mod PlanLemmas
 mod TrialLemmas
 mod OpenLemmas
+mod GoingOnLemmas

@@ -8,5 +8,6 @@ pub mod Steps
 pub mod Stops
 pub mod StepClauses
 pub mod StepLaws
+pub mod GoingOn
 pub mod StepViews
 pub mod PlanViews

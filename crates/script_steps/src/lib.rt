@@ -4,6 +4,7 @@
 mod command;
 mod edits;
 mod filings;
+mod going_on;
 mod load;
 mod open;
 mod plan;
@@ -16,6 +17,7 @@ mod stop;
 mod trace;
 mod trial;
 
+pub use going_on::going_on_laws;
 pub use script::Script;
 pub use step::{answer_line, step_laws};
 pub use stop::LineStop;

@@ -1,0 +1,11 @@
+use Rattle.script_steps.proofs.Laws.{follow, follow_files, go_on}
+use Rattle.script_steps.proofs.going_on.going_on_laws.Goals as goal
+
+pub returns-clause-books : goal.returns-clause-books
+returns-clause-books c = follow
+
+pub returns-clause-files : goal.returns-clause-files
+returns-clause-files c = follow_files
+
+pub returns-clause-cut : goal.returns-clause-cut
+returns-clause-cut c = go_on

@@ -1,0 +1,73 @@
+-- Going on from a saved book: a script is cut, the book that it has made there is saved, and another script opens it.
+use Rattle.std.specs.Prelude.{◌≡◌, ◌↔◌, List, [], ◌∷◌, ◌++◌, ℕ, None, Some}
+use Rattle.std.specs.List.{AllByRecursion}
+use Rattle.outside.specs.Told.{FileMap}
+use Rattle.script_lang.specs.Commands as asked
+use Rattle.script_lang.specs.Lines.{IsLine}
+use Rattle.recalc_engine.specs.Contents.{Contents, whole_cost}
+use Rattle.book_file.specs.BookTexts.{IsTextOf}
+use Rattle.script_steps.specs.LineTexts.{ok_line}
+use Rattle.script_steps.specs.Standings.{accepted}
+use Rattle.script_steps.specs.Steps.{Standing, Answer, IsStep, Names, start}
+
+-- ---- several lines
+
+-- the lines have these answers, one after another, and leave this
+abbrev pub AreSteps : FileMap → Standing → List (List ℕ) → Standing → List Answer → Type 0
+AreSteps files from [] to [] = to ≡ from
+AreSteps files from (line ∷ lines) to (answer ∷ answers) =
+    (next : Standing) × IsStep files from line next answer × AreSteps files next lines to answers
+AreSteps files from _ to _ = ⊥
+
+-- the lines have these answers
+abbrev pub HaveAnswers : FileMap → Standing → List (List ℕ) → List Answer → Type 0
+HaveAnswers files from lines answers = (to : Standing) × AreSteps files from lines to answers
+
+-- each file that the line names is the same in both maps
+abbrev pub AreSameFor : FileMap → FileMap → List ℕ → Type 0
+AreSameFor files other line = (name : List ℕ) → Names line name → files name ≡ other name
+
+-- ---- a cut
+
+-- these lines of a script have had these answers, and no month was filed; later there is a file with the saved text of the
+-- book, and this line opens it
+pub record IsCut
+    (files later : FileMap) (before : List (List ℕ)) (earlier : List Answer) (opening : List ℕ) : Type 0 where
+  pub left : Standing
+  pub answered : AreSteps files start before left earlier
+  pub unfiled : left.filings.last ≡ None
+  pub text : List ℕ
+  pub saved : IsTextOf text left.book
+  pub file : List ℕ
+  pub there : later file ≡ Some text
+  pub opens : IsLine opening (asked.opening file)
+
+-- the book is opened, all its jobs are run
+abbrev pub opened : Contents → Answer
+opened book = accepted ok_line (whole_cost book)
+
+-- ---- laws
+
+-- what lines answer follows from the book and from what was filed: not from the work of the edits before
+abbrev pub AnswersFollowBooks : Type 0
+AnswersFollowBooks =
+    (files : FileMap) (from other : Standing) (lines : List (List ℕ)) (answers : List Answer)
+    → from.book ≡ other.book → from.filings ≡ other.filings
+    → HaveAnswers files from lines answers → HaveAnswers files other lines answers
+
+-- nor from files that the lines don't name
+abbrev pub AnswersFollowFiles : Type 0
+AnswersFollowFiles =
+    (files other : FileMap) (from : Standing) (lines : List (List ℕ)) (answers : List Answer)
+    → AllByRecursion (AreSameFor files other) lines
+    → HaveAnswers files from lines answers → HaveAnswers other from lines answers
+
+-- the lines behind a cut have these further answers in the whole script exactly where they have them in the new one, behind
+-- the line that opens the book, over files that are the same for them
+abbrev pub CutScriptsGoOn : Type 0
+CutScriptsGoOn =
+    (files later : FileMap) (before after : List (List ℕ)) (earlier further : List Answer) (opening : List ℕ)
+    → (cut : IsCut files later before earlier opening)
+    → AllByRecursion (AreSameFor files later) after
+    → HaveAnswers files start (before ++ after) (earlier ++ further)
+    ↔ HaveAnswers later start (opening ∷ after) (opened cut.left.book ∷ further)

@@ -1,0 +1,10 @@
+//! Going on from a saved book.
+ghost use Rattle.script_steps.specs.GoingOn.{AnswersFollowBooks, AnswersFollowFiles, CutScriptsGoOn};
+
+/// What lines answer follows from the book, from what was filed, and from the files that they name. A script that is cut behind
+/// any line, before a month was filed, has the same further answers as one that opens the book which was saved there.
+pub fn going_on_laws()
+    ensures books { AnswersFollowBooks }
+    ensures files { AnswersFollowFiles }
+    ensures cut { CutScriptsGoOn }
+{}
