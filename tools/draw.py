@@ -11,7 +11,7 @@ LAYERS = [
     ("scripts", ["script_run", "script_steps", "script_lang"]),
     ("what is told of a book", ["report_csv", "plan_answers", "month_trace", "correction_ledger", "what_if", "book_file"]),
     ("the book", ["recalc_engine", "book_loads", "book_edits", "book_year"]),
-    ("pay runs", ["saved_items", "carry_bindings", "plan_calendar", "payroll_records", "rising_lists"]),
+    ("pay runs", ["pay_run", "saved_items", "carry_bindings", "plan_calendar", "payroll_records", "rising_lists"]),
     ("accepted flowcharts", ["pap_plan", "plan_text", "interval_analysis", "pap_compiler"]),
     ("what flowcharts mean", ["interval_walk", "call_order", "pap_types", "pap_machine"]),
     ("texts", ["pap_expr", "expr_spelling", "expr_grammar", "expr_tokens", "pap_reader", "limits_file"]),

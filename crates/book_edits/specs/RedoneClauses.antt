@@ -2,10 +2,10 @@
 use Rattle.std.specs.Prelude.{◌≡◌, ◌≤◌, ◌*◌, List, [], ◌∷◌, Option, Some, None, Vec, ⊤}
 use Rattle.std.specs.declared.alloc.Global.{Global}
 use Rattle.plan_calendar.specs.Picking.{Entry, pick}
+use Rattle.pay_run.specs.RunClauses.{most_steps}
 use Rattle.book_year.specs.Accepted.{Accepted}
 use Rattle.book_year.specs.declared.outcome.Outcome.{Outcome}
 use Rattle.book_year.specs.declared.year.Year.{Year}
-use Rattle.book_year.specs.ChainClauses.{most_steps}
 use Rattle.book_year.specs.Jobs.{work_of}
 use Rattle.book_year.specs.Kept.{AreKept, most_runs}
 use Rattle.book_year.specs.Rows.{Planned}

@@ -8,6 +8,7 @@ use Rattle.payroll_records.specs.declared.day.Day.{Day}
 use Rattle.payroll_records.specs.declared.record.Record.{Record}
 use Rattle.carry_bindings.specs.Conditions.{AreBounded}
 use Rattle.carry_bindings.specs.declared.carried.Earlier.{Earlier}
+use Rattle.pay_run.specs.RunClauses.{most_steps}
 use Rattle.book_year.specs.declared.outcome.Outcome.{Outcome}
 use Rattle.book_year.specs.declared.outcome.Work.{Work}
 use Rattle.book_year.specs.declared.chain.Ran.{Ran}
@@ -15,7 +16,7 @@ use Rattle.book_year.specs.Rows.{Planned, Job, row_of, year_rows, earlier_of, ou
 use Rattle.book_year.specs.Records.{records_of}
 use Rattle.book_year.specs.Jobs.{new_job, new_jobs, total_cost, Counts}
 use Rattle.book_year.specs.Kept.{kept, IsBounded}
-use Rattle.book_year.specs.ChainClauses.{IsRan, most_steps}
+use Rattle.book_year.specs.ChainClauses.{IsRan}
 use Rattle.book_year.proofs.RowLemmas.{rows_more, new_jobs_append, total_append, total_front, row_of_day}
 use Rattle.book_year.proofs.OldLemmas.{rows_length}
 

@@ -10,14 +10,14 @@ use Rattle.scaled_decimal.specs.Decimals.{Decimal, numerator_of, scale_of}
 use Rattle.plan_calendar.specs.Picking.{Entry, plan_of}
 use Rattle.carry_bindings.specs.Conditions.{AreBounded}
 use Rattle.pap_plan.specs.Acceptance.{Meaning}
+use Rattle.pay_run.proofs.Laws.{same_outputs}
+use Rattle.pay_run.specs.Runs.{run_outputs}
 use Rattle.book_year.specs.Accepted.{Accepted}
 use Rattle.book_year.specs.declared.chain.OldJob.{OldJob}
-use Rattle.book_year.specs.Runs.{run_outputs}
 use Rattle.book_year.specs.Rows.{Job, job_of}
 use Rattle.book_year.specs.Jobs.{has_texts, same_decimal, same_inputs, new_job}
 use Rattle.book_year.specs.Picks.{KnowsSame, same_plan, meaning_of}
 use Rattle.book_year.specs.ChainClauses.{HasJob}
-use Rattle.book_year.proofs.RunLemmas.{same_outputs}
 
 both : (a b : Bool) → (a && b) ≡ true → (a ≡ true) × (b ≡ true)
 both true b e = (refl, e)

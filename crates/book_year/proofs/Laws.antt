@@ -8,10 +8,6 @@ pub use Rattle.book_year.proofs.DayLemmas.{day_same}
 pub use Rattle.book_year.proofs.YearLemmas.{own_few}
 -- An edit of a year's records keeps their order and what holds of each.
 pub use Rattle.book_year.proofs.RecordLemmas.{rising_put, rising_without, all_put, all_without}
--- Inputs that are filled are admitted.
-pub use Rattle.book_year.proofs.AdmissionLemmas.{suits_kinds, filled_admitted}
--- The inputs of an accepted plan are those of its declarations; plans that mean the same have the same outputs.
-pub use Rattle.book_year.proofs.RunLemmas.{are_slots, same_outputs}
 -- A year that stays has no new jobs; plans that agree on a year's days give the same runs, whose days rise.
 pub use Rattle.book_year.proofs.QuietLemmas.{year_quiet, rows_agree, rows_rising}
 -- The plan of a day is picked alike where each plan stands without its code.

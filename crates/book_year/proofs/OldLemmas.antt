@@ -18,12 +18,12 @@ use Rattle.carry_bindings.specs.Conditions.{AreBounded}
 use Rattle.carry_bindings.specs.declared.carried.Earlier.{Earlier}
 use Rattle.carry_bindings.specs.declared.filling.Filled.{Filled}
 use Rattle.carry_bindings.specs.declared.filling.Filled.TheVariants as filling
+use Rattle.pay_run.specs.Runs.{filled, run_outputs}
 use Rattle.book_year.specs.Accepted.{Accepted}
 use Rattle.book_year.specs.declared.outcome.State.{State}
 use Rattle.book_year.specs.declared.outcome.State.TheVariants as state
 use Rattle.book_year.specs.declared.outcome.Outcome.{Outcome}
 use Rattle.book_year.specs.declared.chain.OldJob.{OldJob}
-use Rattle.book_year.specs.Runs.{filled, run_outputs}
 use Rattle.book_year.specs.Records.{record_day}
 use Rattle.book_year.specs.Rows.{Planned, Job, Row, row_of, row_filled, rows, year_rows, earlier_of, outputs_in}
 use Rattle.book_year.specs.Jobs.{job_at}

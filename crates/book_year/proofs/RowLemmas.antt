@@ -8,8 +8,8 @@ use Rattle.plan_calendar.specs.Picking.{Entry, plan_of}
 use Rattle.carry_bindings.specs.declared.carried.Earlier.{Earlier}
 use Rattle.carry_bindings.specs.declared.filling.Filled.{Filled}
 use Rattle.carry_bindings.specs.declared.filling.Filled.TheVariants as filling
+use Rattle.pay_run.specs.Runs.{filled}
 use Rattle.book_year.specs.Accepted.{Accepted}
-use Rattle.book_year.specs.Runs.{filled}
 use Rattle.book_year.specs.Rows.{Planned, Job, Row, row_of, row_filled, rows, year_rows, earlier_of}
 use Rattle.book_year.specs.Jobs.{new_job, new_jobs, total_cost, job_cost}
 

@@ -1,5 +1,5 @@
 -- What the calls along a year's runs promise.
-use Rattle.std.specs.Prelude.{ℕ, ◌≡◌, ◌*◌, ◌+◌, ◌≤◌, List, [], ◌∷◌, Option, Some, None, map, length, Result, MatchResult, ⊤}
+use Rattle.std.specs.Prelude.{ℕ, ◌≡◌, ◌*◌, ◌+◌, ◌≤◌, List, [], ◌∷◌, Option, Some, None, map, length, Result, MatchResult}
 use Rattle.std.specs.List.{AllByRecursion}
 use Rattle.std.specs.Option.{option_map}
 use Rattle.std.specs.Borrow.{Bor}
@@ -9,45 +9,20 @@ use Rattle.payroll_records.specs.declared.record.Record.{Record}
 use Rattle.payroll_records.specs.declared.values.NamedValue.{NamedValue}
 use Rattle.plan_calendar.specs.Picking.{Entry, plan_of}
 use Rattle.carry_bindings.specs.Conditions.{AreBounded}
-use Rattle.carry_bindings.specs.declared.filling.Filled.{Filled}
-use Rattle.carry_bindings.specs.declared.filling.Filled.TheVariants as filling
-use Rattle.interval_walk.specs.Admission.{AreAdmitted}
+use Rattle.pay_run.specs.RunClauses.{most_steps}
+use Rattle.pay_run.specs.Runs.{run_outputs}
 use Rattle.book_year.specs.Accepted.{Accepted}
 use Rattle.book_year.specs.declared.outcome.Outcome.{Outcome}
-use Rattle.book_year.specs.declared.run.Finished.{Finished}
 use Rattle.book_year.specs.declared.chain.Old.{Old}
 use Rattle.book_year.specs.declared.chain.OldJob.{OldJob}
 use Rattle.book_year.specs.declared.chain.Ran.{Ran}
 use Rattle.book_year.specs.declared.chain.Recalculated.{Recalculated}
 use Rattle.book_year.specs.declared.picks.Picks.{Picks}
 use Rattle.book_year.specs.Records.{records_of}
-use Rattle.book_year.specs.Runs.{run_outputs, run_cost}
 use Rattle.book_year.specs.Rows.{Planned, Job, Row, year_rows, outputs_in}
 use Rattle.book_year.specs.Jobs.{new_job, new_jobs, total_cost, work_of}
 use Rattle.book_year.specs.Kept.{IsBounded, kept, job_by}
 use Rattle.book_year.specs.Picks.{before, after}
-
--- the most steps of a run
-abbrev pub most_steps : ℕ
-most_steps = 1000000000
-
--- inputs that a plan admits
-abbrev pub AdmitsFilled : Accepted → Filled → Type 0
-AdmitsFilled p (filling.Inputs inputs) =
-    AreAdmitted p.meaning.flowchart p.meaning.limits inputs
-AdmitsFilled p (filling.State why) = ⊤
-
--- the inputs are these, or there are none for this cause
-pub record Fills (p : Accepted) (these filled : Filled) : Type 0 where
-  pub are : filled ≡ these
-  pub admitted : AdmitsFilled p filled
-
--- the outputs and the cost of a plan's run
-pub record HasRun (p : Accepted) (inputs : List Decimal) (f : Finished) : Type 0 where
-  pub outputs : f.outputs ≡ run_outputs p inputs
-  pub cost : f.cost ≡ run_cost p inputs
-  pub bounded : AreBounded (Some f.outputs)
-  pub cheap : f.cost ≤ most_steps
 
 -- the inputs and outputs of an outcome that has both
 abbrev pub outcome_parts :

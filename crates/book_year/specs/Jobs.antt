@@ -7,9 +7,9 @@ use Rattle.scaled_decimal.specs.Decimals.{Decimal, numerator_of, scale_of}
 use Rattle.rising_lists.specs.Keyed.{at_key}
 use Rattle.payroll_records.specs.declared.day.Day.{Day}
 use Rattle.payroll_records.specs.Orders.{day_cmp}
+use Rattle.pay_run.specs.Runs.{run_cost}
 use Rattle.book_year.specs.Accepted.{Accepted}
 use Rattle.book_year.specs.declared.outcome.Work.{Work}
-use Rattle.book_year.specs.Runs.{run_cost}
 use Rattle.book_year.specs.Rows.{Job, Row}
 
 -- both texts are the same

@@ -1,6 +1,5 @@
 pub mod Accepted
 pub mod Records
-pub mod Runs
 pub mod Rows
 pub mod Jobs
 pub mod Kept

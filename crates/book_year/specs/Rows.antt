@@ -8,8 +8,8 @@ use Rattle.plan_calendar.specs.Picking.{Entry, day_of, plan_of}
 use Rattle.carry_bindings.specs.declared.carried.Earlier.{Earlier}
 use Rattle.carry_bindings.specs.declared.filling.Filled.{Filled}
 use Rattle.carry_bindings.specs.declared.filling.Filled.TheVariants as filling
+use Rattle.pay_run.specs.Runs.{filled, run_outputs}
 use Rattle.book_year.specs.Accepted.{Accepted}
-use Rattle.book_year.specs.Runs.{filled, run_outputs}
 use Rattle.book_year.specs.declared.outcome.State.{State}
 use Rattle.book_year.specs.declared.outcome.State.TheVariants as state
 

@@ -2,13 +2,14 @@
 use Rattle.std.specs.Prelude.{ℕ, ◌≡◌, ◌≤◌, ◌*◌, List}
 use Rattle.payroll_records.specs.declared.record.Record.{Record}
 use Rattle.plan_calendar.specs.Picking.{Entry, pick}
+use Rattle.pay_run.specs.RunClauses.{most_steps}
 use Rattle.book_year.specs.Accepted.{Accepted}
 use Rattle.book_year.specs.declared.outcome.Work.{Work}
 use Rattle.book_year.specs.declared.year.Year.{Year}
 use Rattle.book_year.specs.declared.chain.Recalculated.{Recalculated}
 use Rattle.book_year.specs.Jobs.{total_cost, work_of}
 use Rattle.book_year.specs.Kept.{most_runs, job_by}
-use Rattle.book_year.specs.ChainClauses.{IsRecalculated, most_steps}
+use Rattle.book_year.specs.ChainClauses.{IsRecalculated}
 use Rattle.book_year.specs.declared.picks.Picks.{Picks}
 use Rattle.book_year.specs.Picks.{before, after}
 use Rattle.book_year.specs.Years.{IsYear, year_jobs}

@@ -9,11 +9,9 @@ mod chain;
 mod outcome;
 mod picks;
 mod records;
-mod run;
 mod year;
 
 pub use chain::{Old, Recalculated, recalculate};
 pub use outcome::{Outcome, State, Work};
 pub use picks::{Edit, Picked, Picks};
-pub use run::run_laws;
 pub use year::{Year, YearKey, year_laws};

@@ -24,15 +24,16 @@ use Rattle.carry_bindings.specs.declared.filling.Filled.TheVariants as filling
 use Rattle.pap_plan.specs.Acceptance.{IsAccepted}
 use Rattle.pap_plan.specs.Inputs.{AreSlots}
 use Rattle.pap_plan.specs.Plans.{Seen}
+use Rattle.pay_run.proofs.Laws.{are_slots, filled_admitted}
+use Rattle.pay_run.specs.Runs.{filled}
 use Rattle.book_year.specs.Accepted.{Accepted, accepted, accepted_entry, plans_in}
 use Rattle.book_year.specs.declared.outcome.Outcome.{Outcome}
 use Rattle.book_year.specs.declared.year.Year.{Year}
 use Rattle.book_year.specs.Records.{record_day}
-use Rattle.book_year.specs.Runs.{filled}
 use Rattle.book_year.specs.Rows.{Planned, Job, Row, job_of, outputs_in, row_filled, row_of, year_rows}
 use Rattle.book_year.specs.Kept.{AreKept, job_by, kept}
 use Rattle.book_year.specs.Years.{IsYear}
-use Rattle.book_year.proofs.Laws.{are_slots, filled_admitted, pick_in, rows_length}
+use Rattle.book_year.proofs.Laws.{pick_in, rows_length}
 use Rattle.book_edits.specs.Books.{runs_of, year_cmp, year_of}
 use Rattle.book_edits.specs.Kept.{kept_key, runs_in}
 use Rattle.book_edits.proofs.Laws.{runs_kept, runs_missed}

@@ -19,13 +19,13 @@ use Rattle.pap_types.proofs.Laws.{has_types}
 use Rattle.carry_bindings.specs.declared.carried.Earlier.{Earlier}
 use Rattle.carry_bindings.specs.declared.filling.Filled.{Filled}
 use Rattle.carry_bindings.specs.declared.filling.Filled.TheVariants as filling
+use Rattle.pay_run.specs.Runs.{filled, named_values, run_outputs}
 use Rattle.book_year.specs.Accepted.{Accepted}
 use Rattle.book_year.specs.declared.outcome.Outcome.{Outcome}
 use Rattle.book_year.specs.declared.year.Year.{Year}
 use Rattle.book_year.specs.declared.year.YearKey.{YearKey}
 use Rattle.book_year.specs.Kept.{IsBounded}
 use Rattle.book_year.specs.Rows.{Planned, outputs_in, row_filled, row_of, rows}
-use Rattle.book_year.specs.Runs.{filled, named_values, run_outputs}
 use Rattle.book_year.specs.Years.{IsYear}
 use Rattle.book_edits.specs.Books.{YearRuns}
 use Rattle.recalc_engine.specs.BookLaws.{ArePlans, HasPlan, IsBook, IsPlan}

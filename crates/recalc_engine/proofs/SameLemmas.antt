@@ -20,12 +20,12 @@ use Rattle.carry_bindings.specs.declared.filling.Filled.TheVariants as filling
 use Rattle.pap_plan.specs.Acceptance.{IsAccepted, Meaning}
 use Rattle.pap_plan.specs.declared.refusal.PlanRefusal.{PlanRefusal}
 use Rattle.pap_plan.proofs.Laws.{one}
+use Rattle.pay_run.specs.Runs.{filled, run_outputs}
 use Rattle.book_year.specs.Accepted.{Accepted}
 use Rattle.book_year.specs.declared.outcome.State.TheVariants as state
 use Rattle.book_year.specs.Jobs.{work_of}
 use Rattle.book_year.specs.Records.{record_day}
 use Rattle.book_year.specs.Rows.{Job, Row, row_filled, row_of}
-use Rattle.book_year.specs.Runs.{filled, run_outputs}
 use Rattle.book_year.proofs.Laws.{day_same, year_quiet}
 use Rattle.book_edits.specs.Books.{AreInOrder, YearRuns, runs_key, runs_of, runs_or_none, year_cmp, year_of}
 use Rattle.book_edits.specs.Kept.{jobs_in}

@@ -8,9 +8,9 @@ use Rattle.payroll_records.specs.declared.record.Record.{Record}
 use Rattle.payroll_records.specs.Orders.{key_cmp}
 use Rattle.plan_calendar.specs.Picking.{AreEntries, Entry, day_of, entry_at, plan_of}
 use Rattle.pap_plan.specs.Acceptance.{IsAccepted}
+use Rattle.pay_run.specs.Runs.{run_outputs}
 use Rattle.book_year.specs.Accepted.{Accepted}
 use Rattle.book_year.specs.declared.outcome.State.TheVariants as state
-use Rattle.book_year.specs.Runs.{run_outputs}
 use Rattle.book_year.specs.Rows.{Job, Row}
 use Rattle.book_year.specs.Years.{IsOwn}
 use Rattle.book_edits.specs.Books.{AreInOrder, YearRuns, run_count, year_of}

@@ -7,9 +7,9 @@ use Rattle.payroll_records.specs.declared.values.NamedValue.{NamedValue}
 use Rattle.carry_bindings.specs.declared.carried.Earlier.{Earlier}
 use Rattle.carry_bindings.specs.declared.filling.Filled.TheVariants as filling
 use Rattle.interval_walk.specs.Admission.{AreAdmitted}
+use Rattle.pay_run.specs.Runs.{filled}
 use Rattle.book_year.specs.declared.year.Year.{Year}
 use Rattle.book_year.specs.Accepted.{Accepted}
-use Rattle.book_year.specs.Runs.{filled}
 use Rattle.book_year.specs.Rows.{Planned, Job}
 use Rattle.book_year.specs.Kept.{AreKept, job_by}
 

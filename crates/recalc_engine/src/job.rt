@@ -1,7 +1,6 @@
 //! The jobs of a book's runs.
-ghost use Rattle.std.specs.Prelude.{◌≡◌, All, IfOk, IfErr, length};
+ghost use Rattle.std.specs.Prelude.{◌≡◌, IfOk, IfErr, length};
 ghost use Rattle.std.specs.Option.{option_copied};
-ghost use Rattle.scaled_decimal.specs.Limits.{IsKept};
 ghost use Rattle.rising_lists.specs.Keyed.{at_key, IsRising};
 ghost use Rattle.rising_lists.specs.Places.{Finds, IsAt, IsGap, Misses};
 ghost use Rattle.payroll_records.specs.Orders.{day_cmp};
@@ -13,6 +12,7 @@ ghost use Rattle.recalc_engine.specs.JobViews.{AdmitsWhatItFills, HasInputsOf};
 
 use book_year::{Year, YearKey};
 use pap_plan::Plan;
+use pay_run::each_is_kept;
 use payroll_records::{Day, Record};
 use scaled_decimal::Dec;
 
@@ -56,15 +56,6 @@ pub(crate) fn job_of<'a>(plan: &'a Plan, inputs: &'a [Dec]) -> Job<'a>
     let _ = plan.spec();
     each_is_kept(inputs);
     Job { plan, inputs }
-}
-
-/// Each decimal is within the limits of kept ones, as its type says.
-fn each_is_kept(values: &[Dec])
-    ensures { All IsKept values.now }
-{
-    for value in values {
-        let _ = (value.numerator(), value.scale());
-    }
 }
 
 /// Where an employee's year stands, or would go.

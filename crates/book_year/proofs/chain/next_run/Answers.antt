@@ -1,9 +1,10 @@
 use Rattle.std.proofs.Common.{◌≡◌, Some, sym, ◌∙◌, subst}
 use Rattle.carry_bindings.specs.declared.filling.Filled.TheVariants.{Inputs}
+use Rattle.pay_run.specs.RunClauses.{AdmitsFilled}
+use Rattle.pay_run.specs.Runs.{filled}
 use Rattle.book_year.specs.Accepted.{accepted}
-use Rattle.book_year.specs.Runs.{filled}
 use Rattle.book_year.specs.Picks.{before, after, picked_entry, KnowsSame}
-use Rattle.book_year.specs.ChainClauses.{old_jobs, AdmitsFilled}
+use Rattle.book_year.specs.ChainClauses.{old_jobs}
 use Rattle.book_year.proofs.chain.next_run.Goals as goal
 
 pub run_job-requires : goal.run_job-requires

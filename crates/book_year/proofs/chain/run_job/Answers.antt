@@ -1,10 +1,10 @@
 use Rattle.std.proofs.Common.{sym, ap, subst, arith, zero-add}
 use Rattle.std.specs.Prelude.{Some}
 use Rattle.carry_bindings.specs.Conditions.{AreBounded}
+use Rattle.pay_run.specs.RunClauses.{HasRun}
 use Rattle.book_year.specs.Accepted.{accepted}
 use Rattle.book_year.specs.Jobs.{work_of}
 use Rattle.book_year.specs.Picks.{picked_entry}
-use Rattle.book_year.specs.ChainClauses.{HasRun}
 use Rattle.book_year.proofs.chain.run_job.Goals as goal
 
 pub returns-in-Some-clause-ran : goal.returns-in-Some-clause-ran

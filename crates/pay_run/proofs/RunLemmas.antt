@@ -22,11 +22,11 @@ use Rattle.carry_bindings.specs.Conditions.{SuitsKind}
 use Rattle.carry_bindings.specs.Filling.{filled_by}
 use Rattle.pap_plan.specs.Acceptance.{Meaning, IsAccepted}
 use Rattle.pap_plan.specs.Inputs.{IsSlot, AreSlots}
-use Rattle.book_year.specs.Accepted.{Accepted}
-use Rattle.book_year.specs.declared.run.Finished.{Finished}
-use Rattle.book_year.specs.Runs.{slot_of, slot_with, filled, named_values, run_outputs, run_cost}
-use Rattle.book_year.specs.ChainClauses.{HasRun, Fills, AdmitsFilled, most_steps}
-use Rattle.book_year.proofs.AdmissionLemmas.{suits_kinds, filled_admitted}
+use Rattle.pay_run.specs.Accepted.{Accepted}
+use Rattle.pay_run.specs.declared.outputs.Finished.{Finished}
+use Rattle.pay_run.specs.Runs.{slot_of, slot_with, filled, named_values, run_outputs, run_cost}
+use Rattle.pay_run.specs.RunClauses.{HasRun, Fills, AdmitsFilled, most_steps}
+use Rattle.pay_run.proofs.AdmissionLemmas.{suits_kinds, filled_admitted}
 
 -- ---- the inputs
 
@@ -42,24 +42,25 @@ are_slots l [] (s ∷ ss) h = absurd h
 are_slots l (d ∷ ds) [] h = absurd h
 are_slots l (d ∷ ds) (s ∷ ss) h = ap (λ o. cons_option o (filter_map (slot_of l) ds)) (one_slot l d s h.0) ∙ ap (λ t. s ∷ t) (are_slots l ds ss h.1)
 
+-- the slots of a plan are those that its definition names
+pub filled_slots : (p : Accepted) (slots : List Slot) (values : List NamedValue) (earlier : List Earlier) → AreSlots p.meaning.limits p.meaning.flowchart.inputs slots → filled_by slots values earlier ≡ filled p values earlier
+unfolding filled
+filled_slots p slots values earlier are = ap (λ s. filled_by s values earlier) (sym (are_slots p.meaning.limits p.meaning.flowchart.inputs slots are))
+
 module _ (p : Accepted) (accepted : IsAccepted p.plan p.limits p.meaning) (slots : List Slot) (are : AreSlots p.meaning.limits p.meaning.flowchart.inputs slots) where
   pub doubles : AllByRecursion SuitsKind slots
   doubles = suits_kinds p.meaning.limits p.meaning.flowchart.inputs slots accepted.bound.suited.suited are
-
-  pub filled_is : (values : List NamedValue) (earlier : List Earlier) → filled_by slots values earlier ≡ filled p values earlier
-  unfolding filled
-  filled_is values earlier = ap (λ s. filled_by s values earlier) (sym (are_slots p.meaning.limits p.meaning.flowchart.inputs slots are))
 
   -- kept inputs that are filled are admitted
   pub fills_inputs : (values : List NamedValue) (earlier : List Earlier) (inputs : List Decimal) → filling.Inputs inputs ≡ filled_by slots values earlier → All IsKept inputs →
       Fills p (filled p values earlier) (filling.Inputs inputs)
   fills_inputs values earlier inputs e kept = record {
-    are = e ∙ filled_is values earlier;
+    are = e ∙ filled_slots p slots values earlier are;
     admitted = filled_admitted p.meaning.limits p.meaning.flowchart.inputs slots values earlier inputs accepted.bound.suited.suited are kept (sym e);
   }
 
   pub fills_none : (values : List NamedValue) (earlier : List Earlier) (f : Filled) → f ≡ filled_by slots values earlier → AdmitsFilled p f → Fills p (filled p values earlier) f
-  fills_none values earlier f e admitted = record { are = e ∙ filled_is values earlier; admitted = admitted }
+  fills_none values earlier f e admitted = record { are = e ∙ filled_slots p slots values earlier are; admitted = admitted }
 
 -- ---- the outputs
 
@@ -89,11 +90,12 @@ named_bounded (d ∷ ds) rs [] h = tt
 named_bounded (d ∷ ds) [] (v ∷ vs) h = absurd h
 named_bounded (d ∷ ds) (r ∷ rs) (v ∷ vs) h = (h.0.bound, named_bounded ds rs vs h.1)
 
-outputs_are : (p : Accepted) (inputs values : List Decimal) → outputs_of p.meaning.flowchart inputs ≡ Some values → named_values p.meaning.flowchart.outputs values ≡ run_outputs p inputs
+-- where the run is defined its outputs are its values under their names
+pub outputs_are : (p : Accepted) (inputs values : List Decimal) → outputs_of p.meaning.flowchart inputs ≡ Some values → named_values p.meaning.flowchart.outputs values ≡ run_outputs p inputs
 unfolding run_outputs
 outputs_are p inputs values e = sym (ap (λ o. option_map_or (named_values p.meaning.flowchart.outputs) o []) e)
 
-cost_is : (p : Accepted) (inputs : List Decimal) → cost_of p.meaning.flowchart inputs ≡ run_cost p inputs
+pub cost_is : (p : Accepted) (inputs : List Decimal) → cost_of p.meaning.flowchart inputs ≡ run_cost p inputs
 unfolding run_cost
 cost_is p inputs = refl
 
@@ -106,6 +108,7 @@ written_whole n out items h k =
 pub has_run : (p : Accepted) (inputs values : List Decimal) (f : Finished) (most : ℕ) → outputs_of p.meaning.flowchart inputs ≡ Some values → AreOutputs p.meaning.outputs values → f.cost ≡ cost_of p.meaning.flowchart inputs → f.cost ≤ most → most ≤ most_steps →
     f.outputs ≡ named_values p.meaning.flowchart.outputs values → HasRun p inputs f
 has_run p inputs values f most e ranges cost within bound is = record {
+  defined = record { values = values; are = e };
   outputs = is ∙ outputs_are p inputs values e;
   cost = cost ∙ cost_is p inputs;
   bounded = subst (λ os. AllByRecursion (λ (v : NamedValue). IsWithinBound v.value) os) (sym is) (named_bounded p.meaning.flowchart.outputs p.meaning.outputs values ranges);

@@ -19,7 +19,7 @@ use Rattle.carry_bindings.specs.Conditions.{AreBounded}
 use Rattle.carry_bindings.specs.declared.filling.Filled.TheVariants as filling
 use Rattle.pap_plan.specs.Acceptance.{IsAccepted}
 use Rattle.pap_plan.specs.Inputs.{carry_named}
-use Rattle.book_year.specs.Accepted.{Accepted}
+use Rattle.pay_run.specs.Accepted.{Accepted}
 
 -- an input with its type, its limit, its default and what it carries over; each input of an accepted plan has a limit
 abbrev pub slot_with : Limits → Declaration → InputLimit → Slot

@@ -1,6 +1,6 @@
 use Rattle.std.proofs.Common.{◌++◌, [], ◌∷◌, sym, ap, ◌∙◌, arith}
-use Rattle.book_year.proofs.RunLemmas.{named, named_more}
-use Rattle.book_year.proofs.run.name_values.Goals as goal
+use Rattle.pay_run.proofs.RunLemmas.{named, named_more}
+use Rattle.pay_run.proofs.outputs.name_values.Goals as goal
 
 pub loop-at-preserved : goal.loop-at-preserved
 loop-at-preserved c =

@@ -21,7 +21,7 @@ use Rattle.payroll_records.specs.declared.values.NamedValue.{NamedValue}
 use Rattle.payroll_records.specs.NamedValues.{name_cmp, value_at}
 use Rattle.carry_bindings.specs.Carrying.{amount_of, amounts, zero_amount, carried}
 use Rattle.carry_bindings.specs.Conditions.{AreBounded}
-use Rattle.carry_bindings.specs.Filling.{value_by, given, value_of, admits, outside, inputs, input_of, missing, unknown, waits, filled_by}
+use Rattle.carry_bindings.specs.Filling.{value_by, given, value_of, admits, outside, inputs, input_of, missing, unknown, waits}
 use Rattle.carry_bindings.specs.declared.carried.Earlier.{Earlier}
 use Rattle.carry_bindings.specs.declared.filling.Filled.TheVariants as filling
 use Rattle.carry_bindings.proofs.Laws.{IsPartial, sum_partial, abs_grows, amount_by}
@@ -31,11 +31,11 @@ use Rattle.interval_walk.specs.Admission.{SuitsLimit, HasLimit}
 use Rattle.interval_walk.proofs.Laws.{factor_admitted}
 use Rattle.pap_plan.specs.Acceptance.{IsAccepted}
 use Rattle.pap_plan.specs.Inputs.{IsSlot, AreSlots}
-use Rattle.book_year.specs.Accepted.{Accepted}
+use Rattle.pay_run.specs.Accepted.{Accepted}
 use Rattle.pap_plan.proofs.Laws.{HasKeptValue, accepted_limits, accepted_defaults, accepted_safe, some_slots}
-use Rattle.book_year.specs.Runs.{IsKeptValue, filled}
-use Rattle.book_year.proofs.AdmissionLemmas.{fits, not_false, none_at, first_inputs, filled_admitted}
-use Rattle.book_year.proofs.RunLemmas.{are_slots}
+use Rattle.pay_run.specs.Runs.{IsKeptValue, filled}
+use Rattle.pay_run.proofs.AdmissionLemmas.{fits, not_false, none_at, first_inputs, filled_admitted}
+use Rattle.pay_run.proofs.RunLemmas.{filled_slots}
 
 -- ---- carried values
 
@@ -145,10 +145,6 @@ module _ (l : Limits) (values : List NamedValue) (kept : All IsKeptValue values)
 
 -- ---- so a run on them is safe
 
-filled_slots : (p : Accepted) (slots : List Slot) (values : List NamedValue) (earlier : List Earlier) → AreSlots p.meaning.limits p.meaning.flowchart.inputs slots → filled p values earlier ≡ filled_by slots values earlier
-unfolding filled
-filled_slots p slots values earlier are = ap (λ s. filled_by s values earlier) (are_slots p.meaning.limits p.meaning.flowchart.inputs slots are)
-
 pub filled_safe : (p : Accepted) (values : List NamedValue) (earlier : List Earlier) (vs : List Decimal) → IsAccepted p.plan p.limits p.meaning → All IsKeptValue values → length earlier ≤ 366 →
     AllByRecursion (λ (e : Earlier). AreBounded e.outputs) earlier → filled p values earlier ≡ filling.Inputs vs → IsSafeFor p.meaning.flowchart vs
 filled_safe p values earlier vs accepted kept few bounded e =
@@ -156,7 +152,7 @@ filled_safe p values earlier vs accepted kept few bounded e =
     let ds = p.meaning.flowchart.inputs in
     let suited = accepted.bound.suited.suited in
     let slots = some_slots l ds suited in
-    let by_slots = sym (filled_slots p slots.0 values earlier slots.1) ∙ e in
+    let by_slots = filled_slots p slots.0 values earlier slots.1 ∙ e in
     let parts = first_inputs (waits slots.0 earlier) (unknown slots.0 values) (missing slots.0 values earlier) (outside slots.0 values earlier) (inputs slots.0 values earlier) vs by_slots in
     let all = inputs_kept l values kept earlier few bounded ds slots.0 (accepted_limits p.plan p.limits p.meaning accepted) (accepted_defaults p.plan p.limits p.meaning accepted) slots.1 parts.1 in
     accepted_safe p.plan p.limits p.meaning accepted vs

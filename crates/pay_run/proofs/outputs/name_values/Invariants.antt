@@ -1,8 +1,8 @@
 use Rattle.std.proofs.Common.{◌≡◌, ◌≤◌, length, map, take}
 use Rattle.std.specs.Prelude.{vec_len, vec_capacity}
 use Rattle.pap_tree.specs.Declarations.{declaration_of}
-use Rattle.book_year.specs.Runs.{named_values}
-use Rattle.book_year.proofs.run.name_values.Given as goal
+use Rattle.pay_run.specs.Runs.{named_values}
+use Rattle.pay_run.proofs.outputs.name_values.Given as goal
 
 abbrev pub invariant-loop-at : goal.invariant-loop-at
 invariant-loop-at l = record {

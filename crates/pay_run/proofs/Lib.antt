@@ -1,0 +1,4 @@
+mod AdmissionLemmas
+mod KeptLemmas
+pub mod Laws
+mod RunLemmas
