@@ -3,6 +3,7 @@ use Rattle.std.specs.Prelude.{◌≡◌, ◌≢◌, ◌<◌, ◌≤◌, ◌&&◌
 use Rattle.std.specs.List.{AllByRecursion}
 use Rattle.payroll_records.specs.Days.{IsDayText, IsMonthText}
 use Rattle.payroll_records.specs.Employees.{is_employee}
+use Rattle.payroll_records.specs.Limits.{most_values}
 use Rattle.payroll_records.specs.Tables.{Text}
 use Rattle.payroll_records.specs.ValueWords.{AreValueWords}
 use Rattle.payroll_records.specs.declared.day.Day.{Day}
@@ -47,7 +48,7 @@ pub record IsDrop (words : List Text) (d : Day) : Type 0 where
   pub day_is : IsDayWord word d
 
 -- add EMP MONTH DAY NAME=VALUE .. and change EMP MONTH DAY NAME=VALUE ..: the day lies in the month, and the record's values
--- are those of at most 256 words, in order of their names
+-- are those of the value words, in order of their names
 pub record IsOfRecord (command : Text) (words : List Text) (r : Record) : Type 0 where
   pub month_word : Text
   pub day_word : Text
@@ -136,9 +137,9 @@ text_of owed = codes "owed"
 text_of opening = codes "open"
 text_of trial = codes "try"
 
--- an employee, a month, a day, and at most 256 value words
+-- an employee, a month, a day, and at most as many value words as a pay run has values
 abbrev pub takes_record : List Text → Bool
-takes_record (employee ∷ month ∷ day ∷ values) = nat_le (length values) 256
+takes_record (employee ∷ month ∷ day ∷ values) = nat_le (length values) most_values
 takes_record _ = false
 
 -- an employee, and a month or a day
