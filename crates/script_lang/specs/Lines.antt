@@ -15,13 +15,14 @@ use Rattle.script_lang.specs.Commands as asked
 use Rattle.script_lang.specs.Commands.{Asked}
 use Rattle.script_lang.specs.Fields as field
 use Rattle.script_lang.specs.Fields.{Field, IsGood, fault_of, run_fields, record_fields}
+use Rattle.script_lang.specs.Limits.{most_line}
 use Rattle.script_lang.specs.Words.{words_of, is_file}
 use Rattle.script_lang.specs.declared.fault.LineFault.{LineFault}
 use Rattle.script_lang.specs.declared.fault.LineFault.TheVariants as fault
 
--- a line has at most 65,536 bytes
+-- a line has at most so many bytes
 abbrev pub IsShort : Text → Type 0
-IsShort line = length line ≤ 65536
+IsShort line = length line ≤ most_line
 
 -- no words, or a comment: its first word begins with `#`
 abbrev pub IsSilent : List Text → Type 0
@@ -231,7 +232,7 @@ AreWrong words other = HaveFirstFault words other
 
 -- why a line is refused; want of memory is free
 abbrev pub IsRefused : Text → LineFault → Type 0
-IsRefused line fault.LineLong = 65536 < length line
+IsRefused line fault.LineLong = most_line < length line
 IsRefused line (fault.Memory error) = ⊤
 IsRefused line other = IsShort line × AreWrong (words_of line) other
 
