@@ -5,6 +5,7 @@ ghost use Rattle.pap_tree.specs.Declarations.{declaration_of};
 ghost use Rattle.pap_types.specs.Meaning.{bound_of};
 ghost use Rattle.scaled_decimal.specs.Limits.{IsKept};
 ghost use Rattle.carry_bindings.specs.Conditions.{AreBounded};
+ghost use Rattle.carry_bindings.specs.Limits.{most_runs};
 ghost use Rattle.pap_plan.specs.Acceptance.{IsAccepted};
 ghost use Rattle.pap_plan.specs.Plans.{Admits, flowchart, meaning};
 ghost use Rattle.book_year.specs.Accepted.{accepted};
@@ -35,7 +36,7 @@ pub(crate) fn filled(
     item: &Record,
     earlier: &[Earlier],
 ) -> Result<Filled, AllocError>
-    requires few { length earlier.now ≤ 366 }
+    requires few { length earlier.now ≤ most_runs }
     requires bounded { AllByRecursion (λ e. AreBounded e.outputs) earlier.now }
     ensures { IfOk result (Fills (accepted plan.now)
         (filled (accepted plan.now) item.now.values earlier.now)) }
