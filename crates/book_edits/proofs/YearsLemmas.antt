@@ -3,20 +3,19 @@ use Rattle.std.proofs.Common.{◌≡◌, ℕ, ◌<◌, List, [], ◌∷◌, ◌+
 use Rattle.std.specs.List.{AllByRecursion, insert, remove}
 use Rattle.std.specs.declared.cmp.Ordering.{Ordering}
 use Rattle.std.specs.declared.cmp.Ordering.TheVariants.{Less, Equal, Greater}
-use Rattle.std.specs.Ordering.{is_eq, nat_cmp, ordering_then}
+use Rattle.std.specs.Ordering.{nat_cmp}
 use Rattle.std.specs.Cmp.{IsTotalOrder}
 use Rattle.std.specs.Cmp.Lexicographic.{nat_list_cmp_total, slice_cmp}
 use Rattle.std.proofs.lemmas.Bool.Decides.{nat_tests}
 use Rattle.std.proofs.lemmas.Cmp.{tied_itself, nat_cmp_total, on_total, then_total}
 use Rattle.std.proofs.lemmas.List.{append-nil, map-set, set-get_or, get_or-map}
 use Rattle.std.proofs.lemmas.List.Elements.{All-from_recursion}
-use Rattle.std.proofs.lemmas.Map.Text.{is_eq-slice_cmp}
-use Rattle.std.proofs.lemmas.Slice.Eq.{bytes_eq-Decides}
 use Rattle.rising_lists.specs.Keyed.{at_key, put, put_by, without, IsRising}
 use Rattle.rising_lists.specs.Places.{Finds, Misses}
-use Rattle.rising_lists.proofs.Laws.{put_rising, without_rising}
+use Rattle.rising_lists.proofs.Laws.{first_tie, put_rising, second_tie, text_same, without_rising}
+use Rattle.payroll_records.specs.declared.record.Key.{Key}
 use Rattle.payroll_records.specs.declared.record.Record.{Record}
-use Rattle.payroll_records.specs.Orders.{day_cmp}
+use Rattle.payroll_records.specs.Orders.{day_cmp, key_cmp}
 use Rattle.plan_calendar.specs.Picking.{Entry, pick}
 use Rattle.book_year.specs.Accepted.{Accepted}
 use Rattle.book_year.specs.declared.outcome.Work.{Work}
@@ -27,26 +26,16 @@ use Rattle.book_year.specs.Records.{record_day}
 use Rattle.book_year.specs.Rows.{Planned}
 use Rattle.book_year.specs.YearClauses.{IsYearEdit, IsSameYear}
 use Rattle.book_year.specs.Years.{IsYear, year_jobs}
-use Rattle.book_year.proofs.Laws.{year_quiet}
+use Rattle.book_year.proofs.Laws.{day_same, year_quiet}
 use Rattle.book_edits.specs.Books.{YearRuns, AreInOrder, runs_key, runs_of, runs_or_none, with_runs, year_cmp}
 use Rattle.book_edits.specs.Kept.{HasRuns, jobs_in, kept_key, runs_in, runs_in_year}
 use Rattle.book_edits.specs.Views.{AreKeptYears, IsListEdit, IsSameList}
 use Rattle.book_edits.proofs.ListLemmas.{all_put, all_without, at_key_map, at_key_tied, found_each, map_put, map_rising, map_without}
 
--- ---- the order of years
+-- ---- the orders of years and of runs
 
 pub year_total : IsTotalOrder year_cmp
 year_total = then_total (on_total (λ (k : YearKey). k.employee) nat_list_cmp_total) (on_total (λ (k : YearKey). k.year) nat_cmp_total)
-
-first_tie : (o p : Ordering) → ordering_then o p ≡ Equal → o ≡ Equal
-first_tie Less p e = e
-first_tie Equal p e = refl
-first_tie Greater p e = e
-
-second_tie : (o p : Ordering) → ordering_then o p ≡ Equal → p ≡ Equal
-second_tie Less p e = cc
-second_tie Equal p e = e
-second_tie Greater p e = cc
 
 same_number : (m n : ℕ) → nat_cmp m n ≡ Equal → m ≡ n
 same_number m n e = grind (arith, nat_tests)
@@ -55,10 +44,16 @@ same_number m n e = grind (arith, nat_tests)
 pub year_same : (a b : YearKey) → year_cmp a b ≡ Equal → a ≡ b
 year_same a b e =
     let employees = slice_cmp nat_cmp a.employee b.employee in
-    let tied : employees ≡ Equal = first_tie employees (nat_cmp a.year b.year) e in
-    let employee : a.employee ≡ b.employee = (bytes_eq-Decides a.employee b.employee).0 (sym (is_eq-slice_cmp a.employee b.employee) ∙ ap is_eq tied) in
+    let employee = text_same a.employee b.employee (first_tie employees (nat_cmp a.year b.year) e) in
     let year : a.year ≡ b.year = same_number a.year b.year (second_tie employees (nat_cmp a.year b.year) e) in
     λ i. record { employee = employee i; year = year i }
+
+pub key_same : (a b : Key) → key_cmp a b ≡ Equal → a ≡ b
+key_same a b e =
+    let employees = slice_cmp nat_cmp a.employee b.employee in
+    let employee = text_same a.employee b.employee (first_tie employees (day_cmp a.day b.day) e) in
+    let day = day_same a.day b.day (second_tie employees (day_cmp a.day b.day) e) in
+    λ i. record { employee = employee i; day = day i }
 
 -- ---- the new jobs of an edit
 

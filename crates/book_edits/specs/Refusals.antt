@@ -4,16 +4,13 @@ use Rattle.payroll_records.specs.declared.day.Day.{Day}
 use Rattle.payroll_records.specs.declared.record.Record.{Record}
 use Rattle.payroll_records.specs.declared.when.When.{When}
 use Rattle.payroll_records.specs.declared.when.When.TheVariants as when
+pub use Rattle.payroll_records.specs.Limits.{most_records}
 use Rattle.payroll_records.specs.Tables.{key_of}
 use Rattle.book_edits.specs.declared.in_month.InMonth.{InMonth}
 use Rattle.book_edits.specs.declared.in_month.InMonth.TheVariants.{Empty, One, Several}
 use Rattle.book_edits.specs.declared.refusal.EditRefusal.{EditRefusal}
 use Rattle.book_edits.specs.declared.refusal.EditRefusal.TheVariants as refusal
 use Rattle.book_edits.specs.Books.{YearRuns, run_at, run_count, source_of, withdrawal}
-
--- the most runs of a book
-abbrev pub most_records : ℕ
-most_records = 50000
 
 -- no run stands at the record's key, and there is room for one more
 pub record CanAdd (years : List YearRuns) (r : Record) : Type 0 where

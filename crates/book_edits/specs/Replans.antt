@@ -1,6 +1,7 @@
 -- What an edit of the calendar promises: the runs stay, and what is kept of them is what the new calendar gives.
 use Rattle.std.specs.Prelude.{ℕ, ◌≡◌, ◌+◌, ◌<◌, List, IsSome, IsNone, length}
 use Rattle.payroll_records.specs.declared.day.Day.{Day}
+pub use Rattle.plan_calendar.specs.Limits.{most_plans}
 use Rattle.plan_calendar.specs.Picking.{Entry, pick, entry_at}
 use Rattle.book_year.specs.Accepted.{Accepted}
 use Rattle.book_year.specs.declared.outcome.Work.{Work}
@@ -30,9 +31,6 @@ pub record IsReplan
   pub work_is : work ≡ work_of (replan_jobs plans wanted (years_of years))
 
 -- ---- refusals
-
-abbrev pub most_plans : ℕ
-most_plans = 64
 
 -- no plan has that day, and with one more there would be too many
 pub record IsFull (plans : List (Entry Accepted)) (day : Day) : Type 0 where

@@ -18,14 +18,11 @@ use crate::places::{key_of, place_year, year_of};
 use crate::{EditRefusal, InMonth, Years};
 use book_year::{Work, Year};
 use pap_plan::Plan;
-use payroll_records::{Day, Employee, Key, Month, Record, When};
+use payroll_records::{Day, Employee, Key, MOST_RECORDS, Month, Record, When};
 use plan_calendar::Calendar;
 use std::alloc::AllocError;
 use std::sync::ledger::Ledger;
 use steps::Steps;
-
-/// The most runs that all employees may have together.
-const MOST_RECORDS: usize = 50_000;
 
 impl Years {
     /// Adds a run. After a refusal the runs are as before.

@@ -14,7 +14,7 @@ use crate::years::Years;
 use book_year::{Picks, Work};
 use pap_plan::Plan;
 use payroll_records::Day;
-use plan_calendar::Calendar;
+use plan_calendar::{Calendar, MOST_PLANS};
 use std::alloc::AllocError;
 use std::sync::ledger::Ledger;
 use steps::Steps;
@@ -126,7 +126,7 @@ pub fn is_full(entries: &[(Day, Plan)], day: Day) -> bool
     requires { AreEntries entries.now }
     ensures { IsTrue result ↔ IsFull (plans_in entries.now) day }
 {
-    entries.len() == 64 && !has_plan(entries, day)
+    entries.len() == MOST_PLANS && !has_plan(entries, day)
 }
 
 /// Whether a plan holds from a day on.

@@ -5,7 +5,8 @@ use Rattle.std.specs.List.{AllByRecursion}
 use Rattle.plan_calendar.specs.Picking.{Entry, pick}
 use Rattle.book_year.specs.Accepted.{Accepted}
 use Rattle.book_year.specs.Jobs.{total_cost, work_of}
-use Rattle.book_year.specs.Kept.{AreKept}
+use Rattle.book_year.specs.ChainClauses.{most_steps}
+use Rattle.book_year.specs.Kept.{AreKept, most_runs}
 use Rattle.book_year.specs.Rows.{Job}
 use Rattle.book_year.specs.Years.{IsOwn, year_jobs}
 use Rattle.book_edits.specs.Books.{YearRuns, runs_of}
@@ -49,8 +50,8 @@ pub record IsComputedGroup
   pub some : 0 < length (group_year old g).runs
   pub room : HasRoom (length (runs_of old g.key)) (vec_len g.items) c.room
   pub work : c.work ≡ work_of (group_jobs plans old g)
-  pub few : c.work.runs ≤ 366
-  pub cheap : c.work.steps ≤ 366 * 1000000000
+  pub few : c.work.runs ≤ most_runs
+  pub cheap : c.work.steps ≤ most_runs * most_steps
 
 abbrev pub draft_key : Draft → YearKey
 draft_key d = d.key

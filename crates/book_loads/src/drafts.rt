@@ -8,6 +8,7 @@ ghost use Rattle.book_year.specs.Accepted.{Accepted, plans_in};
 ghost use Rattle.book_year.specs.Jobs.{Counts};
 ghost use Rattle.book_year.specs.Kept.{IsOld};
 ghost use Rattle.book_year.specs.Years.{IsYear};
+ghost use Rattle.payroll_records.specs.Limits.{most_records};
 ghost use Rattle.book_edits.specs.Books.{runs_of, year_cmp};
 ghost use Rattle.book_edits.specs.Kept.{kept_key, runs_in};
 ghost use Rattle.book_loads.specs.Groups.{IsGroup};
@@ -62,7 +63,7 @@ pub(crate) fn draft_all<L: Ledger>(
     requires rising { IsRising year_cmp kept_key list.now }
     requires years { AllByRecursion (IsYear (plans_in plans.now)) list.now }
     requires groups { AllByRecursion IsGroup groups.items }
-    requires few { length groups.items ≤ 50000 }
+    requires few { length groups.items ≤ most_records }
     ensures done { IfOk result (AreDrafted (plans_in plans.now) (runs_in list.now) groups.items) }
     ensures counted { Counts result steps.old steps.new
         (groups_cost (plans_in plans.now) (runs_in list.now) groups.items) }

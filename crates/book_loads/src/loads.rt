@@ -5,7 +5,8 @@ ghost use Rattle.book_year.specs.Jobs.{Counts, total_cost};
 ghost use Rattle.book_edits.specs.Books.{loaded};
 ghost use Rattle.book_edits.specs.Kept.{AreSameYears, AreYears, IsYearsEdit, edit_cost};
 ghost use Rattle.book_edits.specs.Kept.{edit_jobs, runs_in, years_of};
-ghost use Rattle.book_edits.specs.Refusals.{CountsEdit, most_records};
+ghost use Rattle.book_edits.specs.Refusals.{CountsEdit};
+ghost use Rattle.payroll_records.specs.Limits.{most_records};
 ghost use Rattle.book_edits.specs.Views.{AreKeptYears, IsListEdit, list_cost};
 ghost use Rattle.book_loads.specs.Loads.{AreDistinct, CanLoad, IsLoadRefused, TablesAreDistinct};
 
@@ -78,7 +79,7 @@ fn load_runs<L: Ledger>(
 ) -> Result<Work, AllocError>
     requires kept { AreKeptYears (plans_in plans.now) list.old.items }
     requires distinct { AreDistinct items.items }
-    requires few { length items.items ≤ 50000 }
+    requires few { length items.items ≤ most_records }
     ensures ok { IfOk result (IsListEdit (plans_in plans.now) list.old.items list.new.items
         (loaded items.items (runs_in list.old.items))) }
     ensures err { OnErr result (list.new.items ≡ list.old.items) }

@@ -2,16 +2,13 @@
 ghost use Rattle.std.specs.Prelude.{◌≡◌, ◌≤◌, IfOk, IfErr};
 ghost use Rattle.book_edits.specs.Books.{AreInOrder, run_count};
 ghost use Rattle.book_edits.specs.Kept.{years_of};
-ghost use Rattle.book_edits.specs.Refusals.{most_records};
+ghost use Rattle.payroll_records.specs.Limits.{most_records};
 ghost use Rattle.std.specs.List.{AllByRecursion};
 ghost use Rattle.book_loads.specs.Loads.{CanLoad, IsFree, IsLoadRefused};
 
 use crate::groups::key_of;
 use book_edits::{EditRefusal, Years};
-use payroll_records::Record;
-
-/// The most runs that all employees may have together.
-const MOST_RECORDS: usize = 50_000;
+use payroll_records::{MOST_RECORDS, Record};
 
 /// Whether a run stands at the key of one of the records, or there is no room for all of them.
 pub(crate) fn refused(years: &Years, items: &[Record]) -> Result<(), EditRefusal>

@@ -7,15 +7,12 @@ use Rattle.payroll_records.specs.declared.day.Day.{Day}
 use Rattle.payroll_records.specs.declared.record.Record.{Record}
 use Rattle.payroll_records.specs.Orders.{day_cmp}
 use Rattle.carry_bindings.specs.Conditions.{AreBounded}
+pub use Rattle.carry_bindings.specs.Limits.{most_runs}
 use Rattle.book_year.specs.declared.outcome.Outcome.{Outcome}
 use Rattle.book_year.specs.declared.chain.Old.{Old}
 use Rattle.book_year.specs.Records.{record_day}
 use Rattle.book_year.specs.Rows.{Planned, Job, Row, year_rows, outputs_in}
 use Rattle.book_year.specs.Jobs.{job_at}
-
--- a year has at most so many days, and so many runs
-abbrev pub most_runs : ℕ
-most_runs = 366
 
 -- what is kept of a run
 abbrev pub kept : Row → Outcome

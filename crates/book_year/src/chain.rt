@@ -6,6 +6,7 @@ ghost use Rattle.payroll_records.specs.declared.day.Day.{Day as Date};
 ghost use Rattle.plan_calendar.specs.Picking.{Entry, plan_of};
 ghost use Rattle.carry_bindings.specs.Conditions.{AreBounded};
 ghost use Rattle.carry_bindings.specs.declared.filling.Filled.TheVariants.{Inputs as HasInputs};
+ghost use Rattle.carry_bindings.specs.Limits.{most_runs};
 ghost use Rattle.pap_plan.specs.Plans.{Admits};
 ghost use Rattle.book_year.specs.Accepted.{Accepted};
 ghost use Rattle.book_year.specs.Rows.{Job, job_of, row_of, row_filled, outputs_in};
@@ -66,7 +67,7 @@ pub fn recalculate<L: Ledger>(
 ) -> Result<Recalculated, AllocError>
     requires picks { ArePicks picks.now }
     requires old { IsOld (before picks.now) old }
-    requires few { length records.now ≤ 366 }
+    requires few { length records.now ≤ most_runs }
     ensures done { IfOk result (IsChain picks.now old.entry records.now) }
     ensures counted { Counts result steps.old steps.new
         (chain_cost picks.now old.entry records.now) }
@@ -195,7 +196,7 @@ fn next_run<L: Ledger>(
 ) -> Result<Ran, AllocError>
     requires picks { ArePicks picks.now }
     requires old { IsOld (before picks.now) old }
-    requires few { length earlier.now ≤ 366 }
+    requires few { length earlier.now ≤ most_runs }
     requires bounded { AllByRecursion (λ e. AreBounded e.outputs) earlier.now }
     ensures ran { IfOk result
         (IsRan (row_of (after picks.now item.now.day) earlier.now item.now)

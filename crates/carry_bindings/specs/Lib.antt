@@ -1,4 +1,5 @@
 pub mod Carrying
 pub mod Filling
 pub mod Conditions
+pub mod Limits
 pub mod Views

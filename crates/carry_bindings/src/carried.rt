@@ -3,6 +3,7 @@ ghost use Rattle.std.specs.Prelude.{◌≡◌, ◌≤◌, IfSome, length};
 ghost use Rattle.std.specs.List.{AllByRecursion};
 ghost use Rattle.carry_bindings.specs.Carrying.{amount_of, amounts, carried, latest, named, total};
 ghost use Rattle.carry_bindings.specs.Conditions.{AreBounded};
+ghost use Rattle.carry_bindings.specs.Limits.{most_runs};
 
 use limits_file::{Carry, Items};
 use pap_tree::Name;
@@ -19,7 +20,7 @@ pub struct Earlier {
 
 /// The value that an input carries over.
 pub(crate) fn carried(carry: &Carry, earlier: &[Earlier]) -> Dec
-    requires few { length earlier.now ≤ 366 }
+    requires few { length earlier.now ≤ most_runs }
     requires bounded { AllByRecursion (λ e. AreBounded e.outputs) earlier.now }
     ensures { result ≡ carried carry.now earlier.now }
 {
@@ -32,7 +33,7 @@ pub(crate) fn carried(carry: &Carry, earlier: &[Earlier]) -> Dec
 
 /// The sum of an output over the runs that have it.
 fn total(name: &Name, earlier: &[Earlier]) -> Dec
-    requires few { length earlier.now ≤ 366 }
+    requires few { length earlier.now ≤ most_runs }
     requires bounded { AllByRecursion (λ e. AreBounded e.outputs) earlier.now }
     ensures { result ≡ total (amounts name.now earlier.now) }
 {

@@ -2,6 +2,7 @@
 ghost use Rattle.std.specs.Prelude.{◌≡◌, ◌≤◌, IfOk, None, length, true};
 ghost use Rattle.std.specs.List.{AllByRecursion};
 ghost use Rattle.carry_bindings.specs.Conditions.{AreBounded, SuitsKind};
+ghost use Rattle.carry_bindings.specs.Limits.{most_runs};
 ghost use Rattle.carry_bindings.specs.Filling.{admits, filled_by, first_of, given, has_carry, input_of, inputs, missing};
 ghost use Rattle.carry_bindings.specs.Filling.{outside, value_of, waits};
 ghost use Rattle.carry_bindings.specs.Views.{places_of};
@@ -44,7 +45,7 @@ pub fn fill(
     item: &Record,
     earlier: &[Earlier],
 ) -> Result<Filled, AllocError>
-    requires few { length earlier.now ≤ 366 }
+    requires few { length earlier.now ≤ most_runs }
     requires bounded { AllByRecursion (λ e. AreBounded e.outputs) earlier.now }
     requires doubles { AllByRecursion SuitsKind spec.now.slots }
     ensures { IfOk result (λ f. f ≡ filled_by spec.now.slots item.now.values earlier.now) }
@@ -99,7 +100,7 @@ fn given(values: &Values, place: Option<usize>, slot: &Slot) -> Option<Dec>
 /// The value of an input: what it carries, or else what is given.
 fn value_of(values: &Values, place: Option<usize>, earlier: &[Earlier], slot: &Slot) -> Option<Dec>
     requires place { place ≡ place_at values.now slot.now.name }
-    requires few { length earlier.now ≤ 366 }
+    requires few { length earlier.now ≤ most_runs }
     requires bounded { AllByRecursion (λ e. AreBounded e.outputs) earlier.now }
     ensures { result ≡ value_of values.now earlier.now slot.now }
 {
@@ -155,7 +156,7 @@ fn inputs(
     earlier: &[Earlier],
 ) -> Result<Filled, AllocError>
     requires places { places.now ≡ places_of slots.now values.now }
-    requires few { length earlier.now ≤ 366 }
+    requires few { length earlier.now ≤ most_runs }
     requires bounded { AllByRecursion (λ e. AreBounded e.outputs) earlier.now }
     requires doubles { AllByRecursion SuitsKind slots.now }
     ensures { let state = outside slots.now values.now earlier.now in

@@ -2,46 +2,24 @@
 use Rattle.std.proofs.Common.{◌≡◌, ℕ, List, true, false, refl, sym, ap, ◌∙◌}
 use Rattle.std.specs.declared.cmp.Ordering.{Ordering}
 use Rattle.std.specs.declared.cmp.Ordering.TheVariants.{Less, Equal, Greater}
-use Rattle.std.specs.Ordering.{is_eq, is_gt, is_le, nat_cmp, on, ordering_reverse, ordering_then, then_cmp}
+use Rattle.std.specs.Ordering.{is_gt, is_le, nat_cmp, on, ordering_reverse, then_cmp}
 use Rattle.std.specs.Cmp.{IsTotalOrder, nat_cmp_total, on_total, then_total}
-use Rattle.std.specs.Cmp.Lexicographic.{nat_list_cmp_total, slice_cmp}
+use Rattle.std.specs.Cmp.Lexicographic.{nat_list_cmp_total}
 use Rattle.std.proofs.lemmas.Cmp.{upto}
-use Rattle.std.proofs.lemmas.Slice.Eq.{bytes_eq-Decides}
-use Rattle.std.proofs.lemmas.Map.Text.{is_eq-slice_cmp}
+use Rattle.rising_lists.proofs.Laws.{first_tie, second_tie, text_same}
 use Rattle.payroll_records.specs.declared.day.Day.{Day}
 use Rattle.payroll_records.specs.declared.month.Month.{Month}
 use Rattle.payroll_records.specs.declared.record.Key.{Key}
 use Rattle.payroll_records.specs.Orders.{day_cmp, key_cmp}
 use Rattle.payroll_records.specs.NamedValues.{name_cmp}
 use Rattle.payroll_records.proofs.Laws.{key_total}
-use Rattle.book_year.proofs.Laws.{day_same}
+use Rattle.book_edits.proofs.Laws.{key_same}
 use Rattle.correction_ledger.specs.Months.{is_up_to, month_cmp}
 use Rattle.correction_ledger.specs.Accounts.{Account, account_cmp}
 
 -- accounts are in a total order
 pub account_total : IsTotalOrder account_cmp
 account_total = then_total (on_total (λ (p : Account). p.key) key_total) (on_total (λ (p : Account). p.name) nat_list_cmp_total)
-
-first_tie : (o p : Ordering) → ordering_then o p ≡ Equal → o ≡ Equal
-first_tie Less p e = cc e
-first_tie Equal p e = refl
-first_tie Greater p e = cc e
-
-second_tie : (o p : Ordering) → ordering_then o p ≡ Equal → p ≡ Equal
-second_tie Less p e = cc e
-second_tie Equal p e = e
-second_tie Greater p e = cc e
-
--- texts that tie are one text
-pub text_same : (a b : List ℕ) → slice_cmp nat_cmp a b ≡ Equal → a ≡ b
-text_same a b e = (bytes_eq-Decides a b).0 (sym (is_eq-slice_cmp a b) ∙ ap is_eq e)
-
-pub key_same : (a b : Key) → key_cmp a b ≡ Equal → a ≡ b
-key_same a b e =
-    let employees = slice_cmp nat_cmp a.employee b.employee in
-    let employee = text_same a.employee b.employee (first_tie employees (day_cmp a.day b.day) e) in
-    let day = day_same a.day b.day (second_tie employees (day_cmp a.day b.day) e) in
-    λ i. record { employee = employee i; day = day i }
 
 pub account_same : (p q : Account) → account_cmp p q ≡ Equal → p ≡ q
 account_same p q e =

@@ -7,14 +7,13 @@ use Rattle.std.specs.Ordering.{is_eq, ordering_reverse}
 use Rattle.scaled_decimal.specs.Decimals.{difference, value_order}
 use Rattle.limits_file.specs.Limits.{IsWithinBound}
 use Rattle.rising_lists.specs.Keyed.{at_key, AreAbove, IsRising}
-use Rattle.rising_lists.proofs.Laws.{above_more, above_same, at_key_above}
+use Rattle.rising_lists.proofs.Laws.{above_all_of, above_more, above_same, all_above, at_key_above, at_key_map, rising_map}
 use Rattle.correction_ledger.specs.declared.balances.Balance.{Balance}
 use Rattle.correction_ledger.specs.declared.due.Due.{Due}
 use Rattle.correction_ledger.specs.BalanceViews.{AreBothBounded, both_sides, due_by, owed_of, filed_only, balances_of, balances_by, balances_with, reported_only, settled_by, settled_of}
 use Rattle.correction_ledger.specs.Accounts.{Account, account_cmp, account_of}
 use Rattle.correction_ledger.proofs.DifferenceLemmas.{settled_bounded, zero_bounded}
 use Rattle.correction_ledger.proofs.AccountLemmas.{account_total}
-use Rattle.correction_ledger.proofs.RisingLemmas.{above_all_of, all_above, at_key_map, rising_map}
 
 abbrev pub balance_account : Balance → Account
 balance_account b = record { key = b.key; name = b.name }

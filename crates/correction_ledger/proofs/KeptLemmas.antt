@@ -9,6 +9,7 @@ use Rattle.std.proofs.lemmas.Bool.{false≢true}
 use Rattle.scaled_decimal.specs.Decimals.{Decimal, value_order}
 use Rattle.limits_file.specs.Limits.{IsWithinBound}
 use Rattle.rising_lists.specs.Keyed.{at_key, IsRising}
+use Rattle.rising_lists.proofs.Laws.{all_in, at_key_filter_map, at_key_map, found_in, none_some, rising_filter_map, rising_map, some_same}
 use Rattle.payroll_records.specs.declared.month.Month.{Month}
 use Rattle.carry_bindings.specs.Carrying.{zero_amount}
 use Rattle.recalc_engine.specs.MonthRows.{KeyedRow}
@@ -26,7 +27,7 @@ use Rattle.correction_ledger.specs.RowViews.{AreReported}
 use Rattle.correction_ledger.proofs.BalanceLemmas.{all_balances, at_balances, balance_account, due_at, balances_bounded, balances_rising, met, settled_by_bounded}
 use Rattle.correction_ledger.proofs.OwedLemmas.{filed_after, owed_at, owed_between, owed_of_at}
 use Rattle.correction_ledger.proofs.AccountLemmas.{account_same, account_total, up_to_later}
-use Rattle.correction_ledger.proofs.RisingLemmas.{all_in, all_map, all_more, at_key_filter_map, at_key_map, found_in, rising_filter_map, rising_map}
+use Rattle.correction_ledger.proofs.RisingLemmas.{all_map, all_more}
 
 -- what is owed and settled of these balances
 abbrev pub owed_list : List Due → List Due → List Due
@@ -34,12 +35,6 @@ owed_list reps sums = filter_map owed_of (balances_of reps sums)
 
 abbrev pub settled_list : List Due → List Due → List Due
 settled_list reps sums = map settled_of (balances_of reps sums)
-
-some_same : {X : Type 0} (x y : X) → ◌≡◌ {A = Option X} (Some x) (Some y) → x ≡ y
-some_same x y e = cc e
-
-none_some : {X : Type 0} (x : X) → ◌≡◌ {A = Option X} None (Some x) → ⊥
-none_some x e = cc e
 
 due_keeps_by : (o : Ordering) (b : Balance) (d : Due) → due_by o b ≡ Some d → account_of d ≡ balance_account b
 due_keeps_by Less b d e = sym (ap account_of (some_same _ d e))

@@ -10,6 +10,7 @@ use Rattle.std.proofs.lemmas.List.Elements.{filter-append}
 use Rattle.std.proofs.lemmas.List.Sums.{fold-append}
 use Rattle.scaled_decimal.specs.Decimals.{Decimal, difference, sum, value_order}
 use Rattle.rising_lists.specs.Keyed.{at_key, AreAbove, IsRising}
+use Rattle.rising_lists.proofs.Laws.{at_key_none, contains_of_in, found_in, in_found, in_of_contains, none_some, some_same}
 use Rattle.payroll_records.specs.declared.month.Month.{Month}
 use Rattle.carry_bindings.specs.Carrying.{total, zero_amount}
 use Rattle.recalc_engine.specs.MonthRows.{KeyedRow}
@@ -23,7 +24,7 @@ use Rattle.correction_ledger.specs.Owed.{IsDue, IsOwed, entry_amount, filed, is_
 use Rattle.correction_ledger.specs.Accounts.{Account, amount_at, due_amount, account_cmp, account_of}
 use Rattle.correction_ledger.proofs.DifferenceLemmas.{order_back, settled_order, sum_zero}
 use Rattle.correction_ledger.proofs.AccountLemmas.{account_same, account_total}
-use Rattle.correction_ledger.proofs.RisingLemmas.{at_key_none, contains_of_in, found_in, in_found, in_of_contains, same_elements}
+use Rattle.correction_ledger.proofs.RisingLemmas.{same_elements}
 
 -- the balance of an account
 abbrev pub balance_of : Decimal → Decimal → Account → Balance
@@ -41,12 +42,6 @@ owed_at rows entries month p = if is_up_to month p.key.day then owed_between (re
 pub record HasAtEach (rows : List KeyedRow) (entries : List Entry) (month : Month) (dues : List Due) : Type 0 where
   pub in_order : IsRising account_cmp account_of dues
   pub at : (p : Account) → at_key account_cmp account_of dues p ≡ owed_at rows entries month p
-
-some_same : {X : Type 0} (x y : X) → ◌≡◌ {A = Option X} (Some x) (Some y) → x ≡ y
-some_same x y e = cc e
-
-none_some : {X : Type 0} (x : X) → ◌≡◌ {A = Option X} None (Some x) → ⊥
-none_some x e = cc e
 
 -- the amount that is owed between two values, on an account
 abbrev pub due_with : Decimal → Decimal → Account → Due

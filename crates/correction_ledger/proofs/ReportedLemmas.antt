@@ -18,6 +18,7 @@ use Rattle.payroll_records.proofs.Laws.{key_total}
 use Rattle.carry_bindings.specs.Carrying.{named, zero_amount}
 use Rattle.carry_bindings.specs.Conditions.{AreBounded}
 use Rattle.book_year.specs.Rows.{outputs_in}
+use Rattle.book_edits.proofs.Laws.{key_same}
 use Rattle.recalc_engine.specs.BookLaws.{row_key}
 use Rattle.recalc_engine.specs.MonthRows.{KeyedRow}
 use Rattle.correction_ledger.specs.declared.due.Due.{Due}
@@ -26,7 +27,6 @@ use Rattle.correction_ledger.specs.Months.{is_up_to}
 use Rattle.correction_ledger.specs.Owed.{output_of, reported}
 use Rattle.correction_ledger.specs.Accounts.{Account, amount_at, due_amount, account_cmp, account_of}
 use Rattle.correction_ledger.specs.RowViews.{AreListed, AreReported, due_name, outputs_by, outputs_or_none}
-use Rattle.correction_ledger.proofs.AccountLemmas.{key_same}
 use Rattle.correction_ledger.proofs.RisingLemmas.{all_append, all_more, at_key_append, rising_append}
 
 -- ---- the outputs of a row that count

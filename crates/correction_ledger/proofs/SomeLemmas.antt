@@ -9,7 +9,7 @@ use Rattle.std.proofs.lemmas.Bool.{false≢true}
 use Rattle.std.proofs.lemmas.List.Folds.{list_any-append}
 use Rattle.std.proofs.lemmas.Map.Text.{is_eq-slice_cmp}
 use Rattle.rising_lists.specs.Keyed.{at_key, put, IsRising}
-use Rattle.rising_lists.proofs.Laws.{at_key_put, put_rising}
+use Rattle.rising_lists.proofs.Laws.{at_key_put, put_rising, tied}
 use Rattle.payroll_records.specs.declared.month.Month.{Month}
 use Rattle.payroll_records.specs.declared.record.Key.{Key}
 use Rattle.payroll_records.specs.declared.values.NamedValue.{NamedValue}
@@ -28,7 +28,6 @@ use Rattle.correction_ledger.specs.Accounts.{Account, account_cmp, account_of}
 use Rattle.correction_ledger.specs.RowViews.{outputs_or_none}
 use Rattle.correction_ledger.proofs.OwedLemmas.{owed_at, owed_between, owed_of_at, owed_once, owed_account}
 use Rattle.correction_ledger.proofs.AccountLemmas.{account_same, account_total}
-use Rattle.correction_ledger.proofs.RisingLemmas.{tied}
 
 -- whether an account is among some
 abbrev among : Account → List Account → Bool

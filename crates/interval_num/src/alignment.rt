@@ -9,10 +9,7 @@ ghost use Rattle.interval_num.specs.Views.{with_pair};
 
 use crate::cause::RangeCause;
 use crate::interval::Abs;
-use scaled_decimal::power_of_ten;
-
-/// The greatest magnitude of a kept numerator.
-const LIMIT: u128 = 10_000_000_000_000_000_000_000_000_000_000_000_000;
+use scaled_decimal::{LIMIT, power_of_ten};
 
 /// Whether a numerator is beyond the limit of kept decimals.
 pub(crate) fn is_beyond(n: i128) -> bool
@@ -46,7 +43,8 @@ pub(crate) fn kept(lo: i128, hi: i128, s_lo: u8, s_hi: u8) -> Result<Abs, RangeC
 
 /// Two intervals with their ends at the greater of their greatest scales.
 pub(crate) fn aligned(a: Abs, b: Abs) -> Result<(Abs, Abs), RangeCause>
-    ensures exact { (make : Interval → Interval → Answer) → aligned make a b ≡ with_pair make result }
+    ensures exact { (make : Interval → Interval → Answer) →
+        aligned make a b ≡ with_pair make result }
     ensures scale { IfOk result (λ p. p.0.s_hi ≡ p.1.s_hi) }
     ensures left { IfOk result (λ p. p.0.lo ≤ℤ p.0.hi) }
     ensures right { IfOk result (λ p. p.1.lo ≤ℤ p.1.hi) }

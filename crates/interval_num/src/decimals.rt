@@ -10,9 +10,7 @@ use crate::cause::RangeCause;
 use crate::hull::hull;
 use crate::interval::Abs;
 use crate::sign_set::signs_at;
-
-/// The greatest scale of a decimal.
-const MOST_PLACES: u8 = 30;
+use scaled_decimal::MOST_PLACES;
 
 /// The interval of the sums of the decimals of `a` and `b`; `Wide` where an aligned end or one of the result is beyond
 /// 10^37.

@@ -13,13 +13,10 @@ ghost use Rattle.limits_file.specs.Limits.{HasSoundBounds};
 use crate::entries::{has_key, value_at};
 use crate::{InputLimit, Items, LimitsFault};
 use pap_tree::{Name, is_kept_at};
-use scaled_decimal::{Dec, read_dec};
+use scaled_decimal::{Dec, MOST_PLACES, read_dec};
 use std::alloc::Global;
 use std::cmp::Ordering;
 use toml::{Table, Value};
-
-/// The most places of a decimal.
-const MOST_PLACES: u8 = 30;
 
 /// The greatest number of inputs.
 const MOST_INPUTS: usize = 256;

@@ -15,5 +15,5 @@ pub use fault::LimitsFault;
 pub use items::Items;
 pub use label::Label;
 pub use limits::{Binding, Carry, InputLimit, Limits};
-pub use reading::{each_text_has_one_answer, read_limits};
+pub use reading::{LONGEST_LIMITS, each_text_has_one_answer, read_limits};
 pub use slots::{Slot, Spec};

@@ -13,7 +13,7 @@ use std::alloc::{AllocError, Global};
 use toml::Table;
 
 /// The greatest number of bytes of a range file.
-const LONGEST: usize = 262_144;
+pub const LONGEST_LIMITS: usize = 262_144;
 
 /// The limits and bindings of a range file's text.
 ///
@@ -31,7 +31,7 @@ pub fn read_limits(alloc: Global, bytes: &[u8]) -> Result<Limits, LimitsFault>
     ensures bound { (label : List ℕ) → result ≡ Err (LimitsFault.Bound label)
         → FileSays bytes.now (Err (bad_bound label)) }
 {
-    if bytes.len() > LONGEST {
+    if bytes.len() > LONGEST_LIMITS {
         return Err(LimitsFault::LimitsLong);
     }
     let table = read_toml(alloc, bytes)?;

@@ -2,20 +2,15 @@
 use crate::status::Status;
 use crate::words::Request;
 use flowchart_page::draw_chart;
+use limits_file::LONGEST_LIMITS;
 use outside::{FileAnswer, Files};
 use pap_plan::PlanRefusal;
-use pap_reader::{ReadFault, read_elements};
+use pap_reader::{LONGEST_PLAN, ReadFault, read_elements};
 use plain_words::{TextFile, plan_words};
 use plan_answers::refused;
 use plan_notes::read_notes;
 use range_draft::draft_ranges;
 use std::alloc::{AllocError, Global};
-
-/// The most bytes of a plan's file that are read: one more than a plan may have.
-const LONGEST_PLAN: usize = 1_048_577;
-
-/// The most bytes of a range file that are read: one more than it may have.
-const LONGEST_LIMITS: usize = 262_145;
 
 /// What is written, and why the plan is refused, where it is.
 #[derive(Drop)]
@@ -48,14 +43,14 @@ fn answer_chart<F: Files>(
     limits: Option<&str>,
     files: &mut F,
 ) -> Result<Answer, FileAnswer> {
-    let bytes = files.read_front(alloc, name, LONGEST_PLAN)?;
+    let bytes = files.read_front(alloc, name, LONGEST_PLAN + 1)?;
     let plan = TextFile {
         name,
         bytes: &bytes,
     };
     let chart = match limits {
         Some(name) => {
-            let bytes = files.read_front(alloc, name, LONGEST_LIMITS)?;
+            let bytes = files.read_front(alloc, name, LONGEST_LIMITS + 1)?;
             let limits = TextFile {
                 name,
                 bytes: &bytes,
@@ -72,7 +67,7 @@ fn answer_chart<F: Files>(
 
 /// A range file to begin with.
 fn answer_ranges<F: Files>(alloc: Global, name: &str, files: &mut F) -> Result<Answer, FileAnswer> {
-    let plan = files.read_front(alloc, name, LONGEST_PLAN)?;
+    let plan = files.read_front(alloc, name, LONGEST_PLAN + 1)?;
     Ok(ranges_of(alloc, TextFile { name, bytes: &plan })?)
 }
 

@@ -2,7 +2,7 @@
 
 ghost use Rattle.std.specs.Prelude.{◌≡◌, ◌≤◌, ◌-◌, ℕ, Some, None, IfOk, IfErr, MatchOption};
 ghost use Rattle.scaled_decimal.specs.Decimals.{decimal};
-ghost use Rattle.scaled_decimal.specs.Limits.{IsWithinLimit};
+ghost use Rattle.scaled_decimal.specs.Limits.{IsWithinLimit, most_places};
 ghost use Rattle.scaled_decimal.specs.ShortenedDecimals.{without_zeros};
 ghost use Rattle.pap_tree.specs.Term.{whole, long as long_leaf, point as point_leaf};
 ghost use Rattle.pap_tree.specs.Tokens as pure;
@@ -298,7 +298,7 @@ fn shortened(d: Dec) -> Option<Dec>
 fn without_zeros(numerator: i128, scale: u8) -> Dec
     requires numerator { IsWithinLimit numerator }
     requires some { 1 ≤ scale }
-    requires few { scale ≤ 30 }
+    requires few { scale ≤ most_places }
     ensures { result ≡ without_zeros 1 (scale - 1) numerator }
 {
     if scale > 1 && numerator % 10 == 0 {

@@ -12,6 +12,7 @@ ghost use Rattle.expr_tokens.specs.Spots.{token_of, spots_of};
 ghost use Rattle.expr_grammar.specs.Machine.{Due, Want, Naming, naming_step, start};
 ghost use Rattle.expr_grammar.specs.Run.{Refusal, run, answer, never};
 ghost use Rattle.pap_tree.specs.Scales.{KeepsScales};
+ghost use Rattle.pap_tree.specs.Stopping.{most_tokens};
 ghost use Rattle.pap_expr.specs.Views.{refusal_of};
 ghost use Rattle.pap_expr.specs.Answers.{line_of, base_of, Answers};
 ghost use Rattle.pap_expr.specs.Faults.{IsFaultOf};
@@ -30,7 +31,7 @@ const MOST_TOKENS: usize = 1000;
 pub fn parse_expr(alloc: Global, text: &[u8]) -> Result<Expr, ExprFault>
     ensures tree { IfOk result (λ e. IsAccepted (Level 0) text.now (tree (term_of e))) }
     ensures fault { IfErr result (IsFaultOf (Level 0) text.now) }
-    ensures nodes { IfOk result (λ e. nodes (term_of e) ≤ 1000) }
+    ensures nodes { IfOk result (λ e. nodes (term_of e) ≤ most_tokens) }
     ensures scales { IfOk result (λ e. KeepsScales (term_of e)) }
 {
     let tokens = read_tokens(alloc, text)?;
@@ -45,7 +46,7 @@ pub fn parse_assign(alloc: Global, text: &[u8]) -> Result<(Name, Expr), ExprFaul
     ensures tree { IfOk result
         (λ r. IsAccepted grammar.Assignment text.now (assignment r.0 (term_of r.1))) }
     ensures fault { IfErr result (IsFaultOf grammar.Assignment text.now) }
-    ensures nodes { IfOk result (λ r. nodes (term_of r.1) ≤ 1000) }
+    ensures nodes { IfOk result (λ r. nodes (term_of r.1) ≤ most_tokens) }
     ensures scales { IfOk result (λ r. KeepsScales (term_of r.1)) }
 {
     let tokens = read_tokens(alloc, text)?;

@@ -6,7 +6,7 @@ ghost use Rattle.pap_tree.specs.Term.{Leaf, leaf};
 ghost use Rattle.pap_tree.specs.Tokens as pure;
 ghost use Rattle.pap_tree.specs.Tokens.{Number, Word, Operator, Mark, Quoted};
 ghost use Rattle.pap_tree.specs.Grammar.{leaf_of, negative_of};
-ghost use Rattle.pap_tree.specs.Stopping.{syntax, binary_fraction};
+ghost use Rattle.pap_tree.specs.Stopping.{binary_fraction, most_levels, syntax};
 ghost use Rattle.expr_tokens.specs.Spots.{spot_of, sign_of, keyword_text};
 ghost use Rattle.expr_grammar.specs.Machine.{Frame as Waiting, InNew, Want, Have};
 ghost use Rattle.expr_grammar.specs.Machine.{level, taken, literal_step, want_step};
@@ -29,7 +29,7 @@ use scaled_decimal::Dec;
 impl Reader {
     /// The beginning of an expression. A literal takes the `-` before it.
     pub(crate) fn operand(&mut self, found: &Placed) -> Result<State, ExprFault>
-        requires room { level (stack_of self.old.stack) ≤ 64 }
+        requires room { level (stack_of self.old.stack) ≤ most_levels }
         ensures { Steps (Want (stack_of self.old.stack)) (spot_of found.now)
             (stack_of self.new.stack) result }
     {
@@ -73,7 +73,7 @@ impl Reader {
 
     /// A literal of `int`.
     fn int(&mut self, n: u32) -> State
-        requires range { n ≤ 2147483647 }
+        requires range { n ≤ pure.greatest_int }
         ensures { literal_step (stack_of self.old.stack) (pure.int n)
             ≡ Some (state_of result (stack_of self.new.stack)) }
     {
@@ -83,7 +83,7 @@ impl Reader {
 
     /// A literal of `long`.
     fn long(&mut self, n: u64) -> State
-        requires range { n ≤ 9223372036854775807 }
+        requires range { n ≤ pure.greatest_long }
         ensures { literal_step (stack_of self.old.stack) (pure.long n)
             ≡ Some (state_of result (stack_of self.new.stack)) }
     {
@@ -118,7 +118,7 @@ impl Reader {
 
     /// An operator before its operand.
     fn prefix(&mut self, operator: Binary, found: &Placed) -> Result<State, ExprFault>
-        requires room { level (stack_of self.old.stack) ≤ 64 }
+        requires room { level (stack_of self.old.stack) ≤ most_levels }
         ensures { Leads (want_step (stack_of self.old.stack) (Operator operator))
             (refusal syntax found.now.at)
             (stack_of self.new.stack) result }
@@ -131,7 +131,7 @@ impl Reader {
 
     /// A `!` or a bracket before what it is for.
     fn prefix_sign(&mut self, sign: Sign, found: &Placed) -> Result<State, ExprFault>
-        requires room { level (stack_of self.old.stack) ≤ 64 }
+        requires room { level (stack_of self.old.stack) ≤ most_levels }
         ensures { Leads (want_step (stack_of self.old.stack) (Mark (sign_of sign)))
             (refusal syntax found.now.at)
             (stack_of self.new.stack) result }

@@ -5,7 +5,7 @@ ghost use Rattle.pap_tree.specs.Term.{Leaf, leaf, one, unary, term_of};
 ghost use Rattle.pap_tree.specs.Tokens as pure;
 ghost use Rattle.pap_tree.specs.Tokens.{Number};
 ghost use Rattle.pap_tree.specs.Grammar.{leaf_of, negative_of};
-ghost use Rattle.pap_tree.specs.Stopping.{binary_fraction};
+ghost use Rattle.pap_tree.specs.Stopping.{binary_fraction, most_levels};
 ghost use Rattle.expr_tokens.specs.Spots.{token_of, spot_of, sign_of, keyword_text};
 ghost use Rattle.expr_grammar.specs.Machine as machine;
 ghost use Rattle.expr_grammar.specs.Machine.{Frame as Waiting, Want, Have, level, taken, literal_step};
@@ -80,7 +80,7 @@ impl Reader {
 
     /// An expression is due, for which the frame waits.
     pub(crate) fn wait(&mut self, frame: Frame) -> Result<State, ExprFault>
-        requires room { level (stack_of self.old.stack) ≤ 64 }
+        requires room { level (stack_of self.old.stack) ≤ most_levels }
         ensures { Opens (frame_of frame ∷ stack_of self.old.stack)
             (stack_of self.new.stack) result }
     {
@@ -90,7 +90,7 @@ impl Reader {
 
     /// The same after a bracket that is due.
     pub(crate) fn opened(&mut self, frame: Frame, found: &Placed) -> Result<State, ExprFault>
-        requires room { level (stack_of self.old.stack) ≤ 64 }
+        requires room { level (stack_of self.old.stack) ≤ most_levels }
         ensures { (n : ℕ) →
             Steps (machine.Due n (pure.Mark pure.Open)
             (Want (frame_of frame ∷ stack_of self.old.stack)))
@@ -105,7 +105,7 @@ impl Reader {
 
     /// What goes on with an expression, or ends it.
     pub(crate) fn after(&mut self, value: Expr, found: &Placed) -> Result<State, ExprFault>
-        requires room { level (stack_of self.old.stack) ≤ 64 }
+        requires room { level (stack_of self.old.stack) ≤ most_levels }
         ensures { Steps (Have (term_of value) (stack_of self.old.stack)) (spot_of found.now)
             (stack_of self.new.stack) result }
     {
@@ -122,7 +122,7 @@ impl Reader {
 
     /// A sign after an expression.
     fn marked(&mut self, sign: Sign, value: Expr, found: &Placed) -> Result<State, ExprFault>
-        requires room { level (stack_of self.old.stack) ≤ 64 }
+        requires room { level (stack_of self.old.stack) ≤ most_levels }
         ensures { Leads (machine.marked (sign_of sign) (term_of value) (stack_of self.old.stack))
             (refusal (plain_cause (token_of found.now.token)) found.now.at)
             (stack_of self.new.stack) result }
@@ -148,7 +148,7 @@ impl Reader {
         value: Expr,
         found: &Placed,
     ) -> Result<State, ExprFault>
-        requires room { level (stack_of self.old.stack) ≤ 64 }
+        requires room { level (stack_of self.old.stack) ≤ most_levels }
         ensures { Leads (machine.ended (frame_of frame) (sign_of sign) (term_of value)
             (stack_of self.old.stack))
             (refusal (plain_cause (token_of found.now.token)) found.now.at)
@@ -194,7 +194,7 @@ impl Reader {
 
     /// What goes on with a name, or ends it.
     pub(crate) fn after_name(&mut self, name: Name, found: &Placed) -> Result<State, ExprFault>
-        requires room { level (stack_of self.old.stack) ≤ 64 }
+        requires room { level (stack_of self.old.stack) ≤ most_levels }
         ensures { Steps (machine.Named name (stack_of self.old.stack)) (spot_of found.now)
             (stack_of self.new.stack) result }
     {

@@ -81,7 +81,7 @@ fn base(alloc: Global, target: Option<Name>) -> Result<Stack, ExprFault>
 impl Reader {
     /// The state after the next token.
     fn step(&mut self, state: State, found: &Placed) -> Result<State, ExprFault>
-        requires room { level_of (state_of state (stack_of self.old.stack)) ≤ 64 }
+        requires room { level_of (state_of state (stack_of self.old.stack)) ≤ most_levels }
         ensures { Steps (state_of state (stack_of self.old.stack)) (spot_of found.now)
             (stack_of self.new.stack) result }
     {
@@ -110,7 +110,7 @@ impl Reader {
 
     /// The bracket after a method's word.
     fn call(&mut self, method: Method, receiver: Expr, found: &Placed) -> Result<State, ExprFault>
-        requires room { level (stack_of self.old.stack) ≤ 64 }
+        requires room { level (stack_of self.old.stack) ≤ most_levels }
         ensures { Steps (machine.called (term_of receiver) (stack_of self.old.stack)
             (method_view method))
             (spot_of found.now) (stack_of self.new.stack) result }

@@ -1,5 +1,6 @@
 //! The frames that are open.
 ghost use Rattle.std.specs.Prelude.{◌≡◌, ◌∷◌, ◌≤◌, List, [], MatchOption, OnOk, IfErr};
+ghost use Rattle.pap_tree.specs.Stopping.{most_levels};
 ghost use Rattle.expr_grammar.specs.Machine.{Frame as Waiting, level};
 ghost use Rattle.pap_expr.specs.Frames.{frame_of, frames_of, Pops, PopsBinding};
 ghost use Rattle.pap_expr.specs.declared.fault.ExprFault.TheVariants.{Memory};
@@ -43,7 +44,7 @@ impl Stack {
     }
 
     pub(crate) fn push(&mut self, frame: Frame) -> Result<(), ExprFault>
-        requires room { level (frames_of self.old.frames.items) ≤ 64 }
+        requires room { level (frames_of self.old.frames.items) ≤ most_levels }
         ensures pushed { OnOk result (frames_of self.new.frames.items
             ≡ frame_of frame ∷ frames_of self.old.frames.items) }
         ensures memory { IfErr result (λ e. e ≡ Memory) }

@@ -16,6 +16,7 @@ use Rattle.carry_bindings.specs.declared.carried.Earlier.{Earlier}
 use Rattle.carry_bindings.specs.declared.filling.Filled.{Filled}
 use Rattle.carry_bindings.specs.Filling.{filled_by}
 use Rattle.carry_bindings.specs.Conditions.{AreBounded}
+use Rattle.carry_bindings.specs.Limits.{most_runs}
 use Rattle.carry_bindings.specs.declared.filling.Filled.TheVariants as filling
 use Rattle.pap_plan.specs.Acceptance.{IsAccepted}
 use Rattle.pap_plan.specs.Inputs.{carry_named}
@@ -68,5 +69,5 @@ abbrev pub FilledRunsAreSafe : Type 0
 FilledRunsAreSafe =
     (p : Accepted) (values : List NamedValue) (earlier : List Earlier) (inputs : List Decimal)
     → IsAccepted p.plan p.limits p.meaning → All IsKeptValue values
-    → length earlier ≤ 366 → AllByRecursion (λ e. AreBounded e.outputs) earlier
+    → length earlier ≤ most_runs → AllByRecursion (λ e. AreBounded e.outputs) earlier
     → filled p values earlier ≡ filling.Inputs inputs → IsSafeFor p.meaning.flowchart inputs

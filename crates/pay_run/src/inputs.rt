@@ -3,6 +3,7 @@ ghost use Rattle.std.specs.Prelude.{◌≤◌, All, IfOk, length};
 ghost use Rattle.std.specs.List.{AllByRecursion};
 ghost use Rattle.scaled_decimal.specs.Limits.{IsKept};
 ghost use Rattle.carry_bindings.specs.Conditions.{AreBounded};
+ghost use Rattle.carry_bindings.specs.Limits.{most_runs};
 ghost use Rattle.pay_run.specs.Accepted.{accepted};
 ghost use Rattle.pay_run.specs.RunClauses.{Fills};
 ghost use Rattle.pay_run.specs.Runs.{filled, FilledRunsAreSafe};
@@ -20,7 +21,7 @@ pub fn filled(
     item: &Record,
     earlier: &[Earlier],
 ) -> Result<Filled, AllocError>
-    requires few { length earlier.now ≤ 366 }
+    requires few { length earlier.now ≤ most_runs }
     requires bounded { AllByRecursion (λ e. AreBounded e.outputs) earlier.now }
     ensures { IfOk result (Fills (accepted plan.now)
         (filled (accepted plan.now) item.now.values earlier.now)) }

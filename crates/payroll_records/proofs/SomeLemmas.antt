@@ -18,7 +18,8 @@ use Rattle.payroll_records.specs.CsvRows.{csv_rows}
 use Rattle.payroll_records.specs.Employees.{is_employee}
 use Rattle.payroll_records.specs.NamedValues.{name_cmp}
 use Rattle.payroll_records.specs.Orders.{key_cmp}
-use Rattle.payroll_records.specs.Tables.{Text, most_bytes, most_columns, name_at, field_of, cell_of, IsHeader, IsReadable, IsWide, HasEmployee, HasDay, IsRecordOf, HasKeyOf, key_of, AreRecordsOf, IsFirstFault, BreaksAt, TableSays}
+use Rattle.payroll_records.specs.Limits.{most_values}
+use Rattle.payroll_records.specs.Tables.{Text, most_bytes, name_at, field_of, cell_of, IsHeader, IsReadable, IsWide, HasEmployee, HasDay, IsRecordOf, HasKeyOf, key_of, AreRecordsOf, IsFirstFault, BreaksAt, TableSays}
 use Rattle.payroll_records.specs.TableViews.{AreColumns, IsColumnOf, column_name}
 use Rattle.payroll_records.specs.CellViews.{AreValuesOf}
 use Rattle.payroll_records.specs.declared.header.Column.{Column}
@@ -166,12 +167,12 @@ unfolding NamesOrNot AllDiffer
 header_or_not [] = no_header (λ names h. let e = h.fields in cc)
 header_or_not (a ∷ []) = no_header (λ names h. let e = h.fields in cc)
 header_or_not (a ∷ b ∷ []) = no_header (λ names h. let e = h.fields in cc)
-header_or_not (a ∷ b ∷ c ∷ rest) = by (both (both (text_decided a (codes "employee")) (text_decided b (codes "month"))) (both (text_decided c (codes "day")) (le_decided (length rest) most_columns))) (names_or_not [] rest no_columns)
+header_or_not (a ∷ b ∷ c ∷ rest) = by (both (both (text_decided a (codes "employee")) (text_decided b (codes "month"))) (both (text_decided c (codes "day")) (le_decided (length rest) most_values))) (names_or_not [] rest no_columns)
   where
     same_rest : (names : List Text) → IsHeader (a ∷ b ∷ c ∷ rest) names → names ≡ rest
     same_rest names h = let e = h.fields in cc
 
-    by : Decided (((a ≡ codes "employee") × (b ≡ codes "month")) × ((c ≡ codes "day") × (length rest ≤ most_columns))) → NamesOrNot rest → HeaderOrNot (a ∷ b ∷ c ∷ rest)
+    by : Decided (((a ≡ codes "employee") × (b ≡ codes "month")) × ((c ≡ codes "day") × (length rest ≤ most_values))) → NamesOrNot rest → HeaderOrNot (a ∷ b ∷ c ∷ rest)
     by (inl h) (inl some) = header_of rest (record { fields = same (h.0.0) (h.0.1) (h.1.0); named = some.named; different = columns_differ rest some.columns some.are; few = h.1.1 }) some.columns some.are
       where
         same : a ≡ codes "employee" → b ≡ codes "month" → c ≡ codes "day" → ◌≡◌ {A = List Text} (a ∷ b ∷ c ∷ rest) (codes "employee" ∷ codes "month" ∷ codes "day" ∷ rest)
@@ -183,7 +184,7 @@ header_or_not (a ∷ b ∷ c ∷ rest) = by (both (both (text_decided a (codes "
 first_column : Column
 first_column = record { name = []; place = 0 }
 
-module _ (names : List Text) (columns : List Column) (are : AreColumns names columns) (few : length names ≤ most_columns) (row : List Text) where
+module _ (names : List Text) (columns : List Column) (are : AreColumns names columns) (few : length names ≤ most_values) (row : List Text) where
   ValuesUpTo : ℕ → Type 0
   ValuesUpTo i = (values : List NamedValue) × AreValuesOf names columns row i values
 
@@ -266,7 +267,7 @@ module _ (names : List Text) (columns : List Column) (are : AreColumns names col
 RowsSay : List Text → List (List Text) → Type 0
 RowsSay names rows = ((records : List Record) × AreRecordsOf names [] rows records) ⊎ ((n : ℕ) × (k : Kind) × IsFirstFault names rows n (FaultOf k))
 
-rows_say : (names : List Text) (columns : List Column) → AreColumns names columns → length names ≤ most_columns → (done : List (List Text)) (records : List Record) (rest : List (List Text)) →
+rows_say : (names : List Text) (columns : List Column) → AreColumns names columns → length names ≤ most_values → (done : List (List Text)) (records : List Record) (rest : List (List Text)) →
     AreRecordsOf names [] done records → RowsSay names (done ++ rest)
 unfolding RowsSay RowSays
 rows_say names columns are few done records [] h = inl (records, subst (λ (rows : List (List Text)). AreRecordsOf names [] rows records) (sym (append-nil done)) h)

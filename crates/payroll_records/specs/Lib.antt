@@ -1,5 +1,6 @@
 pub mod Days
 pub mod Employees
+pub mod Limits
 pub mod NamedValues
 pub mod ValueViews
 pub mod ValueWords

@@ -5,6 +5,7 @@ use Rattle.std.specs.Ordering.{nat_cmp}
 use Rattle.std.specs.Str.{bytes_eq}
 use Rattle.std.specs.Cmp.Lexicographic.{slice_cmp}
 use Rattle.rising_lists.specs.Keyed.{at_key, put, IsRising}
+use Rattle.payroll_records.specs.Limits.{most_values}
 use Rattle.payroll_records.specs.declared.values.NamedValue.{NamedValue}
 
 -- names in the order of their bytes
@@ -14,10 +15,10 @@ name_cmp = slice_cmp nat_cmp
 abbrev pub name_of : NamedValue → List ℕ
 name_of v = v.name
 
--- a record's values: their names rise, and there are at most 256
+-- a record's values: their names rise, and there are at most so many
 pub record AreValues (values : List NamedValue) : Type 0 where
   pub rising : IsRising name_cmp name_of values
-  pub few : length values ≤ 256
+  pub few : length values ≤ most_values
 
 -- what stands under a name
 abbrev pub value_at : List NamedValue → List ℕ → Option NamedValue

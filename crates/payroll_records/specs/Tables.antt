@@ -9,6 +9,7 @@ use Rattle.pap_tree.specs.Names.{is_name}
 use Rattle.payroll_records.specs.CsvRows.{csv_rows}
 use Rattle.payroll_records.specs.Days.{IsDayText, IsMonthText, IsMonthSpelled}
 use Rattle.payroll_records.specs.Employees.{is_employee}
+use Rattle.payroll_records.specs.Limits.{most_values}
 use Rattle.payroll_records.specs.NamedValues.{AreValues}
 use Rattle.payroll_records.specs.Orders.{key_cmp}
 use Rattle.payroll_records.specs.declared.record.Key.{Key}
@@ -20,12 +21,9 @@ use Rattle.payroll_records.specs.declared.values.NamedValue.{NamedValue}
 abbrev pub Text : Type 0
 Text = List ℕ
 
--- the most bytes of a table, and the most columns of values
+-- the most bytes of a table
 abbrev pub most_bytes : ℕ
 most_bytes = 33554432
-
-abbrev pub most_columns : ℕ
-most_columns = 256
 
 abbrev pub name_at : List Text → ℕ → Text
 name_at names i = slice_index_or names i []
@@ -35,7 +33,7 @@ pub record IsHeader (row names : List Text) : Type 0 where
   pub fields : row ≡ codes "employee" ∷ codes "month" ∷ codes "day" ∷ names
   pub named : AllByRecursion (λ n. IsTrue (is_name n)) names
   pub different : (i j : ℕ) → i < j → j < length names → name_at names i ≢ name_at names j
-  pub few : length names ≤ most_columns
+  pub few : length names ≤ most_values
 
 -- a row's field at a place, and its cell in a column of values
 abbrev pub field_of : List Text → ℕ → Text

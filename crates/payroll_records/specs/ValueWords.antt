@@ -4,6 +4,7 @@ use Rattle.std.specs.List.{AllPairs}
 use Rattle.scaled_decimal.specs.NumberTexts.{Spells}
 use Rattle.scaled_decimal.specs.Limits.{IsKept}
 use Rattle.pap_tree.specs.Names.{is_name}
+use Rattle.payroll_records.specs.Limits.{most_values}
 use Rattle.payroll_records.specs.NamedValues.{with_value}
 use Rattle.payroll_records.specs.declared.values.NamedValue.{NamedValue}
 
@@ -25,10 +26,10 @@ Give _ _ = ⊥
 abbrev pub in_order : List NamedValue → List NamedValue
 in_order given = fold (λ sorted v. with_value v sorted) [] given
 
--- at most 256 words, which give values of different names; these are the values in order of their names
+-- at most so many words, which give values of different names; these are the values in order of their names
 pub record AreValueWords (words : List (List ℕ)) (values : List NamedValue) : Type 0 where
   pub given : List NamedValue
   pub give : Give words given
   pub distinct : AllPairs (λ v w. v.name ≢ w.name) given
-  pub few : length words ≤ 256
+  pub few : length words ≤ most_values
   pub sorted : values ≡ in_order given

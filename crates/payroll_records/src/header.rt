@@ -9,15 +9,13 @@ ghost use Rattle.payroll_records.specs.NamedValues.{name_cmp};
 ghost use Rattle.payroll_records.specs.Tables.{IsHeader, Text, field_of};
 ghost use Rattle.payroll_records.specs.TableViews.{AddsColumn, AreColumns, BeginsHeader, column_name};
 
+use crate::MOST_VALUES;
 use csv::ByteRecord;
 use pap_tree::Name;
 use std::alloc::{AllocError, Global};
 
 /// How many fields of a row stand before its values: the employee, the month and the day.
 const FIRST_VALUE: usize = 3;
-
-/// The most columns of values.
-const MOST_COLUMNS: usize = 256;
 
 /// A column of values.
 #[derive(Clone, Copy)]
@@ -46,7 +44,7 @@ pub(crate) fn read_header(alloc: Global, row: &ByteRecord) -> Result<Option<Head
     if !begins_header(row) {
         return Ok(None);
     }
-    if row.len() > FIRST_VALUE + MOST_COLUMNS {
+    if row.len() > FIRST_VALUE + MOST_VALUES {
         return Ok(None);
     }
     let mut header = Header {

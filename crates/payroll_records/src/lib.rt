@@ -4,6 +4,7 @@
 mod day;
 mod employee;
 mod header;
+mod limits;
 mod month;
 mod names;
 mod record;
@@ -16,6 +17,7 @@ mod when;
 
 pub use day::Day;
 pub use employee::Employee;
+pub use limits::{MOST_RECORDS, MOST_VALUES};
 pub use month::Month;
 pub use record::{Key, Record};
 pub use table::{TableFault, each_table_has_one_answer, read_table};

@@ -2,6 +2,7 @@
 ghost use Rattle.std.specs.Prelude.{◌≡◌, ◌<◌, ◌≤◌, IfOk, OnErr, OnOk, length};
 ghost use Rattle.std.specs.List.{insert};
 ghost use Rattle.std.specs.Rc.{rc_slice_items};
+ghost use Rattle.payroll_records.specs.Limits.{most_values};
 ghost use Rattle.payroll_records.specs.ValueViews.{listed};
 
 use pap_tree::Name;
@@ -32,7 +33,7 @@ impl Names {
     /// the names are as before.
     pub(crate) fn insert(&mut self, alloc: Global, at: usize, name: Name) -> Result<(), AllocError>
         requires within { at ≤ length (listed self.old) }
-        requires few { length (listed self.old) < 256 }
+        requires few { length (listed self.old) < most_values }
         ensures ok { OnOk result (listed self.new ≡ insert (listed self.old) at name) }
         ensures err { OnErr result (listed self.new ≡ listed self.old) }
     {
@@ -65,7 +66,7 @@ pub(crate) fn shared(names: Vec<Name>, before: Option<&Names>) -> Result<RcSlice
 /// A new list of the names with one more, at a place.
 fn with_name(alloc: Global, names: &[Name], at: usize, name: Name) -> Result<Vec<Name>, AllocError>
     requires within { at ≤ length names.now }
-    requires few { length names.now < 256 }
+    requires few { length names.now < most_values }
     ensures { IfOk result (λ longer. longer.items ≡ insert names.now at name) }
 {
     let mut longer = Vec::with_capacity(alloc, names.len() + 1)?;

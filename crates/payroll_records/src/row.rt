@@ -1,8 +1,9 @@
 //! One row of a table.
-ghost use Rattle.std.specs.Prelude.{◌≡◌, ◌↔◌, ◌+◌, ◌<◌, ◌^◌, ℕ, IfOk, IfErr, IsTrue, MatchOption, Some, length};
+ghost use Rattle.std.specs.Prelude.{◌≡◌, ◌↔◌, ◌+◌, ◌<◌, ◌≤◌, ◌^◌, ℕ, IfOk, IfErr, IsTrue, MatchOption, Some, length};
 ghost use Rattle.std.specs.List.{Contains};
 ghost use Rattle.csv.specs.Records.{fields_of};
 ghost use Rattle.scaled_decimal.specs.Decimals.{Decimal};
+ghost use Rattle.payroll_records.specs.Limits.{most_values};
 ghost use Rattle.payroll_records.specs.NamedValues.{AreValues};
 ghost use Rattle.payroll_records.specs.Tables.{IsHeader, IsNumberText, IsReadable, IsRecordOf, Supplies, cell_of};
 ghost use Rattle.payroll_records.specs.CellViews.{filled_cells, is_filled};
@@ -35,7 +36,7 @@ pub(crate) fn read_row(
     before: Option<&Record>,
 ) -> Result<Record, RowFault>
     requires columns { AreColumns header.now.names.items header.now.columns.items }
-    requires few { length header.now.names.items < 257 }
+    requires few { length header.now.names.items ≤ most_values }
     ensures ok { IfOk result (IsRecordOf header.now.names.items (fields_of row.now)) }
     ensures err { IfErr result (IsRowFault header.now.names.items (fields_of row.now)) }
 {
@@ -71,7 +72,7 @@ pub(crate) fn read_row(
 
 /// The place of the leftmost cell of values that neither is empty nor spells a number.
 fn first_broken(row: &ByteRecord, count: usize) -> Option<usize>
-    requires { count < 257 }
+    requires { count ≤ most_values }
     ensures { MatchOption result ((i : ℕ) → i < count → IsReadable (cell_of (fields_of row.now) i))
         (IsFirstBroken (fields_of row.now) count) }
 {
@@ -100,7 +101,7 @@ fn read_number(cell: &[u8]) -> Option<Dec>
 
 /// How many of the first cells of values are not empty.
 fn filled_cells(row: &ByteRecord, count: usize) -> usize
-    requires { count < 257 }
+    requires { count ≤ most_values }
     ensures { result ≡ filled_cells (fields_of row.now) count }
 {
     let mut filled = 0;
@@ -127,7 +128,7 @@ fn values_of(
     before: Option<&Record>,
 ) -> Result<Values, AllocError>
     requires columns { AreColumns header.now.names.items header.now.columns.items }
-    requires few { length header.now.names.items < 257 }
+    requires few { length header.now.names.items ≤ most_values }
     ensures supplied { IfOk result (λ values. (v : NamedValue) →
         Contains values v ↔ Supplies header.now.names.items (fields_of row.now) v) }
     ensures in_order { IfOk result AreValues }

@@ -1,5 +1,6 @@
 //! Tables of pay runs.
-ghost use Rattle.std.specs.Prelude.{◌≡◌, ◌↔◌, ◌<◌, ℕ, List, [], IfOk, IfErr, Err, MatchResult, length};
+ghost use Rattle.std.specs.Prelude.{◌≡◌, ◌↔◌, ◌<◌, ◌≤◌, ℕ, List, [], IfOk, IfErr, Err, MatchResult, length};
+ghost use Rattle.payroll_records.specs.Limits.{most_values};
 ghost use Rattle.payroll_records.specs.Tables.{AreRecordsOf, HasOneAnswer, IsRefused, IsTable, key_of, most_bytes};
 ghost use Rattle.payroll_records.specs.RowViews.{IsBetweenRows, rows_left};
 ghost use Rattle.payroll_records.specs.TableViews.{AreColumns, BreaksIn, fault_at};
@@ -80,7 +81,7 @@ fn read_records<R: Read>(
 ) -> Result<Vec<Record>, TableFault>
     requires reader { IsBetweenRows R.remaining reader.old }
     requires columns { AreColumns header.now.names.items header.now.columns.items }
-    requires few { length header.now.names.items < 257 }
+    requires few { length header.now.names.items ≤ most_values }
     ensures { let rows = rows_left R.remaining reader.old in MatchResult result
         (λ records. AreRecordsOf header.now.names.items [] rows records.items)
         (BreaksIn header.now.names.items rows) }

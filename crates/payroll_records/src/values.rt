@@ -1,9 +1,11 @@
 //! Values under names.
 ghost use Rattle.std.specs.Prelude.{◌≡◌, ◌↔◌, ◌<◌, ◌≤◌, [], length, map, IsSome, IsNone, OnOk, OnErr, IfOk, IfErr, IfSome, Err, option_map};
 ghost use Rattle.rising_lists.specs.Places.{Finds, Misses};
+ghost use Rattle.payroll_records.specs.Limits.{most_values};
 ghost use Rattle.payroll_records.specs.NamedValues.{AreValues, name_cmp, name_of, place_at, value_at, with_value};
 ghost use Rattle.payroll_records.specs.ValueViews.{IsKeptAs, is_beyond, named_numbers, stands_at};
 
+use crate::MOST_VALUES;
 use crate::names::{Names, shared};
 use pap_tree::Name;
 use scaled_decimal::Dec;
@@ -119,7 +121,7 @@ impl Values {
     /// Where the value of a name stands. It is looked for at `guess` first, where names that are asked for in order often are.
     pub fn place_of(&self, name: &Name, guess: usize) -> Option<usize>
         ensures place { result ≡ place_at self.now name.now }
-        ensures few { IfSome result (λ at. at < 256) }
+        ensures few { IfSome result (λ at. at < most_values) }
     {
         let names = self.names.as_slice();
         if stands_at(names, guess, name) {
@@ -137,12 +139,12 @@ impl Values {
         ensures err { OnErr result (self.new ≡ self.old) }
         ensures twice { (result ≡ Err InsertFault.Twice) ↔ IsSome (value_at self.old item.name) }
         ensures full { (result ≡ Err InsertFault.Full)
-            ↔ (IsNone (value_at self.old item.name) × (length self.old ≡ 256)) }
+            ↔ (IsNone (value_at self.old item.name) × (length self.old ≡ most_values)) }
     {
         match self.place(&item.name) {
             Ok(_) => Err(InsertFault::Twice),
             Err(at) => {
-                if self.len() == 256 {
+                if self.len() == MOST_VALUES {
                     return Err(InsertFault::Full);
                 }
                 match self.insert_at(at, item) {
@@ -156,7 +158,7 @@ impl Values {
     /// How many values there are.
     fn len(&self) -> usize
         ensures all { result ≡ length self.now }
-        ensures few { result ≤ 256 }
+        ensures few { result ≤ most_values }
     {
         self.numbers.len()
     }
@@ -164,7 +166,7 @@ impl Values {
     /// Puts a value under a new name, at its place. Without memory the values are as before.
     fn insert_at(&mut self, at: usize, item: NamedValue) -> Result<(), AllocError>
         requires gap { Misses name_cmp name_of self.old item.name at }
-        requires few { length self.old < 256 }
+        requires few { length self.old < most_values }
         ensures ok { OnOk result (self.new ≡ with_value item self.old) }
         ensures err { OnErr result (self.new ≡ self.old) }
     {

@@ -4,14 +4,10 @@ ghost use Rattle.std.specs.Option.{ForSome};
 ghost use Rattle.outside.specs.Causes.{Caused};
 ghost use Rattle.plan_answers.specs.Fronts.{AreFronts, IsMissing};
 
+use limits_file::LONGEST_LIMITS;
 use outside::{FileAnswer, Files};
+use pap_reader::LONGEST_PLAN;
 use std::alloc::Global;
-
-/// The most bytes of a plan's file.
-const LONGEST_PLAN: usize = 1_048_576;
-
-/// The most bytes of a range file.
-const LONGEST_LIMITS: usize = 262_144;
 
 /// The bytes of both files, the plan's first, each by one call for one byte more than its limit.
 pub fn read_both<F: Files>(

@@ -5,6 +5,7 @@ use Rattle.std.specs.Ordering.{is_lt, is_gt}
 use Rattle.rising_lists.specs.Keyed.{at_key, put, without, IsRising}
 use Rattle.payroll_records.specs.declared.day.Day.{Day}
 use Rattle.payroll_records.specs.Orders.{day_cmp}
+use Rattle.plan_calendar.specs.Limits.{most_plans}
 
 -- an entry of a calendar: a day and the plan that holds from it on
 abbrev pub Entry : Type 0 → Type 0
@@ -16,10 +17,10 @@ day_of e = e.0
 abbrev pub plan_of : {P : Type 0} → Entry P → P
 plan_of e = e.1
 
--- the days rise, and there are at most 64
+-- the days rise, and there are at most so many
 pub record AreEntries {P : Type 0} (es : List (Entry P)) : Type 0 where
   pub rising : IsRising day_cmp day_of es
-  pub few : length es ≤ 64
+  pub few : length es ≤ most_plans
 
 -- the entry of a day, the entries with one more, and those without a day's
 abbrev pub entry_at : {P : Type 0} → List (Entry P) → Day → Option (Entry P)

@@ -2,6 +2,7 @@
 ghost use Rattle.std.specs.Prelude.{◌≡◌, ◌↔◌, [], length, IfOk, IfErr, OnOk, OnErr, Err, IsNone, IsTrue, option_map};
 ghost use Rattle.rising_lists.specs.Places.{Finds, Misses};
 ghost use Rattle.payroll_records.specs.Orders.{day_cmp};
+ghost use Rattle.plan_calendar.specs.Limits.{most_plans};
 ghost use Rattle.plan_calendar.specs.Picking.{AreEntries, day_of, plan_of, entry_at, with_entry, without_day};
 ghost use Rattle.plan_calendar.specs.Picking.{pick, pick_before, serves, serves_before};
 ghost use Rattle.plan_calendar.specs.Edits.{EditsMovePicks, PicksLatest};
@@ -12,6 +13,9 @@ use payroll_records::Day;
 use std::alloc::Global;
 use std::marker::Model;
 use std::mem;
+
+/// The most plans of a calendar.
+pub const MOST_PLANS: usize = 64;
 
 /// Plans by the day from which they hold, at most 64. A plan holds until the next plan's day, and at most to the end of its
 /// calendar year. Contracts see a calendar as the list of its entries, whose days rise.
@@ -95,7 +99,7 @@ impl<P> Calendar<P> {
         ensures err { OnErr result (self.new ≡ self.old) }
         ensures refused { IfErr result (λ e. refused_plan e ≡ plan) }
         ensures full { (result ≡ Err (PutRefusal.Full plan))
-            ↔ (IsNone (entry_at self.old day) × (length self.old ≡ 64)) }
+            ↔ (IsNone (entry_at self.old day) × (length self.old ≡ most_plans)) }
     {
         match place(self.entries.as_slice(), day) {
             Ok(at) => {
@@ -103,7 +107,7 @@ impl<P> Calendar<P> {
                 Ok(Some(old.1))
             }
             Err(at) => {
-                if self.entries.len() == 64 {
+                if self.entries.len() == MOST_PLANS {
                     return Err(PutRefusal::Full(plan));
                 }
                 match self.entries.insert(at, (day, plan)) {

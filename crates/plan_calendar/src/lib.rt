@@ -3,4 +3,4 @@
 
 mod calendar;
 
-pub use calendar::{Calendar, PutRefusal, edits_move_picks, picks_are_latest};
+pub use calendar::{Calendar, MOST_PLANS, PutRefusal, edits_move_picks, picks_are_latest};

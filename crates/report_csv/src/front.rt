@@ -28,7 +28,8 @@ impl Model for Front {
         f.employee ∷ string_bytes f.month ∷ string_bytes f.day ∷ string_bytes f.plan ∷ [] };
 
     ghost invariant = { λ f.
-        IsPlain (string_bytes f.month) × IsPlain (string_bytes f.day) × IsPlain (string_bytes f.plan) };
+        IsPlain (string_bytes f.month) × IsPlain (string_bytes f.day)
+        × IsPlain (string_bytes f.plan) };
 }
 
 impl Front {

@@ -1,1 +1,5 @@
+mod ElementLemmas
+mod KeyLemmas
 pub mod Laws
+mod MappedLemmas
+mod TextKeyLemmas

@@ -6,7 +6,8 @@ use Rattle.rising_lists.specs.Keyed.{IsRising}
 use Rattle.payroll_records.specs.Orders.{day_cmp, key_cmp}
 use Rattle.payroll_records.specs.Tables.{Text, key_of}
 use Rattle.payroll_records.specs.declared.record.Record.{Record}
-use Rattle.saved_items.specs.Limits.{most_saved_plans, most_saved_runs}
+use Rattle.payroll_records.specs.Limits.{most_records}
+use Rattle.plan_calendar.specs.Limits.{most_plans}
 use Rattle.saved_items.specs.SavedBooks.{SavedPlan, day_of, IsWork, ArePlans, IsRun, title_text, work_text, head_text, plan_text, run_count_text, run_text}
 
 pub data Front : Type 0 where
@@ -46,13 +47,13 @@ front_text (running runs steps plans count records) =
 
 -- plans whose days rise, of as many as a number within the limit says
 pub record IsPlanning (count : ℕ) (plans : List SavedPlan) : Type 0 where
-  pub counted : count ≤ most_saved_plans
+  pub counted : count ≤ most_plans
   pub within : length plans ≤ count
   pub rising : IsRising day_cmp day_of plans
 
 -- the same of runs, whose keys rise
 pub record IsRunning (count : ℕ) (records : List Record) : Type 0 where
-  pub counted : count ≤ most_saved_runs
+  pub counted : count ≤ most_records
   pub within : length records ≤ count
   pub rising : IsRising key_cmp key_of records
   pub each : AllByRecursion IsRun records

@@ -6,7 +6,8 @@ use Rattle.payroll_records.specs.Orders.{day_cmp, key_cmp}
 use Rattle.payroll_records.specs.Tables.{Text, key_of}
 use Rattle.payroll_records.specs.declared.record.Record.{Record}
 use Rattle.saved_items.specs.Fronts.{Front, nothing, titled, worked, planning, running}
-use Rattle.saved_items.specs.Limits.{most_saved_plans, most_saved_runs}
+use Rattle.payroll_records.specs.Limits.{most_records}
+use Rattle.plan_calendar.specs.Limits.{most_plans}
 use Rattle.saved_items.specs.SavedBooks.{SavedPlan, Saved, day_of, IsWork, IsRun, title_text, work_text, plan_count_text, plan_text, run_count_text, run_text, end_text}
 
 -- an item but for the last line
@@ -37,10 +38,10 @@ IsBeyond records r = AllByRecursion (λ q. key_cmp (key_of q) (key_of r) ≡ Les
 abbrev pub Fits : Front → Item → Type 0
 Fits nothing title = Unit {0}
 Fits titled (work runs steps) = IsWork runs steps
-Fits (worked runs steps) (plan_count count) = count ≤ most_saved_plans
+Fits (worked runs steps) (plan_count count) = count ≤ most_plans
 Fits (planning runs steps count plans) (plan p) = (length plans < count) × IsLater plans p
 Fits (planning runs steps count plans) (run_count records) =
-    (length plans ≡ count) × (records ≤ most_saved_runs)
+    (length plans ≡ count) × (records ≤ most_records)
 Fits (running runs steps plans count records) (run r) =
     (length records < count) × IsRun r × IsBeyond records r
 Fits front item = ⊥

@@ -1,4 +1,3 @@
-pub mod Limits
 pub mod SavedBooks
 pub mod Fronts
 pub mod Texts

@@ -13,7 +13,8 @@ use Rattle.payroll_records.specs.Tables.{Text, key_of}
 use Rattle.payroll_records.specs.declared.day.Day.{Day}
 use Rattle.payroll_records.specs.declared.record.Record.{Record}
 use Rattle.payroll_records.specs.declared.values.NamedValue.{NamedValue}
-use Rattle.saved_items.specs.Limits.{most_saved_plans, most_saved_runs}
+use Rattle.payroll_records.specs.Limits.{most_records}
+use Rattle.plan_calendar.specs.Limits.{most_plans}
 
 -- a plan that holds from a day on: the text of the plan, and that of its range file
 pub record SavedPlan : Type 0 where
@@ -39,27 +40,27 @@ pub record IsWork (runs steps : ℕ) : Type 0 where
   pub runs_fit : runs < 2 ^ 64
   pub steps_fit : steps < 2 ^ 64
 
--- the days of the plans rise, and there are at most 64
+-- the days of the plans rise, and there are at most so many
 pub record ArePlans (plans : List SavedPlan) : Type 0 where
   pub rising : IsRising day_cmp day_of plans
-  pub few : length plans ≤ most_saved_plans
+  pub few : length plans ≤ most_plans
 
 -- a value under a name, as a record keeps it
 pub record IsValue (v : NamedValue) : Type 0 where
   pub named : IsTrue (is_name v.name)
   pub kept : IsKept v.value
 
--- a record of an employee, with at most 256 values, whose names rise
+-- a record of an employee, with at most so many values, whose names rise
 pub record IsRun (r : Record) : Type 0 where
   pub employee : IsTrue (is_employee r.employee)
   pub values : AreValues r.values
   pub each : AllByRecursion IsValue r.values
 
--- the keys of the runs rise, and there are at most 50,000
+-- the keys of the runs rise, and there are at most so many
 pub record AreRuns (records : List Record) : Type 0 where
   pub rising : IsRising key_cmp key_of records
   pub each : AllByRecursion IsRun records
-  pub few : length records ≤ most_saved_runs
+  pub few : length records ≤ most_records
 
 -- a tree that has a text
 pub record IsSaved (s : Saved) : Type 0 where

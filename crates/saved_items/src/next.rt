@@ -2,12 +2,13 @@
 ghost use Rattle.std.specs.Prelude.{◌≡◌, ◌+◌, ◌<◌, ◌≤◌, ◌^◌, [], ◌∷◌, ◌++◌, ℕ, List, IfOk, MatchBool, MatchOption, length};
 ghost use Rattle.std.specs.List.{AllByRecursion};
 ghost use Rattle.rising_lists.specs.Keyed.{IsRising};
+ghost use Rattle.payroll_records.specs.Limits.{most_records};
 ghost use Rattle.payroll_records.specs.Orders.{day_cmp, key_cmp};
 ghost use Rattle.payroll_records.specs.Tables.{Text, key_of};
+ghost use Rattle.plan_calendar.specs.Limits.{most_plans};
 ghost use Rattle.saved_items.specs.Fronts.{IsFront, nothing, titled, worked, planning, running};
 ghost use Rattle.saved_items.specs.ItemDecisions.{Fits, IsBeyond, IsLater};
 ghost use Rattle.saved_items.specs.ItemViews.{HasNoTexts, HasTexts, Reads, front_in, item_in, plans_of};
-ghost use Rattle.saved_items.specs.Limits.{most_saved_plans, most_saved_runs};
 ghost use Rattle.saved_items.specs.SavedBooks.{SavedPlan, day_of};
 
 use crate::PlanItem;
@@ -19,11 +20,11 @@ use crate::run_words::read_run;
 use payroll_records::{Day, Key, Record};
 use std::alloc::{AllocError, Global};
 
-/// The most plans of a saved book.
-const MOST_PLANS: u64 = 64;
+/// The most plans of a saved book, as many as a calendar has.
+const MOST_PLANS: u64 = plan_calendar::MOST_PLANS as u64;
 
-/// The most runs of a saved book.
-const MOST_RUNS: u64 = 50_000;
+/// The most runs of a saved book, as many as a book has.
+const MOST_RUNS: u64 = payroll_records::MOST_RECORDS as u64;
 
 /// The item that comes next and what follows it, where the text goes on with one that is of its form. The last line is no
 /// such item.
@@ -158,7 +159,8 @@ fn is_later(plans: &[PlanItem], day: Day) -> bool
 
 /// The texts of a plan behind its line, and what follows their line feed.
 fn plan_texts<'a>(line: PlanLine, rest: &'a [u8]) -> Option<(PlanItem<'a>, &'a [u8])>
-    ensures { MatchOption result (HasNoTexts line rest.now) (λ n. HasTexts line rest.now n.0 n.1.now) }
+    ensures { MatchOption result (HasNoTexts line rest.now)
+        (λ n. HasTexts line rest.now n.0 n.1.now) }
 {
     let (plan, rest) = front_of(rest, line.plan)?;
     let (limits, rest) = front_of(rest, line.limits)?;

@@ -69,7 +69,8 @@ fn are_values(values: &Values)
 
 /// The run that words give, perhaps not in the way in which it is written.
 fn run_of(alloc: Global, words: &[&[u8]]) -> Result<Option<Record>, AllocError>
-    ensures { (r : Run) → IsRun r → texts words.now ≡ run_words r → IfOk result (λ run. run ≡ Some r) }
+    ensures { (r : Run) → IsRun r → texts words.now ≡ run_words r
+        → IfOk result (λ run. run ≡ Some r) }
 {
     let Some(rest) = behind(b"run", words) else {
         return Ok(None);

@@ -1,5 +1,6 @@
 pub mod Words
 pub mod Commands
 pub mod Fields
+pub mod Limits
 pub mod Lines
 pub mod Views

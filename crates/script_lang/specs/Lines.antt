@@ -3,6 +3,7 @@ use Rattle.std.specs.Prelude.{◌≡◌, ◌≢◌, ◌<◌, ◌≤◌, ◌&&◌
 use Rattle.std.specs.List.{AllByRecursion}
 use Rattle.payroll_records.specs.Days.{IsDayText, IsMonthText}
 use Rattle.payroll_records.specs.Employees.{is_employee}
+use Rattle.payroll_records.specs.Limits.{most_values}
 use Rattle.payroll_records.specs.Tables.{Text}
 use Rattle.payroll_records.specs.ValueWords.{AreValueWords}
 use Rattle.payroll_records.specs.declared.day.Day.{Day}
@@ -14,13 +15,14 @@ use Rattle.script_lang.specs.Commands as asked
 use Rattle.script_lang.specs.Commands.{Asked}
 use Rattle.script_lang.specs.Fields as field
 use Rattle.script_lang.specs.Fields.{Field, IsGood, fault_of, run_fields, record_fields}
+use Rattle.script_lang.specs.Limits.{most_line}
 use Rattle.script_lang.specs.Words.{words_of, is_file}
 use Rattle.script_lang.specs.declared.fault.LineFault.{LineFault}
 use Rattle.script_lang.specs.declared.fault.LineFault.TheVariants as fault
 
--- a line has at most 65,536 bytes
+-- a line has at most so many bytes
 abbrev pub IsShort : Text → Type 0
-IsShort line = length line ≤ 65536
+IsShort line = length line ≤ most_line
 
 -- no words, or a comment: its first word begins with `#`
 abbrev pub IsSilent : List Text → Type 0
@@ -47,7 +49,7 @@ pub record IsDrop (words : List Text) (d : Day) : Type 0 where
   pub day_is : IsDayWord word d
 
 -- add EMP MONTH DAY NAME=VALUE .. and change EMP MONTH DAY NAME=VALUE ..: the day lies in the month, and the record's values
--- are those of at most 256 words, in order of their names
+-- are those of the value words, in order of their names
 pub record IsOfRecord (command : Text) (words : List Text) (r : Record) : Type 0 where
   pub month_word : Text
   pub day_word : Text
@@ -136,9 +138,9 @@ text_of owed = codes "owed"
 text_of opening = codes "open"
 text_of trial = codes "try"
 
--- an employee, a month, a day, and at most 256 value words
+-- an employee, a month, a day, and at most as many value words as a pay run has values
 abbrev pub takes_record : List Text → Bool
-takes_record (employee ∷ month ∷ day ∷ values) = nat_le (length values) 256
+takes_record (employee ∷ month ∷ day ∷ values) = nat_le (length values) most_values
 takes_record _ = false
 
 -- an employee, and a month or a day
@@ -230,7 +232,7 @@ AreWrong words other = HaveFirstFault words other
 
 -- why a line is refused; want of memory is free
 abbrev pub IsRefused : Text → LineFault → Type 0
-IsRefused line fault.LineLong = 65536 < length line
+IsRefused line fault.LineLong = most_line < length line
 IsRefused line (fault.Memory error) = ⊤
 IsRefused line other = IsShort line × AreWrong (words_of line) other
 

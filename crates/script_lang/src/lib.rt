@@ -9,4 +9,4 @@ mod words;
 
 pub use command::Command;
 pub use fault::LineFault;
-pub use line::{each_line_has_one_answer, read_line};
+pub use line::{MOST_LINE, each_line_has_one_answer, read_line};

@@ -13,7 +13,7 @@ use payroll_records::{Day, Employee, When};
 use std::alloc::Global;
 
 /// The most bytes of a line.
-const LONGEST: usize = 65_536;
+pub const MOST_LINE: usize = 65_536;
 
 /// What a line asks for, of at most 65,536 bytes without its line end. A line is refused by its length, then by its first
 /// word, then by the number of its words and the names of files, then by the leftmost word with a fault.
@@ -21,7 +21,7 @@ pub fn read_line(alloc: Global, line: &[u8]) -> Result<Command, LineFault>
     ensures ok { IfOk result (λ command. IsLine line.now (asked_of command)) }
     ensures err { IfErr result (IsRefused line.now) }
 {
-    if line.len() > LONGEST {
+    if line.len() > MOST_LINE {
         return Err(LineFault::LineLong);
     }
     let words = words(alloc, line)?;

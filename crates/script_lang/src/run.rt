@@ -2,6 +2,7 @@
 ghost use Rattle.std.specs.Prelude.{◌≡◌, ◌≤◌, [], ◌∷◌, IfErr, IfOk, IsTrue, MatchResult, length};
 ghost use Rattle.payroll_records.specs.Days.{IsMonthText};
 ghost use Rattle.payroll_records.specs.Employees.{is_employee};
+ghost use Rattle.payroll_records.specs.Limits.{most_values};
 ghost use Rattle.payroll_records.specs.Tables.{Text};
 ghost use Rattle.payroll_records.specs.ValueWords.{AreValueWords};
 ghost use Rattle.script_lang.specs.Fields as field;
@@ -11,11 +12,10 @@ ghost use Rattle.script_lang.specs.Lines.{IsDayWord, IsOfRecord, IsTime};
 ghost use Rattle.script_lang.specs.Views.{Breaks, BreaksIn, IsFaultOf, texts};
 
 use crate::LineFault;
-use payroll_records::{Day, Employee, InsertFault, Month, NamedValue, Record, Values, When};
+use payroll_records::{
+    Day, Employee, InsertFault, MOST_VALUES, Month, NamedValue, Record, Values, When,
+};
 use std::alloc::Global;
-
-/// The most value words of a line.
-const MOST_VALUES: usize = 256;
 
 /// The number of a line's first value word.
 const FIRST_VALUE: u32 = 5;
@@ -90,7 +90,7 @@ fn read_day_in(month: &[u8], day: &[u8]) -> Result<Day, LineFault>
 
 /// The values of value words.
 fn read_values(alloc: Global, words: &[&[u8]]) -> Result<Values, LineFault>
-    requires { length words.now ≤ 256 }
+    requires { length words.now ≤ most_values }
     ensures ok { IfOk result (AreValueWords (texts words.now)) }
     ensures err { IfErr result (BreaksIn (value_fields [] (texts words.now))) }
 {
@@ -104,7 +104,7 @@ fn read_values(alloc: Global, words: &[&[u8]]) -> Result<Values, LineFault>
         match values.insert(value) {
             Ok(()) => number += 1,
             Err(InsertFault::Twice) => return Err(LineFault::Twice { name }),
-            // Never comes: there are at most 256 words.
+            // Never comes: there are no more words than values.
             Err(InsertFault::Full) => return Err(LineFault::Words),
             Err(InsertFault::Memory(error)) => return Err(LineFault::Memory(error)),
         }

@@ -14,6 +14,7 @@ pub use memory::run_in_memory;
 pub use sample::{
     MOST_EMPLOYEES, SAMPLE_LIMITS, SAMPLE_PLAN, run_sample, sample_line_count, sample_script,
 };
+pub use script_lang::MOST_LINE;
 pub use stop::Stop;
 pub use transcript::transcript_laws;
 pub use turns::{Ended, Unwritten, run, run_unwritten};
@@ -23,6 +24,3 @@ pub const MOST_SCRIPT: usize = 67_108_864;
 
 /// The most bytes that one turn takes.
 pub const MOST_TURN: usize = 65_536;
-
-/// The most bytes of a line that may be more than too long. Of a longer one this many and one more are kept.
-pub const MOST_LINE: usize = 65_536;

@@ -8,9 +8,9 @@ ghost use Rattle.script_steps.specs.Steps.{start};
 ghost use Rattle.script_run.specs.RunClauses.{AreKept, shown, told_by};
 ghost use Rattle.script_run.specs.RunViews.{Holds, IsSameSoFar, IsAtStart, GoesOn, Breaks, Closes, ClosesAt};
 
-use crate::MOST_LINE;
 use crate::deliver::deliver;
 use outside::{Files, Sink};
+use script_lang::MOST_LINE;
 use script_steps::{LineStop, Script};
 use std::alloc::{AllocError, Global};
 use std::sync::ledger::Ledger;

@@ -18,6 +18,7 @@ use Rattle.book_year.specs.declared.year.YearKey.{YearKey}
 use Rattle.book_year.specs.Rows.{Planned, earlier_of, row_of, rows, year_rows}
 use Rattle.book_year.proofs.Laws.{row_of_day, rows_length}
 use Rattle.book_edits.specs.Books.{YearRuns}
+use Rattle.book_edits.proofs.Laws.{key_same}
 use Rattle.recalc_engine.specs.BookLaws.{row_key}
 use Rattle.recalc_engine.specs.MonthRows.{KeyedRow, keyed_row, keyed_rows, month_rows}
 use Rattle.recalc_engine.specs.MonthViews.{kept_row, kept_rows}
@@ -27,7 +28,6 @@ use Rattle.what_if.specs.Changes.{changes, outputs_of, run_changes, same_state, 
 use Rattle.what_if.specs.TrialLaws.{IsUnnamed, UnnamedRunsStay, row_state}
 use Rattle.what_if.specs.Trials.{book_with}
 use Rattle.what_if.specs.YearViews.{year_changes}
-use Rattle.what_if.proofs.OrderLemmas.{key_same}
 use Rattle.what_if.proofs.StateLemmas.{state_one, state_own}
 
 -- ---- one list after another

@@ -6,12 +6,11 @@ use Rattle.std.specs.declared.cmp.Ordering.TheVariants.{Less, Equal, Greater}
 use Rattle.std.specs.Ordering.{is_eq, ordering_reverse}
 use Rattle.std.specs.Cmp.Lexicographic.{nat_list_cmp_total}
 use Rattle.rising_lists.specs.Keyed.{at_key, AreAbove, IsRising}
-use Rattle.rising_lists.proofs.Laws.{above_more, above_same, at_key_above}
+use Rattle.rising_lists.proofs.Laws.{above_all_of, above_more, above_same, all_above, at_key_above, at_key_map, rising_map}
 use Rattle.payroll_records.specs.declared.values.NamedValue.{NamedValue}
 use Rattle.payroll_records.specs.NamedValues.{name_cmp, name_of, value_at}
 use Rattle.what_if.specs.declared.sides.Side.{Side}
 use Rattle.what_if.specs.SideViews.{both_sides, left_only, right_only, sides_by, sides_of, sides_with}
-use Rattle.what_if.proofs.RisingLemmas.{above_all_of, all_above, at_key_map, rising_map}
 
 abbrev pub side_name : Side → List ℕ
 side_name s = s.name

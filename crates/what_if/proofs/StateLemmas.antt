@@ -7,6 +7,7 @@ use Rattle.std.specs.Cmp.Lexicographic.{pointwise}
 use Rattle.std.proofs.lemmas.Bool.{false≢true}
 use Rattle.std.proofs.lemmas.Cmp.{tied_itself}
 use Rattle.std.proofs.lemmas.Slice.Eq.{bytes_eq-Decides, slice_eq-Decides}
+use Rattle.rising_lists.proofs.Laws.{tied}
 use Rattle.payroll_records.specs.declared.day.Day.{Day}
 use Rattle.payroll_records.specs.declared.values.NamedValue.{NamedValue}
 use Rattle.payroll_records.specs.Orders.{day_cmp}
@@ -19,7 +20,6 @@ use Rattle.book_year.specs.Jobs.{same_decimal}
 use Rattle.book_year.proofs.Laws.{day_same, decimal_decides}
 use Rattle.what_if.specs.TrialLaws.{SameStatesAreOne}
 use Rattle.what_if.specs.Changes.{same_cause, same_output, same_state}
-use Rattle.what_if.proofs.RisingLemmas.{tied}
 
 both : (a b : Bool) → (a && b) ≡ true → (a ≡ true) × (b ≡ true)
 both true b e = (refl, e)

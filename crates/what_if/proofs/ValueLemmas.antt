@@ -8,7 +8,7 @@ use Rattle.std.specs.Cmp.Lexicographic.{nat_list_cmp_total}
 use Rattle.std.proofs.lemmas.Map.Text.{is_eq-slice_cmp}
 use Rattle.scaled_decimal.specs.Decimals.{Decimal}
 use Rattle.rising_lists.specs.Keyed.{at_key, IsRising}
-use Rattle.rising_lists.proofs.Laws.{at_key_put, put_rising}
+use Rattle.rising_lists.proofs.Laws.{at_key_filter_map, at_key_put, found_in, put_rising, rising_filter_map, some_same, text_same}
 use Rattle.payroll_records.specs.declared.record.Key.{Key}
 use Rattle.payroll_records.specs.declared.values.NamedValue.{NamedValue}
 use Rattle.payroll_records.specs.NamedValues.{name_cmp, name_of, value_at}
@@ -18,8 +18,7 @@ use Rattle.what_if.specs.declared.trial.TrialRow.{TrialRow}
 use Rattle.what_if.specs.declared.trial.TrialRow.TheVariants.{Changed, Value}
 use Rattle.what_if.specs.Changes.{in_order, same_amount, value_row, value_rows}
 use Rattle.what_if.specs.SideViews.{AreOrdered, side_row, sides_of}
-use Rattle.what_if.proofs.RisingLemmas.{at_key_filter_map, found_in, rising_filter_map, same_at, some_same}
-use Rattle.what_if.proofs.OrderLemmas.{name_same}
+use Rattle.what_if.proofs.RisingLemmas.{same_at}
 use Rattle.what_if.proofs.SideLemmas.{at_sides, met, side_name, sides_rising}
 
 -- ---- what stands under a name
@@ -108,7 +107,7 @@ module _ (k : Key) (before after : List NamedValue) where
     where
       by : (o : Option (List ℕ)) → name_at listed n ≡ o → option_and_then (value_row k before after) o ≡ value_row k
           before after n
-      by (Some m) e = ap (value_row k before after) (name_same m n (found_in name_cmp itself listed n m e).1)
+      by (Some m) e = ap (value_row k before after) (text_same m n (found_in name_cmp itself listed n m e).1)
       by None e =
           let none = not_named (before ++ after) n e in
           let was : named n before ≡ None = sym (named_at before n)
@@ -125,11 +124,11 @@ module _ (k : Key) (before after : List NamedValue) where
         option_and_then (side_row k) (met v w) ≡ row_with k n (option_map value_of v) (option_map value_of w)
     sides_row n None None e f = refl
     sides_row n None (Some w) e f = ap (λ m. row_with k m None (Some w.value))
-        (name_same w.name n (found_in name_cmp name_of ws n w f).1)
+        (text_same w.name n (found_in name_cmp name_of ws n w f).1)
     sides_row n (Some v) None e f = ap (λ m. row_with k m (Some v.value) None)
-        (name_same v.name n (found_in name_cmp name_of vs n v e).1)
+        (text_same v.name n (found_in name_cmp name_of vs n v e).1)
     sides_row n (Some v) (Some w) e f = ap (λ m. row_with k m (Some v.value) (Some w.value))
-        (name_same v.name n (found_in name_cmp name_of vs n v e).1)
+        (text_same v.name n (found_in name_cmp name_of vs n v e).1)
 
     sides_at : (n : List ℕ) → at_key name_cmp row_name (filter_map (side_row k) (sides_of vs ws)) n ≡ value_row k
         before after n

@@ -1,0 +1,5 @@
+-- How many runs an employee's calendar year has at most: one a day.
+use Rattle.std.specs.Prelude.{ℕ}
+
+abbrev pub most_runs : ℕ
+most_runs = 366

@@ -1,0 +1,5 @@
+-- How many plans a calendar has at most.
+use Rattle.std.specs.Prelude.{ℕ}
+
+abbrev pub most_plans : ℕ
+most_plans = 64
