@@ -1,4 +1,4 @@
 use Rattle.program_trials.proofs.answers.answered.Given as goal
 
 abbrev pub ghosts-counted : goal.ghosts-counted
-ghosts-counted a = record { name = a.blank.name; parts = a.blank.parts }
+ghosts-counted a b = record { name = b.blank.name; parts = b.blank.parts }
