@@ -1,8 +1,8 @@
 """Picoseconds a step of a flowchart on the built program, and of the same flowchart as a Java class on java.math.BigDecimal:
 bench_plan.py PROGRAM PLAN LIMITS NAME=VALUE .., from the top of the repository (needs a JDK).
 
-A copy of the flowchart is made whose MAIN runs the whole flowchart 1,536 times, by methods that execute each other twice. `check` reads,
-proves and compiles it, `once` runs it besides: what `once` takes more is the run."""
+A copy of the flowchart is made whose MAIN runs the whole flowchart as often as a flowchart may have statements, at most 1,536 times, by
+methods that execute each other twice. `check` reads, proves and compiles it, `once` runs it besides: what `once` takes more is the run."""
 import os
 import re
 import resource
@@ -12,18 +12,18 @@ import tempfile
 
 PROGRAM, PLAN, LIMITS = sys.argv[1:4]
 VALUES = sys.argv[4:]
-DOUBLINGS = 10
+MOST_DOUBLINGS = 10
 ROUNDS, CALLS = 5, 20
 
 
-def repeated(text):
+def repeated(text, doublings):
     """The flowchart with its MAIN as a method R0, and a MAIN that runs it again and again."""
     main = re.search(r"<MAIN>(.*?)</MAIN>", text, re.S)
     call = '<EXECUTE method="R{}"/>'.format
     methods = f'<METHOD name="R0">{main.group(1)}</METHOD>'
-    for i in range(1, DOUBLINGS + 1):
+    for i in range(1, doublings + 1):
         methods += f'<METHOD name="R{i}">{call(i - 1)}{call(i - 1)}</METHOD>'
-    calls = call(DOUBLINGS) + call(DOUBLINGS - 1)
+    calls = call(doublings) + call(doublings - 1)
     return f"{text[:main.start()]}<MAIN>{calls}</MAIN>{methods}{text[main.end():]}"
 
 
@@ -50,11 +50,22 @@ def steps_of(plan):
     return int(written.rsplit("steps ", 1)[1])
 
 
+def write_repeated(plan):
+    """Writes the copy of the flowchart that repeats it most often and is accepted."""
+    with open(PLAN, encoding="utf-8") as source:
+        text = source.read()
+    for doublings in range(MOST_DOUBLINGS, 0, -1):
+        with open(plan, "w", encoding="utf-8") as copy:
+            copy.write(repeated(text, doublings))
+        if subprocess.run([PROGRAM, "check", plan, LIMITS], capture_output=True).returncode == 0:
+            return
+    sys.exit("bench_plan: the flowchart is too long to be repeated")
+
+
 def main():
     with tempfile.TemporaryDirectory() as folder:
         plan = os.path.join(folder, "plan.xml")
-        with open(PLAN, encoding="utf-8") as source, open(plan, "w", encoding="utf-8") as copy:
-            copy.write(repeated(source.read()))
+        write_repeated(plan)
         steps = steps_of(plan)
         for _ in range(ROUNDS):
             run = processor_time([PROGRAM, "once", plan, LIMITS, *VALUES]) - processor_time([PROGRAM, "check", plan, LIMITS])
