@@ -3,8 +3,8 @@
 
 Of each drawing: no line meets a symbol but where it enters or leaves it, no horizontal line crosses a vertical one, no two
 vertical lines lie over one another, no two symbols share a height, all is inside the drawing, and no cut goes through a
-symbol, a word or a comment. Of each page: each statement is there once, each link leads to a place of the page, each id stands
-once, and the drawings are well-formed XML. Of a range file that is begun for a plan of random inputs: the plan is accepted with it."""
+symbol, a word or a comment. Of each page: each statement and each comment is there once, each link leads to a place of the page, each id
+stands once, and the drawings are well-formed XML. Of a range file that is begun for a plan of random inputs: the plan is accepted with it."""
 import os
 import random
 import re
@@ -30,13 +30,19 @@ class Plan:
         self.methods = sorted({some_name(rng) for _ in range(rng.randrange(4))} - {"MAIN"} - set(self.names))
         self.counts = {}
         self.lines = []
+        self.comments = 0
         self.write()
 
     def comment(self, chance):
         if self.rng.random() < chance:
             words = ["pr\u00fcfen", "<&>", "'x'", '"y"', "tax", "a" * self.rng.randrange(1, 40), "--", "of the year"]
             text = " ".join(self.rng.choice(words) for _ in range(self.rng.randrange(1, 30)))
-            self.lines.append("<!-- " + text.replace("-->", "") + " -->")
+            self.lines.append("<!-- " + text.replace("-->", "") + " note%d. -->" % self.comments)
+            self.comments += 1
+
+    def tag(self, text, chance=0.2):
+        self.comment(chance)
+        self.lines.append(text)
 
     def term(self, depth):
         rng = self.rng
@@ -83,23 +89,34 @@ class Plan:
 
     def write(self):
         rng = self.rng
-        self.lines.append('<PAP name="A &amp; &lt;b&gt; &quot;c&quot;" version="1"><VARIABLES><INPUTS>')
+        self.tag('<PAP name="A &amp; &lt;b&gt; &quot;c&quot;" version="1">')
+        self.tag("<VARIABLES>")
+        self.tag("<INPUTS>")
         for name in self.names[:4]:
-            self.comment(0.5)
             kind = rng.choice(["int", "long", "BigDecimal", "double"])
-            self.lines.append('<INPUT name="%s" type="%s"/>' % (name, kind))
+            self.tag('<INPUT name="%s" type="%s"/>' % (name, kind), 0.5)
         if rng.random() < 0.2:
-            self.lines.append('<INPUT name="%s" type="int"/>' % self.names[0])
-        self.lines.append("</INPUTS><OUTPUTS>")
-        self.lines.append('<OUTPUT name="%s" type="BigDecimal"/>' % self.names[-1])
-        self.lines.append("</OUTPUTS></VARIABLES><METHODS>")
+            self.tag('<INPUT name="%s" type="int"/>' % self.names[0])
+        self.tag("</INPUTS>")
+        for name in self.names[-1 - rng.randrange(2):]:
+            self.tag("<OUTPUTS>")
+            self.tag('<OUTPUT name="%s" type="BigDecimal">' % name)
+            self.tag("</OUTPUT>")
+            self.tag("</OUTPUTS>")
+        self.tag("</VARIABLES>")
+        if rng.random() < 0.3:
+            self.tag("<INTERNALS>")
+            self.tag("</INTERNALS>")
+        self.tag("<METHODS>")
         for method in ["MAIN"] + self.methods:
             self.counts[method] = 0
             self.comment(0.3)
             self.lines.append("<MAIN>" if method == "MAIN" else '<METHOD name="%s">' % method)
             self.body(method, rng.randrange(7), rng.choice([3, 6, 12]))
             self.lines.append("</MAIN>" if method == "MAIN" else "</METHOD>")
-        self.lines.append("</METHODS></PAP>")
+        self.tag("</METHODS>")
+        self.tag("</PAP>")
+        self.comment(0.2)
 
     def text(self):
         return "\n".join(self.lines).encode("utf-8")
@@ -197,6 +214,9 @@ def check_page(plan, page):
         for statement in range(count):
             if "%s:%d" % (method, statement) not in ids:
                 faults.append("no statement %s:%d" % (method, statement))
+    for number in range(plan.comments):
+        if text.count(" note%d." % number) + text.count(">note%d." % number) != 1:
+            faults.append("comment %d isn't there once" % number)
     for section in re.findall(r'<section class="m.*?</section>', text, re.S):
         parts = [Part(ET.fromstring(svg)) for svg in re.findall(r"<svg role.*?</svg>", section, re.S)]
         faults += check_drawing(parts)

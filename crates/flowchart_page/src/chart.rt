@@ -1,5 +1,6 @@
 //! The whole page.
 use crate::callers::Callers;
+use crate::comments::{write_last_paragraph, write_paragraphs};
 use crate::declarations::{Declarations, write_declarations};
 use crate::header::{Reason, write_head, write_lead, write_verdict};
 use crate::method::{Chapter, write_index, write_key, write_method};
@@ -219,7 +220,7 @@ fn refused_in(site: &Site, name: &Name) -> Option<u32> {
     }
 }
 
-/// Appends the drawings of the methods.
+/// Appends the drawings of the methods, with the comments round them.
 fn write_drawings(
     page: &mut Page,
     source: &Source<'_>,
@@ -234,8 +235,11 @@ fn write_drawings(
     }
     names.sort()?;
     write_key(page)?;
+    write_paragraphs(page, source.notes, Element::Methods, false)?;
     for (i, chapter) in chapters.iter().enumerate() {
         write_method(page, chapter, callers.of(i), &names, site)?;
     }
-    Ok(())
+    write_paragraphs(page, source.notes, Element::Methods, true)?;
+    write_paragraphs(page, source.notes, Element::Pap, true)?;
+    write_last_paragraph(page, source.notes)
 }

@@ -1,4 +1,5 @@
 //! The table of declared names.
+use crate::comments::{write_comments, write_paragraphs};
 use crate::page::Page;
 use crate::ranges::{input_range, output_range};
 use crate::site::Site;
@@ -23,69 +24,125 @@ pub(crate) struct Declarations<'a> {
     pub site: &'a Site,
 }
 
+/// A kind of declared names.
+#[derive(Clone, Copy)]
+struct Group<'a> {
+    title: &'static str,
+    /// The element that holds them.
+    home: Element,
+    element: Element,
+    names: &'a [RawDeclared],
+}
+
 /// Appends the table: inputs, outputs, internals and constants.
 pub(crate) fn write_declarations(
     page: &mut Page,
     declarations: &Declarations<'_>,
 ) -> Result<(), AllocError> {
+    let notes = declarations.notes;
+    page.own("<section id=\"declarations\"><h2>Declarations</h2>\n")?;
+    write_paragraphs(page, notes, Element::Interface, false)?;
     page.own(
-        "<section id=\"declarations\"><h2>Declarations</h2>\n<div class=\"scroll\"><table><thead><tr><th scope=\"col\">Name<th scope=\"col\">Type<th scope=\"col\">Default or value<th scope=\"col\">Range<th scope=\"col\">Comment</tr></thead>\n",
+        "<div class=\"scroll\"><table><thead><tr><th scope=\"col\">Name<th scope=\"col\">Type<th scope=\"col\">Default or value<th scope=\"col\">Range<th scope=\"col\">Comment</tr></thead>\n",
     )?;
-    let elements = declarations.elements;
-    write_group(
-        page,
-        declarations,
-        "Inputs",
-        Element::Input,
-        &elements.inputs,
-    )?;
-    write_group(
-        page,
-        declarations,
-        "Outputs",
-        Element::Output,
-        &elements.outputs,
-    )?;
-    write_group(
-        page,
-        declarations,
-        "Internals",
-        Element::Internal,
-        &elements.internals,
-    )?;
-    write_group(
-        page,
-        declarations,
-        "Constants",
-        Element::Constant,
-        &elements.constants,
-    )?;
-    page.own("</table></div></section>\n")
+    for group in groups_of(declarations.elements) {
+        if !group.names.is_empty() || has_comments(notes, group.home) {
+            write_group(page, declarations, group)?;
+        }
+    }
+    page.own("</table></div>\n")?;
+    write_paragraphs(page, notes, Element::Interface, true)?;
+    page.own("</section>\n")
 }
 
-/// Appends the rows of a kind of names, under its title. A kind without names has none.
+/// The kinds of declared names, in the order of the table.
+fn groups_of(elements: &Elements) -> [Group<'_>; 4] {
+    [
+        Group {
+            title: "Inputs",
+            home: Element::Inputs,
+            element: Element::Input,
+            names: &elements.inputs,
+        },
+        Group {
+            title: "Outputs",
+            home: Element::Outputs,
+            element: Element::Output,
+            names: &elements.outputs,
+        },
+        Group {
+            title: "Internals",
+            home: Element::Internals,
+            element: Element::Internal,
+            names: &elements.internals,
+        },
+        Group {
+            title: "Constants",
+            home: Element::Constants,
+            element: Element::Constant,
+            names: &elements.constants,
+        },
+    ]
+}
+
+/// Whether comments stand before a tag of an element.
+fn has_comments(notes: &Notes, element: Element) -> bool {
+    notes
+        .marks
+        .iter()
+        .any(|mark| mark.element == element && mark.first < mark.last)
+}
+
+/// Appends a kind of names under its title, in the order of the file: a row for each name, and one for the comments before each
+/// other tag.
 fn write_group(
     page: &mut Page,
     declarations: &Declarations<'_>,
-    title: &str,
-    element: Element,
-    group: &[RawDeclared],
+    group: Group<'_>,
 ) -> Result<(), AllocError> {
-    let count = group.len();
-    if count == 0 {
-        return Ok(());
-    }
     let alloc = page.alloc;
+    let title = group.title;
+    let count = group.names.len();
     page.own(&format!(in alloc;
         "<tbody><tr><th class=\"g\" colspan=\"5\" scope=\"rowgroup\">{title} <span>{count}</span></tr>\n"
     )?)?;
-    let mut walk = declarations.notes.walk();
-    for (i, declared) in group.iter().enumerate() {
-        let comments = walk.skip_to(element);
-        let range = range_of(alloc, declarations, element, i, &declared.name)?;
-        write_row(page, declarations.site, declared, &range, comments)?;
+    let mut number: usize = 0;
+    for mark in &declarations.notes.marks {
+        let comments = declarations.notes.before(mark);
+        if mark.element == group.element && !mark.is_end {
+            write_name(page, declarations, group, number, comments)?;
+            number = number.saturating_add(1);
+        } else if mark.element == group.home || mark.element == group.element {
+            write_comments_row(page, comments)?;
+        }
     }
     page.own("</tbody>\n")
+}
+
+/// Appends the row of the name of a number among those of its kind.
+fn write_name(
+    page: &mut Page,
+    declarations: &Declarations<'_>,
+    group: Group<'_>,
+    number: usize,
+    comments: &[String],
+) -> Result<(), AllocError> {
+    let Some(declared) = group.names.get(number) else {
+        return Ok(());
+    };
+    let alloc = page.alloc;
+    let range = range_of(alloc, declarations, group.element, number, &declared.name)?;
+    write_row(page, declarations.site, declared, &range, comments)
+}
+
+/// Appends the row of the comments before a tag that no name has, where there are some.
+fn write_comments_row(page: &mut Page, comments: &[String]) -> Result<(), AllocError> {
+    if comments.is_empty() {
+        return Ok(());
+    }
+    page.own("<tr><td class=\"com\" colspan=\"5\">")?;
+    write_comments(page, comments)?;
+    page.own("</tr>\n")
 }
 
 /// The range of the name of a number among those of its kind.
@@ -163,17 +220,6 @@ fn write_cells(
     page.text(range.as_bytes())?;
     page.own("<td>")?;
     write_comments(page, comments)
-}
-
-/// Appends comments, with a space between two of them.
-pub(crate) fn write_comments(page: &mut Page, comments: &[String]) -> Result<(), AllocError> {
-    for (i, comment) in comments.iter().enumerate() {
-        if i > 0 {
-            page.own(" ")?;
-        }
-        page.text(comment.as_bytes())?;
-    }
-    Ok(())
 }
 
 /// Appends one cell for the values of a table, each with its index, below its comments.

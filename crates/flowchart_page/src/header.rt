@@ -1,5 +1,5 @@
 //! The head of the page and its verdict.
-use crate::declarations::write_comments;
+use crate::comments::write_comments;
 use crate::page::Page;
 use crate::site::Site;
 use crate::style::STYLE;

@@ -3,6 +3,7 @@
 
 mod callers;
 mod chart;
+mod comments;
 mod declarations;
 mod escape;
 mod figure;

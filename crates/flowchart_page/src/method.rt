@@ -1,5 +1,5 @@
 //! The methods of the page: their index and their sections.
-use crate::declarations::write_comments;
+use crate::comments::write_comments;
 use crate::figure::{Drawn, write_drawing};
 use crate::page::Page;
 use crate::site::Site;

@@ -1,8 +1,8 @@
 //! What is wrong with the elements of a plan's file.
 use crate::place::TextFile;
 use crate::quotes::quoted;
-use crate::tags::{Group, Tags, letters, start_tag};
 use pap_reader::{ReadFault, Which};
+use plan_notes::{Element, Starts, element_name, read_notes};
 use std::alloc::{AllocError, Global};
 
 /// What is wrong with the elements of a plan's file, and where.
@@ -127,14 +127,6 @@ fn line_from(file: &[u8], at: usize) -> &[u8] {
     &rest[..count]
 }
 
-/// The name of the element whose tag stands first in a text.
-fn element_name(text: &[u8]) -> &[u8] {
-    match text {
-        [b'<', behind @ ..] => letters(behind),
-        _ => &[],
-    }
-}
-
 /// Which attributes an element needs.
 fn needed_attributes(name: &[u8]) -> &'static str {
     if name == b"INPUT".as_slice() || name == b"INTERNAL".as_slice() {
@@ -159,7 +151,7 @@ fn needed_attributes(name: &[u8]) -> &'static str {
 /// Too much of something, and where the first one too many stands.
 fn many_words(alloc: Global, plan: TextFile<'_>, which: Which) -> Result<String, AllocError> {
     let remedy = "split the flowchart, or join what can be joined";
-    match excess_tag(plan.bytes, which) {
+    match excess_tag(alloc, plan.bytes, which)? {
         Some(at) => {
             let site = plan.site(Some(at));
             format!(in alloc;
@@ -174,14 +166,23 @@ fn many_words(alloc: Global, plan: TextFile<'_>, which: Which) -> Result<String,
 }
 
 /// Where the first tag stands that is one too many, for what is counted over the whole file.
-fn excess_tag(plan: &[u8], which: Which) -> Option<usize> {
+fn excess_tag(alloc: Global, plan: &[u8], which: Which) -> Result<Option<usize>, AllocError> {
+    let Some((starts, most)) = counted(which) else {
+        return Ok(None);
+    };
+    let notes = read_notes(alloc, plan)?;
+    Ok(notes.walk().find_start(starts, most))
+}
+
+/// The start tags that are counted over the whole file, and how many of them there may be.
+fn counted(which: Which) -> Option<(Starts, usize)> {
     match which {
-        Which::Inputs => start_tag(plan, 0, Tags::Declaration(Group::Input), 256),
-        Which::Outputs => start_tag(plan, 0, Tags::Declaration(Group::Output), 256),
-        Which::Internals => start_tag(plan, 0, Tags::Declaration(Group::Internal), 1024),
-        Which::Constants => start_tag(plan, 0, Tags::Declaration(Group::Constant), 512),
-        Which::Methods => start_tag(plan, 0, Tags::Method, 256),
-        Which::Statements => start_tag(plan, 0, Tags::Statement, 20_000),
+        Which::Inputs => Some((Starts::Of(Element::Input), 256)),
+        Which::Outputs => Some((Starts::Of(Element::Output), 256)),
+        Which::Internals => Some((Starts::Of(Element::Internal), 1024)),
+        Which::Constants => Some((Starts::Of(Element::Constant), 512)),
+        Which::Methods => Some((Starts::Of(Element::Method), 256)),
+        Which::Statements => Some((Starts::OfStatements, 20_000)),
         Which::Bytes | Which::Depth => None,
     }
 }

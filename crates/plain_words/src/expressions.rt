@@ -75,7 +75,7 @@ fn literal_words(
 ) -> Result<String, AllocError> {
     let site = literal_site(source, found, at);
     let text = faulty_literal(alloc, found)?;
-    let element = found.group.element();
+    let element = found.group.name();
     let name = found.declared.name;
     let shown = quoted(alloc, text, at)?;
     let words = format!(in alloc; "the literal {shown} of the {element} {name}")?;

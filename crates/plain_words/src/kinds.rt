@@ -136,7 +136,7 @@ fn value_words(alloc: Global, source: Source<'_>, name: &Name) -> Result<String,
         return format!(in alloc; "{site}: the literal of {name} isn't of its type");
     };
     let site = literal_site(source, found, 0);
-    let element = found.group.element();
+    let element = found.group.name();
     let rule = literal_rule(found.declared.kind);
     let text = found
         .declared

@@ -2,10 +2,10 @@
 #![tactic(auto)]
 
 mod advice;
-mod attributes;
 mod counting;
 mod elements;
 mod expressions;
+mod group;
 mod kinds;
 mod lines;
 mod methods;
@@ -19,7 +19,6 @@ mod ranges;
 mod sites;
 mod state;
 mod statements;
-mod tags;
 
 pub use counting::position;
 pub use lines::one_line;

@@ -11,7 +11,7 @@ use crate::methods::order_words;
 use crate::place::TextFile;
 use crate::range_file::{binding_words, limit_kind_words, limit_name_words, range_file_words};
 use crate::ranges::range_words;
-use crate::sites::{Source, elements_of};
+use crate::sites::{Outline, Source};
 use pap_plan::PlanRefusal;
 use std::alloc::{AllocError, Global};
 
@@ -40,14 +40,8 @@ fn refusal_words(
         PlanRefusal::Read(fault) => element_words(alloc, plan, fault),
         PlanRefusal::Limits(fault) => range_file_words(alloc, limits, fault),
         PlanRefusal::Memory => Err(AllocError),
-        _ => match elements_of(alloc, plan)? {
-            Some(elements) => {
-                let source = Source {
-                    file: plan,
-                    elements: &elements,
-                };
-                placed_words(alloc, source, limits, refusal)
-            }
+        _ => match Outline::read(alloc, plan)? {
+            Some(outline) => placed_words(alloc, outline.source(plan), limits, refusal),
             None => other_words(alloc, plan),
         },
     }

@@ -1,7 +1,7 @@
 //! What is wrong with a range file, by itself or beside its plan.
+use crate::group::Group;
 use crate::place::{Site, TextFile};
 use crate::sites::{DeclaredSite, Source, declaration_of, declaration_site};
-use crate::tags::Group;
 use limits_file::LimitsFault;
 use pap_tree::{Kind, Name};
 use std::alloc::{AllocError, Global};

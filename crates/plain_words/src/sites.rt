@@ -1,31 +1,50 @@
 //! Where the statements, the methods and the declared names of a plan stand in its file.
-use crate::attributes::text_byte;
+use crate::group::Group;
 use crate::ordinal::Ordinal;
 use crate::place::{Site, TextFile};
 use crate::quotes::quoted;
 use crate::statements::{expression_text, statement_in};
-use crate::tags::{Group, Tags, start_tag};
 use pap_reader::{Elements, RawDeclared, RawStmt, ReadFault, read_elements};
 use pap_tree::Name;
+use plan_notes::{Element, Notes, Starts, Walk, attribute_byte, read_notes};
 use std::alloc::{AllocError, Global};
 
-/// A plan's file with its elements.
+/// What is read of a plan's file.
+#[derive(Drop)]
+pub(crate) struct Outline {
+    elements: Elements,
+    notes: Notes,
+}
+
+impl Outline {
+    /// What is read of a plan's file. `None` where it isn't read.
+    pub(crate) fn read(alloc: Global, plan: TextFile<'_>) -> Result<Option<Outline>, AllocError> {
+        match read_elements(alloc, plan.bytes) {
+            Ok(elements) => {
+                let notes = read_notes(alloc, plan.bytes)?;
+                Ok(Some(Outline { elements, notes }))
+            }
+            Err(ReadFault::Memory) => Err(AllocError),
+            Err(_) => Ok(None),
+        }
+    }
+
+    /// The file with what is read of it.
+    pub(crate) fn source<'a>(&'a self, file: TextFile<'a>) -> Source<'a> {
+        Source {
+            file,
+            elements: &self.elements,
+            notes: &self.notes,
+        }
+    }
+}
+
+/// A plan's file with its elements and its tags.
 #[derive(Clone, Copy)]
 pub(crate) struct Source<'a> {
     pub file: TextFile<'a>,
     pub elements: &'a Elements,
-}
-
-/// The elements of a plan's file. `None` where it has none.
-pub(crate) fn elements_of(
-    alloc: Global,
-    plan: TextFile<'_>,
-) -> Result<Option<Elements>, AllocError> {
-    match read_elements(alloc, plan.bytes) {
-        Ok(elements) => Ok(Some(elements)),
-        Err(ReadFault::Memory) => Err(AllocError),
-        Err(_) => Ok(None),
-    }
+    pub notes: &'a Notes,
 }
 
 /// The statement of a number in a method.
@@ -45,27 +64,29 @@ pub(crate) fn statement_of<'a>(
     statement_in(&found.body, number)
 }
 
-/// The byte at which a method's start tag begins.
-fn method_tag(source: Source<'_>, method: &Name) -> Option<usize> {
+/// The byte at which a method's start tag begins; the walk along the file's tags goes on behind it.
+fn method_tag(source: Source<'_>, walk: &mut Walk<'_>, method: &Name) -> Option<usize> {
     if *method == Name::main() {
-        return start_tag(source.file.bytes, 0, Tags::Main, 0);
+        return walk.find_start(Starts::Of(Element::Main), 0);
     }
     let methods = &source.elements.methods;
     let number = methods
         .iter()
         .position(|candidate| candidate.name == *method)?;
-    start_tag(source.file.bytes, 0, Tags::Method, number)
+    walk.find_start(Starts::Of(Element::Method), number)
 }
 
 /// The place of a method.
 pub(crate) fn method_site<'a>(source: Source<'a>, method: &Name) -> Site<'a> {
-    source.file.site(method_tag(source, method))
+    let mut walk = source.notes.walk();
+    source.file.site(method_tag(source, &mut walk, method))
 }
 
 /// The byte at which the start tag of a statement begins.
 fn statement_tag(source: Source<'_>, method: &Name, number: u32) -> Option<usize> {
-    let from = method_tag(source, method)?;
-    start_tag(source.file.bytes, from, Tags::Statement, number as usize)
+    let mut walk = source.notes.walk();
+    method_tag(source, &mut walk, method)?;
+    walk.find_start(Starts::OfStatements, number as usize)
 }
 
 /// The place of a byte of a statement's text: of its assignment, its test or the name of its method.
@@ -89,7 +110,7 @@ fn statement_byte(source: Source<'_>, method: &Name, number: u32, at: usize) -> 
         RawStmt::If { .. } => b"expr".as_slice(),
         RawStmt::Execute { .. } => b"method".as_slice(),
     };
-    text_byte(source.file.bytes, tag, attribute, at)
+    attribute_byte(source.file.bytes, tag, attribute, at)
 }
 
 /// A statement as it is quoted: ``EVAL `A= B`, the 4th statement of MZVE``. Of a long text the part round a place is shown.
@@ -205,21 +226,19 @@ pub(crate) fn repeated_sites<'a>(source: Source<'a>, name: &Name) -> Option<(Sit
 
 /// The first and the last method of a name, of which MAIN may be the first.
 fn repeated_methods<'a>(source: Source<'a>, name: &Name) -> Option<(Site<'a>, Site<'a>)> {
-    let first = method_tag(source, name)?;
+    let mut walk = source.notes.walk();
+    let first = method_tag(source, &mut walk, name)?;
     let methods = &source.elements.methods;
     let number = methods.iter().rposition(|method| method.name == *name)?;
-    let second = start_tag(source.file.bytes, 0, Tags::Method, number);
+    let mut walk = source.notes.walk();
+    let second = walk.find_start(Starts::Of(Element::Method), number);
     Some((source.file.site(Some(first)), source.file.site(second)))
 }
 
 /// The byte at which a declaration's tag begins.
 pub(crate) fn declaration_tag(source: Source<'_>, site: DeclaredSite<'_>) -> Option<usize> {
-    start_tag(
-        source.file.bytes,
-        0,
-        Tags::Declaration(site.group),
-        site.number,
-    )
+    let mut walk = source.notes.walk();
+    walk.find_start(Starts::Of(site.group.element()), site.number)
 }
 
 /// The place of a declaration.
@@ -239,10 +258,6 @@ fn literal_byte(source: Source<'_>, site: DeclaredSite<'_>, at: usize) -> Option
         Group::Constant => b"value".as_slice(),
         _ => b"default".as_slice(),
     };
-    text_byte(
-        source.file.bytes,
-        declaration_tag(source, site)?,
-        attribute,
-        at,
-    )
+    let tag = declaration_tag(source, site)?;
+    attribute_byte(source.file.bytes, tag, attribute, at)
 }

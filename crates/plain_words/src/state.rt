@@ -6,7 +6,7 @@ ghost use Rattle.plain_words.specs.Lines.{IsOneLine};
 use crate::lines::one_line;
 use crate::place::{Site, TextFile};
 use crate::range_file::entry_site;
-use crate::sites::{Source, declaration_of, declaration_tag, elements_of};
+use crate::sites::{Outline, declaration_of, declaration_tag};
 use carry_bindings::Blocked;
 use pap_tree::Name;
 use std::alloc::{AllocError, Global};
@@ -61,13 +61,10 @@ fn blocked_words(
 
 /// Where an input is declared.
 fn input_site<'a>(alloc: Global, plan: TextFile<'a>, name: &Name) -> Result<Site<'a>, AllocError> {
-    let Some(elements) = elements_of(alloc, plan)? else {
+    let Some(outline) = Outline::read(alloc, plan)? else {
         return Ok(plan.whole());
     };
-    let source = Source {
-        file: plan,
-        elements: &elements,
-    };
+    let source = outline.source(plan);
     match declaration_of(source, name) {
         Some(found) => Ok(plan.site(declaration_tag(source, found))),
         None => Ok(plan.whole()),

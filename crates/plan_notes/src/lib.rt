@@ -1,4 +1,4 @@
-//! The comments of a plan's file, each with the tag before which it stands.
+//! The tags of a plan's file: where each begins, the comments before it, and the attributes in it.
 #![tactic(auto)]
 
 mod attributes;
@@ -7,7 +7,8 @@ mod scan;
 mod tag;
 mod text;
 
+pub use attributes::attribute_byte;
 pub use notes::{Notes, Walk};
 pub use scan::read_notes;
-pub use tag::{Element, Mark};
+pub use tag::{Element, Mark, Starts, element_name};
 pub use text::one_line;

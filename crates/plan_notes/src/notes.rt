@@ -1,5 +1,5 @@
 //! The comments that are found, and a walk along the tags.
-use crate::tag::{Element, Mark};
+use crate::tag::{Element, Mark, Starts};
 
 /// The comments of a plan's file, and what its root says of itself.
 #[derive(Drop)]
@@ -17,7 +17,7 @@ pub struct Notes {
 
 impl Notes {
     /// The comments before a tag.
-    fn before(&self, mark: &Mark) -> &[String] {
+    pub fn before(&self, mark: &Mark) -> &[String] {
         self.comments.get(mark.first..mark.last).unwrap_or(&[])
     }
 
@@ -38,15 +38,34 @@ impl<'a> Walk<'a> {
     /// The comments before the next start tag of an element; the walk goes on behind it. None where there is no such tag,
     /// and the walk stays.
     pub fn skip_to(&mut self, element: Element) -> &'a [String] {
+        match self.next_start(Starts::Of(element)) {
+            Some(mark) => self.notes.before(mark),
+            None => &[],
+        }
+    }
+
+    /// The byte at which the start tag of a number begins, among those that are looked for from here on, counted from 0; the
+    /// walk goes on behind it. `None` where there are fewer, and the walk stands behind the last of them.
+    pub fn find_start(&mut self, starts: Starts, number: usize) -> Option<usize> {
+        for _ in 0..number {
+            self.next_start(starts)?;
+        }
+        let mark = self.next_start(starts)?;
+        Some(mark.at)
+    }
+
+    /// The next start tag of those that are looked for; the walk goes on behind it. `None` where there is none, and the walk
+    /// stays.
+    fn next_start(&mut self, starts: Starts) -> Option<&'a Mark> {
         let marks = &self.notes.marks;
         for at in self.at..marks.len() {
             let mark = &marks[at];
-            if mark.element == element && !mark.is_end {
+            if starts.has(mark) {
                 self.at = at + 1;
-                return self.notes.before(mark);
+                return Some(mark);
             }
         }
-        &[]
+        None
     }
 
     /// Whether the next tag is a start tag of an element.

@@ -4,6 +4,8 @@
 #[derive(Clone, Copy, Debug, PartialEq, Eq)]
 pub enum Element {
     Pap,
+    /// INTERFACE or VARIABLES.
+    Interface,
     Inputs,
     Outputs,
     Internals,
@@ -12,6 +14,7 @@ pub enum Element {
     Output,
     Internal,
     Constant,
+    Methods,
     Main,
     Method,
     Eval,
@@ -19,15 +22,17 @@ pub enum Element {
     If,
     Then,
     Else,
-    /// An element that only holds others, as METHODS.
+    /// An element that a plan hasn't.
     Other,
 }
 
 impl Element {
     /// The element of a name.
     pub(crate) fn named(name: &[u8]) -> Element {
-        const NAMES: [(&[u8], Element); 16] = [
+        const NAMES: [(&[u8], Element); 19] = [
             (b"PAP", Element::Pap),
+            (b"INTERFACE", Element::Interface),
+            (b"VARIABLES", Element::Interface),
             (b"INPUTS", Element::Inputs),
             (b"OUTPUTS", Element::Outputs),
             (b"INTERNALS", Element::Internals),
@@ -36,6 +41,7 @@ impl Element {
             (b"OUTPUT", Element::Output),
             (b"INTERNAL", Element::Internal),
             (b"CONSTANT", Element::Constant),
+            (b"METHODS", Element::Methods),
             (b"MAIN", Element::Main),
             (b"METHOD", Element::Method),
             (b"EVAL", Element::Eval),
@@ -53,18 +59,49 @@ impl Element {
     }
 }
 
-/// A tag, with the numbers of the comments between the tag before and it: from the first on, before the last. An empty tag
-/// counts as a start tag and an end tag.
+/// A tag, with the byte at which it begins and the numbers of the comments between the tag before and it: from the first on,
+/// before the last. An empty tag counts as a start tag and an end tag.
 #[derive(Clone, Copy, Debug)]
 pub struct Mark {
     pub element: Element,
     pub is_end: bool,
+    pub at: usize,
     pub first: usize,
     pub last: usize,
 }
 
+/// Which start tags are looked for.
+#[derive(Clone, Copy, Debug, PartialEq, Eq)]
+pub enum Starts {
+    /// Those of an element.
+    Of(Element),
+    /// Those of the statements: of EVAL, EXECUTE and IF.
+    OfStatements,
+}
+
+impl Starts {
+    /// Whether a tag is one of them.
+    pub(crate) fn has(self, mark: &Mark) -> bool {
+        let is_sought = match self {
+            Starts::Of(element) => mark.element == element,
+            Starts::OfStatements => {
+                matches!(mark.element, Element::Eval | Element::Execute | Element::If)
+            }
+        };
+        is_sought && !mark.is_end
+    }
+}
+
+/// The name of the element whose tag stands first in a text. Nothing where none does.
+pub fn element_name(text: &[u8]) -> &[u8] {
+    match text {
+        [b'<', b'/', name @ ..] | [b'<', name @ ..] => letters(name),
+        _ => &[],
+    }
+}
+
 /// The letters with which a text begins.
-pub(crate) fn letters(text: &[u8]) -> &[u8] {
+fn letters(text: &[u8]) -> &[u8] {
     let count = text
         .iter()
         .take_while(|byte| byte.is_ascii_alphabetic())
