@@ -185,10 +185,9 @@ sides_answer w op e f at n m next rs a b r j k w2 allowed br first second en em 
 
 -- ---- a compareTo with an `int` literal
 
-module _ (w : Walk) (op : Binary) (x y : Term) (k : ℤ) (at n m p q : ℕ) (rs : List Interval) (a b o l : Interval)
+module _ (w : Walk) (op : Binary) (x y : Term) (k : ℤ) (at n m p : ℕ) (rs : List Interval) (a b o : Interval)
     (first : ranged (scope_in w.plan.now) x at (ranges_in w.plan.now rs) ≡ Ok a) (second : ranged (scope_in w.plan.now) y n (ranges_in w.plan.now rs) ≡ Ok b)
-    (order : at_node m (comparison_row a b) ≡ Ok o) (literal : at_node p (read_range kinds.Int (single (whole_decimal k))) ≡ Ok l)
-    (en : n ≡ at + nodes x) (em : m ≡ n + nodes y) (ep : p ≡ m + 1) (eq : q ≡ p + 1) where
+    (order : at_node m (comparison_row a b) ≡ Ok o) (en : n ≡ at + nodes x) (em : m ≡ n + nodes y) (ep : p ≡ m + 1) where
   -- the node of the compareTo
   whole_range : ranged (scope_in w.plan.now) (two (method calls.CompareTo) x y) at (ranges_in w.plan.now rs) ≡ Ok o
   whole_range =
@@ -206,29 +205,45 @@ module _ (w : Walk) (op : Binary) (x y : Term) (k : ℤ) (at n m p q : ℕ) (rs 
       ap (λ r. meant.sides_of x y r (ranged scope y (at + nodes x) env)) first
       ∙ ap (λ r. meant.sides_of x y (Ok a) r) (ap (λ i. ranged scope y i env) (sym en) ∙ second)
 
-  to_node : comparison_in w (comparison op (two (method calls.CompareTo) x y) (leaf (whole k))) at (ranges_in w.plan.now rs) ≡ and_then (at_node q (comparison_range op o l)) (λ r. Ok (meant.branches_of false (signs_where op k) (sides x y a b) (ranges_in w.plan.now rs)))
-  to_node =
+  pub literal_stops : (stop : Stop) (r : Result Tested Stop) → StopsAs (at_node p (read_range kinds.Int (single (whole_decimal k)))) stop → IsErrAnd r (λ s. s ≡ stop) → ComparisonAnswer w (comparison op (two (method calls.CompareTo) x y) (leaf (whole k))) at rs r
+  literal_stops stop (Ok t) h is = absurd is
+  literal_stops Memory (Err s) h is = subst (λ s. ComparisonAnswer w (comparison op (two (method calls.CompareTo) x y) (leaf (whole k))) at rs (Err s)) (sym is) tt
+  literal_stops (At i c) (Err s) h is =
       let scope = scope_in w.plan.now in
       let env = ranges_in w.plan.now rs in
       let e = two (method calls.CompareTo) x y in
+      let f = leaf (whole k) in
       let number : p ≡ at + nodes e = omega (arith, en, em, ep) in
-      compared_to w op e (leaf (whole k)) at p q env o l whole_range literal number eq
-      ∙ ap (λ s. and_then (at_node q (comparison_range op o l)) (λ r. Ok (compared op (are_whole scope e (leaf (whole k))) (sides e (leaf (whole k)) o l) s (Some (decimal k 0)) env))) inner_sides
+      let last = λ (x y : Interval). and_then (at_node (at + nodes e + nodes f) (comparison_range op x y)) (λ r. Ok (compared op (are_whole scope e f) (sides e f x y) (compare_sides scope e at env) (int_literal f) env)) in
+      let literal : ranged scope f (at + nodes e) env ≡ Err (record { node = i; cause = c }) = ap (λ n. ranged scope f n env) (sym number) ∙ h in
+      subst (λ s. ComparisonAnswer w (comparison op e f) at rs (Err s)) (sym is)
+      (ap (λ q. and_then q (λ x. and_then (ranged scope f (at + nodes e) env) (last x))) whole_range
+      ∙ ap (λ q. and_then q (last o)) literal)
 
-  pub compare_to_answer : (next : ℕ) (r : Interval) (allowed : SignSet) (br : Branches) → at_node q (comparison_range op o l) ≡ Ok r → allowed ≡ signs_where op k
-      → branches_in w.plan.now rs br ≡ meant.branches_of false allowed (sides x y a b) (ranges_in w.plan.now rs) → next ≡ q + 1
-      → IsComparison w (comparison op (two (method calls.CompareTo) x y) (leaf (whole k))) at rs (record { branches = br; next = next })
-  compare_to_answer next r allowed br node al is last =
-      let env = ranges_in w.plan.now rs in
-      record {
-        branches =
-            to_node
-            ∙ ap (λ t. and_then t (λ r. Ok (meant.branches_of false (signs_where op k) (sides x y a b) env))) node
-            ∙ ap Ok (ap (λ s. meant.branches_of false s (sides x y a b) env) (sym al) ∙ sym is);
-        next = omega (arith, en, em, ep, eq, last);
-      }
+  module _ (q : ℕ) (l : Interval) (literal : at_node p (read_range kinds.Int (single (whole_decimal k))) ≡ Ok l) (eq : q ≡ p + 1) where
+    to_node : comparison_in w (comparison op (two (method calls.CompareTo) x y) (leaf (whole k))) at (ranges_in w.plan.now rs) ≡ and_then (at_node q (comparison_range op o l)) (λ r. Ok (meant.branches_of false (signs_where op k) (sides x y a b) (ranges_in w.plan.now rs)))
+    to_node =
+        let scope = scope_in w.plan.now in
+        let env = ranges_in w.plan.now rs in
+        let e = two (method calls.CompareTo) x y in
+        let number : p ≡ at + nodes e = omega (arith, en, em, ep) in
+        compared_to w op e (leaf (whole k)) at p q env o l whole_range literal number eq
+        ∙ ap (λ s. and_then (at_node q (comparison_range op o l)) (λ r. Ok (compared op (are_whole scope e (leaf (whole k))) (sides e (leaf (whole k)) o l) s (Some (decimal k 0)) env))) inner_sides
 
-  pub compare_to_stops : (stop : Stop) (r : Result Tested Stop) → StopsAs (at_node q (comparison_range op o l)) stop → IsErrAnd r (λ s. s ≡ stop) → ComparisonAnswer w (comparison op (two (method calls.CompareTo) x y) (leaf (whole k))) at rs r
-  compare_to_stops stop (Ok t) h is = absurd is
-  compare_to_stops (At i c) (Err s) h is = subst (λ s. ComparisonAnswer w (comparison op (two (method calls.CompareTo) x y) (leaf (whole k))) at rs (Err s)) (sym is) (to_node ∙ ap (λ t. and_then t (λ r. Ok (meant.branches_of false (signs_where op k) (sides x y a b) (ranges_in w.plan.now rs)))) h)
-  compare_to_stops Memory (Err s) h is = subst (λ s. ComparisonAnswer w (comparison op (two (method calls.CompareTo) x y) (leaf (whole k))) at rs (Err s)) (sym is) tt
+    pub compare_to_answer : (next : ℕ) (r : Interval) (allowed : SignSet) (br : Branches) → at_node q (comparison_range op o l) ≡ Ok r → allowed ≡ signs_where op k
+        → branches_in w.plan.now rs br ≡ meant.branches_of false allowed (sides x y a b) (ranges_in w.plan.now rs) → next ≡ q + 1
+        → IsComparison w (comparison op (two (method calls.CompareTo) x y) (leaf (whole k))) at rs (record { branches = br; next = next })
+    compare_to_answer next r allowed br node al is last =
+        let env = ranges_in w.plan.now rs in
+        record {
+          branches =
+              to_node
+              ∙ ap (λ t. and_then t (λ r. Ok (meant.branches_of false (signs_where op k) (sides x y a b) env))) node
+              ∙ ap Ok (ap (λ s. meant.branches_of false s (sides x y a b) env) (sym al) ∙ sym is);
+          next = omega (arith, en, em, ep, eq, last);
+        }
+
+    pub compare_to_stops : (stop : Stop) (r : Result Tested Stop) → StopsAs (at_node q (comparison_range op o l)) stop → IsErrAnd r (λ s. s ≡ stop) → ComparisonAnswer w (comparison op (two (method calls.CompareTo) x y) (leaf (whole k))) at rs r
+    compare_to_stops stop (Ok t) h is = absurd is
+    compare_to_stops (At i c) (Err s) h is = subst (λ s. ComparisonAnswer w (comparison op (two (method calls.CompareTo) x y) (leaf (whole k))) at rs (Err s)) (sym is) (to_node ∙ ap (λ t. and_then t (λ r. Ok (meant.branches_of false (signs_where op k) (sides x y a b) (ranges_in w.plan.now rs)))) h)
+    compare_to_stops Memory (Err s) h is = subst (λ s. ComparisonAnswer w (comparison op (two (method calls.CompareTo) x y) (leaf (whole k))) at rs (Err s)) (sym is) tt

@@ -1,25 +1,23 @@
 -- Steps of the walk of expressions.
-use Rattle.std.proofs.Common.{◌≡◌, ℕ, List, ◌++◌, Option, Some, None, Result, Ok, Err, Vec, Global, refl, sym, ap, ◌∙◌, arith}
-use Rattle.std.specs.Option.{option_map}
-use Rattle.pap_tree.specs.declared.plan.PlanText.{PlanText}
+use Rattle.std.proofs.Common.{◌≡◌, ℕ, ◌+◌, List, Result, Ok, Err, refl, sym, ap, ◌∙◌, subst, arith}
+use Rattle.std.specs.Result.{IsErrAnd}
 use Rattle.pap_tree.specs.declared.expression.Binary.{Binary}
 use Rattle.pap_tree.specs.declared.expression.Binary.TheVariants as binaries
 use Rattle.pap_tree.specs.Term.{Term, two, operator}
+use Rattle.pap_tree.specs.Numbering.{nodes}
 use Rattle.interval_num.specs.Intervals.{Interval}
+use Rattle.pap_types.specs.Kinds.{int_literal}
 use Rattle.interval_walk.specs.Ranges.{Ranges}
-use Rattle.interval_walk.specs.Ranged.{tested}
+use Rattle.interval_walk.specs.Failures.{NodeFault, and_then, at_node}
+use Rattle.interval_walk.specs.NodeRanges.{comparison_range}
 use Rattle.interval_walk.specs.Branches as meant
-use Rattle.interval_analysis.specs.declared.branches.Branches.{Branches}
-use Rattle.interval_analysis.specs.ComparisonViews.{branches_in}
-use Rattle.interval_analysis.specs.declared.branches.Change.{Change}
+use Rattle.interval_walk.specs.Ranged.{tested, are_whole, compare_sides}
 use Rattle.interval_analysis.specs.declared.expressions.Stop.{Stop}
 use Rattle.interval_analysis.specs.declared.expressions.Stop.TheVariants.{At, Memory}
 use Rattle.interval_analysis.specs.declared.expressions.Tested.{Tested}
 use Rattle.interval_analysis.specs.declared.expressions.Walk.{Walk}
-use Rattle.interval_analysis.specs.Changes.{changed}
-use Rattle.interval_analysis.specs.PlanViews.{scope_in, ranges_in, ranges_after}
-use Rattle.interval_analysis.specs.ExpressionViews.{ComparisonAnswer, TestAnswer, comparison, comparison_in}
-use Rattle.interval_analysis.proofs.ChangeLemmas.{changed-append}
+use Rattle.interval_analysis.specs.PlanViews.{scope_in, ranges_in}
+use Rattle.interval_analysis.specs.ExpressionViews.{ComparisonAnswer, TestAnswer, StopsAs, comparison, comparison_in, ranged_in, second_in}
 
 -- an operator that is no connective is walked as a comparison
 plain_operator : (w : Walk) (op : Binary) (e f : Term) (at : ℕ) (env : Ranges) → (op ≡ binaries.And → ⊥) → (op ≡ binaries.Or → ⊥) → tested (scope_in w.plan.now) (two (operator op) e f) at env ≡ comparison_in w (comparison op e f) at env
@@ -45,17 +43,25 @@ plain_answer w op e f at rs (Ok r) a o h = record {
 plain_answer w op e f at rs (Err (At n c)) a o h = plain_operator w op e f at (ranges_in w.plan.now rs) a o ∙ h
 plain_answer w op e f at rs (Err Memory) a o h = tt
 
--- changes behind others lead from the ranges after those
-pub behind_after : (p : PlanText) (rs : List Interval) (cs : List Change) (all further : Option (Vec Change Global)) → option_map (λ a. a.items) all ≡ option_map (λ f. cs ++ f.items) further → ranges_after p (changed rs cs) further ≡ ranges_after p rs all
-behind_after p rs cs None None e = refl
-behind_after p rs cs None (Some f) e = absurd (cc)
-behind_after p rs cs (Some a) None e = absurd (cc)
-behind_after p rs cs (Some a) (Some f) e =
-    let same : a.items ≡ cs ++ f.items = cc in
-    ap (λ ds. Some (ranges_in p ds)) (sym (ap (changed rs) same ∙ changed-append rs cs f.items))
+-- ---- what stops
 
-pub behind_branches : (p : PlanText) (rs : List Interval) (cs : List Change) (b : Branches) (holds fails : Option (Vec Change Global)) → option_map (λ a. a.items) holds ≡ option_map (λ f. cs ++ f.items) b.holds → option_map (λ a. a.items) fails ≡ option_map (λ f. cs ++ f.items) b.fails → branches_in p (changed rs cs) b ≡ branches_in p rs (record { holds = holds; fails = fails })
-behind_branches p rs cs b holds fails h f =
-    let make : Option Ranges → Option Ranges → meant.Branches = λ x y. record { holds = x; fails = y } in
-    ap (λ x. make x (ranges_after p (changed rs cs) b.fails)) (behind_after p rs cs holds b.holds h)
-    ∙ ap (λ y. make (ranges_after p rs holds) y) (behind_after p rs cs fails b.fails f)
+pub stops_first : {A B : Type 0} (r : Result A NodeFault) (go : A → Result B NodeFault) (stop : Stop) → StopsAs r stop → StopsAs (and_then r go) stop
+stops_first r go (At n c) h = ap (λ q. and_then q go) h
+stops_first r go Memory h = tt
+
+pub stops_two : {A B C : Type 0} (r : Result A NodeFault) (s : Result B NodeFault) (go : A → B → Result C NodeFault) (stop : Stop) → StopsAs (and_then r (λ _. s)) stop → StopsAs (and_then r (λ a. and_then s (go a))) stop
+stops_two (Ok a) s go stop h = stops_first s (go a) stop h
+stops_two (Err e) s go (At n c) h =
+    let same : e ≡ record { node = n; cause = c } = cc in
+    ap Err same
+stops_two (Err e) s go Memory h = tt
+
+-- a comparison stops where one of its sides does
+pub comparison_stops : (w : Walk) (op : Binary) (e f : Term) (at : ℕ) (rs : List Interval) (stop : Stop) (res : Result Tested Stop) → StopsAs (second_in w e f at rs) stop → IsErrAnd res (λ s. s ≡ stop) → ComparisonAnswer w (comparison op e f) at rs res
+comparison_stops w op e f at rs stop (Ok r) h is = absurd is
+comparison_stops w op e f at rs stop (Err s) h is =
+    let scope = scope_in w.plan.now in
+    let env = ranges_in w.plan.now rs in
+    subst (StopsAs (comparison_in w (comparison op e f) at env)) (sym is)
+    (stops_two (ranged_in w e at rs) (ranged_in w f (at + nodes e) rs)
+    (λ a b. and_then (at_node (at + nodes e + nodes f) (comparison_range op a b)) (λ r. Ok (meant.compared op (are_whole scope e f) (meant.sides e f a b) (compare_sides scope e at env) (int_literal f) env))) stop h)

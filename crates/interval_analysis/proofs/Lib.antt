@@ -1,6 +1,7 @@
 pub mod BoundLemmas
 pub mod ChangeLemmas
 pub mod ComparisonLemmas
+pub mod ConnectiveLemmas
 pub mod CountLemmas
 pub mod ExpressionLemmas
 pub mod KeptLemmas
@@ -13,3 +14,4 @@ pub mod OutputLemmas
 pub mod PartLemmas
 pub mod StartLemmas
 pub mod StatementLemmas
+pub mod VariableLemmas

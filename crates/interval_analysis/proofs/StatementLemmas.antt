@@ -10,6 +10,7 @@ use Rattle.pap_types.specs.Routines.{body_named}
 use Rattle.pap_types.specs.Scopes.{Scope}
 use Rattle.interval_walk.specs.Ranges.{Ranges}
 use Rattle.interval_walk.specs.Failures.{WalkFault, node_fails, and_then, at_node, at_stmt}
+use Rattle.interval_walk.specs.Branches as meant
 use Rattle.interval_walk.specs.Branches.{either_way}
 use Rattle.interval_walk.specs.Ranged.{ranged, tested}
 use Rattle.interval_analysis.specs.declared.expressions.Walk.{Walk}
@@ -20,7 +21,8 @@ use Rattle.interval_analysis.specs.declared.branches.Change.{Change}
 use Rattle.interval_analysis.specs.declared.variables.Variables.{Variables}
 use Rattle.interval_analysis.specs.Changes.{AreKept, changed}
 use Rattle.interval_analysis.specs.Notes.{AreOwn, IsNoted, IsTold}
-use Rattle.interval_analysis.specs.StatementViews.{AreHeld, GoesOn, PassesAside, through_body, through_both, through_if, if_of, end_of, fault_of}
+use Rattle.interval_analysis.specs.VariableViews.{AreHeld, GoesOn}
+use Rattle.interval_analysis.specs.StatementViews.{PassesAside, through_body, through_both, through_if, through_fork, if_of, end_of, fault_of}
 use Rattle.std.specs.Prelude.{OnOk}
 use Rattle.std.proofs.Common.{Vec, Global}
 use Rattle.pap_tree.specs.declared.expression.Expr.{Expr}
@@ -41,7 +43,7 @@ use Rattle.interval_num.specs.declared.cause.RangeCause.{RangeCause}
 use Rattle.interval_num.specs.Intervals.{Interval}
 use Rattle.interval_analysis.specs.declared.statements.Fork.{Fork}
 use Rattle.interval_analysis.specs.declared.statements.Spot.{Spot}
-use Rattle.interval_analysis.specs.StatementViews.{calls_in, walked_in, met_in, first_spot, second_spot, joined_lists, FaultOf, EnvAnswer, Passage, Passes}
+use Rattle.interval_analysis.specs.StatementViews.{calls_in, walked_in, met_in, forked_in, first_spot, second_spot, joined_lists, FaultOf, EnvAnswer, Passage, Passes}
 use Rattle.interval_walk.specs.Walked.{RangeCalls, walked, range_calls_of, with_body, joined}
 
 assoc : {A B C E : Type 0} (r : Result A E) (f : A → Result B E) (g : B → Result C E) → and_then r (λ a. and_then (f a) g) ≡ and_then (and_then r f) g
@@ -145,58 +147,22 @@ pub meets_not : (p : PlanText) (name : List ℕ) (at node : ℕ) (rs ss : List I
 meets_not p name at node rs ss c e f h =
     ap (λ j. at_stmt name at (at_node node j)) (joined_by_name (variables_in p) rs ss e f ∙ ap (λ o. and_then o (λ ts. Ok (with_names (variables_in p) ts))) h)
 
--- ---- the variables of a walk
-
-module _ (p : PlanText) where
-  pub held_same : (was now : Variables) → now.ranges.items ≡ was.ranges.items → AreHeld p was → AreHeld p now
-  held_same was now same h = record { sized = ap length same ∙ h.sized; kept = subst AreKept (sym same) h.kept }
-
-  pub goes_none : (v : Variables) → AreHeld p v → GoesOn p v v
-  goes_none v h = record { held = h; noted = noted_none v }
-
-  pub goes_then : (a b c : Variables) → GoesOn p a b → GoesOn p b c → GoesOn p a c
-  goes_then a b c h k = record { held = k.held; noted = noted_then a b c h.noted k.noted }
-
-  pub goes_apply : (was now : Variables) (cs : List Change) → AreHeld p was → now.ranges.items ≡ changed was.ranges.items cs → IsNoted was now → AreKept now.ranges.items → GoesOn p was now
-  goes_apply was now cs h value noted kept = record {
-    held = record { sized = ap length value ∙ length-changed was.ranges.items cs ∙ h.sized; kept = kept };
-    noted = noted;
-  }
-
-  pub goes_put : (was now : Variables) (n : ℕ) (a : Interval) → AreHeld p was → now.ranges.items ≡ set was.ranges.items n a → IsNoted was now → AreKept now.ranges.items → GoesOn p was now
-  goes_put was now n a h value noted kept = record {
-    held = record { sized = ap length value ∙ length-set was.ranges.items n a ∙ h.sized; kept = kept };
-    noted = noted;
-  }
-
-  pub goes_noted : (was now : Variables) → AreHeld p was → IsNoted was now → AreKept now.ranges.items → GoesOn p was now
-  goes_noted was now h noted kept = record {
-    held = record { sized = noted_length was now noted ∙ h.sized; kept = kept };
-    noted = noted;
-  }
-
-  pub goes_on_then : {A E : Type 0} (a b c : Variables) (r : Result A E) → GoesOn p a b → OnOk r (GoesOn p b c) → OnOk r (GoesOn p a c)
-  goes_on_then a b c (Ok x) h k = goes_then a b c h k
-  goes_on_then a b c (Err e) h k = tt
-
--- both branches of an IF, where both can be reached
-pub if_meets : (w : Walk) (spot : Spot) (t : Expr) (f : Fork) (rs hs fs : List Interval) (b : Branches) → tested_in w (term_of t) 0 rs ≡ Ok (branches_in w.plan.now rs b) → ranges_after w.plan.now rs b.holds ≡ Some (ranges_in w.plan.now hs) → ranges_after w.plan.now rs b.fails ≡ Some (ranges_in w.plan.now fs)
-    → f.root ≡ last_node (term_of t) → walked_in w spot (if_of t f.yes.now f.no.now) rs ≡ met_in w spot f hs fs
-if_meets w spot t f rs hs fs b test holds fails root =
+-- an IF whose test has these branches
+pub if_forks : (w : Walk) (spot : Spot) (t : Expr) (f : Fork) (rs : List Interval) (b : Branches) → tested_in w (term_of t) 0 rs ≡ Ok (branches_in w.plan.now rs b) → f.root ≡ last_node (term_of t)
+    → walked_in w spot (if_of t f.yes.now f.no.now) rs ≡ forked_in w spot f (branches_in w.plan.now rs b)
+if_forks w spot t f rs b test root =
     let p = w.plan.now in
-    let none = node_fails (place spot.method spot.at (last_node (term_of t))) Wide in
+    let none : ℕ → WalkFault = λ n. node_fails (place spot.method spot.at n) Wide in
     let first : Ranges → Result Ranges WalkFault = λ e. walked (scope_in p) (calls_in w spot.chain) spot.method (spot.at + 1) (body_of f.yes.now) e in
     let second : Ranges → Result Ranges WalkFault = λ e. walked (scope_in p) (calls_in w spot.chain) spot.method (spot.at + 1 + written (body_of f.yes.now)) (body_of f.no.now) e in
     let meet : ℕ → Ranges → Ranges → Result Ranges WalkFault = λ n x y. at_stmt spot.method spot.at (at_node n (joined x y)) in
     let last = last_node (term_of t) in
-    ap (λ q. and_then (at_stmt spot.method spot.at q) (λ br. and_then (either_way none first second (meet last) br.holds br.fails) (λ e. Ok e))) test
-    ∙ and_then-Ok (either_way none first second (meet last) (ranges_after p rs b.holds) (ranges_after p rs b.fails))
-    ∙ ap (λ o. either_way none first second (meet last) o (ranges_after p rs b.fails)) holds
-    ∙ ap (either_way none first second (meet last) (Some (ranges_in p hs))) fails
-    ∙ ap (λ n. and_then (first (ranges_in p hs)) (λ x. and_then (second (ranges_in p fs)) (λ y. meet n x y))) (sym root)
+    ap (λ q. and_then (at_stmt spot.method spot.at q) (λ br. and_then (either_way (none last) first second (meet last) br.holds br.fails) (λ e. Ok e))) test
+    ∙ and_then-Ok (either_way (none last) first second (meet last) (ranges_after p rs b.holds) (ranges_after p rs b.fails))
+    ∙ ap (λ n. either_way (none n) first second (meet n) (ranges_after p rs b.holds) (ranges_after p rs b.fails)) (sym root)
 
-pub if_passes : (w : Walk) (spot : Spot) (t : Expr) (f : Fork) (rs hs fs new : List Interval) (res : Result ℕ RangeFault) → walked_in w spot (if_of t f.yes.now f.no.now) rs ≡ met_in w spot f hs fs → Passes (through_both w spot f hs fs) new res → Passes (through_if w spot t f.yes.now f.no.now rs) new res
-if_passes w spot t f rs hs fs new res e h = subst (λ q. Passes (record { plan = w.plan.now; ranges = q; next = end_of spot f }) new res) (sym e) h
+pub if_passes : (w : Walk) (spot : Spot) (t : Expr) (f : Fork) (rs new : List Interval) (br : meant.Branches) (res : Result ℕ RangeFault) → walked_in w spot (if_of t f.yes.now f.no.now) rs ≡ forked_in w spot f br → Passes (through_fork w spot f br) new res → Passes (through_if w spot t f.yes.now f.no.now rs) new res
+if_passes w spot t f rs new br res e h = subst (λ q. Passes (record { plan = w.plan.now; ranges = q; next = end_of spot f }) new res) (sym e) h
 
 -- two lists that were walked aside, from the ranges of before
 module _ (w : Walk) (spot : Spot) (f : Fork) (rs hs fs : List Interval) (a b : Aside) where

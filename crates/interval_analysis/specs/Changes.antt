@@ -1,10 +1,11 @@
 -- Ranges of variables by their numbers, and changes of some of them.
-use Rattle.std.specs.Prelude.{◌≡◌, List, [], ◌∷◌, ◌++◌, Option, slice_set}
+use Rattle.std.specs.Prelude.{List, [], ◌∷◌, slice_set}
 use Rattle.std.specs.List.{AllByRecursion}
-use Rattle.std.specs.Option.{option_map}
-use Rattle.std.proofs.Common.{Vec, Global}
 use Rattle.interval_num.specs.Intervals.{Interval, IsKeptInterval}
+use Rattle.interval_analysis.specs.declared.branches.Branches.{Branches}
 use Rattle.interval_analysis.specs.declared.branches.Change.{Change}
+use Rattle.interval_analysis.specs.declared.branches.Connective.{Connective}
+use Rattle.interval_analysis.specs.declared.branches.Connective.TheVariants.{And, Or}
 
 -- each range is one that the code keeps
 abbrev pub AreKept : List Interval → Type 0
@@ -15,6 +16,7 @@ abbrev pub changed : List Interval → List Change → List Interval
 changed ranges [] = ranges
 changed ranges (c ∷ cs) = changed (slice_set ranges c.number c.range) cs
 
--- further changes, if there are some, stand behind these
-abbrev pub AreBehind : List Change → Option (Vec Change Global) → Option (Vec Change Global) → Type 0
-AreBehind cs further all = option_map (λ a. a.items) all ≡ option_map (λ f. cs ++ f.items) further
+-- branches of changes as a connective goes on: where a part of && holds, and where one of || fails
+abbrev pub turned_changes : Connective → Branches → Branches
+turned_changes And b = b
+turned_changes Or b = record { holds = b.fails; fails = b.holds }

@@ -19,6 +19,7 @@ use Rattle.interval_walk.specs.Branches as meant
 use Rattle.interval_walk.specs.Ranged.{ranged, tested, are_whole, compare_sides}
 use Rattle.interval_analysis.specs.declared.branches.Change.{Change}
 use Rattle.interval_analysis.specs.declared.expressions.Inner.{Inner}
+use Rattle.interval_analysis.specs.declared.expressions.Operands.{Operands}
 use Rattle.interval_analysis.specs.declared.expressions.Parts.{Parts}
 use Rattle.interval_analysis.specs.declared.expressions.Ranged.{Ranged}
 use Rattle.interval_analysis.specs.declared.expressions.Stop.{Stop}
@@ -26,7 +27,7 @@ use Rattle.interval_analysis.specs.declared.expressions.Stop.TheVariants.{At, Me
 use Rattle.interval_analysis.specs.declared.expressions.Tested.{Tested}
 use Rattle.interval_analysis.specs.declared.expressions.Walk.{Walk}
 use Rattle.interval_analysis.specs.Changes.{changed}
-use Rattle.interval_analysis.specs.PlanViews.{scope_in, ranges_in, ranges_after}
+use Rattle.interval_analysis.specs.PlanViews.{scope_in, ranges_in}
 use Rattle.interval_analysis.specs.ComparisonViews.{branches_in}
 
 -- ---- the terms of operations on expressions
@@ -51,6 +52,14 @@ pub record CanWalk (w : Walk) (t : Term) (at : ℕ) : Type 0 where
   pub typed : IsTypedTerm (scope_in w.plan.now) t
   pub scales : KeepsScales t
   pub room : at + nodes t < 2 ^ 32
+
+-- so may two, the second of which is numbered behind the first
+pub record CanWalkTwo (w : Walk) (t u : Term) (at : ℕ) : Type 0 where
+  pub first : IsTypedTerm (scope_in w.plan.now) t
+  pub second : IsTypedTerm (scope_in w.plan.now) u
+  pub first_scales : KeepsScales t
+  pub second_scales : KeepsScales u
+  pub room : at + nodes t + nodes u < 2 ^ 32
 
 -- so may the two parts of a conditional, which is numbered behind them
 pub record CanWalkParts (w : Walk) (p : Parts) : Type 0 where
@@ -87,6 +96,18 @@ pub record IsRanged (w : Walk) (t : Term) (at : ℕ) (rs : List Interval) (r : R
 abbrev pub RangeAnswer : Walk → Term → ℕ → List Interval → Result Ranged Stop → Type 0
 RangeAnswer w t at rs (Ok r) = IsRanged w t at rs r
 RangeAnswer w t at rs (Err stop) = StopsAs (ranged_in w t at rs) stop
+
+-- the same of two, or the first node of both that may fail
+pub record AreRanged (w : Walk) (t u : Term) (at : ℕ) (rs : List Interval) (o : Operands) : Type 0 where
+  pub first : IsRanged w t at rs o.first
+  pub second : IsRanged w u o.first.next rs o.second
+
+abbrev pub second_in : Walk → Term → Term → ℕ → List Interval → Result Interval NodeFault
+second_in w t u at rs = and_then (ranged_in w t at rs) (λ _. ranged_in w u (at + nodes t) rs)
+
+abbrev pub OperandsAnswer : Walk → Term → Term → ℕ → List Interval → Result Operands Stop → Type 0
+OperandsAnswer w t u at rs (Ok o) = AreRanged w t u at rs o
+OperandsAnswer w t u at rs (Err stop) = StopsAs (second_in w t u at rs) stop
 
 -- the same of a node by what its operation answers
 pub record IsOwn (answer : Answer) (k : NodeKind) (at : ℕ) (r : Ranged) : Type 0 where
@@ -152,25 +173,6 @@ pub record IsTested (w : Walk) (t : Term) (at : ℕ) (rs : List Interval) (r : T
 abbrev pub TestAnswer : Walk → Term → ℕ → List Interval → Result Tested Stop → Type 0
 TestAnswer w t at rs (Ok r) = IsTested w t at rs r
 TestAnswer w t at rs (Err stop) = StopsAs (tested_in w t at rs) stop
-
--- those of a right side, where the left one leads there
-abbrev pub reached_in : Walk → Term → ℕ → Option Ranges → Result meant.Branches NodeFault
-reached_in w t at o = meant.reached o (tested (scope_in w.plan.now) t at)
-
-pub record IsTestedAfter (w : Walk) (t : Term) (at : ℕ) (o : Option Ranges) (rs : List Interval) (r : Tested) : Type 0 where
-  pub branches : reached_in w t at o ≡ Ok (branches_in w.plan.now rs r.branches)
-  pub next : r.next ≡ at + nodes t
-
-abbrev pub ReachedAnswer : Walk → Term → ℕ → Option Ranges → List Interval → Result Tested Stop → Type 0
-ReachedAnswer w t at o rs (Ok r) = IsTestedAfter w t at o rs r
-ReachedAnswer w t at o rs (Err stop) = StopsAs (reached_in w t at o) stop
-
--- where changes of the left side lead there, or nothing does
-abbrev pub AfterAnswer : Walk → Term → ℕ → List Interval → Option (Vec Change Global) → Result Tested Stop → Type 0
-AfterAnswer w t at rs changes r = ReachedAnswer w t at (ranges_after w.plan.now rs changes) rs r
-
-abbrev pub BehindAnswer : Walk → Term → ℕ → List Interval → List Change → Result Tested Stop → Type 0
-BehindAnswer w t at rs changes r = ReachedAnswer w t at (Some (changed_in w rs changes)) rs r
 
 -- a comparison of two sides
 pub record Comparison : Type 0 where

@@ -2,6 +2,7 @@ pub mod Answers
 pub mod BoundViews
 pub mod Changes
 pub mod ComparisonViews
+pub mod Connectives
 pub mod ExpressionViews
 pub mod Meetings
 pub mod Notes
@@ -11,3 +12,4 @@ pub mod OutputViews
 pub mod PlanViews
 pub mod StartViews
 pub mod StatementViews
+pub mod VariableViews

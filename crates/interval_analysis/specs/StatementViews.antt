@@ -20,6 +20,7 @@ use Rattle.pap_types.specs.Scopes.{declared_as, factor_places}
 use Rattle.pap_types.specs.Typing.{IsTypedTerm, IsTypedBody, TargetSuits}
 use Rattle.interval_walk.specs.Ranges.{Ranges}
 use Rattle.interval_walk.specs.Failures.{WalkFault, node_fails, and_then, at_node, at_stmt}
+use Rattle.interval_walk.specs.Branches.{Branches, either_way}
 use Rattle.interval_walk.specs.Ranged.{ranged}
 use Rattle.interval_walk.specs.Walked.{RangeCalls, walked, range_calls_of, assigned_range, joined}
 use Rattle.interval_analysis.specs.declared.expressions.Stop.{Stop}
@@ -31,8 +32,8 @@ use Rattle.interval_analysis.specs.declared.fault.RangeFault.{RangeFault}
 use Rattle.interval_analysis.specs.declared.fault.RangeFault.TheVariants as faults
 use Rattle.interval_analysis.specs.declared.statements.Aside.{Aside}
 use Rattle.interval_analysis.specs.declared.variables.Variables.{Variables}
-use Rattle.interval_analysis.specs.Changes.{AreKept, changed}
-use Rattle.interval_analysis.specs.Notes.{IsNoted, IsTold}
+use Rattle.interval_analysis.specs.Changes.{changed}
+use Rattle.interval_analysis.specs.Notes.{IsTold}
 use Rattle.interval_analysis.specs.PlanViews.{IsSized, scope_in, ranges_in}
 
 abbrev pub methods_in : PlanText → List Routine
@@ -85,6 +86,17 @@ met_in w spot f rs ss =
     and_then (walked_in w (second_spot spot f) (body_of f.no.now) ss) (λ y.
     at_stmt spot.method spot.at (at_node f.root (joined x y))))
 
+-- the lists of an IF, where its test has these branches
+abbrev pub forked_in : Walk → Spot → Fork → Branches → Result Ranges WalkFault
+forked_in w spot f br =
+    either_way
+    (node_fails (place spot.method spot.at f.root) Wide)
+    (walked (scope_in w.plan.now) (calls_in w spot.chain) spot.method (spot.at + 1) (body_of f.yes.now))
+    (walked (scope_in w.plan.now) (calls_in w spot.chain) spot.method (spot.at + 1 + written (body_of f.yes.now)) (body_of f.no.now))
+    (λ x y. at_stmt spot.method spot.at (at_node f.root (joined x y)))
+    br.holds
+    br.fails
+
 -- ---- what may be walked
 
 pub record CanWalkBody (w : Walk) (b : Body) (at : ℕ) : Type 0 where
@@ -122,16 +134,6 @@ pub record IsMethodBody (p : PlanText) (b : Body) : Type 0 where
   pub typed : IsTypedBody (scope_in p) (methods_in p) b
   pub small : AreSmallTerms b
   pub count : written b < 2 ^ 32
-
--- the variables of a plan, each with a range that the code keeps
-pub record AreHeld (p : PlanText) (v : Variables) : Type 0 where
-  pub sized : IsSized p v.ranges.items
-  pub kept : AreKept v.ranges.items
-
--- so they are afterwards, and what has changed is noted
-pub record GoesOn (p : PlanText) (was now : Variables) : Type 0 where
-  pub held : AreHeld p now
-  pub noted : IsNoted was now
 
 -- ---- what is answered; memory is free
 
@@ -178,6 +180,9 @@ through_if w spot t ys ns rs = record {
   ranges = walked_in w spot (if_of t ys ns) rs;
   next = spot.at + 1 + written (body_of ys) + written (body_of ns);
 }
+
+abbrev pub through_fork : Walk → Spot → Fork → Branches → Passage
+through_fork w spot f br = record { plan = w.plan.now; ranges = forked_in w spot f br; next = end_of spot f }
 
 -- through one list of an IF, past the other
 abbrev pub through_first : Walk → Spot → Fork → List Interval → Passage

@@ -1,5 +1,5 @@
 //! The ranges of expressions, and what tests leave of the ranges of the variables.
-ghost use Rattle.std.specs.Prelude.{◌≡◌, ◌+◌, ◌<◌, ◌^◌, MatchOption};
+ghost use Rattle.std.specs.Prelude.{◌≡◌, ◌+◌, ◌<◌, ◌^◌, MatchOption, IfSome, OnOk};
 ghost use Rattle.pap_tree.specs.Term.{term_of, leaf, named, item, unary, value_of, value_of_scaled, new_big, set_scale, operator, method, divide};
 ghost use Rattle.pap_tree.specs.declared.expression.Binary.{Binary};
 ghost use Rattle.pap_tree.specs.declared.expression.Unary.{Unary};
@@ -9,15 +9,19 @@ ghost use Rattle.interval_walk.specs.Branches.{no_branch};
 ghost use Rattle.interval_walk.specs.NodeRanges.{read_range};
 ghost use Rattle.interval_analysis.specs.Changes.{changed};
 ghost use Rattle.interval_analysis.specs.PlanViews.{IsSized, name_range_in};
-ghost use Rattle.interval_analysis.specs.ExpressionViews.{CanWalk, CanWalkParts, RangeAnswer, OwnAnswer, PartsAnswer, TestAnswer, AfterAnswer, BehindAnswer, ComparisonAnswer, IsPlainComparison, IsInner, one_of, two_of, choice_of, compare_to, comparison_of, order_comparison, first_reached, second_reached, both_reached};
+ghost use Rattle.interval_analysis.specs.VariableViews.{AreHeld, GoesOn, IsLeft};
+ghost use Rattle.interval_analysis.specs.ComparisonViews.{branches_in};
+ghost use Rattle.interval_analysis.specs.ExpressionViews.{CanWalk, CanWalkTwo, CanWalkParts, RangeAnswer, OperandsAnswer, OwnAnswer, PartsAnswer, TestAnswer, ComparisonAnswer, IsPlainComparison, IsInner, one_of, two_of, choice_of, compare_to, comparison_of, order_comparison, first_reached, second_reached, both_reached};
+ghost use Rattle.interval_analysis.specs.Connectives.{FollowAnswer, BehindAnswer, IsConnected, behind_both, connected};
 
-use crate::branches::{Branches, Change, behind, changed, unchanged_if};
+use crate::branches::{Branches, Change, Connective, opposite, turned, unchanged_if};
 use crate::comparisons::{Sides, are_whole, branches_of, signs_where};
 use crate::names::{as_big, single, table};
 use crate::operations::{
     at_places, call_range, comparison_range, item_range, operator_range, read, unary_range,
 };
 use crate::outlines::outline_of;
+use crate::variables::{Variables, taken_back};
 use interval_num::{Abs, RangeCause, abs_cmp, abs_div, abs_item, abs_set_scale, join};
 use pap_tree::{Binary, Call, Expr, Name, Unary};
 use pap_types::{NodeKind, Typed, kind_of_call, kind_of_operator, kind_of_unary};
@@ -51,11 +55,28 @@ pub(crate) struct Ranged {
     pub next: u32,
 }
 
+/// The same of two operands, the second of which is numbered behind the first.
+#[derive(Clone, Copy)]
+struct Operands {
+    first: Ranged,
+    second: Ranged,
+}
+
 /// The same of a test.
 #[derive(Drop)]
 pub(crate) struct Tested {
     pub branches: Branches,
     pub next: u32,
+}
+
+/// What is known behind the parts of a connective, which were tested in turn.
+#[derive(Clone, Copy)]
+struct Followed {
+    /// Whether a value leads behind all of them; the variables then have their ranges there.
+    is_through: bool,
+    /// Whether a value leads out of one of them.
+    can_leave: bool,
+    next: u32,
 }
 
 /// The two parts of a conditional, whose nodes are numbered from there.
@@ -76,10 +97,11 @@ pub(crate) struct Walk<'a> {
 impl Walk<'_> {
     /// The range of an expression whose nodes are numbered from `at`, or its first node that may fail.
     #[cycle(walk)]
-    pub fn range_of(&self, e: &Expr, at: u32, ranges: &[Abs]) -> Result<Ranged, Stop>
+    pub fn range_of(&self, e: &Expr, at: u32, variables: &mut Variables) -> Result<Ranged, Stop>
         requires walk { CanWalk self.now (term_of e.now) at }
-        requires sized { IsSized self.now.plan.now ranges.now }
-        ensures { RangeAnswer self.now (term_of e.now) at ranges.now result }
+        requires held { AreHeld self.now.plan.now variables.old }
+        ensures answer { RangeAnswer self.now (term_of e.now) at variables.old.ranges.items result }
+        ensures left { OnOk result (IsLeft variables.old variables.new) }
     {
         match e {
             Expr::Int(number) => literal(Dec::new(*number as i128, 0), NodeKind::Int, at),
@@ -87,24 +109,26 @@ impl Walk<'_> {
             Expr::Point(number) => literal(*number, NodeKind::Fraction, at),
             Expr::Text(number) => literal(*number, NodeKind::Big, at),
             Expr::Known(known) => literal(known.value(), NodeKind::Big, at),
-            Expr::Var(name) => self.range_of_name(name, at, ranges),
-            Expr::Item(name, index) => self.range_of_item(name, index, at, ranges),
-            Expr::ValueOf(operand) => self.range_of_value(operand, at, ranges),
+            Expr::Var(name) => self.range_of_name(name, at, &variables.ranges),
+            Expr::Item(name, index) => self.range_of_item(name, index, at, variables),
+            Expr::ValueOf(operand) => self.range_of_value(operand, at, variables),
             Expr::ValueOfScaled(operand, scale) => {
-                self.range_of_scaled(operand, *scale, at, ranges)
+                self.range_of_scaled(operand, *scale, at, variables)
             }
-            Expr::NewInt(operand) => self.range_of_new(operand, at, ranges),
-            Expr::Unary(op, operand) => self.range_of_unary(*op, operand, at, ranges),
-            Expr::Binary(op, left, right) => self.range_of_operator(*op, left, right, at, ranges),
-            Expr::Call(call, left, right) => self.range_of_call(*call, left, right, at, ranges),
+            Expr::NewInt(operand) => self.range_of_new(operand, at, variables),
+            Expr::Unary(op, operand) => self.range_of_unary(*op, operand, at, variables),
+            Expr::Binary(op, left, right) => {
+                self.range_of_operator(*op, left, right, at, variables)
+            }
+            Expr::Call(call, left, right) => self.range_of_call(*call, left, right, at, variables),
             Expr::Divide(left, right, scale, mode) => {
-                self.range_of_quotient(left, right, *scale, *mode, at, ranges)
+                self.range_of_quotient(left, right, *scale, *mode, at, variables)
             }
             Expr::SetScale(operand, scale, mode) => {
-                self.range_of_rescaled(operand, *scale, *mode, at, ranges)
+                self.range_of_rescaled(operand, *scale, *mode, at, variables)
             }
             Expr::Choose(test, first, second) => {
-                self.range_of_choice(test, first, second, at, ranges)
+                self.range_of_choice(test, first, second, at, variables)
             }
         }
     }
@@ -141,24 +165,33 @@ impl Walk<'_> {
         name: &Name,
         index: &Expr,
         at: u32,
-        ranges: &[Abs],
+        variables: &mut Variables,
     ) -> Result<Ranged, Stop>
         requires walk { CanWalk self.now (item name.now (term_of index.now)) at }
-        requires sized { IsSized self.now.plan.now ranges.now }
-        ensures { RangeAnswer self.now (item name.now (term_of index.now)) at ranges.now result }
+        requires held { AreHeld self.now.plan.now variables.old }
+        ensures answer { RangeAnswer self.now (item name.now (term_of index.now)) at
+            variables.old.ranges.items result }
+        ensures left { OnOk result (IsLeft variables.old variables.new) }
     {
-        let inner = self.range_of(index, at, ranges)?;
+        let inner = self.range_of(index, at, variables)?;
         let range = item_range(table(self.plan, name), inner.range);
         own(range, NodeKind::Big, inner.next)
     }
 
     #[cycle(walk)]
-    fn range_of_value(&self, operand: &Expr, at: u32, ranges: &[Abs]) -> Result<Ranged, Stop>
+    fn range_of_value(
+        &self,
+        operand: &Expr,
+        at: u32,
+        variables: &mut Variables,
+    ) -> Result<Ranged, Stop>
         requires walk { CanWalk self.now (one_of value_of operand.now) at }
-        requires sized { IsSized self.now.plan.now ranges.now }
-        ensures { RangeAnswer self.now (one_of value_of operand.now) at ranges.now result }
+        requires held { AreHeld self.now.plan.now variables.old }
+        ensures answer { RangeAnswer self.now (one_of value_of operand.now) at
+            variables.old.ranges.items result }
+        ensures left { OnOk result (IsLeft variables.old variables.new) }
     {
-        let inner = self.range_of(operand, at, ranges)?;
+        let inner = self.range_of(operand, at, variables)?;
         let range = as_big(operand, inner.range);
         own(Ok(range), NodeKind::Big, inner.next)
     }
@@ -169,25 +202,33 @@ impl Walk<'_> {
         operand: &Expr,
         scale: u8,
         at: u32,
-        ranges: &[Abs],
+        variables: &mut Variables,
     ) -> Result<Ranged, Stop>
         requires walk { CanWalk self.now (one_of (value_of_scaled scale) operand.now) at }
-        requires sized { IsSized self.now.plan.now ranges.now }
-        ensures { RangeAnswer self.now (one_of (value_of_scaled scale) operand.now) at
-            ranges.now result }
+        requires held { AreHeld self.now.plan.now variables.old }
+        ensures answer { RangeAnswer self.now (one_of (value_of_scaled scale) operand.now) at
+            variables.old.ranges.items result }
+        ensures left { OnOk result (IsLeft variables.old variables.new) }
     {
-        let inner = self.range_of(operand, at, ranges)?;
+        let inner = self.range_of(operand, at, variables)?;
         let range = at_places(inner.range, scale);
         own(Ok(range), NodeKind::Big, inner.next)
     }
 
     #[cycle(walk)]
-    fn range_of_new(&self, operand: &Expr, at: u32, ranges: &[Abs]) -> Result<Ranged, Stop>
+    fn range_of_new(
+        &self,
+        operand: &Expr,
+        at: u32,
+        variables: &mut Variables,
+    ) -> Result<Ranged, Stop>
         requires walk { CanWalk self.now (one_of new_big operand.now) at }
-        requires sized { IsSized self.now.plan.now ranges.now }
-        ensures { RangeAnswer self.now (one_of new_big operand.now) at ranges.now result }
+        requires held { AreHeld self.now.plan.now variables.old }
+        ensures answer { RangeAnswer self.now (one_of new_big operand.now) at
+            variables.old.ranges.items result }
+        ensures left { OnOk result (IsLeft variables.old variables.new) }
     {
-        let inner = self.range_of(operand, at, ranges)?;
+        let inner = self.range_of(operand, at, variables)?;
         own(Ok(inner.range), NodeKind::Big, inner.next)
     }
 
@@ -197,13 +238,15 @@ impl Walk<'_> {
         op: Unary,
         operand: &Expr,
         at: u32,
-        ranges: &[Abs],
+        variables: &mut Variables,
     ) -> Result<Ranged, Stop>
         requires walk { CanWalk self.now (one_of (unary op) operand.now) at }
-        requires sized { IsSized self.now.plan.now ranges.now }
-        ensures { RangeAnswer self.now (one_of (unary op) operand.now) at ranges.now result }
+        requires held { AreHeld self.now.plan.now variables.old }
+        ensures answer { RangeAnswer self.now (one_of (unary op) operand.now) at
+            variables.old.ranges.items result }
+        ensures left { OnOk result (IsLeft variables.old variables.new) }
     {
-        let inner = self.range_of(operand, at, ranges)?;
+        let inner = self.range_of(operand, at, variables)?;
         let kind = kind_of_unary(op, inner.kind);
         let range = unary_range(op, kind, inner.range);
         own(range, kind, inner.next)
@@ -216,16 +259,37 @@ impl Walk<'_> {
         scale: u8,
         mode: Mode,
         at: u32,
-        ranges: &[Abs],
+        variables: &mut Variables,
     ) -> Result<Ranged, Stop>
         requires walk { CanWalk self.now (one_of (set_scale scale mode) operand.now) at }
-        requires sized { IsSized self.now.plan.now ranges.now }
-        ensures { RangeAnswer self.now (one_of (set_scale scale mode) operand.now) at
-            ranges.now result }
+        requires held { AreHeld self.now.plan.now variables.old }
+        ensures answer { RangeAnswer self.now (one_of (set_scale scale mode) operand.now) at
+            variables.old.ranges.items result }
+        ensures left { OnOk result (IsLeft variables.old variables.new) }
     {
-        let inner = self.range_of(operand, at, ranges)?;
+        let inner = self.range_of(operand, at, variables)?;
         let range = abs_set_scale(inner.range, scale, mode);
         own(range, NodeKind::Big, inner.next)
+    }
+
+    /// The ranges of two operands, the first of which is numbered from `at`.
+    #[cycle(walk)]
+    fn operands(
+        &self,
+        left: &Expr,
+        right: &Expr,
+        at: u32,
+        variables: &mut Variables,
+    ) -> Result<Operands, Stop>
+        requires walk { CanWalkTwo self.now (term_of left.now) (term_of right.now) at }
+        requires held { AreHeld self.now.plan.now variables.old }
+        ensures answer { OperandsAnswer self.now (term_of left.now) (term_of right.now) at
+            variables.old.ranges.items result }
+        ensures left { OnOk result (IsLeft variables.old variables.new) }
+    {
+        let first = self.range_of(left, at, variables)?;
+        let second = self.range_of(right, first.next, variables)?;
+        Ok(Operands { first, second })
     }
 
     #[cycle(walk)]
@@ -235,15 +299,15 @@ impl Walk<'_> {
         left: &Expr,
         right: &Expr,
         at: u32,
-        ranges: &[Abs],
+        variables: &mut Variables,
     ) -> Result<Ranged, Stop>
         requires walk { CanWalk self.now (two_of (operator op) left.now right.now) at }
-        requires sized { IsSized self.now.plan.now ranges.now }
-        ensures { RangeAnswer self.now (two_of (operator op) left.now right.now) at
-            ranges.now result }
+        requires held { AreHeld self.now.plan.now variables.old }
+        ensures answer { RangeAnswer self.now (two_of (operator op) left.now right.now) at
+            variables.old.ranges.items result }
+        ensures left { OnOk result (IsLeft variables.old variables.new) }
     {
-        let first = self.range_of(left, at, ranges)?;
-        let second = self.range_of(right, first.next, ranges)?;
+        let Operands { first, second } = self.operands(left, right, at, variables)?;
         let kind = kind_of_operator(op, first.kind, second.kind);
         let range = operator_range(op, kind, first.range, second.range);
         own(range, kind, second.next)
@@ -256,15 +320,15 @@ impl Walk<'_> {
         left: &Expr,
         right: &Expr,
         at: u32,
-        ranges: &[Abs],
+        variables: &mut Variables,
     ) -> Result<Ranged, Stop>
         requires walk { CanWalk self.now (two_of (method call) left.now right.now) at }
-        requires sized { IsSized self.now.plan.now ranges.now }
-        ensures { RangeAnswer self.now (two_of (method call) left.now right.now) at
-            ranges.now result }
+        requires held { AreHeld self.now.plan.now variables.old }
+        ensures answer { RangeAnswer self.now (two_of (method call) left.now right.now) at
+            variables.old.ranges.items result }
+        ensures left { OnOk result (IsLeft variables.old variables.new) }
     {
-        let first = self.range_of(left, at, ranges)?;
-        let second = self.range_of(right, first.next, ranges)?;
+        let Operands { first, second } = self.operands(left, right, at, variables)?;
         let shown = self.plan.shown_divisor(right);
         let range = call_range(call, shown, first.range, second.range);
         own(range, kind_of_call(call), second.next)
@@ -278,15 +342,15 @@ impl Walk<'_> {
         scale: u8,
         mode: Mode,
         at: u32,
-        ranges: &[Abs],
+        variables: &mut Variables,
     ) -> Result<Ranged, Stop>
         requires walk { CanWalk self.now (two_of (divide scale mode) left.now right.now) at }
-        requires sized { IsSized self.now.plan.now ranges.now }
-        ensures { RangeAnswer self.now (two_of (divide scale mode) left.now right.now) at
-            ranges.now result }
+        requires held { AreHeld self.now.plan.now variables.old }
+        ensures answer { RangeAnswer self.now (two_of (divide scale mode) left.now right.now) at
+            variables.old.ranges.items result }
+        ensures left { OnOk result (IsLeft variables.old variables.new) }
     {
-        let first = self.range_of(left, at, ranges)?;
-        let second = self.range_of(right, first.next, ranges)?;
+        let Operands { first, second } = self.operands(left, right, at, variables)?;
         let range = abs_div(first.range, second.range, scale, mode);
         own(range, NodeKind::Big, second.next)
     }
@@ -299,28 +363,46 @@ impl Walk<'_> {
         first: &Expr,
         second: &Expr,
         at: u32,
-        ranges: &[Abs],
+        variables: &mut Variables,
     ) -> Result<Ranged, Stop>
         requires walk { CanWalk self.now (choice_of test.now first.now second.now) at }
-        requires sized { IsSized self.now.plan.now ranges.now }
-        ensures { RangeAnswer self.now (choice_of test.now first.now second.now) at
-            ranges.now result }
+        requires held { AreHeld self.now.plan.now variables.old }
+        ensures answer { RangeAnswer self.now (choice_of test.now first.now second.now) at
+            variables.old.ranges.items result }
+        ensures left { OnOk result (IsLeft variables.old variables.new) }
     {
-        let Tested { branches, next } = self.test(test, at, ranges)?;
+        let Tested { branches, next } = self.test(test, at, variables)?;
         let parts = Parts {
             first,
             second,
             at: next,
         };
+        self.range_of_parts(&parts, branches, variables)
+    }
+
+    /// That of its parts, where its test has these branches.
+    #[cycle(walk)]
+    fn range_of_parts(
+        &self,
+        parts: &Parts,
+        branches: Branches,
+        variables: &mut Variables,
+    ) -> Result<Ranged, Stop>
+        requires walk { CanWalkParts self.now parts.now }
+        requires held { AreHeld self.now.plan.now variables.old }
+        ensures answer { PartsAnswer self.now parts.now
+            (branches_in self.now.plan.now variables.old.ranges.items branches) result }
+        ensures left { OnOk result (IsLeft variables.old variables.new) }
+    {
         let Branches { holds, fails } = branches;
         match holds {
             None => match fails {
-                None => self.no_part(&parts),
-                Some(failed) => self.second_part(&parts, &failed, ranges),
+                None => self.no_part(parts),
+                Some(failed) => self.second_part(parts, &failed, variables),
             },
             Some(held) => match fails {
-                None => self.first_part(&parts, &held, ranges),
-                Some(failed) => self.both_parts(&parts, &held, &failed, ranges),
+                None => self.first_part(parts, &held, variables),
+                Some(failed) => self.both_parts(parts, &held, &failed, variables),
             },
         }
     }
@@ -339,26 +421,38 @@ impl Walk<'_> {
     }
 
     #[cycle(walk)]
-    fn first_part(&self, parts: &Parts, held: &[Change], ranges: &[Abs]) -> Result<Ranged, Stop>
+    fn first_part(
+        &self,
+        parts: &Parts,
+        held: &[Change],
+        variables: &mut Variables,
+    ) -> Result<Ranged, Stop>
         requires walk { CanWalkParts self.now parts.now }
-        requires sized { IsSized self.now.plan.now ranges.now }
-        ensures { PartsAnswer self.now parts.now (first_reached self.now ranges.now held.now)
-            result }
+        requires held { AreHeld self.now.plan.now variables.old }
+        ensures answer { PartsAnswer self.now parts.now
+            (first_reached self.now variables.old.ranges.items held.now) result }
+        ensures left { OnOk result (IsLeft variables.old variables.new) }
     {
-        let one = self.range_after(parts.first, parts.at, held, ranges)?;
+        let one = self.range_after(parts.first, parts.at, held, variables)?;
         let other = outline_of(self.plan, parts.second, one.next);
         own(Ok(one.range), one.kind.wider(other.kind), other.next)
     }
 
     #[cycle(walk)]
-    fn second_part(&self, parts: &Parts, failed: &[Change], ranges: &[Abs]) -> Result<Ranged, Stop>
+    fn second_part(
+        &self,
+        parts: &Parts,
+        failed: &[Change],
+        variables: &mut Variables,
+    ) -> Result<Ranged, Stop>
         requires walk { CanWalkParts self.now parts.now }
-        requires sized { IsSized self.now.plan.now ranges.now }
-        ensures { PartsAnswer self.now parts.now (second_reached self.now ranges.now failed.now)
-            result }
+        requires held { AreHeld self.now.plan.now variables.old }
+        ensures answer { PartsAnswer self.now parts.now
+            (second_reached self.now variables.old.ranges.items failed.now) result }
+        ensures left { OnOk result (IsLeft variables.old variables.new) }
     {
         let one = outline_of(self.plan, parts.first, parts.at);
-        let other = self.range_after(parts.second, one.next, failed, ranges)?;
+        let other = self.range_after(parts.second, one.next, failed, variables)?;
         own(Ok(other.range), one.kind.wider(other.kind), other.next)
     }
 
@@ -368,15 +462,16 @@ impl Walk<'_> {
         parts: &Parts,
         held: &[Change],
         failed: &[Change],
-        ranges: &[Abs],
+        variables: &mut Variables,
     ) -> Result<Ranged, Stop>
         requires walk { CanWalkParts self.now parts.now }
-        requires sized { IsSized self.now.plan.now ranges.now }
-        ensures { PartsAnswer self.now parts.now
-            (both_reached self.now ranges.now held.now failed.now) result }
+        requires held { AreHeld self.now.plan.now variables.old }
+        ensures answer { PartsAnswer self.now parts.now
+            (both_reached self.now variables.old.ranges.items held.now failed.now) result }
+        ensures left { OnOk result (IsLeft variables.old variables.new) }
     {
-        let one = self.range_after(parts.first, parts.at, held, ranges)?;
-        let other = self.range_after(parts.second, one.next, failed, ranges)?;
+        let one = self.range_after(parts.first, parts.at, held, variables)?;
+        let other = self.range_after(parts.second, one.next, failed, variables)?;
         let range = join(one.range, other.range);
         own(range, one.kind.wider(other.kind), other.next)
     }
@@ -388,29 +483,32 @@ impl Walk<'_> {
         e: &Expr,
         at: u32,
         changes: &[Change],
-        ranges: &[Abs],
+        variables: &mut Variables,
     ) -> Result<Ranged, Stop>
         requires walk { CanWalk self.now (term_of e.now) at }
-        requires sized { IsSized self.now.plan.now ranges.now }
-        ensures { RangeAnswer self.now (term_of e.now) at (changed ranges.now changes.now) result }
+        requires held { AreHeld self.now.plan.now variables.old }
+        ensures answer { RangeAnswer self.now (term_of e.now) at
+            (changed variables.old.ranges.items changes.now) result }
+        ensures left { OnOk result (IsLeft variables.old variables.new) }
     {
-        if changes.is_empty() {
-            return self.range_of(e, at, ranges);
-        }
-        let after = changed(self.alloc, ranges, changes)?;
-        self.range_of(e, at, &after)
+        let mark = variables.notes.len();
+        variables.apply(changes)?;
+        let ranged = self.range_of(e, at, variables)?;
+        variables.take_back(mark);
+        Ok(ranged)
     }
 
     /// The branches of a test whose nodes are numbered from `at`, or its first node that may fail.
     #[cycle(walk)]
-    pub fn test(&self, e: &Expr, at: u32, ranges: &[Abs]) -> Result<Tested, Stop>
+    pub fn test(&self, e: &Expr, at: u32, variables: &mut Variables) -> Result<Tested, Stop>
         requires walk { CanWalk self.now (term_of e.now) at }
-        requires sized { IsSized self.now.plan.now ranges.now }
-        ensures { TestAnswer self.now (term_of e.now) at ranges.now result }
+        requires held { AreHeld self.now.plan.now variables.old }
+        ensures answer { TestAnswer self.now (term_of e.now) at variables.old.ranges.items result }
+        ensures left { OnOk result (IsLeft variables.old variables.new) }
     {
         match e {
-            Expr::Unary(op, operand) => self.test_unary(*op, operand, at, ranges),
-            Expr::Binary(op, left, right) => self.test_operator(*op, left, right, at, ranges),
+            Expr::Unary(op, operand) => self.test_unary(*op, operand, at, variables),
+            Expr::Binary(op, left, right) => self.test_operator(*op, left, right, at, variables),
             Expr::Int(_)
             | Expr::Long(_)
             | Expr::Point(_)
@@ -429,31 +527,41 @@ impl Walk<'_> {
     }
 
     #[cycle(walk)]
-    fn test_unary(&self, op: Unary, operand: &Expr, at: u32, ranges: &[Abs]) -> Result<Tested, Stop>
+    fn test_unary(
+        &self,
+        op: Unary,
+        operand: &Expr,
+        at: u32,
+        variables: &mut Variables,
+    ) -> Result<Tested, Stop>
         requires walk { CanWalk self.now (one_of (unary op) operand.now) at }
-        requires sized { IsSized self.now.plan.now ranges.now }
-        ensures { TestAnswer self.now (one_of (unary op) operand.now) at ranges.now result }
+        requires held { AreHeld self.now.plan.now variables.old }
+        ensures answer { TestAnswer self.now (one_of (unary op) operand.now) at
+            variables.old.ranges.items result }
+        ensures left { OnOk result (IsLeft variables.old variables.new) }
     {
         match op {
-            Unary::Not => self.test_opposite(operand, at, ranges),
+            Unary::Not => self.test_opposite(operand, at, variables),
             Unary::Minus | Unary::Negate | Unary::Abs => Err(no_test(at)),
         }
     }
 
     #[cycle(walk)]
-    fn test_opposite(&self, operand: &Expr, at: u32, ranges: &[Abs]) -> Result<Tested, Stop>
+    fn test_opposite(
+        &self,
+        operand: &Expr,
+        at: u32,
+        variables: &mut Variables,
+    ) -> Result<Tested, Stop>
         requires walk { CanWalk self.now (one_of (unary Unary.Not) operand.now) at }
-        requires sized { IsSized self.now.plan.now ranges.now }
-        ensures { TestAnswer self.now (one_of (unary Unary.Not) operand.now) at ranges.now result }
+        requires held { AreHeld self.now.plan.now variables.old }
+        ensures answer { TestAnswer self.now (one_of (unary Unary.Not) operand.now) at
+            variables.old.ranges.items result }
+        ensures left { OnOk result (IsLeft variables.old variables.new) }
     {
-        let Tested { branches, next } = self.test(operand, at, ranges)?;
-        let Branches { holds, fails } = branches;
-        let branches = Branches {
-            holds: fails,
-            fails: holds,
-        };
+        let Tested { branches, next } = self.test(operand, at, variables)?;
         Ok(Tested {
-            branches,
+            branches: opposite(branches),
             next: next + 1,
         })
     }
@@ -465,110 +573,149 @@ impl Walk<'_> {
         left: &Expr,
         right: &Expr,
         at: u32,
-        ranges: &[Abs],
+        variables: &mut Variables,
     ) -> Result<Tested, Stop>
         requires walk { CanWalk self.now (two_of (operator op) left.now right.now) at }
-        requires sized { IsSized self.now.plan.now ranges.now }
-        ensures { TestAnswer self.now (two_of (operator op) left.now right.now) at
-            ranges.now result }
+        requires held { AreHeld self.now.plan.now variables.old }
+        ensures answer { TestAnswer self.now (two_of (operator op) left.now right.now) at
+            variables.old.ranges.items result }
+        ensures left { OnOk result (IsLeft variables.old variables.new) }
     {
         match op {
-            Binary::And => self.test_both(left, right, at, ranges),
-            Binary::Or => self.test_either(left, right, at, ranges),
-            _ => self.test_comparison(op, left, right, at, ranges),
+            Binary::And => self.test_sequence(Connective::And, left, right, at, variables),
+            Binary::Or => self.test_sequence(Connective::Or, left, right, at, variables),
+            _ => self.test_comparison(op, left, right, at, variables),
         }
     }
 
+    /// The branches of a connective: behind all its parts, or before them where one of them decides.
     #[cycle(walk)]
-    fn test_both(&self, left: &Expr, right: &Expr, at: u32, ranges: &[Abs]) -> Result<Tested, Stop>
-        requires walk { CanWalk self.now (two_of (operator Binary.And) left.now right.now) at }
-        requires sized { IsSized self.now.plan.now ranges.now }
-        ensures { TestAnswer self.now (two_of (operator Binary.And) left.now right.now) at
-            ranges.now result }
-    {
-        let Tested { branches, next } = self.test(left, at, ranges)?;
-        let Branches { holds, fails } = branches;
-        let can_fail = fails.is_some();
-        let Tested { branches, next } = self.test_after(right, next, holds, ranges)?;
-        let Branches { holds, fails } = branches;
-        let fails = unchanged_if(self.alloc, can_fail || fails.is_some());
-        Ok(Tested {
-            branches: Branches { holds, fails },
-            next: next + 1,
-        })
-    }
-
-    #[cycle(walk)]
-    fn test_either(
+    fn test_sequence(
         &self,
+        connective: Connective,
         left: &Expr,
         right: &Expr,
         at: u32,
-        ranges: &[Abs],
+        variables: &mut Variables,
     ) -> Result<Tested, Stop>
-        requires walk { CanWalk self.now (two_of (operator Binary.Or) left.now right.now) at }
-        requires sized { IsSized self.now.plan.now ranges.now }
-        ensures { TestAnswer self.now (two_of (operator Binary.Or) left.now right.now) at
-            ranges.now result }
+        requires walk { CanWalk self.now (connected connective left.now right.now) at }
+        requires held { AreHeld self.now.plan.now variables.old }
+        ensures answer { TestAnswer self.now (connected connective left.now right.now) at
+            variables.old.ranges.items result }
+        ensures left { OnOk result (IsLeft variables.old variables.new) }
     {
-        let Tested { branches, next } = self.test(left, at, ranges)?;
-        let Branches { holds, fails } = branches;
-        let can_hold = holds.is_some();
-        let Tested { branches, next } = self.test_after(right, next, fails, ranges)?;
-        let Branches { holds, fails } = branches;
-        let holds = unchanged_if(self.alloc, can_hold || holds.is_some());
+        let mark = variables.notes.len();
+        let followed = self.follow_both(connective, left, right, at, variables)?;
+        let changes = taken_back(self.alloc, variables, mark)?;
+        let branches = Branches {
+            holds: followed.is_through.then_some(changes),
+            fails: unchanged_if(self.alloc, followed.can_leave),
+        };
         Ok(Tested {
-            branches: Branches { holds, fails },
-            next: next + 1,
+            branches: turned(connective, branches),
+            next: followed.next,
         })
     }
 
-    /// The branches of a right side, where the left one leads there; their changes are behind those that it leaves.
+    /// Follows the parts of a connective through an expression, which is one part where it is of no such connective.
     #[cycle(walk)]
-    fn test_after(
+    fn follow(
         &self,
+        connective: Connective,
         e: &Expr,
         at: u32,
-        changes: Option<Vec<Change>>,
-        ranges: &[Abs],
-    ) -> Result<Tested, Stop>
+        variables: &mut Variables,
+    ) -> Result<Followed, Stop>
         requires walk { CanWalk self.now (term_of e.now) at }
-        requires sized { IsSized self.now.plan.now ranges.now }
-        ensures { AfterAnswer self.now (term_of e.now) at ranges.now changes result }
+        requires held { AreHeld self.now.plan.now variables.old }
+        ensures answer { FollowAnswer self.now connective (term_of e.now) at
+            variables.old.ranges.items variables.new.ranges.items result }
+        ensures on { OnOk result (GoesOn self.now.plan.now variables.old variables.new) }
     {
-        match changes {
-            None => Ok(Tested {
-                branches: Branches {
-                    holds: None,
-                    fails: None,
-                },
-                next: outline_of(self.plan, e, at).next,
-            }),
-            Some(changes) => self.test_behind(e, at, &changes, ranges),
+        match sides_of(connective, e) {
+            Some(sides) => self.follow_both(connective, sides.left, sides.right, at, variables),
+            None => self.follow_part(connective, e, at, variables),
         }
     }
 
     #[cycle(walk)]
-    fn test_behind(
+    fn follow_both(
         &self,
+        connective: Connective,
+        left: &Expr,
+        right: &Expr,
+        at: u32,
+        variables: &mut Variables,
+    ) -> Result<Followed, Stop>
+        requires walk { CanWalk self.now (connected connective left.now right.now) at }
+        requires held { AreHeld self.now.plan.now variables.old }
+        ensures answer { FollowAnswer self.now connective (connected connective left.now right.now)
+            at variables.old.ranges.items variables.new.ranges.items result }
+        ensures on { OnOk result (GoesOn self.now.plan.now variables.old variables.new) }
+    {
+        let first = self.follow(connective, left, at, variables)?;
+        let second = self.follow_behind(connective, first, right, variables)?;
+        Ok(behind_both(first, second))
+    }
+
+    /// Follows a right side, where the left one leads there.
+    #[cycle(walk)]
+    fn follow_behind(
+        &self,
+        connective: Connective,
+        first: Followed,
+        e: &Expr,
+        variables: &mut Variables,
+    ) -> Result<Followed, Stop>
+        requires walk { CanWalk self.now (term_of e.now) first.next }
+        requires held { AreHeld self.now.plan.now variables.old }
+        ensures answer { BehindAnswer self.now connective (term_of e.now) first
+            variables.old.ranges.items variables.new.ranges.items result }
+        ensures on { OnOk result (GoesOn self.now.plan.now variables.old variables.new) }
+    {
+        if first.is_through {
+            return self.follow(connective, e, first.next, variables);
+        }
+        Ok(Followed {
+            is_through: false,
+            can_leave: false,
+            next: outline_of(self.plan, e, first.next).next,
+        })
+    }
+
+    /// Tests a part, and gives the variables the ranges with which the next part is walked.
+    #[cycle(walk)]
+    fn follow_part(
+        &self,
+        connective: Connective,
         e: &Expr,
         at: u32,
-        changes: &[Change],
-        ranges: &[Abs],
-    ) -> Result<Tested, Stop>
+        variables: &mut Variables,
+    ) -> Result<Followed, Stop>
         requires walk { CanWalk self.now (term_of e.now) at }
-        requires sized { IsSized self.now.plan.now ranges.now }
-        ensures { BehindAnswer self.now (term_of e.now) at ranges.now changes.now result }
+        requires held { AreHeld self.now.plan.now variables.old }
+        ensures answer { FollowAnswer self.now connective (term_of e.now) at
+            variables.old.ranges.items variables.new.ranges.items result }
+        ensures on { OnOk result (GoesOn self.now.plan.now variables.old variables.new) }
     {
-        let after = changed(self.alloc, ranges, changes)?;
-        let Tested { branches, next } = self.test(e, at, &after)?;
-        let Branches { holds, fails } = branches;
-        let holds = behind(self.alloc, changes, holds)?;
-        let fails = behind(self.alloc, changes, fails)?;
-        Ok(Tested {
-            branches: Branches { holds, fails },
-            next,
-        })
+        let Tested { branches, next } = self.test(e, at, variables)?;
+        let Branches { holds, fails } = turned(connective, branches);
+        let can_leave = fails.is_some();
+        match holds {
+            None => Ok(Followed {
+                is_through: false,
+                can_leave,
+                next,
+            }),
+            Some(changes) => {
+                variables.apply(&changes)?;
+                Ok(Followed {
+                    is_through: true,
+                    can_leave,
+                    next,
+                })
+            }
+        }
     }
 
     /// The branches of a comparison. That of a `compareTo` with an `int` literal compares the sides of the `compareTo`.
@@ -579,18 +726,19 @@ impl Walk<'_> {
         left: &Expr,
         right: &Expr,
         at: u32,
-        ranges: &[Abs],
+        variables: &mut Variables,
     ) -> Result<Tested, Stop>
         requires walk { CanWalk self.now (two_of (operator op) left.now right.now) at }
-        requires sized { IsSized self.now.plan.now ranges.now }
-        ensures { ComparisonAnswer self.now (comparison_of op left.now right.now) at
-            ranges.now result }
+        requires held { AreHeld self.now.plan.now variables.old }
+        ensures answer { ComparisonAnswer self.now (comparison_of op left.now right.now) at
+            variables.old.ranges.items result }
+        ensures left { OnOk result (IsLeft variables.old variables.new) }
     {
         match compared_sides(left, right) {
             Some(inner) => {
-                self.test_compare_to(op, inner.left, inner.right, inner.number, at, ranges)
+                self.test_compare_to(op, inner.left, inner.right, inner.number, at, variables)
             }
-            None => self.test_sides(op, left, right, at, ranges),
+            None => self.test_sides(op, left, right, at, variables),
         }
     }
 
@@ -602,15 +750,15 @@ impl Walk<'_> {
         right: &Expr,
         number: i32,
         at: u32,
-        ranges: &[Abs],
+        variables: &mut Variables,
     ) -> Result<Tested, Stop>
         requires walk { CanWalk self.now (compare_to op left.now right.now number) at }
-        requires sized { IsSized self.now.plan.now ranges.now }
-        ensures { ComparisonAnswer self.now (order_comparison op left.now right.now number) at
-            ranges.now result }
+        requires held { AreHeld self.now.plan.now variables.old }
+        ensures answer { ComparisonAnswer self.now (order_comparison op left.now right.now number) at
+            variables.old.ranges.items result }
+        ensures left { OnOk result (IsLeft variables.old variables.new) }
     {
-        let first = self.range_of(left, at, ranges)?;
-        let second = self.range_of(right, first.next, ranges)?;
+        let Operands { first, second } = self.operands(left, right, at, variables)?;
         let order = abs_cmp(first.range, second.range);
         let order = own(order, NodeKind::Int, second.next)?;
         let literal = literal(Dec::new(number as i128, 0), NodeKind::Int, order.next)?;
@@ -624,7 +772,7 @@ impl Walk<'_> {
             whole: false,
         };
         let allowed = signs_where(op, number);
-        let branches = branches_of(self.alloc, self.plan, &sides, allowed, ranges)?;
+        let branches = branches_of(self.alloc, self.plan, &sides, allowed, &variables.ranges)?;
         Ok(Tested {
             branches,
             next: compared.next,
@@ -638,16 +786,16 @@ impl Walk<'_> {
         left: &Expr,
         right: &Expr,
         at: u32,
-        ranges: &[Abs],
+        variables: &mut Variables,
     ) -> Result<Tested, Stop>
         requires walk { CanWalk self.now (two_of (operator op) left.now right.now) at }
-        requires sized { IsSized self.now.plan.now ranges.now }
+        requires held { AreHeld self.now.plan.now variables.old }
         requires plain { IsPlainComparison (term_of left.now) (term_of right.now) }
-        ensures { ComparisonAnswer self.now (comparison_of op left.now right.now) at
-            ranges.now result }
+        ensures answer { ComparisonAnswer self.now (comparison_of op left.now right.now) at
+            variables.old.ranges.items result }
+        ensures left { OnOk result (IsLeft variables.old variables.new) }
     {
-        let first = self.range_of(left, at, ranges)?;
-        let second = self.range_of(right, first.next, ranges)?;
+        let Operands { first, second } = self.operands(left, right, at, variables)?;
         let compared = comparison_range(op, first.range, second.range);
         let compared = own(compared, NodeKind::Truth, second.next)?;
         let whole = are_whole(first.kind, second.kind);
@@ -659,11 +807,45 @@ impl Walk<'_> {
             whole,
         };
         let allowed = signs_where(op, 0);
-        let branches = branches_of(self.alloc, self.plan, &sides, allowed, ranges)?;
+        let branches = branches_of(self.alloc, self.plan, &sides, allowed, &variables.ranges)?;
         Ok(Tested {
             branches,
             next: compared.next,
         })
+    }
+}
+
+/// What is known behind two parts, the second of which was tested behind the first.
+fn behind_both(first: Followed, second: Followed) -> Followed
+    requires { second.next + 1 < 2 ^ 32 }
+    ensures { result ≡ behind_both first second }
+{
+    Followed {
+        is_through: second.is_through,
+        can_leave: first.can_leave || second.can_leave,
+        next: second.next + 1,
+    }
+}
+
+/// The sides of a connective.
+#[derive(Clone, Copy)]
+struct Connected<'a> {
+    left: &'a Expr,
+    right: &'a Expr,
+}
+
+/// The sides of an expression, where it is of a connective.
+fn sides_of<'a>(connective: Connective, e: &'a Expr) -> Option<Connected<'a>>
+    ensures { IfSome result (IsConnected connective (term_of e.now)) }
+{
+    let Expr::Binary(op, left, right) = e else {
+        return None;
+    };
+    match (connective, *op) {
+        (Connective::And, Binary::And) | (Connective::Or, Binary::Or) => {
+            Some(Connected { left, right })
+        }
+        _ => None,
     }
 }
 

@@ -7,7 +7,9 @@ ghost use Rattle.pap_types.specs.Routines.{body_named};
 ghost use Rattle.interval_walk.specs.Walked.{range_kept_as};
 ghost use Rattle.interval_analysis.specs.Changes.{changed};
 ghost use Rattle.interval_analysis.specs.PlanViews.{ranges_in};
-ghost use Rattle.interval_analysis.specs.StatementViews.{AreHeld, GoesOn, AsideAnswer, CanWalkBody, CanWalkLists, CanAssign, CanPut, CanKeep, IsMethodBody, Passes, EnvAnswer, through_body, through_if, through_first, through_second, through_both, if_of, evaluated, executed, assigned_in, methods_in, fault_of};
+ghost use Rattle.interval_analysis.specs.VariableViews.{AreHeld, GoesOn};
+ghost use Rattle.interval_analysis.specs.ComparisonViews.{branches_in};
+ghost use Rattle.interval_analysis.specs.StatementViews.{AsideAnswer, CanWalkBody, CanWalkLists, CanAssign, CanPut, CanKeep, IsMethodBody, Passes, EnvAnswer, through_body, through_if, through_fork, through_first, through_second, through_both, if_of, evaluated, executed, assigned_in, methods_in, fault_of};
 
 use crate::RangeFault;
 use crate::branches::{Branches, Change};
@@ -112,7 +114,7 @@ impl Walk<'_> {
             variables.new.ranges.items result }
         ensures on { OnOk result (GoesOn self.now.plan.now variables.old variables.new) }
     {
-        match self.range_of(value, 0, &variables.ranges) {
+        match self.range_of(value, 0, variables) {
             Ok(value) => {
                 self.put(target, value.range, variables)?;
                 Ok(())
@@ -155,21 +157,41 @@ impl Walk<'_> {
             variables.new.ranges.items result }
         ensures on { OnOk result (GoesOn self.now.plan.now variables.old variables.new) }
     {
-        let Tested { branches, next } = match self.test(test, 0, &variables.ranges) {
-            Ok(tested) => tested,
-            Err(stop) => return Err(fault_of(stop, spot)),
-        };
-        let root = next - 1;
-        let fork = Fork { root, yes, no };
+        match self.test(test, 0, variables) {
+            Ok(Tested { branches, next }) => {
+                let root = next - 1;
+                let fork = Fork { root, yes, no };
+                self.walk_fork(spot, &fork, branches, variables)
+            }
+            Err(stop) => Err(fault_of(stop, spot)),
+        }
+    }
+
+    /// Walks the lists of an IF whose test has these branches.
+    #[cycle(statements)]
+    fn walk_fork(
+        &self,
+        spot: Spot,
+        fork: &Fork,
+        branches: Branches,
+        variables: &mut Variables,
+    ) -> Result<u32, RangeFault>
+        requires walk { CanWalkLists self.now spot fork.now }
+        requires held { AreHeld self.now.plan.now variables.old }
+        ensures passes { Passes (through_fork self.now spot fork.now
+            (branches_in self.now.plan.now variables.old.ranges.items branches))
+            variables.new.ranges.items result }
+        ensures on { OnOk result (GoesOn self.now.plan.now variables.old variables.new) }
+    {
         let Branches { holds, fails } = branches;
         match holds {
             None => match fails {
-                None => Err(fault_at(spot, root, RangeCause::Wide)),
-                Some(failed) => self.walk_second(spot, &fork, &failed, variables),
+                None => Err(fault_at(spot, fork.root, RangeCause::Wide)),
+                Some(failed) => self.walk_second(spot, fork, &failed, variables),
             },
             Some(held) => match fails {
-                None => self.walk_first(spot, &fork, &held, variables),
-                Some(failed) => self.walk_both(spot, &fork, &held, &failed, variables),
+                None => self.walk_first(spot, fork, &held, variables),
+                Some(failed) => self.walk_both(spot, fork, &held, &failed, variables),
             },
         }
     }

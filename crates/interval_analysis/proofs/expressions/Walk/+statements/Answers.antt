@@ -3,14 +3,16 @@ use Rattle.pap_tree.specs.Flowchart.{body_of, stmt_then, done}
 use Rattle.pap_tree.specs.Statements.{written}
 use Rattle.pap_tree.proofs.Laws.{stmt_at, branch_is}
 use Rattle.interval_analysis.specs.PlanViews.{scope_in, ranges_after, ranges_in}
-use Rattle.interval_analysis.specs.StatementViews.{joined_lists, PassesAside, CanWalkBody, FaultOf, Passes, through_body, through_if, if_of, walked_in, met_in, executed, methods_in}
+use Rattle.interval_analysis.specs.StatementViews.{joined_lists, PassesAside, CanWalkBody, FaultOf, Passes, through_body, through_fork, through_if, if_of, walked_in, met_in, executed, methods_in}
 use Rattle.interval_analysis.specs.declared.statements.Fork.{Fork}
 use Rattle.interval_analysis.specs.Changes.{changed}
+use Rattle.interval_analysis.specs.ComparisonViews.{branches_in}
 use Rattle.interval_analysis.specs.Notes.{IsTold}
 use Rattle.interval_analysis.specs.Meetings.{MeetsAnswer}
 use Rattle.interval_analysis.proofs.NoteLemmas.{noted_same, noted_then, since}
 use Rattle.interval_analysis.proofs.CountLemmas.{written_at, can_here, can_rest}
-use Rattle.interval_analysis.proofs.StatementLemmas.{step_on, step_stops, fault_as, passes_not, env_err, passes_to, goes_then, goes_apply, goes_noted, goes_on_then, if_meets, if_passes, aside_joins, aside_stops, passes_aside, no_chain, no_method, calls_body}
+use Rattle.interval_analysis.proofs.VariableLemmas.{goes_then, goes_apply, goes_noted, goes_on_then}
+use Rattle.interval_analysis.proofs.StatementLemmas.{step_on, step_stops, fault_as, passes_not, env_err, passes_to, if_forks, if_passes, aside_joins, aside_stops, passes_aside, no_chain, no_method, calls_body}
 use Rattle.interval_analysis.proofs.expressions.Walk.+statements.Goals as goal
 
 pub walk_body-walk_statement-requires : goal.walk_body-walk_statement-requires
@@ -210,26 +212,15 @@ walk_both-returns-clause-passes t c =
     subst (FaultOf (met_in w spot f (changed was c.args.held.now) (changed was c.args.failed.now))) (sym c.fault_of.ensures)
     (aside_stops w spot f was (changed was c.args.held.now) (changed was c.args.failed.now) a b c.requires.held.sized c.in_ok-yes.ensures.passes two c.in-Err.stop new met)
 
-pub walk_if-returns-clause-passes : goal.walk_if-returns-clause-passes
-walk_if-returns-clause-passes t c =
+pub walk_if-returns-in-Ok-clause-passes : goal.walk_if-returns-in-Ok-clause-passes
+walk_if-returns-in-Ok-clause-passes t c =
     let w = c.args.self.now in
     let p = w.plan.now in
     let spot = c.args.spot in
     let vs = c.args.variables.now.ranges.items in
-    let rs = c.deref.result.now in
-    let held = c.deref-in-Some-fails-2.result.now in
-    let failed = c.deref-in-Some-fails-2-2.result.now in
-    let f : Fork = record { root = c.in-Ok.tested.next - 1; yes = c.args.yes; no = c.args.no } in
-    let b = c.in-Ok.tested.branches in
-    let same : rs ≡ vs = c.deref.ensures.value in
-    let holds : ranges_after p rs b.holds ≡ Some (ranges_in p (changed vs held)) =
-    ap (ranges_after p rs) c.in-Some.is
-    ∙ ap (λ xs. Some (ranges_in p (changed xs c.in-Some.held.items))) same
-    ∙ ap (λ cs. Some (ranges_in p (changed vs cs))) (sym c.deref-in-Some-fails-2.ensures.value) in
-    let fails : ranges_after p rs b.fails ≡ Some (ranges_in p (changed vs failed)) =
-    ap (ranges_after p rs) c.in-Some-fails-2.is
-    ∙ ap (λ xs. Some (ranges_in p (changed xs c.in-Some-fails-2.failed.items))) same
-    ∙ ap (λ cs. Some (ranges_in p (changed vs cs))) (sym c.deref-in-Some-fails-2-2.ensures.value) in
-    let meets = if_meets w spot c.args.test.now f rs (changed vs held) (changed vs failed) b c.in-Ok.ensures.branches holds fails (omega (arith, c.in-Ok.ensures.next)) in
-    if_passes w spot c.args.test.now f vs (changed vs held) (changed vs failed) c.walk_both.new.variables.ranges.items c.walk_both.result
-    (ap (walked_in w spot (if_of c.args.test.now c.args.yes.now c.args.no.now)) (sym same) ∙ meets) c.walk_both.ensures.passes
+    let f : Fork = record { root = c.in-Ok.field-0.next - 1; yes = c.args.yes; no = c.args.no } in
+    let b = c.in-Ok.field-0.branches in
+    let new = c.walk_fork.new.variables.ranges.items in
+    if_passes w spot c.args.test.now f vs new (branches_in p vs b) c.walk_fork.result
+    (if_forks w spot c.args.test.now f vs b c.in-Ok.ensures.answer.branches (omega (arith, c.in-Ok.ensures.answer.next)))
+    (subst (λ rs. Passes (through_fork w spot f (branches_in p rs b)) new c.walk_fork.result) c.in-Ok.ensures.left.ranges c.walk_fork.ensures.passes)

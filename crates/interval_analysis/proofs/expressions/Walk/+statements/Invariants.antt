@@ -1,30 +1,34 @@
 use Rattle.std.proofs.Common.{◌≡◌, ◌+◌, ◌*◌, ◌^◌, ◌≤◌, drop}
 use Rattle.pap_tree.specs.Flowchart.{body_of, stmt_then, done}
 use Rattle.pap_tree.specs.Statements.{written}
-use Rattle.interval_analysis.specs.StatementViews.{GoesOn, CanWalkBody, walked_in}
+use Rattle.interval_analysis.specs.VariableViews.{GoesOn}
+use Rattle.interval_analysis.specs.StatementViews.{CanWalkBody, walked_in}
 use Rattle.interval_analysis.proofs.expressions.Walk.+statements.Given as goal
 
 -- the chain of methods that is left counts first, and then the statements
 abbrev pub decreases-walk_body : goal.decreases-walk_body
-decreases-walk_body l = l.spot.chain * 2 ^ 40 + 6 * written (body_of l.body.now) + 1
+decreases-walk_body l = l.spot.chain * 2 ^ 40 + 7 * written (body_of l.body.now) + 1
 
 abbrev pub decreases-walk_statement : goal.decreases-walk_statement
-decreases-walk_statement l = l.spot.chain * 2 ^ 40 + 6 * written (stmt_then l.stmt.now done)
+decreases-walk_statement l = l.spot.chain * 2 ^ 40 + 7 * written (stmt_then l.stmt.now done)
 
 abbrev pub decreases-walk_if : goal.decreases-walk_if
-decreases-walk_if l = l.spot.chain * 2 ^ 40 + 6 * (written (body_of l.yes.now) + written (body_of l.no.now)) + 5
+decreases-walk_if l = l.spot.chain * 2 ^ 40 + 7 * (written (body_of l.yes.now) + written (body_of l.no.now)) + 6
+
+abbrev pub decreases-walk_fork : goal.decreases-walk_fork
+decreases-walk_fork l = l.spot.chain * 2 ^ 40 + 7 * (written (body_of l.fork.now.yes.now) + written (body_of l.fork.now.no.now)) + 5
 
 abbrev pub decreases-walk_first : goal.decreases-walk_first
-decreases-walk_first l = l.spot.chain * 2 ^ 40 + 6 * (written (body_of l.fork.now.yes.now) + written (body_of l.fork.now.no.now)) + 3
+decreases-walk_first l = l.spot.chain * 2 ^ 40 + 7 * (written (body_of l.fork.now.yes.now) + written (body_of l.fork.now.no.now)) + 3
 
 abbrev pub decreases-walk_second : goal.decreases-walk_second
-decreases-walk_second l = l.spot.chain * 2 ^ 40 + 6 * (written (body_of l.fork.now.yes.now) + written (body_of l.fork.now.no.now)) + 3
+decreases-walk_second l = l.spot.chain * 2 ^ 40 + 7 * (written (body_of l.fork.now.yes.now) + written (body_of l.fork.now.no.now)) + 3
 
 abbrev pub decreases-walk_both : goal.decreases-walk_both
-decreases-walk_both l = l.spot.chain * 2 ^ 40 + 6 * (written (body_of l.fork.now.yes.now) + written (body_of l.fork.now.no.now)) + 4
+decreases-walk_both l = l.spot.chain * 2 ^ 40 + 7 * (written (body_of l.fork.now.yes.now) + written (body_of l.fork.now.no.now)) + 4
 
 abbrev pub decreases-walk_aside : goal.decreases-walk_aside
-decreases-walk_aside l = l.spot.chain * 2 ^ 40 + 6 * written (body_of l.body.now) + 2
+decreases-walk_aside l = l.spot.chain * 2 ^ 40 + 7 * written (body_of l.body.now) + 2
 
 abbrev pub decreases-walk_method : goal.decreases-walk_method
 decreases-walk_method l = l.chain * 2 ^ 40

@@ -4,7 +4,7 @@ use Rattle.pap_tree.specs.Declarations.{declaration_of}
 use Rattle.interval_walk.specs.Walked.{range_kept_as}
 use Rattle.interval_analysis.specs.PlanViews.{scope_in}
 use Rattle.interval_analysis.proofs.KeptLemmas.{variable_of, put_done, put_nothing}
-use Rattle.interval_analysis.proofs.StatementLemmas.{goes_none}
+use Rattle.interval_analysis.proofs.VariableLemmas.{goes_none}
 use Rattle.interval_analysis.proofs.expressions.Walk.put.Goals as goal
 use Rattle.interval_analysis.proofs.expressions.Walk.put.Goals.{in-Some-declaration, in-None}
 

@@ -1,0 +1,51 @@
+-- The variables of a walk.
+use Rattle.std.proofs.Common.{◌≡◌, List, length, Result, Ok, Err, sym, ap, ◌∙◌, subst}
+use Rattle.std.specs.Prelude.{OnOk}
+use Rattle.pap_tree.specs.declared.plan.PlanText.{PlanText}
+use Rattle.interval_analysis.specs.declared.branches.Change.{Change}
+use Rattle.interval_analysis.specs.declared.variables.Variables.{Variables}
+use Rattle.interval_analysis.specs.Changes.{AreKept, changed}
+use Rattle.interval_analysis.specs.Notes.{IsNoted}
+use Rattle.interval_analysis.specs.VariableViews.{AreHeld, GoesOn, IsLeft}
+use Rattle.interval_analysis.proofs.ChangeLemmas.{length-changed}
+use Rattle.interval_analysis.proofs.NoteLemmas.{noted_length, noted_none, noted_then, noted_same}
+
+module _ (p : PlanText) where
+  pub held_same : (was now : Variables) → now.ranges.items ≡ was.ranges.items → AreHeld p was → AreHeld p now
+  held_same was now same h = record { sized = ap length same ∙ h.sized; kept = subst AreKept (sym same) h.kept }
+
+  pub goes_none : (v : Variables) → AreHeld p v → GoesOn p v v
+  goes_none v h = record { held = h; noted = noted_none v }
+
+  pub goes_then : (a b c : Variables) → GoesOn p a b → GoesOn p b c → GoesOn p a c
+  goes_then a b c h k = record { held = k.held; noted = noted_then a b c h.noted k.noted }
+
+  pub goes_apply : (was now : Variables) (cs : List Change) → AreHeld p was → now.ranges.items ≡ changed was.ranges.items cs → IsNoted was now → AreKept now.ranges.items → GoesOn p was now
+  goes_apply was now cs h value noted kept = record {
+    held = record { sized = ap length value ∙ length-changed was.ranges.items cs ∙ h.sized; kept = kept };
+    noted = noted;
+  }
+
+  pub goes_noted : (was now : Variables) → AreHeld p was → IsNoted was now → AreKept now.ranges.items → GoesOn p was now
+  goes_noted was now h noted kept = record {
+    held = record { sized = noted_length was now noted ∙ h.sized; kept = kept };
+    noted = noted;
+  }
+
+  pub goes_on_then : {A E : Type 0} (a b c : Variables) (r : Result A E) → GoesOn p a b → OnOk r (GoesOn p b c) → OnOk r (GoesOn p a c)
+  goes_on_then a b c (Ok x) h k = goes_then a b c h k
+  goes_on_then a b c (Err e) h k = tt
+
+  -- variables that are left as they were
+  pub held_left : (was now : Variables) → IsLeft was now → AreHeld p was → AreHeld p now
+  held_left was now left h = held_same was now left.ranges h
+
+  pub goes_left : (was now : Variables) → IsLeft was now → AreHeld p was → GoesOn p was now
+  goes_left was now left h = record { held = held_left was now left h; noted = noted_same was now left.ranges left.notes }
+
+pub left_then : (a b c : Variables) → IsLeft a b → IsLeft b c → IsLeft a c
+left_then a b c h k = record { ranges = k.ranges ∙ h.ranges; notes = k.notes ∙ h.notes }
+
+pub left_on_then : {A E : Type 0} (a b c : Variables) (r : Result A E) → IsLeft a b → OnOk r (IsLeft b c) → OnOk r (IsLeft a c)
+left_on_then a b c (Ok x) h k = left_then a b c h k
+left_on_then a b c (Err e) h k = tt
