@@ -1,7 +1,7 @@
 # `make look` runs the program on an example without a proof; `make build` proves and builds build/papcalc, `make demo` runs
 # that on the examples; `make install` puts it and its manual page under PREFIX; `make test` is the whole gate.
 .PHONY: build author look demo install uninstall test rows client-java wrong-bodies decimal-tool bench-decimal bench-machine bench-plan \
-    bench-book bench-intervals bench-processes bench-names check-java
+    refused-memory bench-book bench-intervals bench-processes bench-names check-java
 
 PREFIX ?= /usr/local
 
@@ -40,6 +40,10 @@ uninstall:
 
 test:
 	bash .ci/run
+
+# Each piece of memory that the program asks for refused in turn, on small scripts and the other words (needs a C compiler).
+refused-memory: build
+	python3 tools/refused_memory.py build/papcalc
 
 # The client in Java (needs a JDK) says the same as that in Python.
 client-java:

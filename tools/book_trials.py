@@ -4,6 +4,7 @@
 After a random script of edits, refused ones among them, the report is that of a book made anew from the runs and plans that are left.
 The last values that a trace puts are the reported ones. What was filed and what is owed add up to the report. A trial of a plan tells what
 differs between the reports before and after it is put, and its work."""
+import itertools
 import os
 import random
 import subprocess
@@ -35,6 +36,7 @@ output = "TAX"
 """
 EMPLOYEES = ["anna", "ben", "chris"]
 PLANS = [("0.14", "0"), ("0.25", "2"), ("0.25", "0")]
+TABLES = itertools.count()
 
 
 class Book:
@@ -62,10 +64,24 @@ def random_day(rng):
     return f"{rng.choice([2025, 2026])}-{rng.randint(1, 4):02d}-{rng.choice([10, 20, 28])}"
 
 
+def random_load(rng, book):
+    """The load of a table, which is written here; whether the book takes it, and what it then does to the book."""
+    keys = {(rng.choice(EMPLOYEES), random_day(rng)) for _ in range(rng.randint(0, 3))}
+    runs = {key: rng.choice([0, 1000, 4711, 8999]) for key in sorted(keys)}
+    rows = [f"{employee},{day[:7]},{day},{pay}\n" for (employee, day), pay in runs.items()]
+    rng.shuffle(rows)
+    name = f"t{next(TABLES)}.csv"
+    with open(name, "w") as table:
+        table.write("employee,month,day,PAY\n" + "".join(rows))
+    return f"load {name}", not keys & book.runs.keys(), lambda: book.runs.update(runs)
+
+
 def random_line(rng, book):
     """A line, whether the book takes it, and what it then does to the book."""
     employee, day, pay = rng.choice(EMPLOYEES), random_day(rng), rng.choice([0, 1000, 4711, 8999, 9001])
-    kind = rng.choice(["add", "add", "add", "change", "withdraw", "plan", "drop"])
+    kind = rng.choice(["add", "add", "add", "change", "withdraw", "plan", "drop", "load"])
+    if kind == "load":
+        return random_load(rng, book)
     if kind == "add":
         return f"add {employee} {day[:7]} {day} PAY={pay}", (employee, day) not in book.runs, lambda: book.runs.update({(employee, day): pay})
     if kind == "change":

@@ -52,12 +52,23 @@ fn two_files(alloc: Global, texts: Texts<'_>) -> Result<Vec<(String, Vec<u8>)>, 
 }
 
 /// The words of a text.
-fn words_of(alloc: Global, text: &str) -> Result<Vec<String>, AllocError> {
+pub(crate) fn words_of(alloc: Global, text: &str) -> Result<Vec<String>, AllocError> {
     let mut words = Vec::new(alloc);
     for word in text.split_whitespace() {
         words.push(String::from_str(alloc, word)?)?;
     }
     Ok(words)
+}
+
+/// Carries out words over this outside, with a counter of its own, and gives the status.
+pub(crate) fn carried_out<F: Files>(
+    alloc: Global,
+    words: &[String],
+    files: &mut F,
+    source: &mut MemSource,
+    sink: &mut MemSink,
+) -> Status {
+    counted::<Brand, _, _, _>(alloc, words, files, source, sink, Blank::new(1))
 }
 
 /// Carries out words over these files, with an empty script, and gives the status.
@@ -68,7 +79,7 @@ fn answered<F: Files>(
     sink: &mut MemSink,
 ) -> Status {
     let mut source = MemSource::new(Vec::new(alloc), 1, Vec::new(alloc));
-    counted::<Brand, _, _, _>(alloc, words, files, &mut source, sink, Blank::new(1))
+    carried_out(alloc, words, files, &mut source, sink)
 }
 
 /// Writes the reason of a refusal, from the bytes that were given for the answer; `-` where the answer is none.
@@ -103,7 +114,7 @@ pub(crate) fn write_answer(
 }
 
 /// Writes lines with ` / ` between them.
-fn write_lines(written: &[u8], text: &mut String) -> Result<(), Fail> {
+pub(crate) fn write_lines(written: &[u8], text: &mut String) -> Result<(), Fail> {
     let lines = from_utf8(written).map_err(|_| Fail::from("a text"))?;
     for line in lines.lines() {
         if !text.is_empty() {

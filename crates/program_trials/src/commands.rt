@@ -5,11 +5,11 @@ use std::test::Fail;
 use trial_rows::all_rows;
 
 /// A flowchart with an input N, a default, a test of a divisor and an output.
-const PLAN: &str =
+pub(crate) const PLAN: &str =
     "<PAP><INTERFACE><INPUTS><INPUT name='N' type='int'/><INPUT name='D' type='int' default='2'/></INPUTS><OUTPUTS><OUTPUT name='Q' type='int'/></OUTPUTS></INTERFACE><METHODS><MAIN><IF expr='D != 0'><THEN><EVAL exec='Q = N / D'/></THEN></IF></MAIN></METHODS></PAP>\n";
 
 /// The range file of the flowchart.
-const LIMITS: &str =
+pub(crate) const LIMITS: &str =
     "[input.N]\nlow = 0\nhigh = 10\nplaces = 0\n[input.D]\nlow = 0\nhigh = 5\nplaces = 0\n";
 
 /// Both texts.
