@@ -59,7 +59,8 @@ pub record IsPartial (count : ℕ) (d : Decimal) : Type 0 where
   pub places : scale_of d ≤ 12
   pub bounded : unsigned_abs (numerator_at 12 d) ≤ count * 10 ^ 32
 
-module _ (count : ℕ) (few : count ≤ 366) (a b : Decimal) (h : IsPartial count a) (k : IsWithinBound b) where
+-- one more bounded amount, where there are fewer than 100,000: so many, each of at most 10^32, are within 10^37
+module _ (count : ℕ) (few : count < 100000) (a b : Decimal) (h : IsPartial count a) (k : IsWithinBound b) where
   top : greater_scale a b ≤ 12
   top = omega (arith, h.places, k.places)
 

@@ -1,3 +1,3 @@
 -- The laws that other crates may cite.
--- A sum of bounded amounts is bounded; an output of a bounded run is; a numerator is least at its own scale.
-pub use Rattle.carry_bindings.proofs.AmountLemmas.{IsPartial, sum_partial, amount_by, abs_grows}
+-- A sum of bounded amounts fits and is bounded; an output of a bounded run is; a numerator is least at its own scale.
+pub use Rattle.carry_bindings.proofs.AmountLemmas.{IsPartial, sum_fits, sum_partial, amount_by, abs_grows}

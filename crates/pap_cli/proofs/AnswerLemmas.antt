@@ -1,11 +1,10 @@
 -- Every two texts have one answer of `once`, with values as those of words are.
-use Rattle.std.proofs.Common.{◌≡◌, ℕ, List, [], ◌∷◌, ◌++◌, refl, sym, ap, ◌∙◌, subst}
+use Rattle.std.proofs.Common.{◌≡◌, ℕ, List, [], ◌∷◌, ◌++◌, refl, sym, ap, ◌∙◌, subst, arith}
 use Rattle.std.specs.Prelude.{Some, option_map, All, Result, Ok, Err, codes, fold}
 use Rattle.std.specs.declared.cmp.Ordering.{Ordering}
 use Rattle.std.specs.declared.cmp.Ordering.TheVariants.{Less, Equal, Greater}
 use Rattle.std.proofs.lemmas.List.Elements.{All-nil, All-cons, All-head, All-tail}
 use Rattle.scaled_decimal.specs.Decimals.{Decimal}
-use Rattle.scaled_decimal.specs.Limits.{IsKept}
 use Rattle.pap_tree.specs.Flowchart.{Flowchart}
 use Rattle.limits_file.specs.declared.slots.Slot.{Slot}
 use Rattle.payroll_records.specs.declared.values.NamedValue.{NamedValue}
@@ -14,20 +13,20 @@ use Rattle.rising_lists.specs.Keyed.{put_by}
 use Rattle.carry_bindings.specs.declared.filling.Filled.{Filled}
 use Rattle.carry_bindings.specs.declared.filling.Filled.TheVariants.{Inputs, State}
 use Rattle.carry_bindings.specs.declared.filling.Blocked.TheVariants as blocked
-use Rattle.carry_bindings.specs.Filling.{filled_by, waits, unknown, missing, outside, inputs}
+use Rattle.carry_bindings.specs.Filling.{filled_by}
 use Rattle.pap_types.specs.Meaning.{outputs_in, cost_of}
 use Rattle.pap_plan.specs.declared.refusal.PlanRefusal.{PlanRefusal}
 use Rattle.pap_plan.specs.Acceptance.{Meaning, Answers, IsAccepted}
 use Rattle.pap_plan.specs.Inputs.{AreSlots}
 use Rattle.pap_plan.proofs.Laws as plans
 use Rattle.payroll_records.specs.ValueWords.{Give, AreValueWords}
-use Rattle.pap_cli.specs.Words.{IsKeptValue}
+use Rattle.pay_run.specs.Accepted.{Accepted}
+use Rattle.pay_run.specs.Runs.{IsKeptValue}
+use Rattle.pay_run.proofs.Laws.{filled_safe, filled_slots}
 use Rattle.plan_answers.specs.Answers.{Answer, refusal}
 use Rattle.plan_answers.specs.Laws.{HasOneAnswer}
 use Rattle.plan_answers.proofs.Laws.{one_refusal, some_refusal}
 use Rattle.pap_cli.specs.RunAnswers.{finished, IsRunOn, IsOnce, OnceAnswers}
-use Rattle.pap_cli.proofs.AdmissionLemmas.{filled_admitted, first_inputs}
-use Rattle.pap_cli.proofs.KeptLemmas.{inputs_kept}
 use Rattle.pap_cli.proofs.RunLemmas.{never_waits}
 
 -- ---- once
@@ -59,10 +58,8 @@ some_run values plan limits m slots kept h are = by (filled_by slots values []) 
   where
     by : (x : Filled) → filled_by slots values [] ≡ x → (a : Answer) × IsRunOn m.flowchart x a
     by (Inputs vs) e =
-        let parts = first_inputs (waits slots []) (unknown slots values) (missing slots values []) (outside slots values []) (inputs slots values []) vs e in
-        let all = inputs_kept m.limits values kept m.flowchart.inputs slots (plans.accepted_limits plan limits m h) (plans.accepted_defaults plan limits m h) are parts.1 in
-        let admitted = filled_admitted m.limits m.flowchart.inputs slots values [] vs h.bound.suited.suited are (subst (All IsKept) parts.2 all) e in
-        let safe = plans.accepted_safe plan limits m h vs admitted in
+        let p : Accepted = record { plan = plan; limits = limits; meaning = m } in
+        let safe = filled_safe p values [] vs h kept (omega arith) tt (sym (filled_slots p slots values [] are) ∙ e) in
         let outs = outputs_in m.flowchart safe.ends in
         (finished m.flowchart outs (cost_of m.flowchart vs), (outs, ap (option_map (outputs_in m.flowchart)) safe.defined, refl))
     by (State (blocked.Unknown name)) e = (refusal (codes "state unknown " ++ name), refl)

@@ -1,6 +1,5 @@
 mod WordLemmas
 mod FrontLemmas
-mod AdmissionLemmas
 mod ScriptLemmas
 mod SampleLemmas
 mod SaveLemmas
@@ -9,6 +8,5 @@ mod TaxLemmas
 mod LeavesLemmas
 mod LineLemmas
 mod RunLemmas
-mod KeptLemmas
 mod AnswerLemmas
 mod ReasonLemmas

@@ -10,8 +10,6 @@ use Rattle.carry_bindings.specs.declared.filling.Filled.TheVariants.{Inputs, Sta
 use Rattle.carry_bindings.specs.declared.filling.Blocked.{Blocked}
 use Rattle.carry_bindings.specs.declared.filling.Blocked.TheVariants as blocked
 use Rattle.carry_bindings.specs.Filling.{filled_by}
-use Rattle.limits_file.specs.declared.slots.Slot.{Slot}
-use Rattle.pap_plan.specs.Inputs.{AreSlots}
 use Rattle.pap_plan.specs.declared.refusal.PlanRefusal.{PlanRefusal}
 use Rattle.pap_plan.specs.declared.refusal.PlanRefusal.TheVariants as refusals
 use Rattle.pap_plan.specs.Acceptance.{Meaning, IsRefused as IsRefusedPlan, IsRefusedOrMemory}
@@ -44,9 +42,6 @@ told_blocked f (blocked.Range name) a h = refused_by h
 told_blocked f (blocked.Waits day) a h = absurd h
 
 -- what is filled is determined
-pub filled_from : (values : List NamedValue) (m : Meaning) (slots : List Slot) (x : Filled) → AreSlots m.limits m.flowchart.inputs slots → x ≡ filled_by slots values [] → IsFilledFrom values m x
-filled_from values m slots x are is = record { slots = slots; inputs = are; is = is }
-
 filled_as : (values : List NamedValue) (m : Meaning) (x : Filled) (a : Answer) → IsFilledFrom values m x → IsRunOnce values m a → IsRunOn m.flowchart x a
 filled_as values m x a h k =
     let slots = plans.one_slots m.limits m.flowchart.inputs k.slots h.slots k.inputs h.inputs in

@@ -3,7 +3,8 @@ use Rattle.std.specs.Prelude.{◌≡◌, ℕ, List, All}
 use Rattle.outside.specs.Told.{FileMap}
 use Rattle.payroll_records.specs.declared.values.NamedValue.{NamedValue}
 use Rattle.payroll_records.specs.ValueWords.{AreValueWords}
-use Rattle.pap_cli.specs.Words.{Form, HasForm, IsKeptValue}
+use Rattle.pay_run.specs.Runs.{IsKeptValue}
+use Rattle.pap_cli.specs.Words.{Form, HasForm}
 use Rattle.plan_answers.specs.Laws.{HasOneAnswer}
 use Rattle.script_steps.specs.Steps.{AreThere}
 use Rattle.script_run.specs.Transcripts.{lines_of}

@@ -11,6 +11,7 @@ pub mod CallClauses
 pub mod FileClauses
 pub mod Laws
 pub mod RunLines
+pub mod RunViews
 pub mod Outside
 pub mod Statuses
 pub mod Stops

@@ -2,17 +2,12 @@
 use Rattle.std.specs.Prelude.{◌≡◌, ◌≤◌, ℕ, List, [], ◌∷◌, map, codes, String, string_bytes}
 use Rattle.std.specs.Fmt.{decimal as number}
 use Rattle.std.specs.declared.alloc.Global.{Global}
-use Rattle.scaled_decimal.specs.Limits.{IsKept}
 use Rattle.payroll_records.specs.declared.values.NamedValue.{NamedValue}
 use Rattle.payroll_records.specs.ValueWords.{AreValueWords}
 use Rattle.script_run.specs.Limits.{most_employees}
 
 abbrev pub texts : List (String Global) → List (List ℕ)
 texts words = map (λ word. string_bytes word) words
-
--- the value is a kept decimal, as each value of a word is
-abbrev pub IsKeptValue : NamedValue → Type 0
-IsKeptValue v = IsKept v.value
 
 -- what the words ask for
 pub data Form : Type 0 where

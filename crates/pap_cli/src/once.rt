@@ -1,22 +1,20 @@
 //! The answer of `once`.
-ghost use Rattle.std.specs.Prelude.{◌≡◌, ◌≢◌, All, ◌+◌, ◌++◌, ◌⊎◌, IfOk, OnOk, OnErr, Some, map, length};
-ghost use Rattle.pap_tree.specs.Declarations.{declaration_of};
+ghost use Rattle.std.specs.Prelude.{◌≡◌, ◌≢◌, All, ◌+◌, ◌++◌, ◌⊎◌, IfOk, OnOk, OnErr};
 ghost use Rattle.pap_plan.specs.Bindings.{HasSuitedLimit};
 ghost use Rattle.pap_plan.specs.Plans.{Admits, flowchart, meaning};
-ghost use Rattle.pap_cli.specs.RunLines.{value_lines};
+ghost use Rattle.pap_cli.specs.RunViews.{named_lines};
 ghost use Rattle.plan_answers.specs.Answers.{Answer};
-ghost use Rattle.pap_cli.specs.RunAnswers.{OnceAnswers, IsRunOnce, IsRunOn, finished};
+ghost use Rattle.pap_cli.specs.RunAnswers.{OnceAnswers, IsRunOnce, IsRunOn};
 ghost use Rattle.plan_answers.specs.ReplyViews.{reply_of};
 ghost use Rattle.pap_cli.specs.FileClauses.{IsCounted};
 ghost use Rattle.carry_bindings.specs.declared.filling.Filled.TheVariants.{Inputs, State};
 ghost use Rattle.payroll_records.specs.declared.day.Day.{Day as Date};
 ghost use Rattle.pap_tree.specs.Flowchart.{Flowchart};
-ghost use Rattle.scaled_decimal.specs.Limits.{IsKept};
 
-use carry_bindings::{Blocked, Filled, fill};
+use carry_bindings::{Blocked, Filled};
 use pap_plan::{Plan, PlanRefusal, accept};
-use pap_tree::Declared;
-use payroll_records::{Day, Employee, Record, Values};
+use pay_run::{filled, run};
+use payroll_records::{Day, Employee, NamedValue, Record, Values};
 use plan_answers::{Reply, refusal, refused};
 use scaled_decimal::Dec;
 use std::alloc::{AllocError, Global};
@@ -58,22 +56,9 @@ fn run_reply<L: Ledger>(
         (IsCounted (IsRunOnce values (meaning plan.now)) steps.old steps.new) }
 {
     let record = record_of(values);
-    match fill(alloc, plan.spec(), &record, &[])? {
-        Filled::Inputs(inputs) => {
-            let inputs = inputs.into_vec();
-            each_is_kept(&inputs);
-            finished(alloc, plan, &inputs, steps)
-        }
+    match filled(alloc, plan, &record, &[])? {
+        Filled::Inputs(inputs) => finished(alloc, plan, inputs.as_slice(), steps),
         Filled::State(state) => state_reply(alloc, &state),
-    }
-}
-
-/// Each decimal is within the limits of kept ones, as its type says.
-fn each_is_kept(values: &[Dec])
-    ensures { All IsKept values.now }
-{
-    for value in values {
-        let _ = (value.numerator(), value.scale());
     }
 }
 
@@ -117,12 +102,10 @@ fn finished<L: Ledger>(
     ensures memory { OnErr result
         (IsCounted (IsRunOn (flowchart plan.now) (Inputs inputs.now)) steps.old steps.new) }
 {
-    let declared = &plan.text().plan().outputs;
-    let mut machine = plan.machine(alloc)?;
-    let mut outputs = vec![in alloc; Dec::new(0, 0); declared.len()]?;
-    let cost = plan.run(&mut machine, inputs, &mut outputs, steps);
+    let ran = run(alloc, plan, inputs, steps)?;
+    let cost = ran.cost;
     let mut text = Vec::new(alloc);
-    write_values(alloc, declared, &outputs, &mut text)?;
+    write_values(alloc, ran.outputs.as_slice(), &mut text)?;
     let line = format!(in alloc; "steps {cost}\n")?;
     text.extend_from_slice(line.as_bytes())?;
     Ok(Reply {
@@ -133,19 +116,12 @@ fn finished<L: Ledger>(
 }
 
 /// Appends a line for each output: its name and its value.
-fn write_values(
-    alloc: Global,
-    outputs: &[Declared],
-    values: &[Dec],
-    text: &mut Vec<u8>,
-) -> Result<(), AllocError>
-    requires { length values.now ≡ length outputs.now }
-    ensures { OnOk result (text.new.items
-        ≡ text.old.items ++ value_lines (map declaration_of outputs.now) values.now) }
+fn write_values(alloc: Global, outputs: &[NamedValue], text: &mut Vec<u8>) -> Result<(), AllocError>
+    ensures { OnOk result (text.new.items ≡ text.old.items ++ named_lines outputs.now) }
 {
-    for (at, output) in outputs.iter().enumerate() {
+    for output in outputs {
         let name = output.name;
-        let value = values[at];
+        let value = output.value;
         let line = format!(in alloc; "{name} {value}\n")?;
         text.extend_from_slice(line.as_bytes())?;
     }

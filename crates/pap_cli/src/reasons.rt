@@ -10,8 +10,9 @@ ghost use Rattle.pap_cli.specs.Reasons.{bytes_of, SaysRefusedOn};
 
 use crate::once::record_of;
 use crate::words::{Command, FileRequest, Request, read_words};
-use carry_bindings::{Filled, fill};
+use carry_bindings::Filled;
 use pap_plan::{Plan, PlanRefusal, accept};
+use pay_run::filled;
 use payroll_records::Values;
 use plain_words::{TextFile, plan_words, state_words};
 use std::alloc::{AllocError, Global};
@@ -94,8 +95,8 @@ fn state_reason(
     ensures line { IfOk result (λ reason. IfSome reason (λ r. IsOneLine (string_bytes r))) }
 {
     let record = record_of(values);
-    let filled = fill(alloc, accepted.spec(), &record, &[])?;
-    match &filled {
+    let inputs = filled(alloc, accepted, &record, &[])?;
+    match &inputs {
         Filled::Inputs(_) => Ok(None),
         Filled::State(state) => Ok(Some(state_words(alloc, plan, limits, state)?)),
     }
