@@ -18,7 +18,7 @@ code,.num,td:nth-child(2),tbody th[scope=row]{font-family:ui-monospace,\"DejaVu 
 code{overflow-wrap:anywhere}
 nav ul{list-style:none;margin:0;padding:0;columns:16em auto;column-gap:20px;font:13px/1.7 ui-monospace,\"DejaVu Sans Mono\",Menlo,Consolas,monospace}
 nav li span,th.g span{color:var(--mute);font-weight:400;font-size:11px}nav li.bad a{color:var(--bad);font-weight:700}
-.scroll{overflow-x:auto}
+.scroll{overflow-x:auto}.scroll table{min-width:46em}
 table{border-collapse:collapse;width:100%;max-width:1100px;font-size:13.5px}
 th,td{text-align:left;vertical-align:top;padding:3px 14px 3px 0;border-bottom:1px solid var(--rule)}
 thead th{color:var(--mute);font-weight:500;font-size:12.5px}
@@ -43,4 +43,4 @@ svg .c{fill:var(--mute);font:italic 11.5px system-ui,\"DejaVu Sans\",Arial,sans-
 .s,.m{scroll-margin-top:24px}.s:target text{fill:var(--link);font-weight:700}.s.bad:target text{fill:var(--bad)}
 @media (min-width:1150px){.cols{display:grid;grid-template-columns:200px minmax(0,1fr);gap:32px}nav{position:sticky;top:0;align-self:start;max-height:100vh;overflow:auto;padding-bottom:20px}nav ul{columns:auto}}
 @page{size:A4 portrait;margin:10mm 12mm}
-@media print{:root{color-scheme:light;--bg:#fff;--fg:#000;--mute:#555;--rule:#bbb;--line:#333;--box:#fff;--boxl:#333;--dec:#fff6dc;--decl:#7a5900;--exe:#e8f1fc;--exel:#1d4f91;--term:#e9ecef;--link:#123f7c;--bad:#b00010;--badbg:#fde8e8;--ok:#1d7a3d;--head:#f0f0f0}body{padding:0;font-size:10pt}table{font-size:8.5pt}code,.num,td:nth-child(2),tbody th[scope=row],.tab span{font-size:8pt}nav ul{font-size:8.5pt}th,td{padding:1.5pt 8pt 1.5pt 0}.cols{display:block}.skip{display:none}#methods{display:block}#methods h2{margin-bottom:8px}tbody tr:first-child{break-after:avoid}.m{break-inside:avoid;margin-bottom:16px}.fig{zoom:.85}svg{break-inside:avoid}h2,h3,.key,.com,.by{break-after:avoid}tr{break-inside:avoid}.scroll{overflow:visible}a{text-decoration:none}}";
+@media print{:root{color-scheme:light;--bg:#fff;--fg:#000;--mute:#555;--rule:#bbb;--line:#333;--box:#fff;--boxl:#333;--dec:#fff6dc;--decl:#7a5900;--exe:#e8f1fc;--exel:#1d4f91;--term:#e9ecef;--link:#123f7c;--bad:#b00010;--badbg:#fde8e8;--ok:#1d7a3d;--head:#f0f0f0}body{padding:0;font-size:10pt}table{font-size:8.5pt}code,.num,td:nth-child(2),tbody th[scope=row],.tab span{font-size:8pt}nav ul{font-size:8.5pt}th,td{padding:1.5pt 8pt 1.5pt 0}.cols{display:block}.skip{display:none}#methods{display:block}#methods h2{margin-bottom:8px}tbody tr:first-child{break-after:avoid}.m{break-inside:avoid;margin-bottom:16px}.fig{zoom:.85}svg{break-inside:avoid}h2,h3,.key,.com,.by{break-after:avoid}tr{break-inside:avoid}.scroll{overflow:visible}.scroll table{min-width:0}a{text-decoration:none}}";

@@ -129,9 +129,10 @@ impl Plan {
         &self.code
     }
 
-    /// A machine for this plan.
+    /// A machine for this plan. Its slots hold the first values that the code gives them.
     pub fn machine(&self, alloc: Global) -> Result<Machine, AllocError>
         ensures made { IfOk result (λ m. IsMadeFor m self.now.code) }
+        ensures slots { IfOk result (λ m. m.slots ≡ self.now.code.start) }
         ensures last { IfOk result (λ m. m.last ≡ 0) }
     {
         Machine::new(alloc, &self.code)
