@@ -5,7 +5,7 @@ use Rattle.std.specs.List.{AllByRecursion}
 use Rattle.plan_calendar.specs.Picking.{Entry, pick}
 use Rattle.book_year.specs.Accepted.{Accepted}
 use Rattle.book_year.specs.Jobs.{total_cost, work_of}
-use Rattle.book_year.specs.ChainClauses.{most_steps}
+use Rattle.pay_run.specs.RunClauses.{most_steps}
 use Rattle.book_year.specs.Kept.{AreKept, most_runs}
 use Rattle.book_year.specs.Rows.{Job}
 use Rattle.book_year.specs.Years.{IsOwn, year_jobs}
