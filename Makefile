@@ -1,7 +1,7 @@
 # `make look` runs the program on an example without a proof; `make build` proves and builds build/papcalc, `make demo` runs
 # that on the examples; `make install` puts it and its manual page under PREFIX; `make test` is the whole gate.
 .PHONY: build author look demo install uninstall test rows client-java wrong-bodies decimal-tool bench-decimal bench-machine bench-plan \
-    refused-memory bench-book bench-intervals bench-processes check-java
+    refused-memory bench-book bench-worst bench-intervals bench-processes check-java
 
 PREFIX ?= /usr/local
 
@@ -100,6 +100,11 @@ bench-plan: build
 # Java program, whose report has to be the same (needs a JDK).
 bench-book: build
 	python3 tools/bench_book.py build/papcalc
+
+# Seconds of `check` on the flowchart that takes it longest, of those we know.
+bench-worst: build
+	python3 tools/worst_plan.py build
+	bash -c 'time build/papcalc check build/worst.xml build/worst.toml'
 
 # Nanoseconds of each operation on intervals.
 bench-intervals:
