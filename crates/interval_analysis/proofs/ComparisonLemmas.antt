@@ -1,5 +1,5 @@
 -- Steps of the walk of comparisons, and what operations take of typed operands.
-use Rattle.std.proofs.Common.{◌≡◌, ℕ, ◌+◌, Bool, true, false, ◌&&◌, ℤ, pos, List, Option, Some, None, Result, Ok, Err, refl, sym, ap, ◌∙◌, subst, arith, ◌⊎◌, inl, inr}
+use Rattle.std.proofs.Common.{◌≡◌, ℕ, ◌+◌, Bool, true, false, ◌&&◌, ℤ, pos, List, Option, Some, None, Result, Ok, Err, refl, sym, ap, ap₂, ◌∙◌, subst, arith, ◌⊎◌, inl, inr}
 use Rattle.std.specs.Prelude.{is_some}
 use Rattle.std.specs.Int.{w128, w32}
 use Rattle.std.proofs.Common.{FitsSigned, to_z, of_z}
@@ -15,33 +15,38 @@ use Rattle.pap_tree.specs.declared.expression.Binary.{Binary}
 use Rattle.pap_tree.specs.declared.expression.Binary.TheVariants as binaries
 use Rattle.pap_tree.specs.declared.expression.Call.{Call}
 use Rattle.pap_tree.specs.declared.expression.Call.TheVariants as calls
-use Rattle.pap_tree.specs.Term.{Term, leaf, item, one, two, choice, whole, long, point, text, known, named, unary, operator, method, divide}
+use Rattle.pap_tree.specs.Term.{Term, term_of, leaf, item, one, two, choice, whole, long, point, text, known, named, unary, operator, method, divide}
 use Rattle.pap_tree.specs.Numbering.{nodes}
 use Rattle.interval_num.specs.declared.sign_set.SignSet.{SignSet}
 use Rattle.interval_num.specs.Intervals.{Interval, IsWhole}
-use Rattle.interval_num.specs.Rows.{comparison_row}
+use Rattle.interval_num.specs.Alignment.{Align}
+use Rattle.interval_num.specs.Rows.{Answer, comparison_row}
 use Rattle.pap_types.specs.declared.kinds.NodeKind.{NodeKind}
 use Rattle.pap_types.specs.declared.kinds.NodeKind.TheVariants as kinds
 use Rattle.pap_types.specs.Safety.{bits_of}
 use Rattle.pap_types.specs.Scopes.{Scope, constant_in}
 use Rattle.pap_types.specs.Kinds.{is_whole, is_int, is_big, kind_of, kind_of_one, kind_of_operator, takes_one, takes_operator, takes_two, shown_divisor, shows_plain_divisor, int_literal}
 use Rattle.interval_walk.specs.Ranges.{Ranges, single}
-use Rattle.interval_walk.specs.Failures.{and_then, at_node}
+use Rattle.interval_walk.specs.Failures.{NodeFault, and_then, at_node}
 use Rattle.interval_walk.specs.NodeRanges.{leaf_range, read_range, comparison_range}
 use Rattle.interval_walk.specs.Branches as meant
 use Rattle.interval_walk.specs.Branches.{signs_where, compared, sides}
 use Rattle.interval_walk.specs.Ranged.{ranged, are_whole, compare_sides}
 use Rattle.interval_walk.specs.Shapes.{HasShape}
-use Rattle.interval_walk.proofs.Laws.{leaf_shape, passed_node, shape_bits, wider_left, wider_right, shown_plain}
+use Rattle.interval_walk.proofs.Laws.{leaf_shape, passed_node, shape_bits, wider_left, wider_right, shown_plain, comparison_row_aligned}
 use Rattle.interval_analysis.specs.declared.branches.Branches.{Branches}
 use Rattle.interval_analysis.specs.declared.expressions.Stop.{Stop}
 use Rattle.interval_analysis.specs.declared.expressions.Stop.TheVariants.{At, Memory}
-use Rattle.interval_analysis.specs.declared.expressions.Tested.{Tested}
+use Rattle.interval_analysis.specs.declared.conditions.Inner.{Inner}
+use Rattle.interval_analysis.specs.declared.conditions.Tested.{Tested}
+use Rattle.interval_analysis.specs.declared.expressions.Operands.{Operands}
 use Rattle.interval_analysis.specs.declared.expressions.Walk.{Walk}
-use Rattle.interval_analysis.specs.PlanViews.{scope_in, ranges_in}
+use Rattle.interval_analysis.specs.PlanViews.{IsSized, scope_in, ranges_in}
 use Rattle.interval_analysis.specs.ComparisonViews.{HasRange, branches_in}
 use Rattle.interval_analysis.specs.OperationViews.{TakesUnary, TakesWholes, TakesShown, IsPlainShown}
-use Rattle.interval_analysis.specs.ExpressionViews.{comparison, comparison_in, IsComparison, ComparisonAnswer, IsPlainComparison, is_compare_to, StopsAs}
+use Rattle.interval_analysis.specs.ExpressionViews.{AreRanged, CanWalk, CanWalkTwo, StopsAs, ranged_in, second_in}
+use Rattle.interval_analysis.specs.TestViews.{AreSides, ComparisonAnswer, IsInner, IsPassed, IsPlainComparison, OrderAnswer, TestsAs, comparison, comparison_in, is_compare_to, order_compared, order_node, sides_compared}
+use Rattle.interval_analysis.proofs.NodeLemmas.{can_two, left_shape, right_shape, stops_first, stops_two}
 
 -- a number that is made longer
 pub widened : (n : ℤ) → FitsSigned w32 n → to_z w128 (of_z w128 (to_z w32 (of_z w32 n))) ≡ n
@@ -152,98 +157,161 @@ module _ (op : Binary) (w : Bool) (direct : meant.Sides) (env : Ranges) where
       by_test true g h = inr h
       by_test false g h = inl (no_sides scope e at env g)
 
--- the definition's last case, where its nodes pass up to that of the comparison
-compared_to : (w : Walk) (op : Binary) (e f : Term) (at n m : ℕ) (env : Ranges) (a b : Interval) → ranged (scope_in w.plan.now) e at env ≡ Ok a → ranged (scope_in w.plan.now) f n env ≡ Ok b → n ≡ at + nodes e → m ≡ n + nodes f
-    → comparison_in w (comparison op e f) at env ≡ and_then (at_node m (comparison_range op a b)) (λ r. Ok (compared op (are_whole (scope_in w.plan.now) e f) (sides e f a b) (compare_sides (scope_in w.plan.now) e at env) (int_literal f) env))
-compared_to w op e f at n m env a b first second en em =
-    let scope = scope_in w.plan.now in
-    let last = λ (x y : Interval). and_then (at_node (at + nodes e + nodes f) (comparison_range op x y)) (λ r. Ok (compared op (are_whole scope e f) (sides e f x y) (compare_sides scope e at env) (int_literal f) env)) in
-    ap (λ q. and_then q (λ x. and_then (ranged scope f (at + nodes e) env) (last x))) first
-    ∙ ap (λ q. and_then q (last a)) (ap (λ k. ranged scope f k env) (sym en) ∙ second)
-    ∙ ap (λ k. and_then (at_node k (comparison_range op a b)) (λ r. Ok (compared op (are_whole scope e f) (sides e f a b) (compare_sides scope e at env) (int_literal f) env))) (ap (λ k. k + nodes f) (sym en) ∙ sym em)
+-- ---- both, from the ranges of the sides
 
-pub sides_answer : (w : Walk) (op : Binary) (e f : Term) (at n m next : ℕ) (rs : List Interval) (a b r : Interval) (j k : NodeKind) (w2 : Bool) (allowed : SignSet) (br : Branches)
-    → ranged (scope_in w.plan.now) e at (ranges_in w.plan.now rs) ≡ Ok a → ranged (scope_in w.plan.now) f n (ranges_in w.plan.now rs) ≡ Ok b → n ≡ at + nodes e → m ≡ n + nodes f
-    → at_node m (comparison_range op a b) ≡ Ok r → IsPlainComparison e f
-    → j ≡ kind_of (scope_in w.plan.now) e → k ≡ kind_of (scope_in w.plan.now) f → w2 ≡ (is_whole j && is_whole k) → allowed ≡ signs_where op (pos 0)
-    → branches_in w.plan.now rs br ≡ meant.branches_of w2 allowed (sides e f a b) (ranges_in w.plan.now rs) → next ≡ m + 1
-    → IsComparison w (comparison op e f) at rs (record { branches = br; next = next })
-sides_answer w op e f at n m next rs a b r j k w2 allowed br first second en em node plain kj kk wh al is last =
+-- a result of tests, by another that is the same
+same_tests : (w : Walk) (q r : Result meant.Branches NodeFault) (m n : ℕ) (now rs : List Interval) (res : Result Tested Stop) → r ≡ q → n ≡ m → now ≡ rs → TestsAs w q m now res → TestsAs w r n rs res
+same_tests w q r m n now rs (Ok t) is end same h = record {
+  branches = is ∙ h.branches ∙ ap (λ rs. Ok (branches_in w.plan.now rs t.branches)) same;
+  next = h.next ∙ sym end;
+}
+same_tests w q r m n now rs (Err (At i c)) is end same h = is ∙ h
+same_tests w q r m n now rs (Err Memory) is end same h = tt
+
+module _ (w : Walk) (op : Binary) (e f : Term) (at : ℕ) (rs : List Interval) (o : Operands) (h : AreRanged w e f at rs o) where
+  abbrev scope : Scope
+  scope = scope_in w.plan.now
+
+  abbrev env : Ranges
+  env = ranges_in w.plan.now rs
+
+  -- the number behind both
+  end_is : at + nodes e + nodes f ≡ o.second.next
+  end_is = ap (λ n. n + nodes f) (sym h.first.next) ∙ sym h.second.next
+
+  -- what follows two ranges
+  behind : {A : Type 0} (go : Interval → Interval → Result A NodeFault) → and_then (ranged scope e at env) (λ a. and_then (ranged scope f (at + nodes e) env) (go a)) ≡ go o.first.range o.second.range
+  behind go =
+      ap (λ q. and_then q (λ a. and_then (ranged scope f (at + nodes e) env) (go a))) h.first.range
+      ∙ ap (λ q. and_then q (go o.first.range)) (ap (λ n. ranged scope f n env) (sym h.first.next) ∙ h.second.range)
+
+  sides_are : IsPlainComparison e f → comparison_in w (comparison op e f) at env ≡ sides_compared w op e f o rs
+  sides_are plain =
+      behind (λ a b. and_then (at_node (at + nodes e + nodes f) (comparison_range op a b)) (λ r. Ok (compared op (are_whole scope e f) (sides e f a b) (compare_sides scope e at env) (int_literal f) env)))
+      ∙ ap₂ (λ n br. and_then (at_node n (comparison_range op o.first.range o.second.range)) (λ r. Ok br)) end_is
+      (plain_compared op (are_whole scope e f) (sides e f o.first.range o.second.range) env scope e f at plain
+      ∙ ap₂ (λ j k. meant.branches_of (is_whole j && is_whole k) (signs_where op (pos 0)) (sides e f o.first.range o.second.range) env) (sym h.first.kind) (sym h.second.kind))
+
+  pub sides_answer : (now : List Interval) (res : Result Tested Stop) → now ≡ rs → IsPlainComparison e f → TestsAs w (sides_compared w op e f o now) (o.second.next + 1) now res → ComparisonAnswer w (comparison op e f) at rs res
+  sides_answer now res same plain tests =
+      same_tests w (sides_compared w op e f o now) (comparison_in w (comparison op e f) at env) (o.second.next + 1) (at + nodes e + nodes f + 1) now rs res
+      (sides_are plain ∙ ap (sides_compared w op e f o) (sym same)) (ap (λ n. n + 1) end_is) same tests
+
+  -- the sides of a compareTo
+  module _ (k : ℤ) where
+    abbrev whole_of : Term
+    whole_of = two (method calls.CompareTo) e f
+
+    inner_sides : compare_sides scope whole_of at env ≡ Some (sides e f o.first.range o.second.range)
+    inner_sides =
+        ap (λ r. meant.sides_of e f r (ranged scope f (at + nodes e) env)) h.first.range
+        ∙ ap (λ r. meant.sides_of e f (Ok o.first.range) r) (ap (λ i. ranged scope f i env) (sym h.first.next) ∙ h.second.range)
+
+    -- the nodes of the compareTo, of the literal and of the comparison
+    order_are : comparison_in w (comparison op whole_of (leaf (whole k))) at env ≡ and_then (order_node op k o.first.range o.second.range o.second.next) (λ _. Ok (meant.branches_of false (signs_where op k) (sides e f o.first.range o.second.range) env))
+    order_are =
+        let number : at + nodes whole_of ≡ o.second.next + 1 = omega (arith, end_is) in
+        let last : at + nodes whole_of + 1 ≡ o.second.next + 2 = omega (arith, end_is) in
+        let node = at_node o.second.next (comparison_row o.first.range o.second.range) in
+        let direct = λ (c l : Interval). sides whole_of (leaf (whole k)) c l in
+        let go = λ (n m : ℕ) (s : Option meant.Sides) (r : Result Interval NodeFault). and_then r (λ c. and_then (at_node n (read_range kinds.Int (single (whole_decimal k)))) (λ l. and_then (at_node m (comparison_range op c l)) (λ x. Ok (compared op (are_whole scope whole_of (leaf (whole k))) (direct c l) s (Some (decimal k 0)) env)))) in
+        let there = behind (λ a b. at_node (at + nodes e + nodes f) (comparison_row a b)) ∙ ap (λ n. at_node n (comparison_row o.first.range o.second.range)) end_is in
+        ap (go (at + nodes whole_of) (at + nodes whole_of + 1) (compare_sides scope whole_of at env)) there
+        ∙ ap (λ s. go (at + nodes whole_of) (at + nodes whole_of + 1) s node) inner_sides
+        ∙ ap₂ (λ n m. go n m (Some (sides e f o.first.range o.second.range)) node) number last
+        ∙ by node
+      where
+        by : (r : Result Interval NodeFault) → and_then r (λ c. and_then (at_node (o.second.next + 1) (read_range kinds.Int (single (whole_decimal k)))) (λ l. and_then (at_node (o.second.next + 2) (comparison_range op c l)) (λ x. Ok (meant.branches_of false (signs_where op k) (sides e f o.first.range o.second.range) env))))
+            ≡ and_then (and_then r (λ c. and_then (at_node (o.second.next + 1) (read_range kinds.Int (single (whole_decimal k)))) (λ l. at_node (o.second.next + 2) (comparison_range op c l)))) (λ _. Ok (meant.branches_of false (signs_where op k) (sides e f o.first.range o.second.range) env))
+        by (Err x) = refl
+        by (Ok c) = at_literal (at_node (o.second.next + 1) (read_range kinds.Int (single (whole_decimal k))))
+          where
+            at_literal : (q : Result Interval NodeFault) → and_then q (λ l. and_then (at_node (o.second.next + 2) (comparison_range op c l)) (λ x. Ok (meant.branches_of false (signs_where op k) (sides e f o.first.range o.second.range) env)))
+                ≡ and_then (and_then q (λ l. at_node (o.second.next + 2) (comparison_range op c l))) (λ _. Ok (meant.branches_of false (signs_where op k) (sides e f o.first.range o.second.range) env))
+            at_literal (Err x) = refl
+            at_literal (Ok l) = refl
+
+pub order_answer : (w : Walk) (op : Binary) (e f : Term) (i : Inner) (at : ℕ) (now rs : List Interval) (o : Operands) (res : Result Tested Stop) → now ≡ rs → IsInner e f i → AreRanged w (term_of i.left.now) (term_of i.right.now) at rs o → TestsAs w (order_compared w op (term_of i.left.now) (term_of i.right.now) i.number o now) (o.second.next + 3) now res → ComparisonAnswer w (comparison op e f) at rs res
+order_answer w op e f i at now rs o res same inner h tests =
+    let x = term_of i.left.now in
+    let y = term_of i.right.now in
+    let t = two (method calls.CompareTo) x y in
+    let whole_answer : ComparisonAnswer w (comparison op t (leaf (whole i.number))) at rs res =
+    same_tests w (order_compared w op x y i.number o now) (comparison_in w (comparison op t (leaf (whole i.number))) at (ranges_in w.plan.now rs)) (o.second.next + 3) (at + nodes t + nodes (leaf (whole i.number)) + 1) now rs res
+    (order_are w op x y at rs o h i.number ∙ ap (order_compared w op x y i.number o) (sym same)) (omega (arith, h.first.next, h.second.next)) same tests in
+    subst (λ e. ComparisonAnswer w (comparison op e f) at rs res) (sym inner.left)
+    (subst (λ f. ComparisonAnswer w (comparison op t f) at rs res) (sym inner.right) whole_answer)
+
+-- a compareTo stops where one of its sides does
+pub order_stops : (w : Walk) (op : Binary) (e f : Term) (i : Inner) (at : ℕ) (rs : List Interval) (stop : Stop) → IsInner e f i → StopsAs (second_in w (term_of i.left.now) (term_of i.right.now) at rs) stop → StopsAs (comparison_in w (comparison op e f) at (ranges_in w.plan.now rs)) stop
+order_stops w op e f i at rs stop inner h =
     let scope = scope_in w.plan.now in
     let env = ranges_in w.plan.now rs in
-    let same : w2 ≡ are_whole scope e f = wh ∙ ap (λ x. is_whole x && is_whole k) kj ∙ ap (λ x. is_whole (kind_of scope e) && is_whole x) kk in
-    record {
-      branches =
-          compared_to w op e f at n m env a b first second en em
-          ∙ ap (λ q. and_then q (λ r. Ok (compared op (are_whole scope e f) (sides e f a b) (compare_sides scope e at env) (int_literal f) env))) node
-          ∙ ap Ok (plain_compared op (are_whole scope e f) (sides e f a b) env scope e f at plain
-          ∙ ap (λ x. meant.branches_of x (signs_where op (pos 0)) (sides e f a b) env) (sym same)
-          ∙ ap (λ x. meant.branches_of w2 x (sides e f a b) env) (sym al)
-          ∙ sym is);
-      next = last ∙ ap (λ x. x + 1) (em ∙ ap (λ x. x + nodes f) en);
-    }
+    let x = term_of i.left.now in
+    let y = term_of i.right.now in
+    let t = two (method calls.CompareTo) x y in
+    let first = stops_two (ranged_in w x at rs) (ranged_in w y (at + nodes x) rs) (λ a b. at_node (at + nodes x + nodes y) (comparison_row a b)) stop h in
+    subst (λ e. StopsAs (comparison_in w (comparison op e f) at env) stop) (sym inner.left)
+    (stops_first (ranged scope t at env) (λ a. and_then (ranged scope f (at + nodes t) env) (λ b. and_then (at_node (at + nodes t + nodes f) (comparison_range op a b)) (λ r. Ok (compared op (are_whole scope t f) (sides t f a b) (compare_sides scope t at env) (int_literal f) env)))) stop first)
 
--- ---- a compareTo with an `int` literal
+-- ---- what the branches of sides need
 
-module _ (w : Walk) (op : Binary) (x y : Term) (k : ℤ) (at n m p : ℕ) (rs : List Interval) (a b o : Interval)
-    (first : ranged (scope_in w.plan.now) x at (ranges_in w.plan.now rs) ≡ Ok a) (second : ranged (scope_in w.plan.now) y n (ranges_in w.plan.now rs) ≡ Ok b)
-    (order : at_node m (comparison_row a b) ≡ Ok o) (en : n ≡ at + nodes x) (em : m ≡ n + nodes y) (ep : p ≡ m + 1) where
-  -- the node of the compareTo
-  whole_range : ranged (scope_in w.plan.now) (two (method calls.CompareTo) x y) at (ranges_in w.plan.now rs) ≡ Ok o
-  whole_range =
-      let scope = scope_in w.plan.now in
-      let env = ranges_in w.plan.now rs in
-      ap (λ r. and_then r (λ a. and_then (ranged scope y (at + nodes x) env) (λ b. at_node (at + nodes x + nodes y) (comparison_row a b)))) first
-      ∙ ap (λ r. and_then r (λ b. at_node (at + nodes x + nodes y) (comparison_row a b))) (ap (λ i. ranged scope y i env) (sym en) ∙ second)
-      ∙ ap (λ i. at_node i (comparison_row a b)) (ap (λ i. i + nodes y) (sym en) ∙ sym em)
-      ∙ order
+module _ (w : Walk) (e f : Term) (at : ℕ) (now rs : List Interval) (o : Operands) where
+  -- the sides of a comparison, where their ranges are those of variables that are left as they were
+  pub are_sides : now ≡ rs → IsSized w.plan.now rs → CanWalkTwo w e f at → AreRanged w e f at rs o → AreSides w.plan.now e f o now
+  are_sides same sized can h =
+      let p = w.plan.now in
+      let scope = scope_in p in
+      let env = ranges_in p rs in
+      subst (AreSides p e f o) (sym same) (record {
+        sized = sized;
+        left_shape = left_shape w at rs e f o can h;
+        right_shape = right_shape w at rs e f o can h;
+        left = has_range scope e at env o.first.range h.first.range;
+        right = has_range scope f o.first.next env o.second.range h.second.range;
+      })
 
-  inner_sides : compare_sides (scope_in w.plan.now) (two (method calls.CompareTo) x y) at (ranges_in w.plan.now rs) ≡ Some (sides x y a b)
-  inner_sides =
-      let scope = scope_in w.plan.now in
-      let env = ranges_in w.plan.now rs in
-      ap (λ r. meant.sides_of x y r (ranged scope y (at + nodes x) env)) first
-      ∙ ap (λ r. meant.sides_of x y (Ok a) r) (ap (λ i. ranged scope y i env) (sym en) ∙ second)
+pub can_inner : (w : Walk) (op : Binary) (e f : Term) (i : Inner) (at : ℕ) → IsInner e f i → CanWalk w (two (operator op) e f) at → CanWalkTwo w (term_of i.left.now) (term_of i.right.now) at
+can_inner w op e f i at inner can =
+    let x = term_of i.left.now in
+    let y = term_of i.right.now in
+    let there = subst (λ e. CanWalk w (two (operator op) e f) at) inner.left can in
+    can_two w at (method calls.CompareTo) x y (record { typed = there.typed.0; scales = there.scales.1; room = omega (arith, there.room) })
 
-  pub literal_stops : (stop : Stop) (r : Result Tested Stop) → StopsAs (at_node p (read_range kinds.Int (single (whole_decimal k)))) stop → IsErrAnd r (λ s. s ≡ stop) → ComparisonAnswer w (comparison op (two (method calls.CompareTo) x y) (leaf (whole k))) at rs r
-  literal_stops stop (Ok t) h is = absurd is
-  literal_stops Memory (Err s) h is = subst (λ s. ComparisonAnswer w (comparison op (two (method calls.CompareTo) x y) (leaf (whole k))) at rs (Err s)) (sym is) tt
-  literal_stops (At i c) (Err s) h is =
-      let scope = scope_in w.plan.now in
-      let env = ranges_in w.plan.now rs in
-      let e = two (method calls.CompareTo) x y in
-      let f = leaf (whole k) in
-      let number : p ≡ at + nodes e = omega (arith, en, em, ep) in
-      let last = λ (x y : Interval). and_then (at_node (at + nodes e + nodes f) (comparison_range op x y)) (λ r. Ok (compared op (are_whole scope e f) (sides e f x y) (compare_sides scope e at env) (int_literal f) env)) in
-      let literal : ranged scope f (at + nodes e) env ≡ Err (record { node = i; cause = c }) = ap (λ n. ranged scope f n env) (sym number) ∙ h in
-      subst (λ s. ComparisonAnswer w (comparison op e f) at rs (Err s)) (sym is)
-      (ap (λ q. and_then q (λ x. and_then (ranged scope f (at + nodes e) env) (last x))) whole_range
-      ∙ ap (λ q. and_then q (last o)) literal)
+pub order_aligned : (op : Binary) (k : ℤ) (a b : Interval) (n : ℕ) (r : Interval) → order_node op k a b n ≡ Ok r → Align a b
+order_aligned op k a b n r h = by (comparison_row a b) refl h
+  where
+    by : (q : Answer) → comparison_row a b ≡ q → and_then (at_node n q) (λ c. and_then (at_node (n + 1) (read_range kinds.Int (single (whole_decimal k)))) (λ l. at_node (n + 2) (comparison_range op c l))) ≡ Ok r → Align a b
+    by (Ok c) e h = comparison_row_aligned a b c e
+    by (Err c) e h = absurd (cc)
 
-  module _ (q : ℕ) (l : Interval) (literal : at_node p (read_range kinds.Int (single (whole_decimal k))) ≡ Ok l) (eq : q ≡ p + 1) where
-    to_node : comparison_in w (comparison op (two (method calls.CompareTo) x y) (leaf (whole k))) at (ranges_in w.plan.now rs) ≡ and_then (at_node q (comparison_range op o l)) (λ r. Ok (meant.branches_of false (signs_where op k) (sides x y a b) (ranges_in w.plan.now rs)))
-    to_node =
-        let scope = scope_in w.plan.now in
-        let env = ranges_in w.plan.now rs in
-        let e = two (method calls.CompareTo) x y in
-        let number : p ≡ at + nodes e = omega (arith, en, em, ep) in
-        compared_to w op e (leaf (whole k)) at p q env o l whole_range literal number eq
-        ∙ ap (λ s. and_then (at_node q (comparison_range op o l)) (λ r. Ok (compared op (are_whole scope e (leaf (whole k))) (sides e (leaf (whole k)) o l) s (Some (decimal k 0)) env))) inner_sides
+-- ---- the nodes of a compareTo with an `int` literal
 
-    pub compare_to_answer : (next : ℕ) (r : Interval) (allowed : SignSet) (br : Branches) → at_node q (comparison_range op o l) ≡ Ok r → allowed ≡ signs_where op k
-        → branches_in w.plan.now rs br ≡ meant.branches_of false allowed (sides x y a b) (ranges_in w.plan.now rs) → next ≡ q + 1
-        → IsComparison w (comparison op (two (method calls.CompareTo) x y) (leaf (whole k))) at rs (record { branches = br; next = next })
-    compare_to_answer next r allowed br node al is last =
-        let env = ranges_in w.plan.now rs in
-        record {
-          branches =
-              to_node
-              ∙ ap (λ t. and_then t (λ r. Ok (meant.branches_of false (signs_where op k) (sides x y a b) env))) node
-              ∙ ap Ok (ap (λ s. meant.branches_of false s (sides x y a b) env) (sym al) ∙ sym is);
-          next = omega (arith, en, em, ep, eq, last);
-        }
+module _ (op : Binary) (k : ℤ) (a b : Interval) (at : ℕ) (c : Interval) (n : ℕ) (first : at_node at (comparison_row a b) ≡ Ok c) (number : n ≡ at + 1) where
+  order_then : order_node op k a b at ≡ and_then (at_node n (read_range kinds.Int (single (whole_decimal k)))) (λ l. at_node (n + 1) (comparison_range op c l))
+  order_then =
+      let last : at + 2 ≡ n + 1 = omega (arith, number) in
+      ap (λ q. and_then q (λ c. and_then (at_node (at + 1) (read_range kinds.Int (single (whole_decimal k)))) (λ l. at_node (at + 2) (comparison_range op c l)))) first
+      ∙ ap₂ (λ i j. and_then (at_node i (read_range kinds.Int (single (whole_decimal k)))) (λ l. at_node j (comparison_range op c l))) (sym number) last
 
-    pub compare_to_stops : (stop : Stop) (r : Result Tested Stop) → StopsAs (at_node q (comparison_range op o l)) stop → IsErrAnd r (λ s. s ≡ stop) → ComparisonAnswer w (comparison op (two (method calls.CompareTo) x y) (leaf (whole k))) at rs r
-    compare_to_stops stop (Ok t) h is = absurd is
-    compare_to_stops (At i c) (Err s) h is = subst (λ s. ComparisonAnswer w (comparison op (two (method calls.CompareTo) x y) (leaf (whole k))) at rs (Err s)) (sym is) (to_node ∙ ap (λ t. and_then t (λ r. Ok (meant.branches_of false (signs_where op k) (sides x y a b) (ranges_in w.plan.now rs)))) h)
-    compare_to_stops Memory (Err s) h is = subst (λ s. ComparisonAnswer w (comparison op (two (method calls.CompareTo) x y) (leaf (whole k))) at rs (Err s)) (sym is) tt
+  pub literal_stops : (stop : Stop) → StopsAs (at_node n (read_range kinds.Int (single (whole_decimal k)))) stop → StopsAs (order_node op k a b at) stop
+  literal_stops stop h =
+      subst (λ q. StopsAs q stop) (sym order_then)
+      (stops_first (at_node n (read_range kinds.Int (single (whole_decimal k)))) (λ l. at_node (n + 1) (comparison_range op c l)) stop h)
+
+  module _ (l : Interval) (m : ℕ) (literal : at_node n (read_range kinds.Int (single (whole_decimal k))) ≡ Ok l) (next : m ≡ n + 1) where
+    order_last : order_node op k a b at ≡ at_node m (comparison_range op c l)
+    order_last =
+        order_then
+        ∙ ap (λ q. and_then q (λ l. at_node (n + 1) (comparison_range op c l))) literal
+        ∙ ap (λ i. at_node i (comparison_range op c l)) (sym next)
+
+    pub order_node_stops : (stop : Stop) → StopsAs (at_node m (comparison_range op c l)) stop → StopsAs (order_node op k a b at) stop
+    order_node_stops stop h = subst (λ q. StopsAs q stop) (sym order_last) h
+
+    pub order_passes : (r : Interval) (end : ℕ) → at_node m (comparison_range op c l) ≡ Ok r → end ≡ m + 1 → IsPassed (order_node op k a b at) (at + 3) end
+    order_passes r end h is = record { range = r; passes = order_last ∙ h; next = omega (arith, is, next, number) }
+
+pub order_err : (op : Binary) (k : ℤ) (a b : Interval) (at : ℕ) (stop : Stop) (res : Result ℕ Stop) → IsErrAnd res (λ s. s ≡ stop) → StopsAs (order_node op k a b at) stop → OrderAnswer op k a b at res
+order_err op k a b at stop (Ok n) is h = absurd is
+order_err op k a b at stop (Err s) is h = subst (StopsAs (order_node op k a b at)) (sym is) h

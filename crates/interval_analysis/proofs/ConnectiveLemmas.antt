@@ -14,12 +14,12 @@ use Rattle.interval_analysis.specs.declared.branches.Branches.{Branches}
 use Rattle.interval_analysis.specs.declared.branches.Change.{Change}
 use Rattle.interval_analysis.specs.declared.branches.Connective.{Connective}
 use Rattle.interval_analysis.specs.declared.branches.Connective.TheVariants.{And, Or}
-use Rattle.interval_analysis.specs.declared.expressions.Followed.{Followed}
+use Rattle.interval_analysis.specs.declared.conditions.Followed.{Followed}
 use Rattle.interval_analysis.specs.declared.expressions.Walk.{Walk}
 use Rattle.interval_analysis.specs.Changes.{changed, turned_changes}
 use Rattle.interval_analysis.specs.ComparisonViews.{branches_in}
 use Rattle.interval_analysis.specs.Connectives.{IsFollowedTo, behind_both, connected, reached_in, there_if, turned}
-use Rattle.interval_analysis.specs.ExpressionViews.{IsTested, tested_in}
+use Rattle.interval_analysis.specs.TestViews.{IsTestedAs, tested_in}
 use Rattle.interval_analysis.specs.PlanViews.{ranges_in, ranges_after}
 
 turned_twice : (c : Connective) (br : meant.Branches) → turned c (turned c br) ≡ br
@@ -119,7 +119,7 @@ module _ (w : Walk) (c : Connective) (e f : Expr) (at : ℕ) (rs : List Interval
   -- a connective, from what was noted while its parts were tested
   pub sequence_tested : (now : List Interval) (followed : Followed) (told : Vec Change Global) (holds fails : Option (Vec Change Global)) (b : Branches) → IsFollowedTo w c (tested_in w (connected c e f) at rs) (at + nodes (connected c e f)) now followed
       → changed rs told.items ≡ now → holds ≡ then_some followed.is_through told → option_map (λ v. v.items) fails ≡ (if followed.can_leave then Some [] else None) → b ≡ turned_changes c (record { holds = holds; fails = fails })
-      → IsTested w (connected c e f) at rs (record { branches = b; next = followed.next })
+      → IsTestedAs w (tested_in w (connected c e f) at rs) (at + nodes (connected c e f)) rs (record { branches = b; next = followed.next })
   sequence_tested now followed told holds fails b h is on off turns =
       let p = w.plan.now in
       let br = h.follows.branches in

@@ -14,10 +14,12 @@ use Rattle.interval_walk.specs.Branches as meant
 use Rattle.interval_walk.specs.Ranged.{tested, are_whole, compare_sides}
 use Rattle.interval_analysis.specs.declared.expressions.Stop.{Stop}
 use Rattle.interval_analysis.specs.declared.expressions.Stop.TheVariants.{At, Memory}
-use Rattle.interval_analysis.specs.declared.expressions.Tested.{Tested}
+use Rattle.interval_analysis.specs.declared.conditions.Tested.{Tested}
 use Rattle.interval_analysis.specs.declared.expressions.Walk.{Walk}
 use Rattle.interval_analysis.specs.PlanViews.{scope_in, ranges_in}
-use Rattle.interval_analysis.specs.ExpressionViews.{ComparisonAnswer, TestAnswer, StopsAs, comparison, comparison_in, ranged_in, second_in}
+use Rattle.interval_analysis.specs.ExpressionViews.{StopsAs, ranged_in, second_in}
+use Rattle.interval_analysis.specs.TestViews.{ComparisonAnswer, TestAnswer, comparison, comparison_in}
+use Rattle.interval_analysis.proofs.NodeLemmas.{stops_two}
 
 -- an operator that is no connective is walked as a comparison
 plain_operator : (w : Walk) (op : Binary) (e f : Term) (at : ℕ) (env : Ranges) → (op ≡ binaries.And → ⊥) → (op ≡ binaries.Or → ⊥) → tested (scope_in w.plan.now) (two (operator op) e f) at env ≡ comparison_in w (comparison op e f) at env
@@ -43,25 +45,10 @@ plain_answer w op e f at rs (Ok r) a o h = record {
 plain_answer w op e f at rs (Err (At n c)) a o h = plain_operator w op e f at (ranges_in w.plan.now rs) a o ∙ h
 plain_answer w op e f at rs (Err Memory) a o h = tt
 
--- ---- what stops
-
-pub stops_first : {A B : Type 0} (r : Result A NodeFault) (go : A → Result B NodeFault) (stop : Stop) → StopsAs r stop → StopsAs (and_then r go) stop
-stops_first r go (At n c) h = ap (λ q. and_then q go) h
-stops_first r go Memory h = tt
-
-pub stops_two : {A B C : Type 0} (r : Result A NodeFault) (s : Result B NodeFault) (go : A → B → Result C NodeFault) (stop : Stop) → StopsAs (and_then r (λ _. s)) stop → StopsAs (and_then r (λ a. and_then s (go a))) stop
-stops_two (Ok a) s go stop h = stops_first s (go a) stop h
-stops_two (Err e) s go (At n c) h =
-    let same : e ≡ record { node = n; cause = c } = cc in
-    ap Err same
-stops_two (Err e) s go Memory h = tt
-
 -- a comparison stops where one of its sides does
-pub comparison_stops : (w : Walk) (op : Binary) (e f : Term) (at : ℕ) (rs : List Interval) (stop : Stop) (res : Result Tested Stop) → StopsAs (second_in w e f at rs) stop → IsErrAnd res (λ s. s ≡ stop) → ComparisonAnswer w (comparison op e f) at rs res
-comparison_stops w op e f at rs stop (Ok r) h is = absurd is
-comparison_stops w op e f at rs stop (Err s) h is =
+pub comparison_stops : (w : Walk) (op : Binary) (e f : Term) (at : ℕ) (rs : List Interval) (stop : Stop) → StopsAs (second_in w e f at rs) stop → StopsAs (comparison_in w (comparison op e f) at (ranges_in w.plan.now rs)) stop
+comparison_stops w op e f at rs stop h =
     let scope = scope_in w.plan.now in
     let env = ranges_in w.plan.now rs in
-    subst (StopsAs (comparison_in w (comparison op e f) at env)) (sym is)
-    (stops_two (ranged_in w e at rs) (ranged_in w f (at + nodes e) rs)
-    (λ a b. and_then (at_node (at + nodes e + nodes f) (comparison_range op a b)) (λ r. Ok (meant.compared op (are_whole scope e f) (meant.sides e f a b) (compare_sides scope e at env) (int_literal f) env))) stop h)
+    stops_two (ranged_in w e at rs) (ranged_in w f (at + nodes e) rs)
+    (λ a b. and_then (at_node (at + nodes e + nodes f) (comparison_range op a b)) (λ r. Ok (meant.compared op (are_whole scope e f) (meant.sides e f a b) (compare_sides scope e at env) (int_literal f) env))) stop h

@@ -9,6 +9,7 @@ pub mod MeetLemmas
 pub mod MethodLemmas
 pub mod NameLemmas
 pub mod NarrowLemmas
+pub mod NodeLemmas
 pub mod NoteLemmas
 pub mod OutputLemmas
 pub mod PartLemmas

@@ -31,7 +31,7 @@ use Rattle.interval_analysis.specs.declared.expressions.Stop.{Stop}
 use Rattle.interval_analysis.specs.declared.expressions.Stop.TheVariants as stops
 use Rattle.interval_analysis.specs.declared.statements.Aside.{Aside}
 use Rattle.interval_analysis.specs.ComparisonViews.{branches_in}
-use Rattle.interval_analysis.specs.ExpressionViews.{tested_in}
+use Rattle.interval_analysis.specs.TestViews.{tested_in}
 use Rattle.interval_analysis.specs.Meetings.{MeetsAnswer}
 use Rattle.interval_analysis.proofs.ChangeLemmas.{length-changed}
 use Rattle.interval_analysis.proofs.NoteLemmas.{noted_length, noted_none, noted_then}

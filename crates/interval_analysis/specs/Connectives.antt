@@ -12,12 +12,13 @@ use Rattle.interval_walk.specs.Branches as meant
 use Rattle.interval_walk.specs.Ranged.{tested}
 use Rattle.interval_analysis.specs.declared.branches.Connective.{Connective}
 use Rattle.interval_analysis.specs.declared.branches.Connective.TheVariants.{And, Or}
-use Rattle.interval_analysis.specs.declared.expressions.Connected.{Connected}
-use Rattle.interval_analysis.specs.declared.expressions.Followed.{Followed}
+use Rattle.interval_analysis.specs.declared.conditions.Connected.{Connected}
+use Rattle.interval_analysis.specs.declared.conditions.Followed.{Followed}
 use Rattle.interval_analysis.specs.declared.expressions.Stop.{Stop}
 use Rattle.interval_analysis.specs.declared.expressions.Walk.{Walk}
 use Rattle.interval_analysis.specs.PlanViews.{scope_in, ranges_in}
-use Rattle.interval_analysis.specs.ExpressionViews.{StopsAs, tested_in, two_of}
+use Rattle.interval_analysis.specs.ExpressionViews.{StopsAs, two_of}
+use Rattle.interval_analysis.specs.TestViews.{tested_in}
 
 abbrev pub operator_of : Connective → Binary
 operator_of And = binaries.And

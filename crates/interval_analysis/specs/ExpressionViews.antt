@@ -1,34 +1,30 @@
 -- What private contracts say of the walk of expressions.
-use Rattle.std.specs.Prelude.{◌≡◌, ℕ, ℤ, ◌+◌, ◌<◌, ◌^◌, ◌&&◌, Bool, true, false, List, Option, Some, None, is_some, Result, Ok, Err, ⊤, IsFalse}
-use Rattle.std.proofs.Common.{Vec, Global}
+use Rattle.std.specs.Prelude.{◌≡◌, ℕ, ◌+◌, ◌<◌, ◌^◌, List, Option, Some, None, Result, Ok, Err, ⊤}
+use Rattle.scaled_decimal.specs.Decimals.{Decimal}
 use Rattle.pap_tree.specs.declared.expression.Expr.{Expr}
-use Rattle.pap_tree.specs.declared.expression.Binary.{Binary}
-use Rattle.pap_tree.specs.declared.expression.Call.TheVariants.{CompareTo}
-use Rattle.pap_tree.specs.Term.{Term, term_of, leaf, One, one, Two, two, choice, whole, operator, method}
+use Rattle.pap_tree.specs.declared.expression.Call.{Call}
+use Rattle.pap_tree.specs.Term.{Term, term_of, One, one, Two, two, method, choice}
 use Rattle.pap_tree.specs.Numbering.{nodes}
+use Rattle.pap_tree.specs.Scales.{KeepsScales}
+use Rattle.interval_num.specs.declared.cause.RangeCause.TheVariants.{Wide}
 use Rattle.interval_num.specs.Intervals.{Interval}
 use Rattle.interval_num.specs.Rows.{Answer, join_row}
 use Rattle.pap_types.specs.declared.kinds.NodeKind.{NodeKind}
-use Rattle.pap_types.specs.Kinds.{kind_of, wider, int_literal}
+use Rattle.pap_types.specs.Kinds.{kind_of, kind_of_one, kind_of_two, wider}
+use Rattle.pap_types.specs.Scopes.{Scope}
 use Rattle.pap_types.specs.Typing.{IsTypedTerm}
-use Rattle.pap_tree.specs.Scales.{KeepsScales}
 use Rattle.interval_walk.specs.Ranges.{Ranges}
 use Rattle.interval_walk.specs.Failures.{NodeFault, and_then, at_node, nowhere}
-use Rattle.interval_walk.specs.NodeRanges.{comparison_range}
+use Rattle.interval_walk.specs.NodeRanges.{one_range, two_range, method_range}
 use Rattle.interval_walk.specs.Branches as meant
-use Rattle.interval_walk.specs.Ranged.{ranged, tested, are_whole, compare_sides}
-use Rattle.interval_analysis.specs.declared.branches.Change.{Change}
-use Rattle.interval_analysis.specs.declared.expressions.Inner.{Inner}
+use Rattle.interval_walk.specs.Ranged.{ranged}
 use Rattle.interval_analysis.specs.declared.expressions.Operands.{Operands}
-use Rattle.interval_analysis.specs.declared.expressions.Parts.{Parts}
+use Rattle.interval_analysis.specs.declared.expressions.Part.{Part}
 use Rattle.interval_analysis.specs.declared.expressions.Ranged.{Ranged}
 use Rattle.interval_analysis.specs.declared.expressions.Stop.{Stop}
 use Rattle.interval_analysis.specs.declared.expressions.Stop.TheVariants.{At, Memory}
-use Rattle.interval_analysis.specs.declared.expressions.Tested.{Tested}
 use Rattle.interval_analysis.specs.declared.expressions.Walk.{Walk}
-use Rattle.interval_analysis.specs.Changes.{changed}
 use Rattle.interval_analysis.specs.PlanViews.{scope_in, ranges_in}
-use Rattle.interval_analysis.specs.ComparisonViews.{branches_in}
 
 -- ---- the terms of operations on expressions
 
@@ -40,10 +36,6 @@ two_of op e f = two op (term_of e) (term_of f)
 
 abbrev pub choice_of : Expr → Expr → Expr → Term
 choice_of c e f = choice (term_of c) (term_of e) (term_of f)
-
--- x.compareTo(y) op k
-abbrev pub compare_to : Binary → Expr → Expr → ℤ → Term
-compare_to op e f k = two (operator op) (two_of (method CompareTo) e f) (leaf (whole k))
 
 -- ---- what may be walked
 
@@ -62,18 +54,14 @@ pub record CanWalkTwo (w : Walk) (t u : Term) (at : ℕ) : Type 0 where
   pub room : at + nodes t + nodes u < 2 ^ 32
 
 -- so may the two parts of a conditional, which is numbered behind them
-pub record CanWalkParts (w : Walk) (p : Parts) : Type 0 where
-  pub first : IsTypedTerm (scope_in w.plan.now) (term_of p.first.now)
-  pub second : IsTypedTerm (scope_in w.plan.now) (term_of p.second.now)
-  pub first_scales : KeepsScales (term_of p.first.now)
-  pub second_scales : KeepsScales (term_of p.second.now)
-  pub room : p.at + nodes (term_of p.first.now) + nodes (term_of p.second.now) + 1 < 2 ^ 32
+pub record CanWalkParts (w : Walk) (t u : Term) (at : ℕ) : Type 0 where
+  pub first : IsTypedTerm (scope_in w.plan.now) t
+  pub second : IsTypedTerm (scope_in w.plan.now) u
+  pub first_scales : KeepsScales t
+  pub second_scales : KeepsScales u
+  pub room : at + nodes t + nodes u + 1 < 2 ^ 32
 
 -- ---- what is answered
-
--- the ranges by name after changes
-abbrev pub changed_in : Walk → List Interval → List Change → Ranges
-changed_in w rs cs = ranges_in w.plan.now (changed rs cs)
 
 -- an answer, or the node where it fails; memory is free
 abbrev pub StopsAs : {A : Type 0} → Result A NodeFault → Stop → Type 0
@@ -83,9 +71,6 @@ StopsAs r Memory = ⊤
 -- the definition, from ranges by number
 abbrev pub ranged_in : Walk → Term → ℕ → List Interval → Result Interval NodeFault
 ranged_in w t at rs = ranged (scope_in w.plan.now) t at (ranges_in w.plan.now rs)
-
-abbrev pub tested_in : Walk → Term → ℕ → List Interval → Result meant.Branches NodeFault
-tested_in w t at rs = tested (scope_in w.plan.now) t at (ranges_in w.plan.now rs)
 
 -- what is known of an expression: its range, its kind, and the number behind its nodes
 pub record IsRanged (w : Walk) (t : Term) (at : ℕ) (rs : List Interval) (r : Ranged) : Type 0 where
@@ -119,105 +104,66 @@ abbrev pub OwnAnswer : Answer → NodeKind → ℕ → Result Ranged Stop → Ty
 OwnAnswer answer k at (Ok r) = IsOwn answer k at r
 OwnAnswer answer k at (Err stop) = StopsAs (at_node at answer) stop
 
--- the branches of a test, where these changes lead
-abbrev pub first_reached : Walk → List Interval → List Change → meant.Branches
-first_reached w rs held = record { holds = Some (changed_in w rs held); fails = None }
+-- that of an operation on one operand, and on two, the right one being f
+abbrev pub OneAnswer : One → Term → Ranged → Result Ranged Stop → Type 0
+OneAnswer op e a r = OwnAnswer (one_range op (kind_of_one op a.kind) e a.range) (kind_of_one op a.kind) a.next r
 
-abbrev pub second_reached : Walk → List Interval → List Change → meant.Branches
-second_reached w rs failed = record { holds = None; fails = Some (changed_in w rs failed) }
+abbrev pub TwoAnswer : Scope → Two → Term → Operands → Result Ranged Stop → Type 0
+TwoAnswer scope op f o r =
+    OwnAnswer
+    (two_range scope op (kind_of_two op o.first.kind o.second.kind) f o.first.range o.second.range)
+    (kind_of_two op o.first.kind o.second.kind)
+    o.second.next
+    r
 
-abbrev pub both_reached : Walk → List Interval → List Change → List Change → meant.Branches
-both_reached w rs held failed = record {
-  holds = Some (changed_in w rs held);
-  fails = Some (changed_in w rs failed);
-}
+-- that of a method, where the divisor is known that the text shows
+abbrev pub MethodAnswer : Call → Option Decimal → Operands → Result Ranged Stop → Type 0
+MethodAnswer m shown o r =
+    OwnAnswer
+    (method_range m shown o.first.range o.second.range)
+    (kind_of_two (method m) o.first.kind o.second.kind)
+    o.second.next
+    r
 
--- where the second part of a conditional begins, and where both end
-abbrev pub second_at : Parts → ℕ
-second_at p = p.at + nodes (term_of p.first.now)
+-- ---- the parts of a conditional
 
-abbrev pub parts_end : Parts → ℕ
-parts_end p = p.at + nodes (term_of p.first.now) + nodes (term_of p.second.now)
+-- the range of a part where its branch leads there
+abbrev pub part_ranged : Walk → Term → ℕ → Option Ranges → Result (Option Interval) NodeFault
+part_ranged w t at None = Ok None
+part_ranged w t at (Some env) = and_then (ranged (scope_in w.plan.now) t at env) (λ a. Ok (Some a))
 
--- the parts of a conditional, where its test has these branches
-abbrev pub parts_ranged : Walk → Parts → meant.Branches → Result Interval NodeFault
-parts_ranged w p br =
+pub record IsPartRanged (w : Walk) (t : Term) (at : ℕ) (o : Option Ranges) (p : Part) : Type 0 where
+  pub range : part_ranged w t at o ≡ Ok p.range
+  pub kind : p.kind ≡ kind_of (scope_in w.plan.now) t
+  pub next : p.next ≡ at + nodes t
+
+abbrev pub PartAnswer : Walk → Term → ℕ → Option Ranges → Result Part Stop → Type 0
+PartAnswer w t at o (Ok p) = IsPartRanged w t at o p
+PartAnswer w t at o (Err stop) = StopsAs (part_ranged w t at o) stop
+
+-- the range of what can be reached of two parts
+abbrev pub either_range : Option Interval → Option Interval → Answer
+either_range None None = Err Wide
+either_range (Some a) None = Ok a
+either_range None (Some b) = Ok b
+either_range (Some a) (Some b) = join_row a b
+
+-- both parts, where the test has these branches
+abbrev pub parts_ranged : Walk → Term → Term → ℕ → meant.Branches → Result Interval NodeFault
+parts_ranged w t u at br =
     meant.either_way
-    (nowhere (parts_end p))
-    (ranged (scope_in w.plan.now) (term_of p.first.now) p.at)
-    (ranged (scope_in w.plan.now) (term_of p.second.now) (second_at p))
-    (λ a b. at_node (parts_end p) (join_row a b))
+    (nowhere (at + nodes t + nodes u))
+    (ranged (scope_in w.plan.now) t at)
+    (ranged (scope_in w.plan.now) u (at + nodes t))
+    (λ a b. at_node (at + nodes t + nodes u) (join_row a b))
     br.holds
     br.fails
 
-abbrev pub parts_kind : Walk → Parts → NodeKind
-parts_kind w p =
-    wider
-    (kind_of (scope_in w.plan.now) (term_of p.first.now))
-    (kind_of (scope_in w.plan.now) (term_of p.second.now))
+pub record ArePartsRanged (w : Walk) (t u : Term) (at : ℕ) (br : meant.Branches) (r : Ranged) : Type 0 where
+  pub range : parts_ranged w t u at br ≡ Ok r.range
+  pub kind : r.kind ≡ wider (kind_of (scope_in w.plan.now) t) (kind_of (scope_in w.plan.now) u)
+  pub next : r.next ≡ at + nodes t + nodes u + 1
 
-pub record ArePartsRanged (w : Walk) (p : Parts) (br : meant.Branches) (r : Ranged) : Type 0 where
-  pub range : parts_ranged w p br ≡ Ok r.range
-  pub kind : r.kind ≡ parts_kind w p
-  pub next : r.next ≡ parts_end p + 1
-
-abbrev pub PartsAnswer : Walk → Parts → meant.Branches → Result Ranged Stop → Type 0
-PartsAnswer w p br (Ok r) = ArePartsRanged w p br r
-PartsAnswer w p br (Err stop) = StopsAs (parts_ranged w p br) stop
-
--- a test's branches by the definition
-pub record IsTested (w : Walk) (t : Term) (at : ℕ) (rs : List Interval) (r : Tested) : Type 0 where
-  pub branches : tested_in w t at rs ≡ Ok (branches_in w.plan.now rs r.branches)
-  pub next : r.next ≡ at + nodes t
-
-abbrev pub TestAnswer : Walk → Term → ℕ → List Interval → Result Tested Stop → Type 0
-TestAnswer w t at rs (Ok r) = IsTested w t at rs r
-TestAnswer w t at rs (Err stop) = StopsAs (tested_in w t at rs) stop
-
--- a comparison of two sides
-pub record Comparison : Type 0 where
-  pub op : Binary
-  pub left : Term
-  pub right : Term
-
-abbrev pub comparison : Binary → Term → Term → Comparison
-comparison op e f = record { op = op; left = e; right = f }
-
-abbrev pub comparison_of : Binary → Expr → Expr → Comparison
-comparison_of op e f = comparison op (term_of e) (term_of f)
-
--- that of x.compareTo(y) with a number
-abbrev pub order_comparison : Binary → Expr → Expr → ℤ → Comparison
-order_comparison op e f k = comparison op (two_of (method CompareTo) e f) (leaf (whole k))
-
--- the branches of a comparison, by the definition's last case
-abbrev pub comparison_in : Walk → Comparison → ℕ → Ranges → Result meant.Branches NodeFault
-comparison_in w c at env =
-    let scope = scope_in w.plan.now in
-    let e = c.left in
-    let f = c.right in
-    and_then (ranged scope e at env) (λ a.
-    and_then (ranged scope f (at + nodes e) env) (λ b.
-    and_then (at_node (at + nodes e + nodes f) (comparison_range c.op a b)) (λ r.
-    Ok (meant.compared c.op (are_whole scope e f) (meant.sides e f a b) (compare_sides scope e at env) (int_literal f) env))))
-
-pub record IsComparison (w : Walk) (c : Comparison) (at : ℕ) (rs : List Interval) (r : Tested) : Type 0 where
-  pub branches : comparison_in w c at (ranges_in w.plan.now rs) ≡ Ok (branches_in w.plan.now rs r.branches)
-  pub next : r.next ≡ at + nodes c.left + nodes c.right + 1
-
-abbrev pub ComparisonAnswer : Walk → Comparison → ℕ → List Interval → Result Tested Stop → Type 0
-ComparisonAnswer w c at rs (Ok r) = IsComparison w c at rs r
-ComparisonAnswer w c at rs (Err stop) = StopsAs (comparison_in w c at (ranges_in w.plan.now rs)) stop
-
-abbrev pub is_compare_to : Term → Bool
-is_compare_to (two (method CompareTo) e f) = true
-is_compare_to _ = false
-
--- no compareTo that is compared with an `int` literal
-abbrev pub IsPlainComparison : Term → Term → Type 0
-IsPlainComparison e f = IsFalse (is_compare_to e && is_some (int_literal f))
-
--- the sides of a compareTo and the `int` literal that it is compared with
-pub record IsInner (e f : Term) (i : Inner) : Type 0 where
-  pub left : e ≡ two (method CompareTo) (term_of i.left.now) (term_of i.right.now)
-  pub right : f ≡ leaf (whole i.number)
+abbrev pub PartsAnswer : Walk → Term → Term → ℕ → meant.Branches → Result Ranged Stop → Type 0
+PartsAnswer w t u at br (Ok r) = ArePartsRanged w t u at br r
+PartsAnswer w t u at br (Err stop) = StopsAs (parts_ranged w t u at br) stop

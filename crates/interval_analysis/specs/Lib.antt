@@ -12,4 +12,5 @@ pub mod OutputViews
 pub mod PlanViews
 pub mod StartViews
 pub mod StatementViews
+pub mod TestViews
 pub mod VariableViews

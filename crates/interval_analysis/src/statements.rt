@@ -13,7 +13,8 @@ ghost use Rattle.interval_analysis.specs.StatementViews.{AsideAnswer, CanWalkBod
 
 use crate::RangeFault;
 use crate::branches::{Branches, Change};
-use crate::expressions::{Stop, Tested, Walk};
+use crate::conditions::Tested;
+use crate::expressions::{Stop, Walk};
 use crate::joins::meet;
 use crate::lists::written;
 use crate::variables::{Variables, taken_back};

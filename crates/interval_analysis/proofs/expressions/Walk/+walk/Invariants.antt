@@ -3,68 +3,17 @@ use Rattle.pap_tree.specs.Term.{term_of}
 use Rattle.pap_tree.specs.Numbering.{nodes}
 use Rattle.interval_analysis.proofs.expressions.Walk.+walk.Given as goal
 
-abbrev pub decreases-range_of_item : goal.decreases-range_of_item
-decreases-range_of_item l = 8 * nodes (term_of l.index.now) + 1
-
-abbrev pub decreases-range_of_value : goal.decreases-range_of_value
-decreases-range_of_value l = 8 * nodes (term_of l.operand.now) + 1
-
-abbrev pub decreases-range_of_scaled : goal.decreases-range_of_scaled
-decreases-range_of_scaled l = 8 * nodes (term_of l.operand.now) + 1
-
-abbrev pub decreases-range_of_new : goal.decreases-range_of_new
-decreases-range_of_new l = 8 * nodes (term_of l.operand.now) + 1
-
-abbrev pub decreases-range_of_unary : goal.decreases-range_of_unary
-decreases-range_of_unary l = 8 * nodes (term_of l.operand.now) + 1
-
-abbrev pub decreases-range_of_rescaled : goal.decreases-range_of_rescaled
-decreases-range_of_rescaled l = 8 * nodes (term_of l.operand.now) + 1
-
-abbrev pub decreases-test_unary : goal.decreases-test_unary
-decreases-test_unary l = 8 * nodes (term_of l.operand.now) + 2
-
-abbrev pub decreases-test_opposite : goal.decreases-test_opposite
-decreases-test_opposite l = 8 * nodes (term_of l.operand.now) + 1
-
 abbrev pub decreases-range_of : goal.decreases-range_of
 decreases-range_of l = 8 * nodes (term_of l.e.now)
 
-abbrev pub decreases-range_after : goal.decreases-range_after
-decreases-range_after l = 8 * nodes (term_of l.e.now) + 1
+abbrev pub decreases-range_where : goal.decreases-range_where
+decreases-range_where l = 8 * nodes (term_of l.e.now) + 1
 
 abbrev pub decreases-test : goal.decreases-test
 decreases-test l = 8 * nodes (term_of l.e.now)
 
-abbrev pub decreases-operands : goal.decreases-operands
-decreases-operands l = 8 * (nodes (term_of l.left.now) + nodes (term_of l.right.now)) + 1
-
-abbrev pub decreases-range_of_operator : goal.decreases-range_of_operator
-decreases-range_of_operator l = 8 * (nodes (term_of l.left.now) + nodes (term_of l.right.now)) + 2
-
-abbrev pub decreases-range_of_call : goal.decreases-range_of_call
-decreases-range_of_call l = 8 * (nodes (term_of l.left.now) + nodes (term_of l.right.now)) + 2
-
-abbrev pub decreases-range_of_quotient : goal.decreases-range_of_quotient
-decreases-range_of_quotient l = 8 * (nodes (term_of l.left.now) + nodes (term_of l.right.now)) + 2
-
-abbrev pub decreases-first_part : goal.decreases-first_part
-decreases-first_part l = 8 * (nodes (term_of l.parts.now.first.now) + nodes (term_of l.parts.now.second.now)) + 2
-
-abbrev pub decreases-second_part : goal.decreases-second_part
-decreases-second_part l = 8 * (nodes (term_of l.parts.now.first.now) + nodes (term_of l.parts.now.second.now)) + 2
-
-abbrev pub decreases-both_parts : goal.decreases-both_parts
-decreases-both_parts l = 8 * (nodes (term_of l.parts.now.first.now) + nodes (term_of l.parts.now.second.now)) + 2
-
-abbrev pub decreases-test_operator : goal.decreases-test_operator
-decreases-test_operator l = 8 * (nodes (term_of l.left.now) + nodes (term_of l.right.now)) + 7
-
-abbrev pub decreases-test_sequence : goal.decreases-test_sequence
-decreases-test_sequence l = 8 * (nodes (term_of l.left.now) + nodes (term_of l.right.now)) + 6
-
-abbrev pub decreases-follow_both : goal.decreases-follow_both
-decreases-follow_both l = 8 * (nodes (term_of l.left.now) + nodes (term_of l.right.now)) + 5
+abbrev pub decreases-test_unary : goal.decreases-test_unary
+decreases-test_unary l = 8 * nodes (term_of l.operand.now) + 2
 
 abbrev pub decreases-follow_behind : goal.decreases-follow_behind
 decreases-follow_behind l = 8 * nodes (term_of l.e.now) + 4
@@ -75,18 +24,24 @@ decreases-follow l = 8 * nodes (term_of l.e.now) + 2
 abbrev pub decreases-follow_part : goal.decreases-follow_part
 decreases-follow_part l = 8 * nodes (term_of l.e.now) + 1
 
+abbrev pub decreases-operands : goal.decreases-operands
+decreases-operands l = 8 * (nodes (term_of l.left.now) + nodes (term_of l.right.now)) + 1
+
+abbrev pub decreases-test_operator : goal.decreases-test_operator
+decreases-test_operator l = 8 * (nodes (term_of l.left.now) + nodes (term_of l.right.now)) + 7
+
+abbrev pub decreases-test_sequence : goal.decreases-test_sequence
+decreases-test_sequence l = 8 * (nodes (term_of l.left.now) + nodes (term_of l.right.now)) + 6
+
+abbrev pub decreases-follow_both : goal.decreases-follow_both
+decreases-follow_both l = 8 * (nodes (term_of l.left.now) + nodes (term_of l.right.now)) + 5
+
 abbrev pub decreases-test_comparison : goal.decreases-test_comparison
 decreases-test_comparison l = 8 * (nodes (term_of l.left.now) + nodes (term_of l.right.now)) + 4
 
-abbrev pub decreases-test_compare_to : goal.decreases-test_compare_to
-decreases-test_compare_to l = 8 * (nodes (term_of l.left.now) + nodes (term_of l.right.now)) + 3
-
-abbrev pub decreases-test_sides : goal.decreases-test_sides
-decreases-test_sides l = 8 * (nodes (term_of l.left.now) + nodes (term_of l.right.now)) + 3
+abbrev pub decreases-range_of_parts : goal.decreases-range_of_parts
+decreases-range_of_parts l = 8 * (nodes (term_of l.first.now) + nodes (term_of l.second.now)) + 3
 
 abbrev pub decreases-range_of_choice : goal.decreases-range_of_choice
 decreases-range_of_choice l =
     8 * (nodes (term_of l.test.now) + nodes (term_of l.first.now) + nodes (term_of l.second.now)) + 4
-
-abbrev pub decreases-range_of_parts : goal.decreases-range_of_parts
-decreases-range_of_parts l = 8 * (nodes (term_of l.parts.now.first.now) + nodes (term_of l.parts.now.second.now)) + 3

@@ -1,0 +1,435 @@
+//! What tests leave of the ranges of the variables.
+ghost use Rattle.std.specs.Prelude.{◌≡◌, ◌+◌, ◌<◌, ◌^◌, MatchOption, IfSome, OnOk};
+ghost use Rattle.pap_tree.specs.Term.{term_of, unary, operator};
+ghost use Rattle.interval_num.specs.declared.cause.RangeCause.TheVariants.{Wide};
+ghost use Rattle.interval_analysis.specs.VariableViews.{AreHeld, GoesOn, IsLeft};
+ghost use Rattle.interval_analysis.specs.ExpressionViews.{CanWalk, one_of, two_of};
+ghost use Rattle.interval_analysis.specs.TestViews.{AreSides, ComparisonAnswer, IsInner, IsPlainComparison, OrderAnswer, TestAnswer, TestsAs, comparison_of, order_compared, sides_compared};
+ghost use Rattle.interval_analysis.specs.Connectives.{FollowAnswer, BehindAnswer, IsConnected, behind_both, connected};
+
+use crate::branches::{Branches, Connective, opposite, turned, unchanged_if};
+use crate::comparisons::{Sides, are_whole, branches_of, signs_where};
+use crate::expressions::{Operands, Stop, Walk};
+use crate::nodes::{literal, own};
+use crate::operations::comparison_range;
+use crate::outlines::outline_of;
+use crate::variables::{Variables, taken_back};
+use interval_num::{Abs, RangeCause, abs_cmp};
+use pap_tree::{Binary, Call, Expr, Unary};
+use pap_types::NodeKind;
+use scaled_decimal::Dec;
+
+/// What is known of a test whose nodes can't fail: its branches, and the number that follows its nodes'.
+#[derive(Drop)]
+pub(crate) struct Tested {
+    pub branches: Branches,
+    pub next: u32,
+}
+
+/// What is known behind the parts of a connective, which were tested in turn.
+#[derive(Clone, Copy)]
+struct Followed {
+    /// Whether a value leads behind all of them; the variables then have their ranges there.
+    is_through: bool,
+    /// Whether a value leads out of one of them.
+    can_leave: bool,
+    next: u32,
+}
+
+impl Walk<'_> {
+    /// The branches of a test whose nodes are numbered from `at`, or its first node that may fail.
+    #[cycle(walk)]
+    pub fn test(&self, e: &Expr, at: u32, variables: &mut Variables) -> Result<Tested, Stop>
+        requires walk { CanWalk self.now (term_of e.now) at }
+        requires held { AreHeld self.now.plan.now variables.old }
+        ensures answer { TestAnswer self.now (term_of e.now) at variables.old.ranges.items result }
+        ensures left { OnOk result (IsLeft variables.old variables.new) }
+    {
+        match e {
+            Expr::Unary(op, operand) => self.test_unary(*op, operand, at, variables),
+            Expr::Binary(op, left, right) => self.test_operator(*op, left, right, at, variables),
+            Expr::Int(_)
+            | Expr::Long(_)
+            | Expr::Point(_)
+            | Expr::Text(_)
+            | Expr::Known(_)
+            | Expr::Var(_)
+            | Expr::Item(_, _)
+            | Expr::ValueOf(_)
+            | Expr::ValueOfScaled(_, _)
+            | Expr::NewInt(_)
+            | Expr::Call(_, _, _)
+            | Expr::Divide(_, _, _, _)
+            | Expr::SetScale(_, _, _)
+            | Expr::Choose(_, _, _) => Err(no_test(at)),
+        }
+    }
+
+    #[cycle(walk)]
+    fn test_unary(
+        &self,
+        op: Unary,
+        operand: &Expr,
+        at: u32,
+        variables: &mut Variables,
+    ) -> Result<Tested, Stop>
+        requires walk { CanWalk self.now (one_of (unary op) operand.now) at }
+        requires held { AreHeld self.now.plan.now variables.old }
+        ensures answer { TestAnswer self.now (one_of (unary op) operand.now) at
+            variables.old.ranges.items result }
+        ensures left { OnOk result (IsLeft variables.old variables.new) }
+    {
+        match op {
+            Unary::Not => Ok(opposed(self.test(operand, at, variables)?)),
+            Unary::Minus | Unary::Negate | Unary::Abs => Err(no_test(at)),
+        }
+    }
+
+    #[cycle(walk)]
+    fn test_operator(
+        &self,
+        op: Binary,
+        left: &Expr,
+        right: &Expr,
+        at: u32,
+        variables: &mut Variables,
+    ) -> Result<Tested, Stop>
+        requires walk { CanWalk self.now (two_of (operator op) left.now right.now) at }
+        requires held { AreHeld self.now.plan.now variables.old }
+        ensures answer { TestAnswer self.now (two_of (operator op) left.now right.now) at
+            variables.old.ranges.items result }
+        ensures left { OnOk result (IsLeft variables.old variables.new) }
+    {
+        match op {
+            Binary::And => self.test_sequence(Connective::And, left, right, at, variables),
+            Binary::Or => self.test_sequence(Connective::Or, left, right, at, variables),
+            _ => self.test_comparison(op, left, right, at, variables),
+        }
+    }
+
+    /// The branches of a connective: behind all its parts, or before them where one of them decides.
+    #[cycle(walk)]
+    fn test_sequence(
+        &self,
+        connective: Connective,
+        left: &Expr,
+        right: &Expr,
+        at: u32,
+        variables: &mut Variables,
+    ) -> Result<Tested, Stop>
+        requires walk { CanWalk self.now (connected connective left.now right.now) at }
+        requires held { AreHeld self.now.plan.now variables.old }
+        ensures answer { TestAnswer self.now (connected connective left.now right.now) at
+            variables.old.ranges.items result }
+        ensures left { OnOk result (IsLeft variables.old variables.new) }
+    {
+        let mark = variables.notes.len();
+        let followed = self.follow_both(connective, left, right, at, variables)?;
+        let changes = taken_back(self.alloc, variables, mark)?;
+        let branches = Branches {
+            holds: followed.is_through.then_some(changes),
+            fails: unchanged_if(self.alloc, followed.can_leave),
+        };
+        Ok(Tested {
+            branches: turned(connective, branches),
+            next: followed.next,
+        })
+    }
+
+    /// Follows the parts of a connective through an expression, which is one part where it is of no such connective.
+    #[cycle(walk)]
+    fn follow(
+        &self,
+        connective: Connective,
+        e: &Expr,
+        at: u32,
+        variables: &mut Variables,
+    ) -> Result<Followed, Stop>
+        requires walk { CanWalk self.now (term_of e.now) at }
+        requires held { AreHeld self.now.plan.now variables.old }
+        ensures answer { FollowAnswer self.now connective (term_of e.now) at
+            variables.old.ranges.items variables.new.ranges.items result }
+        ensures on { OnOk result (GoesOn self.now.plan.now variables.old variables.new) }
+    {
+        match sides_of(connective, e) {
+            Some(sides) => self.follow_both(connective, sides.left, sides.right, at, variables),
+            None => self.follow_part(connective, e, at, variables),
+        }
+    }
+
+    #[cycle(walk)]
+    fn follow_both(
+        &self,
+        connective: Connective,
+        left: &Expr,
+        right: &Expr,
+        at: u32,
+        variables: &mut Variables,
+    ) -> Result<Followed, Stop>
+        requires walk { CanWalk self.now (connected connective left.now right.now) at }
+        requires held { AreHeld self.now.plan.now variables.old }
+        ensures answer { FollowAnswer self.now connective (connected connective left.now right.now)
+            at variables.old.ranges.items variables.new.ranges.items result }
+        ensures on { OnOk result (GoesOn self.now.plan.now variables.old variables.new) }
+    {
+        let first = self.follow(connective, left, at, variables)?;
+        let second = self.follow_behind(connective, first, right, variables)?;
+        Ok(behind_both(first, second))
+    }
+
+    /// Follows a right side, where the left one leads there.
+    #[cycle(walk)]
+    fn follow_behind(
+        &self,
+        connective: Connective,
+        first: Followed,
+        e: &Expr,
+        variables: &mut Variables,
+    ) -> Result<Followed, Stop>
+        requires walk { CanWalk self.now (term_of e.now) first.next }
+        requires held { AreHeld self.now.plan.now variables.old }
+        ensures answer { BehindAnswer self.now connective (term_of e.now) first
+            variables.old.ranges.items variables.new.ranges.items result }
+        ensures on { OnOk result (GoesOn self.now.plan.now variables.old variables.new) }
+    {
+        if first.is_through {
+            return self.follow(connective, e, first.next, variables);
+        }
+        Ok(Followed {
+            is_through: false,
+            can_leave: false,
+            next: outline_of(self.plan, e, first.next).next,
+        })
+    }
+
+    /// Tests a part, and gives the variables the ranges with which the next part is walked.
+    #[cycle(walk)]
+    fn follow_part(
+        &self,
+        connective: Connective,
+        e: &Expr,
+        at: u32,
+        variables: &mut Variables,
+    ) -> Result<Followed, Stop>
+        requires walk { CanWalk self.now (term_of e.now) at }
+        requires held { AreHeld self.now.plan.now variables.old }
+        ensures answer { FollowAnswer self.now connective (term_of e.now) at
+            variables.old.ranges.items variables.new.ranges.items result }
+        ensures on { OnOk result (GoesOn self.now.plan.now variables.old variables.new) }
+    {
+        let Tested { branches, next } = self.test(e, at, variables)?;
+        let Branches { holds, fails } = turned(connective, branches);
+        let can_leave = fails.is_some();
+        match holds {
+            None => Ok(Followed {
+                is_through: false,
+                can_leave,
+                next,
+            }),
+            Some(changes) => {
+                variables.apply(&changes)?;
+                Ok(Followed {
+                    is_through: true,
+                    can_leave,
+                    next,
+                })
+            }
+        }
+    }
+
+    /// The branches of a comparison. That of a `compareTo` with an `int` literal compares the sides of the `compareTo`.
+    #[cycle(walk)]
+    fn test_comparison(
+        &self,
+        op: Binary,
+        left: &Expr,
+        right: &Expr,
+        at: u32,
+        variables: &mut Variables,
+    ) -> Result<Tested, Stop>
+        requires walk { CanWalk self.now (two_of (operator op) left.now right.now) at }
+        requires held { AreHeld self.now.plan.now variables.old }
+        ensures answer { ComparisonAnswer self.now (comparison_of op left.now right.now) at
+            variables.old.ranges.items result }
+        ensures left { OnOk result (IsLeft variables.old variables.new) }
+    {
+        match compared_sides(left, right) {
+            Some(inner) => {
+                let Inner {
+                    left,
+                    right,
+                    number,
+                } = inner;
+                let operands = self.operands(left, right, at, variables)?;
+                self.compare_order(op, left, right, number, operands, &variables.ranges)
+            }
+            None => {
+                let operands = self.operands(left, right, at, variables)?;
+                self.compare_sides(op, left, right, operands, &variables.ranges)
+            }
+        }
+    }
+
+    /// The branches of a comparison whose sides can't fail.
+    fn compare_sides<'e>(
+        &self,
+        op: Binary,
+        left: &'e Expr,
+        right: &'e Expr,
+        operands: Operands,
+        ranges: &[Abs],
+    ) -> Result<Tested, Stop>
+        requires sides { AreSides self.now.plan.now (term_of left.now) (term_of right.now) operands
+            ranges.now }
+        requires room { operands.second.next + 1 < 2 ^ 32 }
+        ensures { TestsAs self.now
+            (sides_compared self.now op (term_of left.now) (term_of right.now) operands ranges.now)
+            (operands.second.next + 1) ranges.now result }
+    {
+        let Operands { first, second } = operands;
+        let compared = comparison_range(op, first.range, second.range);
+        let compared = own(compared, NodeKind::Truth, second.next)?;
+        let sides = Sides {
+            left,
+            right,
+            left_range: first.range,
+            right_range: second.range,
+            whole: are_whole(first.kind, second.kind),
+        };
+        let allowed = signs_where(op, 0);
+        let branches = branches_of(self.alloc, self.plan, &sides, allowed, ranges)?;
+        Ok(Tested {
+            branches,
+            next: compared.next,
+        })
+    }
+
+    /// The branches of a `compareTo` that is compared with an `int` literal, whose sides can't fail.
+    fn compare_order<'e>(
+        &self,
+        op: Binary,
+        left: &'e Expr,
+        right: &'e Expr,
+        number: i32,
+        operands: Operands,
+        ranges: &[Abs],
+    ) -> Result<Tested, Stop>
+        requires sides { AreSides self.now.plan.now (term_of left.now) (term_of right.now) operands
+            ranges.now }
+        requires room { operands.second.next + 3 < 2 ^ 32 }
+        ensures { TestsAs self.now
+            (order_compared self.now op (term_of left.now) (term_of right.now) number operands
+            ranges.now)
+            (operands.second.next + 3) ranges.now result }
+    {
+        let Operands { first, second } = operands;
+        let next = behind_order(op, number, first.range, second.range, second.next)?;
+        let sides = Sides {
+            left,
+            right,
+            left_range: first.range,
+            right_range: second.range,
+            whole: false,
+        };
+        let allowed = signs_where(op, number);
+        let branches = branches_of(self.alloc, self.plan, &sides, allowed, ranges)?;
+        Ok(Tested { branches, next })
+    }
+}
+
+/// The number behind the nodes of a `compareTo` and of its comparison with an `int` literal, the first of which is `at`.
+fn behind_order(op: Binary, number: i32, left: Abs, right: Abs, at: u32) -> Result<u32, Stop>
+    requires { at + 3 < 2 ^ 32 }
+    ensures { OrderAnswer op number left right at result }
+{
+    let order = own(abs_cmp(left, right), NodeKind::Int, at)?;
+    let literal = literal(Dec::new(number as i128, 0), NodeKind::Int, order.next)?;
+    let compared = comparison_range(op, order.range, literal.range);
+    let compared = own(compared, NodeKind::Truth, literal.next)?;
+    Ok(compared.next)
+}
+
+/// The opposite of a test.
+fn opposed(tested: Tested) -> Tested
+    requires { tested.next + 1 < 2 ^ 32 }
+    ensures holds { result.branches.holds ≡ tested.branches.fails }
+    ensures fails { result.branches.fails ≡ tested.branches.holds }
+    ensures next { result.next ≡ tested.next + 1 }
+{
+    let Tested { branches, next } = tested;
+    Tested {
+        branches: opposite(branches),
+        next: next + 1,
+    }
+}
+
+/// What is known behind two parts, the second of which was tested behind the first.
+fn behind_both(first: Followed, second: Followed) -> Followed
+    requires { second.next + 1 < 2 ^ 32 }
+    ensures { result ≡ behind_both first second }
+{
+    Followed {
+        is_through: second.is_through,
+        can_leave: first.can_leave || second.can_leave,
+        next: second.next + 1,
+    }
+}
+
+/// The sides of a connective.
+#[derive(Clone, Copy)]
+struct Connected<'a> {
+    left: &'a Expr,
+    right: &'a Expr,
+}
+
+/// The sides of an expression, where it is of a connective.
+fn sides_of<'a>(connective: Connective, e: &'a Expr) -> Option<Connected<'a>>
+    ensures { IfSome result (IsConnected connective (term_of e.now)) }
+{
+    let Expr::Binary(op, left, right) = e else {
+        return None;
+    };
+    match (connective, *op) {
+        (Connective::And, Binary::And) | (Connective::Or, Binary::Or) => {
+            Some(Connected { left, right })
+        }
+        _ => None,
+    }
+}
+
+/// The sides of a `compareTo` that is compared with an `int` literal.
+#[derive(Clone, Copy)]
+struct Inner<'a> {
+    left: &'a Expr,
+    right: &'a Expr,
+    number: i32,
+}
+
+/// The sides of `x.compareTo(y)`, where it is compared with an `int` literal.
+fn compared_sides<'a>(left: &'a Expr, right: &'a Expr) -> Option<Inner<'a>>
+    ensures { MatchOption result
+        (IsPlainComparison (term_of left.now) (term_of right.now))
+        (IsInner (term_of left.now) (term_of right.now)) }
+{
+    match left {
+        Expr::Call(Call::CompareTo, x, y) => match right {
+            Expr::Int(number) => Some(Inner {
+                left: x,
+                right: y,
+                number: *number,
+            }),
+            _ => None,
+        },
+        _ => None,
+    }
+}
+
+/// An expression that is no test; no well-typed plan has one where a test stands.
+fn no_test(at: u32) -> Stop
+    ensures { result ≡ Stop.At at Wide }
+{
+    Stop::At {
+        node: at,
+        cause: RangeCause::Wide,
+    }
+}
