@@ -25,7 +25,7 @@ use Rattle.pap_types.specs.declared.kinds.NodeKind.{NodeKind}
 use Rattle.pap_types.specs.declared.kinds.NodeKind.TheVariants as kinds
 use Rattle.pap_types.specs.Safety.{bits_of}
 use Rattle.pap_types.specs.Scopes.{Scope, constant_in}
-use Rattle.pap_types.specs.Kinds.{is_whole, is_int, is_big, kind_of, kind_of_one, kind_of_operator, takes_one, takes_operator, takes_two, shown_divisor, shows_plain_divisor, int_literal}
+use Rattle.pap_types.specs.Kinds.{is_whole, is_int, is_big, kind_of, kind_of_one, kind_of_two, kind_of_operator, takes_one, takes_operator, takes_two, shown_divisor, shows_plain_divisor, int_literal}
 use Rattle.interval_walk.specs.Ranges.{Ranges, single}
 use Rattle.interval_walk.specs.Failures.{NodeFault, and_then, at_node}
 use Rattle.interval_walk.specs.NodeRanges.{leaf_range, read_range, comparison_range}
@@ -40,13 +40,19 @@ use Rattle.interval_analysis.specs.declared.expressions.Stop.TheVariants.{At, Me
 use Rattle.interval_analysis.specs.declared.conditions.Inner.{Inner}
 use Rattle.interval_analysis.specs.declared.conditions.Tested.{Tested}
 use Rattle.interval_analysis.specs.declared.expressions.Operands.{Operands}
+use Rattle.interval_analysis.specs.declared.expressions.Ranged.{Ranged}
+use Rattle.interval_analysis.specs.declared.shapes.One.{One}
+use Rattle.interval_analysis.specs.declared.shapes.One.TheVariants as ones
+use Rattle.interval_analysis.specs.declared.shapes.Two.{Two}
+use Rattle.interval_analysis.specs.declared.shapes.Two.TheVariants as twos
+use Rattle.interval_analysis.specs.ShapeViews.{TakesOne, TakesTwo, one_meant, two_meant}
 use Rattle.interval_analysis.specs.declared.expressions.Walk.{Walk}
 use Rattle.interval_analysis.specs.PlanViews.{IsSized, scope_in, ranges_in}
 use Rattle.interval_analysis.specs.ComparisonViews.{HasRange, branches_in}
 use Rattle.interval_analysis.specs.OperationViews.{TakesUnary, TakesWholes, TakesShown, IsPlainShown}
-use Rattle.interval_analysis.specs.ExpressionViews.{AreRanged, CanWalk, CanWalkTwo, StopsAs, ranged_in, second_in}
+use Rattle.interval_analysis.specs.ExpressionViews.{AreRanged, CanWalk, CanWalkTwo, IsRanged, StopsAs, ranged_in, second_in}
 use Rattle.interval_analysis.specs.TestViews.{AreSides, ComparisonAnswer, IsInner, IsPassed, IsPlainComparison, OrderAnswer, TestsAs, comparison, comparison_in, is_compare_to, order_compared, order_node, sides_compared}
-use Rattle.interval_analysis.proofs.NodeLemmas.{can_two, left_shape, right_shape, stops_first, stops_two}
+use Rattle.interval_analysis.proofs.NodeLemmas.{can_item, can_one, can_two, left_shape, right_shape, shape, stops_first, stops_two}
 
 -- a number that is made longer
 pub widened : (n : ℤ) → FitsSigned w32 n → to_z w128 (of_z w128 (to_z w32 (of_z w32 n))) ≡ n
@@ -99,6 +105,29 @@ index_whole kinds.Truth a i h = absurd (cc)
 index_whole kinds.Fraction a i h = absurd (cc)
 index_whole kinds.Factor a i h = absurd (cc)
 index_whole kinds.Table a i h = absurd (cc)
+
+module _ (w : Walk) (at : ℕ) (rs : List Interval) where
+  pub takes_operand : (op : One) (e : Term) (a : Ranged) → CanWalk w (one (one_meant op) e) at → IsRanged w e at rs a → TakesOne op (kind_of_one (one_meant op) a.kind) a.range
+  takes_operand (ones.Unary u) e a can h =
+      takes_unary u a.kind a.range (subst (λ k. takes_one (unary u) k ≡ true) (sym h.kind) can.typed.1) (shape w at rs e a (can_one w at (unary u) e can) h)
+  takes_operand ones.ValueOf e a can h = tt
+  takes_operand (ones.ValueOfScaled s) e a can h = can.scales.0
+  takes_operand ones.NewInt e a can h = tt
+  takes_operand (ones.SetScale s mode) e a can h = can.scales.0
+
+  pub takes_operands : (op : Two) (e f : Term) (o : Operands) → CanWalk w (two (two_meant op) e f) at → AreRanged w e f at rs o → TakesTwo (scope_in w.plan.now) op (kind_of_two (two_meant op) o.first.kind o.second.kind) f o.first.range o.second.range
+  takes_operands (twos.Operator b) e f o can h =
+      let both = can_two w at (operator b) e f can in
+      let fits = subst (λ j. takes_operator b e j f o.second.kind ≡ true) (sym h.first.kind) (subst (λ k. takes_operator b e (kind_of (scope_in w.plan.now) e) f k ≡ true) (sym h.second.kind) can.typed.2) in
+      takes_wholes e f o.first.kind o.second.kind o.first.range o.second.range (left_shape w at rs e f o both h) (right_shape w at rs e f o both h) b fits
+  takes_operands (twos.Method m) e f o can h =
+      let scope = scope_in w.plan.now in
+      takes_shown scope m e f (kind_of scope e) (kind_of scope f) (shown_divisor scope f) can.typed.2 refl
+  takes_operands (twos.Divide s mode) e f o can h = can.scales.0
+
+  pub takes_index : (x : List ℕ) (e : Term) (a : Ranged) → CanWalk w (item x e) at → IsRanged w e at rs a → IsWhole a.range
+  takes_index x e a can h =
+      index_whole a.kind a.range (subst (λ k. is_int k ≡ true) (sym h.kind) can.typed.1.index) (shape w at rs e a (can_item w at x e can) h)
 
 -- ---- the sides of a comparison
 
@@ -315,3 +344,7 @@ module _ (op : Binary) (k : ℤ) (a b : Interval) (at : ℕ) (c : Interval) (n :
 pub order_err : (op : Binary) (k : ℤ) (a b : Interval) (at : ℕ) (stop : Stop) (res : Result ℕ Stop) → IsErrAnd res (λ s. s ≡ stop) → StopsAs (order_node op k a b at) stop → OrderAnswer op k a b at res
 order_err op k a b at stop (Ok n) is h = absurd is
 order_err op k a b at stop (Err s) is h = subst (StopsAs (order_node op k a b at)) (sym is) h
+
+pub tests_err : (w : Walk) (r : Result meant.Branches NodeFault) (end : ℕ) (rs : List Interval) (stop : Stop) (res : Result Tested Stop) → IsErrAnd res (λ s. s ≡ stop) → StopsAs r stop → TestsAs w r end rs res
+tests_err w r end rs stop (Ok t) is h = absurd is
+tests_err w r end rs stop (Err s) is h = subst (StopsAs r) (sym is) h

@@ -1,18 +1,18 @@
 -- What a node answers, from what its operands do.
 use Rattle.std.proofs.Common.{◌≡◌, ℕ, ◌+◌, ◌<◌, ◌^◌, List, Option, Some, None, Result, Ok, Err, refl, sym, ap, ap₂, ◌∙◌, subst, arith}
 use Rattle.scaled_decimal.specs.Decimals.{Decimal}
-use Rattle.pap_tree.specs.declared.expression.Call.{Call}
-use Rattle.pap_tree.specs.Term.{Term, item, One, one, Two, two, method, choice}
+use Rattle.std.specs.Result.{IsErrAnd}
+use Rattle.pap_tree.specs.Term.{Term, item, One, one, Two, two}
 use Rattle.pap_tree.specs.Numbering.{nodes}
 use Rattle.interval_num.specs.Intervals.{Interval}
 use Rattle.interval_num.specs.Rows.{Answer, join_row}
 use Rattle.pap_types.specs.declared.kinds.NodeKind.{NodeKind}
 use Rattle.pap_types.specs.declared.kinds.NodeKind.TheVariants.{Big}
-use Rattle.pap_types.specs.Kinds.{kind_of, kind_of_one, kind_of_two, shown_divisor, wider}
+use Rattle.pap_types.specs.Kinds.{kind_of, kind_of_one, kind_of_two, wider}
 use Rattle.pap_types.specs.Scopes.{Scope, table_in}
 use Rattle.interval_walk.specs.Ranges.{Ranges}
 use Rattle.interval_walk.specs.Failures.{NodeFault, and_then, at_node, nowhere}
-use Rattle.interval_walk.specs.NodeRanges.{item_range, method_range, one_range, two_range}
+use Rattle.interval_walk.specs.NodeRanges.{item_range, one_range, two_range}
 use Rattle.interval_walk.specs.Branches.{Branches, either_way}
 use Rattle.interval_walk.specs.Ranged.{ranged, tested}
 use Rattle.interval_walk.specs.Shapes.{HasShape}
@@ -24,7 +24,7 @@ use Rattle.interval_analysis.specs.declared.expressions.Stop.{Stop}
 use Rattle.interval_analysis.specs.declared.expressions.Stop.TheVariants.{At, Memory}
 use Rattle.interval_analysis.specs.declared.expressions.Walk.{Walk}
 use Rattle.interval_analysis.specs.PlanViews.{scope_in, ranges_in}
-use Rattle.interval_analysis.specs.ExpressionViews.{AreRanged, ArePartsRanged, CanWalk, CanWalkParts, CanWalkTwo, IsPartRanged, IsRanged, MethodAnswer, OneAnswer, OwnAnswer, PartAnswer, PartsAnswer, RangeAnswer, StopsAs, TwoAnswer, either_range, part_ranged, parts_ranged, ranged_in, second_in}
+use Rattle.interval_analysis.specs.ExpressionViews.{AreRanged, ArePartsRanged, CanWalk, CanWalkParts, CanWalkTwo, IsPartRanged, IsRanged, OneAnswer, OwnAnswer, PartAnswer, PartsAnswer, RangeAnswer, StopsAs, TwoAnswer, either_range, part_ranged, parts_ranged, ranged_in, second_in}
 
 -- ---- what stops
 
@@ -110,10 +110,11 @@ module _ (w : Walk) (at : ℕ) where
     two_answer op e f o r h own =
         answers (two op e f) (two_range scope op (kind_of_two op o.first.kind o.second.kind) f o.first.range o.second.range) (kind_of_two op o.first.kind o.second.kind) o.second.next r (two_is op e f o h) (ap₂ (kind_of_two op) h.first.kind h.second.kind) (omega (arith, h.first.next, h.second.next)) own
 
-    pub call_answer : (m : Call) (shown : Option Decimal) (e f : Term) (o : Operands) (r : Result Ranged Stop) → shown ≡ shown_divisor scope f → AreRanged w e f at rs o → MethodAnswer m shown o r → RangeAnswer w (two (method m) e f) at rs r
-    call_answer m shown e f o r is h own = two_answer (method m) e f o r h (subst (λ s. MethodAnswer m s o r) is own)
-
     -- ---- operands that stop
+
+    pub range_err : (t : Term) (stop : Stop) (res : Result Ranged Stop) → IsErrAnd res (λ s. s ≡ stop) → StopsAs (ranged_in w t at rs) stop → RangeAnswer w t at rs res
+    range_err t stop (Ok r) is h = absurd is
+    range_err t stop (Err s) is h = subst (StopsAs (ranged_in w t at rs)) (sym is) h
 
     pub item_stops : (x : List ℕ) (e : Term) (stop : Stop) → StopsAs (ranged_in w e at rs) stop → StopsAs (ranged_in w (item x e) at rs) stop
     item_stops x e stop h = stops_first (ranged_in w e at rs) (λ i. at_node (at + nodes e) (item_range (table_in scope x) i)) stop h
@@ -158,6 +159,10 @@ module _ (w : Walk) (t u : Term) (at : ℕ) where
   parts_are (Some e) None = only_first (first_of e)
   parts_are None (Some f) = only_second (second_of f)
   parts_are (Some e) (Some f) = both_parts (first_of e) (second_of f)
+
+  pub parts_err : (br : Branches) (stop : Stop) (res : Result Ranged Stop) → IsErrAnd res (λ s. s ≡ stop) → StopsAs (parts_ranged w t u at br) stop → PartsAnswer w t u at br res
+  parts_err br stop (Ok r) is h = absurd is
+  parts_err br stop (Err s) is h = subst (StopsAs (parts_ranged w t u at br)) (sym is) h
 
   pub first_stops : (br : Branches) (stop : Stop) → StopsAs (part_ranged w t at br.holds) stop → StopsAs (parts_ranged w t u at br) stop
   first_stops br stop h =

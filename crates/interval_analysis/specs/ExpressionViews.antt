@@ -1,9 +1,7 @@
 -- What private contracts say of the walk of expressions.
 use Rattle.std.specs.Prelude.{◌≡◌, ℕ, ◌+◌, ◌<◌, ◌^◌, List, Option, Some, None, Result, Ok, Err, ⊤}
-use Rattle.scaled_decimal.specs.Decimals.{Decimal}
 use Rattle.pap_tree.specs.declared.expression.Expr.{Expr}
-use Rattle.pap_tree.specs.declared.expression.Call.{Call}
-use Rattle.pap_tree.specs.Term.{Term, term_of, One, one, Two, two, method, choice}
+use Rattle.pap_tree.specs.Term.{Term, term_of, One, one, Two, two, choice}
 use Rattle.pap_tree.specs.Numbering.{nodes}
 use Rattle.pap_tree.specs.Scales.{KeepsScales}
 use Rattle.interval_num.specs.declared.cause.RangeCause.TheVariants.{Wide}
@@ -15,7 +13,7 @@ use Rattle.pap_types.specs.Scopes.{Scope}
 use Rattle.pap_types.specs.Typing.{IsTypedTerm}
 use Rattle.interval_walk.specs.Ranges.{Ranges}
 use Rattle.interval_walk.specs.Failures.{NodeFault, and_then, at_node, nowhere}
-use Rattle.interval_walk.specs.NodeRanges.{one_range, two_range, method_range}
+use Rattle.interval_walk.specs.NodeRanges.{one_range, two_range}
 use Rattle.interval_walk.specs.Branches as meant
 use Rattle.interval_walk.specs.Ranged.{ranged}
 use Rattle.interval_analysis.specs.declared.expressions.Operands.{Operands}
@@ -113,15 +111,6 @@ TwoAnswer scope op f o r =
     OwnAnswer
     (two_range scope op (kind_of_two op o.first.kind o.second.kind) f o.first.range o.second.range)
     (kind_of_two op o.first.kind o.second.kind)
-    o.second.next
-    r
-
--- that of a method, where the divisor is known that the text shows
-abbrev pub MethodAnswer : Call → Option Decimal → Operands → Result Ranged Stop → Type 0
-MethodAnswer m shown o r =
-    OwnAnswer
-    (method_range m shown o.first.range o.second.range)
-    (kind_of_two (method m) o.first.kind o.second.kind)
     o.second.next
     r
 

@@ -10,6 +10,7 @@ pub mod OperationViews
 pub mod OutlineViews
 pub mod OutputViews
 pub mod PlanViews
+pub mod ShapeViews
 pub mod StartViews
 pub mod StatementViews
 pub mod TestViews

@@ -2,6 +2,7 @@
 ghost use Rattle.std.specs.Prelude.{◌≡◌, ◌+◌, ◌<◌, ◌^◌, OnOk};
 ghost use Rattle.pap_tree.specs.Term.{term_of, leaf, named};
 ghost use Rattle.interval_analysis.specs.PlanViews.{IsSized, name_range_in, ranges_after};
+ghost use Rattle.interval_analysis.specs.ShapeViews.{leaf_of};
 ghost use Rattle.interval_analysis.specs.VariableViews.{AreHeld, IsLeft};
 ghost use Rattle.interval_analysis.specs.ComparisonViews.{branches_in};
 ghost use Rattle.interval_analysis.specs.ExpressionViews.{CanWalk, CanWalkTwo, CanWalkParts, RangeAnswer, OperandsAnswer, PartAnswer, PartsAnswer, choice_of};
@@ -9,12 +10,10 @@ ghost use Rattle.interval_analysis.specs.ExpressionViews.{CanWalk, CanWalkTwo, C
 use crate::branches::{Branches, Change};
 use crate::conditions::Tested;
 use crate::names::{single, table};
-use crate::nodes::{
-    call, either, item, literal, new_big, operator, own, quotient, reached, rescaled, unary,
-    unreached, value_of, value_of_scaled,
-};
+use crate::nodes::{either, item, literal, one, own, reached, two, unreached};
 use crate::operations::read;
 use crate::outlines::outline_of;
+use crate::shapes::{Leaf, Shape, shape_of};
 use crate::variables::Variables;
 use interval_num::{Abs, RangeCause};
 use pap_tree::{Expr, Name};
@@ -80,39 +79,39 @@ impl Walk<'_> {
         ensures answer { RangeAnswer self.now (term_of e.now) at variables.old.ranges.items result }
         ensures left { OnOk result (IsLeft variables.old variables.new) }
     {
-        match e {
-            Expr::Int(number) => literal(Dec::new(*number as i128, 0), NodeKind::Int, at),
-            Expr::Long(number) => literal(Dec::new(*number as i128, 0), NodeKind::Long, at),
-            Expr::Point(number) => literal(*number, NodeKind::Fraction, at),
-            Expr::Text(number) => literal(*number, NodeKind::Big, at),
-            Expr::Known(known) => literal(known.value(), NodeKind::Big, at),
-            Expr::Var(name) => self.range_of_name(name, at, &variables.ranges),
-            Expr::Item(name, index) => {
-                let index = self.range_of(index, at, variables)?;
-                item(table(self.plan, name), index)
+        match shape_of(e) {
+            Shape::Leaf(source) => self.range_of_leaf(&source, at, &variables.ranges),
+            Shape::Item(name, index) => {
+                let chosen = self.range_of(index, at, variables)?;
+                item(table(self.plan, name), chosen)
             }
-            Expr::ValueOf(operand) => value_of(operand, self.range_of(operand, at, variables)?),
-            Expr::ValueOfScaled(operand, scale) => {
-                value_of_scaled(*scale, self.range_of(operand, at, variables)?)
+            Shape::One(op, operand) => {
+                let a = self.range_of(operand, at, variables)?;
+                one(op, operand, a)
             }
-            Expr::NewInt(operand) => new_big(self.range_of(operand, at, variables)?),
-            Expr::Unary(op, operand) => unary(*op, self.range_of(operand, at, variables)?),
-            Expr::Binary(op, left, right) => {
-                operator(*op, self.operands(left, right, at, variables)?)
-            }
-            Expr::Call(method, left, right) => {
+            Shape::Two(op, left, right) => {
                 let operands = self.operands(left, right, at, variables)?;
-                call(*method, self.plan.shown_divisor(right), operands)
+                two(self.plan, op, right, operands)
             }
-            Expr::Divide(left, right, scale, mode) => {
-                quotient(*scale, *mode, self.operands(left, right, at, variables)?)
-            }
-            Expr::SetScale(operand, scale, mode) => {
-                rescaled(*scale, *mode, self.range_of(operand, at, variables)?)
-            }
-            Expr::Choose(test, first, second) => {
+            Shape::Choice(test, first, second) => {
                 self.range_of_choice(test, first, second, at, variables)
             }
+        }
+    }
+
+    /// The range of a literal or of a name.
+    fn range_of_leaf(&self, source: &Leaf, at: u32, ranges: &[Abs]) -> Result<Ranged, Stop>
+        requires walk { CanWalk self.now (leaf (leaf_of source.now)) at }
+        requires sized { IsSized self.now.plan.now ranges.now }
+        ensures { RangeAnswer self.now (leaf (leaf_of source.now)) at ranges.now result }
+    {
+        match source {
+            Leaf::Int(number) => literal(Dec::new(*number as i128, 0), NodeKind::Int, at),
+            Leaf::Long(number) => literal(Dec::new(*number as i128, 0), NodeKind::Long, at),
+            Leaf::Point(number) => literal(*number, NodeKind::Fraction, at),
+            Leaf::Text(number) => literal(*number, NodeKind::Big, at),
+            Leaf::Known(known) => literal(known.value(), NodeKind::Big, at),
+            Leaf::Var(name) => self.range_of_name(name, at, ranges),
         }
     }
 

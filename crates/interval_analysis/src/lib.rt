@@ -15,6 +15,7 @@ mod nodes;
 mod operations;
 mod outlines;
 mod outputs;
+mod shapes;
 mod start;
 mod statements;
 mod variables;

@@ -1,27 +1,23 @@
 //! The ranges of single nodes, whose operands can't fail.
-ghost use Rattle.std.specs.Prelude.{◌≡◌, ◌+◌, ◌<◌, ◌≤◌, ◌^◌, Ok, Some, None};
-ghost use Rattle.scaled_decimal.specs.Limits.{most_places};
-ghost use Rattle.pap_tree.specs.Term.{Term, term_of, unary, value_of, value_of_scaled, new_big, set_scale, operator, method, divide};
-ghost use Rattle.pap_types.specs.Kinds.{kind_of_one, kind_of_operator, wider};
-ghost use Rattle.pap_types.specs.Safety.{bits_of};
-ghost use Rattle.pap_types.specs.Scopes.{Scope};
+ghost use Rattle.std.specs.Prelude.{◌≡◌, ◌+◌, ◌<◌, ◌^◌, Some, None};
+ghost use Rattle.pap_tree.specs.Term.{term_of};
+ghost use Rattle.pap_types.specs.Kinds.{kind_of_one, kind_of_two, wider};
 ghost use Rattle.interval_num.specs.Intervals.{IsWhole};
-ghost use Rattle.interval_num.specs.Rows.{quotient_row};
 ghost use Rattle.interval_walk.specs.Ranges.{single};
-ghost use Rattle.interval_walk.specs.NodeRanges.{read_range, item_range, method_range};
-ghost use Rattle.interval_analysis.specs.OperationViews.{TakesUnary, TakesWholes, TakesShown};
-ghost use Rattle.interval_analysis.specs.ExpressionViews.{OwnAnswer, OneAnswer, TwoAnswer, MethodAnswer, either_range};
+ghost use Rattle.interval_walk.specs.NodeRanges.{read_range, item_range};
+ghost use Rattle.interval_analysis.specs.PlanViews.{scope_in};
+ghost use Rattle.interval_analysis.specs.ShapeViews.{TakesOne, TakesTwo, one_meant, two_meant};
+ghost use Rattle.interval_analysis.specs.ExpressionViews.{OwnAnswer, OneAnswer, TwoAnswer, either_range};
 
 use crate::expressions::{Operands, Part, Ranged, Stop};
-use crate::names::{as_big, single};
-use crate::operations::{
-    at_places, call_range, item_range, operator_range, read, unary_range,
-};
+use crate::names::single;
+use crate::operations::{item_range, one_range, read, two_range};
 use crate::outlines::Outline;
-use interval_num::{Abs, RangeCause, abs_div, abs_set_scale, join};
-use pap_tree::{Binary, Call, Expr, Unary};
-use pap_types::{NodeKind, kind_of_call, kind_of_operator, kind_of_unary};
-use scaled_decimal::{Dec, Mode};
+use crate::shapes::{One, Two};
+use interval_num::{Abs, RangeCause, join};
+use pap_tree::Expr;
+use pap_types::{NodeKind, Typed, kind_of_call, kind_of_operator, kind_of_unary};
+use scaled_decimal::Dec;
 
 /// The answer of a node whose operands can't fail.
 pub(crate) fn own(
@@ -63,105 +59,56 @@ pub(crate) fn item(items: &[Dec], index: Ranged) -> Result<Ranged, Stop>
     )
 }
 
-/// `BigDecimal.valueOf` of an operand.
-pub(crate) fn value_of(operand: &Expr, a: Ranged) -> Result<Ranged, Stop>
-    requires { a.next + 1 < 2 ^ 32 }
-    ensures { OneAnswer value_of (term_of operand.now) a result }
-{
-    own(
-        Ok(as_big(operand, a.range)),
-        NodeKind::Big,
-        a.next,
-    )
-}
-
-/// `BigDecimal.valueOf` with a scale.
-pub(crate) fn value_of_scaled(scale: u8, a: Ranged) -> Result<Ranged, Stop>
-    requires room { a.next + 1 < 2 ^ 32 }
-    requires scale { scale ≤ most_places }
-    ensures { (e : Term) → OneAnswer (value_of_scaled scale) e a result }
-{
-    own(
-        Ok(at_places(a.range, scale)),
-        NodeKind::Big,
-        a.next,
-    )
-}
-
-/// `new BigDecimal` of a whole number.
-pub(crate) fn new_big(a: Ranged) -> Result<Ranged, Stop>
-    requires { a.next + 1 < 2 ^ 32 }
-    ensures { (e : Term) → OneAnswer new_big e a result }
-{
-    own(Ok(a.range), NodeKind::Big, a.next)
-}
-
 /// An operation on one operand.
-pub(crate) fn unary(op: Unary, a: Ranged) -> Result<Ranged, Stop>
+pub(crate) fn one(op: One, operand: &Expr, a: Ranged) -> Result<Ranged, Stop>
     requires room { a.next + 1 < 2 ^ 32 }
-    requires takes { TakesUnary op (bits_of (kind_of_one (unary op) a.kind)) a.range }
-    ensures { (e : Term) → OneAnswer (unary op) e a result }
+    requires takes { TakesOne op (kind_of_one (one_meant op) a.kind) a.range }
+    ensures { OneAnswer (one_meant op) (term_of operand.now) a result }
 {
-    let kind = kind_of_unary(op, a.kind);
-    own(unary_range(op, kind, a.range), kind, a.next)
-}
-
-/// `setScale` of a decimal.
-pub(crate) fn rescaled(scale: u8, mode: Mode, a: Ranged) -> Result<Ranged, Stop>
-    requires room { a.next + 1 < 2 ^ 32 }
-    requires scale { scale ≤ most_places }
-    ensures { (e : Term) → OneAnswer (set_scale scale mode) e a result }
-{
+    let kind = kind_of_one(op, a.kind);
     own(
-        abs_set_scale(a.range, scale, mode),
-        NodeKind::Big,
+        one_range(op, kind, operand, a.range),
+        kind,
         a.next,
     )
 }
 
-/// An operator between whole numbers.
-pub(crate) fn operator(op: Binary, operands: Operands) -> Result<Ranged, Stop>
+fn kind_of_one(op: One, kind: NodeKind) -> NodeKind
+    ensures { result ≡ kind_of_one (one_meant op) kind }
+{
+    match op {
+        One::Unary(op) => kind_of_unary(op, kind),
+        One::ValueOf | One::ValueOfScaled(_) | One::NewInt | One::SetScale(_, _) => NodeKind::Big,
+    }
+}
+
+/// An operation on two operands, of which `right` is the second.
+pub(crate) fn two(
+    plan: &Typed,
+    op: Two,
+    right: &Expr,
+    operands: Operands,
+) -> Result<Ranged, Stop>
     requires room { operands.second.next + 1 < 2 ^ 32 }
-    requires takes { TakesWholes op
-        (bits_of (kind_of_operator op operands.first.kind operands.second.kind))
+    requires takes { TakesTwo (scope_in plan.now) op
+        (kind_of_two (two_meant op) operands.first.kind operands.second.kind) (term_of right.now)
         operands.first.range operands.second.range }
-    ensures { (scope : Scope) (f : Term) → TwoAnswer scope (operator op) f operands result }
+    ensures { TwoAnswer (scope_in plan.now) (two_meant op) (term_of right.now) operands result }
 {
     let Operands { first, second } = operands;
-    let kind = kind_of_operator(op, first.kind, second.kind);
-    own(
-        operator_range(op, kind, first.range, second.range),
-        kind,
-        second.next,
-    )
+    let kind = kind_of_two(op, first.kind, second.kind);
+    let range = two_range(plan, op, kind, right, first.range, second.range);
+    own(range, kind, second.next)
 }
 
-/// A method of one argument; `shown` is the divisor of `divide(d)` that the text shows.
-pub(crate) fn call(method: Call, shown: Option<Dec>, operands: Operands) -> Result<Ranged, Stop>
-    requires room { operands.second.next + 1 < 2 ^ 32 }
-    requires takes { TakesShown method shown }
-    ensures { MethodAnswer method shown operands result }
+fn kind_of_two(op: Two, left: NodeKind, right: NodeKind) -> NodeKind
+    ensures { result ≡ kind_of_two (two_meant op) left right }
 {
-    let Operands { first, second } = operands;
-    own(
-        call_range(method, shown, first.range, second.range),
-        kind_of_call(method),
-        second.next,
-    )
-}
-
-/// `divide` with a scale and a rounding mode.
-pub(crate) fn quotient(scale: u8, mode: Mode, operands: Operands) -> Result<Ranged, Stop>
-    requires room { operands.second.next + 1 < 2 ^ 32 }
-    requires scale { scale ≤ most_places }
-    ensures { (scope : Scope) (f : Term) → TwoAnswer scope (divide scale mode) f operands result }
-{
-    let Operands { first, second } = operands;
-    own(
-        abs_div(first.range, second.range, scale, mode),
-        NodeKind::Big,
-        second.next,
-    )
+    match op {
+        Two::Operator(op) => kind_of_operator(op, left, right),
+        Two::Method(call) => kind_of_call(call),
+        Two::Divide(_, _) => NodeKind::Big,
+    }
 }
 
 /// A conditional with these parts.

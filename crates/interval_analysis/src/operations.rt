@@ -4,19 +4,23 @@ ghost use Rattle.scaled_decimal.specs.Limits.{most_places};
 ghost use Rattle.scaled_decimal.specs.WholeNumbers.{int_bits, long_bits, is_of_bits};
 ghost use Rattle.interval_num.specs.Intervals.{interval, IsWhole, IsWholeOfBits};
 ghost use Rattle.interval_num.specs.Rows.{whole_opposite_row};
-ghost use Rattle.pap_tree.specs.Term.{Term, unary};
+ghost use Rattle.pap_tree.specs.Term.{Term, term_of, unary};
 ghost use Rattle.pap_types.specs.Safety.{bits_of};
 ghost use Rattle.pap_types.specs.declared.kinds.NodeKind.{NodeKind};
-ghost use Rattle.interval_walk.specs.NodeRanges.{read_range, operator_range, one_range, method_range, shown_range, comparison_range, item_range};
+ghost use Rattle.interval_walk.specs.NodeRanges.{read_range, operator_range, one_range, two_range, method_range, shown_range, comparison_range, item_range};
+ghost use Rattle.interval_analysis.specs.PlanViews.{scope_in};
+ghost use Rattle.interval_analysis.specs.ShapeViews.{TakesOne, TakesTwo, one_meant, two_meant};
 ghost use Rattle.interval_analysis.specs.OperationViews.{TakesWholes, TakesUnary, TakesShown, IsPlainShown, read_fitting};
 
+use crate::names::as_big;
+use crate::shapes::{One, Two};
 use interval_num::{
-    Abs, RangeCause, abs_abs, abs_add, abs_cmp, abs_div_exact, abs_item, abs_max, abs_min, abs_mul,
-    abs_neg, abs_sub, int_add, int_div, int_mul, int_neg, int_rem, int_sub, long_add, long_div,
+    Abs, RangeCause, abs_abs, abs_add, abs_cmp, abs_div, abs_div_exact, abs_item, abs_max, abs_min,
+    abs_mul, abs_neg, abs_set_scale, abs_sub, int_add, int_div, int_mul, int_neg, int_rem, int_sub, long_add, long_div,
     long_mul, long_neg, long_rem, long_sub,
 };
-use pap_tree::{Binary, Call, Unary};
-use pap_types::NodeKind;
+use pap_tree::{Binary, Call, Expr, Unary};
+use pap_types::{NodeKind, Typed};
 use scaled_decimal::Dec;
 
 /// The range of what is read of a kind: that of a whole number has the bits of its kind.
@@ -60,8 +64,46 @@ fn is_long(n: i128) -> bool
     -9_223_372_036_854_775_808 <= n && n < 9_223_372_036_854_775_808
 }
 
+/// The range of an operation on one operand, whose result is of a kind.
+pub(crate) fn one_range(
+    op: One,
+    kind: NodeKind,
+    operand: &Expr,
+    a: Abs,
+) -> Result<Abs, RangeCause>
+    requires { TakesOne op kind a }
+    ensures { result ≡ one_range (one_meant op) kind (term_of operand.now) a }
+{
+    match op {
+        One::Unary(op) => unary_range(op, kind, a),
+        One::ValueOf => Ok(as_big(operand, a)),
+        One::ValueOfScaled(scale) => Ok(at_places(a, scale)),
+        One::NewInt => Ok(a),
+        One::SetScale(scale, mode) => abs_set_scale(a, scale, mode),
+    }
+}
+
+/// The range of an operation on two operands, whose result is of a kind.
+pub(crate) fn two_range(
+    plan: &Typed,
+    op: Two,
+    kind: NodeKind,
+    right: &Expr,
+    a: Abs,
+    b: Abs,
+) -> Result<Abs, RangeCause>
+    requires { TakesTwo (scope_in plan.now) op kind (term_of right.now) a b }
+    ensures { result ≡ two_range (scope_in plan.now) (two_meant op) kind (term_of right.now) a b }
+{
+    match op {
+        Two::Operator(op) => operator_range(op, kind, a, b),
+        Two::Method(call) => call_range(call, plan.shown_divisor(right), a, b),
+        Two::Divide(scale, mode) => abs_div(a, b, scale, mode),
+    }
+}
+
 /// The range of an operation on one operand, whose result is of a kind. A truth has none.
-pub(crate) fn unary_range(op: Unary, kind: NodeKind, a: Abs) -> Result<Abs, RangeCause>
+fn unary_range(op: Unary, kind: NodeKind, a: Abs) -> Result<Abs, RangeCause>
     requires { TakesUnary op (bits_of kind) a }
     ensures { (e : Term) → result ≡ one_range (unary op) kind e a }
 {
@@ -84,7 +126,7 @@ fn whole_opposite(kind: NodeKind, a: Abs) -> Result<Abs, RangeCause>
 }
 
 /// The range of an operator between whole numbers, whose result is of a kind. A truth has none.
-pub(crate) fn operator_range(op: Binary, kind: NodeKind, a: Abs, b: Abs) -> Result<Abs, RangeCause>
+fn operator_range(op: Binary, kind: NodeKind, a: Abs, b: Abs) -> Result<Abs, RangeCause>
     requires { TakesWholes op (bits_of kind) a b }
     ensures { result ≡ operator_range op (bits_of kind) a b }
 {
@@ -123,7 +165,7 @@ fn long_operator(op: Binary, a: Abs, b: Abs) -> Result<Abs, RangeCause>
 }
 
 /// The range of a method's result; `shown` is the divisor of `divide(d)` that the text shows.
-pub(crate) fn call_range(call: Call, shown: Option<Dec>, a: Abs, b: Abs) -> Result<Abs, RangeCause>
+fn call_range(call: Call, shown: Option<Dec>, a: Abs, b: Abs) -> Result<Abs, RangeCause>
     requires { TakesShown call shown }
     ensures { result ≡ method_range call shown a b }
 {
@@ -181,7 +223,7 @@ pub(crate) fn item_range(items: &[Dec], index: Abs) -> Result<Abs, RangeCause>
 }
 
 /// The range with its ends as numerators at another scale.
-pub(crate) fn at_places(range: Abs, scale: u8) -> Abs
+fn at_places(range: Abs, scale: u8) -> Abs
     requires { scale ≤ most_places }
     ensures { result ≡ interval range.lo range.hi scale scale }
 {

@@ -1,30 +1,196 @@
-use Rattle.std.proofs.Common.{◌≡◌, ◌∙◌, Ok, false, ap, ap₂, sym, subst, arith}
-use Rattle.scaled_decimal.specs.Decimals.{decimal}
-use Rattle.pap_tree.specs.Term.{term_of, unary}
-use Rattle.pap_types.specs.Kinds.{kind_of, kind_of_one, kind_of_operator}
-use Rattle.pap_types.specs.Safety.{bits_of}
-use Rattle.interval_walk.specs.Branches.{signs_where}
-use Rattle.std.specs.Int.{w32}
-use Rattle.std.proofs.lemmas.Int.{to_z-of_z}
-use Rattle.interval_walk.specs.Failures.{at_node}
-use Rattle.interval_walk.specs.NodeRanges.{read_range}
-use Rattle.interval_walk.specs.Branches as meant
-use Rattle.interval_walk.specs.Ranges.{single}
-use Rattle.interval_walk.specs.Shapes.{HasShape}
-use Rattle.pap_types.specs.declared.kinds.NodeKind.TheVariants.{Int}
-use Rattle.interval_walk.proofs.Laws.{ranged_shape, passed_node, compared_aligned, comparison_row_aligned}
-use Rattle.interval_analysis.specs.PlanViews.{scope_in, ranges_in}
-use Rattle.interval_analysis.specs.OperationViews.{TakesUnary, TakesWholes}
-use Rattle.interval_analysis.specs.ComparisonViews.{HasRange, branches_in}
-use Rattle.interval_analysis.specs.ExpressionViews.{StopsAs}
+use Rattle.std.proofs.Common.{◌≡◌, ◌∙◌, ◌+◌, Ok, sym, ap, subst, arith}
+use Rattle.pap_tree.specs.Numbering.{nodes}
+use Rattle.pap_tree.specs.Term.{term_of, item, one, two, operator}
+use Rattle.interval_analysis.specs.PlanViews.{ranges_in, ranges_after}
+use Rattle.interval_analysis.specs.ComparisonViews.{branches_in}
+use Rattle.interval_analysis.specs.ShapeViews.{one_meant, two_meant}
+use Rattle.interval_analysis.specs.ExpressionViews.{CanWalk, IsPartRanged, RangeAnswer, StopsAs, part_ranged}
+use Rattle.interval_analysis.specs.TestViews.{TestAnswer, comparison, comparison_in}
 use Rattle.interval_analysis.specs.Connectives.{FollowAnswer, connected}
 use Rattle.interval_analysis.specs.Notes.{IsTold}
+use Rattle.interval_analysis.proofs.NodeLemmas.{can_item, can_one, can_two, first_stops, item_answer, item_stops, one_answer, one_stops, parts_answer, parts_err, range_err, second_stops, two_answer, two_stops}
 use Rattle.interval_analysis.proofs.ExpressionLemmas.{plain_answer, comparison_stops}
 use Rattle.interval_analysis.proofs.ConnectiveLemmas.{both_followed, sequence_tested}
 use Rattle.interval_analysis.proofs.NoteLemmas.{since}
 use Rattle.interval_analysis.proofs.VariableLemmas.{goes_apply, goes_left, goes_then, held_left}
-use Rattle.interval_analysis.proofs.ComparisonLemmas.{widened, takes_unary, takes_wholes, takes_shown, index_whole, left_whole, right_whole, has_range, sides_answer, compare_to_answer, compare_to_stops, literal_stops}
+use Rattle.interval_analysis.proofs.ComparisonLemmas.{are_sides, can_inner, order_answer, order_stops, sides_answer, takes_index, takes_operand, takes_operands, tests_err}
 use Rattle.interval_analysis.proofs.expressions.Walk.+walk.Goals as goal
+
+-- ---- an expression by its shape
+
+pub range_of-range_of-requires : goal.range_of-range_of-requires
+range_of-range_of-requires t c =
+    let is = c.in-Item.ensures in
+    let count = ap nodes is in
+    (omega (arith, count, c.decreases), (can_item c.args.self.now c.args.at c.in-Item.name.now (term_of c.in-Item.index.now) (subst (λ t. CanWalk c.args.self.now t c.args.at) is c.requires.walk), c.requires.held))
+
+pub range_of-range_of-requires-in-One : goal.range_of-range_of-requires-in-One
+range_of-range_of-requires-in-One t c =
+    let is = c.in-One.ensures in
+    let count = ap nodes is in
+    (omega (arith, count, c.decreases), (can_one c.args.self.now c.args.at (one_meant c.in-One.op) (term_of c.in-One.operand.now) (subst (λ t. CanWalk c.args.self.now t c.args.at) is c.requires.walk), c.requires.held))
+
+pub range_of-operands-requires : goal.range_of-operands-requires
+range_of-operands-requires t c =
+    let is = c.in-Two.ensures in
+    let count = ap nodes is in
+    (omega (arith, count, c.decreases), (can_two c.args.self.now c.args.at (two_meant c.in-Two.op) (term_of c.in-Two.left.now) (term_of c.in-Two.right.now) (subst (λ t. CanWalk c.args.self.now t c.args.at) is c.requires.walk), c.requires.held))
+
+pub range_of-item-requires-clause-whole : goal.range_of-item-requires-clause-whole
+range_of-item-requires-clause-whole t c =
+    takes_index c.args.self.now c.args.at c.args.variables.now.ranges.items c.in-Item.name.now (term_of c.in-Item.index.now) c.in_ok-chosen-in-Item.chosen
+    (subst (λ t. CanWalk c.args.self.now t c.args.at) c.in-Item.ensures c.requires.walk) c.in_ok-chosen-in-Item.ensures.answer
+
+pub range_of-one-requires-clause-takes : goal.range_of-one-requires-clause-takes
+range_of-one-requires-clause-takes t c =
+    takes_operand c.args.self.now c.args.at c.args.variables.now.ranges.items c.in-One.op (term_of c.in-One.operand.now) c.in_ok-a-in-One.a
+    (subst (λ t. CanWalk c.args.self.now t c.args.at) c.in-One.ensures c.requires.walk) c.in_ok-a-in-One.ensures.answer
+
+pub range_of-two-requires-clause-takes : goal.range_of-two-requires-clause-takes
+range_of-two-requires-clause-takes t c =
+    takes_operands c.args.self.now c.args.at c.args.variables.now.ranges.items c.in-Two.op (term_of c.in-Two.left.now) (term_of c.in-Two.right.now) c.in_ok-operands-in-Two.operands
+    (subst (λ t. CanWalk c.args.self.now t c.args.at) c.in-Two.ensures c.requires.walk) c.in_ok-operands-in-Two.ensures.answer
+
+pub range_of-returns-in_ok-chosen-in-Item-clause-answer : goal.range_of-returns-in_ok-chosen-in-Item-clause-answer
+range_of-returns-in_ok-chosen-in-Item-clause-answer t c =
+    let w = c.args.self.now in
+    let rs = c.args.variables.now.ranges.items in
+    subst (λ t. RangeAnswer w t c.args.at rs c.item.result) (sym c.in-Item.ensures)
+    (item_answer w c.args.at rs c.in-Item.name.now (term_of c.in-Item.index.now) c.table.result.now c.in_ok-chosen-in-Item.chosen c.item.result c.table.ensures c.in_ok-chosen-in-Item.ensures.answer c.item.ensures)
+
+pub range_of-returns-in_ok-a-in-One-clause-answer : goal.range_of-returns-in_ok-a-in-One-clause-answer
+range_of-returns-in_ok-a-in-One-clause-answer t c =
+    let w = c.args.self.now in
+    let rs = c.args.variables.now.ranges.items in
+    subst (λ t. RangeAnswer w t c.args.at rs c.one.result) (sym c.in-One.ensures)
+    (one_answer w c.args.at rs (one_meant c.in-One.op) (term_of c.in-One.operand.now) c.in_ok-a-in-One.a c.one.result c.in_ok-a-in-One.ensures.answer c.one.ensures)
+
+pub range_of-returns-in_ok-operands-in-Two-clause-answer : goal.range_of-returns-in_ok-operands-in-Two-clause-answer
+range_of-returns-in_ok-operands-in-Two-clause-answer t c =
+    let w = c.args.self.now in
+    let rs = c.args.variables.now.ranges.items in
+    subst (λ t. RangeAnswer w t c.args.at rs c.two.result) (sym c.in-Two.ensures)
+    (two_answer w c.args.at rs (two_meant c.in-Two.op) (term_of c.in-Two.left.now) (term_of c.in-Two.right.now) c.in_ok-operands-in-Two.operands c.two.result c.in_ok-operands-in-Two.ensures.answer c.two.ensures)
+
+pub range_of-returns-in_err-chosen-in-Item-clause-answer : goal.range_of-returns-in_err-chosen-in-Item-clause-answer
+range_of-returns-in_err-chosen-in-Item-clause-answer t c =
+    let w = c.args.self.now in
+    let rs = c.args.variables.now.ranges.items in
+    let stop = c.in_err-chosen-in-Item.field-0.0 in
+    let x = c.in-Item.name.now in
+    let e = term_of c.in-Item.index.now in
+    subst (λ t. RangeAnswer w t c.args.at rs c.from_residual.result) (sym c.in-Item.ensures)
+    (range_err w c.args.at rs (item x e) stop c.from_residual.result c.from_residual.ensures.1 (item_stops w c.args.at rs x e stop c.in_err-chosen-in-Item.ensures.answer))
+
+pub range_of-returns-in_err-a-in-One-clause-answer : goal.range_of-returns-in_err-a-in-One-clause-answer
+range_of-returns-in_err-a-in-One-clause-answer t c =
+    let w = c.args.self.now in
+    let rs = c.args.variables.now.ranges.items in
+    let stop = c.in_err-a-in-One.field-0.0 in
+    let op = one_meant c.in-One.op in
+    let e = term_of c.in-One.operand.now in
+    let res = c.from_residual-in_err-a-in-One.result in
+    subst (λ t. RangeAnswer w t c.args.at rs res) (sym c.in-One.ensures)
+    (range_err w c.args.at rs (one op e) stop res c.from_residual-in_err-a-in-One.ensures.1 (one_stops w c.args.at rs op e stop c.in_err-a-in-One.ensures.answer))
+
+pub range_of-returns-in_err-operands-in-Two-clause-answer : goal.range_of-returns-in_err-operands-in-Two-clause-answer
+range_of-returns-in_err-operands-in-Two-clause-answer t c =
+    let w = c.args.self.now in
+    let rs = c.args.variables.now.ranges.items in
+    let stop = c.in_err-operands-in-Two.field-0.0 in
+    let op = two_meant c.in-Two.op in
+    let e = term_of c.in-Two.left.now in
+    let f = term_of c.in-Two.right.now in
+    let res = c.from_residual-in_err-operands-in-Two.result in
+    subst (λ t. RangeAnswer w t c.args.at rs res) (sym c.in-Two.ensures)
+    (range_err w c.args.at rs (two op e f) stop res c.from_residual-in_err-operands-in-Two.ensures.1 (two_stops w c.args.at rs op e f stop c.in_err-operands-in-Two.ensures.answer))
+
+-- ---- the parts of a conditional
+
+pub range_of_parts-returns-in_err-one-clause-answer : goal.range_of_parts-returns-in_err-one-clause-answer
+range_of_parts-returns-in_err-one-clause-answer t c =
+    let w = c.args.self.now in
+    let br = branches_in w.plan.now c.args.variables.now.ranges.items c.args.branches.now in
+    let stop = c.in_err-one.field-0.0 in
+    parts_err w (term_of c.args.first.now) (term_of c.args.second.now) c.args.at br stop c.from_residual.result c.from_residual.ensures.1
+    (first_stops w (term_of c.args.first.now) (term_of c.args.second.now) c.args.at br stop c.in_err-one.ensures.answer)
+
+pub range_of_parts-returns-in_err-other-clause-answer : goal.range_of_parts-returns-in_err-other-clause-answer
+range_of_parts-returns-in_err-other-clause-answer t c =
+    let w = c.args.self.now in
+    let p = w.plan.now in
+    let u = term_of c.args.second.now in
+    let br = branches_in p c.args.variables.now.ranges.items c.args.branches.now in
+    let one = c.in_ok-one.one in
+    let stop = c.in_err-other.field-0.0 in
+    let h = subst (λ rs. StopsAs (part_ranged w u one.next (ranges_after p rs c.args.branches.now.fails)) stop) c.in_ok-one.ensures.left.ranges c.in_err-other.ensures.answer in
+    parts_err w (term_of c.args.first.now) u c.args.at br stop c.from_residual-in_err-other.result c.from_residual-in_err-other.ensures.1
+    (second_stops w (term_of c.args.first.now) u c.args.at br one c.in_ok-one.ensures.answer stop h)
+
+pub range_of_parts-returns-clause-answer : goal.range_of_parts-returns-clause-answer
+range_of_parts-returns-clause-answer t c =
+    let w = c.args.self.now in
+    let p = w.plan.now in
+    let u = term_of c.args.second.now in
+    let br = branches_in p c.args.variables.now.ranges.items c.args.branches.now in
+    let one = c.in_ok-one.one in
+    let other = c.in_ok-other.other in
+    let second = subst (λ rs. IsPartRanged w u one.next (ranges_after p rs c.args.branches.now.fails) other) c.in_ok-one.ensures.left.ranges c.in_ok-other.ensures.answer in
+    parts_answer w (term_of c.args.first.now) u c.args.at br one c.in_ok-one.ensures.answer other c.either.result second c.either.ensures
+
+-- ---- tests
+
+pub test-returns-in-Binary-clause-answer : goal.test-returns-in-Binary-clause-answer
+test-returns-in-Binary-clause-answer t c =
+    subst (λ t. TestAnswer c.args.self.now t c.args.at c.args.variables.now.ranges.items c.test_operator.result) (sym (ap term_of c.in-Binary.is)) c.test_operator.ensures.answer
+
+pub test_comparison-compare_order-requires-clause-sides : goal.test_comparison-compare_order-requires-clause-sides
+test_comparison-compare_order-requires-clause-sides t c =
+    let i = c.in-Some.inner in
+    are_sides c.args.self.now (term_of i.left.now) (term_of i.right.now) c.args.at c.deref.result.now c.args.variables.now.ranges.items c.in_ok-operands-in-Some.operands
+    (c.deref.ensures.value ∙ c.in_ok-operands-in-Some.ensures.left.ranges) c.requires.held.sized
+    (can_inner c.args.self.now c.args.op (term_of c.args.left.now) (term_of c.args.right.now) i c.args.at c.in-Some.ensures c.requires.walk)
+    c.in_ok-operands-in-Some.ensures.answer
+
+pub test_comparison-compare_sides-requires-clause-sides : goal.test_comparison-compare_sides-requires-clause-sides
+test_comparison-compare_sides-requires-clause-sides t c =
+    let e = term_of c.args.left.now in
+    let f = term_of c.args.right.now in
+    are_sides c.args.self.now e f c.args.at c.deref-in-None.result.now c.args.variables.now.ranges.items c.in_ok-operands-in-None.operands
+    (c.deref-in-None.ensures.value ∙ c.in_ok-operands-in-None.ensures.left.ranges) c.requires.held.sized
+    (can_two c.args.self.now c.args.at (operator c.args.op) e f c.requires.walk)
+    c.in_ok-operands-in-None.ensures.answer
+
+pub test_comparison-returns-in_err-operands-in-Some-clause-answer : goal.test_comparison-returns-in_err-operands-in-Some-clause-answer
+test_comparison-returns-in_err-operands-in-Some-clause-answer t c =
+    let w = c.args.self.now in
+    let e = term_of c.args.left.now in
+    let f = term_of c.args.right.now in
+    let rs = c.args.variables.now.ranges.items in
+    let stop = c.in_err-operands-in-Some.field-0.0 in
+    tests_err w (comparison_in w (comparison c.args.op e f) c.args.at (ranges_in w.plan.now rs)) (c.args.at + nodes e + nodes f + 1) rs stop c.from_residual.result c.from_residual.ensures.1
+    (order_stops w c.args.op e f c.in-Some.inner c.args.at rs stop c.in-Some.ensures c.in_err-operands-in-Some.ensures.answer)
+
+pub test_comparison-returns-in_err-operands-in-None-clause-answer : goal.test_comparison-returns-in_err-operands-in-None-clause-answer
+test_comparison-returns-in_err-operands-in-None-clause-answer t c =
+    let w = c.args.self.now in
+    let e = term_of c.args.left.now in
+    let f = term_of c.args.right.now in
+    let rs = c.args.variables.now.ranges.items in
+    let stop = c.in_err-operands-in-None.field-0.0 in
+    let res = c.from_residual-in_err-operands-in-None.result in
+    tests_err w (comparison_in w (comparison c.args.op e f) c.args.at (ranges_in w.plan.now rs)) (c.args.at + nodes e + nodes f + 1) rs stop res c.from_residual-in_err-operands-in-None.ensures.1
+    (comparison_stops w c.args.op e f c.args.at rs stop c.in_err-operands-in-None.ensures.answer)
+
+pub test_comparison-returns-in_ok-operands-in-Some-clause-answer : goal.test_comparison-returns-in_ok-operands-in-Some-clause-answer
+test_comparison-returns-in_ok-operands-in-Some-clause-answer t c =
+    order_answer c.args.self.now c.args.op (term_of c.args.left.now) (term_of c.args.right.now) c.in-Some.inner c.args.at c.deref.result.now c.args.variables.now.ranges.items c.in_ok-operands-in-Some.operands c.compare_order.result
+    (c.deref.ensures.value ∙ c.in_ok-operands-in-Some.ensures.left.ranges) c.in-Some.ensures c.in_ok-operands-in-Some.ensures.answer c.compare_order.ensures
+
+pub test_comparison-returns-in_ok-operands-in-None-clause-answer : goal.test_comparison-returns-in_ok-operands-in-None-clause-answer
+test_comparison-returns-in_ok-operands-in-None-clause-answer t c =
+    sides_answer c.args.self.now c.args.op (term_of c.args.left.now) (term_of c.args.right.now) c.args.at c.args.variables.now.ranges.items c.in_ok-operands-in-None.operands c.in_ok-operands-in-None.ensures.answer c.deref-in-None.result.now c.compare_sides.result
+    (c.deref-in-None.ensures.value ∙ c.in_ok-operands-in-None.ensures.left.ranges) c.in-None.ensures c.compare_sides.ensures
 
 pub test_operator-returns-in_default : goal.test_operator-returns-in_default
 test_operator-returns-in_default t c = record {
@@ -34,7 +200,7 @@ test_operator-returns-in_default t c = record {
 
 pub range_where-range_of-requires : goal.range_where-range_of-requires
 range_where-range_of-requires t c =
-    (omega (arith, c.decreases), (c.requires.walk, (goes_apply c.args.self.now.plan.now c.args.variables.now c.apply.new.self c.args.changes.now c.requires.held c.in_ok-apply.ensures.value c.in_ok-apply.ensures.noted c.in_ok-apply.ensures.kept).held))
+    (omega (arith, c.decreases), (c.requires.walk, (goes_apply c.args.self.now.plan.now c.args.variables.now c.apply.new.self c.deref.result.now c.requires.held c.in_ok-apply.ensures.value c.in_ok-apply.ensures.noted c.in_ok-apply.ensures.kept).held))
 
 pub follow_part-returns-clause-on : goal.follow_part-returns-clause-on
 follow_part-returns-clause-on t c =
