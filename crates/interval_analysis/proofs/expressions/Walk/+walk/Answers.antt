@@ -1,11 +1,13 @@
-use Rattle.std.proofs.Common.{◌≡◌, ◌∙◌, ◌+◌, Ok, sym, ap, subst, arith}
+use Rattle.std.proofs.Common.{◌≡◌, ◌∙◌, ◌+◌, Ok, sym, ap, subst, arith, rules, to_z, of_z}
+use Rattle.std.proofs.lemmas.Int.{ints}
+use Rattle.std.specs.Int.{w32}
 use Rattle.pap_tree.specs.Numbering.{nodes}
 use Rattle.pap_tree.specs.Term.{term_of, item, one, two, operator}
 use Rattle.interval_analysis.specs.PlanViews.{ranges_in, ranges_after}
 use Rattle.interval_analysis.specs.ComparisonViews.{branches_in}
 use Rattle.interval_analysis.specs.ShapeViews.{one_meant, two_meant}
 use Rattle.interval_analysis.specs.ExpressionViews.{CanWalk, IsPartRanged, RangeAnswer, StopsAs, part_ranged}
-use Rattle.interval_analysis.specs.TestViews.{TestAnswer, comparison, comparison_in}
+use Rattle.interval_analysis.specs.TestViews.{TestAnswer, TestsAs, comparison, comparison_in, order_compared}
 use Rattle.interval_analysis.specs.Connectives.{FollowAnswer, connected}
 use Rattle.interval_analysis.specs.Notes.{IsTold}
 use Rattle.interval_analysis.proofs.NodeLemmas.{can_item, can_one, can_two, first_stops, item_answer, item_stops, one_answer, one_stops, parts_answer, parts_err, range_err, second_stops, two_answer, two_stops}
@@ -142,7 +144,8 @@ range_of_parts-returns-clause-answer t c =
 
 pub test-returns-in-Binary-clause-answer : goal.test-returns-in-Binary-clause-answer
 test-returns-in-Binary-clause-answer t c =
-    subst (λ t. TestAnswer c.args.self.now t c.args.at c.args.variables.now.ranges.items c.test_operator.result) (sym (ap term_of c.in-Binary.is)) c.test_operator.ensures.answer
+    let is : term_of c.args.e.now ≡ two (operator c.in-Binary.op) (term_of c.deref-in-Binary.result.now) (term_of c.deref-in-Binary-2.result.now) = search rules in
+    subst (λ t. TestAnswer c.args.self.now t c.args.at c.args.variables.now.ranges.items c.test_operator.result) (sym is) c.test_operator.ensures.answer
 
 pub test_comparison-compare_order-requires-clause-sides : goal.test_comparison-compare_order-requires-clause-sides
 test_comparison-compare_order-requires-clause-sides t c =
@@ -184,8 +187,14 @@ test_comparison-returns-in_err-operands-in-None-clause-answer t c =
 
 pub test_comparison-returns-in_ok-operands-in-Some-clause-answer : goal.test_comparison-returns-in_ok-operands-in-Some-clause-answer
 test_comparison-returns-in_ok-operands-in-Some-clause-answer t c =
+    let w = c.args.self.now in
+    let i = c.in-Some.inner in
+    let o = c.in_ok-operands-in-Some.operands in
+    let now = c.deref.result.now in
+    let number : to_z w32 (of_z w32 i.number) ≡ i.number = omega (arith, ints) in
+    let tests = subst (λ k. TestsAs w (order_compared w c.args.op (term_of i.left.now) (term_of i.right.now) k o now) (o.second.next + 3) now c.compare_order.result) number c.compare_order.ensures in
     order_answer c.args.self.now c.args.op (term_of c.args.left.now) (term_of c.args.right.now) c.in-Some.inner c.args.at c.deref.result.now c.args.variables.now.ranges.items c.in_ok-operands-in-Some.operands c.compare_order.result
-    (c.deref.ensures.value ∙ c.in_ok-operands-in-Some.ensures.left.ranges) c.in-Some.ensures c.in_ok-operands-in-Some.ensures.answer c.compare_order.ensures
+    (c.deref.ensures.value ∙ c.in_ok-operands-in-Some.ensures.left.ranges) c.in-Some.ensures c.in_ok-operands-in-Some.ensures.answer tests
 
 pub test_comparison-returns-in_ok-operands-in-None-clause-answer : goal.test_comparison-returns-in_ok-operands-in-None-clause-answer
 test_comparison-returns-in_ok-operands-in-None-clause-answer t c =
