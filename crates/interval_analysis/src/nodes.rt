@@ -20,11 +20,7 @@ use pap_types::{NodeKind, Typed, kind_of_call, kind_of_operator, kind_of_unary};
 use scaled_decimal::Dec;
 
 /// The answer of a node whose operands can't fail.
-pub(crate) fn own(
-    range: Result<Abs, RangeCause>,
-    kind: NodeKind,
-    at: u32,
-) -> Result<Ranged, Stop>
+pub(crate) fn own(range: Result<Abs, RangeCause>, kind: NodeKind, at: u32) -> Result<Ranged, Stop>
     requires { at + 1 < 2 ^ 32 }
     ensures { OwnAnswer range kind at result }
 {
@@ -52,11 +48,7 @@ pub(crate) fn item(items: &[Dec], index: Ranged) -> Result<Ranged, Stop>
     requires whole { IsWhole index.range }
     ensures { OwnAnswer (item_range items.now index.range) NodeKind.Big index.next result }
 {
-    own(
-        item_range(items, index.range),
-        NodeKind::Big,
-        index.next,
-    )
+    own(item_range(items, index.range), NodeKind::Big, index.next)
 }
 
 /// An operation on one operand.
@@ -66,11 +58,7 @@ pub(crate) fn one(op: One, operand: &Expr, a: Ranged) -> Result<Ranged, Stop>
     ensures { OneAnswer (one_meant op) (term_of operand.now) a result }
 {
     let kind = kind_of_one(op, a.kind);
-    own(
-        one_range(op, kind, operand, a.range),
-        kind,
-        a.next,
-    )
+    own(one_range(op, kind, operand, a.range), kind, a.next)
 }
 
 fn kind_of_one(op: One, kind: NodeKind) -> NodeKind
@@ -83,12 +71,7 @@ fn kind_of_one(op: One, kind: NodeKind) -> NodeKind
 }
 
 /// An operation on two operands, of which `right` is the second.
-pub(crate) fn two(
-    plan: &Typed,
-    op: Two,
-    right: &Expr,
-    operands: Operands,
-) -> Result<Ranged, Stop>
+pub(crate) fn two(plan: &Typed, op: Two, right: &Expr, operands: Operands) -> Result<Ranged, Stop>
     requires room { operands.second.next + 1 < 2 ^ 32 }
     requires takes { TakesTwo (scope_in plan.now) op
         (kind_of_two (two_meant op) operands.first.kind operands.second.kind) (term_of right.now)

@@ -16,8 +16,8 @@ use crate::names::as_big;
 use crate::shapes::{One, Two};
 use interval_num::{
     Abs, RangeCause, abs_abs, abs_add, abs_cmp, abs_div, abs_div_exact, abs_item, abs_max, abs_min,
-    abs_mul, abs_neg, abs_set_scale, abs_sub, int_add, int_div, int_mul, int_neg, int_rem, int_sub, long_add, long_div,
-    long_mul, long_neg, long_rem, long_sub,
+    abs_mul, abs_neg, abs_set_scale, abs_sub, int_add, int_div, int_mul, int_neg, int_rem, int_sub,
+    long_add, long_div, long_mul, long_neg, long_rem, long_sub,
 };
 use pap_tree::{Binary, Call, Expr, Unary};
 use pap_types::{NodeKind, Typed};
@@ -65,12 +65,7 @@ fn is_long(n: i128) -> bool
 }
 
 /// The range of an operation on one operand, whose result is of a kind.
-pub(crate) fn one_range(
-    op: One,
-    kind: NodeKind,
-    operand: &Expr,
-    a: Abs,
-) -> Result<Abs, RangeCause>
+pub(crate) fn one_range(op: One, kind: NodeKind, operand: &Expr, a: Abs) -> Result<Abs, RangeCause>
     requires { TakesOne op kind a }
     ensures { result ≡ one_range (one_meant op) kind (term_of operand.now) a }
 {
