@@ -1,13 +1,14 @@
 -- A decimal without the zeros that end it, as a function.
-use Rattle.std.proofs.Common.{◌≡◌, ℕ, zero, suc, ◌+◌, ◌-◌, Bool, true, false, if◌then◌else◌, ℤ, pos, negsuc, ◌*ℤ◌, int_div, int_rem, refl, sym, ap, ◌∙◌, arith}
+use Rattle.std.proofs.Common.{◌≡◌, ℕ, zero, suc, ◌+◌, ◌-◌, ◌<◌, ◌≤◌, nat_lt, Bool, true, false, if◌then◌else◌, ℤ, pos, negsuc, ◌*ℤ◌, int_div, int_rem, refl, sym, ap, ◌∙◌, subst, arith}
 use Rattle.std.specs.Ordering.{int_eq}
 use Rattle.std.proofs.lemmas.Int.{ints, quot-rem}
 use Rattle.std.proofs.lemmas.Bool.Decides.{nat_tests}
-use Rattle.scaled_decimal.specs.Decimals.{decimal, numerator_of, scale_of, ten_to}
+use Rattle.scaled_decimal.specs.Decimals.{Decimal, decimal, numerator_of, scale_of, ten_to}
 use Rattle.scaled_decimal.specs.Shortening.{IsShortened}
-use Rattle.scaled_decimal.specs.ShortenedDecimals.{without_zeros}
+use Rattle.scaled_decimal.specs.ExactQuotients.{Divides}
+use Rattle.scaled_decimal.specs.ShortenedDecimals.{without_zeros, shortened}
 use Rattle.scaled_decimal.specs.laws.IntegerLemmas.{times_assoc}
-use Rattle.scaled_decimal.proofs.ExactLemmas.{rem_from_divides}
+use Rattle.scaled_decimal.proofs.ExactLemmas.{rem_from_divides, divides_from_rem}
 use Rattle.scaled_decimal.proofs.PowerLemmas.{ten_add}
 
 zero_from_test : (z : ℤ) → int_eq z (pos 0) ≡ true → z ≡ pos 0
@@ -50,3 +51,40 @@ without_zeros_is least (suc more) n = by_test (int_eq (int_rem n (pos 10)) (pos 
           same = rw none (omega (arith, ints));
           short = λ h. absurd (apart (sym (test_from_zero (int_rem n (pos 10)) (rem_from_divides (pos 10) n (omega (arith, ints)) h)) ∙ e));
         }
+
+-- the same value without the zeros that end it
+pub shortened_is : (least : ℕ) (a : Decimal) → least ≤ scale_of a → IsShortened a least (shortened least a)
+shortened_is least a h =
+    let whole : least + (scale_of a - least) ≡ scale_of a = omega arith in
+    let enough : nat_lt (scale_of a) least ≡ false = grind (arith, nat_tests) in
+    rw enough (subst (λ s. IsShortened (decimal (numerator_of a) s) least (without_zeros least (scale_of a - least) (numerator_of a))) whole (without_zeros_is least (scale_of a - least) (numerator_of a)))
+
+-- ---- a step of the code
+
+one_less : (least k : ℕ) (n : ℤ) → Divides (pos 10) n → without_zeros least (suc k) n ≡ without_zeros least k (int_div n (pos 10))
+one_less least k n h = rw (test_from_zero (int_rem n (pos 10)) (rem_from_divides (pos 10) n (omega (arith, ints)) h)) refl
+
+pub fewer : (least s : ℕ) (n : ℤ) → least < s → Divides (pos 10) n → shortened least (decimal n s) ≡ shortened least (decimal (int_div n (pos 10)) (s - 1))
+fewer least s n some h =
+    let places : s - least ≡ suc (s - 1 - least) = omega arith in
+    let enough : nat_lt s least ≡ false = grind (arith, nat_tests) in
+    let still : nat_lt (s - 1) least ≡ false = grind (arith, nat_tests) in
+    rw (enough, still, places) (one_less least (s - 1 - least) n h)
+
+-- no zero may go
+last : (least k : ℕ) (n : ℤ) → (least < least + k → Divides (pos 10) n → ⊥) → without_zeros least k n ≡ decimal n (least + k)
+last least zero n none = ap (λ s. decimal n s) (omega arith)
+last least (suc k) n none = by_test (int_eq (int_rem n (pos 10)) (pos 0)) refl
+  where
+    by_test : (t : Bool) → int_eq (int_rem n (pos 10)) (pos 0) ≡ t → without_zeros least (suc k) n ≡ decimal n (least + suc k)
+    by_test true e = absurd (none (omega arith) (divides_from_rem (pos 10) n (zero_from_test (int_rem n (pos 10)) e)))
+    by_test false e = rw e refl
+
+pub stays : (least s : ℕ) (n : ℤ) → (least < s → Divides (pos 10) n → ⊥) → shortened least (decimal n s) ≡ decimal n s
+stays least s n none = by_test (nat_lt s least) refl
+  where
+    by_test : (t : Bool) → nat_lt s least ≡ t → shortened least (decimal n s) ≡ decimal n s
+    by_test true e = rw e refl
+    by_test false e =
+        let whole : least + (s - least) ≡ s = grind (arith, nat_tests) in
+        rw e (last least (s - least) n (λ more. none (omega arith)) ∙ ap (λ k. decimal n k) whole)
