@@ -15,7 +15,7 @@ use Rattle.scaled_decimal.proofs.MachineLemmas.{held}
 use Rattle.scaled_decimal.proofs.PowerLemmas.{ten_add, ten_some}
 
 -- a number times two powers
-powers : (n : ℤ) (i j k : ℕ) → i + j ≡ k → (n *ℤ ten_to i) *ℤ ten_to j ≡ n *ℤ ten_to k
+pub powers : (n : ℤ) (i j k : ℕ) → i + j ≡ k → (n *ℤ ten_to i) *ℤ ten_to j ≡ n *ℤ ten_to k
 powers n i j k e = times_assoc n (ten_to i) (ten_to j) ∙ ap (λ x. n *ℤ x) (ten_add i j k e)
 
 -- a number divides another where nothing is left

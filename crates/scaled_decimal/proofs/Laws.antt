@@ -29,8 +29,8 @@ pub use Rattle.scaled_decimal.proofs.FitLemmas.{rescale_fits, rescale_fits_longe
 -- plain divisors, the cofactor of one, and the working numbers of the exact quotient: for the least power of ten, and for any
 pub use Rattle.scaled_decimal.proofs.FitLemmas.{plain_divisor, exact_fits_least, exact_fits}
 pub use Rattle.scaled_decimal.proofs.ExactLemmas.{factor_times}
--- the same value without the zeros that end it
-pub use Rattle.scaled_decimal.proofs.ShortenedLemmas.{shortened_is}
+-- the same value without the zeros that end it, and that there is one
+pub use Rattle.scaled_decimal.proofs.ShortenedLemmas.{shortened_is, shortened_only}
 -- digits and plain texts
 pub use Rattle.scaled_decimal.proofs.DigitLemmas.{digits_value_after-append}
 pub use Rattle.scaled_decimal.proofs.PlainLemmas.{length-last_digits, whole_some}

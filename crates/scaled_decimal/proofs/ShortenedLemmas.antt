@@ -1,15 +1,16 @@
 -- A decimal without the zeros that end it, as a function.
-use Rattle.std.proofs.Common.{◌≡◌, ℕ, zero, suc, ◌+◌, ◌-◌, ◌<◌, ◌≤◌, nat_lt, Bool, true, false, if◌then◌else◌, ℤ, pos, negsuc, ◌*ℤ◌, int_div, int_rem, refl, sym, ap, ◌∙◌, subst, arith}
+use Rattle.std.proofs.Common.{◌≡◌, ℕ, zero, suc, ◌+◌, ◌-◌, ◌^◌, ◌<◌, ◌≤◌, nat_lt, Bool, true, false, if◌then◌else◌, ℤ, pos, negsuc, ◌*ℤ◌, int_div, int_rem, refl, sym, ap, ap₂, ◌∙◌, subst, inl, inr, arith}
 use Rattle.std.specs.Ordering.{int_eq}
 use Rattle.std.proofs.lemmas.Int.{ints, quot-rem}
 use Rattle.std.proofs.lemmas.Bool.Decides.{nat_tests}
+use Rattle.std.proofs.lemmas.Bool.{cases_lt}
 use Rattle.scaled_decimal.specs.Decimals.{Decimal, decimal, numerator_of, scale_of, ten_to}
 use Rattle.scaled_decimal.specs.Shortening.{IsShortened}
 use Rattle.scaled_decimal.specs.ExactQuotients.{Divides}
 use Rattle.scaled_decimal.specs.ShortenedDecimals.{without_zeros, shortened}
-use Rattle.scaled_decimal.specs.laws.IntegerLemmas.{times_assoc}
-use Rattle.scaled_decimal.proofs.ExactLemmas.{rem_from_divides, divides_from_rem}
-use Rattle.scaled_decimal.proofs.PowerLemmas.{ten_add}
+use Rattle.scaled_decimal.specs.laws.IntegerLemmas.{times_cancel}
+use Rattle.scaled_decimal.proofs.ExactLemmas.{powers, rem_from_divides, divides_from_rem}
+use Rattle.scaled_decimal.proofs.PowerLemmas.{ten_some}
 
 zero_from_test : (z : ℤ) → int_eq z (pos 0) ≡ true → z ≡ pos 0
 zero_from_test (pos n) e = ap pos (grind (arith, nat_tests))
@@ -20,10 +21,6 @@ test_from_zero z e = rw e refl
 
 apart : true ≡ false → ⊥
 apart e = cc
-
--- a number times two powers
-powers : (n : ℤ) (j k : ℕ) → j + 1 ≡ k → (n *ℤ ten_to j) *ℤ ten_to 1 ≡ n *ℤ ten_to k
-powers n j k e = times_assoc n (ten_to j) (ten_to 1) ∙ ap (λ x. n *ℤ x) (ten_add j 1 k e)
 
 pub without_zeros_is : (least more : ℕ) (n : ℤ) → IsShortened (decimal n (least + more)) least (without_zeros least more n)
 without_zeros_is least zero n =
@@ -40,7 +37,7 @@ without_zeros_is least (suc more) n = by_test (int_eq (int_rem n (pos 10)) (pos 
         record {
           low = h.low;
           high = omega (arith, h.high);
-          same = tenth ∙ ap (λ x. x *ℤ ten_to 1) h.same ∙ powers (numerator_of r) (least + more - scale_of r) (least + suc more - scale_of r) (omega (arith, h.high));
+          same = tenth ∙ ap (λ x. x *ℤ ten_to 1) h.same ∙ powers (numerator_of r) (least + more - scale_of r) 1 (least + suc more - scale_of r) (omega (arith, h.high));
           short = h.short;
         }
     by_test false ih e =
@@ -88,3 +85,34 @@ stays least s n none = by_test (nat_lt s least) refl
     by_test false e =
         let whole : least + (s - least) ≡ s = grind (arith, nat_tests) in
         rw e (last least (s - least) n (λ more. none (omega arith)) ∙ ap (λ k. decimal n k) whole)
+
+-- ---- a decimal is shortened in one way
+
+-- what ends with no zero has no more places than another of the same value
+no_longer : (least : ℕ) (a d e : Decimal) → IsShortened a least d → IsShortened a least e → scale_of d < scale_of e → ⊥
+no_longer least a d e f g less =
+    let m = numerator_of d in
+    let more = scale_of e - scale_of d in
+    let rest = scale_of a - scale_of e in
+    let same : m *ℤ ten_to more ≡ numerator_of e =
+    times_cancel (m *ℤ ten_to more) (numerator_of e) (10 ^ rest) (ten_some rest) (
+    powers m more rest (scale_of a - scale_of d) (omega (arith, g.high)) ∙ sym f.same ∙ g.same) in
+    let one = g.short ((m *ℤ ten_to (more - 1), powers m (more - 1) 1 more (omega arith) ∙ same)) in
+    omega (arith, one, f.low)
+
+pub shortened_only : (least : ℕ) (a d : Decimal) → IsShortened a least d → d ≡ shortened least a
+shortened_only least a d f =
+    let e = shortened least a in
+    let g = shortened_is least a (omega (arith, f.low, f.high)) in
+    let scales : scale_of d ≡ scale_of e = elim (cases_lt (scale_of d) (scale_of e)) [
+      | inl less ↦ absurd (no_longer least a d e f g less)
+      | inr le ↦ elim (cases_lt (scale_of e) (scale_of d)) [
+        | inl less ↦ absurd (no_longer least a e d g f less)
+        | inr ge ↦ omega arith
+      ]
+    ] in
+    let rest = scale_of a - scale_of e in
+    let numbers : numerator_of d ≡ numerator_of e =
+    times_cancel (numerator_of d) (numerator_of e) (10 ^ rest) (ten_some rest) (
+    ap (λ s. numerator_of d *ℤ ten_to (scale_of a - s)) (sym scales) ∙ sym f.same ∙ g.same) in
+    ap₂ decimal numbers scales
