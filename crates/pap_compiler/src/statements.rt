@@ -114,7 +114,10 @@ fn emit_factor(code: &mut Vec<Instr>, names: &Names, value: &Expr) -> Result<(),
 {
     match value {
         Expr::Int(number) => {
-            put(code, Instr::Lit(at_factor_scale(Dec::new(*number as i128, 0))))
+            put(
+                code,
+                Instr::Lit(at_factor_scale(Dec::new(*number as i128, 0))),
+            )
         }
         Expr::Point(number) if has_few_places(*number) => {
             put(code, Instr::Lit(at_factor_scale(*number)))
