@@ -28,11 +28,8 @@ use crate::steps::{foreign, is_sign, keyword, refused};
 use crate::words::{Static, static_of};
 use expr_tokens::{Keyword, Placed, Sign, Token, read_tokens};
 use pap_tree::{Binary, Literal};
-use scaled_decimal::Dec;
+use scaled_decimal::{Dec, MOST_PLACES};
 use std::alloc::Global;
-
-/// The greatest scale.
-const MOST_PLACES: u32 = 30;
 
 /// A declared literal: the value of a constant or a default.
 pub fn parse_constant(alloc: Global, text: &[u8]) -> Result<Literal, ExprFault>
@@ -242,7 +239,7 @@ fn scale(i: i32, room: Room, found: &Placed) -> Result<Due, ExprFault>
         (spot_of found.now) result }
 {
     match found.token {
-        Token::Int(places) if places <= MOST_PLACES => {
+        Token::Int(places) if places <= MOST_PLACES as u32 => {
             Ok(Due::Close(Dec::new(i as i128, places as u8), room))
         }
         Token::Int(_) => Err(ExprFault::Number { at: found.at }),

@@ -1,23 +1,20 @@
 //! Tables of pay runs.
 ghost use Rattle.std.specs.Prelude.{◌≡◌, ◌↔◌, ◌<◌, ◌≤◌, ℕ, List, [], IfOk, IfErr, Err, MatchResult, length};
-ghost use Rattle.payroll_records.specs.Limits.{most_values};
-ghost use Rattle.payroll_records.specs.Tables.{AreRecordsOf, HasOneAnswer, IsRefused, IsTable, key_of, most_bytes};
+ghost use Rattle.payroll_records.specs.Limits.{longest_table, most_values};
+ghost use Rattle.payroll_records.specs.Tables.{AreRecordsOf, HasOneAnswer, IsRefused, IsTable, key_of};
 ghost use Rattle.payroll_records.specs.RowViews.{IsBetweenRows, rows_left};
 ghost use Rattle.payroll_records.specs.TableViews.{AreColumns, BreaksIn, fault_at};
 
 use crate::header::{Header, read_header};
 use crate::row::{RowFault, read_row};
 use crate::rows::{next_row, row_reader};
-use crate::{Key, Record};
+use crate::{Key, LONGEST_TABLE, Record};
 use csv::{ByteRecord, Reader};
 use pap_tree::Name;
 use std::alloc::{AllocError, Global};
 use std::collections::BTreeSet;
 use std::io::Read;
 use thiserror::Error;
-
-/// The most bytes of a table.
-const LONGEST: usize = 33_554_432;
 
 /// Why a table is refused. Rows are counted from 1 after the header.
 #[derive(Debug, Drop, Error)]
@@ -48,9 +45,9 @@ pub enum TableFault {
 pub fn read_table(alloc: Global, bytes: &[u8]) -> Result<Vec<Record>, TableFault>
     ensures ok { IfOk result (λ records. IsTable bytes.now records.items) }
     ensures err { IfErr result (IsRefused bytes.now) }
-    ensures long { (result ≡ Err TableFault.TableLong) ↔ (most_bytes < length bytes.now) }
+    ensures long { (result ≡ Err TableFault.TableLong) ↔ (longest_table < length bytes.now) }
 {
-    if bytes.len() > LONGEST {
+    if bytes.len() > LONGEST_TABLE {
         return Err(TableFault::TableLong);
     }
     let mut reader = row_reader(alloc, bytes);

@@ -34,7 +34,7 @@ pub use Rattle.scaled_decimal.proofs.ExactLemmas.{factor_times}
 -- digits and plain texts
 pub use Rattle.scaled_decimal.proofs.DigitLemmas.{digits_value_after-append}
 pub use Rattle.scaled_decimal.proofs.PlainLemmas.{length-last_digits, whole_some}
-pub use Rattle.scaled_decimal.proofs.SpellingLemmas.{plain_text_spells}
+pub use Rattle.scaled_decimal.proofs.SpellingLemmas.{digits_last, digits_whole, some_whole, value_whole, value_all, plain_text_spells}
 
 -- a text spells at most one decimal
 pub number_once : (text : List ℕ) (d d' : Decimal) → Spells text d → Spells text d' → d ≡ d'
