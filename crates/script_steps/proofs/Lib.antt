@@ -13,3 +13,9 @@ mod PlanLemmas
 mod TrialLemmas
 mod OpenLemmas
 mod GoingOnLemmas
+mod RunLemmas
+mod YearLemmas
+mod CountLemmas
+mod CostLemmas
+mod SoundLemmas
+mod KeepLemmas
