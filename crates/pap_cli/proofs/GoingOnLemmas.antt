@@ -12,15 +12,14 @@ use Rattle.book_file.specs.declared.refusal.SaveRefusal.{SaveRefusal}
 use Rattle.book_file.specs.declared.refusal.SaveRefusal.TheVariants as unsaved
 use Rattle.plan_answers.specs.Answers.{Answer}
 use Rattle.script_steps.specs.GoingOn.{AreSameFor, AreSteps, IsCut, opened}
-use Rattle.script_steps.specs.LineTexts.{ok_line}
 use Rattle.script_steps.specs.Standings.{with_book}
-use Rattle.script_steps.specs.Steps.{Standing, AreThere, Names, start}
+use Rattle.script_steps.specs.Steps.{Standing, AreThere, start}
 use Rattle.script_steps.proofs.Laws.{GoAlike, cut_opens, go_alike, not_filed, steps_over}
-use Rattle.script_run.specs.Transcripts.{AreAnswered, IsHalted, IsSession, IsTranscript, Session, lines_of, with_answer}
+use Rattle.script_run.specs.Transcripts.{AreAnswered, IsHalted, IsSession, Session, lines_of, with_answer}
 use Rattle.script_run.specs.Transcripts.{opening as beginning}
 use Rattle.script_run.proofs.Laws.{IsSession-one, IsSession-rest, one}
 use Rattle.pap_cli.specs.GoingOn.{GoOnAlike, IsTakenUp, SavedScriptsGoOn}
-use Rattle.pap_cli.specs.SaveAnswers.{IsBookWritten, IsSave, IsSaved, IsVerdict, Written, was_filed}
+use Rattle.pap_cli.specs.SaveAnswers.{IsSave, IsVerdict, Written, was_filed}
 
 -- ---- answers, one after another, and what they write
 

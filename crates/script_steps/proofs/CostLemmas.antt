@@ -1,6 +1,6 @@
 -- The work of an edit fits 64 bits: each of at most 50,000 runs takes at most 1,000,000,000 steps.
-use Rattle.std.proofs.Common.{◌≡◌, ℕ, ◌+◌, ◌*◌, ◌<◌, ◌≤◌, ◌^◌, List, [], ◌∷◌, ◌++◌, length, true, false, if◌then◌else◌, refl, sym, ap, subst, arith, length-append}
-use Rattle.std.specs.Prelude.{Bool, Option, Some, None, sum_by}
+use Rattle.std.proofs.Common.{◌≡◌, ℕ, ◌+◌, ◌*◌, ◌≤◌, List, [], ◌∷◌, ◌++◌, length, true, false, if◌then◌else◌, sym, arith, length-append}
+use Rattle.std.specs.Prelude.{Option, Some, None}
 use Rattle.std.proofs.lemmas.List.Sums.{sum_by-cons}
 use Rattle.scaled_decimal.specs.Decimals.{Decimal}
 use Rattle.payroll_records.specs.declared.day.Day.{Day}
@@ -9,7 +9,6 @@ use Rattle.plan_calendar.specs.Picking.{Entry, pick, plan_of}
 use Rattle.carry_bindings.specs.declared.carried.Earlier.{Earlier}
 use Rattle.carry_bindings.specs.declared.filling.Filled.{Filled}
 use Rattle.carry_bindings.specs.declared.filling.Filled.TheVariants as filling
-use Rattle.pap_types.specs.Meaning.{bound_of}
 use Rattle.pap_types.proofs.Laws.{cost_at_most}
 use Rattle.call_order.proofs.Laws.{bound_small}
 use Rattle.pay_run.specs.Runs.{filled, run_cost}
@@ -19,13 +18,12 @@ use Rattle.saved_items.specs.SavedBooks.{IsWork}
 use Rattle.book_year.specs.Accepted.{Accepted}
 use Rattle.book_year.specs.Jobs.{job_cost, new_job, new_jobs, same_job, total_cost}
 use Rattle.book_year.specs.Kept.{job_by}
-use Rattle.book_year.specs.Rows.{Job, Planned, Row, earlier_of, job_of, row_filled, row_of, rows, year_rows}
+use Rattle.book_year.specs.Rows.{Job, Planned, earlier_of, row_filled, row_of, rows, year_rows}
 use Rattle.book_year.proofs.Laws.{total_append}
 use Rattle.book_edits.specs.Books.{YearRuns, run_count, runs_of}
 use Rattle.book_edits.specs.Kept.{jobs_in}
-use Rattle.recalc_engine.specs.BookLaws.{HasPlan, IsBook, IsPlan}
+use Rattle.recalc_engine.specs.BookLaws.{HasPlan, IsPlan}
 use Rattle.recalc_engine.specs.Contents.{Contents, jobs_between}
-use Rattle.recalc_engine.proofs.Laws.{picked_plan}
 use Rattle.script_steps.proofs.CountLemmas.{counted}
 
 -- ---- a run of an accepted plan
@@ -34,8 +32,12 @@ run_cheap : (p : Accepted) (inputs : List Decimal) → IsPlan p → run_cost p i
 run_cheap p inputs h =
     let f = p.meaning.flowchart in
     let ordered = h.bound.suited.named.file.ordered in
-    omega (arith, sym (cost_is p inputs), cost_at_most f inputs,
-    bound_small f ordered.ordered.0 (counted p.plan f ordered.typed.text) ordered.ordered.1)
+    omega (
+      arith,
+      sym (cost_is p inputs),
+      cost_at_most f inputs,
+      bound_small f ordered.ordered.0 (counted p.plan f ordered.typed.text) ordered.ordered.1,
+    )
 
 -- ---- new jobs: at most one of each row, of the plan of its day
 

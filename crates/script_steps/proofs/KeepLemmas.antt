@@ -1,5 +1,5 @@
 -- Each line of a script leaves a book that can be saved.
-use Rattle.std.proofs.Common.{◌≡◌, ◌⊎◌, ℕ, List, [], ◌∷◌, ◌++◌, refl, sym, subst, arith, inl, inr}
+use Rattle.std.proofs.Common.{◌≡◌, ℕ, List, [], ◌∷◌, sym, subst, arith, inl, inr}
 use Rattle.std.specs.Prelude.{Result, Ok, Err}
 use Rattle.outside.specs.Told.{FileMap}
 use Rattle.payroll_records.specs.declared.day.Day.{Day}
@@ -24,10 +24,9 @@ use Rattle.plan_answers.specs.Answers.{Answer}
 use Rattle.script_steps.specs.LineTexts.{ok_line}
 use Rattle.script_steps.specs.Standings.{Doing, Standing, start}
 use Rattle.script_steps.specs.LineSteps.{Does, IsEditAnswered, IsEditStep, IsLoaded, IsPlanStep, IsPut, IsReadStep, IsTableStep}
-use Rattle.script_steps.specs.LineSteps.{IsTextsStep, IsTried, IsUsed, PlanUse, bound_text}
+use Rattle.script_steps.specs.LineSteps.{IsTried, IsUsed, PlanUse, bound_text}
 use Rattle.script_steps.specs.FilingSteps.{IsFileStep}
 use Rattle.script_steps.specs.OpenSteps.{IsOpenStep, IsOpened, OpenRefusal, OpenSays}
-use Rattle.script_steps.specs.Steps.{IsStep}
 use Rattle.script_steps.specs.GoingOn.{AreSteps, ScriptsMakeBooks}
 use Rattle.script_steps.proofs.RunLemmas.{table_runs, words_run}
 use Rattle.script_steps.proofs.SoundLemmas.{IsSound, IsSoundEdit, edit_sound, opened_sound, savable}

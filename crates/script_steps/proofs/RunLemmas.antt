@@ -24,10 +24,10 @@ module _ {K X : Type 0} (cmp : K → K → Ordering) (key : X → K) where
   put_most y [] = omega arith
   put_most y (x ∷ xs) = elim (cmp (key y) (key x))
       as (λ o. length (put_by o y x xs (put cmp key y xs)) ≤ length (x ∷ xs) + 1) [
-    | Less ↦ omega arith
-    | Equal ↦ omega arith
-    | Greater ↦ omega (arith, put_most y xs)
-  ]
+        | Less ↦ omega arith
+        | Equal ↦ omega arith
+        | Greater ↦ omega (arith, put_most y xs)
+      ]
 
 -- ---- value words
 

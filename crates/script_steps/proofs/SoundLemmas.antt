@@ -1,5 +1,5 @@
 -- Each edit of a book that can be saved leaves one that can be saved.
-use Rattle.std.proofs.Common.{◌≡◌, ℕ, ◌+◌, ◌<◌, ◌≤◌, List, [], ◌∷◌, ◌++◌, length, map, refl, sym, ap, subst, ◌∙◌, arith, length-append, inl, inr}
+use Rattle.std.proofs.Common.{◌≡◌, ℕ, ◌+◌, ◌≤◌, List, [], ◌∷◌, ◌++◌, length, refl, sym, subst, arith, length-append, inl, inr}
 use Rattle.std.specs.Prelude.{Option, Some, None, IsNone, Ok, ⊤, sum_by}
 use Rattle.std.specs.List.{AllByRecursion, flat_map}
 use Rattle.std.proofs.lemmas.Bool.{cases_lt}
@@ -11,16 +11,16 @@ use Rattle.payroll_records.specs.declared.record.Record.{Record}
 use Rattle.payroll_records.specs.Orders.{day_cmp}
 use Rattle.payroll_records.proofs.Laws.{day_total}
 use Rattle.plan_calendar.specs.Picking.{AreEntries, Entry, day_of, entry_at, pick, plan_of, with_entry, without_day}
-use Rattle.saved_items.specs.SavedBooks.{IsRun, IsSaved, IsWork}
+use Rattle.saved_items.specs.SavedBooks.{IsRun, IsWork}
 use Rattle.saved_items.specs.SavedBooks as saved
 use Rattle.book_year.specs.Accepted.{Accepted}
 use Rattle.book_edits.specs.Books.{YearRuns, run_count, source_of, withdrawal}
 use Rattle.book_edits.specs.Replans.{IsFull}
 use Rattle.book_edits.proofs.Laws.{all_put, all_without, length_put, map_rising, sum_put}
-use Rattle.book_file.specs.BookTexts.{IsTextOf, saved_entry, saved_of}
+use Rattle.book_file.specs.BookTexts.{IsTextOf, saved_entry}
 use Rattle.book_file.specs.Saving.{SaveSays}
-use Rattle.recalc_engine.specs.BookLaws.{ArePlans, HasOwnRuns, HasPlan, IsBook, IsPlan, runs_listed}
-use Rattle.recalc_engine.specs.Contents.{Contents, jobs_between}
+use Rattle.recalc_engine.specs.BookLaws.{ArePlans, HasOwnRuns, HasPlan, IsBook, IsPlan}
+use Rattle.recalc_engine.specs.Contents.{Contents}
 use Rattle.recalc_engine.specs.EditAnswers.{CanEdit, Edit, add, change, drop, edited, load, put, withdraw, with_edit}
 use Rattle.recalc_engine.proofs.Laws.{picked_plan, runs_rise}
 use Rattle.script_steps.specs.GoingOn.{IsSavable}

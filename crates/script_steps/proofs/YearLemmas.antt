@@ -11,7 +11,6 @@ use Rattle.rising_lists.proofs.Laws.{put_rising, without_rising}
 use Rattle.payroll_records.specs.declared.day.Day.{Day}
 use Rattle.payroll_records.specs.declared.record.Key.{Key}
 use Rattle.payroll_records.specs.declared.record.Record.{Record}
-use Rattle.payroll_records.specs.declared.when.When.{When}
 use Rattle.payroll_records.specs.Orders.{day_cmp}
 use Rattle.payroll_records.specs.Tables.{key_of}
 use Rattle.payroll_records.proofs.Laws.{day_total}
@@ -25,7 +24,6 @@ use Rattle.book_edits.specs.declared.in_month.InMonth.TheVariants.{Empty, One, S
 use Rattle.book_edits.specs.Books.{AreInOrder, YearRuns, added, changed, changed_from, in_month, is_in_month, loaded, only_one}
 use Rattle.book_edits.specs.Books.{run_at, run_count, runs_key, runs_of, runs_or_none, source_of, with_runs, withdrawn}
 use Rattle.book_edits.specs.Books.{withdrawn_from, year_cmp, year_of}
-use Rattle.book_edits.specs.Refusals.{IsOne}
 use Rattle.book_edits.proofs.Laws.{all_put, all_without, length_without, runs_rising, sum_put, sum_without, year_same, year_total}
 use Rattle.script_steps.proofs.RunLemmas.{put_most}
 
@@ -46,21 +44,27 @@ runs_own : (years : List YearRuns) (k : YearKey) → AllByRecursion HasSoundRuns
 runs_own [] k h = tt
 runs_own (y ∷ years) k h = elim (year_cmp y.key k) as (λ o. year_cmp y.key k ≡ o
     → AllByRecursion (IsOwn k) (runs_or_none (if is_eq o then Some y else at_key year_cmp runs_key years k))) [
-  | Less ↦ λ e. runs_own years k h.1
-  | Equal ↦ λ e. subst (λ t. AllByRecursion (IsOwn t) y.runs) (year_same y.key k e) h.0.own
-  | Greater ↦ λ e. runs_own years k h.1
-] refl
+      | Less ↦ λ e. runs_own years k h.1
+      | Equal ↦ λ e. subst (λ t. AllByRecursion (IsOwn t) y.runs) (year_same y.key k e) h.0.own
+      | Greater ↦ λ e. runs_own years k h.1
+    ] refl
 
 runs_texts : (years : List YearRuns) (k : YearKey) → AllByRecursion HasSoundRuns years
     → AllByRecursion IsRun (runs_of years k)
 runs_texts [] k h = tt
 runs_texts (y ∷ years) k h = elim (is_eq (year_cmp y.key k))
     as (λ b. AllByRecursion IsRun (runs_or_none (if b then Some y else at_key year_cmp runs_key years k))) [
-  | true ↦ h.0.texts
-  | false ↦ runs_texts years k h.1
-]
+      | true ↦ h.0.texts
+      | false ↦ runs_texts years k h.1
+    ]
 
 -- ---- an edit of one year
+
+abbrev RunsRise : YearRuns → Type 0
+RunsRise y = IsRising day_cmp record_day y.runs
+
+abbrev HaveARun : YearRuns → Type 0
+HaveARun y = 0 < length y.runs
 
 -- a year with other runs, which are sound
 with_sound : (k : YearKey) (rs : List Record) (years : List YearRuns) → AreSoundYears years
@@ -69,8 +73,8 @@ with_sound : (k : YearKey) (rs : List Record) (years : List YearRuns) → AreSou
 with_sound k [] years h rising own texts = record {
   order = record {
     rising = without_rising year_cmp year_total runs_key k years h.order.rising;
-    days = all_without year_cmp runs_key (λ (y : YearRuns). IsRising day_cmp record_day y.runs) k years h.order.days;
-    some = all_without year_cmp runs_key (λ (y : YearRuns). 0 < length y.runs) k years h.order.some;
+    days = all_without year_cmp runs_key RunsRise k years h.order.days;
+    some = all_without year_cmp runs_key HaveARun k years h.order.some;
   };
   runs = all_without year_cmp runs_key HasSoundRuns k years h.runs;
 }
@@ -78,8 +82,8 @@ with_sound k (r ∷ rs) years h rising own texts =
     let y : YearRuns = record { key = k; runs = r ∷ rs } in record {
       order = record {
         rising = put_rising year_cmp year_total runs_key y years h.order.rising;
-        days = all_put year_cmp runs_key (λ (y : YearRuns). IsRising day_cmp record_day y.runs) y years rising h.order.days;
-        some = all_put year_cmp runs_key (λ (y : YearRuns). 0 < length y.runs) y years (omega arith) h.order.some;
+        days = all_put year_cmp runs_key RunsRise y years rising h.order.days;
+        some = all_put year_cmp runs_key HaveARun y years (omega arith) h.order.some;
       };
       runs = all_put year_cmp runs_key HasSoundRuns y years (record { own = own; texts = texts }) h.runs;
     }
@@ -138,9 +142,9 @@ pub without_most : {K X : Type 0} (cmp : K → K → Ordering) (key : X → K) (
 without_most cmp key k [] = omega arith
 without_most cmp key k (x ∷ xs) = elim (is_eq (cmp (key x) k))
     as (λ b. length (if b then xs else x ∷ without cmp key k xs) ≤ length (x ∷ xs)) [
-  | true ↦ omega arith
-  | false ↦ omega (arith, without_most cmp key k xs)
-]
+      | true ↦ omega arith
+      | false ↦ omega (arith, without_most cmp key k xs)
+    ]
 
 withdraw_sound : (k : Key) (years : List YearRuns) → AreSoundYears years → AreSoundYears (withdrawn k years)
 withdraw_sound k years h =
@@ -194,8 +198,12 @@ change_count from r years h there = by (at_key day_cmp record_day (runs_of years
         let k = year_of (key_of r) in
         let rs = runs_of years k in
         let left = without_run from rs in
-        omega (arith, with_count k (put_run r left) years h.order.rising, put_most day_cmp record_day r left,
-        length_without day_cmp day_total record_day from x rs e)
+        omega (
+          arith,
+          with_count k (put_run r left) years h.order.rising,
+          put_most day_cmp record_day r left,
+          length_without day_cmp day_total record_day from x rs e,
+        )
 
 -- the only run of a month stands at its day
 in_both : (b : Bool) (r : Record) (o : Option Record) → IsSome o → IsSome (if b then Some r else o)
@@ -208,9 +216,9 @@ only_here test [] k e = cc
 only_here test (r ∷ rs) k e = elim (test r)
     as (λ b. only_one (if b then r ∷ filter test rs else filter test rs) ≡ One k
     → IsSome (at_key day_cmp record_day (r ∷ rs) k.day)) [
-  | true ↦ λ f. this (filter test rs) f
-  | false ↦ λ f. in_both (is_eq (day_cmp r.day k.day)) r (at_key day_cmp record_day rs k.day) (only_here test rs k f)
-] e
+      | true ↦ λ f. this (filter test rs) f
+      | false ↦ λ f. in_both (is_eq (day_cmp r.day k.day)) r (at_key day_cmp record_day rs k.day) (only_here test rs k f)
+    ] e
   where
     this : (more : List Record) → only_one (r ∷ more) ≡ One k → IsSome (at_key day_cmp record_day (r ∷ rs) k.day)
     this [] f =
