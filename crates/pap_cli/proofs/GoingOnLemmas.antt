@@ -1,73 +1,28 @@
 -- A script that opens a saved book goes on as the script whose book was saved.
-use Rattle.std.proofs.Common.{◌≡◌, ℕ, List, [], ◌∷◌, ◌++◌, Bool, true, false, refl, sym, ap, ◌∙◌, subst, append_assoc}
+use Rattle.std.proofs.Common.{◌≡◌, ℕ, List, [], ◌∷◌, ◌++◌, Bool, true, false, ◌||◌, refl, sym, ap, ◌∙◌, subst}
 use Rattle.std.specs.Prelude.{All, Option, Some, None, IsSome, is_some, Result, Ok, Err}
 use Rattle.std.specs.List.{AllByRecursion}
 use Rattle.std.proofs.lemmas.List.{append-nil}
 use Rattle.std.proofs.lemmas.List.Elements.{All-head, All-tail}
 use Rattle.outside.specs.Told.{FileMap}
 use Rattle.payroll_records.specs.declared.month.Month.{Month}
+use Rattle.correction_ledger.specs.Filings.{Filings}
 use Rattle.recalc_engine.specs.Contents.{Contents}
+use Rattle.book_file.specs.BookLaws.{BooksAreSavedOneWay}
 use Rattle.book_file.specs.Saving.{SaveSays}
 use Rattle.book_file.specs.declared.refusal.SaveRefusal.{SaveRefusal}
 use Rattle.book_file.specs.declared.refusal.SaveRefusal.TheVariants as unsaved
-use Rattle.plan_answers.specs.Answers.{Answer}
-use Rattle.script_steps.specs.GoingOn.{AreSameFor, AreSteps, IsCut, opened}
+use Rattle.script_steps.specs.GoingOn.{AreSameFor, IsCut, opened}
 use Rattle.script_steps.specs.Standings.{with_book}
 use Rattle.script_steps.specs.Steps.{Standing, AreThere, start}
 use Rattle.script_steps.proofs.Laws.{GoAlike, cut_opens, go_alike, not_filed, steps_over}
 use Rattle.script_run.specs.Transcripts.{AreAnswered, IsHalted, IsSession, Session, lines_of, with_answer}
 use Rattle.script_run.specs.Transcripts.{opening as beginning}
+use Rattle.script_run.proofs.Laws.{HasAnswered, HasSteps, any_refused, has_answered, has_steps, no_refusals, refusals, texts}
 use Rattle.script_run.proofs.Laws.{IsSession-one, IsSession-rest, one}
-use Rattle.pap_cli.specs.GoingOn.{GoOnAlike, IsTakenUp, SavedScriptsGoOn}
+use Rattle.pap_cli.specs.GoingOn.{GoOnAlike, IsTakenUp, SavedScriptsAreSaved, SavedScriptsGoOn}
+use Rattle.pap_cli.proofs.SaveLawLemmas.{same_save}
 use Rattle.pap_cli.specs.SaveAnswers.{IsSave, IsVerdict, Written, was_filed}
-
--- ---- answers, one after another, and what they write
-
-abbrev texts : List Answer → List ℕ
-texts [] = []
-texts (answer ∷ answers) = answer.text ++ texts answers
-
--- the answers of lines that a session answers
-record HasSteps (files : FileMap) (from : Session) (lines : List (List ℕ)) (to : Session) : Type 0 where
-  answers : List Answer
-  steps : AreSteps files from.standing lines to.standing answers
-  text : to.text ≡ from.text ++ texts answers
-
-has_steps : (files : FileMap) (from : Session) (lines : List (List ℕ)) (to : Session) → AreAnswered files from lines to
-    → HasSteps files from lines to
-has_steps files from [] to h = record {
-  answers = [];
-  steps = ap (λ (s : Session). s.standing) h;
-  text = ap (λ (s : Session). s.text) h ∙ sym (append-nil from.text);
-}
-has_steps files from (line ∷ lines) to (standing, answer, is, rest) =
-    let more = has_steps files (with_answer from answer standing) lines to rest in record {
-      answers = answer ∷ more.answers;
-      steps = (standing, is, more.steps);
-      text = more.text ∙ append_assoc from.text answer.text (texts more.answers);
-    }
-
--- a session that answers them so
-record HasAnswered (files : FileMap) (from : Session) (lines : List (List ℕ)) (to : Standing) (answers : List Answer)
-    : Type 0 where
-  session : Session
-  is : AreAnswered files from lines session
-  text : session.text ≡ from.text ++ texts answers
-  left : session.standing ≡ to
-
-has_answered : (files : FileMap) (from : Session) (lines : List (List ℕ)) (to : Standing) (answers : List Answer)
-    → AreSteps files from.standing lines to answers → HasAnswered files from lines to answers
-has_answered files from [] to [] h =
-    record { session = from; is = refl; text = sym (append-nil from.text); left = sym h }
-has_answered files from [] to (answer ∷ answers) h = absurd h
-has_answered files from (line ∷ lines) to [] h = absurd h
-has_answered files from (line ∷ lines) to (answer ∷ answers) (next, is, rest) =
-    let more = has_answered files (with_answer from answer next) lines to answers rest in record {
-      session = more.session;
-      is = (next, answer, is, more.is);
-      text = more.text ∙ append_assoc from.text answer.text (texts answers);
-      left = more.left;
-    }
 
 -- ---- a script whose files are there is answered to its end
 
@@ -90,7 +45,8 @@ all_answered files from to lines there s = by s.after s.parts s.halted
 -- ---- what was saved
 
 -- no month was filed, and this is what is saved of the book
-record IsBookText (standing : Standing) (text : List ℕ) : Type 0 where
+record IsBookText (standing : Standing) (refused : Bool) (text : List ℕ) : Type 0 where
+  accepted : refused ≡ false
   unfiled : standing.filings.last ≡ None
   says : SaveSays standing.book (Ok text)
 
@@ -107,10 +63,11 @@ verdict_text book w (Err (unsaved.Memory x)) says is e = absurd says
 
 book_text_of : (refused : Bool) (standing : Standing) (refusals : List ℕ) (w : Written) (filed : Bool)
     → was_filed standing ≡ filed → IsSave refused filed refusals standing.book w → w.refused ≡ false
-    → IsBookText standing w.text
+    → IsBookText standing refused w.text
 book_text_of true standing refusals w filed same h e = absurd (cc (sym (ap (λ (w : Written). w.refused) h) ∙ e))
 book_text_of false standing refusals w true same h e = absurd (cc (sym (ap (λ (w : Written). w.refused) h) ∙ e))
 book_text_of false standing refusals w false same h e = record {
+  accepted = refl;
   unfiled = none_filed standing.filings.last same;
   says = verdict_text standing.book w h.verdict h.says h.is e;
 }
@@ -145,7 +102,7 @@ module _ (files later : FileMap) (script opening : List ℕ) (up : IsTakenUp fil
   first_steps : HasSteps files beginning (lines_of script) saved_session
   first_steps = has_steps files beginning (lines_of script) saved_session first_answered
 
-  book_text : IsBookText left up.answer.text
+  book_text : IsBookText left saved_session.refused up.answer.text
   book_text = book_text_of saved_session.refused left saved_session.refusals
       (record { text = up.answer.text; refused = up.answer.refused }) (was_filed left) refl up.saved.save up.accepted
 
@@ -163,6 +120,12 @@ module _ (files later : FileMap) (script opening : List ℕ) (up : IsTakenUp fil
 
   unfiled : start.filings ≡ left.filings
   unfiled = not_filed files (lines_of script) first_steps.answers left first_steps.steps book_text.unfiled
+
+  -- no answer was a refusal
+  none_kept : saved_session.refusals ≡ []
+  none_kept =
+      let none = no_refusals first_steps.answers (sym first_steps.goes.refused ∙ book_text.accepted) in
+      first_steps.goes.kept ∙ none
 
   -- behind the line that opens the book
   abbrev begun : Session
@@ -210,8 +173,12 @@ module _ (files later : FileMap) (script opening : List ℕ) (up : IsTakenUp fil
     alike : GoOnAlike saved_session whole next
     alike = record {
       further = texts answered_there.answers;
-      behind_first = answered_there.text;
-      behind_opening = sym (ap (λ (s : Session). s.text) is_next) ∙ answered_later.text;
+      behind_first = answered_there.goes.text;
+      behind_opening = sym (ap (λ (s : Session). s.text) is_next) ∙ answered_later.goes.text;
+      refused = sym (ap (λ (s : Session). s.refused) is_next) ∙ answered_later.goes.refused
+          ∙ sym (answered_there.goes.refused ∙ ap (λ b. b || any_refused answered_there.answers) book_text.accepted);
+      refusals = sym (ap (λ (s : Session). s.refusals) is_next) ∙ answered_later.goes.kept
+          ∙ sym (answered_there.goes.kept ∙ ap (λ t. t ++ refusals answered_there.answers) none_kept);
       book = sym (ap (λ (s : Session). s.standing.book) is_next) ∙ ap (λ (s : Standing). s.book) answered_later.left
           ∙ sym gone_on.alike.book;
       filings = sym (ap (λ (s : Session). s.standing.filings) is_next)
@@ -219,13 +186,33 @@ module _ (files later : FileMap) (script opening : List ℕ) (up : IsTakenUp fil
     }
 
 pub go_on : SavedScriptsGoOn
-go_on files later script opening long short further first whole next up same long_is short_is is_first is_whole is_next =
+go_on files later script opening long short first whole next two of_first of_whole of_next =
+    let up = two.taken_up in
     let saved = up.saved.session in
-    let behind = IsSession-rest files beginning saved whole (lines_of script) further
+    let behind = IsSession-rest files beginning saved whole (lines_of script) two.further
     (first_answered files later script opening up)
-    (subst (λ ls. IsSession files beginning ls whole) long_is is_whole) in
-    let then = IsSession-rest later beginning (begun files later script opening up) next (opening ∷ []) further
+    (subst (λ ls. IsSession files beginning ls whole) two.long_lines of_whole) in
+    let opened_then = IsSession-rest later beginning (begun files later script opening up) next (opening ∷ []) two.further
     (opening_answered files later script opening up)
-    (subst (λ ls. IsSession later beginning ls next) short_is is_next) in
-    subst (λ s. GoOnAlike s whole next) (one files script saved first up.saved.is is_first)
-    (alike files later script opening up further same whole next behind then)
+    (subst (λ ls. IsSession later beginning ls next) two.short_lines of_next) in
+    subst (λ s. GoOnAlike s whole next) (one files script saved first up.saved.is of_first)
+    (alike files later script opening up two.further two.same whole next behind opened_then)
+
+-- ---- saved again
+
+written_same : (a b : Written) → b ≡ a → (b.text ≡ a.text) × (b.refused ≡ a.refused)
+written_same a b e = (ap (λ (w : Written). w.text) e, ap (λ (w : Written). w.refused) e)
+
+pub saved_again : BooksAreSavedOneWay → SavedScriptsAreSaved
+saved_again one_way files later script opening long short answer other two h k =
+    let whole = h.session in
+    let next = k.session in
+    let on = go_on files later script opening long short two.taken_up.saved.session whole next two
+    two.taken_up.saved.is h.is k.is in
+    let was : Written = record { text = answer.text; refused = answer.refused } in
+    let now : Written = record { text = other.text; refused = other.refused } in
+    let first = subst (λ b. IsSave b (was_filed next.standing) next.refusals next.standing.book now) on.refused k.save in
+    let second = subst (λ f. IsSave whole.refused f next.refusals next.standing.book now) (ap (λ (f : Filings). is_some f.last) on.filings) first in
+    let third = subst (λ t. IsSave whole.refused (was_filed whole.standing) t next.standing.book now) on.refusals second in
+    let last = subst (λ b. IsSave whole.refused (was_filed whole.standing) whole.refusals b now) on.book third in
+    written_same was now (same_save one_way whole.refused (was_filed whole.standing) whole.refusals whole.standing.book now was last h.save)
