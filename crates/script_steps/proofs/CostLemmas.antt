@@ -11,6 +11,7 @@ use Rattle.carry_bindings.specs.declared.filling.Filled.{Filled}
 use Rattle.carry_bindings.specs.declared.filling.Filled.TheVariants as filling
 use Rattle.pap_types.proofs.Laws.{cost_at_most}
 use Rattle.call_order.proofs.Laws.{bound_small}
+use Rattle.pap_plan.proofs.Laws.{counted}
 use Rattle.pay_run.specs.Runs.{filled, run_cost}
 use Rattle.pay_run.specs.RunClauses.{most_steps}
 use Rattle.pay_run.proofs.Laws.{cost_is}
@@ -24,7 +25,6 @@ use Rattle.book_edits.specs.Books.{YearRuns, run_count, runs_of}
 use Rattle.book_edits.specs.Kept.{jobs_in}
 use Rattle.recalc_engine.specs.BookLaws.{HasPlan, IsPlan}
 use Rattle.recalc_engine.specs.Contents.{Contents, jobs_between}
-use Rattle.script_steps.proofs.CountLemmas.{counted}
 
 -- ---- a run of an accepted plan
 

@@ -15,7 +15,6 @@ mod OpenLemmas
 mod GoingOnLemmas
 mod RunLemmas
 mod YearLemmas
-mod CountLemmas
 mod CostLemmas
 mod SoundLemmas
 mod KeepLemmas
