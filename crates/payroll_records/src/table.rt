@@ -35,7 +35,7 @@ pub enum TableFault {
     Value { row: u64, name: Name },
     #[error("row {row}: an earlier row has the same employee and day")]
     Repeat { row: u64 },
-    #[error("memory ran out")]
+    #[error("out of memory")]
     Memory(AllocError),
 }
 

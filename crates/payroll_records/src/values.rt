@@ -51,7 +51,7 @@ pub enum InsertFault {
     Twice,
     #[error("there are 256 values already")]
     Full,
-    #[error("memory ran out")]
+    #[error("out of memory")]
     Memory(AllocError),
 }
 
