@@ -118,8 +118,8 @@ impl Values {
         }
     }
 
-    /// Where the value of a name stands. It is looked for at `guess` first: names that are asked for in order often stand
-    /// there, or would go there.
+    /// Where the value of a name stands. It is looked for at `guess` first: names that are asked
+    /// for in order often stand there, or would go there.
     pub fn place_of(&self, name: &Name, guess: usize) -> Option<usize>
         ensures place { result ≡ place_at self.now name.now }
         ensures few { IfSome result (λ at. at < most_values) }
@@ -224,7 +224,8 @@ fn is_before(names: &[Name], name: &Name) -> bool
     }
 }
 
-/// Whether a name would go to a place of a list in order: behind the names before that place, and before those from there on.
+/// Whether a name would go to a place of a list in order: behind the names before that place, and
+/// before those from there on.
 fn goes_at(names: &[Name], at: usize, name: &Name) -> bool
     ensures { result ≡ goes_at names.now at name.now }
 {
