@@ -1,14 +1,14 @@
 //! Tables of pay runs.
 ghost use Rattle.std.specs.Prelude.{◌≡◌, ◌↔◌, ◌<◌, ◌≤◌, ℕ, List, [], IfOk, IfErr, Err, MatchResult, length};
 ghost use Rattle.payroll_records.specs.Limits.{longest_table, most_values};
-ghost use Rattle.payroll_records.specs.Tables.{AreRecordsOf, HasOneAnswer, IsRefused, IsTable, key_of};
+ghost use Rattle.payroll_records.specs.Tables.{AreRecordsOf, HasOneAnswer, IsRefused, IsTable};
 ghost use Rattle.payroll_records.specs.RowViews.{IsBetweenRows, rows_left};
 ghost use Rattle.payroll_records.specs.TableViews.{AreColumns, BreaksIn, fault_at};
 
 use crate::header::{Header, read_header};
 use crate::row::{RowFault, read_row};
 use crate::rows::{next_row, row_reader};
-use crate::{Key, LONGEST_TABLE, Record};
+use crate::{LONGEST_TABLE, Record};
 use csv::{ByteRecord, Reader};
 use pap_tree::Name;
 use std::alloc::{AllocError, Global};
@@ -86,18 +86,19 @@ fn read_records<R: Read>(
     let mut records = Vec::new(alloc);
     let mut keys = BTreeSet::new(alloc);
     let mut row = ByteRecord::new(alloc);
-    for number in 1..u64::MAX {
+    'rows: loop {
         let Ok(found) = next_row(reader, &mut row) else {
             return Err(TableFault::Memory(AllocError));
         };
         if !found {
             return Ok(records);
         }
+        let number = records.len() as u64 + 1;
         let record = match read_row(alloc, header, &row, records.last()) {
             Ok(record) => record,
             Err(fault) => return Err(fault_at(fault, number)),
         };
-        let Ok(new) = keys.insert(key_of(&record)) else {
+        let Ok(new) = keys.insert(record.key()) else {
             return Err(TableFault::Memory(AllocError));
         };
         if !new {
@@ -106,16 +107,6 @@ fn read_records<R: Read>(
         if records.push(record).is_err() {
             return Err(TableFault::Memory(AllocError));
         }
-    }
-    Err(TableFault::Memory(AllocError))
-}
-
-fn key_of(run: &Record) -> Key
-    ensures { result ≡ key_of run.now }
-{
-    Key {
-        employee: run.employee,
-        day: run.day,
     }
 }
 
