@@ -1,9 +1,12 @@
 #!/usr/bin/env python3
 """Proves the libraries that a program stands on, several side by side: build.py [JOBS [PROGRAM]], from the top of the repository.
 
-A crate begins once those that it stands on are proved. A line for each that is done says how many are left. The program itself is
-proved and built by `rt run` afterwards. What a crate's check wrote is in build/proofs/NAME; where one fails, its end is shown."""
+A crate begins once those that it stands on are proved, in a room of its own, build/rooms/NAME: `rt` has a crate and all below it to
+itself while it works there, so in one checkout it would prove one after the other. The proved library then goes to crates/NAME/out,
+where `rt run` finds it. A line for each that is done says how many are left. What a crate's check wrote is in build/proofs/NAME; where
+one fails, its end is shown."""
 import os
+import shutil
 import subprocess
 import sys
 import time
@@ -34,10 +37,30 @@ def jobs():
     return max(1, min(os.cpu_count() or 1, free // (GIGABYTES_A_JOB << 20)))
 
 
-def prove(name):
-    began = time.time()
+def furnish(room, name, proved):
+    """Makes a room for a crate: links to its files, and to those of the crates below it with their libraries."""
+    shutil.rmtree(room, ignore_errors=True)
+    os.makedirs(room)
+    os.link("HANDLES", f"{room}/HANDLES")
+    with open(f"{room}/crates.txt", "w") as listed:
+        listed.writelines(line for line in open("crates.txt") if line.split(":")[0].split(" ")[0] in [*proved, name])
+    for crate in [*proved, name]:
+        parts = [part for part in ("src", "specs", "proofs") if os.path.isdir(f"crates/{crate}/{part}")]
+        for part in parts + (["out/rlib"] if crate in proved else []):
+            shutil.copytree(f"crates/{crate}/{part}", f"{room}/crates/{crate}/{part}", copy_function=os.link)
+
+
+def prove(name, proved):
+    """Proves a crate, and gives its name, the status of its check and the seconds that it took."""
+    began, room, to = time.time(), f"build/rooms/{name}", f"crates/{name}/out/rlib"
+    furnish(room, name, proved)
     with open(f"build/proofs/{name}", "w") as log:
-        done = subprocess.run(["rt", "lib", "--jobs", "1"], cwd=f"crates/{name}", stdin=subprocess.DEVNULL, stdout=log, stderr=log)
+        done = subprocess.run(["rt", "lib", "--jobs", "1"], cwd=f"{room}/crates/{name}", stdin=subprocess.DEVNULL, stdout=log, stderr=log)
+    if done.returncode == 0:
+        shutil.rmtree(to, ignore_errors=True)
+        os.makedirs(os.path.dirname(to), exist_ok=True)
+        os.rename(f"{room}/{to}", to)
+    shutil.rmtree(room)
     return name, done.returncode, time.time() - began
 
 
@@ -49,7 +72,7 @@ def main():
     with ThreadPoolExecutor(int(sys.argv[1]) if sys.argv[1:] and sys.argv[1] else jobs()) as pool:
         while waiting or running:
             ready = [name for name in waiting if proved.issuperset(stands_on[name])]
-            running.update(pool.submit(prove, name) for name in ready)
+            running.update(pool.submit(prove, name, below(name, stands_on, [])) for name in ready)
             waiting = [name for name in waiting if name not in ready]
             done, running = wait(running, return_when=FIRST_COMPLETED)
             for name, status, seconds in (one.result() for one in done):

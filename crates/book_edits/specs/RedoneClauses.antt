@@ -1,8 +1,8 @@
 -- What the years computed anew beside those that are kept promise.
 use Rattle.std.specs.Prelude.{◌≡◌, ◌≤◌, ◌*◌, List, [], ◌∷◌, Option, Some, None, Vec, ⊤}
 use Rattle.std.specs.declared.alloc.Global.{Global}
+use Rattle.pap_types.specs.Limits.{most_steps}
 use Rattle.plan_calendar.specs.Picking.{Entry, pick}
-use Rattle.pay_run.specs.RunClauses.{most_steps}
 use Rattle.book_year.specs.Accepted.{Accepted}
 use Rattle.book_year.specs.declared.outcome.Outcome.{Outcome}
 use Rattle.book_year.specs.declared.year.Year.{Year}

@@ -23,7 +23,7 @@ pub enum EditRefusal {
     Plans,
     #[error("no plan holds from {day}")]
     NoPlanThere { day: Day },
-    #[error("memory ran out")]
+    #[error("out of memory")]
     Memory(AllocError),
 }
 

@@ -10,7 +10,7 @@ use thiserror::Error;
 pub enum SaveRefusal {
     #[error("the text would have more than 268435456 bytes")]
     Long,
-    #[error("memory ran out")]
+    #[error("out of memory")]
     Memory(AllocError),
 }
 
@@ -34,7 +34,7 @@ pub enum BookFault {
     Form { item: u32 },
     #[error("the plan of {day} is refused")]
     Plan { day: Day },
-    #[error("memory ran out")]
+    #[error("out of memory")]
     Memory(AllocError),
 }
 

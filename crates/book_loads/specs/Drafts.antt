@@ -2,10 +2,10 @@
 use Rattle.std.specs.Prelude.{ℕ, ◌≡◌, ◌+◌, ◌*◌, ◌<◌, ◌≤◌, List, [], length, map, vec_len, vec_capacity}
 use Rattle.std.proofs.Common.{Vec, Global}
 use Rattle.std.specs.List.{AllByRecursion}
+use Rattle.pap_types.specs.Limits.{most_steps}
 use Rattle.plan_calendar.specs.Picking.{Entry, pick}
 use Rattle.book_year.specs.Accepted.{Accepted}
 use Rattle.book_year.specs.Jobs.{total_cost, work_of}
-use Rattle.pay_run.specs.RunClauses.{most_steps}
 use Rattle.book_year.specs.Kept.{AreKept, most_runs}
 use Rattle.book_year.specs.Rows.{Job}
 use Rattle.book_year.specs.Years.{IsOwn, year_jobs}

@@ -4,11 +4,11 @@ use Rattle.std.proofs.Common.{take, drop, get_or, Result, Err}
 use Rattle.std.specs.List.{AllByRecursion}
 use Rattle.std.specs.Borrow.{Bor}
 use Rattle.std.proofs.lemmas.List.{append-nil, length_push, map_push, length-append, take-append-drop, take_more, get_or-map, length-map, length-take-le}
+use Rattle.pap_types.specs.Limits.{most_steps}
 use Rattle.payroll_records.specs.declared.day.Day.{Day}
 use Rattle.payroll_records.specs.declared.record.Record.{Record}
 use Rattle.carry_bindings.specs.Conditions.{AreBounded}
 use Rattle.carry_bindings.specs.declared.carried.Earlier.{Earlier}
-use Rattle.pay_run.specs.RunClauses.{most_steps}
 use Rattle.book_year.specs.declared.outcome.Outcome.{Outcome}
 use Rattle.book_year.specs.declared.outcome.Work.{Work}
 use Rattle.book_year.specs.declared.chain.Ran.{Ran}

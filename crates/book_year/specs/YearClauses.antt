@@ -1,8 +1,8 @@
 -- What the edits of a year promise.
 use Rattle.std.specs.Prelude.{ℕ, ◌≡◌, ◌≤◌, ◌*◌, List}
+use Rattle.pap_types.specs.Limits.{most_steps}
 use Rattle.payroll_records.specs.declared.record.Record.{Record}
 use Rattle.plan_calendar.specs.Picking.{Entry, pick}
-use Rattle.pay_run.specs.RunClauses.{most_steps}
 use Rattle.book_year.specs.Accepted.{Accepted}
 use Rattle.book_year.specs.declared.outcome.Work.{Work}
 use Rattle.book_year.specs.declared.year.Year.{Year}

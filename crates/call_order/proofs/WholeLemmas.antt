@@ -11,7 +11,7 @@ use Rattle.pap_tree.specs.declared.plan.PlanText.{PlanText}
 use Rattle.pap_tree.specs.Flowchart.{Body, done, eval, branch, execute, Routine, routine_of, flowchart_of}
 use Rattle.pap_types.specs.Routines.{method_names}
 use Rattle.call_order.specs.Graphs.{Graph, executed, content_of, graph_within, graph_of}
-use Rattle.pap_types.specs.Meaning.{longest_chain}
+use Rattle.pap_types.specs.Limits.{longest_chain}
 use Rattle.call_order.specs.Chains.{BeginsMore, content_at}
 use Rattle.call_order.specs.Expanded.{expanded, expanded_of}
 use Rattle.call_order.specs.Orders.{HasNone}

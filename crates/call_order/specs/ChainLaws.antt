@@ -7,7 +7,8 @@ use Rattle.pap_types.specs.Values.{Env}
 use Rattle.pap_types.specs.Routines.{body_named}
 use Rattle.pap_types.specs.Runs.{Calls, after, spent, IsSafeBody, calls_of}
 use Rattle.pap_types.specs.Bounds.{body_bound, method_bound}
-use Rattle.pap_types.specs.Meaning.{longest_chain, calls_in}
+use Rattle.pap_types.specs.Limits.{longest_chain}
+use Rattle.pap_types.specs.Meaning.{calls_in}
 use Rattle.pap_types.specs.Checks.{IsWellTyped}
 use Rattle.call_order.specs.Expanded.{expanded, expanded_of}
 use Rattle.call_order.specs.Orders.{HasShortChains}

@@ -4,7 +4,7 @@ use Rattle.std.specs.Prelude.{ℕ, zero, suc, ◌+◌, List}
 use Rattle.std.specs.Option.{option_map_or}
 use Rattle.pap_tree.specs.Flowchart.{Body, done, eval, branch, execute, Routine, Flowchart}
 use Rattle.pap_types.specs.Routines.{body_named}
-use Rattle.pap_types.specs.Meaning.{longest_chain}
+use Rattle.pap_types.specs.Limits.{longest_chain}
 
 -- those of a list of statements, given those of each method's body
 abbrev pub expanded : (List ℕ → ℕ) → Body → ℕ

@@ -2,6 +2,7 @@
 use Rattle.std.specs.Prelude.{◌≡◌, ℕ, ◌≤◌, ◌⊎◌, List}
 use Rattle.pap_tree.specs.Flowchart.{Flowchart}
 use Rattle.pap_types.specs.Counts.{IsWithinCounts}
+use Rattle.pap_types.specs.Limits.{most_steps}
 use Rattle.pap_types.specs.Meaning.{bound_of}
 use Rattle.call_order.specs.declared.fault.OrderFault.{OrderFault}
 use Rattle.call_order.specs.Orders.{IsOrdered}
@@ -18,10 +19,7 @@ pub record HaveOneAnswer : Type 0 where
   pub never_both : (f : Flowchart) → HasOrder f → HasFault f → ⊥
   pub one_fault : (f : Flowchart) (a b : OrderFault) → IsRefused f a → IsRefused f b → a ≡ b
 
--- the most that a run of an ordered plan costs
-abbrev pub most_cost : ℕ
-most_cost = 1000000000
-
+-- no run of an ordered plan takes more steps
 abbrev pub HaveSmallBounds : Type 0
 HaveSmallBounds =
-    (f : Flowchart) (order : List ℕ) → IsWithinCounts f → IsOrdered f order → bound_of f ≤ most_cost
+    (f : Flowchart) (order : List ℕ) → IsWithinCounts f → IsOrdered f order → bound_of f ≤ most_steps

@@ -2,7 +2,7 @@
 use Rattle.std.specs.Prelude.{◌≡◌, ℕ, List, length, Result, Ok, Err}
 use Rattle.std.proofs.Common.{Vec, Global}
 use Rattle.pap_tree.specs.Flowchart.{Flowchart}
-use Rattle.pap_types.specs.Meaning.{longest_chain}
+use Rattle.pap_types.specs.Limits.{longest_chain}
 use Rattle.call_order.specs.declared.fault.OrderFault.{OrderFault}
 use Rattle.call_order.specs.Graphs.{Graph, graph_of}
 use Rattle.call_order.specs.Chains.{BeginsMore}

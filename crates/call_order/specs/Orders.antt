@@ -1,7 +1,7 @@
 -- An order of a plan's methods, and when there is one.
 use Rattle.std.specs.Prelude.{◌≡◌, ℕ, ◌<◌, ◌≤◌, ◌==◌, List, length, take, All, Contains, count_by, slice_index}
 use Rattle.pap_tree.specs.Flowchart.{Flowchart}
-use Rattle.pap_types.specs.Meaning.{longest_chain}
+use Rattle.pap_types.specs.Limits.{longest_chain}
 use Rattle.call_order.specs.Graphs.{Graph, graph_of}
 use Rattle.call_order.specs.Chains.{Executes, ReachesItself, BeginsMore}
 use Rattle.call_order.specs.Expanded.{expanded_in}

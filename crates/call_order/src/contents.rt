@@ -2,6 +2,7 @@
 ghost use Rattle.std.specs.Prelude.{◌≡◌, ◌+◌, ◌<◌, ◌≤◌, ◌^◌, OnOk, IfOk, length};
 ghost use Rattle.std.specs.List.{push};
 ghost use Rattle.pap_tree.specs.Flowchart.{body_of, stmt_then, done, flowchart_of};
+ghost use Rattle.pap_tree.specs.Limits.{most_methods};
 ghost use Rattle.pap_tree.specs.Statements.{written};
 ghost use Rattle.call_order.specs.Graphs.{content_of, graph_of};
 ghost use Rattle.call_order.specs.Chains.{nothing};
@@ -73,7 +74,7 @@ impl Contents {
 /// Adds a list of statements.
 #[cycle(collect)]
 fn collect(contents: &mut Contents, t: &Typed, body: &[Stmt]) -> Result<(), AllocError>
-    requires methods { length (flowchart_of t.now).methods ≤ 256 }
+    requires methods { length (flowchart_of t.now).methods ≤ most_methods }
     requires room { contents.old.statements + written (body_of body.now) < 2 ^ 64 }
     ensures { OnOk result (IsAdded t.now (body_of body.now) contents.old contents.new) }
 {
@@ -86,7 +87,7 @@ fn collect(contents: &mut Contents, t: &Typed, body: &[Stmt]) -> Result<(), Allo
 /// Adds a statement.
 #[cycle(collect)]
 fn collect_one(contents: &mut Contents, t: &Typed, statement: &Stmt) -> Result<(), AllocError>
-    requires methods { length (flowchart_of t.now).methods ≤ 256 }
+    requires methods { length (flowchart_of t.now).methods ≤ most_methods }
     requires room { contents.old.statements + written (stmt_then statement.now done) < 2 ^ 64 }
     ensures { OnOk result (IsAdded t.now (stmt_then statement.now done) contents.old contents.new) }
 {
@@ -106,7 +107,7 @@ fn collect_one(contents: &mut Contents, t: &Typed, statement: &Stmt) -> Result<(
 
 /// What a list of statements has.
 pub(crate) fn content_of(alloc: Global, t: &Typed, body: &[Stmt]) -> Result<Contents, AllocError>
-    requires methods { length (flowchart_of t.now).methods ≤ 256 }
+    requires methods { length (flowchart_of t.now).methods ≤ most_methods }
     requires room { written (body_of body.now) < 2 ^ 64 }
     ensures { IfOk result (λ c. c ≡ content_of (flowchart_of t.now).methods (body_of body.now)) }
 {
@@ -118,7 +119,7 @@ pub(crate) fn content_of(alloc: Global, t: &Typed, body: &[Stmt]) -> Result<Cont
 /// What each method has.
 pub(crate) fn graph_of(alloc: Global, t: &Typed) -> Result<Vec<Contents>, AllocError>
     ensures graph { IfOk result (λ graph. graph.items ≡ graph_of (flowchart_of t.now).methods) }
-    ensures few { IfOk result (λ graph. length graph.items ≤ 256) }
+    ensures few { IfOk result (λ graph. length graph.items ≤ most_methods) }
 {
     let mut graph = Vec::new(alloc);
     for method in &t.plan().methods {

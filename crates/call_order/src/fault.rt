@@ -11,17 +11,19 @@ use thiserror::Error;
 #[derive(Debug, Drop, Error)]
 pub enum OrderFault {
     /// The first declared method that executes itself, directly or through others.
-    #[error("the method `{method}` executes itself, directly or through others")]
+    #[error("the method {method} executes itself, directly or through the methods that it executes")]
     Cycle { method: Name },
     /// The first declared method that begins a chain of more than 64 methods, each of which executes the next.
-    #[error("the method `{method}` begins a chain of more than 64 methods, each of which executes the next")]
+    #[error("the method {method} begins a chain of more than 64 methods, each of which executes the \
+        next")]
     Chain { method: Name },
     /// The statements of MAIN with those of all methods that it executes, where they are more than 200,000. The count
     /// stops at 2^63.
-    #[error("with the methods that are executed the plan has {count} statements, and at most 200000 may be")]
+    #[error("with the statements of each executed method in the place of its EXECUTE the plan has \
+        {count} statements, and at most 200000 may be")]
     TooLong { count: u64 },
     /// Memory ran out.
-    #[error("memory ran out")]
+    #[error("out of memory")]
     Memory(AllocError),
 }
 

@@ -1,13 +1,12 @@
 //! The lengths of the longest chains that methods begin.
 ghost use Rattle.std.specs.Prelude.{◌≡◌, ℕ, ◌+◌, ◌<◌, ◌≤◌, All, IfOk, length, slice_index};
+ghost use Rattle.pap_types.specs.Limits.{longest_chain};
 ghost use Rattle.call_order.specs.Chains.{Executes, content_at};
 ghost use Rattle.call_order.specs.LevelViews.{AreKnown, AllKnown, AreLevels, TellsPlaced};
 
 use crate::contents::Contents;
+use pap_types::LONGEST_CHAIN;
 use std::alloc::{AllocError, Global};
-
-/// The greatest number of methods in a chain.
-pub(crate) const LONGEST_CHAIN: u32 = 64;
 
 /// Whether each method has a level of at most `longest`.
 fn are_placed(methods: &[u32], levels: &[u32], longest: u32) -> bool
@@ -27,7 +26,7 @@ fn are_placed(methods: &[u32], levels: &[u32], longest: u32) -> bool
 fn raise(graph: &[Contents], longest: u32, levels: &mut [u32])
     requires known { AllKnown graph.now }
     requires levels { AreLevels graph.now longest levels.old }
-    requires few { longest < 64 }
+    requires few { longest < longest_chain }
     ensures { AreLevels graph.now (longest + 1) levels.new }
 {
     for i in 0..graph.len() {
@@ -37,11 +36,10 @@ fn raise(graph: &[Contents], longest: u32, levels: &mut [u32])
     }
 }
 
-/// The level of each method: the number of methods in the longest chain that it begins, or 0 where that has more than
-/// 64.
+/// The level of each method: the number of methods in the longest chain that it begins, or 0 where that is too long.
 pub(crate) fn levels_of(alloc: Global, graph: &[Contents]) -> Result<Vec<u32>, AllocError>
     requires { AllKnown graph.now }
-    ensures { IfOk result (λ levels. AreLevels graph.now 64 levels.items) }
+    ensures { IfOk result (λ levels. AreLevels graph.now longest_chain levels.items) }
 {
     let mut levels = vec![in alloc; 0u32; graph.len()]?;
     for longest in 0..LONGEST_CHAIN {

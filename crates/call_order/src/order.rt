@@ -1,6 +1,8 @@
 //! The order of a plan's methods.
 ghost use Rattle.std.specs.Prelude.{◌≡◌, ℕ, ◌+◌, ◌<◌, ◌≤◌, ◌^◌, Err, IfOk, OnOk, MatchOption, length, min, slice_index};
 ghost use Rattle.pap_tree.specs.Flowchart.{flowchart_of};
+ghost use Rattle.pap_tree.specs.Limits.{most_methods};
+ghost use Rattle.pap_types.specs.Limits.{longest_chain};
 ghost use Rattle.call_order.specs.Graphs.{graph_of};
 ghost use Rattle.call_order.specs.Expanded.{expanded_in};
 ghost use Rattle.call_order.specs.Faults.{IsFirst, last_count};
@@ -12,8 +14,8 @@ use crate::OrderFault;
 use crate::contents::{Contents, content_of, graph_of};
 use crate::cycles::first_in_cycle;
 use crate::lengths::{length_with, lengths_of};
-use crate::levels::{LONGEST_CHAIN, levels_of};
-use pap_types::Typed;
+use crate::levels::levels_of;
+use pap_types::{LONGEST_CHAIN, Typed};
 use std::alloc::{AllocError, Global};
 
 /// The greatest number of expanded statements of MAIN.
@@ -41,7 +43,7 @@ pub fn order_methods(alloc: Global, t: &Typed) -> Result<Vec<u32>, OrderFault>
 /// The methods, those that begin the shorter chains first.
 fn by_chains(alloc: Global, t: &Typed, graph: &[Contents]) -> Result<Vec<u32>, OrderFault>
     requires graph { graph.now ≡ graph_of (flowchart_of t.now).methods }
-    requires few { length graph.now ≤ 256 }
+    requires few { length graph.now ≤ most_methods }
     ensures { ChainsAnswer (flowchart_of t.now) result }
 {
     let levels = levels_of(alloc, graph)?;
@@ -91,7 +93,7 @@ fn refusal(alloc: Global, t: &Typed, graph: &[Contents], first: usize) -> OrderF
 fn by_level(alloc: Global, levels: &[u32]) -> Result<Vec<u32>, AllocError>
     requires few { length levels.now < 2 ^ 32 }
     requires placed { AreAllPlaced levels.now }
-    requires low { (i : ℕ) → i < length levels.now → slice_index levels.now i ≤ 64 }
+    requires low { (i : ℕ) → i < length levels.now → slice_index levels.now i ≤ longest_chain }
     ensures { IfOk result (λ order. IsByLevel levels.now order.items) }
 {
     let mut order = Vec::new(alloc);

@@ -49,7 +49,7 @@ pub enum FileRefusal {
     Open { key: Key },
     #[error("there would be more than 2000000 entries")]
     Entries,
-    #[error("memory ran out")]
+    #[error("out of memory")]
     Memory(AllocError),
 }
 
@@ -71,7 +71,7 @@ pub enum OwedRefusal {
     NothingFiled,
     #[error("a run up to the last filed month is not ok")]
     Open { key: Key },
-    #[error("memory ran out")]
+    #[error("out of memory")]
     Memory(AllocError),
 }
 

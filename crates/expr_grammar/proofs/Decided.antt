@@ -5,7 +5,8 @@ use Rattle.std.proofs.lemmas.List.{append-nil, take-append-drop, length-take, le
 use Rattle.pap_tree.specs.Tokens.{Token, Spot, plain}
 use Rattle.pap_tree.specs.Grammar.{Line, Meaning}
 use Rattle.pap_tree.specs.Texts.{Text}
-use Rattle.pap_tree.specs.Stopping.{IsRead, HasCause, StopsBefore, IsRefused, Cause, syntax, unsupported, binary_fraction, number, deep, rank, has_limits, most_tokens}
+use Rattle.pap_tree.specs.Limits.{most_tokens}
+use Rattle.pap_tree.specs.Stopping.{IsRead, HasCause, StopsBefore, IsRefused, Cause, syntax, unsupported, binary_fraction, number, deep, rank, has_limits}
 use Rattle.expr_grammar.specs.Lines.{IsWhole}
 use Rattle.expr_grammar.specs.Machine.{start}
 use Rattle.expr_grammar.specs.Run.{Refusal, refusal, run, never, cut_answer, answer}

@@ -7,7 +7,8 @@ use Rattle.pap_tree.specs.Tokens.{Token, Spot, plain}
 use Rattle.pap_tree.specs.Grammar.{Line, Meaning}
 use Rattle.pap_tree.specs.Texts.{Text}
 use Rattle.pap_tree.specs.Fronts.{IsFront}
-use Rattle.pap_tree.specs.Stopping.{IsDeep, Stops, IsRead, HasCause, Cause, syntax, unsupported, binary_fraction, number, deep, rank, Earns, has_limits, most_tokens, most_levels}
+use Rattle.pap_tree.specs.Limits.{most_tokens, most_levels}
+use Rattle.pap_tree.specs.Stopping.{IsDeep, Stops, IsRead, HasCause, Cause, syntax, unsupported, binary_fraction, number, deep, rank, Earns, has_limits}
 use Rattle.expr_grammar.specs.Lines.{IsWhole}
 use Rattle.expr_grammar.specs.Machine.{State, level_of, step, finish, and_then, steps, start}
 use Rattle.expr_grammar.specs.Run.{Refusal, refusal, cause_of, or_refusal, is_over, next, run}

@@ -5,6 +5,7 @@ use Rattle.pap_tree.specs.Term.{Term}
 use Rattle.pap_tree.specs.Grammar.{Item, Line, Level, Meaning, tree}
 use Rattle.pap_tree.specs.Texts.{Text}
 use Rattle.pap_tree.specs.Fronts.{Front, IsFront}
+use Rattle.pap_tree.specs.Limits.{most_tokens}
 use Rattle.pap_tree.specs.Stopping.{Cause, IsRead, IsRefused, has_limits}
 use Rattle.pap_tree.specs.Expressions.{IsText}
 use Rattle.expr_grammar.specs.Machine.{State, level_of, start, steps}
@@ -63,7 +64,7 @@ IsSized l = (ts : List Token) (x : Meaning) → Text l ts x → size x ≤ lengt
 
 -- so it has at most 1,000 where the reading of a line with limits isn't stopped
 abbrev pub IsBounded : Line → Type 0
-IsBounded l = (ts : List Token) (x : Meaning) → IsTrue (has_limits l) → Text l ts x → IsRead l ts → size x ≤ 1000
+IsBounded l = (ts : List Token) (x : Meaning) → IsTrue (has_limits l) → Text l ts x → IsRead l ts → size x ≤ most_tokens
 
 -- the scales of a tree are at most 30, and its literals with a point have a place where its text's have one
 abbrev pub KeepsPlaces : Line → Type 0

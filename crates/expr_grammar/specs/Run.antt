@@ -3,7 +3,8 @@ use Rattle.std.specs.Prelude.{ℕ, Bool, ◌&&◌, nat_lt, if◌then◌else◌, 
 use Rattle.pap_tree.specs.Names.{is_name}
 use Rattle.pap_tree.specs.Tokens.{Token, Literal, Beyond, Word, Mark, Close, int, point, Spot}
 use Rattle.pap_tree.specs.Grammar.{Line, Meaning}
-use Rattle.pap_tree.specs.Stopping.{Cause, syntax, unsupported, binary_fraction, number, deep, most_tokens, most_levels, has_limits}
+use Rattle.pap_tree.specs.Limits.{most_tokens, most_levels}
+use Rattle.pap_tree.specs.Stopping.{Cause, syntax, unsupported, binary_fraction, number, deep, has_limits}
 use Rattle.expr_grammar.specs.Machine.{InNew, Negating, dividing, setting, rounding, OfNew, Holder, State, Want, Member, Static, ScaleDue, Parting, Moded, Settling, Signed, Minus, holder_of, level_of, step, finish, start}
 
 -- why a line is refused, and at which byte

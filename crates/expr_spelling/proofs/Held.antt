@@ -1,6 +1,6 @@
 -- The names, scales and literals of a tree that a text of bytes has are within their ranges.
 use Rattle.std.proofs.Common.{◌≡◌, ℕ, zero, suc, ◌+◌, ◌≤◌, List, [], ◌∷◌, ◌++◌, length, ℤ, pos, negsuc, ap, arith}
-use Rattle.std.specs.Prelude.{⊤, IsTrue}
+use Rattle.std.specs.Prelude.{⊤, IsTrue, unsigned_abs}
 use Rattle.scaled_decimal.specs.Decimals.{Decimal, decimal, numerator_of, scale_of, negated}
 use Rattle.scaled_decimal.specs.Limits.{IsKept}
 use Rattle.pap_tree.specs.Names.{is_name}
@@ -12,13 +12,12 @@ use Rattle.pap_tree.specs.Grammar as grammar
 use Rattle.pap_tree.specs.Grammar.{Item, Is, Opens, Scale, Part, Line, Meaning, tree, literal, Way, leaf_of, negative_of}
 use Rattle.pap_tree.specs.Texts as texts
 use Rattle.pap_tree.specs.Texts.{Text, Texts}
-use Rattle.expr_grammar.specs.Shortened.{size_of}
 use Rattle.pap_tree.specs.Scales.{OneKeepsScale, TwoKeepsScale}
 
 abbrev pub IsHeldLeaf : Leaf → Type 0
-IsHeldLeaf (terms.whole i) = size_of i ≤ greatest_int
-IsHeldLeaf (terms.long i) = size_of i ≤ greatest_long
-IsHeldLeaf (terms.point d) = (1 ≤ scale_of d) × IsKept (decimal (pos (size_of (numerator_of d))) (scale_of d))
+IsHeldLeaf (terms.whole i) = unsigned_abs i ≤ greatest_int
+IsHeldLeaf (terms.long i) = unsigned_abs i ≤ greatest_long
+IsHeldLeaf (terms.point d) = (1 ≤ scale_of d) × IsKept (decimal (pos (unsigned_abs (numerator_of d))) (scale_of d))
 IsHeldLeaf (terms.text d) = IsKept d
 IsHeldLeaf (terms.known k) = ⊤
 IsHeldLeaf (terms.named x) = IsTrue (is_name x)
@@ -61,11 +60,11 @@ AllHeld (Part g l x ∷ more) = IsHeldMeaning x × AllHeld more
 AllHeld (Opens t ∷ more) = AllHeld more
 AllHeld (Scale p s ∷ more) = AllHeld more
 
-plain_size : (z : ℤ) (s : ℕ) → IsKept (decimal z s) → IsKept (decimal (pos (size_of z)) s)
+plain_size : (z : ℤ) (s : ℕ) → IsKept (decimal z s) → IsKept (decimal (pos (unsigned_abs z)) s)
 plain_size (pos n) s h = h
 plain_size (negsuc n) s h = record { numerator = h.numerator; scale = h.scale }
 
-minus_size : (z : ℤ) (s : ℕ) → IsKept (decimal z s) → IsKept (decimal (pos (size_of (numerator_of (negated (decimal z s))))) s)
+minus_size : (z : ℤ) (s : ℕ) → IsKept (decimal z s) → IsKept (decimal (pos (unsigned_abs (numerator_of (negated (decimal z s))))) s)
 minus_size (pos zero) s h = h
 minus_size (pos (suc n)) s h = h
 minus_size (negsuc n) s h = record { numerator = h.numerator; scale = h.scale }

@@ -10,6 +10,7 @@ use Rattle.scaled_decimal.specs.Decimals.{Decimal, decimal, numerator_of, scale_
 use Rattle.scaled_decimal.specs.Limits.{IsKept}
 use Rattle.scaled_decimal.specs.NumberTexts.{sign_text, point_text}
 use Rattle.scaled_decimal.specs.PlainTexts.{digit_byte, whole_text, last_digits, plain_text}
+use Rattle.scaled_decimal.proofs.Laws.{digits_whole, some_whole, digits_last}
 use Rattle.pap_tree.specs.Names.{is_letter, is_word, is_reserved, is_name}
 use Rattle.pap_tree.specs.Words.{known_word}
 use Rattle.pap_tree.specs.declared.expression.Known.{Known}
@@ -25,7 +26,7 @@ use Rattle.expr_tokens.specs.Views.{First, Stops}
 use Rattle.expr_tokens.proofs.Laws.{all_digits, word_first}
 use Rattle.expr_grammar.specs.SpelledTokens.{leaf_tokens}
 use Rattle.expr_spelling.proofs.Lexing.{Lex, Any, Cut, join, lead, word_lex, cut_no_digit, cut_no_places}
-use Rattle.expr_spelling.proofs.Numerals.{int_lex, long_lex, point_lex, quoted_lex, place_text, digits_whole, some_whole, digits_last, digit_first, no_sign}
+use Rattle.expr_spelling.proofs.Numerals.{int_lex, long_lex, point_lex, quoted_lex, place_text, digit_first, no_sign}
 use Rattle.expr_spelling.proofs.Pieces.{Good, NoEquals, sign_then, word_then, point_sign, open_sign, close_sign, minus_sign}
 use Rattle.expr_spelling.proofs.Held.{IsHeldLeaf}
 

@@ -12,7 +12,8 @@ use Rattle.pap_tree.proofs.Laws.{stmt_at}
 use Rattle.pap_types.specs.Bounds.{term_bound, body_bound, method_bound}
 use Rattle.pap_types.specs.Checks.{IsWellTyped}
 use Rattle.pap_types.specs.Counts.{IsWithinCounts, AreSmallTerms}
-use Rattle.pap_types.specs.Meaning.{longest_chain, bound_of}
+use Rattle.pap_types.specs.Limits.{longest_chain}
+use Rattle.pap_types.specs.Meaning.{bound_of}
 use Rattle.pap_types.specs.Routines.{method_names}
 use Rattle.pap_types.specs.Scopes.{number_of}
 use Rattle.call_order.specs.Executed.{EachExecuted, StandsIn}

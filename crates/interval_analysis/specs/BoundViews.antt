@@ -5,7 +5,7 @@ use Rattle.pap_tree.specs.Flowchart.{Body, Flowchart}
 use Rattle.pap_types.specs.Scopes.{number_of}
 use Rattle.pap_types.specs.Routines.{method_names}
 use Rattle.pap_types.specs.Bounds.{body_bound, method_bound}
-use Rattle.pap_types.specs.Meaning.{longest_chain}
+use Rattle.pap_types.specs.Limits.{longest_chain}
 
 abbrev pub last_sum : ℕ
 last_sum = 18446744073709551615

@@ -19,11 +19,8 @@ use crate::variables::Variables;
 use crate::{OutputRange, RangeFault, Verdict};
 use limits_file::Limits;
 use pap_tree::Name;
-use pap_types::Typed;
+use pap_types::{LONGEST_CHAIN, Typed};
 use std::alloc::Global;
-
-/// The most methods of a chain, each of which executes the next.
-const LONGEST_CHAIN: u32 = 64;
 
 /// Walks a plan over the ranges of its variables' values, from the limits of its inputs; `order` has its methods after those
 /// that they execute. Answers the most that a run costs and the ranges of the outputs, in declared order: every run on inputs

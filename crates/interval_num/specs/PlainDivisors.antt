@@ -9,7 +9,7 @@ abbrev pub first_power : ℤ → ℕ → ℕ → ℕ
 first_power d k zero = k
 first_power d k (suc tries) = if int_eq (int_rem (ten_to k) d) (pos 0) then k else first_power d (suc k) tries
 
--- the least k for which d divides 10^k, d being a plain divisor
+-- the least k for which d divides 10^k, d being a plain divisor (`IsDivisorPlaces`)
 unfoldable pub divisor_places : ℤ → ℕ
 divisor_places d = first_power d 0 most_places
 

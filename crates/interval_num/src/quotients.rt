@@ -2,7 +2,7 @@
 ghost use Rattle.std.specs.Prelude.{◌≡◌, ◌≤◌, ◌≢◌, pos, IfOk};
 ghost use Rattle.scaled_decimal.specs.Decimals.{decimal, numerator_of};
 ghost use Rattle.scaled_decimal.specs.RoundedDecimals.{quotient, rescaled};
-ghost use Rattle.scaled_decimal.specs.WorkingNumbers.{QuotientFits, RescaleFits};
+ghost use Rattle.scaled_decimal.specs.WorkingNumbers.{QuotientFits, RescaleFits, IsDivisorPlaces};
 ghost use Rattle.scaled_decimal.specs.ExactQuotients.{IsPlainDivisor};
 ghost use Rattle.scaled_decimal.specs.Limits.{most_places, IsWithinLimit};
 ghost use Rattle.interval_num.specs.PlainDivisors.{divisor_places, cofactor};
@@ -44,10 +44,13 @@ pub fn abs_div(a: Abs, b: Abs, s: u8, mode: Mode) -> Result<Abs, RangeCause>
 
 /// The interval of the exact quotients by `d`, a divisor of 10^30.
 ///
+/// The places that a quotient may need more are the least k for which `d` divides 10^k.
+///
 /// `Scale` where a quotient may need more than 30 places, then `Wide` where an end is beyond 10^37.
 pub fn abs_div_exact(a: Abs, d: i128) -> Result<Abs, RangeCause>
     requires { IsPlainDivisor d }
     ensures exact { result ≡ exact_quotient_row d a }
+    ensures places { IsDivisorPlaces d (divisor_places d) }
     ensures sound { IfOk result (ExactQuotientIsSound d a) }
 {
     let reciprocal = reciprocal(d);

@@ -13,6 +13,7 @@ use crate::alignment::{has_zero, most};
 use crate::cause::RangeCause;
 use crate::hull::hull;
 use crate::interval::Abs;
+use scaled_decimal::{is_int, is_long};
 
 /// The width of a whole number.
 #[derive(Clone, Copy)]
@@ -279,7 +280,7 @@ fn is_of_width(width: Width, n: i128) -> bool
     ensures { result ≡ is_of_bits (bits_of width) n }
 {
     match width {
-        Width::Int => -2_147_483_648 <= n && n < 2_147_483_648,
-        Width::Long => -9_223_372_036_854_775_808 <= n && n < 9_223_372_036_854_775_808,
+        Width::Int => is_int(n),
+        Width::Long => is_long(n),
     }
 }

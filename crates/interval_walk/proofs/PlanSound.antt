@@ -12,7 +12,8 @@ use Rattle.interval_num.specs.Alignment.{at_scale}
 use Rattle.pap_types.specs.Scopes.{scope_of}
 use Rattle.pap_types.specs.Routines.{main_name}
 use Rattle.pap_types.specs.Values.{Env}
-use Rattle.pap_types.specs.Meaning.{longest_chain, calls_in, start, outputs_in}
+use Rattle.pap_types.specs.Limits.{longest_chain}
+use Rattle.pap_types.specs.Meaning.{calls_in, start, outputs_in}
 use Rattle.pap_types.proofs.Laws.{has_types}
 use Rattle.interval_walk.specs.Ranges.{NamedRange, Ranges}
 use Rattle.interval_walk.specs.Failures.{output_fails}

@@ -35,7 +35,7 @@ use Rattle.pap_types.specs.Routines.{body_named}
 use Rattle.pap_types.specs.Checks.{is_of_type}
 use Rattle.pap_types.specs.Typing.{HasItsType, AreDistinct, declarations_of, IsDeclaredLeaf, IsTypedBody}
 use Rattle.pap_types.specs.Counts.{AreSmallTerms}
-use Rattle.pap_types.specs.Meaning.{longest_chain}
+use Rattle.pap_types.specs.Limits.{longest_chain}
 use Rattle.pap_types.proofs.Laws.{has_types}
 use Rattle.interval_walk.specs.Ranges.{Ranges, names_in, range_named, single}
 use Rattle.interval_walk.specs.NodeRanges.{is_whole_of, read_range, read_leaf, leaf_interval, read_item, item_range}

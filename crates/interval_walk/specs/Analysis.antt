@@ -14,7 +14,7 @@ use Rattle.interval_num.specs.Intervals.{Interval, interval}
 use Rattle.interval_num.specs.Alignment.{at_scale}
 use Rattle.pap_types.specs.Scopes.{scope_of, first_value, factor_places}
 use Rattle.pap_types.specs.Routines.{main_name}
-use Rattle.pap_types.specs.Meaning.{longest_chain}
+use Rattle.pap_types.specs.Limits.{longest_chain}
 use Rattle.interval_walk.specs.Ranges.{NamedRange, Ranges, single}
 use Rattle.interval_walk.specs.Failures.{WalkFault, output_fails, and_then}
 use Rattle.interval_walk.specs.Walked.{RangeCalls, walked, range_calls_of}

@@ -46,9 +46,9 @@ fn refuses_the_first_token_that_earns_it(rt: HostRuntime) -> Result<(), Fail> {
 }
 
 /// Texts, and what is said of their fault.
-const MESSAGES: &str = r#"x => byte 0: expected a tag, a comment or white space
- <PAP> => byte 6: expected another element or end tag of the flowchart
-<PAP a="1" a="2"> => byte 0: expected a tag with its needed attributes in their form, none twice and none over 8192 bytes"#;
+const MESSAGES: &str = r#"x => expected a tag, a comment or white space
+ <PAP> => expected another element or another end tag
+<PAP a="1" a="2"> => the tag lacks a needed attribute, or has one that isn't of its form, stands twice or is longer than 8192 bytes"#;
 
 /// Writes what is said of a text's fault.
 fn message(asked: &str, text: &mut String) -> Result<(), Fail> {

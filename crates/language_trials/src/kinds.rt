@@ -145,25 +145,25 @@ const STATEMENTS: &str = r#"<IF expr="I &lt; 1"><THEN/></IF> => taken
 <IF expr="I"><THEN/></IF> => Kind MAIN:0:0
 <IF expr="B.add(C)"><THEN/></IF> => Kind MAIN:0:2
 <IF expr="0.5"><THEN/></IF> => Kind MAIN:0:0
-<EVAL exec="B = C"/><EVAL exec="I = X + 1"/> => `X` at MAIN:1:0 isn't declared
-<EVAL exec="X = I + 1"/> => `X` at MAIN:0:2 isn't declared
-<EVAL exec="B = X[1]"/> => `X` at MAIN:0:1 isn't declared
-<EVAL exec="C = B"/> => the target at MAIN:0:0 is a constant
-<EVAL exec="T = I.add(L)"/> => the target at MAIN:0:2 is a constant
-<EXECUTE method="I"/> => the method executed at MAIN:0:0 isn't there"#;
+<EVAL exec="B = C"/><EVAL exec="I = X + 1"/> => the name X isn't declared, or isn't one that may stand here MAIN:1:0
+<EVAL exec="X = I + 1"/> => the name X isn't declared, or isn't one that may stand here MAIN:0:2
+<EVAL exec="B = X[1]"/> => the name X isn't declared, or isn't one that may stand here MAIN:0:1
+<EVAL exec="C = B"/> => the target is a CONSTANT, which can't be given a value MAIN:0:0
+<EVAL exec="T = I.add(L)"/> => the target is a CONSTANT, which can't be given a value MAIN:0:2
+<EXECUTE method="I"/> => there is no METHOD of this name MAIN:0:0"#;
 
 /// Types and values of a constant, and why they are refused.
 const LITERALS: &str = r#"type="int" value="-1" => taken
-type="int" value="1L" => the literal of `D` isn't of its type
-type="int" value="1.5" => the literal of `D` isn't of its type
+type="int" value="1L" => the literal of D isn't of its type
+type="int" value="1.5" => the literal of D isn't of its type
 type="long" value="1" => taken
 type="long" value="-1L" => taken
-type="long" value="1.5" => the literal of `D` isn't of its type
+type="long" value="1.5" => the literal of D isn't of its type
 type="BigDecimal" value="BigDecimal.ONE" => taken
-type="BigDecimal" value="1" => the literal of `D` isn't of its type
-type="BigDecimal" value="{BigDecimal.ONE}" => the literal of `D` isn't of its type
+type="BigDecimal" value="1" => the literal of D isn't of its type
+type="BigDecimal" value="{BigDecimal.ONE}" => the literal of D isn't of its type
 type="BigDecimal[]" value="{BigDecimal.ONE}" => taken
-type="BigDecimal[]" value="BigDecimal.ONE" => the literal of `D` isn't of its type"#;
+type="BigDecimal[]" value="BigDecimal.ONE" => the literal of D isn't of its type"#;
 
 /// Writes what is answered to a plan of one assignment.
 fn assigned(asked: &str, text: &mut String) -> Result<(), Fail> {

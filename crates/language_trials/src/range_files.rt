@@ -60,9 +60,9 @@ const SIZES: &str = r#"256 x [input.A{n}]\nlow = 0\nhigh = 1\nplaces = 0\n => 25
 
 /// Texts, and what is said of their fault.
 const MESSAGES: &str =
-    r#"[input.RE4]\nlow = 0\n => range file, at RE4: an unknown key, a value of another type, or a missing key
-input.RE4 = { low = 1, high = 0, places = 0 } => range file, input RE4: places outside 0 to 30, low above high, an ill-formed or too long bound, or input 257
-[input.RE4 => range file: the text is no TOML"#;
+    r#"[input.RE4]\nlow = 0\n => the key RE4 isn't one that may stand there, its value isn't of its form, or it is an entry that lacks a key
+input.RE4 = { low = 1, high = 0, places = 0 } => in the entry [input.RE4] low is above high, one of them isn't a number, has more digits after its point than places or is beyond 10^37, or places isn't from 0 to 30, or this is the 257th input
+[input.RE4 => the range file is not valid TOML"#;
 
 /// Writes how many inputs and bindings a text has, or its fault.
 fn read(asked: &str, text: &mut String) -> Result<(), Fail> {

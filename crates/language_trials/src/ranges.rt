@@ -84,7 +84,7 @@ N <= 2 | B= T[N] | B= BigDecimal.ONE => Index MAIN:1:1
 N > 0 | Q= N * 300000000 | Q= 5 => Wide MAIN:1:2
 L > 0L | W= L * 100000000000000000L | W= 5 => Wide MAIN:1:2
 N > 0 | B= X.multiply(new BigDecimal("0.00000000000000000000000000001")) | B= BigDecimal.ONE => Scale MAIN:1:2
-N > 0 | B= X.multiply(new BigDecimal("0.00000000001")) | B= BigDecimal.ONE => output `B` may have more than 12 digits after its point or be beyond 10^20"#;
+N > 0 | B= X.multiply(new BigDecimal("0.00000000001")) | B= BigDecimal.ONE => the OUTPUT B may have more than 12 digits after its point, or be beyond 10^20, on inputs within their ranges"#;
 
 /// The plan up to the attributes of its output.
 const BEFORE: &str = r#"<PAP><VARIABLES><INPUTS>

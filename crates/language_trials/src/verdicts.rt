@@ -30,12 +30,17 @@ fn write_ranges(plan: &Plan, text: &mut String) -> Result<(), Fail> {
     Ok(())
 }
 
-/// Writes a refusal; in short those that come often.
+/// Writes a refusal with its place; in short those that come often.
 fn write_refusal(refusal: &PlanRefusal, text: &mut String) -> Result<(), Fail> {
     match refusal {
         PlanRefusal::LimitName { .. } => text.push_str("taken")?,
         PlanRefusal::Types(TypeFault::Kind { place }) => write!(text, "Kind {place}")?,
         PlanRefusal::Range(RangeFault::At { place, cause }) => write!(text, "{cause:?} {place}")?,
+        PlanRefusal::Types(
+            TypeFault::Unknown { place, .. }
+            | TypeFault::ConstantWritten { place }
+            | TypeFault::NoMethod { place },
+        ) => write!(text, "{refusal} {place}")?,
         refusal => write!(text, "{refusal}")?,
     }
     Ok(())

@@ -3,6 +3,7 @@ use Rattle.std.proofs.Common.{◌≡◌, ℕ, ◌≤◌, Bool, true, false, not,
 use Rattle.std.specs.List.{list_all}
 use Rattle.toml.specs.Data.{Data, table, Members}
 use Rattle.pap_tree.specs.Names.{is_name}
+use Rattle.pap_tree.specs.Limits.{most_inputs}
 use Rattle.limits_file.specs.declared.fault.LimitsFault.{LimitsFault}
 use Rattle.limits_file.specs.declared.fault.LimitsFault.TheVariants as answered
 use Rattle.limits_file.specs.declared.limits.InputLimit.{InputLimit}
@@ -10,7 +11,7 @@ use Rattle.limits_file.specs.declared.limits.Binding.{Binding}
 use Rattle.limits_file.specs.AnswerViews.{Tells}
 use Rattle.limits_file.specs.Labels.{label_of}
 use Rattle.limits_file.specs.Entries.{Form, has_key, first_unsuited, failing_key}
-use Rattle.limits_file.specs.Inputs.{input_form, InputSays, GivesNoLimit, most_inputs}
+use Rattle.limits_file.specs.Inputs.{input_form, InputSays, GivesNoLimit}
 use Rattle.limits_file.specs.Bindings.{binding_form, BindingSays}
 
 pub not_true : {b : Bool} → not b ≡ true → b ≡ false

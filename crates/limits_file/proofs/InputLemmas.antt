@@ -7,12 +7,13 @@ use Rattle.scaled_decimal.specs.Decimals.{Decimal, decimal, numerator_of, scale_
 use Rattle.scaled_decimal.specs.Limits.{IsWithinLimit, IsKept, limit, most_places}
 use Rattle.scaled_decimal.specs.NumberTexts.{Spells}
 use Rattle.scaled_decimal.proofs.Laws.{number_once, number_or_none}
+use Rattle.pap_tree.specs.Limits.{most_inputs}
 use Rattle.limits_file.specs.declared.limits.InputLimit.{InputLimit}
 use Rattle.limits_file.specs.Labels.{label_of}
 use Rattle.limits_file.specs.Limits.{HasSoundBounds}
 use Rattle.limits_file.specs.Faults.{Fault, too_long, no_toml, bad_key, bad_bound}
 use Rattle.limits_file.specs.Entries.{entry_of, failing_key}
-use Rattle.limits_file.specs.Inputs.{input_form, IsBound, IsBoundAt, IsLimitOf, GivesNoLimit, most_inputs, InputSays}
+use Rattle.limits_file.specs.Inputs.{input_form, IsBound, IsBoundAt, IsLimitOf, GivesNoLimit, InputSays}
 use Rattle.limits_file.proofs.WalkLemmas.{SaysOne, SaysSome}
 
 bound_once : (value : Data) (b b' : Decimal) → IsBound value b → IsBound value b' → b ≡ b'

@@ -12,7 +12,8 @@ use Rattle.limits_file.specs.Faults.{Fault, too_long, no_toml, bad_key, bad_boun
 use Rattle.limits_file.specs.Walks.{TableSays}
 use Rattle.limits_file.specs.Inputs.{InputSays}
 use Rattle.limits_file.specs.Bindings.{BindingSays}
-use Rattle.limits_file.specs.RangeFiles.{with_inputs, with_bindings, joined, SectionSays, most_bytes, IsNoToml, IsToml, FileSays}
+use Rattle.limits_file.specs.Limits.{longest_limits}
+use Rattle.limits_file.specs.RangeFiles.{with_inputs, with_bindings, joined, SectionSays, IsNoToml, IsToml, FileSays}
 use Rattle.limits_file.proofs.WalkLemmas.{SaysOne, SaysSome, table_once, table_some, table_fault}
 use Rattle.limits_file.proofs.InputLemmas.{input_once, input_some}
 use Rattle.limits_file.proofs.BindingLemmas.{binding_once, binding_some}
@@ -155,11 +156,11 @@ file_from bytes file toml (Err too_long) h = absurd (table_fault SectionSays IsI
 file_from bytes file toml (Err no_toml) h = absurd (table_fault SectionSays IsInside section_inside 0 file no_toml h)
 
 pub file_some : (bytes : List ℕ) → (x : Result Limits Fault) × FileSays bytes x
-file_some bytes = elim (cases_lt most_bytes (length bytes)) [
+file_some bytes = elim (cases_lt longest_limits (length bytes)) [
   | inl long ↦ (Err too_long, long)
   | inr short ↦ at short (parse_document bytes) refl
 ] where
-  at : length bytes ≤ most_bytes → (found : Option Members) → parse_document bytes ≡ found → (x : Result Limits Fault) × FileSays bytes x
+  at : length bytes ≤ longest_limits → (found : Option Members) → parse_document bytes ≡ found → (x : Result Limits Fault) × FileSays bytes x
   at short None e = (Err no_toml, record { short = short; refused = λ _. e })
   at short (Some file) e = elim (cases_Bool (is_utf8 bytes)) [
     | inl good ↦ (

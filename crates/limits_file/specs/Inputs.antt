@@ -5,6 +5,7 @@ use Rattle.toml.specs.Data.{Data, string, integer, Members, get_member}
 use Rattle.scaled_decimal.specs.Decimals.{Decimal, decimal}
 use Rattle.scaled_decimal.specs.Limits.{IsKept}
 use Rattle.scaled_decimal.specs.NumberTexts.{Spells}
+use Rattle.pap_tree.specs.Limits.{most_inputs}
 use Rattle.limits_file.specs.declared.limits.InputLimit.{InputLimit}
 use Rattle.limits_file.specs.Labels.{label_of}
 use Rattle.limits_file.specs.Limits.{HasSoundBounds}
@@ -47,10 +48,6 @@ pub record IsLimitOf (name : List ℕ) (entry : Members) (limit : InputLimit) : 
 
 abbrev pub GivesNoLimit : List ℕ → Members → Type 0
 GivesNoLimit name entry = (limit : InputLimit) → IsLimitOf name entry limit → ⊥
-
--- the greatest number of inputs
-abbrev pub most_inputs : ℕ
-most_inputs = 256
 
 -- An entry that n others stand before: its limit, the key at which it fails, or else that its bounds break their rule or
 -- that there are too many inputs.

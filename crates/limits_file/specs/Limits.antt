@@ -1,10 +1,14 @@
--- Which values a range admits, and the bound of outputs.
+-- How long a range file is at most, which values a range admits, and the bound of outputs.
 use Rattle.std.specs.Prelude.{◌≡◌, ℕ, ◌^◌, ◌≤◌, IsTrue, IsFalse, unsigned_abs, List, Any}
 use Rattle.std.specs.Ordering.{is_gt}
 use Rattle.scaled_decimal.specs.Decimals.{Decimal, numerator_at, scale_of, value_order}
-use Rattle.scaled_decimal.specs.Limits.{IsWithinLimit}
+use Rattle.scaled_decimal.specs.Limits.{IsWithinLimit, most_places}
 use Rattle.pap_tree.specs.Scales.{is_kept_at}
 use Rattle.limits_file.specs.declared.limits.InputLimit.{InputLimit}
+
+-- the most bytes of a range file
+abbrev pub longest_limits : ℕ
+longest_limits = 262144
 
 -- the value of a is at most that of b, whatever their scales
 abbrev pub IsAtMost : Decimal → Decimal → Type 0
@@ -23,7 +27,7 @@ FitsNamed limits name value = Any (λ limit. (limit.name ≡ name) × Fits limit
 -- the rule for bounds: at most 30 places, no bound with more places, low not above high, and at so many places each
 -- bound has a numerator of at most 10^37
 pub record HasSoundBounds (limit : InputLimit) : Type 0 where
-  pub places : limit.places ≤ 30
+  pub places : limit.places ≤ most_places
   pub low_places : scale_of limit.low ≤ limit.places
   pub high_places : scale_of limit.high ≤ limit.places
   pub ordered : IsAtMost limit.low limit.high

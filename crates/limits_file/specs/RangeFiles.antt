@@ -10,6 +10,7 @@ use Rattle.limits_file.specs.declared.limits.InputLimit.{InputLimit}
 use Rattle.limits_file.specs.declared.limits.Binding.{Binding}
 use Rattle.limits_file.specs.declared.limits.Limits.{Limits}
 use Rattle.limits_file.specs.Labels.{label_of}
+use Rattle.limits_file.specs.Limits.{longest_limits}
 use Rattle.limits_file.specs.Faults.{Fault, too_long, no_toml, bad_key}
 use Rattle.limits_file.specs.Walks.{TableSays}
 use Rattle.limits_file.specs.Inputs.{InputSays}
@@ -35,24 +36,20 @@ SectionSays n key (table entries) answer =
     (answer ≡ Err (bad_key (label_of key))))
 SectionSays n key value answer = answer ≡ Err (bad_key (label_of key))
 
--- the greatest number of bytes of a range file
-abbrev pub most_bytes : ℕ
-most_bytes = 262144
-
 -- the text, which isn't too long, is no TOML
 pub record IsNoToml (bytes : List ℕ) : Type 0 where
-  pub short : length bytes ≤ most_bytes
+  pub short : length bytes ≤ longest_limits
   pub refused : IsUtf8 bytes → parse_document bytes ≡ None
 
 -- the text, which isn't too long, is this TOML table
 pub record IsToml (bytes : List ℕ) (file : Members) : Type 0 where
-  pub short : length bytes ≤ most_bytes
+  pub short : length bytes ≤ longest_limits
   pub text : IsUtf8 bytes
   pub parsed : parse_document bytes ≡ Some file
 
 -- the limits of a range file, or its first fault
 abbrev pub FileSays : List ℕ → Result Limits Fault → Type 0
-FileSays bytes (Err too_long) = most_bytes < length bytes
+FileSays bytes (Err too_long) = longest_limits < length bytes
 FileSays bytes (Err no_toml) = IsNoToml bytes
 FileSays bytes answer =
     (file : Members) × IsToml bytes file × TableSays SectionSays joined file answer

@@ -7,23 +7,26 @@ use crate::Label;
 use std::alloc::{AllocError, AllocFailed};
 use thiserror::Error;
 
-/// Why a text gives no limits.
+/// Why a text gives no limits. Its texts are for the author of a range file.
 #[derive(Debug, Drop, Error)]
 pub enum LimitsFault {
     /// The text is no TOML, or isn't UTF-8.
-    #[error("range file: the text is no TOML")]
+    #[error("the range file is not valid TOML")]
     Toml,
     /// A key that has no place there or whose value is of another type, or an entry that lacks a key.
-    #[error("range file, at {name}: an unknown key, a value of another type, or a missing key")]
+    #[error("the key {name} isn't one that may stand there, its value isn't of its form, or it is an \
+        entry that lacks a key")]
     Key { name: Label },
     /// An input whose bounds break their rule, or the 257th input.
-    #[error("range file, input {name}: places outside 0 to 30, low above high, an ill-formed or too long bound, or input 257")]
+    #[error("in the entry [input.{name}] low is above high, one of them isn't a number, has more digits \
+        after its point than places or is beyond 10^37, or places isn't from 0 to 30, or this is the \
+        257th input")]
     Bound { name: Label },
     /// The text has more than 262,144 bytes.
-    #[error("range file: more than 262144 bytes")]
+    #[error("the range file has more than 262144 bytes")]
     LimitsLong,
     /// Memory ran out.
-    #[error(transparent)]
+    #[error("out of memory")]
     Memory(AllocError),
 }
 

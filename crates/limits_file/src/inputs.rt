@@ -12,14 +12,11 @@ ghost use Rattle.limits_file.specs.Limits.{HasSoundBounds};
 
 use crate::entries::{has_key, value_at};
 use crate::{InputLimit, Items, LimitsFault};
-use pap_tree::{Name, is_kept_at};
+use pap_tree::{MOST_INPUTS, Name, is_kept_at};
 use scaled_decimal::{Dec, MOST_PLACES, read_dec};
 use std::alloc::Global;
 use std::cmp::Ordering;
 use toml::{Table, Value};
-
-/// The greatest number of inputs.
-const MOST_INPUTS: usize = 256;
 
 /// The limits of `[input]`.
 pub(crate) fn read_inputs(alloc: Global, entries: &Table) -> Result<Items<InputLimit>, LimitsFault>
@@ -50,7 +47,7 @@ fn read_input(before: usize, key: &str, value: &Value) -> Result<InputLimit, Lim
     if lacks_key(entry) {
         return Err(LimitsFault::key(key));
     }
-    if before >= MOST_INPUTS {
+    if before >= MOST_INPUTS as usize {
         return Err(LimitsFault::bound(key));
     }
     match limit_of(name, entry) {

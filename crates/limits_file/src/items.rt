@@ -28,14 +28,6 @@ impl<T> Items<T> {
         Items { items }
     }
 
-    /// The elements as a vector.
-    pub fn into_vec(self) -> Vec<T>
-        ensures { result.items ≡ self }
-    {
-        let Items { items } = self;
-        items
-    }
-
     /// The elements in their order.
     pub fn as_slice(&self) -> &[T]
         ensures { result.now ≡ self.now }

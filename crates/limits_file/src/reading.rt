@@ -3,7 +3,8 @@ ghost use Rattle.std.specs.Prelude.{◌≡◌, ◌<◌, ◌≤◌, ◌↔◌, �
 ghost use Rattle.toml.specs.View.{table_view};
 ghost use Rattle.limits_file.specs.AnswerViews.{Tells, IsRefused};
 ghost use Rattle.limits_file.specs.Faults.{no_toml, bad_key, bad_bound};
-ghost use Rattle.limits_file.specs.RangeFiles.{SectionSays, joined, IsToml, IsNoToml, FileSays, AreInOrder, HasOneAnswer, most_bytes};
+ghost use Rattle.limits_file.specs.Limits.{longest_limits};
+ghost use Rattle.limits_file.specs.RangeFiles.{SectionSays, joined, IsToml, IsNoToml, FileSays, AreInOrder, HasOneAnswer};
 ghost use Rattle.limits_file.specs.Walks.{TableSays};
 
 use crate::bindings::read_bindings;
@@ -24,7 +25,7 @@ pub fn read_limits(alloc: Global, bytes: &[u8]) -> Result<Limits, LimitsFault>
     ensures limits { IfOk result (λ limits. FileSays bytes.now (Ok limits)) }
     ensures in_order { IfOk result AreInOrder }
 
-    ensures long { (result ≡ Err LimitsFault.LimitsLong) ↔ (most_bytes < length bytes.now) }
+    ensures long { (result ≡ Err LimitsFault.LimitsLong) ↔ (longest_limits < length bytes.now) }
     ensures toml { result ≡ Err LimitsFault.Toml → FileSays bytes.now (Err no_toml) }
     ensures key { (label : List ℕ) → result ≡ Err (LimitsFault.Key label)
         → FileSays bytes.now (Err (bad_key label)) }
@@ -45,7 +46,7 @@ pub fn each_text_has_one_answer()
 
 /// The table of a text.
 fn read_toml(alloc: Global, bytes: &[u8]) -> Result<Table, LimitsFault>
-    requires { length bytes.now ≤ most_bytes }
+    requires { length bytes.now ≤ longest_limits }
     ensures read { IfOk result (λ table. IsToml bytes.now (table_view table)) }
     ensures refused { IfErr result (IsRefused bytes.now) }
 {

@@ -12,7 +12,8 @@ use Rattle.pap_tree.specs.Flowchart.{Body, Routine, flowchart_of}
 use Rattle.pap_tree.specs.Statements.{written}
 use Rattle.pap_types.specs.Checks.{IsWellTyped}
 use Rattle.pap_types.specs.Counts.{IsWithinCounts, methods_written}
-use Rattle.pap_types.specs.Meaning.{longest_chain, IsSafeFor}
+use Rattle.pap_types.specs.Limits.{longest_chain}
+use Rattle.pap_types.specs.Meaning.{IsSafeFor}
 use Rattle.pap_types.specs.Runs.{after, IsSafeBody}
 use Rattle.pap_types.specs.Routines.{body_named, method_names}
 use Rattle.pap_types.specs.Scopes.{number_of}

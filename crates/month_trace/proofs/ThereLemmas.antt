@@ -6,7 +6,8 @@ use Rattle.std.proofs.lemmas.Option.{option_and_then_some, none-some}
 use Rattle.scaled_decimal.specs.Decimals.{Decimal}
 use Rattle.pap_tree.specs.Flowchart.{Body, done, eval, branch, execute, Routine, Flowchart}
 use Rattle.pap_tree.specs.Statements.{written}
-use Rattle.pap_types.specs.Meaning.{longest_chain, calls_in, start, IsSafeFor}
+use Rattle.pap_types.specs.Limits.{longest_chain}
+use Rattle.pap_types.specs.Meaning.{calls_in, start, IsSafeFor}
 use Rattle.pap_types.specs.Operations.{is_zero}
 use Rattle.pap_types.specs.Routines.{body_named, main_name}
 use Rattle.pap_types.specs.Runs.{Calls, after, assigned, calls_of}

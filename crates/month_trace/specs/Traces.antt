@@ -9,7 +9,8 @@ use Rattle.pap_types.specs.Operations.{is_zero}
 use Rattle.pap_types.specs.Values.{Env, value}
 use Rattle.pap_types.specs.Routines.{body_named, main_name}
 use Rattle.pap_types.specs.Runs.{Calls, after, assigned, calls_of}
-use Rattle.pap_types.specs.Meaning.{longest_chain, calls_in, start}
+use Rattle.pap_types.specs.Limits.{longest_chain}
+use Rattle.pap_types.specs.Meaning.{calls_in, start}
 use Rattle.month_trace.specs.declared.step.TraceStep.{TraceStep}
 use Rattle.month_trace.specs.declared.step.TraceStep.TheVariants.{Set, Test, Enter}
 

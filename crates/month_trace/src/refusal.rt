@@ -17,7 +17,7 @@ pub enum TraceRefusal {
     /// The run has no plan, or no inputs.
     #[error("the run of {} on {} has not run", key.employee, key.day)]
     NotDone { key: Key },
-    #[error("memory ran out")]
+    #[error("out of memory")]
     Memory(AllocError),
 }
 

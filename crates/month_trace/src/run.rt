@@ -16,12 +16,9 @@ use crate::step::TraceStep;
 use crate::values::start_values;
 use pap_plan::Plan;
 use pap_tree::Name;
-use pap_types::Typed;
+use pap_types::{LONGEST_CHAIN, Typed};
 use scaled_decimal::Dec;
 use std::alloc::{AllocError, Global};
-
-/// The most methods in a chain.
-const LONGEST_CHAIN: u32 = 64;
 
 /// The statements that a run of a plan on inputs that it admits executes, in their order, each with what it did. Time is
 /// linear in the evaluated nodes and the statements of executed methods as they are written, memory in the trace and the

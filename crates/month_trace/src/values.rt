@@ -107,7 +107,7 @@ fn factor(e: &Expr, value: Dec) -> Dec
     ensures { result ≡ at_factor_scale value }
 {
     match e {
-        Expr::Int(number) => Dec::new(*number as i128 * 1000, 3),
+        Expr::Int(number) => at_factor_scale(Dec::new(*number as i128, 0)),
         Expr::Point(number) => at_factor_scale(*number),
         _ => value,
     }

@@ -58,7 +58,7 @@ fn explain(rt: &HostRuntime, status: Status, failed_name: Option<&str>) {
             eprintln!(rt; "pap_author: the file {name} can't be read")
         }
         Status::WriteFault => eprintln!(rt; "pap_author: standard output can't be written"),
-        Status::NoMemory => eprintln!(rt; "pap_author: memory ran out"),
+        Status::NoMemory => eprintln!(rt; "pap_author: out of memory"),
     };
 }
 

@@ -10,3 +10,4 @@ mod LineLemmas
 mod RunLemmas
 mod AnswerLemmas
 mod ReasonLemmas
+mod GoingOnLemmas

@@ -25,7 +25,7 @@ same_verdict (Err (unsaved.Memory e)) a b h k = absurd h
 same_book : BooksAreSavedOneWay → (book : Contents) (a b : Written) → IsBookWritten book a → IsBookWritten book b → a ≡ b
 same_book one book a b h k = same_verdict k.verdict a b (subst (λ v. IsVerdict v a) (one book h.verdict k.verdict h.says k.says) h.is) k.is
 
-same_save : BooksAreSavedOneWay → (refused filed : Bool) (refusals : List ℕ) (book : Contents) (a b : Written) → IsSave refused filed refusals book a → IsSave refused filed refusals book b → a ≡ b
+pub same_save : BooksAreSavedOneWay → (refused filed : Bool) (refusals : List ℕ) (book : Contents) (a b : Written) → IsSave refused filed refusals book a → IsSave refused filed refusals book b → a ≡ b
 same_save one true filed refusals book a b h k = h ∙ sym k
 same_save one false true refusals book a b h k = h ∙ sym k
 same_save one false false refusals book a b h k = same_book one book a b h k

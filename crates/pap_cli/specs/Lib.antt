@@ -6,6 +6,7 @@ pub mod SampleClauses
 pub mod SaveAnswers
 pub mod SaveViews
 pub mod SaveClauses
+pub mod GoingOn
 pub mod SampleViews
 pub mod CallClauses
 pub mod FileClauses

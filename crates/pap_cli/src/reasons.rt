@@ -11,15 +11,16 @@ ghost use Rattle.pap_cli.specs.Reasons.{bytes_of, SaysRefusedOn};
 use crate::once::record_of;
 use crate::words::{Command, FileRequest, Request, read_words};
 use carry_bindings::Filled;
+use limits_file::LONGEST_LIMITS;
 use pap_plan::{Plan, PlanRefusal, accept};
+use pap_reader::LONGEST_PLAN;
 use pay_run::filled;
 use payroll_records::Values;
 use plain_words::{TextFile, plan_words, state_words};
 use std::alloc::{AllocError, Global};
 
-/// How many bytes both files have at most that [`papcalc`](crate::papcalc) asks for: each one more than its limit, 1,048,576
-/// of a plan's file and 262,144 of a range file.
-pub const MOST_GIVEN: usize = 1_048_577 + 262_145;
+/// How many bytes both files have at most that [`papcalc`](crate::papcalc) asks for: each one more than its limit.
+pub const MOST_GIVEN: usize = LONGEST_PLAN + 1 + LONGEST_LIMITS + 1;
 
 /// The reason of a refusal in plain words, in one line that begins with the file and the place in it: for words whose answer
 /// [`papcalc`](crate::papcalc) gives as a refusal, and the bytes that were given for it, the plan's and then those of its

@@ -1,6 +1,7 @@
 //! The answer of `save`: the last book of a script as a text.
 ghost use Rattle.std.specs.Prelude.{◌≡◌, ◌≢◌, IfOk, Err};
 ghost use Rattle.outside.specs.Causes.{Caused};
+ghost use Rattle.pap_cli.specs.GoingOn.{SavedScriptsAreSaved, SavedScriptsGoOn};
 ghost use Rattle.pap_cli.specs.Laws.{ScriptsHaveOneSave};
 ghost use Rattle.pap_cli.specs.SaveAnswers.{IsSave, was_filed};
 ghost use Rattle.pap_cli.specs.SaveClauses.{LeavesOnSave};
@@ -70,9 +71,12 @@ fn saved(alloc: Global, ended: Unwritten) -> Result<Reply, AllocError>
     }
 }
 
-/// A script whose lines name files that are there has one answer of `save`.
+/// A script whose lines name files that are there has one answer of `save`. Where this is a book's text, a script that opens it
+/// goes on as the script whose book it is, and is saved as that script would be.
 pub fn save_laws()
-    ensures { ScriptsHaveOneSave }
+    ensures one { ScriptsHaveOneSave }
+    ensures on { SavedScriptsGoOn }
+    ensures again { SavedScriptsAreSaved }
 {
     saving_laws();
 }

@@ -11,7 +11,7 @@ pub enum Status {
     Refused,
     /// 2: the words are none of the forms; nothing was written.
     BadWords,
-    /// 3: a file that the words name could not be read.
+    /// 3: a file that the words, or a line of the script, name could not be read.
     FileFault,
     /// 4: the source failed.
     ReadFault,

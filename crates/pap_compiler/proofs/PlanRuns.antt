@@ -17,7 +17,8 @@ use Rattle.pap_types.specs.Routines.{body_named, method_names}
 use Rattle.pap_types.specs.Kinds.{is_whole, declared_kind}
 use Rattle.pap_types.specs.Values.{Env}
 use Rattle.pap_types.specs.Runs.{after, spent, calls_of}
-use Rattle.pap_types.specs.Meaning.{longest_chain, calls_in, given, first_entry, start, SuitsKind, AreInputs, IsSafeFor, cost_of, outputs_in}
+use Rattle.pap_types.specs.Limits.{longest_chain}
+use Rattle.pap_types.specs.Meaning.{calls_in, given, first_entry, start, SuitsKind, AreInputs, IsSafeFor, cost_of, outputs_in}
 use Rattle.pap_types.specs.Checks.{IsWellTyped}
 use Rattle.pap_machine.specs.declared.code.Instr.TheVariants as i
 use Rattle.pap_machine.specs.Code.{Program}

@@ -1,6 +1,7 @@
 //! How many calls are open at most.
 ghost use Rattle.std.specs.Prelude.{◌≡◌, ◌≤◌, IfOk, max};
 ghost use Rattle.pap_tree.specs.Flowchart.{flowchart_of, body_of, stmt_then, done};
+ghost use Rattle.pap_types.specs.Limits.{longest_chain};
 ghost use Rattle.call_order.specs.Orders.{IsOrdered};
 ghost use Rattle.pap_compiler.specs.Depths.{depth_of};
 ghost use Rattle.pap_compiler.specs.DepthViews.{depth_at, depth_in, AreSmall};
@@ -64,7 +65,7 @@ fn branches_depth(t: &Typed, depths: &[u32], yes: &[Stmt], no: &[Stmt]) -> u32
 fn method_depth(t: &Typed, depths: &[u32], method: &Name) -> u32
     requires { AreSmall depths.now }
     ensures exact { result ≡ depth_at (flowchart_of t.now) depths.now method.now }
-    ensures small { result ≤ 64 }
+    ensures small { result ≤ longest_chain }
 {
     match t.method(method) {
         Some(number) => depths.get(number).copied().unwrap_or(0),

@@ -113,7 +113,12 @@ fn emit_factor(code: &mut Vec<Instr>, names: &Names, value: &Expr) -> Result<(),
     ensures { OnOk result (HasFactor names.now (term_of value.now) code.old.items code.new.items) }
 {
     match value {
-        Expr::Int(number) => put(code, Instr::Lit(Dec::new(*number as i128 * 1000, 3))),
+        Expr::Int(number) => {
+            put(
+                code,
+                Instr::Lit(at_factor_scale(Dec::new(*number as i128, 0))),
+            )
+        }
         Expr::Point(number) if has_few_places(*number) => {
             put(code, Instr::Lit(at_factor_scale(*number)))
         }

@@ -5,7 +5,8 @@ use Rattle.std.proofs.lemmas.List.{drop_more, drop_all, take_all, take-map, drop
 use Rattle.pap_tree.specs.Tokens as tokens
 use Rattle.pap_tree.specs.Tokens.{Spot, Token, Literal, Beyond, Word, Mark, Equals, Close}
 use Rattle.pap_tree.specs.Grammar.{Line, Assignment, Meaning}
-use Rattle.pap_tree.specs.Stopping.{syntax, deep, has_limits, most_levels}
+use Rattle.pap_tree.specs.Limits.{most_levels}
+use Rattle.pap_tree.specs.Stopping.{syntax, deep, has_limits}
 use Rattle.expr_tokens.specs.declared.token.Placed.{Placed}
 use Rattle.expr_tokens.specs.Spots.{spot_of, spots_of}
 use Rattle.expr_grammar.specs.Machine.{State, Due, Want, Naming, Assigning, same_token, naming_step, level_of, step, start}

@@ -1,9 +1,8 @@
 //! The reading of declared literals, a token at a time.
 
-ghost use Rattle.std.specs.Prelude.{◌≡◌, ◌≤◌, ◌-◌, ℕ, Some, None, IfOk, IfErr, MatchOption};
+ghost use Rattle.std.specs.Prelude.{◌≡◌, ◌≤◌, ℕ, Some, None, IfOk, IfErr, MatchOption};
 ghost use Rattle.scaled_decimal.specs.Decimals.{decimal};
-ghost use Rattle.scaled_decimal.specs.Limits.{IsWithinLimit, most_places};
-ghost use Rattle.scaled_decimal.specs.ShortenedDecimals.{without_zeros};
+ghost use Rattle.scaled_decimal.specs.Limits.{most_places};
 ghost use Rattle.pap_tree.specs.Term.{whole, long as long_leaf, point as point_leaf};
 ghost use Rattle.pap_tree.specs.Tokens as pure;
 ghost use Rattle.pap_tree.specs.Grammar as grammar;
@@ -28,11 +27,8 @@ use crate::steps::{foreign, is_sign, keyword, refused};
 use crate::words::{Static, static_of};
 use expr_tokens::{Keyword, Placed, Sign, Token, read_tokens};
 use pap_tree::{Binary, Literal};
-use scaled_decimal::Dec;
+use scaled_decimal::{Dec, MOST_PLACES};
 use std::alloc::Global;
-
-/// The greatest scale.
-const MOST_PLACES: u32 = 30;
 
 /// A declared literal: the value of a constant or a default.
 pub fn parse_constant(alloc: Global, text: &[u8]) -> Result<Literal, ExprFault>
@@ -242,7 +238,7 @@ fn scale(i: i32, room: Room, found: &Placed) -> Result<Due, ExprFault>
         (spot_of found.now) result }
 {
     match found.token {
-        Token::Int(places) if places <= MOST_PLACES => {
+        Token::Int(places) if places <= MOST_PLACES as u32 => {
             Ok(Due::Close(Dec::new(i as i128, places as u8), room))
         }
         Token::Int(_) => Err(ExprFault::Number { at: found.at }),
@@ -291,19 +287,5 @@ fn shortened(d: Dec) -> Option<Dec>
     if d.scale() == 0 {
         return None;
     }
-    Some(without_zeros(d.numerator(), d.scale()))
-}
-
-/// The decimal of a numerator and a scale without the zeros that end it, down to one place.
-fn without_zeros(numerator: i128, scale: u8) -> Dec
-    requires numerator { IsWithinLimit numerator }
-    requires some { 1 ≤ scale }
-    requires few { scale ≤ most_places }
-    ensures { result ≡ without_zeros 1 (scale - 1) numerator }
-{
-    if scale > 1 && numerator % 10 == 0 {
-        without_zeros(numerator / 10, scale - 1)
-    } else {
-        Dec::new(numerator, scale)
-    }
+    Some(d.shortened(1))
 }

@@ -12,7 +12,7 @@ ghost use Rattle.expr_tokens.specs.Spots.{token_of, spots_of};
 ghost use Rattle.expr_grammar.specs.Machine.{Due, Want, Naming, naming_step, start};
 ghost use Rattle.expr_grammar.specs.Run.{Refusal, run, answer, never};
 ghost use Rattle.pap_tree.specs.Scales.{KeepsScales};
-ghost use Rattle.pap_tree.specs.Stopping.{most_tokens};
+ghost use Rattle.pap_tree.specs.Limits.{most_tokens};
 ghost use Rattle.pap_expr.specs.Views.{refusal_of};
 ghost use Rattle.pap_expr.specs.Answers.{line_of, base_of, Answers};
 ghost use Rattle.pap_expr.specs.Faults.{IsFaultOf};
@@ -21,11 +21,8 @@ use crate::fault::ExprFault;
 use crate::reading::{Reading, read};
 use crate::steps::{is_sign, refused};
 use expr_tokens::{Placed, Sign, Token, read_tokens};
-use pap_tree::{Expr, Name};
+use pap_tree::{Expr, MOST_TOKENS, Name};
 use std::alloc::Global;
-
-/// How many tokens an expression may have.
-const MOST_TOKENS: usize = 1000;
 
 /// The expression of a test.
 pub fn parse_expr(alloc: Global, text: &[u8]) -> Result<Expr, ExprFault>

@@ -6,23 +6,25 @@ use std::alloc::{AllocError, AllocFailed};
 use thiserror::Error;
 
 /// Why a text is refused, and the byte where the token begins that stops its reading: the text's length where the text
-/// ends too early. The causes are tried from the last to the first.
+/// ends too early. The causes are tried from the last to the first. Their texts are for a plan's author, and say what is wrong
+/// without the place.
 #[derive(Clone, Copy, Debug, PartialEq, Eq, Error)]
 pub enum ExprFault {
     /// The token isn't allowed there.
-    #[error("byte {at}: not allowed here")]
+    #[error("something else is expected here")]
     Syntax { at: usize },
     /// The token begins a form that Java has here and the flowchart's profile doesn't.
-    #[error("byte {at}: a form outside the profile")]
+    #[error("this form isn't part of the profile")]
     Unsupported { at: usize },
     /// A literal with a point is right after `new BigDecimal(`, where Java would take its binary value.
-    #[error("byte {at}: new BigDecimal of a binary fraction")]
+    #[error("new BigDecimal of a number with a point takes a binary fraction, which isn't exact")]
     BinaryFraction { at: usize },
     /// A number beyond its range.
-    #[error("byte {at}: a number beyond its range")]
+    #[error("the number is beyond its range")]
     Number { at: usize },
     /// More than 1,000 tokens, or more than 64 levels.
-    #[error("byte {at}: more than 1,000 tokens or 64 levels")]
+    #[error("the text has more than 1000 words, numbers and signs, or more than 64 open brackets \
+        and signs")]
     Deep { at: usize },
     #[error("out of memory")]
     Memory,

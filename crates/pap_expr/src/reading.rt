@@ -3,7 +3,8 @@
 ghost use Rattle.std.specs.Prelude.{◌≡◌, ◌≤◌, IfOk, IfErr, OnOk, true, nat_lt, option_map};
 ghost use Rattle.pap_tree.specs.Term.{term_of};
 ghost use Rattle.pap_tree.specs.Grammar.{Line};
-ghost use Rattle.pap_tree.specs.Stopping.{has_limits, most_levels};
+ghost use Rattle.pap_tree.specs.Limits.{most_levels};
+ghost use Rattle.pap_tree.specs.Stopping.{has_limits};
 ghost use Rattle.expr_tokens.specs.Spots.{spot_of, spots_of};
 ghost use Rattle.expr_grammar.specs.Machine as machine;
 ghost use Rattle.expr_grammar.specs.Machine.{Want, level, level_of};
@@ -23,11 +24,8 @@ use crate::state::{Rounded, Scaled, State};
 use crate::steps::{after_class, after_new, comma, due, member, mode, mode_word, refused, scale};
 use crate::words::Method;
 use expr_tokens::{Placed, Sign};
-use pap_tree::{Expr, Name, Unary};
+use pap_tree::{Expr, MOST_LEVELS, Name, Unary};
 use std::alloc::Global;
-
-/// How many levels may be open.
-const MOST_LEVELS: usize = 64;
 
 /// What tokens are read to.
 #[derive(Drop)]
@@ -125,7 +123,7 @@ impl Reader {
         due(Sign::Open, next, found)
     }
 
-    /// Whether more than 64 levels are open.
+    /// Whether too many levels are open.
     fn is_over(&self, state: &State) -> bool
         ensures { result
             ≡ nat_lt most_levels (level_of (state_of state.now (stack_of self.now.stack))) }

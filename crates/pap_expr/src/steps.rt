@@ -19,9 +19,7 @@ use crate::state::{Rounded, Scaled, State};
 use crate::words::{Holder, Static, method_of, mode_of, rank, static_of};
 use expr_tokens::{Keyword, Placed, Sign, Token};
 use pap_tree::{Expr, Name};
-
-/// The greatest scale.
-const MOST_PLACES: u32 = 30;
+use scaled_decimal::MOST_PLACES;
 
 /// The fault of a token that isn't allowed where it stands.
 pub(crate) fn refused(found: &Placed) -> ExprFault
@@ -145,7 +143,7 @@ pub(crate) fn scale(scaled: Scaled, found: &Placed) -> Result<State, ExprFault>
         → Steps (machine.ScaleDue (job_of scaled k)) (spot_of found.now) k result }
 {
     match found.token {
-        Token::Int(places) if places <= MOST_PLACES => Ok(match scaled {
+        Token::Int(places) if places <= MOST_PLACES as u32 => Ok(match scaled {
             Scaled::Value(number) => State::Close(Expr::ValueOfScaled(number, places as u8)),
             Scaled::Rounded(rounded) => State::Comma(rounded, places as u8),
         }),

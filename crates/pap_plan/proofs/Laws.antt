@@ -6,3 +6,5 @@ pub use Rattle.pap_plan.proofs.MeaningLemmas.{accepted_limits, accepted_safe, ac
 pub use Rattle.pap_plan.proofs.LiteralLemmas.{HasKeptValue}
 -- The inputs in declared order are there where each has a limit, and they are determined.
 pub use Rattle.pap_plan.proofs.MeaningLemmas.{some_slots, one_slots}
+-- A plan that is read is within the counts of plans.
+pub use Rattle.pap_plan.proofs.CountLemmas.{counted}

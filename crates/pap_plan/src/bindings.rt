@@ -3,8 +3,6 @@ ghost use Rattle.std.specs.Prelude.{◌≡◌, ◌↔◌, IsTrue, MatchOption};
 ghost use Rattle.std.specs.Option.{option_map};
 ghost use Rattle.std.specs.List.{All, find};
 ghost use Rattle.std.specs.Str.{bytes_eq};
-ghost use Rattle.scaled_decimal.specs.Decimals.{numerator_of};
-ghost use Rattle.scaled_decimal.specs.WholeNumbers.{IsOfBits, int_bits, long_bits};
 ghost use Rattle.pap_tree.specs.Declarations.{declaration_of};
 ghost use Rattle.pap_tree.specs.Flowchart.{flowchart_of};
 ghost use Rattle.interval_walk.specs.Admission.{SuitsLimit};
@@ -13,8 +11,8 @@ ghost use Rattle.pap_plan.specs.BindingViews.{declares, without_limit, without_i
 
 use limits_file::{Binding, Carry, InputLimit, Limits};
 use pap_tree::{Declared, Kind, Name, PlanText};
-use pap_types::has_few_places;
-use scaled_decimal::Dec;
+use pap_types::{FACTOR_PLACES, has_few_places};
+use scaled_decimal::{is_int, is_long};
 
 /// The limit of an input.
 pub(crate) fn limit_named<'a>(limits: &'a [InputLimit], name: &Name) -> Option<&'a InputLimit>
@@ -120,25 +118,15 @@ fn suits(kind: Kind, limit: &InputLimit) -> bool
     ensures { IsTrue result ↔ SuitsLimit kind limit.now }
 {
     match kind {
-        Kind::Int => limit.places == 0 && is_int(limit.low) && is_int(limit.high),
-        Kind::Long => limit.places == 0 && is_long(limit.low) && is_long(limit.high),
+        Kind::Int => {
+            limit.places == 0 && is_int(limit.low.numerator()) && is_int(limit.high.numerator())
+        }
+        Kind::Long => {
+            limit.places == 0 && is_long(limit.low.numerator()) && is_long(limit.high.numerator())
+        }
         Kind::Factor => {
-            limit.places <= 3 && has_few_places(limit.low) && has_few_places(limit.high)
+            limit.places <= FACTOR_PLACES && has_few_places(limit.low) && has_few_places(limit.high)
         }
         Kind::Big | Kind::Table => true,
     }
-}
-
-/// Whether the numerator has 32 bits.
-fn is_int(number: Dec) -> bool
-    ensures { IsTrue result ↔ IsOfBits int_bits (numerator_of number) }
-{
-    i32::MIN as i128 <= number.numerator() && number.numerator() <= i32::MAX as i128
-}
-
-/// Whether the numerator has 64 bits.
-fn is_long(number: Dec) -> bool
-    ensures { IsTrue result ↔ IsOfBits long_bits (numerator_of number) }
-{
-    i64::MIN as i128 <= number.numerator() && number.numerator() <= i64::MAX as i128
 }

@@ -1,9 +1,9 @@
 //! An accepted plan.
 ghost use Rattle.std.specs.Prelude.{◌≡◌, ◌≤◌, ◌+◌, ◌↔◌, IsTrue, ℕ, List, Some, IfOk, length, map};
 ghost use Rattle.scaled_decimal.specs.Decimals.{Decimal};
-ghost use Rattle.call_order.specs.OrderLaws.{most_cost};
 ghost use Rattle.pap_compiler.specs.Correct.{IsCodeOf};
 ghost use Rattle.pap_machine.specs.Machine.{IsMadeFor, HoldAt};
+ghost use Rattle.pap_types.specs.Limits.{most_steps};
 ghost use Rattle.pap_types.specs.Meaning.{IsSafeFor, outputs_of, cost_of, bound_of};
 ghost use Rattle.pap_plan.specs.Acceptance.{IsAccepted};
 ghost use Rattle.pap_plan.specs.Inputs.{AreSlots};
@@ -101,7 +101,7 @@ impl Plan {
     /// The most steps that a run takes, at most 1,000,000,000.
     pub fn bound(&self) -> u64
         ensures bound { result ≡ bound_of (flowchart self.now) }
-        ensures most { result ≤ most_cost }
+        ensures most { result ≤ most_steps }
         ensures accepted { IsAccepted self.now.plan self.now.limits (meaning self.now) }
     {
         self.verdict.bound

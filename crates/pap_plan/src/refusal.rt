@@ -14,14 +14,15 @@ use plan_text::{PlanFault, Spot};
 use std::alloc::{AllocError, AllocFailed};
 use thiserror::Error;
 
-/// Why two texts are refused, in the order in which it is tried. Its texts are for the author of a plan.
+/// Why two texts are refused, in the order in which it is tried. Its texts are for a plan's author, and say
+/// what is wrong without the place.
 #[derive(Debug, Drop, Error)]
 pub enum PlanRefusal {
     /// The elements of the plan.
     #[error("{0}")]
     Read(ReadFault),
     /// The first expression of the plan that isn't one.
-    #[error("the expression of {spot}, {fault}")]
+    #[error("{fault}")]
     Expr { spot: Spot, fault: ExprFault },
     /// The plan's names and kinds.
     #[error("{0}")]
@@ -33,19 +34,20 @@ pub enum PlanRefusal {
     #[error("{0}")]
     Limits(LimitsFault),
     /// An input without a limit, or a limit of no input.
-    #[error("`{name}` is an input without a limit, or has a limit and is no input")]
+    #[error("the INPUT {name}, or its entry [input.{name}] in the range file, is missing")]
     LimitName { name: Name },
     /// An input whose limit doesn't suit its type.
-    #[error("the limit of `{name}` doesn't suit its type")]
+    #[error("the range of the entry [input.{name}] doesn't suit the type of the INPUT {name}")]
     LimitKind { name: Name },
     /// A binding of no input, or to no output.
-    #[error("the binding of `{name}` is that of no input, or carries no output of the plan")]
+    #[error("there is no INPUT {name} for the entry [bind.{name}], or no OUTPUT of the name that it \
+        gives")]
     Bind { name: Name },
     /// The ranges of the plan's values.
     #[error("{0}")]
     Range(RangeFault),
     /// Memory ran out.
-    #[error("memory ran out")]
+    #[error("out of memory")]
     Memory,
 }
 

@@ -1,5 +1,6 @@
 -- How much there may be of what (docs/PROFILE.md, "Limits").
 use Rattle.std.specs.Prelude.{◌≡◌, ◌≤◌, ◌<◌, ◌⊎◌, ℕ, suc, ◌-◌, Bool, true, false, List, [], ◌∷◌, ◌++◌}
+use Rattle.pap_tree.specs.Limits.{most_inputs, most_outputs, most_internals, most_constants, most_methods, most_statements, most_nesting}
 use Rattle.pap_reader.specs.declared.element.Element.{Element}
 use Rattle.pap_reader.specs.declared.element.Element.TheVariants.{Input, Output, Internal, Constant, Method, Eval, Execute, If}
 use Rattle.pap_reader.specs.declared.fault.Which.{Which}
@@ -11,13 +12,13 @@ use Rattle.pap_reader.specs.Marks.{shapes}
 -- how much there may be of it
 abbrev pub most : Which → ℕ
 most which.Bytes = 1048576
-most which.Inputs = 256
-most which.Outputs = 256
-most which.Internals = 1024
-most which.Constants = 512
-most which.Methods = 256
-most which.Statements = 20000
-most which.Depth = 32
+most which.Inputs = most_inputs
+most which.Outputs = most_outputs
+most which.Internals = most_internals
+most which.Constants = most_constants
+most which.Methods = most_methods
+most which.Statements = most_statements
+most which.Depth = most_nesting
 
 -- whether the element counts
 abbrev pub is_counted : Which → Element → Bool

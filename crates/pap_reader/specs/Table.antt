@@ -87,12 +87,8 @@ abbrev pub same : Element → Element → Bool
 same a b = number a == number b
 
 -- the element is one of these
-abbrev pub is_of : List Element → Element → Bool
-is_of elements e = list_any (same e) elements
-
--- the element is among the children
 abbrev pub has : List Element → Element → Bool
-has children e = list_any (same e) children
+has elements e = list_any (same e) elements
 
 -- one of the children is of the part
 abbrev pub stands : Part → List Element → Bool
@@ -113,7 +109,7 @@ is_needed any_number = false
 -- The child may stand after the others before it, as one more of this part.
 abbrev pub may_be : List Element → Element → Part → Bool
 may_be before child p =
-    is_of p.elements child
+    has p.elements child
     && (may_repeat p.times || not (stands p before))
     && list_all (has before) p.after
 

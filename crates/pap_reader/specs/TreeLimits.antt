@@ -1,5 +1,6 @@
 -- How large the tree of an element text within the limits is.
 use Rattle.std.specs.Prelude.{ℕ, ◌+◌, ◌≤◌, max, List, [], ◌∷◌, length}
+use Rattle.pap_tree.specs.Limits.{most_inputs, most_outputs, most_internals, most_constants, most_methods, most_statements, most_nesting}
 use Rattle.pap_reader.specs.Trees.{RawBody, done, eval, branch, execute, RawRoutine, ElementTree}
 
 -- how many statements a list has as it is written
@@ -27,11 +28,11 @@ methods_nesting (m ∷ ms) = max (raw_nesting m.body) (methods_nesting ms)
 
 -- the tree is within the limits of plans
 pub record IsSmallTree (x : ElementTree) : Type 0 where
-  pub inputs : length x.inputs ≤ 256
-  pub outputs : length x.outputs ≤ 256
-  pub internals : length x.internals ≤ 1024
-  pub constants : length x.constants ≤ 512
-  pub methods : length x.methods ≤ 256
-  pub statements : raw_written x.main + methods_written x.methods ≤ 20000
-  pub main_nesting : raw_nesting x.main ≤ 32
-  pub nesting : methods_nesting x.methods ≤ 32
+  pub inputs : length x.inputs ≤ most_inputs
+  pub outputs : length x.outputs ≤ most_outputs
+  pub internals : length x.internals ≤ most_internals
+  pub constants : length x.constants ≤ most_constants
+  pub methods : length x.methods ≤ most_methods
+  pub statements : raw_written x.main + methods_written x.methods ≤ most_statements
+  pub main_nesting : raw_nesting x.main ≤ most_nesting
+  pub nesting : methods_nesting x.methods ≤ most_nesting

@@ -8,21 +8,10 @@ ghost use Rattle.pap_reader.specs.Views.{Tallies, IsMore, IsSmall};
 
 use crate::element::Element;
 use crate::fault::Which;
-
-/// The most inputs of a plan.
-const MOST_INPUTS: u32 = 256;
-/// The most outputs of a plan.
-const MOST_OUTPUTS: u32 = 256;
-/// The most internal names of a plan.
-const MOST_INTERNALS: u32 = 1024;
-/// The most constants of a plan.
-const MOST_CONSTANTS: u32 = 512;
-/// The most methods of a plan, without MAIN.
-const MOST_METHODS: u32 = 256;
-/// The most statements that are written in a plan.
-const MOST_STATEMENTS: u32 = 20_000;
-/// The most IFs in one another.
-const MOST_DEPTH: u32 = 32;
+use pap_tree::{
+    MOST_CONSTANTS, MOST_INPUTS, MOST_INTERNALS, MOST_METHODS, MOST_NESTING, MOST_OUTPUTS,
+    MOST_STATEMENTS,
+};
 
 /// How much is read so far.
 #[derive(Clone, Copy)]
@@ -97,7 +86,7 @@ impl Counts {
             Some(Which::Methods)
         } else if self.statements > MOST_STATEMENTS {
             Some(Which::Statements)
-        } else if self.depth > MOST_DEPTH {
+        } else if self.depth > MOST_NESTING {
             Some(Which::Depth)
         } else {
             None

@@ -43,21 +43,22 @@ impl fmt::Display for Which {
     }
 }
 
-/// Why a text is not read. A place is that of the token's first byte, counted from the beginning of the file; at the end
-/// of the text it is the number of its bytes.
+/// Why a text is not read. Its texts are for a plan's author, and say what is wrong without the place. This is that of the
+/// token's first byte, counted from the beginning of the file; at the end of the text it is the number of its bytes.
 #[derive(Clone, Copy, Debug, PartialEq, Eq, Error)]
 pub enum ReadFault {
     /// No token begins there.
-    #[error("byte {at}: expected a tag, a comment or white space")]
+    #[error("expected a tag, a comment or white space")]
     Text { at: usize },
     /// The tag, or the end of the text, is not allowed there.
-    #[error("byte {at}: expected another element or end tag of the flowchart")]
+    #[error("expected another element or another end tag")]
     Element { at: usize },
     /// An attribute of the tag is missing, stands twice, is longer than 8,192 bytes or is not of its form.
-    #[error("byte {at}: expected a tag with its needed attributes in their form, none twice and none over 8192 bytes")]
+    #[error("the tag lacks a needed attribute, or has one that isn't of its form, stands twice or is \
+        longer than 8192 bytes")]
     Attribute { at: usize },
     /// There is too much of something.
-    #[error("expected at most {which}")]
+    #[error("there may be at most {which}")]
     Many { which: Which },
     /// Memory ran out.
     #[error("out of memory")]

@@ -2,6 +2,7 @@
 use Rattle.std.specs.Prelude.{◌≡◌, ℕ, ◌≤◌, ◌<◌, ◌⊎◌, Bool, true, false, IsTrue, Option, Some, List, [], ◌∷◌, ◌++◌, length, codes, ⊤}
 use Rattle.scaled_decimal.specs.Decimals.{Decimal}
 use Rattle.scaled_decimal.specs.Limits.{most_places}
+use Rattle.pap_tree.specs.Limits.{most_tokens, most_levels}
 use Rattle.pap_tree.specs.Names.{is_name}
 use Rattle.pap_tree.specs.declared.expression.Binary.TheVariants.{Sub}
 use Rattle.pap_tree.specs.Tokens.{Token, Literal, Beyond, Word, Operator, Mark, Dot, Open, Close, int, point, Spot, plain}
@@ -9,22 +10,16 @@ use Rattle.pap_tree.specs.Grammar.{Item, Scale, Line, Constant, Meaning, Scaling
 use Rattle.pap_tree.specs.Texts.{Text}
 use Rattle.pap_tree.specs.Fronts.{Front, IsFront}
 
-abbrev pub most_tokens : ℕ
-most_tokens = 1000
-
-abbrev pub most_levels : ℕ
-most_levels = 64
-
 -- a declared literal may be of any length
 abbrev pub has_limits : Line → Bool
 has_limits Constant = false
 has_limits _ = true
 
--- token number 1,001
+-- one token more than there may be
 abbrev pub IsOneTooMany : List Token → Type 0
 IsOneTooMany before = most_tokens ≤ length before
 
--- with the token more than 64 levels are open
+-- with the token too many levels are open
 abbrev pub OpensTooMany : Line → List Token → Token → Type 0
 OpensTooMany l before t =
     (n : ℕ) × (i : Option Item) × Front l (before ++ (t ∷ [])) n i × (most_levels < n)

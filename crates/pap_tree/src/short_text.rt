@@ -84,7 +84,7 @@ impl PartialEq for ShortText {
     ghost laws = { partial_equiv_from_equiv nat_list_eq_equiv };
 
     fn eq(&self, other: &ShortText) -> bool {
-        self.bytes() == other.bytes()
+        self.len == other.len && self.bytes == other.bytes
     }
 }
 
@@ -112,7 +112,7 @@ impl Ord for ShortText {
     ghost matches_eq = { λ s t. texts_ties s t };
 
     fn cmp(&self, other: &ShortText) -> Ordering {
-        self.bytes().cmp(other.bytes())
+        self.bytes.cmp(&other.bytes).then(self.len.cmp(&other.len))
     }
 }
 

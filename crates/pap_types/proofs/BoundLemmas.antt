@@ -12,7 +12,8 @@ use Rattle.pap_types.specs.Values.{Env, value, cost, goes_right}
 use Rattle.pap_types.specs.Bounds.{term_bound, body_bound, method_bound}
 use Rattle.pap_types.specs.Routines.{body_named}
 use Rattle.pap_types.specs.Runs.{Calls, after, spent, assigned, calls_of}
-use Rattle.pap_types.specs.Meaning.{longest_chain, calls_in, start, cost_of, bound_of}
+use Rattle.pap_types.specs.Limits.{longest_chain}
+use Rattle.pap_types.specs.Meaning.{calls_in, start, cost_of, bound_of}
 
 -- what is asked of a value is at most what it is for each value
 at_most : {A : Type 0} (g : A → ℕ) (n : ℕ) → ((a : A) → g a ≤ n) → (o : Option A) → option_map_or g o 0 ≤ n

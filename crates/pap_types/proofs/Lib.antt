@@ -10,5 +10,4 @@ pub mod NamingLemmas
 pub mod BoundLemmas
 pub mod RunLemmas
 pub mod LiteralLemmas
-pub mod ZeroLemmas
 pub mod Laws

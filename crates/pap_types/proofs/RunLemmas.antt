@@ -13,7 +13,8 @@ use Rattle.pap_types.specs.Operations.{is_zero}
 use Rattle.pap_types.specs.Values.{Env, Entry, value, put}
 use Rattle.pap_types.specs.Routines.{body_named}
 use Rattle.pap_types.specs.Runs.{Calls, after, assigned, calls_of}
-use Rattle.pap_types.specs.Meaning.{longest_chain, calls_in, given, start, first_entry, ends_of, outputs_in, AreInputs, IsSafeFor}
+use Rattle.pap_types.specs.Limits.{longest_chain}
+use Rattle.pap_types.specs.Meaning.{calls_in, given, start, first_entry, ends_of, outputs_in, AreInputs, IsSafeFor}
 use Rattle.pap_types.specs.MeaningLaws.{HasOneOutputs}
 
 -- the names of an environment

@@ -1,5 +1,6 @@
 -- How large a plan is at most (docs/PROFILE.md, "Limits").
 use Rattle.std.specs.Prelude.{ℕ, ◌+◌, ◌≤◌, max, List, [], ◌∷◌, length, All, ⊤}
+use Rattle.pap_tree.specs.Limits.{most_inputs, most_outputs, most_internals, most_constants, most_methods, most_statements, most_nesting, most_tokens}
 use Rattle.pap_tree.specs.Term.{Term}
 use Rattle.pap_tree.specs.Numbering.{nodes}
 use Rattle.pap_tree.specs.Scales.{KeepsScales}
@@ -8,8 +9,9 @@ use Rattle.pap_tree.specs.Statements.{written}
 
 -- ---- expressions
 
+-- no more nodes than an expression has tokens
 pub record IsSmallTerm (e : Term) : Type 0 where
-  pub size : nodes e ≤ 1000
+  pub size : nodes e ≤ most_tokens
   pub scales : KeepsScales e
 
 -- ---- statements
@@ -40,13 +42,13 @@ methods_nesting (m ∷ ms) = max (nesting m.body) (methods_nesting ms)
 -- ---- the plan
 
 pub record IsWithinCounts (f : Flowchart) : Type 0 where
-  pub inputs : length f.inputs ≤ 256
-  pub outputs : length f.outputs ≤ 256
-  pub internals : length f.internals ≤ 1024
-  pub constants : length f.constants ≤ 512
-  pub methods : length f.methods ≤ 256
-  pub statements : written f.main + methods_written f.methods ≤ 20000
-  pub main_nesting : nesting f.main ≤ 32
-  pub nesting : methods_nesting f.methods ≤ 32
+  pub inputs : length f.inputs ≤ most_inputs
+  pub outputs : length f.outputs ≤ most_outputs
+  pub internals : length f.internals ≤ most_internals
+  pub constants : length f.constants ≤ most_constants
+  pub methods : length f.methods ≤ most_methods
+  pub statements : written f.main + methods_written f.methods ≤ most_statements
+  pub main_nesting : nesting f.main ≤ most_nesting
+  pub nesting : methods_nesting f.methods ≤ most_nesting
   pub main_terms : AreSmallTerms f.main
   pub terms : All (λ m. AreSmallTerms m.body) f.methods

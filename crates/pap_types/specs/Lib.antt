@@ -1,3 +1,4 @@
+pub mod Limits
 pub mod Scopes
 pub mod Operations
 pub mod Values

@@ -7,14 +7,11 @@ use Rattle.pap_tree.specs.declared.declaration.Kind.{Kind}
 use Rattle.pap_tree.specs.declared.declaration.Kind.TheVariants as declares
 use Rattle.pap_tree.specs.Declarations.{Declaration}
 use Rattle.pap_tree.specs.Flowchart.{Flowchart}
+use Rattle.pap_types.specs.Limits.{longest_chain}
 use Rattle.pap_types.specs.Scopes.{scope_of, first_value, factor_places}
 use Rattle.pap_types.specs.Values.{Env, Entry}
 use Rattle.pap_types.specs.Runs.{Calls, after, spent, IsSafeBody, calls_of}
 use Rattle.pap_types.specs.Bounds.{body_bound, method_bound}
-
--- no chain of methods is longer
-abbrev pub longest_chain : ℕ
-longest_chain = 64
 
 -- what the methods of a plan do
 abbrev pub calls_in : Flowchart → Calls

@@ -119,7 +119,7 @@ impl NodeKind {
 }
 
 /// Whether an operation takes an operand of a kind.
-pub fn takes_unary(op: Unary, kind: NodeKind) -> bool
+pub(crate) fn takes_unary(op: Unary, kind: NodeKind) -> bool
     ensures { result ≡ takes_one (unary op) kind }
 {
     match op {
@@ -161,7 +161,7 @@ pub fn kind_of_call(call: Call) -> NodeKind
 }
 
 /// Whether an operator takes its operands.
-pub fn takes_operator(
+pub(crate) fn takes_operator(
     op: Binary,
     left: &Expr,
     left_kind: NodeKind,
@@ -191,7 +191,7 @@ fn are_comparable(left: &Expr, left_kind: NodeKind, right: &Expr, right_kind: No
 
 /// Whether an expression is a literal that may go to a `double` or be compared with one: an `int`, or a literal with a
 /// point of at most three places.
-pub fn is_factor_literal(e: &Expr) -> bool
+fn is_factor_literal(e: &Expr) -> bool
     ensures { result ≡ is_factor_literal (term_of e.now) }
 {
     match e {
@@ -209,7 +209,7 @@ pub fn has_few_places(number: Dec) -> bool
 }
 
 /// Whether a variable of a type may get the value of an expression of a kind.
-pub fn suits(target: Kind, e: &Expr, kind: NodeKind) -> bool
+pub(crate) fn suits(target: Kind, e: &Expr, kind: NodeKind) -> bool
     ensures { result ≡ suits target (term_of e.now) kind }
 {
     match target {

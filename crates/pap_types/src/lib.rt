@@ -5,6 +5,7 @@ mod declarations;
 mod declared_names;
 mod fault;
 mod kinds;
+mod limits;
 mod literals;
 mod meaning;
 mod nodes;
@@ -14,9 +15,8 @@ mod statements;
 mod typed;
 
 pub use fault::TypeFault;
-pub use kinds::{
-    NodeKind, has_few_places, is_factor_literal, kind_of_call, kind_of_operator, kind_of_unary,
-};
-pub use literals::{at_factor_scale, first_value, items_of, shortened};
+pub use kinds::{NodeKind, has_few_places, kind_of_call, kind_of_operator, kind_of_unary};
+pub use limits::LONGEST_CHAIN;
+pub use literals::{FACTOR_PLACES, at_factor_scale, first_value, items_of, shortened};
 pub use meaning::{bounded, one_outputs, typed_parts};
 pub use typed::{Typed, check_types};

@@ -1,8 +1,6 @@
 //! What literals stand for: what a declared name begins with, and what a `double` and `valueOf` make of a decimal.
-ghost use Rattle.std.specs.Prelude.{◌≡◌, IsTrue, pos, int_div, int_rem};
-ghost use Rattle.std.specs.Ordering.{int_eq};
+ghost use Rattle.std.specs.Prelude.{◌≡◌, IsTrue};
 ghost use Rattle.scaled_decimal.specs.Decimals.{decimal};
-ghost use Rattle.scaled_decimal.specs.Limits.{IsWithinLimit};
 ghost use Rattle.scaled_decimal.specs.ShortenedDecimals.{shortened};
 ghost use Rattle.pap_tree.specs.Declarations.{declaration_of};
 ghost use Rattle.pap_types.specs.Scopes.{first_value, declared_table, kept_as, at_factor_scale};
@@ -11,10 +9,10 @@ ghost use Rattle.pap_types.specs.Kinds.{has_few_places};
 ghost use Rattle.pap_types.specs.Typing.{HasItsType};
 
 use pap_tree::{Declared, Kind, Literal};
-use scaled_decimal::{Dec, power_of_ten};
+use scaled_decimal::Dec;
 
 /// The places that a `double` is kept with.
-pub(crate) const FACTOR_PLACES: u8 = 3;
+pub const FACTOR_PLACES: u8 = 3;
 
 /// The fewest places that `valueOf` of a literal with a point keeps.
 const FEWEST_PLACES: u8 = 1;
@@ -39,7 +37,7 @@ fn whole_value(kind: Kind, number: i32) -> Dec
     ensures { result ≡ kept_as kind (decimal number 0) }
 {
     match kind {
-        Kind::Factor => Dec::new(number as i128 * 1000, FACTOR_PLACES),
+        Kind::Factor => at_factor_scale(Dec::new(number as i128, 0)),
         _ => Dec::new(number as i128, 0),
     }
 }
@@ -59,36 +57,13 @@ pub fn at_factor_scale(number: Dec) -> Dec
     requires { IsTrue (has_few_places number) }
     ensures { result ≡ at_factor_scale number }
 {
-    let power = power_of_ten(FACTOR_PLACES - number.scale());
-    Dec::new(number.numerator() * power, FACTOR_PLACES)
+    Dec::new(number.numerator_at(FACTOR_PLACES), FACTOR_PLACES)
 }
 
 /// What `BigDecimal.valueOf` makes of a literal with a point: the same value without the zeros that end it, but with one
 /// place at least.
-#[tactic(auto, using(crate::proofs::ZeroLemmas::fewer, crate::proofs::ZeroLemmas::stays))]
 pub fn shortened(number: Dec) -> Dec
     ensures { result ≡ shortened fewest_places number }
 {
-    let mut numerator = number.numerator();
-    let mut places = number.scale().max(FEWEST_PLACES);
-    while places > FEWEST_PLACES && ends_in_zero(numerator) {
-        numerator = tenth(numerator);
-        places -= 1;
-    }
-    Dec::new(numerator, places)
-}
-
-/// Whether the last digit is a zero.
-fn ends_in_zero(number: i128) -> bool
-    ensures { result ≡ int_eq (int_rem number (pos 10)) (pos 0) }
-{
-    number % 10 == 0
-}
-
-/// The number without its last digit.
-fn tenth(number: i128) -> i128
-    ensures value { result ≡ int_div number (pos 10) }
-    ensures kept { IsWithinLimit number → IsWithinLimit result }
-{
-    number / 10
+    number.shortened(FEWEST_PLACES)
 }

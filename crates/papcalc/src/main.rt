@@ -23,8 +23,8 @@ const REFUSED_LINES: &str =
     of a refused plan `papcalc check PLAN LIMITS` says in plain words what is wrong";
 
 const UNSAVED_LINE: &str =
-    "papcalc: the book isn't saved: the answers of the refused lines are written in its place, `refused book Filed` where a month \
-    was filed, or `refused book Long` where its text would have more than 268435456 bytes";
+    "papcalc: the book isn't saved: the answers of the refused lines are written in its place (`papcalc run` shows them among the others), \
+    `refused book Filed` where a month was filed, or `refused book Long` where its text would have more than 268435456 bytes";
 
 const VERSION: &str = "papcalc 0.1.0";
 
@@ -70,7 +70,8 @@ lines of a script (DAY as 2026-01-31, MONTH as 2026-01, EMP a word for an employ
   trace EMP DAY, trace EMP MONTH        each executed statement of a run: `set METHOD:N NAME VALUE`, `test METHOD:N yes` or
                                         `no`, `call METHOD:N METHOD`, and then `end`
   file MONTH                            what is filed with this month: `due EMP DAY NAME AMOUNT` each, and then `filed N`
-  owed                                  what changed since the last filing: `owed EMP DAY NAME AMOUNT` each, and then `end`
+  owed                                  what differs from what was filed, up to the last filed month: `owed EMP DAY NAME AMOUNT`
+                                        each, and then `end`
   try DAY PLAN LIMITS                   what `plan` would change, without changing it: `accepted steps B`, what differs, and then
                                         `would RUNS STEPS`
   # ..                                  nothing: a comment

@@ -12,6 +12,7 @@ use Rattle.limits_file.specs.declared.limits.Limits.{Limits}
 use Rattle.limits_file.specs.declared.slots.Slot.{Slot}
 use Rattle.limits_file.specs.Limits.{IsWithinBound}
 use Rattle.pap_types.specs.Meaning.{outputs_of, cost_of}
+use Rattle.pap_types.specs.Limits.{most_steps}
 use Rattle.interval_walk.specs.Ranges.{Ranges}
 use Rattle.interval_walk.specs.Soundness.{AreOutputs}
 use Rattle.payroll_records.specs.declared.values.NamedValue.{NamedValue}
@@ -25,7 +26,7 @@ use Rattle.pap_plan.specs.Inputs.{IsSlot, AreSlots}
 use Rattle.pay_run.specs.Accepted.{Accepted}
 use Rattle.pay_run.specs.declared.outputs.Finished.{Finished}
 use Rattle.pay_run.specs.Runs.{slot_of, slot_with, filled, named_values, run_outputs, run_cost}
-use Rattle.pay_run.specs.RunClauses.{HasRun, Fills, AdmitsFilled, most_steps}
+use Rattle.pay_run.specs.RunClauses.{HasRun, Fills, AdmitsFilled}
 use Rattle.pay_run.proofs.AdmissionLemmas.{suits_kinds, filled_admitted}
 
 -- ---- the inputs

@@ -2,6 +2,7 @@
 use Rattle.std.specs.Prelude.{ℕ, ◌≡◌, ◌≤◌, List, Some, ⊤}
 use Rattle.scaled_decimal.specs.Decimals.{Decimal}
 use Rattle.interval_walk.specs.Admission.{AreAdmitted}
+use Rattle.pap_types.specs.Limits.{most_steps}
 use Rattle.pap_types.specs.Meaning.{outputs_of}
 use Rattle.carry_bindings.specs.Conditions.{AreBounded}
 use Rattle.carry_bindings.specs.declared.filling.Filled.{Filled}
@@ -9,10 +10,6 @@ use Rattle.carry_bindings.specs.declared.filling.Filled.TheVariants as filling
 use Rattle.pay_run.specs.Accepted.{Accepted}
 use Rattle.pay_run.specs.Runs.{run_outputs, run_cost}
 use Rattle.pay_run.specs.declared.outputs.Finished.{Finished}
-
--- the most steps of a run
-abbrev pub most_steps : ℕ
-most_steps = 1000000000
 
 -- inputs that a plan admits: each is kept, and within its limit
 abbrev pub AdmitsFilled : Accepted → Filled → Type 0

@@ -2,7 +2,8 @@
 use Rattle.std.proofs.Common.{◌≡◌, ℕ, ◌+◌, ◌≤◌, List, [], ◌∷◌, ◌++◌, length, Result, Ok, Err, refl, sym, ap, ◌∙◌, subst, arith, ◌⊎◌, inl, inr, append_assoc}
 use Rattle.std.proofs.lemmas.List.{append-nil}
 use Rattle.payroll_records.specs.CsvRows.{csv_rows}
-use Rattle.payroll_records.specs.Tables.{Text, most_bytes, IsHeader, IsNoHeader, IsRecordOf, HasKeyOf, AreRecordsOf, IsTable, IsFirstFault, BreaksAt, TableSays}
+use Rattle.payroll_records.specs.Limits.{longest_table}
+use Rattle.payroll_records.specs.Tables.{Text, IsHeader, IsNoHeader, IsRecordOf, HasKeyOf, AreRecordsOf, IsTable, IsFirstFault, BreaksAt, TableSays}
 use Rattle.payroll_records.specs.declared.record.Record.{Record}
 use Rattle.payroll_records.specs.declared.table.TableFault.{TableFault}
 use Rattle.payroll_records.specs.declared.table.TableFault.TheVariants as whole
@@ -72,8 +73,8 @@ same_names row names others h g = let a = h.fields in let b = g.fields in cc
 
 -- why a text is refused, by the kinds of faults
 data Why (bytes : List ℕ) : TableFault → Type 0 where
-  too_long : most_bytes + 1 ≤ length bytes → Why bytes whole.TableLong
-  no_header : length bytes ≤ most_bytes → IsNoHeader (csv_rows bytes) → Why bytes whole.Header
+  too_long : longest_table + 1 ≤ length bytes → Why bytes whole.TableLong
+  no_header : length bytes ≤ longest_table → IsNoHeader (csv_rows bytes) → Why bytes whole.Header
   breaks : (n : ℕ) (k : Kind) → BreaksAt bytes n (FaultOf k) → Why bytes (fault_of n k)
 
 why : (bytes : List ℕ) (f : TableFault) → TableSays bytes (Err f) → Why bytes f

@@ -18,8 +18,8 @@ use Rattle.payroll_records.specs.CsvRows.{csv_rows}
 use Rattle.payroll_records.specs.Employees.{is_employee}
 use Rattle.payroll_records.specs.NamedValues.{name_cmp}
 use Rattle.payroll_records.specs.Orders.{key_cmp}
-use Rattle.payroll_records.specs.Limits.{most_values}
-use Rattle.payroll_records.specs.Tables.{Text, most_bytes, name_at, field_of, cell_of, IsHeader, IsReadable, IsWide, HasEmployee, HasDay, IsRecordOf, HasKeyOf, key_of, AreRecordsOf, IsFirstFault, BreaksAt, TableSays}
+use Rattle.payroll_records.specs.Limits.{longest_table, most_values}
+use Rattle.payroll_records.specs.Tables.{Text, name_at, field_of, cell_of, IsHeader, IsReadable, IsWide, HasEmployee, HasDay, IsRecordOf, HasKeyOf, key_of, AreRecordsOf, IsFirstFault, BreaksAt, TableSays}
 use Rattle.payroll_records.specs.TableViews.{AreColumns, IsColumnOf, column_name}
 use Rattle.payroll_records.specs.CellViews.{AreValuesOf}
 use Rattle.payroll_records.specs.declared.header.Column.{Column}
@@ -291,7 +291,7 @@ fault_says bytes n repeat h = h
 Answered : List ℕ → Type 0
 Answered bytes = (x : Result (List Record) TableFault) × TableSays bytes x
 
-short_some : (bytes : List ℕ) → length bytes ≤ most_bytes → (rows : List (List Text)) → csv_rows bytes ≡ rows → Answered bytes
+short_some : (bytes : List ℕ) → length bytes ≤ longest_table → (rows : List (List Text)) → csv_rows bytes ≡ rows → Answered bytes
 unfolding Answered RowsSay
 short_some bytes short [] e = (Err whole.Header, (short, rw e tt))
 short_some bytes short (header ∷ rows) e = by (header_or_not header)
@@ -305,7 +305,7 @@ short_some bytes short (header ∷ rows) e = by (header_or_not header)
 
 pub table_some : (bytes : List ℕ) → (x : Result (List Record) TableFault) × TableSays bytes x
 unfolding Answered
-table_some bytes = elim (cases_lt most_bytes (length bytes)) [
+table_some bytes = elim (cases_lt longest_table (length bytes)) [
   | inl long ↦ (Err whole.TableLong, long)
   | inr short ↦ short_some bytes short (csv_rows bytes) refl
 ]

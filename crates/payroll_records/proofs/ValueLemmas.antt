@@ -1,6 +1,6 @@
 -- The list of names and the list of numbers that values are kept as.
 use Rattle.std.proofs.Common.{◌≡◌, ℕ, zero, suc, ◌<◌, ◌≤◌, List, [], ◌∷◌, ◌++◌, length, get_or, add-one, refl, sym, ap, subst, ◌∙◌, arith, Result, Ok, Err, inl, inr}
-use Rattle.std.specs.Prelude.{map, option_map, option_and_then, Bool, if◌then◌else◌, IfOk, IfErr, Option, Some, None, true, false, ◌-◌, ◌+◌, ◌⊎◌}
+use Rattle.std.specs.Prelude.{drop, map, take, ◌&&◌, option_map, option_and_then, Bool, if◌then◌else◌, IfOk, IfErr, Option, Some, None, true, false, ◌-◌, ◌+◌, ◌⊎◌}
 use Rattle.std.specs.List.{slice_get}
 use Rattle.std.proofs.lemmas.Option.{slice_get-get_or, slice_get_cases}
 use Rattle.std.specs.Str.{bytes_eq}
@@ -9,7 +9,7 @@ use Rattle.std.specs.List.{insert}
 use Rattle.std.specs.List.Sorted.{IsBinarySearchResult, IsSearchInRange}
 use Rattle.std.specs.declared.cmp.Ordering.{Ordering}
 use Rattle.std.specs.declared.cmp.Ordering.TheVariants.{Equal, Less, Greater}
-use Rattle.std.specs.Ordering.{ordering_index, is_eq, is_lt}
+use Rattle.std.specs.Ordering.{ordering_index, ordering_reverse, is_eq, is_lt}
 use Rattle.std.specs.Cmp.Lexicographic.{nat_list_cmp_total}
 use Rattle.std.proofs.lemmas.Cmp.{tied_itself}
 use Rattle.std.proofs.lemmas.List.{get_or-map, get_or_default}
@@ -18,12 +18,12 @@ use Rattle.std.proofs.Math.ListN.{get_or-map as map_at, length-map}
 use Rattle.std.proofs.lemmas.Slice.Eq.{bytes_eq-Decides}
 use Rattle.std.proofs.lemmas.Bool.{false≢true}
 use Rattle.scaled_decimal.specs.Decimals.{Decimal}
-use Rattle.rising_lists.specs.Keyed.{IsRising}
+use Rattle.rising_lists.specs.Keyed.{AreAbove, IsRising}
 use Rattle.rising_lists.specs.Places.{IsAt, IsGap, Finds, Misses}
 use Rattle.rising_lists.proofs.Laws.{above_all, at_tail, found, gap_first, gap_tail, misses, put_rising, rising_far, searched}
 use Rattle.payroll_records.specs.Tables.{Text}
 use Rattle.payroll_records.specs.NamedValues.{name_cmp, name_of, place_at, value_at, with_value}
-use Rattle.payroll_records.specs.ValueViews.{IsKeptAs, is_beyond, named_numbers, stands_at}
+use Rattle.payroll_records.specs.ValueViews.{IsKeptAs, goes_at, is_before, is_beyond, named_numbers, stands_at}
 use Rattle.payroll_records.specs.declared.values.NamedValue.{NamedValue}
 
 -- each of both lists is there whole
@@ -229,6 +229,78 @@ beyond names numbers name kept b =
       before = λ j d lt. last_below values name j d kept.are.rising b2 (omega (arith, lt, same, kept.same));
       after = λ j d le lt. absurd (omega (arith, le, lt, same, kept.same));
     })
+
+-- ---- a name that would go to a place
+
+apart : (m n : Text) → name_cmp n m ≡ Less → bytes_eq m n ≡ false
+apart m n l = same_name m n Greater (nat_list_cmp_total.antisymm m n ∙ ap ordering_reverse l)
+
+still_before : (v : NamedValue) (vs : List NamedValue) (name : Text) → AreAbove name_cmp name_of v.name vs →
+    name_cmp name v.name ≡ Less → is_before (map name_of vs) name ≡ true
+still_before v [] name a l = refl
+still_before v (w ∷ ws) name a l = ap is_lt (nat_list_cmp_total.trans name v.name w.name l a.0)
+
+-- where the first name is above a name, it is none of them
+none_above : (values : List NamedValue) (name : Text) → IsRising name_cmp name_of values →
+    is_before (map name_of values) name ≡ true → place_at values name ≡ None
+none_above [] name up h = refl
+none_above (v ∷ values) name up h =
+    let above = less_of (name_cmp name v.name) h in
+    rw (apart v.name name above, none_above values name up.1 (still_before v values name up.0 above)) refl
+
+above_take : (k : Text) (vs : List NamedValue) (i : ℕ) → AreAbove name_cmp name_of k vs → AreAbove name_cmp name_of k (take i vs)
+above_take k vs zero a = tt
+above_take k [] (suc i) a = tt
+above_take k (v ∷ vs) (suc i) a = (a.0, above_take k vs i a.1)
+
+rising_take : (vs : List NamedValue) (i : ℕ) → IsRising name_cmp name_of vs → IsRising name_cmp name_of (take i vs)
+rising_take vs zero h = tt
+rising_take [] (suc i) h = tt
+rising_take (v ∷ vs) (suc i) h = (above_take v.name vs i h.0, rising_take vs i h.1)
+
+names_taken : (vs : List NamedValue) (i : ℕ) → take i (map name_of vs) ≡ map name_of (take i vs)
+names_taken vs zero = refl
+names_taken [] (suc i) = refl
+names_taken (v ∷ vs) (suc i) = ap (λ ns. v.name ∷ ns) (names_taken vs i)
+
+tail_beyond : (v : NamedValue) (vs : List NamedValue) (name : Text) → IsRising name_cmp name_of (v ∷ vs) →
+    is_beyond (map name_of (v ∷ vs)) name ≡ true → is_beyond (map name_of vs) name ≡ true
+tail_beyond v [] name up b = refl
+tail_beyond v (w ∷ ws) name up b =
+    let i = length ws in
+    let names = map name_of (w ∷ ws) in
+    let less = last_below (v ∷ (w ∷ ws)) name (suc i) w up b (omega arith) in
+    let same : length names - 1 ≡ i = omega (arith, length-map (w ∷ ws) name_of) in
+    let last : slice_get names (length names - 1) ≡ Some (get_or (w ∷ ws) i w).name =
+    ap (slice_get names) same ∙ slice_get-get_or names i w.name (omega (arith, length-map (w ∷ ws) name_of)) ∙ ap (λ n. Some n) (map_at name_of (w ∷ ws) i w) in
+    rw last (ap is_lt less)
+
+none_here : (values : List NamedValue) (name : Text) (i : ℕ) → IsRising name_cmp name_of values →
+    is_beyond (take i (map name_of values)) name ≡ true → is_before (drop i (map name_of values)) name ≡ true → place_at values name ≡ None
+none_here values name zero up b a = none_above values name up a
+none_here [] name (suc i) up b a = refl
+none_here (v ∷ values) name (suc i) up b a =
+    let front = v ∷ take i values in
+    let rising = rising_take (v ∷ values) (suc i) up in
+    let beyond : is_beyond (map name_of front) name ≡ true = subst (λ ns. is_beyond (v.name ∷ ns) name ≡ true) (names_taken values i) b in
+    let below = last_below front name zero v rising beyond (omega arith) in
+    let more : is_beyond (take i (map name_of values)) name ≡ true =
+    subst (λ ns. is_beyond ns name ≡ true) (sym (names_taken values i)) (tail_beyond v (take i values) name rising beyond) in
+    rw (same_name v.name name Less below, none_here values name i up.1 more a) refl
+
+both_true : (a b c : Bool) → (a && b && c) ≡ true → (b ≡ true) × (c ≡ true)
+both_true true true true e = (refl, refl)
+both_true true true false e = absurd (false≢true e)
+both_true true false c e = absurd (false≢true e)
+both_true false b c e = absurd (false≢true e)
+
+pub would_go : (names : List Text) (numbers : List Decimal) (name : Text) (i : ℕ) → IsKeptAs names numbers → goes_at names i name ≡ true →
+    place_at (named_numbers names numbers) name ≡ None
+would_go names numbers name i kept h =
+    let values = named_numbers names numbers in
+    let there : goes_at (map name_of values) i name ≡ true = subst (λ ns. goes_at ns i name ≡ true) (sym (names_are names numbers kept.same)) h in
+    let parts = both_true _ _ _ there in
+    none_here values name i kept.are.rising parts.0 parts.1
 
 -- a value put where none of its name stands
 module _ (names : List Text) (numbers : List Decimal) (i : ℕ) (v : NamedValue) (kept : IsKeptAs names numbers) (gap : Misses name_cmp name_of (named_numbers names numbers) v.name i) where

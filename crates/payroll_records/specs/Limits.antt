@@ -1,4 +1,4 @@
--- How many pay runs a book has at most, and how many values a pay run.
+-- How many pay runs a book has at most, how many values a pay run, and how long a table is.
 use Rattle.std.specs.Prelude.{ℕ}
 
 abbrev pub most_records : ℕ
@@ -6,3 +6,7 @@ most_records = 50000
 
 abbrev pub most_values : ℕ
 most_values = 256
+
+-- the most bytes of a table
+abbrev pub longest_table : ℕ
+longest_table = 33554432

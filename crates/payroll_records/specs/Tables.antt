@@ -9,7 +9,7 @@ use Rattle.pap_tree.specs.Names.{is_name}
 use Rattle.payroll_records.specs.CsvRows.{csv_rows}
 use Rattle.payroll_records.specs.Days.{IsDayText, IsMonthText, IsMonthSpelled}
 use Rattle.payroll_records.specs.Employees.{is_employee}
-use Rattle.payroll_records.specs.Limits.{most_values}
+use Rattle.payroll_records.specs.Limits.{most_values, longest_table}
 use Rattle.payroll_records.specs.NamedValues.{AreValues}
 use Rattle.payroll_records.specs.Orders.{key_cmp}
 use Rattle.payroll_records.specs.declared.record.Key.{Key}
@@ -20,10 +20,6 @@ use Rattle.payroll_records.specs.declared.values.NamedValue.{NamedValue}
 
 abbrev pub Text : Type 0
 Text = List ℕ
-
--- the most bytes of a table
-abbrev pub most_bytes : ℕ
-most_bytes = 33554432
 
 abbrev pub name_at : List Text → ℕ → Text
 name_at names i = slice_index_or names i []
@@ -102,7 +98,7 @@ AreRecordsOf names before (row ∷ rows) (r ∷ rs) =
 
 -- the records of a table
 pub record IsTable (bytes : List ℕ) (records : List Record) : Type 0 where
-  pub short : length bytes ≤ most_bytes
+  pub short : length bytes ≤ longest_table
   pub header : List Text
   pub names : List Text
   pub rows : List (List Text)
@@ -155,7 +151,7 @@ pub record IsFirstFault (names : List Text) (rows : List (List Text)) (number : 
 -- the same of a table's text, its rows counted after the header
 pub record BreaksAt (bytes : List ℕ) (number : ℕ)
     (Fault : List Text → List Record → List Text → Type 0) : Type 0 where
-  pub short : length bytes ≤ most_bytes
+  pub short : length bytes ≤ longest_table
   pub header : List Text
   pub names : List Text
   pub rows : List (List Text)
@@ -170,8 +166,8 @@ IsNoHeader (row ∷ rows) = (names : List Text) → IsHeader row names → ⊥
 
 -- why a table is refused; want of memory is free
 abbrev pub IsRefused : List ℕ → TableFault → Type 0
-IsRefused bytes fault.TableLong = most_bytes < length bytes
-IsRefused bytes fault.Header = (length bytes ≤ most_bytes) × IsNoHeader (csv_rows bytes)
+IsRefused bytes fault.TableLong = longest_table < length bytes
+IsRefused bytes fault.Header = (length bytes ≤ longest_table) × IsNoHeader (csv_rows bytes)
 IsRefused bytes (fault.Width row) = BreaksAt bytes row WrongWidth
 IsRefused bytes (fault.Employee row) = BreaksAt bytes row WrongEmployee
 IsRefused bytes (fault.Month row) = BreaksAt bytes row WrongMonth

@@ -17,7 +17,7 @@ mod when;
 
 pub use day::Day;
 pub use employee::Employee;
-pub use limits::{MOST_RECORDS, MOST_VALUES};
+pub use limits::{LONGEST_TABLE, MOST_RECORDS, MOST_VALUES};
 pub use month::Month;
 pub use record::{Key, Record};
 pub use table::{TableFault, each_table_has_one_answer, read_table};

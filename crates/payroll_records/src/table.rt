@@ -1,23 +1,20 @@
 //! Tables of pay runs.
 ghost use Rattle.std.specs.Prelude.{◌≡◌, ◌↔◌, ◌<◌, ◌≤◌, ℕ, List, [], IfOk, IfErr, Err, MatchResult, length};
-ghost use Rattle.payroll_records.specs.Limits.{most_values};
-ghost use Rattle.payroll_records.specs.Tables.{AreRecordsOf, HasOneAnswer, IsRefused, IsTable, key_of, most_bytes};
+ghost use Rattle.payroll_records.specs.Limits.{longest_table, most_values};
+ghost use Rattle.payroll_records.specs.Tables.{AreRecordsOf, HasOneAnswer, IsRefused, IsTable};
 ghost use Rattle.payroll_records.specs.RowViews.{IsBetweenRows, rows_left};
 ghost use Rattle.payroll_records.specs.TableViews.{AreColumns, BreaksIn, fault_at};
 
 use crate::header::{Header, read_header};
 use crate::row::{RowFault, read_row};
 use crate::rows::{next_row, row_reader};
-use crate::{Key, Record};
+use crate::{LONGEST_TABLE, Record};
 use csv::{ByteRecord, Reader};
 use pap_tree::Name;
 use std::alloc::{AllocError, Global};
 use std::collections::BTreeSet;
 use std::io::Read;
 use thiserror::Error;
-
-/// The most bytes of a table.
-const LONGEST: usize = 33_554_432;
 
 /// Why a table is refused. Rows are counted from 1 after the header.
 #[derive(Debug, Drop, Error)]
@@ -38,7 +35,7 @@ pub enum TableFault {
     Value { row: u64, name: Name },
     #[error("row {row}: an earlier row has the same employee and day")]
     Repeat { row: u64 },
-    #[error("memory ran out")]
+    #[error("out of memory")]
     Memory(AllocError),
 }
 
@@ -48,9 +45,9 @@ pub enum TableFault {
 pub fn read_table(alloc: Global, bytes: &[u8]) -> Result<Vec<Record>, TableFault>
     ensures ok { IfOk result (λ records. IsTable bytes.now records.items) }
     ensures err { IfErr result (IsRefused bytes.now) }
-    ensures long { (result ≡ Err TableFault.TableLong) ↔ (most_bytes < length bytes.now) }
+    ensures long { (result ≡ Err TableFault.TableLong) ↔ (longest_table < length bytes.now) }
 {
-    if bytes.len() > LONGEST {
+    if bytes.len() > LONGEST_TABLE {
         return Err(TableFault::TableLong);
     }
     let mut reader = row_reader(alloc, bytes);
@@ -89,18 +86,19 @@ fn read_records<R: Read>(
     let mut records = Vec::new(alloc);
     let mut keys = BTreeSet::new(alloc);
     let mut row = ByteRecord::new(alloc);
-    for number in 1..u64::MAX {
+    'rows: loop {
         let Ok(found) = next_row(reader, &mut row) else {
             return Err(TableFault::Memory(AllocError));
         };
         if !found {
             return Ok(records);
         }
+        let number = records.len() as u64 + 1;
         let record = match read_row(alloc, header, &row, records.last()) {
             Ok(record) => record,
             Err(fault) => return Err(fault_at(fault, number)),
         };
-        let Ok(new) = keys.insert(key_of(&record)) else {
+        let Ok(new) = keys.insert(record.key()) else {
             return Err(TableFault::Memory(AllocError));
         };
         if !new {
@@ -109,16 +107,6 @@ fn read_records<R: Read>(
         if records.push(record).is_err() {
             return Err(TableFault::Memory(AllocError));
         }
-    }
-    Err(TableFault::Memory(AllocError))
-}
-
-fn key_of(run: &Record) -> Key
-    ensures { result ≡ key_of run.now }
-{
-    Key {
-        employee: run.employee,
-        day: run.day,
     }
 }
 

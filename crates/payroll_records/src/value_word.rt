@@ -8,7 +8,7 @@ use pap_tree::Name;
 use scaled_decimal::read_dec;
 
 impl NamedValue {
-    /// The value that a word `NAME=VALUE` gives. `None` exactly where the word, cut at its first `=`, is no name and no
+    /// The value that a word `NAME=VALUE` gives. `None` exactly where the word, cut at its first `=`, isn't a name and a
     /// readable number.
     pub fn read(word: &[u8]) -> Option<NamedValue>
         ensures read { IfSome result (IsValueWord word.now) }

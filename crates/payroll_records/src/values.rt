@@ -3,7 +3,7 @@ ghost use Rattle.std.specs.Prelude.{◌≡◌, ◌↔◌, ◌<◌, ◌≤◌, []
 ghost use Rattle.rising_lists.specs.Places.{Finds, Misses};
 ghost use Rattle.payroll_records.specs.Limits.{most_values};
 ghost use Rattle.payroll_records.specs.NamedValues.{AreValues, name_cmp, name_of, place_at, value_at, with_value};
-ghost use Rattle.payroll_records.specs.ValueViews.{IsKeptAs, is_beyond, named_numbers, stands_at};
+ghost use Rattle.payroll_records.specs.ValueViews.{IsKeptAs, goes_at, is_before, is_beyond, named_numbers, stands_at};
 
 use crate::MOST_VALUES;
 use crate::names::{Names, shared};
@@ -51,7 +51,7 @@ pub enum InsertFault {
     Twice,
     #[error("there are 256 values already")]
     Full,
-    #[error("memory ran out")]
+    #[error("out of memory")]
     Memory(AllocError),
 }
 
@@ -118,7 +118,8 @@ impl Values {
         }
     }
 
-    /// Where the value of a name stands. It is looked for at `guess` first, where names that are asked for in order often are.
+    /// Where the value of a name stands. It is looked for at `guess` first: names that are asked
+    /// for in order often stand there, or would go there.
     pub fn place_of(&self, name: &Name, guess: usize) -> Option<usize>
         ensures place { result ≡ place_at self.now name.now }
         ensures few { IfSome result (λ at. at < most_values) }
@@ -126,6 +127,9 @@ impl Values {
         let names = self.names.as_slice();
         if stands_at(names, guess, name) {
             return Some(guess);
+        }
+        if goes_at(names, guess, name) {
+            return None;
         }
         match names.binary_search(name) {
             Ok(at) => Some(at),
@@ -208,4 +212,22 @@ fn is_beyond(names: &[Name], name: &Name) -> bool
         Some(last) => *last < *name,
         None => true,
     }
+}
+
+/// Whether a name goes before all names of a list in order.
+fn is_before(names: &[Name], name: &Name) -> bool
+    ensures { result ≡ is_before names.now name.now }
+{
+    match names.first() {
+        Some(first) => *name < *first,
+        None => true,
+    }
+}
+
+/// Whether a name would go to a place of a list in order: behind the names before that place, and
+/// before those from there on.
+fn goes_at(names: &[Name], at: usize, name: &Name) -> bool
+    ensures { result ≡ goes_at names.now at name.now }
+{
+    at <= names.len() && is_beyond(&names[..at], name) && is_before(&names[at..], name)
 }

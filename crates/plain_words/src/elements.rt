@@ -2,6 +2,9 @@
 use crate::place::TextFile;
 use crate::quotes::quoted;
 use pap_reader::{ReadFault, Which};
+use pap_tree::{
+    MOST_CONSTANTS, MOST_INPUTS, MOST_INTERNALS, MOST_METHODS, MOST_OUTPUTS, MOST_STATEMENTS,
+};
 use plan_notes::{Element, Starts, element_name, read_notes};
 use std::alloc::{AllocError, Global};
 
@@ -171,18 +174,18 @@ fn excess_tag(alloc: Global, plan: &[u8], which: Which) -> Result<Option<usize>,
         return Ok(None);
     };
     let notes = read_notes(alloc, plan)?;
-    Ok(notes.walk().find_start(starts, most))
+    Ok(notes.walk().find_start(starts, most as usize))
 }
 
 /// The start tags that are counted over the whole file, and how many of them there may be.
-fn counted(which: Which) -> Option<(Starts, usize)> {
+fn counted(which: Which) -> Option<(Starts, u32)> {
     match which {
-        Which::Inputs => Some((Starts::Of(Element::Input), 256)),
-        Which::Outputs => Some((Starts::Of(Element::Output), 256)),
-        Which::Internals => Some((Starts::Of(Element::Internal), 1024)),
-        Which::Constants => Some((Starts::Of(Element::Constant), 512)),
-        Which::Methods => Some((Starts::Of(Element::Method), 256)),
-        Which::Statements => Some((Starts::OfStatements, 20_000)),
+        Which::Inputs => Some((Starts::Of(Element::Input), MOST_INPUTS)),
+        Which::Outputs => Some((Starts::Of(Element::Output), MOST_OUTPUTS)),
+        Which::Internals => Some((Starts::Of(Element::Internal), MOST_INTERNALS)),
+        Which::Constants => Some((Starts::Of(Element::Constant), MOST_CONSTANTS)),
+        Which::Methods => Some((Starts::Of(Element::Method), MOST_METHODS)),
+        Which::Statements => Some((Starts::OfStatements, MOST_STATEMENTS)),
         Which::Bytes | Which::Depth => None,
     }
 }

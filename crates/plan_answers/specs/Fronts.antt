@@ -4,7 +4,7 @@ use Rattle.std.specs.Option.{ForSome}
 use Rattle.outside.specs.Told.{FileMap}
 use Rattle.pap_reader.specs.declared.fault.Which.TheVariants.{Bytes}
 use Rattle.pap_reader.specs.Limits.{most}
-use Rattle.limits_file.specs.RangeFiles.{most_bytes}
+use Rattle.limits_file.specs.Limits.{longest_limits}
 
 -- both files are there, and these are their fronts, of at most one byte more than their limits
 pub record AreFronts (files : FileMap) (plan limits plan_front limits_front : List ℕ) : Type 0 where
@@ -13,7 +13,7 @@ pub record AreFronts (files : FileMap) (plan limits plan_front limits_front : Li
   pub plan_there : files plan ≡ Some plan_bytes
   pub limits_there : files limits ≡ Some limits_bytes
   pub plan_read : plan_front ≡ take (most Bytes + 1) plan_bytes
-  pub limits_read : limits_front ≡ take (most_bytes + 1) limits_bytes
+  pub limits_read : limits_front ≡ take (longest_limits + 1) limits_bytes
 
 -- the name at which the files failed: the plan's, or the range file's where the plan is there
 abbrev pub IsMissing : Option FileMap → List ℕ → List ℕ → Option (List ℕ) → Type 0

@@ -9,7 +9,8 @@ use outside::{FileAnswer, Files};
 use pap_reader::LONGEST_PLAN;
 use std::alloc::Global;
 
-/// The bytes of both files, the plan's first, each by one call for one byte more than its limit.
+/// The bytes of both files, the plan's first, each by one call for one byte more than its limit. The number of calls is in no
+/// clause.
 pub fn read_both<F: Files>(
     alloc: Global,
     plan: &str,

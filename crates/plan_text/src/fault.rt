@@ -34,17 +34,18 @@ impl fmt::Display for Spot {
     }
 }
 
-/// Why the bytes of a plan's file are not read. Its texts are for a plan's author.
+/// Why the bytes of a plan's file are not read. Its texts are for a plan's author, and say what is wrong without
+/// the place.
 #[derive(Clone, Copy, Debug, PartialEq, Eq, Error)]
 pub enum PlanFault {
     /// The elements aren't those of a plan.
     #[error("{0}")]
     Read(ReadFault),
     /// The first expression that isn't one, and the byte of its attribute's text.
-    #[error("the expression of {spot}, {fault}")]
+    #[error("{fault}")]
     Expr { spot: Spot, fault: ExprFault },
     /// Memory ran out.
-    #[error("memory ran out")]
+    #[error("out of memory")]
     Memory,
 }
 

@@ -22,7 +22,7 @@ const PIECE: usize = 32_768;
 pub enum ReportFault {
     #[error("writing failed")]
     Write,
-    #[error("memory ran out")]
+    #[error("out of memory")]
     Memory(AllocError),
 }
 

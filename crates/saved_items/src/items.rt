@@ -37,7 +37,7 @@ pub enum ItemFault<'a> {
         /// The plans of the items before it.
         plans: Vec<PlanItem<'a>>,
     },
-    #[error("memory ran out")]
+    #[error("out of memory")]
     Memory(AllocError),
 }
 

@@ -15,7 +15,7 @@ use Rattle.scaled_decimal.proofs.MachineLemmas.{held}
 use Rattle.scaled_decimal.proofs.PowerLemmas.{ten_add, ten_some}
 
 -- a number times two powers
-powers : (n : ℤ) (i j k : ℕ) → i + j ≡ k → (n *ℤ ten_to i) *ℤ ten_to j ≡ n *ℤ ten_to k
+pub powers : (n : ℤ) (i j k : ℕ) → i + j ≡ k → (n *ℤ ten_to i) *ℤ ten_to j ≡ n *ℤ ten_to k
 powers n i j k e = times_assoc n (ten_to i) (ten_to j) ∙ ap (λ x. n *ℤ x) (ten_add i j k e)
 
 -- a number divides another where nothing is left
@@ -36,13 +36,6 @@ zero_bits (negsuc n) fits t = absurd (let some : 0 < of_z w128 (negsuc n) = omeg
 
 pub zero_test : (z : ℤ) → z ≡ pos 0 → IsTrue (nat_eq (of_z w128 z) 0)
 zero_test z e = rw e refl
-
--- one zero less at the end
-pub shortened_more : (n m : ℤ) (k : ℕ) → Divides (pos 10) m → n ≡ m *ℤ ten_to k → n ≡ int_div m (pos 10) *ℤ ten_to (k + 1)
-shortened_more n m k h e =
-    let rest = rem_from_divides (pos 10) m (omega (arith, ints)) h in
-    let whole : int_div m (pos 10) *ℤ pos 10 ≡ m = (let q = quot-rem m (pos 10) in omega (arith, ints)) in
-    e ∙ ap (λ x. x *ℤ ten_to k) (sym whole) ∙ powers (int_div m (pos 10)) 1 k (k + 1) (omega arith)
 
 -- the shortened product holds the quotient
 exact : (n c m d : ℤ) (s k t : ℕ) → c *ℤ d ≡ ten_to k → t ≤ s + k → n *ℤ c ≡ m *ℤ ten_to (s + k - t) → (m *ℤ d) *ℤ ten_to s ≡ n *ℤ ten_to t

@@ -1,7 +1,7 @@
 -- The laws of decimals that other crates may cite: a text spells at most one decimal, and it is decided whether it spells one;
 -- an operation that rounds or shortens gives exactly what its function gives. The others are shown in the files that they are
 -- taken from.
-use Rattle.std.proofs.Common.{◌≡◌, ◌≢◌, ℕ, ◌+◌, ◌-◌, ◌^◌, ◌<◌, ◌≤◌, Bool, true, false, ℤ, pos, negsuc, ◌*ℤ◌, ◌≤ℤ◌, int_div, List, [], ◌∷◌, length, refl, sym, ap, ◌∙◌, subst, arith, ◌⊎◌, inl, inr}
+use Rattle.std.proofs.Common.{◌≡◌, ◌≢◌, ℕ, ◌+◌, ◌^◌, ◌<◌, Bool, true, false, ℤ, pos, negsuc, ◌*ℤ◌, ◌≤ℤ◌, int_div, List, [], ◌∷◌, length, refl, sym, ap, ◌∙◌, arith, ◌⊎◌, inl, inr}
 use Rattle.std.specs.Char.{digit_value}
 use Rattle.std.proofs.lemmas.Bool.{cases_lt, cases_eq}
 use Rattle.std.proofs.lemmas.Int.{ints}
@@ -10,10 +10,8 @@ use Rattle.scaled_decimal.specs.Decimals.{Decimal, decimal, numerator_of, scale_
 use Rattle.scaled_decimal.specs.ExactQuotients.{IsPlainDivisor, IsExactQuotient}
 use Rattle.scaled_decimal.specs.Limits.{most_places}
 use Rattle.scaled_decimal.specs.RoundedDecimals.{quotient, quotient_is, rescaled, rescaled_is}
-use Rattle.scaled_decimal.specs.ShortenedDecimals.{shortened, exact_quotient}
-use Rattle.scaled_decimal.specs.Shortening.{IsShortened}
+use Rattle.scaled_decimal.specs.ShortenedDecimals.{exact_quotient}
 use Rattle.scaled_decimal.proofs.ExactLemmas.{shortened_quotient}
-use Rattle.scaled_decimal.proofs.ShortenedLemmas.{without_zeros_is}
 use Rattle.scaled_decimal.specs.NumberTexts.{spelled, Spells, SpellsNone}
 use Rattle.scaled_decimal.specs.TextParts.{IsSignSplit, IsDigitSplit}
 use Rattle.scaled_decimal.proofs.NumberLemmas.{spells, spells_once, ends_at_sign, ends_at_point, ends_in_places, whole_number, number_with_places}
@@ -31,10 +29,12 @@ pub use Rattle.scaled_decimal.proofs.FitLemmas.{rescale_fits, rescale_fits_longe
 -- plain divisors, the cofactor of one, and the working numbers of the exact quotient: for the least power of ten, and for any
 pub use Rattle.scaled_decimal.proofs.FitLemmas.{plain_divisor, exact_fits_least, exact_fits}
 pub use Rattle.scaled_decimal.proofs.ExactLemmas.{factor_times}
+-- the same value without the zeros that end it, and that there is one
+pub use Rattle.scaled_decimal.proofs.ShortenedLemmas.{shortened_is, shortened_only}
 -- digits and plain texts
 pub use Rattle.scaled_decimal.proofs.DigitLemmas.{digits_value_after-append}
 pub use Rattle.scaled_decimal.proofs.PlainLemmas.{length-last_digits, whole_some}
-pub use Rattle.scaled_decimal.proofs.SpellingLemmas.{plain_text_spells}
+pub use Rattle.scaled_decimal.proofs.SpellingLemmas.{digits_last, digits_whole, some_whole, value_whole, value_all, plain_text_spells}
 
 -- a text spells at most one decimal
 pub number_once : (text : List ℕ) (d d' : Decimal) → Spells text d → Spells text d' → d ≡ d'
@@ -99,12 +99,6 @@ number_or_none text =
       | inl some ↦ after_decided text sign.rest sign.negative digits.front digits.rest sign.split digits.split some
       | inr none ↦ inr (ends_at_sign text sign.rest sign.negative digits.front digits.rest sign.split digits.split (omega arith)).0
     ]
-
--- the same value without the zeros that end it
-pub shortened_is : (least : ℕ) (a : Decimal) → least ≤ scale_of a → IsShortened a least (shortened least a)
-shortened_is least a h =
-    let whole : least + (scale_of a - least) ≡ scale_of a = omega arith in
-    subst (λ s. IsShortened (decimal (numerator_of a) s) least (shortened least a)) whole (without_zeros_is least (scale_of a - least) (numerator_of a))
 
 pub exact_quotient_is : (a : Decimal) (d : ℤ) → IsPlainDivisor d → IsExactQuotient a d (exact_quotient a d)
 exact_quotient_is a d h =

@@ -45,6 +45,12 @@ order_longer_left a b h =
     order_times (numerator_of a) y (10 ^ scale_of b) (ten_some (scale_of b))
     ∙ ap (λ z. int_cmp (numerator_of a *ℤ ten_to (scale_of b)) z) (longer (numerator_of b) (scale_of a - scale_of b) (scale_of b) (scale_of a) (omega arith))
 
+-- the same, where both scales are one
+pub order_level : (a b : Decimal) → scale_of a ≡ scale_of b → int_cmp (numerator_of a) (numerator_of b) ≡ value_order a b
+order_level a b h =
+    order_times (numerator_of a) (numerator_of b) (10 ^ scale_of b) (ten_some (scale_of b))
+    ∙ ap (λ s. int_cmp (numerator_of a *ℤ ten_to (scale_of b)) (numerator_of b *ℤ ten_to s)) (sym h)
+
 -- a number is within the limit with more zeros exactly where it is small enough
 pub fits_longer : (n : ℤ) (p : ℕ) → p ≤ 37 → (unsigned_abs n ≤ 10 ^ (37 - p)) ↔ IsWithinLimit (n *ℤ ten_to p)
 fits_longer n p few =

@@ -1,14 +1,16 @@
 -- A decimal without the zeros that end it, as a function.
-use Rattle.std.proofs.Common.{◌≡◌, ℕ, zero, suc, ◌+◌, ◌-◌, Bool, true, false, if◌then◌else◌, ℤ, pos, negsuc, ◌*ℤ◌, int_div, int_rem, refl, sym, ap, ◌∙◌, arith}
+use Rattle.std.proofs.Common.{◌≡◌, ℕ, zero, suc, ◌+◌, ◌-◌, ◌^◌, ◌<◌, ◌≤◌, nat_lt, Bool, true, false, if◌then◌else◌, ℤ, pos, negsuc, ◌*ℤ◌, int_div, int_rem, refl, sym, ap, ap₂, ◌∙◌, subst, inl, inr, arith}
 use Rattle.std.specs.Ordering.{int_eq}
 use Rattle.std.proofs.lemmas.Int.{ints, quot-rem}
 use Rattle.std.proofs.lemmas.Bool.Decides.{nat_tests}
-use Rattle.scaled_decimal.specs.Decimals.{decimal, numerator_of, scale_of, ten_to}
+use Rattle.std.proofs.lemmas.Bool.{cases_lt}
+use Rattle.scaled_decimal.specs.Decimals.{Decimal, decimal, numerator_of, scale_of, ten_to}
 use Rattle.scaled_decimal.specs.Shortening.{IsShortened}
-use Rattle.scaled_decimal.specs.ShortenedDecimals.{without_zeros}
-use Rattle.scaled_decimal.specs.laws.IntegerLemmas.{times_assoc}
-use Rattle.scaled_decimal.proofs.ExactLemmas.{rem_from_divides}
-use Rattle.scaled_decimal.proofs.PowerLemmas.{ten_add}
+use Rattle.scaled_decimal.specs.ExactQuotients.{Divides}
+use Rattle.scaled_decimal.specs.ShortenedDecimals.{without_zeros, shortened}
+use Rattle.scaled_decimal.specs.laws.IntegerLemmas.{times_cancel}
+use Rattle.scaled_decimal.proofs.ExactLemmas.{powers, rem_from_divides, divides_from_rem}
+use Rattle.scaled_decimal.proofs.PowerLemmas.{ten_some}
 
 zero_from_test : (z : ℤ) → int_eq z (pos 0) ≡ true → z ≡ pos 0
 zero_from_test (pos n) e = ap pos (grind (arith, nat_tests))
@@ -19,10 +21,6 @@ test_from_zero z e = rw e refl
 
 apart : true ≡ false → ⊥
 apart e = cc
-
--- a number times two powers
-powers : (n : ℤ) (j k : ℕ) → j + 1 ≡ k → (n *ℤ ten_to j) *ℤ ten_to 1 ≡ n *ℤ ten_to k
-powers n j k e = times_assoc n (ten_to j) (ten_to 1) ∙ ap (λ x. n *ℤ x) (ten_add j 1 k e)
 
 pub without_zeros_is : (least more : ℕ) (n : ℤ) → IsShortened (decimal n (least + more)) least (without_zeros least more n)
 without_zeros_is least zero n =
@@ -39,7 +37,7 @@ without_zeros_is least (suc more) n = by_test (int_eq (int_rem n (pos 10)) (pos 
         record {
           low = h.low;
           high = omega (arith, h.high);
-          same = tenth ∙ ap (λ x. x *ℤ ten_to 1) h.same ∙ powers (numerator_of r) (least + more - scale_of r) (least + suc more - scale_of r) (omega (arith, h.high));
+          same = tenth ∙ ap (λ x. x *ℤ ten_to 1) h.same ∙ powers (numerator_of r) (least + more - scale_of r) 1 (least + suc more - scale_of r) (omega (arith, h.high));
           short = h.short;
         }
     by_test false ih e =
@@ -50,3 +48,71 @@ without_zeros_is least (suc more) n = by_test (int_eq (int_rem n (pos 10)) (pos 
           same = rw none (omega (arith, ints));
           short = λ h. absurd (apart (sym (test_from_zero (int_rem n (pos 10)) (rem_from_divides (pos 10) n (omega (arith, ints)) h)) ∙ e));
         }
+
+-- the same value without the zeros that end it
+pub shortened_is : (least : ℕ) (a : Decimal) → least ≤ scale_of a → IsShortened a least (shortened least a)
+shortened_is least a h =
+    let whole : least + (scale_of a - least) ≡ scale_of a = omega arith in
+    let enough : nat_lt (scale_of a) least ≡ false = grind (arith, nat_tests) in
+    rw enough (subst (λ s. IsShortened (decimal (numerator_of a) s) least (without_zeros least (scale_of a - least) (numerator_of a))) whole (without_zeros_is least (scale_of a - least) (numerator_of a)))
+
+-- ---- a step of the code
+
+one_less : (least k : ℕ) (n : ℤ) → Divides (pos 10) n → without_zeros least (suc k) n ≡ without_zeros least k (int_div n (pos 10))
+one_less least k n h = rw (test_from_zero (int_rem n (pos 10)) (rem_from_divides (pos 10) n (omega (arith, ints)) h)) refl
+
+pub fewer : (least s : ℕ) (n : ℤ) → least < s → Divides (pos 10) n → shortened least (decimal n s) ≡ shortened least (decimal (int_div n (pos 10)) (s - 1))
+fewer least s n some h =
+    let places : s - least ≡ suc (s - 1 - least) = omega arith in
+    let enough : nat_lt s least ≡ false = grind (arith, nat_tests) in
+    let still : nat_lt (s - 1) least ≡ false = grind (arith, nat_tests) in
+    rw (enough, still, places) (one_less least (s - 1 - least) n h)
+
+-- no zero may go
+last : (least k : ℕ) (n : ℤ) → (least < least + k → Divides (pos 10) n → ⊥) → without_zeros least k n ≡ decimal n (least + k)
+last least zero n none = ap (λ s. decimal n s) (omega arith)
+last least (suc k) n none = by_test (int_eq (int_rem n (pos 10)) (pos 0)) refl
+  where
+    by_test : (t : Bool) → int_eq (int_rem n (pos 10)) (pos 0) ≡ t → without_zeros least (suc k) n ≡ decimal n (least + suc k)
+    by_test true e = absurd (none (omega arith) (divides_from_rem (pos 10) n (zero_from_test (int_rem n (pos 10)) e)))
+    by_test false e = rw e refl
+
+pub stays : (least s : ℕ) (n : ℤ) → (least < s → Divides (pos 10) n → ⊥) → shortened least (decimal n s) ≡ decimal n s
+stays least s n none = by_test (nat_lt s least) refl
+  where
+    by_test : (t : Bool) → nat_lt s least ≡ t → shortened least (decimal n s) ≡ decimal n s
+    by_test true e = rw e refl
+    by_test false e =
+        let whole : least + (s - least) ≡ s = grind (arith, nat_tests) in
+        rw e (last least (s - least) n (λ more. none (omega arith)) ∙ ap (λ k. decimal n k) whole)
+
+-- ---- a decimal is shortened in one way
+
+-- what ends with no zero has no more places than another of the same value
+no_longer : (least : ℕ) (a d e : Decimal) → IsShortened a least d → IsShortened a least e → scale_of d < scale_of e → ⊥
+no_longer least a d e f g less =
+    let m = numerator_of d in
+    let more = scale_of e - scale_of d in
+    let rest = scale_of a - scale_of e in
+    let same : m *ℤ ten_to more ≡ numerator_of e =
+    times_cancel (m *ℤ ten_to more) (numerator_of e) (10 ^ rest) (ten_some rest) (
+    powers m more rest (scale_of a - scale_of d) (omega (arith, g.high)) ∙ sym f.same ∙ g.same) in
+    let one = g.short ((m *ℤ ten_to (more - 1), powers m (more - 1) 1 more (omega arith) ∙ same)) in
+    omega (arith, one, f.low)
+
+pub shortened_only : (least : ℕ) (a d : Decimal) → IsShortened a least d → d ≡ shortened least a
+shortened_only least a d f =
+    let e = shortened least a in
+    let g = shortened_is least a (omega (arith, f.low, f.high)) in
+    let scales : scale_of d ≡ scale_of e = elim (cases_lt (scale_of d) (scale_of e)) [
+      | inl less ↦ absurd (no_longer least a d e f g less)
+      | inr le ↦ elim (cases_lt (scale_of e) (scale_of d)) [
+        | inl less ↦ absurd (no_longer least a e d g f less)
+        | inr ge ↦ omega arith
+      ]
+    ] in
+    let rest = scale_of a - scale_of e in
+    let numbers : numerator_of d ≡ numerator_of e =
+    times_cancel (numerator_of d) (numerator_of e) (10 ^ rest) (ten_some rest) (
+    ap (λ s. numerator_of d *ℤ ten_to (scale_of a - s)) (sym scales) ∙ sym f.same ∙ g.same) in
+    ap₂ decimal numbers scales

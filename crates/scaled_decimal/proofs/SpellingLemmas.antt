@@ -20,7 +20,7 @@ use Rattle.scaled_decimal.proofs.PlainLemmas.{length-last_digits, whole_some}
 digit_value_byte : (x : ℕ) → x < 10 → digit_value (digit_byte x) ≡ x
 digit_value_byte x small = let e = digit_value_digit (48 + x) (omega arith, omega arith) in omega arith
 
-digits_last : (k n : ℕ) → AllDigits 10 (last_digits k n)
+pub digits_last : (k n : ℕ) → AllDigits 10 (last_digits k n)
 digits_last zero n = tt
 digits_last (suc k) n = (let e = digit_value_byte (n / 10 ^ k % 10) (omega arith) in omega arith, digits_last k n)
 
@@ -45,7 +45,7 @@ bytes_back : (ds : List ℕ) → AllBelowBase 10 ds → map digit_value (map dig
 bytes_back [] h = refl
 bytes_back (d ∷ ds) h = ap₂ (λ x xs. x ∷ xs) (digit_value_byte d h.0) (bytes_back ds h.1)
 
-value_whole : (n : ℕ) → digits_value 10 (whole_text n) ≡ n
+pub value_whole : (n : ℕ) → digits_value 10 (whole_text n) ≡ n
 value_whole n = elim (cases_lt 0 n) [
   | inl some ↦
       let below = all_below_base_digits_of 10 n (omega arith) in
@@ -53,13 +53,13 @@ value_whole n = elim (cases_lt 0 n) [
   | inr none ↦ (let e : n ≡ 0 = omega arith in rw e refl)
 ]
 
-digits_whole : (n : ℕ) → AllDigits 10 (whole_text n)
+pub digits_whole : (n : ℕ) → AllDigits 10 (whole_text n)
 digits_whole n = elim (cases_lt 0 n) [
   | inl some ↦ rw (whole_some n some) (bytes_below (digits_of 10 n) (all_below_base_digits_of 10 n (omega arith)))
   | inr none ↦ (let e : n ≡ 0 = omega arith in rw e (omega arith, tt))
 ]
 
-some_whole : (n : ℕ) → 0 < length (whole_text n)
+pub some_whole : (n : ℕ) → 0 < length (whole_text n)
 some_whole n = elim (cases_lt 0 n) [
   | inl some ↦ rw (whole_some n some) (let more = length-digits_of_step 10 n (omega arith) some in let same = length-map (digits_of 10 n) digit_byte in omega arith)
   | inr none ↦ (let e : n ≡ 0 = omega arith in rw e (omega arith))
@@ -70,7 +70,7 @@ signed_back (pos n) = let test : ltb n 0 ≡ false = grind (arith, nat_tests) in
 signed_back (negsuc n) = refl
 
 -- all digits together are the magnitude
-value_all : (n s : ℕ) → digits_value 10 (whole_text (n / 10 ^ s) ++ last_digits s n) ≡ n
+pub value_all : (n s : ℕ) → digits_value 10 (whole_text (n / 10 ^ s) ++ last_digits s n) ≡ n
 value_all n s =
     let some = one-le-pow s 10 (omega arith) in
     digits_value_after-append (whole_text (n / 10 ^ s)) (last_digits s n) 0

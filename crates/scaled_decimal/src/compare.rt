@@ -14,7 +14,9 @@ impl Dec {
     pub fn compare(self, b: Dec) -> Ordering
         ensures { result ≡ value_order self b }
     {
-        if self.scale() < b.scale() {
+        if self.scale() == b.scale() {
+            self.numerator().cmp(&b.numerator())
+        } else if self.scale() < b.scale() {
             compare_scaled(b.numerator(), self.numerator(), b.scale() - self.scale()).reverse()
         } else {
             compare_scaled(self.numerator(), b.numerator(), self.scale() - b.scale())

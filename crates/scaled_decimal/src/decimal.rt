@@ -137,7 +137,7 @@ impl Dec {
     }
 
     /// The numerator of the same value at scale `s`, which is no less than the decimal's own.
-    pub(crate) fn numerator_at(self, s: u8) -> i128
+    pub fn numerator_at(self, s: u8) -> i128
         requires longer { scale_of self ≤ s }
         requires power { IsWithinLimit (ten_to (s - scale_of self)) }
         requires fits { IsWithinLimit (numerator_at s self) }

@@ -1,10 +1,11 @@
-//! Exact division by a plain divisor.
-ghost use Rattle.std.specs.Prelude.{◌≤◌, ◌↔◌, IsTrue, pos, ◌<ℤ◌};
-ghost use Rattle.scaled_decimal.specs.Decimals.{decimal};
+//! Exact division by a plain divisor, and decimals without the zeros that end them.
+ghost use Rattle.std.specs.Prelude.{◌≡◌, ◌≤◌, ◌↔◌, IsTrue, pos, ◌<ℤ◌};
+ghost use Rattle.scaled_decimal.specs.Decimals.{scale_of};
 ghost use Rattle.scaled_decimal.specs.ExactQuotients.{Divides, IsPlainDivisor, IsExactQuotient};
 ghost use Rattle.scaled_decimal.specs.WorkingNumbers.{IsDivisorPlaces, ExactQuotientFits};
 ghost use Rattle.scaled_decimal.specs.Shortening.{IsShortened};
-ghost use Rattle.scaled_decimal.specs.Limits.{IsWithinLimit, most_places};
+ghost use Rattle.scaled_decimal.specs.ShortenedDecimals.{shortened, exact_quotient};
+ghost use Rattle.scaled_decimal.specs.Limits.{most_places};
 
 use crate::decimal::Dec;
 use crate::limits::MOST_PLACES;
@@ -15,11 +16,26 @@ impl Dec {
     pub fn div_exact(self, d: i128) -> Dec
         requires plain { IsPlainDivisor d }
         requires fits { ExactQuotientFits self d }
-        ensures { IsExactQuotient self d result }
+        ensures exact { IsExactQuotient self d result }
+        ensures value { result ≡ exact_quotient self d }
     {
         let places = divisor_places(d);
         let numerator = self.numerator() * (power_of_ten(places) / d);
-        shortened(numerator, self.scale() + places, self.scale())
+        Dec::new(numerator, self.scale() + places).shortened(self.scale())
+    }
+
+    /// The same value without the zeros that end it, but with `least` places or more; one of fewer places is kept.
+    pub fn shortened(self, least: u8) -> Dec
+        ensures short { least ≤ scale_of self → IsShortened self least result }
+        ensures value { result ≡ shortened least self }
+    {
+        let mut numerator = self.numerator();
+        let mut places = self.scale();
+        while places > least && divides(10, numerator) {
+            numerator /= 10;
+            places -= 1;
+        }
+        Dec::new(numerator, places)
     }
 }
 
@@ -48,20 +64,4 @@ fn divides(d: i128, n: i128) -> bool
     ensures { IsTrue result ↔ Divides d n }
 {
     n % d == 0
-}
-
-/// The decimal `n` / 10^`scale` without the zeros that end it, but at scale `least` or more.
-fn shortened(n: i128, scale: u8, least: u8) -> Dec
-    requires numerator { IsWithinLimit n }
-    requires scale { scale ≤ most_places }
-    requires least { least ≤ scale }
-    ensures { IsShortened (decimal n scale) least result }
-{
-    let mut numerator = n;
-    let mut places = scale;
-    while places > least && divides(10, numerator) {
-        numerator /= 10;
-        places -= 1;
-    }
-    Dec::new(numerator, places)
 }

@@ -12,6 +12,7 @@ mod powers;
 mod reading;
 mod rounding;
 mod rounding_types;
+mod whole_numbers;
 mod writing;
 
 pub use decimal::Dec;
@@ -21,4 +22,5 @@ pub use powers::power_of_ten;
 pub use reading::{NumFault, read_dec};
 pub use rounding::{Mode, each_quotient_has_one_rounding, round_div};
 pub use rounding_types::{RCeiling, RDown, RFloor, RHalfDown, RHalfEven, RHalfUp, RUp, Rounding};
+pub use whole_numbers::{is_int, is_long};
 pub use writing::{each_plain_text_spells_its_decimal, write_dec};

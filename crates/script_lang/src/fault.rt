@@ -25,7 +25,7 @@ pub enum LineFault {
     Twice { name: Name },
     #[error("the line has more than 65536 bytes")]
     LineLong,
-    #[error("memory ran out")]
+    #[error("out of memory")]
     Memory(AllocError),
 }
 

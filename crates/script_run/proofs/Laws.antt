@@ -10,6 +10,9 @@ use Rattle.script_steps.proofs.Laws as step
 use Rattle.script_run.specs.Transcripts.{Session, opening, with_answer, lines_of, AreAnswered, IsHalted, IsSession}
 use Rattle.script_run.specs.TranscriptLaws.{ScriptsHaveATranscript, ScriptsHaveOneTranscript}
 use Rattle.script_run.specs.RunClauses.{IsFrontOf}
+-- The answers of a session, one after another; every script leaves a book that can be saved.
+pub use Rattle.script_run.proofs.AnswerLaws.{HasAnswered, HasSteps, any_refused, has_answered, has_steps, leave_books}
+pub use Rattle.script_run.proofs.AnswerLaws.{no_refusals, refusals, texts}
 
 -- lines are answered after others
 pub AreAnswered-append : (files : FileMap) (from mid to : Session) (lines more : List (List ℕ)) →

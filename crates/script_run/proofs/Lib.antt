@@ -7,3 +7,4 @@ pub mod DeliverLaws
 pub mod MemoryLaws
 pub mod SampleLaws
 pub mod ThereLaws
+mod AnswerLaws

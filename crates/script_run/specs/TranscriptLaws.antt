@@ -1,6 +1,7 @@
--- That every script has exactly one transcript.
+-- That every script has exactly one transcript, and leaves a book that can be saved.
 use Rattle.std.specs.Prelude.{◌≡◌, ℕ, List}
 use Rattle.outside.specs.Told.{FileMap}
+use Rattle.script_steps.specs.GoingOn.{IsSavable}
 use Rattle.script_run.specs.Transcripts.{Session, IsTranscript}
 
 -- a transcript of a script
@@ -17,3 +18,9 @@ abbrev pub ScriptsHaveOneTranscript : Type 0
 ScriptsHaveOneTranscript =
     (files : FileMap) (script : List ℕ) (session other : Session)
     → IsTranscript files script session → IsTranscript files script other → session ≡ other
+
+-- the book that it leaves is as every book is, and what is saved of it has a text
+abbrev pub ScriptsLeaveBooks : Type 0
+ScriptsLeaveBooks =
+    (files : FileMap) (script : List ℕ) (session : Session)
+    → IsTranscript files script session → IsSavable session.standing.book

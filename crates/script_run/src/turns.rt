@@ -136,7 +136,7 @@ pub(crate) fn run_to_end<F: Files, R: Source, W: Sink, L: Ledger>(
 }
 
 /// Runs a script: takes it from the source turn by turn, and answers each line before bytes past its turn are taken.
-/// `Ok` says whether an answer was a refusal. The counter rises by the steps of the accepted edits.
+/// `Ok` says whether an answer was a refusal. The counter rises by the steps of the answers: of accepted edits, `try` and `open`.
 ///
 /// A script has at most [`MOST_SCRIPT`] bytes. A line of more than [`MOST_LINE`](crate::MOST_LINE) bytes is
 /// answered once, and of its bytes no more than that many and one are kept.

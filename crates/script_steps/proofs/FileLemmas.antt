@@ -7,7 +7,8 @@ use Rattle.payroll_records.specs.declared.record.Record.{Record}
 use Rattle.payroll_records.specs.declared.table.TableFault.{TableFault}
 use Rattle.payroll_records.specs.declared.table.TableFault.TheVariants as tables
 use Rattle.payroll_records.specs.CsvRows.{csv_rows}
-use Rattle.payroll_records.specs.Tables.{most_bytes, TableSays, IsTable, BreaksAt, IsNoHeader, WrongWidth}
+use Rattle.payroll_records.specs.Limits.{longest_table}
+use Rattle.payroll_records.specs.Tables.{TableSays, IsTable, BreaksAt, IsNoHeader, WrongWidth}
 use Rattle.payroll_records.specs.Tables.{WrongEmployee, WrongMonth, WrongDay, WrongValue, Repeats}
 use Rattle.script_lang.specs.Commands as asked
 use Rattle.pap_plan.specs.declared.refusal.PlanRefusal.{PlanRefusal}
@@ -24,24 +25,24 @@ use Rattle.script_steps.proofs.OpenLemmas.{open_front}
 
 -- ---- a table
 
-module _ (n : ℕ) (more : most_bytes < n) where
+module _ (n : ℕ) (more : longest_table < n) where
   table_front : (bytes : List ℕ) (v : Result (List Record) TableFault) → TableSays (take n bytes) v → TableSays bytes v
-  table_front bytes (Ok records) h = subst (λ b. IsTable b records) (whole most_bytes n bytes more h.short) h
-  table_front bytes (Err tables.TableLong) h = longer most_bytes n bytes h
+  table_front bytes (Ok records) h = subst (λ b. IsTable b records) (whole longest_table n bytes more h.short) h
+  table_front bytes (Err tables.TableLong) h = longer longest_table n bytes h
   table_front bytes (Err tables.Header) h =
-      subst (λ b. (length b ≤ most_bytes) × IsNoHeader (csv_rows b)) (whole most_bytes n bytes more h.0) h
+      subst (λ b. (length b ≤ longest_table) × IsNoHeader (csv_rows b)) (whole longest_table n bytes more h.0) h
   table_front bytes (Err (tables.Width row)) h =
-      subst (λ b. BreaksAt b row WrongWidth) (whole most_bytes n bytes more h.short) h
+      subst (λ b. BreaksAt b row WrongWidth) (whole longest_table n bytes more h.short) h
   table_front bytes (Err (tables.Employee row)) h =
-      subst (λ b. BreaksAt b row WrongEmployee) (whole most_bytes n bytes more h.short) h
+      subst (λ b. BreaksAt b row WrongEmployee) (whole longest_table n bytes more h.short) h
   table_front bytes (Err (tables.Month row)) h =
-      subst (λ b. BreaksAt b row WrongMonth) (whole most_bytes n bytes more h.short) h
+      subst (λ b. BreaksAt b row WrongMonth) (whole longest_table n bytes more h.short) h
   table_front bytes (Err (tables.Day row)) h =
-      subst (λ b. BreaksAt b row WrongDay) (whole most_bytes n bytes more h.short) h
+      subst (λ b. BreaksAt b row WrongDay) (whole longest_table n bytes more h.short) h
   table_front bytes (Err (tables.Value row name)) h =
-      subst (λ b. BreaksAt b row (WrongValue name)) (whole most_bytes n bytes more h.short) h
+      subst (λ b. BreaksAt b row (WrongValue name)) (whole longest_table n bytes more h.short) h
   table_front bytes (Err (tables.Repeat row)) h =
-      subst (λ b. BreaksAt b row Repeats) (whole most_bytes n bytes more h.short) h
+      subst (λ b. BreaksAt b row Repeats) (whole longest_table n bytes more h.short) h
   table_front bytes (Err (tables.Memory e)) h = absurd h
 
   table_step_front : (from : Standing) (bytes : List ℕ) (to : Standing) (a : Answer)

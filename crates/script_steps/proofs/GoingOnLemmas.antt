@@ -34,6 +34,8 @@ use Rattle.script_steps.specs.Steps.{IsStep}
 use Rattle.script_steps.specs.TraceSteps.{trace_answer}
 use Rattle.script_steps.specs.GoingOn.{AnswersFollowBooks, AnswersFollowFiles, AreSameFor, AreSteps, CutScriptsGoOn}
 use Rattle.script_steps.specs.GoingOn.{HaveAnswers, IsCut, opened}
+use Rattle.script_steps.proofs.KeepLemmas.{make_books}
+use Rattle.script_steps.proofs.SoundLemmas.{saved_text_of}
 use Rattle.script_steps.proofs.StepLemmas as steps
 
 -- the same book and the same filings, behind other work
@@ -230,11 +232,6 @@ module _ (files : FileMap) where
       let r = steps_going lines answers g.0 h.0 to h.2 in
       (r.0, (with_made g.0 h.0, g.1, r.1), keeps_both from h.0 to g.2 r.2)
 
-  answers_going : (lines : List (List ℕ)) (answers : List Answer) (made : Work) (from : Standing)
-      → HaveAnswers files from lines answers → HaveAnswers files (with_made made from) lines answers
-  answers_going lines answers made from h =
-      let g = steps_going lines answers made from h.0 h.1 in (with_made g.0 h.0, g.1)
-
   -- lines behind others go on from what those have left
   behind : (before after : List (List ℕ)) (earlier further : List Answer) (from left : Standing)
       → AreSteps files from before left earlier
@@ -314,7 +311,7 @@ module _ (files other : FileMap) where
             (λ name n. same name (record { what = what; is_line = says; is_file = n })) does;
       }
 
-  steps_over : (lines : List (List ℕ)) (answers : List Answer) (from to : Standing)
+  pub steps_over : (lines : List (List ℕ)) (answers : List Answer) (from to : Standing)
       → AllByRecursion (AreSameFor files other) lines
       → AreSteps files from lines to answers → AreSteps other from lines to answers
   steps_over [] [] from to all h = h
@@ -330,11 +327,32 @@ module _ (files other : FileMap) where
 
 -- ---- the laws
 
+-- the same book, of which the same was filed
+pub record AreAlike (a b : Standing) : Type 0 where
+  pub book : a.book ≡ b.book
+  pub filings : a.filings ≡ b.filings
+
+-- lines that go on from such
+pub record GoAlike (files : FileMap) (other : Standing) (lines : List (List ℕ)) (to : Standing) (answers : List Answer)
+    : Type 0 where
+  pub left : Standing
+  pub steps : AreSteps files other lines left answers
+  pub alike : AreAlike to left
+
+pub go_alike : (files : FileMap) (from other to : Standing) (lines : List (List ℕ)) (answers : List Answer)
+    → AreAlike from other → AreSteps files from lines to answers → GoAlike files other lines to answers
+go_alike files from other to lines answers alike h =
+    let g = steps_going files lines answers other.made from to h in record {
+      left = with_made g.0 to;
+      steps = subst (λ s. AreSteps files s lines (with_made g.0 to) answers)
+          (λ i. record { book = alike.book i; filings = alike.filings i; made = other.made }) g.1;
+      alike = record { book = refl; filings = refl };
+    }
+
 pub follow : AnswersFollowBooks
 follow files from other lines answers book filings h =
-    subst (λ s. HaveAnswers files s lines answers)
-    (λ i. record { book = book i; filings = filings i; made = other.made })
-    (answers_going files lines answers other.made from h)
+    let g = go_alike files from other h.0 lines answers (record { book = book; filings = filings }) h.1 in
+    (g.left, g.steps)
 
 pub follow_files : AnswersFollowFiles
 follow_files files other from lines answers all h =
@@ -344,6 +362,36 @@ never_filed : (o : Option Month) → IsSome o → o ≡ None → ⊥
 never_filed None h e = cc
 never_filed (Some m) h e = cc
 
+-- where no month was filed, what was filed is as it was before the first line
+pub not_filed : (files : FileMap) (lines : List (List ℕ)) (answers : List Answer) (left : Standing)
+    → AreSteps files start lines left answers → left.filings.last ≡ None → start.filings ≡ left.filings
+not_filed files lines answers left h none = by (steps_going files lines answers start.made start left h).2
+  where
+    by : Keeps start left → start.filings ≡ left.filings
+    by (inl e) = sym e
+    by (inr some) = absurd (never_filed left.filings.last some none)
+
+-- the line opens the book that was saved
+pub cut_opens : (files later : FileMap) (before : List (List ℕ)) (earlier : List Answer) (opening : List ℕ)
+    → (cut : IsCut files later before earlier opening)
+    → IsStep later start opening (with_book start cut.left.book) (opened cut.left.book)
+cut_opens files later before earlier opening cut = record {
+  said = Ok (asked.opening cut.file);
+  says = cut.opens;
+  does = record {
+    bytes = cut.text;
+    there = cut.there;
+    is = record {
+      verdict = Ok cut.left.book;
+      says = (
+        record { book = record { runs = refl; plans = refl }; filings = refl },
+        saved_text_of cut.left.book cut.text (make_books files before earlier cut.left cut.answered) cut.saved,
+      );
+      is = (refl, refl);
+    };
+  };
+}
+
 module _ (files later : FileMap) (before after : List (List ℕ)) (earlier further : List Answer) (opening : List ℕ)
     (cut : IsCut files later before earlier opening) (same : AllByRecursion (AreSameFor files later) after) where
   -- the standing behind the line that opens the book
@@ -351,26 +399,10 @@ module _ (files later : FileMap) (before after : List (List ℕ)) (earlier furth
   there = with_book start cut.left.book
 
   unfiled : start.filings ≡ cut.left.filings
-  unfiled = by (steps_going files before earlier start.made start cut.left cut.answered).2
-    where
-      by : Keeps start cut.left → start.filings ≡ cut.left.filings
-      by (inl e) = sym e
-      by (inr some) = absurd (never_filed cut.left.filings.last some cut.unfiled)
+  unfiled = not_filed files before earlier cut.left cut.answered cut.unfiled
 
   opens : IsStep later start opening there (opened cut.left.book)
-  opens = record {
-    said = Ok (asked.opening cut.file);
-    says = cut.opens;
-    does = record {
-      bytes = cut.text;
-      there = cut.there;
-      is = record {
-        verdict = Ok cut.left.book;
-        says = (record { book = record { runs = refl; plans = refl }; filings = refl }, cut.saved);
-        is = (refl, refl);
-      };
-    };
-  }
+  opens = cut_opens files later before earlier opening cut
 
   forth : HaveAnswers files start (before ++ after) (earlier ++ further)
       → HaveAnswers later start (opening ∷ after) (opened cut.left.book ∷ further)

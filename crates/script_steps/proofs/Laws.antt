@@ -4,6 +4,10 @@ use Rattle.script_steps.specs.StepLaws.{LongLinesNameNoFile}
 use Rattle.script_steps.proofs.StepLemmas as steps
 -- What lines answer follows from the book and from what was filed; a script that is cut goes on from the saved book.
 pub use Rattle.script_steps.proofs.GoingOnLemmas.{follow, follow_files, go_on}
+pub use Rattle.script_steps.proofs.GoingOnLemmas.{AreAlike, GoAlike, go_alike, steps_over, not_filed, cut_opens}
+-- Every book that lines make can be saved, and the text as which it is saved is its text.
+pub use Rattle.script_steps.proofs.KeepLemmas.{make_books}
+pub use Rattle.script_steps.proofs.SoundLemmas.{saved_text_of}
 
 pub some : LinesHaveAStep
 some = steps.some

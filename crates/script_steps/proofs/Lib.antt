@@ -13,3 +13,8 @@ mod PlanLemmas
 mod TrialLemmas
 mod OpenLemmas
 mod GoingOnLemmas
+mod RunLemmas
+mod YearLemmas
+mod CostLemmas
+mod SoundLemmas
+mod KeepLemmas

@@ -1,11 +1,14 @@
 -- Going on from a saved book: a script is cut, the book that it has made there is saved, and another script opens it.
-use Rattle.std.specs.Prelude.{◌≡◌, ◌↔◌, List, [], ◌∷◌, ◌++◌, ℕ, None, Some}
+use Rattle.std.specs.Prelude.{◌≡◌, ◌↔◌, List, [], ◌∷◌, ◌++◌, ℕ, None, Some, Ok}
 use Rattle.std.specs.List.{AllByRecursion}
 use Rattle.outside.specs.Told.{FileMap}
 use Rattle.script_lang.specs.Commands as asked
 use Rattle.script_lang.specs.Lines.{IsLine}
+use Rattle.saved_items.specs.SavedBooks.{IsSaved}
+use Rattle.recalc_engine.specs.BookLaws.{IsBook}
 use Rattle.recalc_engine.specs.Contents.{Contents, whole_cost}
-use Rattle.book_file.specs.BookTexts.{IsTextOf}
+use Rattle.book_file.specs.BookTexts.{saved_of}
+use Rattle.book_file.specs.Saving.{SaveSays}
 use Rattle.script_steps.specs.LineTexts.{ok_line}
 use Rattle.script_steps.specs.Standings.{accepted}
 use Rattle.script_steps.specs.Steps.{Standing, Answer, IsStep, Names, start}
@@ -29,15 +32,15 @@ AreSameFor files other line = (name : List ℕ) → Names line name → files na
 
 -- ---- a cut
 
--- these lines of a script have had these answers, and no month was filed; later there is a file with the saved text of the
--- book, and this line opens it
+-- these lines of a script have had these answers, and no month was filed; later there is a file with the text as which the
+-- book is saved, and this line opens it
 pub record IsCut
     (files later : FileMap) (before : List (List ℕ)) (earlier : List Answer) (opening : List ℕ) : Type 0 where
   pub left : Standing
   pub answered : AreSteps files start before left earlier
   pub unfiled : left.filings.last ≡ None
   pub text : List ℕ
-  pub saved : IsTextOf text left.book
+  pub saved : SaveSays left.book (Ok text)
   pub file : List ℕ
   pub there : later file ≡ Some text
   pub opens : IsLine opening (asked.opening file)
@@ -46,7 +49,18 @@ pub record IsCut
 abbrev pub opened : Contents → Answer
 opened book = accepted ok_line (whole_cost book)
 
+-- the book is as every book is, and what is saved of it has a text
+pub record IsSavable (book : Contents) : Type 0 where
+  pub book_is : IsBook book
+  pub saved : IsSaved (saved_of book)
+
 -- ---- laws
+
+-- every book that lines make from the first on is such a book
+abbrev pub ScriptsMakeBooks : Type 0
+ScriptsMakeBooks =
+    (files : FileMap) (lines : List (List ℕ)) (answers : List Answer) (to : Standing)
+    → AreSteps files start lines to answers → IsSavable to.book
 
 -- what lines answer follows from the book and from what was filed: not from the work of the edits before
 abbrev pub AnswersFollowBooks : Type 0

@@ -1,6 +1,7 @@
 -- What holds of the steps of lines.
 use Rattle.std.specs.Prelude.{◌≡◌, ◌⊎◌, ◌<◌, ℕ, List, None, length}
 use Rattle.outside.specs.Told.{FileMap}
+use Rattle.script_lang.specs.Limits.{most_line}
 use Rattle.script_steps.specs.Steps.{Standing, Answer, Names, AreThere, IsStep}
 
 -- a step of a line
@@ -31,13 +32,13 @@ pub record LacksAFile (files : FileMap) (line : List ℕ) : Type 0 where
 abbrev pub FilesAreTold : Type 0
 FilesAreTold = (files : FileMap) (line : List ℕ) → AreThere files line ⊎ LacksAFile files line
 
--- lines of more than 65,536 bytes have one step
+-- lines that are too long have one step
 abbrev pub LongLinesAreOne : Type 0
 LongLinesAreOne =
     (files : FileMap) (from to : Standing) (line other : List ℕ) (answer : Answer)
-    → 65536 < length line → 65536 < length other
+    → most_line < length line → most_line < length other
     → IsStep files from line to answer → IsStep files from other to answer
 
 -- and name no file
 abbrev pub LongLinesNameNoFile : Type 0
-LongLinesNameNoFile = (line name : List ℕ) → 65536 < length line → Names line name → ⊥
+LongLinesNameNoFile = (line name : List ℕ) → most_line < length line → Names line name → ⊥

@@ -12,14 +12,11 @@ use crate::refusals::table_refusal;
 use crate::script::Script;
 use crate::stop::LineStop;
 use outside::Files;
-use payroll_records::{TableFault, read_table};
+use payroll_records::{LONGEST_TABLE, TableFault, read_table};
 use plan_answers::Reply;
 use std::alloc::{AllocError, Global};
 use std::sync::ledger::Ledger;
 use steps::Steps;
-
-/// The most bytes of a table.
-const LONGEST_TABLE: usize = 33_554_432;
 
 /// The line `load`, with its file's name.
 pub(crate) fn load<F: Files, L: Ledger>(

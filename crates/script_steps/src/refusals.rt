@@ -1,4 +1,4 @@
-//! How the refusals of lines, tables and edits are written.
+//! How the refusals of lines, tables, edits, traces, filings and books are written.
 ghost use Rattle.std.specs.Prelude.{IfOk, string_bytes};
 ghost use Rattle.plan_answers.specs.Answers.{refusal};
 ghost use Rattle.plan_answers.specs.ReplyViews.{reply_of};

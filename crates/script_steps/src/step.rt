@@ -19,7 +19,7 @@ use std::sync::ledger::Ledger;
 use steps::Steps;
 
 /// Answers a line of a script, which stands without its line end. `Ok` says whether the answer is a refusal. The counter rises
-/// by the steps of the accepted edit. After a stop the script isn't to be gone on with.
+/// by the steps of the answer: of an accepted edit, `try` or `open`. After a stop the script isn't to be gone on with.
 pub fn answer_line<F: Files, W: Sink, L: Ledger>(
     alloc: Global,
     script: &mut Script,

@@ -59,7 +59,7 @@ pub struct Trial {
 pub enum TryRefusal {
     #[error("there would be more than 64 plans")]
     Plans,
-    #[error("memory ran out")]
+    #[error("out of memory")]
     Memory(AllocError),
 }
 

@@ -11,7 +11,7 @@ use Rattle.interval_num.specs.PlainDivisors.{divisor_places, cofactor}
 use Rattle.interval_num.specs.Rows.{Answer}
 use Rattle.interval_num.proofs.AlignmentLemmas.{unless_passes}
 use Rattle.interval_num.proofs.MachineLemmas.{held, held_is}
-use Rattle.interval_num.proofs.DivisorLemmas.{cofactor_above, exact_quotient_sound}
+use Rattle.interval_num.proofs.DivisorLemmas.{places_are, cofactor_above, exact_quotient_sound}
 use Rattle.interval_num.proofs.quotients.abs_div_exact.Goals as goal
 
 pub times-requires-clause-above : goal.times-requires-clause-above
@@ -35,3 +35,12 @@ returns-clause-exact c =
 
 pub returns-clause-sound : goal.returns-clause-sound
 returns-clause-sound c = exact_quotient_sound c.args.d c.args.a c.times.result c.requires (sym (returns-clause-exact c))
+
+pub returns-clause-places : goal.returns-clause-places
+returns-clause-places c = places_are c.args.d c.requires
+
+pub returns-then-s_hi-gt-MOST_PLACES-clause-places : goal.returns-then-s_hi-gt-MOST_PLACES-clause-places
+returns-then-s_hi-gt-MOST_PLACES-clause-places c = places_are c.args.d c.requires
+
+pub returns-then-ends_beyond_times-clause-places : goal.returns-then-ends_beyond_times-clause-places
+returns-then-ends_beyond_times-clause-places c = places_are c.args.d c.requires

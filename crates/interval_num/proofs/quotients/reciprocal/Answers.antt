@@ -12,5 +12,5 @@ div_exact-requires-clause-fits c =
 
 pub returns : goal.returns
 returns c =
-    let own = subst (λ d. IsExactQuotient c.new.result d c.div_exact.result) (to_z-of_z w128 c.args.d c.ranges.d) c.div_exact.ensures in
+    let own = subst (λ d. IsExactQuotient c.new.result d c.div_exact.result) (to_z-of_z w128 c.args.d c.ranges.d) c.div_exact.ensures.exact in
     reciprocal_is c.args.d c.div_exact.result c.requires (subst (λ x. IsExactQuotient x c.args.d c.div_exact.result) c.new.ensures own)

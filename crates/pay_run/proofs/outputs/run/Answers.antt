@@ -1,9 +1,9 @@
 use Rattle.std.proofs.Common.{◌≡◌, ◌≤◌, map, ap, ◌∙◌, arith, rules}
 use Rattle.pap_tree.specs.Declarations.{declaration_of}
 use Rattle.pap_types.specs.Meaning.{bound_of}
+use Rattle.pap_types.specs.Limits.{most_steps}
 use Rattle.pap_plan.specs.Plans.{flowchart}
 use Rattle.pay_run.specs.Accepted.{accepted}
-use Rattle.pay_run.specs.RunClauses.{most_steps}
 use Rattle.pay_run.specs.Runs.{named_values}
 use Rattle.pay_run.proofs.RunLemmas.{has_run, written_whole}
 use Rattle.pay_run.proofs.outputs.run.Goals as goal

@@ -1,5 +1,8 @@
-use Rattle.script_steps.proofs.Laws.{follow, follow_files, go_on}
+use Rattle.script_steps.proofs.Laws.{follow, follow_files, go_on, make_books}
 use Rattle.script_steps.proofs.going_on.going_on_laws.Goals as goal
+
+pub returns-clause-made : goal.returns-clause-made
+returns-clause-made c = make_books
 
 pub returns-clause-books : goal.returns-clause-books
 returns-clause-books c = follow

@@ -1,6 +1,6 @@
 use Rattle.std.proofs.Common.{refl, arith, ap, length, ◌∙◌}
 use Rattle.payroll_records.specs.ValueViews.{listed, named_numbers}
-use Rattle.payroll_records.proofs.ValueLemmas.{guessed, placed, place_within}
+use Rattle.payroll_records.proofs.ValueLemmas.{guessed, placed, place_within, would_go}
 use Rattle.payroll_records.proofs.values.Values.place_of.Goals as goal
 
 pub returns-then-stands_at : goal.returns-then-stands_at
@@ -9,6 +9,11 @@ returns-then-stands_at c =
     let at = guessed (listed c.self.inside.names) c.self.inside.numbers.items c.args.name.now c.args.guess c.self.invariant there in
     let within = place_within (named_numbers (listed c.self.inside.names) c.self.inside.numbers.items) c.args.name.now c.args.guess at in
     rw (← c.self.view_is, at) (record { place = refl; few = omega (arith, within, c.self.invariant.are.few) })
+
+pub returns-then-goes_at-clause-place : goal.returns-then-goes_at-clause-place
+returns-then-goes_at-clause-place c =
+    let there = rw (c.goes_at.ensures, c.as_slice-names.ensures) at c.if-goes_at.true in
+    rw (← c.self.view_is, would_go (listed c.self.inside.names) c.self.inside.numbers.items c.args.name.now c.args.guess c.self.invariant there) refl
 
 pub returns-in-Ok : goal.returns-in-Ok
 returns-in-Ok c =

@@ -1,0 +1,120 @@
+-- The runs that lines and tables give have texts.
+use Rattle.std.proofs.Common.{◌≡◌, ℕ, zero, suc, ◌+◌, ◌<◌, ◌≤◌, List, [], ◌∷◌, ◌++◌, length, refl, sym, subst, arith}
+use Rattle.std.specs.Prelude.{IsTrue, fold}
+use Rattle.std.specs.List.{AllByRecursion, Contains}
+use Rattle.std.specs.declared.cmp.Ordering.{Ordering}
+use Rattle.std.specs.declared.cmp.Ordering.TheVariants.{Less, Equal, Greater}
+use Rattle.std.proofs.lemmas.Cmp.{nat_list_cmp_total}
+use Rattle.rising_lists.specs.Keyed.{put, put_by, IsRising}
+use Rattle.rising_lists.proofs.Laws.{put_rising}
+use Rattle.pap_tree.specs.Names.{is_name}
+use Rattle.payroll_records.specs.Employees.{is_employee}
+use Rattle.payroll_records.specs.NamedValues.{name_cmp, name_of, with_value}
+use Rattle.payroll_records.specs.Tables.{AreRecordsOf, IsRecordOf, IsTable, Supplies, Text, name_at}
+use Rattle.payroll_records.specs.ValueWords.{AreValueWords, Give}
+use Rattle.payroll_records.specs.declared.record.Record.{Record}
+use Rattle.payroll_records.specs.declared.values.NamedValue.{NamedValue}
+use Rattle.saved_items.specs.SavedBooks.{IsRun, IsValue}
+use Rattle.book_edits.proofs.Laws.{all_put}
+
+-- ---- a list with an element put
+
+module _ {K X : Type 0} (cmp : K → K → Ordering) (key : X → K) where
+  pub put_most : (y : X) (xs : List X) → length (put cmp key y xs) ≤ length xs + 1
+  put_most y [] = omega arith
+  put_most y (x ∷ xs) = elim (cmp (key y) (key x))
+      as (λ o. length (put_by o y x xs (put cmp key y xs)) ≤ length (x ∷ xs) + 1) [
+        | Less ↦ omega arith
+        | Equal ↦ omega arith
+        | Greater ↦ omega (arith, put_most y xs)
+      ]
+
+-- ---- value words
+
+given_count : (words : List Text) (given : List NamedValue) → Give words given → length given ≡ length words
+given_count [] [] h = refl
+given_count [] (v ∷ given) h = absurd h
+given_count (word ∷ words) [] h = absurd h
+given_count (word ∷ words) (v ∷ given) h = omega (arith, given_count words given h.1)
+
+given_values : (words : List Text) (given : List NamedValue) → Give words given → AllByRecursion IsValue given
+given_values [] [] h = tt
+given_values [] (v ∷ given) h = absurd h
+given_values (word ∷ words) [] h = absurd h
+given_values (word ∷ words) (v ∷ given) h =
+    (record { named = h.0.named; kept = h.0.kept }, given_values words given h.1)
+
+abbrev step : List NamedValue → NamedValue → List NamedValue
+step sorted v = with_value v sorted
+
+sorted_rise : (given sorted : List NamedValue) → IsRising name_cmp name_of sorted
+    → IsRising name_cmp name_of (fold step sorted given)
+sorted_rise [] sorted h = h
+sorted_rise (v ∷ given) sorted h =
+    sorted_rise given (with_value v sorted) (put_rising name_cmp nat_list_cmp_total name_of v sorted h)
+
+sorted_values : (given sorted : List NamedValue) → AllByRecursion IsValue sorted → AllByRecursion IsValue given
+    → AllByRecursion IsValue (fold step sorted given)
+sorted_values [] sorted h k = h
+sorted_values (v ∷ given) sorted h k =
+    sorted_values given (with_value v sorted) (all_put name_cmp name_of IsValue v sorted k.0 h) k.1
+
+sorted_count : (given sorted : List NamedValue) → length (fold step sorted given) ≤ length sorted + length given
+sorted_count [] sorted = omega arith
+sorted_count (v ∷ given) sorted =
+    omega (arith, sorted_count given (with_value v sorted), put_most name_cmp name_of v sorted)
+
+-- a run with the values of words
+pub words_run : (words : List Text) (r : Record) → IsTrue (is_employee r.employee) → AreValueWords words r.values
+    → IsRun r
+words_run words r employee h = record {
+  employee = employee;
+  values = record {
+    rising = subst (IsRising name_cmp name_of) (sym h.sorted) (sorted_rise h.given [] tt);
+    few = subst (λ (vs : List NamedValue). length vs ≤ 256) (sym h.sorted)
+        (omega (arith, sorted_count h.given [], given_count words h.given h.give, h.few));
+  };
+  each = subst (AllByRecursion IsValue) (sym h.sorted)
+      (sorted_values h.given [] tt (given_values words h.given h.give));
+}
+
+-- ---- tables
+
+contained_all : (P : NamedValue → Type 0) (vs : List NamedValue) → ((v : NamedValue) → Contains vs v → P v)
+    → AllByRecursion P vs
+contained_all P [] h = tt
+contained_all P (v ∷ vs) h = (
+  h v (zero, omega arith, refl),
+  contained_all P vs (λ w c. h w (suc c.0, omega (arith, c.1), c.2)),
+)
+
+named_at : (names : List Text) → AllByRecursion (λ n. IsTrue (is_name n)) names → (i : ℕ) → i < length names
+    → IsTrue (is_name (name_at names i))
+named_at [] h i lt = absurd (omega (arith, lt))
+named_at (n ∷ names) h zero lt = h.0
+named_at (n ∷ names) h (suc i) lt = named_at names h.1 i (omega (arith, lt))
+
+module _ (names : List Text) (named : AllByRecursion (λ n. IsTrue (is_name n)) names) where
+  supplied : (row : List Text) (v : NamedValue) → Supplies names row v → IsValue v
+  supplied row v h = record {
+    named = subst (λ n. IsTrue (is_name n)) h.named (named_at names named h.column h.within);
+    kept = h.spelled.1;
+  }
+
+  row_run : (row : List Text) (r : Record) → IsRecordOf names row r → IsRun r
+  row_run row r h = record {
+    employee = subst (λ e. IsTrue (is_employee e)) (sym h.employee) h.has_employee;
+    values = h.in_order;
+    each = contained_all IsValue r.values (λ v c. supplied row v ((h.values v).0 c));
+  }
+
+  rows_runs : (before : List Record) (rows : List (List Text)) (rs : List Record) → AreRecordsOf names before rows rs
+      → AllByRecursion IsRun rs
+  rows_runs before [] [] h = tt
+  rows_runs before [] (r ∷ rs) h = absurd h
+  rows_runs before (row ∷ rows) [] h = absurd h
+  rows_runs before (row ∷ rows) (r ∷ rs) h = (row_run row r h.0, rows_runs (before ++ (r ∷ [])) rows rs h.2)
+
+-- the runs of a table
+pub table_runs : (bytes : List ℕ) (rs : List Record) → IsTable bytes rs → AllByRecursion IsRun rs
+table_runs bytes rs h = rows_runs h.names h.is_header.named [] h.rows rs h.are_records
