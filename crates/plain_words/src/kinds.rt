@@ -1,6 +1,6 @@
 //! Where the names and kinds of a plan are refused.
 use crate::found::Found;
-use crate::nodes::{Node, Role, write_node};
+use crate::nodes::write_node;
 use crate::operands::name_byte;
 use crate::place::place_text;
 use crate::quotes::write_quoted;
@@ -93,36 +93,11 @@ fn find_mismatch(
     place: &Place,
     quote: &mut String,
 ) -> Result<Found, AllocError> {
-    let Node { at, takes, role } = write_node(quote, source, place)?;
-    let at = statement_byte(source, &place.method, place.stmt, at);
-    let mut found = Found::in_plan(at, takes);
-    found.also = whole_words(source, role);
+    let node = write_node(quote, source, place)?;
+    let at = statement_byte(source, &place.method, place.stmt, node.at);
+    let mut found = Found::in_plan(at, node.takes);
+    found.also = node.also;
     Ok(found)
-}
-
-/// What has to come of an expression, where a node is the whole of it.
-fn whole_words(source: Source<'_>, role: Role) -> &'static str {
-    match role {
-        Role::Part => "",
-        Role::Test => "; and the text of an IF is a test",
-        Role::Value(target) => match declaration_of(source, &target) {
-            Some(site) => target_words(site.declared.kind),
-            None => "",
-        },
-    }
-}
-
-/// Of which type a target is.
-fn target_words(kind: Kind) -> &'static str {
-    match kind {
-        Kind::Int => "; and the target is an int",
-        Kind::Long => "; and the target is a long, which takes an int or a long",
-        Kind::Big => "; and the target is a BigDecimal",
-        Kind::Factor => {
-            "; and the target is a double, which takes a literal of at most three digits after the point"
-        }
-        Kind::Table => "; and the target is a table",
-    }
 }
 
 /// Where a declared literal stands that isn't of its type; it is appended.

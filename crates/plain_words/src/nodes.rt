@@ -1,11 +1,11 @@
 //! The nodes of a statement's expression by their numbers.
 use crate::operands::operand_byte;
 use crate::quotes::write_quoted;
-use crate::sites::{Source, statement_of, write_statement};
+use crate::sites::{Source, declaration_of, statement_of, write_statement};
 use crate::statements::statement_text;
 use pap_expr::{ExprFault, parse_assign, parse_expr};
 use pap_reader::RawStmt;
-use pap_tree::{Binary, Call, Expr, Name, Place, Unary, find_node, print_expr};
+use pap_tree::{Binary, Call, Expr, Kind, Name, Place, Unary, find_node, print_expr};
 use std::alloc::{AllocError, Global};
 
 /// What is said of a node of an expression.
@@ -15,17 +15,16 @@ pub(crate) struct Node {
     pub at: usize,
     /// Which operands it takes, where the node is known.
     pub takes: &'static str,
-    pub role: Role,
+    /// What has to come of it, where it is the whole expression.
+    pub also: &'static str,
 }
 
-/// What a node is in its statement.
+/// What an expression is in its statement.
 #[derive(Clone, Copy)]
-pub(crate) enum Role {
-    /// A part of an expression.
-    Part,
-    /// The whole value that a target is given.
+enum Role {
+    /// The value that a target is given.
     Value(Name),
-    /// The whole test of an IF.
+    /// The test of an IF.
     Test,
 }
 
@@ -36,13 +35,13 @@ pub(crate) fn write_node(
     place: &Place,
 ) -> Result<Node, AllocError> {
     let found = match statement_of(source, &place.method, place.stmt) {
-        Some(statement) => write_spelling(out, statement, place.node)?,
+        Some(statement) => write_spelling(out, source, statement, place.node)?,
         None => None,
     };
     let node = found.unwrap_or(Node {
         at: 0,
         takes: "see their types",
-        role: Role::Part,
+        also: "",
     });
     out.push_str(if found.is_some() { " in " } else { ", in " })?;
     write_statement(out, source, &place.method, place.stmt, node.at)?;
@@ -52,6 +51,7 @@ pub(crate) fn write_node(
 /// Appends a node as it is spelled. `None` where there is no such node, and nothing is appended.
 fn write_spelling(
     out: &mut String,
+    source: Source<'_>,
     statement: &RawStmt,
     number: u32,
 ) -> Result<Option<Node>, AllocError> {
@@ -70,7 +70,11 @@ fn write_spelling(
     Ok(Some(Node {
         at: at.unwrap_or(0),
         takes: taken_kinds(node),
-        role: if is_part { Role::Part } else { role },
+        also: if is_part {
+            ""
+        } else {
+            whole_words(source, role)
+        },
     }))
 }
 
@@ -98,13 +102,37 @@ fn expression_of(alloc: Global, statement: &RawStmt) -> Result<Option<(Role, Exp
 fn tokens_before(role: Role) -> usize {
     match role {
         Role::Value(_) => 2,
-        Role::Part | Role::Test => 0,
+        Role::Test => 0,
     }
 }
 
 /// Whether the expression of a statement is read.
 pub(crate) fn is_read(alloc: Global, statement: &RawStmt) -> Result<bool, AllocError> {
     Ok(expression_of(alloc, statement)?.is_some())
+}
+
+/// What has to come of an expression, where a node is the whole of it.
+fn whole_words(source: Source<'_>, role: Role) -> &'static str {
+    match role {
+        Role::Test => "; and the text of an IF is a test",
+        Role::Value(target) => match declaration_of(source, &target) {
+            Some(site) => target_words(site.declared.kind),
+            None => "",
+        },
+    }
+}
+
+/// Of which type a target is.
+fn target_words(kind: Kind) -> &'static str {
+    match kind {
+        Kind::Int => "; and the target is an int",
+        Kind::Long => "; and the target is a long, which takes an int or a long",
+        Kind::Big => "; and the target is a BigDecimal",
+        Kind::Factor => {
+            "; and the target is a double, which takes a literal of at most three digits after the point"
+        }
+        Kind::Table => "; and the target is a table",
+    }
 }
 
 /// Which operands a node takes.

@@ -1,5 +1,5 @@
 //! What is wrong with a plan or its range file.
-ghost use Rattle.std.specs.Prelude.{IfOk};
+ghost use Rattle.std.specs.Prelude.{◌⊎◌, IfOk};
 ghost use Rattle.std.specs.String.{string_bytes};
 ghost use Rattle.plain_words.specs.Lines.{IsOneLine};
 ghost use Rattle.plain_words.specs.Places.{BeginsIn};
@@ -32,11 +32,10 @@ pub fn plan_words(
     let mut quote = String::new(alloc);
     let found = find_refusal(plan, limits, refusal, &mut quote)?;
     let wrong = refusal.to_string(alloc)?;
-    let file = match found.file {
-        FileKind::Plan => plan,
-        FileKind::Ranges => limits,
-    };
-    reason_line(alloc, file, found, &wrong, &quote)
+    match found.file {
+        FileKind::Plan => reason_line(alloc, plan, found, &wrong, &quote),
+        FileKind::Ranges => reason_line(alloc, limits, found, &wrong, &quote),
+    }
 }
 
 /// Where a plan or its range file is refused; what stands there is appended.

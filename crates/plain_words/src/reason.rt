@@ -19,7 +19,7 @@ pub(crate) fn reason_line(
 ) -> Result<String, AllocError>
     ensures line { IfOk result (λ words. IsOneLine (string_bytes words)) }
     ensures place { IfOk result
-        (λ words. BeginsAt file.entry.name.now file.entry.bytes.now found.entry.at (string_bytes words)) }
+        (λ words. BeginsAt file.entry.name.now file.entry.bytes.now found.at (string_bytes words)) }
 {
     let Found { at, help, also, .. } = found;
     let place = place_text(alloc, file, at)?;

@@ -1,5 +1,5 @@
 //! Why a run has no inputs.
-ghost use Rattle.std.specs.Prelude.{IfOk};
+ghost use Rattle.std.specs.Prelude.{◌⊎◌, IfOk};
 ghost use Rattle.std.specs.String.{string_bytes};
 ghost use Rattle.plain_words.specs.Lines.{IsOneLine};
 ghost use Rattle.plain_words.specs.Places.{BeginsIn};
@@ -28,11 +28,10 @@ pub fn state_words(
     let mut wrong = String::new(alloc);
     write_blocked(&mut wrong, state)?;
     let found = find_blocked(alloc, plan, limits, state)?;
-    let file = match found.file {
-        FileKind::Plan => plan,
-        FileKind::Ranges => limits,
-    };
-    reason_line(alloc, file, found, &wrong, "")
+    match found.file {
+        FileKind::Plan => reason_line(alloc, plan, found, &wrong, ""),
+        FileKind::Ranges => reason_line(alloc, limits, found, &wrong, ""),
+    }
 }
 
 /// Appends why a run has no inputs.
