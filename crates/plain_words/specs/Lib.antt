@@ -1,2 +1,3 @@
 pub mod Positions
 pub mod Lines
+pub mod Places

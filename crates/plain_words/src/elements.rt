@@ -1,6 +1,7 @@
-//! What is wrong with the elements of a plan's file.
+//! Where the elements of a plan's file are refused.
+use crate::found::Found;
 use crate::place::TextFile;
-use crate::quotes::quoted;
+use crate::quotes::write_quoted;
 use pap_reader::{ReadFault, Which};
 use pap_tree::{
     MOST_CONSTANTS, MOST_INPUTS, MOST_INTERNALS, MOST_METHODS, MOST_OUTPUTS, MOST_STATEMENTS,
@@ -8,67 +9,55 @@ use pap_tree::{
 use plan_notes::{Element, Starts, element_name, read_notes};
 use std::alloc::{AllocError, Global};
 
-/// What is wrong with the elements of a plan's file, and where.
-pub(crate) fn element_words(
-    alloc: Global,
+/// Where the elements of a plan's file are refused; what stands there is appended.
+pub(crate) fn find_element(
     plan: TextFile<'_>,
     fault: &ReadFault,
-) -> Result<String, AllocError> {
-    match fault {
-        ReadFault::Text { at } => {
-            let site = plan.site(Some(*at));
-            let text = line_from(plan.bytes, *at);
-            let shown = quoted(alloc, text, 0)?;
-            let why = text_reason(text);
-            format!(in alloc; "{site}: at {shown} {why}")
-        }
-        ReadFault::Element { at } => misplaced_words(alloc, plan, *at),
+    quote: &mut String,
+) -> Result<Found, AllocError> {
+    let (at, help) = match fault {
+        ReadFault::Text { at } => (*at, text_help(line_from(plan.bytes, *at))),
+        ReadFault::Element { at } => (*at, misplaced_help(line_from(plan.bytes, *at))),
         ReadFault::Attribute { at } => {
-            let site = plan.site(Some(*at));
-            let text = line_from(plan.bytes, *at);
-            let shown = quoted(alloc, text, 0)?;
-            let needed = needed_attributes(element_name(text));
-            format!(in alloc;
-                "{site}: the tag {shown} lacks a needed attribute or has one that isn't of its form, stands twice or is longer than 8192 bytes; {needed}"
+            (
+                *at,
+                needed_attributes(element_name(line_from(plan.bytes, *at))),
             )
         }
-        ReadFault::Many { which } => many_words(alloc, plan, *which),
-        ReadFault::Memory => Err(AllocError),
+        ReadFault::Many { which } => return find_excess(plan, *which, quote),
+        ReadFault::Memory => return Err(AllocError),
+    };
+    let line = line_from(plan.bytes, at);
+    if !line.is_empty() {
+        quote.push_str(", at ")?;
+        write_quoted(quote, line, 0)?;
     }
+    Ok(Found::in_plan(Some(at), help))
 }
 
-/// Why no tag, comment or white space begins with a text.
-fn text_reason(text: &[u8]) -> &'static str {
+/// What helps where no tag, comment or white space begins with a text.
+fn text_help(text: &[u8]) -> &'static str {
     if text.starts_with(b"<!--") {
-        "begins a comment that has no end; write --> behind it"
+        "the comment has no end; write --> behind it"
     } else if text.starts_with(b"<!") {
-        "stands something that a plan hasn't, such as a DOCTYPE or CDATA; take it out"
+        "a plan has no DOCTYPE, CDATA or the like; take it out"
     } else if text.starts_with(b"<?") {
-        "stands a declaration in a wrong place, or without an end; only one <?xml .. ?> may stand, at the very beginning of the file"
+        "only one <?xml .. ?> may stand, at the very beginning of the file, and it ends with ?>"
     } else if text.starts_with(b"<") {
-        "begins a tag that isn't well formed; see its name, the quotation marks of its attributes, a < in a value (write &lt;), the escapes that begin with &, and its end"
+        "the tag isn't well formed; see its name, the quotation marks of its attributes, a < in a value (write &lt;), the escapes that begin with &, and its end"
     } else {
-        "stands text outside of a tag; write it as a comment, or as an attribute of a tag"
+        "text outside of a tag stands in comments alone; write it as a comment, or as an attribute of a tag"
     }
 }
 
-/// A tag that isn't allowed where it stands, or a file that ends too early.
-fn misplaced_words(alloc: Global, plan: TextFile<'_>, at: usize) -> Result<String, AllocError> {
-    let site = plan.site(Some(at));
-    let text = line_from(plan.bytes, at);
+/// What helps where a tag may not stand, or the file ends too early.
+fn misplaced_help(text: &[u8]) -> &'static str {
     if text.is_empty() {
-        return format!(in alloc;
-            "{site}: the file ends too early; an end tag or a needed element is missing"
-        );
-    }
-    let shown = quoted(alloc, text, 0)?;
-    if text.starts_with(b"</") {
-        format!(in alloc;
-            "{site}: the end tag {shown} isn't that of the open element, or that element lacks something that it needs (a PAP its METHODS, METHODS a MAIN, OUTPUTS an OUTPUT, an IF its THEN)"
-        )
+        "the file ends too early; an end tag or a needed element is missing"
+    } else if text.starts_with(b"</") {
+        "the end tag isn't that of the open element, or that element lacks something that it needs (a PAP its METHODS, METHODS a MAIN, OUTPUTS an OUTPUT, an IF its THEN)"
     } else {
-        let home = home_of(element_name(text));
-        format!(in alloc; "{site}: the element {shown} may not stand here; {home}")
+        home_of(element_name(text))
     }
 }
 
@@ -151,21 +140,13 @@ fn needed_attributes(name: &[u8]) -> &'static str {
     }
 }
 
-/// Too much of something, and where the first one too many stands.
-fn many_words(alloc: Global, plan: TextFile<'_>, which: Which) -> Result<String, AllocError> {
-    let remedy = "split the flowchart, or join what can be joined";
-    match excess_tag(alloc, plan.bytes, which)? {
-        Some(at) => {
-            let site = plan.site(Some(at));
-            format!(in alloc;
-                "{site}: this is one too many, there may be at most {which}; {remedy}"
-            )
-        }
-        None => {
-            let site = plan.whole();
-            format!(in alloc; "{site}: there may be at most {which}; {remedy}")
-        }
+/// Where the first one too many of something stands, which is said behind.
+fn find_excess(plan: TextFile<'_>, which: Which, quote: &mut String) -> Result<Found, AllocError> {
+    let at = excess_tag(*quote.allocator(), plan.bytes, which)?;
+    if at.is_some() {
+        quote.push_str(", and this is one more")?;
     }
+    Ok(Found::in_plan(at, "split the flowchart, or join what can be joined"))
 }
 
 /// Where the first tag stands that is one too many, for what is counted over the whole file.

@@ -1,152 +1,118 @@
-//! What is wrong with the names and kinds of a plan.
+//! Where the names and kinds of a plan are refused.
+use crate::found::Found;
+use crate::nodes::write_node;
 use crate::operands::name_byte;
-use crate::place::Site;
-use crate::quotes::quoted;
+use crate::place::place_text;
+use crate::quotes::write_quoted;
 use crate::sites::{
-    Source, declaration_of, literal_site, repeated_sites, statement_of, statement_site,
-    statement_words,
+    Source, declaration_of, literal_byte, repeated_bytes, statement_byte, statement_of,
+    write_statement,
 };
-use crate::statements::{NodeWords, Role, expression_text, node_words};
+use crate::statements::statement_text;
 use pap_tree::{Kind, Name, Place, is_white};
 use pap_types::TypeFault;
-use std::alloc::{AllocError, Global};
+use std::alloc::AllocError;
 
-/// What is wrong with the names and kinds of a plan, and where.
-pub(crate) fn kind_words(
-    alloc: Global,
+/// Where the names and kinds of a plan are refused; what stands there is appended.
+pub(crate) fn find_kind(
     source: Source<'_>,
     fault: &TypeFault,
-) -> Result<String, AllocError> {
+    quote: &mut String,
+) -> Result<Found, AllocError> {
     match fault {
-        TypeFault::Twice { name } => twice_words(alloc, source, name),
-        TypeFault::Unknown { name, place } => unknown_words(alloc, source, name, place),
-        TypeFault::Kind { place } => mismatch_words(alloc, source, place),
+        TypeFault::Twice { name } => find_repeated(source, name, quote),
+        TypeFault::Unknown { name, place } => find_unknown(source, name, place, quote),
+        TypeFault::Kind { place } => find_mismatch(source, place, quote),
         TypeFault::ConstantWritten { place } => {
-            let site = text_site(source, place);
-            let statement = statement_words(alloc, source, &place.method, place.stmt, 0)?;
-            format!(in alloc;
-                "{site}: the target is a CONSTANT, which can't be given a value, in {statement}; make it an INTERNAL, or assign to another name"
-            )
+            let help = "make it an INTERNAL, or assign to another name";
+            find_front(source, place, help, quote)
         }
         TypeFault::NoMethod { place } => {
-            let site = text_site(source, place);
-            let statement = statement_words(alloc, source, &place.method, place.stmt, 0)?;
-            format!(in alloc;
-                "{site}: there is no METHOD of this name, in {statement}; correct the name, or add the method"
-            )
+            let help = "correct the name, or add the METHOD";
+            find_front(source, place, help, quote)
         }
-        TypeFault::Value { name } => value_words(alloc, source, name),
+        TypeFault::Value { name } => find_value(source, name, quote),
         TypeFault::Memory(_) => Err(AllocError),
     }
 }
 
-/// Where the text of a statement begins, behind its white space.
-fn text_site<'a>(source: Source<'a>, place: &Place) -> Site<'a> {
+/// Where the text of a statement begins, behind its white space; the statement is appended.
+fn find_front(
+    source: Source<'_>,
+    place: &Place,
+    help: &'static str,
+    quote: &mut String,
+) -> Result<Found, AllocError> {
     let text = match statement_of(source, &place.method, place.stmt) {
-        Some(statement) => expression_text(statement),
+        Some(statement) => statement_text(statement),
         None => &[],
     };
     let white = text.iter().take_while(|byte| is_white(**byte)).count();
-    statement_site(source, &place.method, place.stmt, white)
+    quote.push_str(", in ")?;
+    write_statement(quote, source, &place.method, place.stmt, white)?;
+    let at = statement_byte(source, &place.method, place.stmt, white);
+    Ok(Found::in_plan(at, help))
 }
 
-/// A name that is declared twice.
-fn twice_words(alloc: Global, source: Source<'_>, name: &Name) -> Result<String, AllocError> {
-    let remedy = "rename one of the two, or take it out";
-    match repeated_sites(source, name) {
+/// Where a name is declared for the second time; where it is for the first time is appended.
+fn find_repeated(source: Source<'_>, name: &Name, quote: &mut String) -> Result<Found, AllocError> {
+    let help = "rename one of the two, or take it out";
+    match repeated_bytes(source, name) {
         Some((first, second)) => {
-            format!(in alloc; "{second}: the name {name} stands already at {first}; {remedy}")
+            quote.push_str(", first at ")?;
+            quote.push_str(&place_text(*quote.allocator(), source.file, first)?)?;
+            Ok(Found::in_plan(second, help))
         }
-        None => {
-            let site = source.file.whole();
-            format!(in alloc; "{site}: the name {name} is declared twice; {remedy}")
-        }
+        None => Ok(Found::in_plan(None, help)),
     }
 }
 
-/// A name that isn't declared.
-fn unknown_words(
-    alloc: Global,
+/// Where a name stands that isn't declared; its statement is appended.
+fn find_unknown(
     source: Source<'_>,
     name: &Name,
     place: &Place,
-) -> Result<String, AllocError> {
-    let at = match statement_of(source, &place.method, place.stmt) {
-        Some(statement) => name_byte(alloc, expression_text(statement), name)?.unwrap_or(0),
-        None => 0,
-    };
-    let site = statement_site(source, &place.method, place.stmt, at);
-    let statement = statement_words(alloc, source, &place.method, place.stmt, at)?;
-    format!(in alloc;
-        "{site}: the name {name} isn't declared, or isn't one that may stand here, in {statement}; correct its spelling, or declare it as an INPUT, OUTPUT, INTERNAL or CONSTANT"
-    )
-}
-
-/// A node whose operands or whose value are of a wrong kind.
-fn mismatch_words(alloc: Global, source: Source<'_>, place: &Place) -> Result<String, AllocError> {
-    let node = match statement_of(source, &place.method, place.stmt) {
-        Some(statement) => node_words(alloc, statement, place.node)?,
+    quote: &mut String,
+) -> Result<Found, AllocError> {
+    let found = match statement_of(source, &place.method, place.stmt) {
+        Some(statement) => name_byte(*quote.allocator(), statement_text(statement), name)?,
         None => None,
     };
-    let at = node.as_ref().map_or(0, |node| node.at);
-    let site = statement_site(source, &place.method, place.stmt, at);
-    let statement = statement_words(alloc, source, &place.method, place.stmt, at)?;
-    let Some(node) = node else {
-        return format!(in alloc;
-            "{site}: the types of the parts don't go together, in {statement}"
-        );
-    };
-    let spelling = quoted(alloc, &node.spelling, 0)?;
-    let takes = node.takes;
-    let whole = whole_words(alloc, source, &node)?;
-    format!(in alloc;
-        "{site}: the types don't go together, at {spelling} in {statement}; {takes}{whole}"
-    )
+    let at = found.unwrap_or(0);
+    quote.push_str(", in ")?;
+    write_statement(quote, source, &place.method, place.stmt, at)?;
+    Ok(Found::in_plan(
+        statement_byte(source, &place.method, place.stmt, at),
+        "correct its spelling, or declare it as an INPUT, OUTPUT, INTERNAL or CONSTANT",
+    ))
 }
 
-/// What has to come of an expression, where a node is the whole of it.
-fn whole_words(alloc: Global, source: Source<'_>, node: &NodeWords) -> Result<String, AllocError> {
-    match node.role {
-        Role::Part => format!(in alloc; ""),
-        Role::Test => format!(in alloc; "; and the text of an IF is a test"),
-        Role::Value(target) => {
-            let target_type = match declaration_of(source, &target) {
-                Some(site) => type_word(site.declared.kind),
-                None => "of another type",
-            };
-            format!(in alloc; "; and the target {target} is {target_type}")
-        }
-    }
+/// Where a node stands whose operands or whose value are of a wrong kind; its spelling and its statement are appended.
+fn find_mismatch(
+    source: Source<'_>,
+    place: &Place,
+    quote: &mut String,
+) -> Result<Found, AllocError> {
+    let node = write_node(quote, source, place)?;
+    let at = statement_byte(source, &place.method, place.stmt, node.at);
+    let mut found = Found::in_plan(at, node.takes);
+    found.also = node.also;
+    Ok(found)
 }
 
-fn type_word(kind: Kind) -> &'static str {
-    match kind {
-        Kind::Int => "an int",
-        Kind::Long => "a long, which takes an int or a long",
-        Kind::Big => "a BigDecimal",
-        Kind::Factor => "a double, which takes a literal of at most three digits after the point",
-        Kind::Table => "a table",
-    }
-}
-
-/// A declared literal that isn't of its type.
-fn value_words(alloc: Global, source: Source<'_>, name: &Name) -> Result<String, AllocError> {
+/// Where a declared literal stands that isn't of its type; it is appended.
+fn find_value(source: Source<'_>, name: &Name, quote: &mut String) -> Result<Found, AllocError> {
     let Some(found) = declaration_of(source, name) else {
-        let site = source.file.whole();
-        return format!(in alloc; "{site}: the literal of {name} isn't of its type");
+        return Ok(Found::in_plan(None, "see its type"));
     };
-    let site = literal_site(source, found, 0);
-    let element = found.group.name();
-    let rule = literal_rule(found.declared.kind);
-    let text = found
-        .declared
-        .value
-        .as_ref()
-        .map_or(b"".as_slice(), |text| text.as_slice());
-    let shown = quoted(alloc, text, 0)?;
-    format!(in alloc;
-        "{site}: the literal {shown} of the {element} {name} isn't of its type; {rule}"
-    )
+    if let Some(text) = &found.declared.value {
+        quote.push_str(", at ")?;
+        write_quoted(quote, text, 0)?;
+    }
+    Ok(Found::in_plan(
+        literal_byte(source, found, 0),
+        literal_rule(found.declared.kind),
+    ))
 }
 
 /// Which literals are of a type.

@@ -1,14 +1,15 @@
 //! What is wrong with a plan, its range file or the inputs of a run, in plain words for the one who writes them.
 #![tactic(auto)]
 
-mod advice;
 mod counting;
 mod elements;
 mod expressions;
+mod found;
 mod group;
 mod kinds;
 mod lines;
 mod methods;
+mod nodes;
 mod operands;
 mod ordinal;
 mod place;
@@ -16,6 +17,7 @@ mod plan;
 mod quotes;
 mod range_file;
 mod ranges;
+mod reason;
 mod sites;
 mod state;
 mod statements;

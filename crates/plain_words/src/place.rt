@@ -1,5 +1,10 @@
 //! Files as the words of the program name them, and places in them.
+ghost use Rattle.std.specs.Prelude.{◌≡◌, IfOk};
+ghost use Rattle.std.specs.String.{string_bytes};
+ghost use Rattle.plain_words.specs.Places.{place_text};
+
 use crate::position;
+use std::alloc::{AllocError, Global};
 use std::fmt;
 
 /// A file as it was named, and the bytes that were read of it.
@@ -7,42 +12,6 @@ use std::fmt;
 pub struct TextFile<'a> {
     pub name: &'a str,
     pub bytes: &'a [u8],
-}
-
-impl<'a> TextFile<'a> {
-    /// The file as a whole.
-    pub(crate) fn whole(self) -> Site<'a> {
-        Site {
-            file: self.name,
-            position: None,
-        }
-    }
-
-    /// The place of a byte, where one is known.
-    pub(crate) fn site(self, at: Option<usize>) -> Site<'a> {
-        Site {
-            file: self.name,
-            position: at.map(|at| position(self.bytes, at)),
-        }
-    }
-}
-
-/// Where something stands: its file, and the place in it where one is known.
-#[derive(Clone, Copy)]
-pub(crate) struct Site<'a> {
-    pub file: &'a str,
-    pub position: Option<Position>,
-}
-
-impl fmt::Display for Site<'_> {
-    /// `plan.xml:3:9`, or `plan.xml` for the file as a whole.
-    fn fmt<W: fmt::Write>(&self, f: &mut fmt::Formatter<W>) -> fmt::Result {
-        let file = self.file;
-        match self.position {
-            Some(position) => write!(f, "{file}:{position}"),
-            None => write!(f, "{file}"),
-        }
-    }
 }
 
 /// A place in a text: line and column, each counted from 1. Columns count characters, not bytes.
@@ -63,5 +32,24 @@ impl fmt::Display for Position {
         let line = self.line;
         let column = self.column;
         write!(f, "{line}:{column}")
+    }
+}
+
+/// The place of a byte in a file, as `plan.xml:3:9`; without a byte the file as a whole.
+pub(crate) fn place_text(
+    alloc: Global,
+    file: TextFile<'_>,
+    at: Option<usize>,
+) -> Result<String, AllocError>
+    ensures { IfOk result
+        (λ text. string_bytes text ≡ place_text file.entry.name.now file.entry.bytes.now at) }
+{
+    let name = file.name;
+    match at {
+        Some(at) => {
+            let position = position(file.bytes, at);
+            format!(in alloc; "{name}:{position}")
+        }
+        None => format!(in alloc; "{name}"),
     }
 }

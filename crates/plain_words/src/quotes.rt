@@ -2,19 +2,19 @@
 ghost use Rattle.std.specs.Prelude.{◌≤◌, length};
 
 use pap_tree::is_word;
-use std::alloc::{AllocError, Global};
+use std::alloc::AllocError;
 
 /// The most bytes of a text that are quoted.
 const LONGEST: usize = 160;
 
-/// A text in backquotes; of a long one the part round a place, with two points for what is left out.
-pub(crate) fn quoted(alloc: Global, text: &[u8], at: usize) -> Result<String, AllocError> {
+/// Appends a text in backquotes; of a long one the part round a place, with two points for what is left out.
+pub(crate) fn write_quoted(out: &mut String, text: &[u8], at: usize) -> Result<(), AllocError> {
     let start = quote_start(text, at);
     let end = start.saturating_add(LONGEST).min(text.len());
-    let shown = String::from_utf8_lossy(alloc, &text[start..end])?;
+    let shown = String::from_utf8_lossy(*out.allocator(), &text[start..end])?;
     let front = if start == 0 { "" } else { ".." };
     let behind = if end == text.len() { "" } else { ".." };
-    format!(in alloc; "`{front}{shown}{behind}`")
+    write!(out, "`{front}{shown}{behind}`")
 }
 
 /// Where the part of a text begins that is quoted for a place.
@@ -25,6 +25,16 @@ fn quote_start(text: &[u8], at: usize) -> usize
         return 0;
     }
     at.saturating_sub(LONGEST / 2).min(text.len() - LONGEST)
+}
+
+/// Appends where a word, a number or a sign stands of a text that is quoted next; of none, in which text alone.
+pub(crate) fn write_token(out: &mut String, token: &[u8]) -> Result<(), AllocError> {
+    if !token.is_empty() {
+        out.push_str(", at ")?;
+        write_quoted(out, token, 0)?;
+        return out.push_str(" in ");
+    }
+    out.push_str(", in ")
 }
 
 /// The word, the number or the sign that stands at a place of a text; nothing at its end.

@@ -1,77 +1,59 @@
-//! What is wrong with a range file, by itself or beside its plan.
+//! Where a range file is refused, by itself or beside its plan.
+use crate::found::Found;
 use crate::group::Group;
-use crate::place::{Site, TextFile};
-use crate::sites::{DeclaredSite, Source, declaration_of, declaration_site};
+use crate::place::TextFile;
+use crate::sites::{DeclaredSite, Source, declaration_byte, declaration_of};
 use limits_file::LimitsFault;
 use pap_tree::{Kind, Name};
 use std::alloc::{AllocError, Global};
 use toml::{Table, Value};
 
-/// What is wrong with a range file by itself.
-pub(crate) fn range_file_words(
-    alloc: Global,
+/// Where a range file is refused by itself; what its reader says, or the entry, is appended.
+pub(crate) fn find_entry(
     limits: TextFile<'_>,
     fault: &LimitsFault,
-) -> Result<String, AllocError> {
+    quote: &mut String,
+) -> Result<Found, AllocError> {
     match fault {
-        LimitsFault::Toml => toml_words(alloc, limits),
-        LimitsFault::Key { name } => key_words(alloc, limits, name.as_str()),
+        LimitsFault::Toml => find_toml(limits, quote),
+        LimitsFault::Key { name } => find_key(limits, name.as_str(), quote),
         LimitsFault::Bound { name } => {
-            let site = entry_site(alloc, limits, "input", name.as_str())?;
-            format!(in alloc;
-                "{site}: in the entry [input.{name}] low is above high, one of them isn't a number, has more digits after its point than places or is beyond 10^37, or places isn't from 0 to 30, or this is the 257th input; correct the entry"
-            )
+            let at = entry_byte(*quote.allocator(), limits, "input", name.as_str())?;
+            Ok(Found::in_ranges(at, "correct the entry"))
         }
-        LimitsFault::LimitsLong => {
-            let site = limits.whole();
-            format!(in alloc;
-                "{site}: the range file has more than 262144 bytes; take out what no input needs"
-            )
-        }
+        LimitsFault::LimitsLong => Ok(Found::in_ranges(None, "take out what no input needs")),
         LimitsFault::Memory(_) => Err(AllocError),
     }
 }
 
-/// A key that isn't allowed, or an entry that lacks one.
-fn key_words(alloc: Global, limits: TextFile<'_>, key: &str) -> Result<String, AllocError> {
-    if let Ok(table) = toml::table_from_slice(alloc, limits.bytes) {
+/// Where a key isn't allowed, or an entry lacks one; the entry is appended.
+fn find_key(limits: TextFile<'_>, key: &str, quote: &mut String) -> Result<Found, AllocError> {
+    if let Ok(table) = toml::table_from_slice(*quote.allocator(), limits.bytes) {
         for section in SECTIONS {
             if let Some(Value::Table(entries)) = table.get(section.name)
-                && let Some(words) = section_words(alloc, limits, section, entries, key)?
+                && let Some(entry) = entry_of(entries, section, key)
             {
-                return Ok(words);
+                let Section { name, rule } = section;
+                write!(quote, ", in the entry [{name}.{entry}]")?;
+                let at = entry_byte(*quote.allocator(), limits, name, entry)?;
+                return Ok(Found::in_ranges(at, rule));
             }
         }
     }
-    let site = limits.whole();
-    format!(in alloc;
-        "{site}: at the key {key} stands something that isn't part of a range file; it has entries [input.NAME] and [bind.NAME] alone"
-    )
+    Ok(Found::in_ranges(
+        None,
+        "a range file has entries [input.NAME] and [bind.NAME] alone",
+    ))
 }
 
 /// The entry of a section in which a key isn't allowed, or that has this name and isn't one. `None` where the section has
 /// neither.
-fn section_words(
-    alloc: Global,
-    limits: TextFile<'_>,
-    section: Section,
-    entries: &Table,
-    key: &str,
-) -> Result<Option<String>, AllocError> {
-    let Section { name: part, rule } = section;
-    if let Some(name) = entry_with(entries, section, key) {
-        let site = entry_site(alloc, limits, part, name)?;
-        return Ok(Some(format!(in alloc;
-            "{site}: in the entry [{part}.{name}] the key {key} isn't one of such an entry, or its value isn't of its form; {rule}"
-        )?));
+fn entry_of<'a>(entries: &'a Table, section: Section, key: &'a str) -> Option<&'a str> {
+    match entry_with(entries, section, key) {
+        Some(name) => Some(name),
+        None if entries.contains_key(key) => Some(key),
+        None => None,
     }
-    if !entries.contains_key(key) {
-        return Ok(None);
-    }
-    let site = entry_site(alloc, limits, part, key)?;
-    Ok(Some(format!(in alloc;
-        "{site}: the entry [{part}.{key}] lacks a key, is no table or has a name that no input can have; {rule}"
-    )?))
 }
 
 /// A section of a range file.
@@ -137,33 +119,31 @@ fn suits_binding(entry: &Table, key: &str, text: &str) -> bool {
     key == "output" && !counts && Name::read(text.as_bytes()).is_some()
 }
 
-/// What the reader of TOML says of a text, and where.
-fn toml_words(alloc: Global, limits: TextFile<'_>) -> Result<String, AllocError> {
-    match toml::table_from_slice(alloc, limits.bytes) {
-        Ok(_) => {
-            let site = limits.whole();
-            format!(in alloc; "{site}: the range file is not valid TOML")
+/// Where a text is no TOML; what its reader says is appended.
+fn find_toml(limits: TextFile<'_>, quote: &mut String) -> Result<Found, AllocError> {
+    let help = "correct what stands there, or before it";
+    match toml::table_from_slice(*quote.allocator(), limits.bytes) {
+        Ok(_) => Ok(Found::in_ranges(None, help)),
+        Err(error) => {
+            let Some(span) = error.span() else {
+                return Err(AllocError);
+            };
+            let message = error.message();
+            write!(quote, ": {message}")?;
+            Ok(Found::in_ranges(Some(span.start), help))
         }
-        Err(error) => match error.span() {
-            Some(span) => {
-                let site = limits.site(Some(span.start));
-                let message = error.message();
-                format!(in alloc; "{site}: the range file is not valid TOML: {message}")
-            }
-            None => Err(AllocError),
-        },
     }
 }
 
-/// The place of an entry's heading, as `[input.RE4]`, where a line begins with it.
-pub(crate) fn entry_site<'a>(
+/// The byte of an entry's heading, as `[input.RE4]`, where a line begins with it.
+pub(crate) fn entry_byte(
     alloc: Global,
-    limits: TextFile<'a>,
+    limits: TextFile<'_>,
     section: &str,
     name: &str,
-) -> Result<Site<'a>, AllocError> {
+) -> Result<Option<usize>, AllocError> {
     let heading = format!(in alloc; "[{section}.{name}]")?;
-    Ok(limits.site(heading_byte(limits.bytes, heading.as_bytes())))
+    Ok(heading_byte(limits.bytes, heading.as_bytes()))
 }
 
 /// The byte at which the first line that begins with a heading does.
@@ -178,44 +158,38 @@ fn heading_byte(limits: &[u8], heading: &[u8]) -> Option<usize> {
     None
 }
 
-/// An input without a limit, or a limit of no input.
-pub(crate) fn limit_name_words(
+/// Where an input is declared without a limit, or a limit of no input stands.
+pub(crate) fn find_limit_name(
     alloc: Global,
     source: Source<'_>,
     limits: TextFile<'_>,
     name: &Name,
-) -> Result<String, AllocError> {
+) -> Result<Found, AllocError> {
     match input_of(source, name) {
-        Some(found) => {
-            let site = declaration_site(source, found);
-            format!(in alloc;
-                "{site}: the INPUT {name} has no range; add an entry [input.{name}] with low, high and places to the range file"
-            )
-        }
+        Some(found) => Ok(Found::in_plan(
+            declaration_byte(source, found),
+            "add the entry with low, high and places to the range file",
+        )),
         None => {
-            let site = entry_site(alloc, limits, "input", name.as_str())?;
-            format!(in alloc;
-                "{site}: in the entry [input.{name}], the plan has no INPUT {name}; correct the name, or take the entry out"
-            )
+            let at = entry_byte(alloc, limits, "input", name.as_str())?;
+            Ok(Found::in_ranges(at, "correct the name, or take the entry out"))
         }
     }
 }
 
-/// An input whose range doesn't suit its type.
-pub(crate) fn limit_kind_words(
+/// Where the range of an input stands that doesn't suit its type.
+pub(crate) fn find_limit_kind(
     alloc: Global,
     source: Source<'_>,
     limits: TextFile<'_>,
     name: &Name,
-) -> Result<String, AllocError> {
-    let site = entry_site(alloc, limits, "input", name.as_str())?;
+) -> Result<Found, AllocError> {
+    let at = entry_byte(alloc, limits, "input", name.as_str())?;
     let rule = match declaration_of(source, name) {
         Some(found) => kind_rule(found.declared.kind),
         None => "see its type",
     };
-    format!(in alloc;
-        "{site}: the range of the entry [input.{name}] doesn't suit the type of the INPUT {name}; {rule}"
-    )
+    Ok(Found::in_ranges(at, rule))
 }
 
 /// Which ranges suit a type.
@@ -230,26 +204,19 @@ fn kind_rule(kind: Kind) -> &'static str {
     }
 }
 
-/// A binding of no input, or to no output.
-pub(crate) fn binding_words(
+/// Where a binding of no input stands, or one to no output.
+pub(crate) fn find_binding(
     alloc: Global,
     source: Source<'_>,
     limits: TextFile<'_>,
     name: &Name,
-) -> Result<String, AllocError> {
-    let site = entry_site(alloc, limits, "bind", name.as_str())?;
-    match input_of(source, name) {
-        Some(_) => {
-            format!(in alloc;
-                "{site}: the output of the entry [bind.{name}] isn't an OUTPUT of the plan; correct that name"
-            )
-        }
-        None => {
-            format!(in alloc;
-                "{site}: in the entry [bind.{name}], the plan has no INPUT {name}; correct the name, or take the entry out"
-            )
-        }
-    }
+) -> Result<Found, AllocError> {
+    let at = entry_byte(alloc, limits, "bind", name.as_str())?;
+    let help = match input_of(source, name) {
+        Some(_) => "correct the name of the output",
+        None => "correct the name of the entry, or take it out",
+    };
+    Ok(Found::in_ranges(at, help))
 }
 
 /// The declaration of an input. `None` where there is none of the name.

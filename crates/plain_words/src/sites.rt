@@ -1,9 +1,9 @@
 //! Where the statements, the methods and the declared names of a plan stand in its file.
 use crate::group::Group;
 use crate::ordinal::Ordinal;
-use crate::place::{Site, TextFile};
-use crate::quotes::quoted;
-use crate::statements::{expression_text, statement_in};
+use crate::place::TextFile;
+use crate::quotes::write_quoted;
+use crate::statements::{statement_in, statement_text};
 use pap_reader::{Elements, RawDeclared, RawStmt, ReadFault, read_elements};
 use pap_tree::Name;
 use plan_notes::{Element, Notes, Starts, Walk, attribute_byte, read_notes};
@@ -76,10 +76,10 @@ fn method_tag(source: Source<'_>, walk: &mut Walk<'_>, method: &Name) -> Option<
     walk.find_start(Starts::Of(Element::Method), number)
 }
 
-/// The place of a method.
-pub(crate) fn method_site<'a>(source: Source<'a>, method: &Name) -> Site<'a> {
+/// The byte at which a method's tag begins.
+pub(crate) fn method_byte(source: Source<'_>, method: &Name) -> Option<usize> {
     let mut walk = source.notes.walk();
-    source.file.site(method_tag(source, &mut walk, method))
+    method_tag(source, &mut walk, method)
 }
 
 /// The byte at which the start tag of a statement begins.
@@ -89,53 +89,46 @@ fn statement_tag(source: Source<'_>, method: &Name, number: u32) -> Option<usize
     walk.find_start(Starts::OfStatements, number as usize)
 }
 
-/// The place of a byte of a statement's text: of its assignment, its test or the name of its method.
-pub(crate) fn statement_site<'a>(
-    source: Source<'a>,
+/// The byte of the file at which a byte of a statement's text stands: of its assignment, its test or the name of its method.
+pub(crate) fn statement_byte(
+    source: Source<'_>,
     method: &Name,
     number: u32,
     at: usize,
-) -> Site<'a> {
-    let tag = statement_tag(source, method, number);
-    source
-        .file
-        .site(statement_byte(source, method, number, at).or(tag))
-}
-
-/// The byte of the file at which a byte of a statement's text stands.
-fn statement_byte(source: Source<'_>, method: &Name, number: u32, at: usize) -> Option<usize> {
+) -> Option<usize> {
     let tag = statement_tag(source, method, number)?;
     let attribute = match statement_of(source, method, number)? {
         RawStmt::Eval { .. } => b"exec".as_slice(),
         RawStmt::If { .. } => b"expr".as_slice(),
         RawStmt::Execute { .. } => b"method".as_slice(),
     };
-    attribute_byte(source.file.bytes, tag, attribute, at)
+    attribute_byte(source.file.bytes, tag, attribute, at).or(Some(tag))
 }
 
-/// A statement as it is quoted: ``EVAL `A= B`, the 4th statement of MZVE``. Of a long text the part round a place is shown.
-pub(crate) fn statement_words(
-    alloc: Global,
+/// Appends a statement as it is quoted: ``EVAL `A= B`, the 4th statement of MZVE``. Of a long text the part round a place is
+/// shown.
+pub(crate) fn write_statement(
+    out: &mut String,
     source: Source<'_>,
     method: &Name,
     number: u32,
     at: usize,
-) -> Result<String, AllocError> {
+) -> Result<(), AllocError> {
+    if let Some(statement) = statement_of(source, method, number) {
+        out.push_str(element_of(statement))?;
+        write_quoted(out, statement_text(statement), at)?;
+        out.push_str(", ")?;
+    }
     let count = Ordinal(u64::from(number) + 1);
-    let Some(statement) = statement_of(source, method, number) else {
-        return format!(in alloc; "the {count} statement of {method}");
-    };
-    let text = tag_words(alloc, statement, at)?;
-    format!(in alloc; "{text}, the {count} statement of {method}")
+    write!(out, "the {count} statement of {method}")
 }
 
-/// A statement's element with its text.
-fn tag_words(alloc: Global, statement: &RawStmt, at: usize) -> Result<String, AllocError> {
-    let text = quoted(alloc, expression_text(statement), at)?;
+/// A statement's element.
+fn element_of(statement: &RawStmt) -> &'static str {
     match statement {
-        RawStmt::Eval { .. } => format!(in alloc; "EVAL {text}"),
-        RawStmt::If { .. } => format!(in alloc; "IF {text}"),
-        RawStmt::Execute { method } => format!(in alloc; "EXECUTE `{method}`"),
+        RawStmt::Eval { .. } => "EVAL ",
+        RawStmt::If { .. } => "IF ",
+        RawStmt::Execute { .. } => "EXECUTE ",
     }
 }
 
@@ -210,54 +203,49 @@ fn next_declaration<'a>(source: Source<'a>, site: DeclaredSite<'a>) -> Option<De
     None
 }
 
-/// The first two places where a name is declared, or else those of the first and the last method that has it.
-pub(crate) fn repeated_sites<'a>(source: Source<'a>, name: &Name) -> Option<(Site<'a>, Site<'a>)> {
+/// The bytes of the first two declarations of a name, or else of the first and the last method that has it.
+pub(crate) fn repeated_bytes(
+    source: Source<'_>,
+    name: &Name,
+) -> Option<(Option<usize>, Option<usize>)> {
     let declared = declaration_of(source, name);
     if let Some(first) = declared
         && let Some(second) = next_declaration(source, first)
     {
         return Some((
-            declaration_site(source, first),
-            declaration_site(source, second),
+            declaration_byte(source, first),
+            declaration_byte(source, second),
         ));
     }
     repeated_methods(source, name)
 }
 
-/// The first and the last method of a name, of which MAIN may be the first.
-fn repeated_methods<'a>(source: Source<'a>, name: &Name) -> Option<(Site<'a>, Site<'a>)> {
-    let mut walk = source.notes.walk();
-    let first = method_tag(source, &mut walk, name)?;
+/// The bytes of the first and the last method of a name, of which MAIN may be the first.
+fn repeated_methods(source: Source<'_>, name: &Name) -> Option<(Option<usize>, Option<usize>)> {
     let methods = &source.elements.methods;
     let number = methods.iter().rposition(|method| method.name == *name)?;
     let mut walk = source.notes.walk();
     let second = walk.find_start(Starts::Of(Element::Method), number);
-    Some((source.file.site(Some(first)), source.file.site(second)))
+    Some((method_byte(source, name), second))
 }
 
 /// The byte at which a declaration's tag begins.
-pub(crate) fn declaration_tag(source: Source<'_>, site: DeclaredSite<'_>) -> Option<usize> {
+pub(crate) fn declaration_byte(source: Source<'_>, site: DeclaredSite<'_>) -> Option<usize> {
     let mut walk = source.notes.walk();
     walk.find_start(Starts::Of(site.group.element()), site.number)
 }
 
-/// The place of a declaration.
-pub(crate) fn declaration_site<'a>(source: Source<'a>, site: DeclaredSite<'_>) -> Site<'a> {
-    source.file.site(declaration_tag(source, site))
-}
-
-/// The place of a byte of a declaration's literal.
-pub(crate) fn literal_site<'a>(source: Source<'a>, site: DeclaredSite<'_>, at: usize) -> Site<'a> {
-    let tag = declaration_tag(source, site);
-    source.file.site(literal_byte(source, site, at).or(tag))
+/// The byte at which the tag of the first declaration of a name begins.
+pub(crate) fn named_byte(source: Source<'_>, name: &Name) -> Option<usize> {
+    declaration_byte(source, declaration_of(source, name)?)
 }
 
 /// The byte of the file at which a byte of a declaration's literal stands.
-fn literal_byte(source: Source<'_>, site: DeclaredSite<'_>, at: usize) -> Option<usize> {
+pub(crate) fn literal_byte(source: Source<'_>, site: DeclaredSite<'_>, at: usize) -> Option<usize> {
     let attribute = match site.group {
         Group::Constant => b"value".as_slice(),
         _ => b"default".as_slice(),
     };
-    let tag = declaration_tag(source, site)?;
-    attribute_byte(source.file.bytes, tag, attribute, at)
+    let tag = declaration_byte(source, site)?;
+    attribute_byte(source.file.bytes, tag, attribute, at).or(Some(tag))
 }

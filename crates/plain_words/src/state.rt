@@ -1,12 +1,14 @@
 //! Why a run has no inputs.
-ghost use Rattle.std.specs.Prelude.{IfOk};
+ghost use Rattle.std.specs.Prelude.{◌⊎◌, IfOk};
 ghost use Rattle.std.specs.String.{string_bytes};
 ghost use Rattle.plain_words.specs.Lines.{IsOneLine};
+ghost use Rattle.plain_words.specs.Places.{BeginsIn};
 
-use crate::lines::one_line;
-use crate::place::{Site, TextFile};
-use crate::range_file::entry_site;
-use crate::sites::{Outline, declaration_of, declaration_tag};
+use crate::found::{FileKind, Found};
+use crate::place::TextFile;
+use crate::range_file::entry_byte;
+use crate::reason::reason_line;
+use crate::sites::{Outline, named_byte};
 use carry_bindings::Blocked;
 use pap_tree::Name;
 use std::alloc::{AllocError, Global};
@@ -19,54 +21,63 @@ pub fn state_words(
     limits: TextFile<'_>,
     state: &Blocked,
 ) -> Result<String, AllocError>
-    ensures { IfOk result (λ words. IsOneLine (string_bytes words)) }
+    ensures line { IfOk result (λ words. IsOneLine (string_bytes words)) }
+    ensures place { IfOk result (λ words. BeginsIn plan.entry.name.now plan.entry.bytes.now (string_bytes words)
+        ⊎ BeginsIn limits.entry.name.now limits.entry.bytes.now (string_bytes words)) }
 {
-    let words = blocked_words(alloc, plan, limits, state)?;
-    one_line(alloc, &words)
+    let mut wrong = String::new(alloc);
+    write_blocked(&mut wrong, state)?;
+    let found = find_blocked(alloc, plan, limits, state)?;
+    match found.file {
+        FileKind::Plan => reason_line(alloc, plan, found, &wrong, ""),
+        FileKind::Ranges => reason_line(alloc, limits, found, &wrong, ""),
+    }
 }
 
-fn blocked_words(
+/// Appends why a run has no inputs.
+fn write_blocked(out: &mut String, state: &Blocked) -> Result<(), AllocError> {
+    match state {
+        Blocked::Waits(day) => write!(
+            out,
+            "the run waits, since an input carries over from the employee's earlier runs of the year and the run of {day} isn't ok"
+        ),
+        Blocked::Unknown(name) => write!(
+            out,
+            "a value is given for {name}, and the plan has no such input, or the range file fills it from earlier runs"
+        ),
+        Blocked::Missing(name) => write!(out, "the input {name} has no value"),
+        Blocked::Range(name) => write!(
+            out,
+            "the value of the input {name} is below its low, above its high or has more digits after the point than its places in the range file"
+        ),
+    }
+}
+
+/// Where a run that has no inputs is refused.
+fn find_blocked(
     alloc: Global,
     plan: TextFile<'_>,
     limits: TextFile<'_>,
     state: &Blocked,
-) -> Result<String, AllocError> {
+) -> Result<Found, AllocError> {
     match state {
-        Blocked::Waits(day) => {
-            let site = plan.whole();
-            format!(in alloc;
-                "{site}: the run waits, since an input carries over from the employee's earlier runs of the year and the run of {day} isn't ok; mend that run first"
-            )
-        }
-        Blocked::Unknown(name) => {
-            let site = plan.whole();
-            format!(in alloc;
-                "{site}: a value is given for {name}, and the plan has no such input, or the range file fills it from earlier runs; leave the value out, or correct its name"
-            )
-        }
-        Blocked::Missing(name) => {
-            let site = input_site(alloc, plan, name)?;
-            format!(in alloc;
-                "{site}: the input {name} has no value; give one as {name}=VALUE or in the table, or write a default at its INPUT"
-            )
-        }
-        Blocked::Range(name) => {
-            let site = entry_site(alloc, limits, "input", name.as_str())?;
-            format!(in alloc;
-                "{site}: the value of the input {name} is below its low, above its high or has more digits after the point than its places in the range file; correct the value, or widen the entry [input.{name}] and check the plan again"
-            )
-        }
+        Blocked::Waits(_) => Ok(Found::in_plan(None, "mend that run first")),
+        Blocked::Unknown(_) => Ok(Found::in_plan(None, "leave the value out, or correct its name")),
+        Blocked::Missing(name) => Ok(Found::in_plan(
+            input_byte(alloc, plan, name)?,
+            "give one as NAME=VALUE or in the table, or write a default at its INPUT",
+        )),
+        Blocked::Range(name) => Ok(Found::in_ranges(
+            entry_byte(alloc, limits, "input", name.as_str())?,
+            "correct the value, or widen the input's entry and check the plan again",
+        )),
     }
 }
 
-/// Where an input is declared.
-fn input_site<'a>(alloc: Global, plan: TextFile<'a>, name: &Name) -> Result<Site<'a>, AllocError> {
-    let Some(outline) = Outline::read(alloc, plan)? else {
-        return Ok(plan.whole());
-    };
-    let source = outline.source(plan);
-    match declaration_of(source, name) {
-        Some(found) => Ok(plan.site(declaration_tag(source, found))),
-        None => Ok(plan.whole()),
+/// The byte at which an input is declared.
+fn input_byte(alloc: Global, plan: TextFile<'_>, name: &Name) -> Result<Option<usize>, AllocError> {
+    match Outline::read(alloc, plan)? {
+        Some(outline) => Ok(named_byte(outline.source(plan), name)),
+        None => Ok(None),
     }
 }

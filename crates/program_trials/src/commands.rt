@@ -57,11 +57,11 @@ sample 1 2 => (BadWords)"#;
 /// Words, and the reason of their refusal.
 const REASONS: &str = r#"check a.xml l.toml => -
 once a.xml l.toml N=7 => -
-once a.xml l.toml => a.xml:1:25: the input N has no value; give one as N=VALUE or in the table, or write a default at its INPUT
-once a.xml l.toml N=11 => l.toml:1:1: the value of the input N is below its low, above its high or has more digits after the point than its places in the range file; correct the value, or widen the entry [input.N] and check the plan again
+once a.xml l.toml => a.xml:1:25: the input N has no value; give one as NAME=VALUE or in the table, or write a default at its INPUT
+once a.xml l.toml N=11 => l.toml:1:1: the value of the input N is below its low, above its high or has more digits after the point than its places in the range file; correct the value, or widen the input's entry and check the plan again
 once a.xml l.toml N=1 M=2 => a.xml: a value is given for M, and the plan has no such input, or the range file fills it from earlier runs; leave the value out, or correct its name
-check l.toml l.toml => l.toml:1:1: at `[input.N]` stands text outside of a tag; write it as a comment, or as an attribute of a tag
-check a.xml a.xml => a.xml:1:1: the range file is not valid TOML: invalid key, expected letters, numbers, `-`, `_` or a quoted key
+check l.toml l.toml => l.toml:1:1: expected a tag, a comment or white space, at `[input.N]`; text outside of a tag stands in comments alone; write it as a comment, or as an attribute of a tag
+check a.xml a.xml => a.xml:1:1: the range file is not valid TOML: invalid key, expected letters, numbers, `-`, `_` or a quoted key; correct what stands there, or before it
 check nofile l.toml => -
 check => -
 sample 1 => -
@@ -69,10 +69,10 @@ save => -"#;
 
 /// Assignments of a flowchart, each as its file has it, and the reason why the flowchart is refused, without what helps.
 const REASONED: &str =
-    r#"Q = N + D / (D - 1) => a.xml:4:10: the divisor may be 0 on inputs within their ranges, at `D / (D - 1)` in EVAL `  Q = N + D / (D - 1)`, the 1st statement of MAIN
+    r#"Q = N + D / (D - 1) => a.xml:4:10: the divisor may be zero on inputs within their ranges, at `D / (D - 1)` in EVAL `  Q = N + D / (D - 1)`, the 1st statement of MAIN
 Q = M => a.xml:4:6: the name M isn't declared, or isn't one that may stand here, in EVAL `  Q = M`, the 1st statement of MAIN
-Q = N &lt; D ? 1 : ) => a.xml:4:21: this isn't expected here, at `)` in EVAL `  Q = N < D ? 1 : )`, the 1st statement of MAIN
-Q = N + => a.xml:4:9: the text ends too early, in EVAL `  Q = N +`, the 1st statement of MAIN
+Q = N &lt; D ? 1 : ) => a.xml:4:21: something else is expected here, at `)` in EVAL `  Q = N < D ? 1 : )`, the 1st statement of MAIN
+Q = N + => a.xml:4:9: something else is expected here, in EVAL `  Q = N +`, the 1st statement of MAIN
 T = 1 => a.xml:4:2: the target is a CONSTANT, which can't be given a value, in EVAL `  T = 1`, the 1st statement of MAIN
 Q = N + 1 > 2 ? BigDecimal.ONE : BigDecimal.TEN => a.xml:4:6: the types don't go together, at `N + 1 > 2 ? BigDecimal.ONE : BigDecimal.TEN` in EVAL `  Q = N + 1 > 2 ? BigDecimal.ONE : BigDecimal.TEN`, the 1st statement of MAIN
 Q = T[0].add(BigDecimal.ONE.setScale(2, BigDecimal.ROUND_DOWN)) > 1 ? 1 : 0 => a.xml:4:6: the types don't go together, at `T[0].add(BigDecimal.ONE.setScale(2, BigDecimal.ROUND_DOWN)) > 1` in EVAL `  Q = T[0].add(BigDecimal.ONE.setScale(2, BigDecimal.ROUND_DOWN)) > 1 ? 1 : 0`, the 1st statement of MAIN
