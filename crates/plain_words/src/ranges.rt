@@ -34,7 +34,7 @@ fn cause_help(cause: RangeCause) -> &'static str {
         }
         RangeCause::Scale => "write setScale with a smaller scale before it",
         RangeCause::Divisor => {
-            "test the divisor's own name in an IF before it, as N > 0, or narrow the ranges in the range file so that it can't be 0"
+            "test the divisor's own name in an IF before it, as N > 0 for a whole number, or N.compareTo(CENT) >= 0 with a constant of its least value for a BigDecimal, or narrow the ranges in the range file so that it can't be 0"
         }
         RangeCause::Index => {
             "test the index in an IF before it, or narrow the ranges in the range file"
