@@ -1,6 +1,6 @@
 //! The widest bounds that make sense for a type.
-ghost use Rattle.std.specs.Prelude.{◌≡◌, codes};
-ghost use Rattle.pap_tree.specs.declared.declaration.Kind.TheVariants.{Int, Long, Big, Factor};
+ghost use Rattle.std.specs.Prelude.{◌≡◌};
+ghost use Rattle.range_draft.specs.Bounds.{least, greatest, most_places};
 
 use pap_tree::Kind;
 
@@ -19,7 +19,11 @@ pub struct Bounds {
 
 /// The widest range that makes sense for an input of a type: all values of a whole number; amounts of less than a million
 /// million with two digits after the point; factors of less than a million with three.
-pub fn widest(kind: Kind) -> Bounds {
+pub fn widest(kind: Kind) -> Bounds
+    ensures low { result.low.now ≡ least kind }
+    ensures high { result.high.now ≡ greatest kind }
+    ensures places { result.places ≡ most_places kind }
+{
     match kind {
         Kind::Int => Bounds {
             low: "-2147483648",

@@ -1,0 +1,26 @@
+-- The widest range that makes sense for an input, by its type.
+use Rattle.std.specs.Prelude.{ℕ, List, codes}
+use Rattle.pap_tree.specs.declared.declaration.Kind.{Kind}
+use Rattle.pap_tree.specs.declared.declaration.Kind.TheVariants.{Int, Long, Factor}
+
+-- the least value, as a range file spells it: -2^31 of an int and -2^63 of a long; more than minus a million million of an
+-- amount, and more than minus a million of a factor
+abbrev pub least : Kind → List ℕ
+least Int = codes "-2147483648"
+least Long = codes "-9223372036854775808"
+least Factor = codes "\"-999999.999\""
+least _ = codes "\"-999999999999.99\""
+
+-- the greatest: 2^31 - 1 of an int and 2^63 - 1 of a long
+abbrev pub greatest : Kind → List ℕ
+greatest Int = codes "2147483647"
+greatest Long = codes "9223372036854775807"
+greatest Factor = codes "\"999999.999\""
+greatest _ = codes "\"999999999999.99\""
+
+-- the most digits after the point
+abbrev pub most_places : Kind → ℕ
+most_places Int = 0
+most_places Long = 0
+most_places Factor = 3
+most_places _ = 2
