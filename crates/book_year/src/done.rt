@@ -97,10 +97,7 @@ fn copy_of_inputs(
 {
     match inputs {
         None => Ok(None),
-        Some(inputs) => Ok(Some(Items::from_vec(Vec::from_slice(
-            alloc,
-            inputs.as_slice(),
-        )?))),
+        Some(inputs) => Ok(Some(Items::from_vec(Vec::from_slice(alloc, inputs.as_slice())?))),
     }
 }
 

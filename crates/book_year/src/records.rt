@@ -86,10 +86,7 @@ pub(crate) fn runs_without(
 }
 
 /// Puts a record at its day, among references.
-pub fn put_reference<'a>(
-    runs: &mut Vec<&'a Record>,
-    item: &'a Record,
-) -> Result<(), AllocError>
+pub fn put_reference<'a>(runs: &mut Vec<&'a Record>, item: &'a Record) -> Result<(), AllocError>
     requires { IsRising day_cmp record_day (records_of runs.old.items) }
     ensures { OnOk result
         (ReferTo (put_run item.now (records_of runs.old.items)) runs.new.items) }
