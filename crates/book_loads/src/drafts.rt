@@ -15,7 +15,7 @@ ghost use Rattle.book_loads.specs.Groups.{IsGroup};
 ghost use Rattle.book_loads.specs.Drafts.{AreDrafted, IsComputedGroup, group_cost, groups_cost};
 
 use crate::groups::Group;
-use crate::records::references_with;
+use crate::records::{references_with, runs_before_all};
 use book_year::{Old, Outcome, Picks, Work, Year, YearKey, recalculate};
 use pap_plan::Plan;
 use payroll_records::Record;
@@ -106,8 +106,9 @@ fn compute<'a, L: Ledger>(
     let old = old_of(list, group.key);
     let runs = references_with(alloc, old.records, group.items.as_slice())?;
     let room = Vec::with_capacity(alloc, old.records.len() + group.items.len())?;
+    let kept = runs_before_all(old.records, group.items.as_slice());
     let picks = Picks { plans, edit: None };
-    let done = recalculate(alloc, &picks, old, runs.as_slice(), steps)?;
+    let done = recalculate(alloc, &picks, old, kept, runs.as_slice(), steps)?;
     Ok(Computed {
         room,
         outcomes: done.outcomes,

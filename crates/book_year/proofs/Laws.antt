@@ -8,6 +8,9 @@ pub use Rattle.book_year.proofs.DayLemmas.{day_same}
 pub use Rattle.book_year.proofs.YearLemmas.{own_few}
 -- An edit of a year's records keeps their order and what holds of each.
 pub use Rattle.book_year.proofs.RecordLemmas.{rising_put, rising_without, all_put, all_without}
+-- The records before a day stay where one is put at that day or later, and the front of a year that stays.
+pub use Rattle.book_year.proofs.BeforeLemmas.{IsBefore, all_fewer, front_put, front_long}
+pub use Rattle.book_year.proofs.FrontLemmas.{front_is, plans_stay}
 -- A year that stays has no new jobs; plans that agree on a year's days give the same runs, whose days rise.
 pub use Rattle.book_year.proofs.QuietLemmas.{year_quiet, rows_agree, rows_rising}
 -- The plan of a day is picked alike where each plan stands without its code.

@@ -1,5 +1,7 @@
+mod BeforeLemmas
 mod ChainLemmas
 mod DayLemmas
+mod FrontLemmas
 mod JobLemmas
 pub mod Laws
 mod PickLemmas

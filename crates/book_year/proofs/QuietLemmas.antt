@@ -60,14 +60,21 @@ own_new : (o : Option Job) → new_job o o ≡ []
 own_new None = refl
 own_new (Some j) = ap (λ b. if b then [] else j ∷ []) (own_job j)
 
-none_new : (all some : List Row) → AllByRecursion (λ row. at_key day_cmp row_day all (row_day row) ≡ Some row) some → new_jobs (job_at all) some ≡ []
+-- the run of the row's day is this row
+abbrev pub IsFound : List Row → Row → Type 0
+IsFound all row = at_key day_cmp row_day all (row_day row) ≡ Some row
+
+pub own_rows : (planned : Planned) (rs : List Record) → IsRising day_cmp record_day rs → AllByRecursion (IsFound (year_rows planned rs)) (year_rows planned rs)
+own_rows planned rs h = own_keys day_cmp day_total row_day (year_rows planned rs) (rows_rising planned [] rs h)
+
+pub none_new : (all some : List Row) → AllByRecursion (IsFound all) some → new_jobs (job_at all) some ≡ []
 none_new all [] h = refl
 none_new all (row ∷ some) h =
     let at : job_at all row.day ≡ row.job = rw h.0 in
     ap (λ o. new_job o row.job ++ new_jobs (job_at all) some) at ∙ ap (λ t. t ++ new_jobs (job_at all) some) (own_new row.job) ∙ none_new all some h.1
 
 pub year_quiet : (planned : Planned) (rs : List Record) → IsRising day_cmp record_day rs → year_jobs planned planned rs rs ≡ []
-year_quiet planned rs h = none_new (year_rows planned rs) (year_rows planned rs) (own_keys day_cmp day_total row_day (year_rows planned rs) (rows_rising planned [] rs h))
+year_quiet planned rs h = none_new (year_rows planned rs) (year_rows planned rs) (own_rows planned rs h)
 
 -- ---- plans that agree on a year's days give the same runs
 

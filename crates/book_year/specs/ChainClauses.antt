@@ -1,5 +1,5 @@
 -- What the calls along a year's runs promise.
-use Rattle.std.specs.Prelude.{ℕ, ◌≡◌, ◌*◌, ◌+◌, ◌≤◌, List, [], ◌∷◌, Option, Some, None, map, length, Result, MatchResult}
+use Rattle.std.specs.Prelude.{ℕ, ◌≡◌, ◌*◌, ◌+◌, ◌≤◌, List, [], ◌∷◌, Option, Some, None, map, length, take, Result, MatchResult}
 use Rattle.std.specs.List.{AllByRecursion}
 use Rattle.std.specs.Option.{option_map}
 use Rattle.std.specs.Borrow.{Bor}
@@ -16,10 +16,11 @@ use Rattle.book_year.specs.declared.outcome.Outcome.{Outcome}
 use Rattle.book_year.specs.declared.chain.Old.{Old}
 use Rattle.book_year.specs.declared.chain.OldJob.{OldJob}
 use Rattle.book_year.specs.declared.chain.Ran.{Ran}
+use Rattle.book_year.specs.declared.done.Done.{Done}
 use Rattle.book_year.specs.declared.chain.Recalculated.{Recalculated}
 use Rattle.book_year.specs.declared.picks.Picks.{Picks}
 use Rattle.book_year.specs.Records.{records_of}
-use Rattle.book_year.specs.Rows.{Planned, Job, Row, year_rows, outputs_in}
+use Rattle.book_year.specs.Rows.{Planned, Job, Row, year_rows, outputs_in, earlier_of}
 use Rattle.book_year.specs.Jobs.{new_job, new_jobs, total_cost, work_of}
 use Rattle.book_year.specs.Kept.{IsBounded, kept, job_by}
 use Rattle.book_year.specs.Picks.{before, after}
@@ -67,6 +68,17 @@ pub record IsRan (row : Row) (old : Option Job) (ran : Ran) : Type 0 where
 -- the counter rose by the steps of the work; where memory ran out, by none
 abbrev pub CountsRun : {E : Type 0} → Result Ran E → ℕ → ℕ → Type 0
 CountsRun r before now = MatchResult r (λ ran. now ≡ before + ran.work.steps) (λ _. now ≡ before)
+
+-- the runs that are done came to these rows
+pub record AreDone (rows : List Row) (done : Done) : Type 0 where
+  pub outcomes : done.outcomes.items ≡ map kept rows
+  pub earlier : done.earlier.items ≡ map earlier_of rows
+
+-- the first runs, so many, are as they were, and so are their plans
+pub record IsFront (picks : Picks) (old : Old) (items : List (Bor Record)) (count : ℕ) : Type 0 where
+  pub within : count ≤ length old.records.now
+  pub records : take count (records_of items) ≡ take count old.records.now
+  pub plans : AllByRecursion (λ r. after picks r.day ≡ before picks r.day) (take count old.records.now)
 
 -- a year computed anew, with the work of the jobs that aren't the old ones of their days
 pub record IsRecalculated

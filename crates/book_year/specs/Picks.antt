@@ -1,6 +1,6 @@
 -- The plan of each day before and after an edit of the calendar.
-use Rattle.std.specs.Prelude.{◌≡◌, List, Option, Some, None, Bool, true, false, ⊤}
-use Rattle.std.specs.Option.{option_map}
+use Rattle.std.specs.Prelude.{ℕ, ◌≡◌, ◌==◌, List, Option, Some, None, Bool, true, false, ⊤}
+use Rattle.std.specs.Option.{option_map, option_map_or}
 use Rattle.std.specs.Borrow.{Bor}
 use Rattle.payroll_records.specs.declared.day.Day.{Day}
 use Rattle.plan_calendar.specs.Picking.{Entry, plan_of, pick}
@@ -32,6 +32,10 @@ after_by plans (Some e) d = picked_after plans e.day (entry_of e) d
 
 abbrev pub after : Picks → Planned
 after p d = after_by (plans_in p.plans.now) p.edit d
+
+-- the edit is at a day of this year
+abbrev pub is_edited : Picks → ℕ → Bool
+is_edited p year = option_map_or (λ (e : Edit). e.day.year == year) p.edit false
 
 -- both plans are there, with the same texts
 abbrev pub same_plan : Option (Entry Accepted) → Option (Entry Accepted) → Bool

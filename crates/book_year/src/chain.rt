@@ -1,5 +1,5 @@
 //! The walk along a year's runs, in order of day.
-ghost use Rattle.std.specs.Prelude.{◌≡◌, ◌≤◌, [], List, length, Option, Some, None, IfOk, IfErr};
+ghost use Rattle.std.specs.Prelude.{◌≡◌, ◌≤◌, length, Option, Some, None, IfOk};
 ghost use Rattle.std.specs.List.{AllByRecursion};
 ghost use Rattle.std.specs.Option.{option_map};
 ghost use Rattle.payroll_records.specs.declared.day.Day.{Day as Date};
@@ -9,13 +9,14 @@ ghost use Rattle.carry_bindings.specs.declared.filling.Filled.TheVariants.{Input
 ghost use Rattle.carry_bindings.specs.Limits.{most_runs};
 ghost use Rattle.pap_plan.specs.Plans.{Admits};
 ghost use Rattle.book_year.specs.Accepted.{Accepted};
-ghost use Rattle.book_year.specs.Rows.{Job, job_of, row_of, row_filled, outputs_in};
+ghost use Rattle.book_year.specs.Rows.{Job, job_of, row_of, row_filled};
 ghost use Rattle.book_year.specs.Jobs.{same_inputs, new_job, Counts};
 ghost use Rattle.book_year.specs.Kept.{IsOld};
 ghost use Rattle.book_year.specs.Picks.{before, after, KnowsSame, ArePicks, picked_entry};
 ghost use Rattle.book_year.specs.ChainClauses.{old_parts, outcome_job, IsOldJob, KeepsOutputs, IsRan, CountsRun};
-ghost use Rattle.book_year.specs.ChainClauses.{old_jobs, chain_cost, IsChain};
+ghost use Rattle.book_year.specs.ChainClauses.{old_jobs, chain_cost, IsChain, IsFront};
 
+use crate::done::{copy_of, front};
 use crate::outcome::{Outcome, State, Work};
 use crate::picks::{Picked, Picks};
 use crate::records::place;
@@ -56,58 +57,39 @@ pub struct Recalculated {
     pub work: Work,
 }
 
-/// Computes a year's runs in order of day, and runs those whose job isn't the old one of their day. The counter rises by
-/// exactly their steps; where memory runs out it may have risen by some of them.
+/// Computes a year's runs in order of day, and runs those whose job isn't the old one of their day.
+/// The first `kept` runs are as they were, with their plans: what they came to is taken as it is
+/// kept. The counter rises by exactly the steps of those that are run; where memory runs out it may
+/// have risen by some of them.
 pub fn recalculate<L: Ledger>(
     alloc: Global,
     picks: &Picks,
     old: Old,
+    kept: usize,
     records: &[&Record],
     steps: &mut Steps<L>,
 ) -> Result<Recalculated, AllocError>
     requires picks { ArePicks picks.now }
     requires old { IsOld (before picks.now) old }
+    requires front { IsFront picks.now old records.now kept }
     requires few { length records.now ≤ most_runs }
     ensures done { IfOk result (IsChain picks.now old.entry records.now) }
     ensures counted { Counts result steps.old steps.new
         (chain_cost picks.now old.entry records.now) }
 {
-    let mut outcomes = Vec::new(alloc);
-    let mut earlier = Vec::new(alloc);
+    let mut done = front(alloc, old, kept)?;
     let mut runs = 0;
     let mut taken = 0;
-    for item in records {
-        let ran = next_run(alloc, picks, old, item, earlier.as_slice(), steps)?;
+    for item in &records[kept..] {
+        let ran = next_run(alloc, picks, old, item, done.earlier.as_slice(), steps)?;
         runs += ran.work.runs;
         taken += ran.work.steps;
-        let outputs = outputs_of(alloc, &ran.outcome.state)?;
-        earlier.push(Earlier {
-            day: item.day,
-            outputs,
-        })?;
-        outcomes.push(ran.outcome)?;
+        done.push(alloc, item.day, ran.outcome)?;
     }
     Ok(Recalculated {
-        outcomes,
+        outcomes: done.outcomes,
         work: Work { runs, steps: taken },
     })
-}
-
-/// What later runs read of a state.
-fn outputs_of(alloc: Global, state: &State) -> Result<Option<Items<NamedValue>>, AllocError>
-    ensures { IfOk result (λ outputs. outputs ≡ outputs_in state.now) }
-{
-    match state {
-        State::Done(outputs) => Ok(Some(copy_of(alloc, outputs)?)),
-        _ => Ok(None),
-    }
-}
-
-/// The same values again.
-fn copy_of(alloc: Global, values: &Items<NamedValue>) -> Result<Items<NamedValue>, AllocError>
-    ensures { IfOk result (λ copy. copy ≡ values.now) }
-{
-    Ok(Items::from_vec(Vec::from_slice(alloc, values.as_slice())?))
 }
 
 /// Whether the inputs are the same, with the same scales.

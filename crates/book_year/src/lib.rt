@@ -6,6 +6,7 @@
 #![tactic(auto)]
 
 mod chain;
+mod done;
 mod outcome;
 mod picks;
 mod records;
@@ -14,4 +15,5 @@ mod year;
 pub use chain::{Old, Recalculated, recalculate};
 pub use outcome::{Outcome, State, Work};
 pub use picks::{Edit, Picked, Picks};
+pub use records::{put_in_room, put_reference, references, runs_before};
 pub use year::{Year, YearKey, year_laws};

@@ -6,7 +6,7 @@ ghost use Rattle.payroll_records.specs.declared.day.Day.{Day as Date};
 ghost use Rattle.plan_calendar.specs.Picking.{day_of, pick, serves};
 ghost use Rattle.plan_calendar.specs.Edits.{is_by, picked_after};
 ghost use Rattle.book_year.specs.Accepted.{plans_in};
-ghost use Rattle.book_year.specs.Picks.{before, after, same_plan, KnowsSame, ArePicks};
+ghost use Rattle.book_year.specs.Picks.{before, after, is_edited, same_plan, KnowsSame, ArePicks};
 ghost use Rattle.book_year.specs.Picks.{lent_entry, picked_entry};
 
 use pap_plan::Plan;
@@ -90,9 +90,10 @@ impl<'a> Picks<'a> {
         }
     }
 
-    /// Whether the edit may change the plans of a year's days.
+    /// Whether the edit may change the plans of a year's days: whether it is at a day of that year.
     pub fn may_move(&self, year: u16) -> bool
-        ensures { OnFalse result
+        ensures exact { result ≡ is_edited self.now year }
+        ensures stays { OnFalse result
             ((d : Date) → d.year ≡ year → after self.now d ≡ before self.now d) }
     {
         match self.edit {

@@ -4,6 +4,7 @@ ghost use Rattle.rising_lists.specs.Keyed.{IsRising};
 ghost use Rattle.rising_lists.specs.Places.{IsAt, IsGap};
 ghost use Rattle.payroll_records.specs.Orders.{day_cmp};
 ghost use Rattle.book_year.specs.Records.{record_day, reference_day, records_of, ReferTo, put_run, without_run};
+ghost use Rattle.book_year.specs.Records.{AreBefore};
 
 use payroll_records::{Day, Record};
 use std::alloc::{AllocError, Global};
@@ -17,6 +18,17 @@ pub(crate) fn place(records: &[Record], day: Day) -> Result<usize, usize>
     records.binary_search_by_key(&day, |r| r.day)
 }
 
+/// How many of the records stand before a day.
+pub fn runs_before(records: &[Record], day: Day) -> usize
+    requires { IsRising day_cmp record_day records.now }
+    ensures { AreBefore day records.now result }
+{
+    match place(records, day) {
+        Ok(at) => at,
+        Err(at) => at,
+    }
+}
+
 /// Where the record of a day is among references, or would go.
 fn place_reference(runs: &[&Record], day: Day) -> Result<usize, usize>
     requires { IsRising day_cmp record_day (records_of runs.now) }
@@ -27,7 +39,7 @@ fn place_reference(runs: &[&Record], day: Day) -> Result<usize, usize>
 }
 
 /// References to all records.
-pub(crate) fn references(alloc: Global, records: &[Record]) -> Result<Vec<&Record>, AllocError>
+pub fn references(alloc: Global, records: &[Record]) -> Result<Vec<&Record>, AllocError>
     ensures { IfOk result (λ runs. ReferTo records.now runs.items) }
 {
     let mut runs = Vec::new(alloc);
@@ -74,10 +86,7 @@ pub(crate) fn runs_without(
 }
 
 /// Puts a record at its day, among references.
-pub(crate) fn put_reference<'a>(
-    runs: &mut Vec<&'a Record>,
-    item: &'a Record,
-) -> Result<(), AllocError>
+pub fn put_reference<'a>(runs: &mut Vec<&'a Record>, item: &'a Record) -> Result<(), AllocError>
     requires { IsRising day_cmp record_day (records_of runs.old.items) }
     ensures { OnOk result
         (ReferTo (put_run item.now (records_of runs.old.items)) runs.new.items) }
@@ -119,10 +128,12 @@ pub(crate) fn take_record(records: &mut Vec<Record>, day: Day)
 }
 
 /// Puts a record at its day, where there is room for it.
-pub(crate) fn put_in_room(records: &mut Vec<Record>, item: Record)
+pub fn put_in_room(records: &mut Vec<Record>, item: Record)
     requires rising { IsRising day_cmp record_day records.old.items }
     requires room { vec_len records.old + 1 ≤ vec_capacity records.old }
-    ensures { records.new.items ≡ put_run item records.old.items }
+    ensures items { records.new.items ≡ put_run item records.old.items }
+    ensures len { vec_len records.new ≤ vec_len records.old + 1 }
+    ensures capacity { vec_capacity records.old ≤ vec_capacity records.new }
 {
     match place(records.as_slice(), item.day) {
         Ok(at) => records[at] = item,

@@ -1,10 +1,13 @@
 //! An employee's calendar year, and its edits.
-ghost use Rattle.std.specs.Prelude.{◌≡◌, IfOk, OnErr, List, []};
+ghost use Rattle.std.specs.Prelude.{◌≡◌, ◌≤◌, IfOk, OnErr, List, [], length, take};
+ghost use Rattle.std.specs.List.{AllByRecursion};
+ghost use Rattle.rising_lists.specs.Keyed.{IsRising};
+ghost use Rattle.payroll_records.specs.Orders.{day_cmp};
 ghost use Rattle.plan_calendar.specs.Picking.{Entry};
 ghost use Rattle.book_year.specs.Accepted.{Accepted, plans_in};
-ghost use Rattle.book_year.specs.Picks.{ArePicks};
+ghost use Rattle.book_year.specs.Picks.{ArePicks, before, after};
 ghost use Rattle.book_year.specs.Jobs.{Counts};
-ghost use Rattle.book_year.specs.Records.{put_run, without_run};
+ghost use Rattle.book_year.specs.Records.{put_run, record_day, without_run};
 ghost use Rattle.book_year.specs.Years.{IsOwn, IsYear, YearsStay, YearsFollowPlans};
 ghost use Rattle.book_year.specs.YearClauses.{IsYearEdit, IsSameYear, IsComputed, edit_cost};
 ghost use Rattle.book_year.specs.YearClauses.{IsReplanned, replan_cost};
@@ -13,7 +16,8 @@ use crate::chain::{Old, Recalculated, recalculate};
 use crate::outcome::{Outcome, Work};
 use crate::picks::Picks;
 use crate::records::{
-    put_in_room, put_record, put_reference, references, runs_with, runs_without, take_record,
+    put_in_room, put_record, put_reference, references, runs_before, runs_with, runs_without,
+    take_record,
 };
 use pap_plan::Plan;
 use payroll_records::{Day, Employee, Record};
@@ -63,8 +67,10 @@ impl Year {
         ensures done { IfOk result (IsReplanned picks.now self.now) }
         ensures counted { Counts result steps.old steps.new (replan_cost picks.now self.now) }
     {
-        let runs = references(alloc, self.records.as_slice())?;
-        recalculate(alloc, picks, old_of(self), runs.as_slice(), steps)
+        let records = self.records.as_slice();
+        let runs = references(alloc, records)?;
+        let kept = unmoved(picks, records);
+        recalculate(alloc, picks, old_of(self), kept, runs.as_slice(), steps)
     }
 
     /// Puts a run at its day, in place of the one that stood there. After a refusal the year is as before.
@@ -139,6 +145,20 @@ impl Year {
     }
 }
 
+/// How many runs at the front of a year have the plans that they had: those before the edit of the
+/// calendar.
+fn unmoved(picks: &Picks, records: &[Record]) -> usize
+    requires { IsRising day_cmp record_day records.now }
+    ensures within { result ≤ length records.now }
+    ensures plans { AllByRecursion (λ r. after picks.now r.day ≡ before picks.now r.day)
+        (take result records.now) }
+{
+    match picks.edit {
+        None => records.len(),
+        Some(edit) => runs_before(records, edit.day),
+    }
+}
+
 /// The year computed with one run put.
 fn computed_with<'a, L: Ledger>(
     alloc: Global,
@@ -154,11 +174,14 @@ fn computed_with<'a, L: Ledger>(
     ensures counted { Counts result steps.old steps.new
         (edit_cost (plans_in plans.now) year.now (put_run item.now year.now.records.items)) }
 {
-    let runs = runs_with(alloc, year.records.as_slice(), item)?;
+    let records = year.records.as_slice();
+    let runs = runs_with(alloc, records, item)?;
+    let kept = runs_before(records, item.day);
     recalculate(
         alloc,
         &Picks { plans, edit: None },
         old_of(year),
+        kept,
         runs.as_slice(),
         steps,
     )
@@ -181,12 +204,15 @@ fn computed_with_change<'a, L: Ledger>(
         (edit_cost (plans_in plans.now) year.now
         (put_run item.now (without_run from year.now.records.items))) }
 {
-    let mut runs = runs_without(alloc, year.records.as_slice(), from)?;
+    let records = year.records.as_slice();
+    let mut runs = runs_without(alloc, records, from)?;
     put_reference(&mut runs, item)?;
+    let kept = runs_before(records, from).min(runs_before(records, item.day));
     recalculate(
         alloc,
         &Picks { plans, edit: None },
         old_of(year),
+        kept,
         runs.as_slice(),
         steps,
     )
@@ -206,11 +232,14 @@ fn computed_without<L: Ledger>(
     ensures counted { Counts result steps.old steps.new
         (edit_cost (plans_in plans.now) year.now (without_run day year.now.records.items)) }
 {
-    let runs = runs_without(alloc, year.records.as_slice(), day)?;
+    let records = year.records.as_slice();
+    let runs = runs_without(alloc, records, day)?;
+    let kept = runs_before(records, day);
     recalculate(
         alloc,
         &Picks { plans, edit: None },
         old_of(year),
+        kept,
         runs.as_slice(),
         steps,
     )

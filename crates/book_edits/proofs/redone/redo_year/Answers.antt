@@ -8,13 +8,13 @@ pub returns-then-not-may_move-clause-done : goal.returns-then-not-may_move-claus
 returns-then-not-may_move-clause-done g c =
     let picks = c.args.picks.now in
     let is = c.requires.year in
-    year_stays (before picks) (after picks) c.args.year.now c.if-not-may_move.ensures is.own is.kept _ refl
+    year_stays (before picks) (after picks) c.args.year.now c.if-not-may_move.ensures.stays is.own is.kept _ refl
 
 pub returns-then-not-may_move-clause-counted : goal.returns-then-not-may_move-clause-counted
 returns-then-not-may_move-clause-counted g c =
     let picks = c.args.picks.now in
     let is = c.requires.year in
-    omega (arith, ap total_cost (nothing_new (before picks) (after picks) c.args.year.now c.if-not-may_move.ensures is.own is.kept))
+    omega (arith, ap total_cost (nothing_new (before picks) (after picks) c.args.year.now c.if-not-may_move.ensures.stays is.own is.kept))
 
 pub returns-clause-done : goal.returns-clause-done
 returns-clause-done g c =

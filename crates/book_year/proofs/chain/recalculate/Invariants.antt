@@ -1,4 +1,4 @@
-use Rattle.std.proofs.Common.{take}
+use Rattle.std.proofs.Common.{take, ◌+◌}
 use Rattle.book_year.specs.Records.{records_of}
 use Rattle.book_year.specs.Picks.{after}
 use Rattle.book_year.specs.ChainClauses.{old_jobs}
@@ -7,4 +7,4 @@ use Rattle.book_year.proofs.chain.recalculate.Given as goal
 
 abbrev pub invariant-loop-item : goal.invariant-loop-item
 invariant-loop-item g l =
-    IsWalk (after l.picks) (old_jobs l.picks l.old) (take l.item-index (records_of l.records)) l.outcomes.items l.earlier.items l.runs l.taken l.initial.steps l.steps
+    IsWalk (after l.picks) (old_jobs l.picks l.old) (take (l.kept + l.item-index) (records_of l.records)) l.done.outcomes.items l.done.earlier.items l.runs l.taken l.initial.steps l.steps

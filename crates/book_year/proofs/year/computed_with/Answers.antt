@@ -1,27 +1,40 @@
-use Rattle.std.proofs.Common.{◌≡◌, length, ap, ◌∙◌, arith}
+use Rattle.std.proofs.Common.{◌≡◌, length, take, ap, subst, ◌∙◌, None, refl, arith}
 use Rattle.std.proofs.lemmas.List.{length-map}
 use Rattle.book_year.specs.Accepted.{plans_in}
-use Rattle.book_year.specs.Records.{records_of, put_run}
+use Rattle.book_year.specs.declared.picks.Picks.{Picks}
+use Rattle.book_year.specs.Records.{AreBefore, records_of, put_run}
 use Rattle.book_year.specs.Years.{IsOwn}
 use Rattle.book_year.proofs.RecordLemmas.{now_of, rising_put, all_put}
+use Rattle.book_year.proofs.BeforeLemmas.{front_put}
+use Rattle.book_year.proofs.FrontLemmas.{front_is, plans_stay}
 use Rattle.book_year.proofs.YearLemmas.{own_few, computed_done, computed_counted}
 use Rattle.book_year.proofs.year.computed_with.Goals as goal
+
+pub recalculate-requires-clause-front : goal.recalculate-requires-clause-front
+recalculate-requires-clause-front g c =
+    let rs = c.args.year.now.records.items in
+    let item = c.args.item.now in
+    let n = c.runs_before-kept.result in
+    let runs : records_of c.as_slice.result.now ≡ put_run item rs = ap records_of c.as_slice.ensures.value ∙ c.in_ok-runs.ensures ∙ ap (put_run item) c.as_slice-records.ensures.value in
+    let is : AreBefore item.day rs n = subst (λ t. AreBefore item.day t n) c.as_slice-records.ensures.value c.runs_before-kept.ensures in
+    let picks : Picks = record { plans = c.args.plans; edit = None } in
+    front_is picks c.old_of.result c.as_slice.result.now rs (put_run item rs) n c.old_of.ensures.records runs is.within (front_put item rs n is.within is.before) (plans_stay picks (take n rs) refl)
 
 pub recalculate-requires-clause-few : goal.recalculate-requires-clause-few
 recalculate-requires-clause-few g c =
     let year = c.args.year.now in
     let rs = year.records.items in
     let item = c.args.item.now in
-    let runs : records_of c.as_slice-2.result.now ≡ put_run item rs = ap records_of c.as_slice-2.ensures.value ∙ c.in_ok-runs.ensures ∙ ap (put_run item) c.as_slice.ensures.value in
+    let runs : records_of c.as_slice.result.now ≡ put_run item rs = ap records_of c.as_slice.ensures.value ∙ c.in_ok-runs.ensures ∙ ap (put_run item) c.as_slice-records.ensures.value in
     let few = own_few year.key (put_run item rs) (rising_put item rs c.requires.year.kept.rising) (all_put (IsOwn year.key) item rs c.requires.own c.requires.year.own) in
-    omega (arith, ap length runs, length-map c.as_slice-2.result.now now_of, few)
+    omega (arith, ap length runs, length-map c.as_slice.result.now now_of, few)
 
 pub returns-clause-done : goal.returns-clause-done
 returns-clause-done g c =
-    let runs : records_of c.as_slice-2.result.now ≡ put_run c.args.item.now c.args.year.now.records.items = ap records_of c.as_slice-2.ensures.value ∙ c.in_ok-runs.ensures ∙ ap (put_run c.args.item.now) c.as_slice.ensures.value in
-    computed_done (plans_in c.args.plans.now) c.args.year.now c.old_of.result.records.now c.as_slice-2.result.now (put_run c.args.item.now c.args.year.now.records.items) c.recalculate.result c.old_of.ensures.records runs c.recalculate.ensures.done
+    let runs : records_of c.as_slice.result.now ≡ put_run c.args.item.now c.args.year.now.records.items = ap records_of c.as_slice.ensures.value ∙ c.in_ok-runs.ensures ∙ ap (put_run c.args.item.now) c.as_slice-records.ensures.value in
+    computed_done (plans_in c.args.plans.now) c.args.year.now c.old_of.result.records.now c.as_slice.result.now (put_run c.args.item.now c.args.year.now.records.items) c.recalculate.result c.old_of.ensures.records runs c.recalculate.ensures.done
 
 pub returns-clause-counted : goal.returns-clause-counted
 returns-clause-counted g c =
-    let runs : records_of c.as_slice-2.result.now ≡ put_run c.args.item.now c.args.year.now.records.items = ap records_of c.as_slice-2.ensures.value ∙ c.in_ok-runs.ensures ∙ ap (put_run c.args.item.now) c.as_slice.ensures.value in
-    computed_counted (plans_in c.args.plans.now) c.args.year.now c.old_of.result.records.now c.as_slice-2.result.now (put_run c.args.item.now c.args.year.now.records.items) c.recalculate.result c.old_of.ensures.records runs c.args.steps.now c.recalculate.new.steps c.recalculate.ensures.counted
+    let runs : records_of c.as_slice.result.now ≡ put_run c.args.item.now c.args.year.now.records.items = ap records_of c.as_slice.ensures.value ∙ c.in_ok-runs.ensures ∙ ap (put_run c.args.item.now) c.as_slice-records.ensures.value in
+    computed_counted (plans_in c.args.plans.now) c.args.year.now c.old_of.result.records.now c.as_slice.result.now (put_run c.args.item.now c.args.year.now.records.items) c.recalculate.result c.old_of.ensures.records runs c.args.steps.now c.recalculate.new.steps c.recalculate.ensures.counted

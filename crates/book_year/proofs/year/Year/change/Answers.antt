@@ -19,4 +19,4 @@ returns-clause-ok g c =
     let rising = rising_without c.args.from rs c.requires.year.kept.rising in
     let own = all_without (IsOwn old.key) c.args.from rs c.requires.year.own in
     year_edit (plans_in c.args.plans.now) old _ (put_run item left) c.in_ok-done.done (rising_put item left rising) (all_put (IsOwn old.key) item left c.requires.own own)
-    refl (c.put_in_room.ensures ∙ ap (put_run item) (c.take_record.ensures.items ∙ ap (without_run c.args.from) c.in_ok-reserve.ensures.items)) refl c.in_ok-done.ensures.done
+    refl (c.put_in_room.ensures.items ∙ ap (put_run item) (c.take_record.ensures.items ∙ ap (without_run c.args.from) c.in_ok-reserve.ensures.items)) refl c.in_ok-done.ensures.done

@@ -1,0 +1,125 @@
+//! The runs of a year that are done.
+ghost use Rattle.std.specs.Prelude.{◌≡◌, ◌≤◌, ◌++◌, [], ◌∷◌, length, take, IfOk, OnOk};
+ghost use Rattle.carry_bindings.specs.declared.carried.Earlier.{Earlier as Read};
+ghost use Rattle.book_year.specs.Kept.{IsOld};
+ghost use Rattle.book_year.specs.Rows.{Planned, outputs_in, year_rows};
+ghost use Rattle.book_year.specs.ChainClauses.{AreDone};
+
+use crate::chain::Old;
+use crate::outcome::{Outcome, State};
+use carry_bindings::{Blocked, Earlier};
+use limits_file::Items;
+use payroll_records::{Day, NamedValue};
+use scaled_decimal::Dec;
+use std::alloc::{AllocError, Global};
+
+/// What each run came to, and what later ones read of it.
+#[derive(Drop)]
+pub(crate) struct Done {
+    pub(crate) outcomes: Vec<Outcome>,
+    pub(crate) earlier: Vec<Earlier>,
+}
+
+impl Done {
+    /// Puts one run more behind them.
+    pub(crate) fn push(
+        &mut self,
+        alloc: Global,
+        day: Day,
+        outcome: Outcome,
+    ) -> Result<(), AllocError>
+        ensures outcomes { OnOk result
+            (self.new.outcomes.items ≡ self.old.outcomes.items ++ outcome ∷ []) }
+        ensures earlier { let read : Read = record { day = day; outputs = outputs_in outcome.state } in
+            OnOk result (self.new.earlier.items ≡ self.old.earlier.items ++ read ∷ []) }
+    {
+        let outputs = outputs_of(alloc, &outcome.state)?;
+        self.earlier.push(Earlier { day, outputs })?;
+        Ok(self.outcomes.push(outcome)?)
+    }
+}
+
+/// The first runs of a year, so many, as they are kept.
+pub(crate) fn front(alloc: Global, old: Old, count: usize) -> Result<Done, AllocError>
+    requires within { count ≤ length old.records.now }
+    requires each { length old.outcomes.now ≡ length old.records.now }
+    ensures { (planned : Planned) → IsOld planned old.entry
+        → IfOk result (AreDone (take count (year_rows planned old.entry.records.now))) }
+{
+    let mut done = Done {
+        outcomes: Vec::new(alloc),
+        earlier: Vec::new(alloc),
+    };
+    for (at, outcome) in old.outcomes[..count].iter().enumerate() {
+        let outcome = copy_of_outcome(alloc, outcome)?;
+        done.push(alloc, old.records[at].day, outcome)?;
+    }
+    Ok(done)
+}
+
+/// What later runs read of a state.
+fn outputs_of(alloc: Global, state: &State) -> Result<Option<Items<NamedValue>>, AllocError>
+    ensures { IfOk result (λ outputs. outputs ≡ outputs_in state.now) }
+{
+    match state {
+        State::Done(outputs) => Ok(Some(copy_of(alloc, outputs)?)),
+        _ => Ok(None),
+    }
+}
+
+/// The same values again.
+pub(crate) fn copy_of(
+    alloc: Global,
+    values: &Items<NamedValue>,
+) -> Result<Items<NamedValue>, AllocError>
+    ensures { IfOk result (λ copy. copy ≡ values.now) }
+{
+    Ok(Items::from_vec(Vec::from_slice(alloc, values.as_slice())?))
+}
+
+/// The same outcome again.
+fn copy_of_outcome(alloc: Global, outcome: &Outcome) -> Result<Outcome, AllocError>
+    ensures { IfOk result (λ copy. copy ≡ outcome.now) }
+{
+    Ok(Outcome {
+        plan: outcome.plan,
+        inputs: copy_of_inputs(alloc, &outcome.inputs)?,
+        state: copy_of_state(alloc, &outcome.state)?,
+    })
+}
+
+/// The same inputs again, where there are some.
+fn copy_of_inputs(
+    alloc: Global,
+    inputs: &Option<Items<Dec>>,
+) -> Result<Option<Items<Dec>>, AllocError>
+    ensures { IfOk result (λ copy. copy ≡ inputs.now) }
+{
+    match inputs {
+        None => Ok(None),
+        Some(inputs) => Ok(Some(Items::from_vec(Vec::from_slice(alloc, inputs.as_slice())?))),
+    }
+}
+
+/// The same state again.
+fn copy_of_state(alloc: Global, state: &State) -> Result<State, AllocError>
+    ensures { IfOk result (λ copy. copy ≡ state.now) }
+{
+    match state {
+        State::NoPlan => Ok(State::NoPlan),
+        State::Blocked(why) => Ok(State::Blocked(copy_of_cause(why))),
+        State::Done(outputs) => Ok(State::Done(copy_of(alloc, outputs)?)),
+    }
+}
+
+/// The same cause again.
+fn copy_of_cause(why: &Blocked) -> Blocked
+    ensures { result ≡ why.now }
+{
+    match why {
+        Blocked::Waits(day) => Blocked::Waits(*day),
+        Blocked::Unknown(name) => Blocked::Unknown(*name),
+        Blocked::Missing(name) => Blocked::Missing(*name),
+        Blocked::Range(name) => Blocked::Range(*name),
+    }
+}
