@@ -217,17 +217,11 @@ fn joined(
         then,
     };
     if !is_one_choice(&otherwise) {
-        return one_arm(alloc, first, otherwise);
+        return Ok(one_arm(alloc, first, otherwise));
     }
     match otherwise.pop() {
-        Some(Figure::Choice(mut choice)) => {
-            if let Some(next) = choice.arms.last_mut() {
-                next.note = note_of(otherwise.pop());
-            }
-            choice.arms.push(first)?;
-            Ok(choice)
-        }
-        _ => one_arm(alloc, first, otherwise),
+        Some(Figure::Choice(choice)) => cascade(first, note_of(otherwise.pop()), choice),
+        _ => Ok(one_arm(alloc, first, otherwise)),
     }
 }
 
@@ -248,12 +242,30 @@ fn note_of(figure: Option<Figure>) -> Option<Note> {
 }
 
 /// An IF of one arm.
-fn one_arm(alloc: Global, arm: Arm, otherwise: Vec<Figure>) -> Result<Choice, AllocError> {
-    let mut arms = Vec::new(alloc);
-    arms.push(arm)?;
-    Ok(Choice {
-        arms,
+fn one_arm(alloc: Global, first: Arm, otherwise: Vec<Figure>) -> Choice {
+    Choice {
+        first,
+        later: Vec::new(alloc),
         otherwise: Body::new(otherwise),
+    }
+}
+
+/// An IF of an arm and those of the IF that stands alone in its ELSE, with the comments before that.
+fn cascade(first: Arm, note: Option<Note>, choice: Choice) -> Result<Choice, AllocError> {
+    let Choice {
+        first: second,
+        mut later,
+        otherwise,
+    } = choice;
+    later.push(Arm {
+        note,
+        test: second.test,
+        then: second.then,
+    })?;
+    Ok(Choice {
+        first,
+        later,
+        otherwise,
     })
 }
 

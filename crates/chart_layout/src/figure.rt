@@ -1,4 +1,7 @@
 //! What a body is drawn as.
+ghost use Rattle.std.specs.Prelude.{◌≡◌, [], IsTrue};
+ghost use Rattle.chart_layout.specs.Drawn.{body_statements};
+
 use crate::choice::Choice;
 use crate::note::Note;
 use crate::px::Px;
@@ -52,7 +55,9 @@ impl Body {
         }
     }
 
-    pub fn is_empty(&self) -> bool {
+    pub fn is_empty(&self) -> bool
+        ensures { IsTrue result → body_statements self.now ≡ [] }
+    {
         self.figures.is_empty()
     }
 
