@@ -20,11 +20,14 @@ pub record Drawn : Type 0 where
   pub number : ℕ
   pub text : List ℕ
 
+abbrev pub drawn : ℕ → List ℕ → Drawn
+drawn number text = record { number = number; text = text }
+
 abbrev pub drawn_statement : Statement → Drawn
-drawn_statement s = record { number = s.number; text = s.written.text.items }
+drawn_statement s = drawn s.number s.written.text.items
 
 abbrev pub drawn_call : Execute → Drawn
-drawn_call c = record { number = c.number; text = c.method }
+drawn_call c = drawn c.number c.method
 
 -- ---- of figures: each step is given the statements of the parts
 
@@ -66,6 +69,9 @@ choice_statements = fold-Choice (List Drawn) (List Drawn) (List Drawn) (List Dra
 
 abbrev pub body_statements : Body → List Drawn
 body_statements = fold-Body (List Drawn) (List Drawn) (List Drawn) (List Drawn) figure_step arm_step choice_step body_step
+
+abbrev pub figures_statements : List Figure → List Drawn
+figures_statements figures = joined (map figure_statements figures)
 
 -- ---- of a drawing
 

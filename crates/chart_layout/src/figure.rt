@@ -1,6 +1,6 @@
 //! What a body is drawn as.
 ghost use Rattle.std.specs.Prelude.{◌≡◌, [], IsTrue};
-ghost use Rattle.chart_layout.specs.Drawn.{body_statements};
+ghost use Rattle.chart_layout.specs.Drawn.{body_statements, figures_statements};
 
 use crate::choice::Choice;
 use crate::note::Note;
@@ -39,7 +39,9 @@ pub(crate) enum End {
 }
 
 impl Body {
-    pub(crate) fn new(figures: Vec<Figure>) -> Body {
+    pub(crate) fn new(figures: Vec<Figure>) -> Body
+        ensures { body_statements result ≡ figures_statements figures.items }
+    {
         let mut front = Px(0);
         let mut alone = Px(0);
         let mut shared = Px(0);
