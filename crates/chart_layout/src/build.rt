@@ -290,7 +290,8 @@ fn push_choice(
 ) -> Result<(), AllocError>
     ensures { OnOk result (figures_statements figures.new.items
         ≡ figures_statements figures.old.items
-        ++ (drawn_statement test ∷ (figures_statements then.items ++ figures_statements otherwise.items))) }
+        ++ (drawn_statement test
+        ∷ (figures_statements then.items ++ figures_statements otherwise.items))) }
 {
     let choice = joined(alloc, test, Body::new(then), otherwise)?;
     figures.push(Figure::Choice(choice))?;

@@ -261,7 +261,8 @@ impl<'a> Pen<'a> {
     /// Draws the test of an arm, with the comments above it.
     fn test(&mut self, arm: &'a Arm, x: Px, spot: Spot<'a>) -> Result<Fork, AllocError>
         ensures { OnOk result (drawing_statements self.new.parts.items
-            ≡ drawing_statements self.old.parts.items ++ drawn_statement (out-Arm arm.now).test ∷ []) }
+            ≡ drawing_statements self.old.parts.items
+            ++ drawn_statement (out-Arm arm.now).test ∷ []) }
     {
         let spot = match &arm.note {
             Some(note) => below_note(spot, note),
