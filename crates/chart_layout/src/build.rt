@@ -1,4 +1,10 @@
 //! From the statements of a plan's file to figures.
+ghost use Rattle.std.specs.Prelude.{◌≡◌, ◌++◌, [], ◌∷◌, IsTrue, IfOk, OnOk, map};
+ghost use Rattle.pap_tree.specs.Grammar.{Level, Assignment};
+ghost use Rattle.pap_reader.specs.Trees.{raw_body_of};
+ghost use Rattle.chart_layout.specs.Drawn.{drawn, drawn_statement, arm_statements, body_statements, choice_statements, figures_statements};
+ghost use Rattle.chart_layout.specs.Statements.{expression, execution, statements_of, statements_in, next_number, IsSpelledAs, AreDrawn, Adds};
+
 use crate::choice::{Arm, Choice};
 use crate::figure::{Body, Figure, row_height};
 use crate::note::Note;
@@ -20,15 +26,19 @@ pub struct MethodText {
     pub count: u32,
 }
 
-/// The statements of a method. The walk stands behind its start tag, and goes behind its end tag. `refused` is the number of
-/// the statement for which the plan is refused.
+/// The statements of a method, in the order of the file, with numbers from 0. The walk stands behind its start tag, and goes
+/// behind its end tag. `refused` is the number of the statement for which the plan is refused.
 pub fn read_method(
     alloc: Global,
     name: Name,
     statements: &[RawStmt],
     walk: &mut Walk<'_>,
     refused: Option<u32>,
-) -> Result<MethodText, AllocError> {
+) -> Result<MethodText, AllocError>
+    ensures name { IfOk result (λ method. method.name ≡ name) }
+    ensures statements { IfOk result (λ method.
+        AreDrawn 0 (statements_of (raw_body_of statements.now)) (body_statements method.body)) }
+{
     let mut builder = Builder {
         alloc,
         method: name,
@@ -66,7 +76,11 @@ impl Builder<'_> {
         statements: &[RawStmt],
         depth: u32,
         figures: &mut Vec<Figure>,
-    ) -> Result<(), AllocError> {
+    ) -> Result<(), AllocError>
+        ensures { OnOk result (Adds self.old.count self.new.count
+            (statements_of (raw_body_of statements.now))
+            (figures_statements figures.old.items) (figures_statements figures.new.items)) }
+    {
         for statement in statements {
             self.statement(statement, depth, figures)?;
         }
@@ -80,28 +94,49 @@ impl Builder<'_> {
         statement: &RawStmt,
         depth: u32,
         figures: &mut Vec<Figure>,
-    ) -> Result<(), AllocError> {
+    ) -> Result<(), AllocError>
+        ensures { OnOk result (Adds self.old.count self.new.count (statements_in statement.now)
+            (figures_statements figures.old.items) (figures_statements figures.new.items)) }
+    {
         self.next_tag(depth, figures)?;
         match statement {
-            RawStmt::Eval { exec } => {
-                let text = spelled_assignment(self.alloc, exec)?;
-                let statement = self.written(text, depth, BOX_SIDES)?;
-                push_evaluation(self.alloc, figures, statement)?;
-            }
-            RawStmt::Execute { method } => {
-                let site = self.site();
-                figures.push(Figure::Call(Call::new(site, *method)))?;
-            }
+            RawStmt::Eval { exec } => self.evaluation(exec, depth, figures)?,
+            RawStmt::Execute { method } => self.execution(*method, figures)?,
             RawStmt::If { test, yes, no } => {
                 let text = spelled_test(self.alloc, test)?;
                 let test = self.written(text, depth, TEST_SIDES)?;
                 let then = self.branch(yes, depth.saturating_add(1))?;
                 let otherwise = self.otherwise(no, depth, then.is_empty())?;
-                let choice = joined(self.alloc, test, Body::new(then), otherwise)?;
-                figures.push(Figure::Choice(choice))?;
+                push_choice(self.alloc, figures, test, then, otherwise)?;
             }
         }
         self.next_tag(depth, figures)
+    }
+
+    /// Appends the figures of an EVAL.
+    fn evaluation(
+        &mut self,
+        exec: &[u8],
+        depth: u32,
+        figures: &mut Vec<Figure>,
+    ) -> Result<(), AllocError>
+        ensures { OnOk result (Adds self.old.count self.new.count
+            (expression Assignment exec.now ∷ [])
+            (figures_statements figures.old.items) (figures_statements figures.new.items)) }
+    {
+        let text = spelled_assignment(self.alloc, exec)?;
+        let statement = self.written(text, depth, BOX_SIDES)?;
+        push_evaluation(self.alloc, figures, statement)
+    }
+
+    /// Appends the figure of an EXECUTE.
+    fn execution(&mut self, method: Name, figures: &mut Vec<Figure>) -> Result<(), AllocError>
+        ensures { OnOk result (Adds self.old.count self.new.count (execution method ∷ [])
+            (figures_statements figures.old.items) (figures_statements figures.new.items)) }
+    {
+        let site = self.site();
+        figures.push(Figure::Call(Call::new(site, method)))?;
+        Ok(())
     }
 
     /// The figures of ELSE, none where there is no ELSE. `is_alone` says that THEN has none.
@@ -111,17 +146,23 @@ impl Builder<'_> {
         no: &[RawStmt],
         depth: u32,
         is_alone: bool,
-    ) -> Result<Vec<Figure>, AllocError> {
-        if self.walk.is_at(Element::Else) {
-            self.branch(no, else_depth(depth, is_alone, no))
-        } else {
+    ) -> Result<Vec<Figure>, AllocError>
+        ensures { IfOk result (λ figures. Adds self.old.count self.new.count
+            (statements_of (raw_body_of no.now)) [] (figures_statements figures.items)) }
+    {
+        if no.is_empty() && !self.walk.is_at(Element::Else) {
             Ok(Vec::new(self.alloc))
+        } else {
+            self.branch(no, else_depth(depth, is_alone, no))
         }
     }
 
     /// The figures of a branch, with the comments before its start tag.
     #[cycle(build)]
-    fn branch(&mut self, statements: &[RawStmt], depth: u32) -> Result<Vec<Figure>, AllocError> {
+    fn branch(&mut self, statements: &[RawStmt], depth: u32) -> Result<Vec<Figure>, AllocError>
+        ensures { IfOk result (λ figures. Adds self.old.count self.new.count
+            (statements_of (raw_body_of statements.now)) [] (figures_statements figures.items)) }
+    {
         let mut figures = Vec::new(self.alloc);
         self.next_tag(depth, &mut figures)?;
         self.body(statements, depth, &mut figures)?;
@@ -129,31 +170,30 @@ impl Builder<'_> {
     }
 
     /// Appends the comments before the next tag, and goes past it.
-    fn next_tag(&mut self, depth: u32, figures: &mut Vec<Figure>) -> Result<(), AllocError> {
+    fn next_tag(&mut self, depth: u32, figures: &mut Vec<Figure>) -> Result<(), AllocError>
+        ensures count { self.new.count ≡ self.old.count }
+        ensures same { OnOk result
+            (figures_statements figures.new.items ≡ figures_statements figures.old.items) }
+    {
         let comments = self.walk.next_tag();
-        if comments.is_empty() {
-            return Ok(());
-        }
-        if let Some(Figure::Note(note)) = figures.last_mut() {
-            return note.append(self.alloc, comments, room_at(depth));
-        }
-        let mut note = Note {
-            lines: Vec::new(self.alloc),
-        };
-        note.append(self.alloc, comments, room_at(depth))?;
-        figures.push(Figure::Note(note))?;
-        Ok(())
+        push_comments(self.alloc, figures, comments, room_at(depth))
     }
 
     /// The next statement, of a text that stands in a symbol with so much room at its sides.
-    fn written(&mut self, text: Vec<u8>, depth: u32, sides: u32) -> Result<Statement, AllocError> {
+    fn written(&mut self, text: Vec<u8>, depth: u32, sides: u32) -> Result<Statement, AllocError>
+        ensures count { self.new.count ≡ next_number self.old.count }
+        ensures drawn { IfOk result (λ s. drawn_statement s ≡ drawn self.old.count text.items) }
+    {
         let site = self.site();
         let room = room_at(depth).saturating_sub(sides);
         Statement::new(self.alloc, site, text, room)
     }
 
     /// The place of the next statement.
-    fn site(&mut self) -> Site {
+    fn site(&mut self) -> Site
+        ensures count { self.new.count ≡ next_number self.old.count }
+        ensures number { result.number ≡ self.old.count }
+    {
         let number = self.count;
         self.count = number.saturating_add(1);
         let is_refused = self.refused == Some(number);
@@ -204,39 +244,93 @@ fn is_one_if(statements: &[RawStmt]) -> bool {
     matches!(statements, [RawStmt::If { .. }])
 }
 
+/// Appends comments: to those that stand last, where some do.
+#[tactic(auto, using(crate::proofs::DrawnLemmas::figures_push))]
+fn push_comments(
+    alloc: Global,
+    figures: &mut Vec<Figure>,
+    comments: &[String],
+    room: u32,
+) -> Result<(), AllocError>
+    ensures { OnOk result
+        (figures_statements figures.new.items ≡ figures_statements figures.old.items) }
+{
+    if comments.is_empty() {
+        return Ok(());
+    }
+    let mut note = last_note(alloc, figures)?;
+    note.append(alloc, comments, room)?;
+    figures.push(Figure::Note(note))?;
+    Ok(())
+}
+
+/// Takes out the comments that stand last, if some do.
+#[tactic(auto, using(crate::proofs::DrawnLemmas::figures_push))]
+fn last_note(alloc: Global, figures: &mut Vec<Figure>) -> Result<Note, AllocError>
+    ensures { OnOk result
+        (figures_statements figures.new.items ≡ figures_statements figures.old.items) }
+{
+    match figures.pop() {
+        Some(Figure::Note(note)) => return Ok(note),
+        Some(last) => figures.push(last)?,
+        None => {}
+    }
+    Ok(Note {
+        lines: Vec::new(alloc),
+    })
+}
+
+/// Appends an IF of a test, its THEN and its ELSE.
+fn push_choice(
+    alloc: Global,
+    figures: &mut Vec<Figure>,
+    test: Statement,
+    then: Vec<Figure>,
+    otherwise: Vec<Figure>,
+) -> Result<(), AllocError>
+    ensures { OnOk result (figures_statements figures.new.items
+        ≡ figures_statements figures.old.items
+        ++ (drawn_statement test
+        ∷ (figures_statements then.items ++ figures_statements otherwise.items))) }
+{
+    let choice = joined(alloc, test, Body::new(then), otherwise)?;
+    figures.push(Figure::Choice(choice))?;
+    Ok(())
+}
+
 /// An IF of a test, its THEN and what stands in its ELSE: one IF alone, with comments before it at most, gives its arms.
+#[tactic(auto, using(crate::proofs::DrawnLemmas::figures_push))]
 fn joined(
     alloc: Global,
     test: Statement,
     then: Body,
     mut otherwise: Vec<Figure>,
-) -> Result<Choice, AllocError> {
+) -> Result<Choice, AllocError>
+    ensures { IfOk result (λ choice. choice_statements choice
+        ≡ drawn_statement test ∷ (body_statements then ++ figures_statements otherwise.items)) }
+{
     let first = Arm {
         note: None,
         test,
         then,
     };
-    if !is_one_choice(&otherwise) {
-        return one_arm(alloc, first, otherwise);
-    }
     match otherwise.pop() {
-        Some(Figure::Choice(mut choice)) => {
-            if let Some(next) = choice.arms.last_mut() {
-                next.note = note_of(otherwise.pop());
-            }
-            choice.arms.push(first)?;
-            Ok(choice)
+        Some(Figure::Choice(choice)) if are_comments(&otherwise) => {
+            cascade(first, note_of(otherwise.pop()), choice)
         }
-        _ => one_arm(alloc, first, otherwise),
+        Some(last) => {
+            otherwise.push(last)?;
+            Ok(one_arm(alloc, first, otherwise))
+        }
+        None => Ok(one_arm(alloc, first, otherwise)),
     }
 }
 
-/// Whether figures are one IF, with comments before it at most.
-fn is_one_choice(figures: &[Figure]) -> bool {
-    matches!(
-        figures,
-        [Figure::Choice(_)] | [Figure::Note(_), Figure::Choice(_)]
-    )
+/// Whether figures are comments at most.
+fn are_comments(figures: &[Figure]) -> bool
+    ensures { IsTrue result → figures_statements figures.now ≡ [] }
+{
+    matches!(figures, [] | [Figure::Note(_)])
 }
 
 /// The comments of a figure that is nothing else.
@@ -248,12 +342,36 @@ fn note_of(figure: Option<Figure>) -> Option<Note> {
 }
 
 /// An IF of one arm.
-fn one_arm(alloc: Global, arm: Arm, otherwise: Vec<Figure>) -> Result<Choice, AllocError> {
-    let mut arms = Vec::new(alloc);
-    arms.push(arm)?;
-    Ok(Choice {
-        arms,
+fn one_arm(alloc: Global, first: Arm, otherwise: Vec<Figure>) -> Choice
+    ensures { choice_statements result
+        ≡ arm_statements first ++ figures_statements otherwise.items }
+{
+    Choice {
+        first,
+        later: Vec::new(alloc),
         otherwise: Body::new(otherwise),
+    }
+}
+
+/// An IF of an arm and those of the IF that stands alone in its ELSE, with the comments before that.
+fn cascade(first: Arm, note: Option<Note>, choice: Choice) -> Result<Choice, AllocError>
+    ensures { IfOk result (λ whole. choice_statements whole
+        ≡ arm_statements first ++ choice_statements choice) }
+{
+    let Choice {
+        first: second,
+        mut later,
+        otherwise,
+    } = choice;
+    later.push(Arm {
+        note,
+        test: second.test,
+        then: second.then,
+    })?;
+    Ok(Choice {
+        first,
+        later,
+        otherwise,
     })
 }
 
@@ -261,25 +379,48 @@ fn one_arm(alloc: Global, arm: Arm, otherwise: Vec<Figure>) -> Result<Choice, Al
 const HIGHEST_BOX: Px = Px(900);
 
 /// Appends an EVAL: to the box before it, where that has room.
+#[tactic(auto, using(crate::proofs::DrawnLemmas::figures_push))]
 fn push_evaluation(
     alloc: Global,
     figures: &mut Vec<Figure>,
     statement: Statement,
-) -> Result<(), AllocError> {
-    if let Some(Figure::Box(row)) = figures.last_mut()
-        && row_height(row) + statement.height() + 4 <= HIGHEST_BOX
-    {
-        row.push(statement)?;
-        return Ok(());
-    }
-    let mut row = Vec::new(alloc);
+) -> Result<(), AllocError>
+    ensures { OnOk result (figures_statements figures.new.items
+        ≡ figures_statements figures.old.items ++ drawn_statement statement ∷ []) }
+{
+    let mut row = last_box(alloc, figures, statement.height())?;
     row.push(statement)?;
     figures.push(Figure::Box(row))?;
     Ok(())
 }
 
+/// Takes out the statements of the box that stands last, if it has room for one more of a height.
+#[tactic(auto, using(crate::proofs::DrawnLemmas::figures_push))]
+fn last_box(
+    alloc: Global,
+    figures: &mut Vec<Figure>,
+    height: Px,
+) -> Result<Vec<Statement>, AllocError>
+    ensures { IfOk result (λ row. figures_statements figures.old.items
+        ≡ figures_statements figures.new.items ++ map drawn_statement row.items) }
+{
+    match figures.pop() {
+        Some(Figure::Box(row)) => {
+            if row_height(&row) + height + 4 <= HIGHEST_BOX {
+                return Ok(row);
+            }
+            figures.push(Figure::Box(row))?;
+        }
+        Some(last) => figures.push(last)?,
+        None => {}
+    }
+    Ok(Vec::new(alloc))
+}
+
 /// An assignment in its canonical spelling, or as it is written where it isn't one.
-fn spelled_assignment(alloc: Global, text: &[u8]) -> Result<Vec<u8>, AllocError> {
+fn spelled_assignment(alloc: Global, text: &[u8]) -> Result<Vec<u8>, AllocError>
+    ensures { IfOk result (λ spelling. IsSpelledAs Assignment text.now spelling.items) }
+{
     match parse_assign(alloc, text) {
         Ok((target, value)) => {
             let mut spelled = Vec::from_slice(alloc, target.bytes())?;
@@ -293,7 +434,9 @@ fn spelled_assignment(alloc: Global, text: &[u8]) -> Result<Vec<u8>, AllocError>
 }
 
 /// A test in its canonical spelling, or as it is written where it isn't one.
-fn spelled_test(alloc: Global, text: &[u8]) -> Result<Vec<u8>, AllocError> {
+fn spelled_test(alloc: Global, text: &[u8]) -> Result<Vec<u8>, AllocError>
+    ensures { IfOk result (λ spelling. IsSpelledAs (Level 0) text.now spelling.items) }
+{
     match parse_expr(alloc, text) {
         Ok(test) => print_expr(alloc, &test),
         Err(ExprFault::Memory) => Err(AllocError),

@@ -1,4 +1,6 @@
 //! An IF, with those that stand alone in its ELSE.
+ghost use Rattle.chart_layout.specs.Drawn.{HasShape};
+
 use crate::figure::{Body, End};
 use crate::note::Note;
 use crate::px::Px;
@@ -21,8 +23,9 @@ pub struct Arm {
 #[cycle(figure)]
 #[derive(Drop)]
 pub struct Choice {
-    /// From the last to the first; there is at least one.
-    pub arms: Vec<Arm>,
+    pub first: Arm,
+    /// The other arms, from the last to the second.
+    pub later: Vec<Arm>,
     pub otherwise: Body,
 }
 
@@ -40,24 +43,24 @@ pub(crate) enum Shape {
 }
 
 impl Choice {
-    pub(crate) fn shape(&self) -> Shape {
-        match self.arms.as_slice() {
-            [arm] => match (arm.then.is_empty(), self.otherwise.is_empty()) {
-                (false, true) => Shape::Then,
-                (true, false) => Shape::Else,
-                (true, true) => Shape::Nothing,
-                (false, false) => Shape::Rail,
-            },
-            _ => Shape::Rail,
+    pub(crate) fn shape(&self) -> Shape
+        ensures { HasShape self.now result }
+    {
+        if !self.later.is_empty() {
+            return Shape::Rail;
+        }
+        match (self.first.then.is_empty(), self.otherwise.is_empty()) {
+            (false, true) => Shape::Then,
+            (true, false) => Shape::Else,
+            (true, true) => Shape::Nothing,
+            (false, false) => Shape::Rail,
         }
     }
 
     /// Whether the last arm's branch is all that its end has: there is no ELSE.
     pub(crate) fn ends_in_branch(&self) -> bool {
-        match self.arms.first() {
-            Some(last) => self.otherwise.is_empty() && !last.then.is_empty(),
-            None => false,
-        }
+        let last = self.later.first().unwrap_or(&self.first);
+        self.otherwise.is_empty() && !last.then.is_empty()
     }
 
     /// The room inside its rail, or all where it has none.
@@ -69,8 +72,8 @@ impl Choice {
             End::Spine
         };
         let indent = if shape == Shape::Else { STEP } else { 0 };
-        let mut width = self.otherwise.width(end) + indent;
-        for arm in &self.arms {
+        let mut width = self.first.width(end).or(self.otherwise.width(end) + indent);
+        for arm in &self.later {
             width = width.or(arm.width(end));
         }
         width

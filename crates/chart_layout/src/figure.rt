@@ -1,4 +1,7 @@
 //! What a body is drawn as.
+ghost use Rattle.std.specs.Prelude.{◌≡◌, [], IsTrue};
+ghost use Rattle.chart_layout.specs.Drawn.{body_statements, figures_statements};
+
 use crate::choice::Choice;
 use crate::note::Note;
 use crate::px::Px;
@@ -36,7 +39,9 @@ pub(crate) enum End {
 }
 
 impl Body {
-    pub(crate) fn new(figures: Vec<Figure>) -> Body {
+    pub(crate) fn new(figures: Vec<Figure>) -> Body
+        ensures { body_statements result ≡ figures_statements figures.items }
+    {
         let mut front = Px(0);
         let mut alone = Px(0);
         let mut shared = Px(0);
@@ -52,7 +57,9 @@ impl Body {
         }
     }
 
-    pub fn is_empty(&self) -> bool {
+    pub fn is_empty(&self) -> bool
+        ensures { IsTrue result → body_statements self.now ≡ [] }
+    {
         self.figures.is_empty()
     }
 

@@ -1,4 +1,7 @@
 //! Statements with their texts in lines.
+ghost use Rattle.std.specs.Prelude.{◌≡◌, IfOk};
+ghost use Rattle.chart_layout.specs.Drawn.{drawn, drawn_statement, drawn_call};
+
 use crate::lines::{Line, Room, break_lines};
 use crate::pieces::{Piece, read_pieces};
 use crate::px::{Px, tenths};
@@ -57,7 +60,9 @@ impl Statement {
         site: Site,
         text: Vec<u8>,
         room: u32,
-    ) -> Result<Statement, AllocError> {
+    ) -> Result<Statement, AllocError>
+        ensures { IfOk result (λ s. drawn_statement s ≡ drawn site.number text.items) }
+    {
         let beside = beside_place(site.chars);
         let room = Room {
             first: chars_in(room.saturating_mul(10).saturating_sub(beside)),
@@ -100,7 +105,9 @@ impl Statement {
 }
 
 impl Call {
-    pub(crate) fn new(site: Site, method: Name) -> Call {
+    pub(crate) fn new(site: Site, method: Name) -> Call
+        ensures { drawn_call result ≡ drawn site.number method }
+    {
         let name = tenths(method.bytes().len(), 73);
         let place = tenths(site.chars, 59);
         Call {

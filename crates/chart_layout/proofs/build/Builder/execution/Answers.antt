@@ -1,0 +1,13 @@
+use Rattle.std.proofs.Common.{ap, ◌∙◌}
+use Rattle.chart_layout.specs.Drawn.{drawn_call, figures_statements}
+use Rattle.chart_layout.specs.Statements.{execution}
+use Rattle.chart_layout.proofs.DrawnLemmas.{one_figure, figure_call}
+use Rattle.chart_layout.proofs.AddingLemmas.{adds_one}
+use Rattle.chart_layout.proofs.build.Builder.execution.Goals as goal
+
+pub returns : goal.returns
+returns c =
+    adds_one c.args.self.now.count c.site-site.new.self.count (execution c.args.method) (drawn_call c.new.result)
+    (figures_statements c.args.figures.now.items) (figures_statements c.push.new.self.items)
+    (ap (λ d. d.number) c.new.ensures ∙ c.site-site.ensures.number) (ap (λ d. d.text) c.new.ensures) c.site-site.ensures.count
+    (one_figure c.args.figures.now.items c.push.new.self.items _ _ c.in_ok-push.ensures.items (figure_call c.new.result))

@@ -1,0 +1,13 @@
+use Rattle.std.proofs.Common.{None, refl, sym, ap, ◌∙◌}
+use Rattle.chart_layout.specs.Drawn.{figures_statements}
+use Rattle.chart_layout.proofs.DrawnLemmas.{arm_roll, choice_alone, if_ok}
+use Rattle.chart_layout.proofs.build.joined.Goals as goal
+
+pub returns-in-Some-Choice : goal.returns-in-Some-Choice
+returns-in-Some-Choice c =
+    if_ok c.cascade.result (λ whole is. is
+    ∙ choice_alone c.args.test c.args.then _ c.args.otherwise.items c.pop.new.self.items c.in-Some-Choice.field-0 c.in-Some-Choice.choice
+    (arm_roll (record { note = None; test = c.args.test; then = c.args.then }))
+    c.in-Some-Choice.ensures.items c.in-Some-Choice.field-0-is
+    (ap figures_statements (sym c.deref.ensures.value) ∙ c.if-are_comments.ensures refl))
+    c.cascade.ensures

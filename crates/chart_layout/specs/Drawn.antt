@@ -1,0 +1,103 @@
+-- The statements of a method's figures and of its drawing, in order.
+use Rattle.std.specs.Prelude.{◌≡◌, ℕ, List, [], ◌∷◌, ◌++◌, map, ⊤}
+use Rattle.std.specs.List.{flat_map}
+use Rattle.chart_layout.specs.declared.statement.Statement.{Statement}
+use Rattle.chart_layout.specs.declared.statement.Call.{Call as Execute}
+use Rattle.chart_layout.specs.declared.figure.Figure.{Figure}
+use Rattle.chart_layout.specs.declared.figure.Body.{Body}
+use Rattle.chart_layout.specs.declared.choice.Arm.{Arm, out-Arm}
+use Rattle.chart_layout.specs.declared.choice.Choice.{Choice as AnIf, out-Choice}
+use Rattle.chart_layout.specs.declared.choice.Shape.{Shape}
+use Rattle.chart_layout.specs.declared.choice.Shape.TheVariants as shapes
+use Rattle.chart_layout.specs.declared.figure.Figure.TheOpen.{Figure-F, Note, Box, Call, Choice, Arm-F, Choice-F, Body-F}
+use Rattle.chart_layout.specs.declared.figure.Figure.TheFolds.{fold-Figure, fold-Arm, fold-Choice, fold-Body}
+use Rattle.chart_layout.specs.declared.drawing.Row.{Row}
+use Rattle.chart_layout.specs.declared.drawing.Row.TheVariants as rows
+use Rattle.chart_layout.specs.declared.drawing.Part.{Part}
+
+-- a statement as it is drawn: its number in its method, and its text, of an EXECUTE the name of the method
+pub record Drawn : Type 0 where
+  pub number : ℕ
+  pub text : List ℕ
+
+abbrev pub drawn : ℕ → List ℕ → Drawn
+drawn number text = record { number = number; text = text }
+
+abbrev pub drawn_statement : Statement → Drawn
+drawn_statement s = drawn s.number s.written.text.items
+
+abbrev pub drawn_call : Execute → Drawn
+drawn_call c = drawn c.number c.method
+
+-- ---- of figures: each step is given the statements of the parts
+
+-- the lists one after the other
+abbrev pub joined : List (List Drawn) → List Drawn
+joined [] = []
+joined (l ∷ ls) = l ++ joined ls
+
+-- the same from the last to the first
+abbrev pub joined_back : List (List Drawn) → List Drawn
+joined_back [] = []
+joined_back (l ∷ ls) = joined_back ls ++ l
+
+abbrev pub figure_step : Figure-F (List Drawn) (List Drawn) (List Drawn) (List Drawn) → List Drawn
+figure_step (Note n) = []
+figure_step (Box row) = map drawn_statement row.items
+figure_step (Call c) = drawn_call c ∷ []
+figure_step (Choice c) = c
+
+-- a test stands before its THEN
+abbrev pub arm_step : Arm-F (List Drawn) (List Drawn) (List Drawn) (List Drawn) → List Drawn
+arm_step a = drawn_statement a.test ∷ a.then
+
+-- the later arms stand from the last to the first
+abbrev pub choice_step : Choice-F (List Drawn) (List Drawn) (List Drawn) (List Drawn) → List Drawn
+choice_step c = c.first ++ (joined_back c.later.items ++ c.otherwise)
+
+abbrev pub body_step : Body-F (List Drawn) (List Drawn) (List Drawn) (List Drawn) → List Drawn
+body_step b = joined b.figures.items
+
+abbrev pub figure_statements : Figure → List Drawn
+figure_statements = fold-Figure (List Drawn) (List Drawn) (List Drawn) (List Drawn) figure_step arm_step choice_step body_step
+
+abbrev pub arm_statements : Arm → List Drawn
+arm_statements = fold-Arm (List Drawn) (List Drawn) (List Drawn) (List Drawn) figure_step arm_step choice_step body_step
+
+abbrev pub choice_statements : AnIf → List Drawn
+choice_statements = fold-Choice (List Drawn) (List Drawn) (List Drawn) (List Drawn) figure_step arm_step choice_step body_step
+
+abbrev pub body_statements : Body → List Drawn
+body_statements = fold-Body (List Drawn) (List Drawn) (List Drawn) (List Drawn) figure_step arm_step choice_step body_step
+
+abbrev pub figures_statements : List Figure → List Drawn
+figures_statements figures = joined (map figure_statements figures)
+
+-- ---- of a drawing
+
+abbrev pub row_statements : Row → List Drawn
+row_statements (rows.Box x y width height row) = map drawn_statement row.now
+row_statements (rows.Test x y test) = drawn_statement test.now ∷ []
+row_statements (rows.Call x y call) = drawn_call call.now ∷ []
+row_statements _ = []
+
+abbrev pub part_statements : Part → List Drawn
+part_statements p = flat_map row_statements p.rows.items
+
+-- the statements of a drawing's parts, one row after the other
+abbrev pub drawing_statements : List Part → List Drawn
+drawing_statements parts = flat_map part_statements parts
+
+-- ---- of the ways of an IF
+
+-- what is empty where the branches of an IF come together so
+abbrev pub HasShape : AnIf → Shape → Type 0
+HasShape c shapes.Rail = ⊤
+HasShape c shapes.Then =
+    ((out-Choice c).later.items ≡ []) × (body_statements (out-Choice c).otherwise ≡ [])
+HasShape c shapes.Else =
+    ((out-Choice c).later.items ≡ []) × (body_statements (out-Arm (out-Choice c).first).then ≡ [])
+HasShape c shapes.Nothing =
+    ((out-Choice c).later.items ≡ [])
+    × (body_statements (out-Arm (out-Choice c).first).then ≡ [])
+    × (body_statements (out-Choice c).otherwise ≡ [])

@@ -1,0 +1,66 @@
+-- The statements of a method as they stand in a plan's file, and what is drawn for each.
+use Rattle.std.specs.Prelude.{◌≡◌, ℕ, ◌+◌, ◌-◌, ◌^◌, ◌⊎◌, min, List, [], ◌∷◌, ◌++◌, codes, ⊤}
+use Rattle.pap_tree.specs.Grammar.{Line, Level, Assignment, Meaning, tree, assignment}
+use Rattle.pap_tree.specs.Spelling.{spelling}
+use Rattle.pap_tree.specs.Stopping.{Cause}
+use Rattle.pap_tree.specs.Expressions.{IsAccepted, IsWrong}
+use Rattle.pap_reader.specs.declared.elements.RawStmt.{RawStmt}
+use Rattle.pap_reader.specs.Trees.{RawBody, done, eval, branch, execute, raw_stmt_then}
+use Rattle.chart_layout.specs.Drawn.{Drawn}
+
+-- a statement of the file: the text of its expression, with the line of the grammar that it is read by, or the name of the
+-- method that it executes
+pub data FileStatement : Type 0 where
+  expression : Line → List ℕ → FileStatement
+  execution : List ℕ → FileStatement
+
+-- the statements of a body in the order of the file: a test, its THEN, its ELSE
+abbrev pub statements_of : RawBody → List FileStatement
+statements_of done = []
+statements_of (eval text rest) = expression Assignment text ∷ statements_of rest
+statements_of (branch text a b rest) =
+    expression (Level 0) text ∷ (statements_of a ++ (statements_of b ++ statements_of rest))
+statements_of (execute name rest) = execution name ∷ statements_of rest
+
+-- the canonical spelling of what a text stands for
+abbrev pub spelled : Meaning → List ℕ
+spelled (tree term) = spelling term
+spelled (assignment name term) = name ++ (codes " = " ++ spelling term)
+spelled _ = []
+
+-- an expression is drawn in its canonical spelling; a text that is none, as it is written
+abbrev pub IsSpelledAs : Line → List ℕ → List ℕ → Type 0
+IsSpelledAs line written text =
+    ((x : Meaning) × IsAccepted line written x × (text ≡ spelled x))
+    ⊎ ((cause : Cause) × (at : ℕ) × IsWrong line written cause at × (text ≡ written))
+
+abbrev pub IsDrawnAs : FileStatement → List ℕ → Type 0
+IsDrawnAs (expression line written) text = IsSpelledAs line written text
+IsDrawnAs (execution name) text = text ≡ name
+
+-- the number behind one; the numbers stop at the greatest of 32 bits
+abbrev pub next_number : ℕ → ℕ
+next_number number = min (number + 1) (2 ^ 32 - 1)
+
+abbrev pub number_behind : ℕ → List FileStatement → ℕ
+number_behind number [] = number
+number_behind number (s ∷ ss) = number_behind (next_number number) ss
+
+-- each statement is drawn, in the same order, with its number
+abbrev pub AreDrawn : ℕ → List FileStatement → List Drawn → Type 0
+AreDrawn number [] [] = ⊤
+AreDrawn number (s ∷ ss) (d ∷ ds) = (d.number ≡ number) × IsDrawnAs s d.text × AreDrawn (next_number number) ss ds
+AreDrawn _ _ _ = ⊥
+
+-- ---- what a builder does
+
+-- a statement without those that follow it, and what stands in it
+abbrev pub statements_in : RawStmt → List FileStatement
+statements_in s = statements_of (raw_stmt_then s done)
+
+-- the drawn statements of these are appended, numbered from one number up to the next
+pub record Adds (number next : ℕ) (ss : List FileStatement) (old new : List Drawn) : Type 0 where
+  pub more : List Drawn
+  pub drawn : AreDrawn number ss more
+  pub behind : next ≡ number_behind number ss
+  pub grown : new ≡ old ++ more

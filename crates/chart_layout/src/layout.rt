@@ -1,0 +1,477 @@
+//! The drawing, from the top to the bottom in one pass.
+ghost use Rattle.std.specs.Prelude.{◌≡◌, ◌++◌, [], ◌∷◌, OnOk, IfOk, map};
+ghost use Rattle.chart_layout.specs.declared.choice.Arm.{out-Arm};
+ghost use Rattle.chart_layout.specs.declared.choice.Choice.{out-Choice};
+ghost use Rattle.chart_layout.specs.Drawn.{drawn_statement, drawn_call, joined_back, drawing_statements, body_statements, figure_statements, choice_statements, arm_statements};
+
+use crate::build::MethodText;
+use crate::choice::{Arm, Choice, STEP, Shape};
+use crate::drawing::{Anchor, Drawing, Row, Word};
+use crate::figure::{Body, End, Figure, row_height, row_width};
+use crate::note::Note;
+use crate::pen::Pen;
+use crate::px::{Px, tenths};
+use crate::statement::{Call, Statement};
+use pap_tree::Name;
+use std::alloc::{AllocError, Global};
+
+/// How far a part reaches from its top to the end of its last symbol.
+const LONGEST_PART: u32 = 1070;
+
+/// How far a spine is from its body's left edge.
+const SPINE: u32 = 28;
+
+/// The drawing of a method. Takes time linear in its statements.
+pub fn draw(alloc: Global, method: &MethodText) -> Result<Drawing<'_>, AllocError>
+    ensures { IfOk result (λ drawing.
+        drawing_statements drawing.parts.items ≡ body_statements method.now.body) }
+{
+    let mut pen = Pen::new(alloc);
+    let left = Px(2);
+    let start = start_width(&method.name);
+    pen.row(Row::Start {
+        x: left,
+        y: left,
+        width: start,
+    })?;
+    let below = Spot::at(left + 30);
+    let end = pen.body(&method.body, left, below, None)?;
+    let y = end.y + 20;
+    pen.enter(left + SPINE, end.from, y)?;
+    let last = end_width(&method.name);
+    pen.row(Row::End {
+        x: left,
+        y,
+        width: last,
+    })?;
+    Ok(Drawing {
+        width: method.body.width(End::Spine).or(start).or(last) + 4,
+        height: y + 32,
+        parts: pen.parts,
+    })
+}
+
+/// The width of the symbol with which a method begins.
+fn start_width(name: &Name) -> Px {
+    terminator_width(name.bytes().len())
+}
+
+/// The width of the symbol with which a method ends: END or RETURN.
+fn end_width(name: &Name) -> Px {
+    terminator_width(if *name == Name::main() { 3 } else { 6 })
+}
+
+fn terminator_width(chars: usize) -> Px {
+    (Px::of_tenths(tenths(chars, 80)) + 32).or(Px(56))
+}
+
+/// How far a body is drawn.
+#[derive(Clone, Copy)]
+pub(crate) struct Spot<'a> {
+    /// Where the line of its spine ends so far.
+    from: Px,
+    /// The height at which the next figure is put.
+    y: Px,
+    /// The comments that stand last, which aren't drawn yet, and their top.
+    note: Option<(Px, &'a Note)>,
+}
+
+impl<'a> Spot<'a> {
+    /// A spine that ends at a height.
+    fn at(y: Px) -> Spot<'a> {
+        Spot {
+            from: y,
+            y,
+            note: None,
+        }
+    }
+}
+
+/// A test that is drawn, with the lines that leave it.
+#[derive(Clone, Copy)]
+struct Fork {
+    /// The left edge of its body.
+    x: Px,
+    /// The height of its lower edge.
+    bottom: Px,
+    /// The part in which it stands.
+    part: usize,
+}
+
+impl Fork {
+    fn spine(&self) -> Px {
+        self.x + SPINE
+    }
+
+    /// The spine of its branch.
+    fn side(&self) -> Px {
+        self.x + (SPINE + STEP)
+    }
+}
+
+/// A rail that is met by the branches of an IF.
+#[derive(Clone, Copy)]
+struct Ending {
+    rail: usize,
+    /// The rail is the IF's own, and comes back where it ends.
+    is_own: bool,
+}
+
+impl<'a> Pen<'a> {
+    /// Makes room for a symbol of a height below a spot, in a new part where it would end too far below the top of this one,
+    /// and draws the comments above it and the line into it. Its upper edge.
+    fn place(&mut self, x: Px, spot: Spot<'a>, height: Px) -> Result<Px, AllocError>
+        ensures { OnOk result (drawing_statements self.new.parts.items
+            ≡ drawing_statements self.old.parts.items) }
+    {
+        let y = spot.y + 20;
+        let cut = match spot.note {
+            Some((top, _)) => top - 2,
+            None => y - 8,
+        };
+        let top = self.top(self.last());
+        if y + height > top + LONGEST_PART && cut > top {
+            self.begin_part(cut)?;
+        }
+        self.note(x, spot)?;
+        self.enter(x + SPINE, spot.from, y)?;
+        Ok(y)
+    }
+
+    /// Draws the comments that stand last.
+    fn note(&mut self, x: Px, spot: Spot<'a>) -> Result<(), AllocError>
+        ensures { OnOk result (drawing_statements self.new.parts.items
+            ≡ drawing_statements self.old.parts.items) }
+    {
+        match spot.note {
+            Some((y, note)) => self.row(Row::Note {
+                x: x + SPINE,
+                y,
+                note,
+            }),
+            None => Ok(()),
+        }
+    }
+
+    /// Draws a body from a spot on, and answers where it ends. Where its end leads to a rail, an IF at its end takes that.
+    #[cycle(draw)]
+    fn body(
+        &mut self,
+        body: &'a Body,
+        x: Px,
+        spot: Spot<'a>,
+        rail: Option<usize>,
+    ) -> Result<Spot<'a>, AllocError>
+        ensures { OnOk result (drawing_statements self.new.parts.items
+            ≡ drawing_statements self.old.parts.items ++ body_statements body.now) }
+    {
+        let mut spot = spot;
+        let count = body.figures.len();
+        for (i, figure) in body.figures.iter().enumerate() {
+            let rail = if i + 1 == count { rail } else { None };
+            spot = self.figure(figure, x, spot, rail)?;
+        }
+        self.note(x, spot)?;
+        Ok(Spot { note: None, ..spot })
+    }
+
+    /// Draws a figure.
+    #[cycle(draw)]
+    fn figure(
+        &mut self,
+        figure: &'a Figure,
+        x: Px,
+        spot: Spot<'a>,
+        rail: Option<usize>,
+    ) -> Result<Spot<'a>, AllocError>
+        ensures { OnOk result (drawing_statements self.new.parts.items
+            ≡ drawing_statements self.old.parts.items ++ figure_statements figure.now) }
+    {
+        match figure {
+            Figure::Note(note) => Ok(below_note(spot, note)),
+            Figure::Box(row) => self.evaluations(row, x, spot),
+            Figure::Call(call) => self.call(call, x, spot),
+            Figure::Choice(choice) => self.choice(choice, x, spot, rail),
+        }
+    }
+
+    /// Draws the box of some statements.
+    fn evaluations(
+        &mut self,
+        row: &'a [Statement],
+        x: Px,
+        spot: Spot<'a>,
+    ) -> Result<Spot<'a>, AllocError>
+        ensures { OnOk result (drawing_statements self.new.parts.items
+            ≡ drawing_statements self.old.parts.items ++ map drawn_statement row.now) }
+    {
+        let height = row_height(row);
+        let width = row_width(row);
+        let y = self.place(x, spot, height)?;
+        self.row(Row::Box {
+            x,
+            y,
+            width,
+            height,
+            row,
+        })?;
+        Ok(Spot::at(y + height))
+    }
+
+    /// Draws an EXECUTE.
+    fn call(&mut self, call: &'a Call, x: Px, spot: Spot<'a>) -> Result<Spot<'a>, AllocError>
+        ensures { OnOk result (drawing_statements self.new.parts.items
+            ≡ drawing_statements self.old.parts.items ++ drawn_call call.now ∷ []) }
+    {
+        let y = self.place(x, spot, Px(34))?;
+        self.row(Row::Call { x, y, call })?;
+        Ok(Spot::at(y + 34))
+    }
+
+    /// Draws an IF.
+    #[cycle(draw)]
+    fn choice(
+        &mut self,
+        choice: &'a Choice,
+        x: Px,
+        spot: Spot<'a>,
+        rail: Option<usize>,
+    ) -> Result<Spot<'a>, AllocError>
+        ensures { OnOk result (drawing_statements self.new.parts.items
+            ≡ drawing_statements self.old.parts.items ++ choice_statements choice.now) }
+    {
+        let first = &choice.first;
+        match choice.shape() {
+            Shape::Then => {
+                let fork = self.test(first, x, spot)?;
+                self.one_way(fork, &first.then, Word::Yes)
+            }
+            Shape::Else => {
+                let fork = self.test(first, x, spot)?;
+                self.one_way(fork, &choice.otherwise, Word::No)
+            }
+            Shape::Nothing => {
+                let fork = self.test(first, x, spot)?;
+                self.either(fork)
+            }
+            Shape::Rail => self.ways(choice, x, spot, rail),
+        }
+    }
+
+    /// Draws the test of an arm, with the comments above it.
+    fn test(&mut self, arm: &'a Arm, x: Px, spot: Spot<'a>) -> Result<Fork, AllocError>
+        ensures { OnOk result (drawing_statements self.new.parts.items
+            ≡ drawing_statements self.old.parts.items
+            ++ drawn_statement (out-Arm arm.now).test ∷ []) }
+    {
+        let spot = match &arm.note {
+            Some(note) => below_note(spot, note),
+            None => spot,
+        };
+        let height = arm.test.test_height();
+        let y = self.place(x, spot, height)?;
+        let test = &arm.test;
+        self.row(Row::Test { x, y, test })?;
+        Ok(Fork {
+            x,
+            bottom: y + height,
+            part: self.last(),
+        })
+    }
+
+    /// Draws the branch of a test to the right, and answers where it ends, with the word beside its beginning.
+    #[cycle(draw)]
+    fn branch(
+        &mut self,
+        fork: Fork,
+        branch: &'a Body,
+        word: Word,
+        rail: Option<usize>,
+    ) -> Result<Spot<'a>, AllocError>
+        ensures { OnOk result (drawing_statements self.new.parts.items
+            ≡ drawing_statements self.old.parts.items ++ body_statements branch.now) }
+    {
+        let y = fork.bottom + 8;
+        self.vertical(fork.side(), fork.bottom, y)?;
+        self.word(
+            fork.part,
+            fork.side() + 6,
+            fork.bottom + 16,
+            word,
+            Anchor::Begins,
+        )?;
+        self.body(branch, fork.x + STEP, Spot::at(y), rail)
+    }
+
+    /// Draws the spine beside a branch, and its word.
+    fn beside(&mut self, fork: Fork, end: Px, word: Word) -> Result<(), AllocError>
+        ensures { OnOk result (drawing_statements self.new.parts.items
+            ≡ drawing_statements self.old.parts.items) }
+    {
+        self.vertical(fork.spine(), fork.bottom, end)?;
+        self.word(
+            fork.part,
+            fork.spine() - 6,
+            fork.bottom + 16,
+            word,
+            Anchor::Ends,
+        )
+    }
+
+    /// Draws the one branch that a test has: to the right and back.
+    #[cycle(draw)]
+    fn one_way(&mut self, fork: Fork, branch: &'a Body, word: Word) -> Result<Spot<'a>, AllocError>
+        ensures { OnOk result (drawing_statements self.new.parts.items
+            ≡ drawing_statements self.old.parts.items ++ body_statements branch.now) }
+    {
+        let end = self.branch(fork, branch, word, None)?;
+        let y = end.y + 12;
+        self.vertical(fork.side(), end.from, y)?;
+        self.beside(fork, y, other(word))?;
+        self.horizontal(fork.spine(), y, fork.side())?;
+        self.head(fork.spine(), y, true)?;
+        Ok(Spot::at(y))
+    }
+
+    /// Draws the line of a test that leads down both ways.
+    fn either(&mut self, fork: Fork) -> Result<Spot<'a>, AllocError>
+        ensures { OnOk result (drawing_statements self.new.parts.items
+            ≡ drawing_statements self.old.parts.items) }
+    {
+        let y = fork.bottom + 26;
+        self.vertical(fork.spine(), fork.bottom, y)?;
+        let x = fork.spine() + 6;
+        self.word(
+            fork.part,
+            x,
+            fork.bottom + 16,
+            Word::YesOrNo,
+            Anchor::Begins,
+        )?;
+        Ok(Spot::at(y))
+    }
+
+    /// Draws an IF whose branches come together by a rail: that to which the end of its body leads, or one of its own.
+    #[cycle(draw)]
+    fn ways(
+        &mut self,
+        choice: &'a Choice,
+        x: Px,
+        spot: Spot<'a>,
+        rail: Option<usize>,
+    ) -> Result<Spot<'a>, AllocError>
+        ensures { OnOk result (drawing_statements self.new.parts.items
+            ≡ drawing_statements self.old.parts.items ++ choice_statements choice.now) }
+    {
+        let shared = match rail {
+            Some(shared) => shared,
+            None => self.new_rail(x + choice.inner() + 18)?,
+        };
+        let is_own = rail.is_none();
+        let ending = Ending {
+            rail: shared,
+            is_own,
+        };
+        let end = self.arms(choice, x, spot, ending)?;
+        let end = self.body(&choice.otherwise, x, end, Some(shared))?;
+        if !is_own {
+            return Ok(end);
+        }
+        let y = if choice.ends_in_branch() {
+            end.y
+        } else {
+            end.y + 14
+        };
+        self.close_rail(shared, x + SPINE, end.from, y)?;
+        Ok(Spot::at(y))
+    }
+
+    /// Draws the arms of an IF, whose branches go to a rail.
+    #[cycle(draw)]
+    fn arms(
+        &mut self,
+        choice: &'a Choice,
+        x: Px,
+        spot: Spot<'a>,
+        ending: Ending,
+    ) -> Result<Spot<'a>, AllocError>
+        ensures { OnOk result (drawing_statements self.new.parts.items
+            ≡ drawing_statements self.old.parts.items
+            ++ (arm_statements (out-Choice choice.now).first
+            ++ joined_back (map arm_statements (out-Choice choice.now).later.items))) }
+    {
+        let has_else = !choice.otherwise.is_empty();
+        let mut left = choice.later.len();
+        let mut spot = self.arm(&choice.first, x, spot, ending, left == 0 && !has_else)?;
+        while left > 0 {
+            left -= 1;
+            spot = self.arm(&choice.later[left], x, spot, ending, left == 0 && !has_else)?;
+        }
+        Ok(spot)
+    }
+
+    /// Draws an arm whose branch goes to a rail. Where the branch is all that is left and the rail is the IF's own, it ends at the
+    /// spine, to which the rail comes back there.
+    #[cycle(draw)]
+    fn arm(
+        &mut self,
+        arm: &'a Arm,
+        x: Px,
+        spot: Spot<'a>,
+        ending: Ending,
+        is_end: bool,
+    ) -> Result<Spot<'a>, AllocError>
+        ensures { OnOk result (drawing_statements self.new.parts.items
+            ≡ drawing_statements self.old.parts.items ++ arm_statements arm.now) }
+    {
+        let fork = self.test(arm, x, spot)?;
+        if is_end && arm.then.is_empty() {
+            self.either(fork)
+        } else {
+            self.to_rail(fork, &arm.then, ending.rail, is_end && ending.is_own)
+        }
+    }
+
+    /// Draws a branch that ends at a rail, or at the spine where the rail comes back.
+    #[cycle(draw)]
+    fn to_rail(
+        &mut self,
+        fork: Fork,
+        branch: &'a Body,
+        rail: usize,
+        is_closing: bool,
+    ) -> Result<Spot<'a>, AllocError>
+        ensures { OnOk result (drawing_statements self.new.parts.items
+            ≡ drawing_statements self.old.parts.items ++ body_statements branch.now) }
+    {
+        let end = self.branch(fork, branch, Word::Yes, Some(rail))?;
+        let y = end.y + if branch.is_empty() { 14 } else { 12 };
+        self.vertical(fork.side(), end.from, y)?;
+        if is_closing {
+            self.beside(fork, y, Word::No)?;
+            return Ok(Spot::at(y));
+        }
+        self.meet_rail(rail, fork.side(), y)?;
+        self.beside(fork, y + 2, Word::No)?;
+        Ok(Spot::at(y + 2))
+    }
+}
+
+/// The spot below comments.
+fn below_note<'a>(spot: Spot<'a>, note: &'a Note) -> Spot<'a> {
+    let top = spot.y + 14;
+    Spot {
+        from: spot.from,
+        y: top + note.height(),
+        note: Some((top, note)),
+    }
+}
+
+/// The word of the other way.
+fn other(word: Word) -> Word {
+    match word {
+        Word::Yes => Word::No,
+        Word::No => Word::Yes,
+        Word::YesOrNo => Word::YesOrNo,
+    }
+}
