@@ -13,7 +13,7 @@ use Rattle.pap_types.proofs.Laws.{cost_at_most}
 use Rattle.call_order.proofs.Laws.{bound_small}
 use Rattle.pap_plan.proofs.Laws.{counted}
 use Rattle.pay_run.specs.Runs.{filled, run_cost}
-use Rattle.pay_run.specs.RunClauses.{most_steps}
+use Rattle.pap_types.specs.Limits.{most_steps}
 use Rattle.pay_run.proofs.Laws.{cost_is}
 use Rattle.saved_items.specs.SavedBooks.{IsWork}
 use Rattle.book_year.specs.Accepted.{Accepted}
