@@ -8,6 +8,7 @@ use Rattle.pap_machine.specs.Code.{Program}
 use Rattle.pap_types.specs.Meaning.{bound_of}
 use Rattle.pap_types.specs.Counts.{IsWithinCounts}
 use Rattle.interval_walk.specs.Admission.{HaveLimits}
+use Rattle.pap_compiler.specs.CodeDecisions.{compiled}
 use Rattle.pap_compiler.specs.Correct.{IsCodeOf}
 use Rattle.interval_analysis.specs.declared.verdict.OutputRange.{OutputRange}
 use Rattle.pap_plan.specs.Acceptance.{IsAccepted}
@@ -55,3 +56,4 @@ pub record IsKept (p : Seen) (most : ℕ) (inputs : List Slot) : Type 0 where
   pub bound : most ≡ bound_of (flowchart_of p.text)
   pub slots : AreSlots p.ranges (flowchart_of p.text).inputs inputs
   pub code : IsCodeOf (flowchart_of p.text) p.code
+  pub compiled : p.code ≡ compiled (flowchart_of p.text)

@@ -1,6 +1,7 @@
 //! An accepted plan.
 ghost use Rattle.std.specs.Prelude.{◌≡◌, ◌≤◌, ◌+◌, ◌↔◌, IsTrue, ℕ, List, Some, IfOk, length, map};
 ghost use Rattle.scaled_decimal.specs.Decimals.{Decimal};
+ghost use Rattle.pap_compiler.specs.CodeDecisions.{compiled};
 ghost use Rattle.pap_compiler.specs.Correct.{IsCodeOf};
 ghost use Rattle.pap_machine.specs.Machine.{IsMadeFor, HoldAt};
 ghost use Rattle.pap_types.specs.Limits.{most_steps};
@@ -121,9 +122,10 @@ impl Plan {
         &self.spec
     }
 
-    /// The code of the plan's text.
+    /// The code of the plan's text: the compiled one, in which each method stands once.
     pub fn code(&self) -> &Code
         ensures code { result.now ≡ self.now.code }
+        ensures compiled { self.now.code ≡ compiled (flowchart self.now) }
         ensures of_text { IsCodeOf (flowchart self.now) self.now.code }
     {
         &self.code
