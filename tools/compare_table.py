@@ -4,13 +4,15 @@
 The first row of the table names its columns: inputs of the flowchart and outputs that are expected of it. Each further row is one run.
 Each expected amount that isn't the computed one is listed, with the line that shows the run's trace and the statement that put the
 amount. An empty cell gives no input, and expects nothing. The status is 0 where all is as expected, 1 where it isn't, 2 where the
-flowchart, its range file or the table is refused. With a fifth word, a row's number, the trace of that row is printed."""
+flowchart, its range file or the table is refused, a column is neither an input nor an output, or no amount is expected. With a fifth word,
+a row's number, the trace of that row is printed."""
 import csv
 import os
 import subprocess
 import sys
 import tempfile
-from decimal import Decimal
+import tomllib
+from decimal import Decimal, InvalidOperation
 
 sys.path.insert(0, os.path.join(os.path.dirname(os.path.abspath(__file__)), "..", "examples", "clients"))
 from client import Payroll, Refused  # noqa: E402
@@ -26,6 +28,36 @@ def outputs_of(program, plan, limits):
     if done.returncode:
         give_up(lines[0] if lines else "the flowchart can't be checked")
     return [line.split(" ")[0] for line in lines[1:]]
+
+
+def read_table(path, inputs, outputs):
+    """The rows and the columns of a test table whose columns are inputs and outputs, or an end with status 2."""
+    try:
+        with open(path, encoding="utf-8-sig", newline="") as text:
+            reader = csv.DictReader(text, restval="")
+            rows, columns = list(reader), reader.fieldnames or []
+    except (OSError, UnicodeDecodeError) as fault:
+        give_up(f"{path}: {fault}")
+    for name in columns:
+        if name not in inputs and name not in outputs:
+            give_up(f"{path}: the column {name} is neither an input nor an output of the flowchart")
+    expected = [name for name in columns if name in outputs]
+    if not any(row[name] for row in rows for name in expected):
+        give_up(f"{path}: no amount is expected")
+    for number, row in enumerate(rows, 1):
+        if None in row:
+            give_up(f"{path}: row {number} has more cells than columns")
+        for name in expected:
+            if row[name] and not is_number(row[name]):
+                give_up(f"{path}: row {number}, {name}: {row[name]} is no number (a point stands before the places)")
+    return rows, columns
+
+
+def is_number(text):
+    try:
+        return Decimal(text).is_finite()
+    except InvalidOperation:
+        return False
 
 
 def give_up(reason):
@@ -86,9 +118,9 @@ def compare(payroll, rows, expected):
 
 def main(program, plan, limits, table, *number):
     outputs = outputs_of(program, plan, limits)
-    with open(table, encoding="utf-8-sig", newline="") as text:
-        reader = csv.DictReader(text, restval="")
-        rows, columns = list(reader), reader.fieldnames
+    with open(limits, "rb") as text:
+        inputs = tomllib.load(text)["input"]
+    rows, columns = read_table(table, inputs, outputs)
     with Payroll(program) as payroll:
         try:
             payroll.ask("plan", DAY, plan, limits)
@@ -102,4 +134,6 @@ def main(program, plan, limits, table, *number):
 
 
 if __name__ == "__main__":
+    if len(sys.argv) not in (5, 6):
+        sys.exit(__doc__)
     sys.exit(main(*sys.argv[1:]))

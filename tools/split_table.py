@@ -1,10 +1,12 @@
 #!/usr/bin/env python3
 """A table of more pay runs than one book holds: split_table.py split TABLE FOLDER [RUNS], and split_table.py join ANSWERS ..
 
-`split` writes the tables FOLDER/part-0001.csv, .. of at most RUNS runs each (50,000 where none is said), and prints their names. All
-runs of an employee stand in one of them, and the employees are taken in order of their bytes. `join` takes what `papcalc run` answered
+`split` writes the tables FOLDER/part-0001.csv, .. of at most RUNS runs each (50,000 where none is said), and prints their names; parts of
+an earlier split in that folder, and their answers, are taken away. All runs of an employee stand in one part, and the employees are taken
+in order of their bytes. `join` takes what `papcalc run` answered
 to the scripts of these tables, in the same order, and prints their reports as one report: that of all runs."""
 import csv
+import glob
 import os
 import sys
 
@@ -44,6 +46,8 @@ def parts_of(table, most_runs):
 def split(table, folder, most_runs=MOST_RUNS):
     parts = parts_of(table, int(most_runs))
     os.makedirs(folder, exist_ok=True)
+    for old in glob.glob(glob.escape(folder) + "/part-[0-9]*.csv*"):
+        os.remove(old)
     names = [f"{folder}/part-{number + 1:04d}.csv" for number in range(max(parts.values(), default=-1) + 1)]
     files = [open(name, "w", encoding="utf-8", newline="") for name in names]
     writers = [csv.writer(file, lineterminator="\n") for file in files]
@@ -72,4 +76,9 @@ def join(*answers):
 
 
 if __name__ == "__main__":
-    {"split": split, "join": join}[sys.argv[1]](*sys.argv[2:])
+    if sys.argv[1:2] == ["split"] and len(sys.argv) in (4, 5):
+        split(*sys.argv[2:])
+    elif sys.argv[1:2] == ["join"] and sys.argv[2:]:
+        join(*sys.argv[2:])
+    else:
+        sys.exit(__doc__)

@@ -38,7 +38,7 @@ public final class Client {
 
         Payroll(String program) throws IOException {
             process = new ProcessBuilder(program, "run").redirectError(ProcessBuilder.Redirect.INHERIT).start();
-            lines = new BufferedWriter(new OutputStreamWriter(process.getOutputStream(), StandardCharsets.US_ASCII));
+            lines = new BufferedWriter(new OutputStreamWriter(process.getOutputStream(), StandardCharsets.US_ASCII.newEncoder()));
             answers = new BufferedReader(new InputStreamReader(process.getInputStream(), StandardCharsets.US_ASCII));
         }
 
