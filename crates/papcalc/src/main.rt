@@ -16,7 +16,8 @@ use steps::Steps;
 
 const USAGE: &str =
     "usage: papcalc check PLAN LIMITS | papcalc once PLAN LIMITS NAME=VALUE .. | papcalc run < SCRIPT | \
-    papcalc save < SCRIPT | papcalc sample N";
+    papcalc save < SCRIPT | papcalc sample N (1 to 200) | papcalc --help; a VALUE is a number as 450000 or -12.50, without signs between \
+    thousands, and each NAME stands once";
 
 const REFUSED_LINES: &str =
     "papcalc: some lines of the script were refused: their answers begin with `refused`, and they changed nothing; \
@@ -135,7 +136,9 @@ fn explain(rt: &HostRuntime, status: Status, failed_name: Option<&str>) {
 /// Says on standard error which file can't be read, in one line whatever its name is. That this may fail changes nothing.
 fn explain_file_fault(rt: &HostRuntime, name: &str) {
     if let Ok(name) = one_line(rt.alloc(), name) {
-        let _ = eprintln!(rt; "papcalc: the file {name} can't be read");
+        let _ = eprintln!(rt;
+            "papcalc: the file `{name}` can't be read: is it there, and a file, not a folder?"
+        );
     }
 }
 
