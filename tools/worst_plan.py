@@ -1,12 +1,34 @@
 #!/usr/bin/env python3
-"""The flowchart that takes `check` longest, of those we know: worst_plan.py FOLDER writes FOLDER/worst.xml and FOLDER/worst.toml.
+"""The flowcharts that take `check` longest, of those we know: worst_plan.py FOLDER [CALLS] writes worst.xml and nested.xml with their range
+files into FOLDER; CALLS has MAIN execute its method fewer times than it could.
 
-It has 1,024 internals and, in a method that MAIN executes 128 times, as many tests as a file may have bytes for: each joins 241 comparisons
-by `&&`, each of which narrows the range of another internal."""
+worst.xml has 1,024 internals and, in a method that MAIN executes 128 times, as many tests as a file may have bytes for: each joins 241
+comparisons by `&&`, each of which narrows the range of another internal.
+
+nested.xml is as deep as a flowchart may be: 63 methods, each of which executes the next within 32 IFs, and the last of which changes 1,023
+internals. Both branches of each IF can be reached, so behind each what is inside is joined with what was before."""
 import sys
 
-INTERNALS, CALLS, COMPARISONS = 1_024, 128, 241
+INTERNALS, COMPARISONS = 1_024, 241
+WORST_CALLS, NESTED_CALLS = 128, 64
+METHODS, DEPTH = 63, 32
 MOST_BYTES = 1_048_576
+RANGES = "[input.X]\nlow = 0\nhigh = 100_000\nplaces = 0\n"
+
+
+def front(calls):
+    internals = "".join(f'<INTERNAL name="A{number}" type="int"/>' for number in range(INTERNALS))
+    sets = "".join(f'<EVAL exec="A{number} = X"/>' for number in range(INTERNALS))
+    executes = '<EXECUTE method="M0"/>' * calls
+    return (f'<PAP><VARIABLES><INPUTS><INPUT name="X" type="int"/></INPUTS><OUTPUTS><OUTPUT name="Y" type="int"/></OUTPUTS>'
+            f'<INTERNALS>{internals}</INTERNALS></VARIABLES>\n<METHODS><MAIN>{sets}{executes}</MAIN>\n')
+
+
+BACK = "</METHODS></PAP>\n"
+
+
+def method(number, body):
+    return f'<METHOD name="M{number}">\n{body}</METHOD>\n'
 
 
 def test(number):
@@ -14,27 +36,41 @@ def test(number):
     return f'<IF expr="{"&amp;&amp;".join(compared)}"><THEN><EVAL exec="Y=1"/></THEN></IF>\n'
 
 
-def plan():
-    internals = "".join(f'<INTERNAL name="A{number}" type="int"/>' for number in range(INTERNALS))
-    sets = "".join(f'<EVAL exec="A{number} = X"/>' for number in range(INTERNALS))
-    calls = '<EXECUTE method="T"/>' * CALLS
-    front = (f'<PAP><VARIABLES><INPUTS><INPUT name="X" type="int"/></INPUTS><OUTPUTS><OUTPUT name="Y" type="int"/></OUTPUTS>'
-             f'<INTERNALS>{internals}</INTERNALS></VARIABLES>\n<METHODS><MAIN>{sets}{calls}</MAIN>\n<METHOD name="T">\n')
-    back = "</METHOD></METHODS></PAP>\n"
-    tests = [test(0)]
-    left = MOST_BYTES - len(front) - len(back) - len(tests[0])
+def worst(calls):
+    begin = front(calls)
+    left = MOST_BYTES - len(begin + method(0, "") + BACK)
+    tests = []
     while len(following := test(len(tests))) <= left:
         tests.append(following)
         left -= len(following)
-    return front + "".join(tests) + back
+    return begin + method(0, "".join(tests)) + BACK
 
 
-def main(folder):
-    with open(f"{folder}/worst.xml", "w") as file:
-        file.write(plan())
-    with open(f"{folder}/worst.toml", "w") as file:
-        file.write("[input.X]\nlow = 0\nhigh = 100_000\nplaces = 0\n")
+def inside(number, body):
+    """A list of statements within the IFs of a method, each of which tests another bound than the IFs around it."""
+    levels = range(number * DEPTH, (number + 1) * DEPTH)
+    tests = "".join(f'<IF expr="A0&gt;{level}"><THEN>' for level in levels)
+    return tests + body + "</THEN></IF>" * DEPTH + "\n"
+
+
+def nested(calls):
+    executes = [f'<EXECUTE method="M{number + 1}"/>' for number in range(METHODS - 1)]
+    changes = "".join(f'<EVAL exec="A{number} = A{number} + 1"/>' for number in range(1, INTERNALS))
+    methods = [method(number, inside(number, body)) for number, body in enumerate([*executes, changes])]
+    return front(calls) + "".join(methods) + BACK
+
+
+def write(folder, name, plan):
+    with open(f"{folder}/{name}.xml", "w") as file:
+        file.write(plan)
+    with open(f"{folder}/{name}.toml", "w") as file:
+        file.write(RANGES)
+
+
+def main(folder, calls=None):
+    write(folder, "worst", worst(int(calls or WORST_CALLS)))
+    write(folder, "nested", nested(int(calls or NESTED_CALLS)))
 
 
 if __name__ == "__main__":
-    main(sys.argv[1])
+    main(*sys.argv[1:])

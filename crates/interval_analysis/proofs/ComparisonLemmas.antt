@@ -24,7 +24,7 @@ use Rattle.interval_num.specs.Rows.{Answer, comparison_row}
 use Rattle.pap_types.specs.declared.kinds.NodeKind.{NodeKind}
 use Rattle.pap_types.specs.declared.kinds.NodeKind.TheVariants as kinds
 use Rattle.pap_types.specs.Safety.{bits_of}
-use Rattle.pap_types.specs.Scopes.{Scope, constant_in}
+use Rattle.pap_types.specs.Scopes.{Scope, constant_in, number_of}
 use Rattle.pap_types.specs.Kinds.{is_whole, is_int, is_big, kind_of, kind_of_one, kind_of_two, kind_of_operator, takes_one, takes_operator, takes_two, shown_divisor, shows_plain_divisor, int_literal}
 use Rattle.interval_walk.specs.Ranges.{Ranges, single}
 use Rattle.interval_walk.specs.Failures.{NodeFault, and_then, at_node}
@@ -47,11 +47,17 @@ use Rattle.interval_analysis.specs.declared.shapes.Two.{Two}
 use Rattle.interval_analysis.specs.declared.shapes.Two.TheVariants as twos
 use Rattle.interval_analysis.specs.ShapeViews.{TakesOne, TakesTwo, one_meant, two_meant}
 use Rattle.interval_analysis.specs.declared.expressions.Walk.{Walk}
-use Rattle.interval_analysis.specs.PlanViews.{IsSized, scope_in, ranges_in}
-use Rattle.interval_analysis.specs.ComparisonViews.{HasRange, branches_in}
+use Rattle.interval_analysis.specs.PlanViews.{IsSized, scope_in, variable_in, variables_in, ranges_in, branches_in}
+use Rattle.interval_analysis.specs.ComparisonViews.{HasRange, Ways, branches_by, sides_of}
+use Rattle.interval_analysis.proofs.NameLemmas as names
+use Rattle.interval_analysis.proofs.NameLemmas.{named_by}
+use Rattle.interval_analysis.proofs.NarrowLemmas.{branches_named, named_ways, ways_named}
+use Rattle.pap_tree.specs.declared.plan.PlanText.{PlanText}
+use Rattle.std.specs.Prelude.{slice_get}
+use Rattle.std.proofs.lemmas.Option.{slice_get_cases}
 use Rattle.interval_analysis.specs.OperationViews.{TakesUnary, TakesWholes, TakesShown, IsPlainShown}
 use Rattle.interval_analysis.specs.ExpressionViews.{AreRanged, CanWalk, CanWalkTwo, IsRanged, StopsAs, ranged_in, second_in}
-use Rattle.interval_analysis.specs.TestViews.{AreSides, ComparisonAnswer, IsInner, IsPassed, IsPlainComparison, OrderAnswer, TestsAs, comparison, comparison_in, is_compare_to, order_compared, order_node, sides_compared}
+use Rattle.interval_analysis.specs.TestViews.{AreSides, ComparesAs, ComparisonAnswer, IsInner, IsPassed, IsPlainComparison, OrderAnswer, TestsAs, comparison, comparison_in, is_compare_to, order_compared, order_node, sides_compared}
 use Rattle.interval_analysis.proofs.NodeLemmas.{can_item, can_one, can_two, left_shape, right_shape, shape, stops_first, stops_two}
 
 -- a number that is made longer
@@ -139,21 +145,34 @@ pub right_whole : (j k : NodeKind) (b : Interval) (w : Bool) → w ≡ (is_whole
 right_whole j k b true e h = (shape_bits k b (both (is_whole j) (is_whole k) (sym e)).1 h).whole
 right_whole j k b false e h = tt
 
--- a name's range is the variable's
-pub has_range : (scope : Scope) (e : Term) (at : ℕ) (env : Ranges) (a : Interval) → ranged scope e at env ≡ Ok a → HasRange e a env
-has_range scope (leaf (named x)) at env a h = λ v is.
-    let read = (leaf_shape scope (named x) env a (passed_node at (leaf_range scope (named x) env) a h)).0 in
-    let named = ap (λ o. option_or o (option_map single (constant_in scope x))) is in
-    cc
-has_range scope (leaf (whole i)) at env a h = tt
-has_range scope (leaf (long i)) at env a h = tt
-has_range scope (leaf (point d)) at env a h = tt
-has_range scope (leaf (text d)) at env a h = tt
-has_range scope (leaf (known k)) at env a h = tt
-has_range scope (item x t) at env a h = tt
-has_range scope (one op t) at env a h = tt
-has_range scope (two op t u) at env a h = tt
-has_range scope (choice t u v) at env a h = tt
+-- the range of an expression that is a variable's name is the variable's
+pub has_range : (w : Walk) (e : Term) (at : ℕ) (rs : List Interval) (r : Ranged) → IsSized w.plan.now rs → IsRanged w e at rs r → HasRange r rs
+has_range w e at rs r sized h n is = by e h.range (sym is ∙ h.variable)
+  where
+    of_name : (x : List ℕ) → ranged_in w (leaf (named x)) at rs ≡ Ok r.range → Some n ≡ number_of (variables_in w.plan.now) x → slice_get rs n ≡ Some r.range
+    of_name x range number =
+        let env = ranges_in w.plan.now rs in
+        let scope = scope_in w.plan.now in
+        let read = (leaf_shape scope (named x) env r.range (passed_node at (leaf_range scope (named x) env) r.range range)).0 in
+        let there = named_by (variables_in w.plan.now) rs x n sized (sym number) in
+        let within = (names.number_in (variables_in w.plan.now) x n (sym number)).1 in
+        elim (slice_get_cases rs n).1 [
+          | inl here ↦ (let own = ap (λ o. option_or o (option_map single (constant_in scope x))) (there ∙ here.2) in
+              let same : Some here.0 ≡ Some r.range = cc in here.2 ∙ same)
+          | inr past ↦ absurd (omega (arith, within, past.0, sized))
+        ]
+
+    by : (e : Term) → ranged_in w e at rs ≡ Ok r.range → Some n ≡ variable_in w.plan.now e → slice_get rs n ≡ Some r.range
+    by (leaf (named x)) range number = of_name x range number
+    by (leaf (whole i)) range number = absurd (cc)
+    by (leaf (long i)) range number = absurd (cc)
+    by (leaf (point d)) range number = absurd (cc)
+    by (leaf (text d)) range number = absurd (cc)
+    by (leaf (known k)) range number = absurd (cc)
+    by (item x t) range number = absurd (cc)
+    by (one op t) range number = absurd (cc)
+    by (two op t u) range number = absurd (cc)
+    by (choice t u v) range number = absurd (cc)
 
 -- ---- a comparison of two sides
 
@@ -188,14 +207,23 @@ module _ (op : Binary) (w : Bool) (direct : meant.Sides) (env : Ranges) where
 
 -- ---- both, from the ranges of the sides
 
--- a result of tests, by another that is the same
-same_tests : (w : Walk) (q r : Result meant.Branches NodeFault) (m n : ℕ) (now rs : List Interval) (res : Result Tested Stop) → r ≡ q → n ≡ m → now ≡ rs → TestsAs w q m now res → TestsAs w r n rs res
+-- what is compared by the numbers of the variables is tested by their names
+same_tests : (w : Walk) (q : Result Ways NodeFault) (r : Result meant.Branches NodeFault) (m n : ℕ) (now rs : List Interval) (res : Result Tested Stop) → r ≡ and_then q (λ ways. Ok (named_ways w.plan.now ways)) → n ≡ m → now ≡ rs → ComparesAs q m now res → TestsAs w r n rs res
 same_tests w q r m n now rs (Ok t) is end same h = record {
-  branches = is ∙ h.branches ∙ ap (λ rs. Ok (branches_in w.plan.now rs t.branches)) same;
+  branches =
+      is
+      ∙ ap (λ q. and_then q (λ ways. Ok (named_ways w.plan.now ways))) h.branches
+      ∙ ap Ok (ways_named w.plan.now now t.branches)
+      ∙ ap (λ rs. Ok (branches_in w.plan.now rs t.branches)) same;
   next = h.next ∙ sym end;
 }
-same_tests w q r m n now rs (Err (At i c)) is end same h = is ∙ h
+same_tests w q r m n now rs (Err (At i c)) is end same h = is ∙ ap (λ q. and_then q (λ ways. Ok (named_ways w.plan.now ways))) h
 same_tests w q r m n now rs (Err Memory) is end same h = tt
+
+-- ways behind a node
+behind_node : {A : Type 0} (p : PlanText) (q : Result A NodeFault) (ways : Ways) → and_then q (λ _. Ok (named_ways p ways)) ≡ and_then (and_then q (λ _. Ok ways)) (λ ways. Ok (named_ways p ways))
+behind_node p (Ok a) ways = refl
+behind_node p (Err e) ways = refl
 
 module _ (w : Walk) (op : Binary) (e f : Term) (at : ℕ) (rs : List Interval) (o : Operands) (h : AreRanged w e f at rs o) where
   abbrev scope : Scope
@@ -214,17 +242,23 @@ module _ (w : Walk) (op : Binary) (e f : Term) (at : ℕ) (rs : List Interval) (
       ap (λ q. and_then q (λ a. and_then (ranged scope f (at + nodes e) env) (go a))) h.first.range
       ∙ ap (λ q. and_then q (go o.first.range)) (ap (λ n. ranged scope f n env) (sym h.first.next) ∙ h.second.range)
 
-  sides_are : IsPlainComparison e f → comparison_in w (comparison op e f) at env ≡ sides_compared w op e f o rs
-  sides_are plain =
+  -- the branches of the sides
+  ways_are : IsSized w.plan.now rs → (x : Bool) (s : SignSet) → meant.branches_of x s (sides e f o.first.range o.second.range) env ≡ named_ways w.plan.now (branches_by (sides_of o x) s rs)
+  ways_are sized x s = branches_named w.plan.now (sides_of o x) e f h.first.variable h.second.variable rs sized s
+
+  sides_are : IsSized w.plan.now rs → IsPlainComparison e f → comparison_in w (comparison op e f) at env ≡ and_then (sides_compared op o rs) (λ ways. Ok (named_ways w.plan.now ways))
+  sides_are sized plain =
       behind (λ a b. and_then (at_node (at + nodes e + nodes f) (comparison_range op a b)) (λ r. Ok (compared op (are_whole scope e f) (sides e f a b) (compare_sides scope e at env) (int_literal f) env)))
       ∙ ap₂ (λ n br. and_then (at_node n (comparison_range op o.first.range o.second.range)) (λ r. Ok br)) end_is
       (plain_compared op (are_whole scope e f) (sides e f o.first.range o.second.range) env scope e f at plain
-      ∙ ap₂ (λ j k. meant.branches_of (is_whole j && is_whole k) (signs_where op (pos 0)) (sides e f o.first.range o.second.range) env) (sym h.first.kind) (sym h.second.kind))
+      ∙ ap₂ (λ j k. meant.branches_of (is_whole j && is_whole k) (signs_where op (pos 0)) (sides e f o.first.range o.second.range) env) (sym h.first.kind) (sym h.second.kind)
+      ∙ ways_are sized (is_whole o.first.kind && is_whole o.second.kind) (signs_where op (pos 0)))
+      ∙ behind_node w.plan.now (at_node o.second.next (comparison_range op o.first.range o.second.range)) (branches_by (sides_of o (is_whole o.first.kind && is_whole o.second.kind)) (signs_where op (pos 0)) rs)
 
-  pub sides_answer : (now : List Interval) (res : Result Tested Stop) → now ≡ rs → IsPlainComparison e f → TestsAs w (sides_compared w op e f o now) (o.second.next + 1) now res → ComparisonAnswer w (comparison op e f) at rs res
-  sides_answer now res same plain tests =
-      same_tests w (sides_compared w op e f o now) (comparison_in w (comparison op e f) at env) (o.second.next + 1) (at + nodes e + nodes f + 1) now rs res
-      (sides_are plain ∙ ap (sides_compared w op e f o) (sym same)) (ap (λ n. n + 1) end_is) same tests
+  pub sides_answer : (now : List Interval) (res : Result Tested Stop) → now ≡ rs → IsSized w.plan.now rs → IsPlainComparison e f → ComparesAs (sides_compared op o now) (o.second.next + 1) now res → ComparisonAnswer w (comparison op e f) at rs res
+  sides_answer now res same sized plain tests =
+      same_tests w (sides_compared op o now) (comparison_in w (comparison op e f) at env) (o.second.next + 1) (at + nodes e + nodes f + 1) now rs res
+      (sides_are sized plain ∙ ap (λ rs. and_then (sides_compared op o rs) (λ ways. Ok (named_ways w.plan.now ways))) (sym same)) (ap (λ n. n + 1) end_is) same tests
 
   -- the sides of a compareTo
   module _ (k : ℤ) where
@@ -260,14 +294,20 @@ module _ (w : Walk) (op : Binary) (e f : Term) (at : ℕ) (rs : List Interval) (
             at_literal (Err x) = refl
             at_literal (Ok l) = refl
 
-pub order_answer : (w : Walk) (op : Binary) (e f : Term) (i : Inner) (at : ℕ) (now rs : List Interval) (o : Operands) (res : Result Tested Stop) → now ≡ rs → IsInner e f i → AreRanged w (term_of i.left.now) (term_of i.right.now) at rs o → TestsAs w (order_compared w op (term_of i.left.now) (term_of i.right.now) i.number o now) (o.second.next + 3) now res → ComparisonAnswer w (comparison op e f) at rs res
-order_answer w op e f i at now rs o res same inner h tests =
+pub order_answer : (w : Walk) (op : Binary) (e f : Term) (i : Inner) (at : ℕ) (now rs : List Interval) (o : Operands) (res : Result Tested Stop) → now ≡ rs → IsSized w.plan.now rs → IsInner e f i → AreRanged w (term_of i.left.now) (term_of i.right.now) at rs o → ComparesAs (order_compared op i.number o now) (o.second.next + 3) now res → ComparisonAnswer w (comparison op e f) at rs res
+order_answer w op e f i at now rs o res same sized inner h tests =
     let x = term_of i.left.now in
     let y = term_of i.right.now in
     let t = two (method calls.CompareTo) x y in
+    let k = i.number in
+    let node = order_node op k o.first.range o.second.range o.second.next in
+    let ways =
+    ap (λ br. and_then node (λ _. Ok br)) (ways_are w op x y at rs o h sized false (signs_where op k))
+    ∙ behind_node w.plan.now node (branches_by (sides_of o false) (signs_where op k) rs)
+    ∙ ap (λ rs. and_then (order_compared op k o rs) (λ ways. Ok (named_ways w.plan.now ways))) (sym same) in
     let whole_answer : ComparisonAnswer w (comparison op t (leaf (whole i.number))) at rs res =
-    same_tests w (order_compared w op x y i.number o now) (comparison_in w (comparison op t (leaf (whole i.number))) at (ranges_in w.plan.now rs)) (o.second.next + 3) (at + nodes t + nodes (leaf (whole i.number)) + 1) now rs res
-    (order_are w op x y at rs o h i.number ∙ ap (order_compared w op x y i.number o) (sym same)) (omega (arith, h.first.next, h.second.next)) same tests in
+    same_tests w (order_compared op k o now) (comparison_in w (comparison op t (leaf (whole i.number))) at (ranges_in w.plan.now rs)) (o.second.next + 3) (at + nodes t + nodes (leaf (whole i.number)) + 1) now rs res
+    (order_are w op x y at rs o h k ∙ ways) (omega (arith, h.first.next, h.second.next)) same tests in
     subst (λ e. ComparisonAnswer w (comparison op e f) at rs res) (sym inner.left)
     (subst (λ f. ComparisonAnswer w (comparison op t f) at rs res) (sym inner.right) whole_answer)
 
@@ -287,17 +327,13 @@ order_stops w op e f i at rs stop inner h =
 
 module _ (w : Walk) (e f : Term) (at : ℕ) (now rs : List Interval) (o : Operands) where
   -- the sides of a comparison, where their ranges are those of variables that are left as they were
-  pub are_sides : now ≡ rs → IsSized w.plan.now rs → CanWalkTwo w e f at → AreRanged w e f at rs o → AreSides w.plan.now e f o now
+  pub are_sides : now ≡ rs → IsSized w.plan.now rs → CanWalkTwo w e f at → AreRanged w e f at rs o → AreSides o now
   are_sides same sized can h =
-      let p = w.plan.now in
-      let scope = scope_in p in
-      let env = ranges_in p rs in
-      subst (AreSides p e f o) (sym same) (record {
-        sized = sized;
+      subst (AreSides o) (sym same) (record {
         left_shape = left_shape w at rs e f o can h;
         right_shape = right_shape w at rs e f o can h;
-        left = has_range scope e at env o.first.range h.first.range;
-        right = has_range scope f o.first.next env o.second.range h.second.range;
+        left = has_range w e at rs o.first sized h.first;
+        right = has_range w f o.first.next rs o.second sized h.second;
       })
 
 pub can_inner : (w : Walk) (op : Binary) (e f : Term) (i : Inner) (at : ℕ) → IsInner e f i → CanWalk w (two (operator op) e f) at → CanWalkTwo w (term_of i.left.now) (term_of i.right.now) at

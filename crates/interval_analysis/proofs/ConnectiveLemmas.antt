@@ -17,10 +17,9 @@ use Rattle.interval_analysis.specs.declared.branches.Connective.TheVariants.{And
 use Rattle.interval_analysis.specs.declared.conditions.Followed.{Followed}
 use Rattle.interval_analysis.specs.declared.expressions.Walk.{Walk}
 use Rattle.interval_analysis.specs.Changes.{changed, turned_changes}
-use Rattle.interval_analysis.specs.ComparisonViews.{branches_in}
 use Rattle.interval_analysis.specs.Connectives.{IsFollowedTo, behind_both, connected, reached_in, there_if, turned}
 use Rattle.interval_analysis.specs.TestViews.{IsTestedAs, tested_in}
-use Rattle.interval_analysis.specs.PlanViews.{ranges_in, ranges_after}
+use Rattle.interval_analysis.specs.PlanViews.{ranges_in, ranges_after, branches_in}
 
 turned_twice : (c : Connective) (br : meant.Branches) → turned c (turned c br) ≡ br
 turned_twice And br = refl

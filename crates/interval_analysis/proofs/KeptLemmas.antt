@@ -18,7 +18,9 @@ use Rattle.pap_tree.specs.Term.{Term, leaf, item, one, two, choice, whole, long,
 use Rattle.interval_num.specs.Intervals.{Interval, IsWholeOfBits}
 use Rattle.pap_types.specs.declared.kinds.NodeKind.{NodeKind}
 use Rattle.pap_types.specs.Scopes.{Scope, names_of, number_of, declared_as, declaration_in, at_factor_scale}
-use Rattle.pap_types.specs.Kinds.{suits, is_factor_literal, has_few_places, kind_of}
+use Rattle.pap_tree.specs.Declarations.{Declaration}
+use Rattle.pap_types.specs.declared.kinds.NodeKind.TheVariants.{Int}
+use Rattle.pap_types.specs.Kinds.{declared_kind, name_kind, suits, is_factor_literal, has_few_places, kind_of}
 use Rattle.pap_types.specs.Typing.{TargetSuits}
 use Rattle.pap_types.proofs.Laws.{declared_by}
 use Rattle.interval_walk.specs.Ranges.{Ranges, single, put_range}
@@ -26,7 +28,7 @@ use Rattle.interval_walk.specs.NodeRanges.{leaf_range}
 use Rattle.interval_walk.specs.Ranged.{ranged}
 use Rattle.interval_walk.proofs.Laws.{leaf_shape, passed_node}
 use Rattle.interval_walk.specs.Walked.{range_kept_as, assigned_range}
-use Rattle.interval_analysis.specs.PlanViews.{IsSized, scope_in, variables_in, ranges_in}
+use Rattle.interval_analysis.specs.PlanViews.{IsSized, kind_at, scope_in, variables_in, ranges_in}
 use Rattle.interval_analysis.proofs.NameLemmas.{number_in, put_by, put_none}
 use Rattle.interval_analysis.specs.StatementViews.{FitsFactor, CanKeep, CanPut}
 
@@ -111,6 +113,14 @@ variable_of scope x i number =
       | inl here ↦ (let is : declared_as vs x ≡ Some here.0 = sym at ∙ here.2 in rw is refl)
       | inr past ↦ absurd (omega (arith, within, past.0, length-map vs (λ d. d.name)))
     ]
+
+-- it stands at its number
+pub declared_at : (vs : List Declaration) (x : List ℕ) (i : ℕ) → Some i ≡ number_of (names_of vs) x → slice_get vs i ≡ declared_as vs x
+declared_at vs x i number = declared_by vs x (names_of vs) (Some i) refl number
+
+pub kind_by : (scope : Scope) (x : List ℕ) (i : ℕ) → Some i ≡ number_of (names_of scope.variables) x → kind_at scope i ≡ name_kind scope x
+kind_by scope x i number =
+    ap (λ o. option_map_or (λ d. declared_kind d.kind) o Int) (declared_at scope.variables x i number ∙ sym (variable_of scope x i number))
 
 pub put_kept : (p : PlanText) (rs : List Interval) (x : List ℕ) (a kept : Interval) (i : ℕ) → IsSized p rs → Some i ≡ number_of (variables_in p) x → kept ≡ option_map_or (λ d. range_kept_as d.kind a) (declared_as (scope_in p).variables x) a → ranges_in p (set rs i kept) ≡ assigned_range (scope_in p) x a (ranges_in p rs)
 put_kept p rs x a kept i sized number is =

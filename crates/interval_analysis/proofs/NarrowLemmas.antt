@@ -1,70 +1,126 @@
--- A side of a comparison that is a variable's name.
-use Rattle.std.proofs.Common.{◌≡◌, ℕ, Bool, List, [], ◌∷◌, ◌++◌, length, Option, Some, None, sym, ap, ◌∙◌}
-use Rattle.std.specs.Prelude.{slice_get}
-use Rattle.std.specs.Option.{option_map}
+-- A side of a comparison, by the number of its variable and by its name.
+use Rattle.std.proofs.Common.{◌≡◌, ℕ, ◌<◌, true, false, ◌++◌, Bool, List, [], ◌∷◌, length, set, Option, Some, None, refl, sym, ap, ap₂, ◌∙◌, arith, inl, inr}
+use Rattle.std.specs.Prelude.{if◌then◌else◌, slice_get, slice_set}
+use Rattle.std.specs.Option.{option_map, option_and_then}
+use Rattle.std.proofs.lemmas.List.{length-set}
+use Rattle.std.proofs.lemmas.Option.{slice_get_cases}
 use Rattle.pap_tree.specs.declared.plan.PlanText.{PlanText}
 use Rattle.pap_tree.specs.Term.{Term, leaf, item, one, two, choice, whole, long, point, text, known, named}
 use Rattle.pap_types.specs.Scopes.{number_of}
 use Rattle.interval_num.specs.declared.sign_set.SignSet.{SignSet}
 use Rattle.interval_num.specs.Intervals.{Interval}
 use Rattle.interval_num.specs.Refinement.{refined}
+use Rattle.interval_num.specs.Signs.{signs_of}
 use Rattle.interval_walk.specs.Ranges.{Ranges, range_named, put_range}
-use Rattle.interval_walk.specs.Branches.{narrowed, narrowed_name}
+use Rattle.interval_walk.specs.Branches as meant
+use Rattle.interval_walk.specs.Branches.{can_have, exchanged, others}
+use Rattle.interval_analysis.specs.declared.branches.Branches.{Branches}
 use Rattle.interval_analysis.specs.declared.branches.Change.{Change}
-use Rattle.interval_analysis.specs.Changes.{changed}
-use Rattle.interval_analysis.specs.PlanViews.{variables_in, ranges_in, IsSized}
-use Rattle.interval_analysis.specs.ComparisonViews.{name_in, CanNarrow, CanRefine}
-use Rattle.interval_analysis.proofs.NameLemmas.{named_by, named_none, put_by}
-use Rattle.interval_analysis.proofs.ChangeLemmas.{length-changed, changed-append}
+use Rattle.interval_analysis.specs.declared.comparisons.Against.{Against}
+use Rattle.interval_analysis.specs.declared.comparisons.Sides.{Sides}
+use Rattle.interval_analysis.specs.Changes.{changed, ranges_left}
+use Rattle.interval_analysis.specs.PlanViews.{variable_in, variables_in, ranges_in, ranges_after, branches_in, IsSized}
+use Rattle.interval_analysis.specs.ComparisonViews.{Ways, against, branch_by, branches_by, narrowed, ways_in}
+use Rattle.interval_analysis.proofs.NameLemmas.{named_by, named_none, number_in, put_by}
+use Rattle.interval_analysis.proofs.ChangeLemmas.{changed-append}
+use Rattle.std.proofs.Common.{Vec, Global}
 
--- what is made of the side is made of its name
-narrowed_is : (w : Bool) (s : SignSet) (t : Term) (e : Interval) (env : Ranges) (x : List ℕ) → name_in t ≡ Some x → narrowed w s t e env ≡ narrowed_name w s x e env (range_named env x)
-narrowed_is w s (leaf (named y)) e env x h = let same : y ≡ x = cc in ap (λ z. narrowed_name w s z e env (range_named env z)) same
-narrowed_is w s (leaf (whole i)) e env x h = absurd (cc)
-narrowed_is w s (leaf (long i)) e env x h = absurd (cc)
-narrowed_is w s (leaf (point d)) e env x h = absurd (cc)
-narrowed_is w s (leaf (text d)) e env x h = absurd (cc)
-narrowed_is w s (leaf (known k)) e env x h = absurd (cc)
-narrowed_is w s (item y t) e env x h = absurd (cc)
-narrowed_is w s (one op t) e env x h = absurd (cc)
-narrowed_is w s (two op t u) e env x h = absurd (cc)
-narrowed_is w s (choice t u v) e env x h = absurd (cc)
+-- one more change of a variable that is refined
+pub narrowed_more : (n : ℕ) (a : Against) (rs : List Interval) (cs more : List Change) (now new : Interval) (c : Change) → slice_get (changed rs cs) n ≡ Some now → refined now a.range a.allowed a.whole ≡ Some new → more ≡ cs ++ (c ∷ []) → c ≡ record { number = n; range = new } → Some (changed rs more) ≡ narrowed (Some n) a (changed rs cs)
+narrowed_more n a rs cs more now new c there made items is =
+    ap (λ l. Some (changed rs l)) (items ∙ ap (λ d. cs ++ (d ∷ [])) is)
+    ∙ ap Some (changed-append rs cs (record { number = n; range = new } ∷ []))
+    ∙ sym (ap (option_and_then (λ v. option_map (slice_set (changed rs cs) n) (refined v a.range a.allowed a.whole))) there
+    ∙ ap (option_map (slice_set (changed rs cs) n)) made)
 
-pub can_refine : (w : Bool) (t : Term) (e : Interval) (env : Ranges) (x : List ℕ) (v : Interval) → name_in t ≡ Some x → CanNarrow w t e env → range_named env x ≡ Some v → CanRefine w v e
-can_refine w (leaf (named y)) e env x v h can is = let same : y ≡ x = cc in can v (ap (range_named env) same ∙ is)
-can_refine w (leaf (whole i)) e env x v h can is = absurd (cc)
-can_refine w (leaf (long i)) e env x v h can is = absurd (cc)
-can_refine w (leaf (point d)) e env x v h can is = absurd (cc)
-can_refine w (leaf (text d)) e env x v h can is = absurd (cc)
-can_refine w (leaf (known k)) e env x v h can is = absurd (cc)
-can_refine w (item y t) e env x v h can is = absurd (cc)
-can_refine w (one op t) e env x v h can is = absurd (cc)
-can_refine w (two op t u) e env x v h can is = absurd (cc)
-can_refine w (choice t u r) e env x v h can is = absurd (cc)
+-- nothing is left of it
+pub narrowed_nothing : (n : ℕ) (a : Against) (rs : List Interval) (now : Interval) → slice_get rs n ≡ Some now → refined now a.range a.allowed a.whole ≡ None → None ≡ narrowed (Some n) a rs
+narrowed_nothing n a rs now there made =
+    sym (ap (option_and_then (λ v. option_map (slice_set rs n) (refined v a.range a.allowed a.whole))) there
+    ∙ ap (option_map (slice_set rs n)) made)
 
-module _ (p : PlanText) (rs : List Interval) (cs : List Change) (x : List ℕ) (sized : IsSized p rs) where
-  sized_after : length (changed rs cs) ≡ length (variables_in p)
-  sized_after = length-changed rs cs ∙ sized
+-- ---- by name
 
-  -- the range of a variable after changes
-  pub range_after : (i : ℕ) (v : Interval) → Some i ≡ number_of (variables_in p) x → slice_get (changed rs cs) i ≡ Some v → range_named (ranges_in p (changed rs cs)) x ≡ Some v
-  range_after i v number at = named_by (variables_in p) (changed rs cs) x i sized_after (sym number) ∙ at
+module _ (p : PlanText) where
+  -- the ranges of a branch by name
+  abbrev pub named_ways : Ways → meant.Branches
+  named_ways w = record { holds = option_map (ranges_in p) w.holds; fails = option_map (ranges_in p) w.fails }
 
-  -- one more change
-  pub put_after : (i : ℕ) (a : Interval) (c : Change) → Some i ≡ number_of (variables_in p) x → c ≡ record { number = i; range = a } → ranges_in p (changed rs (cs ++ (c ∷ []))) ≡ put_range (ranges_in p (changed rs cs)) x a
-  put_after i a c number is =
-      ap (λ d. ranges_in p (changed rs (cs ++ (d ∷ [])))) is
-      ∙ ap (ranges_in p) (changed-append rs cs (record { number = i; range = a } ∷ []))
-      ∙ sym (put_by (variables_in p) (changed rs cs) x a i sized_after (sym number))
+  after_is : (rs : List Interval) (o : Option (Vec Change Global)) → option_map (ranges_in p) (ranges_left rs o) ≡ ranges_after p rs o
+  after_is rs None = refl
+  after_is rs (Some cs) = refl
 
-  module _ (w : Bool) (s : SignSet) (t : Term) (e : Interval) (name : Some x ≡ name_in t) where
-    narrowed_at : (o : Option Interval) → range_named (ranges_in p (changed rs cs)) x ≡ o → narrowed w s t e (ranges_in p (changed rs cs)) ≡ narrowed_name w s x e (ranges_in p (changed rs cs)) o
-    narrowed_at o is = narrowed_is w s t e (ranges_in p (changed rs cs)) x (sym name) ∙ ap (narrowed_name w s x e (ranges_in p (changed rs cs))) is
+  pub ways_named : (rs : List Interval) (b : Branches) → named_ways (ways_in rs b) ≡ branches_in p rs b
+  ways_named rs b = ap₂ (λ (h f : Option Ranges). record { holds = h; fails = f }) (after_is rs b.holds) (after_is rs b.fails)
 
-    -- no variable has the name
-    pub narrowed_none : None ≡ number_of (variables_in p) x → narrowed w s t e (ranges_in p (changed rs cs)) ≡ Some (ranges_in p (changed rs cs))
-    narrowed_none number = narrowed_at None (named_none (variables_in p) (changed rs cs) x sized_after (sym number))
+  module _ (a : Against) (rs : List Interval) (sized : IsSized p rs) where
+    abbrev env : Ranges
+    env = ranges_in p rs
 
-    -- the variable of the name is refined
-    pub narrowed_some : (v : Interval) (o : Option Interval) → range_named (ranges_in p (changed rs cs)) x ≡ Some v → refined v e s w ≡ o → narrowed w s t e (ranges_in p (changed rs cs)) ≡ option_map (put_range (ranges_in p (changed rs cs)) x) o
-    narrowed_some v o is made = narrowed_at (Some v) is ∙ ap (option_map (put_range (ranges_in p (changed rs cs)) x)) made
+    put_named : (x : List ℕ) (n : ℕ) (o : Option Interval) → number_of (variables_in p) x ≡ Some n → option_map (put_range env x) o ≡ option_map (ranges_in p) (option_map (slice_set rs n) o)
+    put_named x n None number = refl
+    put_named x n (Some v) number = ap Some (put_by (variables_in p) rs x v n sized number)
+
+    by_number : (x : List ℕ) (o : Option ℕ) → number_of (variables_in p) x ≡ o → meant.narrowed_name a.whole a.allowed x a.range env (range_named env x) ≡ option_map (ranges_in p) (narrowed o a rs)
+    by_number x None number = ap (meant.narrowed_name a.whole a.allowed x a.range env) (named_none (variables_in p) rs x sized number)
+    by_number x (Some n) number =
+        let within = (number_in (variables_in p) x n number).1 in
+        ap (meant.narrowed_name a.whole a.allowed x a.range env) (named_by (variables_in p) rs x n sized number)
+        ∙ elim (slice_get_cases rs n).1 [
+          | inl here ↦
+              ap (meant.narrowed_name a.whole a.allowed x a.range env) here.2
+              ∙ put_named x n (refined here.0 a.range a.allowed a.whole) number
+              ∙ sym (ap (λ o. option_map (ranges_in p) (option_and_then (λ v. option_map (slice_set rs n) (refined v a.range a.allowed a.whole)) o)) here.2)
+          | inr past ↦ absurd (omega (arith, within, past.0, sized))
+        ]
+
+    plain : (v : Option ℕ) → v ≡ None → Some env ≡ option_map (ranges_in p) (narrowed v a rs)
+    plain v e = sym (ap (λ o. option_map (ranges_in p) (narrowed o a rs)) e)
+
+    -- a side that stands against another
+    pub narrow_named : (t : Term) (v : Option ℕ) → v ≡ variable_in p t → meant.narrowed a.whole a.allowed t a.range env ≡ option_map (ranges_in p) (narrowed v a rs)
+    narrow_named (leaf (named x)) v e = by_number x (number_of (variables_in p) x) refl ∙ ap (λ o. option_map (ranges_in p) (narrowed o a rs)) (sym e)
+    narrow_named (leaf (whole i)) v e = plain v e
+    narrow_named (leaf (long i)) v e = plain v e
+    narrow_named (leaf (point d)) v e = plain v e
+    narrow_named (leaf (text d)) v e = plain v e
+    narrow_named (leaf (known k)) v e = plain v e
+    narrow_named (item x t) v e = plain v e
+    narrow_named (one op t) v e = plain v e
+    narrow_named (two op t u) v e = plain v e
+    narrow_named (choice t u z) v e = plain v e
+
+    sized_set : (n : ℕ) (o : Option Interval) (ss : List Interval) → option_and_then (λ v. option_map (slice_set rs n) (refined v a.range a.allowed a.whole)) o ≡ Some ss → IsSized p ss
+    sized_set n None ss is = absurd (cc)
+    sized_set n (Some v) ss is = by (refined v a.range a.allowed a.whole) is
+      where
+        by : (q : Option Interval) → option_map (slice_set rs n) q ≡ Some ss → IsSized p ss
+        by None is = absurd (cc)
+        by (Some r) is = let same : set rs n r ≡ ss = cc in sym (ap length same) ∙ length-set rs n r ∙ sized
+
+    narrowed_sized : (v : Option ℕ) (ss : List Interval) → narrowed v a rs ≡ Some ss → IsSized p ss
+    narrowed_sized None ss is = let same : rs ≡ ss = cc in sym (ap length same) ∙ sized
+    narrowed_sized (Some n) ss is = sized_set n (slice_get rs n) ss is
+
+  module _ (s : Sides) (e f : Term) (left : s.left.variable ≡ variable_in p e) (right : s.right.variable ≡ variable_in p f) (rs : List Interval) (sized : IsSized p rs) where
+    second_named : (allowed : SignSet) (o : Option (List Interval)) → narrowed s.left.variable (against s.right.range allowed s.whole) rs ≡ o
+        → option_and_then (meant.narrowed s.whole (exchanged allowed) f s.left.range) (option_map (ranges_in p) o) ≡ option_map (ranges_in p) (option_and_then (narrowed s.right.variable (against s.left.range (exchanged allowed) s.whole)) o)
+    second_named allowed None is = refl
+    second_named allowed (Some ss) is = narrow_named (against s.left.range (exchanged allowed) s.whole) ss (narrowed_sized (against s.right.range allowed s.whole) rs sized s.left.variable ss is) f s.right.variable right
+
+    branch_named : (allowed : SignSet) → meant.branch_of s.whole allowed (meant.sides e f s.left.range s.right.range) (ranges_in p rs) ≡ option_map (ranges_in p) (branch_by s allowed rs)
+    branch_named allowed = by (can_have allowed (signs_of s.left.range s.right.range))
+      where
+        after : Option (List Interval)
+        after = narrowed s.left.variable (against s.right.range allowed s.whole) rs
+
+        by : (b : Bool) → (if b then option_and_then (meant.narrowed s.whole (exchanged allowed) f s.left.range) (meant.narrowed s.whole allowed e s.right.range (ranges_in p rs)) else None)
+            ≡ option_map (ranges_in p) (if b then option_and_then (narrowed s.right.variable (against s.left.range (exchanged allowed) s.whole)) after else None)
+        by false = refl
+        by true =
+            ap (option_and_then (meant.narrowed s.whole (exchanged allowed) f s.left.range)) (narrow_named (against s.right.range allowed s.whole) rs sized e s.left.variable left)
+            ∙ second_named allowed after refl
+
+    -- the branches of a comparison
+    pub branches_named : (allowed : SignSet) → meant.branches_of s.whole allowed (meant.sides e f s.left.range s.right.range) (ranges_in p rs) ≡ named_ways (branches_by s allowed rs)
+    branches_named allowed = ap₂ (λ (h f : Option Ranges). record { holds = h; fails = f }) (branch_named allowed) (branch_named (others allowed))

@@ -23,7 +23,7 @@ use Rattle.interval_analysis.specs.declared.expressions.Ranged.{Ranged}
 use Rattle.interval_analysis.specs.declared.expressions.Stop.{Stop}
 use Rattle.interval_analysis.specs.declared.expressions.Stop.TheVariants.{At, Memory}
 use Rattle.interval_analysis.specs.declared.expressions.Walk.{Walk}
-use Rattle.interval_analysis.specs.PlanViews.{scope_in, ranges_in}
+use Rattle.interval_analysis.specs.PlanViews.{scope_in, variable_in, ranges_in}
 use Rattle.interval_analysis.specs.ExpressionViews.{AreRanged, ArePartsRanged, CanWalk, CanWalkParts, CanWalkTwo, IsPartRanged, IsRanged, OneAnswer, OwnAnswer, PartAnswer, PartsAnswer, RangeAnswer, StopsAs, TwoAnswer, either_range, part_ranged, parts_ranged, ranged_in, second_in}
 
 -- ---- what stops
@@ -77,10 +77,10 @@ module _ (w : Walk) (at : ℕ) where
 
     -- ---- answers
 
-    answers : (t : Term) (answer : Answer) (k : NodeKind) (n : ℕ) (r : Result Ranged Stop) → ranged_in w t at rs ≡ at_node n answer → k ≡ kind_of scope t → n + 1 ≡ at + nodes t → OwnAnswer answer k n r → RangeAnswer w t at rs r
-    answers t answer k n (Ok r) is kind next h = record { range = is ∙ h.range; kind = h.kind ∙ kind; next = h.next ∙ next }
-    answers t answer k n (Err (At i c)) is kind next h = is ∙ h
-    answers t answer k n (Err Memory) is kind next h = tt
+    answers : (t : Term) (answer : Answer) (k : NodeKind) (n : ℕ) (r : Result Ranged Stop) → ranged_in w t at rs ≡ at_node n answer → k ≡ kind_of scope t → n + 1 ≡ at + nodes t → None ≡ variable_in w.plan.now t → OwnAnswer answer k n r → RangeAnswer w t at rs r
+    answers t answer k n (Ok r) is kind next none h = record { range = is ∙ h.range; kind = h.kind ∙ kind; next = h.next ∙ next; variable = h.variable ∙ none }
+    answers t answer k n (Err (At i c)) is kind next none h = is ∙ h
+    answers t answer k n (Err Memory) is kind next none h = tt
 
     one_is : (op : One) (e : Term) (a : Ranged) → IsRanged w e at rs a → ranged_in w (one op e) at rs ≡ at_node a.next (one_range op (kind_of_one op a.kind) e a.range)
     one_is op e a h =
@@ -88,14 +88,14 @@ module _ (w : Walk) (at : ℕ) where
         ∙ ap₂ (λ n k. at_node n (one_range op (kind_of_one op k) e a.range)) (sym h.next) (sym h.kind)
 
     pub one_answer : (op : One) (e : Term) (a : Ranged) (r : Result Ranged Stop) → IsRanged w e at rs a → OneAnswer op e a r → RangeAnswer w (one op e) at rs r
-    one_answer op e a r h own = answers (one op e) (one_range op (kind_of_one op a.kind) e a.range) (kind_of_one op a.kind) a.next r (one_is op e a h) (ap (kind_of_one op) h.kind) (omega (arith, h.next)) own
+    one_answer op e a r h own = answers (one op e) (one_range op (kind_of_one op a.kind) e a.range) (kind_of_one op a.kind) a.next r (one_is op e a h) (ap (kind_of_one op) h.kind) (omega (arith, h.next)) refl own
 
     pub item_answer : (x : List ℕ) (e : Term) (items : List Decimal) (a : Ranged) (r : Result Ranged Stop) → items ≡ table_in scope x → IsRanged w e at rs a → OwnAnswer (item_range items a.range) Big a.next r → RangeAnswer w (item x e) at rs r
     item_answer x e items a r is h own =
         answers (item x e) (item_range items a.range) Big a.next r
         (ap (λ q. and_then q (λ i. at_node (at + nodes e) (item_range (table_in scope x) i))) h.range
         ∙ ap₂ (λ n xs. at_node n (item_range xs a.range)) (sym h.next) (sym is))
-        refl (omega (arith, h.next)) own
+        refl (omega (arith, h.next)) refl own
 
     two_is : (op : Two) (e f : Term) (o : Operands) → AreRanged w e f at rs o → ranged_in w (two op e f) at rs ≡ at_node o.second.next (two_range scope op (kind_of_two op o.first.kind o.second.kind) f o.first.range o.second.range)
     two_is op e f o h =
@@ -108,7 +108,7 @@ module _ (w : Walk) (at : ℕ) where
 
     pub two_answer : (op : Two) (e f : Term) (o : Operands) (r : Result Ranged Stop) → AreRanged w e f at rs o → TwoAnswer scope op f o r → RangeAnswer w (two op e f) at rs r
     two_answer op e f o r h own =
-        answers (two op e f) (two_range scope op (kind_of_two op o.first.kind o.second.kind) f o.first.range o.second.range) (kind_of_two op o.first.kind o.second.kind) o.second.next r (two_is op e f o h) (ap₂ (kind_of_two op) h.first.kind h.second.kind) (omega (arith, h.first.next, h.second.next)) own
+        answers (two op e f) (two_range scope op (kind_of_two op o.first.kind o.second.kind) f o.first.range o.second.range) (kind_of_two op o.first.kind o.second.kind) o.second.next r (two_is op e f o h) (ap₂ (kind_of_two op) h.first.kind h.second.kind) (omega (arith, h.first.next, h.second.next)) refl own
 
     -- ---- operands that stop
 
@@ -193,6 +193,7 @@ module _ (w : Walk) (t u : Term) (at : ℕ) where
           range = is ∙ own.range;
           kind = own.kind ∙ ap₂ wider first.kind second.kind;
           next = own.next ∙ ap (λ n. n + 1) (second.next ∙ ap (λ n. n + nodes u) first.next);
+          variable = own.variable;
         }
         by (Err (At i c)) own = is ∙ own
         by (Err Memory) own = tt

@@ -1,27 +1,25 @@
 -- A range that is refined may be refined again.
-use Rattle.std.proofs.Common.{◌≡◌, ℕ, ◌-◌, ◌^◌, Bool, true, false, ℤ, pos, ◌+ℤ◌, ◌-ℤ◌, ◌*ℤ◌, ◌≤ℤ◌, List, [], ◌∷◌, Option, Some, None, refl, sym, ap, ◌∙◌, subst, arith, max}
-use Rattle.std.specs.Prelude.{if◌then◌else◌, int_le}
+use Rattle.std.proofs.Common.{◌≡◌, ℕ, zero, suc, set, ◌-◌, ◌^◌, Bool, true, false, ℤ, pos, ◌+ℤ◌, ◌-ℤ◌, ◌*ℤ◌, ◌≤ℤ◌, List, [], ◌∷◌, Option, Some, None, refl, sym, ap, ◌∙◌, subst, arith, max}
+use Rattle.std.specs.Prelude.{if◌then◌else◌, int_le, slice_get, slice_set}
 use Rattle.std.specs.Bool.{OnTrue}
 use Rattle.std.specs.Int.{int_min, int_max}
 use Rattle.std.specs.Ordering.{int_eq}
-use Rattle.std.specs.Option.{option_map}
-use Rattle.std.specs.Str.{bytes_eq}
+use Rattle.std.specs.Option.{option_map, option_and_then}
 use Rattle.std.proofs.Math.Nat.{max_comm}
 use Rattle.std.proofs.lemmas.Int.{ints, clamps}
-use Rattle.std.proofs.lemmas.Slice.Eq.{bytes_eq-Decides}
 use Rattle.scaled_decimal.specs.declared.rounding.Mode.TheVariants.{Floor, Ceiling}
 use Rattle.scaled_decimal.specs.Decimals.{ten_to, decimal, numerator_of}
 use Rattle.scaled_decimal.specs.RoundedDecimals.{rescaled}
 use Rattle.scaled_decimal.specs.Limits.{IsWithinLimit}
 use Rattle.scaled_decimal.specs.laws.IntegerLemmas.{le_times}
-use Rattle.pap_tree.specs.Term.{Term, leaf, item, one, two, choice, whole, long, point, text, known, named}
 use Rattle.interval_num.specs.declared.sign_set.SignSet.{SignSet}
 use Rattle.interval_num.specs.Intervals.{Interval, interval, IsWhole, HasKeptEnds}
 use Rattle.interval_num.specs.Alignment.{at_scale, greater_scale}
 use Rattle.interval_num.specs.Refinement.{refined, low_end, high_end, is_apart, without, gap}
-use Rattle.interval_walk.specs.Ranges.{Ranges, range_named, put_range}
-use Rattle.interval_walk.specs.Branches.{narrowed, narrowed_name}
-use Rattle.interval_analysis.specs.ComparisonViews.{CanNarrow, CanRefine, HasRange}
+use Rattle.interval_walk.specs.Branches.{exchanged}
+use Rattle.interval_analysis.specs.declared.comparisons.Against.{Against}
+use Rattle.interval_analysis.specs.declared.comparisons.Sides.{Sides}
+use Rattle.interval_analysis.specs.ComparisonViews.{against, narrowed, CanCompare, CanNarrow, CanNarrowAt, CanRefine}
 
 -- an interval inside another, with its scales
 pub record IsPart (v a : Interval) : Type 0 where
@@ -128,78 +126,58 @@ turned w a b can =
       right_whole = can.left_whole;
     }
 
--- ---- the range of a name after another's was replaced
-
-both_names : (x y : List ℕ) (n : List ℕ) → bytes_eq n x ≡ true → bytes_eq n y ≡ true → x ≡ y
-both_names x y n a b = let p : n ≡ x = grind (arith, bytes_eq-Decides) in let q : n ≡ y = grind (arith, bytes_eq-Decides) in sym p ∙ q
-
--- a name's range is the new one, or the old one
-pub data IsNewOrOld (env : Ranges) (x y : List ℕ) (a v : Interval) : Type 0 where
-  new : x ≡ y → v ≡ a → IsNewOrOld env x y a v
-  old : range_named env y ≡ Some v → IsNewOrOld env x y a v
-
-found : (env : Ranges) (n x y : List ℕ) (r a v : Interval) (b c : Bool) → bytes_eq n x ≡ b → bytes_eq n y ≡ c → (range_named (put_range env x a) y ≡ Some v → IsNewOrOld env x y a v)
-    → range_named (if b then record { name = n; range = a } ∷ env else record { name = n; range = r } ∷ put_range env x a) y ≡ Some v → IsNewOrOld (record { name = n; range = r } ∷ env) x y a v
-found env n x y r a v true true e f rec is = new (both_names x y n e f) (let h = rw f at is in let same : a ≡ v = cc in sym same)
-found env n x y r a v true false e f rec is = old (rw f (rw f at is))
-found env n x y r a v false true e f rec is = old (rw f (rw f at is))
-found env n x y r a v false false e f rec is = elim (rec (rw f at is)) [ new s h ↦ new s h | old h ↦ old (rw f h) ]
-
-pub put_new_or_old : (env : Ranges) (x y : List ℕ) (a v : Interval) → range_named (put_range env x a) y ≡ Some v → IsNewOrOld env x y a v
-put_new_or_old [] x y a v is = old is
-put_new_or_old (e ∷ env) x y a v is = found env e.name x y e.range a v (bytes_eq e.name x) (bytes_eq e.name y) refl refl (put_new_or_old env x y a v) is
-
 -- ---- the second side
 
-module _ (w : Bool) (s : SignSet) (l r : Interval) (can : CanRefine w l r) (env after : Ranges) where
-  -- the second side's range is that of before, or a part of the first side's where both are one name
-  second_named : (x : List ℕ) (o : Option Interval) → (range_named env x ≡ o) → ((v : Interval) → range_named env x ≡ Some v → v ≡ l) → narrowed_name w s x r env o ≡ Some after → (y : List ℕ) → ((v : Interval) → range_named env y ≡ Some v → v ≡ r) → (v : Interval) → range_named after y ≡ Some v → CanRefine w v l
-  second_named x None e first is y second v at =
-      let same : env ≡ after = cc in
-      let v_is = second v (ap (λ env. range_named env y) same ∙ at) in
-      subst (λ v. CanRefine w v l) (sym v_is) (turned w l r can)
-  second_named x (Some u) e first is y second v at = by_part (refined u r s w) refl is
+-- after a variable's range was replaced another has the new one, where both are one, or its own
+data IsNewOrOld (rs : List Interval) (m n : ℕ) (a : Interval) : Type 0 where
+  new : m ≡ n → slice_get (set rs m a) n ≡ Some a → IsNewOrOld rs m n a
+  old : slice_get (set rs m a) n ≡ slice_get rs n → IsNewOrOld rs m n a
+
+new_or_old : (rs : List Interval) (m n : ℕ) (a : Interval) → IsNewOrOld rs m n a
+new_or_old [] m n a = old refl
+new_or_old (r ∷ rs) zero zero a = new refl refl
+new_or_old (r ∷ rs) zero (suc n) a = old refl
+new_or_old (r ∷ rs) (suc m) zero a = old refl
+new_or_old (r ∷ rs) (suc m) (suc n) a = elim (new_or_old rs m n a) [ new e h ↦ new (ap suc e) h | old h ↦ old h ]
+
+-- the second side's range is that of before, or a part of the first side's where both are one variable
+module _ (s : Sides) (allowed : SignSet) (rs after : List Interval) (can : CanCompare s rs) where
+  abbrev l : Interval
+  l = s.left.range
+
+  abbrev r : Interval
+  r = s.right.range
+
+  abbrev back : Against
+  back = against l (exchanged allowed) s.whole
+
+  second_old : (n : ℕ) → s.right.variable ≡ Some n → slice_get after n ≡ slice_get rs n → CanNarrowAt n back after
+  second_old n e same = record { range = r; there = same ∙ can.right n e; refines = turned s.whole l r can.ranges }
+
+  second_after : (o : Option ℕ) → s.left.variable ≡ o → narrowed o (against r allowed s.whole) rs ≡ Some after → CanNarrow s.right.variable back after
+  second_after None e is n right = let same : rs ≡ after = cc in second_old n right (ap (λ rs. slice_get rs n) (sym same))
+  second_after (Some m) e is n right = by_part (refined l r allowed s.whole) refl (ap (option_and_then (λ v. option_map (slice_set rs m) (refined v r allowed s.whole))) (sym (can.left m e)) ∙ is)
     where
-      by_part : (o : Option Interval) → refined u r s w ≡ o → option_map (put_range env x) o ≡ Some after → CanRefine w v l
+      by_part : (o : Option Interval) → refined l r allowed s.whole ≡ o → option_map (slice_set rs m) o ≡ Some after → CanNarrowAt n back after
       by_part None f is = absurd (cc)
       by_part (Some q) f is =
-          let same : put_range env x q ≡ after = cc in
-          elim (put_new_or_old env x y q v (ap (λ env. range_named env y) same ∙ at)) [
-            | new xy vq ↦ (let ur = second u (ap (range_named env) (sym xy) ∙ e) in
-                let part = refined_part u r q s w f in
-                subst (λ v. CanRefine w v l) (sym vq) (part_refines w q u l part (subst (λ u. CanRefine w u l) (sym ur) (turned w l r can))))
-            | old h ↦ subst (λ v. CanRefine w v l) (sym (second v h)) (turned w l r can)
+          let same : set rs m q ≡ after = cc in
+          elim (new_or_old rs m n q) [
+            | new mn there ↦
+                let one : Some l ≡ Some r = sym (can.left m e) ∙ ap (slice_get rs) mn ∙ can.right n right in
+                let lr : l ≡ r = cc in
+                record {
+                  range = q;
+                  there = ap (λ rs. slice_get rs n) (sym same) ∙ there;
+                  refines = part_refines s.whole q l l (refined_part l r q allowed s.whole f) (subst (λ x. CanRefine s.whole l x) (sym lr) can.ranges);
+                }
+            | old there ↦ second_old n right (ap (λ rs. slice_get rs n) (sym same) ∙ there)
           ]
 
-  second_of : (a b : Term) → HasRange a l env → HasRange b r env → narrowed w s a r env ≡ Some after → CanNarrow w b l after
-  second_of a (leaf (named y)) ha hb is = by_first a ha is
-    where
-      plain : Some env ≡ Some after → (v : Interval) → range_named after y ≡ Some v → CanRefine w v l
-      plain is v at =
-          let same : env ≡ after = cc in
-          subst (λ v. CanRefine w v l) (sym (hb v (ap (λ env. range_named env y) same ∙ at))) (turned w l r can)
-
-      by_first : (a : Term) → HasRange a l env → narrowed w s a r env ≡ Some after → (v : Interval) → range_named after y ≡ Some v → CanRefine w v l
-      by_first (leaf (named x)) ha is v at = second_named x (range_named env x) refl ha is y hb v at
-      by_first (leaf (whole i)) ha is v at = plain is v at
-      by_first (leaf (long i)) ha is v at = plain is v at
-      by_first (leaf (point d)) ha is v at = plain is v at
-      by_first (leaf (text d)) ha is v at = plain is v at
-      by_first (leaf (known k)) ha is v at = plain is v at
-      by_first (item x t) ha is v at = plain is v at
-      by_first (one op t) ha is v at = plain is v at
-      by_first (two op t u) ha is v at = plain is v at
-      by_first (choice t u z) ha is v at = plain is v at
-  second_of a (leaf (whole i)) ha hb is = tt
-  second_of a (leaf (long i)) ha hb is = tt
-  second_of a (leaf (point d)) ha hb is = tt
-  second_of a (leaf (text d)) ha hb is = tt
-  second_of a (leaf (known k)) ha hb is = tt
-  second_of a (item x t) ha hb is = tt
-  second_of a (one op t) ha hb is = tt
-  second_of a (two op t u) ha hb is = tt
-  second_of a (choice t u z) ha hb is = tt
-
 -- the second side of a comparison may be refined after the first one
-pub second_narrows : (w : Bool) (s : SignSet) (l r : Interval) (env after : Ranges) (a b : Term) → CanRefine w l r → HasRange a l env → HasRange b r env → Some after ≡ narrowed w s a r env → CanNarrow w b l after
-second_narrows w s l r env after a b can ha hb is = second_of w s l r can env after a b ha hb (sym is)
+pub second_narrows : (s : Sides) (allowed : SignSet) (rs after : List Interval) → CanCompare s rs → Some after ≡ narrowed s.left.variable (against s.right.range allowed s.whole) rs → CanNarrow s.right.variable (against s.left.range (exchanged allowed) s.whole) after
+second_narrows s allowed rs after can is = second_after s allowed rs after can s.left.variable refl (sym is)
+
+-- so may the first one before
+pub first_narrows : (s : Sides) (allowed : SignSet) (rs : List Interval) → CanCompare s rs → CanNarrow s.left.variable (against s.right.range allowed s.whole) rs
+first_narrows s allowed rs can n e = record { range = s.left.range; there = can.left n e; refines = can.ranges }

@@ -16,7 +16,7 @@ use Rattle.interval_walk.specs.Ranged.{ranged, tested}
 use Rattle.interval_analysis.specs.declared.expressions.Walk.{Walk}
 use Rattle.interval_analysis.specs.declared.fault.RangeFault.{RangeFault}
 use Rattle.interval_analysis.specs.declared.fault.RangeFault.TheVariants as faults
-use Rattle.interval_analysis.specs.PlanViews.{IsSized, ranges_after, scope_in, variables_in, with_names, ranges_in}
+use Rattle.interval_analysis.specs.PlanViews.{IsSized, ranges_after, scope_in, variables_in, with_names, ranges_in, branches_in}
 use Rattle.interval_analysis.specs.declared.branches.Change.{Change}
 use Rattle.interval_analysis.specs.declared.variables.Variables.{Variables}
 use Rattle.interval_analysis.specs.Changes.{AreKept, changed}
@@ -30,7 +30,6 @@ use Rattle.interval_analysis.specs.declared.branches.Branches.{Branches}
 use Rattle.interval_analysis.specs.declared.expressions.Stop.{Stop}
 use Rattle.interval_analysis.specs.declared.expressions.Stop.TheVariants as stops
 use Rattle.interval_analysis.specs.declared.statements.Aside.{Aside}
-use Rattle.interval_analysis.specs.ComparisonViews.{branches_in}
 use Rattle.interval_analysis.specs.TestViews.{tested_in}
 use Rattle.interval_analysis.specs.Meetings.{MeetsAnswer}
 use Rattle.interval_analysis.proofs.ChangeLemmas.{length-changed}

@@ -1,5 +1,7 @@
 -- Ranges of variables by their numbers, and changes of some of them.
-use Rattle.std.specs.Prelude.{List, [], ◌∷◌, slice_set}
+use Rattle.std.specs.Prelude.{List, [], ◌∷◌, Option, slice_set}
+use Rattle.std.proofs.Common.{Vec, Global}
+use Rattle.std.specs.Option.{option_map}
 use Rattle.std.specs.List.{AllByRecursion}
 use Rattle.interval_num.specs.Intervals.{Interval, IsKeptInterval}
 use Rattle.interval_analysis.specs.declared.branches.Branches.{Branches}
@@ -15,6 +17,10 @@ AreKept ranges = AllByRecursion IsKeptInterval ranges
 abbrev pub changed : List Interval → List Change → List Interval
 changed ranges [] = ranges
 changed ranges (c ∷ cs) = changed (slice_set ranges c.number c.range) cs
+
+-- the ranges where a branch of changes leads, if it can be reached
+abbrev pub ranges_left : List Interval → Option (Vec Change Global) → Option (List Interval)
+ranges_left ranges o = option_map (λ changes. changed ranges changes.items) o
 
 -- branches of changes as a connective goes on: where a part of && holds, and where one of || fails
 abbrev pub turned_changes : Connective → Branches → Branches

@@ -1,28 +1,27 @@
--- What private contracts say of the sides of a comparison.
-use Rattle.std.specs.Prelude.{◌≡◌, ℕ, Bool, List, Option, Some, None, ⊤}
+-- What private contracts say of the sides of a comparison, whose variables have numbers.
+use Rattle.std.specs.Prelude.{◌≡◌, ℕ, if◌then◌else◌, Bool, List, Option, Some, None, slice_get, slice_set}
 use Rattle.std.specs.Bool.{OnTrue}
-use Rattle.pap_tree.specs.declared.plan.PlanText.{PlanText}
-use Rattle.pap_tree.specs.Term.{Term, term_of, leaf, named}
+use Rattle.std.specs.Option.{option_map, option_and_then}
 use Rattle.interval_num.specs.declared.sign_set.SignSet.{SignSet}
 use Rattle.interval_num.specs.Intervals.{Interval, IsWhole}
 use Rattle.interval_num.specs.Alignment.{Align}
-use Rattle.interval_walk.specs.Ranges.{Ranges, range_named}
-use Rattle.interval_walk.specs.Branches as meant
+use Rattle.interval_num.specs.Refinement.{refined}
+use Rattle.interval_num.specs.Signs.{signs_of}
+use Rattle.interval_walk.specs.Branches.{others, exchanged, can_have}
 use Rattle.interval_analysis.specs.declared.branches.Branches.{Branches}
 use Rattle.interval_analysis.specs.declared.comparisons.Against.{Against}
 use Rattle.interval_analysis.specs.declared.comparisons.Sides.{Sides}
-use Rattle.interval_analysis.specs.PlanViews.{ranges_in, ranges_after}
+use Rattle.interval_analysis.specs.declared.expressions.Operands.{Operands}
+use Rattle.interval_analysis.specs.declared.expressions.Ranged.{Ranged}
+use Rattle.interval_analysis.specs.Changes.{ranges_left}
 
-abbrev pub sides_of : Sides → meant.Sides
-sides_of s = meant.sides (term_of s.left.now) (term_of s.right.now) s.left_range s.right_range
+abbrev pub sides_of : Operands → Bool → Sides
+sides_of o whole = record { left = o.first; right = o.second; whole = whole }
 
-abbrev pub branches_in : PlanText → List Interval → Branches → meant.Branches
-branches_in p rs b = record { holds = ranges_after p rs b.holds; fails = ranges_after p rs b.fails }
+abbrev pub against : Interval → SignSet → Bool → Against
+against a allowed whole = record { range = a; allowed = allowed; whole = whole }
 
--- the name that an expression is
-abbrev pub name_in : Term → Option (List ℕ)
-name_in (leaf (named x)) = Some x
-name_in _ = None
+-- ---- what may be compared
 
 -- an interval may be refined by another
 pub record CanRefine (whole : Bool) (v e : Interval) : Type 0 where
@@ -30,34 +29,49 @@ pub record CanRefine (whole : Bool) (v e : Interval) : Type 0 where
   pub left_whole : OnTrue whole (IsWhole v)
   pub right_whole : OnTrue whole (IsWhole e)
 
--- so may the range of a side that is a variable's name
-abbrev pub CanNarrow : Bool → Term → Interval → Ranges → Type 0
-CanNarrow whole (leaf (named x)) e env = (v : Interval) → range_named env x ≡ Some v → CanRefine whole v e
-CanNarrow whole _ e env = ⊤
+-- so may the range of the variable of a number
+pub record CanNarrowAt (n : ℕ) (a : Against) (rs : List Interval) : Type 0 where
+  pub range : Interval
+  pub there : slice_get rs n ≡ Some range
+  pub refines : CanRefine a.whole range a.range
 
--- the side of a comparison has its range
-abbrev pub HasRange : Term → Interval → Ranges → Type 0
-HasRange (leaf (named x)) a env = (v : Interval) → range_named env x ≡ Some v → v ≡ a
-HasRange _ a env = ⊤
+abbrev pub CanNarrow : Option ℕ → Against → List Interval → Type 0
+CanNarrow variable a rs = (n : ℕ) → variable ≡ Some n → CanNarrowAt n a rs
+
+-- a side that is a variable has its range
+abbrev pub HasRange : Ranged → List Interval → Type 0
+HasRange s rs = (n : ℕ) → s.variable ≡ Some n → slice_get rs n ≡ Some s.range
 
 -- the sides of a comparison have their ranges, which are aligned, and those of whole numbers where they are to be
-pub record CanCompare (p : PlanText) (s : Sides) (rs : List Interval) : Type 0 where
-  pub ranges : CanRefine s.whole s.left_range s.right_range
-  pub left : HasRange (term_of s.left.now) s.left_range (ranges_in p rs)
-  pub right : HasRange (term_of s.right.now) s.right_range (ranges_in p rs)
+pub record CanCompare (s : Sides) (rs : List Interval) : Type 0 where
+  pub ranges : CanRefine s.whole s.left.range s.right.range
+  pub left : HasRange s.left rs
+  pub right : HasRange s.right rs
 
--- ---- the definition, from ranges by number
+-- ---- the branches of a comparison, by the numbers of the variables
+
+-- the ranges where the test holds and where it fails; none where no value leads there
+pub record Ways : Type 0 where
+  pub holds : Option (List Interval)
+  pub fails : Option (List Interval)
+
+abbrev pub ways_in : List Interval → Branches → Ways
+ways_in rs b = record { holds = ranges_left rs b.holds; fails = ranges_left rs b.fails }
+
+-- the ranges where a side stands against another
+abbrev pub narrowed : Option ℕ → Against → List Interval → Option (List Interval)
+narrowed None a rs = Some rs
+narrowed (Some n) a rs =
+    option_and_then (λ v. option_map (slice_set rs n) (refined v a.range a.allowed a.whole)) (slice_get rs n)
 
 -- the branch of the allowed signs, and both
-abbrev pub branch_by : PlanText → Sides → SignSet → List Interval → Option Ranges
-branch_by p s allowed rs = meant.branch_of s.whole allowed (sides_of s) (ranges_in p rs)
+abbrev pub branch_by : Sides → SignSet → List Interval → Option (List Interval)
+branch_by s allowed rs =
+    if can_have allowed (signs_of s.left.range s.right.range)
+    then option_and_then
+    (narrowed s.right.variable (against s.left.range (exchanged allowed) s.whole))
+    (narrowed s.left.variable (against s.right.range allowed s.whole) rs)
+    else None
 
-abbrev pub branches_by : PlanText → Sides → SignSet → List Interval → meant.Branches
-branches_by p s allowed rs = meant.branches_of s.whole allowed (sides_of s) (ranges_in p rs)
-
--- the variables where a side stands against another
-abbrev pub narrowed_by : PlanText → Term → Against → List Interval → Option Ranges
-narrowed_by p t a rs = meant.narrowed a.whole a.allowed t a.range (ranges_in p rs)
-
-abbrev pub CanStand : PlanText → Term → Against → List Interval → Type 0
-CanStand p t a rs = CanNarrow a.whole t a.range (ranges_in p rs)
+abbrev pub branches_by : Sides → SignSet → List Interval → Ways
+branches_by s allowed rs = record { holds = branch_by s allowed rs; fails = branch_by s (others allowed) rs }

@@ -22,7 +22,7 @@ use Rattle.interval_analysis.specs.declared.expressions.Ranged.{Ranged}
 use Rattle.interval_analysis.specs.declared.expressions.Stop.{Stop}
 use Rattle.interval_analysis.specs.declared.expressions.Stop.TheVariants.{At, Memory}
 use Rattle.interval_analysis.specs.declared.expressions.Walk.{Walk}
-use Rattle.interval_analysis.specs.PlanViews.{scope_in, ranges_in}
+use Rattle.interval_analysis.specs.PlanViews.{scope_in, variable_in, ranges_in}
 
 -- ---- the terms of operations on expressions
 
@@ -70,11 +70,12 @@ StopsAs r Memory = ⊤
 abbrev pub ranged_in : Walk → Term → ℕ → List Interval → Result Interval NodeFault
 ranged_in w t at rs = ranged (scope_in w.plan.now) t at (ranges_in w.plan.now rs)
 
--- what is known of an expression: its range, its kind, and the number behind its nodes
+-- what is known of an expression: its range, its kind, the number behind its nodes, and that of the variable that it names
 pub record IsRanged (w : Walk) (t : Term) (at : ℕ) (rs : List Interval) (r : Ranged) : Type 0 where
   pub range : ranged_in w t at rs ≡ Ok r.range
   pub kind : r.kind ≡ kind_of (scope_in w.plan.now) t
   pub next : r.next ≡ at + nodes t
+  pub variable : r.variable ≡ variable_in w.plan.now t
 
 abbrev pub RangeAnswer : Walk → Term → ℕ → List Interval → Result Ranged Stop → Type 0
 RangeAnswer w t at rs (Ok r) = IsRanged w t at rs r
@@ -92,15 +93,20 @@ abbrev pub OperandsAnswer : Walk → Term → Term → ℕ → List Interval →
 OperandsAnswer w t u at rs (Ok o) = AreRanged w t u at rs o
 OperandsAnswer w t u at rs (Err stop) = StopsAs (second_in w t u at rs) stop
 
--- the same of a node by what its operation answers
-pub record IsOwn (answer : Answer) (k : NodeKind) (at : ℕ) (r : Ranged) : Type 0 where
+-- the same of a node by what its operation answers, and by the number of the variable that it names
+pub record IsNode (number : Option ℕ) (answer : Answer) (k : NodeKind) (at : ℕ) (r : Ranged) : Type 0 where
   pub range : at_node at answer ≡ Ok r.range
   pub kind : r.kind ≡ k
   pub next : r.next ≡ at + 1
+  pub variable : r.variable ≡ number
 
+abbrev pub NodeAnswer : Option ℕ → Answer → NodeKind → ℕ → Result Ranged Stop → Type 0
+NodeAnswer number answer k at (Ok r) = IsNode number answer k at r
+NodeAnswer number answer k at (Err stop) = StopsAs (at_node at answer) stop
+
+-- that of a node that is no name
 abbrev pub OwnAnswer : Answer → NodeKind → ℕ → Result Ranged Stop → Type 0
-OwnAnswer answer k at (Ok r) = IsOwn answer k at r
-OwnAnswer answer k at (Err stop) = StopsAs (at_node at answer) stop
+OwnAnswer answer k at r = NodeAnswer None answer k at r
 
 -- that of an operation on one operand, and on two, the right one being f
 abbrev pub OneAnswer : One → Term → Ranged → Result Ranged Stop → Type 0
@@ -152,6 +158,7 @@ pub record ArePartsRanged (w : Walk) (t u : Term) (at : ℕ) (br : meant.Branche
   pub range : parts_ranged w t u at br ≡ Ok r.range
   pub kind : r.kind ≡ wider (kind_of (scope_in w.plan.now) t) (kind_of (scope_in w.plan.now) u)
   pub next : r.next ≡ at + nodes t + nodes u + 1
+  pub variable : r.variable ≡ None
 
 abbrev pub PartsAnswer : Walk → Term → Term → ℕ → meant.Branches → Result Ranged Stop → Type 0
 PartsAnswer w t u at br (Ok r) = ArePartsRanged w t u at br r

@@ -1,12 +1,19 @@
 -- What private contracts say of a plan's names, and of the ranges of its variables by number.
-use Rattle.std.specs.Prelude.{◌≡◌, ℕ, List, [], ◌∷◌, length, Option, Some, None}
+use Rattle.std.specs.Prelude.{◌≡◌, ℕ, List, [], ◌∷◌, length, Option, Some, None, slice_get}
 use Rattle.std.proofs.Common.{Vec, Global}
+use Rattle.std.specs.Option.{option_map_or}
 use Rattle.pap_tree.specs.declared.plan.PlanText.{PlanText}
 use Rattle.pap_tree.specs.Flowchart.{flowchart_of}
+use Rattle.pap_tree.specs.Term.{Term, leaf, named}
 use Rattle.interval_num.specs.Intervals.{Interval}
-use Rattle.pap_types.specs.Scopes.{Scope, scope_of, variables_of, names_of}
+use Rattle.pap_types.specs.declared.kinds.NodeKind.{NodeKind}
+use Rattle.pap_types.specs.declared.kinds.NodeKind.TheVariants.{Int}
+use Rattle.pap_types.specs.Kinds.{declared_kind}
+use Rattle.pap_types.specs.Scopes.{Scope, scope_of, variables_of, names_of, number_of}
 use Rattle.interval_walk.specs.NodeRanges.{name_range}
 use Rattle.interval_walk.specs.Ranges.{Ranges}
+use Rattle.interval_walk.specs.Branches as meant
+use Rattle.interval_analysis.specs.declared.branches.Branches.{Branches}
 use Rattle.interval_analysis.specs.declared.branches.Change.{Change}
 use Rattle.interval_analysis.specs.Changes.{changed}
 
@@ -16,6 +23,15 @@ scope_in p = scope_of (flowchart_of p)
 -- the names of the variables in the order of their numbers
 abbrev pub variables_in : PlanText → List (List ℕ)
 variables_in p = names_of (variables_of (flowchart_of p))
+
+-- the number of the variable that an expression names
+abbrev pub variable_in : PlanText → Term → Option ℕ
+variable_in p (leaf (named x)) = number_of (variables_in p) x
+variable_in p _ = None
+
+-- the kind of a variable by its number; one that there isn't counts as an `int`
+abbrev pub kind_at : Scope → ℕ → NodeKind
+kind_at scope n = option_map_or (λ d. declared_kind d.kind) (slice_get scope.variables n) Int
 
 -- ranges by number, each with its name
 abbrev pub with_names : List (List ℕ) → List Interval → Ranges
@@ -38,3 +54,7 @@ IsSized p rs = length rs ≡ length (variables_in p)
 abbrev pub ranges_after : PlanText → List Interval → Option (Vec Change Global) → Option Ranges
 ranges_after p rs None = None
 ranges_after p rs (Some changes) = Some (ranges_in p (changed rs changes.items))
+
+-- and where both do
+abbrev pub branches_in : PlanText → List Interval → Branches → meant.Branches
+branches_in p rs b = record { holds = ranges_after p rs b.holds; fails = ranges_after p rs b.fails }

@@ -4,7 +4,6 @@ use Rattle.scaled_decimal.specs.WholeNumbers.{whole_decimal}
 use Rattle.pap_tree.specs.declared.expression.Expr.{Expr}
 use Rattle.pap_tree.specs.declared.expression.Binary.{Binary}
 use Rattle.pap_tree.specs.declared.expression.Call.TheVariants.{CompareTo}
-use Rattle.pap_tree.specs.declared.plan.PlanText.{PlanText}
 use Rattle.pap_tree.specs.Term.{Term, term_of, leaf, two, whole, method}
 use Rattle.pap_tree.specs.Numbering.{nodes}
 use Rattle.interval_num.specs.Intervals.{Interval}
@@ -22,8 +21,8 @@ use Rattle.interval_analysis.specs.declared.conditions.Tested.{Tested}
 use Rattle.interval_analysis.specs.declared.expressions.Operands.{Operands}
 use Rattle.interval_analysis.specs.declared.expressions.Stop.{Stop}
 use Rattle.interval_analysis.specs.declared.expressions.Walk.{Walk}
-use Rattle.interval_analysis.specs.PlanViews.{IsSized, scope_in, ranges_in}
-use Rattle.interval_analysis.specs.ComparisonViews.{HasRange, branches_in}
+use Rattle.interval_analysis.specs.PlanViews.{scope_in, ranges_in, branches_in}
+use Rattle.interval_analysis.specs.ComparisonViews.{HasRange, Ways, ways_in, sides_of, branches_by}
 use Rattle.interval_analysis.specs.ExpressionViews.{StopsAs}
 
 -- the branches of a test from ranges by number, and the number behind its nodes
@@ -85,20 +84,27 @@ pub record IsInner (e f : Term) (i : Inner) : Type 0 where
 
 -- ---- sides that can't fail
 
--- their ranges have the shapes of their kinds, and that of a name is the variable's
-pub record AreSides (p : PlanText) (e f : Term) (o : Operands) (rs : List Interval) : Type 0 where
-  pub sized : IsSized p rs
+-- their ranges have the shapes of their kinds, and that of a variable is its own
+pub record AreSides (o : Operands) (rs : List Interval) : Type 0 where
   pub left_shape : HasShape o.first.kind o.first.range
   pub right_shape : HasShape o.second.kind o.second.range
-  pub left : HasRange e o.first.range (ranges_in p rs)
-  pub right : HasRange f o.second.range (ranges_in p rs)
+  pub left : HasRange o.first rs
+  pub right : HasRange o.second rs
+
+-- the branches of a comparison by the numbers of the variables, and the number behind its nodes
+pub record IsComparedAs (r : Result Ways NodeFault) (end : ℕ) (rs : List Interval) (t : Tested) : Type 0 where
+  pub branches : r ≡ Ok (ways_in rs t.branches)
+  pub next : t.next ≡ end
+
+abbrev pub ComparesAs : Result Ways NodeFault → ℕ → List Interval → Result Tested Stop → Type 0
+ComparesAs r end rs (Ok t) = IsComparedAs r end rs t
+ComparesAs r end rs (Err stop) = StopsAs r stop
 
 -- a comparison of two sides
-abbrev pub sides_compared : Walk → Binary → Term → Term → Operands → List Interval → Result meant.Branches NodeFault
-sides_compared w op e f o rs =
+abbrev pub sides_compared : Binary → Operands → List Interval → Result Ways NodeFault
+sides_compared op o rs =
     and_then (at_node o.second.next (comparison_range op o.first.range o.second.range)) (λ _.
-    Ok (meant.branches_of (is_whole o.first.kind && is_whole o.second.kind) (meant.signs_where op (pos 0))
-    (meant.sides e f o.first.range o.second.range) (ranges_in w.plan.now rs)))
+    Ok (branches_by (sides_of o (is_whole o.first.kind && is_whole o.second.kind)) (meant.signs_where op (pos 0)) rs))
 
 -- the nodes of a compareTo, of a number, and of a comparison of both
 abbrev pub order_node : Binary → ℤ → Interval → Interval → ℕ → Result Interval NodeFault
@@ -117,7 +123,7 @@ OrderAnswer op k a b at (Ok n) = IsPassed (order_node op k a b at) (at + 3) n
 OrderAnswer op k a b at (Err stop) = StopsAs (order_node op k a b at) stop
 
 -- a comparison of their compareTo with a number
-abbrev pub order_compared : Walk → Binary → Term → Term → ℤ → Operands → List Interval → Result meant.Branches NodeFault
-order_compared w op e f k o rs =
+abbrev pub order_compared : Binary → ℤ → Operands → List Interval → Result Ways NodeFault
+order_compared op k o rs =
     and_then (order_node op k o.first.range o.second.range o.second.next) (λ _.
-    Ok (meant.branches_of false (meant.signs_where op k) (meant.sides e f o.first.range o.second.range) (ranges_in w.plan.now rs)))
+    Ok (branches_by (sides_of o false) (meant.signs_where op k) rs))

@@ -28,7 +28,11 @@ use std::alloc::Global;
 ///
 /// Refused: `At` with the first node, in the order in which they are walked, that may fail on some values in the ranges, and
 /// why; where there is none, `Output` with the first output that may have more than 12 digits after its point or be beyond
-/// 10^20; `Memory`. Takes time linear in the statements of MAIN with those of all methods that it executes.
+/// 10^20; `Memory`.
+///
+/// Takes time linear in the nodes that are walked, those of a method again at each EXECUTE of it, with a factor logarithmic in
+/// the number of names; and, at each IF both of whose branches can be reached, in the variables that these change. So what
+/// stands within IFs counts as often as there are such IFs around it, with those around an EXECUTE of its method.
 pub fn analyse(
     alloc: Global,
     t: &Typed,

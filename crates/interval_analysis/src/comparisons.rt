@@ -1,31 +1,40 @@
 //! What a comparison leaves of the ranges of its sides.
 ghost use Rattle.std.specs.Prelude.{◌≡◌, ◌<◌, ◌&&◌, Some, IfOk, length, slice_get};
-ghost use Rattle.std.specs.Option.{option_map};
-ghost use Rattle.pap_tree.specs.Term.{term_of};
-ghost use Rattle.interval_num.specs.Signs as signs;
+ghost use Rattle.interval_num.specs.Signs.{signs_of};
 ghost use Rattle.pap_types.specs.Kinds.{is_whole};
 ghost use Rattle.pap_types.specs.Operations.{holds_of};
 ghost use Rattle.interval_walk.specs.Branches.{signs_where, others, exchanged, can_have};
-ghost use Rattle.interval_analysis.specs.Changes.{changed};
-ghost use Rattle.interval_analysis.specs.PlanViews.{IsSized, ranges_after};
-ghost use Rattle.interval_analysis.specs.ComparisonViews.{CanCompare, CanStand, branch_by, branches_by, branches_in, narrowed_by, name_in};
+ghost use Rattle.interval_analysis.specs.Changes.{changed, ranges_left};
+ghost use Rattle.interval_analysis.specs.ComparisonViews.{CanCompare, CanNarrow, against, branch_by, branches_by, narrowed, sides_of, ways_in};
 
 use crate::branches::{Branches, Change};
+use crate::expressions::{Operands, Ranged};
 use interval_num::{Abs, SignSet, refine, signs};
-use pap_tree::{Binary, Expr, Name};
-use pap_types::{NodeKind, Typed};
+use pap_tree::Binary;
+use pap_types::NodeKind;
 use std::alloc::{AllocError, Global};
 use std::cmp::Ordering;
 
-/// The two sides of a comparison with their ranges.
-#[derive(Drop)]
-pub(crate) struct Sides<'a> {
-    pub left: &'a Expr,
-    pub right: &'a Expr,
-    pub left_range: Abs,
-    pub right_range: Abs,
+/// The two sides of a comparison.
+#[derive(Clone, Copy)]
+pub(crate) struct Sides {
+    pub left: Ranged,
+    pub right: Ranged,
     /// Whether both are whole numbers.
     pub whole: bool,
+}
+
+impl Sides {
+    /// Two operands as sides.
+    pub fn of(operands: Operands, whole: bool) -> Sides
+        ensures { result ≡ sides_of operands whole }
+    {
+        Sides {
+            left: operands.first,
+            right: operands.second,
+            whole,
+        }
+    }
 }
 
 /// What a side of a comparison stands against: the range of the other, and the signs that it may have against that.
@@ -35,6 +44,19 @@ struct Against {
     allowed: SignSet,
     /// Whether both are whole numbers.
     whole: bool,
+}
+
+impl Against {
+    /// That the other side stands against a side.
+    fn of(side: &Ranged, allowed: SignSet, whole: bool) -> Against
+        ensures { result ≡ against side.now.range allowed whole }
+    {
+        Against {
+            range: side.range,
+            allowed,
+            whole,
+        }
+    }
 }
 
 /// The signs, as -1, 0 and 1, for which a comparison with a number holds.
@@ -101,83 +123,66 @@ pub(crate) fn are_whole(left: NodeKind, right: NodeKind) -> bool
 /// The branches of a comparison that holds for the allowed signs.
 pub(crate) fn branches_of(
     alloc: Global,
-    plan: &Typed,
     sides: &Sides,
     allowed: SignSet,
     ranges: &[Abs],
 ) -> Result<Branches, AllocError>
-    requires sized { IsSized plan.now ranges.now }
-    requires sides { CanCompare plan.now sides.now ranges.now }
-    ensures { IfOk result (λ b. branches_in plan.now ranges.now b
-        ≡ branches_by plan.now sides.now allowed ranges.now) }
+    requires { CanCompare sides.now ranges.now }
+    ensures { IfOk result (λ b. ways_in ranges.now b ≡ branches_by sides.now allowed ranges.now) }
 {
-    let holds = branch_of(alloc, plan, sides, allowed, ranges)?;
-    let fails = branch_of(alloc, plan, sides, others(allowed), ranges)?;
+    let between = signs(sides.left.range, sides.right.range);
+    let holds = branch_of(alloc, sides, between, allowed, ranges)?;
+    let fails = branch_of(alloc, sides, between, others(allowed), ranges)?;
     Ok(Branches { holds, fails })
 }
 
-/// The changes where a comparison has an allowed sign: of the left side by the right one's range, then of the right side by
-/// the range that the left one had.
+/// The changes where a comparison has an allowed sign of those between its sides: of the left side by the right one's range,
+/// then of the right side by the range that the left one had.
 fn branch_of(
     alloc: Global,
-    plan: &Typed,
     sides: &Sides,
+    between: SignSet,
     allowed: SignSet,
     ranges: &[Abs],
 ) -> Result<Option<Vec<Change>>, AllocError>
-    requires sized { IsSized plan.now ranges.now }
-    requires sides { CanCompare plan.now sides.now ranges.now }
-    ensures { IfOk result (λ o. ranges_after plan.now ranges.now o
-        ≡ branch_by plan.now sides.now allowed ranges.now) }
+    requires sides { CanCompare sides.now ranges.now }
+    requires between { between ≡ signs_of sides.now.left.range sides.now.right.range }
+    ensures { IfOk result (λ o. ranges_left ranges.now o
+        ≡ branch_by sides.now allowed ranges.now) }
 {
-    let whole = sides.whole;
-    if !can_have(allowed, signs(sides.left_range, sides.right_range)) {
+    if !can_have(allowed, between) {
         return Ok(None);
     }
     let none = Vec::new(alloc);
-    let right = Against {
-        range: sides.right_range,
-        allowed,
-        whole,
-    };
-    match narrow(plan, sides.left, right, ranges, none)? {
+    let right = Against::of(&sides.right, allowed, sides.whole);
+    match narrow(sides.left.variable, right, ranges, none)? {
         None => Ok(None),
         Some(changes) => {
-            let left = Against {
-                range: sides.left_range,
-                allowed: exchanged(allowed),
-                whole,
-            };
-            narrow(plan, sides.right, left, ranges, changes)
+            let left = Against::of(&sides.left, exchanged(allowed), sides.whole);
+            narrow(sides.right.variable, left, ranges, changes)
         }
     }
 }
 
-/// The changes with that of a side that is a variable's name; None where nothing is left of its range.
+/// The changes with that of a side that is a variable; None where nothing is left of its range.
 fn narrow(
-    plan: &Typed,
-    side: &Expr,
+    variable: Option<usize>,
     against: Against,
     ranges: &[Abs],
     changes: Vec<Change>,
 ) -> Result<Option<Vec<Change>>, AllocError>
-    requires sized { IsSized plan.now ranges.now }
-    requires fits { CanStand plan.now (term_of side.now) against
-        (changed ranges.now changes.items) }
-    ensures { IfOk result (λ o. ranges_after plan.now ranges.now o
-        ≡ narrowed_by plan.now (term_of side.now) against (changed ranges.now changes.items)) }
+    requires { CanNarrow variable against (changed ranges.now changes.items) }
+    ensures { IfOk result (λ o. ranges_left ranges.now o
+        ≡ narrowed variable against (changed ranges.now changes.items)) }
 {
+    let Some(number) = variable else {
+        return Ok(Some(changes));
+    };
     let Against {
         range: other,
         allowed,
         whole,
     } = against;
-    let Some(name) = name_in(side) else {
-        return Ok(Some(changes));
-    };
-    let Some(number) = plan.variable(name) else {
-        return Ok(Some(changes));
-    };
     let now = range_now(ranges, &changes, number);
     match refine(now, other, allowed, whole) {
         None => Ok(None),
@@ -186,16 +191,6 @@ fn narrow(
             more.push(Change { number, range })?;
             Ok(Some(more))
         }
-    }
-}
-
-/// The name that an expression is.
-fn name_in(e: &Expr) -> Option<&Name>
-    ensures { option_map (λ name. name.now) result ≡ name_in (term_of e.now) }
-{
-    match e {
-        Expr::Var(name) => Some(name),
-        _ => None,
     }
 }
 

@@ -4,7 +4,7 @@ ghost use Rattle.pap_tree.specs.Term.{term_of, unary, operator};
 ghost use Rattle.interval_num.specs.declared.cause.RangeCause.TheVariants.{Wide};
 ghost use Rattle.interval_analysis.specs.VariableViews.{AreHeld, GoesOn, IsLeft};
 ghost use Rattle.interval_analysis.specs.ExpressionViews.{CanWalk, one_of, two_of};
-ghost use Rattle.interval_analysis.specs.TestViews.{AreSides, ComparisonAnswer, IsInner, IsPlainComparison, OrderAnswer, TestAnswer, TestsAs, comparison_of, order_compared, sides_compared};
+ghost use Rattle.interval_analysis.specs.TestViews.{AreSides, ComparesAs, ComparisonAnswer, IsInner, IsPlainComparison, OrderAnswer, TestAnswer, comparison_of, order_compared, sides_compared};
 ghost use Rattle.interval_analysis.specs.Connectives.{FollowAnswer, BehindAnswer, IsConnected, behind_both, connected};
 
 use crate::branches::{Branches, Connective, opposite, turned, unchanged_if};
@@ -255,49 +255,29 @@ impl Walk<'_> {
     {
         match compared_sides(left, right) {
             Some(inner) => {
-                let Inner {
-                    left,
-                    right,
-                    number,
-                } = inner;
-                let operands = self.operands(left, right, at, variables)?;
-                self.compare_order(op, left, right, number, operands, &variables.ranges)
+                let operands = self.operands(inner.left, inner.right, at, variables)?;
+                self.compare_order(op, inner.number, operands, &variables.ranges)
             }
             None => {
                 let operands = self.operands(left, right, at, variables)?;
-                self.compare_sides(op, left, right, operands, &variables.ranges)
+                self.compare_sides(op, operands, &variables.ranges)
             }
         }
     }
 
     /// The branches of a comparison whose sides can't fail.
-    fn compare_sides<'e>(
-        &self,
-        op: Binary,
-        left: &'e Expr,
-        right: &'e Expr,
-        operands: Operands,
-        ranges: &[Abs],
-    ) -> Result<Tested, Stop>
-        requires sides { AreSides self.now.plan.now (term_of left.now) (term_of right.now) operands
-            ranges.now }
+    fn compare_sides(&self, op: Binary, operands: Operands, ranges: &[Abs]) -> Result<Tested, Stop>
+        requires sides { AreSides operands ranges.now }
         requires room { operands.second.next + 1 < 2 ^ 32 }
-        ensures { TestsAs self.now
-            (sides_compared self.now op (term_of left.now) (term_of right.now) operands ranges.now)
-            (operands.second.next + 1) ranges.now result }
+        ensures { ComparesAs (sides_compared op operands ranges.now) (operands.second.next + 1)
+            ranges.now result }
     {
         let Operands { first, second } = operands;
         let compared = comparison_range(op, first.range, second.range);
         let compared = own(compared, NodeKind::Truth, second.next)?;
-        let sides = Sides {
-            left,
-            right,
-            left_range: first.range,
-            right_range: second.range,
-            whole: are_whole(first.kind, second.kind),
-        };
-        let allowed = signs_where(op, 0);
-        let branches = branches_of(self.alloc, self.plan, &sides, allowed, ranges)?;
+        let whole = are_whole(first.kind, second.kind);
+        let sides = Sides::of(operands, whole);
+        let branches = branches_of(self.alloc, &sides, signs_where(op, 0), ranges)?;
         Ok(Tested {
             branches,
             next: compared.next,
@@ -305,34 +285,22 @@ impl Walk<'_> {
     }
 
     /// The branches of a `compareTo` that is compared with an `int` literal, whose sides can't fail.
-    fn compare_order<'e>(
+    fn compare_order(
         &self,
         op: Binary,
-        left: &'e Expr,
-        right: &'e Expr,
         number: i32,
         operands: Operands,
         ranges: &[Abs],
     ) -> Result<Tested, Stop>
-        requires sides { AreSides self.now.plan.now (term_of left.now) (term_of right.now) operands
-            ranges.now }
+        requires sides { AreSides operands ranges.now }
         requires room { operands.second.next + 3 < 2 ^ 32 }
-        ensures { TestsAs self.now
-            (order_compared self.now op (term_of left.now) (term_of right.now) number operands
-            ranges.now)
+        ensures { ComparesAs (order_compared op number operands ranges.now)
             (operands.second.next + 3) ranges.now result }
     {
         let Operands { first, second } = operands;
         let next = behind_order(op, number, first.range, second.range, second.next)?;
-        let sides = Sides {
-            left,
-            right,
-            left_range: first.range,
-            right_range: second.range,
-            whole: false,
-        };
-        let allowed = signs_where(op, number);
-        let branches = branches_of(self.alloc, self.plan, &sides, allowed, ranges)?;
+        let sides = Sides::of(operands, false);
+        let branches = branches_of(self.alloc, &sides, signs_where(op, number), ranges)?;
         Ok(Tested { branches, next })
     }
 }

@@ -1,16 +1,16 @@
 //! The ranges of expressions.
 ghost use Rattle.std.specs.Prelude.{◌≡◌, ◌+◌, ◌<◌, ◌^◌, OnOk};
 ghost use Rattle.pap_tree.specs.Term.{term_of, leaf, named};
-ghost use Rattle.interval_analysis.specs.PlanViews.{IsSized, name_range_in, ranges_after};
+ghost use Rattle.pap_types.specs.Scopes.{number_of};
+ghost use Rattle.interval_analysis.specs.PlanViews.{IsSized, variables_in, name_range_in, ranges_after, branches_in};
 ghost use Rattle.interval_analysis.specs.ShapeViews.{leaf_of};
 ghost use Rattle.interval_analysis.specs.VariableViews.{AreHeld, IsLeft};
-ghost use Rattle.interval_analysis.specs.ComparisonViews.{branches_in};
 ghost use Rattle.interval_analysis.specs.ExpressionViews.{CanWalk, CanWalkTwo, CanWalkParts, RangeAnswer, OperandsAnswer, PartAnswer, PartsAnswer, choice_of};
 
 use crate::branches::{Branches, Change};
 use crate::conditions::Tested;
-use crate::names::{single, table};
-use crate::nodes::{either, item, literal, one, own, reached, two, unreached};
+use crate::names::{kind_named, single, table};
+use crate::nodes::{either, item, literal, named, one, reached, two, unreached};
 use crate::operations::read;
 use crate::outlines::outline_of;
 use crate::shapes::{Leaf, Shape, shape_of};
@@ -46,6 +46,8 @@ pub(crate) struct Ranged {
     pub range: Abs,
     pub kind: NodeKind,
     pub next: u32,
+    /// The number of the variable, where the expression is its name.
+    pub variable: Option<usize>,
 }
 
 /// The same of two operands, the second of which is numbered behind the first.
@@ -120,19 +122,21 @@ impl Walk<'_> {
         requires sized { IsSized self.now.plan.now ranges.now }
         ensures { RangeAnswer self.now (leaf (named name.now)) at ranges.now result }
     {
-        let kind = self.plan.kind_of_name(name);
-        match self.value_of_name(name, ranges) {
-            Some(range) => own(read(kind, range), kind, at),
-            None => own(Err(RangeCause::Wide), kind, at),
+        let variable = self.plan.variable(name);
+        let kind = kind_named(self.plan, name, variable);
+        match self.value_of_name(name, variable, ranges) {
+            Some(range) => named(variable, read(kind, range), kind, at),
+            None => named(variable, Err(RangeCause::Wide), kind, at),
         }
     }
 
-    /// The range of a variable, or that of a constant's value.
-    fn value_of_name(&self, name: &Name, ranges: &[Abs]) -> Option<Abs>
-        requires { IsSized self.now.plan.now ranges.now }
+    /// The range of the variable of this number, which has the name, or that of a constant's value.
+    fn value_of_name(&self, name: &Name, variable: Option<usize>, ranges: &[Abs]) -> Option<Abs>
+        requires sized { IsSized self.now.plan.now ranges.now }
+        requires number { variable ≡ number_of (variables_in self.now.plan.now) name.now }
         ensures { result ≡ name_range_in self.now.plan.now name.now ranges.now }
     {
-        match self.plan.variable(name) {
+        match variable {
             Some(number) => Some(ranges[number]),
             None => match self.plan.constant_value(name) {
                 Some(value) => Some(single(value)),

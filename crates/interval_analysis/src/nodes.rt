@@ -7,7 +7,7 @@ ghost use Rattle.interval_walk.specs.Ranges.{single};
 ghost use Rattle.interval_walk.specs.NodeRanges.{read_range, item_range};
 ghost use Rattle.interval_analysis.specs.PlanViews.{scope_in};
 ghost use Rattle.interval_analysis.specs.ShapeViews.{TakesOne, TakesTwo, one_meant, two_meant};
-ghost use Rattle.interval_analysis.specs.ExpressionViews.{OwnAnswer, OneAnswer, TwoAnswer, either_range};
+ghost use Rattle.interval_analysis.specs.ExpressionViews.{NodeAnswer, OwnAnswer, OneAnswer, TwoAnswer, either_range};
 
 use crate::expressions::{Operands, Part, Ranged, Stop};
 use crate::names::single;
@@ -24,11 +24,25 @@ pub(crate) fn own(range: Result<Abs, RangeCause>, kind: NodeKind, at: u32) -> Re
     requires { at + 1 < 2 ^ 32 }
     ensures { OwnAnswer range kind at result }
 {
+    named(None, range, kind, at)
+}
+
+/// That of a name, which is that of the variable of this number.
+pub(crate) fn named(
+    variable: Option<usize>,
+    range: Result<Abs, RangeCause>,
+    kind: NodeKind,
+    at: u32,
+) -> Result<Ranged, Stop>
+    requires { at + 1 < 2 ^ 32 }
+    ensures { NodeAnswer variable range kind at result }
+{
     match range {
         Ok(range) => Ok(Ranged {
             range,
             kind,
             next: at + 1,
+            variable,
         }),
         Err(cause) => Err(Stop::At { node: at, cause }),
     }

@@ -1,7 +1,7 @@
 //! The ranges of single operations.
 ghost use Rattle.std.specs.Prelude.{◌≡◌, ◌≤◌};
 ghost use Rattle.scaled_decimal.specs.Limits.{most_places};
-ghost use Rattle.scaled_decimal.specs.WholeNumbers.{int_bits, long_bits, is_of_bits};
+ghost use Rattle.scaled_decimal.specs.WholeNumbers.{int_bits, long_bits};
 ghost use Rattle.interval_num.specs.Intervals.{interval, IsWhole, IsWholeOfBits};
 ghost use Rattle.interval_num.specs.Rows.{whole_opposite_row};
 ghost use Rattle.pap_tree.specs.Term.{Term, term_of, unary};
@@ -21,7 +21,7 @@ use interval_num::{
 };
 use pap_tree::{Binary, Call, Expr, Unary};
 use pap_types::{NodeKind, Typed};
-use scaled_decimal::Dec;
+use scaled_decimal::{Dec, is_int, is_long};
 
 /// The range of what is read of a kind: that of a whole number has the bits of its kind.
 pub(crate) fn read(kind: NodeKind, range: Abs) -> Result<Abs, RangeCause>
@@ -50,18 +50,6 @@ fn read_decimal(range: Abs) -> Result<Abs, RangeCause>
 {
     let _places = range.s_hi();
     Ok(range)
-}
-
-fn is_int(n: i128) -> bool
-    ensures { result ≡ is_of_bits int_bits n }
-{
-    -2_147_483_648 <= n && n < 2_147_483_648
-}
-
-fn is_long(n: i128) -> bool
-    ensures { result ≡ is_of_bits long_bits n }
-{
-    -9_223_372_036_854_775_808 <= n && n < 9_223_372_036_854_775_808
 }
 
 /// The range of an operation on one operand, whose result is of a kind.

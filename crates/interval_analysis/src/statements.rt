@@ -6,9 +6,8 @@ ghost use Rattle.pap_types.specs.Checks.{place};
 ghost use Rattle.pap_types.specs.Routines.{body_named};
 ghost use Rattle.interval_walk.specs.Walked.{range_kept_as};
 ghost use Rattle.interval_analysis.specs.Changes.{changed};
-ghost use Rattle.interval_analysis.specs.PlanViews.{ranges_in};
+ghost use Rattle.interval_analysis.specs.PlanViews.{ranges_in, branches_in};
 ghost use Rattle.interval_analysis.specs.VariableViews.{AreHeld, GoesOn};
-ghost use Rattle.interval_analysis.specs.ComparisonViews.{branches_in};
 ghost use Rattle.interval_analysis.specs.StatementViews.{AsideAnswer, CanWalkBody, CanWalkLists, CanAssign, CanPut, CanKeep, IsMethodBody, Passes, EnvAnswer, through_body, through_if, through_fork, through_first, through_second, through_both, if_of, evaluated, executed, assigned_in, methods_in, fault_of};
 
 use crate::RangeFault;
@@ -17,6 +16,7 @@ use crate::conditions::Tested;
 use crate::expressions::{Stop, Walk};
 use crate::joins::meet;
 use crate::lists::written;
+use crate::names::variable_at;
 use crate::variables::{Variables, taken_back};
 use interval_num::{Abs, RangeCause};
 use pap_tree::{Expr, Kind, Method, Name, Place, Stmt};
@@ -135,7 +135,7 @@ impl Walk<'_> {
         let Some(number) = self.plan.variable(target) else {
             return Ok(());
         };
-        let kept = match self.plan.declaration(target) {
+        let kept = match variable_at(self.plan, number) {
             Some(declared) => kept_as(declared.kind, range),
             None => range,
         };

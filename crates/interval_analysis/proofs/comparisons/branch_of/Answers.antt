@@ -1,16 +1,17 @@
-use Rattle.std.proofs.Common.{sym, ap, ◌∙◌}
-use Rattle.pap_tree.specs.Term.{term_of}
-use Rattle.interval_walk.specs.Branches.{narrowed}
-use Rattle.interval_analysis.specs.Changes.{changed}
-use Rattle.interval_analysis.specs.PlanViews.{ranges_in, ranges_after}
+use Rattle.std.proofs.Common.{◌≡◌, Some, sym, ap, ap₂, ◌∙◌, subst}
+use Rattle.interval_analysis.specs.Changes.{changed, ranges_left}
+use Rattle.interval_analysis.specs.ComparisonViews.{CanNarrowAt, against, narrowed}
 use Rattle.interval_analysis.proofs.PartLemmas.{second_narrows}
 use Rattle.interval_analysis.proofs.comparisons.branch_of.Goals as goal
 
-pub narrow-requires-in-Some-clause-fits : goal.narrow-requires-in-Some-clause-fits
-narrow-requires-in-Some-clause-fits c =
-    let plan = c.args.plan.now in
+pub narrow-requires-in-Some : goal.narrow-requires-in-Some
+narrow-requires-in-Some c n right =
     let rs = c.args.ranges.now in
     let s = c.args.sides.now in
-    second_narrows s.whole c.args.allowed s.left_range s.right_range (ranges_in plan rs) (ranges_in plan (changed rs c.in-Some.changes.items)) (term_of s.left.now) (term_of s.right.now) c.requires.sides.ranges c.requires.sides.left c.requires.sides.right
-    (ap (ranges_after plan rs) (sym c.in-Some.is) ∙ c.in_ok-narrow.ensures
-    ∙ ap (λ cs. narrowed s.whole c.args.allowed (term_of s.left.now) s.right_range (ranges_in plan (changed rs cs))) c.new-none.ensures.items)
+    let after = changed rs c.in-Some.changes.items in
+    let first : Some after ≡ narrowed s.left.variable (against s.right.range c.args.allowed s.whole) rs =
+    ap (ranges_left rs) (sym c.in-Some.is)
+    ∙ c.in_ok-narrow.ensures
+    ∙ ap₂ (λ a cs. narrowed s.left.variable a (changed rs cs)) c.of-right.ensures c.new-none.ensures.items in
+    subst (λ a. CanNarrowAt n a after) (sym (c.of-left.ensures ∙ ap (λ e. against s.left.range e s.whole) c.exchanged.ensures))
+    (second_narrows s c.args.allowed rs after c.requires.sides first n right)

@@ -1,27 +1,31 @@
-use Rattle.std.proofs.Common.{◌≡◌, Some, None, refl, sym, ap, ◌∙◌}
+use Rattle.std.proofs.Common.{◌≡◌, Some, refl, sym, ap, ◌∙◌, subst, arith}
 use Rattle.std.specs.Prelude.{slice_get}
-use Rattle.pap_tree.specs.Term.{term_of}
 use Rattle.interval_analysis.specs.Changes.{changed}
-use Rattle.interval_analysis.specs.PlanViews.{ranges_in}
-use Rattle.interval_analysis.specs.ComparisonViews.{CanRefine}
-use Rattle.interval_analysis.proofs.NarrowLemmas.{can_refine, range_after, put_after, narrowed_none, narrowed_some}
+use Rattle.interval_analysis.specs.ComparisonViews.{CanRefine, narrowed}
+use Rattle.interval_analysis.proofs.ChangeLemmas.{length-changed}
+use Rattle.interval_analysis.proofs.NarrowLemmas.{narrowed_more}
+use Rattle.interval_analysis.proofs.NoteLemmas.{within_of}
 use Rattle.interval_analysis.proofs.comparisons.narrow.Goals as goal
 use Rattle.interval_analysis.proofs.comparisons.narrow.Goals.{After-range_now-now}
-use Rattle.interval_walk.specs.Ranges.{range_named}
 
-pub returns-in_default-variable : goal.returns-in_default-variable
-returns-in_default-variable c =
-    sym (narrowed_none c.args.plan.now c.args.ranges.now c.args.changes.items c.in-Some.name.now c.requires.sized c.args.against.whole c.args.against.allowed (term_of c.args.side.now) c.args.against.range c.in-Some.ensures c.in_default-variable.ensures)
+pub range_now-now-requires : goal.range_now-now-requires
+range_now-now-requires c =
+    let after = changed c.args.ranges.now c.args.changes.items in
+    let can = c.requires c.in-Some.number c.in-Some.is in
+    let within = within_of after c.in-Some.number can.range can.there in
+    let count = length-changed c.args.ranges.now c.args.changes.items in
+    omega (arith, within, count)
 
 -- the range that the variable has by now
-now : (c : After-range_now-now) → range_named (ranges_in c.args.plan.now (changed c.args.ranges.now c.args.changes.items)) c.in-Some.name.now ≡ Some c.range_now-now.result
-now c =
-    range_after c.args.plan.now c.args.ranges.now c.args.changes.items c.in-Some.name.now c.requires.sized c.in-Some-variable.number c.range_now-now.result c.in-Some-variable.ensures
-    (ap (λ cs. slice_get (changed c.args.ranges.now cs) c.in-Some-variable.number) (sym c.deref.ensures.value) ∙ c.range_now-now.ensures)
+there : (c : After-range_now-now) → slice_get (changed c.args.ranges.now c.args.changes.items) c.in-Some.number ≡ Some c.range_now-now.result
+there c = ap (λ cs. slice_get (changed c.args.ranges.now cs) c.in-Some.number) (sym c.deref.ensures.value) ∙ c.range_now-now.ensures
 
 refines : (c : After-range_now-now) → CanRefine c.args.against.whole c.range_now-now.result c.args.against.range
 refines c =
-    can_refine c.args.against.whole (term_of c.args.side.now) c.args.against.range (ranges_in c.args.plan.now (changed c.args.ranges.now c.args.changes.items)) c.in-Some.name.now c.range_now-now.result (sym c.in-Some.ensures) c.requires.fits (now c)
+    let can = c.requires c.in-Some.number c.in-Some.is in
+    let one : Some can.range ≡ Some c.range_now-now.result = sym can.there ∙ there c in
+    let same : can.range ≡ c.range_now-now.result = cc in
+    subst (λ v. CanRefine c.args.against.whole v c.args.against.range) same can.refines
 
 pub refine-requires-clause-aligned : goal.refine-requires-clause-aligned
 refine-requires-clause-aligned c = (refines c).aligned
@@ -32,15 +36,10 @@ refine-requires-clause-left_whole c = (refines c).left_whole
 pub refine-requires-clause-right_whole : goal.refine-requires-clause-right_whole
 refine-requires-clause-right_whole c = (refines c).right_whole
 
-pub returns-in-None : goal.returns-in-None
-returns-in-None c =
-    let is = now ((goal.at.returns-in-None c).After-range_now-now) in
-    sym (narrowed_some c.args.plan.now c.args.ranges.now c.args.changes.items c.in-Some.name.now c.requires.sized c.args.against.whole c.args.against.allowed (term_of c.args.side.now) c.args.against.range c.in-Some.ensures c.range_now-now.result None is (sym c.in-None.ensures.exact))
-
 pub returns-in_ok-push-in-Some-refine : goal.returns-in_ok-push-in-Some-refine
 returns-in_ok-push-in-Some-refine c =
-    let is = now ((goal.at.returns-in_ok-push-in-Some-refine c).After-range_now-now) in
-    ap Some
-    (ap (λ cs. ranges_in c.args.plan.now (changed c.args.ranges.now cs)) c.in_ok-push-in-Some-refine.ensures.items
-    ∙ put_after c.args.plan.now c.args.ranges.now c.args.changes.items c.in-Some.name.now c.requires.sized c.in-Some-variable.number c.in-Some-refine.range _ c.in-Some-variable.ensures refl)
-    ∙ sym (narrowed_some c.args.plan.now c.args.ranges.now c.args.changes.items c.in-Some.name.now c.requires.sized c.args.against.whole c.args.against.allowed (term_of c.args.side.now) c.args.against.range c.in-Some.ensures c.range_now-now.result (Some c.in-Some-refine.range) is (sym c.in-Some-refine.ensures.exact))
+    let rs = c.args.ranges.now in
+    let cs = c.args.changes.items in
+    let at = there ((goal.at.returns-in_ok-push-in-Some-refine c).After-range_now-now) in
+    narrowed_more c.in-Some.number c.args.against rs cs c.push.new.self.items c.range_now-now.result c.in-Some-refine.range _ at (sym c.in-Some-refine.ensures.exact) c.in_ok-push-in-Some-refine.ensures.items refl
+    ∙ ap (λ o. narrowed o c.args.against (changed rs cs)) (sym c.in-Some.is)

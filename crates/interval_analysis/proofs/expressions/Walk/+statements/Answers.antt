@@ -2,11 +2,10 @@ use Rattle.std.proofs.Common.{Ok, Err, Some, ◌≡◌, ◌+◌, ◌-◌, drop, 
 use Rattle.pap_tree.specs.Flowchart.{body_of, stmt_then, done}
 use Rattle.pap_tree.specs.Statements.{written}
 use Rattle.pap_tree.proofs.Laws.{stmt_at, branch_is}
-use Rattle.interval_analysis.specs.PlanViews.{scope_in, ranges_after, ranges_in}
+use Rattle.interval_analysis.specs.PlanViews.{scope_in, ranges_after, ranges_in, branches_in}
 use Rattle.interval_analysis.specs.StatementViews.{joined_lists, PassesAside, CanWalkBody, FaultOf, Passes, through_body, through_fork, through_if, if_of, walked_in, met_in, executed, methods_in}
 use Rattle.interval_analysis.specs.declared.statements.Fork.{Fork}
 use Rattle.interval_analysis.specs.Changes.{changed}
-use Rattle.interval_analysis.specs.ComparisonViews.{branches_in}
 use Rattle.interval_analysis.specs.Notes.{IsTold}
 use Rattle.interval_analysis.specs.Meetings.{MeetsAnswer}
 use Rattle.interval_analysis.proofs.NoteLemmas.{noted_same, noted_then, since}

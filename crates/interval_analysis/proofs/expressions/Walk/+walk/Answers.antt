@@ -3,11 +3,10 @@ use Rattle.std.proofs.lemmas.Int.{ints}
 use Rattle.std.specs.Int.{w32}
 use Rattle.pap_tree.specs.Numbering.{nodes}
 use Rattle.pap_tree.specs.Term.{term_of, item, one, two, operator}
-use Rattle.interval_analysis.specs.PlanViews.{ranges_in, ranges_after}
-use Rattle.interval_analysis.specs.ComparisonViews.{branches_in}
+use Rattle.interval_analysis.specs.PlanViews.{ranges_in, ranges_after, branches_in}
 use Rattle.interval_analysis.specs.ShapeViews.{one_meant, two_meant}
 use Rattle.interval_analysis.specs.ExpressionViews.{CanWalk, IsPartRanged, RangeAnswer, StopsAs, part_ranged}
-use Rattle.interval_analysis.specs.TestViews.{TestAnswer, TestsAs, comparison, comparison_in, order_compared}
+use Rattle.interval_analysis.specs.TestViews.{ComparesAs, TestAnswer, comparison, comparison_in, order_compared}
 use Rattle.interval_analysis.specs.Connectives.{FollowAnswer, connected}
 use Rattle.interval_analysis.specs.Notes.{IsTold}
 use Rattle.interval_analysis.proofs.NodeLemmas.{can_item, can_one, can_two, first_stops, item_answer, item_stops, one_answer, one_stops, parts_answer, parts_err, range_err, second_stops, two_answer, two_stops}
@@ -192,14 +191,14 @@ test_comparison-returns-in_ok-operands-in-Some-clause-answer t c =
     let o = c.in_ok-operands-in-Some.operands in
     let now = c.deref.result.now in
     let number : to_z w32 (of_z w32 i.number) ≡ i.number = omega (arith, ints) in
-    let tests = subst (λ k. TestsAs w (order_compared w c.args.op (term_of i.left.now) (term_of i.right.now) k o now) (o.second.next + 3) now c.compare_order.result) number c.compare_order.ensures in
+    let tests = subst (λ k. ComparesAs (order_compared c.args.op k o now) (o.second.next + 3) now c.compare_order.result) number c.compare_order.ensures in
     order_answer c.args.self.now c.args.op (term_of c.args.left.now) (term_of c.args.right.now) c.in-Some.inner c.args.at c.deref.result.now c.args.variables.now.ranges.items c.in_ok-operands-in-Some.operands c.compare_order.result
-    (c.deref.ensures.value ∙ c.in_ok-operands-in-Some.ensures.left.ranges) c.in-Some.ensures c.in_ok-operands-in-Some.ensures.answer tests
+    (c.deref.ensures.value ∙ c.in_ok-operands-in-Some.ensures.left.ranges) c.requires.held.sized c.in-Some.ensures c.in_ok-operands-in-Some.ensures.answer tests
 
 pub test_comparison-returns-in_ok-operands-in-None-clause-answer : goal.test_comparison-returns-in_ok-operands-in-None-clause-answer
 test_comparison-returns-in_ok-operands-in-None-clause-answer t c =
     sides_answer c.args.self.now c.args.op (term_of c.args.left.now) (term_of c.args.right.now) c.args.at c.args.variables.now.ranges.items c.in_ok-operands-in-None.operands c.in_ok-operands-in-None.ensures.answer c.deref-in-None.result.now c.compare_sides.result
-    (c.deref-in-None.ensures.value ∙ c.in_ok-operands-in-None.ensures.left.ranges) c.in-None.ensures c.compare_sides.ensures
+    (c.deref-in-None.ensures.value ∙ c.in_ok-operands-in-None.ensures.left.ranges) c.requires.held.sized c.in-None.ensures c.compare_sides.ensures
 
 pub test_operator-returns-in_default : goal.test_operator-returns-in_default
 test_operator-returns-in_default t c = record {

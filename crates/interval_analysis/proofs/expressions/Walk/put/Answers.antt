@@ -3,10 +3,10 @@ use Rattle.std.specs.Option.{option_map_or}
 use Rattle.pap_tree.specs.Declarations.{declaration_of}
 use Rattle.interval_walk.specs.Walked.{range_kept_as}
 use Rattle.interval_analysis.specs.PlanViews.{scope_in}
-use Rattle.interval_analysis.proofs.KeptLemmas.{variable_of, put_done, put_nothing}
+use Rattle.interval_analysis.proofs.KeptLemmas.{declared_at, put_done, put_nothing}
 use Rattle.interval_analysis.proofs.VariableLemmas.{goes_none}
 use Rattle.interval_analysis.proofs.expressions.Walk.put.Goals as goal
-use Rattle.interval_analysis.proofs.expressions.Walk.put.Goals.{in-Some-declaration, in-None}
+use Rattle.interval_analysis.proofs.expressions.Walk.put.Goals.{in-Some-variable_at, in-None}
 
 pub returns-in_default-clause-put : goal.returns-in_default-clause-put
 returns-in_default-clause-put c = put_nothing c.args.self.now.plan.now c.args.variables.now.ranges.items c.args.target.now c.args.range c.requires.held.sized c.in_default.ensures
@@ -16,18 +16,18 @@ returns-in_default-clause-on c = goes_none c.args.self.now.plan.now c.args.varia
 
 pub kept_as-kept-requires : goal.kept_as-kept-requires
 kept_as-kept-requires c =
-    let found = variable_of (scope_in c.args.self.now.plan.now) c.args.target.now c.in-Some.number c.in-Some.ensures in
-    c.requires.walk (declaration_of c.in-Some-declaration.declared.now) (sym (c.in-Some-declaration.ensures ∙ found))
+    let found = declared_at (scope_in c.args.self.now.plan.now).variables c.args.target.now c.in-Some.number c.in-Some.ensures in
+    c.requires.walk (declaration_of c.in-Some-variable_at.declared.now) (sym (c.in-Some-variable_at.ensures ∙ found))
 
 pub returns-clause-put : goal.returns-clause-put
 returns-clause-put c =
     let p = c.args.self.now.plan.now in
     let x = c.args.target.now in
     let a = c.args.range in
-    let found = variable_of (scope_in p) x c.in-Some.number c.in-Some.ensures in
-    put_done p c.args.variables.now.ranges.items c.put.new.self.ranges.items x a c.match-declaration.kept c.in-Some.number c.put.result c.requires.held.sized c.in-Some.ensures
-    (elim c.match-declaration.branch [
-      | in-Some-declaration w ↦ w.kept-is ∙ w.kept_as-kept.ensures ∙ ap (λ o. option_map_or (λ d. range_kept_as d.kind a) o a) (w.in-Some-declaration.ensures ∙ found)
+    let found = declared_at (scope_in p).variables x c.in-Some.number c.in-Some.ensures in
+    put_done p c.args.variables.now.ranges.items c.put.new.self.ranges.items x a c.match-variable_at.kept c.in-Some.number c.put.result c.requires.held.sized c.in-Some.ensures
+    (elim c.match-variable_at.branch [
+      | in-Some-variable_at w ↦ w.kept-is ∙ w.kept_as-kept.ensures ∙ ap (λ o. option_map_or (λ d. range_kept_as d.kind a) o a) (w.in-Some-variable_at.ensures ∙ found)
       | in-None w ↦ w.kept-is ∙ ap (λ o. option_map_or (λ d. range_kept_as d.kind a) o a) (w.in-None.ensures ∙ found)
     ])
     c.put.ensures.value

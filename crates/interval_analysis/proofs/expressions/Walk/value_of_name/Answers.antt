@@ -13,20 +13,21 @@ returns-in-Some c =
     let rs = c.args.ranges.now in
     let x = c.args.name.now in
     let number = c.in-Some.number in
-    let within = (number_in names x number (sym c.in-Some.ensures)).1 in
-    let bound : number < length rs = omega (arith, within, c.requires) in
+    let is = sym c.requires.number ∙ c.in-Some.is in
+    let within = (number_in names x number is).1 in
+    let bound : number < length rs = omega (arith, within, c.requires.sized) in
     let read = slice_get-get_or rs number c.index-ranges-number.result bound ∙ ap Some (sym c.index-ranges-number.is) in
-    let named = named_by names rs x number c.requires (sym c.in-Some.ensures) ∙ read in
+    let named = named_by names rs x number c.requires.sized is ∙ read in
     ap (λ o. option_or o (option_map single (constant_in (scope_in c.args.self.now.plan.now) x))) (sym named)
 
 pub returns-in-Some-constant_value : goal.returns-in-Some-constant_value
 returns-in-Some-constant_value c =
     let p = c.args.self.now.plan.now in
-    let none = named_none (variables_in p) c.args.ranges.now c.args.name.now c.requires (sym c.in-None.ensures) in
+    let none = named_none (variables_in p) c.args.ranges.now c.args.name.now c.requires.sized (sym c.requires.number ∙ c.in-None.is) in
     ap Some c.single.ensures ∙ ap₂ (λ o v. option_or o (option_map single v)) (sym none) c.in-Some-constant_value.ensures
 
 pub returns-in-None-constant_value : goal.returns-in-None-constant_value
 returns-in-None-constant_value c =
     let p = c.args.self.now.plan.now in
-    let none = named_none (variables_in p) c.args.ranges.now c.args.name.now c.requires (sym c.in-None.ensures) in
+    let none = named_none (variables_in p) c.args.ranges.now c.args.name.now c.requires.sized (sym c.requires.number ∙ c.in-None.is) in
     ap₂ (λ o v. option_or o (option_map single v)) (sym none) c.in-None-constant_value.ensures
