@@ -9,7 +9,7 @@ use Rattle.pap_tree.specs.Term.{Leaf, Term, leaf, item, one, two, choice}
 use Rattle.pap_tree.specs.Tokens as tokens
 use Rattle.pap_tree.specs.Tokens.{Number, Token, Literal, Quoted, greatest_int, greatest_long, Spot, plain, Tokens, IsFirst}
 use Rattle.pap_tree.specs.Grammar as grammar
-use Rattle.pap_tree.specs.Grammar.{Item, Is, Opens, Scale, Part, Line, Meaning, tree, literal, Way, leaf_of, negative_of}
+use Rattle.pap_tree.specs.Grammar.{Item, Is, Opens, Scale, Part, Line, Meaning, tree, literal, assignment, Way, leaf_of, negative_of}
 use Rattle.pap_tree.specs.Texts as texts
 use Rattle.pap_tree.specs.Texts.{Text, Texts}
 use Rattle.pap_tree.specs.Scales.{OneKeepsScale, TwoKeepsScale}
@@ -32,6 +32,7 @@ IsHeld (choice c a b) = IsHeld c × IsHeld a × IsHeld b
 abbrev IsHeldMeaning : Meaning → Type 0
 IsHeldMeaning (tree x) = IsHeld x
 IsHeldMeaning (literal l) = IsHeldLeaf l
+IsHeldMeaning (assignment w x) = IsHeld x
 IsHeldMeaning x = ⊤
 
 abbrev IsHeldToken : Token → Type 0
@@ -102,6 +103,8 @@ way_held (grammar.a_new_big x) h = (tt, h.1.1.0)
 way_held (grammar.a_new_text d) h = h.1.1.0
 way_held (grammar.without_sign f n e) h = plain_held n h.0
 way_held (grammar.with_sign f n e) h = minus_held n h.0
+way_held (grammar.assign w x e) h = h.1.1.0
+way_held (grammar.assign_ended w x e) h = h.1.1.0
 way_held w h = tt
 
 mutual
@@ -131,3 +134,6 @@ spots_held at bytes (t ∷ ts) (white, text, rest, a, b, first, c, more) = (firs
 
 pub tree_held : (l : Line) (bytes : List ℕ) (spots : List Spot) (x : Term) → Tokens 0 bytes spots → Text l (plain spots) (tree x) → IsHeld x
 tree_held l bytes spots x h t = held t (spots_held 0 bytes spots h)
+
+pub right_held : (bytes : List ℕ) (spots : List Spot) (w : List ℕ) (x : Term) → Tokens 0 bytes spots → Text grammar.Assignment (plain spots) (assignment w x) → IsHeld x
+right_held bytes spots w x h t = held t (spots_held 0 bytes spots h)

@@ -4,4 +4,5 @@ pub mod Pieces
 pub mod Held
 pub mod Leaves
 pub mod Trees
+pub mod Nodes
 pub mod ReadingBack

@@ -8,6 +8,7 @@ ghost use Rattle.pap_tree.specs.Grammar.{Line, Level, Meaning, tree};
 ghost use Rattle.pap_tree.specs.Stopping.{Cause, deep};
 ghost use Rattle.pap_tree.specs.Expressions.{IsText, IsTest, IsAccepted, IsWrong};
 ghost use Rattle.expr_grammar.specs.Lines.{IsWhole};
+ghost use Rattle.expr_spelling.specs.ReadingBack.{IsInText};
 
 use expr_grammar::reads_fronts;
 use expr_spelling::spelling_is_a_text;
@@ -28,13 +29,14 @@ pub fn each_text_has_one_answer()
         → IsWrong l bytes c m → IsWrong l bytes d n → (c ≡ d) × (m ≡ n) }
 {}
 
-/// The canonical spelling of a tree that some text has is read back to that tree, where it keeps the limits: only the
-/// cause `deep` refuses it.
+/// The canonical spelling of a tree that stands in some text, as a test, as the right side of an assignment or as a node
+/// of these, is a text that is read back to that tree, where it keeps the limits: only the cause `deep` refuses it.
 pub fn spellings_are_read_back()
-    ensures tree { (bytes : List ℕ) (x y : Term)
-        → IsTest bytes x → IsAccepted (Level 0) (spelling x) (tree y) → y ≡ x }
-    ensures limits { (bytes : List ℕ) (x : Term) (c : Cause) (at : ℕ)
-        → IsTest bytes x → IsWrong (Level 0) (spelling x) c at → c ≡ deep }
+    ensures text { (x : Term) → IsInText x → IsTest (spelling x) x }
+    ensures tree { (x y : Term)
+        → IsInText x → IsAccepted (Level 0) (spelling x) (tree y) → y ≡ x }
+    ensures limits { (x : Term) (c : Cause) (at : ℕ)
+        → IsInText x → IsWrong (Level 0) (spelling x) c at → c ≡ deep }
 {
     spelling_is_a_text();
     reads_fronts();
