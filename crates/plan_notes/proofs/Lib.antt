@@ -1,1 +1,3 @@
 pub mod KeptLemmas
+pub mod PieceLemmas
+pub mod ItemLemmas

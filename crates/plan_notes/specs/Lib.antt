@@ -1,2 +1,5 @@
+pub mod Pieces
+pub mod PieceViews
+pub mod Tags
 pub mod Marks
 pub mod ScanViews

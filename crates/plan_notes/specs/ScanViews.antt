@@ -1,18 +1,10 @@
 -- What a scan has kept of the bytes before one.
-use Rattle.std.specs.Prelude.{ℕ, ◌<◌, ◌≤◌, All, vec_len}
+use Rattle.std.specs.Prelude.{◌≡◌, ℕ, ◌<◌, ◌≤◌, Bool, List, ◌++◌, length, map, All, vec_len}
 use Rattle.std.specs.List.Sorted.{IsNonDecreasingBy}
 use Rattle.plan_notes.specs.declared.notes.Notes.{Notes}
-use Rattle.plan_notes.specs.declared.scan.Scan.{Scan}
-use Rattle.plan_notes.specs.declared.scan.Within.{Within}
-use Rattle.plan_notes.specs.declared.scan.Within.TheVariants.{Gap, Declaration, Comment, Tag}
-use Rattle.plan_notes.specs.Marks.{HaveInTurn}
-
--- where the tag begins that a byte stands in; between tags the byte itself
-abbrev pub tag_start : Within → ℕ → ℕ
-tag_start Gap at = at
-tag_start Declaration at = at
-tag_start (Comment start) at = at
-tag_start (Tag start quote) at = start
+use Rattle.plan_notes.specs.declared.tag.Element.{Element}
+use Rattle.plan_notes.specs.Tags.{PlacedTag, Item, Leads, tags_of}
+use Rattle.plan_notes.specs.Marks.{placed, HaveInTurn}
 
 -- the tags begin before a place, in order, and have the comments before a number
 pub record AreKept (notes : Notes) (first place : ℕ) : Type 0 where
@@ -21,7 +13,15 @@ pub record AreKept (notes : Notes) (first place : ℕ) : Type 0 where
   pub in_turn : HaveInTurn 0 notes.marks.items first
   pub within : first ≤ vec_len notes.comments
 
--- every tag that ends before a byte is kept
-pub record HasScanned (scan : Scan) (at : ℕ) : Type 0 where
-  pub kept : AreKept scan.notes scan.first (tag_start scan.within at)
-  pub begun : tag_start scan.within at ≤ at
+abbrev pub placed_tag : Element → Bool → ℕ → PlacedTag
+placed_tag element is_end at = record { element = element; is_end = is_end; at = at }
+
+-- the tags of before and these
+pub record Finds (old new : Notes) (more : List PlacedTag) : Type 0 where
+  pub grown : map placed new.marks.items ≡ map placed old.marks.items ++ more
+
+-- the tags are those of the file up to what is left of it
+pub record HasRead (file left : List ℕ) (notes : Notes) : Type 0 where
+  pub items : List Item
+  pub leads : Leads (length file) file items left
+  pub tags : tags_of items ≡ map placed notes.marks.items

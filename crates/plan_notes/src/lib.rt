@@ -3,6 +3,7 @@
 
 mod attributes;
 mod notes;
+mod pieces;
 mod scan;
 mod tag;
 mod text;
@@ -10,5 +11,5 @@ mod text;
 pub use attributes::attribute_byte;
 pub use notes::{Notes, Walk};
 pub use scan::read_notes;
-pub use tag::{Element, Mark, Starts, element_name};
+pub use tag::{Element, Mark, Starts, element_name, tag_laws};
 pub use text::one_line;

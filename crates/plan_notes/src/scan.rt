@@ -1,166 +1,109 @@
 //! One pass over a plan's file.
-ghost use Rattle.std.specs.Prelude.{◌≡◌, ◌+◌, ◌<◌, ◌≤◌, length, vec_len, All, IfOk, OnOk};
+ghost use Rattle.std.specs.Prelude.{◌≡◌, ◌+◌, ◌<◌, ◌≤◌, [], ◌∷◌, ◌++◌, map, length, vec_len, All, IfOk, OnOk};
 ghost use Rattle.std.specs.List.Sorted.{IsNonDecreasingBy};
-ghost use Rattle.plan_notes.specs.Marks.{HaveComments};
-ghost use Rattle.plan_notes.specs.ScanViews.{tag_start, AreKept, HasScanned};
+ghost use Rattle.plan_notes.specs.Tags.{HasTags, items_at, tags_at, tags_of};
+ghost use Rattle.plan_notes.specs.Marks.{placed, HaveComments};
+ghost use Rattle.plan_notes.specs.PieceViews.{piece_of};
+ghost use Rattle.plan_notes.specs.ScanViews.{AreKept, placed_tag, Finds};
 
 use crate::attributes::attribute;
 use crate::notes::Notes;
-use crate::tag::{Element, Mark, element_name};
+use crate::pieces::{Piece, first_piece};
+use crate::tag::{Element, Mark, element_in};
 use crate::text::one_line;
 use std::alloc::{AllocError, Global};
 
-/// What the next byte stands in.
-#[derive(Clone, Copy)]
-enum Within {
-    /// Between tags.
-    Gap,
-    /// In the declaration at the beginning.
-    Declaration,
-    /// In a comment whose text begins at a byte.
-    Comment { start: usize },
-    /// In a tag that begins at a byte, and there in the quotes of a value or outside.
-    Tag { start: usize, quote: Option<u8> },
-}
-
 /// The tags and comments so far.
 #[derive(Drop)]
-struct Scan<'a> {
+struct Scan {
     alloc: Global,
-    file: &'a [u8],
-    within: Within,
     notes: Notes,
     /// The number of the first comment behind the last tag.
     first: usize,
 }
 
-/// The comments of a plan's file. It has to be an element text: each `<` outside comments, values and the declaration begins a
-/// tag. Takes time linear in the file, and fails only for want of memory.
+/// The tags and comments of a plan's file, up to its end or to a comment, a declaration or a tag that has none. Takes time
+/// linear in the file, and fails only for want of memory.
 pub fn read_notes(alloc: Global, file: &[u8]) -> Result<Notes, AllocError>
+    // Elements begin and end where the marks say, and nowhere else.
+    ensures tags { IfOk result (λ notes. HasTags file.now (map placed notes.marks.items)) }
     ensures places { IfOk result (λ notes. All (λ mark. mark.at < length file.now) notes.marks.items) }
     ensures in_order { IfOk result (λ notes. IsNonDecreasingBy (λ mark. mark.at) notes.marks.items) }
     ensures comments { IfOk result (λ notes.
         HaveComments notes.marks.items (vec_len notes.comments)) }
 {
-    let mut scan = Scan {
-        alloc,
-        file,
-        within: Within::Gap,
-        notes: Notes {
-            marks: Vec::new(alloc),
-            comments: Vec::new(alloc),
-            name: None,
-            version: None,
-        },
-        first: 0,
-    };
-    for (at, byte) in file.iter().enumerate() {
-        scan.step(at, *byte)?;
+    let mut scan = Scan::new(alloc);
+    let mut left = file;
+    while let Some(cut) = first_piece(left) {
+        scan.take(&cut.piece, file.len() - left.len())?;
+        left = cut.rest;
     }
     Ok(scan.notes)
 }
 
-impl Within {
-    /// What the next byte stands in, behind the one at a place with which a text begins.
-    fn next(self, text: &[u8], at: usize, byte: u8) -> Within
-        requires { tag_start self at ≤ at }
-        ensures behind { tag_start self at ≤ tag_start result (at + 1) }
-        ensures within { tag_start result (at + 1) ≤ at + 1 }
+impl Scan {
+    /// Nothing yet.
+    fn new(alloc: Global) -> Scan
+        ensures kept { AreKept result.notes result.first 0 }
+        ensures empty { result.notes.marks.items ≡ [] }
     {
-        match self {
-            Within::Gap => begun(text, at),
-            Within::Declaration if text.starts_with(b"?>") => Within::Gap,
-            Within::Tag { start, quote } => Within::Tag {
-                start,
-                quote: quote_behind(quote, byte),
+        Scan {
+            alloc,
+            notes: Notes {
+                marks: Vec::new(alloc),
+                comments: Vec::new(alloc),
+                name: None,
+                version: None,
             },
-            same => same,
-        }
-    }
-}
-
-/// What begins at a byte between tags.
-fn begun(text: &[u8], at: usize) -> Within
-    ensures behind { at ≤ tag_start result (at + 1) }
-    ensures within { tag_start result (at + 1) ≤ at + 1 }
-{
-    if text.starts_with(b"<!--") {
-        Within::Comment {
-            start: at.saturating_add(4),
-        }
-    } else if text.starts_with(b"<?") {
-        Within::Declaration
-    } else if text.starts_with(b"<") {
-        Within::Tag {
-            start: at,
-            quote: None,
-        }
-    } else {
-        Within::Gap
-    }
-}
-
-/// The quotes that the next byte stands in, behind a byte of a tag.
-fn quote_behind(quote: Option<u8>, byte: u8) -> Option<u8> {
-    match quote {
-        Some(open) if open == byte => None,
-        None if byte == b'"' || byte == b'\'' => Some(byte),
-        same => same,
-    }
-}
-
-impl Scan<'_> {
-    /// Goes past a byte.
-    fn step(&mut self, at: usize, byte: u8) -> Result<(), AllocError>
-        requires { HasScanned self.old at }
-        ensures { OnOk result (HasScanned self.new (at + 1)) }
-    {
-        let text = self.file.get(at..).unwrap_or(&[]);
-        match self.within {
-            Within::Comment { start } if start <= at && text.starts_with(b"-->") => {
-                self.end_comment(start, at)
-            }
-            Within::Tag { start, quote: None } if byte == b'>' => self.end_tag(start, at),
-            within => {
-                self.within = within.next(text, at, byte);
-                Ok(())
-            }
+            first: 0,
         }
     }
 
-    /// Keeps the comment whose text ends before a byte.
-    fn end_comment(&mut self, start: usize, at: usize) -> Result<(), AllocError>
+    /// Keeps what stands at a place.
+    fn take(&mut self, piece: &Piece<'_>, at: usize) -> Result<(), AllocError>
         requires { AreKept self.old.notes self.old.first at }
-        ensures { OnOk result (HasScanned self.new (at + 1)) }
+        ensures kept { OnOk result (AreKept self.new.notes self.new.first (at + 1)) }
+        ensures found { OnOk result
+            (Finds self.old.notes self.new.notes (tags_of (items_at at (piece_of piece.now)))) }
     {
-        let text = self.file.get(start..at).unwrap_or(&[]);
+        match *piece {
+            Piece::Passed => Ok(()),
+            Piece::Comment(text) => self.keep_comment(text),
+            Piece::Tag(text) => self.keep_tag(at, text),
+        }
+    }
+
+    /// Keeps the comment with a text.
+    fn keep_comment(&mut self, text: &[u8]) -> Result<(), AllocError>
+        ensures marks { OnOk result (self.new.notes.marks.items ≡ self.old.notes.marks.items) }
+        ensures first { OnOk result (self.new.first ≡ self.old.first) }
+        ensures more { OnOk result
+            (vec_len self.old.notes.comments ≤ vec_len self.new.notes.comments) }
+    {
         let comment = one_line(self.alloc, text)?;
-        self.within = Within::Gap;
         if !comment.is_empty() {
             self.notes.comments.push(comment)?;
         }
         Ok(())
     }
 
-    /// Keeps the tag whose last byte this is.
-    fn end_tag(&mut self, start: usize, at: usize) -> Result<(), AllocError>
-        requires kept { AreKept self.old.notes self.old.first start }
-        requires begun { start ≤ at }
-        ensures { OnOk result (HasScanned self.new (at + 1)) }
+    /// Keeps the tag that begins at a place, with the text between its `<` and its `>`.
+    fn keep_tag(&mut self, at: usize, text: &[u8]) -> Result<(), AllocError>
+        requires { AreKept self.old.notes self.old.first (at + 1) }
+        ensures kept { OnOk result (AreKept self.new.notes self.new.first (at + 1)) }
+        ensures found { OnOk result (Finds self.old.notes self.new.notes (tags_at at text.now)) }
     {
-        let text = self.file.get(start..at).unwrap_or(&[]);
-        let element = Element::named(element_name(text));
-        self.within = Within::Gap;
-        if text.starts_with(b"</") {
-            return self.mark(start, element, true);
+        if text.starts_with(b"/") {
+            return self.mark(at, element_in(&text[1..]), true);
         }
+        let element = element_in(text);
         if element == Element::Pap {
             self.notes.name = attribute(self.alloc, text, b"name")?;
             self.notes.version = attribute(self.alloc, text, b"version")?;
         }
-        self.mark(start, element, false)?;
+        self.mark(at, element, false)?;
         if text.ends_with(b"/") {
-            self.mark(start, element, true)?;
+            self.mark(at, element, true)?;
         }
         Ok(())
     }
@@ -169,7 +112,8 @@ impl Scan<'_> {
     fn mark(&mut self, at: usize, element: Element, is_end: bool) -> Result<(), AllocError>
         requires { AreKept self.old.notes self.old.first (at + 1) }
         ensures kept { OnOk result (AreKept self.new.notes self.new.first (at + 1)) }
-        ensures within { OnOk result (self.new.within ≡ self.old.within) }
+        ensures found { OnOk result
+            (Finds self.old.notes self.new.notes (placed_tag element is_end at ∷ [])) }
     {
         let first = self.first;
         let last = self.notes.comments.len();

@@ -24,3 +24,10 @@ most_places Int = 0
 most_places Long = 0
 most_places Factor = 3
 most_places _ = 2
+
+-- what to narrow
+abbrev pub advice : Kind → List ℕ
+advice Int = codes "int: narrow low and high to the values that occur"
+advice Long = codes "long: narrow low and high to the values that occur"
+advice Factor = codes "double: narrow low and high to the factors that occur"
+advice _ = codes "BigDecimal: narrow low and high, and places to 0 for whole cents or euros"

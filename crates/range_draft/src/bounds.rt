@@ -1,6 +1,6 @@
 //! The widest bounds that make sense for a type.
 ghost use Rattle.std.specs.Prelude.{◌≡◌};
-ghost use Rattle.range_draft.specs.Bounds.{least, greatest, most_places};
+ghost use Rattle.range_draft.specs.Bounds.{least, greatest, most_places, advice};
 
 use pap_tree::Kind;
 
@@ -23,6 +23,7 @@ pub fn widest(kind: Kind) -> Bounds
     ensures low { result.low.now ≡ least kind }
     ensures high { result.high.now ≡ greatest kind }
     ensures places { result.places ≡ most_places kind }
+    ensures advice { result.advice.now ≡ advice kind }
 {
     match kind {
         Kind::Int => Bounds {

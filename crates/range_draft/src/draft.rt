@@ -1,4 +1,9 @@
 //! The text of the range file.
+ghost use Rattle.std.specs.Prelude.{◌≡◌, ◌≢◌, ◌++◌, IfOk, OnOk};
+ghost use Rattle.std.specs.String.{string_bytes};
+ghost use Rattle.range_draft.specs.Draft.{IsDraft, IsEntry, AreComments, IsLine, table, declares};
+ghost use Rattle.range_draft.specs.DraftViews.{Appends, AddsEntry};
+
 use crate::bounds::widest;
 use pap_reader::{Elements, RawDeclared};
 use plan_notes::{Element, Notes};
@@ -16,40 +21,73 @@ const HEAD: &str =
 
 /// A range file for a plan: a table for each input in declared order, with the comments that stand before it in the plan, and
 /// what to narrow. A name that is declared again has no second table.
-pub fn draft_ranges(
-    alloc: Global,
-    elements: &Elements,
-    notes: &Notes,
-) -> Result<String, AllocError> {
+pub fn draft_ranges(alloc: Global, elements: &Elements, notes: &Notes) -> Result<String, AllocError>
+    ensures { IfOk result (λ text. IsDraft elements.now.inputs.items (string_bytes text)) }
+{
     let mut text = String::from_str(alloc, HEAD)?;
     let mut walk = notes.walk();
     let inputs = elements.inputs.as_slice();
     for (i, input) in inputs.iter().enumerate() {
         let comments = walk.skip_to(Element::Input);
-        if !is_declared(&inputs[..i], input) {
-            write_input(&mut text, input, comments)?;
-        }
+        write_new(&mut text, &inputs[..i], input, comments)?;
     }
     Ok(text)
 }
 
+/// Appends the entry of an input, unless its name stands among those before it.
+fn write_new(
+    text: &mut String,
+    before: &[RawDeclared],
+    input: &RawDeclared,
+    comments: &[String],
+) -> Result<(), AllocError>
+    ensures { OnOk result
+        (AddsEntry before.now input.now (string_bytes text.old) (string_bytes text.new)) }
+{
+    if is_declared(before, input) {
+        return Ok(());
+    }
+    write_input(text, input, comments)
+}
+
 /// Whether the name of an input stands among others.
-fn is_declared(inputs: &[RawDeclared], input: &RawDeclared) -> bool {
+fn is_declared(inputs: &[RawDeclared], input: &RawDeclared) -> bool
+    ensures { result ≡ declares inputs.now input.now.name }
+{
     inputs.iter().any(|other| other.name == input.name)
 }
 
-/// Appends the table of an input.
+/// Appends the entry of an input.
 fn write_input(
     text: &mut String,
     input: &RawDeclared,
     comments: &[String],
-) -> Result<(), AllocError> {
+) -> Result<(), AllocError>
+    ensures { OnOk result
+        (Appends (IsEntry input.now) (string_bytes text.old) (string_bytes text.new)) }
+{
     text.push('\n')?;
+    write_comments(text, comments)?;
+    write_table(text, input)
+}
+
+/// Appends comments, as many as have room.
+fn write_comments(text: &mut String, comments: &[String]) -> Result<(), AllocError>
+    ensures { OnOk result (Appends AreComments (string_bytes text.old) (string_bytes text.new)) }
+{
     let mut room = LONGEST_COMMENT;
     for comment in comments {
         write_comment(text, comment, room)?;
         room = room.saturating_sub(comment.len());
     }
+    Ok(())
+}
+
+/// Appends the table of an input.
+fn write_table(text: &mut String, input: &RawDeclared) -> Result<(), AllocError>
+    ensures { OnOk result (string_bytes text.new
+        ≡ string_bytes text.old ++ table input.now.name input.now.kind) }
+{
     let name = input.name;
     let bounds = widest(input.kind);
     let advice = bounds.advice;
@@ -62,20 +100,36 @@ fn write_input(
     )
 }
 
-/// Appends a comment, of a long one the front that has room.
-fn write_comment(text: &mut String, comment: &str, room: usize) -> Result<(), AllocError> {
+/// Appends the line of a comment, of a long one the front that has room. Without any room there is no line.
+fn write_comment(text: &mut String, comment: &str, room: usize) -> Result<(), AllocError>
+    ensures { OnOk result (Appends AreComments (string_bytes text.old) (string_bytes text.new)) }
+{
     if room == 0 {
         return Ok(());
     }
     text.push_str("# ")?;
+    write_front(text, comment, room)?;
+    text.push('\n')
+}
+
+/// Appends a text in one line, of a long one the front that has room.
+fn write_front(text: &mut String, comment: &str, room: usize) -> Result<(), AllocError>
+    ensures { OnOk result (Appends IsLine (string_bytes text.old) (string_bytes text.new)) }
+{
     let mut left = room;
     for c in comment.chars() {
         if left < 4 {
-            text.push_str("..")?;
-            break;
+            return text.push_str("..");
         }
-        text.push(c)?;
+        text.push(within_line(c))?;
         left = left.saturating_sub(c.len_utf8());
     }
-    text.push('\n')
+    Ok(())
+}
+
+/// A character of a line: a space for a line feed.
+fn within_line(c: char) -> char
+    ensures { result ≢ 10 }
+{
+    if c == '\n' { ' ' } else { c }
 }

@@ -1,6 +1,13 @@
-use Rattle.plan_notes.specs.ScanViews.{HasScanned}
+use Rattle.std.proofs.Common.{◌-◌, ◌≤◌, length}
+use Rattle.plan_notes.specs.ScanViews.{AreKept, HasRead}
 use Rattle.plan_notes.proofs.scan.read_notes.Given as goal
 
--- every tag that ends before the next byte is kept
-abbrev pub invariant-loop-at : goal.invariant-loop-at
-invariant-loop-at l = HasScanned l.scan l.at
+abbrev pub invariant-loop-cut : goal.invariant-loop-cut
+invariant-loop-cut l = record {
+  read : HasRead l.file l.left l.scan.notes;
+  kept : AreKept l.scan.notes l.scan.first (length l.file - length l.left);
+  shorter : length l.left ≤ length l.file;
+}
+
+abbrev pub decreases-loop-cut : goal.decreases-loop-cut
+decreases-loop-cut l = length l.left
