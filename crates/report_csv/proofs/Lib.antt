@@ -1,4 +1,5 @@
 mod FrontLemmas
 mod JoinLemmas
+mod PartLemmas
 mod PlainLemmas
 mod RowLemmas

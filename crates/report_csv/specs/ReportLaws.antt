@@ -1,13 +1,16 @@
 -- The laws of reports: the rows of an employee depend on the plans and on that employee's own runs alone.
-use Rattle.std.specs.Prelude.{◌≡◌, List, ◌++◌}
+use Rattle.std.specs.Prelude.{◌≡◌, List, [], ◌++◌}
 use Rattle.std.specs.List.{flat_map}
+use Rattle.payroll_records.specs.declared.record.Record.{Record}
 use Rattle.plan_calendar.specs.Picking.{Entry, pick}
 use Rattle.book_year.specs.Accepted.{Accepted}
 use Rattle.book_edits.specs.Books.{YearRuns}
 use Rattle.recalc_engine.specs.Contents.{Contents, with_years}
+use Rattle.recalc_engine.specs.EditAnswers.{edited, load}
 use Rattle.recalc_engine.specs.MonthRows.{keyed_rows, month_rows}
-use Rattle.report_csv.specs.Reports.{Text}
-use Rattle.report_csv.specs.ReportTexts.{months_text}
+use Rattle.report_csv.specs.Reports.{Text, header, row_line}
+use Rattle.report_csv.specs.ReportTexts.{months_text, report_text}
+use Rattle.report_csv.specs.TableParts.{AreParts}
 
 -- the rows of an employee's calendar year under these plans
 abbrev pub year_text : List (Entry Accepted) → YearRuns → Text
@@ -24,3 +27,15 @@ ReportsAreJoined =
     (book : Contents) (first rest : List YearRuns) → book.years ≡ first ++ rest
     → months_text (month_rows book)
     ≡ months_text (month_rows (with_years first book)) ++ months_text (month_rows (with_years rest book))
+
+-- the rows of the report of a book into which a table is loaded, behind the first row
+abbrev pub table_text : Contents → List Record → Text
+table_text book table = months_text (month_rows (edited (load table) book))
+
+-- where the parts of a table are loaded into books without runs that have the same plans, the first row and the rows of
+-- these books, one after another, are the report of the book into which the whole table is loaded
+abbrev pub ReportsOfPartsAreJoined : Type 0
+ReportsOfPartsAreJoined =
+    (book : Contents) (table : List Record) (parts : List (List Record)) → book.years ≡ []
+    → AreParts table parts
+    → report_text (edited (load table) book) ≡ row_line header ++ flat_map (table_text book) parts
