@@ -4,9 +4,12 @@ use crate::group::Group;
 use crate::place::TextFile;
 use crate::sites::{DeclaredSite, Source, declaration_byte, declaration_of};
 use limits_file::LimitsFault;
-use pap_tree::{Kind, Name};
+use pap_tree::{Kind, Name, is_word};
 use std::alloc::{AllocError, Global};
 use toml::{Table, Value};
+
+/// The most bytes of a key that a refusal shows.
+const LONGEST_LABEL: usize = 32;
 
 /// Where a range file is refused by itself; what its reader says, or the entry, is appended.
 pub(crate) fn find_entry(
@@ -135,27 +138,65 @@ fn find_toml(limits: TextFile<'_>, quote: &mut String) -> Result<Found, AllocErr
     }
 }
 
-/// The byte of an entry's heading, as `[input.RE4]`, where a line begins with it.
+/// The byte of an entry's heading, as `[input.RE4]` or `[input."R 4"]`, where a line begins with it. A name may be as a refusal
+/// shows it.
 pub(crate) fn entry_byte(
     alloc: Global,
     limits: TextFile<'_>,
     section: &str,
     name: &str,
 ) -> Result<Option<usize>, AllocError> {
-    let heading = format!(in alloc; "[{section}.{name}]")?;
-    Ok(heading_byte(limits.bytes, heading.as_bytes()))
+    let front = format!(in alloc; "[{section}.")?;
+    Ok(heading_byte(limits.bytes, front.as_bytes(), name.as_bytes()))
 }
 
-/// The byte at which the first line that begins with a heading does.
-fn heading_byte(limits: &[u8], heading: &[u8]) -> Option<usize> {
+/// The byte at which the first line does that begins with a front and then with a heading's key of a name.
+fn heading_byte(limits: &[u8], front: &[u8], name: &[u8]) -> Option<usize> {
     let mut at = 0usize;
     for text in limits.split(|byte| *byte == b'\n') {
-        if text.starts_with(heading) {
+        if let Some(rest) = text.strip_prefix(front)
+            && is_shown_as(heading_key(rest), name)
+        {
             return Some(at);
         }
         at = at.saturating_add(text.len()).saturating_add(1);
     }
     None
+}
+
+/// The key with which the last part of a heading begins: what stands in its quotation marks, or before the bracket.
+fn heading_key(text: &[u8]) -> &[u8] {
+    match text {
+        [quote @ (b'"' | b'\''), quoted @ ..] => front_before(quoted, *quote),
+        _ => front_before(text, b']'),
+    }
+}
+
+/// What stands in a text before the first byte of a value, or all of it.
+fn front_before(text: &[u8], end: u8) -> &[u8] {
+    let count = text.iter().take_while(|byte| **byte != end).count();
+    &text[..count]
+}
+
+/// Whether a key is of a name, or a refusal shows it by that name: its first 32 bytes, with `?` for what a key can't have
+/// outside quotation marks.
+fn is_shown_as(key: &[u8], name: &[u8]) -> bool {
+    let front = key.get(..LONGEST_LABEL).unwrap_or(key);
+    key == name
+        || front.len() == name.len()
+            && front
+                .iter()
+                .zip(name)
+                .all(|(byte, sign)| shown(*byte) == *sign)
+}
+
+/// A byte of a key as a refusal shows it.
+fn shown(byte: u8) -> u8 {
+    if is_word(byte) || byte == b'-' || byte == b'.' {
+        byte
+    } else {
+        b'?'
+    }
 }
 
 /// Where an input is declared without a limit, or a limit of no input stands.
