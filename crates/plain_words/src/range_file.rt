@@ -36,10 +36,10 @@ fn find_key(limits: TextFile<'_>, key: &str, quote: &mut String) -> Result<Found
             if let Some(Value::Table(entries)) = table.get(section.name)
                 && let Some(entry) = entry_of(entries, section, key)
             {
-                let Section { name, rule } = section;
+                let name = section.name;
                 write!(quote, ", in the entry [{name}.{entry}]")?;
                 let at = entry_byte(*quote.allocator(), limits, name, entry)?;
-                return Ok(Found::in_ranges(at, rule));
+                return Ok(Found::in_ranges(at, entry_rule(section, entry)));
             }
         }
     }
@@ -49,14 +49,32 @@ fn find_key(limits: TextFile<'_>, key: &str, quote: &mut String) -> Result<Found
     ))
 }
 
-/// The entry of a section in which a key isn't allowed, or that has this name and isn't one. `None` where the section has
-/// neither.
-fn entry_of<'a>(entries: &'a Table, section: Section, key: &'a str) -> Option<&'a str> {
+/// What is told of an entry of a section.
+fn entry_rule(section: Section, entry: &str) -> &'static str {
+    if Name::read(entry.as_bytes()).is_some() {
+        section.rule
+    } else {
+        "an entry has the name of an input: a letter or _, and then letters, digits and _"
+    }
+}
+
+/// The entry of a section in which a key isn't allowed, or that a refusal shows by this name and that isn't one. `None` where
+/// the section has neither.
+fn entry_of<'a>(entries: &'a Table, section: Section, key: &str) -> Option<&'a str> {
     match entry_with(entries, section, key) {
         Some(name) => Some(name),
-        None if entries.contains_key(key) => Some(key),
-        None => None,
+        None => shown_key(entries, key),
     }
+}
+
+/// The first key of a table that a refusal shows by a name.
+fn shown_key<'a>(table: &'a Table, name: &str) -> Option<&'a str> {
+    for (key, _) in table {
+        if is_shown_as(key.as_bytes(), name.as_bytes()) {
+            return Some(key.as_str());
+        }
+    }
+    None
 }
 
 /// A section of a range file.
@@ -138,8 +156,7 @@ fn find_toml(limits: TextFile<'_>, quote: &mut String) -> Result<Found, AllocErr
     }
 }
 
-/// The byte of an entry's heading, as `[input.RE4]` or `[input."R 4"]`, where a line begins with it. A name may be as a refusal
-/// shows it.
+/// The byte of an entry's heading, as `[input.RE4]` or `[input."R 4"]`, where a line begins with it.
 pub(crate) fn entry_byte(
     alloc: Global,
     limits: TextFile<'_>,
@@ -155,7 +172,7 @@ fn heading_byte(limits: &[u8], front: &[u8], name: &[u8]) -> Option<usize> {
     let mut at = 0usize;
     for text in limits.split(|byte| *byte == b'\n') {
         if let Some(rest) = text.strip_prefix(front)
-            && is_shown_as(heading_key(rest), name)
+            && heading_key(rest) == name
         {
             return Some(at);
         }
