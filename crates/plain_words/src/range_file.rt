@@ -4,9 +4,12 @@ use crate::group::Group;
 use crate::place::TextFile;
 use crate::sites::{DeclaredSite, Source, declaration_byte, declaration_of};
 use limits_file::LimitsFault;
-use pap_tree::{Kind, Name};
+use pap_tree::{Kind, Name, is_word};
 use std::alloc::{AllocError, Global};
 use toml::{Table, Value};
+
+/// The most bytes of a key that a refusal shows.
+const LONGEST_LABEL: usize = 32;
 
 /// Where a range file is refused by itself; what its reader says, or the entry, is appended.
 pub(crate) fn find_entry(
@@ -33,10 +36,10 @@ fn find_key(limits: TextFile<'_>, key: &str, quote: &mut String) -> Result<Found
             if let Some(Value::Table(entries)) = table.get(section.name)
                 && let Some(entry) = entry_of(entries, section, key)
             {
-                let Section { name, rule } = section;
+                let name = section.name;
                 write!(quote, ", in the entry [{name}.{entry}]")?;
                 let at = entry_byte(*quote.allocator(), limits, name, entry)?;
-                return Ok(Found::in_ranges(at, rule));
+                return Ok(Found::in_ranges(at, entry_rule(section, entry)));
             }
         }
     }
@@ -46,14 +49,32 @@ fn find_key(limits: TextFile<'_>, key: &str, quote: &mut String) -> Result<Found
     ))
 }
 
-/// The entry of a section in which a key isn't allowed, or that has this name and isn't one. `None` where the section has
-/// neither.
-fn entry_of<'a>(entries: &'a Table, section: Section, key: &'a str) -> Option<&'a str> {
+/// What is told of an entry of a section.
+fn entry_rule(section: Section, entry: &str) -> &'static str {
+    if Name::read(entry.as_bytes()).is_some() {
+        section.rule
+    } else {
+        "an entry has the name of an input: a letter or _, and then letters, digits and _"
+    }
+}
+
+/// The entry of a section in which a key isn't allowed, or that a refusal shows by this name and that isn't one. `None` where
+/// the section has neither.
+fn entry_of<'a>(entries: &'a Table, section: Section, key: &str) -> Option<&'a str> {
     match entry_with(entries, section, key) {
         Some(name) => Some(name),
-        None if entries.contains_key(key) => Some(key),
-        None => None,
+        None => shown_key(entries, key),
     }
+}
+
+/// The first key of a table that a refusal shows by a name.
+fn shown_key<'a>(table: &'a Table, name: &str) -> Option<&'a str> {
+    for (key, _) in table {
+        if is_shown_as(key.as_bytes(), name.as_bytes()) {
+            return Some(key.as_str());
+        }
+    }
+    None
 }
 
 /// A section of a range file.
@@ -135,27 +156,64 @@ fn find_toml(limits: TextFile<'_>, quote: &mut String) -> Result<Found, AllocErr
     }
 }
 
-/// The byte of an entry's heading, as `[input.RE4]`, where a line begins with it.
+/// The byte of an entry's heading, as `[input.RE4]` or `[input."R 4"]`, where a line begins with it.
 pub(crate) fn entry_byte(
     alloc: Global,
     limits: TextFile<'_>,
     section: &str,
     name: &str,
 ) -> Result<Option<usize>, AllocError> {
-    let heading = format!(in alloc; "[{section}.{name}]")?;
-    Ok(heading_byte(limits.bytes, heading.as_bytes()))
+    let front = format!(in alloc; "[{section}.")?;
+    Ok(heading_byte(limits.bytes, front.as_bytes(), name.as_bytes()))
 }
 
-/// The byte at which the first line that begins with a heading does.
-fn heading_byte(limits: &[u8], heading: &[u8]) -> Option<usize> {
+/// The byte at which the first line does that begins with a front and then with a heading's key of a name.
+fn heading_byte(limits: &[u8], front: &[u8], name: &[u8]) -> Option<usize> {
     let mut at = 0usize;
     for text in limits.split(|byte| *byte == b'\n') {
-        if text.starts_with(heading) {
+        if let Some(rest) = text.strip_prefix(front)
+            && heading_key(rest) == name
+        {
             return Some(at);
         }
         at = at.saturating_add(text.len()).saturating_add(1);
     }
     None
+}
+
+/// The key with which the last part of a heading begins: what stands in its quotation marks, or before the bracket.
+fn heading_key(text: &[u8]) -> &[u8] {
+    match text {
+        [quote @ (b'"' | b'\''), quoted @ ..] => front_before(quoted, *quote),
+        _ => front_before(text, b']'),
+    }
+}
+
+/// What stands in a text before the first byte of a value, or all of it.
+fn front_before(text: &[u8], end: u8) -> &[u8] {
+    let count = text.iter().take_while(|byte| **byte != end).count();
+    &text[..count]
+}
+
+/// Whether a key is of a name, or a refusal shows it by that name: its first 32 bytes, with `?` for what a key can't have
+/// outside quotation marks.
+fn is_shown_as(key: &[u8], name: &[u8]) -> bool {
+    let front = key.get(..LONGEST_LABEL).unwrap_or(key);
+    key == name
+        || front.len() == name.len()
+            && front
+                .iter()
+                .zip(name)
+                .all(|(byte, sign)| shown(*byte) == *sign)
+}
+
+/// A byte of a key as a refusal shows it.
+fn shown(byte: u8) -> u8 {
+    if is_word(byte) || byte == b'-' || byte == b'.' {
+        byte
+    } else {
+        b'?'
+    }
 }
 
 /// Where an input is declared without a limit, or a limit of no input stands.
