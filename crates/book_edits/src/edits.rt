@@ -14,7 +14,7 @@ ghost use Rattle.book_edits.specs.Refusals.{CanAdd, CountsEdit, IsAddRefused, Is
 ghost use Rattle.book_edits.specs.Refusals.{IsOne, IsWithdrawRefused};
 ghost use Rattle.book_edits.specs.Views.{AreKeptYears, IsListEdit, IsSameList, only_key, list_cost};
 
-use crate::places::{key_of, place_year, year_of};
+use crate::places::{place_year, year_of};
 use crate::{EditRefusal, InMonth, Years};
 use book_year::{Work, Year};
 use pap_plan::Plan;
@@ -41,7 +41,7 @@ impl Years {
         ensures counted { CountsEdit result steps.old steps.new
             (edit_cost (plans_in plans.now) self.old (added item (years_of self.old))) }
     {
-        let key = key_of(&item);
+        let key = item.key();
         if self.find(&key).is_some() {
             return Err(EditRefusal::Present { key });
         }
@@ -105,7 +105,7 @@ impl Years {
         ensures ok { IfOk result (λ k. source_of (years_of self.now) item.now ≡ InMonth.One k) }
         ensures refused { IfErr result (IsChangeRefused (years_of self.now) item.now) }
     {
-        let key = key_of(item);
+        let key = item.key();
         if self.find(&key).is_some() {
             return Ok(key);
         }
@@ -162,7 +162,7 @@ fn add_run<L: Ledger>(
         (list_cost (plans_in plans.now) years.old.items (added item (runs_in years.old.items))) }
 {
     let alloc = *years.allocator();
-    let key = year_of(&key_of(&item));
+    let key = year_of(&item.key());
     match place_year(years.as_slice(), &key) {
         Ok(at) => {
             let year = &mut years[at];
@@ -196,7 +196,7 @@ fn change_run<L: Ledger>(
         (changed from item (runs_in years.old.items))) }
 {
     let alloc = *years.allocator();
-    let key = year_of(&key_of(&item));
+    let key = year_of(&item.key());
     let at = place_year(years.as_slice(), &key).unwrap();
     years[at].change(alloc, plans, from, item, steps)
 }

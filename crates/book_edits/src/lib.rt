@@ -11,6 +11,7 @@ mod refusal;
 mod years;
 
 pub use in_month::InMonth;
+pub use places::{place_year, year_of};
 pub use plans::{drop_plan, is_full, put_plan};
 pub use redone::{RedoneYear, redo_year};
 pub use refusal::EditRefusal;

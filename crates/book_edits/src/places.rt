@@ -3,7 +3,6 @@ ghost use Rattle.std.specs.Prelude.{◌≡◌, IfOk, IfErr, filter};
 ghost use Rattle.rising_lists.specs.Keyed.{IsRising};
 ghost use Rattle.rising_lists.specs.Places.{Finds, Misses};
 ghost use Rattle.payroll_records.specs.Orders.{day_cmp};
-ghost use Rattle.payroll_records.specs.Tables.{key_of};
 ghost use Rattle.book_year.specs.Records.{record_day};
 ghost use Rattle.book_edits.specs.Books.{is_in_month, only_one, year_cmp, year_of};
 ghost use Rattle.book_edits.specs.Kept.{kept_key};
@@ -13,18 +12,8 @@ use crate::InMonth;
 use book_year::{Year, YearKey};
 use payroll_records::{Day, Key, Record};
 
-/// What a record is known by.
-pub(crate) fn key_of(item: &Record) -> Key
-    ensures { result ≡ key_of item.now }
-{
-    Key {
-        employee: item.employee,
-        day: item.day,
-    }
-}
-
 /// The year in which a run stands.
-pub(crate) fn year_of(key: &Key) -> YearKey
+pub fn year_of(key: &Key) -> YearKey
     ensures { result ≡ year_of key.now }
 {
     YearKey {
@@ -34,7 +23,7 @@ pub(crate) fn year_of(key: &Key) -> YearKey
 }
 
 /// Where an employee's year stands, or would go.
-pub(crate) fn place_year(years: &[Year], key: &YearKey) -> Result<usize, usize>
+pub fn place_year(years: &[Year], key: &YearKey) -> Result<usize, usize>
     requires { IsRising year_cmp kept_key years.now }
     ensures found { IfOk result (Finds year_cmp kept_key years.now key.now) }
     ensures absent { IfErr result (Misses year_cmp kept_key years.now key.now) }
@@ -70,7 +59,7 @@ fn with_one_more(found: InMonth, run: &Record, month: u8) -> InMonth
         return found;
     }
     match found {
-        InMonth::Empty => InMonth::One(key_of(run)),
+        InMonth::Empty => InMonth::One(run.key()),
         _ => InMonth::Several,
     }
 }

@@ -16,7 +16,6 @@ use Rattle.book_year.specs.Accepted.{Accepted, plans_in}
 use Rattle.book_year.specs.declared.outcome.Outcome.{Outcome}
 use Rattle.book_year.specs.declared.outcome.State.TheVariants as state
 use Rattle.book_year.specs.declared.chain.Old.{Old}
-use Rattle.book_year.specs.declared.done.Done.{Done}
 use Rattle.book_year.specs.declared.picks.Edit.{Edit}
 use Rattle.book_year.specs.declared.picks.Picks.{Picks}
 use Rattle.book_year.specs.Records.{records_of}
@@ -24,7 +23,7 @@ use Rattle.book_year.specs.Rows.{Planned, Row, rows, year_rows, earlier_of, outp
 use Rattle.book_year.specs.Jobs.{new_jobs, total_cost}
 use Rattle.book_year.specs.Kept.{AreKept, IsBounded, IsOld, kept}
 use Rattle.book_year.specs.Picks.{before, after, after_by}
-use Rattle.book_year.specs.ChainClauses.{AreDone, IsFront, old_jobs}
+use Rattle.book_year.specs.ChainClauses.{IsFront, old_jobs}
 use Rattle.book_year.proofs.RowLemmas.{rows_append, row_of_day}
 use Rattle.book_year.proofs.OldLemmas.{next, rows_length}
 use Rattle.book_year.proofs.QuietLemmas.{IsFound, own_rows, none_new, rows_agree}
@@ -92,10 +91,9 @@ rows_front planned rs n l =
     ∙ take_at first rest n (rows_length planned [] (take n rs) ∙ length-take-le n rs l))
 
 -- one more of the runs that are kept
-pub done_more : (planned : Planned) (rs : List Record) (os : List Outcome) (i : ℕ) (was now : Done) (r : Record) (o : Outcome) → AreKept planned rs os → i < length rs → AreDone (take i (year_rows planned rs)) was →
-    r ≡ get_or rs i r → o ≡ get_or os i o → now.outcomes.items ≡ was.outcomes.items ++ o ∷ [] → now.earlier.items ≡ was.earlier.items ++ record { day = r.day; outputs = outputs_in o.state } ∷ [] →
-    AreDone (take (i + 1) (year_rows planned rs)) now
-done_more planned rs os i was now r o are l done at read outcomes earlier =
+pub read_more : (planned : Planned) (rs : List Record) (os : List Outcome) (i : ℕ) (was now : List Earlier) (r : Record) (o : Outcome) → AreKept planned rs os → i < length rs → was ≡ map earlier_of (take i (year_rows planned rs)) →
+    r ≡ get_or rs i r → o ≡ get_or os i o → now ≡ was ++ record { day = r.day; outputs = outputs_in o.state } ∷ [] → now ≡ map earlier_of (take (i + 1) (year_rows planned rs))
+read_more planned rs os i was now r o are l done at read push =
     let d : Row = record { day = r.day; plan = None; job = None; state = state.NoPlan } in
     let all = year_rows planned rs in
     let row = get_or all i d in
@@ -104,14 +102,11 @@ done_more planned rs os i was now r o are l done at read outcomes earlier =
     let same : o ≡ kept row = read ∙ ap (λ t. get_or t i o) are.are ∙ get_or-map kept all i d o long in
     let day : r.day ≡ row.day = ap (λ (x : Record). x.day) at ∙ sym (rows_day planned [] rs i d r l) in
     let one : ◌≡◌ {A = Earlier} (record { day = r.day; outputs = outputs_in o.state }) (earlier_of row) = λ j. record { day = day j; outputs = outputs_in (same j).state } in
-    record {
-      outcomes = outcomes ∙ (λ j. done.outcomes j ++ same j ∷ []) ∙ sym (map_push kept (take i all) row) ∙ ap (map kept) (sym more);
-      earlier = earlier ∙ (λ j. done.earlier j ++ one j ∷ []) ∙ sym (map_push earlier_of (take i all) row) ∙ ap (map earlier_of) (sym more);
-    }
+    push ∙ (λ j. done j ++ one j ∷ []) ∙ sym (map_push earlier_of (take i all) row) ∙ ap (map earlier_of) (sym more)
 
--- the copy of one of the first outcomes
-pub taken_read : (os : List Outcome) (n i : ℕ) (x o : Outcome) → o ≡ x → x ≡ get_or (take n os) i x → i < length (take n os) → o ≡ get_or os i o
-taken_read os n i x o e at l = e ∙ at ∙ get_or-take n os i x (omega (arith, l, length-take n os)) ∙ ap (get_or os i) (sym e)
+-- one of the first outcomes
+pub taken_read : (os : List Outcome) (n i : ℕ) (x : Outcome) → x ≡ get_or (take n os) i x → i < length (take n os) → x ≡ get_or os i x
+taken_read os n i x at l = at ∙ get_or-take n os i x (omega (arith, l, length-take n os))
 
 -- the runs behind the front
 pub rest_within : (items : List (Bor Record)) (n j : ℕ) → j < length (take (length items - n) (drop n items)) → n + j < length items
@@ -130,22 +125,22 @@ bounded_read : (xs : List Row) → AllByRecursion IsBounded (map kept xs) → Al
 bounded_read [] h = tt
 bounded_read (x ∷ xs) h = (h.0, bounded_read xs h.1)
 
-pub walk_front : (p : Picks) (old : Old) (items : List (Bor Record)) (n : ℕ) (done : Done) (began now : ℕ) → IsOld (before p) old → IsFront p old items n → AreDone (take n (year_rows (before p) old.records.now)) done → now ≡ began →
-    IsWalk (after p) (old_jobs p old) (take n (records_of items)) done.outcomes.items done.earlier.items 0 0 began now
-walk_front p old items n done began now is front are same =
+pub walk_front : (p : Picks) (old : Old) (items : List (Bor Record)) (n : ℕ) (earlier : List Earlier) (began now : ℕ) → IsOld (before p) old → IsFront p old items n →
+    earlier ≡ map earlier_of (take n (year_rows (before p) old.records.now)) → now ≡ began → IsWalk (after p) (old_jobs p old) (take n (records_of items)) (take n old.outcomes.now) earlier 0 0 began now
+walk_front p old items n earlier began now is front are same =
     let rs = old.records.now in
     let all = year_rows (before p) rs in
     let these : year_rows (after p) (take n (records_of items)) ≡ take n all =
     ap (year_rows (after p)) front.records ∙ rows_agree (after p) (before p) [] (take n rs) front.plans ∙ rows_front (before p) rs n front.within in
     let none : new_jobs (old_jobs p old) (year_rows (after p) (take n (records_of items))) ≡ [] =
     ap (new_jobs (old_jobs p old)) these ∙ none_new all (take n all) (all_front (IsFound all) all n (own_rows (before p) rs is.rising)) in
-    let first : done.outcomes.items ≡ take n old.outcomes.now = are.outcomes ∙ sym (take-map kept n all) ∙ ap (take n) (sym is.are) in
-    let bounded = subst (λ t. AllByRecursion IsBounded t) (sym first) (all_front IsBounded old.outcomes.now n is.bounded) in
+    let first : take n old.outcomes.now ≡ map kept (take n all) = ap (take n) is.are ∙ take-map kept n all in
+    let bounded = all_front IsBounded old.outcomes.now n is.bounded in
     record {
-      outcomes_are = are.outcomes ∙ ap (map kept) (sym these);
-      earlier_are = are.earlier ∙ ap (map earlier_of) (sym these);
+      outcomes_are = first ∙ ap (map kept) (sym these);
+      earlier_are = are ∙ ap (map earlier_of) (sym these);
       kept_bounded = bounded;
-      bounded = subst (λ t. AllByRecursion is_bounded t) (sym are.earlier) (bounded_read (take n all) (subst (λ t. AllByRecursion IsBounded t) are.outcomes bounded));
+      bounded = subst (λ t. AllByRecursion is_bounded t) (sym are) (bounded_read (take n all) (subst (λ t. AllByRecursion IsBounded t) first bounded));
       runs_are = sym (ap length none);
       taken_are = sym (ap total_cost none);
       runs_few = omega arith;

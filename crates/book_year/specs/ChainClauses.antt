@@ -1,5 +1,5 @@
 -- What the calls along a year's runs promise.
-use Rattle.std.specs.Prelude.{ℕ, ◌≡◌, ◌*◌, ◌+◌, ◌≤◌, List, [], ◌∷◌, Option, Some, None, map, length, take, Result, MatchResult}
+use Rattle.std.specs.Prelude.{ℕ, ◌≡◌, ◌*◌, ◌+◌, ◌≤◌, List, [], ◌∷◌, ◌++◌, Option, Some, None, map, length, take, Result, MatchResult}
 use Rattle.std.specs.List.{AllByRecursion}
 use Rattle.std.specs.Option.{option_map}
 use Rattle.std.specs.Borrow.{Bor}
@@ -13,14 +13,15 @@ use Rattle.carry_bindings.specs.Conditions.{AreBounded}
 use Rattle.pay_run.specs.Runs.{run_outputs}
 use Rattle.book_year.specs.Accepted.{Accepted}
 use Rattle.book_year.specs.declared.outcome.Outcome.{Outcome}
+use Rattle.book_year.specs.declared.outcome.Work.{Work}
 use Rattle.book_year.specs.declared.chain.Old.{Old}
 use Rattle.book_year.specs.declared.chain.OldJob.{OldJob}
 use Rattle.book_year.specs.declared.chain.Ran.{Ran}
-use Rattle.book_year.specs.declared.done.Done.{Done}
 use Rattle.book_year.specs.declared.chain.Recalculated.{Recalculated}
+use Rattle.book_year.specs.declared.chain.Rest.{Rest}
 use Rattle.book_year.specs.declared.picks.Picks.{Picks}
 use Rattle.book_year.specs.Records.{records_of}
-use Rattle.book_year.specs.Rows.{Planned, Job, Row, year_rows, outputs_in, earlier_of}
+use Rattle.book_year.specs.Rows.{Planned, Job, Row, year_rows, outputs_in}
 use Rattle.book_year.specs.Jobs.{new_job, new_jobs, total_cost, work_of}
 use Rattle.book_year.specs.Kept.{IsBounded, kept, job_by}
 use Rattle.book_year.specs.Picks.{before, after}
@@ -69,26 +70,30 @@ pub record IsRan (row : Row) (old : Option Job) (ran : Ran) : Type 0 where
 abbrev pub CountsRun : {E : Type 0} → Result Ran E → ℕ → ℕ → Type 0
 CountsRun r before now = MatchResult r (λ ran. now ≡ before + ran.work.steps) (λ _. now ≡ before)
 
--- the runs that are done came to these rows
-pub record AreDone (rows : List Row) (done : Done) : Type 0 where
-  pub outcomes : done.outcomes.items ≡ map kept rows
-  pub earlier : done.earlier.items ≡ map earlier_of rows
-
 -- the first runs, so many, are as they were, and so are their plans
 pub record IsFront (picks : Picks) (old : Old) (items : List (Bor Record)) (count : ℕ) : Type 0 where
   pub within : count ≤ length old.records.now
   pub records : take count (records_of items) ≡ take count old.records.now
   pub plans : AllByRecursion (λ r. after picks r.day ≡ before picks r.day) (take count old.records.now)
 
--- a year computed anew, with the work of the jobs that aren't the old ones of their days
-pub record IsRecalculated
+-- what a year computed anew came to, with the work of the jobs that aren't the old ones of their days
+pub record AreNew
     (planned : Planned) (old : Day → Option Job) (records : List Record)
-    (r : Recalculated) : Type 0 where
-  pub outcomes : r.outcomes.items ≡ map kept (year_rows planned records)
-  pub bounded : AllByRecursion IsBounded r.outcomes.items
-  pub work : r.work ≡ work_of (new_jobs old (year_rows planned records))
-  pub few : r.work.runs ≤ length records
-  pub cheap : r.work.steps ≤ length records * most_steps
+    (came : List Outcome) (took : Work) : Type 0 where
+  pub outcomes : came ≡ map kept (year_rows planned records)
+  pub bounded : AllByRecursion IsBounded came
+  pub work : took ≡ work_of (new_jobs old (year_rows planned records))
+  pub few : took.runs ≤ length records
+  pub cheap : took.steps ≤ length records * most_steps
+
+abbrev pub IsRecalculated : Planned → (Day → Option Job) → List Record → Recalculated → Type 0
+IsRecalculated planned old records r = AreNew planned old records r.outcomes.items r.work
+
+-- the same, where the first of these outcomes stay
+abbrev pub IsRest :
+    Planned → (Day → Option Job) → List Record → List Outcome → Rest → Type 0
+IsRest planned old records was r =
+    AreNew planned old records (take r.kept was ++ r.outcomes.items) r.work
 
 -- the jobs that a day had before the edit
 abbrev pub old_jobs : Picks → Old → Day → Option Job
@@ -101,3 +106,7 @@ chain_cost picks old items =
 
 abbrev pub IsChain : Picks → Old → List (Bor Record) → Recalculated → Type 0
 IsChain picks old items r = IsRecalculated (after picks) (old_jobs picks old) (records_of items) r
+
+abbrev pub IsChainRest : Picks → Old → List (Bor Record) → Rest → Type 0
+IsChainRest picks old items r =
+    IsRest (after picks) (old_jobs picks old) (records_of items) old.outcomes.now r

@@ -40,9 +40,12 @@ abbrev pub outputs_in : State → Option (List NamedValue)
 outputs_in (state.Done outputs) = Some outputs
 outputs_in _ = None
 
--- what later runs of the year read of it
+-- what later runs of the year read of a run on this day, which came to this state
+abbrev pub read_of : Day → State → Earlier
+read_of d s = record { day = d; outputs = outputs_in s }
+
 abbrev pub earlier_of : Row → Earlier
-earlier_of row = record { day = row.day; outputs = outputs_in row.state }
+earlier_of row = read_of row.day row.state
 
 -- a run with its plan and its inputs, or without inputs
 abbrev pub row_filled : Entry Accepted → Day → Filled → Row

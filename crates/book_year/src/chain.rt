@@ -14,12 +14,12 @@ ghost use Rattle.book_year.specs.Jobs.{same_inputs, new_job, Counts};
 ghost use Rattle.book_year.specs.Kept.{IsOld};
 ghost use Rattle.book_year.specs.Picks.{before, after, KnowsSame, ArePicks, picked_entry};
 ghost use Rattle.book_year.specs.ChainClauses.{old_parts, outcome_job, IsOldJob, KeepsOutputs, IsRan, CountsRun};
-ghost use Rattle.book_year.specs.ChainClauses.{old_jobs, chain_cost, IsChain, IsFront};
+ghost use Rattle.book_year.specs.ChainClauses.{old_jobs, chain_cost, IsChain, IsChainRest, IsFront};
 
-use crate::done::{copy_of, front};
+use crate::done::{Done, copied, copy_of, front};
 use crate::outcome::{Outcome, State, Work};
 use crate::picks::{Picked, Picks};
-use crate::records::place;
+use crate::records::place_run;
 use carry_bindings::{Earlier, Filled};
 use limits_file::Items;
 use pay_run::{filled, run};
@@ -57,6 +57,15 @@ pub struct Recalculated {
     pub work: Work,
 }
 
+/// What a year's runs came to behind the first ones, so many, whose outcomes stay; and the work that
+/// they took.
+#[derive(Drop)]
+pub(crate) struct Rest {
+    pub(crate) kept: usize,
+    pub(crate) outcomes: Vec<Outcome>,
+    pub(crate) work: Work,
+}
+
 /// Computes a year's runs in order of day, and runs those whose job isn't the old one of their day.
 /// The first `kept` runs are as they were, with their plans: what they came to is taken as it is
 /// kept. The counter rises by exactly the steps of those that are run; where memory runs out it may
@@ -77,7 +86,39 @@ pub fn recalculate<L: Ledger>(
     ensures counted { Counts result steps.old steps.new
         (chain_cost picks.now old.entry records.now) }
 {
-    let mut done = front(alloc, old, kept)?;
+    let mut rest = recalculate_rest(alloc, picks, old, kept, records, steps)?;
+    let mut outcomes = copied(alloc, old.outcomes, kept)?;
+    outcomes.append(&mut rest.outcomes)?;
+    Ok(Recalculated {
+        outcomes,
+        work: rest.work,
+    })
+}
+
+/// Computes the runs of a year behind its first `kept`, whose outcomes stay where they are. In all
+/// else as `recalculate`.
+pub(crate) fn recalculate_rest<L: Ledger>(
+    alloc: Global,
+    picks: &Picks,
+    old: Old,
+    kept: usize,
+    records: &[&Record],
+    steps: &mut Steps<L>,
+) -> Result<Rest, AllocError>
+    requires picks { ArePicks picks.now }
+    requires old { IsOld (before picks.now) old }
+    requires front { IsFront picks.now old records.now kept }
+    requires few { length records.now ≤ most_runs }
+    ensures kept { IfOk result (λ rest. rest.kept ≡ kept) }
+    ensures done { IfOk result (IsChainRest picks.now old.entry records.now) }
+    ensures counted { Counts result steps.old steps.new
+        (chain_cost picks.now old.entry records.now) }
+{
+    let earlier = front(alloc, old, kept)?;
+    let mut done = Done {
+        outcomes: Vec::new(alloc),
+        earlier,
+    };
     let mut runs = 0;
     let mut taken = 0;
     for item in &records[kept..] {
@@ -86,7 +127,8 @@ pub fn recalculate<L: Ledger>(
         taken += ran.work.steps;
         done.push(alloc, item.day, ran.outcome)?;
     }
-    Ok(Recalculated {
+    Ok(Rest {
+        kept,
         outcomes: done.outcomes,
         work: Work { runs, steps: taken },
     })
@@ -222,7 +264,7 @@ fn old_job<'a>(picks: &Picks, old: Old<'a>, day: Day) -> Option<OldJob<'a>>
     requires { IsOld (before picks.now) old }
     ensures { IsOldJob (before picks.now day) (old_jobs picks.now old.entry day) result }
 {
-    let Ok(at) = place(old.records, day) else {
+    let Ok(at) = place_run(old.records, day) else {
         return None;
     };
     job_of(&old.outcomes[at])

@@ -1,9 +1,7 @@
 //! The runs of a year that are done.
-ghost use Rattle.std.specs.Prelude.{◌≡◌, ◌≤◌, ◌++◌, [], ◌∷◌, length, take, IfOk, OnOk};
-ghost use Rattle.carry_bindings.specs.declared.carried.Earlier.{Earlier as Read};
+ghost use Rattle.std.specs.Prelude.{◌≡◌, ◌≤◌, ◌++◌, [], ◌∷◌, length, map, take, IfOk, OnOk};
 ghost use Rattle.book_year.specs.Kept.{IsOld};
-ghost use Rattle.book_year.specs.Rows.{Planned, outputs_in, year_rows};
-ghost use Rattle.book_year.specs.ChainClauses.{AreDone};
+ghost use Rattle.book_year.specs.Rows.{Planned, earlier_of, outputs_in, read_of, year_rows};
 
 use crate::chain::Old;
 use crate::outcome::{Outcome, State};
@@ -13,7 +11,7 @@ use payroll_records::{Day, NamedValue};
 use scaled_decimal::Dec;
 use std::alloc::{AllocError, Global};
 
-/// What each run came to, and what later ones read of it.
+/// What the runs behind a front came to, and what later ones read of all that are done.
 #[derive(Drop)]
 pub(crate) struct Done {
     pub(crate) outcomes: Vec<Outcome>,
@@ -30,8 +28,8 @@ impl Done {
     ) -> Result<(), AllocError>
         ensures outcomes { OnOk result
             (self.new.outcomes.items ≡ self.old.outcomes.items ++ outcome ∷ []) }
-        ensures earlier { let read : Read = record { day = day; outputs = outputs_in outcome.state } in
-            OnOk result (self.new.earlier.items ≡ self.old.earlier.items ++ read ∷ []) }
+        ensures earlier { OnOk result
+            (self.new.earlier.items ≡ self.old.earlier.items ++ read_of day outcome.state ∷ []) }
     {
         let outputs = outputs_of(alloc, &outcome.state)?;
         self.earlier.push(Earlier { day, outputs })?;
@@ -39,22 +37,36 @@ impl Done {
     }
 }
 
-/// The first runs of a year, so many, as they are kept.
-pub(crate) fn front(alloc: Global, old: Old, count: usize) -> Result<Done, AllocError>
+/// What later runs read of the first runs of a year, so many.
+pub(crate) fn front(alloc: Global, old: Old, count: usize) -> Result<Vec<Earlier>, AllocError>
     requires within { count ≤ length old.records.now }
     requires each { length old.outcomes.now ≡ length old.records.now }
-    ensures { (planned : Planned) → IsOld planned old.entry
-        → IfOk result (AreDone (take count (year_rows planned old.entry.records.now))) }
+    ensures { (planned : Planned) → IsOld planned old.entry → IfOk result (λ read. read.items
+        ≡ map earlier_of (take count (year_rows planned old.entry.records.now))) }
 {
-    let mut done = Done {
-        outcomes: Vec::new(alloc),
-        earlier: Vec::new(alloc),
-    };
+    let mut earlier = Vec::new(alloc);
     for (at, outcome) in old.outcomes[..count].iter().enumerate() {
-        let outcome = copy_of_outcome(alloc, outcome)?;
-        done.push(alloc, old.records[at].day, outcome)?;
+        let outputs = outputs_of(alloc, &outcome.state)?;
+        let day = old.records[at].day;
+        earlier.push(Earlier { day, outputs })?;
     }
-    Ok(done)
+    Ok(earlier)
+}
+
+/// The first outcomes, so many, again.
+pub(crate) fn copied(
+    alloc: Global,
+    outcomes: &[Outcome],
+    count: usize,
+) -> Result<Vec<Outcome>, AllocError>
+    requires { count ≤ length outcomes.now }
+    ensures { IfOk result (λ copies. copies.items ≡ take count outcomes.now) }
+{
+    let mut copies = Vec::new(alloc);
+    for outcome in &outcomes[..count] {
+        copies.push(copy_of_outcome(alloc, outcome)?)?;
+    }
+    Ok(copies)
 }
 
 /// What later runs read of a state.

@@ -15,5 +15,5 @@ mod year;
 pub use chain::{Old, Recalculated, recalculate};
 pub use outcome::{Outcome, State, Work};
 pub use picks::{Edit, Picked, Picks};
-pub use records::{put_in_room, put_reference, references, runs_before};
+pub use records::{place_run, put_in_room, put_reference, references, runs_before};
 pub use year::{Year, YearKey, year_laws};

@@ -9,8 +9,8 @@ ghost use Rattle.book_year.specs.Records.{AreBefore};
 use payroll_records::{Day, Record};
 use std::alloc::{AllocError, Global};
 
-/// Where the record of a day is, or would go.
-pub(crate) fn place(records: &[Record], day: Day) -> Result<usize, usize>
+/// Where the run of a day stands, or would go.
+pub fn place_run(records: &[Record], day: Day) -> Result<usize, usize>
     requires { IsRising day_cmp record_day records.now }
     ensures found { IfOk result (IsAt day_cmp record_day records.now day) }
     ensures absent { IfErr result (IsGap day_cmp record_day records.now day) }
@@ -23,7 +23,7 @@ pub fn runs_before(records: &[Record], day: Day) -> usize
     requires { IsRising day_cmp record_day records.now }
     ensures { AreBefore day records.now result }
 {
-    match place(records, day) {
+    match place_run(records, day) {
         Ok(at) => at,
         Err(at) => at,
     }
@@ -59,7 +59,7 @@ pub(crate) fn runs_with<'a>(
     ensures { IfOk result (λ runs. ReferTo (put_run item.now records.now) runs.items) }
 {
     let mut runs = references(alloc, records)?;
-    match place(records, item.day) {
+    match place_run(records, item.day) {
         Ok(at) => runs[at] = item,
         Err(at) => runs.insert(at, item)?,
     }
@@ -76,7 +76,7 @@ pub(crate) fn runs_without(
     ensures { IfOk result (λ runs. ReferTo (without_run day records.now) runs.items) }
 {
     let mut runs = references(alloc, records)?;
-    match place(records, day) {
+    match place_run(records, day) {
         Ok(at) => {
             runs.remove(at);
             Ok(runs)
@@ -106,7 +106,7 @@ pub(crate) fn put_record(records: &mut Vec<Record>, item: Record) -> Result<(), 
     ensures ok { OnOk result (records.new.items ≡ put_run item records.old.items) }
     ensures err { OnErr result (records.new.items ≡ records.old.items) }
 {
-    match place(records.as_slice(), item.day) {
+    match place_run(records.as_slice(), item.day) {
         Ok(at) => {
             records[at] = item;
             Ok(())
@@ -122,7 +122,7 @@ pub(crate) fn take_record(records: &mut Vec<Record>, day: Day)
     ensures room { vec_len records.old + 1 ≤ vec_capacity records.old
         → vec_len records.new + 1 ≤ vec_capacity records.new }
 {
-    if let Ok(at) = place(records.as_slice(), day) {
+    if let Ok(at) = place_run(records.as_slice(), day) {
         let _old = records.remove(at);
     }
 }
@@ -135,7 +135,7 @@ pub fn put_in_room(records: &mut Vec<Record>, item: Record)
     ensures len { vec_len records.new ≤ vec_len records.old + 1 }
     ensures capacity { vec_capacity records.old ≤ vec_capacity records.new }
 {
-    match place(records.as_slice(), item.day) {
+    match place_run(records.as_slice(), item.day) {
         Ok(at) => records[at] = item,
         Err(at) => records.insert(at, item).unwrap(),
     }

@@ -1,5 +1,6 @@
 //! An employee's calendar year, and its edits.
-ghost use Rattle.std.specs.Prelude.{◌≡◌, ◌≤◌, IfOk, OnErr, List, [], length, take};
+ghost use Rattle.std.specs.Prelude.{◌≡◌, ◌+◌, ◌≤◌, ◌++◌, IfOk, OnErr, List, [], length, take};
+ghost use Rattle.std.specs.Prelude.{vec_len, vec_capacity};
 ghost use Rattle.std.specs.List.{AllByRecursion};
 ghost use Rattle.rising_lists.specs.Keyed.{IsRising};
 ghost use Rattle.payroll_records.specs.Orders.{day_cmp};
@@ -12,7 +13,7 @@ ghost use Rattle.book_year.specs.Years.{IsOwn, IsYear, YearsStay, YearsFollowPla
 ghost use Rattle.book_year.specs.YearClauses.{IsYearEdit, IsSameYear, IsComputed, edit_cost};
 ghost use Rattle.book_year.specs.YearClauses.{IsReplanned, replan_cost};
 
-use crate::chain::{Old, Recalculated, recalculate};
+use crate::chain::{Old, Recalculated, Rest, recalculate, recalculate_rest};
 use crate::outcome::{Outcome, Work};
 use crate::picks::Picks;
 use crate::records::{
@@ -90,10 +91,11 @@ impl Year {
         ensures counted { Counts result steps.old steps.new
             (edit_cost (plans_in plans.now) self.old (put_run item self.old.records.items)) }
     {
-        let done = computed_with(alloc, plans, self, &item, steps)?;
+        let rest = computed_with(alloc, plans, self, &item, steps)?;
+        self.outcomes.reserve(rest.outcomes.len())?;
         put_record(&mut self.records, item)?;
-        self.outcomes = done.outcomes;
-        Ok(done.work)
+        put_rest(&mut self.outcomes, rest.kept, rest.outcomes);
+        Ok(rest.work)
     }
 
     /// Takes the run of a day away and puts another one. After a refusal the year is as before.
@@ -114,12 +116,13 @@ impl Year {
             (edit_cost (plans_in plans.now) self.old
             (put_run item (without_run from self.old.records.items))) }
     {
-        let done = computed_with_change(alloc, plans, self, from, &item, steps)?;
+        let rest = computed_with_change(alloc, plans, self, from, &item, steps)?;
         self.records.reserve(1)?;
+        self.outcomes.reserve(rest.outcomes.len())?;
         take_record(&mut self.records, from);
         put_in_room(&mut self.records, item);
-        self.outcomes = done.outcomes;
-        Ok(done.work)
+        put_rest(&mut self.outcomes, rest.kept, rest.outcomes);
+        Ok(rest.work)
     }
 
     /// Takes the run of a day away. After a refusal the year is as before.
@@ -138,10 +141,11 @@ impl Year {
         ensures counted { Counts result steps.old steps.new
             (edit_cost (plans_in plans.now) self.old (without_run day self.old.records.items)) }
     {
-        let done = computed_without(alloc, plans, self, day, steps)?;
+        let rest = computed_without(alloc, plans, self, day, steps)?;
+        self.outcomes.reserve(rest.outcomes.len())?;
         take_record(&mut self.records, day);
-        self.outcomes = done.outcomes;
-        Ok(done.work)
+        put_rest(&mut self.outcomes, rest.kept, rest.outcomes);
+        Ok(rest.work)
     }
 }
 
@@ -159,6 +163,15 @@ fn unmoved(picks: &Picks, records: &[Record]) -> usize
     }
 }
 
+/// Puts new outcomes behind the first ones, so many, where there is room for them.
+fn put_rest(outcomes: &mut Vec<Outcome>, kept: usize, mut new: Vec<Outcome>)
+    requires { vec_len outcomes.old + vec_len new ≤ vec_capacity outcomes.old }
+    ensures { outcomes.new.items ≡ take kept outcomes.old.items ++ new.items }
+{
+    outcomes.truncate(kept);
+    outcomes.append(&mut new).unwrap();
+}
+
 /// The year computed with one run put.
 fn computed_with<'a, L: Ledger>(
     alloc: Global,
@@ -166,7 +179,7 @@ fn computed_with<'a, L: Ledger>(
     year: &'a Year,
     item: &'a Record,
     steps: &mut Steps<L>,
-) -> Result<Recalculated, AllocError>
+) -> Result<Rest, AllocError>
     requires year { IsYear (plans_in plans.now) year.now }
     requires own { IsOwn year.now.key item.now }
     ensures done { IfOk result
@@ -177,7 +190,7 @@ fn computed_with<'a, L: Ledger>(
     let records = year.records.as_slice();
     let runs = runs_with(alloc, records, item)?;
     let kept = runs_before(records, item.day);
-    recalculate(
+    recalculate_rest(
         alloc,
         &Picks { plans, edit: None },
         old_of(year),
@@ -195,7 +208,7 @@ fn computed_with_change<'a, L: Ledger>(
     from: Day,
     item: &'a Record,
     steps: &mut Steps<L>,
-) -> Result<Recalculated, AllocError>
+) -> Result<Rest, AllocError>
     requires year { IsYear (plans_in plans.now) year.now }
     requires own { IsOwn year.now.key item.now }
     ensures done { IfOk result (IsComputed (plans_in plans.now) year.now
@@ -208,7 +221,7 @@ fn computed_with_change<'a, L: Ledger>(
     let mut runs = runs_without(alloc, records, from)?;
     put_reference(&mut runs, item)?;
     let kept = runs_before(records, from).min(runs_before(records, item.day));
-    recalculate(
+    recalculate_rest(
         alloc,
         &Picks { plans, edit: None },
         old_of(year),
@@ -225,7 +238,7 @@ fn computed_without<L: Ledger>(
     year: &Year,
     day: Day,
     steps: &mut Steps<L>,
-) -> Result<Recalculated, AllocError>
+) -> Result<Rest, AllocError>
     requires { IsYear (plans_in plans.now) year.now }
     ensures done { IfOk result
         (IsComputed (plans_in plans.now) year.now (without_run day year.now.records.items)) }
@@ -235,7 +248,7 @@ fn computed_without<L: Ledger>(
     let records = year.records.as_slice();
     let runs = runs_without(alloc, records, day)?;
     let kept = runs_before(records, day);
-    recalculate(
+    recalculate_rest(
         alloc,
         &Picks { plans, edit: None },
         old_of(year),

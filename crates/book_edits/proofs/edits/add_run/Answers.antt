@@ -15,7 +15,7 @@ put-requires-clause-own g c =
     let ys = c.args.years.now.items in
     let k = year_of (key_of c.args.item) in
     let y = c.index_mut-year.result.now in
-    let found = year_placed ys c.as_slice.result.now k c.year_of-key.result c.place_year.result c.as_slice.ensures.value (c.year_of-key.ensures ∙ ap year_of c.key_of.ensures) c.in-Ok.at y c.in-Ok.is c.place_year.ensures.found c.index_mut-year.ensures.value in
+    let found = year_placed ys c.as_slice.result.now k c.year_of-key.result c.place_year.result c.as_slice.ensures.value (c.year_of-key.ensures ∙ ap year_of c.key.ensures) c.in-Ok.at y c.in-Ok.is c.place_year.ensures.found c.index_mut-year.ensures.value in
     record { employee = sym (ap (λ t. t.employee) found.key); year = sym (ap (λ t. t.year) found.key) }
 
 pub returns-in-Ok-clause-ok : goal.returns-in-Ok-clause-ok
@@ -23,7 +23,7 @@ returns-in-Ok-clause-ok g c =
     let ys = c.args.years.now.items in
     let k = year_of (key_of c.args.item) in
     let y = c.index_mut-year.result.now in
-    let found = year_placed ys c.as_slice.result.now k c.year_of-key.result c.place_year.result c.as_slice.ensures.value (c.year_of-key.ensures ∙ ap year_of c.key_of.ensures) c.in-Ok.at y c.in-Ok.is c.place_year.ensures.found c.index_mut-year.ensures.value in
+    let found = year_placed ys c.as_slice.result.now k c.year_of-key.result c.place_year.result c.as_slice.ensures.value (c.year_of-key.ensures ∙ ap year_of c.key.ensures) c.in-Ok.at y c.in-Ok.is c.place_year.ensures.found c.index_mut-year.ensures.value in
     edited_at (plans_in c.args.plans.now) ys k c.in-Ok.at y c.put.new.self c.put.result (put_run c.args.item) c.requires found c.put.ensures.ok (put_some day_cmp record_day c.args.item y.records.items)
 
 pub returns-in-Ok-clause-err : goal.returns-in-Ok-clause-err
@@ -31,7 +31,7 @@ returns-in-Ok-clause-err g c =
     let ys = c.args.years.now.items in
     let k = year_of (key_of c.args.item) in
     let y = c.index_mut-year.result.now in
-    let found = year_placed ys c.as_slice.result.now k c.year_of-key.result c.place_year.result c.as_slice.ensures.value (c.year_of-key.ensures ∙ ap year_of c.key_of.ensures) c.in-Ok.at y c.in-Ok.is c.place_year.ensures.found c.index_mut-year.ensures.value in
+    let found = year_placed ys c.as_slice.result.now k c.year_of-key.result c.place_year.result c.as_slice.ensures.value (c.year_of-key.ensures ∙ ap year_of c.key.ensures) c.in-Ok.at y c.in-Ok.is c.place_year.ensures.found c.index_mut-year.ensures.value in
     same_at (plans_in c.args.plans.now) ys k c.in-Ok.at y c.put.new.self c.put.result (λ rs. rs) c.requires found c.put.ensures.err
 
 pub returns-in-Ok-clause-counted : goal.returns-in-Ok-clause-counted
@@ -39,7 +39,7 @@ returns-in-Ok-clause-counted g c =
     let ys = c.args.years.now.items in
     let k = year_of (key_of c.args.item) in
     let y = c.index_mut-year.result.now in
-    let found = year_placed ys c.as_slice.result.now k c.year_of-key.result c.place_year.result c.as_slice.ensures.value (c.year_of-key.ensures ∙ ap year_of c.key_of.ensures) c.in-Ok.at y c.in-Ok.is c.place_year.ensures.found c.index_mut-year.ensures.value in
+    let found = year_placed ys c.as_slice.result.now k c.year_of-key.result c.place_year.result c.as_slice.ensures.value (c.year_of-key.ensures ∙ ap year_of c.key.ensures) c.in-Ok.at y c.in-Ok.is c.place_year.ensures.found c.index_mut-year.ensures.value in
     counted_at (plans_in c.args.plans.now) ys k c.in-Ok.at y c.put.new.self c.put.result (put_run c.args.item) c.requires found c.args.steps.now c.put.new.steps c.put.ensures.counted
 
 -- ---- a new year
@@ -51,7 +51,7 @@ pub returns-in_err-work-in-Err-clause-counted : goal.returns-in_err-work-in-Err-
 returns-in_err-work-in-Err-clause-counted g c =
     let ys = c.args.years.now.items in
     let k = year_of (key_of c.args.item) in
-    let key = c.year_of-key.ensures ∙ ap year_of c.key_of.ensures in
+    let key = c.year_of-key.ensures ∙ ap year_of c.key.ensures in
     let gap = year_gap ys c.as_slice.result.now k c.year_of-key.result c.place_year.result c.as_slice.ensures.value key c.in-Err.at c.in-Err.is c.place_year.ensures.absent in
     let y = c.new-year.result in
     let p = err_from_is_err_and c.from_residual.result c.from_residual.ensures.1 in
@@ -61,7 +61,7 @@ pub returns-in_err-insert-in-Err-clause-counted : goal.returns-in_err-insert-in-
 returns-in_err-insert-in-Err-clause-counted g c =
     let ys = c.args.years.now.items in
     let k = year_of (key_of c.args.item) in
-    let key = c.year_of-key.ensures ∙ ap year_of c.key_of.ensures in
+    let key = c.year_of-key.ensures ∙ ap year_of c.key.ensures in
     let gap = year_gap ys c.as_slice.result.now k c.year_of-key.result c.place_year.result c.as_slice.ensures.value key c.in-Err.at c.in-Err.is c.place_year.ensures.absent in
     let y = c.new-year.result in
     let runs = runs_none (plans_in c.args.plans.now) ys k c.in-Err.at y c.put-in-Err.new.self c.put-in-Err.result (put_run c.args.item) c.requires gap (c.new-year.ensures.key ∙ key) c.new-year.ensures.none in
@@ -73,7 +73,7 @@ pub returns-in_ok-insert-in-Err-clause-ok : goal.returns-in_ok-insert-in-Err-cla
 returns-in_ok-insert-in-Err-clause-ok g c =
     let ys = c.args.years.now.items in
     let k = year_of (key_of c.args.item) in
-    let key = c.year_of-key.ensures ∙ ap year_of c.key_of.ensures in
+    let key = c.year_of-key.ensures ∙ ap year_of c.key.ensures in
     let gap = year_gap ys c.as_slice.result.now k c.year_of-key.result c.place_year.result c.as_slice.ensures.value key c.in-Err.at c.in-Err.is c.place_year.ensures.absent in
     let y = c.new-year.result in
     rw c.in_ok-insert-in-Err.ensures.items (edited_in (plans_in c.args.plans.now) ys k c.in-Err.at y c.put-in-Err.new.self c.put-in-Err.result (put_run c.args.item) c.requires gap (c.new-year.ensures.key ∙ key) c.new-year.ensures.none c.in_ok-work-in-Err.work c.in_ok-work-in-Err.ensures.ok (put_some day_cmp record_day c.args.item y.records.items))
@@ -82,7 +82,7 @@ pub returns-in_ok-insert-in-Err-clause-counted : goal.returns-in_ok-insert-in-Er
 returns-in_ok-insert-in-Err-clause-counted g c =
     let ys = c.args.years.now.items in
     let k = year_of (key_of c.args.item) in
-    let key = c.year_of-key.ensures ∙ ap year_of c.key_of.ensures in
+    let key = c.year_of-key.ensures ∙ ap year_of c.key.ensures in
     let gap = year_gap ys c.as_slice.result.now k c.year_of-key.result c.place_year.result c.as_slice.ensures.value key c.in-Err.at c.in-Err.is c.place_year.ensures.absent in
     let y = c.new-year.result in
     let runs = runs_none (plans_in c.args.plans.now) ys k c.in-Err.at y c.put-in-Err.new.self c.put-in-Err.result (put_run c.args.item) c.requires gap (c.new-year.ensures.key ∙ key) c.new-year.ensures.none in

@@ -1,6 +1,6 @@
-use Rattle.std.proofs.Common.{◌<◌, length, get_or, ap, arith}
+use Rattle.std.proofs.Common.{◌<◌, [], ◌∷◌, ◌++◌, length, get_or, ap, ◌∙◌, arith}
 use Rattle.std.proofs.lemmas.List.{length-take}
-use Rattle.book_year.proofs.FrontLemmas.{done_more, taken_read}
+use Rattle.book_year.proofs.FrontLemmas.{read_more, taken_read}
 use Rattle.book_year.proofs.done.front.Goals as goal
 
 pub loop-at-preserved : goal.loop-at-preserved
@@ -9,6 +9,7 @@ loop-at-preserved c = λ planned is.
     let os = c.args.old.outcomes.now in
     let i = c.loop-at.at in
     let within : i < length rs = omega (arith, c.loop-at-test.true, length-take c.args.count os, c.requires.within, c.requires.each) in
-    let read = taken_read os c.args.count i c.outcome-item.result c.in_ok-outcome.outcome c.in_ok-outcome.ensures c.outcome-item.is c.loop-at-test.true in
+    let read = taken_read os c.args.count i c.outcome-item.result c.outcome-item.is c.loop-at-test.true in
     let r = get_or rs i c.index-old-at.result in
-    done_more planned rs os i c.loop-at.done c.push.new.self r c.in_ok-outcome.outcome is within (c.loop-at.invariant planned is) (ap (get_or rs i) c.index-old-at.is) read c.in_ok-push.ensures.outcomes c.in_ok-push.ensures.earlier
+    read_more planned rs os i c.loop-at.earlier.items c.push.new.self.items r c.outcome-item.result is within (c.loop-at.invariant planned is) (ap (get_or rs i) c.index-old-at.is) read
+    (c.in_ok-push.ensures.items ∙ ap (λ o. c.loop-at.earlier.items ++ record { day = r.day; outputs = o } ∷ []) c.in_ok-outputs.ensures)

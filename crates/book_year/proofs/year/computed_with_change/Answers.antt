@@ -13,8 +13,8 @@ use Rattle.book_year.proofs.year.computed_with_change.Goals as goal
 pub put_reference-requires : goal.put_reference-requires
 put_reference-requires g c = rw (c.in_ok-runs.ensures, c.as_slice-records.ensures.value) (rising_without c.args.from c.args.year.now.records.items c.requires.year.kept.rising)
 
-pub recalculate-requires-clause-front : goal.recalculate-requires-clause-front
-recalculate-requires-clause-front g c =
+pub recalculate_rest-requires-clause-front : goal.recalculate_rest-requires-clause-front
+recalculate_rest-requires-clause-front g c =
     let rs = c.args.year.now.records.items in
     let from = c.args.from in
     let item = c.args.item.now in
@@ -27,8 +27,8 @@ recalculate-requires-clause-front g c =
     let picks : Picks = record { plans = c.args.plans; edit = None } in
     front_is picks c.old_of.result c.as_slice.result.now rs new n c.old_of.ensures.records runs (omega (arith, c.min-kept.ensures, first.within)) (front_changed from item rs c.runs_before.result c.runs_before-2.result n first second c.min-kept.ensures) (plans_stay picks (take n rs) refl)
 
-pub recalculate-requires-clause-few : goal.recalculate-requires-clause-few
-recalculate-requires-clause-few g c =
+pub recalculate_rest-requires-clause-few : goal.recalculate_rest-requires-clause-few
+recalculate_rest-requires-clause-few g c =
     let year = c.args.year.now in
     let rs = year.records.items in
     let left = without_run c.args.from rs in
@@ -46,7 +46,7 @@ returns-clause-done g c =
     let item = c.args.item.now in
     let runs : records_of c.as_slice.result.now ≡ put_run item left =
     ap records_of c.as_slice.ensures.value ∙ c.in_ok-put_reference.ensures ∙ ap (put_run item) (c.in_ok-runs.ensures ∙ ap (without_run c.args.from) c.as_slice-records.ensures.value) in
-    computed_done (plans_in c.args.plans.now) c.args.year.now c.old_of.result.records.now c.as_slice.result.now (put_run item left) c.recalculate.result c.old_of.ensures.records runs c.recalculate.ensures.done
+    computed_done (plans_in c.args.plans.now) c.args.year.now c.old_of.result.records.now c.as_slice.result.now (put_run item left) c.recalculate_rest.result c.old_of.ensures.records runs c.old_of.result.outcomes.now c.old_of.ensures.outcomes c.recalculate_rest.ensures.done
 
 pub returns-clause-counted : goal.returns-clause-counted
 returns-clause-counted g c =
@@ -54,4 +54,4 @@ returns-clause-counted g c =
     let item = c.args.item.now in
     let runs : records_of c.as_slice.result.now ≡ put_run item left =
     ap records_of c.as_slice.ensures.value ∙ c.in_ok-put_reference.ensures ∙ ap (put_run item) (c.in_ok-runs.ensures ∙ ap (without_run c.args.from) c.as_slice-records.ensures.value) in
-    computed_counted (plans_in c.args.plans.now) c.args.year.now c.old_of.result.records.now c.as_slice.result.now (put_run item left) c.recalculate.result c.old_of.ensures.records runs c.args.steps.now c.recalculate.new.steps c.recalculate.ensures.counted
+    computed_counted (plans_in c.args.plans.now) c.args.year.now c.old_of.result.records.now c.as_slice.result.now (put_run item left) c.recalculate_rest.result c.old_of.ensures.records runs c.args.steps.now c.recalculate_rest.new.steps c.recalculate_rest.ensures.counted

@@ -1,4 +1,4 @@
-use Rattle.std.proofs.Common.{refl, ap, ◌∙◌}
+use Rattle.std.proofs.Common.{◌++◌, take, refl, ap, ◌∙◌}
 use Rattle.book_year.specs.Accepted.{plans_in}
 use Rattle.book_year.specs.Records.{put_run, without_run}
 use Rattle.book_year.specs.Years.{IsOwn}
@@ -18,5 +18,6 @@ returns-clause-ok g c =
     let left = without_run c.args.from rs in
     let rising = rising_without c.args.from rs c.requires.year.kept.rising in
     let own = all_without (IsOwn old.key) c.args.from rs c.requires.year.own in
-    year_edit (plans_in c.args.plans.now) old _ (put_run item left) c.in_ok-done.done (rising_put item left rising) (all_put (IsOwn old.key) item left c.requires.own own)
-    refl (c.put_in_room.ensures.items ∙ ap (put_run item) (c.take_record.ensures.items ∙ ap (without_run c.args.from) c.in_ok-reserve.ensures.items)) refl c.in_ok-done.ensures.done
+    year_edit (plans_in c.args.plans.now) old _ (put_run item left) c.in_ok-rest.rest (rising_put item left rising) (all_put (IsOwn old.key) item left c.requires.own own)
+    refl (c.put_in_room.ensures.items ∙ ap (put_run item) (c.take_record.ensures.items ∙ ap (without_run c.args.from) c.in_ok-reserve.ensures.items))
+    (c.put_rest.ensures ∙ ap (λ t. take c.in_ok-rest.rest.kept t ++ c.in_ok-rest.rest.outcomes.items) c.in_ok-reserve-2.ensures.items) c.in_ok-rest.ensures.done

@@ -1,4 +1,4 @@
-use Rattle.std.proofs.Common.{refl}
+use Rattle.std.proofs.Common.{◌++◌, take, refl, ap, ◌∙◌}
 use Rattle.book_year.specs.Accepted.{plans_in}
 use Rattle.book_year.specs.Records.{without_run}
 use Rattle.book_year.specs.Years.{IsOwn}
@@ -11,5 +11,6 @@ returns-clause-ok g c =
     let old = c.args.self.now in
     let day = c.args.day in
     let rs = old.records.items in
-    year_edit (plans_in c.args.plans.now) old _ (without_run day rs) c.in_ok-done.done (rising_without day rs c.requires.kept.rising) (all_without (IsOwn old.key) day rs c.requires.own)
-    refl c.take_record.ensures.items refl c.in_ok-done.ensures.done
+    year_edit (plans_in c.args.plans.now) old _ (without_run day rs) c.in_ok-rest.rest (rising_without day rs c.requires.kept.rising) (all_without (IsOwn old.key) day rs c.requires.own)
+    refl c.take_record.ensures.items
+    (c.put_rest.ensures ∙ ap (λ t. take c.in_ok-rest.rest.kept t ++ c.in_ok-rest.rest.outcomes.items) c.in_ok-reserve.ensures.items) c.in_ok-rest.ensures.done

@@ -4,7 +4,7 @@ use Rattle.rising_lists.proofs.Laws.{searched}
 use Rattle.payroll_records.specs.Orders.{day_cmp}
 use Rattle.payroll_records.proofs.Laws.{day_total}
 use Rattle.book_year.specs.Records.{record_day}
-use Rattle.book_year.proofs.records.place.Goals as goal
+use Rattle.book_year.proofs.records.place_run.Goals as goal
 
 pub returns : goal.returns
 returns c =
