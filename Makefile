@@ -101,10 +101,11 @@ bench-plan: build
 bench-book: build
 	python3 tools/bench_book.py build/papcalc
 
-# Seconds of `check` on the flowchart that takes it longest, of those we know.
+# Seconds of `check` on the two flowcharts that take it longest, of those we know.
 bench-worst: build
 	python3 tools/worst_plan.py build
 	bash -c 'time build/papcalc check build/worst.xml build/worst.toml'
+	bash -c 'time build/papcalc check build/nested.xml build/nested.toml'
 
 # Nanoseconds of each operation on intervals.
 bench-intervals:
