@@ -1,8 +1,7 @@
 //! The touched years, computed anew beside the book.
-ghost use Rattle.std.specs.Prelude.{◌≡◌, ◌≤◌, List, length, IfOk, IfErr};
+ghost use Rattle.std.specs.Prelude.{◌≡◌, ◌≤◌, List, length, IfOk};
 ghost use Rattle.std.specs.List.{AllByRecursion};
 ghost use Rattle.rising_lists.specs.Keyed.{IsRising};
-ghost use Rattle.rising_lists.specs.Places.{Finds, Misses};
 ghost use Rattle.plan_calendar.specs.Picking.{Entry, pick};
 ghost use Rattle.book_year.specs.Accepted.{Accepted, plans_in};
 ghost use Rattle.book_year.specs.Jobs.{Counts};
@@ -16,6 +15,7 @@ ghost use Rattle.book_loads.specs.Drafts.{AreDrafted, IsComputedGroup, group_cos
 
 use crate::groups::Group;
 use crate::records::{references_with, runs_before_all};
+use book_edits::place_year;
 use book_year::{Old, Outcome, Picks, Work, Year, YearKey, recalculate};
 use pap_plan::Plan;
 use payroll_records::Record;
@@ -123,7 +123,7 @@ fn old_of(list: &[Year], key: YearKey) -> Old<'_>
     ensures kept { (plans : List (Entry Accepted)) → AllByRecursion (IsYear plans) list.now
         → IsOld (pick plans) result }
 {
-    match place_year(list, key) {
+    match place_year(list, &key) {
         Ok(at) => {
             let year = &list[at];
             Old {
@@ -136,13 +136,4 @@ fn old_of(list: &[Year], key: YearKey) -> Old<'_>
             outcomes: &[],
         },
     }
-}
-
-/// Where an employee's year stands, or would go.
-fn place_year(list: &[Year], key: YearKey) -> Result<usize, usize>
-    requires { IsRising year_cmp kept_key list.now }
-    ensures found { IfOk result (Finds year_cmp kept_key list.now key) }
-    ensures absent { IfErr result (Misses year_cmp kept_key list.now key) }
-{
-    list.binary_search_by_key(&key, |y| y.key)
 }

@@ -2,13 +2,13 @@
 ghost use Rattle.std.specs.Prelude.{◌≡◌, ◌++◌, List, [], ◌∷◌, length, IfOk, IfErr, OnOk};
 ghost use Rattle.rising_lists.specs.Keyed.{IsRising};
 ghost use Rattle.rising_lists.specs.Places.{Finds, Misses};
-ghost use Rattle.payroll_records.specs.Tables.{key_of};
-ghost use Rattle.book_edits.specs.Books.{YearRuns, loaded, year_cmp, year_of};
+ghost use Rattle.book_edits.specs.Books.{YearRuns, loaded, year_cmp};
 ghost use Rattle.book_loads.specs.Loads.{AreDistinct};
 ghost use Rattle.book_loads.specs.Groups.{AreGroups, IsPutGroup, group_key};
 
+use book_edits::year_of;
 use book_year::YearKey;
-use payroll_records::{Key, Record};
+use payroll_records::Record;
 use std::alloc::{AllocError, Global};
 
 /// The new runs of one employee's calendar year.
@@ -16,26 +16,6 @@ use std::alloc::{AllocError, Global};
 pub(crate) struct Group {
     pub(crate) key: YearKey,
     pub(crate) items: Vec<Record>,
-}
-
-/// What a record is known by.
-pub(crate) fn key_of(item: &Record) -> Key
-    ensures { result ≡ key_of item.now }
-{
-    Key {
-        employee: item.employee,
-        day: item.day,
-    }
-}
-
-/// The year in which a record's run stands.
-fn year_of(item: &Record) -> YearKey
-    ensures { result ≡ year_of (key_of item.now) }
-{
-    YearKey {
-        employee: item.employee,
-        year: item.day.year,
-    }
 }
 
 /// The runs in groups, one for each year, in order of employee and year.
@@ -54,7 +34,7 @@ fn sort(items: &mut Vec<Record>)
         → loaded items.new.items years ≡ loaded items.old.items years }
     ensures len { length items.new.items ≡ length items.old.items }
 {
-    items.sort_unstable_by_key(|item| key_of(item));
+    items.sort_unstable_by_key(|item| item.key());
 }
 
 /// The groups of the runs. Where the runs stand in order of their keys, each of them goes behind all that came before.
@@ -73,7 +53,7 @@ fn put_item(alloc: Global, groups: &mut Vec<Group>, item: Record) -> Result<(), 
     requires { IsRising year_cmp group_key groups.old.items }
     ensures { OnOk result (IsPutGroup item groups.old.items groups.new.items) }
 {
-    let key = year_of(&item);
+    let key = year_of(&item.key());
     match place_group(groups.as_slice(), key) {
         Ok(at) => append(&mut groups[at], item),
         Err(at) => {

@@ -6,7 +6,6 @@ ghost use Rattle.payroll_records.specs.Limits.{most_records};
 ghost use Rattle.std.specs.List.{AllByRecursion};
 ghost use Rattle.book_loads.specs.Loads.{CanLoad, IsFree, IsLoadRefused};
 
-use crate::groups::key_of;
 use book_edits::{EditRefusal, Years};
 use payroll_records::{MOST_RECORDS, Record};
 
@@ -32,7 +31,7 @@ fn present(years: &Years, items: &[Record]) -> Result<(), EditRefusal>
     ensures err { IfErr result (IsLoadRefused (years_of years.now) items.now) }
 {
     for item in items {
-        let key = key_of(item);
+        let key = item.key();
         if years.find(&key).is_some() {
             return Err(EditRefusal::Present { key });
         }
