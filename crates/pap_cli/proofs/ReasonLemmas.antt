@@ -1,6 +1,6 @@
--- Whether the answer on two texts is a refusal.
-use Rattle.std.proofs.Common.{◌≡◌, ◌≢◌, ◌<◌, ◌≤◌, ℕ, Bool, true, false, List, [], ◌∷◌, length, get_or, refl, sym, ap, ◌∙◌, subst, arith}
-use Rattle.std.specs.Prelude.{Ok, Err, Vec}
+-- Whether the answer on two texts is a refusal, and where the words of its reason begin.
+use Rattle.std.proofs.Common.{◌≡◌, ◌≢◌, ◌<◌, ◌≤◌, ℕ, Bool, true, false, List, [], ◌∷◌, length, get_or, refl, sym, ap, ◌∙◌, subst, inl, inr, arith}
+use Rattle.std.specs.Prelude.{Ok, Err, Vec, Option, Some, None, IfSome}
 use Rattle.std.specs.declared.alloc.Global.{Global}
 use Rattle.scaled_decimal.specs.Decimals.{Decimal}
 use Rattle.pap_tree.specs.Flowchart.{Flowchart}
@@ -18,12 +18,14 @@ use Rattle.pap_plan.specs.Plans.{Seen, meaning}
 use Rattle.pap_plan.proofs.Laws as plans
 use Rattle.pap_cli.specs.declared.words.Command.{Command}
 use Rattle.pap_cli.specs.declared.words.Command.TheVariants.{Check, Once}
-use Rattle.pap_cli.specs.Words.{Form, check, once, run, HasForm}
+use Rattle.pap_cli.specs.Words.{Form, check, once, HasForm}
 use Rattle.pap_cli.specs.WordViews.{form_by, IsOnFiles}
 use Rattle.plan_answers.specs.Answers.{Answer, IsRefusal, IsChecked, CheckAnswers}
 use Rattle.pap_cli.specs.RunAnswers.{IsRunOn, IsRunOnce, IsOnce, OnceAnswers}
 use Rattle.pap_cli.specs.AnswerViews.{answers_of, IsFilledFrom, TellsRefused}
-use Rattle.pap_cli.specs.Reasons.{bytes_of, SaysRefused, SaysRefusedOn}
+use Rattle.plain_words.specs.Places.{PlanFiles}
+use Rattle.pap_cli.specs.Reasons.{bytes_of, SaysRefused, SaysRefusedOn, files_on, TellsPlan, TellsReason}
+use Rattle.pap_cli.specs.ReasonViews.{TellsOn, TellsFilled}
 use Rattle.plan_answers.proofs.Laws.{check_answers}
 use Rattle.pap_cli.proofs.AnswerLemmas.{once_answers, words_kept}
 
@@ -152,3 +154,40 @@ pub none_asked : (form : Form) (given : List (List ℕ)) → ¬ (IsOnFiles form)
 none_asked (check plan limits) given not = absurd (not tt)
 none_asked (once plan limits values) given not = absurd (not tt)
 none_asked _ given not = refl
+
+-- ---- the words
+
+pub if_some_map : {A : Type 0} (o : Option A) (P Q : A → Type 0) → ((a : A) → P a → Q a) → IfSome o P → IfSome o Q
+if_some_map None P Q f h = h
+if_some_map (Some a) P Q f h = f a h
+
+-- the words of a run without inputs
+pub tells_state : (values : List NamedValue) (plan limits bytes ranges : List ℕ) (p : Seen) (words : List ℕ) → IsAcceptedAs bytes ranges p
+    → TellsFilled values (meaning p) (files_on plan limits bytes ranges) words → TellsOn (Once values) (files_on plan limits bytes ranges) words
+tells_state values plan limits bytes ranges p words h t = inr (record {
+  meaning = meaning p;
+  accepted = h.accepted;
+  slots = t.filled.slots;
+  inputs = t.filled.inputs;
+  state = t.state;
+  blocked = t.filled.is;
+  begins = t.begins;
+})
+
+-- the words of a refused plan
+pub tells_plan : (c : Command) (files : PlanFiles) (words : List ℕ) → TellsPlan files words → TellsOn c files words
+tells_plan Check files words h = h
+tells_plan (Once values) files words h = inl h
+
+tells_of_form : (c : Command) (plan limits bytes ranges : List ℕ) (more : List (List ℕ)) (words : List ℕ)
+    → TellsOn c (files_on plan limits bytes ranges) words → TellsReason (form_by c plan limits) (bytes ∷ ranges ∷ more) words
+tells_of_form Check plan limits bytes ranges more words h = h
+tells_of_form (Once values) plan limits bytes ranges more words h = h
+
+-- what is told of two texts is told of what was given, where they are its first two
+pub tells_given : (c : Command) (plan limits : List ℕ) (given : List (Vec ℕ Global)) (bytes ranges : Vec ℕ Global) (words : List ℕ)
+    → 2 ≤ length given → bytes ≡ get_or given 0 bytes → ranges ≡ get_or given 1 ranges
+    → TellsOn c (files_on plan limits bytes.items ranges.items) words → TellsReason (form_by c plan limits) (bytes_of given) words
+tells_given c plan limits given bytes ranges words few is is' t =
+    let first = first_two given bytes ranges few is is' in
+    subst (λ g. TellsReason (form_by c plan limits) g words) (sym first.1) (tells_of_form c plan limits bytes.items ranges.items first.0 words t)

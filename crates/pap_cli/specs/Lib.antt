@@ -18,6 +18,7 @@ pub mod Statuses
 pub mod Stops
 pub mod Kept
 pub mod Reasons
+pub mod ReasonViews
 pub mod Words
 pub mod WordViews
 pub mod FileViews

@@ -1,6 +1,17 @@
--- On which bytes an answer is a refusal, so that it has a reason.
-use Rattle.std.specs.Prelude.{◌≡◌, ℕ, List, ◌∷◌, Bool, false, Vec, map}
+-- On which bytes an answer is a refusal, so that it has a reason, and where the reason's words begin.
+use Rattle.std.specs.Prelude.{◌≡◌, ◌⊎◌, ℕ, List, [], ◌∷◌, Bool, false, Vec, map}
 use Rattle.std.specs.declared.alloc.Global.{Global}
+use Rattle.limits_file.specs.declared.slots.Slot.{Slot}
+use Rattle.payroll_records.specs.declared.values.NamedValue.{NamedValue}
+use Rattle.carry_bindings.specs.declared.filling.Blocked.{Blocked}
+use Rattle.carry_bindings.specs.declared.filling.Filled.TheVariants.{State}
+use Rattle.carry_bindings.specs.Filling.{filled_by}
+use Rattle.pap_plan.specs.declared.refusal.PlanRefusal.{PlanRefusal}
+use Rattle.pap_plan.specs.Acceptance.{Meaning, IsAccepted, IsRefused}
+use Rattle.pap_plan.specs.Inputs.{AreSlots}
+use Rattle.plain_words.specs.Places.{PlanFiles}
+use Rattle.plain_words.specs.Refusals.{BeginsAtRefusal}
+use Rattle.plain_words.specs.States.{SaysState}
 use Rattle.plan_answers.specs.Answers.{Answer, CheckAnswers}
 use Rattle.pap_cli.specs.RunAnswers.{OnceAnswers}
 use Rattle.pap_cli.specs.Words.{Form, check, once}
@@ -21,3 +32,35 @@ abbrev pub SaysRefusedOn : Form → List (List ℕ) → Bool → Type 0
 SaysRefusedOn (check plan limits) (bytes ∷ ranges ∷ more) told = SaysRefused (CheckAnswers bytes ranges) told
 SaysRefusedOn (once plan limits values) (bytes ∷ ranges ∷ more) told = SaysRefused (OnceAnswers values bytes ranges) told
 SaysRefusedOn _ _ told = told ≡ false
+
+-- ---- the words of a reason
+
+-- two files of these names, with these bytes
+abbrev pub files_on : List ℕ → List ℕ → List ℕ → List ℕ → PlanFiles
+files_on plan limits bytes ranges = record {
+  plan = record { name = plan; bytes = bytes };
+  ranges = record { name = limits; bytes = ranges };
+}
+
+-- the words begin with the place of the reason for which these files are refused
+pub record TellsPlan (files : PlanFiles) (words : List ℕ) : Type 0 where
+  pub refusal : PlanRefusal
+  pub refused : IsRefused files.plan.bytes files.ranges.bytes refusal
+  pub begins : BeginsAtRefusal files refusal words
+
+-- these files are accepted, and the words begin with the place at which a run on these values lacks its inputs, and say why
+pub record TellsState (values : List NamedValue) (files : PlanFiles) (words : List ℕ) : Type 0 where
+  pub meaning : Meaning
+  pub accepted : IsAccepted files.plan.bytes files.ranges.bytes meaning
+  pub slots : List Slot
+  pub inputs : AreSlots meaning.limits meaning.flowchart.inputs slots
+  pub state : Blocked
+  pub blocked : State state ≡ filled_by slots values []
+  pub begins : SaysState files state words
+
+-- the words begin with the place of what is refused in the given bytes, the plan's and then those of its range file
+abbrev pub TellsReason : Form → List (List ℕ) → List ℕ → Type 0
+TellsReason (check plan limits) (bytes ∷ ranges ∷ more) words = TellsPlan (files_on plan limits bytes ranges) words
+TellsReason (once plan limits values) (bytes ∷ ranges ∷ more) words =
+    TellsPlan (files_on plan limits bytes ranges) words ⊎ TellsState values (files_on plan limits bytes ranges) words
+TellsReason _ _ words = ⊥

@@ -6,7 +6,9 @@ ghost use Rattle.plain_words.specs.Lines.{IsOneLine};
 ghost use Rattle.pap_cli.specs.RunAnswers.{IsRunOnce};
 ghost use Rattle.pap_cli.specs.AnswerViews.{answers_of, TellsRefused};
 ghost use Rattle.pap_cli.specs.Words.{texts, Form, HasForm, IsBad};
-ghost use Rattle.pap_cli.specs.Reasons.{bytes_of, SaysRefusedOn};
+ghost use Rattle.plain_words.specs.Places.{files_of};
+ghost use Rattle.pap_cli.specs.Reasons.{bytes_of, SaysRefusedOn, TellsReason};
+ghost use Rattle.pap_cli.specs.ReasonViews.{files_in, TellsOn, TellsFilled};
 
 use crate::once::record_of;
 use crate::words::{Command, FileRequest, Request, read_words};
@@ -35,6 +37,9 @@ pub fn reason(
     ensures refused { (form : Form) → HasForm (texts words.now) form → IfOk result
         (λ reason. SaysRefusedOn form (bytes_of given.now) (is_some reason)) }
     ensures line { IfOk result (λ reason. IfSome reason (λ r. IsOneLine (string_bytes r))) }
+    // It begins with the place of what is refused.
+    ensures place { (form : Form) → HasForm (texts words.now) form → IfOk result (λ reason.
+        IfSome reason (λ r. TellsReason form (bytes_of given.now) (string_bytes r))) }
 
     // The words have no form: there is none.
     ensures bad_words { IsBad (texts words.now) → IfOk result (λ reason. reason ≡ None) }
@@ -58,6 +63,8 @@ fn reason_on_bytes(
     ensures refused { IfOk result (λ reason.
         TellsRefused (answers_of request.entry.command plan.now limits.now) (is_some reason)) }
     ensures line { IfOk result (λ reason. IfSome reason (λ r. IsOneLine (string_bytes r))) }
+    ensures place { IfOk result (λ reason. IfSome reason (λ r. TellsOn request.entry.command
+        (files_in request.entry plan.now limits.now) (string_bytes r))) }
 {
     let FileRequest {
         plan: plan_name,
@@ -94,6 +101,8 @@ fn state_reason(
     ensures refused { IfOk result
         (λ reason. TellsRefused (IsRunOnce values (meaning accepted.now)) (is_some reason)) }
     ensures line { IfOk result (λ reason. IfSome reason (λ r. IsOneLine (string_bytes r))) }
+    ensures place { IfOk result (λ reason. IfSome reason (λ r. TellsFilled values
+        (meaning accepted.now) (files_of plan.entry limits.entry) (string_bytes r))) }
 {
     let record = record_of(values);
     let inputs = filled(alloc, accepted, &record, &[])?;

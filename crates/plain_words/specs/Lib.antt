@@ -1,3 +1,7 @@
 pub mod Positions
 pub mod Lines
 pub mod Places
+pub mod Refusals
+pub mod States
+pub mod FoundViews
+pub mod SiteViews

@@ -1,17 +1,42 @@
--- Places in files, as the words of a refusal name them.
+-- Places in the files of a plan, as the words of a refusal name them.
 use Rattle.std.specs.Prelude.{ℕ, List, Option, Some, None, ◌≡◌, ◌++◌, codes}
+use Rattle.plain_words.specs.declared.place.TextFile.{TextFile}
 use Rattle.plain_words.specs.Lines.{shown_text}
 use Rattle.plain_words.specs.Positions.{line_of, column_of, position_text}
 
--- NAME:LINE:COLUMN of a byte of a file's text; without a byte NAME alone
-abbrev pub place_text : List ℕ → List ℕ → Option ℕ → List ℕ
-place_text name text (Some at) = name ++ (codes ":" ++ position_text (line_of text at) (column_of text at))
-place_text name text None = name
+-- a file as it was named, and the bytes that were read of it
+pub record NamedText : Type 0 where
+  pub name : List ℕ
+  pub bytes : List ℕ
 
--- the words begin with this place of a file, a colon and a space
-abbrev pub BeginsAt : List ℕ → List ℕ → Option ℕ → List ℕ → Type 0
-BeginsAt name text at words = (rest : List ℕ) × (words ≡ shown_text (place_text name text at ++ (codes ": " ++ rest)))
+abbrev pub named_text : TextFile → NamedText
+named_text file = record { name = file.name.now; bytes = file.bytes.now }
 
--- they begin with some place of a file, or with its name
-abbrev pub BeginsIn : List ℕ → List ℕ → List ℕ → Type 0
-BeginsIn name text words = (at : Option ℕ) × BeginsAt name text at words
+-- NAME:LINE:COLUMN of a byte of a file; without a byte NAME alone
+abbrev pub place_text : NamedText → Option ℕ → List ℕ
+place_text file (Some at) = file.name ++ (codes ":" ++ position_text (line_of file.bytes at) (column_of file.bytes at))
+place_text file None = file.name
+
+-- the words begin with this place of a file, a colon and a space, and then with a text
+abbrev pub BeginsWith : NamedText → Option ℕ → List ℕ → List ℕ → Type 0
+BeginsWith file at text words =
+    (rest : List ℕ) × (words ≡ shown_text (place_text file at ++ (codes ": " ++ (text ++ rest))))
+
+-- ---- the two files of a plan
+
+pub record PlanFiles : Type 0 where
+  pub plan : NamedText
+  pub ranges : NamedText
+
+abbrev pub files_of : TextFile → TextFile → PlanFiles
+files_of plan ranges = record { plan = named_text plan; ranges = named_text ranges }
+
+-- a place in one of them: a byte, or the file as a whole
+pub data PlanPlace : Type 0 where
+  in_plan : Option ℕ → PlanPlace
+  in_ranges : Option ℕ → PlanPlace
+
+-- the words begin with this place, and then with a text
+abbrev pub BeginsAt : PlanFiles → PlanPlace → List ℕ → List ℕ → Type 0
+BeginsAt files (in_plan at) text words = BeginsWith files.plan at text words
+BeginsAt files (in_ranges at) text words = BeginsWith files.ranges at text words

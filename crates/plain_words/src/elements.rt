@@ -1,4 +1,8 @@
 //! Where the elements of a plan's file are refused.
+ghost use Rattle.std.specs.Prelude.{IfOk, IfSome};
+ghost use Rattle.plain_words.specs.Refusals.{IsPlaceOfFault, IsPlaceOfExcess};
+ghost use Rattle.plain_words.specs.FoundViews.{place_of, HasTag, IsExcessByte};
+
 use crate::found::Found;
 use crate::place::TextFile;
 use crate::quotes::write_quoted;
@@ -14,7 +18,9 @@ pub(crate) fn find_element(
     plan: TextFile<'_>,
     fault: &ReadFault,
     quote: &mut String,
-) -> Result<Found, AllocError> {
+) -> Result<Found, AllocError>
+    ensures { IfOk result (λ found. IsPlaceOfFault fault.now (place_of found)) }
+{
     let (at, help) = match fault {
         ReadFault::Text { at } => (*at, text_help(line_from(plan.bytes, *at))),
         ReadFault::Element { at } => (*at, misplaced_help(line_from(plan.bytes, *at))),
@@ -141,7 +147,9 @@ fn needed_attributes(name: &[u8]) -> &'static str {
 }
 
 /// Where the first one too many of something stands, which is said behind.
-fn find_excess(plan: TextFile<'_>, which: Which, quote: &mut String) -> Result<Found, AllocError> {
+fn find_excess(plan: TextFile<'_>, which: Which, quote: &mut String) -> Result<Found, AllocError>
+    ensures { IfOk result (λ found. IsPlaceOfExcess which (place_of found)) }
+{
     let at = excess_tag(*quote.allocator(), plan.bytes, which)?;
     if at.is_some() {
         quote.push_str(", and this is one more")?;
@@ -150,7 +158,9 @@ fn find_excess(plan: TextFile<'_>, which: Which, quote: &mut String) -> Result<F
 }
 
 /// Where the first tag stands that is one too many, for what is counted over the whole file.
-fn excess_tag(alloc: Global, plan: &[u8], which: Which) -> Result<Option<usize>, AllocError> {
+fn excess_tag(alloc: Global, plan: &[u8], which: Which) -> Result<Option<usize>, AllocError>
+    ensures { IfOk result (λ at. IsExcessByte which at) }
+{
     let Some((starts, most)) = counted(which) else {
         return Ok(None);
     };
@@ -159,7 +169,9 @@ fn excess_tag(alloc: Global, plan: &[u8], which: Which) -> Result<Option<usize>,
 }
 
 /// The start tags that are counted over the whole file, and how many of them there may be.
-fn counted(which: Which) -> Option<(Starts, u32)> {
+fn counted(which: Which) -> Option<(Starts, u32)>
+    ensures { IfSome result (λ _. HasTag which) }
+{
     match which {
         Which::Inputs => Some((Starts::Of(Element::Input), MOST_INPUTS)),
         Which::Outputs => Some((Starts::Of(Element::Output), MOST_OUTPUTS)),

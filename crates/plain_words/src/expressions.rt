@@ -1,4 +1,7 @@
 //! Where the text of an expression is refused.
+ghost use Rattle.std.specs.Prelude.{IfOk};
+ghost use Rattle.plain_words.specs.FoundViews.{IsOfPlan};
+
 use crate::found::Found;
 use crate::nodes::is_read;
 use crate::quotes::{token_at, write_quoted, write_token};
@@ -18,7 +21,9 @@ pub(crate) fn find_expression(
     spot: &Spot,
     fault: &ExprFault,
     quote: &mut String,
-) -> Result<Found, AllocError> {
+) -> Result<Found, AllocError>
+    ensures { IfOk result (λ found. IsOfPlan found) }
+{
     let Some(at) = place_of(fault) else {
         return Err(AllocError);
     };
@@ -71,7 +76,9 @@ fn find_literal(
     fault: &ExprFault,
     at: usize,
     quote: &mut String,
-) -> Result<Found, AllocError> {
+) -> Result<Found, AllocError>
+    ensures { IfOk result (λ found. IsOfPlan found) }
+{
     let text = faulty_literal(*quote.allocator(), found)?;
     let token = token_at(text, at);
     write_token(quote, token)?;

@@ -1,4 +1,7 @@
 //! Where a refusal stands in its files, and what helps.
+ghost use Rattle.std.specs.Prelude.{◌≡◌};
+ghost use Rattle.plain_words.specs.FoundViews.{IsOfPlan, IsOfRanges};
+
 use crate::place::TextFile;
 
 /// One of the two files of a plan.
@@ -21,7 +24,10 @@ pub(crate) struct Found {
 
 impl Found {
     /// What is found in the file of the flowchart.
-    pub(crate) fn in_plan(at: Option<usize>, help: &'static str) -> Found {
+    pub(crate) fn in_plan(at: Option<usize>, help: &'static str) -> Found
+        ensures file { IsOfPlan result }
+        ensures at { result.at ≡ at }
+    {
         Found {
             file: FileKind::Plan,
             at,
@@ -31,7 +37,10 @@ impl Found {
     }
 
     /// What is found in the range file.
-    pub(crate) fn in_ranges(at: Option<usize>, help: &'static str) -> Found {
+    pub(crate) fn in_ranges(at: Option<usize>, help: &'static str) -> Found
+        ensures file { IsOfRanges result }
+        ensures at { result.at ≡ at }
+    {
         Found {
             file: FileKind::Ranges,
             at,

@@ -1,4 +1,7 @@
 //! Where the names and kinds of a plan are refused.
+ghost use Rattle.std.specs.Prelude.{IfOk};
+ghost use Rattle.plain_words.specs.FoundViews.{IsOfPlan};
+
 use crate::found::Found;
 use crate::nodes::write_node;
 use crate::operands::name_byte;
@@ -18,7 +21,9 @@ pub(crate) fn find_kind(
     source: Source<'_>,
     fault: &TypeFault,
     quote: &mut String,
-) -> Result<Found, AllocError> {
+) -> Result<Found, AllocError>
+    ensures { IfOk result (λ found. IsOfPlan found) }
+{
     match fault {
         TypeFault::Twice { name } => find_repeated(source, name, quote),
         TypeFault::Unknown { name, place } => find_unknown(source, name, place, quote),
@@ -42,7 +47,9 @@ fn find_front(
     place: &Place,
     help: &'static str,
     quote: &mut String,
-) -> Result<Found, AllocError> {
+) -> Result<Found, AllocError>
+    ensures { IfOk result (λ found. IsOfPlan found) }
+{
     let text = match statement_of(source, &place.method, place.stmt) {
         Some(statement) => statement_text(statement),
         None => &[],
@@ -55,7 +62,9 @@ fn find_front(
 }
 
 /// Where a name is declared for the second time; where it is for the first time is appended.
-fn find_repeated(source: Source<'_>, name: &Name, quote: &mut String) -> Result<Found, AllocError> {
+fn find_repeated(source: Source<'_>, name: &Name, quote: &mut String) -> Result<Found, AllocError>
+    ensures { IfOk result (λ found. IsOfPlan found) }
+{
     let help = "rename one of the two, or take it out";
     match repeated_bytes(source, name) {
         Some((first, second)) => {
@@ -73,7 +82,9 @@ fn find_unknown(
     name: &Name,
     place: &Place,
     quote: &mut String,
-) -> Result<Found, AllocError> {
+) -> Result<Found, AllocError>
+    ensures { IfOk result (λ found. IsOfPlan found) }
+{
     let found = match statement_of(source, &place.method, place.stmt) {
         Some(statement) => name_byte(*quote.allocator(), statement_text(statement), name)?,
         None => None,
@@ -88,11 +99,9 @@ fn find_unknown(
 }
 
 /// Where a node stands whose operands or whose value are of a wrong kind; its spelling and its statement are appended.
-fn find_mismatch(
-    source: Source<'_>,
-    place: &Place,
-    quote: &mut String,
-) -> Result<Found, AllocError> {
+fn find_mismatch(source: Source<'_>, place: &Place, quote: &mut String) -> Result<Found, AllocError>
+    ensures { IfOk result (λ found. IsOfPlan found) }
+{
     let node = write_node(quote, source, place)?;
     let at = statement_byte(source, &place.method, place.stmt, node.at);
     let mut found = Found::in_plan(at, node.takes);
@@ -101,7 +110,9 @@ fn find_mismatch(
 }
 
 /// Where a declared literal stands that isn't of its type; it is appended.
-fn find_value(source: Source<'_>, name: &Name, quote: &mut String) -> Result<Found, AllocError> {
+fn find_value(source: Source<'_>, name: &Name, quote: &mut String) -> Result<Found, AllocError>
+    ensures { IfOk result (λ found. IsOfPlan found) }
+{
     let Some(found) = declaration_of(source, name) else {
         return Ok(Found::in_plan(None, "see its type"));
     };

@@ -1,11 +1,16 @@
 //! Where the order of a plan's methods is refused.
+ghost use Rattle.std.specs.Prelude.{IfOk};
+ghost use Rattle.plain_words.specs.FoundViews.{IsOfPlan};
+
 use crate::found::Found;
 use crate::sites::{Source, method_byte};
 use call_order::OrderFault;
 use std::alloc::AllocError;
 
 /// Where the order of a plan's methods is refused, or its length.
-pub(crate) fn find_order(source: Source<'_>, fault: &OrderFault) -> Result<Found, AllocError> {
+pub(crate) fn find_order(source: Source<'_>, fault: &OrderFault) -> Result<Found, AllocError>
+    ensures { IfOk result (λ found. IsOfPlan found) }
+{
     match fault {
         OrderFault::Cycle { method } => Ok(Found::in_plan(
             method_byte(source, method),

@@ -1,7 +1,7 @@
 //! Files as the words of the program name them, and places in them.
 ghost use Rattle.std.specs.Prelude.{◌≡◌, IfOk};
 ghost use Rattle.std.specs.String.{string_bytes};
-ghost use Rattle.plain_words.specs.Places.{place_text};
+ghost use Rattle.plain_words.specs.Places.{named_text, place_text};
 
 use crate::position;
 use std::alloc::{AllocError, Global};
@@ -42,7 +42,7 @@ pub(crate) fn place_text(
     at: Option<usize>,
 ) -> Result<String, AllocError>
     ensures { IfOk result
-        (λ text. string_bytes text ≡ place_text file.entry.name.now file.entry.bytes.now at) }
+        (λ text. string_bytes text ≡ place_text (named_text file.entry) at) }
 {
     let name = file.name;
     match at {

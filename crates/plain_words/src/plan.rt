@@ -1,8 +1,10 @@
 //! What is wrong with a plan or its range file.
-ghost use Rattle.std.specs.Prelude.{◌⊎◌, IfOk};
+ghost use Rattle.std.specs.Prelude.{IfOk};
 ghost use Rattle.std.specs.String.{string_bytes};
 ghost use Rattle.plain_words.specs.Lines.{IsOneLine};
-ghost use Rattle.plain_words.specs.Places.{BeginsIn};
+ghost use Rattle.plain_words.specs.Places.{files_of};
+ghost use Rattle.plain_words.specs.Refusals.{IsPlaceOf, BeginsAtRefusal};
+ghost use Rattle.plain_words.specs.FoundViews.{place_of, IsOfPlan, IsPlaceBeside};
 
 use crate::elements::find_element;
 use crate::expressions::find_expression;
@@ -13,7 +15,7 @@ use crate::place::TextFile;
 use crate::range_file::{find_binding, find_entry, find_limit_kind, find_limit_name};
 use crate::ranges::find_range;
 use crate::reason::reason_line;
-use crate::sites::{Outline, Source};
+use crate::sites::Outline;
 use pap_plan::PlanRefusal;
 use std::alloc::{AllocError, Global};
 
@@ -26,8 +28,8 @@ pub fn plan_words(
     refusal: &PlanRefusal,
 ) -> Result<String, AllocError>
     ensures line { IfOk result (λ words. IsOneLine (string_bytes words)) }
-    ensures place { IfOk result (λ words. BeginsIn plan.entry.name.now plan.entry.bytes.now (string_bytes words)
-        ⊎ BeginsIn limits.entry.name.now limits.entry.bytes.now (string_bytes words)) }
+    ensures place { IfOk result (λ words.
+        BeginsAtRefusal (files_of plan.entry limits.entry) refusal.now (string_bytes words)) }
 {
     let mut quote = String::new(alloc);
     let found = find_refusal(plan, limits, refusal, &mut quote)?;
@@ -44,48 +46,61 @@ fn find_refusal(
     limits: TextFile<'_>,
     refusal: &PlanRefusal,
     quote: &mut String,
-) -> Result<Found, AllocError> {
+) -> Result<Found, AllocError>
+    ensures { IfOk result (λ found. IsPlaceOf plan.entry.bytes.now refusal.now (place_of found)) }
+{
     match refusal {
         PlanRefusal::Read(fault) => find_element(plan, fault, quote),
         PlanRefusal::Limits(fault) => find_entry(limits, fault, quote),
         PlanRefusal::Memory => Err(AllocError),
-        _ => match Outline::read(*quote.allocator(), plan)? {
-            Some(outline) => find_placed(outline.source(plan), limits, refusal, quote),
-            None => Ok(find_nothing()),
-        },
+        PlanRefusal::LimitName { .. } | PlanRefusal::LimitKind { .. } | PlanRefusal::Bind { .. } =>
+            find_beside(*quote.allocator(), plan, limits, refusal),
+        _ => find_within(plan, refusal, quote),
     }
 }
 
-/// Where a plan whose elements are read is refused, or its range file beside it.
-fn find_placed(
-    source: Source<'_>,
-    limits: TextFile<'_>,
+/// What helps where a refusal isn't that of these files.
+const CHANGED: &str = "see whether the file has changed since";
+
+/// Where a plan whose elements are read is refused by itself; what stands there is appended.
+fn find_within(
+    plan: TextFile<'_>,
     refusal: &PlanRefusal,
     quote: &mut String,
-) -> Result<Found, AllocError> {
+) -> Result<Found, AllocError>
+    ensures { IfOk result (λ found. IsOfPlan found) }
+{
+    let Some(outline) = Outline::read(*quote.allocator(), plan)? else {
+        return Ok(Found::in_plan(None, CHANGED));
+    };
+    let source = outline.source(plan);
     match refusal {
         PlanRefusal::Expr { spot, fault } => find_expression(source, spot, fault, quote),
         PlanRefusal::Types(fault) => find_kind(source, fault, quote),
         PlanRefusal::Order(fault) => find_order(source, fault),
-        PlanRefusal::LimitName { name } => find_limit_name(
-            *quote.allocator(),
-            source,
-            limits,
-            name,
-        ),
-        PlanRefusal::LimitKind { name } => find_limit_kind(
-            *quote.allocator(),
-            source,
-            limits,
-            name,
-        ),
-        PlanRefusal::Bind { name } => find_binding(*quote.allocator(), source, limits, name),
         PlanRefusal::Range(fault) => find_range(source, fault, quote),
-        PlanRefusal::Read(_) | PlanRefusal::Limits(_) | PlanRefusal::Memory => Ok(find_nothing()),
+        _ => Ok(Found::in_plan(None, CHANGED)),
     }
 }
 
-/// Of a refusal that isn't that of these files.
-fn find_nothing() -> Found {
-    Found::in_plan(None, "see whether the file has changed since")
+/// Where a plan whose elements are read and its range file don't fit each other.
+fn find_beside(
+    alloc: Global,
+    plan: TextFile<'_>,
+    limits: TextFile<'_>,
+    refusal: &PlanRefusal,
+) -> Result<Found, AllocError>
+    ensures { IfOk result
+        (λ found. IsPlaceBeside plan.entry.bytes.now refusal.now (place_of found)) }
+{
+    let Some(outline) = Outline::read(alloc, plan)? else {
+        return Ok(Found::in_ranges(None, CHANGED));
+    };
+    let source = outline.source(plan);
+    match refusal {
+        PlanRefusal::LimitName { name } => find_limit_name(alloc, source, limits, name),
+        PlanRefusal::LimitKind { name } => find_limit_kind(alloc, source, limits, name),
+        PlanRefusal::Bind { name } => find_binding(alloc, source, limits, name),
+        _ => Ok(Found::in_ranges(None, CHANGED)),
+    }
 }

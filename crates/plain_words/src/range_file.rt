@@ -1,8 +1,12 @@
 //! Where a range file is refused, by itself or beside its plan.
+ghost use Rattle.std.specs.Prelude.{◌≡◌, IfOk, true, false};
+ghost use Rattle.plain_words.specs.Refusals.{IsPlaceOfLimits};
+ghost use Rattle.plain_words.specs.FoundViews.{place_of, IsOfPlan, IsOfRanges};
+ghost use Rattle.plain_words.specs.SiteViews.{declares_input};
+
 use crate::found::Found;
-use crate::group::Group;
 use crate::place::TextFile;
-use crate::sites::{DeclaredSite, Source, declaration_byte, declaration_of};
+use crate::sites::{Source, declaration_of, declares_input, named_byte};
 use limits_file::LimitsFault;
 use pap_tree::{Kind, Name, is_word};
 use std::alloc::{AllocError, Global};
@@ -16,7 +20,9 @@ pub(crate) fn find_entry(
     limits: TextFile<'_>,
     fault: &LimitsFault,
     quote: &mut String,
-) -> Result<Found, AllocError> {
+) -> Result<Found, AllocError>
+    ensures { IfOk result (λ found. IsPlaceOfLimits fault.now (place_of found)) }
+{
     match fault {
         LimitsFault::Toml => find_toml(limits, quote),
         LimitsFault::Key { name } => find_key(limits, name.as_str(), quote),
@@ -30,7 +36,9 @@ pub(crate) fn find_entry(
 }
 
 /// Where a key isn't allowed, or an entry lacks one; the entry is appended.
-fn find_key(limits: TextFile<'_>, key: &str, quote: &mut String) -> Result<Found, AllocError> {
+fn find_key(limits: TextFile<'_>, key: &str, quote: &mut String) -> Result<Found, AllocError>
+    ensures { IfOk result (λ found. IsOfRanges found) }
+{
     if let Ok(table) = toml::table_from_slice(*quote.allocator(), limits.bytes) {
         for section in SECTIONS {
             if let Some(Value::Table(entries)) = table.get(section.name)
@@ -141,7 +149,9 @@ fn suits_binding(entry: &Table, key: &str, text: &str) -> bool {
 }
 
 /// Where a text is no TOML; what its reader says is appended.
-fn find_toml(limits: TextFile<'_>, quote: &mut String) -> Result<Found, AllocError> {
+fn find_toml(limits: TextFile<'_>, quote: &mut String) -> Result<Found, AllocError>
+    ensures { IfOk result (λ found. IsOfRanges found) }
+{
     let help = "correct what stands there, or before it";
     match toml::table_from_slice(*quote.allocator(), limits.bytes) {
         Ok(_) => Ok(Found::in_ranges(None, help)),
@@ -222,17 +232,20 @@ pub(crate) fn find_limit_name(
     source: Source<'_>,
     limits: TextFile<'_>,
     name: &Name,
-) -> Result<Found, AllocError> {
-    match input_of(source, name) {
-        Some(found) => Ok(Found::in_plan(
-            declaration_byte(source, found),
+) -> Result<Found, AllocError>
+    ensures input { declares_input source.entry.elements.now name.now ≡ true
+        → IfOk result (λ found. IsOfPlan found) }
+    ensures none { declares_input source.entry.elements.now name.now ≡ false
+        → IfOk result (λ found. IsOfRanges found) }
+{
+    if declares_input(source, name) {
+        return Ok(Found::in_plan(
+            named_byte(source, name),
             "add the entry with low, high and places to the range file",
-        )),
-        None => {
-            let at = entry_byte(alloc, limits, "input", name.as_str())?;
-            Ok(Found::in_ranges(at, "correct the name, or take the entry out"))
-        }
+        ));
     }
+    let at = entry_byte(alloc, limits, "input", name.as_str())?;
+    Ok(Found::in_ranges(at, "correct the name, or take the entry out"))
 }
 
 /// Where the range of an input stands that doesn't suit its type.
@@ -241,7 +254,9 @@ pub(crate) fn find_limit_kind(
     source: Source<'_>,
     limits: TextFile<'_>,
     name: &Name,
-) -> Result<Found, AllocError> {
+) -> Result<Found, AllocError>
+    ensures { IfOk result (λ found. IsOfRanges found) }
+{
     let at = entry_byte(alloc, limits, "input", name.as_str())?;
     let rule = match declaration_of(source, name) {
         Some(found) => kind_rule(found.declared.kind),
@@ -268,19 +283,14 @@ pub(crate) fn find_binding(
     source: Source<'_>,
     limits: TextFile<'_>,
     name: &Name,
-) -> Result<Found, AllocError> {
+) -> Result<Found, AllocError>
+    ensures { IfOk result (λ found. IsOfRanges found) }
+{
     let at = entry_byte(alloc, limits, "bind", name.as_str())?;
-    let help = match input_of(source, name) {
-        Some(_) => "correct the name of the output",
-        None => "correct the name of the entry, or take it out",
+    let help = if declares_input(source, name) {
+        "correct the name of the output"
+    } else {
+        "correct the name of the entry, or take it out"
     };
     Ok(Found::in_ranges(at, help))
-}
-
-/// The declaration of an input. `None` where there is none of the name.
-fn input_of<'a>(source: Source<'a>, name: &Name) -> Option<DeclaredSite<'a>> {
-    match declaration_of(source, name) {
-        Some(found) if found.group == Group::Input => Some(found),
-        _ => None,
-    }
 }

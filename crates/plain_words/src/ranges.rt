@@ -1,4 +1,7 @@
 //! What may fail on inputs within their ranges.
+ghost use Rattle.std.specs.Prelude.{IfOk};
+ghost use Rattle.plain_words.specs.FoundViews.{IsOfPlan};
+
 use crate::found::Found;
 use crate::nodes::write_node;
 use crate::sites::{Source, named_byte, statement_byte};
@@ -11,7 +14,9 @@ pub(crate) fn find_range(
     source: Source<'_>,
     fault: &RangeFault,
     quote: &mut String,
-) -> Result<Found, AllocError> {
+) -> Result<Found, AllocError>
+    ensures { IfOk result (λ found. IsOfPlan found) }
+{
     match fault {
         RangeFault::At { place, cause } => {
             let at = write_node(quote, source, place)?.at;

@@ -2,7 +2,7 @@
 ghost use Rattle.std.specs.Prelude.{◌≡◌, IfOk};
 ghost use Rattle.std.specs.String.{string_bytes};
 ghost use Rattle.plain_words.specs.Lines.{IsOneLine};
-ghost use Rattle.plain_words.specs.Places.{BeginsAt};
+ghost use Rattle.plain_words.specs.Places.{named_text, BeginsWith};
 
 use crate::found::Found;
 use crate::lines::one_line;
@@ -19,7 +19,7 @@ pub(crate) fn reason_line(
 ) -> Result<String, AllocError>
     ensures line { IfOk result (λ words. IsOneLine (string_bytes words)) }
     ensures place { IfOk result
-        (λ words. BeginsAt file.entry.name.now file.entry.bytes.now found.at (string_bytes words)) }
+        (λ words. BeginsWith (named_text file.entry) found.at wrong.now (string_bytes words)) }
 {
     let Found { at, help, also, .. } = found;
     let place = place_text(alloc, file, at)?;

@@ -1,4 +1,9 @@
 //! Where the statements, the methods and the declared names of a plan stand in its file.
+ghost use Rattle.std.specs.Prelude.{◌≡◌, IfOk, IfSome, IfNone, IsTrue};
+ghost use Rattle.pap_reader.specs.Trees.{tree_of, ElementTree};
+ghost use Rattle.pap_reader.specs.Elements.{IsElements};
+ghost use Rattle.plain_words.specs.SiteViews.{declares_input};
+
 use crate::group::Group;
 use crate::ordinal::Ordinal;
 use crate::place::TextFile;
@@ -18,7 +23,12 @@ pub(crate) struct Outline {
 
 impl Outline {
     /// What is read of a plan's file. `None` where it isn't read.
-    pub(crate) fn read(alloc: Global, plan: TextFile<'_>) -> Result<Option<Outline>, AllocError> {
+    pub(crate) fn read(alloc: Global, plan: TextFile<'_>) -> Result<Option<Outline>, AllocError>
+        ensures read { IfOk result (λ read. IfSome read
+            (λ outline. IsElements plan.entry.bytes.now (tree_of outline.elements))) }
+        ensures unread { IfOk result (λ read. IfNone read
+            ((tree : ElementTree) → ¬ (IsElements plan.entry.bytes.now tree))) }
+    {
         match read_elements(alloc, plan.bytes) {
             Ok(elements) => {
                 let notes = read_notes(alloc, plan.bytes)?;
@@ -30,7 +40,9 @@ impl Outline {
     }
 
     /// The file with what is read of it.
-    pub(crate) fn source<'a>(&'a self, file: TextFile<'a>) -> Source<'a> {
+    pub(crate) fn source<'a>(&'a self, file: TextFile<'a>) -> Source<'a>
+        ensures { result.elements.now ≡ self.now.elements }
+    {
         Source {
             file,
             elements: &self.elements,
@@ -233,6 +245,14 @@ fn repeated_methods(source: Source<'_>, name: &Name) -> Option<(Option<usize>, O
 pub(crate) fn declaration_byte(source: Source<'_>, site: DeclaredSite<'_>) -> Option<usize> {
     let mut walk = source.notes.walk();
     walk.find_start(Starts::Of(site.group.element()), site.number)
+}
+
+/// Whether an input of this name is declared.
+pub(crate) fn declares_input(source: Source<'_>, name: &Name) -> bool
+    ensures { result ≡ declares_input source.entry.elements.now name.now }
+{
+    let inputs = &source.elements.inputs;
+    inputs.iter().any(|declared| *name == declared.name)
 }
 
 /// The byte at which the tag of the first declaration of a name begins.

@@ -1,8 +1,10 @@
 //! Why a run has no inputs.
-ghost use Rattle.std.specs.Prelude.{◌⊎◌, IfOk};
+ghost use Rattle.std.specs.Prelude.{◌≡◌, ◌++◌, IfOk, OnOk};
 ghost use Rattle.std.specs.String.{string_bytes};
 ghost use Rattle.plain_words.specs.Lines.{IsOneLine};
-ghost use Rattle.plain_words.specs.Places.{BeginsIn};
+ghost use Rattle.plain_words.specs.Places.{files_of};
+ghost use Rattle.plain_words.specs.States.{state_text, IsPlaceOfState, SaysState};
+ghost use Rattle.plain_words.specs.FoundViews.{place_of};
 
 use crate::found::{FileKind, Found};
 use crate::place::TextFile;
@@ -14,7 +16,7 @@ use pap_tree::Name;
 use std::alloc::{AllocError, Global};
 
 /// Why a run of a plan with its range file has no inputs, in one line of plain words that begins with the file and the place
-/// in it. Fails only for want of memory.
+/// in it, and ends with what helps. Fails only for want of memory.
 pub fn state_words(
     alloc: Global,
     plan: TextFile<'_>,
@@ -22,8 +24,8 @@ pub fn state_words(
     state: &Blocked,
 ) -> Result<String, AllocError>
     ensures line { IfOk result (λ words. IsOneLine (string_bytes words)) }
-    ensures place { IfOk result (λ words. BeginsIn plan.entry.name.now plan.entry.bytes.now (string_bytes words)
-        ⊎ BeginsIn limits.entry.name.now limits.entry.bytes.now (string_bytes words)) }
+    ensures place { IfOk result (λ words.
+        SaysState (files_of plan.entry limits.entry) state.now (string_bytes words)) }
 {
     let mut wrong = String::new(alloc);
     write_blocked(&mut wrong, state)?;
@@ -35,7 +37,9 @@ pub fn state_words(
 }
 
 /// Appends why a run has no inputs.
-fn write_blocked(out: &mut String, state: &Blocked) -> Result<(), AllocError> {
+fn write_blocked(out: &mut String, state: &Blocked) -> Result<(), AllocError>
+    ensures { OnOk result (string_bytes out.new ≡ string_bytes out.old ++ state_text state.now) }
+{
     match state {
         Blocked::Waits(day) => write!(
             out,
@@ -59,7 +63,9 @@ fn find_blocked(
     plan: TextFile<'_>,
     limits: TextFile<'_>,
     state: &Blocked,
-) -> Result<Found, AllocError> {
+) -> Result<Found, AllocError>
+    ensures { IfOk result (λ found. IsPlaceOfState state.now (place_of found)) }
+{
     match state {
         Blocked::Waits(_) => Ok(Found::in_plan(None, "mend that run first")),
         Blocked::Unknown(_) => Ok(Found::in_plan(None, "leave the value out, or correct its name")),

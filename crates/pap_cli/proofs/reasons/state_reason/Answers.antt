@@ -15,3 +15,10 @@ pub returns-clause-refused : goal.returns-clause-refused
 returns-clause-refused c =
     told_state c.args.values (meaning c.args.accepted.now) c.in-State.state
     (filled_from c.args.values (accepted c.args.accepted.now) c.record_of-record.result.values (State c.in-State.state) c.requires c.record_of-record.ensures (sym c.in-State.is ∙ c.in_ok-inputs.ensures.are))
+
+pub returns-clause-place : goal.returns-clause-place
+returns-clause-place c = record {
+  state = c.in-State.state;
+  filled = filled_from c.args.values (accepted c.args.accepted.now) c.record_of-record.result.values (State c.in-State.state) c.requires c.record_of-record.ensures (sym c.in-State.is ∙ c.in_ok-inputs.ensures.are);
+  begins = c.in_ok-state_words-in-State.ensures.place;
+}

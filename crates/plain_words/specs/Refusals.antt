@@ -1,0 +1,71 @@
+-- In which file of a plan a refusal stands, and at which byte where the refusal carries it or has none.
+use Rattle.std.specs.Prelude.{◌≡◌, ℕ, List, [], map, Some, None, IsTrue, ⊤}
+use Rattle.pap_reader.specs.declared.fault.Which.{Which}
+use Rattle.pap_reader.specs.declared.fault.Which.TheVariants as which
+use Rattle.pap_reader.specs.declared.fault.ReadFault.{ReadFault}
+use Rattle.pap_reader.specs.declared.fault.ReadFault.TheVariants as reads
+use Rattle.pap_reader.specs.Trees.{ElementTree}
+use Rattle.pap_reader.specs.Elements.{IsElements}
+use Rattle.pap_types.specs.Checks.{has_name}
+use Rattle.limits_file.specs.declared.fault.LimitsFault.{LimitsFault}
+use Rattle.limits_file.specs.declared.fault.LimitsFault.TheVariants as limits
+use Rattle.pap_plan.specs.declared.refusal.PlanRefusal.{PlanRefusal}
+use Rattle.pap_plan.specs.declared.refusal.PlanRefusal.TheVariants as refusals
+use Rattle.plain_words.specs.Places.{PlanFiles, PlanPlace, in_plan, in_ranges, BeginsAt}
+
+-- the place is one in the flowchart's file, whichever
+abbrev pub IsInPlan : PlanPlace → Type 0
+IsInPlan (in_plan at) = ⊤
+IsInPlan (in_ranges at) = ⊥
+
+-- the same of the range file
+abbrev pub IsInRanges : PlanPlace → Type 0
+IsInRanges (in_plan at) = ⊥
+IsInRanges (in_ranges at) = ⊤
+
+-- too many bytes, or IFs too deep, have the flowchart's file as a whole
+abbrev pub IsPlaceOfExcess : Which → PlanPlace → Type 0
+IsPlaceOfExcess which.Bytes place = place ≡ in_plan None
+IsPlaceOfExcess which.Depth place = place ≡ in_plan None
+IsPlaceOfExcess _ place = IsInPlan place
+
+-- what isn't read stands at its byte
+abbrev pub IsPlaceOfFault : ReadFault → PlanPlace → Type 0
+IsPlaceOfFault (reads.Text at) place = place ≡ in_plan (Some at)
+IsPlaceOfFault (reads.Element at) place = place ≡ in_plan (Some at)
+IsPlaceOfFault (reads.Attribute at) place = place ≡ in_plan (Some at)
+IsPlaceOfFault (reads.Many excess) place = IsPlaceOfExcess excess place
+IsPlaceOfFault reads.Memory place = ⊥
+
+-- a range file that is too long is refused as a whole
+abbrev pub IsPlaceOfLimits : LimitsFault → PlanPlace → Type 0
+IsPlaceOfLimits limits.LimitsLong place = place ≡ in_ranges None
+IsPlaceOfLimits (limits.Memory e) place = ⊥
+IsPlaceOfLimits _ place = IsInRanges place
+
+-- the flowchart's file declares an INPUT of this name
+pub record DeclaresInput (plan name : List ℕ) : Type 0 where
+  pub tree : ElementTree
+  pub read : IsElements plan tree
+  pub declared : IsTrue (has_name (map (λ d. d.name) tree.inputs) name)
+
+-- an input without a limit stands in the flowchart's file, a limit of no input in the range file
+pub record IsPlaceOfUnmatched (plan name : List ℕ) (place : PlanPlace) : Type 0 where
+  pub input : DeclaresInput plan name → IsInPlan place
+  pub none : ¬ (DeclaresInput plan name) → IsInRanges place
+
+-- the place of a refusal of a plan whose flowchart's file has these bytes
+abbrev pub IsPlaceOf : List ℕ → PlanRefusal → PlanPlace → Type 0
+IsPlaceOf plan (refusals.Read fault) place = IsPlaceOfFault fault place
+IsPlaceOf plan (refusals.Limits fault) place = IsPlaceOfLimits fault place
+IsPlaceOf plan (refusals.LimitName name) place = IsPlaceOfUnmatched plan name place
+IsPlaceOf plan (refusals.LimitKind name) place = IsInRanges place
+IsPlaceOf plan (refusals.Bind name) place = IsInRanges place
+IsPlaceOf plan refusals.Memory place = ⊥
+IsPlaceOf plan _ place = IsInPlan place
+
+-- the words begin with the place of this refusal
+pub record BeginsAtRefusal (files : PlanFiles) (refusal : PlanRefusal) (words : List ℕ) : Type 0 where
+  pub place : PlanPlace
+  pub is : IsPlaceOf files.plan.bytes refusal place
+  pub begins : BeginsAt files place [] words
