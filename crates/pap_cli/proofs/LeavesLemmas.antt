@@ -1,20 +1,20 @@
 -- What a call leaves on two files, and the headline from what each status says.
-use Rattle.std.proofs.Common.{◌≡◌, ◌≢◌, ℕ, ◌+◌, ◌≤◌, Bool, true, false, List, [], ◌++◌, take, refl, sym, ap, ◌∙◌, subst, arith, inl, inr}
-use Rattle.std.specs.Prelude.{Option, Some, None, Result, Ok, Err}
-use Rattle.outside.specs.Causes.{Rose, Still}
+use Rattle.std.proofs.Common.{◌≡◌, ℕ, ◌+◌, ◌≤◌, Bool, List, [], ◌++◌, take, refl, sym, ap, ◌∙◌, subst, arith, inl, inr}
+use Rattle.std.specs.Prelude.{Option, Some, Result, Err}
+use Rattle.outside.specs.Causes.{Rose}
 use Rattle.outside.specs.Told.{FileMap, Appends, AppendsPrefix}
 use Rattle.outside.proofs.Laws.{Appends-nothing}
 use Rattle.outside.specs.declared.traits.FileAnswer.{FileAnswer}
 use Rattle.outside.specs.declared.traits.FileAnswer.TheVariants as files
 use Rattle.plan_answers.specs.declared.reply.Reply.{Reply}
 use Rattle.pap_cli.specs.declared.status.Status.{Status}
-use Rattle.pap_cli.specs.declared.status.Status.TheVariants.{Done, Refused, BadWords, FileFault, ReadFault, WriteFault, NoMemory, ScriptLong}
-use Rattle.pap_cli.specs.declared.stop.Stop.{Stop}
-use Rattle.pap_cli.specs.declared.stop.Stop.TheVariants as stops
+use Rattle.pap_cli.specs.declared.status.Status.TheVariants.{FileFault, WriteFault, NoMemory}
+use Rattle.script_run.specs.declared.stop.Stop.{Stop}
+use Rattle.script_run.specs.declared.stop.Stop.TheVariants as stops
+use Rattle.script_run.specs.Stops.{stop_of_file}
 use Rattle.pap_cli.specs.declared.words.Command.{Command}
 use Rattle.pap_cli.specs.declared.words.Command.TheVariants.{Check, Once}
-use Rattle.pap_cli.specs.Statuses.{done_status, status_of, IsDone}
-use Rattle.pap_cli.specs.Stops.{stop_of}
+use Rattle.pap_cli.specs.Statuses.{done_status, status_of}
 use Rattle.plan_answers.specs.Answers.{Answer, CheckAnswers}
 use Rattle.pap_cli.specs.RunAnswers.{OnceAnswers}
 use Rattle.plan_answers.specs.ReplyViews.{reply_of}
@@ -30,32 +30,8 @@ use Rattle.pap_cli.proofs.SampleLemmas.{sample_none}
 use Rattle.pap_cli.proofs.SaveLemmas.{save_none}
 use Rattle.pap_cli.specs.WordViews.{form_by}
 use Rattle.pap_cli.proofs.FrontLemmas.{answers_both}
-
--- ---- statuses of what was written whole
-
-no_write : (r : Bool) → done_status r ≢ WriteFault
-no_write true e = cc
-no_write false e = cc
-
-no_file : (r : Bool) → done_status r ≢ FileFault
-no_file true e = cc
-no_file false e = cc
-
-no_memory : (r : Bool) → done_status r ≢ NoMemory
-no_memory true e = cc
-no_memory false e = cc
-
-not_bad : (r : Bool) → done_status r ≢ BadWords
-not_bad true e = cc
-not_bad false e = cc
-
-not_read : (r : Bool) → done_status r ≢ ReadFault
-not_read true e = cc
-not_read false e = cc
-
-not_long : (r : Bool) → done_status r ≢ ScriptLong
-not_long true e = cc
-not_long false e = cc
+use Rattle.pap_cli.proofs.StatusLemmas.{appended_told, is_done, no_file, no_memory, no_write, not_bad, not_long, not_read}
+use Rattle.pap_cli.proofs.StatusLemmas.{rose_and_still}
 
 module _ (Answers : Answering) (plan limits : List ℕ) (told told' : Option FileMap) (failed failed' : Option (List ℕ)) (first written : Option (List ℕ)) (began steps : ℕ) where
   abbrev pub Left : Status → Type 0
@@ -136,12 +112,12 @@ leaves_file Answers plan limits told told' failed failed' first began missing = 
 
 -- what the files answered, at the exit of the call
 pub leaves_answer : (Answers : Answering) (plan limits : List ℕ) (told told' : Option FileMap) (failed failed' : Option (List ℕ)) (first : Option (List ℕ)) (began : ℕ) (answer : FileAnswer) →
-    (answer ≡ files.Failed → IsMissing told plan limits failed') → (answer ≡ files.Memory → failed' ≡ failed) → (r : Result Bool Stop) → r ≡ Err (stop_of answer) →
+    (answer ≡ files.Failed → IsMissing told plan limits failed') → (answer ≡ files.Memory → failed' ≡ failed) → (r : Result Bool Stop) → r ≡ Err (stop_of_file answer) →
     LeavesOnFiles Answers plan limits (shown told failed first began) (shown told' failed' first began) (status_of r)
 leaves_answer Answers plan limits told told' failed failed' first began answer missing kept r is =
     subst (λ x. LeavesOnFiles Answers plan limits (shown told failed first began) (shown told' failed' first began) (status_of x)) (sym is) (by answer missing kept)
   where
-    by : (answer : FileAnswer) → (answer ≡ files.Failed → IsMissing told plan limits failed') → (answer ≡ files.Memory → failed' ≡ failed) → LeavesOnFiles Answers plan limits (shown told failed first began) (shown told' failed' first began) (status_of (Err (stop_of answer)))
+    by : (answer : FileAnswer) → (answer ≡ files.Failed → IsMissing told plan limits failed') → (answer ≡ files.Memory → failed' ≡ failed) → LeavesOnFiles Answers plan limits (shown told failed first began) (shown told' failed' first began) (status_of (Err (stop_of_file answer)))
     by files.Failed missing kept = leaves_file Answers plan limits told told' failed failed' first began (missing refl)
     by files.Memory missing kept = leaves_memory Answers plan limits told told' failed failed' first began began (kept refl) (omega arith) (λ files e. inl refl)
 
@@ -153,23 +129,6 @@ pub leaves_form : (c : Command) (plan limits : List ℕ) (before after : Outside
     Leaves (form_by c plan limits) before after status
 leaves_form Check plan limits before after status h = record { out = h.out; appended = h.appended; counted = h.counted; whole = h.whole; cut = h.cut; file = h.file; kept = h.kept; memory = h.memory; memory_counted = h.memory_counted; words_are_good = h.words_are_good; reads_no_script = h.reads_no_script; takes_no_script = h.takes_no_script }
 leaves_form (Once values) plan limits before after status h = record { out = h.out; appended = h.appended; counted = h.counted; whole = h.whole; cut = h.cut; file = h.file; kept = h.kept; memory = h.memory; memory_counted = h.memory_counted; words_are_good = h.words_are_good; reads_no_script = h.reads_no_script; takes_no_script = h.takes_no_script }
-
-rose_and_still : (before now : ℕ) → Rose before now → Still before now → ⊥
-rose_and_still before now rose still = omega arith
-
-appended_told : (first written : Option (List ℕ)) (before out : List ℕ) → first ≡ Some before → Appends first written out → written ≡ Some (before ++ out)
-appended_told first None before out e a = absurd (subst (λ v. Appends v None out) e a)
-appended_told first (Some now) before out e a = ap (λ v. Some v) (subst (λ v. Appends v (Some now) out) e a)
-
-is_done : (status : Status) → status ≢ BadWords → status ≢ FileFault → status ≢ ReadFault → status ≢ WriteFault → status ≢ NoMemory → status ≢ ScriptLong → IsDone status
-is_done Done b f r w m l = tt
-is_done Refused b f r w m l = tt
-is_done BadWords b f r w m l = b refl
-is_done FileFault b f r w m l = f refl
-is_done ReadFault b f r w m l = r refl
-is_done WriteFault b f r w m l = w refl
-is_done NoMemory b f r w m l = m refl
-is_done ScriptLong b f r w m l = l refl
 
 headline_on : (Answers : Answering) (plan limits : List ℕ) (before after : Outside) (status : Status) → LeavesOnFiles Answers plan limits before after status →
     (status ≡ FileFault → Rose before.file_faults after.file_faults) → (status ≡ WriteFault → Rose before.sink_faults after.sink_faults) → HeadlineOnFiles Answers plan limits before after status
@@ -189,31 +148,6 @@ pub headline_form : (c : Command) (plan limits : List ℕ) (before after : Outsi
     (status ≡ FileFault → Rose before.file_faults after.file_faults) → (status ≡ WriteFault → Rose before.sink_faults after.sink_faults) → Headline (form_by c plan limits) before after status
 headline_form Check plan limits before after status h file write = headline_on (answers_of Check) plan limits before after status h file write
 headline_form (Once values) plan limits before after status h file write = headline_on (answers_of (Once values)) plan limits before after status h file write
-
--- ---- stops
-
-pub file_stop : (r : Result Bool Stop) → status_of r ≡ FileFault → r ≡ Err stops.File
-file_stop (Ok true) e = cc
-file_stop (Ok false) e = cc
-file_stop (Err stops.File) e = refl
-file_stop (Err stops.Write) e = cc
-file_stop (Err stops.Memory) e = cc
-
-pub write_stop : (r : Result Bool Stop) → status_of r ≡ WriteFault → r ≡ Err stops.Write
-write_stop (Ok true) e = cc
-write_stop (Ok false) e = cc
-write_stop (Err stops.File) e = cc
-write_stop (Err stops.Write) e = refl
-write_stop (Err stops.Memory) e = cc
-
-pub never_bad : (r : Result Bool Stop) → status_of r ≢ BadWords
-never_bad (Ok true) e = cc
-never_bad (Ok false) e = cc
-never_bad (Err stops.File) e = cc
-never_bad (Err stops.Write) e = cc
-never_bad (Err stops.Memory) e = cc
-
--- ---- both files
 
 -- ---- both files
 

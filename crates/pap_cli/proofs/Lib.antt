@@ -1,5 +1,6 @@
 mod WordLemmas
 mod FrontLemmas
+mod StatusLemmas
 mod ScriptLemmas
 mod SampleLemmas
 mod SaveLemmas

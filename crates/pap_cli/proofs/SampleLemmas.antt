@@ -1,7 +1,7 @@
 -- What the call leaves that runs a sample, and the headline from what each status says.
-use Rattle.std.proofs.Common.{◌≡◌, ◌≢◌, ℕ, ◌+◌, ◌-◌, ◌≤◌, ◌<◌, Bool, true, false, List, [], ◌++◌, length, take, refl, sym, ap, ◌∙◌, subst, arith}
-use Rattle.std.specs.Prelude.{Option, Some, None, Result, Ok, Err}
-use Rattle.outside.specs.Causes.{Rose, Still}
+use Rattle.std.proofs.Common.{◌≡◌, ℕ, ◌+◌, ◌-◌, ◌≤◌, ◌<◌, Bool, List, [], ◌++◌, length, take, refl, sym, ap, ◌∙◌, subst, arith}
+use Rattle.std.specs.Prelude.{Option, Some, None, Result, Err}
+use Rattle.outside.specs.Causes.{Rose}
 use Rattle.outside.specs.Told.{Appends, AppendsPrefix}
 use Rattle.outside.proofs.Laws.{Appends-nothing}
 use Rattle.plan_answers.specs.Answers.{Answer}
@@ -12,14 +12,16 @@ use Rattle.script_run.specs.Transcripts.{Session, IsTranscript}
 use Rattle.script_run.specs.declared.turns.Ended.{Ended}
 use Rattle.script_run.proofs.Laws.{some}
 use Rattle.pap_cli.specs.declared.status.Status.{Status}
-use Rattle.pap_cli.specs.declared.status.Status.TheVariants.{Done, Refused, BadWords, FileFault, ReadFault, WriteFault, NoMemory, ScriptLong}
-use Rattle.pap_cli.specs.declared.stop.Stop.{Stop}
-use Rattle.pap_cli.specs.declared.stop.Stop.TheVariants as stops
-use Rattle.pap_cli.specs.Statuses.{done_status, status_of, IsDone}
+use Rattle.pap_cli.specs.declared.status.Status.TheVariants.{WriteFault, NoMemory}
+use Rattle.script_run.specs.declared.stop.Stop.{Stop}
+use Rattle.script_run.specs.declared.stop.Stop.TheVariants as stops
+use Rattle.pap_cli.specs.Statuses.{done_status, status_of}
 use Rattle.pap_cli.specs.Outside.{Outside}
 use Rattle.pap_cli.specs.FileViews.{shown}
 use Rattle.pap_cli.specs.SampleAnswers.{IsSampled, summary_text}
 use Rattle.pap_cli.specs.SampleClauses.{IsSpentWithin, LeavesOnSample, HeadlineOnSample}
+use Rattle.pap_cli.proofs.StatusLemmas.{appended_told, is_done, no_file, no_memory, no_write, not_bad, not_long, not_read}
+use Rattle.pap_cli.proofs.StatusLemmas.{rose_and_still}
 
 -- ---- the answer
 
@@ -33,32 +35,6 @@ sampled employees session is = record { session = session; is = is; text = refl;
 -- what was counted where memory ran out
 pub spent_within : (employees began steps : ℕ) → IsRunWithin sample_files (script_of (sample_lines employees)) began steps → IsSpentWithin employees began steps
 spent_within employees began steps h = record { answer = answer_of employees h.session; is = sampled employees h.session h.is; within = h.within }
-
--- ---- statuses of what was written whole
-
-no_write : (r : Bool) → done_status r ≢ WriteFault
-no_write true e = cc
-no_write false e = cc
-
-no_file : (r : Bool) → done_status r ≢ FileFault
-no_file true e = cc
-no_file false e = cc
-
-no_memory : (r : Bool) → done_status r ≢ NoMemory
-no_memory true e = cc
-no_memory false e = cc
-
-not_bad : (r : Bool) → done_status r ≢ BadWords
-not_bad true e = cc
-not_bad false e = cc
-
-not_read : (r : Bool) → done_status r ≢ ReadFault
-not_read true e = cc
-not_read false e = cc
-
-not_long : (r : Bool) → done_status r ≢ ScriptLong
-not_long true e = cc
-not_long false e = cc
 
 -- ---- a sample that was run to its end
 
@@ -159,23 +135,6 @@ sample_none employees o =
     (leaves_memory employees o.steps o.steps o.written (omega arith) (record { answer = answer_of employees has.session; is = sampled employees has.session has.is; within = omega arith }))
 
 -- ---- the headline
-
-rose_and_still : (before now : ℕ) → Rose before now → Still before now → ⊥
-rose_and_still before now rose still = omega arith
-
-appended_told : (first written : Option (List ℕ)) (before out : List ℕ) → first ≡ Some before → Appends first written out → written ≡ Some (before ++ out)
-appended_told first None before out e a = absurd (subst (λ v. Appends v None out) e a)
-appended_told first (Some now) before out e a = ap (λ v. Some v) (subst (λ v. Appends v (Some now) out) e a)
-
-is_done : (status : Status) → status ≢ BadWords → status ≢ FileFault → status ≢ ReadFault → status ≢ WriteFault → status ≢ NoMemory → status ≢ ScriptLong → IsDone status
-is_done Done b f r w m l = tt
-is_done Refused b f r w m l = tt
-is_done BadWords b f r w m l = b refl
-is_done FileFault b f r w m l = f refl
-is_done ReadFault b f r w m l = r refl
-is_done WriteFault b f r w m l = w refl
-is_done NoMemory b f r w m l = m refl
-is_done ScriptLong b f r w m l = l refl
 
 pub headline_sample : (employees : ℕ) (before after : Outside) (status : Status) → LeavesOnSample employees before after status →
     (status ≡ WriteFault → Rose before.sink_faults after.sink_faults) → HeadlineOnSample employees before after status

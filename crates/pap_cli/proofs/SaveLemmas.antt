@@ -1,8 +1,8 @@
 -- What `save` leaves, and the headline from what each status says.
-use Rattle.std.proofs.Common.{◌≡◌, ◌≢◌, ℕ, ◌+◌, ◌-◌, ◌≤◌, Bool, true, false, List, [], ◌++◌, length, take, refl, sym, ap, ◌∙◌, subst, arith, inl, inr, length-append}
+use Rattle.std.proofs.Common.{◌≡◌, ◌≢◌, ℕ, ◌+◌, ◌-◌, ◌≤◌, Bool, false, List, [], ◌++◌, length, take, refl, sym, ap, ◌∙◌, subst, arith, inl, inr, length-append}
 use Rattle.std.specs.Prelude.{Option, Some, None, Result, Ok, Err, codes}
 use Rattle.std.specs.Option.{ForSome}
-use Rattle.outside.specs.Causes.{Rose, Still}
+use Rattle.outside.specs.Causes.{Rose}
 use Rattle.outside.specs.Told.{FileMap, Appends, AppendsPrefix}
 use Rattle.outside.proofs.Laws.{Appends-nothing}
 use Rattle.plan_answers.specs.Answers.{Answer, refusal}
@@ -17,23 +17,15 @@ use Rattle.script_run.specs.declared.stop.Stop.TheVariants as stops
 use Rattle.script_run.proofs.Laws.{one}
 use Rattle.pap_cli.specs.declared.status.Status.{Status}
 use Rattle.pap_cli.specs.declared.status.Status.TheVariants.{FileFault, ReadFault, WriteFault, NoMemory}
-use Rattle.pap_cli.specs.Statuses.{done_status, IsDone}
+use Rattle.pap_cli.specs.Statuses.{done_status, status_of}
 use Rattle.pap_cli.specs.Outside.{Outside}
-use Rattle.pap_cli.specs.ScriptClauses.{script_status}
 use Rattle.recalc_engine.specs.Contents.{Contents}
 use Rattle.book_file.specs.Saving.{SaveSays}
 use Rattle.book_file.specs.declared.refusal.SaveRefusal.TheVariants as unsaved
 use Rattle.pap_cli.specs.SaveAnswers.{Written, IsBookWritten, IsSave, IsSaved, was_filed}
 use Rattle.pap_cli.specs.SaveClauses.{unwritten, IsSaveEnd, SaveEnds, LeavesOnSave, IsSavedWhole, HeadlineOnSave}
 use Rattle.pap_cli.specs.SaveViews.{seen, written_of}
-
-is_done_status : (r : Bool) → IsDone (done_status r)
-is_done_status true = tt
-is_done_status false = tt
-
-not_write : (r : Bool) → done_status r ≢ WriteFault
-not_write true e = cc
-not_write false e = cc
+use Rattle.pap_cli.proofs.StatusLemmas.{appended_told, no_write, rose_and_still, written_whole}
 
 -- ---- a script that was answered to its end
 
@@ -91,11 +83,11 @@ module _ (before after : Outside) (ended : Unwritten) (reply : Reply)
     out = reply.text.items;
     appended = appended;
     ends = record {
-      ended = inl (is_done_status reply.refused);
+      ended = inl (written_whole reply.refused);
       whole = λ done script left files told.
           let with = saved_with before after files ended reply (meets script left) (ends script left files told) told save in
           record { answer = with.answer; is = with.is; text = with.text; cost = with.cost; ended = ap (λ r. done_status r) with.refused };
-      cut = λ e. absurd (not_write reply.refused e);
+      cut = λ e. absurd (no_write reply.refused e);
     };
     kept = λ e. kept;
   }
@@ -156,19 +148,19 @@ no_more {refused = refused} meets = record {
 }
 
 pub leaves_stop : (before after : Outside) (stop : Stop) → ForSome before.left (λ script. RunMeets (unwritten before) (unwritten after) script after.left (Err stop)) →
-    after.written ≡ before.written → (stop ≢ stops.File → after.failed ≡ before.failed) → stop ≢ stops.Write → LeavesOnSave before after (script_status (Err stop))
+    after.written ≡ before.written → (stop ≢ stops.File → after.failed ≡ before.failed) → stop ≢ stops.Write → LeavesOnSave before after (status_of (Err stop))
 leaves_stop before after stop meets same kept no_write = record {
   result = Err stop;
   meets = meets;
   out = [];
   appended = subst (λ w. Appends before.written w []) (sym same) (Appends-nothing before.written);
   ends = record { nothing = refl; ended = refl; not_at_sink = no_write };
-  kept = λ e. kept (λ s. e (ap (λ v. script_status (Err v)) s));
+  kept = λ e. kept (λ s. e (ap (λ v. status_of (Err v)) s));
 }
 
 -- memory ran out after the script was answered
 pub leaves_unsaid : (before after : Outside) (refused : Bool) → ForSome before.left (λ script. RunMeets (unwritten before) (unwritten after) script after.left (Ok refused)) →
-    after.written ≡ before.written → after.failed ≡ before.failed → LeavesOnSave before after (script_status (Err stops.Memory))
+    after.written ≡ before.written → after.failed ≡ before.failed → LeavesOnSave before after (status_of (Err stops.Memory))
 leaves_unsaid before after refused meets same kept =
     leaves_stop before after stops.Memory (λ script left. no_more (meets script left)) same (λ e. kept) (λ e. cc)
 
@@ -198,13 +190,6 @@ save_none o =
     }
 
 -- ---- the headline
-
-rose_and_still : (before now : ℕ) → Rose before now → Still before now → ⊥
-rose_and_still before now rose still = omega arith
-
-appended_told : (first written : Option (List ℕ)) (before out : List ℕ) → first ≡ Some before → Appends first written out → written ≡ Some (before ++ out)
-appended_told first None before out e a = absurd (subst (λ v. Appends v None out) e a)
-appended_told first (Some now) before out e a = ap (λ v. Some v) (subst (λ v. Appends v (Some now) out) e a)
 
 not_long : (before after : Outside) (script : List ℕ) → RunMeets (unwritten before) (unwritten after) script after.left (Err stops.Long) → length script ≤ most_script → ⊥
 not_long before after script meets short = omega (arith, meets.leaves.tells.past, ap (λ v. length v) meets.split, length-append meets.taken meets.rest)

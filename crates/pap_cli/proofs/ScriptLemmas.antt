@@ -1,6 +1,6 @@
 -- What a run over a script leaves, and the headline from what each status says.
-use Rattle.std.proofs.Common.{◌≡◌, ◌≢◌, ℕ, ◌≤◌, Bool, true, false, List, [], ◌++◌, length, refl, sym, ap, ◌∙◌, subst, arith, length-append}
-use Rattle.std.specs.Prelude.{Option, Some, None, Result, Ok, Err}
+use Rattle.std.proofs.Common.{◌≡◌, ◌≢◌, ℕ, ◌≤◌, Bool, List, [], ◌++◌, length, refl, sym, ap, ◌∙◌, subst, arith, length-append}
+use Rattle.std.specs.Prelude.{Option, Some, Result, Ok, Err}
 use Rattle.outside.specs.Causes.{Rose, Still}
 use Rattle.outside.specs.Told.{FileMap, Appends}
 use Rattle.outside.proofs.Laws.{Appends-nothing}
@@ -9,61 +9,17 @@ use Rattle.script_run.specs.RunClauses.{RunMeets}
 use Rattle.script_run.specs.declared.stop.Stop.{Stop}
 use Rattle.script_run.specs.declared.stop.Stop.TheVariants as stops
 use Rattle.pap_cli.specs.declared.status.Status.{Status}
-use Rattle.pap_cli.specs.declared.status.Status.TheVariants.{BadWords, FileFault, ReadFault, WriteFault, NoMemory}
-use Rattle.pap_cli.specs.Statuses.{done_status}
+use Rattle.pap_cli.specs.declared.status.Status.TheVariants.{FileFault, ReadFault, WriteFault, NoMemory}
+use Rattle.pap_cli.specs.Statuses.{done_status, status_of}
 use Rattle.pap_cli.specs.Outside.{Outside}
-use Rattle.pap_cli.specs.ScriptClauses.{script_status, shown_of, LeavesOnScript, IsTranscribed, HeadlineOnScript}
-
--- ---- statuses
-
-pub script_not_bad : (r : Result Bool Stop) → script_status r ≢ BadWords
-script_not_bad (Ok true) e = cc
-script_not_bad (Ok false) e = cc
-script_not_bad (Err stops.File) e = cc
-script_not_bad (Err stops.Read) e = cc
-script_not_bad (Err stops.Write) e = cc
-script_not_bad (Err stops.Memory) e = cc
-script_not_bad (Err stops.Long) e = cc
-
-pub script_file : (r : Result Bool Stop) → script_status r ≡ FileFault → r ≡ Err stops.File
-script_file (Ok true) e = cc
-script_file (Ok false) e = cc
-script_file (Err stops.File) e = refl
-script_file (Err stops.Read) e = cc
-script_file (Err stops.Write) e = cc
-script_file (Err stops.Memory) e = cc
-script_file (Err stops.Long) e = cc
-
-pub script_read : (r : Result Bool Stop) → script_status r ≡ ReadFault → r ≡ Err stops.Read
-script_read (Ok true) e = cc
-script_read (Ok false) e = cc
-script_read (Err stops.File) e = cc
-script_read (Err stops.Read) e = refl
-script_read (Err stops.Write) e = cc
-script_read (Err stops.Memory) e = cc
-script_read (Err stops.Long) e = cc
-
-pub script_write : (r : Result Bool Stop) → script_status r ≡ WriteFault → r ≡ Err stops.Write
-script_write (Ok true) e = cc
-script_write (Ok false) e = cc
-script_write (Err stops.File) e = cc
-script_write (Err stops.Read) e = cc
-script_write (Err stops.Write) e = refl
-script_write (Err stops.Memory) e = cc
-script_write (Err stops.Long) e = cc
+use Rattle.pap_cli.specs.ScriptClauses.{shown_of, LeavesOnScript, IsTranscribed, HeadlineOnScript}
+use Rattle.pap_cli.proofs.StatusLemmas.{appended_told, rose_and_still}
 
 -- the failed name is as before, but where the status is that of a file's fault
-pub script_kept : (r : Result Bool Stop) (s : Status) (failed failed' : Option (List ℕ)) → s ≡ script_status r → (r ≢ Err stops.File → failed' ≡ failed) → s ≢ FileFault → failed' ≡ failed
-script_kept r s failed failed' is kept other = kept (λ e. other (is ∙ ap (λ x. script_status x) e))
+pub script_kept : (r : Result Bool Stop) (s : Status) (failed failed' : Option (List ℕ)) → s ≡ status_of r → (r ≢ Err stops.File → failed' ≡ failed) → s ≢ FileFault → failed' ≡ failed
+script_kept r s failed failed' is kept other = kept (λ e. other (is ∙ ap (λ x. status_of x) e))
 
 -- ---- the headline
-
-rose_and_still : (before now : ℕ) → Rose before now → Still before now → ⊥
-rose_and_still before now rose still = omega arith
-
-appended_told : (first written : Option (List ℕ)) (before out : List ℕ) → first ≡ Some before → Appends first written out → written ≡ Some (before ++ out)
-appended_told first None before out e a = absurd (subst (λ v. Appends v None out) e a)
-appended_told first (Some now) before out e a = ap (λ v. Some v) (subst (λ v. Appends v (Some now) out) e a)
 
 -- what a script that was carried out to its end leaves
 ended : (before after : Outside) (script written : List ℕ) (files : FileMap) (refused : Bool) → RunMeets (shown_of before) (shown_of after) script after.left (Ok refused) →
@@ -86,11 +42,11 @@ not_long : (before after : Outside) (script : List ℕ) → RunMeets (shown_of b
 not_long before after script meets short = omega (arith, meets.leaves.tells.past, ap (λ v. length v) meets.split, length-append meets.taken meets.rest)
 
 headline_by : (before after : Outside) (script written : List ℕ) (files : FileMap) (r : Result Bool Stop) → RunMeets (shown_of before) (shown_of after) script after.left r →
-    (script_status r ≡ FileFault → Rose before.file_faults after.file_faults) → (script_status r ≡ ReadFault → Rose before.source_faults after.source_faults) →
-    (script_status r ≡ WriteFault → Rose before.sink_faults after.sink_faults) →
-    before.files ≡ Some files → before.written ≡ Some written → length script ≤ most_script → script_status r ≢ NoMemory →
+    (status_of r ≡ FileFault → Rose before.file_faults after.file_faults) → (status_of r ≡ ReadFault → Rose before.source_faults after.source_faults) →
+    (status_of r ≡ WriteFault → Rose before.sink_faults after.sink_faults) →
+    before.files ≡ Some files → before.written ≡ Some written → length script ≤ most_script → status_of r ≢ NoMemory →
     Still before.file_faults after.file_faults → Still before.source_faults after.source_faults → Still before.sink_faults after.sink_faults →
-    IsTranscribed files script written before after (script_status r)
+    IsTranscribed files script written before after (status_of r)
 headline_by before after script written files (Ok refused) meets file read write told said short memory still_f still_r still_w = ended before after script written files refused meets told said
 headline_by before after script written files (Err stops.File) meets file read write told said short memory still_f still_r still_w = absurd (rose_and_still before.file_faults after.file_faults (file refl) still_f)
 headline_by before after script written files (Err stops.Read) meets file read write told said short memory still_f still_r still_w = absurd (rose_and_still before.source_faults after.source_faults (read refl) still_r)

@@ -1,4 +1,4 @@
--- A reply of the program, as the answer that it stands for, which answer a command asks for, and what a run is filled with.
+-- Which answer a command asks for, and what a run is filled with.
 use Rattle.std.specs.Prelude.{◌≡◌, ℕ, List, [], Bool}
 use Rattle.limits_file.specs.declared.slots.Slot.{Slot}
 use Rattle.payroll_records.specs.declared.values.NamedValue.{NamedValue}
@@ -6,15 +6,12 @@ use Rattle.carry_bindings.specs.declared.filling.Filled.{Filled}
 use Rattle.carry_bindings.specs.Filling.{filled_by}
 use Rattle.pap_plan.specs.Acceptance.{Meaning}
 use Rattle.pap_plan.specs.Inputs.{AreSlots}
-use Rattle.plan_answers.specs.declared.reply.Reply.{Reply}
 use Rattle.pap_cli.specs.declared.words.Command.{Command}
 use Rattle.pap_cli.specs.declared.words.Command.TheVariants.{Check, Once}
 use Rattle.plan_answers.specs.Answers.{Answer, CheckAnswers}
 use Rattle.pap_cli.specs.RunAnswers.{OnceAnswers}
 
-abbrev pub reply_of : Reply → Answer
-reply_of r = record { text = r.text.items; refused = r.refused; steps = r.steps }
-
+-- what a command answers on the two texts
 abbrev pub answers_of : Command → List ℕ → List ℕ → Answer → Type 0
 answers_of Check = CheckAnswers
 answers_of (Once values) = OnceAnswers values

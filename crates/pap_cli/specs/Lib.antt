@@ -15,7 +15,6 @@ pub mod RunLines
 pub mod RunViews
 pub mod Outside
 pub mod Statuses
-pub mod Stops
 pub mod Kept
 pub mod Reasons
 pub mod ReasonViews

@@ -10,11 +10,10 @@ use Rattle.script_run.specs.declared.stop.Stop.{Stop}
 use Rattle.script_run.specs.declared.stop.Stop.TheVariants as stops
 use Rattle.pap_cli.specs.declared.status.Status.{Status}
 use Rattle.pap_cli.specs.declared.status.Status.TheVariants as statuses
-use Rattle.pap_cli.specs.Statuses.{done_status, IsDone}
+use Rattle.pap_cli.specs.Statuses.{done_status, status_of, IsDone}
 use Rattle.pap_cli.specs.Outside.{Outside}
 use Rattle.pap_cli.specs.FileClauses.{IsWhole, IsCutShort}
 use Rattle.pap_cli.specs.SaveAnswers.{IsSaved}
-use Rattle.pap_cli.specs.ScriptClauses.{script_status}
 
 -- what is shown of a run that writes nothing: the files and the counter
 abbrev pub unwritten : Outside → Shown
@@ -31,7 +30,7 @@ pub record IsSaveEnd (before after : Outside) (out : List ℕ) (status : Status)
 -- the script's run stopped, never at the sink: nothing was written
 pub record IsSaveStop (out : List ℕ) (status : Status) (stop : Stop) : Type 0 where
   pub nothing : out ≡ []
-  pub ended : status ≡ script_status (Err stop)
+  pub ended : status ≡ status_of (Err stop)
   pub not_at_sink : stop ≢ stops.Write
 
 abbrev pub SaveEnds : Outside → Outside → List ℕ → Status → Result Bool Stop → Type 0

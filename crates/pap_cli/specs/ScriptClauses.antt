@@ -1,5 +1,5 @@
 -- What `run` leaves, by its status (docs/DEFINITIONS.md).
-use Rattle.std.specs.Prelude.{◌≡◌, ◌≢◌, ℕ, ◌+◌, ◌≤◌, Bool, List, [], ◌++◌, length, All, Some, Result, Ok, Err}
+use Rattle.std.specs.Prelude.{◌≡◌, ◌≢◌, ℕ, ◌+◌, ◌≤◌, Bool, List, [], ◌++◌, length, All, Some, Result}
 use Rattle.std.specs.Option.{ForSome}
 use Rattle.outside.specs.Causes.{Still}
 use Rattle.outside.specs.Told.{FileMap}
@@ -8,20 +8,10 @@ use Rattle.script_run.specs.Limits.{most_script}
 use Rattle.script_run.specs.Transcripts.{Session, lines_of, IsTranscript}
 use Rattle.script_run.specs.RunClauses.{Shown, shown, RunMeets}
 use Rattle.script_run.specs.declared.stop.Stop.{Stop}
-use Rattle.script_run.specs.declared.stop.Stop.TheVariants as stops
 use Rattle.pap_cli.specs.declared.status.Status.{Status}
 use Rattle.pap_cli.specs.declared.status.Status.TheVariants as statuses
-use Rattle.pap_cli.specs.Statuses.{done_status}
+use Rattle.pap_cli.specs.Statuses.{done_status, status_of}
 use Rattle.pap_cli.specs.Outside.{Outside}
-
--- the status of a run that ended so
-abbrev pub script_status : Result Bool Stop → Status
-script_status (Ok refused) = done_status refused
-script_status (Err stops.File) = statuses.FileFault
-script_status (Err stops.Read) = statuses.ReadFault
-script_status (Err stops.Write) = statuses.WriteFault
-script_status (Err stops.Memory) = statuses.NoMemory
-script_status (Err stops.Long) = statuses.ScriptLong
 
 -- the files, the sink and the counter
 abbrev pub shown_of : Outside → Shown
@@ -30,7 +20,7 @@ shown_of o = shown o.files o.failed o.written o.steps
 -- what a run leaves; of the text where the source tells the script and the files what they hold
 pub record LeavesOnScript (before after : Outside) (status : Status) : Type 0 where
   pub result : Result Bool Stop
-  pub ended : status ≡ script_status result
+  pub ended : status ≡ status_of result
   pub meets : ForSome before.left (λ script.
       RunMeets (shown_of before) (shown_of after) script after.left result)
   pub kept : status ≢ statuses.FileFault → after.failed ≡ before.failed

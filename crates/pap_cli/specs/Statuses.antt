@@ -1,9 +1,9 @@
 -- How a call ends.
 use Rattle.std.specs.Prelude.{ℕ, Bool, if◌then◌else◌, Result, Ok, Err, ⊤}
+use Rattle.script_run.specs.declared.stop.Stop.{Stop}
+use Rattle.script_run.specs.declared.stop.Stop.TheVariants as stops
 use Rattle.pap_cli.specs.declared.status.Status.{Status}
 use Rattle.pap_cli.specs.declared.status.Status.TheVariants.{Done, Refused, BadWords, FileFault, ReadFault, WriteFault, NoMemory, ScriptLong}
-use Rattle.pap_cli.specs.declared.stop.Stop.{Stop}
-use Rattle.pap_cli.specs.declared.stop.Stop.TheVariants as stops
 
 -- the number of a status, with which the program ends
 abbrev pub number_of : Status → ℕ
@@ -30,5 +30,7 @@ IsDone _ = ⊥
 abbrev pub status_of : Result Bool Stop → Status
 status_of (Ok refused) = done_status refused
 status_of (Err stops.File) = FileFault
+status_of (Err stops.Read) = ReadFault
 status_of (Err stops.Write) = WriteFault
 status_of (Err stops.Memory) = NoMemory
+status_of (Err stops.Long) = ScriptLong

@@ -8,10 +8,10 @@ ghost use Rattle.pap_cli.specs.FileViews.{shown};
 ghost use Rattle.pap_cli.specs.Statuses.{status_of};
 
 use crate::once::once_reply;
-use crate::stop::Stop;
 use crate::words::{Command, FileRequest};
 use outside::{Files, Sink, put_all};
 use plan_answers::{Reply, check_reply, read_both};
+use script_run::Stop;
 use std::alloc::{AllocError, Global};
 use std::sync::ledger::Ledger;
 use steps::Steps;

@@ -4,7 +4,6 @@ ghost use Rattle.outside.specs.Causes.{Rose};
 ghost use Rattle.pap_cli.specs.Words.{texts, Form, HasForm, IsBad, sample};
 ghost use Rattle.pap_cli.specs.Outside.{IsUntouched};
 ghost use Rattle.pap_cli.specs.CallClauses.{Carries};
-ghost use Rattle.pap_cli.specs.ScriptClauses.{script_status};
 ghost use Rattle.pap_cli.specs.WordViews.{ReadsScript};
 ghost use Rattle.pap_cli.specs.Statuses.{status_of};
 ghost use Rattle.plan_answers.specs.Laws.{CheckHasOneAnswer};
@@ -15,14 +14,14 @@ use crate::Status;
 use crate::answer::answer;
 use crate::sample::sample;
 use crate::save::save;
-use crate::stop::Stop;
 use crate::words::{Request, read_words};
 use outside::{Files, Sink, Source};
-use script_run::{Stop as ScriptStop, run};
+use script_run::{Stop, run};
 use std::alloc::Global;
 use std::sync::ledger::Ledger;
 use steps::Steps;
 
+/// The status of a call that ended so: whether what was written is a refusal, or why it stopped.
 fn status(ended: Result<bool, Stop>) -> Status
     ensures { result ≡ status_of ended }
 {
@@ -30,23 +29,10 @@ fn status(ended: Result<bool, Stop>) -> Status
         Ok(false) => Status::Done,
         Ok(true) => Status::Refused,
         Err(Stop::File) => Status::FileFault,
+        Err(Stop::Read) => Status::ReadFault,
         Err(Stop::Write) => Status::WriteFault,
         Err(Stop::Memory) => Status::NoMemory,
-    }
-}
-
-/// The status of a run over a script that ended so.
-fn script_status(ended: Result<bool, ScriptStop>) -> Status
-    ensures { result ≡ script_status ended }
-{
-    match ended {
-        Ok(false) => Status::Done,
-        Ok(true) => Status::Refused,
-        Err(ScriptStop::File) => Status::FileFault,
-        Err(ScriptStop::Read) => Status::ReadFault,
-        Err(ScriptStop::Write) => Status::WriteFault,
-        Err(ScriptStop::Memory) => Status::NoMemory,
-        Err(ScriptStop::Long) => Status::ScriptLong,
+        Err(Stop::Long) => Status::ScriptLong,
     }
 }
 
@@ -118,9 +104,9 @@ pub fn papcalc<F: Files, R: Source, W: Sink, L: Ledger>(
 {
     match read_words(alloc, words) {
         Ok(Some(Request::Files(request))) => status(answer(alloc, request, files, sink, steps)),
-        Ok(Some(Request::Run)) => script_status(run(alloc, files, source, sink, steps)),
+        Ok(Some(Request::Run)) => status(run(alloc, files, source, sink, steps)),
         Ok(Some(Request::Sample(employees))) => status(sample(alloc, employees, sink, steps)),
-        Ok(Some(Request::Save)) => script_status(save(alloc, files, source, sink, steps)),
+        Ok(Some(Request::Save)) => status(save(alloc, files, source, sink, steps)),
         Ok(None) => Status::BadWords,
         Err(_) => Status::NoMemory,
     }

@@ -1,5 +1,5 @@
 //! Files that keep what they gave, so that a later look at the same bytes opens no file a second time.
-ghost use Rattle.std.specs.Prelude.{◌≡◌, ◌≤◌, [], length, map, Some, IfOk, OnOk, OnErr};
+ghost use Rattle.std.specs.Prelude.{◌≡◌, ◌≤◌, [], length, map, IfOk, OnOk, OnErr};
 ghost use Rattle.outside.specs.Causes.{HasFileCause};
 ghost use Rattle.outside.specs.Told.{IsToldFront};
 ghost use Rattle.pap_cli.specs.Kept.{kept_files, kept, kept_with};

@@ -9,7 +9,6 @@ mod reasons;
 mod sample;
 mod save;
 mod status;
-mod stop;
 mod words;
 
 pub use call::{answer_laws, papcalc, word_laws};

@@ -1,9 +1,8 @@
 //! The answer of `once`.
-ghost use Rattle.std.specs.Prelude.{◌≡◌, ◌≢◌, All, ◌+◌, ◌++◌, ◌⊎◌, IfOk, OnOk, OnErr};
+ghost use Rattle.std.specs.Prelude.{◌≡◌, ◌≢◌, All, ◌+◌, ◌++◌, IfOk, OnOk, OnErr};
 ghost use Rattle.pap_plan.specs.Bindings.{HasSuitedLimit};
 ghost use Rattle.pap_plan.specs.Plans.{Admits, flowchart, meaning};
 ghost use Rattle.pap_cli.specs.RunViews.{named_lines};
-ghost use Rattle.plan_answers.specs.Answers.{Answer};
 ghost use Rattle.pap_cli.specs.RunAnswers.{OnceAnswers, IsRunOnce, IsRunOn};
 ghost use Rattle.plan_answers.specs.ReplyViews.{reply_of};
 ghost use Rattle.pap_cli.specs.FileClauses.{IsCounted};

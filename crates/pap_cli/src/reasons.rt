@@ -1,5 +1,5 @@
 //! The reason of a refusal, in plain words.
-ghost use Rattle.std.specs.Prelude.{◌≡◌, ℕ, List, All, IfOk, IfSome, None, is_some, string_bytes};
+ghost use Rattle.std.specs.Prelude.{◌≡◌, All, IfOk, IfSome, None, is_some, string_bytes};
 ghost use Rattle.pap_plan.specs.Bindings.{HasSuitedLimit};
 ghost use Rattle.pap_plan.specs.Plans.{flowchart, meaning};
 ghost use Rattle.plain_words.specs.Lines.{IsOneLine};

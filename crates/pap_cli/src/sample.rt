@@ -12,12 +12,11 @@ ghost use Rattle.pap_cli.specs.SampleClauses.{LeavesOnSample};
 ghost use Rattle.pap_cli.specs.SampleViews.{add_if, TaxFits};
 ghost use Rattle.pap_cli.specs.Statuses.{status_of};
 
-use crate::stop::Stop;
 use outside::{Sink, put_all};
 use payroll_records::NamedValue;
 use recalc_engine::{Book, MonthRow, State, Work};
 use scaled_decimal::Dec;
-use script_run::{run_sample, sample_line_count};
+use script_run::{Stop, run_sample, sample_line_count};
 use script_steps::Script;
 use std::alloc::{AllocError, Global};
 use std::sync::ledger::Ledger;
@@ -75,16 +74,10 @@ fn work_lines(alloc: Global, made: Work) -> Result<String, AllocError>
 }
 
 /// The number of a book's runs.
-fn run_count(book: &Book) -> u32
+fn run_count(book: &Book) -> usize
     ensures { result ≡ length (month_rows book.now) }
 {
-    book.is_whole();
-    let mut count = 0;
-    for run in book.months() {
-        let _ = &run;
-        count += 1;
-    }
-    count
+    book.years().count
 }
 
 /// The LST of all runs of a book, added up.

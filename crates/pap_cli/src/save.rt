@@ -1,12 +1,12 @@
 //! The answer of `save`: the last book of a script as a text.
-ghost use Rattle.std.specs.Prelude.{◌≡◌, ◌≢◌, IfOk, Err};
+ghost use Rattle.std.specs.Prelude.{◌≡◌, IfOk, Err};
 ghost use Rattle.outside.specs.Causes.{Caused};
 ghost use Rattle.pap_cli.specs.GoingOn.{SavedScriptsAreSaved, SavedScriptsGoOn};
 ghost use Rattle.pap_cli.specs.Laws.{ScriptsHaveOneSave};
 ghost use Rattle.pap_cli.specs.SaveAnswers.{IsSave, was_filed};
 ghost use Rattle.pap_cli.specs.SaveClauses.{LeavesOnSave};
 ghost use Rattle.pap_cli.specs.SaveViews.{seen, written_of};
-ghost use Rattle.pap_cli.specs.ScriptClauses.{script_status};
+ghost use Rattle.pap_cli.specs.Statuses.{status_of};
 
 use book_file::{SaveRefusal, saving_laws, write_book};
 use outside::{Files, Sink, Source, put_all};
@@ -30,7 +30,7 @@ pub(crate) fn save<F: Files, R: Source, W: Sink, L: Ledger>(
         (W.written sink.old) steps.old)
         (seen (F.told files.new) (F.failed files.new) (R.left source.new)
         (W.written sink.new) steps.new)
-        (script_status result) }
+        (status_of result) }
     ensures same { F.told files.new ≡ F.told files.old }
     ensures file { Caused Stop.File (F.faults files.old) (F.faults files.new) result }
     ensures read { Caused Stop.Read (R.faults source.old) (R.faults source.new) result }

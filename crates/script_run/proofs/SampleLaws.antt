@@ -24,11 +24,6 @@ numbers_next : (n : ℕ) → 1 ≤ n → numbers n ≡ numbers (n - 1) ++ n ∷ 
 numbers_next zero some = absurd (omega arith)
 numbers_next (suc n) some = let same : suc n - 1 ≡ n = omega arith in ap (λ v. numbers v ++ suc n ∷ []) (sym same)
 
--- nothing was appended before the first number
-pub appended_none : (text : List ℕ) (lines : List ℕ → List (List ℕ)) → lines (numbers 0) ≡ [] →
-    text ≡ text ++ script_of (lines (numbers 0))
-appended_none text lines none = sym (ap (λ v. text ++ script_of v) none ∙ append-nil text)
-
 -- a line for each number
 pub appended_line : (first now next : List ℕ) (line_of : ℕ → List ℕ) (n : ℕ) → 1 ≤ n → now ≡ first ++ script_of
     (map line_of (numbers (n - 1))) →

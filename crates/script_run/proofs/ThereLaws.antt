@@ -8,9 +8,9 @@ use Rattle.script_lang.specs.Commands.{Asked}
 use Rattle.script_lang.specs.Lines.{Ask}
 use Rattle.script_lang.specs.Words.{words_of}
 use Rattle.script_steps.specs.LineSteps.{IsFileOf}
-use Rattle.script_steps.specs.Steps.{Names, AreThere}
+use Rattle.script_steps.specs.Steps.{AreThere}
 use Rattle.script_run.specs.Samples.{sample_lines, add_line, change_line}
-use Rattle.script_run.specs.SampleFiles.{named_texts, plan_text, limits_text, sample_files}
+use Rattle.script_run.specs.SampleFiles.{named_texts, sample_files}
 use Rattle.script_run.proofs.SampleLaws.{each_line}
 
 head_same : (a b : List ℕ) (x y : List (List ℕ)) → a ∷ x ≡ b ∷ y → a ≡ b
@@ -115,8 +115,3 @@ pub sample_there_in : (named : List (List ℕ × List ℕ)) (employees : ℕ) �
     All (λ line. AreThere (file_named named) line) (sample_lines employees)
 sample_there_in named employees few same =
     subst (λ v. All (λ line. AreThere (file_named v) line) (sample_lines employees)) (sym same) (sample_there employees few)
-
--- two files of these names and texts
-pub both_named : (a b : List ℕ × List ℕ) → a.0 ≡ codes "p2.xml" → a.1 ≡ plan_text → b.0 ≡ codes "l2.toml" →
-    b.1 ≡ limits_text → a ∷ b ∷ [] ≡ named_texts
-both_named a b p q r s = λ i. (p i, q i) ∷ (r i, s i) ∷ []

@@ -205,19 +205,6 @@ pub none_taken : (l l' : Option (List ℕ)) (buf : List ℕ) (count : ℕ) → c
     Consumes l l' []
 none_taken l l' buf count none consumed = subst (λ v. Consumes l l' (take v buf)) none consumed
 
--- all of the source was taken
-pub takes_all : {before now : Shown} {l0 l l' : Option (List ℕ)} {count : ℕ} {reading : Reading} →
-    count ≤ most_script → Consumes l l' [] → IsAtEnd l' → Stood before now l0 l count reading →
-    TakesAll before now l0 l' reading
-takes_all {l0 = l0} {l = l} {l' = l'} within consumed ends stood = record {
-  bytes = stood.bytes;
-  consumed = subst (λ v. Consumes l0 l' v) (append-nil stood.bytes)
-      (Consumes-then l0 l l' stood.bytes [] stood.consumed consumed);
-  within = omega (arith, stood.counted);
-  ends = ends;
-  stands = stood.stands;
-}
-
 -- a told script that was taken to its end was taken whole
 record IsTakenWhole (bytes script : List ℕ) (left : Option (List ℕ)) : Type 0 where
   pub whole : bytes ≡ script

@@ -1,12 +1,13 @@
 //! Why a run stops before its script is answered to the end.
 ghost use Rattle.std.specs.Prelude.{◌≡◌};
 ghost use Rattle.script_run.specs.declared.stop.Stop.TheVariants.{Memory};
-ghost use Rattle.script_run.specs.Stops.{stop_of};
+ghost use Rattle.script_run.specs.Stops.{stop_of, stop_of_file};
 
+use outside::FileAnswer;
 use script_steps::LineStop;
 use std::alloc::AllocError;
 
-/// Why a run stops before its script is answered to the end.
+/// Why a run stops before its script is answered to the end, or a call that runs no script before its answer is written.
 #[derive(Clone, Copy, Debug, PartialEq, Eq, Drop)]
 pub enum Stop {
     /// A file that a line names could not be read.
@@ -29,6 +30,17 @@ impl From<LineStop> for Stop {
             LineStop::File => Stop::File,
             LineStop::Write => Stop::Write,
             LineStop::Memory => Stop::Memory,
+        }
+    }
+}
+
+impl From<FileAnswer> for Stop {
+    ghost from_gives = { λ answer stop. stop ≡ stop_of_file answer };
+
+    fn from(answer: FileAnswer) -> Self {
+        match answer {
+            FileAnswer::Failed => Stop::File,
+            FileAnswer::Memory => Stop::Memory,
         }
     }
 }

@@ -5,12 +5,13 @@ use Rattle.pap_cli.specs.Outside.{Outside}
 use Rattle.pap_cli.specs.CallClauses.{Carries}
 use Rattle.pap_cli.specs.ScriptClauses.{LeavesOnScript}
 use Rattle.pap_cli.proofs.WordLemmas.{one_form}
-use Rattle.pap_cli.proofs.ScriptLemmas.{headline_script, script_file, script_kept, script_read, script_write}
+use Rattle.pap_cli.proofs.ScriptLemmas.{headline_script, script_kept}
 use Rattle.pap_cli.specs.SampleClauses.{LeavesOnSample}
 use Rattle.pap_cli.proofs.SampleLemmas.{headline_sample, leaves_sample}
 use Rattle.pap_cli.specs.SaveClauses.{LeavesOnSave}
 use Rattle.pap_cli.proofs.SaveLemmas.{headline_save, leaves_save}
-use Rattle.pap_cli.proofs.LeavesLemmas.{leaves_form, carries_none, headline_form, file_stop, write_stop}
+use Rattle.pap_cli.proofs.LeavesLemmas.{leaves_form, carries_none, headline_form}
+use Rattle.pap_cli.proofs.StatusLemmas.{file_stop, read_stop, write_stop}
 use Rattle.pap_cli.proofs.call.papcalc.Goals as goal
 
 pub returns-in-Ok-Some-Files-clause-carries : goal.returns-in-Ok-Some-Files-clause-carries
@@ -36,19 +37,19 @@ returns-in-Ok-Some-Run-clause-carries g c = λ form has.
     let same = one_form (texts c.args.words.now) run form own has in
     let before : Outside = record { files = g.F.Files.told c.args.files.now; failed = g.F.Files.failed c.args.files.now; file_faults = g.F.Files.faults c.args.files.now; left = g.R.Source.left c.args.source.now; source_faults = g.R.Source.faults c.args.source.now; written = g.W.Sink.written c.args.sink.now; sink_faults = g.W.Sink.faults c.args.sink.now; steps = c.args.steps.now } in
     let after : Outside = record { files = g.F.Files.told c.run.new.files; failed = g.F.Files.failed c.run.new.files; file_faults = g.F.Files.faults c.run.new.files; left = g.R.Source.left c.run.new.source; source_faults = g.R.Source.faults c.run.new.source; written = g.W.Sink.written c.run.new.sink; sink_faults = g.W.Sink.faults c.run.new.sink; steps = c.run.new.steps } in
-    let is = c.script_status.ensures in
-    let leaves : LeavesOnScript before after c.script_status.result = record {
+    let is = c.status-in-Ok-Some-Run.ensures in
+    let leaves : LeavesOnScript before after c.status-in-Ok-Some-Run.result = record {
       result = c.run.result;
       ended = is;
       meets = c.run.ensures.script;
-      kept = script_kept c.run.result c.script_status.result before.failed after.failed is c.run.ensures.kept;
+      kept = script_kept c.run.result c.status-in-Ok-Some-Run.result before.failed after.failed is c.run.ensures.kept;
     } in
-    subst (λ f. Carries f before after c.script_status.result) same (record {
+    subst (λ f. Carries f before after c.status-in-Ok-Some-Run.result) same (record {
       leaves = leaves;
-      headline = headline_script before after c.script_status.result leaves
-          (λ e. c.run.ensures.file.rose (script_file c.run.result (sym is ∙ e)))
-          (λ e. c.run.ensures.read.rose (script_read c.run.result (sym is ∙ e)))
-          (λ e. c.run.ensures.write.rose (script_write c.run.result (sym is ∙ e)));
+      headline = headline_script before after c.status-in-Ok-Some-Run.result leaves
+          (λ e. c.run.ensures.file.rose (file_stop c.run.result (sym is ∙ e)))
+          (λ e. c.run.ensures.read.rose (read_stop c.run.result (sym is ∙ e)))
+          (λ e. c.run.ensures.write.rose (write_stop c.run.result (sym is ∙ e)));
     })
 
 pub returns-in-Ok-Some-Sample-clause-carries : goal.returns-in-Ok-Some-Sample-clause-carries
@@ -73,16 +74,26 @@ returns-in-Ok-Some-Save-clause-carries g c = λ form has.
     let same = one_form (texts c.args.words.now) save form own has in
     let before : Outside = record { files = g.F.Files.told c.args.files.now; failed = g.F.Files.failed c.args.files.now; file_faults = g.F.Files.faults c.args.files.now; left = g.R.Source.left c.args.source.now; source_faults = g.R.Source.faults c.args.source.now; written = g.W.Sink.written c.args.sink.now; sink_faults = g.W.Sink.faults c.args.sink.now; steps = c.args.steps.now } in
     let after : Outside = record { files = g.F.Files.told c.save.new.files; failed = g.F.Files.failed c.save.new.files; file_faults = g.F.Files.faults c.save.new.files; left = g.R.Source.left c.save.new.source; source_faults = g.R.Source.faults c.save.new.source; written = g.W.Sink.written c.save.new.sink; sink_faults = g.W.Sink.faults c.save.new.sink; steps = c.save.new.steps } in
-    let is = c.script_status-in-Ok-Some-Save.ensures in
+    let is = c.status-in-Ok-Some-Save.ensures in
     let meets = rw (← is) at c.save.ensures.leaves in
-    let all : LeavesOnSave before after c.script_status-in-Ok-Some-Save.result = leaves_save before after c.script_status-in-Ok-Some-Save.result meets in
-    subst (λ f. Carries f before after c.script_status-in-Ok-Some-Save.result) same (record {
+    let all : LeavesOnSave before after c.status-in-Ok-Some-Save.result = leaves_save before after c.status-in-Ok-Some-Save.result meets in
+    subst (λ f. Carries f before after c.status-in-Ok-Some-Save.result) same (record {
       leaves = all;
-      headline = headline_save before after c.script_status-in-Ok-Some-Save.result all
-          (λ e. c.save.ensures.file.rose (script_file c.save.result (sym is ∙ e)))
-          (λ e. c.save.ensures.read.rose (script_read c.save.result (sym is ∙ e)))
-          (λ e. c.save.ensures.write.rose (script_write c.save.result (sym is ∙ e)));
+      headline = headline_save before after c.status-in-Ok-Some-Save.result all
+          (λ e. c.save.ensures.file.rose (file_stop c.save.result (sym is ∙ e)))
+          (λ e. c.save.ensures.read.rose (read_stop c.save.result (sym is ∙ e)))
+          (λ e. c.save.ensures.write.rose (write_stop c.save.result (sym is ∙ e)));
     })
+
+-- an answer on two files, and a sample, read no script
+
+pub returns-in-Ok-Some-Files-clause-read_fault : goal.returns-in-Ok-Some-Files-clause-read_fault
+returns-in-Ok-Some-Files-clause-read_fault g c =
+    λ e. absurd (c.answer.ensures.leaves.reads_no_script (sym c.status.ensures ∙ e))
+
+pub returns-in-Ok-Some-Sample-clause-read_fault : goal.returns-in-Ok-Some-Sample-clause-read_fault
+returns-in-Ok-Some-Sample-clause-read_fault g c =
+    λ e. absurd (c.sample.ensures.leaves.reads_no_script (sym c.status-in-Ok-Some-Sample.ensures ∙ e))
 
 pub returns-in-Err-clause-carries : goal.returns-in-Err-clause-carries
 returns-in-Err-clause-carries g c = λ form has. carries_none form (record { files = g.F.Files.told c.args.files.now; failed = g.F.Files.failed c.args.files.now; file_faults = g.F.Files.faults c.args.files.now; left = g.R.Source.left c.args.source.now; source_faults = g.R.Source.faults c.args.source.now; written = g.W.Sink.written c.args.sink.now; sink_faults = g.W.Sink.faults c.args.sink.now; steps = c.args.steps.now })

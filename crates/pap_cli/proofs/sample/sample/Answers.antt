@@ -1,7 +1,6 @@
-use Rattle.std.proofs.Common.{◌∙◌, ap, sym, subst}
+use Rattle.std.proofs.Common.{◌∙◌, ap}
 use Rattle.std.specs.Prelude.{Err}
 use Rattle.std.proofs.lemmas.Result.{err_from_is_err_and}
-use Rattle.outside.specs.Told.{Appends, AppendsPrefix}
 use Rattle.pap_cli.proofs.SampleLemmas.{leaves_whole, leaves_cut, leaves_stop, leaves_unsaid}
 use Rattle.pap_cli.proofs.sample.sample.Goals as goal
 

@@ -1,4 +1,4 @@
-use Rattle.std.proofs.Common.{◌≤◌, length, sym, ap, subst, ◌∙◌, arith, refl}
+use Rattle.std.proofs.Common.{◌≤◌, length, sym, ap, subst, ◌∙◌, arith}
 use Rattle.book_edits.specs.Refusals.{most_records}
 use Rattle.recalc_engine.specs.RowLaws.{AreBookRows}
 use Rattle.recalc_engine.specs.RowViews.{lent_row}
