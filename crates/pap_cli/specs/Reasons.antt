@@ -48,7 +48,7 @@ pub record TellsPlan (files : PlanFiles) (words : List ℕ) : Type 0 where
   pub refused : IsRefused files.plan.bytes files.ranges.bytes refusal
   pub begins : BeginsAtRefusal files refusal words
 
--- these files are accepted, and the words begin with the place at which a run on these values lacks its inputs, and say why
+-- these files are accepted, and a run on these values has no inputs: the words begin with the place of that, and say why
 pub record TellsState (values : List NamedValue) (files : PlanFiles) (words : List ℕ) : Type 0 where
   pub meaning : Meaning
   pub accepted : IsAccepted files.plan.bytes files.ranges.bytes meaning
