@@ -77,16 +77,15 @@ fn write_reason(page: &mut Page, reason: &Reason, site: &Site) -> Result<(), All
     page.own("</p></div>\n")
 }
 
-/// Appends plain words: a capital first, and what stands in backquotes as code.
+/// Appends plain words, with what stands in backquotes as code.
 fn write_words(page: &mut Page, words: &str) -> Result<(), AllocError> {
     let mut is_code = false;
-    for (i, byte) in words.as_bytes().iter().enumerate() {
+    for byte in words.as_bytes() {
         match *byte {
             b'`' => {
                 page.own(if is_code { "</code>" } else { "<code>" })?;
                 is_code = !is_code;
             }
-            byte if i == 0 => page.text(&[byte.to_ascii_uppercase()])?,
             byte => page.text(&[byte])?,
         }
     }

@@ -9,6 +9,7 @@ use crate::answer::{Answer, answer_request};
 use crate::status::Status;
 use crate::words::read_words;
 use outside::{RealFiles, StdSink, put_all};
+use plain_words::one_line;
 use std::env;
 use std::io::{self, ErrorKind};
 use std::process::ExitCode;
@@ -54,12 +55,21 @@ fn explain(rt: &HostRuntime, status: Status, failed_name: Option<&str>) {
         Status::Done | Status::Refused => Ok(()),
         Status::BadWords => eprintln!(rt; "{USAGE}"),
         Status::FileFault => {
-            let name = failed_name.unwrap_or("");
-            eprintln!(rt; "pap_author: the file {name} can't be read")
+            explain_file_fault(rt, failed_name.unwrap_or(""));
+            Ok(())
         }
         Status::WriteFault => eprintln!(rt; "pap_author: standard output can't be written"),
         Status::NoMemory => eprintln!(rt; "pap_author: out of memory"),
     };
+}
+
+/// Says on standard error which file can't be read, in one line whatever its name is. That this may fail changes nothing.
+fn explain_file_fault(rt: &HostRuntime, name: &str) {
+    if let Ok(name) = one_line(rt.alloc(), name) {
+        let _ = eprintln!(rt;
+            "pap_author: the file `{name}` can't be read: is it there, and a file, not a folder?"
+        );
+    }
 }
 
 /// Writes an answer, and on standard error why the plan is refused.
