@@ -21,7 +21,7 @@ use crate::job::{Job, inputs_on, job_of, year_at};
 use crate::months::Months;
 use book_edits::{EditRefusal, InMonth, Years, drop_plan, put_plan};
 use book_loads::{load, restore};
-use book_year::{Work, YearKey};
+use book_year::Work;
 use pap_plan::Plan;
 use payroll_records::{Day, Employee, Key, Month, Record, When};
 use plan_calendar::Calendar;
@@ -156,11 +156,7 @@ impl Book {
         ensures admitted { IfSome result AdmitsInputs }
         ensures none { IfNone result (HasNoOutputs (row_at self.now key.now)) }
     {
-        let key_of_year = YearKey {
-            employee: key.employee,
-            year: key.day.year,
-        };
-        let year = year_at(self.years.list.as_slice(), key_of_year)?;
+        let year = year_at(self.years.list.as_slice(), key)?;
         let inputs = inputs_on(year, key.day)?;
         let (_, plan) = self.plans.pick(key.day)?;
         Some(job_of(plan, inputs))

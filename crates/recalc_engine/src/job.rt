@@ -1,19 +1,19 @@
 //! The jobs of a book's runs.
-ghost use Rattle.std.specs.Prelude.{◌≡◌, IfOk, IfErr, length};
+ghost use Rattle.std.specs.Prelude.{◌≡◌, length};
 ghost use Rattle.std.specs.Option.{option_copied};
 ghost use Rattle.rising_lists.specs.Keyed.{at_key, IsRising};
-ghost use Rattle.rising_lists.specs.Places.{Finds, IsAt, IsGap, Misses};
 ghost use Rattle.payroll_records.specs.Orders.{day_cmp};
 ghost use Rattle.book_year.specs.Records.{record_day};
 ghost use Rattle.book_year.specs.Accepted.{accepted};
-ghost use Rattle.book_edits.specs.Books.{year_cmp};
+ghost use Rattle.book_edits.specs.Books.{year_cmp, year_of};
 ghost use Rattle.book_edits.specs.Kept.{kept_key};
 ghost use Rattle.recalc_engine.specs.JobViews.{AdmitsWhatItFills, HasInputsOf};
 
-use book_year::{Year, YearKey};
+use book_edits::{place_year, year_of};
+use book_year::{Year, place_run};
 use pap_plan::Plan;
 use pay_run::each_is_kept;
-use payroll_records::{Day, Record};
+use payroll_records::{Day, Key};
 use scaled_decimal::Dec;
 
 /// What a run ran: its plan and its inputs.
@@ -24,12 +24,12 @@ pub struct Job<'a> {
     pub inputs: &'a [Dec],
 }
 
-/// An employee's year.
-pub(crate) fn year_at(years: &[Year], key: YearKey) -> Option<&Year>
+/// The year in which a run stands.
+pub(crate) fn year_at<'a>(years: &'a [Year], key: &Key) -> Option<&'a Year>
     requires { IsRising year_cmp kept_key years.now }
-    ensures { option_copied result ≡ at_key year_cmp kept_key years.now key }
+    ensures { option_copied result ≡ at_key year_cmp kept_key years.now (year_of key.now) }
 {
-    let at = place_year(years, key).ok()?;
+    let at = place_year(years, &year_of(key)).ok()?;
     Some(&years[at])
 }
 
@@ -56,22 +56,4 @@ pub(crate) fn job_of<'a>(plan: &'a Plan, inputs: &'a [Dec]) -> Job<'a>
     let _ = plan.spec();
     each_is_kept(inputs);
     Job { plan, inputs }
-}
-
-/// Where an employee's year stands, or would go.
-fn place_year(years: &[Year], key: YearKey) -> Result<usize, usize>
-    requires { IsRising year_cmp kept_key years.now }
-    ensures found { IfOk result (Finds year_cmp kept_key years.now key) }
-    ensures absent { IfErr result (Misses year_cmp kept_key years.now key) }
-{
-    years.binary_search_by_key(&key, |y| y.key)
-}
-
-/// Where the run of a day stands, or would go.
-fn place_run(records: &[Record], day: Day) -> Result<usize, usize>
-    requires { IsRising day_cmp record_day records.now }
-    ensures found { IfOk result (IsAt day_cmp record_day records.now day) }
-    ensures absent { IfErr result (IsGap day_cmp record_day records.now day) }
-{
-    records.binary_search_by_key(&day, |r| r.day)
 }
