@@ -68,11 +68,3 @@ keeps scope declares.Int e k env v s h = tt
 keeps scope declares.Long e k env v s h = tt
 keeps scope declares.Big e k env v s h = tt
 keeps scope declares.Table e k env v s h = tt
-
-pub can_keep : (p : PlanText) (x : List ℕ) (e : Term) (vs : List Decimal) (v : Decimal) (d : Declaration)
-    → CanPut p x e vs v → declared_as (scope_in p).variables x ≡ Some d → CanKeep d.kind e v
-can_keep p x e vs v d h is =
-    let found = h.target.declared in
-    let same : h.target.declaration ≡ d = cc in
-    subst (λ d. CanKeep d.kind e v) same
-    (keeps (scope_in p) h.target.declaration.kind e (kind_of (scope_in p) e) (values_in p vs) v h.target.suits h.value)

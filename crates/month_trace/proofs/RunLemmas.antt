@@ -68,9 +68,6 @@ followed_inner old s None = refl
 followed_inner old s (Some xs) =
     ap (λ zs. Some zs) (ap (λ zs. old ++ (s ∷ zs)) (append-nil xs) ∙ sym (append_assoc old (s ∷ []) xs))
 
-pub followed_nothing : (steps : List TraceStep) → followed steps (Some []) ≡ Some steps
-followed_nothing steps = ap (λ zs. Some zs) (append-nil steps)
-
 -- ---- a statement, and those that follow it
 
 module _ (scope : Scope) (calls : Calls) where

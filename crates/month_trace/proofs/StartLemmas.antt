@@ -24,23 +24,6 @@ declared_there P (x ∷ ds) zero d is l all =
 declared_there P (x ∷ ds) (suc i) d is l all =
     declared_there P ds i d is (omega arith) (All-tail P (declaration_of x) (map declaration_of ds) all)
 
--- one value more
-pub begun_more : (old now : List Decimal) (ds : List Declared) (i : ℕ) (d : Declared) → d ≡ get_or ds i d
-    → i < length ds → now ≡ old ++ begun (map declaration_of (take i ds))
-    → now ++ (first_value (declaration_of d) ∷ []) ≡ old ++ begun (map declaration_of (take (i + 1) ds))
-begun_more old now ds i d is l before =
-    let front = begun (map declaration_of (take i ds)) in
-    let taken : take (i + 1) ds ≡ take i ds ++ (d ∷ []) =
-    take_more ds i d l
-    ∙ ap (λ x. take i ds ++ (x ∷ [])) (sym is) in
-    let values : begun (map declaration_of (take (i + 1) ds)) ≡ front ++ (first_value (declaration_of d) ∷ []) =
-    ap (λ xs. begun (map declaration_of xs)) taken
-    ∙ ap begun (map-append declaration_of (take i ds) (d ∷ []))
-    ∙ map-append first_value (map declaration_of (take i ds)) (declaration_of d ∷ []) in
-    ap (λ xs. xs ++ (first_value (declaration_of d) ∷ [])) before
-    ∙ append_assoc old front (first_value (declaration_of d) ∷ [])
-    ∙ ap (λ xs. old ++ xs) (sym values)
-
 -- ---- the whole
 
 begun_named : (es : List Declaration) → with_names (names_of es) (begun es) ≡ map first_entry es

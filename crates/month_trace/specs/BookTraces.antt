@@ -1,5 +1,5 @@
 -- The trace of a run of a book, and why there is none.
-use Rattle.std.specs.Prelude.{◌≡◌, ℕ, List, Some, None, IsSome, Result, Ok, Err}
+use Rattle.std.specs.Prelude.{◌≡◌, ℕ, List, [], Option, Some, None, IsSome, unwrap_or, Result, Ok, Err}
 use Rattle.payroll_records.specs.declared.record.Key.{Key}
 use Rattle.payroll_records.specs.declared.when.When.{When}
 use Rattle.payroll_records.specs.declared.when.When.TheVariants as when
@@ -55,7 +55,35 @@ TraceAnswers book e w (Ok steps) = IsTraceOf book e w steps
 TraceAnswers book e w (Err (refusal.Memory x)) = ⊥
 TraceAnswers book e w (Err r) = IsTraceRefused book e w r
 
--- a book has no two answers
+-- ---- the same, computed
+
+-- the run that is meant, or why there is none
+abbrev pub key_of : List ℕ → When → InMonth → Result Key TraceRefusal
+key_of e w (One k) = Ok k
+key_of e (when.Month m) Several = Err (refusal.Several e m)
+key_of e w _ = Err (refusal.Absent e w)
+
+-- the steps of the job of a run, which a job of a book always has; or that it has no job
+abbrev pub run_said : Key → Option Job → Result (List TraceStep) TraceRefusal
+run_said k None = Err (refusal.NotDone k)
+run_said k (Some job) = Ok (unwrap_or (job_trace job) [])
+
+abbrev pub key_said : Contents → Result Key TraceRefusal → Result (List TraceStep) TraceRefusal
+key_said book (Ok k) = run_said k (job_of_key book k)
+key_said book (Err why) = Err why
+
+-- the one answer of a book
+abbrev pub trace_said : Contents → List ℕ → When → Result (List TraceStep) TraceRefusal
+trace_said book e w = key_said book (key_of e w (run_meant book e w))
+
+-- ---- laws
+
+-- what a book answers is that
+abbrev pub IsSaid : Contents → List ℕ → When → Type 0
+IsSaid book e w =
+    (answer : Result (List TraceStep) TraceRefusal) → TraceAnswers book e w answer → answer ≡ trace_said book e w
+
+-- so a book has no two answers
 abbrev pub IsOneAnswer : Contents → List ℕ → When → Type 0
 IsOneAnswer book e w =
     (one other : Result (List TraceStep) TraceRefusal)

@@ -4,4 +4,3 @@ pub mod ValueViews
 pub mod OperationViews
 pub mod WalkViews
 pub mod BookTraces
-pub mod BookViews

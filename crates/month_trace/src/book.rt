@@ -1,7 +1,6 @@
 //! The trace of a run of a book.
 ghost use Rattle.std.specs.Prelude.{◌≡◌, IfOk, IfErr};
-ghost use Rattle.month_trace.specs.BookTraces.{IsTraceOf, IsTraceRefused, run_meant};
-ghost use Rattle.month_trace.specs.BookViews.{only_key};
+ghost use Rattle.month_trace.specs.BookTraces.{IsTraceOf, IsTraceRefused, key_of, run_meant};
 
 use crate::refusal::TraceRefusal;
 use crate::run::trace_run;
@@ -47,7 +46,7 @@ fn run_meant(b: &Book, employee: Employee, when: When) -> Result<Key, TraceRefus
 
 /// The key of the only run that an employee has in a month, or why there is none.
 fn only_key(found: InMonth, employee: Employee, month: Month) -> Result<Key, TraceRefusal>
-    ensures { result ≡ only_key found employee month }
+    ensures { result ≡ key_of employee (When.Month month) found }
 {
     match found {
         InMonth::Empty => Err(TraceRefusal::Absent {

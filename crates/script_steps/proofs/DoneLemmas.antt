@@ -95,20 +95,6 @@ module _ (from : Standing) (book : Contents) (now : Filings) (made : Work) (same
       let s = says_refused why answer h is in
       owed_told (Err why) answer s.0 s.1
 
--- ---- neither counts steps
-
-pub file_steps : (from to : Standing) (month : Month) (answer : Answer) → IsFileStep from month to answer →
-    answer.steps ≡ 0
-file_steps from to month answer (inl h) = ap (λ (a : Answer). a.steps) h.told
-file_steps from to month answer (inr h) = ap (λ (a : Answer). a.steps) h.told
-
-pub owed_steps : (from : Standing) (answer : Answer) → IsOwedAnswer from answer → answer.steps ≡ 0
-owed_steps from answer h = by h.verdict h.told
-  where
-    by : (v : Result (List Due) OwedRefusal) → answer ≡ owed_answer v → answer.steps ≡ 0
-    by (Ok dues) e = ap (λ (a : Answer). a.steps) e
-    by (Err why) e = ap (λ (a : Answer). a.steps) e
-
 -- ---- the line end behind the words of a line
 
 pub ended_pair : (p a b : List ℕ) → p ++ (a ++ (32 ∷ (b ++ (10 ∷ [])))) ≡ (p ++ (a ++ (32 ∷ b))) ++ (10 ∷ [])
