@@ -143,9 +143,6 @@ front_plans_are (worked runs steps) h = record { rising = tt; few = omega arith 
 front_plans_are (planning runs steps count plans) h = record { rising = h.1.rising; few = omega (arith, h.1.within, h.1.counted) }
 front_plans_are (running runs steps plans count records) h = h.1
 
-pub stop_plans_are : (bytes : List ℕ) (stop : Stop) → StopsAt bytes stop → AreSavedPlans stop.plans
-stop_plans_are bytes stop h = subst AreSavedPlans (sym h.plans) (front_plans_are h.front h.shown.sound)
-
 -- ---- the counter of a book that is made
 
 rose : {T E : Type 0} (q : Result T E) (f : E) (before now total : ℕ) → q ≡ Err f → Counts q before now total → (before ≤ now) × (now ≤ before + total)

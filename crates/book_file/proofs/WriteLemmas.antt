@@ -4,9 +4,10 @@ use Rattle.std.specs.List.{flat_map}
 use Rattle.std.proofs.lemmas.Grind.{flat_map-append}
 use Rattle.std.proofs.Math.Seq.{take-suc}
 use Rattle.std.proofs.lemmas.Bool.{cases_lt}
-use Rattle.std.proofs.lemmas.List.{append-nil, length-map, take-append-drop}
+use Rattle.std.proofs.lemmas.List.{append-nil, get_or_default, length-map, take-append-drop}
 use Rattle.std.proofs.lemmas.List.Folds.{flat_map-map}
 use Rattle.saved_items.specs.SavedBooks.{end_text, head_text, plan_text, run_count_text, run_text, saved_plan}
+use Rattle.payroll_records.specs.declared.record.Record.{Record}
 use Rattle.plan_calendar.specs.Picking.{Entry}
 use Rattle.pap_plan.specs.Plans.{Seen}
 use Rattle.book_year.specs.Accepted.{Accepted, accepted_entry, plans_in}
@@ -36,6 +37,15 @@ years_text (y ∷ ys) = ap (λ t. year_text y ++ t) (years_text ys) ∙ sym (fla
 
 -- ---- one entry more, one year more
 
+pub one_more : {X : Type 0} (P : X → Type 0) (xs : List X) (i : ℕ) (x : X) → i < length xs → x ≡ get_or xs i x → P x →
+    ((k : ℕ) (d : X) → k < i → P (get_or xs k d)) → (k : ℕ) (d : X) → k < i + 1 → P (get_or xs k d)
+one_more P xs i x within is holds below k d lt = elim (cases_lt k i) [
+  | inl l ↦ below k d l
+  | inr g ↦
+      let same : i ≡ k = omega arith in
+      subst (λ n. P (get_or xs n d)) same (subst P (is ∙ get_or_default xs i x d within) holds)
+]
+
 more_text : {X : Type 0} (f : X → List ℕ) (before text new : List ℕ) (xs : List X) (i : ℕ) (x : X) → i < length xs → x ≡ get_or xs i x →
     text ≡ before ++ flat_map f (take i xs) → new ≡ text ++ f x → new ≡ before ++ flat_map f (take (suc i) xs)
 more_text f before text new xs i x within is said more =
@@ -43,6 +53,12 @@ more_text f before text new xs i x within is said more =
     ap (flat_map f) (take-suc xs i x within ∙ ap (λ t. take i xs ++ t ∷ []) (sym is))
     ∙ flat_map-append f (take i xs) (x ∷ []) ∙ ap (λ t. flat_map f (take i xs) ++ t) (append-nil (f x)) in
     more ∙ ap (λ t. t ++ f x) said ∙ append_assoc before (flat_map f (take i xs)) (f x) ∙ ap (λ t. before ++ t) (sym one)
+
+pub more_runs : (before text new : List ℕ) (rs : List Record) (i : ℕ) (r : Record) → i < length rs → r ≡ get_or rs i r →
+    text ≡ before ++ flat_map run_text (take i rs) → new ≡ text ++ run_text r → new ≡ before ++ flat_map run_text (take (i + 1) rs)
+more_runs before text new rs i r within is said more =
+    let next : suc i ≡ i + 1 = omega arith in
+    more_text run_text before text new rs i r within is said more ∙ ap (λ n. before ++ flat_map run_text (take n rs)) next
 
 pub more_plans : (before text new : List ℕ) (es : List (Entry Seen)) (i : ℕ) (e : Entry Seen) (plan limits : List ℕ) → i < length es →
     e ≡ get_or es i e → plan ≡ e.1.plan → limits ≡ e.1.limits → text ≡ before ++ flat_map entry_text (plans_in (take i es)) →
@@ -55,6 +71,17 @@ more_plans before text new es i e plan limits within is p l said more =
     more_text f before text new es i e within is here there
     ∙ ap (λ t. before ++ t) (sym (flat_map-map entry_text accepted_entry (take (suc i) es)))
     ∙ ap (λ t. before ++ flat_map entry_text (plans_in (take t es))) next
+
+pub more_years : (before text new : List ℕ) (ys : List Year) (i : ℕ) (y : Year) → i < length ys → y ≡ get_or ys i y →
+    text ≡ before ++ flat_map year_text (runs_in (take i ys)) → new ≡ text ++ flat_map run_text y.records.items →
+    new ≡ before ++ flat_map year_text (runs_in (take (i + 1) ys))
+more_years before text new ys i y within is said more =
+    let f : Year → List ℕ = λ y. year_text (runs_in_year y) in
+    let here : text ≡ before ++ flat_map f (take i ys) = said ∙ ap (λ t. before ++ t) (flat_map-map year_text runs_in_year (take i ys)) in
+    let next : suc i ≡ i + 1 = omega arith in
+    more_text f before text new ys i y within is here more
+    ∙ ap (λ t. before ++ t) (sym (flat_map-map year_text runs_in_year (take (suc i) ys)))
+    ∙ ap (λ n. before ++ flat_map year_text (runs_in (take n ys))) next
 
 pub years_cut : (before text new : List ℕ) (ys : List Year) (i : ℕ) (y : Year) → i < length ys → y ≡ get_or ys i y →
     text ≡ before ++ flat_map year_text (runs_in (take i ys)) → new ≡ text ++ flat_map run_text y.records.items →

@@ -4,7 +4,6 @@
 mod plans;
 mod read;
 mod refusal;
-mod sound;
 mod write;
 
 pub use read::{read_book, text_laws};

@@ -1,21 +1,20 @@
 //! The text of a book.
-ghost use Rattle.std.specs.Prelude.{◌≡◌, ◌++◌, IfOk, IfErr, OnOk, Ok};
+ghost use Rattle.std.specs.Prelude.{◌≡◌, ◌++◌, All, IfOk, IfErr, OnOk, Ok};
 ghost use Rattle.std.specs.List.{flat_map};
-ghost use Rattle.saved_items.specs.SavedBooks.{run_text};
+ghost use Rattle.saved_items.specs.SavedBooks.{IsRun, IsWork, run_text};
 ghost use Rattle.book_year.specs.Accepted.{plans_in};
 ghost use Rattle.book_edits.specs.Kept.{runs_in};
 ghost use Rattle.book_file.specs.BookLaws.{BooksAreSaved, BooksAreSavedOneWay};
 ghost use Rattle.book_file.specs.BookSays.{BookSays};
 ghost use Rattle.book_file.specs.Saving.{IsUnsaved, SaveSays};
-ghost use Rattle.book_file.specs.WritingViews.{IsCutFrom, entry_text, year_text};
+ghost use Rattle.book_file.specs.WritingViews.{HasRuns, IsCutFrom, entry_text, year_text};
 
-use crate::sound::is_sound;
 use crate::{MOST_BOOK_TEXT, SaveRefusal};
 use book_year::Year;
 use pap_plan::Plan;
 use payroll_records::{Day, Record};
-use recalc_engine::Book;
-use saved_items::{push_end, push_head, push_plan, push_run, push_run_count};
+use recalc_engine::{Book, Work};
+use saved_items::{is_run, push_end, push_head, push_plan, push_run, push_run_count};
 use std::alloc::{AllocError, Global};
 
 /// The text as which a book is saved, of at most 268,435,456 bytes. It is the text of this book and of no other.
@@ -24,8 +23,9 @@ pub fn write_book(alloc: Global, b: &Book) -> Result<Vec<u8>, SaveRefusal>
     ensures refused { IfErr result (IsUnsaved b.now) }
     ensures read { IfOk result (λ text. BookSays text.items (Ok b.now)) }
 {
-    is_sound(b);
+    b.is_whole();
     let work = b.last_work();
+    fits(work);
     let plans = b.plans();
     let years = b.years();
     let mut text = Vec::new(alloc);
@@ -40,6 +40,13 @@ pub fn write_book(alloc: Global, b: &Book) -> Result<Vec<u8>, SaveRefusal>
     Ok(text)
 }
 
+/// The numbers of a work fit 64 bits, as can be written.
+fn fits(work: Work)
+    ensures { IsWork work.runs work.steps }
+{
+    let _ = work;
+}
+
 /// Appends the plans.
 fn write_plans(text: &mut Vec<u8>, plans: &[(Day, Plan)]) -> Result<(), AllocError>
     ensures { OnOk result (text.new.items
@@ -51,8 +58,9 @@ fn write_plans(text: &mut Vec<u8>, plans: &[(Day, Plan)]) -> Result<(), AllocErr
     Ok(())
 }
 
-/// Appends the runs of these years, as long as the text isn't too long.
+/// Appends the runs of these years, each of which has a text, as long as the text isn't too long.
 fn write_years(text: &mut Vec<u8>, years: &[Year]) -> Result<(), SaveRefusal>
+    ensures runs { OnOk result (All HasRuns years.now) }
     ensures ok { OnOk result
         (text.new.items ≡ text.old.items ++ flat_map year_text (runs_in years.now)) }
     ensures refused { IfErr result
@@ -67,11 +75,13 @@ fn write_years(text: &mut Vec<u8>, years: &[Year]) -> Result<(), SaveRefusal>
     Ok(())
 }
 
-/// Appends these runs.
+/// Appends these runs, each of which has a text.
 fn write_runs(text: &mut Vec<u8>, runs: &[Record]) -> Result<(), AllocError>
-    ensures { OnOk result (text.new.items ≡ text.old.items ++ flat_map run_text runs.now) }
+    ensures runs { OnOk result (All IsRun runs.now) }
+    ensures ok { OnOk result (text.new.items ≡ text.old.items ++ flat_map run_text runs.now) }
 {
     for run in runs {
+        is_run(run);
         push_run(text, run)?;
     }
     Ok(())

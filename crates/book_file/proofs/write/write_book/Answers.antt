@@ -1,12 +1,14 @@
 use Rattle.std.proofs.Common.{◌<◌, ◌++◌, length, arith, ap, subst, ◌∙◌}
-use Rattle.std.specs.List.{flat_map}
+use Rattle.std.specs.List.{All, flat_map}
 use Rattle.std.proofs.lemmas.Result.{err_from_is_err_and}
 use Rattle.book_edits.specs.Kept.{runs_in}
-use Rattle.saved_items.specs.SavedBooks.{end_text}
+use Rattle.saved_items.specs.SavedBooks.{IsWork, end_text}
+use Rattle.book_year.specs.declared.outcome.Work.{Work}
 use Rattle.book_file.specs.Limits.{most_book_text}
 use Rattle.book_file.specs.Saving.{IsUnsaved}
-use Rattle.book_file.specs.WritingViews.{IsCutFrom, year_text}
+use Rattle.book_file.specs.WritingViews.{HasRuns, IsCutFrom, year_text}
 use Rattle.book_file.proofs.ReadLemmas.{err_holds}
+use Rattle.book_file.proofs.SoundLemmas.{sound}
 use Rattle.book_file.proofs.WriteLemmas.{begun, cut_short, whole_text}
 use Rattle.book_file.proofs.write.write_book.Goals as goal
 
@@ -72,8 +74,11 @@ returns-clause-read c =
     c.in_ok-push_end.ensures
     ∙ ap (λ t. t ++ end_text) (c.in_ok-write_years.ensures.ok ∙ ap (λ years. text ++ flat_map year_text (runs_in years)) c.as_slice.ensures.value)
     ∙ whole_text book es ys text so_far in
+    let saved =
+    sound book ys.list.items c.is_whole.ensures (subst (λ (w : Work). IsWork w.runs w.steps) c.last_work-work.ensures c.fits.ensures)
+    c.years-years.ensures.years (subst (All HasRuns) c.as_slice.ensures.value c.in_ok-write_years.ensures.runs) in
     record {
       few = omega (arith, c.len-2.ensures, c.if-len-gt-MOST_BOOK_TEXT.false);
-      book_is = c.is_sound.ensures.book;
-      text = record { sound = c.is_sound.ensures.saved; text = whole };
+      book_is = c.is_whole.ensures;
+      text = record { sound = saved; text = whole };
     }
