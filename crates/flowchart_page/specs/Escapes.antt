@@ -1,6 +1,6 @@
 -- Texts in a page.
 use Rattle.std.specs.Prelude.{ℕ, Bool, List, ◌==◌, ◌||◌, not, if◌then◌else◌, codes, ◌∷◌, []}
-use Rattle.std.specs.List.{flat_map, All}
+use Rattle.std.specs.List.{flat_map}
 
 -- what a page has for a byte of a text: the marks of HTML as their names
 abbrev pub escaped_byte : ℕ → List ℕ

@@ -1,4 +1,8 @@
 //! The whole page.
+ghost use Rattle.std.specs.Prelude.{◌≡◌, option_map, IfOk, is_some};
+ghost use Rattle.flowchart_page.specs.Verdicts.{IsJudged};
+ghost use Rattle.flowchart_page.specs.VerdictViews.{HasReasonOf};
+
 use crate::callers::Callers;
 use crate::comments::{write_last_paragraph, write_paragraphs};
 use crate::declarations::{Declarations, write_declarations};
@@ -32,39 +36,85 @@ pub fn draw_chart(
     alloc: Global,
     plan: TextFile<'_>,
     limits: Option<TextFile<'_>>,
-) -> Result<Chart, AllocError> {
-    let ranges = match limits {
-        Some(file) => Some(file.bytes),
-        None => None,
-    };
-    let verdict = judge(alloc, plan.bytes, ranges);
+) -> Result<Chart, AllocError>
+    ensures judged { IfOk result (λ chart. IsJudged plan.entry.bytes.now
+        (option_map (λ file. file.bytes.now) limits.entry) (is_some chart.reason)) }
+{
+    let judgement = judge_files(alloc, plan, limits)?;
+    let page = write_chart(alloc, plan, limits, &judgement)?;
+    Ok(Chart {
+        page,
+        reason: words_of(judgement.reason),
+    })
+}
+
+/// What is said of a plan, and why it is refused.
+#[derive(Drop)]
+struct Judgement {
+    verdict: Verdict,
+    reason: Option<Reason>,
+}
+
+/// Judges a plan's file, with a range file or without one.
+#[tactic(auto, using(crate::proofs::VerdictLemmas::judged))]
+fn judge_files(
+    alloc: Global,
+    plan: TextFile<'_>,
+    limits: Option<TextFile<'_>>,
+) -> Result<Judgement, AllocError>
+    ensures { IfOk result (λ judgement. IsJudged plan.entry.bytes.now
+        (option_map (λ file. file.bytes.now) limits.entry) (is_some judgement.reason)) }
+{
+    let verdict = judge(alloc, plan.bytes, bytes_of(limits));
     let reason = reason_of(alloc, plan, limits, &verdict)?;
+    Ok(Judgement { verdict, reason })
+}
+
+/// The page of a plan that is judged.
+fn write_chart(
+    alloc: Global,
+    plan: TextFile<'_>,
+    limits: Option<TextFile<'_>>,
+    judgement: &Judgement,
+) -> Result<Vec<u8>, AllocError> {
     let mut page = Page::new(alloc);
+    let verdict = &judgement.verdict;
+    let reason = &judgement.reason;
     match read_elements(alloc, plan.bytes) {
         Ok(elements) => {
             let notes = read_notes(alloc, plan.bytes)?;
-            let limits = limits_of(alloc, ranges)?;
+            let limits = limits_of(alloc, bytes_of(limits))?;
             let source = Source {
                 file: plan.name,
                 elements: &elements,
                 notes: &notes,
                 limits: &limits,
-                verdict: &verdict,
-                reason: &reason,
+                verdict,
+                reason,
             };
             write_page(&mut page, &source)?;
         }
         Err(ReadFault::Memory) => return Err(AllocError),
-        Err(_) => write_nothing(&mut page, plan.name, &verdict, &reason)?,
+        Err(_) => write_nothing(&mut page, plan.name, verdict, reason)?,
     }
-    Ok(Chart {
-        page: page.bytes,
-        reason: words_of(reason),
-    })
+    Ok(page.bytes)
+}
+
+/// The bytes of a file, where there is one.
+fn bytes_of(file: Option<TextFile<'_>>) -> Option<&[u8]>
+    ensures { option_map (λ bytes. bytes.now) result
+        ≡ option_map (λ file. file.bytes.now) file.entry }
+{
+    match file {
+        Some(file) => Some(file.bytes),
+        None => None,
+    }
 }
 
 /// The words of a reason.
-fn words_of(reason: Option<Reason>) -> Option<String> {
+fn words_of(reason: Option<Reason>) -> Option<String>
+    ensures { is_some result ≡ is_some reason }
+{
     match reason {
         Some(Reason { line: _, words }) => Some(words),
         None => None,
@@ -89,7 +139,9 @@ fn reason_of(
     plan: TextFile<'_>,
     limits: Option<TextFile<'_>>,
     verdict: &Verdict,
-) -> Result<Option<Reason>, AllocError> {
+) -> Result<Option<Reason>, AllocError>
+    ensures { IfOk result (HasReasonOf verdict.now) }
+{
     match verdict {
         Verdict::Refused(PlanRefusal::Memory) => Err(AllocError),
         Verdict::Refused(refusal) => {
