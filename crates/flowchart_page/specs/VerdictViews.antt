@@ -1,9 +1,10 @@
 -- The verdict as the code has it.
-use Rattle.std.specs.Prelude.{◌≡◌, ◌≢◌, ℕ, List, [], Bool, true, false, Option, None, IsSome, IsNone, unwrap_or, if◌then◌else◌}
+use Rattle.std.specs.Prelude.{◌≡◌, ◌≢◌, ℕ, List, [], false, Option, Some, None, IsSome, IsNone, unwrap_or, if◌then◌else◌}
 use Rattle.pap_plan.specs.declared.refusal.PlanRefusal.{PlanRefusal}
 use Rattle.pap_plan.specs.declared.refusal.PlanRefusal.TheVariants as refusals
 use Rattle.pap_plan.specs.Acceptance.{IsRefused, IsRefusedOrMemory}
 use Rattle.pap_plan.specs.AcceptanceClauses.{IsAcceptedAs}
+use Rattle.flowchart_page.specs.Verdicts.{lacks_limit}
 use Rattle.flowchart_page.specs.declared.verdict.Verdict.{Verdict}
 use Rattle.flowchart_page.specs.declared.verdict.Verdict.TheVariants.{Accepted, InOrder, Refused}
 
@@ -15,7 +16,8 @@ ranges_or_none limits = unwrap_or limits []
 abbrev pub IsVerdict : List ℕ → Option (List ℕ) → Verdict → Type 0
 IsVerdict plan limits (Accepted p) = IsAcceptedAs plan (ranges_or_none limits) p
 IsVerdict plan limits InOrder = (limits ≡ None) × ((name : List ℕ) × IsRefused plan [] (refusals.LimitName name))
-IsVerdict plan limits (Refused r) = IsRefusedOrMemory plan (ranges_or_none limits) r
+IsVerdict plan (Some l) (Refused r) = IsRefusedOrMemory plan l r
+IsVerdict plan None (Refused r) = (lacks_limit r ≡ false) × IsRefusedOrMemory plan [] r
 
 -- a refused plan has a reason, unless memory ran out; another has none
 abbrev pub HasReasonOf : {A : Type 0} → Verdict → Option A → Type 0
@@ -24,9 +26,5 @@ HasReasonOf InOrder reason = IsNone reason
 HasReasonOf (Refused r) reason = (r ≢ refusals.Memory) × IsSome reason
 
 -- without a range file an input without a limit is no refusal
-abbrev pub lacks_limit : PlanRefusal → Bool
-lacks_limit (refusals.LimitName name) = true
-lacks_limit _ = false
-
 abbrev pub verdict_alone : PlanRefusal → Verdict
 verdict_alone r = if lacks_limit r then InOrder else Refused r

@@ -1,6 +1,7 @@
 //! What is said of a plan, with a range file or without one.
 ghost use Rattle.std.specs.Prelude.{◌≡◌, Some, None, option_map};
-ghost use Rattle.flowchart_page.specs.VerdictViews.{IsVerdict, lacks_limit, verdict_alone};
+ghost use Rattle.flowchart_page.specs.VerdictViews.{IsVerdict, verdict_alone};
+ghost use Rattle.flowchart_page.specs.Verdicts.{lacks_limit};
 
 use pap_plan::{Plan, PlanRefusal, accept};
 use std::alloc::Global;
