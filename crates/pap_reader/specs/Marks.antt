@@ -35,8 +35,9 @@ tag_name elements.Else = codes "ELSE"
 abbrev pub all_elements : List Element
 all_elements =
     elements.Pap ∷ elements.Interface ∷ elements.Variables ∷ elements.Inputs ∷ elements.Outputs ∷ elements.Internals
-    ∷ elements.Constants ∷ elements.Input ∷ elements.Output ∷ elements.Internal ∷ elements.Constant ∷ elements.Methods
-    ∷ elements.Main ∷ elements.Method ∷ elements.Eval ∷ elements.Execute ∷ elements.If ∷ elements.Then ∷ elements.Else ∷ []
+    ∷ elements.Constants ∷ elements.Input ∷ elements.Output ∷ elements.Internal ∷ elements.Constant
+    ∷ elements.Methods ∷ elements.Main ∷ elements.Method ∷ elements.Eval ∷ elements.Execute ∷ elements.If
+    ∷ elements.Then ∷ elements.Else ∷ []
 
 -- the element of a tag's name
 abbrev pub element_of : List ℕ → Option Element
