@@ -42,6 +42,7 @@ pub(crate) fn write_declarations(
     let notes = declarations.notes;
     page.own("<section id=\"declarations\"><h2>Declarations</h2>\n")?;
     write_paragraphs(page, notes, Element::Interface, false)?;
+    write_paragraphs(page, notes, Element::Variables, false)?;
     page.own(
         "<div class=\"scroll\"><table><thead><tr><th scope=\"col\">Name<th scope=\"col\">Type<th scope=\"col\">Default or value<th scope=\"col\">Range<th scope=\"col\">Comment</tr></thead>\n",
     )?;
@@ -52,6 +53,7 @@ pub(crate) fn write_declarations(
     }
     page.own("</table></div>\n")?;
     write_paragraphs(page, notes, Element::Interface, true)?;
+    write_paragraphs(page, notes, Element::Variables, true)?;
     page.own("</section>\n")
 }
 

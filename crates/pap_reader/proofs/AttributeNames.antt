@@ -10,7 +10,7 @@ use Rattle.std.proofs.lemmas.List.Folds.{list_any-append}
 use Rattle.pap_reader.specs.declared.tags.Attribute.{Attribute as WrittenAttribute}
 use Rattle.pap_reader.specs.Bytes.{same_text}
 use Rattle.pap_reader.specs.Attributes.{are_different, are_distinct}
-use Rattle.pap_reader.specs.Views.{attributes_of}
+use Rattle.pap_reader.specs.Tags.{attributes_of}
 use Rattle.pap_reader.proofs.Closings.{map_one}
 
 abbrev pub names : List WrittenAttribute → List (List ℕ)

@@ -7,10 +7,10 @@ use Rattle.std.proofs.lemmas.List.{length-append, length-drop}
 use Rattle.pap_tree.specs.White.{is_white}
 use Rattle.pap_reader.specs.declared.tags.Form.{Form}
 use Rattle.pap_reader.specs.declared.tags.Form.TheVariants as forms
-use Rattle.pap_reader.specs.Tags.{Attribute, Tag, Front, IsAttribute, Ending, start, empty, more, IsTag, closing}
-use Rattle.pap_reader.specs.Bytes.{is_letter, is_first, is_inner, begins_with, leading, after}
-use Rattle.pap_reader.specs.Values.{byte_named, Escape, Plain, Quoted, closing_quote, byte, is_quote}
-use Rattle.pap_reader.specs.Views.{is_code, IsByte, NoValue, NoAttribute, NoEnding, NoTag}
+use Rattle.pap_reader.specs.Tags.{Attribute, Tag, Front, IsAttribute, Ending, start, empty, more, IsTag, closing, NoTag}
+use Rattle.pap_reader.specs.Bytes.{is_ascii_letter, is_first, is_inner, begins_with, leading, after}
+use Rattle.pap_reader.specs.Values.{byte_named, Escape, Plain, Quoted, closing_quote, byte, is_quote, IsByte, NoValue}
+use Rattle.pap_reader.specs.Views.{is_code, NoAttribute, NoEnding}
 use Rattle.pap_reader.specs.Skipped.{Past, here, later, IsPassed, white, comment, byte_order_mark, IsAfterMark, IsAfterDeclaration}
 use Rattle.pap_reader.proofs.Escapes.{found, escaped}
 use Rattle.pap_reader.proofs.Lexing.{unquoted, reads_next, unended, ClosesAs, an_attribute, no_attribute, attributes_next}
@@ -288,31 +288,31 @@ dec_ending (suc n) bytes le = elim (dec_attribute bytes) [
 abbrev pub ATag : List ℕ → Type 0
 ATag bytes = (t : Tag) × (rest : List ℕ) × IsTag bytes t rest
 
-end_only : (bytes inner : List ℕ) (g : Tag) (rest : List ℕ) → bytes ≡ 60 ∷ 47 ∷ inner → IsTag bytes g rest → (begins_with is_letter inner ≡ true → after is_white (after is_letter inner) ≡ 62 ∷ rest → ⊥) → ⊥
+end_only : (bytes inner : List ℕ) (g : Tag) (rest : List ℕ) → bytes ≡ 60 ∷ 47 ∷ inner → IsTag bytes g rest → (begins_with is_ascii_letter inner ≡ true → after is_white (after is_ascii_letter inner) ≡ 62 ∷ rest → ⊥) → ⊥
 end_only bytes inner g rest e i h = elim (untagged i) [
   | inl f ↦ slash_no_letter f.inner inner (tail_of 60 60 f.inner (47 ∷ inner) (sym f.is ∙ e)) f.letter
   | inr f ↦
       let s : f.inner ≡ inner = tail_of 47 47 f.inner inner (tail_of 60 60 (47 ∷ f.inner) (47 ∷ inner) (sym f.is ∙ e)) in
-      h (ap (begins_with is_letter) (sym s) ∙ f.letter) (ap (λ z. after is_white (after is_letter z)) (sym s) ∙ f.closes)
+      h (ap (begins_with is_ascii_letter) (sym s) ∙ f.letter) (ap (λ z. after is_white (after is_ascii_letter z)) (sym s) ∙ f.closes)
 ]
 
 -- after `</`
 dec_end : (bytes inner : List ℕ) → bytes ≡ 60 ∷ 47 ∷ inner → ATag bytes ⊎ NoTag bytes
-dec_end bytes inner e = elim (cases_Bool (begins_with is_letter inner)) [
-  | inr t ↦ inr (λ g rest i. end_only bytes inner g rest e i (λ b c. both_ways (begins_with is_letter inner) b t))
-  | inl t ↦ elim (dec_stop (after is_white (after is_letter inner)) 62) [
-    | inl s ↦ inl (record { form = forms.End; name = leading is_letter inner; attributes = [] }, s.0, subst (λ z. IsTag z (end_tag (leading is_letter inner) []) s.0) (sym e) (closing t s.1))
+dec_end bytes inner e = elim (cases_Bool (begins_with is_ascii_letter inner)) [
+  | inr t ↦ inr (λ g rest i. end_only bytes inner g rest e i (λ b c. both_ways (begins_with is_ascii_letter inner) b t))
+  | inl t ↦ elim (dec_stop (after is_white (after is_ascii_letter inner)) 62) [
+    | inl s ↦ inl (record { form = forms.End; name = leading is_ascii_letter inner; attributes = [] }, s.0, subst (λ z. IsTag z (end_tag (leading is_ascii_letter inner) []) s.0) (sym e) (closing t s.1))
     | inr n ↦ inr (λ g rest i. end_only bytes inner g rest e i (λ b c. n rest c))
   ]
 ]
 
 -- after `<`
 dec_start : (bytes inner : List ℕ) → bytes ≡ 60 ∷ inner → ((r : List ℕ) → inner ≡ 47 ∷ r → ⊥) → ATag bytes ⊎ NoTag bytes
-dec_start bytes inner e n = elim (cases_Bool (begins_with is_letter inner)) [
+dec_start bytes inner e n = elim (cases_Bool (begins_with is_ascii_letter inner)) [
   | inr t ↦ inr (no_letter bytes inner e n t)
-  | inl t ↦ elim (dec_ending (length (after is_letter inner)) (after is_letter inner) (omega arith)) [
-    | inl h ↦ inl (a_tag h.0 (leading is_letter inner) h.1, h.2, an_opening bytes inner (leading is_letter inner) (after is_letter inner) h.2 h.0 h.1 e t refl refl h.3)
-    | inr m ↦ inr (no_opening bytes inner (after is_letter inner) e n refl m)
+  | inl t ↦ elim (dec_ending (length (after is_ascii_letter inner)) (after is_ascii_letter inner) (omega arith)) [
+    | inl h ↦ inl (a_tag h.0 (leading is_ascii_letter inner) h.1, h.2, an_opening bytes inner (leading is_ascii_letter inner) (after is_ascii_letter inner) h.2 h.0 h.1 e t refl refl h.3)
+    | inr m ↦ inr (no_opening bytes inner (after is_ascii_letter inner) e n refl m)
   ]
 ]
 
@@ -327,8 +327,8 @@ dec_tag bytes = elim (dec_stop bytes 60) [
 
 pub tag_shorter : (bytes : List ℕ) (t : Tag) (rest : List ℕ) → IsTag bytes t rest → length rest < length bytes
 tag_shorter bytes t rest i = elim (untagged i) [
-  | inl f ↦ let a = ap length f.is in let b = after_shorter is_letter f.inner in let c = ending_shorter f.ending in omega arith
-  | inr f ↦ let a = ap length f.is in let b = after_shorter is_letter f.inner in let d = after_shorter is_white (after is_letter f.inner) in let c = ap length f.closes in omega arith
+  | inl f ↦ let a = ap length f.is in let b = after_shorter is_ascii_letter f.inner in let c = ending_shorter f.ending in omega arith
+  | inr f ↦ let a = ap length f.is in let b = after_shorter is_ascii_letter f.inner in let d = after_shorter is_white (after is_ascii_letter f.inner) in let c = ap length f.closes in omega arith
 ]
 
 -- ---- what may stand before the tokens

@@ -5,7 +5,7 @@ use Rattle.std.specs.List.{list_all, prefix_len}
 use Rattle.std.proofs.lemmas.Bool.{and_parts, and_from, cases_Bool, eqb-true, leb-true, le-leb}
 use Rattle.std.proofs.lemmas.List.{take-append-drop}
 use Rattle.std.proofs.Math.Seq.{take-append_seam, drop-append_seam}
-use Rattle.pap_reader.specs.Bytes.{is_letter, is_digit, leading, same_text}
+use Rattle.pap_reader.specs.Bytes.{is_ascii_letter, is_digit, leading, same_text}
 use Rattle.pap_reader.specs.Values.{is_hex, in_range, decimal, hexadecimal, are_digits, by_decimal, by_hexadecimal, byte_numbered, after_hash, byte_named, Escape}
 use Rattle.pap_reader.specs.Views.{is_code, FoundEscape}
 
@@ -34,20 +34,20 @@ or_left true b e = refl
 or_left false b e = absurd cc
 
 digit_code : (b : ℕ) → is_digit b ≡ true → is_code b ≡ true
-digit_code b e = or_left (is_letter b || is_digit b) (b == 35) (or_right (is_letter b) (is_digit b) e)
+digit_code b e = or_left (is_ascii_letter b || is_digit b) (b == 35) (or_right (is_ascii_letter b) (is_digit b) e)
 
-letter_code : (b : ℕ) → is_letter b ≡ true → is_code b ≡ true
-letter_code b e = or_left (is_letter b || is_digit b) (b == 35) (or_left (is_letter b) (is_digit b) e)
+letter_code : (b : ℕ) → is_ascii_letter b ≡ true → is_code b ≡ true
+letter_code b e = or_left (is_ascii_letter b || is_digit b) (b == 35) (or_left (is_ascii_letter b) (is_digit b) e)
 
 le_more : (b m n : ℕ) → m ≤ n → nat_le b m ≡ true → nat_le b n ≡ true
 le_more b m n le e = let h = leb-true b m e in le-leb b n (omega arith)
 
-low_letter : (b : ℕ) → (nat_le 97 b && nat_le b 102) ≡ true → is_letter b ≡ true
+low_letter : (b : ℕ) → (nat_le 97 b && nat_le b 102) ≡ true → is_ascii_letter b ≡ true
 low_letter b e =
     let p = and_parts (nat_le 97 b) (nat_le b 102) e in
     or_right (nat_le 65 b && nat_le b 90) (nat_le 97 b && nat_le b 122) (and_from (nat_le 97 b) (nat_le b 122) p.0 (le_more b 102 122 (omega arith) p.1))
 
-high_letter : (b : ℕ) → (nat_le 65 b && nat_le b 70) ≡ true → is_letter b ≡ true
+high_letter : (b : ℕ) → (nat_le 65 b && nat_le b 70) ≡ true → is_ascii_letter b ≡ true
 high_letter b e =
     let p = and_parts (nat_le 65 b) (nat_le b 70) e in
     or_left (nat_le 65 b && nat_le b 90) (nat_le 97 b && nat_le b 122) (and_from (nat_le 65 b) (nat_le b 90) p.0 (le_more b 70 90 (omega arith) p.1))

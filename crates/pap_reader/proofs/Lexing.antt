@@ -6,9 +6,9 @@ use Rattle.pap_tree.specs.White.{is_white}
 use Rattle.pap_reader.specs.declared.tags.Form.{Form}
 use Rattle.pap_reader.specs.declared.tags.Form.TheVariants as forms
 use Rattle.pap_reader.specs.Tags.{Attribute, Front, IsAttribute, Ending, start, empty, more}
-use Rattle.pap_reader.specs.Values.{byte_named, Escape, Plain, Quoted, closing_quote, byte, is_quote}
+use Rattle.pap_reader.specs.Values.{byte_named, Escape, Plain, Quoted, closing_quote, byte, is_quote, IsByte, NoByte}
 use Rattle.pap_reader.specs.Bytes.{is_first, is_inner, begins_with, leading, after}
-use Rattle.pap_reader.specs.Views.{is_code, FoundEscape, NoFoundEscape, IsByte, NoByte, Closing}
+use Rattle.pap_reader.specs.Views.{is_code, FoundEscape, NoFoundEscape, Closing}
 use Rattle.pap_reader.proofs.Escapes.{found, escaped}
 
 head_of : (b c : ℕ) (x y : List ℕ) → b ∷ x ≡ c ∷ y → b ≡ c

@@ -10,7 +10,7 @@ use Rattle.pap_reader.specs.Tokens.{PlacedTag, Leads, Reads, nothing, passed, ta
 use Rattle.pap_reader.specs.Marks.{shapes}
 use Rattle.pap_reader.specs.Trees.{ElementTree}
 use Rattle.pap_reader.specs.Limits.{most}
-use Rattle.pap_reader.specs.Elements.{HasTree, IsElementText, IsElements, StopsAt, IsRefused, IsFault}
+use Rattle.pap_reader.specs.Elements.{HasTree, IsElementText, IsElements, StopsAt, IsRefusedText, IsFault}
 use Rattle.pap_reader.specs.Faults.{Earns, IsClean}
 use Rattle.pap_reader.specs.Skipped.{IsPassed, Past, IsAfterMark, IsAfterDeclaration, byte_order_mark}
 use Rattle.pap_reader.proofs.Passing.{unpassed, untagged, same_tag, same_passed, same_past, append_same, passed_no_tag}
@@ -109,6 +109,18 @@ alien_leads n bytes y ts a h = elim (unled h) [
 same_list : (ts us more : List PlacedTag) → us ≡ ts ++ more → more ≡ [] → us ≡ ts
 same_list ts us more e f = e ∙ ap (λ z. ts ++ z) f ∙ append-nil ts
 
+-- ---- one list of tags
+
+ended_leads : (n : ℕ) (bytes y : List ℕ) (ts : List PlacedTag) → (bytes ≡ []) ⊎ IsAlien bytes → Leads n bytes ts y → ts ≡ []
+ended_leads n bytes y ts (inl e) h = (empty_leads n bytes y ts e h).0
+ended_leads n bytes y ts (inr a) h = (alien_leads n bytes y ts a h).0
+
+pub one_list : (bytes x y : List ℕ) (ts us : List PlacedTag) → Reads bytes ts x → (x ≡ []) ⊎ IsAlien x → Reads bytes us y → (y ≡ []) ⊎ IsAlien y → ts ≡ us
+one_list bytes x y ts us h a k b = elim (meet_reads h k) [
+  | inl m ↦ sym (same_list ts us m.more m.whole (ended_leads (length bytes) x y m.more a m.left))
+  | inr m ↦ same_list us ts m.more m.whole (ended_leads (length bytes) y x m.more b m.left)
+]
+
 -- ---- one tree
 
 pub one_tree : (bytes : List ℕ) (x y : ElementTree) → IsElementText bytes x → IsElementText bytes y → x ≡ y
@@ -121,7 +133,7 @@ one_tree bytes x y h k =
 
 -- ---- a tree or a fault
 
-fault_parts : (bytes : List ℕ) (f : ReadFault) → IsFault bytes f → ((f ≡ faults.Many which.Bytes) × (most which.Bytes < length bytes)) ⊎ ((length bytes ≤ most which.Bytes) × IsRefused bytes f)
+fault_parts : (bytes : List ℕ) (f : ReadFault) → IsFault bytes f → ((f ≡ faults.Many which.Bytes) × (most which.Bytes < length bytes)) ⊎ ((length bytes ≤ most which.Bytes) × IsRefusedText bytes f)
 fault_parts bytes (faults.Text at) h = inr h
 fault_parts bytes (faults.Element at) h = inr h
 fault_parts bytes (faults.Attribute at) h = inr h

@@ -15,7 +15,7 @@ use Rattle.pap_reader.specs.Limits.{most}
 use Rattle.pap_reader.specs.VerdictDecisions.{Work, begun, built, builds, verdict}
 use Rattle.pap_reader.specs.Tokens as tokens
 use Rattle.pap_reader.specs.Skipped.{IsPassed}
-use Rattle.pap_reader.specs.Elements.{IsElements, StopsAt, IsRefused, IsFault}
+use Rattle.pap_reader.specs.Elements.{IsElements, StopsAt, IsRefusedText, IsFault}
 use Rattle.pap_reader.proofs.Fronts.{document_ended}
 use Rattle.pap_reader.proofs.Exact.{Held, Judged, judged, held_more, held_start, tree_here}
 use Rattle.pap_reader.proofs.Whole.{reads_more, stop_no_bytes}
@@ -29,7 +29,7 @@ no_memory n before rest (inl h) = let e = h.1 in absurd cc
 no_memory n before rest (inr (inl h)) = let e = h.1 in absurd cc
 no_memory n before rest (inr (inr h)) = h.3
 
-fault_of : (bytes : List ℕ) (f : ReadFault) → length bytes ≤ most which.Bytes → IsRefused bytes f → IsFault bytes f
+fault_of : (bytes : List ℕ) (f : ReadFault) → length bytes ≤ most which.Bytes → IsRefusedText bytes f → IsFault bytes f
 fault_of bytes (faults.Text at) le h = (le, h)
 fault_of bytes (faults.Element at) le h = (le, h)
 fault_of bytes (faults.Attribute at) le h = (le, h)

@@ -12,7 +12,7 @@ use Rattle.pap_reader.specs.Tokens.{PlacedTag, Leads, Reads, IsAlien, placed}
 use Rattle.pap_reader.specs.Marks.{shapes, marks_of}
 use Rattle.pap_reader.specs.Trees.{ElementTree, tree_of}
 use Rattle.pap_reader.specs.Limits.{most, tested, IsFirstOver}
-use Rattle.pap_reader.specs.Elements.{HasTree, IsElements, StopsAt, IsRefused, IsFaultOrMemory}
+use Rattle.pap_reader.specs.Elements.{HasTree, IsElements, StopsAt, IsRefusedText, IsFaultOrMemory}
 use Rattle.pap_reader.specs.Faults.{Earns}
 use Rattle.pap_reader.specs.VerdictDecisions.{Work, begun, built, builds, verdict, ending}
 use Rattle.pap_reader.specs.ReaderViews.{Stands, Refuses, Judges, Gives}
@@ -83,7 +83,7 @@ stop_no_bytes n before rest (inl h) = let e = h.1 in absurd cc
 stop_no_bytes n before rest (inr (inl h)) = let e = h.1 in absurd cc
 stop_no_bytes n before rest (inr (inr h)) = no_bytes before (placed n rest h.0) h.3.2
 
-pub wrong : (bytes : List ℕ) (f : ReadFault) → length bytes ≤ most which.Bytes → IsRefused bytes f → IsFaultOrMemory bytes f
+pub wrong : (bytes : List ℕ) (f : ReadFault) → length bytes ≤ most which.Bytes → IsRefusedText bytes f → IsFaultOrMemory bytes f
 wrong bytes (faults.Text at) le h = (le, h)
 wrong bytes (faults.Element at) le h = (le, h)
 wrong bytes (faults.Attribute at) le h = (le, h)

@@ -1,6 +1,7 @@
 -- The attributes of each element (docs/PROFILE.md, "Attributes").
 use Rattle.std.specs.Prelude.{ℕ, Bool, true, false, not, ◌&&◌, ◌==◌, nat_le, Option, Some, None, List, [], ◌∷◌, map, codes, if◌then◌else◌}
-use Rattle.std.specs.List.{list_all, list_any}
+use Rattle.std.specs.List.{list_all, list_any, find}
+use Rattle.std.specs.Str.{bytes_eq}
 use Rattle.pap_tree.specs.Names.{is_name}
 use Rattle.pap_tree.specs.declared.declaration.Kind.{Kind}
 use Rattle.pap_tree.specs.declared.declaration.Kind.TheVariants as kinds
@@ -42,14 +43,20 @@ needs Execute = need (codes "method") a_name ∷ []
 needs If = need (codes "expr") any_text ∷ []
 needs _ = []
 
+-- the word of a type
+abbrev pub type_word : Kind → List ℕ
+type_word kinds.Int = codes "int"
+type_word kinds.Long = codes "long"
+type_word kinds.Big = codes "BigDecimal"
+type_word kinds.Factor = codes "double"
+type_word kinds.Table = codes "BigDecimal[]"
+
+abbrev pub all_types : List Kind
+all_types = kinds.Int ∷ kinds.Long ∷ kinds.Big ∷ kinds.Factor ∷ kinds.Table ∷ []
+
 -- the type of a word
 abbrev pub kind_of : List ℕ → Option Kind
-kind_of w =
-    if same_text w (codes "int") then Some kinds.Int else
-    (if same_text w (codes "long") then Some kinds.Long else
-    (if same_text w (codes "BigDecimal") then Some kinds.Big else
-    (if same_text w (codes "double") then Some kinds.Factor else
-    (if same_text w (codes "BigDecimal[]") then Some kinds.Table else None))))
+kind_of w = find (λ k. bytes_eq (type_word k) w) all_types
 
 abbrev pub kind_number : Kind → ℕ
 kind_number kinds.Int = 0

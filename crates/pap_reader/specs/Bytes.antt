@@ -3,15 +3,15 @@ use Rattle.std.specs.Prelude.{ℕ, Bool, false, ◌&&◌, ◌||◌, ◌==◌, na
 use Rattle.std.specs.List.{prefix_len}
 use Rattle.std.specs.Cmp.Lexicographic.{pointwise}
 
-abbrev pub is_letter : ℕ → Bool
-is_letter b = (nat_le 65 b && nat_le b 90) || (nat_le 97 b && nat_le b 122)
+abbrev pub is_ascii_letter : ℕ → Bool
+is_ascii_letter b = (nat_le 65 b && nat_le b 90) || (nat_le 97 b && nat_le b 122)
 
 abbrev pub is_digit : ℕ → Bool
 is_digit b = nat_le 48 b && nat_le b 57
 
 -- what an attribute's name begins with: a letter or `_`
 abbrev pub is_first : ℕ → Bool
-is_first b = is_letter b || b == 95
+is_first b = is_ascii_letter b || b == 95
 
 -- what may stand in an attribute's name: letters, digits, `_`, `-`, `.` and `:`
 abbrev pub is_inner : ℕ → Bool

@@ -44,7 +44,7 @@ StopsAt end before rest f =
     ⊎ ((t : Tag) × (next : List ℕ) × IsTag rest t next × Earns before (placed end rest t) f))
 
 -- The first token that earns a refusal earns this one.
-pub record IsRefused (bytes : List ℕ) (f : ReadFault) : Type 0 where
+pub record IsRefusedText (bytes : List ℕ) (f : ReadFault) : Type 0 where
   pub before : List PlacedTag
   pub rest : List ℕ
   pub read : Reads bytes before rest
@@ -55,7 +55,7 @@ pub record IsRefused (bytes : List ℕ) (f : ReadFault) : Type 0 where
 abbrev pub IsFault : List ℕ → ReadFault → Type 0
 IsFault bytes faults.Memory = ⊥
 IsFault bytes (faults.Many which.Bytes) = most which.Bytes < length bytes
-IsFault bytes f = (length bytes ≤ most which.Bytes) × IsRefused bytes f
+IsFault bytes f = (length bytes ≤ most which.Bytes) × IsRefusedText bytes f
 
 -- the fault of the bytes, unless memory ran out
 abbrev pub IsFaultOrMemory : List ℕ → ReadFault → Type 0

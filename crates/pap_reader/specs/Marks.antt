@@ -1,48 +1,47 @@
 -- Where tags begin and end elements.
-use Rattle.std.specs.Prelude.{ℕ, Option, Some, None, List, [], ◌∷◌, ◌++◌, map, codes, if◌then◌else◌}
+use Rattle.std.specs.Prelude.{ℕ, Option, Some, None, List, [], ◌∷◌, ◌++◌, map, codes}
+use Rattle.std.specs.List.{find}
+use Rattle.std.specs.Str.{bytes_eq}
 use Rattle.pap_reader.specs.declared.element.Element.{Element}
 use Rattle.pap_reader.specs.declared.element.Element.TheVariants as elements
 use Rattle.pap_reader.specs.declared.tags.Form.{Form}
 use Rattle.pap_reader.specs.declared.tags.Form.TheVariants as forms
-use Rattle.pap_reader.specs.Bytes.{same_text}
 use Rattle.pap_reader.specs.Tags.{Attribute, Tag}
 use Rattle.pap_reader.specs.Tokens.{PlacedTag}
 use Rattle.pap_reader.specs.Structure.{Shape, opens, closes, foreign}
 
--- the elements of the declarations, by name
-abbrev pub declaring_element : List ℕ → Option Element
-declaring_element w =
-    if same_text w (codes "PAP") then Some elements.Pap else
-    (if same_text w (codes "INTERFACE") then Some elements.Interface else
-    (if same_text w (codes "VARIABLES") then Some elements.Variables else
-    (if same_text w (codes "INPUTS") then Some elements.Inputs else
-    (if same_text w (codes "OUTPUTS") then Some elements.Outputs else
-    (if same_text w (codes "INTERNALS") then Some elements.Internals else
-    (if same_text w (codes "CONSTANTS") then Some elements.Constants else
-    (if same_text w (codes "INPUT") then Some elements.Input else
-    (if same_text w (codes "OUTPUT") then Some elements.Output else
-    (if same_text w (codes "INTERNAL") then Some elements.Internal else
-    (if same_text w (codes "CONSTANT") then Some elements.Constant else None))))))))))
+-- the name of an element's tags
+abbrev pub tag_name : Element → List ℕ
+tag_name elements.Pap = codes "PAP"
+tag_name elements.Interface = codes "INTERFACE"
+tag_name elements.Variables = codes "VARIABLES"
+tag_name elements.Inputs = codes "INPUTS"
+tag_name elements.Outputs = codes "OUTPUTS"
+tag_name elements.Internals = codes "INTERNALS"
+tag_name elements.Constants = codes "CONSTANTS"
+tag_name elements.Input = codes "INPUT"
+tag_name elements.Output = codes "OUTPUT"
+tag_name elements.Internal = codes "INTERNAL"
+tag_name elements.Constant = codes "CONSTANT"
+tag_name elements.Methods = codes "METHODS"
+tag_name elements.Main = codes "MAIN"
+tag_name elements.Method = codes "METHOD"
+tag_name elements.Eval = codes "EVAL"
+tag_name elements.Execute = codes "EXECUTE"
+tag_name elements.If = codes "IF"
+tag_name elements.Then = codes "THEN"
+tag_name elements.Else = codes "ELSE"
 
--- the elements of the methods, by name
-abbrev pub running_element : List ℕ → Option Element
-running_element w =
-    if same_text w (codes "METHODS") then Some elements.Methods else
-    (if same_text w (codes "MAIN") then Some elements.Main else
-    (if same_text w (codes "METHOD") then Some elements.Method else
-    (if same_text w (codes "EVAL") then Some elements.Eval else
-    (if same_text w (codes "EXECUTE") then Some elements.Execute else
-    (if same_text w (codes "IF") then Some elements.If else
-    (if same_text w (codes "THEN") then Some elements.Then else
-    (if same_text w (codes "ELSE") then Some elements.Else else None)))))))
-
-abbrev pub or_else : Option Element → Option Element → Option Element
-or_else (Some e) other = Some e
-or_else None other = other
+abbrev pub all_elements : List Element
+all_elements =
+    elements.Pap ∷ elements.Interface ∷ elements.Variables ∷ elements.Inputs ∷ elements.Outputs ∷ elements.Internals
+    ∷ elements.Constants ∷ elements.Input ∷ elements.Output ∷ elements.Internal ∷ elements.Constant
+    ∷ elements.Methods ∷ elements.Main ∷ elements.Method ∷ elements.Eval ∷ elements.Execute ∷ elements.If
+    ∷ elements.Then ∷ elements.Else ∷ []
 
 -- the element of a tag's name
 abbrev pub element_of : List ℕ → Option Element
-element_of w = or_else (declaring_element w) (running_element w)
+element_of w = find (λ e. bytes_eq (tag_name e) w) all_elements
 
 -- where an element begins or ends
 pub data Mark : Type 0 where

@@ -8,10 +8,16 @@ pub data Past : List ℕ → List ℕ → List ℕ → Type 0 where
   later : {mark bytes rest : List ℕ} {b : ℕ}
       → ((left : List ℕ) → b ∷ bytes ≡ mark ++ left → ⊥) → Past mark bytes rest → Past mark (b ∷ bytes) rest
 
+abbrev pub NoPast : List ℕ → List ℕ → Type 0
+NoPast mark bytes = (rest : List ℕ) → Past mark bytes rest → ⊥
+
 -- a byte of white space, or a comment, which ends at the first `-->`
 pub data IsPassed : List ℕ → List ℕ → Type 0 where
   white : {b : ℕ} {rest : List ℕ} → is_white b ≡ true → IsPassed (b ∷ rest) rest
   comment : {bytes rest : List ℕ} → Past (codes "-->") bytes rest → IsPassed (codes "<!--" ++ bytes) rest
+
+abbrev pub NotPassed : List ℕ → Type 0
+NotPassed bytes = (rest : List ℕ) → IsPassed bytes rest → ⊥
 
 -- ---- before the tokens
 
@@ -29,3 +35,8 @@ abbrev pub IsAfterDeclaration : List ℕ → List ℕ → Type 0
 IsAfterDeclaration bytes rest =
     ((inside : List ℕ) × (bytes ≡ codes "<?xml" ++ inside) × Past (codes "?>") inside rest)
     ⊎ (((inside r : List ℕ) → bytes ≡ codes "<?xml" ++ inside → Past (codes "?>") inside r → ⊥) × (rest ≡ bytes))
+
+-- what is left of the text after what may stand before the tokens
+abbrev pub IsAfterProlog : List ℕ → List ℕ → Type 0
+IsAfterProlog bytes rest =
+    (unmarked : List ℕ) × IsAfterMark bytes unmarked × IsAfterDeclaration unmarked rest

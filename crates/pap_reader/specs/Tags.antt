@@ -1,10 +1,12 @@
 -- Tags and their attributes (docs/PROFILE.md, "Tags"). Each relation is between the bytes at a place, what is read there,
 -- and the bytes that are left.
-use Rattle.std.specs.Prelude.{◌≡◌, ℕ, ◌+◌, true, List, [], ◌∷◌, length}
+use Rattle.std.specs.Prelude.{◌≡◌, ℕ, ◌+◌, true, List, [], ◌∷◌, length, map}
 use Rattle.pap_tree.specs.White.{is_white}
 use Rattle.pap_reader.specs.declared.tags.Form.{Form}
 use Rattle.pap_reader.specs.declared.tags.Form.TheVariants as forms
-use Rattle.pap_reader.specs.Bytes.{is_letter, is_first, is_inner, begins_with, leading, after}
+use Rattle.pap_reader.specs.declared.tags.Attribute.{Attribute as WrittenAttribute}
+use Rattle.pap_reader.specs.declared.tags.Tag.{Tag as WrittenTag}
+use Rattle.pap_reader.specs.Bytes.{is_ascii_letter, is_first, is_inner, begins_with, leading, after}
 use Rattle.pap_reader.specs.Values.{Quoted, is_quote}
 
 -- an attribute: its name, how many bytes stand between its quotes, and the text that they stand for
@@ -30,6 +32,12 @@ pub record Front (bytes : List ℕ) : Type 0 where
   pub opened : after is_white value ≡ quote ∷ text
   pub quotes : is_quote quote ≡ true
 
+-- the name, the quote and the text of what stands before an attribute's value
+abbrev pub IsFrontOf : List ℕ → List ℕ → ℕ → List ℕ → Type 0
+IsFrontOf bytes name quote text =
+    (f : Front bytes)
+    × (name ≡ leading is_inner (after is_white bytes)) × (quote ≡ f.quote) × (text ≡ f.text)
+
 -- an attribute
 pub record IsAttribute (bytes : List ℕ) (a : Attribute) (rest : List ℕ) : Type 0 where
   pub front : Front bytes
@@ -47,8 +55,22 @@ pub data Ending : List ℕ → Form → List Attribute → List ℕ → Type 0 w
 -- a tag: `<NAME ..>`, `<NAME ../>` or `</NAME>`, with a name of letters
 pub data IsTag : List ℕ → Tag → List ℕ → Type 0 where
   opening : {bytes rest : List ℕ} {f : Form} {attributes : List Attribute}
-      → begins_with is_letter bytes ≡ true → Ending (after is_letter bytes) f attributes rest
-      → IsTag (60 ∷ bytes) (record { form = f; name = leading is_letter bytes; attributes = attributes }) rest
+      → begins_with is_ascii_letter bytes ≡ true → Ending (after is_ascii_letter bytes) f attributes rest
+      → IsTag (60 ∷ bytes) (record { form = f; name = leading is_ascii_letter bytes; attributes = attributes }) rest
   closing : {bytes rest : List ℕ}
-      → begins_with is_letter bytes ≡ true → after is_white (after is_letter bytes) ≡ 62 ∷ rest
-      → IsTag (60 ∷ 47 ∷ bytes) (record { form = forms.End; name = leading is_letter bytes; attributes = [] }) rest
+      → begins_with is_ascii_letter bytes ≡ true → after is_white (after is_ascii_letter bytes) ≡ 62 ∷ rest
+      → IsTag (60 ∷ 47 ∷ bytes) (record { form = forms.End; name = leading is_ascii_letter bytes; attributes = [] }) rest
+
+abbrev pub NoTag : List ℕ → Type 0
+NoTag bytes = (t : Tag) (rest : List ℕ) → IsTag bytes t rest → ⊥
+
+-- ---- as the code has them
+
+abbrev pub attribute_of : WrittenAttribute → Attribute
+attribute_of a = record { name = a.name.now; written = a.written; value = a.value.items }
+
+abbrev pub attributes_of : List WrittenAttribute → List Attribute
+attributes_of attributes = map attribute_of attributes
+
+abbrev pub tag_of : WrittenTag → Tag
+tag_of t = record { form = t.form; name = t.name.now; attributes = attributes_of t.attributes.items }

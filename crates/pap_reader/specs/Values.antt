@@ -62,11 +62,21 @@ pub record Plain (q : ℕ) (bytes : List ℕ) (c : ℕ) (rest : List ℕ) : Type
   pub no_tag : (c == 60) ≡ false
   pub no_escape : (c == 38) ≡ false
 
+-- a byte of a value with the quote q, for itself or by an escape
+abbrev pub IsByte : ℕ → List ℕ → ℕ → List ℕ → Type 0
+IsByte q bytes c rest = Plain q bytes c rest ⊎ Escape bytes c rest
+
+abbrev pub NoByte : ℕ → List ℕ → Type 0
+NoByte q bytes = (c : ℕ) (rest : List ℕ) → IsByte q bytes c rest → ⊥
+
 -- A value and its closing quote q: bytes that stand for themselves, and escapes.
 pub data Quoted : ℕ → List ℕ → List ℕ → List ℕ → Type 0 where
   closing_quote : {q : ℕ} {rest : List ℕ} → Quoted q (q ∷ rest) [] rest
   byte : {q c : ℕ} {bytes next value rest : List ℕ}
-      → Plain q bytes c next ⊎ Escape bytes c next → Quoted q next value rest → Quoted q bytes (c ∷ value) rest
+      → IsByte q bytes c next → Quoted q next value rest → Quoted q bytes (c ∷ value) rest
+
+abbrev pub NoValue : ℕ → List ℕ → Type 0
+NoValue q bytes = (value rest : List ℕ) → Quoted q bytes value rest → ⊥
 
 -- `"` or `'`
 abbrev pub is_quote : ℕ → Bool

@@ -1,5 +1,5 @@
--- What the values of the code stand for: bytes, tags, attributes, children and counts.
-use Rattle.std.specs.Prelude.{◌≡◌, ℕ, ◌+◌, ◌<◌, ◌^◌, ◌⊎◌, Bool, true, false, ◌&&◌, Option, MatchOption, codes, List, [], ◌∷◌, ◌++◌, length, map, slice_index_or, if◌then◌else◌, ◌||◌, ◌==◌, Some}
+-- What the values of the code stand for: bytes, attributes, children and counts.
+use Rattle.std.specs.Prelude.{◌≡◌, ℕ, ◌+◌, ◌<◌, ◌^◌, ◌⊎◌, Bool, true, false, ◌&&◌, Option, MatchOption, codes, List, [], ◌∷◌, ◌++◌, length, slice_index_or, if◌then◌else◌, ◌||◌, ◌==◌, Some}
 use Rattle.pap_tree.specs.White.{is_white}
 use Rattle.pap_tree.specs.declared.declaration.Kind.{Kind}
 use Rattle.pap_reader.specs.declared.element.Element.{Element}
@@ -8,17 +8,14 @@ use Rattle.pap_reader.specs.declared.element.Children.{Children}
 use Rattle.pap_reader.specs.declared.counts.Counts.{Counts}
 use Rattle.pap_reader.specs.declared.fault.Which.TheVariants as which
 use Rattle.pap_reader.specs.declared.tags.Form.{Form}
-use Rattle.pap_reader.specs.declared.tags.Attribute.{Attribute as WrittenAttribute}
-use Rattle.pap_reader.specs.declared.tags.Tag.{Tag as WrittenTag}
 use Rattle.pap_reader.specs.declared.attributes.TagValue.{TagValue}
 use Rattle.pap_reader.specs.declared.attributes.TagValue.TheVariants.{Declared, Text, Named}
 use Rattle.pap_reader.specs.Table.{number, has}
 use Rattle.pap_reader.specs.Structure.{Shape, opens}
-use Rattle.pap_reader.specs.Bytes.{is_letter, is_digit, is_inner, leading, after}
-use Rattle.pap_reader.specs.Values.{byte_named, Escape, Plain, Quoted, is_quote}
-use Rattle.pap_reader.specs.Tags.{Attribute, Tag, Front, IsAttribute, Ending, IsTag}
-use Rattle.pap_reader.specs.Skipped.{Past, IsPassed, IsAfterMark, IsAfterDeclaration}
-use Rattle.pap_reader.specs.Tokens.{PlacedTag}
+use Rattle.pap_reader.specs.Bytes.{is_ascii_letter, is_digit, leading, after}
+use Rattle.pap_reader.specs.Values.{byte_named, is_quote}
+use Rattle.pap_reader.specs.Tags.{Attribute, IsAttribute, Ending}
+use Rattle.pap_reader.specs.Skipped.{IsPassed}
 use Rattle.pap_reader.specs.Attributes.{value_of, is_met_by, a_name, a_type}
 use Rattle.pap_reader.specs.Trees.{raw_declaration_of}
 use Rattle.pap_reader.specs.Meaning.{declared, text_of}
@@ -26,13 +23,9 @@ use Rattle.pap_reader.specs.Limits.{amount, is_counted, deeper}
 
 -- ---- what does not stand at a place
 
--- a byte of a value with the quote q, for itself or by an escape
-abbrev pub IsByte : ℕ → List ℕ → ℕ → List ℕ → Type 0
-IsByte q bytes c rest = Plain q bytes c rest ⊎ Escape bytes c rest
-
 -- what an escape's word is made of: letters, digits and `#`
 abbrev pub is_code : ℕ → Bool
-is_code b = is_letter b || is_digit b || b == 35
+is_code b = is_ascii_letter b || is_digit b || b == 35
 
 -- an escape as it is found: the longest word after `&`
 pub record FoundEscape (bytes : List ℕ) (c : ℕ) (rest : List ℕ) : Type 0 where
@@ -43,12 +36,6 @@ pub record FoundEscape (bytes : List ℕ) (c : ℕ) (rest : List ℕ) : Type 0 w
 
 abbrev pub NoFoundEscape : List ℕ → Type 0
 NoFoundEscape bytes = (c : ℕ) (rest : List ℕ) → FoundEscape bytes c rest → ⊥
-
-abbrev pub NoByte : ℕ → List ℕ → Type 0
-NoByte q bytes = (c : ℕ) (rest : List ℕ) → IsByte q bytes c rest → ⊥
-
-abbrev pub NoValue : ℕ → List ℕ → Type 0
-NoValue q bytes = (value rest : List ℕ) → Quoted q bytes value rest → ⊥
 
 abbrev pub NoQuote : List ℕ → Type 0
 NoQuote bytes = (quote : ℕ) (text : List ℕ) → bytes ≡ quote ∷ text → is_quote quote ≡ true → ⊥
@@ -66,44 +53,10 @@ NoClosing bytes = (rest : List ℕ) → Closing bytes rest → ⊥
 abbrev pub NoEnding : List ℕ → Type 0
 NoEnding bytes = (f : Form) (attributes : List Attribute) (rest : List ℕ) → Ending bytes f attributes rest → ⊥
 
-abbrev pub NoTag : List ℕ → Type 0
-NoTag bytes = (t : Tag) (rest : List ℕ) → IsTag bytes t rest → ⊥
-
-abbrev pub NoPast : List ℕ → List ℕ → Type 0
-NoPast mark bytes = (rest : List ℕ) → Past mark bytes rest → ⊥
-
-abbrev pub NotPassed : List ℕ → Type 0
-NotPassed bytes = (rest : List ℕ) → IsPassed bytes rest → ⊥
-
--- the name, the quote and the text of what stands before an attribute's value
-abbrev pub IsFrontOf : List ℕ → List ℕ → ℕ → List ℕ → Type 0
-IsFrontOf bytes name quote text =
-    (f : Front bytes)
-    × (name ≡ leading is_inner (after is_white bytes)) × (quote ≡ f.quote) × (text ≡ f.text)
-
 -- The rest is left after some white space and comments.
 pub data Passes : List ℕ → List ℕ → Type 0 where
   none : {bytes : List ℕ} → Passes bytes bytes
   one : {bytes next rest : List ℕ} → IsPassed bytes next → Passes next rest → Passes bytes rest
-
--- what is left of the text after what may stand before the tokens
-abbrev pub IsAfterProlog : List ℕ → List ℕ → Type 0
-IsAfterProlog bytes rest =
-    (unmarked : List ℕ) × IsAfterMark bytes unmarked × IsAfterDeclaration unmarked rest
-
--- ---- tags
-
-abbrev pub attribute_of : WrittenAttribute → Attribute
-attribute_of a = record { name = a.name.now; written = a.written; value = a.value.items }
-
-abbrev pub attributes_of : List WrittenAttribute → List Attribute
-attributes_of attributes = map attribute_of attributes
-
-abbrev pub tag_of : WrittenTag → Tag
-tag_of t = record { form = t.form; name = t.name.now; attributes = attributes_of t.attributes.items }
-
-abbrev pub placed_at : ℕ → WrittenTag → PlacedTag
-placed_at at t = record { at = at; tag = tag_of t }
 
 -- ---- what the attributes say
 

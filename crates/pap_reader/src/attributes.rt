@@ -1,10 +1,11 @@
 //! What the attributes of a tag say.
 
 ghost use Rattle.std.specs.Prelude.{◌≡◌, codes, IfOk, option_map, Some};
-ghost use Rattle.pap_reader.specs.Attributes.{value_of, kind_of, is_kind, are_distinct, are_short, is_right, is_met_by, a_name, a_type, any_text};
+ghost use Rattle.pap_reader.specs.Attributes.{value_of, type_word, kind_of, is_kind, are_distinct, are_short, is_right, is_met_by, a_name, a_type, any_text};
 ghost use Rattle.pap_reader.specs.Trees.{items_of};
 ghost use Rattle.pap_reader.specs.Meaning.{text_of, or_int};
-ghost use Rattle.pap_reader.specs.Views.{attributes_of, SomeWhere, IsValueOf, DeclaresOf, IsNamed, IsText, declares};
+ghost use Rattle.pap_reader.specs.Tags.{attributes_of};
+ghost use Rattle.pap_reader.specs.Views.{SomeWhere, IsValueOf, DeclaresOf, IsNamed, IsText, declares};
 
 use crate::element::Element;
 use crate::elements::RawDeclared;
@@ -15,6 +16,9 @@ use std::collections::BTreeSet;
 
 /// The most bytes between the quotes of an attribute.
 const LONGEST_VALUE: usize = 8192;
+
+/// All types.
+const TYPES: [Kind; 5] = [Kind::Int, Kind::Long, Kind::Big, Kind::Factor, Kind::Table];
 
 /// What the attributes of a tag say.
 #[derive(Drop)]
@@ -152,27 +156,28 @@ fn is_kind(kinds: &[Kind], kind: Kind) -> bool
     kinds.iter().any(|other| kind == *other)
 }
 
+/// The word of a type.
+fn type_word(kind: Kind) -> &'static [u8]
+    ensures { result.now ≡ type_word kind }
+{
+    match kind {
+        Kind::Int => b"int",
+        Kind::Long => b"long",
+        Kind::Big => b"BigDecimal",
+        Kind::Factor => b"double",
+        Kind::Table => b"BigDecimal[]",
+    }
+}
+
 /// The type of that word.
 fn kind_of(word: &[u8]) -> Option<Kind>
     ensures { result ≡ kind_of word.now }
 {
-    if word == b"int".as_slice() {
-        Some(Kind::Int)
-    } else if word == b"long".as_slice() {
-        Some(Kind::Long)
-    } else if word == b"BigDecimal".as_slice() {
-        Some(Kind::Big)
-    } else if word == b"double".as_slice() {
-        Some(Kind::Factor)
-    } else if word == b"BigDecimal[]".as_slice() {
-        Some(Kind::Table)
-    } else {
-        None
-    }
+    TYPES.iter().copied().find(|kind| type_word(*kind) == word)
 }
 
 /// The value of the first attribute of that name.
-fn value_of<'t>(attributes: &'t [Attribute], name: &[u8]) -> Option<&'t [u8]>
+pub fn value_of<'t>(attributes: &'t [Attribute], name: &[u8]) -> Option<&'t [u8]>
     ensures { option_map (λ v. v.now) result ≡ value_of name.now (attributes_of attributes.now) }
 {
     for attribute in attributes {

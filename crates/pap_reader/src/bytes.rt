@@ -3,13 +3,13 @@
 ghost use Rattle.std.specs.Prelude.{◌≡◌, ℕ, ◌<◌, ◌≤◌, ◌∷◌, ◌++◌, [], List, length, MatchOption, IfSome};
 ghost use Rattle.std.specs.List.{prefix_len};
 ghost use Rattle.pap_tree.specs.White.{is_white};
-ghost use Rattle.pap_reader.specs.Bytes.{is_letter, is_digit, is_first, is_inner, begins_with, leading, after};
+ghost use Rattle.pap_reader.specs.Bytes.{is_ascii_letter, is_digit, is_first, is_inner, begins_with, leading, after};
 
 use pap_tree::is_white;
 
 /// Whether the byte is a letter.
-pub(crate) fn is_letter(b: u8) -> bool
-    ensures { result ≡ is_letter b }
+pub(crate) fn is_ascii_letter(b: u8) -> bool
+    ensures { result ≡ is_ascii_letter b }
 {
     b.is_ascii_uppercase() || b.is_ascii_lowercase()
 }
@@ -25,7 +25,7 @@ pub(crate) fn is_digit(b: u8) -> bool
 fn is_first(b: u8) -> bool
     ensures { result ≡ is_first b }
 {
-    is_letter(b) || b == b'_'
+    is_ascii_letter(b) || b == b'_'
 }
 
 /// Whether the byte may stand in an attribute's name.
@@ -66,10 +66,10 @@ pub(crate) fn begins_with_first(bytes: &[u8]) -> bool
 
 /// Whether a tag's name begins here.
 pub(crate) fn begins_with_letter(bytes: &[u8]) -> bool
-    ensures { result ≡ begins_with is_letter bytes.now }
+    ensures { result ≡ begins_with is_ascii_letter bytes.now }
 {
     match split(bytes) {
-        Some((first, _)) => is_letter(first),
+        Some((first, _)) => is_ascii_letter(first),
         None => false,
     }
 }
@@ -84,10 +84,10 @@ fn white_len(bytes: &[u8]) -> usize
 
 /// How many letters come first.
 fn letters_len(bytes: &[u8]) -> usize
-    ensures count { result ≡ prefix_len is_letter bytes.now }
+    ensures count { result ≡ prefix_len is_ascii_letter bytes.now }
     ensures within { result ≤ length bytes.now }
 {
-    bytes.iter().take_while(|b| is_letter(**b)).count()
+    bytes.iter().take_while(|b| is_ascii_letter(**b)).count()
 }
 
 /// How many bytes of an attribute's name come first.
@@ -107,9 +107,9 @@ pub(crate) fn after_white(bytes: &[u8]) -> &[u8]
 }
 
 /// The letters that come first, and what is left.
-pub(crate) fn split_letters(bytes: &[u8]) -> (&[u8], &[u8])
-    ensures letters { result.0.now ≡ leading is_letter bytes.now }
-    ensures left { result.1.now ≡ after is_letter bytes.now }
+pub fn split_letters(bytes: &[u8]) -> (&[u8], &[u8])
+    ensures letters { result.0.now ≡ leading is_ascii_letter bytes.now }
+    ensures left { result.1.now ≡ after is_ascii_letter bytes.now }
     ensures shorter { length result.1.now ≤ length bytes.now }
 {
     bytes.split_at(letters_len(bytes))

@@ -2,13 +2,13 @@
 
 ghost use Rattle.std.specs.Prelude.{◌≡◌, ◌<◌, List, ◌∷◌, [], ◌++◌};
 ghost use Rattle.pap_reader.specs.Table.{number, has, may_stand, is_complete};
-ghost use Rattle.pap_reader.specs.Marks.{element_of, declaring_element, running_element};
+ghost use Rattle.pap_reader.specs.Marks.{tag_name, element_of};
 ghost use Rattle.pap_reader.specs.Views.{is_in_body, HasFlags, AddsChild};
 ghost use Rattle.pap_reader.specs.declared.element.Element.{Element as Kind};
 
 /// The elements of a plan's file.
-#[derive(Clone, Copy, PartialEq, Eq)]
-pub(crate) enum Element {
+#[derive(Clone, Copy, Debug, PartialEq, Eq)]
+pub enum Element {
     /// The root.
     Pap,
     /// The group of declarations.
@@ -37,71 +37,65 @@ pub(crate) enum Element {
     Else,
 }
 
+/// All elements.
+const ELEMENTS: [Element; 19] = [
+    Element::Pap,
+    Element::Interface,
+    Element::Variables,
+    Element::Inputs,
+    Element::Outputs,
+    Element::Internals,
+    Element::Constants,
+    Element::Input,
+    Element::Output,
+    Element::Internal,
+    Element::Constant,
+    Element::Methods,
+    Element::Main,
+    Element::Method,
+    Element::Eval,
+    Element::Execute,
+    Element::If,
+    Element::Then,
+    Element::Else,
+];
+
 impl Element {
+    /// The name of its tags.
+    fn name(self) -> &'static [u8]
+        ensures { result.now ≡ tag_name self }
+    {
+        match self {
+            Element::Pap => b"PAP",
+            Element::Interface => b"INTERFACE",
+            Element::Variables => b"VARIABLES",
+            Element::Inputs => b"INPUTS",
+            Element::Outputs => b"OUTPUTS",
+            Element::Internals => b"INTERNALS",
+            Element::Constants => b"CONSTANTS",
+            Element::Input => b"INPUT",
+            Element::Output => b"OUTPUT",
+            Element::Internal => b"INTERNAL",
+            Element::Constant => b"CONSTANT",
+            Element::Methods => b"METHODS",
+            Element::Main => b"MAIN",
+            Element::Method => b"METHOD",
+            Element::Eval => b"EVAL",
+            Element::Execute => b"EXECUTE",
+            Element::If => b"IF",
+            Element::Then => b"THEN",
+            Element::Else => b"ELSE",
+        }
+    }
+
     /// The element of a tag's name.
-    pub(crate) fn named(name: &[u8]) -> Option<Element>
+    pub fn named(name: &[u8]) -> Option<Element>
         ensures { result ≡ element_of name.now }
     {
-        match Element::declaring(name) {
-            Some(element) => Some(element),
-            None => Element::running(name),
-        }
-    }
-
-    /// The element of that name among those of the declarations.
-    fn declaring(name: &[u8]) -> Option<Element>
-        ensures { result ≡ declaring_element name.now }
-    {
-        if name == b"PAP".as_slice() {
-            Some(Element::Pap)
-        } else if name == b"INTERFACE".as_slice() {
-            Some(Element::Interface)
-        } else if name == b"VARIABLES".as_slice() {
-            Some(Element::Variables)
-        } else if name == b"INPUTS".as_slice() {
-            Some(Element::Inputs)
-        } else if name == b"OUTPUTS".as_slice() {
-            Some(Element::Outputs)
-        } else if name == b"INTERNALS".as_slice() {
-            Some(Element::Internals)
-        } else if name == b"CONSTANTS".as_slice() {
-            Some(Element::Constants)
-        } else if name == b"INPUT".as_slice() {
-            Some(Element::Input)
-        } else if name == b"OUTPUT".as_slice() {
-            Some(Element::Output)
-        } else if name == b"INTERNAL".as_slice() {
-            Some(Element::Internal)
-        } else if name == b"CONSTANT".as_slice() {
-            Some(Element::Constant)
-        } else {
-            None
-        }
-    }
-
-    /// The element of that name among those of the methods.
-    fn running(name: &[u8]) -> Option<Element>
-        ensures { result ≡ running_element name.now }
-    {
-        if name == b"METHODS".as_slice() {
-            Some(Element::Methods)
-        } else if name == b"MAIN".as_slice() {
-            Some(Element::Main)
-        } else if name == b"METHOD".as_slice() {
-            Some(Element::Method)
-        } else if name == b"EVAL".as_slice() {
-            Some(Element::Eval)
-        } else if name == b"EXECUTE".as_slice() {
-            Some(Element::Execute)
-        } else if name == b"IF".as_slice() {
-            Some(Element::If)
-        } else if name == b"THEN".as_slice() {
-            Some(Element::Then)
-        } else if name == b"ELSE".as_slice() {
-            Some(Element::Else)
-        } else {
-            None
-        }
+        ELEMENTS
+            .iter()
+            .copied()
+            .find(|element| element.name() == name)
     }
 
     /// Whether it stands in a body: a statement, or a branch of an IF.

@@ -16,6 +16,12 @@ mod tags;
 mod text;
 mod values;
 
+pub use attributes::value_of;
+pub use bytes::split_letters;
+pub use element::Element;
 pub use elements::{Elements, RawDeclared, RawMethod, RawStmt};
 pub use fault::{ReadFault, Which};
+pub use skipped::{after_passed, after_prolog, past_mark};
+pub use tags::{Attribute, Form, Tag, ValueFront, read_front, read_tag};
 pub use text::{LONGEST_PLAN, element_laws, read_elements};
+pub use values::read_byte;

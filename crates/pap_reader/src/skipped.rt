@@ -1,14 +1,14 @@
 //! What is passed over between the tags, and before them.
 
 ghost use Rattle.std.specs.Prelude.{◌≡◌, ℕ, ◌<◌, ◌≤◌, List, length, MatchOption, IfSome};
-ghost use Rattle.pap_reader.specs.Skipped.{Past, IsPassed, IsAfterMark, IsAfterDeclaration};
-ghost use Rattle.pap_reader.specs.Views.{NoPast, NotPassed, Passes, IsAfterProlog};
+ghost use Rattle.pap_reader.specs.Skipped.{Past, IsPassed, IsAfterMark, IsAfterDeclaration, NoPast, NotPassed, IsAfterProlog};
+ghost use Rattle.pap_reader.specs.Views.{Passes};
 
 use crate::bytes::{after_text, split};
 use pap_tree::is_white;
 
 /// What is left after the first place where the mark stands.
-fn past_mark<'a>(bytes: &'a [u8], mark: &[u8]) -> Option<&'a [u8]>
+pub fn past_mark<'a>(bytes: &'a [u8], mark: &[u8]) -> Option<&'a [u8]>
     requires { 0 < length mark.now }
     ensures found { MatchOption result
         (NoPast mark.now bytes.now)
@@ -26,7 +26,7 @@ fn past_mark<'a>(bytes: &'a [u8], mark: &[u8]) -> Option<&'a [u8]>
 }
 
 /// What is left after the byte of white space or the comment that comes first.
-fn after_passed(bytes: &[u8]) -> Option<&[u8]>
+pub fn after_passed(bytes: &[u8]) -> Option<&[u8]>
     ensures found { MatchOption result (NotPassed bytes.now) (λ rest. IsPassed bytes.now rest.now) }
     ensures shorter { IfSome result (λ rest. length rest.now < length bytes.now) }
 {
@@ -76,7 +76,7 @@ fn after_declaration(bytes: &[u8]) -> &[u8]
 }
 
 /// What is left after what may stand before the tokens: a byte order mark and an XML declaration.
-pub(crate) fn after_prolog(bytes: &[u8]) -> &[u8]
+pub fn after_prolog(bytes: &[u8]) -> &[u8]
     ensures passed { IsAfterProlog bytes.now result.now }
     ensures shorter { length result.now ≤ length bytes.now }
 {

@@ -2,8 +2,8 @@
 
 ghost use Rattle.std.specs.Prelude.{◌≡◌, ◌<◌, ◌≤◌, ◌∷◌, [], true, length, MatchOption, IfOk, IfSome};
 ghost use Rattle.pap_reader.specs.Values.{is_quote};
-ghost use Rattle.pap_reader.specs.Tags.{Front, IsAttribute, Ending, IsTag};
-ghost use Rattle.pap_reader.specs.Views.{attribute_of, attributes_of, tag_of, NoQuote, NoAttribute, NoClosing, NoEnding, NoTag, IsFrontOf};
+ghost use Rattle.pap_reader.specs.Tags.{Front, IsAttribute, Ending, IsTag, attribute_of, attributes_of, tag_of, NoTag, IsFrontOf};
+ghost use Rattle.pap_reader.specs.Views.{NoQuote, NoAttribute, NoClosing, NoEnding};
 
 use crate::bytes::{
     after_byte, after_white, begins_with_first, begins_with_letter, begins_with_white, split,
@@ -14,7 +14,7 @@ use std::alloc::{AllocError, Global};
 
 /// How a tag is written.
 #[derive(Clone, Copy, Debug, PartialEq, Eq)]
-pub(crate) enum Form {
+pub enum Form {
     /// `<NAME ..>`
     Start,
     /// `<NAME ../>`
@@ -25,20 +25,31 @@ pub(crate) enum Form {
 
 /// An attribute of a tag.
 #[derive(Drop)]
-pub(crate) struct Attribute<'a> {
-    pub(crate) name: &'a [u8],
+pub struct Attribute<'a> {
+    pub name: &'a [u8],
     /// How many bytes stand between the quotes.
-    pub(crate) written: usize,
+    pub written: usize,
     /// The text that they stand for.
-    pub(crate) value: Vec<u8>,
+    pub value: Vec<u8>,
 }
 
 /// A tag.
 #[derive(Drop)]
-pub(crate) struct Tag<'a> {
-    pub(crate) form: Form,
-    pub(crate) name: &'a [u8],
-    pub(crate) attributes: Vec<Attribute<'a>>,
+pub struct Tag<'a> {
+    pub form: Form,
+    pub name: &'a [u8],
+    pub attributes: Vec<Attribute<'a>>,
+}
+
+/// What stands before an attribute's value, and what follows its first quote.
+#[derive(Clone, Copy)]
+pub struct ValueFront<'a> {
+    /// The attribute's name.
+    pub name: &'a [u8],
+    /// The quote that ends the value, too.
+    pub quote: u8,
+    /// The value and what follows it.
+    pub text: &'a [u8],
 }
 
 /// The quote that comes first, and what is left.
@@ -56,12 +67,12 @@ fn split_quote(bytes: &[u8]) -> Option<(u8, &[u8])>
     }
 }
 
-/// What stands before an attribute's value: its name, the quote, and what is left.
-fn read_front(bytes: &[u8]) -> Option<(&[u8], u8, &[u8])>
+/// What stands before the value of the attribute that comes first.
+pub fn read_front(bytes: &[u8]) -> Option<ValueFront<'_>>
     ensures found { MatchOption result
         ((f : Front bytes.now) → ⊥)
-        (λ r. IsFrontOf bytes.now r.0.now r.1 r.2.now) }
-    ensures shorter { IfSome result (λ r. length r.2.now < length bytes.now) }
+        (λ r. IsFrontOf bytes.now r.name.now r.quote r.text.now) }
+    ensures shorter { IfSome result (λ r. length r.text.now < length bytes.now) }
 {
     if !begins_with_white(bytes) {
         return None;
@@ -73,7 +84,7 @@ fn read_front(bytes: &[u8]) -> Option<(&[u8], u8, &[u8])>
     let (name, rest) = split_name(named);
     let value = after_byte(after_white(rest), b'=')?;
     let (quote, text) = split_quote(after_white(value))?;
-    Some((name, quote, text))
+    Some(ValueFront { name, quote, text })
 }
 
 /// An attribute and the white space before it, and what is left.
@@ -83,7 +94,7 @@ fn read_attribute(alloc: Global, bytes: &[u8]) -> Result<Option<(Attribute<'_>, 
         (λ r. IsAttribute bytes.now (attribute_of r.0) r.1.now)) }
     ensures shorter { IfOk result (λ o. IfSome o (λ r. length r.1.now < length bytes.now)) }
 {
-    let Some((name, quote, text)) = read_front(bytes) else {
+    let Some(ValueFront { name, quote, text }) = read_front(bytes) else {
         return Ok(None);
     };
     let Some((value, rest)) = read_value(alloc, text, quote)? else {
@@ -164,7 +175,7 @@ fn read_end(alloc: Global, bytes: &[u8]) -> Option<(Tag<'_>, &[u8])>
 }
 
 /// The tag that comes first, and what is left.
-pub(crate) fn read_tag(alloc: Global, bytes: &[u8]) -> Result<Option<(Tag<'_>, &[u8])>, AllocError>
+pub fn read_tag(alloc: Global, bytes: &[u8]) -> Result<Option<(Tag<'_>, &[u8])>, AllocError>
     ensures found { IfOk result (λ o. MatchOption o
         (NoTag bytes.now)
         (λ r. IsTag bytes.now (tag_of r.0) r.1.now)) }

@@ -3,17 +3,17 @@
 ghost use Rattle.std.specs.Prelude.{◌≡◌, ◌-◌, ◌^◌, min, ◌<◌, ◌≤◌, true, length, MatchOption, IfOk, IfSome};
 ghost use Rattle.std.specs.List.{prefix_len, list_all};
 ghost use Rattle.pap_reader.specs.Bytes.{is_digit, leading, after};
-ghost use Rattle.pap_reader.specs.Values.{is_hex, hex_digit, decimal, hexadecimal, in_range, by_decimal, by_hexadecimal, byte_numbered, byte_named, is_quote, Quoted};
-ghost use Rattle.pap_reader.specs.Views.{is_code, FoundEscape, NoFoundEscape, IsByte, NoByte, NoValue};
+ghost use Rattle.pap_reader.specs.Values.{is_hex, hex_digit, decimal, hexadecimal, in_range, by_decimal, by_hexadecimal, byte_numbered, byte_named, is_quote, Quoted, IsByte, NoByte, NoValue};
+ghost use Rattle.pap_reader.specs.Views.{is_code, FoundEscape, NoFoundEscape};
 
-use crate::bytes::{after_byte, is_digit, is_letter, split};
+use crate::bytes::{after_byte, is_ascii_letter, is_digit, split};
 use std::alloc::{AllocError, Global};
 
 /// Whether the byte may stand in an escape's word.
 fn is_code(b: u8) -> bool
     ensures { result ≡ is_code b }
 {
-    is_letter(b) || is_digit(b) || b == b'#'
+    is_ascii_letter(b) || is_digit(b) || b == b'#'
 }
 
 /// Whether the byte is a hexadecimal digit, in either case.
@@ -166,7 +166,7 @@ fn read_escape(bytes: &[u8]) -> Option<(u8, &[u8])>
 }
 
 /// The byte that comes next in a value, and what is left. `None` at its quote, too.
-fn read_byte(bytes: &[u8], quote: u8) -> Option<(u8, &[u8])>
+pub fn read_byte(bytes: &[u8], quote: u8) -> Option<(u8, &[u8])>
     ensures found { MatchOption result (NoByte quote bytes.now)
         (λ r. IsByte quote bytes.now r.0 r.1.now) }
     ensures shorter { IfSome result (λ r. length r.1.now < length bytes.now) }

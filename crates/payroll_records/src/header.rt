@@ -15,7 +15,7 @@ use pap_tree::Name;
 use std::alloc::{AllocError, Global};
 
 /// How many fields of a row stand before its values: the employee, the month and the day.
-const FIRST_VALUE: usize = 3;
+pub(crate) const FIRST_VALUE: usize = 3;
 
 /// A column of values.
 #[derive(Clone, Copy)]

@@ -10,7 +10,7 @@ ghost use Rattle.payroll_records.specs.CellViews.{filled_cells, is_filled};
 ghost use Rattle.payroll_records.specs.TableViews.{AreColumns, IsFirstBroken, IsRowFault};
 ghost use Rattle.payroll_records.specs.declared.values.NamedValue.{NamedValue};
 
-use crate::header::{Header, field};
+use crate::header::{FIRST_VALUE, Header, field};
 use crate::{Day, Employee, Month, Record, Values};
 use csv::ByteRecord;
 use pap_tree::Name;
@@ -40,7 +40,7 @@ pub(crate) fn read_row(
     ensures ok { IfOk result (IsRecordOf header.now.names.items (fields_of row.now)) }
     ensures err { IfErr result (IsRowFault header.now.names.items (fields_of row.now)) }
 {
-    if row.len() != 3 + header.names.len() {
+    if row.len() != FIRST_VALUE + header.names.len() {
         return Err(RowFault::Width);
     }
     let Some(employee) = Employee::read(field(row, 0)) else {
@@ -77,7 +77,7 @@ fn first_broken(row: &ByteRecord, count: usize) -> Option<usize>
         (IsFirstBroken (fields_of row.now) count) }
 {
     for place in 0..count {
-        if !is_readable(field(row, 3 + place)) {
+        if !is_readable(field(row, FIRST_VALUE + place)) {
             return Some(place);
         }
     }
@@ -106,7 +106,7 @@ fn filled_cells(row: &ByteRecord, count: usize) -> usize
 {
     let mut filled = 0;
     for place in 0..count {
-        if is_filled(field(row, 3 + place)) {
+        if is_filled(field(row, FIRST_VALUE + place)) {
             filled += 1;
         }
     }
@@ -137,7 +137,7 @@ fn values_of(
     let mut names = Vec::with_capacity(alloc, count)?;
     let mut numbers = Vec::with_capacity(alloc, count)?;
     for column in &header.columns {
-        let Some(value) = read_number(field(row, 3 + column.place)) else {
+        let Some(value) = read_number(field(row, FIRST_VALUE + column.place)) else {
             continue;
         };
         names.push(column.name)?;

@@ -7,7 +7,7 @@ use Rattle.pap_tree.specs.Flowchart.{Flowchart}
 use Rattle.pap_reader.specs.declared.fault.Which.TheVariants as which
 use Rattle.pap_reader.specs.declared.fault.ReadFault.{ReadFault}
 use Rattle.pap_reader.specs.declared.fault.ReadFault.TheVariants as reads
-use Rattle.pap_reader.specs.Elements.{IsFault, IsRefused}
+use Rattle.pap_reader.specs.Elements.{IsFault, IsRefusedText}
 use Rattle.limits_file.specs.declared.limits.Limits.{Limits}
 use Rattle.limits_file.specs.declared.fault.LimitsFault.{LimitsFault}
 use Rattle.limits_file.specs.declared.fault.LimitsFault.TheVariants as ranges
@@ -40,8 +40,8 @@ module _ (n m : ℕ) (more_plan : 1048576 < n) (more_limits : 262144 < m) where
   plan_front : (bytes : List ℕ) (f : Flowchart) → IsPlan (take n bytes) f → IsPlan bytes f
   plan_front bytes f h = subst (λ b. IsPlan b f) (plan_whole bytes f h) h
 
-  refused_front : (bytes : List ℕ) (fault : ReadFault) → (length (take n bytes) ≤ 1048576) × IsRefused (take n bytes) fault → (length bytes ≤ 1048576) × IsRefused bytes fault
-  refused_front bytes fault h = subst (λ b. (length b ≤ 1048576) × IsRefused b fault) (whole 1048576 n bytes more_plan h.0) h
+  refused_front : (bytes : List ℕ) (fault : ReadFault) → (length (take n bytes) ≤ 1048576) × IsRefusedText (take n bytes) fault → (length bytes ≤ 1048576) × IsRefusedText bytes fault
+  refused_front bytes fault h = subst (λ b. (length b ≤ 1048576) × IsRefusedText b fault) (whole 1048576 n bytes more_plan h.0) h
 
   fault_front : (bytes : List ℕ) (fault : ReadFault) → IsFault (take n bytes) fault → IsFault bytes fault
   fault_front bytes (reads.Text at) h = refused_front bytes _ h

@@ -1,3 +1,2 @@
 pub mod KeptLemmas
-pub mod PieceLemmas
-pub mod ItemLemmas
+pub mod EdgeLemmas

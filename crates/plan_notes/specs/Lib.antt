@@ -1,5 +1,3 @@
-pub mod Pieces
-pub mod PieceViews
-pub mod Tags
+pub mod Edges
 pub mod Marks
 pub mod ScanViews

@@ -1,11 +1,11 @@
 -- The tags of a file, and by their numbers the comments before each.
 use Rattle.std.specs.Prelude.{ℕ, ◌≡◌, ◌≤◌, List, [], ◌∷◌}
 use Rattle.plan_notes.specs.declared.tag.Mark.{Mark}
-use Rattle.plan_notes.specs.Tags.{PlacedTag}
+use Rattle.plan_notes.specs.Edges.{Edge, edge}
 
 -- where the mark's element begins or ends
-abbrev pub placed : Mark → PlacedTag
-placed m = record { element = m.element; is_end = m.is_end; at = m.at }
+abbrev pub edge_of : Mark → Edge
+edge_of m = edge m.element m.is_end m.at
 
 -- the comments of these tags, one tag after the other, are those from a number on, up to another and without it
 abbrev pub HaveInTurn : ℕ → List Mark → ℕ → Type 0

@@ -3,13 +3,13 @@
 
 mod attributes;
 mod notes;
-mod pieces;
 mod scan;
 mod tag;
 mod text;
 
 pub use attributes::attribute_byte;
 pub use notes::{Notes, Walk};
+pub use pap_reader::Element;
 pub use scan::read_notes;
-pub use tag::{Element, Mark, Starts, element_name, tag_laws};
+pub use tag::{Mark, Starts, element_name, tag_laws};
 pub use text::one_line;

@@ -1,5 +1,6 @@
 //! The comments that are found, and a walk along the tags.
-use crate::tag::{Element, Mark, Starts};
+use crate::tag::{Mark, Starts};
+use pap_reader::Element;
 
 /// The comments of a plan's file, and what its root says of itself.
 #[derive(Drop)]

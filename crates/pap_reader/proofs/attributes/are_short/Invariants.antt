@@ -1,6 +1,6 @@
 use Rattle.std.proofs.Common.{◌≡◌, drop}
 use Rattle.pap_reader.specs.Attributes.{are_short}
-use Rattle.pap_reader.specs.Views.{attributes_of}
+use Rattle.pap_reader.specs.Tags.{attributes_of}
 use Rattle.pap_reader.proofs.attributes.are_short.Given as goal
 
 abbrev pub invariant-loop-attribute : goal.invariant-loop-attribute

@@ -1,7 +1,7 @@
 use Rattle.std.proofs.Common.{sym, ap, ◌∙◌}
 use Rattle.pap_reader.specs.Bytes.{after}
 use Rattle.pap_tree.specs.White.{is_white}
-use Rattle.pap_reader.specs.Views.{attributes_of}
+use Rattle.pap_reader.specs.Tags.{attributes_of}
 use Rattle.pap_reader.proofs.Passing.{a_closing}
 use Rattle.pap_reader.proofs.tags.read_end.Goals as goal
 

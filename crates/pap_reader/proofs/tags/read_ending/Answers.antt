@@ -1,5 +1,5 @@
 use Rattle.std.proofs.Common.{arith, ap, ◌∙◌}
-use Rattle.pap_reader.specs.Views.{attribute_of, attributes_of}
+use Rattle.pap_reader.specs.Tags.{attribute_of, attributes_of}
 use Rattle.pap_reader.proofs.ReaderSteps.{at_some, at_none}
 use Rattle.pap_reader.proofs.Closings.{map_one}
 use Rattle.pap_reader.proofs.Lexing.{attributes_more, attributes_none}

@@ -1,5 +1,5 @@
 use Rattle.std.proofs.Common.{◌≤◌, length}
-use Rattle.pap_reader.specs.Views.{attributes_of}
+use Rattle.pap_reader.specs.Tags.{attributes_of}
 use Rattle.pap_reader.proofs.Lexing.{Attributes}
 use Rattle.pap_reader.proofs.tags.read_ending.Given as goal
 

@@ -1,5 +1,5 @@
 use Rattle.std.proofs.Common.{sym, ◌∙◌}
-use Rattle.pap_reader.specs.Views.{attributes_of}
+use Rattle.pap_reader.specs.Tags.{attributes_of}
 use Rattle.pap_reader.proofs.ReaderSteps.{at_some}
 use Rattle.pap_reader.proofs.Passing.{an_opening}
 use Rattle.pap_reader.proofs.tags.read_tag.Goals as goal

@@ -2,7 +2,7 @@ use Rattle.std.proofs.Common.{arith, sym, ◌∙◌}
 use Rattle.std.proofs.lemmas.Result.{err_from_is_err_and}
 use Rattle.std.proofs.lemmas.Bool.{eqb-true}
 use Rattle.std.proofs.lemmas.List.{nil_from_length}
-use Rattle.pap_reader.specs.Views.{tag_of}
+use Rattle.pap_reader.specs.Tags.{tag_of}
 use Rattle.pap_reader.proofs.ReaderSteps.{at_some}
 use Rattle.pap_reader.proofs.Whole.{going_start, going_more, wrong_tag, ends}
 use Rattle.pap_reader.proofs.text.read_elements.Goals as goal

@@ -1,24 +1,30 @@
 use Rattle.std.proofs.Common.{◌-◌, ◌+◌, length, refl, arith}
-use Rattle.plan_notes.specs.PieceViews.{piece_of}
+use Rattle.std.proofs.lemmas.Option.{MatchOption-at_some, MatchOption-at_none}
 use Rattle.plan_notes.proofs.KeptLemmas.{kept_later}
-use Rattle.plan_notes.proofs.ItemLemmas.{read_start, read_more}
+use Rattle.plan_notes.proofs.EdgeLemmas.{read_start, read_more, read_whole}
 use Rattle.plan_notes.proofs.scan.read_notes.Goals as goal
 
-pub loop-cut-init : goal.loop-cut-init
-loop-cut-init c = record {
-  read = read_start c.args.file.now c.new-scan.result.notes c.new-scan.ensures.empty;
+pub loop-scan-init : goal.loop-scan-init
+loop-scan-init c = record {
+  read = read_start c.args.file.now c.after_prolog-left.result.now c.new-scan.result.notes c.after_prolog-left.ensures.passed c.new-scan.ensures.empty;
   kept = kept_later c.new-scan.result.notes c.new-scan.result.first 0 _ c.new-scan.ensures.kept (omega arith);
-  shorter = omega arith;
+  shorter = c.after_prolog-left.ensures.shorter;
 }
 
-pub loop-cut-preserved : goal.loop-cut-preserved
-loop-cut-preserved c =
-    let i = c.loop-cut.invariant in
-    let at = length c.args.file.now - length c.loop-cut.left.now in
+pub loop-scan-preserved : goal.loop-scan-preserved
+loop-scan-preserved c =
+    let i = c.loop-scan.invariant in
+    let at = length c.args.file.now - length c.loop-scan.left.now in
+    let taken = MatchOption-at_some _ _ c.in-Some.rest c.in-Some.is c.in_ok-rest.ensures.taken in
+    let kept = MatchOption-at_some _ _ c.in-Some.rest c.in-Some.is c.in_ok-rest.ensures.kept in
+    let less = MatchOption-at_some _ _ c.in-Some.rest c.in-Some.is c.in_ok-rest.ensures.shorter in
     record {
-      read = read_more c.args.file.now c.loop-cut.left.now c.in-Some.cut.rest.now c.loop-cut.scan.notes c.take.new.self.notes
-          (piece_of c.in-Some.cut.piece) at i.read c.in-Some.ensures.found refl c.in_ok-take.ensures.found;
-      kept = kept_later c.take.new.self.notes c.take.new.self.first (at + 1) _ c.in_ok-take.ensures.kept
-          (omega (arith, i.shorter, c.in-Some.ensures.shorter));
-      shorter = omega (arith, i.shorter, c.in-Some.ensures.shorter);
+      read = read_more c.args.file.now c.loop-scan.left.now c.in-Some.rest.now c.loop-scan.scan.notes c.take.new.self.notes at i.read refl taken;
+      kept = kept_later c.take.new.self.notes c.take.new.self.first (at + 1) _ kept (omega (arith, i.shorter, less));
+      shorter = omega (arith, i.shorter, less);
     }
+
+pub returns-clause-tags : goal.returns-clause-tags
+returns-clause-tags c =
+    read_whole c.args.file.now c.loop-scan.left.now c.loop-scan.scan.notes c.take.new.self.notes c.loop-scan.invariant.read
+    (MatchOption-at_none _ _ c.in_default.is c.in_ok-rest.ensures.taken)

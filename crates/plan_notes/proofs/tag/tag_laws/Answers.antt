@@ -1,5 +1,5 @@
-use Rattle.plan_notes.proofs.ItemLemmas.{one_tags}
+use Rattle.plan_notes.proofs.EdgeLemmas.{one_edges}
 use Rattle.plan_notes.proofs.tag.tag_laws.Goals as goal
 
 pub returns : goal.returns
-returns c = record { one_list = one_tags }
+returns c = record { one_list = one_edges }

@@ -5,7 +5,7 @@ use Rattle.pap_reader.specs.Marks.{begins, ends}
 use Rattle.pap_reader.specs.Attributes.{is_right}
 use Rattle.pap_reader.specs.VerdictDecisions.{verdict_on}
 use Rattle.pap_reader.specs.ReaderViews.{Refuses, one_verdict}
-use Rattle.pap_reader.specs.Views.{attributes_of}
+use Rattle.pap_reader.specs.Tags.{attributes_of}
 use Rattle.pap_reader.proofs.Verdicts.{pair_refused, refuses_same, judges_pair}
 use Rattle.pap_reader.proofs.reader.Reader.open_and_close.Goals as goal
 

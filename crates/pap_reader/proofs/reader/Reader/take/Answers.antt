@@ -1,7 +1,7 @@
 use Rattle.std.proofs.Common.{refl, ap}
 use Rattle.pap_reader.specs.declared.tags.Form.TheVariants as forms
 use Rattle.pap_reader.specs.Marks.{begins}
-use Rattle.pap_reader.specs.Views.{attributes_of, tag_of}
+use Rattle.pap_reader.specs.Tags.{attributes_of, tag_of}
 use Rattle.pap_reader.proofs.Verdicts.{judges_one, judges_end, takes_form, foreign_refused}
 use Rattle.pap_reader.proofs.reader.Reader.take.Goals as goal
 

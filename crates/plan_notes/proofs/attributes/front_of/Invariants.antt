@@ -1,6 +1,6 @@
 use Rattle.std.specs.Prelude.{⊤}
 use Rattle.std.proofs.Common.{length}
-use Rattle.plan_notes.proofs.attributes.decoded.Given as goal
+use Rattle.plan_notes.proofs.attributes.front_of.Given as goal
 
 abbrev pub invariant-loop-front : goal.invariant-loop-front
 invariant-loop-front l = ⊤
