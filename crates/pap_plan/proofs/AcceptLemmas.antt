@@ -1,5 +1,5 @@
 -- From what a stage finds to the answer.
-use Rattle.std.proofs.Common.{◌≡◌, ℕ, List, [], ◌∷◌, Result, Ok, Err, refl, sym, ap, subst, ◌∙◌}
+use Rattle.std.proofs.Common.{◌≡◌, ℕ, List, [], ◌∷◌, Result, Ok, sym, subst}
 use Rattle.std.specs.Prelude.{IfErr}
 use Rattle.std.specs.Result.{IsErrAnd}
 use Rattle.std.specs.List.{All}
@@ -15,7 +15,7 @@ use Rattle.interval_walk.specs.Admission.{HasLimit, HaveLimits}
 use Rattle.pap_plan.specs.declared.refusal.PlanRefusal.{PlanRefusal}
 use Rattle.pap_plan.specs.declared.refusal.PlanRefusal.TheVariants as refusals
 use Rattle.pap_plan.specs.Bindings.{HasSuitedLimit}
-use Rattle.pap_plan.specs.Acceptance.{IsTypedPlan, IsOrderedPlan, HasRangeFile, HasMatchingNames, HasSuitedLimits, HasBindings, IsRefusedOrMemory}
+use Rattle.pap_plan.specs.Acceptance.{IsTypedPlan, IsOrderedPlan, HasBindings}
 use Rattle.pap_plan.specs.AcceptanceClauses.{AreMatched}
 use Rattle.pap_plan.specs.JudgedViews.{HasNoVerdict, IsMisjudged}
 use Rattle.pap_plan.proofs.LimitLemmas.{found_sound}

@@ -1,9 +1,9 @@
 -- A plan that is read is within the counts of plans.
-use Rattle.std.proofs.Common.{◌≡◌, ℕ, ◌+◌, ◌≤◌, max, List, [], ◌∷◌, length, suc, refl, sym, ap, ap₂, subst, ◌∙◌, arith}
+use Rattle.std.proofs.Common.{◌≡◌, ℕ, ◌+◌, ◌≤◌, max, List, [], ◌∷◌, length, suc, refl, ap, ap₂, subst, arith}
 use Rattle.std.specs.List.{All}
 use Rattle.std.proofs.lemmas.List.Elements.{All-nil, All-cons}
 use Rattle.pap_tree.specs.Term.{Term}
-use Rattle.pap_tree.specs.Grammar.{Line, Level, Assignment, tree, assignment}
+use Rattle.pap_tree.specs.Grammar.{Level, Assignment, tree, assignment}
 use Rattle.pap_tree.specs.Expressions.{IsAccepted}
 use Rattle.pap_tree.specs.Tokens.{plain}
 use Rattle.pap_tree.specs.Declarations.{Declaration}
@@ -16,7 +16,7 @@ use Rattle.pap_reader.specs.TreeLimits.{raw_written, raw_nesting}
 use Rattle.pap_reader.specs.TreeLimits as raws
 use Rattle.pap_reader.proofs.Laws.{small_tree}
 use Rattle.pap_types.specs.Counts.{IsSmallTerm, AreSmallTerms, nesting, methods_written, methods_nesting, IsWithinCounts}
-use Rattle.plan_text.specs.Plans.{AreDeclarations, IsBody, AreRoutines, HasFlowchart, IsPlan}
+use Rattle.plan_text.specs.Plans.{AreDeclarations, IsBody, AreRoutines, IsPlan}
 
 -- ---- expressions
 

@@ -1,4 +1,5 @@
 mod AcceptLemmas
+mod AcceptedLaws
 mod AnswerLaws
 mod BindingLemmas
 mod CountLemmas

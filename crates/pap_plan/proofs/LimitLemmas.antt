@@ -1,5 +1,5 @@
 -- The limits of a range file have sound bounds.
-use Rattle.std.proofs.Common.{◌≡◌, ℕ, suc, Bool, true, false, cond, List, [], ◌∷◌, ◌++◌, codes, Option, Some, None, Result, Ok, Err, refl, sym, ap, subst, ◌∙◌}
+use Rattle.std.proofs.Common.{◌≡◌, ℕ, suc, Bool, true, false, cond, List, [], ◌∷◌, codes, Some, None, Ok, Err, sym, subst}
 use Rattle.std.specs.Prelude.{MatchBool}
 use Rattle.std.specs.List.{All, find, flat_map}
 use Rattle.std.specs.Str.{bytes_eq}
@@ -13,7 +13,7 @@ use Rattle.limits_file.specs.Limits.{HasSoundBounds}
 use Rattle.limits_file.specs.Inputs.{InputSays}
 use Rattle.limits_file.specs.Bindings.{BindingSays}
 use Rattle.limits_file.specs.Walks.{AllOrFirstFault, TableSays}
-use Rattle.limits_file.specs.RangeFiles.{with_inputs, with_bindings, joined, SectionSays, FileSays}
+use Rattle.limits_file.specs.RangeFiles.{with_inputs, with_bindings, SectionSays, FileSays}
 use Rattle.interval_walk.specs.Admission.{limit_named}
 
 inputs_sound : (n : ℕ) (entries : Members) (said : List InputLimit) → AllOrFirstFault InputSays n entries (Ok said) → All HasSoundBounds said

@@ -5,7 +5,7 @@ use Rattle.std.specs.List.{All}
 use Rattle.std.specs.Option.{option_map}
 use Rattle.std.proofs.lemmas.Int.{ints}
 use Rattle.std.proofs.lemmas.List.Elements.{All-nil, All-cons}
-use Rattle.scaled_decimal.specs.Decimals.{Decimal, decimal, numerator_of, scale_of}
+use Rattle.scaled_decimal.specs.Decimals.{Decimal, numerator_of, scale_of}
 use Rattle.scaled_decimal.specs.Limits.{IsKept, IsWithinLimit}
 use Rattle.scaled_decimal.specs.Shortening.{IsShortened}
 use Rattle.scaled_decimal.proofs.Laws.{ten_some}

@@ -11,14 +11,11 @@ use Rattle.limits_file.specs.declared.limits.Limits.{Limits}
 use Rattle.limits_file.specs.declared.limits.Carry.{Carry}
 use Rattle.limits_file.specs.declared.slots.Slot.{Slot}
 use Rattle.pap_types.specs.Scopes.{literal_decimal}
-use Rattle.pap_types.specs.Meaning.{IsSafeFor}
-use Rattle.interval_walk.specs.Admission.{AreAdmitted, HaveLimits}
-use Rattle.interval_walk.proofs.Laws.{analysis_sound}
+use Rattle.interval_walk.specs.Admission.{HaveLimits}
 use Rattle.pap_plan.specs.Acceptance.{Meaning, IsAccepted}
 use Rattle.pap_plan.specs.Bindings.{HasSuitedLimit}
 use Rattle.pap_plan.specs.Inputs.{carry_named, IsSlot, AreSlots}
 use Rattle.pap_plan.proofs.AcceptLemmas.{have_limits}
-use Rattle.pap_plan.proofs.CountLemmas.{counted}
 use Rattle.pap_plan.proofs.LimitLemmas.{file_sound}
 use Rattle.pap_plan.proofs.LiteralLemmas.{HasKeptValue, values_kept}
 
@@ -27,12 +24,6 @@ pub accepted_limits : (plan limits : List ℕ) (m : Meaning) → IsAccepted plan
 accepted_limits plan limits m h =
     let s = h.bound.suited in
     have_limits m.flowchart m.limits (record { names = s.named.matching; suited = s.suited; bound = h.bound.bound }) (file_sound limits m.limits s.named.file.file)
-
--- every list of inputs that the limits admit is safe for the flowchart
-pub accepted_safe : (plan limits : List ℕ) (m : Meaning) → IsAccepted plan limits m → (inputs : List Decimal) → AreAdmitted m.flowchart m.limits inputs → IsSafeFor m.flowchart inputs
-accepted_safe plan limits m h inputs k =
-    let typed = h.bound.suited.named.file.ordered.typed in
-    (analysis_sound m.flowchart m.limits m.outputs typed.typed (counted plan m.flowchart typed.text) (accepted_limits plan limits m h) h.walked inputs k).safe
 
 -- the decimal of each input's default is kept
 pub accepted_defaults : (plan limits : List ℕ) (m : Meaning) → IsAccepted plan limits m → All HasKeptValue m.flowchart.inputs

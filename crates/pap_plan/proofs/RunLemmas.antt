@@ -1,22 +1,20 @@
 -- What acceptance says of a run.
-use Rattle.std.proofs.Common.{◌≡◌, ℕ, ◌+◌, ◌<◌, ◌≤◌, ◌^◌, List, [], ◌∷◌, length, map, Option, Some, Result, Ok, refl, sym, ap, subst, ◌∙◌, arith}
-use Rattle.std.specs.Option.{option_map}
+use Rattle.std.proofs.Common.{◌≡◌, ℕ, ◌≤◌, List, [], ◌∷◌, length, Some, Result, Ok, refl, sym, ap, subst, ◌∙◌, arith}
 use Rattle.scaled_decimal.specs.Decimals.{Decimal}
 use Rattle.pap_tree.specs.Declarations.{Declaration}
-use Rattle.pap_tree.specs.Flowchart.{Flowchart, flowchart_of}
 use Rattle.limits_file.specs.declared.slots.Slot.{Slot}
-use Rattle.pap_types.specs.Meaning.{IsSafeFor, ends_of, outputs_in, outputs_of, cost_of, bound_of}
-use Rattle.pap_types.proofs.Laws.{cost_at_most}
+use Rattle.pap_types.specs.Limits.{most_steps}
+use Rattle.pap_types.specs.Meaning.{IsSafeFor, outputs_of, cost_of, bound_of}
 use Rattle.pap_machine.specs.Code.{Program}
 use Rattle.pap_machine.specs.Machine.{Runs, HoldAt, IsSafeFor as IsSafeForCode}
 use Rattle.pap_machine.proofs.Laws.{one_end, held_once}
-use Rattle.call_order.proofs.Laws.{bound_small}
-use Rattle.interval_walk.specs.Admission.{AllAdmitted, AreAdmitted}
-use Rattle.interval_walk.specs.Soundness.{RunHolds, AreOutputs}
-use Rattle.interval_walk.proofs.Laws.{analysis_sound}
-use Rattle.pap_compiler.specs.Correct.{IsCodeOf, BehavesOn}
+use Rattle.interval_walk.specs.Admission.{AllAdmitted}
+use Rattle.interval_walk.specs.Soundness.{AreOutputs}
+use Rattle.pap_compiler.specs.Correct.{BehavesOn}
 use Rattle.pap_plan.specs.declared.refusal.PlanRefusal.{PlanRefusal}
 use Rattle.pap_plan.specs.Acceptance.{Meaning, IsAccepted}
+use Rattle.pap_plan.specs.AcceptanceLaws.{RunsToItsEnd}
+use Rattle.pap_plan.proofs.AcceptedLaws.{never_fail, small_bounds}
 use Rattle.pap_plan.proofs.AnswerLaws.{one}
 use Rattle.pap_plan.specs.Plans.{Seen, flowchart, meaning, Admits}
 use Rattle.pap_plan.specs.PlanViews.{IsKept}
@@ -27,16 +25,9 @@ admitted_length p [] (v ∷ vs) h = absurd h
 admitted_length p (d ∷ ds) [] h = absurd h
 admitted_length p (d ∷ ds) (v ∷ vs) h = omega (arith, admitted_length p ds vs h.1)
 
--- a plan runs safely on every list of inputs that it admits
-pub holds : (p : Seen) (most : ℕ) (slots : List Slot) → IsKept p most slots → (inputs : List Decimal) → Admits p inputs → RunHolds (flowchart p) (meaning p).outputs inputs
-holds p most slots k inputs h =
-    let o = k.accepted.bound.suited.named.file.ordered in
-    analysis_sound (flowchart p) p.ranges (meaning p).outputs o.typed.typed k.counted k.limited k.accepted.walked inputs h
-
-pub small_bound : (p : Seen) (most : ℕ) (slots : List Slot) → IsKept p most slots → bound_of (flowchart p) ≤ 1000000000
-small_bound p most slots k =
-    let o = k.accepted.bound.suited.named.file.ordered in
-    bound_small (flowchart p) o.ordered.0 k.counted o.ordered.1
+-- a plan never fails on inputs that it admits
+pub to_end : (p : Seen) (most : ℕ) (slots : List Slot) → IsKept p most slots → (inputs : List Decimal) → Admits p inputs → RunsToItsEnd (meaning p) inputs
+to_end p most slots k = never_fail p.plan p.limits (meaning p) k.accepted
 
 -- what a run of the plan's code has
 pub record RunIs (p : Seen) (inputs : List Decimal) (count : ℕ) (outputs : List Decimal) : Type 0 where
@@ -46,7 +37,7 @@ pub record RunIs (p : Seen) (inputs : List Decimal) (count : ℕ) (outputs : Lis
   pub within : AreOutputs (meaning p).outputs outputs
 
 pub behaves : (p : Seen) (most : ℕ) (slots : List Slot) → IsKept p most slots → (inputs : List Decimal) → Admits p inputs → BehavesOn (flowchart p) p.code inputs
-behaves p most slots k inputs h = k.code.behaves inputs (holds p most slots k inputs h).safe
+behaves p most slots k inputs h = k.code.behaves inputs (to_end p most slots k inputs h).safe
 
 pub input_count : (p : Seen) (most : ℕ) (slots : List Slot) → IsKept p most slots → (inputs : List Decimal) → Admits p inputs → length inputs ≡ p.code.inputs
 input_count p most slots k inputs h = admitted_length p (flowchart p).inputs inputs h ∙ sym k.code.inputs
@@ -54,30 +45,25 @@ input_count p most slots k inputs h = admitted_length p (flowchart p).inputs inp
 some_same : (x y : List Decimal) → Some x ≡ Some y → x ≡ y
 some_same x y e = cc
 
--- the outputs of a safe run lie in their ranges
-outputs_within : (p : Seen) (inputs outs : List Decimal) → RunHolds (flowchart p) (meaning p).outputs inputs → outputs_of (flowchart p) inputs ≡ Some outs → AreOutputs (meaning p).outputs outs
-outputs_within p inputs outs h e =
-    let given : outputs_of (flowchart p) inputs ≡ Some (outputs_in (flowchart p) h.safe.ends) = ap (option_map (outputs_in (flowchart p))) h.safe.defined in
-    subst (AreOutputs (meaning p).outputs) (some_same (outputs_in (flowchart p) h.safe.ends) outs (sym given ∙ e)) h.outputs
-
 pub run_is : (p : Seen) (most : ℕ) (kept : List Slot) → IsKept p most kept → (inputs : List Decimal) → Admits p inputs
     → (count : ℕ) (slots outs : List Decimal) → Runs p.code inputs count slots → HoldAt slots p.code.outputs outs → RunIs p inputs count outs
 run_is p most kept k inputs h count slots outs r held =
+    let end = to_end p most kept k inputs h in
     let b = behaves p most kept k inputs h in
     let e = one_end p.code count (cost_of (flowchart p) inputs) _ slots b.slots r b.runs in
     let same = held_once b.slots p.code.outputs outs b.outputs (subst (λ s. HoldAt s p.code.outputs outs) e.1 held) b.held in
     let meant = b.meant ∙ ap Some (sym same) in
     record {
       cost = e.0;
-      bound = subst (λ n. n ≤ bound_of (flowchart p)) (sym e.0) (cost_at_most (flowchart p) inputs);
+      bound = subst (λ n. n ≤ bound_of (flowchart p)) (sym e.0) end.cost;
       meant = meant;
-      within = outputs_within p inputs outs (holds p most kept k inputs h) meant;
+      within = subst (AreOutputs (meaning p).outputs) (some_same end.outputs outs (sym end.are ∙ meant)) end.within;
     }
 
 -- ---- the same of a plan as contracts see it, which is what it keeps
 
 pub seen_safe : (v p : Seen) (most : ℕ) (kept : List Slot) → v ≡ p → IsKept v most kept → (inputs : List Decimal) → Admits p inputs → IsSafeFor (flowchart p) inputs
-seen_safe v p most kept e k inputs h = (holds p most kept (subst (λ s. IsKept s most kept) e k) inputs h).safe
+seen_safe v p most kept e k inputs h = (to_end p most kept (subst (λ s. IsKept s most kept) e k) inputs h).safe
 
 pub seen_code : (v p : Seen) (code : Program) (most : ℕ) (kept : List Slot) → v ≡ p → code ≡ v.code → IsKept v most kept → (inputs : List Decimal) → Admits p inputs → IsSafeForCode code inputs
 seen_code v p code most kept e c k inputs h =
@@ -98,8 +84,8 @@ seen_run v p code most kept e c k inputs h count slots outs r held =
     let is = c ∙ ap (λ s. s.code) e in
     run_is p most kept (subst (λ s. IsKept s most kept) e k) inputs h count slots outs (subst (λ q. Runs q inputs count slots) is r) (subst (λ q. HoldAt slots q.outputs outs) is held)
 
-pub seen_small : (v : Seen) (most : ℕ) (kept : List Slot) → IsKept v most kept → most ≤ 1000000000
-seen_small v most kept k = subst (λ n. n ≤ 1000000000) (sym k.bound) (small_bound v most kept k)
+pub seen_small : (v : Seen) (most : ℕ) (kept : List Slot) → IsKept v most kept → most ≤ most_steps
+seen_small v most kept k = subst (λ n. n ≤ most_steps) (sym k.bound) (small_bounds v.plan v.limits (meaning v) k.accepted)
 
 one_meaning : (m n : Meaning) (a b : Result Meaning PlanRefusal) → a ≡ Ok m → b ≡ Ok n → a ≡ b → m ≡ n
 one_meaning m n a b d e same = cc

@@ -8,7 +8,7 @@ use Rattle.std.proofs.lemmas.Int.{ints}
 use Rattle.std.specs.List.{All}
 use Rattle.std.proofs.lemmas.List.Elements.{All-nil, All-cons, All-head, All-tail}
 use Rattle.scaled_decimal.specs.Decimals.{numerator_of}
-use Rattle.scaled_decimal.specs.WholeNumbers.{int_bits, long_bits, IsOfBits, is_of_bits}
+use Rattle.scaled_decimal.specs.WholeNumbers.{int_bits, long_bits, IsOfBits}
 use Rattle.pap_tree.specs.declared.declaration.Kind.{Kind}
 use Rattle.pap_tree.specs.declared.declaration.Kind.TheVariants as declares
 use Rattle.pap_tree.specs.Declarations.{Declaration}

@@ -6,9 +6,7 @@ use Rattle.limits_file.specs.declared.fault.LimitsFault.{LimitsFault}
 use Rattle.limits_file.specs.declared.fault.LimitsFault.TheVariants as ranges
 use Rattle.limits_file.specs.Faults.{too_long, no_toml, bad_key, bad_bound}
 use Rattle.limits_file.specs.RangeFiles.{FileSays}
-use Rattle.pap_types.specs.declared.fault.TypeFault.{TypeFault}
 use Rattle.pap_types.specs.Checks.{IsWellTyped, type_fault}
-use Rattle.call_order.specs.declared.fault.OrderFault.{OrderFault}
 use Rattle.call_order.specs.OrderLaws.{HasOrder}
 use Rattle.call_order.specs.Faults.{IsRefused as HasOrderFault}
 use Rattle.interval_walk.specs.Ranges.{Ranges}

@@ -3,7 +3,6 @@ use Rattle.std.specs.Prelude.{◌≡◌, ℕ, List, [], ◌∷◌, Option, Some,
 use Rattle.std.specs.List.{find}
 use Rattle.std.specs.Option.{option_map}
 use Rattle.std.specs.Str.{bytes_eq}
-use Rattle.scaled_decimal.specs.Decimals.{Decimal}
 use Rattle.pap_tree.specs.Declarations.{Declaration}
 use Rattle.limits_file.specs.declared.limits.Limits.{Limits}
 use Rattle.limits_file.specs.declared.limits.Carry.{Carry}

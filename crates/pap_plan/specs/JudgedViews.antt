@@ -1,5 +1,5 @@
 -- What the private functions of acceptance find.
-use Rattle.std.specs.Prelude.{◌≡◌, ℕ, List, map, Ok, Err, ⊤}
+use Rattle.std.specs.Prelude.{◌≡◌, ℕ, List, map, Ok, ⊤}
 use Rattle.pap_tree.specs.declared.plan.PlanText.{PlanText}
 use Rattle.pap_tree.specs.Flowchart.{Flowchart, flowchart_of}
 use Rattle.limits_file.specs.declared.limits.Limits.{Limits}
@@ -7,7 +7,6 @@ use Rattle.limits_file.specs.RangeFiles.{FileSays}
 use Rattle.pap_types.specs.Meaning.{bound_of}
 use Rattle.call_order.specs.Orders.{IsOrdered}
 use Rattle.interval_walk.specs.Analysis.{analysed}
-use Rattle.interval_walk.specs.Admission.{HaveLimits}
 use Rattle.interval_analysis.specs.declared.verdict.Verdict.{Verdict}
 use Rattle.interval_analysis.specs.Answers.{named_range}
 use Rattle.pap_plan.specs.declared.refusal.PlanRefusal.{PlanRefusal}
@@ -19,7 +18,6 @@ use Rattle.pap_plan.specs.AcceptanceClauses.{AreMatched, IsUnmatched}
 -- the limits are those of the plan, and this is its verdict
 pub record HasVerdict (f : Flowchart) (l : Limits) (v : Verdict) : Type 0 where
   pub matched : AreMatched f l
-  pub limited : HaveLimits f l
   pub walked : analysed f l ≡ Ok (map named_range v.outputs.items)
   pub bound : v.bound ≡ bound_of f
 

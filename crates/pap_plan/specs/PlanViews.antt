@@ -1,16 +1,10 @@
 -- What an inner fault becomes, and what a plan keeps.
-use Rattle.std.specs.Prelude.{◌≡◌, ℕ, List, ⊤, map, Ok}
-use Rattle.pap_tree.specs.declared.plan.PlanText.{PlanText}
+use Rattle.std.specs.Prelude.{◌≡◌, ℕ, List}
 use Rattle.pap_tree.specs.Flowchart.{flowchart_of}
-use Rattle.limits_file.specs.declared.limits.Limits.{Limits}
 use Rattle.limits_file.specs.declared.slots.Slot.{Slot}
-use Rattle.pap_machine.specs.Code.{Program}
 use Rattle.pap_types.specs.Meaning.{bound_of}
-use Rattle.pap_types.specs.Counts.{IsWithinCounts}
-use Rattle.interval_walk.specs.Admission.{HaveLimits}
 use Rattle.pap_compiler.specs.CodeDecisions.{compiled}
 use Rattle.pap_compiler.specs.Correct.{IsCodeOf}
-use Rattle.interval_analysis.specs.declared.verdict.OutputRange.{OutputRange}
 use Rattle.pap_plan.specs.Acceptance.{IsAccepted}
 use Rattle.pap_plan.specs.Inputs.{AreSlots}
 use Rattle.pap_plan.specs.Plans.{Seen, meaning}
@@ -51,8 +45,6 @@ range_refusal f = refusals.Range f
 -- what a plan keeps beside what contracts see of it
 pub record IsKept (p : Seen) (most : ℕ) (inputs : List Slot) : Type 0 where
   pub accepted : IsAccepted p.plan p.limits (meaning p)
-  pub counted : IsWithinCounts (flowchart_of p.text)
-  pub limited : HaveLimits (flowchart_of p.text) p.ranges
   pub bound : most ≡ bound_of (flowchart_of p.text)
   pub slots : AreSlots p.ranges (flowchart_of p.text).inputs inputs
   pub code : IsCodeOf (flowchart_of p.text) p.code

@@ -10,10 +10,8 @@ analyse-requires-clause-limits c =
 
 pub returns-clause-passed : goal.returns-clause-passed
 returns-clause-passed c =
-    let m = subst (λ p. AreMatched (flowchart_of p) c.args.ranges.now) c.plan.ensures.text c.in_ok-match_limits.ensures.matched in
     record {
-      matched = m;
-      limited = have_limits (flowchart_of c.args.typed.now) c.args.ranges.now m c.requires.sound;
+      matched = subst (λ p. AreMatched (flowchart_of p) c.args.ranges.now) c.plan.ensures.text c.in_ok-match_limits.ensures.matched;
       walked = c.in_ok-analyse.ensures.ranges;
       bound = c.in_ok-analyse.ensures.bound;
     }
