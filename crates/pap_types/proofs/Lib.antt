@@ -9,5 +9,6 @@ pub mod MethodLemmas
 pub mod NamingLemmas
 pub mod BoundLemmas
 pub mod RunLemmas
+mod OutputLemmas
 pub mod LiteralLemmas
 pub mod Laws

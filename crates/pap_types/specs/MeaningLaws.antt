@@ -1,11 +1,12 @@
 -- What the meaning of every plan keeps.
-use Rattle.std.specs.Prelude.{◌≡◌, ◌≤◌, ◌*◌, List, length, Some}
+use Rattle.std.specs.Prelude.{◌≡◌, ◌≤◌, ◌*◌, List, length, map, Some}
 use Rattle.scaled_decimal.specs.Decimals.{Decimal}
 use Rattle.pap_tree.specs.Term.{Term}
 use Rattle.pap_tree.specs.Numbering.{nodes}
 use Rattle.pap_tree.specs.Flowchart.{Flowchart}
 use Rattle.pap_types.specs.Bounds.{term_bound}
-use Rattle.pap_types.specs.Meaning.{outputs_of, cost_of, bound_of}
+use Rattle.pap_types.specs.Values.{Env, look}
+use Rattle.pap_types.specs.Meaning.{AreInputs, ends_of, outputs_in, outputs_of, cost_of, bound_of}
 
 -- the run has one list of outputs, with a value for each declared output
 pub record HasOneOutputs (f : Flowchart) (inputs : List Decimal) : Type 0 where
@@ -13,6 +14,12 @@ pub record HasOneOutputs (f : Flowchart) (inputs : List Decimal) : Type 0 where
   pub are : outputs_of f inputs ≡ Some outputs
   pub only : (others : List Decimal) → outputs_of f inputs ≡ Some others → others ≡ outputs
   pub each : length outputs ≡ length f.outputs
+
+-- where a run ends, each output is what stands under its name
+abbrev pub OutputsStandByName : Flowchart → Type 0
+OutputsStandByName f =
+    (inputs : List Decimal) (ends : Env) → AreInputs f.inputs inputs → ends_of f inputs ≡ Some ends
+    → map Some (outputs_in f ends) ≡ map (λ d. look ends d.name) f.outputs
 
 -- a run costs at most the bound, also where it is undefined
 abbrev pub CostsAtMostBound : Flowchart → Type 0
