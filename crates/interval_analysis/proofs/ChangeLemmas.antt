@@ -20,12 +20,12 @@ length-changed rs (c ∷ cs) = length-changed (set rs c.number c.range) cs ∙ l
 pub changed_more : (rs : List Interval) (cs : List Change) (i : ℕ) (d : Change) → i < length cs → changed rs (take (i + 1) cs) ≡ set (changed rs (take i cs)) (get_or cs i d).number (get_or cs i d).range
 changed_more rs cs i d l = ap (changed rs) (take_more cs i d l) ∙ changed-append rs (take i cs) (get_or cs i d ∷ [])
 
-pub set_there : (rs : List Interval) (i : ℕ) (a : Interval) → i < length rs → slice_get (set rs i a) i ≡ Some a
+pub set_there : {X : Type 0} (rs : List X) (i : ℕ) (a : X) → i < length rs → slice_get (set rs i a) i ≡ Some a
 set_there rs i a l =
     let count = length-set rs i a in
     slice_get-get_or (set rs i a) i a (omega (arith, count)) ∙ ap Some (get_or-set_same rs i a a l)
 
-pub set_elsewhere : (rs : List Interval) (i j : ℕ) (a : Interval) → j ≢ i → slice_get (set rs i a) j ≡ slice_get rs j
+pub set_elsewhere : {X : Type 0} (rs : List X) (i j : ℕ) (a : X) → j ≢ i → slice_get (set rs i a) j ≡ slice_get rs j
 set_elsewhere rs i j a ne =
     let count = length-set rs i a in
     elim (cases_lt j (length rs)) [

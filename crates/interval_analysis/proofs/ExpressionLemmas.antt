@@ -1,6 +1,5 @@
 -- Steps of the walk of expressions.
-use Rattle.std.proofs.Common.{◌≡◌, ℕ, ◌+◌, List, Result, Ok, Err, refl, sym, ap, ◌∙◌, subst, arith}
-use Rattle.std.specs.Result.{IsErrAnd}
+use Rattle.std.proofs.Common.{◌≡◌, ℕ, ◌+◌, List, Result, Ok, Err, refl, ◌∙◌, arith}
 use Rattle.pap_tree.specs.declared.expression.Binary.{Binary}
 use Rattle.pap_tree.specs.declared.expression.Binary.TheVariants as binaries
 use Rattle.pap_tree.specs.Term.{Term, two, operator}
@@ -8,7 +7,7 @@ use Rattle.pap_tree.specs.Numbering.{nodes}
 use Rattle.interval_num.specs.Intervals.{Interval}
 use Rattle.pap_types.specs.Kinds.{int_literal}
 use Rattle.interval_walk.specs.Ranges.{Ranges}
-use Rattle.interval_walk.specs.Failures.{NodeFault, and_then, at_node}
+use Rattle.interval_walk.specs.Failures.{and_then, at_node}
 use Rattle.interval_walk.specs.NodeRanges.{comparison_range}
 use Rattle.interval_walk.specs.Branches as meant
 use Rattle.interval_walk.specs.Ranged.{tested, are_whole, compare_sides}

@@ -13,6 +13,7 @@ pub mod NodeLemmas
 pub mod NoteLemmas
 pub mod OutputLemmas
 pub mod PartLemmas
+pub mod RepeatLemmas
 pub mod StartLemmas
 pub mod StatementLemmas
 pub mod VariableLemmas

@@ -1,5 +1,5 @@
 -- What a node answers, from what its operands do.
-use Rattle.std.proofs.Common.{◌≡◌, ℕ, ◌+◌, ◌<◌, ◌^◌, List, Option, Some, None, Result, Ok, Err, refl, sym, ap, ap₂, ◌∙◌, subst, arith}
+use Rattle.std.proofs.Common.{◌≡◌, ℕ, ◌+◌, List, Option, Some, None, Result, Ok, Err, refl, sym, ap, ap₂, ◌∙◌, subst, arith}
 use Rattle.scaled_decimal.specs.Decimals.{Decimal}
 use Rattle.std.specs.Result.{IsErrAnd}
 use Rattle.pap_tree.specs.Term.{Term, item, One, one, Two, two}
@@ -11,10 +11,10 @@ use Rattle.pap_types.specs.declared.kinds.NodeKind.TheVariants.{Big}
 use Rattle.pap_types.specs.Kinds.{kind_of, kind_of_one, kind_of_two, wider}
 use Rattle.pap_types.specs.Scopes.{Scope, table_in}
 use Rattle.interval_walk.specs.Ranges.{Ranges}
-use Rattle.interval_walk.specs.Failures.{NodeFault, and_then, at_node, nowhere}
+use Rattle.interval_walk.specs.Failures.{NodeFault, and_then, at_node}
 use Rattle.interval_walk.specs.NodeRanges.{item_range, one_range, two_range}
-use Rattle.interval_walk.specs.Branches.{Branches, either_way}
-use Rattle.interval_walk.specs.Ranged.{ranged, tested}
+use Rattle.interval_walk.specs.Branches.{Branches}
+use Rattle.interval_walk.specs.Ranged.{ranged}
 use Rattle.interval_walk.specs.Shapes.{HasShape}
 use Rattle.interval_walk.proofs.Laws.{ranged_shape}
 use Rattle.interval_analysis.specs.declared.expressions.Operands.{Operands}
@@ -24,7 +24,7 @@ use Rattle.interval_analysis.specs.declared.expressions.Stop.{Stop}
 use Rattle.interval_analysis.specs.declared.expressions.Stop.TheVariants.{At, Memory}
 use Rattle.interval_analysis.specs.declared.expressions.Walk.{Walk}
 use Rattle.interval_analysis.specs.PlanViews.{scope_in, variable_in, ranges_in}
-use Rattle.interval_analysis.specs.ExpressionViews.{AreRanged, ArePartsRanged, CanWalk, CanWalkParts, CanWalkTwo, IsPartRanged, IsRanged, OneAnswer, OwnAnswer, PartAnswer, PartsAnswer, RangeAnswer, StopsAs, TwoAnswer, either_range, part_ranged, parts_ranged, ranged_in, second_in}
+use Rattle.interval_analysis.specs.ExpressionViews.{AreRanged, CanWalk, CanWalkTwo, IsPartRanged, IsRanged, OneAnswer, OwnAnswer, PartsAnswer, RangeAnswer, StopsAs, TwoAnswer, either_range, part_ranged, parts_ranged, ranged_in, second_in}
 
 -- ---- what stops
 

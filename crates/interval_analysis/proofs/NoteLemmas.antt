@@ -11,7 +11,7 @@ use Rattle.interval_analysis.specs.Notes.{IsNoted, IsTold, AreOwn, taken_back, r
 
 -- ---- one range
 
-pub within_of : (rs : List Interval) (n : ℕ) (v : Interval) → slice_get rs n ≡ Some v → n < length rs
+pub within_of : {X : Type 0} (rs : List X) (n : ℕ) (v : X) → slice_get rs n ≡ Some v → n < length rs
 within_of [] n v h = absurd (cc)
 within_of (r ∷ rs) zero v h = omega arith
 within_of (r ∷ rs) (suc n) v h = let less = within_of rs n v h in omega (arith, less)
@@ -27,7 +27,7 @@ set_own (r ∷ rs) zero v h = let same : r ≡ v = cc in ap (λ a. a ∷ rs) (sy
 set_own (r ∷ rs) (suc n) v h = ap (λ l. r ∷ l) (set_own rs n v h)
 
 -- two settings, in either order
-set_both : (rs : List Interval) (n m : ℕ) (v w : Interval) → (n ≡ m → v ≡ w) → set (set rs n v) m w ≡ set (set rs m w) n v
+pub set_both : (rs : List Interval) (n m : ℕ) (v w : Interval) → (n ≡ m → v ≡ w) → set (set rs n v) m w ≡ set (set rs m w) n v
 set_both [] n m v w h = refl
 set_both (r ∷ rs) zero zero v w h = ap (λ a. a ∷ rs) (sym (h refl))
 set_both (r ∷ rs) zero (suc m) v w h = refl

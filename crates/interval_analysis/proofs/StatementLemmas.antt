@@ -1,5 +1,5 @@
 -- Steps of the walk of statements.
-use Rattle.std.proofs.Common.{◌≡◌, ℕ, zero, suc, ◌+◌, ◌-◌, ◌≢◌, List, length, set, Some, None, Result, Ok, Err, refl, sym, ap, ◌∙◌, subst, arith}
+use Rattle.std.proofs.Common.{◌≡◌, ℕ, zero, suc, ◌+◌, ◌-◌, ◌≢◌, List, length, Some, None, Result, Ok, Err, refl, sym, ap, ◌∙◌, subst, arith}
 use Rattle.pap_tree.specs.declared.plan.Stmt.{Stmt, Eval, If', Execute}
 use Rattle.pap_tree.specs.Term.{term_of}
 use Rattle.pap_tree.specs.Flowchart.{Body, done, body_of, body_of_row, stmt_then, Routine}
@@ -17,25 +17,14 @@ use Rattle.interval_analysis.specs.declared.expressions.Walk.{Walk}
 use Rattle.interval_analysis.specs.declared.fault.RangeFault.{RangeFault}
 use Rattle.interval_analysis.specs.declared.fault.RangeFault.TheVariants as faults
 use Rattle.interval_analysis.specs.PlanViews.{IsSized, ranges_after, scope_in, variables_in, with_names, ranges_in, branches_in}
-use Rattle.interval_analysis.specs.declared.branches.Change.{Change}
-use Rattle.interval_analysis.specs.declared.variables.Variables.{Variables}
-use Rattle.interval_analysis.specs.Changes.{AreKept, changed}
-use Rattle.interval_analysis.specs.Notes.{AreOwn, IsNoted, IsTold}
-use Rattle.interval_analysis.specs.VariableViews.{AreHeld, GoesOn}
-use Rattle.interval_analysis.specs.StatementViews.{PassesAside, through_body, through_both, through_if, through_fork, if_of, end_of, fault_of}
-use Rattle.std.specs.Prelude.{OnOk}
-use Rattle.std.proofs.Common.{Vec, Global}
+use Rattle.interval_analysis.specs.StatementViews.{through_if, through_fork, if_of, end_of, fault_of}
 use Rattle.pap_tree.specs.declared.expression.Expr.{Expr}
 use Rattle.interval_analysis.specs.declared.branches.Branches.{Branches}
 use Rattle.interval_analysis.specs.declared.expressions.Stop.{Stop}
 use Rattle.interval_analysis.specs.declared.expressions.Stop.TheVariants as stops
-use Rattle.interval_analysis.specs.declared.statements.Aside.{Aside}
 use Rattle.interval_analysis.specs.TestViews.{tested_in}
 use Rattle.interval_analysis.specs.Meetings.{MeetsAnswer}
-use Rattle.interval_analysis.proofs.ChangeLemmas.{length-changed}
-use Rattle.interval_analysis.proofs.NoteLemmas.{noted_length, noted_none, noted_then}
-use Rattle.std.proofs.lemmas.List.{length-set}
-use Rattle.interval_analysis.proofs.MeetLemmas.{joined_by_name}
+use Rattle.interval_analysis.proofs.MeetLemmas.{joined_by_name, joined_either}
 use Rattle.std.specs.Result.{IsErrAnd}
 use Rattle.pap_tree.specs.declared.plan.PlanText.{PlanText}
 use Rattle.interval_num.specs.declared.cause.RangeCause.{RangeCause}
@@ -163,32 +152,36 @@ if_forks w spot t f rs b test root =
 pub if_passes : (w : Walk) (spot : Spot) (t : Expr) (f : Fork) (rs new : List Interval) (br : meant.Branches) (res : Result ℕ RangeFault) → walked_in w spot (if_of t f.yes.now f.no.now) rs ≡ forked_in w spot f br → Passes (through_fork w spot f br) new res → Passes (through_if w spot t f.yes.now f.no.now rs) new res
 if_passes w spot t f rs new br res e h = subst (λ q. Passes (record { plan = w.plan.now; ranges = q; next = end_of spot f }) new res) (sym e) h
 
--- two lists that were walked aside, from the ranges of before
-module _ (w : Walk) (spot : Spot) (f : Fork) (rs hs fs : List Interval) (a b : Aside) where
-  pub aside_meet : PassesAside (through_body w (first_spot spot) (body_of f.yes.now) hs) rs a → PassesAside (through_body w (record spot { at = a.next }) (body_of f.no.now) fs) rs b
-      → met_in w spot f hs fs ≡ at_stmt spot.method spot.at (at_node f.root (joined (ranges_in w.plan.now (changed rs a.changes.items)) (ranges_in w.plan.now (changed rs b.changes.items))))
-  aside_meet h k = both_meet w spot f a.next hs fs (changed rs a.changes.items) (changed rs b.changes.items) h.passes.0 k.passes.0 h.passes.1
+-- behind the first list the second one stops
+pub second_stops : (w : Walk) (spot : Spot) (f : Fork) (rs ss xs : List Interval) (fault : RangeFault) → walked_in w (first_spot spot) (body_of f.yes.now) rs ≡ Ok (ranges_in w.plan.now xs) → FaultOf (walked_in w (second_spot spot f) (body_of f.no.now) ss) fault → FaultOf (met_in w spot f rs ss) fault
+second_stops w spot f rs ss xs fault first h =
+    let meet : Ranges → Ranges → Result Ranges WalkFault = λ x y. at_stmt spot.method spot.at (at_node f.root (joined x y)) in
+    let last = walked_in w (second_spot spot f) (body_of f.no.now) ss in
+    fault_as (met_in w spot f rs ss) (and_then last (meet (ranges_in w.plan.now xs))) fault
+    (ap (λ q. and_then q (λ x. and_then last (meet x))) first)
+    (fault_first last (meet (ranges_in w.plan.now xs)) fault h)
 
-  sized_aside : (cs : List Change) → IsSized w.plan.now rs → IsSized w.plan.now (changed rs cs)
-  sized_aside cs h = length-changed rs cs ∙ h
+-- both lists pass: the ranges behind them are joined, whichever was walked last
+module _ (w : Walk) (spot : Spot) (f : Fork) (second : ℕ) (rs ss xs ys : List Interval) (first_sized : IsSized w.plan.now xs) (second_sized : IsSized w.plan.now ys) (number : second ≡ spot.at + 1 + written (body_of f.yes.now))
+    (first : walked_in w (first_spot spot) (body_of f.yes.now) rs ≡ Ok (ranges_in w.plan.now xs)) (last : walked_in w (record spot { at = second }) (body_of f.no.now) ss ≡ Ok (ranges_in w.plan.now ys)) where
+  same_length : length xs ≡ length ys
+  same_length = first_sized ∙ sym second_sized
 
-  pub aside_joins : IsSized w.plan.now rs → PassesAside (through_body w (first_spot spot) (body_of f.yes.now) hs) rs a → PassesAside (through_body w (record spot { at = a.next }) (body_of f.no.now) fs) rs b
-      → (new : List Interval) → joined_lists (changed rs a.changes.items) (changed rs b.changes.items) ≡ Ok new → met_in w spot f hs fs ≡ Ok (ranges_in w.plan.now new)
-  aside_joins sized h k new e =
-      aside_meet h k
-      ∙ meets w.plan.now spot.method spot.at f.root (changed rs a.changes.items) (changed rs b.changes.items) new (sized_aside a.changes.items sized) (sized_aside b.changes.items sized) e
+  pub both_join : (new : List Interval) → joined_lists xs ys ≡ Ok new → met_in w spot f rs ss ≡ Ok (ranges_in w.plan.now new)
+  both_join new e =
+      both_meet w spot f second rs ss xs ys first last number
+      ∙ meets w.plan.now spot.method spot.at f.root xs ys new first_sized second_sized e
 
-  pub aside_stops : IsSized w.plan.now rs → PassesAside (through_body w (first_spot spot) (body_of f.yes.now) hs) rs a → PassesAside (through_body w (record spot { at = a.next }) (body_of f.no.now) fs) rs b
-      → (stop : Stop) (new : List Interval) → MeetsAnswer f.root rs a.changes.items b.changes.items new (Err stop) → FaultOf (met_in w spot f hs fs) (fault_of stop spot)
-  aside_stops sized h k (stops.At node cause) new e =
-      aside_meet h k
-      ∙ meets_not w.plan.now spot.method spot.at f.root (changed rs a.changes.items) (changed rs b.changes.items) cause (sized_aside a.changes.items sized) (sized_aside b.changes.items sized) e.1
+  pub both_stop : (stop : Stop) (new : List Interval) → MeetsAnswer f.root xs ys new (Err stop) → FaultOf (met_in w spot f rs ss) (fault_of stop spot)
+  both_stop (stops.At node cause) new e =
+      both_meet w spot f second rs ss xs ys first last number
+      ∙ meets_not w.plan.now spot.method spot.at f.root xs ys cause first_sized second_sized e.1
       ∙ ap (λ n. Err (node_fails (place spot.method spot.at n) cause)) (sym e.0)
-  aside_stops sized h k stops.Memory new e = tt
+  both_stop stops.Memory new e = tt
 
--- what was walked aside is what its changes make of the ranges of before
-pub passes_aside : (q : Passage) (was now : List Interval) (cs : Vec Change Global) (next : ℕ) → IsTold was now cs.items → Passes q now (Ok next) → PassesAside q was (record { changes = cs; next = next })
-passes_aside q was now cs next told h = record {
-  passes = subst (λ rs. Passes q rs (Ok next)) (sym told.whole) h;
-  told = record { whole = refl; own = subst (λ rs. AreOwn rs cs.items) (sym told.whole) told.own };
-}
+  pub both_join_back : (new : List Interval) → joined_lists ys xs ≡ Ok new → met_in w spot f rs ss ≡ Ok (ranges_in w.plan.now new)
+  both_join_back new e = both_join new (joined_either xs ys same_length ∙ e)
+
+  pub both_stop_back : (stop : Stop) (new : List Interval) → MeetsAnswer f.root ys xs new (Err stop) → FaultOf (met_in w spot f rs ss) (fault_of stop spot)
+  both_stop_back (stops.At node cause) new e = both_stop (stops.At node cause) new (e.0, joined_either xs ys same_length ∙ e.1)
+  both_stop_back stops.Memory new e = tt

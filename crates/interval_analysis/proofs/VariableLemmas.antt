@@ -1,14 +1,15 @@
 -- The variables of a walk.
-use Rattle.std.proofs.Common.{◌≡◌, List, length, Result, Ok, Err, sym, ap, ◌∙◌, subst}
+use Rattle.std.proofs.Common.{◌≡◌, ℕ, List, length, Result, Ok, Err, sym, ap, ◌∙◌, subst}
 use Rattle.std.specs.Prelude.{OnOk}
 use Rattle.pap_tree.specs.declared.plan.PlanText.{PlanText}
 use Rattle.interval_analysis.specs.declared.branches.Change.{Change}
 use Rattle.interval_analysis.specs.declared.variables.Variables.{Variables}
 use Rattle.interval_analysis.specs.Changes.{AreKept, changed}
-use Rattle.interval_analysis.specs.Notes.{IsNoted}
+use Rattle.interval_analysis.specs.Notes.{IsNoted, TakesBackAs}
 use Rattle.interval_analysis.specs.VariableViews.{AreHeld, GoesOn, IsLeft}
 use Rattle.interval_analysis.proofs.ChangeLemmas.{length-changed}
 use Rattle.interval_analysis.proofs.NoteLemmas.{noted_length, noted_none, noted_then, noted_same}
+use Rattle.interval_analysis.proofs.RepeatLemmas.{noted_again}
 
 module _ (p : PlanText) where
   pub held_same : (was now : Variables) → now.ranges.items ≡ was.ranges.items → AreHeld p was → AreHeld p now
@@ -35,6 +36,13 @@ module _ (p : PlanText) where
   pub goes_on_then : {A E : Type 0} (a b c : Variables) (r : Result A E) → GoesOn p a b → OnOk r (GoesOn p b c) → OnOk r (GoesOn p a c)
   goes_on_then a b c (Ok x) h k = goes_then a b c h k
   goes_on_then a b c (Err e) h k = tt
+
+  -- behind what was noted some notes go, and the others take back to the same ranges
+  pub goes_again : (was mid now : Variables) (mark : ℕ) → mark ≡ length was.notes.items → GoesOn p was mid → TakesBackAs mark mid now → AreKept now.ranges.items → AreHeld p was → GoesOn p was now
+  goes_again was mid now mark e h back kept held = goes_noted was now held (noted_again was mid now mark e h.noted back) kept
+
+  pub trimmed : (was mid now : Variables) (mark : ℕ) → mark ≡ length was.notes.items → AreHeld p was → GoesOn p was mid → now.ranges.items ≡ mid.ranges.items → TakesBackAs mark mid now → GoesOn p was now
+  trimmed was mid now mark e held h same back = goes_again was mid now mark e h back (subst AreKept (sym same) h.held.kept) held
 
   -- variables that are left as they were
   pub held_left : (was now : Variables) → IsLeft was now → AreHeld p was → AreHeld p now

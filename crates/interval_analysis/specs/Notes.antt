@@ -1,5 +1,5 @@
 -- What is noted of changes of ranges, so that they can be taken back.
-use Rattle.std.specs.Prelude.{◌≡◌, ◌<◌, ℕ, suc, List, [], ◌∷◌, ◌++◌, Option, Some, None, slice_get, slice_set}
+use Rattle.std.specs.Prelude.{◌≡◌, ◌≢◌, ◌<◌, ◌≤◌, ℕ, suc, Bool, true, false, List, [], ◌∷◌, ◌++◌, length, take, drop, Option, Some, None, slice_get, slice_set, ⊤}
 use Rattle.std.specs.List.{AllByRecursion}
 use Rattle.interval_num.specs.Intervals.{Interval}
 use Rattle.interval_analysis.specs.declared.branches.Change.{Change}
@@ -44,3 +44,36 @@ pub record IsTold (was now : List Interval) (cs : List Change) : Type 0 where
 abbrev pub numbered : ℕ → List Interval → List Change
 numbered n [] = []
 numbered n (r ∷ rs) = record { number = n; range = r } ∷ numbered (suc n) rs
+
+-- none of these notes is of the variable
+abbrev pub IsOther : ℕ → List Change → Type 0
+IsOther n cs = AllByRecursion (λ c. n ≢ c.number) cs
+
+-- each of these notes is of another variable
+abbrev pub AreDistinct : List Change → Type 0
+AreDistinct [] = ⊤
+AreDistinct (c ∷ cs) = IsOther c.number cs × AreDistinct cs
+
+-- each stands at its variable's place, the first one at this
+abbrev pub ArePlaced : ℕ → List ℕ → List Change → Type 0
+ArePlaced at places [] = ⊤
+ArePlaced at places (c ∷ cs) = (slice_get places c.number ≡ Some at) × ArePlaced (suc at) places cs
+
+-- a variable that has a place and no note among these
+pub record IsFirst (places : List ℕ) (cs : List Change) (n : ℕ) : Type 0 where
+  pub within : n < length places
+  pub other : IsOther n cs
+
+-- what these notes take back is the same whatever range that variable has, if it is one of those that have places
+abbrev pub IsRepeated : List ℕ → List Change → ℕ → Type 0
+IsRepeated places cs n = (ranges : List Interval) (r : Interval) → length ranges ≤ length places → taken_back (slice_set ranges n r) cs ≡ taken_back ranges cs
+
+abbrev pub FirstAnswer : List ℕ → List Change → ℕ → Bool → Type 0
+FirstAnswer places cs n true = IsFirst places cs n
+FirstAnswer places cs n false = IsRepeated places cs n
+
+-- the notes behind so many take back to the same ranges, and those before stay
+pub record TakesBackAs (mark : ℕ) (was now : Variables) : Type 0 where
+  pub within : mark ≤ length now.notes.items
+  pub before : take mark now.notes.items ≡ take mark was.notes.items
+  pub back : taken_back now.ranges.items (drop mark now.notes.items) ≡ taken_back was.ranges.items (drop mark was.notes.items)

@@ -30,11 +30,7 @@ use Rattle.interval_analysis.specs.declared.statements.Fork.{Fork}
 use Rattle.interval_analysis.specs.declared.statements.Spot.{Spot}
 use Rattle.interval_analysis.specs.declared.fault.RangeFault.{RangeFault}
 use Rattle.interval_analysis.specs.declared.fault.RangeFault.TheVariants as faults
-use Rattle.interval_analysis.specs.declared.statements.Aside.{Aside}
-use Rattle.interval_analysis.specs.declared.variables.Variables.{Variables}
-use Rattle.interval_analysis.specs.Changes.{changed}
-use Rattle.interval_analysis.specs.Notes.{IsTold}
-use Rattle.interval_analysis.specs.PlanViews.{IsSized, scope_in, ranges_in}
+use Rattle.interval_analysis.specs.PlanViews.{scope_in, ranges_in}
 
 abbrev pub methods_in : PlanText → List Routine
 methods_in p = (flowchart_of p).methods
@@ -157,15 +153,6 @@ pub record Passage : Type 0 where
 abbrev pub Passes : Passage → List Interval → Result ℕ RangeFault → Type 0
 Passes p new (Ok next) = (p.ranges ≡ Ok (ranges_in p.plan new)) × (next ≡ p.next)
 Passes p new (Err f) = FaultOf p.ranges f
-
--- statements that were walked aside have made these changes of the ranges of before
-pub record PassesAside (p : Passage) (was : List Interval) (a : Aside) : Type 0 where
-  pub passes : Passes p (changed was a.changes.items) (Ok a.next)
-  pub told : IsTold was (changed was a.changes.items) a.changes.items
-
-abbrev pub AsideAnswer : Passage → List Interval → Result Aside RangeFault → Type 0
-AsideAnswer p was (Ok a) = PassesAside p was a
-AsideAnswer p was (Err f) = FaultOf p.ranges f
 
 abbrev pub through_body : Walk → Spot → Body → List Interval → Passage
 through_body w spot b rs = record {

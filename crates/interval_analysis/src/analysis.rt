@@ -16,6 +16,7 @@ use crate::outputs::output_ranges;
 use crate::start::start_ranges;
 use crate::statements::Spot;
 use crate::variables::Variables;
+use crate::weights::weights_of;
 use crate::{OutputRange, RangeFault, Verdict};
 use limits_file::Limits;
 use pap_tree::Name;
@@ -51,7 +52,8 @@ pub fn analyse(
         × (cost_of (flowchart_of t.now) inputs ≤ v.bound)) }
 {
     let _well_typed = t.plan();
-    let outputs = walked_outputs(alloc, t, limits)?;
+    let weights = weights_of(alloc, t, order)?;
+    let outputs = walked_outputs(alloc, t, &weights, limits)?;
     let bound = bound_of(alloc, t, order)?;
     Ok(Verdict { bound, outputs })
 }
@@ -60,6 +62,7 @@ pub fn analyse(
 fn walked_outputs(
     alloc: Global,
     plan: &Typed,
+    weights: &[u64],
     limits: &Limits,
 ) -> Result<Vec<OutputRange>, RangeFault>
     requires { HaveLimits (flowchart_of plan.now) limits.now }
@@ -68,7 +71,11 @@ fn walked_outputs(
     let ranges = start_ranges(alloc, plan, limits)?;
     let mut variables = Variables::new(alloc, ranges);
     let main = plan.plan().main.as_slice();
-    let walk = Walk { alloc, plan };
+    let walk = Walk {
+        alloc,
+        plan,
+        weights,
+    };
     let start = Spot {
         method: Name::main(),
         at: 0,

@@ -44,6 +44,7 @@ impl Walk<'_> {
         requires held { AreHeld self.now.plan.now variables.old }
         ensures answer { TestAnswer self.now (term_of e.now) at variables.old.ranges.items result }
         ensures left { OnOk result (IsLeft variables.old variables.new) }
+        ensures on { GoesOn self.now.plan.now variables.old variables.new }
     {
         match e {
             Expr::Unary(op, operand) => self.test_unary(*op, operand, at, variables),
@@ -78,6 +79,7 @@ impl Walk<'_> {
         ensures answer { TestAnswer self.now (one_of (unary op) operand.now) at
             variables.old.ranges.items result }
         ensures left { OnOk result (IsLeft variables.old variables.new) }
+        ensures on { GoesOn self.now.plan.now variables.old variables.new }
     {
         match op {
             Unary::Not => Ok(opposed(self.test(operand, at, variables)?)),
@@ -99,6 +101,7 @@ impl Walk<'_> {
         ensures answer { TestAnswer self.now (two_of (operator op) left.now right.now) at
             variables.old.ranges.items result }
         ensures left { OnOk result (IsLeft variables.old variables.new) }
+        ensures on { GoesOn self.now.plan.now variables.old variables.new }
     {
         match op {
             Binary::And => self.test_sequence(Connective::And, left, right, at, variables),
@@ -122,6 +125,7 @@ impl Walk<'_> {
         ensures answer { TestAnswer self.now (connected connective left.now right.now) at
             variables.old.ranges.items result }
         ensures left { OnOk result (IsLeft variables.old variables.new) }
+        ensures on { GoesOn self.now.plan.now variables.old variables.new }
     {
         let mark = variables.notes.len();
         let followed = self.follow_both(connective, left, right, at, variables)?;
@@ -149,7 +153,7 @@ impl Walk<'_> {
         requires held { AreHeld self.now.plan.now variables.old }
         ensures answer { FollowAnswer self.now connective (term_of e.now) at
             variables.old.ranges.items variables.new.ranges.items result }
-        ensures on { OnOk result (GoesOn self.now.plan.now variables.old variables.new) }
+        ensures on { GoesOn self.now.plan.now variables.old variables.new }
     {
         match sides_of(connective, e) {
             Some(sides) => self.follow_both(connective, sides.left, sides.right, at, variables),
@@ -170,7 +174,7 @@ impl Walk<'_> {
         requires held { AreHeld self.now.plan.now variables.old }
         ensures answer { FollowAnswer self.now connective (connected connective left.now right.now)
             at variables.old.ranges.items variables.new.ranges.items result }
-        ensures on { OnOk result (GoesOn self.now.plan.now variables.old variables.new) }
+        ensures on { GoesOn self.now.plan.now variables.old variables.new }
     {
         let first = self.follow(connective, left, at, variables)?;
         let second = self.follow_behind(connective, first, right, variables)?;
@@ -190,7 +194,7 @@ impl Walk<'_> {
         requires held { AreHeld self.now.plan.now variables.old }
         ensures answer { BehindAnswer self.now connective (term_of e.now) first
             variables.old.ranges.items variables.new.ranges.items result }
-        ensures on { OnOk result (GoesOn self.now.plan.now variables.old variables.new) }
+        ensures on { GoesOn self.now.plan.now variables.old variables.new }
     {
         if first.is_through {
             return self.follow(connective, e, first.next, variables);
@@ -215,7 +219,7 @@ impl Walk<'_> {
         requires held { AreHeld self.now.plan.now variables.old }
         ensures answer { FollowAnswer self.now connective (term_of e.now) at
             variables.old.ranges.items variables.new.ranges.items result }
-        ensures on { OnOk result (GoesOn self.now.plan.now variables.old variables.new) }
+        ensures on { GoesOn self.now.plan.now variables.old variables.new }
     {
         let Tested { branches, next } = self.test(e, at, variables)?;
         let Branches { holds, fails } = turned(connective, branches);
@@ -252,6 +256,7 @@ impl Walk<'_> {
         ensures answer { ComparisonAnswer self.now (comparison_of op left.now right.now) at
             variables.old.ranges.items result }
         ensures left { OnOk result (IsLeft variables.old variables.new) }
+        ensures on { GoesOn self.now.plan.now variables.old variables.new }
     {
         match compared_sides(left, right) {
             Some(inner) => {

@@ -4,7 +4,7 @@ ghost use Rattle.pap_tree.specs.Term.{term_of, leaf, named};
 ghost use Rattle.pap_types.specs.Scopes.{number_of};
 ghost use Rattle.interval_analysis.specs.PlanViews.{IsSized, variables_in, name_range_in, ranges_after, branches_in};
 ghost use Rattle.interval_analysis.specs.ShapeViews.{leaf_of};
-ghost use Rattle.interval_analysis.specs.VariableViews.{AreHeld, IsLeft};
+ghost use Rattle.interval_analysis.specs.VariableViews.{AreHeld, GoesOn, IsLeft};
 ghost use Rattle.interval_analysis.specs.ExpressionViews.{CanWalk, CanWalkTwo, CanWalkParts, RangeAnswer, OperandsAnswer, PartAnswer, PartsAnswer, choice_of};
 
 use crate::branches::{Branches, Change};
@@ -70,6 +70,8 @@ pub(crate) struct Part {
 pub(crate) struct Walk<'a> {
     pub alloc: Global,
     pub plan: &'a Typed,
+    /// The weights of the methods by number.
+    pub weights: &'a [u64],
 }
 
 impl Walk<'_> {
@@ -80,6 +82,7 @@ impl Walk<'_> {
         requires held { AreHeld self.now.plan.now variables.old }
         ensures answer { RangeAnswer self.now (term_of e.now) at variables.old.ranges.items result }
         ensures left { OnOk result (IsLeft variables.old variables.new) }
+        ensures on { GoesOn self.now.plan.now variables.old variables.new }
     {
         match shape_of(e) {
             Shape::Leaf(source) => self.range_of_leaf(&source, at, &variables.ranges),
@@ -159,6 +162,7 @@ impl Walk<'_> {
         ensures answer { OperandsAnswer self.now (term_of left.now) (term_of right.now) at
             variables.old.ranges.items result }
         ensures left { OnOk result (IsLeft variables.old variables.new) }
+        ensures on { GoesOn self.now.plan.now variables.old variables.new }
     {
         let first = self.range_of(left, at, variables)?;
         let second = self.range_of(right, first.next, variables)?;
@@ -180,6 +184,7 @@ impl Walk<'_> {
         ensures answer { RangeAnswer self.now (choice_of test.now first.now second.now) at
             variables.old.ranges.items result }
         ensures left { OnOk result (IsLeft variables.old variables.new) }
+        ensures on { GoesOn self.now.plan.now variables.old variables.new }
     {
         let Tested { branches, next } = self.test(test, at, variables)?;
         self.range_of_parts(first, second, next, &branches, variables)
@@ -200,6 +205,7 @@ impl Walk<'_> {
         ensures answer { PartsAnswer self.now (term_of first.now) (term_of second.now) at
             (branches_in self.now.plan.now variables.old.ranges.items branches.now) result }
         ensures left { OnOk result (IsLeft variables.old variables.new) }
+        ensures on { GoesOn self.now.plan.now variables.old variables.new }
     {
         let one = self.range_where(first, at, &branches.holds, variables)?;
         let other = self.range_where(second, one.next, &branches.fails, variables)?;
@@ -220,6 +226,7 @@ impl Walk<'_> {
         ensures answer { PartAnswer self.now (term_of e.now) at
             (ranges_after self.now.plan.now variables.old.ranges.items changes.now) result }
         ensures left { OnOk result (IsLeft variables.old variables.new) }
+        ensures on { GoesOn self.now.plan.now variables.old variables.new }
     {
         let Some(changes) = changes else {
             return Ok(unreached(outline_of(self.plan, e, at)));

@@ -15,11 +15,13 @@ mod nodes;
 mod operations;
 mod outlines;
 mod outputs;
+mod repeats;
 mod shapes;
 mod start;
 mod statements;
 mod variables;
 mod verdict;
+mod weights;
 
 pub use analysis::analyse;
 pub use fault::RangeFault;

@@ -8,7 +8,7 @@ ghost use Rattle.interval_walk.specs.Walked.{range_kept_as};
 ghost use Rattle.interval_analysis.specs.Changes.{changed};
 ghost use Rattle.interval_analysis.specs.PlanViews.{ranges_in, branches_in};
 ghost use Rattle.interval_analysis.specs.VariableViews.{AreHeld, GoesOn};
-ghost use Rattle.interval_analysis.specs.StatementViews.{AsideAnswer, CanWalkBody, CanWalkLists, CanAssign, CanPut, CanKeep, IsMethodBody, Passes, EnvAnswer, through_body, through_if, through_fork, through_first, through_second, through_both, if_of, evaluated, executed, assigned_in, methods_in, fault_of};
+ghost use Rattle.interval_analysis.specs.StatementViews.{CanWalkBody, CanWalkLists, CanAssign, CanPut, CanKeep, IsMethodBody, Passes, EnvAnswer, through_body, through_if, through_fork, through_first, through_second, through_both, if_of, evaluated, executed, assigned_in, methods_in, fault_of};
 
 use crate::RangeFault;
 use crate::branches::{Branches, Change};
@@ -17,7 +17,8 @@ use crate::expressions::{Stop, Walk};
 use crate::joins::meet;
 use crate::lists::written;
 use crate::names::variable_at;
-use crate::variables::{Variables, taken_back};
+use crate::variables::Variables;
+use crate::weights::weight;
 use interval_num::{Abs, RangeCause};
 use pap_tree::{Expr, Kind, Method, Name, Place, Stmt};
 use pap_types::Typed;
@@ -43,14 +44,6 @@ struct Fork<'a> {
     no: &'a [Stmt],
 }
 
-/// What a list of statements has changed that was walked aside.
-#[derive(Drop)]
-struct Aside {
-    changes: Vec<Change>,
-    /// The number behind its statements.
-    next: u32,
-}
-
 impl Walk<'_> {
     /// Takes the ranges of the variables through statements of a method, the first of which stands there. Answers the number
     /// behind them, or the first node that may fail.
@@ -65,10 +58,12 @@ impl Walk<'_> {
         requires held { AreHeld self.now.plan.now variables.old }
         ensures passes { Passes (through_body self.now spot (body_of body.now) variables.old.ranges.items)
             variables.new.ranges.items result }
-        ensures on { OnOk result (GoesOn self.now.plan.now variables.old variables.new) }
+        ensures on { GoesOn self.now.plan.now variables.old variables.new }
     {
+        let mark = variables.notes.len();
         let mut next = spot.at;
         for stmt in body {
+            variables.trim(mark)?;
             next = self.walk_statement(Spot { at: next, ..spot }, stmt, variables)?;
         }
         Ok(next)
@@ -85,7 +80,7 @@ impl Walk<'_> {
         requires held { AreHeld self.now.plan.now variables.old }
         ensures passes { Passes (through_body self.now spot (stmt_then stmt.now done) variables.old.ranges.items)
             variables.new.ranges.items result }
-        ensures on { OnOk result (GoesOn self.now.plan.now variables.old variables.new) }
+        ensures on { GoesOn self.now.plan.now variables.old variables.new }
     {
         let Spot { at, chain, .. } = spot;
         match stmt {
@@ -113,7 +108,7 @@ impl Walk<'_> {
         requires held { AreHeld self.now.plan.now variables.old }
         ensures passes { EnvAnswer self.now (evaluated self.now spot target.now value.now variables.old.ranges.items)
             variables.new.ranges.items result }
-        ensures on { OnOk result (GoesOn self.now.plan.now variables.old variables.new) }
+        ensures on { GoesOn self.now.plan.now variables.old variables.new }
     {
         match self.range_of(value, 0, variables) {
             Ok(value) => {
@@ -130,7 +125,7 @@ impl Walk<'_> {
         requires held { AreHeld self.now.plan.now variables.old }
         ensures put { OnOk result (ranges_in self.now.plan.now variables.new.ranges.items
             ≡ assigned_in self.now.plan.now target.now range variables.old.ranges.items) }
-        ensures on { OnOk result (GoesOn self.now.plan.now variables.old variables.new) }
+        ensures on { GoesOn self.now.plan.now variables.old variables.new }
     {
         let Some(number) = self.plan.variable(target) else {
             return Ok(());
@@ -156,7 +151,7 @@ impl Walk<'_> {
         requires held { AreHeld self.now.plan.now variables.old }
         ensures passes { Passes (through_if self.now spot test.now yes.now no.now variables.old.ranges.items)
             variables.new.ranges.items result }
-        ensures on { OnOk result (GoesOn self.now.plan.now variables.old variables.new) }
+        ensures on { GoesOn self.now.plan.now variables.old variables.new }
     {
         match self.test(test, 0, variables) {
             Ok(Tested { branches, next }) => {
@@ -182,7 +177,7 @@ impl Walk<'_> {
         ensures passes { Passes (through_fork self.now spot fork.now
             (branches_in self.now.plan.now variables.old.ranges.items branches))
             variables.new.ranges.items result }
-        ensures on { OnOk result (GoesOn self.now.plan.now variables.old variables.new) }
+        ensures on { GoesOn self.now.plan.now variables.old variables.new }
     {
         let Branches { holds, fails } = branches;
         match holds {
@@ -209,12 +204,11 @@ impl Walk<'_> {
         requires held { AreHeld self.now.plan.now variables.old }
         ensures passes { Passes (through_first self.now spot fork.now (changed variables.old.ranges.items held.now))
             variables.new.ranges.items result }
-        ensures on { OnOk result (GoesOn self.now.plan.now variables.old variables.new) }
+        ensures on { GoesOn self.now.plan.now variables.old variables.new }
     {
-        variables.apply(held)?;
         let at = spot.at;
         let first = Spot { at: at + 1, ..spot };
-        let next = self.walk_body(first, fork.yes, variables)?;
+        let next = self.walk_branch(first, fork.yes, held, variables)?;
         Ok(next + written(fork.no))
     }
 
@@ -230,19 +224,38 @@ impl Walk<'_> {
         requires held { AreHeld self.now.plan.now variables.old }
         ensures passes { Passes (through_second self.now spot fork.now (changed variables.old.ranges.items failed.now))
             variables.new.ranges.items result }
-        ensures on { OnOk result (GoesOn self.now.plan.now variables.old variables.new) }
+        ensures on { GoesOn self.now.plan.now variables.old variables.new }
     {
-        variables.apply(failed)?;
         let at = spot.at;
         let second = Spot {
             at: at + 1 + written(fork.yes),
             ..spot
         };
-        self.walk_body(second, fork.no, variables)
+        self.walk_branch(second, fork.no, failed, variables)
+    }
+
+    /// Walks a list after the changes of its branch.
+    #[cycle(statements)]
+    fn walk_branch(
+        &self,
+        spot: Spot,
+        body: &[Stmt],
+        changes: &[Change],
+        variables: &mut Variables,
+    ) -> Result<u32, RangeFault>
+        requires walk { CanWalkBody self.now (body_of body.now) spot.at }
+        requires held { AreHeld self.now.plan.now variables.old }
+        ensures passes { Passes (through_body self.now spot (body_of body.now)
+            (changed variables.old.ranges.items changes.now))
+            variables.new.ranges.items result }
+        ensures on { GoesOn self.now.plan.now variables.old variables.new }
+    {
+        variables.apply(changes)?;
+        self.walk_body(spot, body, variables)
     }
 
     /// Walks both lists, each from the ranges that the test leaves it, and joins the ranges behind them; a join that fails is at
-    /// the test's root.
+    /// the test's root. What the longer list has changed is joined in place.
     #[cycle(statements)]
     fn walk_both(
         &self,
@@ -259,46 +272,85 @@ impl Walk<'_> {
             (changed variables.old.ranges.items held.now)
             (changed variables.old.ranges.items failed.now))
             variables.new.ranges.items result }
-        ensures on { OnOk result (GoesOn self.now.plan.now variables.old variables.new) }
+        ensures on { GoesOn self.now.plan.now variables.old variables.new }
     {
-        let first = Spot {
-            at: spot.at + 1,
-            ..spot
-        };
-        let yes = self.walk_aside(first, fork.yes, held, variables)?;
-        let second = Spot {
-            at: yes.next,
-            ..spot
-        };
-        let no = self.walk_aside(second, fork.no, failed, variables)?;
-        match meet(self.alloc, fork.root, variables, &yes.changes, &no.changes) {
-            Ok(()) => Ok(no.next),
+        let first = weight(self.plan, fork.yes, self.weights);
+        let second = weight(self.plan, fork.no, self.weights);
+        if first < second {
+            self.walk_second_last(spot, fork, held, failed, variables)
+        } else {
+            self.walk_first_last(spot, fork, held, failed, variables)
+        }
+    }
+
+    /// Walks the first list, and from the ranges of before it the second one.
+    #[cycle(statements)]
+    fn walk_second_last(
+        &self,
+        spot: Spot,
+        fork: &Fork,
+        held: &[Change],
+        failed: &[Change],
+        variables: &mut Variables,
+    ) -> Result<u32, RangeFault>
+        requires walk { CanWalkLists self.now spot fork.now }
+        requires held { AreHeld self.now.plan.now variables.old }
+        ensures passes { Passes
+            (through_both self.now spot fork.now
+            (changed variables.old.ranges.items held.now)
+            (changed variables.old.ranges.items failed.now))
+            variables.new.ranges.items result }
+        ensures on { GoesOn self.now.plan.now variables.old variables.new }
+    {
+        let outset = variables.notes.len();
+        let at = spot.at;
+        let first = Spot { at: at + 1, ..spot };
+        let next = self.walk_branch(first, fork.yes, held, variables)?;
+        let mark = variables.notes.len();
+        variables.return_to(outset)?;
+        let second = Spot { at: next, ..spot };
+        let next = self.walk_branch(second, fork.no, failed, variables)?;
+        match meet(fork.root, variables, mark) {
+            Ok(()) => Ok(next),
             Err(stop) => Err(fault_of(stop, spot)),
         }
     }
 
-    /// Walks a list after changes, and takes back what they and the list have changed.
+    /// Walks the second list, and from the ranges of before it the first one, whose fault counts before that of the second.
     #[cycle(statements)]
-    fn walk_aside(
+    fn walk_first_last(
         &self,
         spot: Spot,
-        body: &[Stmt],
-        changes: &[Change],
+        fork: &Fork,
+        held: &[Change],
+        failed: &[Change],
         variables: &mut Variables,
-    ) -> Result<Aside, RangeFault>
-        requires walk { CanWalkBody self.now (body_of body.now) spot.at }
+    ) -> Result<u32, RangeFault>
+        requires walk { CanWalkLists self.now spot fork.now }
         requires held { AreHeld self.now.plan.now variables.old }
-        ensures passes { AsideAnswer (through_body self.now spot (body_of body.now)
-            (changed variables.old.ranges.items changes.now))
-            variables.old.ranges.items result }
-        ensures ranges { OnOk result (variables.new.ranges.items ≡ variables.old.ranges.items) }
-        ensures notes { OnOk result (variables.new.notes.items ≡ variables.old.notes.items) }
+        ensures passes { Passes
+            (through_both self.now spot fork.now
+            (changed variables.old.ranges.items held.now)
+            (changed variables.old.ranges.items failed.now))
+            variables.new.ranges.items result }
+        ensures on { GoesOn self.now.plan.now variables.old variables.new }
     {
+        let outset = variables.notes.len();
+        let at = spot.at;
+        let first = Spot { at: at + 1, ..spot };
+        let second = Spot {
+            at: at + 1 + written(fork.yes),
+            ..spot
+        };
+        let behind = self.walk_branch(second, fork.no, failed, variables);
         let mark = variables.notes.len();
-        variables.apply(changes)?;
-        let next = self.walk_body(spot, body, variables)?;
-        let changes = taken_back(self.alloc, variables, mark)?;
-        Ok(Aside { changes, next })
+        variables.return_to(outset)?;
+        self.walk_branch(first, fork.yes, held, variables)?;
+        let next = behind?;
+        match meet(fork.root, variables, mark) {
+            Ok(()) => Ok(next),
+            Err(stop) => Err(fault_of(stop, spot)),
+        }
     }
 
     /// Walks the body of a method in place.
@@ -312,7 +364,7 @@ impl Walk<'_> {
         requires { AreHeld self.now.plan.now variables.old }
         ensures passes { EnvAnswer self.now (executed self.now name.now chain variables.old.ranges.items)
             variables.new.ranges.items result }
-        ensures on { OnOk result (GoesOn self.now.plan.now variables.old variables.new) }
+        ensures on { GoesOn self.now.plan.now variables.old variables.new }
     {
         let start = Spot {
             method: *name,

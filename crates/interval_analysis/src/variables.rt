@@ -1,10 +1,12 @@
 //! The ranges of the variables, with notes of what was changed, so that a branch can be left as it was entered.
-ghost use Rattle.std.specs.Prelude.{◌≡◌, ◌≤◌, length, take, drop, slice_set, IfOk, OnOk};
+ghost use Rattle.std.specs.Prelude.{◌≡◌, ◌≤◌, length, take, drop, slice_set, IfOk, OnOk, OnErr};
 ghost use Rattle.interval_num.specs.Intervals.{IsKeptInterval};
 ghost use Rattle.interval_analysis.specs.Changes.{AreKept, changed};
-ghost use Rattle.interval_analysis.specs.Notes.{IsNoted, IsTold, taken_back, own_ranges, numbered};
+ghost use Rattle.interval_analysis.specs.Notes.{AreDistinct, IsNoted, IsTold, TakesBackAs, taken_back, own_ranges, numbered};
+ghost use Rattle.interval_analysis.specs.VariableViews.{IsLeft};
 
 use crate::branches::Change;
+use crate::repeats::first_notes;
 use interval_num::Abs;
 use std::alloc::{AllocError, Global};
 
@@ -14,6 +16,8 @@ pub(crate) struct Variables {
     pub ranges: Vec<Abs>,
     /// For each change so far the variable's number and the range that it had before.
     pub notes: Vec<Change>,
+    /// Where the first note of a variable stood when repeated ones were last dropped.
+    places: Vec<usize>,
 }
 
 impl Variables {
@@ -26,6 +30,7 @@ impl Variables {
         Variables {
             ranges,
             notes: Vec::new(alloc),
+            places: Vec::new(alloc),
         }
     }
 
@@ -34,8 +39,8 @@ impl Variables {
         requires { AreKept self.old.ranges.items }
         ensures value { OnOk result
             (self.new.ranges.items ≡ slice_set self.old.ranges.items number range) }
-        ensures noted { OnOk result (IsNoted self.old self.new) }
-        ensures kept { OnOk result (AreKept self.new.ranges.items) }
+        ensures noted { IsNoted self.old self.new }
+        ensures kept { AreKept self.new.ranges.items }
     {
         is_kept(range);
         if number < self.ranges.len() {
@@ -53,8 +58,8 @@ impl Variables {
         requires { AreKept self.old.ranges.items }
         ensures value { OnOk result
             (self.new.ranges.items ≡ changed self.old.ranges.items changes.now) }
-        ensures noted { OnOk result (IsNoted self.old self.new) }
-        ensures kept { OnOk result (AreKept self.new.ranges.items) }
+        ensures noted { IsNoted self.old self.new }
+        ensures kept { AreKept self.new.ranges.items }
     {
         for change in changes {
             self.put(change.number, change.range)?;
@@ -76,6 +81,51 @@ impl Variables {
         }
     }
 
+    /// Gives the variables back the ranges that they had when there were so many notes, by changes that are noted too.
+    pub fn return_to(&mut self, mark: usize) -> Result<(), AllocError>
+        requires kept { AreKept self.old.ranges.items }
+        requires mark { mark ≤ length self.old.notes.items }
+        ensures ranges { OnOk result (self.new.ranges.items
+            ≡ taken_back self.old.ranges.items (drop mark self.old.notes.items)) }
+        ensures noted { IsNoted self.old self.new }
+        ensures kept { AreKept self.new.ranges.items }
+    {
+        let mut left = self.notes.len();
+        while left > mark {
+            left -= 1;
+            let note = self.notes[left];
+            self.put(note.number, note.range)?;
+        }
+        Ok(())
+    }
+
+    /// Drops the notes behind so many that repeat a variable, once they are more than twice as many as the variables.
+    pub fn trim(&mut self, mark: usize) -> Result<(), AllocError>
+        requires { mark ≤ length self.old.notes.items }
+        ensures ranges { self.new.ranges.items ≡ self.old.ranges.items }
+        ensures back { TakesBackAs mark self.old self.new }
+    {
+        if (self.notes.len() - mark) / 2 > self.ranges.len() {
+            self.drop_repeats(mark)?;
+        }
+        Ok(())
+    }
+
+    /// Drops the notes behind so many that repeat a variable.
+    pub fn drop_repeats(&mut self, mark: usize) -> Result<(), AllocError>
+        requires { mark ≤ length self.old.notes.items }
+        ensures ranges { self.new.ranges.items ≡ self.old.ranges.items }
+        ensures back { TakesBackAs mark self.old self.new }
+        ensures distinct { OnOk result (AreDistinct (drop mark self.new.notes.items)) }
+    {
+        if self.places.len() < self.ranges.len() {
+            self.places.resize(self.ranges.len(), 0)?;
+        }
+        let count = first_notes(&mut self.notes[mark..], &mut self.places);
+        self.notes.truncate(mark + count);
+        Ok(())
+    }
+
     /// Gives a variable back the range that it had.
     fn put_back(&mut self, note: Change)
         ensures ranges { self.new.ranges.items
@@ -89,7 +139,7 @@ impl Variables {
 }
 
 /// Each range is as `IsKeptInterval` says.
-fn is_kept(range: Abs)
+pub(crate) fn is_kept(range: Abs)
     ensures { IsKeptInterval range }
 {
     let _low = range.lo();
@@ -161,6 +211,7 @@ pub(crate) fn taken_back(
         ≡ taken_back variables.old.ranges.items (drop mark variables.old.notes.items)) }
     ensures notes { OnOk result
         (variables.new.notes.items ≡ take mark variables.old.notes.items) }
+    ensures left { OnErr result (IsLeft variables.old variables.new) }
 {
     let told = told(alloc, &variables.ranges, &variables.notes[mark..])?;
     variables.take_back(mark);

@@ -1,28 +1,42 @@
-use Rattle.std.proofs.Common.{Ok, Err, Some, ◌≡◌, ◌+◌, ◌-◌, drop, sym, ap, ◌∙◌, subst, arith}
+use Rattle.std.proofs.Common.{Ok, Err, ◌≡◌, ◌+◌, ◌-◌, drop, sym, ap, ◌∙◌, subst, arith}
 use Rattle.pap_tree.specs.Flowchart.{body_of, stmt_then, done}
 use Rattle.pap_tree.specs.Statements.{written}
 use Rattle.pap_tree.proofs.Laws.{stmt_at, branch_is}
-use Rattle.interval_analysis.specs.PlanViews.{scope_in, ranges_after, ranges_in, branches_in}
-use Rattle.interval_analysis.specs.StatementViews.{joined_lists, PassesAside, CanWalkBody, FaultOf, Passes, through_body, through_fork, through_if, if_of, walked_in, met_in, executed, methods_in}
+use Rattle.interval_analysis.specs.PlanViews.{scope_in, ranges_in, branches_in}
+use Rattle.interval_analysis.specs.StatementViews.{joined_lists, first_spot, CanWalkBody, FaultOf, Passes, through_body, through_fork, through_if, if_of, walked_in, met_in, executed, methods_in}
 use Rattle.interval_analysis.specs.declared.statements.Fork.{Fork}
 use Rattle.interval_analysis.specs.Changes.{changed}
-use Rattle.interval_analysis.specs.Notes.{IsTold}
 use Rattle.interval_analysis.specs.Meetings.{MeetsAnswer}
-use Rattle.interval_analysis.proofs.NoteLemmas.{noted_same, noted_then, since}
+use Rattle.interval_analysis.proofs.NoteLemmas.{noted_then, since}
+use Rattle.interval_analysis.proofs.RepeatLemmas.{noted_longer}
 use Rattle.interval_analysis.proofs.CountLemmas.{written_at, can_here, can_rest}
-use Rattle.interval_analysis.proofs.VariableLemmas.{goes_then, goes_apply, goes_noted, goes_on_then}
-use Rattle.interval_analysis.proofs.StatementLemmas.{step_on, step_stops, fault_as, passes_not, env_err, passes_to, if_forks, if_passes, aside_joins, aside_stops, passes_aside, no_chain, no_method, calls_body}
+use Rattle.interval_analysis.proofs.VariableLemmas.{goes_again, goes_noted, goes_then, trimmed}
+use Rattle.interval_analysis.proofs.StatementLemmas.{step_on, step_stops, fault_as, passes_not, env_err, passes_to, if_forks, if_passes, both_join, both_join_back, both_stop, both_stop_back, no_chain, no_method, calls_body}
 use Rattle.interval_analysis.proofs.expressions.Walk.+statements.Goals as goal
+
+pub walk_body-trim-requires : goal.walk_body-trim-requires
+walk_body-trim-requires t c =
+    let was = c.args.variables.now in
+    let longer = noted_longer was c.loop-stmt.variables c.loop-stmt.invariant.on.noted in
+    omega (arith, longer, c.len-mark.ensures, was.notes.ok.0)
+
+pub walk_body-returns-in_err-trim-clause-on : goal.walk_body-returns-in_err-trim-clause-on
+walk_body-returns-in_err-trim-clause-on t c =
+    let was = c.args.variables.now in
+    trimmed c.args.self.now.plan.now was c.loop-stmt.variables c.trim.new.self c.len-mark.result (c.len-mark.ensures ∙ was.notes.ok.0) c.requires.held c.loop-stmt.invariant.on c.in_err-trim.ensures.ranges c.in_err-trim.ensures.back
 
 pub walk_body-walk_statement-requires : goal.walk_body-walk_statement-requires
 walk_body-walk_statement-requires t c =
+    let w = c.args.self.now in
+    let was = c.args.variables.now in
     let body = c.args.body.now in
     let i = c.loop-stmt.stmt-index in
     let s = c.stmt-item.result in
     let is = stmt_at body i s c.stmt-item.is c.loop-stmt-test.true in
     let count = written_at body i s c.stmt-item.is c.loop-stmt-test.true in
-    let walk = subst (λ b. CanWalkBody c.args.self.now b c.loop-stmt.next) is c.loop-stmt.invariant.walk in
-    (omega (arith, count, c.loop-stmt.invariant.number, c.loop-stmt.invariant.above, c.decreases), (can_here c.args.self.now c.loop-stmt.next s (body_of (drop (i + 1) body)) walk, c.loop-stmt.invariant.on.held))
+    let walk = subst (λ b. CanWalkBody w b c.loop-stmt.next) is c.loop-stmt.invariant.walk in
+    let on = trimmed w.plan.now was c.loop-stmt.variables c.trim.new.self c.len-mark.result (c.len-mark.ensures ∙ was.notes.ok.0) c.requires.held c.loop-stmt.invariant.on c.in_ok-trim.ensures.ranges c.in_ok-trim.ensures.back in
+    (omega (arith, count, c.loop-stmt.invariant.number, c.loop-stmt.invariant.above, c.decreases), (can_here w c.loop-stmt.next s (body_of (drop (i + 1) body)) walk, on.held))
 
 pub walk_body-returns-in_err-next-clause-passes : goal.walk_body-returns-in_err-next-clause-passes
 walk_body-returns-in_err-next-clause-passes t c =
@@ -33,28 +47,41 @@ walk_body-returns-in_err-next-clause-passes t c =
     let s = c.stmt-item.result in
     let next = c.loop-stmt.next in
     let rest = body_of (drop (i + 1) body) in
-    let rs = c.loop-stmt.variables.ranges.items in
+    let rs = c.trim.new.self.ranges.items in
     let f = c.in_err-next.field-0.0 in
     let is = stmt_at body i s c.stmt-item.is c.loop-stmt-test.true in
     let whole = through_body w spot (body_of body) c.args.variables.now.ranges.items in
-    let same = sym c.loop-stmt.invariant.left ∙ ap (λ b. walked_in w (record spot { at = next }) b rs) is in
-    passes_not whole c.walk_statement.new.variables.ranges.items c.from_residual.result f c.from_residual.ensures.1
+    let same =
+    sym c.loop-stmt.invariant.left
+    ∙ ap (λ b. walked_in w (record spot { at = next }) b c.loop-stmt.variables.ranges.items) is
+    ∙ ap (walked_in w (record spot { at = next }) (stmt_then s rest)) (sym c.in_ok-trim.ensures.ranges) in
+    passes_not whole c.walk_statement.new.variables.ranges.items c.from_residual-in_err-next.result f c.from_residual-in_err-next.ensures.1
     (fault_as whole.ranges (walked_in w (record spot { at = next }) (stmt_then s rest) rs) f same (step_stops w (record spot { at = next }) s rest rs f c.in_err-next.ensures.passes))
+
+pub walk_body-returns-in_err-next-clause-on : goal.walk_body-returns-in_err-next-clause-on
+walk_body-returns-in_err-next-clause-on t c =
+    let p = c.args.self.now.plan.now in
+    let was = c.args.variables.now in
+    let on = trimmed p was c.loop-stmt.variables c.trim.new.self c.len-mark.result (c.len-mark.ensures ∙ was.notes.ok.0) c.requires.held c.loop-stmt.invariant.on c.in_ok-trim.ensures.ranges c.in_ok-trim.ensures.back in
+    goes_then p was c.trim.new.self c.walk_statement.new.variables on c.in_err-next.ensures.on
 
 pub walk_body-loop-stmt-preserved : goal.walk_body-loop-stmt-preserved
 walk_body-loop-stmt-preserved t c =
     let w = c.args.self.now in
+    let p = w.plan.now in
+    let was = c.args.variables.now in
     let spot = c.args.spot in
     let body = c.args.body.now in
     let i = c.loop-stmt.stmt-index in
     let s = c.stmt-item.result in
     let next = c.loop-stmt.next in
     let rest = body_of (drop (i + 1) body) in
-    let rs = c.loop-stmt.variables.ranges.items in
+    let rs = c.trim.new.self.ranges.items in
     let is = stmt_at body i s c.stmt-item.is c.loop-stmt-test.true in
     let count = written_at body i s c.stmt-item.is c.loop-stmt-test.true in
     let walk = subst (λ b. CanWalkBody w b next) is c.loop-stmt.invariant.walk in
     let step = c.in_ok-next.ensures.passes in
+    let on = trimmed p was c.loop-stmt.variables c.trim.new.self c.len-mark.result (c.len-mark.ensures ∙ was.notes.ok.0) c.requires.held c.loop-stmt.invariant.on c.in_ok-trim.ensures.ranges c.in_ok-trim.ensures.back in
     record {
       number = omega (arith, count, c.loop-stmt.invariant.number, step.1);
       above = omega (arith, c.loop-stmt.invariant.above, step.1);
@@ -62,8 +89,9 @@ walk_body-loop-stmt-preserved t c =
       left =
           step_on w (record spot { at = next }) s rest c.in_ok-next.next rs c.walk_statement.new.variables.ranges.items step.0 step.1
           ∙ ap (λ b. walked_in w (record spot { at = next }) b rs) (sym is)
+          ∙ ap (walked_in w (record spot { at = next }) (body_of (drop i body))) c.in_ok-trim.ensures.ranges
           ∙ c.loop-stmt.invariant.left;
-      on = goes_then w.plan.now c.args.variables.now c.loop-stmt.variables c.walk_statement.new.variables c.loop-stmt.invariant.on c.in_ok-next.ensures.on;
+      on = goes_then p was c.trim.new.self c.walk_statement.new.variables on c.in_ok-next.ensures.on;
     }
 
 pub walk_method-returns-then-chain-eq0-clause-passes : goal.walk_method-returns-then-chain-eq0-clause-passes
@@ -116,101 +144,6 @@ walk_statement-returns-in-If-clause-passes t c =
     subst (λ b. Passes (through_body w spot b rs) c.walk_if.new.variables.ranges.items c.walk_if.result) (sym is)
     (passes_to (through_if w spot c.in-If.test yes no rs) (spot.at + written (if_of c.in-If.test yes no)) c.walk_if.new.variables.ranges.items c.walk_if.result number c.walk_if.ensures.passes)
 
-pub walk_first-walk_body-requires : goal.walk_first-walk_body-requires
-walk_first-walk_body-requires t c =
-    let walk : CanWalkBody c.args.self.now (body_of c.args.fork.now.yes.now) (c.args.spot.at + 1) = record {
-      typed = c.requires.walk.first;
-      small = c.requires.walk.first_small;
-      room = omega (arith, c.requires.walk.room);
-    } in
-    (omega (arith, c.decreases), (walk, (goes_apply c.args.self.now.plan.now c.args.variables.now c.apply.new.self c.args.held.now c.requires.held c.in_ok-apply.ensures.value c.in_ok-apply.ensures.noted c.in_ok-apply.ensures.kept).held))
-
-pub walk_first-returns-clause-on : goal.walk_first-returns-clause-on
-walk_first-returns-clause-on t c =
-    goes_then c.args.self.now.plan.now c.args.variables.now c.apply.new.self c.walk_body.new.variables
-    (goes_apply c.args.self.now.plan.now c.args.variables.now c.apply.new.self c.args.held.now c.requires.held c.in_ok-apply.ensures.value c.in_ok-apply.ensures.noted c.in_ok-apply.ensures.kept)
-    c.in_ok-next.ensures.on
-
-pub walk_second-walk_body-requires : goal.walk_second-walk_body-requires
-walk_second-walk_body-requires t c =
-    let walk : CanWalkBody c.args.self.now (body_of c.args.fork.now.no.now) (c.args.spot.at + 1 + c.written.result) = record {
-      typed = c.requires.walk.second;
-      small = c.requires.walk.second_small;
-      room = omega (arith, c.requires.walk.room, c.written.ensures);
-    } in
-    (omega (arith, c.decreases), (walk, (goes_apply c.args.self.now.plan.now c.args.variables.now c.apply.new.self c.args.failed.now c.requires.held c.in_ok-apply.ensures.value c.in_ok-apply.ensures.noted c.in_ok-apply.ensures.kept).held))
-
-pub walk_aside-walk_body-requires : goal.walk_aside-walk_body-requires
-walk_aside-walk_body-requires t c =
-    (omega (arith, c.decreases), (c.requires.walk, (goes_apply c.args.self.now.plan.now c.args.variables.now c.apply.new.self c.args.changes.now c.requires.held c.in_ok-apply.ensures.value c.in_ok-apply.ensures.noted c.in_ok-apply.ensures.kept).held))
-
-pub walk_second-returns-clause-on : goal.walk_second-returns-clause-on
-walk_second-returns-clause-on t c =
-    let p = c.args.self.now.plan.now in
-    goes_on_then p c.args.variables.now c.apply.new.self c.walk_body.new.variables c.walk_body.result
-    (goes_noted p c.args.variables.now c.apply.new.self c.requires.held c.in_ok-apply.ensures.noted c.in_ok-apply.ensures.kept)
-    c.walk_body.ensures.on
-
-pub walk_aside-returns-clause-ranges : goal.walk_aside-returns-clause-ranges
-walk_aside-returns-clause-ranges t c =
-    let was = c.args.variables.now in
-    let noted = noted_then was c.apply.new.self c.walk_body.new.variables c.in_ok-apply.ensures.noted c.in_ok-next.ensures.on.noted in
-    c.in_ok-changes.ensures.ranges ∙ since was c.walk_body.new.variables c.len-mark.result (c.len-mark.ensures ∙ was.notes.ok.0) noted
-
-pub walk_aside-returns-clause-passes : goal.walk_aside-returns-clause-passes
-walk_aside-returns-clause-passes t c =
-    let was = c.args.variables.now in
-    let now = c.walk_body.new.variables in
-    let cs = c.in_ok-changes.changes in
-    let noted = noted_then was c.apply.new.self now c.in_ok-apply.ensures.noted c.in_ok-next.ensures.on.noted in
-    let told = subst (λ rs. IsTold rs now.ranges.items cs.items) (since was now c.len-mark.result (c.len-mark.ensures ∙ was.notes.ok.0) noted) c.in_ok-changes.ensures.told in
-    let passes =
-    subst (λ rs. Passes (through_body c.args.self.now c.args.spot (body_of c.args.body.now) rs) now.ranges.items (Ok c.in_ok-next.next)) c.in_ok-apply.ensures.value c.in_ok-next.ensures.passes in
-    passes_aside (through_body c.args.self.now c.args.spot (body_of c.args.body.now) (changed was.ranges.items c.args.changes.now)) was.ranges.items now.ranges.items cs c.in_ok-next.next told passes
-
-pub walk_both-returns-in-Ok-clause-passes : goal.walk_both-returns-in-Ok-clause-passes
-walk_both-returns-in-Ok-clause-passes t c =
-    let w = c.args.self.now in
-    let spot = c.args.spot in
-    let f = c.args.fork.now in
-    let was = c.args.variables.now.ranges.items in
-    let a = c.in_ok-yes.yes in
-    let b = c.in_ok-no.no in
-    let two = subst (λ rs. PassesAside (through_body w (record spot { at = a.next }) (body_of f.no.now) (changed rs c.args.failed.now)) rs b) c.in_ok-yes.ensures.ranges c.in_ok-no.ensures.passes in
-    let back = c.in_ok-no.ensures.ranges ∙ c.in_ok-yes.ensures.ranges in
-    let met : joined_lists (changed was a.changes.items) (changed was b.changes.items) ≡ Ok c.meet.new.variables.ranges.items =
-    ap (λ rs. joined_lists (changed rs a.changes.items) (changed rs b.changes.items)) (sym back)
-    ∙ ap (λ cs. joined_lists (changed c.walk_aside-2.new.variables.ranges.items cs) (changed c.walk_aside-2.new.variables.ranges.items b.changes.items)) (sym c.deref.ensures.value)
-    ∙ ap (λ cs. joined_lists (changed c.walk_aside-2.new.variables.ranges.items c.deref.result.now) (changed c.walk_aside-2.new.variables.ranges.items cs)) (sym c.deref-2.ensures.value)
-    ∙ c.in-Ok.ensures.meets in (
-      aside_joins w spot f was (changed was c.args.held.now) (changed was c.args.failed.now) a b c.requires.held.sized c.in_ok-yes.ensures.passes two c.meet.new.variables.ranges.items met,
-      omega (arith, c.in_ok-yes.ensures.passes.passes.1, two.passes.1),
-    )
-
-pub walk_both-returns-in-Ok-clause-on : goal.walk_both-returns-in-Ok-clause-on
-walk_both-returns-in-Ok-clause-on t c =
-    let was = c.args.variables.now in
-    let back = noted_same was c.walk_aside-2.new.variables (c.in_ok-no.ensures.ranges ∙ c.in_ok-yes.ensures.ranges) (c.in_ok-no.ensures.notes ∙ c.in_ok-yes.ensures.notes) in
-    goes_noted c.args.self.now.plan.now was c.meet.new.variables c.requires.held (noted_then was c.walk_aside-2.new.variables c.meet.new.variables back c.in-Ok.ensures.noted) c.in-Ok.ensures.kept
-
-pub walk_both-returns-clause-passes : goal.walk_both-returns-clause-passes
-walk_both-returns-clause-passes t c =
-    let w = c.args.self.now in
-    let spot = c.args.spot in
-    let f = c.args.fork.now in
-    let was = c.args.variables.now.ranges.items in
-    let a = c.in_ok-yes.yes in
-    let b = c.in_ok-no.no in
-    let new = c.meet.new.variables.ranges.items in
-    let two = subst (λ rs. PassesAside (through_body w (record spot { at = a.next }) (body_of f.no.now) (changed rs c.args.failed.now)) rs b) c.in_ok-yes.ensures.ranges c.in_ok-no.ensures.passes in
-    let back = c.in_ok-no.ensures.ranges ∙ c.in_ok-yes.ensures.ranges in
-    let met : MeetsAnswer f.root was a.changes.items b.changes.items new (Err c.in-Err.stop) =
-    subst (λ rs. MeetsAnswer f.root rs a.changes.items b.changes.items new (Err c.in-Err.stop)) back
-    (subst (λ cs. MeetsAnswer f.root c.walk_aside-2.new.variables.ranges.items cs b.changes.items new (Err c.in-Err.stop)) c.deref.ensures.value
-    (subst (λ cs. MeetsAnswer f.root c.walk_aside-2.new.variables.ranges.items c.deref.result.now cs new (Err c.in-Err.stop)) c.deref-2.ensures.value c.in-Err.ensures.meets)) in
-    subst (FaultOf (met_in w spot f (changed was c.args.held.now) (changed was c.args.failed.now))) (sym c.fault_of.ensures)
-    (aside_stops w spot f was (changed was c.args.held.now) (changed was c.args.failed.now) a b c.requires.held.sized c.in_ok-yes.ensures.passes two c.in-Err.stop new met)
-
 pub walk_if-returns-in-Ok-clause-passes : goal.walk_if-returns-in-Ok-clause-passes
 walk_if-returns-in-Ok-clause-passes t c =
     let w = c.args.self.now in
@@ -223,3 +156,180 @@ walk_if-returns-in-Ok-clause-passes t c =
     if_passes w spot c.args.test.now f vs new (branches_in p vs b) c.walk_fork.result
     (if_forks w spot c.args.test.now f vs b c.in-Ok.ensures.answer.branches (omega (arith, c.in-Ok.ensures.answer.next)))
     (subst (λ rs. Passes (through_fork w spot f (branches_in p rs b)) new c.walk_fork.result) c.in-Ok.ensures.left.ranges c.walk_fork.ensures.passes)
+
+-- ---- what is noted, on faults too
+
+pub walk_branch-walk_body-requires : goal.walk_branch-walk_body-requires
+walk_branch-walk_body-requires t c =
+    (omega (arith, c.decreases), (c.requires.walk, (goes_noted c.args.self.now.plan.now c.args.variables.now c.apply.new.self c.requires.held c.in_ok-apply.ensures.noted c.in_ok-apply.ensures.kept).held))
+
+pub walk_branch-returns-in_err-apply-clause-on : goal.walk_branch-returns-in_err-apply-clause-on
+walk_branch-returns-in_err-apply-clause-on t c =
+    goes_noted c.args.self.now.plan.now c.args.variables.now c.apply.new.self c.requires.held c.in_err-apply.ensures.noted c.in_err-apply.ensures.kept
+
+pub walk_branch-returns-clause-on : goal.walk_branch-returns-clause-on
+walk_branch-returns-clause-on t c =
+    let p = c.args.self.now.plan.now in
+    goes_then p c.args.variables.now c.apply.new.self c.walk_body.new.variables
+    (goes_noted p c.args.variables.now c.apply.new.self c.requires.held c.in_ok-apply.ensures.noted c.in_ok-apply.ensures.kept)
+    c.walk_body.ensures.on
+
+-- ---- both lists, the second one last
+
+pub walk_second_last-returns-in_err-return_to-clause-on : goal.walk_second_last-returns-in_err-return_to-clause-on
+walk_second_last-returns-in_err-return_to-clause-on t c =
+    let p = c.args.self.now.plan.now in
+    let on = c.in_ok-next.ensures.on in
+    goes_then p c.args.variables.now c.walk_branch.new.variables c.return_to.new.self on (goes_noted p c.walk_branch.new.variables c.return_to.new.self on.held c.in_err-return_to.ensures.noted c.in_err-return_to.ensures.kept)
+
+pub walk_second_last-returns-in_err-next-2-clause-on : goal.walk_second_last-returns-in_err-next-2-clause-on
+walk_second_last-returns-in_err-next-2-clause-on t c =
+    let p = c.args.self.now.plan.now in
+    let on = c.in_ok-next.ensures.on in
+    let back = goes_noted p c.walk_branch.new.variables c.return_to.new.self on.held c.in_ok-return_to.ensures.noted c.in_ok-return_to.ensures.kept in
+    goes_then p c.args.variables.now c.walk_branch.new.variables c.walk_branch-2.new.variables on (goes_then p c.walk_branch.new.variables c.return_to.new.self c.walk_branch-2.new.variables back c.in_err-next-2.ensures.on)
+
+pub walk_second_last-returns-in-Ok-clause-on : goal.walk_second_last-returns-in-Ok-clause-on
+walk_second_last-returns-in-Ok-clause-on t c =
+    let p = c.args.self.now.plan.now in
+    let first = c.walk_branch.new.variables in
+    let on = c.in_ok-next.ensures.on in
+    let back = goes_noted p first c.return_to.new.self on.held c.in_ok-return_to.ensures.noted c.in_ok-return_to.ensures.kept in
+    let through = goes_then p first c.return_to.new.self c.walk_branch-2.new.variables back c.in_ok-next-2.ensures.on in
+    goes_then p c.args.variables.now first c.meet.new.variables on (goes_again p first c.walk_branch-2.new.variables c.meet.new.variables c.len-mark.result (c.len-mark.ensures ∙ first.notes.ok.0) through c.in-Ok.ensures.back c.in-Ok.ensures.kept on.held)
+
+pub walk_second_last-returns-in-Err-clause-on : goal.walk_second_last-returns-in-Err-clause-on
+walk_second_last-returns-in-Err-clause-on t c =
+    let p = c.args.self.now.plan.now in
+    let first = c.walk_branch.new.variables in
+    let on = c.in_ok-next.ensures.on in
+    let back = goes_noted p first c.return_to.new.self on.held c.in_ok-return_to.ensures.noted c.in_ok-return_to.ensures.kept in
+    let through = goes_then p first c.return_to.new.self c.walk_branch-2.new.variables back c.in_ok-next-2.ensures.on in
+    goes_then p c.args.variables.now first c.meet.new.variables on (goes_again p first c.walk_branch-2.new.variables c.meet.new.variables c.len-mark.result (c.len-mark.ensures ∙ first.notes.ok.0) through c.in-Err.ensures.back c.in-Err.ensures.kept on.held)
+
+pub walk_second_last-returns-in-Ok-clause-passes : goal.walk_second_last-returns-in-Ok-clause-passes
+walk_second_last-returns-in-Ok-clause-passes t c =
+    let w = c.args.self.now in
+    let spot = c.args.spot in
+    let f = c.args.fork.now in
+    let was = c.args.variables.now in
+    let s = c.walk_branch.new.variables in
+    let r = c.walk_branch-2.new.variables in
+    let new = c.meet.new.variables.ranges.items in
+    let hs = changed was.ranges.items c.args.held.now in
+    let fs = changed was.ranges.items c.args.failed.now in
+    let back = c.in_ok-return_to.ensures.ranges ∙ since was s c.len-outset.result (c.len-outset.ensures ∙ was.notes.ok.0) c.in_ok-next.ensures.on.noted in
+    let first = c.in_ok-next.ensures.passes in
+    let last = subst (λ rs. Passes (through_body w (record spot { at = c.in_ok-next.next }) (body_of f.no.now) (changed rs c.args.failed.now)) r.ranges.items (Ok c.in_ok-next-2.next)) back c.in_ok-next-2.ensures.passes in
+    let noted = noted_then s c.return_to.new.self r c.in_ok-return_to.ensures.noted c.in_ok-next-2.ensures.on.noted in
+    let other = since s r c.len-mark.result (c.len-mark.ensures ∙ s.notes.ok.0) noted in
+    let met = subst (λ ss. joined_lists r.ranges.items ss ≡ Ok new) other c.in-Ok.ensures.meets in (
+      both_join_back w spot f c.in_ok-next.next hs fs s.ranges.items r.ranges.items c.in_ok-next.ensures.on.held.sized c.in_ok-next-2.ensures.on.held.sized first.1 first.0 last.0 new met,
+      omega (arith, first.1, last.1),
+    )
+
+pub walk_second_last-returns-in-Err-clause-passes : goal.walk_second_last-returns-in-Err-clause-passes
+walk_second_last-returns-in-Err-clause-passes t c =
+    let w = c.args.self.now in
+    let spot = c.args.spot in
+    let f = c.args.fork.now in
+    let was = c.args.variables.now in
+    let s = c.walk_branch.new.variables in
+    let r = c.walk_branch-2.new.variables in
+    let new = c.meet.new.variables.ranges.items in
+    let hs = changed was.ranges.items c.args.held.now in
+    let fs = changed was.ranges.items c.args.failed.now in
+    let back = c.in_ok-return_to.ensures.ranges ∙ since was s c.len-outset.result (c.len-outset.ensures ∙ was.notes.ok.0) c.in_ok-next.ensures.on.noted in
+    let first = c.in_ok-next.ensures.passes in
+    let last = subst (λ rs. Passes (through_body w (record spot { at = c.in_ok-next.next }) (body_of f.no.now) (changed rs c.args.failed.now)) r.ranges.items (Ok c.in_ok-next-2.next)) back c.in_ok-next-2.ensures.passes in
+    let noted = noted_then s c.return_to.new.self r c.in_ok-return_to.ensures.noted c.in_ok-next-2.ensures.on.noted in
+    let other = since s r c.len-mark.result (c.len-mark.ensures ∙ s.notes.ok.0) noted in
+    let met = subst (λ ss. MeetsAnswer f.root r.ranges.items ss new (Err c.in-Err.stop)) other c.in-Err.ensures.meets in
+    subst (FaultOf (met_in w spot f hs fs)) (sym c.fault_of.ensures)
+    (both_stop_back w spot f c.in_ok-next.next hs fs s.ranges.items r.ranges.items c.in_ok-next.ensures.on.held.sized c.in_ok-next-2.ensures.on.held.sized first.1 first.0 last.0 c.in-Err.stop new met)
+
+-- ---- both lists, the first one last
+
+pub walk_first_last-returns-in_err-return_to-clause-on : goal.walk_first_last-returns-in_err-return_to-clause-on
+walk_first_last-returns-in_err-return_to-clause-on t c =
+    let p = c.args.self.now.plan.now in
+    let second = c.walk_branch-behind.new.variables in
+    let on = c.walk_branch-behind.ensures.on in
+    goes_then p c.args.variables.now second c.return_to.new.self on (goes_noted p second c.return_to.new.self on.held c.in_err-return_to.ensures.noted c.in_err-return_to.ensures.kept)
+
+pub walk_first_last-returns-in_err-walk_branch-clause-on : goal.walk_first_last-returns-in_err-walk_branch-clause-on
+walk_first_last-returns-in_err-walk_branch-clause-on t c =
+    let p = c.args.self.now.plan.now in
+    let second = c.walk_branch-behind.new.variables in
+    let on = c.walk_branch-behind.ensures.on in
+    let back = goes_noted p second c.return_to.new.self on.held c.in_ok-return_to.ensures.noted c.in_ok-return_to.ensures.kept in
+    goes_then p c.args.variables.now second c.walk_branch.new.variables on (goes_then p second c.return_to.new.self c.walk_branch.new.variables back c.in_err-walk_branch.ensures.on)
+
+pub walk_first_last-returns-in_err-next-clause-on : goal.walk_first_last-returns-in_err-next-clause-on
+walk_first_last-returns-in_err-next-clause-on t c =
+    let p = c.args.self.now.plan.now in
+    let second = c.walk_branch-behind.new.variables in
+    let on = c.walk_branch-behind.ensures.on in
+    let back = goes_noted p second c.return_to.new.self on.held c.in_ok-return_to.ensures.noted c.in_ok-return_to.ensures.kept in
+    goes_then p c.args.variables.now second c.walk_branch.new.variables on (goes_then p second c.return_to.new.self c.walk_branch.new.variables back c.in_ok-walk_branch.ensures.on)
+
+pub walk_first_last-returns-in-Ok-clause-on : goal.walk_first_last-returns-in-Ok-clause-on
+walk_first_last-returns-in-Ok-clause-on t c =
+    let p = c.args.self.now.plan.now in
+    let second = c.walk_branch-behind.new.variables in
+    let on = c.walk_branch-behind.ensures.on in
+    let back = goes_noted p second c.return_to.new.self on.held c.in_ok-return_to.ensures.noted c.in_ok-return_to.ensures.kept in
+    let through = goes_then p second c.return_to.new.self c.walk_branch.new.variables back c.in_ok-walk_branch.ensures.on in
+    goes_then p c.args.variables.now second c.meet.new.variables on (goes_again p second c.walk_branch.new.variables c.meet.new.variables c.len-mark.result (c.len-mark.ensures ∙ second.notes.ok.0) through c.in-Ok.ensures.back c.in-Ok.ensures.kept on.held)
+
+pub walk_first_last-returns-in-Err-clause-on : goal.walk_first_last-returns-in-Err-clause-on
+walk_first_last-returns-in-Err-clause-on t c =
+    let p = c.args.self.now.plan.now in
+    let second = c.walk_branch-behind.new.variables in
+    let on = c.walk_branch-behind.ensures.on in
+    let back = goes_noted p second c.return_to.new.self on.held c.in_ok-return_to.ensures.noted c.in_ok-return_to.ensures.kept in
+    let through = goes_then p second c.return_to.new.self c.walk_branch.new.variables back c.in_ok-walk_branch.ensures.on in
+    goes_then p c.args.variables.now second c.meet.new.variables on (goes_again p second c.walk_branch.new.variables c.meet.new.variables c.len-mark.result (c.len-mark.ensures ∙ second.notes.ok.0) through c.in-Err.ensures.back c.in-Err.ensures.kept on.held)
+
+pub walk_first_last-returns-in-Ok-clause-passes : goal.walk_first_last-returns-in-Ok-clause-passes
+walk_first_last-returns-in-Ok-clause-passes t c =
+    let w = c.args.self.now in
+    let spot = c.args.spot in
+    let f = c.args.fork.now in
+    let was = c.args.variables.now in
+    let s = c.walk_branch-behind.new.variables in
+    let r = c.walk_branch.new.variables in
+    let new = c.meet.new.variables.ranges.items in
+    let hs = changed was.ranges.items c.args.held.now in
+    let fs = changed was.ranges.items c.args.failed.now in
+    let back = c.in_ok-return_to.ensures.ranges ∙ since was s c.len-outset.result (c.len-outset.ensures ∙ was.notes.ok.0) c.walk_branch-behind.ensures.on.noted in
+    let first = subst (λ rs. Passes (through_body w (first_spot spot) (body_of f.yes.now) (changed rs c.args.held.now)) r.ranges.items (Ok c.in_ok-walk_branch.field-0)) back c.in_ok-walk_branch.ensures.passes in
+    let last = c.in_ok-next.ensures.passes in
+    let noted = noted_then s c.return_to.new.self r c.in_ok-return_to.ensures.noted c.in_ok-walk_branch.ensures.on.noted in
+    let other = since s r c.len-mark.result (c.len-mark.ensures ∙ s.notes.ok.0) noted in
+    let met = subst (λ ss. joined_lists r.ranges.items ss ≡ Ok new) other c.in-Ok.ensures.meets in
+    let number : spot.at + 1 + c.written.result ≡ spot.at + 1 + written (body_of f.yes.now) = omega (arith, c.written.ensures) in (
+      both_join w spot f (spot.at + 1 + c.written.result) hs fs r.ranges.items s.ranges.items c.in_ok-walk_branch.ensures.on.held.sized c.walk_branch-behind.ensures.on.held.sized number first.0 last.0 new met,
+      omega (arith, number, last.1),
+    )
+
+pub walk_first_last-returns-in-Err-clause-passes : goal.walk_first_last-returns-in-Err-clause-passes
+walk_first_last-returns-in-Err-clause-passes t c =
+    let w = c.args.self.now in
+    let spot = c.args.spot in
+    let f = c.args.fork.now in
+    let was = c.args.variables.now in
+    let s = c.walk_branch-behind.new.variables in
+    let r = c.walk_branch.new.variables in
+    let new = c.meet.new.variables.ranges.items in
+    let hs = changed was.ranges.items c.args.held.now in
+    let fs = changed was.ranges.items c.args.failed.now in
+    let back = c.in_ok-return_to.ensures.ranges ∙ since was s c.len-outset.result (c.len-outset.ensures ∙ was.notes.ok.0) c.walk_branch-behind.ensures.on.noted in
+    let first = subst (λ rs. Passes (through_body w (first_spot spot) (body_of f.yes.now) (changed rs c.args.held.now)) r.ranges.items (Ok c.in_ok-walk_branch.field-0)) back c.in_ok-walk_branch.ensures.passes in
+    let last = c.in_ok-next.ensures.passes in
+    let noted = noted_then s c.return_to.new.self r c.in_ok-return_to.ensures.noted c.in_ok-walk_branch.ensures.on.noted in
+    let other = since s r c.len-mark.result (c.len-mark.ensures ∙ s.notes.ok.0) noted in
+    let met = subst (λ ss. MeetsAnswer f.root r.ranges.items ss new (Err c.in-Err.stop)) other c.in-Err.ensures.meets in
+    let number : spot.at + 1 + c.written.result ≡ spot.at + 1 + written (body_of f.yes.now) = omega (arith, c.written.ensures) in
+    subst (FaultOf (met_in w spot f hs fs)) (sym c.fault_of.ensures)
+    (both_stop w spot f (spot.at + 1 + c.written.result) hs fs r.ranges.items s.ranges.items c.in_ok-walk_branch.ensures.on.held.sized c.walk_branch-behind.ensures.on.held.sized number first.0 last.0 c.in-Err.stop new met)

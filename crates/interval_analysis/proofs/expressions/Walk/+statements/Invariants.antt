@@ -24,11 +24,17 @@ decreases-walk_first l = l.spot.chain * 2 ^ 40 + 7 * (written (body_of l.fork.no
 abbrev pub decreases-walk_second : goal.decreases-walk_second
 decreases-walk_second l = l.spot.chain * 2 ^ 40 + 7 * (written (body_of l.fork.now.yes.now) + written (body_of l.fork.now.no.now)) + 3
 
+abbrev pub decreases-walk_second_last : goal.decreases-walk_second_last
+decreases-walk_second_last l = l.spot.chain * 2 ^ 40 + 7 * (written (body_of l.fork.now.yes.now) + written (body_of l.fork.now.no.now)) + 3
+
+abbrev pub decreases-walk_first_last : goal.decreases-walk_first_last
+decreases-walk_first_last l = l.spot.chain * 2 ^ 40 + 7 * (written (body_of l.fork.now.yes.now) + written (body_of l.fork.now.no.now)) + 3
+
 abbrev pub decreases-walk_both : goal.decreases-walk_both
 decreases-walk_both l = l.spot.chain * 2 ^ 40 + 7 * (written (body_of l.fork.now.yes.now) + written (body_of l.fork.now.no.now)) + 4
 
-abbrev pub decreases-walk_aside : goal.decreases-walk_aside
-decreases-walk_aside l = l.spot.chain * 2 ^ 40 + 7 * written (body_of l.body.now) + 2
+abbrev pub decreases-walk_branch : goal.decreases-walk_branch
+decreases-walk_branch l = l.spot.chain * 2 ^ 40 + 7 * written (body_of l.body.now) + 2
 
 abbrev pub decreases-walk_method : goal.decreases-walk_method
 decreases-walk_method l = l.chain * 2 ^ 40

@@ -12,8 +12,8 @@ use Rattle.interval_analysis.specs.Notes.{IsTold}
 use Rattle.interval_analysis.proofs.NodeLemmas.{can_item, can_one, can_two, first_stops, item_answer, item_stops, one_answer, one_stops, parts_answer, parts_err, range_err, second_stops, two_answer, two_stops}
 use Rattle.interval_analysis.proofs.ExpressionLemmas.{plain_answer, comparison_stops}
 use Rattle.interval_analysis.proofs.ConnectiveLemmas.{both_followed, sequence_tested}
-use Rattle.interval_analysis.proofs.NoteLemmas.{since}
-use Rattle.interval_analysis.proofs.VariableLemmas.{goes_apply, goes_left, goes_then, held_left}
+use Rattle.interval_analysis.proofs.NoteLemmas.{noted_then, notes_before, since}
+use Rattle.interval_analysis.proofs.VariableLemmas.{goes_apply, goes_left, goes_noted, goes_then, held_left}
 use Rattle.interval_analysis.proofs.ComparisonLemmas.{are_sides, can_inner, order_answer, order_stops, sides_answer, takes_index, takes_operand, takes_operands, tests_err}
 use Rattle.interval_analysis.proofs.expressions.Walk.+walk.Goals as goal
 
@@ -204,6 +204,7 @@ pub test_operator-returns-in_default : goal.test_operator-returns-in_default
 test_operator-returns-in_default t c = record {
   answer = plain_answer c.args.self.now c.args.op (term_of c.args.left.now) (term_of c.args.right.now) c.args.at c.args.variables.now.ranges.items c.test_comparison.result c.in_default.not-And c.in_default.not-Or c.test_comparison.ensures.answer;
   left = c.test_comparison.ensures.left;
+  on = c.test_comparison.ensures.on;
 }
 
 pub range_where-range_of-requires : goal.range_where-range_of-requires
@@ -239,3 +240,58 @@ test_sequence-returns-clause-answer t c =
     let told = subst (λ rs. IsTold rs mid.ranges.items cs.items) back c.in_ok-changes.ensures.told in
     sequence_tested c.args.self.now c.args.connective c.args.left.now c.args.right.now c.args.at was.ranges.items mid.ranges.items c.in_ok-followed.followed cs c.then_some.result c.unchanged_if.result c.turned.result
     c.in_ok-followed.ensures.answer told.whole c.then_some.ensures c.unchanged_if.ensures c.turned.ensures
+
+-- ---- what is noted, on errors too
+
+pub follow_both-returns-in_err-second-clause-on : goal.follow_both-returns-in_err-second-clause-on
+follow_both-returns-in_err-second-clause-on t c =
+    goes_then c.args.self.now.plan.now c.args.variables.now c.follow.new.variables c.follow_behind.new.variables c.in_ok-first.ensures.on c.in_err-second.ensures.on
+
+pub follow_part-returns-in_err-apply-in-Some-clause-on : goal.follow_part-returns-in_err-apply-in-Some-clause-on
+follow_part-returns-in_err-apply-in-Some-clause-on t c =
+    let p = c.args.self.now.plan.now in
+    let was = c.args.variables.now in
+    let mid = c.test.new.variables in
+    let same = c.in_ok-branches.ensures.left in
+    goes_then p was mid c.apply.new.self
+    (goes_left p was mid same c.requires.held)
+    (goes_noted p mid c.apply.new.self (held_left p was mid same c.requires.held) c.in_err-apply-in-Some.ensures.noted c.in_err-apply-in-Some.ensures.kept)
+
+pub range_where-returns-in_err-apply-clause-on : goal.range_where-returns-in_err-apply-clause-on
+range_where-returns-in_err-apply-clause-on t c =
+    goes_noted c.args.self.now.plan.now c.args.variables.now c.apply.new.self c.requires.held c.in_err-apply.ensures.noted c.in_err-apply.ensures.kept
+
+pub range_where-returns-in_err-ranged-clause-on : goal.range_where-returns-in_err-ranged-clause-on
+range_where-returns-in_err-ranged-clause-on t c =
+    let p = c.args.self.now.plan.now in
+    goes_then p c.args.variables.now c.apply.new.self c.range_of.new.variables
+    (goes_noted p c.args.variables.now c.apply.new.self c.requires.held c.in_ok-apply.ensures.noted c.in_ok-apply.ensures.kept)
+    c.in_err-ranged.ensures.on
+
+pub range_where-returns-clause-on : goal.range_where-returns-clause-on
+range_where-returns-clause-on t c =
+    let was = c.args.variables.now in
+    let now = c.range_of.new.variables in
+    let mark = c.len-mark.ensures ∙ was.notes.ok.0 in
+    let noted = noted_then was c.apply.new.self now c.in_ok-apply.ensures.noted c.in_ok-ranged.ensures.on.noted in
+    goes_left c.args.self.now.plan.now was c.take_back.new.self (record {
+      ranges = c.take_back.ensures.ranges ∙ since was now c.len-mark.result mark noted;
+      notes = c.take_back.ensures.notes ∙ notes_before was now c.len-mark.result mark noted;
+    }) c.requires.held
+
+pub test_sequence-returns-in_err-changes-clause-on : goal.test_sequence-returns-in_err-changes-clause-on
+test_sequence-returns-in_err-changes-clause-on t c =
+    let p = c.args.self.now.plan.now in
+    let on = c.in_ok-followed.ensures.on in
+    goes_then p c.args.variables.now c.follow_both.new.variables c.taken_back.new.variables on (goes_left p c.follow_both.new.variables c.taken_back.new.variables c.in_err-changes.ensures.left on.held)
+
+pub test_sequence-returns-clause-on : goal.test_sequence-returns-clause-on
+test_sequence-returns-clause-on t c =
+    let was = c.args.variables.now in
+    let mid = c.follow_both.new.variables in
+    let mark = c.len-mark.ensures ∙ was.notes.ok.0 in
+    let noted = c.in_ok-followed.ensures.on.noted in
+    goes_left c.args.self.now.plan.now was c.taken_back.new.variables (record {
+      ranges = c.in_ok-changes.ensures.ranges ∙ since was mid c.len-mark.result mark noted;
+      notes = c.in_ok-changes.ensures.notes ∙ notes_before was mid c.len-mark.result mark noted;
+    }) c.requires.held

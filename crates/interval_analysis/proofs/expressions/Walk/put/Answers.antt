@@ -4,7 +4,7 @@ use Rattle.pap_tree.specs.Declarations.{declaration_of}
 use Rattle.interval_walk.specs.Walked.{range_kept_as}
 use Rattle.interval_analysis.specs.PlanViews.{scope_in}
 use Rattle.interval_analysis.proofs.KeptLemmas.{declared_at, put_done, put_nothing}
-use Rattle.interval_analysis.proofs.VariableLemmas.{goes_none}
+use Rattle.interval_analysis.proofs.VariableLemmas.{goes_noted, goes_none}
 use Rattle.interval_analysis.proofs.expressions.Walk.put.Goals as goal
 use Rattle.interval_analysis.proofs.expressions.Walk.put.Goals.{in-Some-variable_at, in-None}
 
@@ -31,3 +31,6 @@ returns-clause-put c =
       | in-None w ↦ w.kept-is ∙ ap (λ o. option_map_or (λ d. range_kept_as d.kind a) o a) (w.in-None.ensures ∙ found)
     ])
     c.put.ensures.value
+
+pub returns-clause-on : goal.returns-clause-on
+returns-clause-on c = goes_noted c.args.self.now.plan.now c.args.variables.now c.put.new.self c.requires.held c.put.ensures.noted c.put.ensures.kept

@@ -15,3 +15,6 @@ loop-change-preserved c =
       noted = noted_then c.args.self.now c.loop-change.self c.put.new.self c.loop-change.invariant.noted c.in_ok-put.ensures.noted;
       kept = c.in_ok-put.ensures.kept;
     }
+
+pub returns-in_err-put-clause-noted : goal.returns-in_err-put-clause-noted
+returns-in_err-put-clause-noted c = noted_then c.args.self.now c.loop-change.self c.put.new.self c.loop-change.invariant.noted c.in_err-put.ensures.noted

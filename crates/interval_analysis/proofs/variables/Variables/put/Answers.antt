@@ -9,5 +9,5 @@ returns-in_ok-push-clause-noted c =
     let was = c.args.self.now in
     let n = c.args.number in
     let r = c.index.result.now in
-    noted_put was (record { ranges = with_item was.ranges n c.args.range; notes = c.push.new.self }) n c.args.range r
+    noted_put was (record { ranges = with_item was.ranges n c.args.range; notes = c.push.new.self; places = was.places }) n c.args.range r
     (slice_get_read was.ranges.items (length was.ranges.items) n r refl (omega (arith, c.if-number-len.true)) c.index.ensures) refl c.in_ok-push.ensures.items
