@@ -91,17 +91,24 @@ same_months y m x y' m' ey em =
     (subst (λ (a : ℕ). (z : IsMonth a m) → make_month y m x ≡ make_month a m z) ey (λ z. ap (make_month y m) (month_prop y m x z)))
 
 -- a text is that of one month, of one day
+pub month_numbers : (t : Text) (y m y' m' : ℕ) → IsMonthText t y m → IsMonthText t y' m' → (y ≡ y') × (m ≡ m')
+month_numbers t y m y' m' h k =
+    let a = months_spell t y m h in
+    let b = months_spell t y' m' k in
+    (a.0 ∙ sym b.0, a.1 ∙ sym b.1)
+
+pub day_numbers : (t : Text) (y m d y' m' d' : ℕ) → IsDayText t y m d → IsDayText t y' m' d' → (y ≡ y') × (m ≡ m') × (d ≡ d')
+day_numbers t y m d y' m' d' h k = written_once y m d y' m' d' (sym h.written ∙ k.written)
+
 pub months_once : (t : Text) (m n : Month) → IsMonthText t m.year m.month → IsMonthText t n.year n.month → m ≡ n
 months_once t m n h k =
-    let a = months_spell t m.year m.month h in
-    let b = months_spell t n.year n.month k in
-    same_months m.year m.month m.exists n.year n.month (a.0 ∙ sym b.0) (a.1 ∙ sym b.1) n.exists
+    let e = month_numbers t m.year m.month n.year n.month h k in
+    same_months m.year m.month m.exists n.year n.month e.0 e.1 n.exists
 
 pub days_once : (t : Text) (d e : Day) → IsDayText t d.year d.month d.day → IsDayText t e.year e.month e.day → d ≡ e
 days_once t d e h k =
-    let a = days_spell t d.year d.month d.day h in
-    let b = days_spell t e.year e.month e.day k in
-    same_day d e (a.0 ∙ sym b.0) (a.1 ∙ sym b.1) (a.2 ∙ sym b.2)
+    let f = day_numbers t d.year d.month d.day e.year e.month e.day h k in
+    same_day d e f.0 f.1 f.2
 
 pub whens_once : (t : Text) (a b : When) → IsWhenText t a → IsWhenText t b → a ≡ b
 whens_once t (when.Month m) (when.Month n) h k = ap when.Month (months_once t m n h k)
