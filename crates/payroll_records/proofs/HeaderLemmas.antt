@@ -62,4 +62,4 @@ name_again row names items p h l e there =
     let place : p ≡ length items + 3 = omega arith in
     let first = sym (header_field row names there.0 h) ∙ front_field row items p there.0 (omega arith) e there.1 ∙ get_or_default items there.0 [] (field_of row p) there.1 ∙ there.2 in
     let last : field_of row p ≡ name_at names (length items) = rw place (header_field row names (length items) h) in
-    h.different there.0 (length items) (there.1) (omega arith) (first ∙ last)
+    h.different there.0 (length items) [] (there.1) (omega arith) (first ∙ last)

@@ -4,21 +4,18 @@ use Rattle.std.specs.List.{Contains}
 use Rattle.std.specs.declared.cmp.Ordering.TheVariants.{Less, Greater}
 use Rattle.std.specs.Ordering.{ordering_reverse}
 use Rattle.std.specs.Cmp.Lexicographic.{nat_list_cmp_total}
-use Rattle.std.proofs.Math.Bridge.{le_prop}
-use Rattle.std.proofs.Math.Dec.{T_prop}
 use Rattle.std.proofs.lemmas.Bool.{cases_lt}
 use Rattle.std.proofs.lemmas.Cmp.{tied_itself}
 use Rattle.rising_lists.specs.Keyed.{AreAbove, IsRising}
 use Rattle.rising_lists.proofs.Laws.{above_all}
-use Rattle.payroll_records.specs.Days.{IsDay}
 use Rattle.payroll_records.specs.NamedValues.{name_cmp, name_of}
-use Rattle.payroll_records.specs.Tables.{Text, IsWide, HasEmployee, HasMonth, HasDay, IsReadable, cell_of, IsRecordOf, HasKeyOf, WrongWidth, WrongEmployee, WrongMonth, WrongDay, WrongValue, Repeats, name_at}
+use Rattle.payroll_records.specs.Tables.{Text, IsWide, HasEmployee, HasMonth, HasDay, IsReadable, cell_of, field_of, IsRecordOf, HasKeyOf, WrongWidth, WrongEmployee, WrongMonth, WrongDay, WrongValue, Repeats, name_at}
 use Rattle.payroll_records.specs.declared.day.Day.{Day}
 use Rattle.payroll_records.specs.declared.record.Record.{Record}
 use Rattle.payroll_records.specs.declared.table.TableFault.{TableFault}
 use Rattle.payroll_records.specs.declared.table.TableFault.TheVariants as whole
 use Rattle.payroll_records.specs.declared.values.NamedValue.{NamedValue}
-use Rattle.payroll_records.proofs.DecidedLemmas.{year_is, month_is, day_is}
+use Rattle.payroll_records.proofs.SpellingLemmas.{days_once}
 
 -- values with rising names are known by what they contain
 contained_in : (x : NamedValue) (xs : List NamedValue) (v : NamedValue) → Contains (x ∷ xs) v → (x ≡ v) ⊎ Contains xs v
@@ -71,22 +68,6 @@ rising_once (x ∷ xs) (y ∷ ys) h k same =
     let rest : xs ≡ ys = rising_once xs ys h.1 k.1 (tails_same x y xs ys h.0 k.0 first same) in
     cc
 
--- days are known by their numbers
-day_prop : (year month day : ℕ) → IsProp (IsDay year month day)
-day_prop year month day = hlevel (le_prop, T_prop)
-
-abbrev make_day : (year month day : ℕ) → IsDay year month day → Day
-make_day year month day x = record { year = year; month = month; day = day; exists = x }
-
-same_numbers : (y m d : ℕ) (x : IsDay y m d) (y' m' d' : ℕ) → y ≡ y' → m ≡ m' → d ≡ d' → (x' : IsDay y' m' d') → make_day y m d x ≡ make_day y' m' d' x'
-same_numbers y m d x y' m' d' ey em ed =
-    subst (λ (c : ℕ). (z : IsDay y' m' c) → make_day y m d x ≡ make_day y' m' c z) ed
-    (subst (λ (b : ℕ). (z : IsDay y' b d) → make_day y m d x ≡ make_day y' b d z) em
-    (subst (λ (a : ℕ). (z : IsDay a m d) → make_day y m d x ≡ make_day a m d z) ey (λ z. ap (make_day y m d) (day_prop y m d x z))))
-
-pub same_day : (d e : Day) → d.year ≡ e.year → d.month ≡ e.month → d.day ≡ e.day → d ≡ e
-same_day d e y m n = same_numbers d.year d.month d.day d.exists e.year e.month e.day y m n e.exists
-
 pub same_record : (r s : Record) → r.employee ≡ s.employee → r.day ≡ s.day → r.values ≡ s.values → r ≡ s
 same_record r s e d v =
     ap (λ (x : Text). make x r.day r.values) e ∙ ap (λ (x : Day). make s.employee x r.values) d ∙ ap (λ (x : List NamedValue). make s.employee s.day x) v
@@ -98,8 +79,7 @@ same_record r s e d v =
 pub record_once : (names row : List Text) (r s : Record) → IsRecordOf names row r → IsRecordOf names row s → r ≡ s
 unfolding SameMembers
 record_once names row r s h k = same_record r s (h.employee ∙ sym k.employee)
-    (same_day r.day s.day (year_is _ _ _ h.day.0.spells ∙ sym (year_is _ _ _ k.day.0.spells)) (month_is _ _ _ h.day.0.spells ∙ sym (month_is _ _ _ k.day.0.spells))
-    (day_is _ _ _ _ h.day.0 ∙ sym (day_is _ _ _ _ k.day.0)))
+    (days_once (field_of row 2) r.day s.day h.day.0 k.day.0)
     (rising_once r.values s.values h.in_order.rising k.in_order.rising (λ v. (λ c. (k.values v).1 ((h.values v).0 c), λ c. (h.values v).1 ((k.values v).0 c))))
 
 -- the faults of a row, in the order in which they are tried

@@ -6,6 +6,7 @@ pub mod ColumnLemmas
 pub mod HeaderLemmas
 pub mod CellLemmas
 pub mod TableLemmas
+pub mod SpellingLemmas
 pub mod DecidedLemmas
 pub mod KindLemmas
 pub mod OnceLemmas

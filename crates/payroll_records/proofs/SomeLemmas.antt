@@ -1,15 +1,13 @@
 -- A table's text has an answer: its records or its first fault.
-use Rattle.std.proofs.Common.{◌≡◌, ◌≢◌, ℕ, zero, suc, ◌+◌, ◌<◌, ◌≤◌, Bool, true, false, List, [], ◌∷◌, ◌++◌, length, get_or, Option, Some, None, Result, Ok, Err, codes, refl, sym, ap, ◌∙◌, subst, arith, ◌⊎◌, inl, inr, add-one, below_more, append_assoc}
+use Rattle.std.proofs.Common.{◌≡◌, ◌≢◌, ℕ, zero, suc, ◌+◌, ◌<◌, ◌≤◌, List, [], ◌∷◌, ◌++◌, length, get_or, Option, Some, None, Result, Ok, Err, codes, refl, sym, ap, ◌∙◌, subst, arith, ◌⊎◌, inl, inr, add-one, below_more, append_assoc}
 use Rattle.std.specs.Prelude.{IsTrue}
-use Rattle.std.specs.List.{AllByRecursion, insert, list_any}
+use Rattle.std.specs.List.{AllByRecursion, AllPairs, insert, list_any}
 use Rattle.std.specs.declared.cmp.Ordering.{Ordering}
 use Rattle.std.specs.declared.cmp.Ordering.TheVariants.{Less, Equal, Greater}
 use Rattle.std.specs.Ordering.{is_eq, ordering_reverse}
-use Rattle.std.specs.Str.{bytes_eq}
 use Rattle.std.specs.Cmp.Lexicographic.{nat_list_cmp_total}
-use Rattle.std.proofs.lemmas.Bool.{cases_lt, false≢true}
+use Rattle.std.proofs.lemmas.Bool.{cases_lt}
 use Rattle.std.proofs.lemmas.List.{append-nil, get_or_default}
-use Rattle.std.proofs.lemmas.Slice.Eq.{bytes_eq-Decides}
 use Rattle.rising_lists.specs.Keyed.{at_key, IsRising, AreAbove}
 use Rattle.rising_lists.specs.Places.{IsGap}
 use Rattle.rising_lists.proofs.Laws.{misses, above_all}
@@ -30,7 +28,7 @@ use Rattle.payroll_records.specs.declared.values.NamedValue.{NamedValue}
 use Rattle.payroll_records.proofs.TableLemmas.{records_more}
 use Rattle.payroll_records.proofs.ColumnLemmas.{column_added, at_name}
 use Rattle.payroll_records.proofs.CellLemmas.{no_values, value_passed, value_added, values_supplied, supplied_values}
-use Rattle.payroll_records.proofs.DecidedLemmas.{Decided, both, eq_decided, le_decided, true_decided, month_decided, day_decided, readable_decided, number_decided}
+use Rattle.payroll_records.proofs.DecidedLemmas.{Decided, both, eq_decided, le_decided, true_decided, text_decided, month_decided, day_decided, readable_decided, number_decided}
 use Rattle.payroll_records.proofs.KindLemmas.{Kind, width, employee, month, day, value, repeat, FaultOf, fault_of}
 use Rattle.scaled_decimal.proofs.Laws.{number_once}
 
@@ -84,7 +82,7 @@ all_back [] rest n h = h.0
 all_back (m ∷ ms) rest n h = all_back ms rest n h.1
 
 AllDiffer : List Text → Type 0
-AllDiffer names = (i j : ℕ) → i < j → j < length names → name_at names i ≢ name_at names j
+AllDiffer names = AllPairs (λ m n. m ≢ n) names
 
 length_more : (names rest : List Text) (n : Text) → length names < length (names ++ (n ∷ rest))
 length_more [] rest n = omega arith
@@ -102,9 +100,11 @@ at_seam (m ∷ ms) rest n = at_seam ms rest n
 -- columns of names are of different names
 columns_differ : (names : List Text) (columns : List Column) → AreColumns names columns → AllDiffer names
 unfolding AllDiffer
-columns_differ names columns h i j less within same =
+columns_differ names columns h i j d less within same =
     let first = h.all i (omega arith) in
-    let second = rw (← same) at (h.all j within) in
+    let one : name_at names i ≡ get_or names i d = get_or_default names i [] d (omega arith) in
+    let other : name_at names j ≡ get_or names j d = get_or_default names j [] d within in
+    let second = rw (sym (one ∙ same ∙ sym other)) at (h.all j within) in
     let places : ◌≡◌ {A = ℕ} i j = ap place_or (sym first ∙ second) in
     absurd (omega arith)
   where
@@ -126,7 +126,7 @@ name_twice : (names rest : List Text) (n : Text) (c : Column) (h : HaveColumns n
 unfolding AllDiffer
 name_twice names rest n c h e differ =
     let at = at_name (IsColumnOf names) h.columns n c e h.are.each in
-    differ c.place (length names) at.1.within (length_more names rest n) (at_front names (n ∷ rest) c.place at.1.within ∙ at.1.named ∙ at.0 ∙ sym (at_seam names rest n))
+    differ c.place (length names) [] at.1.within (length_more names rest n) (at_front names (n ∷ rest) c.place at.1.within ∙ at.1.named ∙ at.0 ∙ sym (at_seam names rest n))
 
 name_new : (names : List Text) (n : Text) (h : HaveColumns names) → IsTrue (is_name n) → at_key name_cmp column_name h.columns n ≡ None → HaveColumns (names ++ (n ∷ []))
 name_new names n h t e =
@@ -146,13 +146,6 @@ names_or_not names (n ∷ rest) h = by (true_decided (is_name n)) (at_key name_c
     by (inr no_name) o e more = inr (λ named differ. no_name (all_back names rest n named))
     by (inl t) (Some c) e more = inr (λ named differ. name_twice names rest n c h e differ)
     by (inl t) None e more = subst NamesOrNot (append_assoc names (n ∷ []) rest) (more (name_new names n h t e))
-
-pub text_decided : (a b : Text) → Decided (a ≡ b)
-text_decided a b = by (bytes_eq a b) refl
-  where
-    by : (t : Bool) → bytes_eq a b ≡ t → Decided (a ≡ b)
-    by true e = inl ((bytes_eq-Decides a b).0 e)
-    by false e = inr (λ same. false≢true (sym e ∙ (bytes_eq-Decides a b).1 same))
 
 -- a first row is a header, or is none
 data HeaderOrNot (row : List Text) : Type 0 where

@@ -1,6 +1,6 @@
 -- Tables of pay runs (docs/PROFILE.md, "Tables"): the records of a CSV text, or what is wrong with it first.
 use Rattle.std.specs.Prelude.{◌≡◌, ◌≢◌, ◌↔◌, ◌⊎◌, ℕ, ◌+◌, ◌<◌, ◌≤◌, List, [], ◌∷◌, ◌++◌, length, slice_index_or, codes, IsTrue, Result, Ok, Err, ⊤}
-use Rattle.std.specs.List.{AllByRecursion, Contains, list_any}
+use Rattle.std.specs.List.{AllByRecursion, AllPairs, Contains, list_any}
 use Rattle.std.specs.Ordering.{is_eq}
 use Rattle.scaled_decimal.specs.Decimals.{Decimal}
 use Rattle.scaled_decimal.specs.Limits.{IsKept}
@@ -28,7 +28,7 @@ name_at names i = slice_index_or names i []
 pub record IsHeader (row names : List Text) : Type 0 where
   pub fields : row ≡ codes "employee" ∷ codes "month" ∷ codes "day" ∷ names
   pub named : AllByRecursion (λ n. IsTrue (is_name n)) names
-  pub different : (i j : ℕ) → i < j → j < length names → name_at names i ≢ name_at names j
+  pub different : AllPairs (λ m n. m ≢ n) names
   pub few : length names ≤ most_values
 
 -- a row's field at a place, and its cell in a column of values

@@ -32,8 +32,8 @@ impl Day {
         }
     }
 
-    /// The day that a text `YYYY-MM-DD` spells. `None` exactly where the text has not this form, or the calendar has no such
-    /// day in the years from 1900 to 2999.
+    /// The day that is written as a text `YYYY-MM-DD`. `None` exactly where no day of the calendar is so written in the years
+    /// from 1900 to 2999.
     pub fn read(text: &[u8]) -> Option<Day>
         ensures exact { IsSome result ↔ IsDaySpelled text.now }
         ensures value { IfSome result (λ d. IsDayText text.now d.year d.month d.day) }

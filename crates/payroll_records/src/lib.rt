@@ -22,4 +22,4 @@ pub use month::Month;
 pub use record::{Key, Record};
 pub use table::{TableFault, each_table_has_one_answer, read_table};
 pub use values::{InsertFault, NamedValue, Values};
-pub use when::When;
+pub use when::{When, when_laws};

@@ -1,6 +1,6 @@
 //! Months of the calendar.
-ghost use Rattle.std.specs.Prelude.{◌≡◌, ◌↔◌, IsSome, IfSome, Some};
-ghost use Rattle.payroll_records.specs.Days.{AreDigits, IsMonth, spelled, two_digits};
+ghost use Rattle.std.specs.Prelude.{◌≡◌, ◌≢◌, ◌↔◌, ◌<◌, ◌∷◌, [], ℕ, IsSome, IfSome, MatchOption, Some};
+ghost use Rattle.payroll_records.specs.Days.{IsMonth, two_digits};
 
 use crate::Day;
 use std::fmt;
@@ -28,8 +28,7 @@ impl Month {
         Some(Month { year, month })
     }
 
-    /// The month that a text `YYYY-MM` spells. `None` exactly where the text has not this form, or there is no such month in
-    /// the years from 1900 to 2999.
+    /// The month that is written as a text `YYYY-MM`. `None` exactly where none is so written in the years from 1900 to 2999.
     pub fn read(text: &[u8]) -> Option<Month>
         ensures exact { IsSome result ↔ IsMonthSpelled text.now }
         ensures value { IfSome result (λ m. IsMonthText text.now m.year m.month) }
@@ -54,10 +53,10 @@ impl Month {
     }
 }
 
-/// The number that two digits spell.
+/// The number below 100 that is written as these two digits.
 pub(crate) fn two_digits(a: u8, b: u8) -> Option<u8>
-    ensures exact { IsSome result ↔ AreDigits a b }
-    ensures value { IfSome result (λ n. n ≡ spelled a b) }
+    ensures { MatchOption result ((n : ℕ) → n < 100 → two_digits n ≢ a ∷ b ∷ [])
+        (λ n. (n < 100) × (two_digits n ≡ a ∷ b ∷ [])) }
 {
     if a.is_ascii_digit() && b.is_ascii_digit() {
         Some(10 * (a - b'0') + (b - b'0'))

@@ -1,4 +1,6 @@
 //! A month or a day, where either may be asked for.
+ghost use Rattle.payroll_records.specs.Whens.{WhensAreKnownByTexts};
+
 use crate::{Day, Month};
 use std::fmt;
 
@@ -23,3 +25,8 @@ impl fmt::Display for When {
         }
     }
 }
+
+/// A law of written months and days; the function does nothing. What one is written as is its text, and that of no other.
+pub fn when_laws()
+    ensures { WhensAreKnownByTexts }
+{}

@@ -1,24 +1,23 @@
 -- A line has one answer at most.
-use Rattle.std.proofs.Common.{◌≡◌, ℕ, ◌+◌, ◌≤◌, List, [], ◌∷◌, ◌++◌, length, Option, Some, None, Result, Ok, Err, refl, sym, ap, ◌∙◌, subst, arith, ◌⊎◌, inl, inr}
+use Rattle.std.proofs.Common.{◌≡◌, ◌+◌, ◌≤◌, List, [], ◌∷◌, ◌++◌, length, Option, Some, None, Result, Ok, Err, refl, sym, ap, ◌∙◌, subst, arith, ◌⊎◌, inl, inr}
 use Rattle.std.specs.Prelude.{IsTrue, codes, slice_index, if◌then◌else◌}
 use Rattle.std.specs.List.{AllByRecursion}
 use Rattle.std.specs.Str.{bytes_eq}
-use Rattle.std.proofs.Math.Bridge.{le_prop}
 use Rattle.std.proofs.lemmas.Bool.{false≢true, le-leb}
-use Rattle.payroll_records.specs.Days.{IsMonth, IsMonthText}
+use Rattle.payroll_records.specs.Days.{IsMonthText}
 use Rattle.payroll_records.specs.Tables.{Text}
 use Rattle.payroll_records.specs.ValueWords.{AreValueWords}
+use Rattle.payroll_records.specs.Whens.{IsWhenText}
 use Rattle.payroll_records.specs.declared.day.Day.{Day}
-use Rattle.payroll_records.specs.declared.month.Month.{Month}
 use Rattle.payroll_records.specs.declared.record.Record.{Record}
 use Rattle.payroll_records.specs.declared.when.When.{When}
 use Rattle.payroll_records.specs.declared.when.When.TheVariants as when
-use Rattle.payroll_records.proofs.Laws.{year_is, month_is, day_is, same_day, same_record, values_once}
+use Rattle.payroll_records.proofs.Laws.{months_once, days_once, whens_once, same_record, values_once}
 use Rattle.script_lang.specs.Commands as asked
 use Rattle.script_lang.specs.Commands.{Asked}
 use Rattle.script_lang.specs.Fields.{Field, IsGood, fault_of, time_field}
 use Rattle.script_lang.specs.Lines.{Verb, plan, drop, add, change, withdraw, load, report, work, trace, filing, owed, opening, trial}
-use Rattle.script_lang.specs.Lines.{text_of, takes, fields_of, IsSilent, IsDayWord, IsTime, IsOfRun, IsOfRecord, IsOfPlan}
+use Rattle.script_lang.specs.Lines.{text_of, takes, fields_of, IsSilent, IsDayWord, IsOfRun, IsOfRecord, IsOfPlan}
 use Rattle.script_lang.specs.Lines.{IsOfFile, Ask, HaveNoVerb, AreNotTaken, IsFirstFault, HaveFirstFault, IsLine, LineSays}
 use Rattle.script_lang.specs.Words.{words_of}
 use Rattle.script_lang.specs.declared.fault.LineFault.{LineFault}
@@ -138,9 +137,9 @@ record Spoken (words : List Text) (what : Asked) : Type 0 where
   taken : IsTrue (takes verb rest)
   good : AllByRecursion IsGood (fields_of verb rest)
 
-time_good : (word : Text) (t : When) → IsTime word t → IsGood (time_field word)
-time_good word (when.Month m) h = rw h.long (m.year, m.month, h)
-time_good word (when.Day d) h = rw h.long (d.year, d.month, d.day, h)
+time_good : (word : Text) (t : When) → IsWhenText word t → IsGood (time_field word)
+time_good word (when.Month m) h = let long : length word ≡ 7 = ap length h.written in rw long (m.year, m.month, h)
+time_good word (when.Day d) h = let long : length word ≡ 10 = ap length h.written in rw long (d.year, d.month, d.day, h)
 
 run_good : (command : Text) (words : List Text) (r : Record) (verb : Verb) → text_of verb ≡ command →
     ((rest : List Text) → IsTrue (takes add rest) → IsTrue (takes verb rest)) → ((rest : List Text) → AllByRecursion IsGood (fields_of add rest) → AllByRecursion IsGood (fields_of verb rest)) →
@@ -241,31 +240,6 @@ wrong_once words f g (first e h) (first d k) =
 
 -- ---- words ask for one thing
 
-days_once : (t : Text) (d e : Day) → IsDayWord t d → IsDayWord t e → d ≡ e
-days_once t d e h k =
-    same_day d e (year_is t _ _ h.spells ∙ sym (year_is t _ _ k.spells)) (month_is t _ _ h.spells ∙ sym (month_is t _ _ k.spells)) (day_is t _ _ _ h ∙ sym (day_is t _ _ _ k))
-
-month_prop : (year m : ℕ) → IsProp (IsMonth year m)
-month_prop year m = hlevel le_prop
-
-abbrev make_month : (year m : ℕ) → IsMonth year m → Month
-make_month year m x = record { year = year; month = m; exists = x }
-
-same_month_numbers : (y m : ℕ) (x : IsMonth y m) (y' m' : ℕ) → y ≡ y' → m ≡ m' → (x' : IsMonth y' m') → make_month y m x ≡ make_month y' m' x'
-same_month_numbers y m x y' m' ey em =
-    subst (λ (b : ℕ). (z : IsMonth y' b) → make_month y m x ≡ make_month y' b z) em
-    (subst (λ (a : ℕ). (z : IsMonth a m) → make_month y m x ≡ make_month a m z) ey (λ z. ap (make_month y m) (month_prop y m x z)))
-
-months_once : (t : Text) (m n : Month) → IsMonthText t m.year m.month → IsMonthText t n.year n.month → m ≡ n
-months_once t m n h k =
-    same_month_numbers m.year m.month m.exists n.year n.month (year_is t _ _ h.spells ∙ sym (year_is t _ _ k.spells)) (month_is t _ _ h.spells ∙ sym (month_is t _ _ k.spells)) n.exists
-
-times_once : (t : Text) (a b : When) → IsTime t a → IsTime t b → a ≡ b
-times_once t (when.Month m) (when.Month n) h k = ap when.Month (months_once t m n h k)
-times_once t (when.Month m) (when.Day e) h k = absurd (omega (arith, h.long, k.long))
-times_once t (when.Day d) (when.Month n) h k = absurd (omega (arith, h.long, k.long))
-times_once t (when.Day d) (when.Day e) h k = ap when.Day (days_once t d e h k)
-
 runs_once : (command : Text) (words : List Text) (r s : Record) → IsOfRecord command words r → IsOfRecord command words s → r ≡ s
 runs_once command words r s h k =
     let a = h.words_are in
@@ -285,7 +259,7 @@ meant_once make command words e t e' t' h k =
     let y = k.words_are in
     let word : k.word ≡ h.word = cc in
     let who : e ≡ e' = cc in
-    ap (λ z. make z t) who ∙ ap (make e') (times_once h.word t t' h.time_is (subst (λ z. IsTime z t') word k.time_is))
+    ap (λ z. make z t) who ∙ ap (make e') (whens_once h.word t t' h.time_is (subst (λ z. IsWhenText z t') word k.time_is))
 
 -- a day and two files, and one file, under any constructor
 plans_once : (make : Day → Text → Text → Asked) (command : Text) (words : List Text) (d : Day) (p l : Text)

@@ -6,6 +6,7 @@ use Rattle.std.proofs.lemmas.Bool.{cases_lt, false≢true, leb-true}
 use Rattle.payroll_records.specs.Days.{IsDaySpelled}
 use Rattle.payroll_records.specs.Employees.{is_employee}
 use Rattle.payroll_records.specs.Tables.{Text}
+use Rattle.payroll_records.specs.Whens.{IsWhenText}
 use Rattle.payroll_records.specs.declared.day.Day.{Day}
 use Rattle.payroll_records.specs.declared.record.Record.{Record}
 use Rattle.payroll_records.specs.declared.when.When.{When}
@@ -15,7 +16,7 @@ use Rattle.script_lang.specs.Commands as asked
 use Rattle.script_lang.specs.Commands.{Asked}
 use Rattle.script_lang.specs.Fields.{Field, IsGood, fault_of, employee, month, day, day_in, value, new_name, name_in, time_field}
 use Rattle.script_lang.specs.Lines.{Verb, plan, drop, add, change, withdraw, load, report, work, trace, filing, owed, opening, trial}
-use Rattle.script_lang.specs.Lines.{text_of, takes, fields_of, IsSilent, IsTime, IsOfRun, IsOfRecord, IsOfPlan, IsOfFile}
+use Rattle.script_lang.specs.Lines.{text_of, takes, fields_of, IsSilent, IsOfRun, IsOfRecord, IsOfPlan, IsOfFile}
 use Rattle.script_lang.specs.Lines.{Ask, IsFirstFault, HaveFirstFault, LineSays}
 use Rattle.script_lang.specs.Words.{words_of}
 use Rattle.script_lang.specs.declared.fault.LineFault.{LineFault}
@@ -127,10 +128,10 @@ verb_or_none w = elim (text_decided w (codes "plan")) [
 abbrev day_of_text : (word : Text) → IsDaySpelled word → Day
 day_of_text word h = record { year = h.0; month = h.1; day = h.2; exists = h.3.exists }
 
-time_of : (word : Text) → IsGood (time_field word) → (t : When) × IsTime word t
+time_of : (word : Text) → IsGood (time_field word) → (t : When) × IsWhenText word t
 time_of word h = by (length word == 7) h
   where
-    by : (b : Bool) → IsGood (if b then month word else day word) → (t : When) × IsTime word t
+    by : (b : Bool) → IsGood (if b then month word else day word) → (t : When) × IsWhenText word t
     by true g = (when.Month (record { year = g.0; month = g.1; exists = g.2.exists }), g.2)
     by false g = (when.Day (day_of_text word g), g.3)
 

@@ -9,7 +9,7 @@ use Rattle.payroll_records.specs.Employees.{is_employee}
 use Rattle.payroll_records.specs.Tables.{Text}
 use Rattle.payroll_records.specs.declared.day.Day.{Day}
 use Rattle.payroll_records.specs.declared.month.Month.{Month}
-use Rattle.payroll_records.proofs.Laws.{year_is, month_is}
+use Rattle.payroll_records.proofs.Laws.{month_numbers, day_numbers}
 use Rattle.script_lang.specs.Fields.{fault_of, employee, month, day, day_in, time_field, value_fields}
 use Rattle.script_lang.specs.Lines as lines
 use Rattle.script_lang.specs.Lines.{IsFirstFault, IsDayWord, IsOfPlan, IsDrop, IsFileMonth, IsOfRecord, takes, fields_of}
@@ -42,9 +42,10 @@ pub other_month : (first second : Text) (y m y' m' d' : ℕ) → IsMonthText fir
     true ≡ not (nat_eq y' y && nat_eq m' m) → IsFirstFault (month first ∷ day_in first second ∷ []) fault.Day
 other_month first second y m y' m' d' has is apart =
     first_later (month first) (day_in first second ∷ []) fault.Day (y, m, has)
-    (first_here (day_in first second) [] fault.Day (λ h. differ y' y m' m apart
-    (year_is second y' m' is.spells ∙ sym (year_is second h.0 h.1 h.3.spells) ∙ year_is first h.0 h.1 h.4.spells ∙ sym (year_is first y m has.spells))
-    (month_is second y' m' is.spells ∙ sym (month_is second h.0 h.1 h.3.spells) ∙ month_is first h.0 h.1 h.4.spells ∙ sym (month_is first y m has.spells))) refl)
+    (first_here (day_in first second) [] fault.Day (λ h.
+    let days = day_numbers second y' m' d' h.0 h.1 h.2 is h.3 in
+    let months = month_numbers first h.0 h.1 y m h.4 has in
+    differ y' y m' m apart (days.0 ∙ months.0) (days.1 ∙ months.1)) refl)
 
 -- drop
 pub drop_broken : (rest : List (Bor Text)) (d : Bor Text) (f : LineFault) → 1 ≤ length rest → length rest < 2 → Breaks (day (get_or rest 0 d).now) f → IsFaultOf lines.drop (texts rest) f

@@ -10,7 +10,7 @@ use Rattle.payroll_records.specs.declared.day.Day.{Day}
 use Rattle.payroll_records.specs.declared.month.Month.{Month}
 use Rattle.payroll_records.specs.declared.record.Record.{Record}
 use Rattle.payroll_records.specs.declared.when.When.{When}
-use Rattle.payroll_records.specs.declared.when.When.TheVariants as when
+use Rattle.payroll_records.specs.Whens.{IsWhenText}
 use Rattle.script_lang.specs.Commands as asked
 use Rattle.script_lang.specs.Commands.{Asked}
 use Rattle.script_lang.specs.Fields as field
@@ -60,17 +60,12 @@ pub record IsOfRecord (command : Text) (words : List Text) (r : Record) : Type 0
   pub day_is : IsDayWord day_word r.day
   pub values_are : AreValueWords value_words r.values
 
--- a month is YYYY-MM, a day YYYY-MM-DD
-abbrev pub IsTime : Text → When → Type 0
-IsTime word (when.Month m) = IsMonthText word m.year m.month
-IsTime word (when.Day d) = IsDayWord word d
-
 -- withdraw EMP WHEN and trace EMP WHEN
 pub record IsOfRun (command : Text) (words : List Text) (who : Text) (time : When) : Type 0 where
   pub word : Text
   pub words_are : words ≡ command ∷ who ∷ word ∷ []
   pub employee_is : IsTrue (is_employee who)
-  pub time_is : IsTime word time
+  pub time_is : IsWhenText word time
 
 -- load FILE and open FILE
 pub record IsOfFile (command : Text) (words : List Text) (file : Text) : Type 0 where
@@ -230,10 +225,10 @@ AreWrong words fault.Words = AreNotTaken words
 AreWrong words (fault.Memory error) = ⊤
 AreWrong words other = HaveFirstFault words other
 
--- why a line is refused; want of memory is free
+-- why a line is refused; want of memory is free where the line is not too long
 abbrev pub IsRefused : Text → LineFault → Type 0
 IsRefused line fault.LineLong = most_line < length line
-IsRefused line (fault.Memory error) = ⊤
+IsRefused line (fault.Memory error) = IsShort line
 IsRefused line other = IsShort line × AreWrong (words_of line) other
 
 -- what a line says: what it asks for, or why it is refused; want of memory is nothing that a line says

@@ -16,7 +16,8 @@ use std::alloc::Global;
 pub const MOST_LINE: usize = 65_536;
 
 /// What a line asks for, of at most 65,536 bytes without its line end. A line is refused by its length, then by its first
-/// word, then by the number of its words and the names of files, then by the leftmost word with a fault.
+/// word, then by the number of its words and the names of files, then by the leftmost word with a fault. Memory is asked for
+/// only where the line is not too long.
 pub fn read_line(alloc: Global, line: &[u8]) -> Result<Command, LineFault>
     ensures ok { IfOk result (λ command. IsLine line.now (asked_of command)) }
     ensures err { IfErr result (IsRefused line.now) }

@@ -5,10 +5,11 @@ ghost use Rattle.payroll_records.specs.Employees.{is_employee};
 ghost use Rattle.payroll_records.specs.Limits.{most_values};
 ghost use Rattle.payroll_records.specs.Tables.{Text};
 ghost use Rattle.payroll_records.specs.ValueWords.{AreValueWords};
+ghost use Rattle.payroll_records.specs.Whens.{IsWhenText};
 ghost use Rattle.script_lang.specs.Fields as field;
 ghost use Rattle.script_lang.specs.Fields.{time_field, value_fields};
 ghost use Rattle.script_lang.specs.Lines as lines;
-ghost use Rattle.script_lang.specs.Lines.{IsDayWord, IsOfRecord, IsTime};
+ghost use Rattle.script_lang.specs.Lines.{IsDayWord, IsOfRecord};
 ghost use Rattle.script_lang.specs.Views.{Breaks, BreaksIn, IsFaultOf, texts};
 
 use crate::LineFault;
@@ -66,7 +67,7 @@ pub(crate) fn read_month(word: &[u8]) -> Result<Month, LineFault>
 
 /// A month, or a day: a word of 7 bytes is to be a month.
 pub(crate) fn read_when(word: &[u8]) -> Result<When, LineFault>
-    ensures { MatchResult result (IsTime word.now) (Breaks (time_field word.now)) }
+    ensures { MatchResult result (IsWhenText word.now) (Breaks (time_field word.now)) }
 {
     if word.len() == 7 {
         return read_month(word).map(When::Month);
