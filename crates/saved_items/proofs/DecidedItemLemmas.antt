@@ -10,7 +10,7 @@ use Rattle.scaled_decimal.specs.Decimals.{Decimal, decimal}
 use Rattle.scaled_decimal.specs.NumberTexts.{Spells}
 use Rattle.scaled_decimal.specs.PlainTexts.{whole_text}
 use Rattle.scaled_decimal.proofs.Laws.{number_once, number_or_none}
-use Rattle.payroll_records.specs.Days.{IsDay, IsDayText}
+use Rattle.payroll_records.specs.Days.{IsDay}
 use Rattle.payroll_records.specs.Employees.{is_employee}
 use Rattle.payroll_records.specs.NamedValues.{AreValues, name_cmp, name_of}
 use Rattle.payroll_records.specs.Orders.{day_cmp, key_cmp}
@@ -25,7 +25,7 @@ use Rattle.saved_items.specs.ItemDecisions.{Item, title, work, plan_count, plan,
 use Rattle.saved_items.specs.LineViews.{Misses, is_space, IsLine}
 use Rattle.saved_items.specs.SavedBooks.{SavedPlan, Saved, saved_plan, IsRun, IsValue, line_of, day_word, value_word, title_words, work_words, plan_words, plan_text, run_words, run_text, end_text}
 use Rattle.saved_items.specs.Texts.{Stop, TextSays}
-use Rattle.saved_items.proofs.DayLemmas.{day_spells, day_text_only}
+use Rattle.saved_items.proofs.DayLemmas.{day_spells}
 use Rattle.saved_items.proofs.FrontLemmas.{sound_more, text_more}
 use Rattle.saved_items.proofs.ItemLemmas.{same_length_cut, run_words_once}
 use Rattle.saved_items.proofs.LineLemmas.{cut_at}
@@ -66,14 +66,8 @@ whole_decided w = elim (number_or_none w) [
 
 day_decided : (w : Text) → Decided ((d : Day) × (w ≡ day_word d))
 day_decided w = by_iff
-    (λ h. (day_of h.0 h.1 h.2 h.3.exists, day_text_only w h.0 h.1 h.2 h.3))
-    (λ h. (
-      h.0.year,
-      h.0.month,
-      h.0.day,
-      subst (λ t. IsDayText t h.0.year h.0.month h.0.day) (sym h.1)
-          (day_spells h.0),
-    ))
+    (λ h. (day_of h.0 h.1 h.2 h.3.exists, h.3.written))
+    (λ h. (h.0.year, h.0.month, h.0.day, day_spells w h.0 h.1))
     (day_spelled_decided w)
   where
     day_of : (y m d : ℕ) → IsDay y m d → Day

@@ -1,5 +1,5 @@
 -- What the words behind a first one are.
-use Rattle.std.proofs.Common.{◌≡◌, ℕ, ◌-◌, ◌<◌, ◌≤◌, Bool, true, false, List, [], ◌∷◌, length, take, drop, get_or, map, refl, sym, ap, ◌∙◌, subst, arith}
+use Rattle.std.proofs.Common.{◌≡◌, ℕ, ◌-◌, ◌<◌, ◌≤◌, Bool, true, false, List, [], ◌∷◌, length, take, drop, get_or, map, refl, sym, ap, ◌∙◌, arith}
 use Rattle.std.specs.Prelude.{codes, not, Option, Some}
 use Rattle.std.specs.List.{join_with_byte, slice_split}
 use Rattle.std.specs.Str.{bytes_eq}
@@ -12,10 +12,10 @@ use Rattle.payroll_records.specs.Tables.{Text}
 use Rattle.payroll_records.specs.declared.day.Day.{Day}
 use Rattle.payroll_records.specs.declared.record.Record.{Record}
 use Rattle.payroll_records.specs.declared.values.NamedValue.{NamedValue}
-use Rattle.payroll_records.proofs.Laws.{year_is, month_is, day_is, same_day, same_record}
+use Rattle.payroll_records.proofs.Laws.{days_once, same_record}
 use Rattle.saved_items.specs.LineViews.{texts, is_space}
 use Rattle.saved_items.specs.SavedBooks.{IsRun, day_word, value_word, plan_words, run_words}
-use Rattle.saved_items.proofs.DayLemmas.{day_spells, day_text_only}
+use Rattle.saved_items.proofs.DayLemmas.{day_spells}
 use Rattle.saved_items.proofs.LineLemmas.{split_join}
 use Rattle.saved_items.proofs.NextLemmas.{run_few}
 use Rattle.saved_items.proofs.WordLemmas.{run_are_words}
@@ -34,13 +34,10 @@ pub equal_texts : (a b : Text) → false ≡ not (bytes_eq a b) → a ≡ b
 equal_texts a b e = (bytes_eq-Decides a b).0 (not_false (bytes_eq a b) e)
 
 pub is_spelled : (t : Text) (d : Day) → t ≡ day_word d → IsDaySpelled t
-is_spelled t d e = (d.year, d.month, d.day, subst (λ x. IsDayText x d.year d.month d.day) (sym e) (day_spells d))
+is_spelled t d e = (d.year, d.month, d.day, day_spells t d e)
 
 pub day_known : (t : Text) (d e : Day) → IsDayText t d.year d.month d.day → t ≡ day_word e → d ≡ e
-day_known t d e h same =
-    let k = subst (λ x. IsDayText x e.year e.month e.day) (sym same) (day_spells e) in
-    same_day d e (year_is _ _ _ h.spells ∙ sym (year_is _ _ _ k.spells))
-    (month_is _ _ _ h.spells ∙ sym (month_is _ _ _ k.spells)) (day_is _ _ _ _ h ∙ sym (day_is _ _ _ _ k))
+day_known t d e h same = days_once t d e h (day_spells t e same)
 
 pub plan_day : (words : List Text) (rest : List (Bor Text)) (d : Bor Text) (day : Day) (x y : ℕ) →
     words ≡ codes "plan" ∷ texts rest → 3 ≤ length rest → words ≡ plan_words day x y →
@@ -54,7 +51,7 @@ pub plan_line_is : (words : List Text) (rest : List (Bor Text)) (d : Bor Text) (
     IsDayText (get_or rest 0 d).now day.year day.month day.day → (get_or rest 1 d).now ≡ whole_text x →
     (get_or rest 2 d).now ≡ whole_text y → words ≡ plan_words day x y
 plan_line_is words (a ∷ b ∷ c ∷ []) d day x y e some few p q r =
-    e ∙ ap (λ t. codes "plan" ∷ t ∷ b.now ∷ c.now ∷ []) (day_text_only a.now day.year day.month day.day p)
+    e ∙ ap (λ t. codes "plan" ∷ t ∷ b.now ∷ c.now ∷ []) p.written
     ∙ ap (λ t. codes "plan" ∷ day_word day ∷ t ∷ c.now ∷ []) q
     ∙ ap (λ t. codes "plan" ∷ day_word day ∷ whole_text x ∷ t ∷ []) r
 plan_line_is words [] d day x y e some few p q r = absurd (omega (arith, some))
