@@ -166,13 +166,13 @@ counts_made s es r why error q f before now are is memory was counts =
 module _ (bytes : List ℕ) (few : length bytes ≤ most_book_text) where
   pub unread_whole : (s : Saved) (f : BookFault) → IsText bytes s → HasNoPlan s.plans f → IsUnread bytes f
   unread_whole s (fault.Plan day) h bad = record { few = few; said = Ok s; says = h; first = bad }
-  unread_whole s (fault.Memory e) h bad = tt
+  unread_whole s (fault.Memory e) h bad = few
   unread_whole s fault.Long h bad = absurd bad
   unread_whole s (fault.Form item) h bad = absurd bad
 
   pub unread_broken : (stop : Stop) (f : BookFault) → StopsAt bytes stop → HasNoPlan stop.plans f → IsUnread bytes f
   unread_broken stop (fault.Plan day) h bad = record { few = few; said = Err stop; says = h; first = bad }
-  unread_broken stop (fault.Memory e) h bad = tt
+  unread_broken stop (fault.Memory e) h bad = few
   unread_broken stop fault.Long h bad = absurd bad
   unread_broken stop (fault.Form item) h bad = absurd bad
 

@@ -1,13 +1,14 @@
 -- What the reading of a saved book promises.
-use Rattle.std.specs.Prelude.{◌≡◌, ◌≤◌, ◌+◌, ℕ, List, Result, Ok, Err, ⊤}
+use Rattle.std.specs.Prelude.{◌≡◌, ◌≤◌, ◌+◌, ℕ, List, length, Result, Ok, Err}
 use Rattle.recalc_engine.specs.Contents.{Contents, whole_cost}
 use Rattle.book_file.specs.BookSays.{BookSays}
+use Rattle.book_file.specs.Limits.{most_book_text}
 use Rattle.book_file.specs.declared.refusal.BookFault.{BookFault}
 use Rattle.book_file.specs.declared.refusal.BookFault.TheVariants as fault
 
--- the fault is what the text says; want of memory comes whatever it says
+-- the fault is what the text says; want of memory comes whatever it says, unless it is too long
 abbrev pub IsUnread : List ℕ → BookFault → Type 0
-IsUnread bytes (fault.Memory e) = ⊤
+IsUnread bytes (fault.Memory e) = length bytes ≤ most_book_text
 IsUnread bytes why = BookSays bytes (Err why)
 
 -- the cost of all jobs of the book, where the text says one

@@ -1,5 +1,5 @@
 -- A ledger, what filing a month does to it, and why it is refused.
-use Rattle.std.specs.Prelude.{◌≡◌, ◌≢◌, ◌+◌, ◌<◌, ◌≤◌, ℕ, List, ◌++◌, Option, Some, None, length, map, ⊤, IfSome}
+use Rattle.std.specs.Prelude.{◌≡◌, ◌≢◌, ◌+◌, ◌<◌, ◌≤◌, ℕ, List, ◌++◌, Option, Some, None, length, map, IfSome}
 use Rattle.std.specs.declared.cmp.Ordering.TheVariants.{Less}
 use Rattle.payroll_records.specs.declared.month.Month.{Month}
 use Rattle.recalc_engine.specs.MonthRows.{KeyedRow}
@@ -50,14 +50,14 @@ pub record HasTooMany (rows : List KeyedRow) (month : Month) (old : Filings) : T
   pub owed : IsOwed rows old.entries month dues
   pub many : most_entries < length old.entries + length dues
 
--- why a month isn't filed, in this order; want of memory is free
+-- why a month isn't filed, in this order; want of memory is free where nothing stands against it but the number of entries
 abbrev pub IsFileRefused : List KeyedRow → Month → Filings → FileRefusal → Type 0
 IsFileRefused rows month old (file.Early last) =
     (old.last ≡ Some last) × (month_cmp last month ≢ Less)
 IsFileRefused rows month old (file.Open key) =
     IsLater month old.last × (first_open month rows ≡ Some key)
 IsFileRefused rows month old file.Entries = HasTooMany rows month old
-IsFileRefused rows month old (file.Memory error) = ⊤
+IsFileRefused rows month old (file.Memory error) = IsClosed rows month old.last
 
 -- these are owed up to the last filed month, and all runs up to it are ok
 pub record IsOwedNow (rows : List KeyedRow) (now : Filings) (dues : List Due) : Type 0 where
@@ -66,9 +66,10 @@ pub record IsOwedNow (rows : List KeyedRow) (now : Filings) (dues : List Due) : 
   pub closed : first_open month rows ≡ None
   pub owed : IsOwed rows now.entries month dues
 
--- why it isn't known what is owed; want of memory is free
+-- why it isn't known what is owed; want of memory is free where a month was filed and all runs up to the last one are ok
 abbrev pub IsOwedRefused : List KeyedRow → Filings → OwedRefusal → Type 0
 IsOwedRefused rows now owed.NothingFiled = now.last ≡ None
 IsOwedRefused rows now (owed.Open key) =
     (month : Month) × (now.last ≡ Some month) × (first_open month rows ≡ Some key)
-IsOwedRefused rows now (owed.Memory error) = ⊤
+IsOwedRefused rows now (owed.Memory error) =
+    (month : Month) × (now.last ≡ Some month) × (first_open month rows ≡ None)
