@@ -9,7 +9,7 @@ ghost use Rattle.payroll_records.specs.declared.when.When.{When};
 ghost use Rattle.recalc_engine.specs.Contents.{Contents};
 ghost use Rattle.month_trace.specs.BookTraces.{IsOneAnswer, IsSaid};
 ghost use Rattle.month_trace.specs.Traces.{trace_of};
-ghost use Rattle.month_trace.specs.TraceLaws.{HasOneTrace, TellsOutputs};
+ghost use Rattle.month_trace.specs.TraceLaws.{HasOneTrace, TellsOutputs, TracesEndInReports};
 
 use crate::statements::{Spot, run_body};
 use crate::step::TraceStep;
@@ -50,13 +50,15 @@ fn trace_text(alloc: Global, plan: &Typed, inputs: &[Dec]) -> Result<Vec<TraceSt
 }
 
 /// The laws of traces; the function does nothing. A run on inputs that are safe for a plan has exactly one trace. In a
-/// well-typed plan each output is the last value that the trace puts there, and what it began with where there is none. What
-/// a book answers follows from its runs and its plans, so it never has two answers.
+/// well-typed plan each output is the last value that the trace puts there, and what it began with where there is none. Each
+/// run of a book that has a job has a trace, which ends in the outputs that the book reports. What a book answers follows from
+/// its runs and its plans, so it never has two answers.
 pub fn trace_laws()
     ensures one { (f : Flowchart) (inputs : List Decimal)
         → IsSafeFor f inputs → HasOneTrace f inputs }
     ensures outputs { (f : Flowchart) (inputs : List Decimal)
         → IsWellTyped f → IsSafeFor f inputs → TellsOutputs f inputs }
+    ensures reports { TracesEndInReports }
     ensures said { (book : Contents) (employee : List ℕ) (when : When)
         → IsSaid book employee when }
     ensures alone { (book : Contents) (employee : List ℕ) (when : When)

@@ -94,7 +94,7 @@ not_tied a x k hx l =
 
 -- ---- the rows of a year
 
-rows_in : (k : YearKey) (planned : Planned) (earlier : List Earlier) (rs : List Record) →
+pub rows_in : (k : YearKey) (planned : Planned) (earlier : List Earlier) (rs : List Record) →
     AllByRecursion (IsOwn k) rs →
     AllByRecursion (λ row. IsIn k (row_key row)) (map (keyed_row k) (rows planned earlier rs))
 rows_in k planned earlier [] own = tt

@@ -48,7 +48,7 @@ module _ {K X : Type 0} (cmp : K → K → Ordering) (key : X → K) (P : X → 
   some_same x y e = cc e
 
   -- what holds of all elements holds of the one at a key
-  all_at_key : (xs : List X) (k : K) (x : X) → AllByRecursion P xs → at_key cmp key xs k ≡ Some x → P x
+  pub all_at_key : (xs : List X) (k : K) (x : X) → AllByRecursion P xs → at_key cmp key xs k ≡ Some x → P x
   all_at_key [] k x all h = cc
   all_at_key (y ∷ ys) k x all h =
       (elim (is_eq (cmp (key y) k)) as (λ b. (if b then Some y else at_key cmp key ys k) ≡ Some x → P x) [

@@ -11,6 +11,9 @@ pub use Rattle.recalc_engine.proofs.ListedLemmas.{parts_make, runs_distinct, run
 pub use Rattle.recalc_engine.proofs.ListedLemmas.{AllBelow, front_below, put_end, years_listed}
 -- A book has nothing to run against itself; a plan with the texts that stand at its day changes nothing; jobs are done.
 pub use Rattle.recalc_engine.proofs.SameLemmas.{book_quiet, jobs_done, same_texts}
+-- The new jobs of a book are those of its keys; each job is safe.
+pub use Rattle.recalc_engine.proofs.KeyedJobLemmas.{jobs_by_key}
+pub use Rattle.recalc_engine.proofs.SafeLemmas.{jobs_safe}
 -- An edit of the runs changes the run at its key alone.
 pub use Rattle.recalc_engine.proofs.MapLemmas.{runs_mapped}
 -- What is kept of a year is the rows of its runs; the plan of each day is accepted; outputs of each run have different names.

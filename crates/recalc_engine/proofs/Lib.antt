@@ -1,10 +1,13 @@
 mod AnswerLemmas
 mod BookLemmas
 mod JobLemmas
+mod KeyedJobLemmas
 pub mod Laws
 mod ListedLemmas
 mod MapLemmas
 mod MonthLemmas
 mod OutputLemmas
 mod RowLemmas
+mod SafeLemmas
 mod SameLemmas
+mod ValueLemmas

@@ -1,5 +1,5 @@
 -- What holds of every book, and what follows from it.
-use Rattle.std.specs.Prelude.{◌≡◌, ◌≤◌, List, [], length, Option, Some, None, ⊤}
+use Rattle.std.specs.Prelude.{◌≡◌, ◌≤◌, List, [], length, Option, Some, None, All, ⊤}
 use Rattle.std.specs.List.{AllByRecursion, flat_map}
 use Rattle.std.specs.Option.{option_map}
 use Rattle.rising_lists.specs.Keyed.{at_key, IsRising}
@@ -8,8 +8,10 @@ use Rattle.payroll_records.specs.declared.record.Record.{Record}
 use Rattle.payroll_records.specs.Orders.{key_cmp}
 use Rattle.plan_calendar.specs.Picking.{AreEntries, Entry, day_of, entry_at, plan_of}
 use Rattle.pap_plan.specs.Acceptance.{IsAccepted}
-use Rattle.pay_run.specs.Runs.{run_outputs}
+use Rattle.pap_plan.specs.AcceptanceLaws.{RunsToItsEnd}
+use Rattle.pay_run.specs.Runs.{IsKeptValue, run_outputs}
 use Rattle.book_year.specs.Accepted.{Accepted}
+use Rattle.book_year.specs.Jobs.{new_job}
 use Rattle.book_year.specs.declared.outcome.State.TheVariants as state
 use Rattle.book_year.specs.Rows.{Job, Row}
 use Rattle.book_year.specs.Years.{IsOwn}
@@ -104,6 +106,16 @@ SameTextsChangeNothing =
     (book : Contents) (e : Entry Accepted) → IsBook book → IsPlan (plan_of e)
     → HasTexts (entry_at book.plans (day_of e)) (plan_of e) → PutsTheSame book e
 
+-- the job of a key in the new book, where it isn't the job of that key in the old one
+abbrev pub new_job_at : Contents → Contents → Key → List Job
+new_job_at old new k = new_job (job_of_key old k) (job_of_key new k)
+
+-- the new jobs of a book are those of its keys, in their order
+abbrev pub NewJobsAreByKey : Type 0
+NewJobsAreByKey =
+    (old new : Contents) → IsBook new
+    → jobs_between old new ≡ flat_map (λ row. new_job_at old new (row_key row)) (month_rows new)
+
 -- the run is done, with the outputs of the job
 abbrev pub IsDoneBy : Job → Option Row → Type 0
 IsDoneBy j None = ⊥
@@ -113,3 +125,22 @@ IsDoneBy j (Some row) = row.state ≡ state.Done (run_outputs j.plan j.inputs)
 abbrev pub JobsAreDone : Type 0
 JobsAreDone =
     (book : Contents) (k : Key) (j : Job) → job_of_key book k ≡ Some j → IsDoneBy j (row_at book k)
+
+-- each value of the run is a decimal that 128 bits keep
+abbrev pub HasKeptValues : Record → Type 0
+HasKeptValues r = All IsKeptValue r.values
+
+-- so it is of each run of the book
+abbrev pub HaveKeptValues : Contents → Type 0
+HaveKeptValues book = AllByRecursion HasKeptValues (runs_listed book)
+
+-- the plan of the job is accepted, and its run on the job's inputs gets to its end: so it has outputs
+pub record IsSafeJob (j : Job) : Type 0 where
+  pub plan : IsPlan j.plan
+  pub runs : RunsToItsEnd j.plan.meaning j.inputs
+
+-- so is each job of a book whose values are kept
+abbrev pub JobsAreSafe : Type 0
+JobsAreSafe =
+    (book : Contents) (k : Key) (j : Job) → IsBook book → HaveKeptValues book
+    → job_of_key book k ≡ Some j → IsSafeJob j

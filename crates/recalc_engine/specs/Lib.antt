@@ -10,3 +10,4 @@ pub mod JobViews
 pub mod BookLaws
 pub mod RunMaps
 pub mod RowLaws
+pub mod ValueViews

@@ -7,8 +7,9 @@ ghost use Rattle.book_year.specs.Jobs.{Counts};
 ghost use Rattle.book_edits.specs.Kept.{AreYears, years_of};
 ghost use Rattle.book_edits.specs.Refusals.{CountsEdit, most_records};
 ghost use Rattle.book_loads.specs.Loads.{AreDistinct};
-ghost use Rattle.recalc_engine.specs.BookLaws.{ArePlans, BooksAreTheirParts, IsBook, JobsAreDone, RowsAreCounted};
-ghost use Rattle.recalc_engine.specs.BookLaws.{RowsAreRuns, RowsRise, RunsAreDistinct, SameTextsChangeNothing};
+ghost use Rattle.recalc_engine.specs.BookLaws.{ArePlans, BooksAreTheirParts, HaveKeptValues, IsBook, JobsAreDone};
+ghost use Rattle.recalc_engine.specs.BookLaws.{JobsAreSafe, NewJobsAreByKey, RowsAreCounted, RowsAreRuns, RowsRise};
+ghost use Rattle.recalc_engine.specs.BookLaws.{RunsAreDistinct, SameTextsChangeNothing};
 ghost use Rattle.recalc_engine.specs.Contents.{book_of, cost_between, row_at, whole_cost};
 ghost use Rattle.recalc_engine.specs.EditAnswers.{EditsHaveOneAnswer, IsEdited, edited};
 ghost use Rattle.recalc_engine.specs.EditAnswers.{add, change, drop, load, put, withdraw};
@@ -19,6 +20,7 @@ ghost use Rattle.recalc_engine.specs.Jobs.{AdmitsInputs, HasNoOutputs, job_of_ke
 
 use crate::job::{Job, inputs_on, job_of, year_at};
 use crate::months::Months;
+use crate::values::each_year_is_kept;
 use book_edits::{EditRefusal, InMonth, Years, drop_plan, put_plan};
 use book_loads::{load, restore};
 use book_year::Work;
@@ -105,6 +107,13 @@ impl Book {
     {
         let _ = &self.years;
         self.is_whole();
+    }
+
+    /// The values of each book's runs are as `HaveKeptValues` says.
+    pub fn has_kept_values(&self)
+        ensures { HaveKeptValues self.now }
+    {
+        each_year_is_kept(self.years.list.as_slice());
     }
 
     /// The work of the last edit that was accepted, else zeros.
@@ -278,15 +287,18 @@ pub fn edit_laws()
 {}
 
 /// Laws of the definitions: the rows of a book stand in order, one for each run; a book is the book of its runs, which have
-/// different keys, its plans and its last work; a plan with the texts that stand at its day changes nothing; a run that has a
-/// job is done, with the job's outputs; an edit of the runs changes the run at its key alone.
+/// different keys, its plans and its last work; the new jobs of a book are those of its keys, each told from the job of its key
+/// in the old one; a plan with the texts that stand at its day changes nothing; a run that has a job is done, with the job's
+/// outputs; the run of each job gets to its end; an edit of the runs changes the run at its key alone.
 pub fn book_laws()
     ensures rise { RowsRise }
     ensures counted { RowsAreCounted }
     ensures runs { RowsAreRuns }
     ensures parts { BooksAreTheirParts }
     ensures distinct { RunsAreDistinct }
+    ensures work { NewJobsAreByKey }
     ensures same { SameTextsChangeNothing }
     ensures done { JobsAreDone }
+    ensures safe { JobsAreSafe }
     ensures mapped { RunsAreMapped }
 {}

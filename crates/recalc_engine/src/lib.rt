@@ -5,6 +5,7 @@
 mod book;
 mod job;
 mod months;
+mod values;
 
 pub use book::{Book, book_laws, edit_laws};
 pub use book_edits::{EditRefusal, InMonth};

@@ -58,7 +58,7 @@ changes_by_year p q (y ∷ ys) =
 -- ---- a run that stays
 
 -- the rows of a run whose state changes
-abbrev changed_rows : Key → State → State → List TrialRow
+abbrev pub changed_rows : Key → State → State → List TrialRow
 changed_rows k b a = Changed k (shown_state b) (shown_state a) ∷ value_rows k (outputs_of b) (outputs_of a)
 
 stays : (k : Key) (s : State) → run_changes k s s ≡ []
@@ -119,7 +119,7 @@ runs_more rs bs ns i r b a e f l r_is b_is a_is =
 
 -- ---- a run that no row names
 
-abbrev state_at : List KeyedRow → Key → Option State
+abbrev pub state_at : List KeyedRow → Key → Option State
 state_at rows k = option_map row_state (at_key key_cmp row_key rows k)
 
 unnamed_front : (front more : List TrialRow) (k : Key) → IsUnnamed (front ++ more) k →
@@ -136,13 +136,13 @@ unnamed_run k b a h = by (same_state b a) refl h
     by false e g = absurd (g.0 refl)
 
 -- the runs of two lists are the same
-abbrev HaveKeys : List KeyedRow → List KeyedRow → Type 0
+abbrev pub HaveKeys : List KeyedRow → List KeyedRow → Type 0
 HaveKeys bs ns = map row_key bs ≡ map row_key ns
 
-head_key : (a b : Key) (ns bs : List Key) → a ∷ ns ≡ b ∷ bs → a ≡ b
+pub head_key : (a b : Key) (ns bs : List Key) → a ∷ ns ≡ b ∷ bs → a ≡ b
 head_key a b ns bs e = cc e
 
-tail_keys : (a b : Key) (ns bs : List Key) → a ∷ ns ≡ b ∷ bs → ns ≡ bs
+pub tail_keys : (a b : Key) (ns bs : List Key) → a ∷ ns ≡ b ∷ bs → ns ≡ bs
 tail_keys a b ns bs e = cc e
 
 unnamed_at : (bs ns : List KeyedRow) (k : Key) → HaveKeys bs ns → IsUnnamed (changes bs ns) k →
@@ -193,7 +193,7 @@ keys_append : (ns bs : List KeyedRow) → map row_key (ns ++ bs) ≡ map row_key
 keys_append [] bs = refl
 keys_append (a ∷ ns) bs = ap (λ t. a.key ∷ t) (keys_append ns bs)
 
-all_keys : (p q : Planned) (ys : List YearRuns) → HaveKeys (flat_map (keyed_rows p) ys) (flat_map (keyed_rows q) ys)
+pub all_keys : (p q : Planned) (ys : List YearRuns) → HaveKeys (flat_map (keyed_rows p) ys) (flat_map (keyed_rows q) ys)
 all_keys p q [] = refl
 all_keys p q (y ∷ ys) =
     keys_append (keyed_rows p y) (flat_map (keyed_rows p) ys)

@@ -1,6 +1,7 @@
 mod ChangeLemmas
 mod FullLemmas
 pub mod Laws
+mod NamedLemmas
 mod OrderLemmas
 mod RisingLemmas
 mod SideLemmas

@@ -69,7 +69,7 @@ none_after (v ∷ vs) ws n h = none_after vs ws n (if_none (is_eq (name_cmp v.na
 
 -- ---- the rows
 
-abbrev row_name : TrialRow → List ℕ
+abbrev pub row_name : TrialRow → List ℕ
 row_name (Changed k b a) = []
 row_name (Value k n b a) = n
 
@@ -98,7 +98,7 @@ module _ (k : Key) (before after : List NamedValue) where
       (names_rising (map name_of (before ++ after)))
 
   -- the row of a name is that of its two values, whether or not they are there
-  rows_at : (n : List ℕ) → at_key name_cmp row_name (value_rows k before after) n ≡ value_row k before after n
+  pub rows_at : (n : List ℕ) → at_key name_cmp row_name (value_rows k before after) n ≡ value_row k before after n
   rows_at n =
       at_key_filter_map name_cmp nat_list_cmp_total itself row_name (value_row k before after)
       (λ m row e. row_keeps k m (named m before) (named m after) row e) listed n

@@ -5,7 +5,7 @@ ghost use Rattle.book_year.specs.Jobs.{Counts, total_cost};
 ghost use Rattle.book_year.specs.Picks.{before, after, ArePicks};
 ghost use Rattle.book_edits.specs.Kept.{AreYears, jobs_in, years_of};
 ghost use Rattle.recalc_engine.specs.EditAnswers.{CanEdit, put};
-ghost use Rattle.what_if.specs.TrialLaws.{SameStatesAreOne, UnnamedRunsStay};
+ghost use Rattle.what_if.specs.TrialLaws.{NamedRunsChange, RowsTellBoth, SameStatesAreOne, UnnamedRunsStay, UntoldValuesStay};
 ghost use Rattle.what_if.specs.Trials.{CountsTry, IsTryRefused, trial_of};
 ghost use Rattle.what_if.specs.YearViews.{ArePlanned, IsTried};
 
@@ -79,9 +79,13 @@ fn try_years<L: Ledger>(
     })
 }
 
-/// Laws of the definitions: two states are told the same exactly where they are; a run that no row of a trial names has the
-/// same state once the plan is put.
+/// Laws of the definitions: two states are told the same exactly where they are; a run has another state once the plan is put
+/// where a row of the trial names it, and else the same; what a row tells is so before and after, and a value that it tells
+/// differs; an output of which no row tells has the same value, or none as before.
 pub fn trial_laws()
     ensures one { SameStatesAreOne }
     ensures stay { UnnamedRunsStay }
+    ensures change { NamedRunsChange }
+    ensures tell { RowsTellBoth }
+    ensures untold { UntoldValuesStay }
 {}

@@ -1,4 +1,4 @@
-use Rattle.month_trace.proofs.AnswerLemmas.{is_said, one_answer}
+use Rattle.month_trace.proofs.AnswerLemmas.{is_said, one_answer, traces_end}
 use Rattle.month_trace.proofs.OutputLemmas.{tells_outputs}
 use Rattle.month_trace.proofs.ThereLemmas.{one_trace}
 use Rattle.month_trace.proofs.run.trace_laws.Goals as goal
@@ -8,6 +8,9 @@ returns-clause-one c = one_trace
 
 pub returns-clause-outputs : goal.returns-clause-outputs
 returns-clause-outputs c = tells_outputs
+
+pub returns-clause-reports : goal.returns-clause-reports
+returns-clause-reports c = traces_end
 
 pub returns-clause-said : goal.returns-clause-said
 returns-clause-said c = is_said

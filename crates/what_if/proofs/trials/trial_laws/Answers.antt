@@ -1,4 +1,5 @@
 use Rattle.what_if.proofs.ChangeLemmas.{unnamed_stay}
+use Rattle.what_if.proofs.NamedLemmas.{named_change, rows_tell, untold_stay}
 use Rattle.what_if.proofs.StateLemmas.{states_one}
 use Rattle.what_if.proofs.trials.trial_laws.Goals as goal
 
@@ -7,3 +8,12 @@ returns-clause-one c = states_one
 
 pub returns-clause-stay : goal.returns-clause-stay
 returns-clause-stay c = unnamed_stay
+
+pub returns-clause-change : goal.returns-clause-change
+returns-clause-change c = named_change
+
+pub returns-clause-tell : goal.returns-clause-tell
+returns-clause-tell c = rows_tell
+
+pub returns-clause-untold : goal.returns-clause-untold
+returns-clause-untold c = untold_stay
