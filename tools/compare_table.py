@@ -4,8 +4,8 @@
 The first row of the table names its columns: inputs of the flowchart and outputs that are expected of it. Each further row is one run.
 Each expected amount that isn't the computed one is listed, with the line that shows the run's trace and the statement that put the
 amount. An empty cell gives no input, and expects nothing. The status is 0 where all is as expected, 1 where it isn't, 2 where the
-flowchart, its range file or the table is refused, a column is neither an input nor an output, or no amount is expected. With a fifth word,
-a row's number, the trace of that row is printed."""
+flowchart, its range file or the table is refused, a column is neither an input nor an output or stands twice, no amount is expected, or a
+file or the program can't be used. With a fifth word, a row's number, the trace of that row is printed."""
 import csv
 import os
 import subprocess
@@ -23,7 +23,10 @@ MOST_SHOWN = 20
 
 def outputs_of(program, plan, limits):
     """The names of the flowchart's outputs, or an end with status 2."""
-    done = subprocess.run([program, "check", plan, limits], stdout=subprocess.PIPE, text=True)
+    try:
+        done = subprocess.run([program, "check", plan, limits], stdout=subprocess.PIPE, text=True)
+    except OSError as fault:
+        give_up(f"{program}: {fault.strerror}")
     lines = done.stdout.splitlines()
     if done.returncode:
         give_up(lines[0] if lines else "the flowchart can't be checked")
@@ -38,9 +41,12 @@ def read_table(path, inputs, outputs):
             rows, columns = list(reader), reader.fieldnames or []
     except (OSError, UnicodeDecodeError) as fault:
         give_up(f"{path}: {fault}")
-    for name in columns:
+    for place, name in enumerate(columns):
         if name not in inputs and name not in outputs:
-            give_up(f"{path}: the column {name} is neither an input nor an output of the flowchart")
+            help_for = " (commas stand between the fields)" if ";" in name else ""
+            give_up(f"{path}: the column {name} is neither an input nor an output of the flowchart{help_for}")
+        if name in columns[:place]:
+            give_up(f"{path}: the column {name} stands twice")
     expected = [name for name in columns if name in outputs]
     if not any(row[name] for row in rows for name in expected):
         give_up(f"{path}: no amount is expected")
@@ -76,6 +82,8 @@ def load(payroll, rows, inputs):
         writer.writerow(["employee", "month", "day", *inputs])
         writer.writerows([employee(number), DAY[:7], DAY, *(row[name] for name in inputs)] for number, row in enumerate(rows, 1))
         table.flush()
+        if " " in table.name:
+            give_up(f"the folder for temporary files has a blank in its name: set TMPDIR to another than {os.path.dirname(table.name)}")
         payroll.ask("load", table.name)
 
 
@@ -116,11 +124,28 @@ def compare(payroll, rows, expected):
     return 1 if found else 0
 
 
-def main(program, plan, limits, table, *number):
+def row_number(word, rows):
+    """The row's number that a word gives, or an end with status 2."""
+    if not word.isdecimal() or not 1 <= int(word) <= len(rows):
+        give_up(f"{word} is not the number of a row: the table has {len(rows)}")
+    return int(word)
+
+
+def show(payroll, number):
+    """Prints the trace of a row."""
+    try:
+        print(*payroll.ask("trace", employee(number), DAY), sep="\n")
+    except Refused as refused:
+        give_up(refused)
+    return 0
+
+
+def main(program, plan, limits, table, word=None):
     outputs = outputs_of(program, plan, limits)
     with open(limits, "rb") as text:
-        inputs = tomllib.load(text)["input"]
+        inputs = tomllib.load(text).get("input", {})
     rows, columns = read_table(table, inputs, outputs)
+    number = row_number(word, rows) if word else None
     with Payroll(program) as payroll:
         try:
             payroll.ask("plan", DAY, plan, limits)
@@ -128,8 +153,7 @@ def main(program, plan, limits, table, *number):
         except Refused as refused:
             give_up(refused)
         if number:
-            print(*payroll.ask("trace", employee(int(number[0])), DAY), sep="\n")
-            return 0
+            return show(payroll, number)
         return compare(payroll, rows, [name for name in columns if name in outputs])
 
 

@@ -16,8 +16,19 @@ HEADER = "employee,month,day,plan,state,name,value\n"
 
 
 def rows_of(table):
-    with open(table, encoding="utf-8-sig", newline="") as text:
-        yield from (row for row in csv.reader(text) if row)
+    try:
+        with open(table, encoding="utf-8-sig", newline="") as text:
+            yield from (row for row in csv.reader(text) if row)
+    except (OSError, UnicodeDecodeError) as fault:
+        sys.exit(f"split_table: {table}: {fault}")
+
+
+def header_of(table, rows):
+    """The first row, which names the columns."""
+    header = next(rows, [])
+    if header[:3] != ["employee", "month", "day"]:
+        sys.exit(f"split_table: the first row of {table} isn't employee,month,day and the names of inputs, with commas between them")
+    return header
 
 
 def size_of(row):
@@ -29,7 +40,7 @@ def parts_of(table, most_runs):
     """The number of each employee's part, from 0."""
     runs, sizes = {}, {}
     rows = rows_of(table)
-    first = size_of(next(rows))
+    first = size_of(header_of(table, rows))
     for row in rows:
         runs[row[0]] = runs.get(row[0], 0) + 1
         sizes[row[0]] = sizes.get(row[0], 0) + size_of(row)
@@ -44,6 +55,8 @@ def parts_of(table, most_runs):
 
 
 def split(table, folder, most_runs=MOST_RUNS):
+    if not str(most_runs).isdecimal() or not 1 <= int(most_runs) <= MOST_RUNS:
+        sys.exit(f"split_table: {most_runs} is no number of runs from 1 to {MOST_RUNS}")
     parts = parts_of(table, int(most_runs))
     os.makedirs(folder, exist_ok=True)
     for old in glob.glob(glob.escape(folder) + "/part-[0-9]*.csv*"):
@@ -52,7 +65,7 @@ def split(table, folder, most_runs=MOST_RUNS):
     files = [open(name, "w", encoding="utf-8", newline="") for name in names]
     writers = [csv.writer(file, lineterminator="\n") for file in files]
     rows = rows_of(table)
-    header = next(rows)
+    header = header_of(table, rows)
     for writer in writers:
         writer.writerow(header)
     for row in rows:
