@@ -1,12 +1,14 @@
 #!/usr/bin/env python3
-"""The flowcharts that take `check` longest, of those we know: worst_plan.py FOLDER [CALLS] writes worst.xml and nested.xml with their range
-files into FOLDER; CALLS has MAIN execute its method fewer times than it could.
+"""The flowcharts that take `check` longest, of those we know: worst_plan.py FOLDER [CALLS] writes worst.xml, nested.xml and
+branching.xml with their range files into FOLDER; CALLS has MAIN execute its method fewer times than it could.
 
 worst.xml has 1,024 internals and, in a method that MAIN executes 128 times, as many tests as a file may have bytes for: each joins 241
 comparisons by `&&`, each of which narrows the range of another internal.
 
 nested.xml is as deep as a flowchart may be: 63 methods, each of which executes the next within 32 IFs, and the last of which changes 1,023
-internals. Both branches of each IF can be reached, so behind each what is inside is joined with what was before."""
+internals. Both branches of each IF can be reached, so behind each what is inside is joined with what was before.
+
+branching.xml is nested.xml with a short ELSE in each IF."""
 import sys
 
 INTERNALS, COMPARISONS = 1_024, 241
@@ -46,17 +48,17 @@ def worst(calls):
     return begin + method(0, "".join(tests)) + BACK
 
 
-def inside(number, body):
-    """A list of statements within the IFs of a method, each of which tests another bound than the IFs around it."""
+def inside(number, body, otherwise):
+    """A list of statements within the IFs of a method, each of which tests another bound than the IFs around it and has this ELSE."""
     levels = range(number * DEPTH, (number + 1) * DEPTH)
     tests = "".join(f'<IF expr="A0&gt;{level}"><THEN>' for level in levels)
-    return tests + body + "</THEN></IF>" * DEPTH + "\n"
+    return tests + body + f"</THEN>{otherwise}</IF>" * DEPTH + "\n"
 
 
-def nested(calls):
+def nested(calls, otherwise=""):
     executes = [f'<EXECUTE method="M{number + 1}"/>' for number in range(METHODS - 1)]
     changes = "".join(f'<EVAL exec="A{number} = A{number} + 1"/>' for number in range(1, INTERNALS))
-    methods = [method(number, inside(number, body)) for number, body in enumerate([*executes, changes])]
+    methods = [method(number, inside(number, body, otherwise)) for number, body in enumerate([*executes, changes])]
     return front(calls) + "".join(methods) + BACK
 
 
@@ -70,6 +72,7 @@ def write(folder, name, plan):
 def main(folder, calls=None):
     write(folder, "worst", worst(int(calls or WORST_CALLS)))
     write(folder, "nested", nested(int(calls or NESTED_CALLS)))
+    write(folder, "branching", nested(int(calls or NESTED_CALLS), '<ELSE><EVAL exec="Y=1"/></ELSE>'))
 
 
 if __name__ == "__main__":
