@@ -1,5 +1,6 @@
 use Rattle.std.proofs.Common.{◌≡◌, Some, sym, ap, ap₂, subst, ◌∙◌}
 use Rattle.std.specs.List.{filter_map}
+use Rattle.std.proofs.lemmas.Result.{err_from_is_err_and}
 use Rattle.recalc_engine.specs.MonthRows.{month_rows}
 use Rattle.correction_ledger.specs.BalanceViews.{owed_of, balances_of}
 use Rattle.correction_ledger.specs.FilingViews.{AreSumsOf}
@@ -20,6 +21,16 @@ returns-in-Some-first_open-clause-refused c = (
   ap (λ (f : Filings). f.last) (sym c.self.view_is) ∙ c.in-Some.is,
   sym c.first_open.ensures ∙ c.in-Some-first_open.is,
 )
+
+pub returns-in_err-reported-clause-refused : goal.returns-in_err-reported-clause-refused
+returns-in_err-reported-clause-refused c =
+    let p = err_from_is_err_and c.from_residual.result c.from_residual.ensures.1 in
+    rw (p.1, p.2) (c.in-Some.last, ap (λ (f : Filings). f.last) (sym c.self.view_is) ∙ c.in-Some.is, sym c.first_open.ensures ∙ c.in_default-first_open.is)
+
+pub returns-in_err-dues-clause-refused : goal.returns-in_err-dues-clause-refused
+returns-in_err-dues-clause-refused c =
+    let p = err_from_is_err_and c.from_residual-in_err-dues.result c.from_residual-in_err-dues.ensures.1 in
+    rw (p.1, p.2) (c.in-Some.last, ap (λ (f : Filings). f.last) (sym c.self.view_is) ∙ c.in-Some.is, sym c.first_open.ensures ∙ c.in_default-first_open.is)
 
 pub returns-clause-ok : goal.returns-clause-ok
 returns-clause-ok c =
