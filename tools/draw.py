@@ -7,9 +7,9 @@ import sys
 
 LAYERS = [
     ("the program", ["papcalc"]),
-    ("the top call", ["pap_cli", "plain_words"]),
+    ("the top call", ["pap_cli"]),
     ("scripts", ["script_run", "script_steps", "script_lang"]),
-    ("what is told of a book", ["report_csv", "plan_answers", "month_trace", "correction_ledger", "what_if", "book_file"]),
+    ("what is told of a book", ["report_csv", "plan_answers", "plain_words", "month_trace", "correction_ledger", "what_if", "book_file"]),
     ("the book", ["recalc_engine", "book_loads", "book_edits", "book_year"]),
     ("pay runs", ["pay_run", "saved_items", "carry_bindings", "plan_calendar", "payroll_records", "rising_lists"]),
     ("accepted flowcharts", ["pap_plan", "plan_text", "interval_analysis", "pap_compiler"]),

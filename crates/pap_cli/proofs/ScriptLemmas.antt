@@ -1,6 +1,6 @@
 -- What a run over a script leaves, and the headline from what each status says.
 use Rattle.std.proofs.Common.{◌≡◌, ◌≢◌, ℕ, ◌≤◌, Bool, List, [], ◌++◌, length, refl, sym, ap, ◌∙◌, subst, arith, length-append}
-use Rattle.std.specs.Prelude.{Option, Some, Result, Ok, Err}
+use Rattle.std.specs.Prelude.{Option, Some, Result, Ok, Err, IfOk}
 use Rattle.outside.specs.Causes.{Rose, Still}
 use Rattle.outside.specs.Told.{FileMap, Appends}
 use Rattle.outside.proofs.Laws.{Appends-nothing}
@@ -10,7 +10,11 @@ use Rattle.script_run.specs.declared.stop.Stop.{Stop}
 use Rattle.script_run.specs.declared.stop.Stop.TheVariants as stops
 use Rattle.pap_cli.specs.declared.status.Status.{Status}
 use Rattle.pap_cli.specs.declared.status.Status.TheVariants.{FileFault, ReadFault, WriteFault, NoMemory}
-use Rattle.pap_cli.specs.Statuses.{done_status, status_of}
+use Rattle.pap_cli.specs.Statuses.{IsDone, done_status, status_of}
+use Rattle.pap_cli.specs.WordViews.{ReadsScript, form_by, form_on_files}
+use Rattle.pap_cli.specs.declared.words.Command.{Command}
+use Rattle.pap_cli.specs.declared.words.Command.TheVariants.{Check, Once}
+use Rattle.pap_cli.specs.declared.words.FileRequest.{FileRequest}
 use Rattle.pap_cli.specs.Outside.{Outside}
 use Rattle.pap_cli.specs.ScriptClauses.{shown_of, LeavesOnScript, IsTranscribed, HeadlineOnScript}
 use Rattle.pap_cli.proofs.StatusLemmas.{appended_told, rose_and_still}
@@ -18,6 +22,25 @@ use Rattle.pap_cli.proofs.StatusLemmas.{appended_told, rose_and_still}
 -- the failed name is as before, but where the status is that of a file's fault
 pub script_kept : (r : Result Bool Stop) (s : Status) (failed failed' : Option (List ℕ)) → s ≡ status_of r → (r ≢ Err stops.File → failed' ≡ failed) → s ≢ FileFault → failed' ≡ failed
 script_kept r s failed failed' is kept other = kept (λ e. other (is ∙ ap (λ x. status_of x) e))
+
+-- ---- a script that was answered to its end
+
+-- what is so of a call that ended well is so where its status says that the answer was written whole
+pub done_ok : (P : Type 0) (r : Result Bool Stop) (s : Status) → s ≡ status_of r → IsDone s → IfOk r (λ refused. P) → P
+done_ok P (Ok refused) s is done h = h
+done_ok P (Err stops.File) s is done h = absurd (subst IsDone is done)
+done_ok P (Err stops.Read) s is done h = absurd (subst IsDone is done)
+done_ok P (Err stops.Write) s is done h = absurd (subst IsDone is done)
+done_ok P (Err stops.Memory) s is done h = absurd (subst IsDone is done)
+done_ok P (Err stops.Long) s is done h = absurd (subst IsDone is done)
+
+-- an answer on two files reads no script
+reads_none : (c : Command) (plan limits : List ℕ) → ReadsScript (form_by c plan limits) → ⊥
+reads_none Check plan limits reads = reads
+reads_none (Once values) plan limits reads = reads
+
+pub files_read_none : (r : FileRequest) → ReadsScript (form_on_files r) → ⊥
+files_read_none r reads = reads_none r.command r.plan.now r.limits.now reads
 
 -- ---- the headline
 

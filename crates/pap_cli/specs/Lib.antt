@@ -17,7 +17,9 @@ pub mod Outside
 pub mod Statuses
 pub mod Kept
 pub mod Reasons
+pub mod RefusedTexts
 pub mod ReasonViews
 pub mod Words
+pub mod BadWords
 pub mod WordViews
 pub mod FileViews

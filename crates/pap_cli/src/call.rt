@@ -1,11 +1,13 @@
 //! The top call.
 ghost use Rattle.std.specs.Prelude.{◌≡◌, ◌≢◌, ℕ};
+ghost use Rattle.std.specs.Option.{ForSome};
 ghost use Rattle.outside.specs.Causes.{Rose};
 ghost use Rattle.pap_cli.specs.Words.{texts, Form, HasForm, IsBad, sample};
 ghost use Rattle.pap_cli.specs.Outside.{IsUntouched};
 ghost use Rattle.pap_cli.specs.CallClauses.{Carries};
 ghost use Rattle.pap_cli.specs.WordViews.{ReadsScript};
-ghost use Rattle.pap_cli.specs.Statuses.{status_of};
+ghost use Rattle.pap_cli.specs.Statuses.{IsDone, status_of};
+ghost use Rattle.script_run.specs.RunClauses.{TellsRefused};
 ghost use Rattle.plan_answers.specs.Laws.{CheckHasOneAnswer};
 ghost use Rattle.pap_cli.specs.Laws.{HaveOneForm, OnceHasOneAnswer};
 ghost use Rattle.pap_cli.specs.Laws.{WordsGiveKeptValues};
@@ -16,7 +18,7 @@ use crate::sample::sample;
 use crate::save::save;
 use crate::words::{Request, read_words};
 use outside::{Files, Sink, Source};
-use script_run::{Stop, run};
+use script_run::{RefusedLines, Stop, run};
 use std::alloc::Global;
 use std::sync::ledger::Ledger;
 use steps::Steps;
@@ -102,11 +104,81 @@ pub fn papcalc<F: Files, R: Source, W: Sink, L: Ledger>(
         })
         result }
 {
+    let mut untold = RefusedLines::new(alloc);
+    papcalc_told(alloc, words, files, source, sink, &mut untold, steps)
+}
+
+/// Does what [`papcalc`] does, and tells of a script that `run` or `save` carries out which of its lines were refused, and why.
+pub fn papcalc_told<F: Files, R: Source, W: Sink, L: Ledger>(
+    alloc: Global,
+    words: &[String],
+    files: &mut F,
+    source: &mut R,
+    sink: &mut W,
+    refused_lines: &mut RefusedLines,
+    steps: &mut Steps<L>,
+) -> Status
+    // The words have no form: nothing is called.
+    ensures bad_words { IsBad (texts words.now)
+        → result ≢ Status.NoMemory → result ≡ Status.BadWords }
+    ensures bad_words_alone { result ≡ Status.BadWords → IsBad (texts words.now) }
+    ensures bad_words_untouched { IsBad (texts words.now)
+        → IsUntouched files.old files.new source.old source.new
+        sink.old sink.new steps.old steps.new }
+
+    // A fault only where the object's count rose.
+    ensures file_fault { result ≡ Status.FileFault
+        → Rose (F.faults files.old) (F.faults files.new) }
+    ensures read_fault { result ≡ Status.ReadFault
+        → Rose (R.faults source.old) (R.faults source.new) }
+    ensures write_fault { result ≡ Status.WriteFault
+        → Rose (W.faults sink.old) (W.faults sink.new) }
+
+    // The files are only read, and by a sample not even that. Only `run` and `save` touch the source.
+    ensures files_same { F.told files.new ≡ F.told files.old }
+    ensures source_same { (form : Form) → HasForm (texts words.now) form
+        → ¬ (ReadsScript form) → source.new ≡ source.old }
+    ensures sample_reads_no_file { (employees : ℕ) → HasForm (texts words.now) (sample employees)
+        → files.new ≡ files.old }
+
+    // By the form of the words: what each status says of the text, of the counter, of the source and of the failed name
+    // (`leaves`), and the headline: while memory is there and no outside call fails, what is written is the defined answer or
+    // transcript.
+    ensures carries { (form : Form) → HasForm (texts words.now) form → Carries form
+        (record {
+          files = F.told files.old;
+          failed = F.failed files.old;
+          file_faults = F.faults files.old;
+          left = R.left source.old;
+          source_faults = R.faults source.old;
+          written = W.written sink.old;
+          sink_faults = W.faults sink.old;
+          steps = steps.old;
+        })
+        (record {
+          files = F.told files.new;
+          failed = F.failed files.new;
+          file_faults = F.faults files.new;
+          left = R.left source.new;
+          source_faults = R.faults source.new;
+          written = W.written sink.new;
+          sink_faults = W.faults sink.new;
+          steps = steps.new;
+        })
+        result }
+
+    // Of a script that was answered to its end it is told which of its lines were refused.
+    ensures refused_lines { (form : Form) → HasForm (texts words.now) form → ReadsScript form
+        → IsDone result → ForSome (R.left source.old) (λ script. ForSome (F.told files.old)
+        (λ files. TellsRefused files script refused_lines.new)) }
+{
     match read_words(alloc, words) {
         Ok(Some(Request::Files(request))) => status(answer(alloc, request, files, sink, steps)),
-        Ok(Some(Request::Run)) => status(run(alloc, files, source, sink, steps)),
+        Ok(Some(Request::Run)) => { status(run(alloc, files, source, sink, refused_lines, steps)) },
         Ok(Some(Request::Sample(employees))) => status(sample(alloc, employees, sink, steps)),
-        Ok(Some(Request::Save)) => status(save(alloc, files, source, sink, steps)),
+        Ok(Some(Request::Save)) => {
+            status(save(alloc, files, source, sink, refused_lines, steps))
+        },
         Ok(None) => Status::BadWords,
         Err(_) => Status::NoMemory,
     }

@@ -1,6 +1,8 @@
 //! The answer of `save`: the last book of a script as a text.
 ghost use Rattle.std.specs.Prelude.{◌≡◌, IfOk, Err};
+ghost use Rattle.std.specs.Option.{ForSome};
 ghost use Rattle.outside.specs.Causes.{Caused};
+ghost use Rattle.script_run.specs.RunClauses.{TellsRefused};
 ghost use Rattle.pap_cli.specs.GoingOn.{SavedScriptsAreSaved, SavedScriptsGoOn};
 ghost use Rattle.pap_cli.specs.Laws.{ScriptsHaveOneSave};
 ghost use Rattle.pap_cli.specs.SaveAnswers.{IsSave, was_filed};
@@ -11,18 +13,19 @@ ghost use Rattle.pap_cli.specs.Statuses.{status_of};
 use book_file::{SaveRefusal, saving_laws, write_book};
 use outside::{Files, Sink, Source, put_all};
 use plan_answers::{Reply, refusal};
-use script_run::{Stop, Unwritten, run_unwritten};
+use script_run::{RefusedLines, Stop, Unwritten, run_unwritten};
 use std::alloc::{AllocError, Global};
 use std::sync::ledger::Ledger;
 use steps::Steps;
 
 /// Runs the script that the source gives, writes none of its answers, and then writes the text of the last book, or why there
-/// is none. `Ok` says whether that is a refusal.
+/// is none. `Ok` says whether that is a refusal, and then it is told which lines were refused.
 pub(crate) fn save<F: Files, R: Source, W: Sink, L: Ledger>(
     alloc: Global,
     files: &mut F,
     source: &mut R,
     sink: &mut W,
+    refused_lines: &mut RefusedLines,
     steps: &mut Steps<L>,
 ) -> Result<bool, Stop>
     ensures leaves { LeavesOnSave
@@ -31,12 +34,14 @@ pub(crate) fn save<F: Files, R: Source, W: Sink, L: Ledger>(
         (seen (F.told files.new) (F.failed files.new) (R.left source.new)
         (W.written sink.new) steps.new)
         (status_of result) }
+    ensures told { IfOk result (λ refused. ForSome (R.left source.old) (λ script.
+        ForSome (F.told files.old) (λ files. TellsRefused files script refused_lines.new))) }
     ensures same { F.told files.new ≡ F.told files.old }
     ensures file { Caused Stop.File (F.faults files.old) (F.faults files.new) result }
     ensures read { Caused Stop.Read (R.faults source.old) (R.faults source.new) result }
     ensures write { Caused Stop.Write (W.faults sink.old) (W.faults sink.new) result }
 {
-    let ended = run_unwritten(alloc, files, source, steps)?;
+    let ended = run_unwritten(alloc, files, source, refused_lines, steps)?;
     let reply = saved(alloc, ended)?;
     match put_all(sink, &reply.text) {
         Ok(()) => Ok(reply.refused),

@@ -4,7 +4,9 @@
 ghost use Rattle.std.specs.Prelude.{◌≡◌};
 
 use outside::{Files, RealFiles, Sink, Source, StdSink, StdSource};
-use pap_cli::{KeptFiles, MOST_GIVEN, Status, papcalc, reason};
+use pap_cli::{
+    KeptFiles, MOST_GIVEN, RefusedLines, Status, bad_value, papcalc_told, reason, refused_text,
+};
 use plain_words::one_line;
 use std::alloc::Global;
 use std::env;
@@ -19,13 +21,12 @@ const USAGE: &str =
     papcalc save < SCRIPT | papcalc sample N (1 to 200) | papcalc --help; a VALUE is a number as 450000 or -12.50, without signs between \
     thousands, and each NAME stands once";
 
-const REFUSED_LINES: &str =
-    "papcalc: some lines of the script were refused: their answers begin with `refused`, and they changed nothing; \
-    of a refused plan `papcalc check PLAN LIMITS` says in plain words what is wrong";
+const UNSAVED_BOOK: &str =
+    "papcalc: the book isn't saved: `refused book Filed` where a month was filed, or `refused book Long` where its text would have more \
+    than 268435456 bytes";
 
-const UNSAVED_LINE: &str =
-    "papcalc: the book isn't saved: the answers of the refused lines are written in its place (`papcalc run` shows them among the others), \
-    `refused book Filed` where a month was filed, or `refused book Long` where its text would have more than 268435456 bytes";
+const UNSAVED_LINES: &str =
+    "papcalc: the book isn't saved, since lines of the script are refused; their answers are written in its place";
 
 const VERSION: &str = "papcalc 0.1.0";
 
@@ -76,7 +77,8 @@ lines of a script (DAY as 2026-01-31, MONTH as 2026-01, EMP a word for an employ
   try DAY PLAN LIMITS                   what `plan` would change, without changing it: `accepted steps B`, what differs, and then
                                         `would RUNS STEPS`
   # ..                                  nothing: a comment
-An edit answers `ok`, and `plan` `accepted steps B`. A line that is refused answers `refused ..` and changes nothing.
+An edit answers `ok`, and `plan` `accepted steps B`. A line that is refused answers `refused ..` and changes nothing; when the
+script has ended, standard error says of the first 20 such lines which they are and what is wrong.
 
 It ends with 0 where all was written, 1 where something of that is a refusal, 2 where the words are none of these, 3 where a
 file can't be read, 4 where standard input can't be read, 5 where the output can't be written, 6 where memory runs out, 7
@@ -89,6 +91,7 @@ fn counted<L: Ledger, F: Files, R: Source, W: Sink>(
     files: &mut F,
     source: &mut R,
     sink: &mut W,
+    refused_lines: &mut RefusedLines,
     blank: Blank,
 ) -> Status
     requires name { blank.name ≡ L.name }
@@ -96,7 +99,7 @@ fn counted<L: Ledger, F: Files, R: Source, W: Sink>(
     requires one { blank.parts ≡ 1 }
 {
     let mut steps = Steps::<L>::new(blank);
-    papcalc(alloc, words, files, source, sink, &mut steps)
+    papcalc_told(alloc, words, files, source, sink, refused_lines, &mut steps)
 }
 
 /// The words after the program's name.
@@ -117,11 +120,14 @@ fn own_answer(words: &[String]) -> Option<&'static str> {
     }
 }
 
-/// Says on standard error what is wrong, in one line. That this may fail changes nothing.
-fn explain(rt: &HostRuntime, status: Status, failed_name: Option<&str>) {
+/// Says on standard error what is wrong. That this may fail changes nothing.
+fn explain(rt: &HostRuntime, status: Status, words: &[String], failed_name: Option<&str>) {
     let _ = match status {
         Status::Done | Status::Refused => Ok(()),
-        Status::BadWords => eprintln!(rt; "{USAGE}"),
+        Status::BadWords => {
+            explain_bad_value(rt, words);
+            eprintln!(rt; "{USAGE}")
+        }
         Status::FileFault => {
             explain_file_fault(rt, failed_name.unwrap_or(""));
             Ok(())
@@ -133,6 +139,23 @@ fn explain(rt: &HostRuntime, status: Status, failed_name: Option<&str>) {
     };
 }
 
+/// Says on standard error which word of `once` gives no value, in one line whatever the word is. That this may fail changes nothing.
+fn explain_bad_value(rt: &HostRuntime, words: &[String]) {
+    let [command, _, _, values @ ..] = words else {
+        return;
+    };
+    if command.as_str() != "once" {
+        return;
+    }
+    if let Some(word) = bad_value(values) {
+        if let Ok(word) = one_line(rt.alloc(), word) {
+            let _ = eprintln!(rt;
+                "papcalc: `{word}` is not of the form NAME=VALUE with a name and a number"
+            );
+        }
+    }
+}
+
 /// Says on standard error which file can't be read, in one line whatever its name is. That this may fail changes nothing.
 fn explain_file_fault(rt: &HostRuntime, name: &str) {
     if let Ok(name) = one_line(rt.alloc(), name) {
@@ -142,20 +165,27 @@ fn explain_file_fault(rt: &HostRuntime, name: &str) {
     }
 }
 
-/// Says on standard error why the answer is a refusal, in one line, from the bytes that were given for it; of a script, how its
-/// refusals are found. That this may fail changes nothing.
+/// Says on standard error why the answer is a refusal, in one line, from the bytes that were given for it. That this may fail
+/// changes nothing.
 fn explain_refusal(rt: &HostRuntime, words: &[String], given: &[Vec<u8>]) {
-    let of_script = match words {
-        [word] if word.as_str() == "save" => Some(UNSAVED_LINE),
-        [_] => Some(REFUSED_LINES),
-        _ => None,
-    };
-    if let Some(line) = of_script {
-        let _ = eprintln!(rt; "{line}");
-        return;
-    }
     if let Ok(Some(reason)) = reason(rt.alloc(), words, given) {
         let _ = eprintln!(rt; "{reason}");
+    }
+}
+
+/// Says on standard error which lines of a script are refused, and why, and of `save` that the book isn't saved. That this may
+/// fail changes nothing.
+fn explain_script(rt: &HostRuntime, word: &str, refused_lines: &RefusedLines) {
+    if let Ok(text) = refused_text(rt.alloc(), refused_lines) {
+        let _ = eprint!(rt; "{text}");
+    }
+    if word == "save" {
+        let unsaved = if refused_lines.count == 0 {
+            UNSAVED_BOOK
+        } else {
+            UNSAVED_LINES
+        };
+        let _ = eprintln!(rt; "{unsaved}");
     }
 }
 
@@ -168,7 +198,7 @@ fn main(rt: HostRuntime) -> ExitCode {
             } else {
                 Status::BadWords
             };
-            explain(&rt, status, None);
+            explain(&rt, status, &[], None);
             return ExitCode::from(status.number());
         }
     };
@@ -177,23 +207,28 @@ fn main(rt: HostRuntime) -> ExitCode {
             Ok(()) => Status::Done,
             Err(_) => Status::WriteFault,
         };
-        explain(&rt, status, None);
+        explain(&rt, status, &[], None);
         return ExitCode::from(status.number());
     }
     let mut files = KeptFiles::new(rt.alloc(), RealFiles::new(&rt), MOST_GIVEN);
     let mut source = StdSource::new(rt.reader());
     let mut sink = StdSink::new(io::writer(&rt));
+    let mut refused_lines = RefusedLines::new(rt.alloc());
     let status = counted::<Brand, _, _, _>(
         rt.alloc(),
         &words,
         &mut files,
         &mut source,
         &mut sink,
+        &mut refused_lines,
         Blank::new(1),
     );
-    explain(&rt, status, files.inner().failed_name());
+    explain(&rt, status, &words, files.inner().failed_name());
     if status == Status::Refused {
-        explain_refusal(&rt, &words, files.fronts());
+        match words.as_slice() {
+            [word] => explain_script(&rt, word, &refused_lines),
+            words => explain_refusal(&rt, words, files.fronts()),
+        }
     }
     ExitCode::from(status.number())
 }

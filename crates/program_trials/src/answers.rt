@@ -3,7 +3,9 @@ ghost use Rattle.std.specs.Prelude.{◌≡◌, ◌≢◌, AllPairs, IfOk};
 ghost use Rattle.outside.specs.Memory.{named_files};
 
 use outside::{Files, MemFiles, MemSink, MemSource, Sink, Source};
-use pap_cli::{KeptFiles, MOST_GIVEN, Status, papcalc, reason};
+use pap_cli::{
+    KeptFiles, MOST_GIVEN, RefusedLines, Status, papcalc, papcalc_told, reason, refused_text,
+};
 use std::alloc::{AllocError, Global};
 use std::marker::Brand;
 use std::str::from_utf8;
@@ -33,6 +35,24 @@ fn counted<L: Ledger, F: Files, R: Source, W: Sink>(
 {
     let mut steps = Steps::<L>::new(blank);
     papcalc(alloc, words, files, source, sink, &mut steps)
+}
+
+/// The same, which tells which lines of a script were refused.
+fn counted_told<L: Ledger, F: Files, R: Source, W: Sink>(
+    alloc: Global,
+    words: &[String],
+    files: &mut F,
+    source: &mut R,
+    sink: &mut W,
+    refused_lines: &mut RefusedLines,
+    blank: Blank,
+) -> Status
+    requires name { blank.name ≡ L.name }
+    requires parts { blank.parts ≡ L.parts }
+    requires one { blank.parts ≡ 1 }
+{
+    let mut steps = Steps::<L>::new(blank);
+    papcalc_told(alloc, words, files, source, sink, refused_lines, &mut steps)
 }
 
 /// The two files.
@@ -96,6 +116,27 @@ pub(crate) fn write_reason(words: &str, texts: Texts<'_>, text: &mut String) -> 
     );
     let reason = reason(alloc, &words, files.fronts())?;
     Ok(text.push_str(reason.as_ref().map_or("-", |reason| reason.as_str()))?)
+}
+
+/// Carries out a script over these files, and writes what is said of its refused lines.
+pub(crate) fn write_refused(script: &str, texts: Texts<'_>, text: &mut String) -> Result<(), Fail> {
+    let alloc = *text.allocator();
+    let words = words_of(alloc, "run")?;
+    let mut files = MemFiles::new(two_files(alloc, texts)?, Vec::new(alloc));
+    let mut source = MemSource::new(script.as_bytes().to_vec(alloc)?, 64, Vec::new(alloc));
+    let mut sink = MemSink::new(alloc, 4000, Vec::new(alloc))?;
+    let mut told = RefusedLines::new(alloc);
+    counted_told::<Brand, _, _, _>(
+        alloc,
+        &words,
+        &mut files,
+        &mut source,
+        &mut sink,
+        &mut told,
+        Blank::new(1),
+    );
+    let said = refused_text(alloc, &told)?;
+    write_lines(said.as_bytes(), text)
 }
 
 /// Writes the lines that are written, with ` / ` between them, and gives the status.

@@ -1,5 +1,6 @@
 //! The top call over objects in memory: its answers, its statuses and the reasons of its refusals.
-use crate::answers::{Texts, write_answer, write_reason};
+use crate::answers::{Texts, words_of, write_answer, write_reason, write_refused};
+use pap_cli::bad_value;
 use std::alloc::Global;
 use std::test::Fail;
 use trial_rows::all_rows;
@@ -78,6 +79,16 @@ Q = N + 1 > 2 ? BigDecimal.ONE : BigDecimal.TEN => a.xml:4:6: the types don't go
 Q = T[0].add(BigDecimal.ONE.setScale(2, BigDecimal.ROUND_DOWN)) > 1 ? 1 : 0 => a.xml:4:6: the types don't go together, at `T[0].add(BigDecimal.ONE.setScale(2, BigDecimal.ROUND_DOWN)) > 1` in EVAL `  Q = T[0].add(BigDecimal.ONE.setScale(2, BigDecimal.ROUND_DOWN)) > 1 ? 1 : 0`, the 1st statement of MAIN
 Q = 1 + T[0].compareTo(BigDecimal.ONE + 1) => a.xml:4:25: the types don't go together, at `BigDecimal.ONE + 1` in EVAL `  Q = 1 + T[0].compareTo(BigDecimal.ONE + 1)`, the 1st statement of MAIN"#;
 
+/// The lines of a script, and what is said of those that are refused.
+const REFUSED: &str =
+    r#"work\nad anna\n\n# a note\nwithdraw anna 2026-01 => stdin:2: the first word is no command: plan, drop, add, change, withdraw, load, report, work, trace, file, owed, open or try / stdin:5: anna has no run in or on 2026-01
+add anna 2026-01 2026-01-30 N=x\nadd anna 2026-01 2026-01-30 N=1\nadd anna 2026-01 2026-01-30 N=1\nopen l.toml => stdin:1: word 5 is not of the form NAME=VALUE with a name and a number / stdin:3: anna has a run on 2026-01-30 already / stdin:4: a saved book is opened in place of an empty one, and this one has runs or plans
+plan 2026-01-01 l.toml l.toml\nload a.xml\ntrace ben 2026-01\ndrop 2026-01-01 => stdin:1: l.toml:1:1: expected a tag, a comment or white space, at `[input.N]`; text outside of a tag stands in comments alone; write it as a comment, or as an attribute of a tag / stdin:2: the first row is not employee,month,day and then at most 256 different names / stdin:3: ben has no run in or on 2026-01 / stdin:4: no plan holds from 2026-01-01
+file 2026-01\nfile 2026-01\nopen l.toml => stdin:2: the month is not after 2026-01, the last filed one / stdin:3: a saved book is opened before a month is filed, and one was filed
+open l.toml => stdin:1: item 1 is not of its form
+20 x owed\n => stdin:1: no month was filed / stdin:2: no month was filed / stdin:3: no month was filed / stdin:4: no month was filed / stdin:5: no month was filed / stdin:6: no month was filed / stdin:7: no month was filed / stdin:8: no month was filed / stdin:9: no month was filed / stdin:10: no month was filed / stdin:11: no month was filed / stdin:12: no month was filed / stdin:13: no month was filed / stdin:14: no month was filed / stdin:15: no month was filed / stdin:16: no month was filed / stdin:17: no month was filed / stdin:18: no month was filed / stdin:19: no month was filed / stdin:20: no month was filed
+22 x owed\n => stdin:1: no month was filed / stdin:2: no month was filed / stdin:3: no month was filed / stdin:4: no month was filed / stdin:5: no month was filed / stdin:6: no month was filed / stdin:7: no month was filed / stdin:8: no month was filed / stdin:9: no month was filed / stdin:10: no month was filed / stdin:11: no month was filed / stdin:12: no month was filed / stdin:13: no month was filed / stdin:14: no month was filed / stdin:15: no month was filed / stdin:16: no month was filed / stdin:17: no month was filed / stdin:18: no month was filed / stdin:19: no month was filed / stdin:20: no month was filed / and 2 more"#;
+
 /// Writes what is answered to words, and the status.
 fn answered(asked: &str, text: &mut String) -> Result<(), Fail> {
     let status = write_answer(asked, TEXTS, text)?;
@@ -97,6 +108,32 @@ fn refusals_have_reasons(rt: HostRuntime) -> Result<(), Fail> {
         REASONS,
         |asked, text| write_reason(asked, TEXTS, text),
     )
+}
+
+#[test]
+fn refused_lines_are_told(rt: HostRuntime) -> Result<(), Fail> {
+    all_rows(
+        rt.alloc(),
+        REFUSED,
+        |asked, text| write_refused(asked, TEXTS, text),
+    )
+}
+
+/// Words, and which of them gives no value.
+const BAD_VALUES: &str = r#"N=1 D=x K => D=x
+=1 => =1
+N => N
+N=1 N=2 => -"#;
+
+/// Writes which word gives no value.
+fn bad(words: &str, text: &mut String) -> Result<(), Fail> {
+    let words = words_of(*text.allocator(), words)?;
+    Ok(text.push_str(bad_value(&words).unwrap_or("-"))?)
+}
+
+#[test]
+fn bad_values_are_named(rt: HostRuntime) -> Result<(), Fail> {
+    all_rows(rt.alloc(), BAD_VALUES, bad)
 }
 
 /// A flowchart of one assignment, which begins at column 2 of line 4.

@@ -8,8 +8,9 @@ use Rattle.outside.specs.Memory.{file_named}
 use Rattle.script_steps.specs.Steps.{Standing, AreThere}
 use Rattle.script_run.specs.Limits.{most_script}
 use Rattle.script_run.specs.Transcripts.{lines_of}
-use Rattle.script_run.specs.RunClauses.{Shown, RunMeets, EndsAt, EndsUnwritten, IsFinished, IsSpentWithin}
+use Rattle.script_run.specs.RunClauses.{Shown, RunMeets, EndsAt, EndsUnwritten, TellsRefused, IsFinished, IsSpentWithin}
 use Rattle.script_run.specs.declared.turns.Ended.{Ended}
+use Rattle.script_run.specs.declared.refused_lines.RefusedLines.{RefusedLines}
 use Rattle.script_run.specs.declared.stop.Stop.TheVariants as stops
 use Rattle.script_run.proofs.Laws.{one, some}
 
@@ -46,7 +47,7 @@ no_long_stop script meets short = omega (
 -- what a whole run leaves
 pub finished : {before after : Shown} {left : Option (List ℕ)} (files : FileMap) (script : List ℕ) (ended : Ended) →
     RunMeets before after script left (Ok ended.refused) →
-    EndsAt files script ended.script ended.refusals → before.files ≡ Some files →
+    EndsAt files script ended.script ended.refusals ended.refused_lines → before.files ≡ Some files →
     IsFinished files script before.steps after.steps ended
 finished {before = before} {after = after} files script ended meets ends told =
     let whole = meets.leaves.tells.whole files told in
@@ -63,8 +64,8 @@ finished {before = before} {after = after} files script ended meets ends told =
 
 -- what a whole run has made whose refusals were kept
 pub ends_unwritten : {before after : Shown} {left : Option (List ℕ)} (files : FileMap) (script : List ℕ)
-    (refused : Bool) (standing : Standing) (kept : Vec ℕ Global) →
-    RunMeets before after script left (Ok refused) → EndsAt files script standing (Some kept) →
+    (refused : Bool) (standing : Standing) (kept : Vec ℕ Global) {lines : RefusedLines} →
+    RunMeets before after script left (Ok refused) → EndsAt files script standing (Some kept) lines →
     before.files ≡ Some files →
     EndsUnwritten files script (record { refused = refused; refusals = kept; script = standing })
 ends_unwritten files script refused standing kept meets ends told =
@@ -77,6 +78,12 @@ ends_unwritten files script refused standing kept meets ends told =
       refusals = ends.refusals;
       left = sym ends.left;
     }
+
+-- what is told of its refused lines
+pub tells_refused : (files : FileMap) (script : List ℕ) (standing : Standing) (kept : Option (Vec ℕ Global))
+    (lines : RefusedLines) → EndsAt files script standing kept lines → TellsRefused files script lines
+tells_refused files script standing kept lines ends =
+    record { session = ends.session; is = ends.is; told_is = ends.told_is }
 
 -- what a run leaves that memory stopped
 pub spent_within : {before after : Shown} {left : Option (List ℕ)} (files : FileMap) (script : List ℕ) →

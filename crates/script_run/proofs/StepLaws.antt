@@ -13,12 +13,14 @@ use Rattle.script_steps.specs.StepClauses.{IsAnswered, IsUnbegun, IsPart, IsCutS
 use Rattle.script_steps.specs.declared.stop.LineStop.{LineStop}
 use Rattle.script_steps.specs.declared.stop.LineStop.TheVariants.{File, Write, Memory}
 use Rattle.script_steps.proofs.Laws as step
-use Rattle.script_run.specs.Transcripts.{Session, opening, with_answer, refusal_of, lines_of, ended_lines, AreAnswered, IsSession, IsTranscript}
+use Rattle.script_run.specs.Transcripts.{Session, opening, with_answer, refusal_of, noted, lines_of, ended_lines, AreAnswered, IsSession, IsTranscript}
 use Rattle.script_run.specs.Stops.{stop_of}
 use Rattle.script_run.specs.RunClauses.{Shown, shown, told_by, IsFrontOf, IsAtLine, Leaves, EndsAt, AreKept}
 use Rattle.script_run.specs.RunViews.{open_line, Holds, IsSameSoFar, IsAtStart, Keeps, IsDelivered, Stands, GoesOn, Breaks, Closes, ClosesAt}
 use Rattle.script_run.specs.declared.stop.Stop.TheVariants as stops
 use Rattle.script_run.specs.declared.reading.Reading.{Reading}
+use Rattle.script_run.specs.RefusedLines.{IsToldOf, Notes}
+use Rattle.script_run.specs.declared.refused_lines.RefusedLines.{RefusedLines}
 use Rattle.script_run.proofs.Laws.{AreAnswered-next, AreAnswered-grows, AreAnswered-there, IsSession-rest, IsSession-whole}
 use Rattle.script_run.proofs.LineLaws.{ended_lines-lf, open_line-lf, ended_lines-other, open_line-other, Begins, lines_of-append, lines_of-parts, last_lines, last_lines-some, last_lines-none}
 use Rattle.script_run.proofs.KeepingLaws.{SaysSame}
@@ -65,6 +67,12 @@ kept_more None (Some more) answer refusals keeps kept = absurd keeps
 kept_more (Some few) None answer refusals keeps kept = absurd keeps
 kept_more (Some few) (Some more) answer refusals keeps kept = keeps ∙ ap (λ v. v ++ refusal_of answer) kept
 
+-- what is told of the refused lines, with one more answer
+told_more : (answered : ℕ) (lines : List ℕ) (told : RefusedLines) (refused mark : Bool) → refused ≡ mark →
+    IsToldOf answered (noted lines answered refused) told → IsToldOf answered (noted lines answered mark) told
+told_more answered lines told refused mark marked tells =
+    subst (λ (v : Bool). IsToldOf answered (noted lines answered v) told) marked tells
+
 -- what a stop leaves at a line
 pub record BreaksLine (old new : Shown) (from : Standing) (line : List ℕ) (stop : LineStop) : Type 0 where
   pub is : IsBroken old.files old.written new.written old.steps new.steps from line new.failed stop
@@ -104,26 +112,33 @@ broken_same {from = from} {said = said} {line = line} same Memory broken = recor
   ];
 }
 
-session_same : {a a' e : List ℕ} {b b' : Bool} {c c' : ℕ} {d d' : Standing} → a ≡ a' → b ≡ b' → c ≡ c' → d ≡ d' →
-    ◌≡◌ {A = Session} (record { text = a; refused = b; refusals = e; steps = c; standing = d }) (record {
-      text = a';
-      refused = b';
-      refusals = e;
-      steps = c';
-      standing = d';
-    })
-session_same {e = e} p q r s = λ i. record { text = p i; refused = q i; refusals = e; steps = r i; standing = s i }
+session_same : {a a' e n : List ℕ} {b b' : Bool} {c c' l : ℕ} {d d' : Standing} → a ≡ a' → b ≡ b' → c ≡ c' → d ≡ d' →
+    ◌≡◌ {A = Session}
+    (record { text = a; refused = b; refusals = e; lines = l; refused_lines = n; steps = c; standing = d })
+    (record { text = a'; refused = b'; refusals = e; lines = l; refused_lines = n; steps = c'; standing = d' })
+session_same {e = e} {n = n} {l = l} p q r s = λ i. record {
+  text = p i;
+  refused = q i;
+  refusals = e;
+  lines = l;
+  refused_lines = n;
+  steps = r i;
+  standing = s i;
+}
 
 -- before the first byte
 pub stands_first : (before : Shown) (reading : Reading) → IsAtStart reading → Stands before before [] reading
 stands_first before reading first = record {
   out = [];
   refusals = [];
+  lines = 0;
+  refused_lines = [];
   same = refl;
   appended = Appends-nothing before.written;
   counted = omega arith;
   held = record { front = first.line; long = first.long };
   kept = first.refusals;
+  told = first.refused_lines;
   answered = λ files e. session_same refl first.refused (omega arith) first.script;
 }
 
@@ -134,18 +149,22 @@ push_on {old = old} {was = was} {is = is} b other held same = record {
   on = λ before bytes stands. record {
     out = stands.out;
     refusals = stands.refusals;
+    lines = stands.lines;
+    refused_lines = stands.refused_lines;
     same = stands.same;
     appended = stands.appended;
     counted = stands.counted;
     held = subst (λ v. Holds is v) (sym (open_line-other bytes b other)) (held (open_line bytes) stands.held);
     kept = subst (λ v. AreKept v stands.refusals) (sym same.refusals) stands.kept;
+    told = subst (λ v. IsToldOf stands.lines stands.refused_lines v) (sym same.refused_lines) stands.told;
     answered = λ files e.
         subst (λ v. AreAnswered files opening v (record {
           text = stands.out;
           refused = is.refused;
           refusals = stands.refusals;
-          steps =
-              old.steps - before.steps;
+          lines = stands.lines;
+          refused_lines = stands.refused_lines;
+          steps = old.steps - before.steps;
           standing = is.script;
         })) (sym (ended_lines-other bytes b other))
         (subst (λ v. AreAnswered files opening (ended_lines bytes) v) (session_same refl (sym same.refused) refl
@@ -179,8 +198,9 @@ pub line_on : {old new : Shown} {was is : Reading} {refused : Bool} → new.file
     ((line : List ℕ) → Holds was line →
     IsDelivered old.files old.written new.written old.steps new.steps was.script is.script was.refusals is.refusals
     (strip_carriage_return line) refused) →
-    Holds is [] → is.refused ≡ (was.refused || refused) → GoesOn old new was is (10 ∷ [])
-line_on {old = old} {new = new} {was = was} {is = is} {refused = refused} same_files answers held mark = record {
+    Holds is [] → is.refused ≡ (was.refused || refused) → Notes was.refused_lines is.refused_lines refused →
+    GoesOn old new was is (10 ∷ [])
+line_on {old = old} {new = new} {was = was} {is = is} {refused = refused} same_files answers held mark notes = record {
   on = λ before bytes stands.
       let delivered = answers (open_line bytes) stands.held in
       let answered = delivered.answered in
@@ -190,18 +210,24 @@ line_on {old = old} {new = new} {was = was} {is = is} {refused = refused} same_f
       record {
         out = stands.out ++ (answered.answer).text;
         refusals = stands.refusals ++ refusal_of answered.answer;
+        lines = stands.lines + 1;
+        refused_lines = noted stands.refused_lines (stands.lines + 1) (answered.answer).refused;
         same = same_files ∙ stands.same;
         appended = Appends-then before.written old.written new.written stands.out
             (answered.answer).text stands.appended answered.appended;
         counted = omega arith;
         held = subst (λ v. Holds is v) (sym (open_line-lf bytes)) held;
         kept = kept_more was.refusals is.refusals answered.answer stands.refusals delivered.kept stands.kept;
+        told = told_more (stands.lines + 1) stands.refused_lines is.refused_lines refused (answered.answer).refused
+            answered.marked (notes stands.lines stands.refused_lines stands.told);
         answered = λ files e.
             subst (λ v. AreAnswered files opening v (record {
               text = stands.out ++ (answered.answer).text;
               refused =
                   is.refused;
               refusals = stands.refusals ++ refusal_of answered.answer;
+              lines = stands.lines + 1;
+              refused_lines = noted stands.refused_lines (stands.lines + 1) (answered.answer).refused;
               steps = new.steps - before.steps;
               standing = is.script;
             })) (sym (ended_lines-lf bytes))
@@ -234,17 +260,22 @@ nothing_on : {before old new : Shown} {bytes : List ℕ} {was : Reading} → new
 nothing_on {before = before} {old = old} {new = new} {bytes = bytes} {was = was} same nothing stands = record {
   out = stands.out;
   refusals = stands.refusals;
+  lines = stands.lines;
+  refused_lines = stands.refused_lines;
   same = same ∙ stands.same;
   appended = subst (λ v. Appends before.written new.written v) (append-nil stands.out)
       (Appends-then before.written old.written new.written stands.out [] stands.appended nothing.nothing);
   counted = subst (λ v. before.steps ≤ v) (sym nothing.uncounted) stands.counted;
   held = stands.held;
   kept = stands.kept;
+  told = stands.told;
   answered = λ files e.
       subst (λ v. AreAnswered files opening (ended_lines bytes) (record {
         text = stands.out;
         refused = was.refused;
         refusals = stands.refusals;
+        lines = stands.lines;
+        refused_lines = stands.refused_lines;
         steps = v - before.steps;
         standing = was.script;
       })) (sym nothing.uncounted) (stands.answered files e);
@@ -426,6 +457,27 @@ breaks_memory {old = old} {was = was} more passed =
     } in
     subst (λ v. Breaks old old was more v) passed breaks
 
+-- a line was answered, and then memory ran out
+pub answered_lost : {old new : Shown} {from to : Standing} {line : List ℕ} {was is : Option (Vec ℕ Global)} {refused : Bool} →
+    IsDelivered old.files old.written new.written old.steps new.steps from to was is line refused →
+    BreaksLine old new from line Memory
+answered_lost {old = old} {new = new} {to = to} delivered =
+    let answered = delivered.answered in
+    let counted : new.steps ≡ old.steps + (answered.answer).steps = answered.counted in
+    record {
+      is = inr (record {
+        to = to;
+        answer = answered.answer;
+        front = (answered.answer).text;
+        rest = [];
+        parts = sym (append-nil (answered.answer).text);
+        appended = answered.appended;
+        later = omega arith;
+        within = omega arith;
+        is = answered.is;
+      });
+    }
+
 pub err_same : {T : Type 0} {a b : LineStop} → a ≡ b → ◌≡◌ {A = Result T LineStop} (Err a) (Err b)
 err_same e = ap (λ v. Err v) e
 
@@ -546,17 +598,19 @@ breaks_within {new = new} {stop = stop} front more later piece is p q = record {
 
 -- all lines of a script were answered
 leaves_whole : {before now : Shown} {script : List ℕ} (out : List ℕ) → Appends before.written now.written out →
-    before.steps ≤ now.steps → (standing : Standing) (refused : Bool) (refusals : List ℕ) →
+    before.steps ≤ now.steps → (standing : Standing) (refused : Bool) (refusals : List ℕ) (lines : ℕ)
+    (refused_lines : List ℕ) →
     ForSome before.files (λ files. AreAnswered files opening (lines_of script) (record {
       text = out;
-      refused =
-          refused;
+      refused = refused;
       refusals = refusals;
+      lines = lines;
+      refused_lines = refused_lines;
       steps = now.steps - before.steps;
       standing = standing;
     })) →
     Leaves 0 before now script script [] (Ok refused)
-leaves_whole {before = before} {now = now} {script = script} out appended counted standing refused refusals answered = record {
+leaves_whole {before = before} {now = now} {script = script} out appended counted standing refused refusals lines refused_lines answered = record {
   out = out;
   appended = appended;
   counted = counted;
@@ -576,14 +630,16 @@ leaves_whole {before = before} {now = now} {script = script} out appended counte
 }
 
 -- what they have left
-ends_whole : {told : Option FileMap} {script : List ℕ} (session : Session) (kept : Option (Vec ℕ Global)) →
-    ForSome told (λ files. AreAnswered files opening (lines_of script) session) → AreKept kept session.refusals →
-    ForSome told (λ files. EndsAt files script session.standing kept)
-ends_whole {script = script} session kept answered are = λ files e. record {
+ends_whole : {told : Option FileMap} {script : List ℕ} (session : Session) (kept : Option (Vec ℕ Global))
+    (refused : RefusedLines) → ForSome told (λ files. AreAnswered files opening (lines_of script) session) →
+    AreKept kept session.refusals → IsToldOf session.lines session.refused_lines refused →
+    ForSome told (λ files. EndsAt files script session.standing kept refused)
+ends_whole {script = script} session kept refused answered are tells = λ files e. record {
   session = session;
   is = IsSession-whole files opening session (lines_of script) (answered files e);
   left = refl;
   refusals = are;
+  told_is = tells;
 }
 
 -- a script that ends with a line end has no other line
@@ -609,6 +665,8 @@ answered_none : {before old : Shown} {script : List ℕ} {was : Reading} → lin
       text = stands.out;
       refused = was.refused;
       refusals = stands.refusals;
+      lines = stands.lines;
+      refused_lines = stands.refused_lines;
       steps = old.steps - before.steps;
       standing = was.script;
     }))
@@ -617,6 +675,8 @@ answered_none {before = before} {old = old} {was = was} all stands = λ files e.
       text = stands.out;
       refused = was.refused;
       refusals = stands.refusals;
+      lines = stands.lines;
+      refused_lines = stands.refused_lines;
       steps = old.steps - before.steps;
       standing = was.script;
     } in
@@ -626,15 +686,17 @@ pub closes_none : {old : Shown} {was : Reading} → ((line : List ℕ) → Holds
     Closes old old was (Ok was.refused)
 closes_none {was = was} none = record {
   on = λ before script stands.
-      leaves_whole stands.out stands.appended stands.counted was.script was.refused stands.refusals (answered_none
+      leaves_whole stands.out stands.appended stands.counted was.script was.refused stands.refusals stands.lines
+      stands.refused_lines (answered_none
       (no_last script none stands.held) stands);
 }
 
 pub stays_none : {old : Shown} {was : Reading} → ((line : List ℕ) → Holds was line → length line ≡ 0) →
-    ClosesAt old was was.script was.refusals
+    ClosesAt old was was.script was.refusals was.refused_lines
 stays_none {was = was} none = record {
   on = λ before script stands.
-      ends_whole _ was.refusals (λ files e. answered_none (no_last script none stands.held) stands files e) stands.kept;
+      ends_whole _ was.refusals was.refused_lines
+      (λ files e. answered_none (no_last script none stands.held) stands files e) stands.kept stands.told;
 }
 
 -- with a last line that no LF ends all were answered
@@ -647,8 +709,9 @@ answered_on : {before old : Shown} (new : Shown) {script : List ℕ} {was : Read
       text = stands.out ++ (answered.answer).text;
       refused = was.refused || refused;
       refusals = stands.refusals ++ refusal_of answered.answer;
-      steps =
-          new.steps - before.steps;
+      lines = stands.lines + 1;
+      refused_lines = noted stands.refused_lines (stands.lines + 1) (answered.answer).refused;
+      steps = new.steps - before.steps;
       standing = to;
     }))
 answered_on {before = before} {old = old} new {script = script} {was = was} {to = to} {refused =
@@ -661,6 +724,8 @@ answered_on {before = before} {old = old} new {script = script} {was = was} {to 
       text = stands.out ++ (answered.answer).text;
       refused = was.refused || refused;
       refusals = stands.refusals ++ refusal_of answered.answer;
+      lines = stands.lines + 1;
+      refused_lines = noted stands.refused_lines (stands.lines + 1) (answered.answer).refused;
       steps = new.steps - before.steps;
       standing = to;
     } in
@@ -684,21 +749,24 @@ closes_on {old = old} {new = new} {was = was} {to = to} {refused = refused} some
       leaves_whole (stands.out ++ (answered.answer).text)
       (Appends-then before.written old.written new.written stands.out
       (answered.answer).text stands.appended answered.appended) (omega arith)
-      to (was.refused || refused) (stands.refusals ++ refusal_of answered.answer) (answered_on new (one_last script some stands.held) answered stands);
+      to (was.refused || refused) (stands.refusals ++ refusal_of answered.answer) (stands.lines + 1)
+      (noted stands.refused_lines (stands.lines + 1) (answered.answer).refused) (answered_on new (one_last script some stands.held) answered stands);
 }
 
 pub stays_on : {old : Shown} (new : Shown) {was : Reading} {to : Standing} {kept : Option
-    (Vec ℕ Global)} {refused : Bool} → ((line : List ℕ) →
+    (Vec ℕ Global)} {refused : Bool} {told : RefusedLines} → ((line : List ℕ) →
     Holds was line → 0 < length line) →
     ((line : List ℕ) → Holds was line →
     IsDelivered old.files old.written new.written old.steps new.steps was.script to was.refusals kept line refused) →
-    ClosesAt old was to kept
-stays_on new {was = was} {kept = kept} some answers = record {
+    Notes was.refused_lines told refused → ClosesAt old was to kept told
+stays_on new {was = was} {kept = kept} {refused = refused} {told = told} some answers notes = record {
   on = λ before script stands.
       let delivered = answers (open_line script) stands.held in
-      ends_whole _ kept (λ files e. answered_on new (one_last script some stands.held) delivered.answered stands
+      ends_whole _ kept told (λ files e. answered_on new (one_last script some stands.held) delivered.answered stands
       files e)
-      (kept_more was.refusals kept (delivered.answered).answer stands.refusals delivered.kept stands.kept);
+      (kept_more was.refusals kept (delivered.answered).answer stands.refusals delivered.kept stands.kept)
+      (told_more (stands.lines + 1) stands.refused_lines told refused (delivered.answered).answer.refused
+      (delivered.answered).marked (notes stands.lines stands.refused_lines stands.told));
 }
 
 last_place : (script line : List ℕ) → lines_of script ≡ ended_lines script ++ line ∷ [] → IsAtLine 0 script script

@@ -18,6 +18,7 @@ use Rattle.script_run.specs.RunViews.{IsAtStart, Stands, GoesOn, Breaks, Closes,
 use Rattle.script_run.specs.declared.stop.Stop.{Stop}
 use Rattle.script_run.specs.declared.stop.Stop.TheVariants as stops
 use Rattle.script_run.specs.declared.reading.Reading.{Reading}
+use Rattle.script_run.specs.declared.refused_lines.RefusedLines.{RefusedLines}
 use Rattle.script_run.proofs.LineLaws.{Begins, lines_of-append}
 use Rattle.script_run.proofs.StepLaws.{stands_first, leaves_ahead, front_so_far}
 
@@ -243,10 +244,10 @@ meets_end {before = before} {mid = mid} {now = now} {l0 = l0} {l' = l'} {reading
 
 -- what the script's lines have left at last
 pub ends_at : {before mid : Shown} {l0 l' : Option (List ℕ)} {reading : Reading} {standing : Standing} {kept : Option
-    (Vec ℕ Global)} →
+    (Vec ℕ Global)} {told : RefusedLines} →
     TakesAll before mid l0 l' reading →
-    ClosesAt mid reading standing kept → (script : List ℕ) → l0 ≡ Some script →
-    ForSome before.files (λ files. EndsAt files script standing kept)
+    ClosesAt mid reading standing kept told → (script : List ℕ) → l0 ≡ Some script →
+    ForSome before.files (λ files. EndsAt files script standing kept told)
 ends_at {before = before} {mid = mid} {l0 = l0} {l' = l'} {reading = reading} all closes script is =
     closes.on before script (subst (λ v. Stands before mid v reading) (all_taken all script is).whole all.stands)
 

@@ -1,4 +1,5 @@
 pub mod Limits
+pub mod RefusedLines
 pub mod Transcripts
 pub mod TranscriptLaws
 pub mod Stops

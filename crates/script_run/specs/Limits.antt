@@ -11,6 +11,10 @@ most_script = 67108864
 abbrev pub most_turn : ℕ
 most_turn = 65536
 
+-- how many refused lines are told one by one
+abbrev pub most_told : ℕ
+most_told = 20
+
 -- the most employees of a sample
 abbrev pub most_employees : ℕ
 most_employees = 200

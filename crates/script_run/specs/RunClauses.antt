@@ -10,6 +10,8 @@ use Rattle.script_run.specs.Transcripts.{Session, opening, lines_of, ended_lines
 use Rattle.script_run.specs.declared.turns.Ended.{Ended}
 use Rattle.script_run.specs.declared.turns.Unwritten.{Unwritten}
 use Rattle.script_run.specs.declared.stop.Stop.{Stop}
+use Rattle.script_run.specs.RefusedLines.{IsToldOf}
+use Rattle.script_run.specs.declared.refused_lines.RefusedLines.{RefusedLines}
 use Rattle.script_run.specs.declared.stop.Stop.TheVariants as stops
 
 -- what the files tell, the name at which they failed last, what was written, and the counter of steps
@@ -171,13 +173,20 @@ pub record RunMeets (before after : Shown) (script : List ℕ) (left : Option (L
   pub within : result ≢ Err stops.Long → length taken ≤ most_script
   pub leaves : Leaves most_turn before after script taken rest result
 
--- the lines of the script have left this at last, and where refusals were kept they are these
+-- the lines of the script have left this at last, where refusals were kept they are these, and this is told of them
 pub record EndsAt (files : FileMap) (script : List ℕ) (standing : Standing)
-    (kept : Option (Vec ℕ Global)) : Type 0 where
+    (kept : Option (Vec ℕ Global)) (told : RefusedLines) : Type 0 where
   pub session : Session
   pub is : IsTranscript files script session
   pub left : session.standing ≡ standing
   pub refusals : AreKept kept session.refusals
+  pub told_is : IsToldOf session.lines session.refused_lines told
+
+-- it is told which lines of the script were refused
+pub record TellsRefused (files : FileMap) (script : List ℕ) (told : RefusedLines) : Type 0 where
+  pub session : Session
+  pub is : IsTranscript files script session
+  pub told_is : IsToldOf session.lines session.refused_lines told
 
 -- whether an answer was a refusal, or the stop
 abbrev pub refused_of : Result Ended Stop → Result Bool Stop

@@ -15,6 +15,8 @@ use Rattle.script_run.specs.Transcripts.{opening, ended_lines, refusal_of, AreAn
 use Rattle.script_run.specs.RunClauses.{Shown, Leaves, EndsAt, AreKept}
 use Rattle.script_run.specs.declared.stop.Stop.{Stop}
 use Rattle.script_run.specs.declared.reading.Reading.{Reading}
+use Rattle.script_run.specs.RefusedLines.{IsToldOf}
+use Rattle.script_run.specs.declared.refused_lines.RefusedLines.{RefusedLines}
 
 -- of the parts between LFs, the last
 abbrev pub last_part : List (List ℕ) → List ℕ
@@ -33,6 +35,7 @@ pub record Holds (reading : Reading) (line : List ℕ) : Type 0 where
 
 -- the same lines were answered
 pub record IsSameSoFar (was is : Reading) : Type 0 where
+  pub refused_lines : is.refused_lines ≡ was.refused_lines
   pub script : is.script ≡ was.script
   pub refused : is.refused ≡ was.refused
   pub refusals : is.refusals ≡ was.refusals
@@ -54,19 +57,23 @@ pub record IsDelivered
 pub record Stands (before now : Shown) (bytes : List ℕ) (reading : Reading) : Type 0 where
   pub out : List ℕ
   pub refusals : List ℕ
+  pub lines : ℕ
+  pub refused_lines : List ℕ
   pub same : now.files ≡ before.files
   pub appended : Appends before.written now.written out
   pub counted : before.steps ≤ now.steps
   pub held : Holds reading (open_line bytes)
   pub kept : AreKept reading.refusals refusals
+  pub told : IsToldOf lines refused_lines reading.refused_lines
   pub answered : ForSome before.files (λ files. AreAnswered files opening (ended_lines bytes)
       (record {
         text = out;
         refused = reading.refused;
         refusals = refusals;
+        lines = lines;
+        refused_lines = refused_lines;
         steps = now.steps - before.steps;
-        standing =
-            reading.script;
+        standing = reading.script;
       }))
 
 -- wherever the run stood over some bytes, it stands over these more
@@ -92,9 +99,9 @@ pub record Closes (old new : Shown) (was : Reading) (result : Result Bool LineSt
 
 -- wherever the run stood over a whole script, what its lines have left
 pub record ClosesAt (old : Shown) (was : Reading) (standing : Standing)
-    (kept : Option (Vec ℕ Global)) : Type 0 where
+    (kept : Option (Vec ℕ Global)) (told : RefusedLines) : Type 0 where
   pub on : (before : Shown) (script : List ℕ) → Stands before old script was
-      → ForSome before.files (λ files. EndsAt files script standing kept)
+      → ForSome before.files (λ files. EndsAt files script standing kept told)
 
 -- of a run over a source, between two turns
 pub record Stood (before now : Shown) (left left_now : Option (List ℕ)) (count : ℕ)
@@ -111,6 +118,7 @@ pub record IsAtStart (reading : Reading) : Type 0 where
   pub script : reading.script ≡ start
   pub refused : reading.refused ≡ false
   pub refusals : AreKept reading.refusals []
+  pub refused_lines : IsToldOf 0 [] reading.refused_lines
 
 -- of a run over a source, at its end
 pub record TakesAll (before now : Shown) (left left_now : Option (List ℕ))

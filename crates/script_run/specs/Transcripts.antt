@@ -20,22 +20,36 @@ ended_parts (part ∷ next ∷ more) = strip_carriage_return part ∷ ended_part
 abbrev pub ended_lines : List ℕ → List (List ℕ)
 ended_lines bytes = ended_parts (slice_split (λ b. b == 10) bytes)
 
--- what some lines have made: all that was written, whether an answer was a refusal, the answers that were, all steps, and
--- what they have left
+-- what some lines have made: all that was written, whether an answer was a refusal, the answers that were, how many lines
+-- there were, which of them were refused, counted from 1, all steps, and what they have left
 pub record Session : Type 0 where
   pub text : List ℕ
   pub refused : Bool
   pub refusals : List ℕ
+  pub lines : ℕ
+  pub refused_lines : List ℕ
   pub steps : ℕ
   pub standing : Standing
 
 -- before the first line
 abbrev pub opening : Session
-opening = record { text = []; refused = false; refusals = []; steps = 0; standing = start }
+opening = record {
+  text = [];
+  refused = false;
+  refusals = [];
+  lines = 0;
+  refused_lines = [];
+  steps = 0;
+  standing = start;
+}
 
 -- the answer where it is a refusal, else nothing
 abbrev pub refusal_of : Answer → List ℕ
 refusal_of answer = if answer.refused then answer.text else []
+
+-- the numbers of the refused lines, with that of one more line where it is refused
+abbrev pub noted : List ℕ → ℕ → Bool → List ℕ
+noted refused number is_refused = refused ++ (if is_refused then number ∷ [] else [])
 
 -- after one more line, which has this answer and leaves this standing
 abbrev pub with_answer : Session → Answer → Standing → Session
@@ -43,6 +57,8 @@ with_answer session answer standing = record {
   text = session.text ++ answer.text;
   refused = session.refused || answer.refused;
   refusals = session.refusals ++ refusal_of answer;
+  lines = session.lines + 1;
+  refused_lines = noted session.refused_lines (session.lines + 1) answer.refused;
   steps = session.steps + answer.steps;
   standing = standing;
 }

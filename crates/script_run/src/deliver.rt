@@ -13,7 +13,8 @@ use std::alloc::{AllocError, Global};
 use std::sync::ledger::Ledger;
 use steps::Steps;
 
-/// Answers a line. Its answer is written; but where refusals are kept, it is put to them where it is one, and not written.
+/// Answers a line. Its answer is written; but where refusals are kept, it is put to them where it is one, and not written. `Ok` has
+/// what is wrong with the line, in plain words, where its answer is a refusal.
 pub(crate) fn deliver<F: Files, W: Sink, L: Ledger>(
     alloc: Global,
     kept: &mut Option<Vec<u8>>,
@@ -22,10 +23,10 @@ pub(crate) fn deliver<F: Files, W: Sink, L: Ledger>(
     files: &mut F,
     sink: &mut W,
     steps: &mut Steps<L>,
-) -> Result<bool, LineStop>
-    ensures delivered { IfOk result (λ refused. IsDelivered (F.told files.old)
+) -> Result<Option<String>, LineStop>
+    ensures delivered { IfOk result (λ wrong. IsDelivered (F.told files.old)
         (told_by kept.old (W.written sink.old)) (told_by kept.new (W.written sink.new))
-        steps.old steps.new script.old script.new kept.old kept.new line.now refused) }
+        steps.old steps.new script.old script.new kept.old kept.new line.now (is_some wrong)) }
     ensures broken { ForErr result (λ stop. IsBroken (F.told files.old)
         (told_by kept.old (W.written sink.old)) (told_by kept.new (W.written sink.new))
         steps.old steps.new script.old line.now (F.failed files.new) stop) }
@@ -49,10 +50,10 @@ fn keep_answer<F: Files, L: Ledger>(
     line: &[u8],
     files: &mut F,
     steps: &mut Steps<L>,
-) -> Result<bool, LineStop>
-    ensures delivered { IfOk result (λ refused. IsDelivered (F.told files.old) None None
+) -> Result<Option<String>, LineStop>
+    ensures delivered { IfOk result (λ wrong. IsDelivered (F.told files.old) None None
         steps.old steps.new script.old script.new (Some refusals.old) (Some refusals.new)
-        line.now refused) }
+        line.now (is_some wrong)) }
     ensures broken { ForErr result (λ stop. IsBroken (F.told files.old) None None
         steps.old steps.new script.old line.now (F.failed files.new) stop) }
     ensures same { F.told files.new ≡ F.told files.old }
@@ -62,9 +63,9 @@ fn keep_answer<F: Files, L: Ledger>(
 {
     let mut buffer = Buffer::new(alloc);
     match answer_line(alloc, script, line, files, &mut buffer, steps) {
-        Ok(refused) => {
-            put_refusal(refusals, refused, buffer.bytes())?;
-            Ok(refused)
+        Ok(wrong) => {
+            put_refusal(refusals, wrong.is_some(), buffer.bytes())?;
+            Ok(wrong)
         }
         Err(LineStop::File) => Err(LineStop::File),
         Err(LineStop::Write) => Err(LineStop::Memory),

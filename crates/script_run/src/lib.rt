@@ -5,12 +5,14 @@ mod buffer;
 mod deliver;
 mod memory;
 mod reading;
+mod refused_lines;
 mod sample;
 mod stop;
 mod transcript;
 mod turns;
 
 pub use memory::run_in_memory;
+pub use refused_lines::{MOST_TOLD, RefusedLine, RefusedLines};
 pub use sample::{
     MOST_EMPLOYEES, SAMPLE_LIMITS, SAMPLE_PLAN, run_sample, sample_line_count, sample_script,
 };

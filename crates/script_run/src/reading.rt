@@ -9,6 +9,7 @@ ghost use Rattle.script_run.specs.RunClauses.{AreKept, shown, told_by};
 ghost use Rattle.script_run.specs.RunViews.{Holds, IsSameSoFar, IsAtStart, GoesOn, Breaks, Closes, ClosesAt};
 
 use crate::deliver::deliver;
+use crate::refused_lines::RefusedLines;
 use outside::{Files, Sink};
 use script_lang::MOST_LINE;
 use script_steps::{LineStop, Script};
@@ -27,6 +28,8 @@ pub(crate) struct Reading {
     pub(crate) script: Script,
     /// Whether an answer was a refusal.
     pub(crate) refused: bool,
+    /// Which lines were refused.
+    pub(crate) refused_lines: RefusedLines,
     /// The answers that were refusals, where they are kept and no answer is written.
     pub(crate) refusals: Option<Vec<u8>>,
 }
@@ -43,6 +46,7 @@ impl Reading {
             long: false,
             script: Script::new(alloc),
             refused: false,
+            refused_lines: RefusedLines::new(alloc),
             refusals,
         }
     }
@@ -105,7 +109,7 @@ fn end_line<F: Files, W: Sink, L: Ledger>(
     ensures write { Caused LineStop.Write (W.faults sink.old) (W.faults sink.new) result }
 {
     let line = ended(&reading.line, reading.long);
-    let refused = deliver(
+    let wrong = deliver(
         alloc,
         &mut reading.refusals,
         &mut reading.script,
@@ -114,7 +118,8 @@ fn end_line<F: Files, W: Sink, L: Ledger>(
         sink,
         steps,
     )?;
-    reading.refused |= refused;
+    reading.refused |= wrong.is_some();
+    reading.refused_lines.note(wrong)?;
     reading.line.clear();
     reading.long = false;
     Ok(())
@@ -193,7 +198,7 @@ pub(crate) fn last_line<F: Files, W: Sink, L: Ledger>(
         reading.old result }
     ensures standing { OnOk result (ClosesAt
         (shown (F.told files.old) (F.failed files.old) (told_by reading.old.refusals (W.written sink.old)) steps.old)
-        reading.old reading.new.script reading.new.refusals) }
+        reading.old reading.new.script reading.new.refusals reading.new.refused_lines) }
     ensures mode { is_some reading.new.refusals ≡ is_some reading.old.refusals }
     ensures same { F.told files.new ≡ F.told files.old }
     ensures kept { result ≢ Err LineStop.File → F.failed files.new ≡ F.failed files.old }
@@ -203,7 +208,7 @@ pub(crate) fn last_line<F: Files, W: Sink, L: Ledger>(
     if reading.line.is_empty() {
         return Ok(reading.refused);
     }
-    let refused = deliver(
+    let wrong = deliver(
         alloc,
         &mut reading.refusals,
         &mut reading.script,
@@ -212,5 +217,7 @@ pub(crate) fn last_line<F: Files, W: Sink, L: Ledger>(
         sink,
         steps,
     )?;
-    Ok(reading.refused | refused)
+    let refused = reading.refused | wrong.is_some();
+    reading.refused_lines.note(wrong)?;
+    Ok(refused)
 }

@@ -6,10 +6,11 @@ ghost use Rattle.outside.specs.Causes.{Caused, HasCause};
 ghost use Rattle.outside.specs.Told.{ReadConsumes};
 ghost use Rattle.script_run.specs.Limits.{most_script, most_turn};
 ghost use Rattle.script_run.specs.RunClauses.{RunMeets, AreKept, EndsAt, shown, told_by};
-ghost use Rattle.script_run.specs.RunClauses.{EndsUnwritten, refused_of, unwritten_refused};
+ghost use Rattle.script_run.specs.RunClauses.{EndsUnwritten, TellsRefused, refused_of, unwritten_refused};
 ghost use Rattle.script_run.specs.RunViews.{IsAtStart, TakesAll};
 
 use crate::reading::{Reading, feed, last_line};
+use crate::refused_lines::RefusedLines;
 use crate::stop::Stop;
 use crate::{MOST_SCRIPT, MOST_TURN};
 use outside::{Failed, Files, Sink, Source, SureSink};
@@ -92,6 +93,8 @@ fn take_turns<F: Files, R: Source, W: Sink, L: Ledger>(
 pub struct Ended {
     /// Whether an answer was a refusal.
     pub refused: bool,
+    /// Which lines were refused.
+    pub refused_lines: RefusedLines,
     /// What its lines have made.
     pub script: Script,
     /// The answers that are refusals, where they were kept and no answer was written.
@@ -116,7 +119,8 @@ pub(crate) fn run_to_end<F: Files, R: Source, W: Sink, L: Ledger>(
         (told_by refusals (W.written sink.new)) steps.new)
         script (R.left source.new) (refused_of result)) }
     ensures standing { IfOk result (λ ended. ForSome (R.left source.old) (λ script.
-        ForSome (F.told files.old) (λ files. EndsAt files script ended.script ended.refusals))) }
+        ForSome (F.told files.old) (λ files.
+        EndsAt files script ended.script ended.refusals ended.refused_lines))) }
     ensures mode { IfOk result (λ ended. is_some ended.refusals ≡ is_some refusals) }
     ensures same { F.told files.new ≡ F.told files.old }
     ensures kept { result ≢ Err Stop.File → F.failed files.new ≡ F.failed files.old }
@@ -130,13 +134,15 @@ pub(crate) fn run_to_end<F: Files, R: Source, W: Sink, L: Ledger>(
     let refused = last_line(alloc, &mut reading, files, sink, steps)?;
     Ok(Ended {
         refused,
+        refused_lines: reading.refused_lines,
         script: reading.script,
         refusals: reading.refusals,
     })
 }
 
 /// Runs a script: takes it from the source turn by turn, and answers each line before bytes past its turn are taken.
-/// `Ok` says whether an answer was a refusal. The counter rises by the steps of the answers: of accepted edits, `try` and `open`.
+/// `Ok` says whether an answer was a refusal, and then it is told which lines were refused. The counter rises by the steps of the
+/// answers: of accepted edits, `try` and `open`.
 ///
 /// A script has at most [`MOST_SCRIPT`] bytes. A line of more than [`MOST_LINE`](crate::MOST_LINE) bytes is
 /// answered once, and of its bytes no more than that many and one are kept.
@@ -145,12 +151,15 @@ pub fn run<F: Files, R: Source, W: Sink, L: Ledger>(
     files: &mut F,
     source: &mut R,
     sink: &mut W,
+    refused_lines: &mut RefusedLines,
     steps: &mut Steps<L>,
 ) -> Result<bool, Stop>
     ensures script { ForSome (R.left source.old) (λ script. RunMeets
         (shown (F.told files.old) (F.failed files.old) (W.written sink.old) steps.old)
         (shown (F.told files.new) (F.failed files.new) (W.written sink.new) steps.new)
         script (R.left source.new) result) }
+    ensures told { IfOk result (λ refused. ForSome (R.left source.old) (λ script.
+        ForSome (F.told files.old) (λ files. TellsRefused files script refused_lines.new))) }
     ensures same { F.told files.new ≡ F.told files.old }
     ensures kept { result ≢ Err Stop.File → F.failed files.new ≡ F.failed files.old }
     ensures file { Caused Stop.File (F.faults files.old) (F.faults files.new) result }
@@ -158,6 +167,7 @@ pub fn run<F: Files, R: Source, W: Sink, L: Ledger>(
     ensures write { Caused Stop.Write (W.faults sink.old) (W.faults sink.new) result }
 {
     let ended = run_to_end(alloc, None, files, source, sink, steps)?;
+    *refused_lines = ended.refused_lines;
     Ok(ended.refused)
 }
 
@@ -178,6 +188,7 @@ pub fn run_unwritten<F: Files, R: Source, L: Ledger>(
     alloc: Global,
     files: &mut F,
     source: &mut R,
+    refused_lines: &mut RefusedLines,
     steps: &mut Steps<L>,
 ) -> Result<Unwritten, Stop>
     ensures script { ForSome (R.left source.old) (λ script. RunMeets
@@ -186,6 +197,8 @@ pub fn run_unwritten<F: Files, R: Source, L: Ledger>(
         script (R.left source.new) (unwritten_refused result)) }
     ensures standing { IfOk result (λ ended. ForSome (R.left source.old) (λ script.
         ForSome (F.told files.old) (λ files. EndsUnwritten files script ended))) }
+    ensures told { IfOk result (λ ended. ForSome (R.left source.old) (λ script.
+        ForSome (F.told files.old) (λ files. TellsRefused files script refused_lines.new))) }
     ensures same { F.told files.new ≡ F.told files.old }
     ensures kept { result ≢ Err Stop.File → F.failed files.new ≡ F.failed files.old }
     ensures file { Caused Stop.File (F.faults files.old) (F.faults files.new) result }
@@ -196,9 +209,11 @@ pub fn run_unwritten<F: Files, R: Source, L: Ledger>(
     let kept = Some(Vec::new(alloc));
     let Ended {
         refused,
+        refused_lines: told,
         script,
         refusals,
     } = run_to_end(alloc, kept, files, source, &mut sink, steps)?;
+    *refused_lines = told;
     match refusals {
         Some(refusals) => Ok(Unwritten {
             refused,

@@ -10,8 +10,8 @@ use Rattle.recalc_engine.specs.Contents.{Contents, cost_between}
 use Rattle.recalc_engine.specs.EditAnswers.{Edit, EditAnswers, IsEdited, edited}
 use Rattle.correction_ledger.specs.Filings.{Filings}
 use Rattle.plan_answers.specs.Answers.{Answer, refusal}
-use Rattle.plan_answers.specs.declared.reply.Reply.{Reply}
-use Rattle.plan_answers.specs.ReplyViews.{reply_of}
+use Rattle.script_steps.specs.declared.reply.LineReply.{LineReply}
+use Rattle.script_steps.specs.Replies.{reply_of}
 use Rattle.plan_answers.proofs.Laws.{if_ok_map, on_err_any}
 use Rattle.script_steps.specs.LineTexts.{edit_detail}
 use Rattle.script_steps.specs.Standings.{Standing, accepted, after_edit, more_work}
@@ -80,7 +80,7 @@ module _ (text : List ℕ) (from : Standing) (e : Edit) (book : Contents) (total
   reply_made (Err (refusals.NoPlanThere d)) answer h counts is =
       refused_made (refusals.NoPlanThere d) answer h.0 h.1 counts is.0 is.1
 
-  reply_all : (made : Result Work EditRefusal) (reply : Result Reply AllocError) → IsEdited from.book e book made
+  reply_all : (made : Result Work EditRefusal) (reply : Result LineReply AllocError) → IsEdited from.book e book made
       → CountsEdit made before now (cost_between from.book (edited e from.book))
       → IfOk reply (λ r. IsEditReply text made from.made total (reply_of r))
       → IfOk reply (λ r. IsMade (IsEditStep text from e) left before now (reply_of r))
@@ -132,7 +132,7 @@ standing filings made b = record { book = b; filings = filings; made = made }
 -- an edit of the book of a standing
 module _ (text : List ℕ) (from : Standing) (e : Edit) (filings : Filings) (total : Work) (old : Contents)
     (same : standing filings total old ≡ from) (book : Contents) (before now : ℕ) (made : Result Work EditRefusal)
-    (reply : Result Reply AllocError) (h : IsEdited old e book made)
+    (reply : Result LineReply AllocError) (h : IsEdited old e book made)
     (counts : CountsEdit made before now (cost_between old (edited e old))) where
   pub edit_made : (after : Work) → IfOk reply (λ r. IsEditReply text made total after (reply_of r))
       → IfOk reply (λ r. IsMade (IsEditStep text from e) (standing filings after book) before now (reply_of r))

@@ -1,6 +1,7 @@
 -- What the functions of lines leave, said of the files and of what was written.
 use Rattle.std.proofs.Common.{◌≡◌, ◌⊎◌, ℕ, ◌+◌, List, [], Bool, refl, sym, ap, subst, arith, inl, inr}
-use Rattle.std.specs.Prelude.{Option, Some, Result, Ok, Err, IfOk}
+use Rattle.std.specs.Prelude.{Option, Some, is_some, Result, Ok, Err, IfOk, String}
+use Rattle.std.specs.declared.alloc.Global.{Global}
 use Rattle.std.specs.Option.{ForSome}
 use Rattle.std.specs.Result.{ForErr}
 use Rattle.outside.specs.Causes.{Caused}
@@ -217,11 +218,12 @@ module _ (told : Option FileMap) (old new : Option (List ℕ)) (before now : ℕ
 
 module _ (told : Option FileMap) (old new : Option (List ℕ)) (before now : ℕ) (from to : Standing)
     (failed : Option (List ℕ)) (what : Asked) (answer : Answer) (made : IsMade (ToldDoes told from (Ok what)) to
-    before now answer) (result : Result Bool LineStop) where
-  pub made_answered : IfOk result (IsWritten old new answer.text answer.refused) → (line : List ℕ) → IsLine line what
-      → IfOk result (λ refused. IsAnswered told old new before now from to line refused)
-  made_answered w line says = if_ok_map result _ _ (λ refused. answered told old new before now from line what says to
-      answer refused made) w
+    before now answer) (result : Result (Option (String Global)) LineStop) where
+  pub made_answered : IfOk result (λ wrong. IsWritten old new answer.text answer.refused (is_some wrong))
+      → (line : List ℕ) → IsLine line what
+      → IfOk result (λ wrong. IsAnswered told old new before now from to line (is_some wrong))
+  made_answered w line says = if_ok_map result _ _ (λ wrong. answered told old new before now from line what says to
+      answer (is_some wrong) made) w
 
   pub made_broken : ForErr result (IsUnwritten old new answer.text) → (line : List ℕ) → IsLine line what
       → ForErr result (λ stop. IsBroken told old new before now from line failed stop)
@@ -237,7 +239,7 @@ report_made told from steps =
 -- the sink isn't touched where no reply was made
 pub unmade_broken : (told : Option FileMap) (old : Option (List ℕ)) (before now : ℕ) (from : Standing)
     (failed : Option (List ℕ)) (what : Asked) (stop : LineStop)
-    → IsUnmade told (ToldDoes told from (Ok what)) what before now failed stop → (result : Result Bool LineStop)
+    → IsUnmade told (ToldDoes told from (Ok what)) what before now failed stop → (result : Result (Option (String Global)) LineStop)
     → result ≡ Err stop → (line : List ℕ) → IsLine line what
     → ForErr result (λ stop. IsBroken told old old before now from line failed stop)
 unmade_broken told old before now from failed what stop u result is line says =
@@ -246,7 +248,7 @@ unmade_broken told old before now from failed what stop u result is line says =
 
 -- out of memory before anything was done
 pub want_broken : (told : Option FileMap) (old : Option (List ℕ)) (steps : ℕ) (from : Standing) (line : List ℕ)
-    (failed : Option (List ℕ)) (result : Result Bool LineStop) → result ≡ Err stops.Memory
+    (failed : Option (List ℕ)) (result : Result (Option (String Global)) LineStop) → result ≡ Err stops.Memory
     → ForErr result (λ stop. IsBroken told old old steps steps from line failed stop)
 want_broken told old steps from line failed result is =
     for_err (λ s. IsBroken told old old steps steps from line failed s) result stops.Memory is
@@ -254,14 +256,14 @@ want_broken told old steps from line failed result is =
 
 -- a line that is refused
 pub faults_answered : (told : Option FileMap) (old new : Option (List ℕ)) (steps : ℕ) (from : Standing)
-    (line : List ℕ) (why : LineFault) (result : Result Bool LineStop) → IsRefused line why
-    → IfOk result (IsRefusalWritten old new why)
-    → IfOk result (λ refused. IsAnswered told old new steps steps from from line refused)
+    (line : List ℕ) (why : LineFault) (result : Result (Option (String Global)) LineStop) → IsRefused line why
+    → IfOk result (λ wrong. IsRefusalWritten old new why (is_some wrong))
+    → IfOk result (λ wrong. IsAnswered told old new steps steps from from line (is_some wrong))
 faults_answered told old new steps from line why result h =
-    if_ok_map result _ _ (λ refused. fault_answered told old new steps steps from line why refused refl h)
+    if_ok_map result _ _ (λ wrong. fault_answered told old new steps steps from line why (is_some wrong) refl h)
 
 pub faults_broken : (told : Option FileMap) (old new : Option (List ℕ)) (steps : ℕ) (from : Standing) (line : List ℕ)
-    (failed : Option (List ℕ)) (why : LineFault) (result : Result Bool LineStop) → IsRefused line why
+    (failed : Option (List ℕ)) (why : LineFault) (result : Result (Option (String Global)) LineStop) → IsRefused line why
     → ForErr result (IsRefusalUnwritten old new why)
     → ForErr result (λ stop. IsBroken told old new steps steps from line failed stop)
 faults_broken told old new steps from line failed why result h u =
@@ -300,7 +302,7 @@ unjudged Step what plan limits steps told failed of next stops.Memory u r is =
 
 -- the sink is no cause where no reply was made
 pub unmade_cause : (told : Option FileMap) (Step : Doing) (what : Asked) (before now : ℕ) (failed : Option (List ℕ))
-    (stop : LineStop) → IsUnmade told Step what before now failed stop → (result : Result Bool LineStop)
+    (stop : LineStop) → IsUnmade told Step what before now failed stop → (result : Result (Option (String Global)) LineStop)
     → result ≡ Err stop → (count : ℕ) → Caused stops.Write count count result
 unmade_cause told Step what before now failed stop u result is count = record {
   later = omega arith;

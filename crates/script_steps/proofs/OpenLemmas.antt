@@ -15,8 +15,8 @@ use Rattle.book_file.specs.declared.refusal.BookFault.{BookFault}
 use Rattle.book_file.specs.declared.refusal.BookFault.TheVariants as books
 use Rattle.book_file.proofs.Laws as texts
 use Rattle.plan_answers.specs.Answers.{Answer, refusal}
-use Rattle.plan_answers.specs.declared.reply.Reply.{Reply}
-use Rattle.plan_answers.specs.ReplyViews.{reply_of}
+use Rattle.script_steps.specs.declared.reply.LineReply.{LineReply}
+use Rattle.script_steps.specs.Replies.{reply_of}
 use Rattle.plan_answers.proofs.Laws.{if_ok_map}
 use Rattle.script_steps.specs.LineTexts.{book_detail, ok_line}
 use Rattle.script_steps.specs.OpenSteps.{IsEmpty, IsFresh, IsOpenStep, IsOpened, OpenRefusal, OpenSays, open_detail}
@@ -139,7 +139,7 @@ untold_map P Q to before now reply f m = record {
 }
 
 -- no book is opened
-pub open_refused : (from : Standing) (text : List ℕ) (steps : ℕ) (why : OpenRefusal) (reply : Result Reply AllocError)
+pub open_refused : (from : Standing) (text : List ℕ) (steps : ℕ) (why : OpenRefusal) (reply : Result LineReply AllocError)
     → OpenSays from text (Err why) → IfOk reply (λ r. reply_of r ≡ refusal (open_detail why))
     → IfOk reply (λ r. IsMadeUntold (IsOpenStep from text) from steps steps (reply_of r))
 open_refused from text steps why reply h = if_ok_map reply _ _ (λ r is. made (reply_of r) is)
@@ -167,7 +167,7 @@ module _ (from : Standing) (text : List ℕ) (fresh : IsFresh from) (before now 
   still (books.Form item) a h is = h
   still (books.Plan day) a h is = h
 
-  pub fault_made : (why : BookFault) (reply : Result Reply AllocError) → IsUnread text why
+  pub fault_made : (why : BookFault) (reply : Result LineReply AllocError) → IsUnread text why
       → CountsRead text (Err why) before now → IfOk reply (λ r. IsBookRefusal why (reply_of r))
       → IfOk reply (λ r. IsMadeUntold (IsOpenStep from text) from before now (reply_of r))
   fault_made why reply h counts = if_ok_map reply _ _ (λ r is. made (reply_of r) is)

@@ -10,8 +10,8 @@ use Rattle.book_year.specs.Accepted.{accepted}
 use Rattle.recalc_engine.specs.EditAnswers as edits
 use Rattle.plan_answers.specs.Answers.{Answer}
 use Rattle.plan_answers.specs.Lines.{bound_line}
-use Rattle.plan_answers.specs.declared.reply.Reply.{Reply}
-use Rattle.plan_answers.specs.ReplyViews.{reply_of}
+use Rattle.script_steps.specs.declared.reply.LineReply.{LineReply}
+use Rattle.script_steps.specs.Replies.{reply_of}
 use Rattle.plan_answers.proofs.Laws.{if_ok_map, on_err_map, refused_is, refusal_steps}
 use Rattle.script_steps.specs.declared.plan.Judged.TheVariants.{Refused}
 use Rattle.script_steps.specs.Standings.{Standing}
@@ -22,7 +22,7 @@ use Rattle.script_steps.proofs.MadeLemmas.{made_map, made_still, lost_map, want_
 
 module _ (from : Standing) (day : Day) (plan limits : List ℕ) where
   -- the plan is refused, whatever is done with one that is accepted
-  pub refused : (Use : PlanUse) (steps : ℕ) (reply : Reply) → IsJudged plan limits (Refused reply)
+  pub refused : (Use : PlanUse) (steps : ℕ) (reply : LineReply) → IsJudged plan limits (Refused reply)
       → IsMade (IsTextsStep Use from day plan limits) from steps steps (reply_of reply)
   refused Use steps reply j =
       let a = reply_of reply in
@@ -54,14 +54,14 @@ module _ (from : Standing) (day : Day) (plan limits : List ℕ) where
       abbrev Puts : Standing → Answer → Type 0
       Puts = IsEditStep bound from (edits.put (day, accepted p))
 
-      pub put_made : (to : Standing) (reply : Result Reply AllocError)
+      pub put_made : (to : Standing) (reply : Result LineReply AllocError)
           → IfOk reply (λ r. IsMade Puts to before now (reply_of r))
           → IfOk reply (λ r. IsMade (IsTextsStep IsPut from day plan limits) to before now (reply_of r))
       put_made to reply =
           if_ok_map reply _ _
           (λ r. made_map Puts (IsTextsStep IsPut from day plan limits) to before now (reply_of r) put)
 
-      pub put_lost : (reply : Result Reply AllocError) → OnErr reply (IsLost Puts before now)
+      pub put_lost : (reply : Result LineReply AllocError) → OnErr reply (IsLost Puts before now)
           → OnErr reply (IsWant (IsTextsStep IsPut from day plan limits) before now)
       put_lost reply =
           on_err_map reply _ _
@@ -71,14 +71,14 @@ module _ (from : Standing) (day : Day) (plan limits : List ℕ) where
       abbrev Tries : Standing → Answer → Type 0
       Tries = IsTried from (day, accepted p)
 
-      pub tried_made : (to : Standing) (reply : Result Reply AllocError)
+      pub tried_made : (to : Standing) (reply : Result LineReply AllocError)
           → IfOk reply (λ r. IsMade Tries to before now (reply_of r))
           → IfOk reply (λ r. IsMade (IsTextsStep IsTried from day plan limits) to before now (reply_of r))
       tried_made to reply =
           if_ok_map reply _ _
           (λ r. made_map Tries (IsTextsStep IsTried from day plan limits) to before now (reply_of r) (used IsTried))
 
-      pub tried_lost : (reply : Result Reply AllocError) → OnErr reply (IsWant Tries before now)
+      pub tried_lost : (reply : Result LineReply AllocError) → OnErr reply (IsWant Tries before now)
           → OnErr reply (IsWant (IsTextsStep IsTried from day plan limits) before now)
       tried_lost reply =
           on_err_map reply _ _

@@ -8,8 +8,8 @@ use Rattle.payroll_records.specs.declared.table.TableFault.TheVariants as tables
 use Rattle.payroll_records.specs.Tables.{IsTable, IsRefused, TableSays}
 use Rattle.recalc_engine.specs.EditAnswers as edits
 use Rattle.plan_answers.specs.Answers.{Answer, refusal}
-use Rattle.plan_answers.specs.declared.reply.Reply.{Reply}
-use Rattle.plan_answers.specs.ReplyViews.{reply_of}
+use Rattle.script_steps.specs.declared.reply.LineReply.{LineReply}
+use Rattle.script_steps.specs.Replies.{reply_of}
 use Rattle.plan_answers.proofs.Laws.{if_ok_map, on_err_map}
 use Rattle.script_steps.specs.LineTexts.{ok_line, table_detail}
 use Rattle.script_steps.specs.Standings.{Standing}
@@ -23,14 +23,14 @@ module _ (from : Standing) (table : List ℕ) (before now : ℕ) where
       → IsEditStep ok_line from (edits.load records) to a → IsTableStep from table to a
   loaded records t to a h = record { said = Ok records; says = t; is = h }
 
-  pub table_made : (records : List Record) (to : Standing) (reply : Result Reply AllocError) → IsTable table records
+  pub table_made : (records : List Record) (to : Standing) (reply : Result LineReply AllocError) → IsTable table records
       → IfOk reply (λ r. IsMade (IsEditStep ok_line from (edits.load records)) to before now (reply_of r))
       → IfOk reply (λ r. IsMade (IsTableStep from table) to before now (reply_of r))
   table_made records to reply t =
       if_ok_map reply _ _ (λ r. made_map (IsEditStep ok_line from (edits.load records)) (IsTableStep from table) to
       before now (reply_of r) (loaded records t))
 
-  pub table_lost : (records : List Record) (reply : Result Reply AllocError) → IsTable table records
+  pub table_lost : (records : List Record) (reply : Result LineReply AllocError) → IsTable table records
       → OnErr reply (IsLost (IsEditStep ok_line from (edits.load records)) before now)
       → OnErr reply (IsWant (IsTableStep from table) before now)
   table_lost records reply t =
@@ -51,7 +51,7 @@ refused_says table (tables.Value row name) a h is = (h, is)
 refused_says table (tables.Repeat row) a h is = (h, is)
 
 pub table_refused : (from : Standing) (table : List ℕ) (steps : ℕ) (why : TableFault)
-    (reply : Result Reply AllocError) → IsRefused table why → IfOk reply (λ r. IsTableRefusal why (reply_of r))
+    (reply : Result LineReply AllocError) → IsRefused table why → IfOk reply (λ r. IsTableRefusal why (reply_of r))
     → IfOk reply (λ r. IsMade (IsTableStep from table) from steps steps (reply_of r))
 table_refused from table steps why reply h = if_ok_map reply _ _ (λ r is. made (reply_of r) is)
   where

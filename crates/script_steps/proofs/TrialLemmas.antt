@@ -15,8 +15,8 @@ use Rattle.what_if.specs.declared.trial.Trial.{Trial}
 use Rattle.what_if.specs.declared.trial.TryRefusal.{TryRefusal}
 use Rattle.what_if.specs.declared.trial.TryRefusal.TheVariants as trying
 use Rattle.plan_answers.specs.Answers.{Answer, refusal}
-use Rattle.plan_answers.specs.declared.reply.Reply.{Reply}
-use Rattle.plan_answers.specs.ReplyViews.{reply_of}
+use Rattle.script_steps.specs.declared.reply.LineReply.{LineReply}
+use Rattle.script_steps.specs.Replies.{reply_of}
 use Rattle.plan_answers.proofs.Laws.{if_ok_map, on_err_any}
 use Rattle.script_steps.specs.LineSteps.{IsTried, bound_text, trial_answer}
 use Rattle.script_steps.specs.LineTexts.{edit_detail, trial_text}
@@ -75,7 +75,7 @@ module _ (from : Standing) (e : Entry Accepted) (bound : List ℕ) (says : bound
 
 -- a trial over the book of a standing
 module _ (from : Standing) (filings : Filings) (made : Work) (book : Contents) (same : standing filings made book ≡ from)
-    (e : Entry Accepted) (before now : ℕ) (verdict : Result Trial TryRefusal) (reply : Result Reply AllocError)
+    (e : Entry Accepted) (before now : ℕ) (verdict : Result Trial TryRefusal) (reply : Result LineReply AllocError)
     (can : IfOk verdict (λ _. CanEdit book (edits.put e))) (barred : IfErr verdict (IsTryRefused book e))
     (counts : CountsTry verdict (trial_of book e).work.steps before now) where
   pub trial_made : (bound : List ℕ) → bound ≡ bound_text e → IfOk verdict (λ t. t ≡ trial_of book e)

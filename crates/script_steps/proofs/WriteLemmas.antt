@@ -1,7 +1,7 @@
 -- What was written of a text of two parts, one after the other, and of an answer.
 use Rattle.std.proofs.Common.{◌≡◌, ℕ, ◌+◌, ◌<◌, List, ◌++◌, length, take, sym, ap, ◌∙◌, subst, append_assoc, arith}
 use Rattle.std.proofs.Common.{length-append}
-use Rattle.std.specs.Prelude.{Option, Bool, Result}
+use Rattle.std.specs.Prelude.{Option, Result}
 use Rattle.std.specs.Result.{ForErr}
 use Rattle.std.proofs.Math.Seq.{take-append_seam, take-append-add}
 use Rattle.outside.specs.Causes.{Caused}
@@ -62,6 +62,6 @@ refusal_unwritten old new why answer stop is same u =
     (record { answer = answer; is = is; cut = subst (λ s. IsUnwritten old new answer.text s) same u })
 
 -- the files are no cause where this error doesn't come
-pub never_file : (P : LineStop → Type 0) (result : Result Bool LineStop) (faults : ℕ) → (P stops.File → ⊥)
+pub never_file : {T : Type 0} (P : LineStop → Type 0) (result : Result T LineStop) (faults : ℕ) → (P stops.File → ⊥)
     → ForErr result P → Caused stops.File faults faults result
 never_file P result faults never h = record { later = omega arith; rose = λ e. absurd (never (h stops.File e)) }

@@ -9,5 +9,6 @@ pub mod Stops
 pub mod StepClauses
 pub mod StepLaws
 pub mod GoingOn
+pub mod Replies
 pub mod StepViews
 pub mod PlanViews

@@ -9,7 +9,7 @@ use Rattle.pap_plan.specs.Plans.{flowchart}
 use Rattle.plan_answers.specs.Answers.{IsRefusal}
 use Rattle.plan_answers.specs.Fronts.{AreFronts, IsMissing}
 use Rattle.plan_answers.specs.Lines.{bound_line}
-use Rattle.plan_answers.specs.ReplyViews.{reply_of}
+use Rattle.script_steps.specs.Replies.{reply_of}
 use Rattle.script_steps.specs.declared.plan.Judged.{Judged}
 use Rattle.script_steps.specs.declared.plan.Judged.TheVariants.{Accepted, Refused}
 use Rattle.script_steps.specs.declared.stop.LineStop.{LineStop}

@@ -1,8 +1,8 @@
 //! What a line asks for, done and answered.
-ghost use Rattle.std.specs.Prelude.{◌≡◌, ◌≢◌, ℕ, List, IfOk, Ok, Err};
+ghost use Rattle.std.specs.Prelude.{◌≡◌, ◌≢◌, ℕ, List, IfOk, Ok, Err, is_some};
 ghost use Rattle.std.specs.Result.{ForErr};
 ghost use Rattle.outside.specs.Causes.{Caused};
-ghost use Rattle.plan_answers.specs.ReplyViews.{reply_of};
+ghost use Rattle.script_steps.specs.Replies.{reply_of};
 ghost use Rattle.script_lang.specs.Commands as asked;
 ghost use Rattle.script_lang.specs.Commands.{asked_of};
 ghost use Rattle.script_lang.specs.Lines.{IsLine};
@@ -16,20 +16,19 @@ use crate::filings::{file, owed};
 use crate::load::load;
 use crate::open::open;
 use crate::plan::{plan, trial};
-use crate::reply::{accepted, write_reply};
+use crate::reply::{LineReply, accepted, write_reply};
 use crate::report::report;
 use crate::script::Script;
 use crate::stop::LineStop;
 use crate::trace::trace;
 use outside::{Files, Sink};
-use plan_answers::Reply;
 use recalc_engine::{Book, Work};
 use script_lang::Command;
 use std::alloc::{AllocError, Global};
 use std::sync::ledger::Ledger;
 use steps::Steps;
 
-/// Does what a line asks for, and writes its answer. `Ok` says whether it is a refusal.
+/// Does what a line asks for, and writes its answer. `Ok` has what is wrong with the line, in plain words, where that is a refusal.
 pub(crate) fn answer_command<F: Files, W: Sink, L: Ledger>(
     alloc: Global,
     script: &mut Script,
@@ -37,11 +36,11 @@ pub(crate) fn answer_command<F: Files, W: Sink, L: Ledger>(
     files: &mut F,
     sink: &mut W,
     steps: &mut Steps<L>,
-) -> Result<bool, LineStop>
+) -> Result<Option<String>, LineStop>
     ensures answered { (line : List ℕ) → IsLine line (asked_of command)
-        → IfOk result (λ refused. IsAnswered (F.told files.old)
+        → IfOk result (λ wrong. IsAnswered (F.told files.old)
         (W.written sink.old) (W.written sink.new) steps.old steps.new
-        script.old script.new line refused) }
+        script.old script.new line (is_some wrong)) }
     ensures broken { (line : List ℕ) → IsLine line (asked_of command)
         → ForErr result (λ stop. IsBroken (F.told files.old)
         (W.written sink.old) (W.written sink.new) steps.old steps.new
@@ -55,11 +54,11 @@ pub(crate) fn answer_command<F: Files, W: Sink, L: Ledger>(
         Command::Report => report(alloc, &script.book, sink),
         Command::Open { file } => {
             let reply = open(alloc, script, &file, files, steps)?;
-            write_reply(&reply, sink)
+            write_reply(reply, sink)
         }
         command => {
             let reply = make_reply(alloc, script, command, files, steps)?;
-            write_reply(&reply, sink)
+            write_reply(reply, sink)
         }
     }
 }
@@ -71,7 +70,7 @@ fn make_reply<F: Files, L: Ledger>(
     command: Command,
     files: &mut F,
     steps: &mut Steps<L>,
-) -> Result<Reply, LineStop>
+) -> Result<LineReply, LineStop>
     requires alone { command ≢ Command.Report }
     requires told { (file : List ℕ) → asked_of command ≢ asked.opening file }
     ensures made { IfOk result (λ reply. IsMade
@@ -112,7 +111,7 @@ fn make_reply<F: Files, L: Ledger>(
 }
 
 /// The line `work`: the runs and the steps of the last edit that was accepted.
-fn work(alloc: Global, book: &Book) -> Result<Reply, AllocError>
+fn work(alloc: Global, book: &Book) -> Result<LineReply, AllocError>
     ensures { IfOk result (λ reply. reply_of reply ≡ accepted (work_line book.now.last) 0) }
 {
     let Work { runs, steps } = book.last_work();

@@ -1,6 +1,6 @@
 //! Lines that edit the book.
 ghost use Rattle.std.specs.Prelude.{◌≡◌, IfOk, OnErr};
-ghost use Rattle.plan_answers.specs.ReplyViews.{reply_of};
+ghost use Rattle.script_steps.specs.Replies.{reply_of};
 ghost use Rattle.recalc_engine.specs.EditAnswers.{add, change, drop, withdraw};
 ghost use Rattle.script_steps.specs.LineSteps.{IsEditStep};
 ghost use Rattle.script_steps.specs.LineTexts.{ok_line};
@@ -8,10 +8,9 @@ ghost use Rattle.script_steps.specs.Standings.{more_work};
 ghost use Rattle.script_steps.specs.StepViews.{IsEditReply, IsLost, IsMade};
 
 use crate::refusals::edit_refusal;
-use crate::reply::accepted;
+use crate::reply::{LineReply, accepted};
 use crate::script::Script;
 use payroll_records::{Day, Employee, Record, When};
-use plan_answers::Reply;
 use recalc_engine::{EditRefusal, Work};
 use std::alloc::{AllocError, Global};
 use std::sync::ledger::Ledger;
@@ -27,7 +26,7 @@ pub(crate) fn edit_reply(
     total: &mut Work,
     text: &[u8],
     made: Result<Work, EditRefusal>,
-) -> Result<Reply, AllocError>
+) -> Result<LineReply, AllocError>
     ensures { IfOk result
         (λ reply. IsEditReply text.now made total.old total.new (reply_of reply)) }
 {
@@ -57,7 +56,7 @@ pub(crate) fn add<L: Ledger>(
     script: &mut Script,
     run: Record,
     steps: &mut Steps<L>,
-) -> Result<Reply, AllocError>
+) -> Result<LineReply, AllocError>
     ensures made { IfOk result (λ reply. IsMade (IsEditStep ok_line script.old (add run))
         script.new steps.old steps.new (reply_of reply)) }
     ensures lost { OnErr result
@@ -73,7 +72,7 @@ pub(crate) fn change<L: Ledger>(
     script: &mut Script,
     run: Record,
     steps: &mut Steps<L>,
-) -> Result<Reply, AllocError>
+) -> Result<LineReply, AllocError>
     ensures made { IfOk result (λ reply. IsMade (IsEditStep ok_line script.old (change run))
         script.new steps.old steps.new (reply_of reply)) }
     ensures lost { OnErr result
@@ -90,7 +89,7 @@ pub(crate) fn withdraw<L: Ledger>(
     employee: Employee,
     when: When,
     steps: &mut Steps<L>,
-) -> Result<Reply, AllocError>
+) -> Result<LineReply, AllocError>
     ensures made { IfOk result (λ reply. IsMade
         (IsEditStep ok_line script.old (withdraw employee when))
         script.new steps.old steps.new (reply_of reply)) }
@@ -107,7 +106,7 @@ pub(crate) fn drop_plan<L: Ledger>(
     script: &mut Script,
     day: Day,
     steps: &mut Steps<L>,
-) -> Result<Reply, AllocError>
+) -> Result<LineReply, AllocError>
     ensures made { IfOk result (λ reply. IsMade (IsEditStep ok_line script.old (drop day))
         script.new steps.old steps.new (reply_of reply)) }
     ensures lost { OnErr result

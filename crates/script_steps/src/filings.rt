@@ -1,19 +1,22 @@
 //! The lines `file` and `owed`.
 ghost use Rattle.std.specs.Prelude.{◌≡◌, IfOk, string_bytes};
-ghost use Rattle.plan_answers.specs.ReplyViews.{reply_of};
+ghost use Rattle.script_steps.specs.Replies.{reply_of};
 ghost use Rattle.script_steps.specs.FilingSteps.{IsFileStep, IsOwedAnswer};
 ghost use Rattle.script_steps.specs.LineTexts.{due_line, filed_text, owed_line, owed_text};
 
 use crate::refusals::{file_refusal, owed_refusal};
-use crate::reply::accepted;
+use crate::reply::{LineReply, accepted};
 use crate::script::Script;
 use correction_ledger::{Due, Entry, FileRefusal, OwedRefusal};
 use payroll_records::Month;
-use plan_answers::Reply;
 use std::alloc::{AllocError, Global};
 
 /// The line `file`.
-pub(crate) fn file(alloc: Global, script: &mut Script, month: Month) -> Result<Reply, AllocError>
+pub(crate) fn file(
+    alloc: Global,
+    script: &mut Script,
+    month: Month,
+) -> Result<LineReply, AllocError>
     ensures { IfOk result
         (λ reply. IsFileStep script.old month script.new (reply_of reply)) }
 {
@@ -54,7 +57,7 @@ fn due_line(alloc: Global, entry: &Entry) -> Result<String, AllocError>
 }
 
 /// The line `owed`.
-pub(crate) fn owed(alloc: Global, script: &Script) -> Result<Reply, AllocError>
+pub(crate) fn owed(alloc: Global, script: &Script) -> Result<LineReply, AllocError>
     ensures { IfOk result (λ reply. IsOwedAnswer script.now (reply_of reply)) }
 {
     match script.ledger.owed(alloc, &script.book) {

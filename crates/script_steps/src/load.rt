@@ -2,18 +2,18 @@
 ghost use Rattle.std.specs.Prelude.{◌≡◌, ◌≢◌, IfOk, OnErr, Ok, Err};
 ghost use Rattle.std.specs.Result.{ForErr};
 ghost use Rattle.outside.specs.Causes.{Caused};
-ghost use Rattle.plan_answers.specs.ReplyViews.{reply_of};
+ghost use Rattle.script_steps.specs.Replies.{reply_of};
 ghost use Rattle.script_lang.specs.Commands as asked;
 ghost use Rattle.script_steps.specs.LineSteps.{IsTableStep};
 ghost use Rattle.script_steps.specs.StepViews.{IsMade, IsUnmade, IsWant, ToldDoes};
 
 use crate::edits::{OK, edit_reply};
 use crate::refusals::table_refusal;
+use crate::reply::LineReply;
 use crate::script::Script;
 use crate::stop::LineStop;
 use outside::Files;
 use payroll_records::{LONGEST_TABLE, TableFault, read_table};
-use plan_answers::Reply;
 use std::alloc::{AllocError, Global};
 use std::sync::ledger::Ledger;
 use steps::Steps;
@@ -25,7 +25,7 @@ pub(crate) fn load<F: Files, L: Ledger>(
     file: &str,
     files: &mut F,
     steps: &mut Steps<L>,
-) -> Result<Reply, LineStop>
+) -> Result<LineReply, LineStop>
     ensures made { IfOk result (λ reply. IsMade
         (ToldDoes (F.told files.old) script.old (Ok (asked.load file.now)))
         script.new steps.old steps.new (reply_of reply)) }
@@ -46,7 +46,7 @@ fn load_table<L: Ledger>(
     script: &mut Script,
     table: &[u8],
     steps: &mut Steps<L>,
-) -> Result<Reply, AllocError>
+) -> Result<LineReply, AllocError>
     ensures made { IfOk result (λ reply. IsMade (IsTableStep script.old table.now)
         script.new steps.old steps.new (reply_of reply)) }
     ensures lost { OnErr result

@@ -2,23 +2,28 @@
 ghost use Rattle.std.specs.Prelude.{◌≡◌, ◌≢◌, ◌↔◌, IfOk, IsTrue, OnErr, Ok, Err};
 ghost use Rattle.std.specs.Result.{ForErr};
 ghost use Rattle.outside.specs.Causes.{Caused};
-ghost use Rattle.plan_answers.specs.ReplyViews.{reply_of};
+ghost use Rattle.plan_answers.specs.Answers.{refusal};
+ghost use Rattle.script_steps.specs.Replies.{reply_of};
 ghost use Rattle.script_lang.specs.Commands as asked;
 ghost use Rattle.script_steps.specs.OpenSteps.{IsEmpty, IsFresh, IsOpenStep};
 ghost use Rattle.script_steps.specs.StepViews.{IsMadeUntold, IsUnmade, IsWant, ToldDoes};
 
 use crate::edits::OK;
 use crate::refusals::book_refusal;
-use crate::reply::accepted;
+use crate::reply::{LineReply, accepted, refused};
 use crate::script::Script;
 use crate::stop::LineStop;
 use book_file::{BookFault, MOST_BOOK_TEXT, read_book};
 use outside::Files;
-use plan_answers::{Reply, refusal};
 use recalc_engine::Book;
 use std::alloc::{AllocError, Global};
 use std::sync::ledger::Ledger;
 use steps::Steps;
+
+const NOT_EMPTY: &str =
+    "a saved book is opened in place of an empty one, and this one has runs or plans";
+
+const FILED: &str = "a saved book is opened before a month is filed, and one was filed";
 
 /// The line `open`, with its file's name.
 pub(crate) fn open<F: Files, L: Ledger>(
@@ -27,7 +32,7 @@ pub(crate) fn open<F: Files, L: Ledger>(
     file: &str,
     files: &mut F,
     steps: &mut Steps<L>,
-) -> Result<Reply, LineStop>
+) -> Result<LineReply, LineStop>
     ensures made { IfOk result (λ reply. IsMadeUntold
         (ToldDoes (F.told files.old) script.old (Ok (asked.opening file.now)))
         script.new steps.old steps.new (reply_of reply)) }
@@ -48,17 +53,17 @@ fn open_text<L: Ledger>(
     script: &mut Script,
     text: &[u8],
     steps: &mut Steps<L>,
-) -> Result<Reply, AllocError>
+) -> Result<LineReply, AllocError>
     ensures made { IfOk result (λ reply. IsMadeUntold (IsOpenStep script.old text.now)
         script.new steps.old steps.new (reply_of reply)) }
     ensures lost { OnErr result
         (IsWant (IsOpenStep script.old text.now) steps.old steps.new) }
 {
     if !is_empty(&script.book) {
-        return refusal(alloc, b"book NotEmpty");
+        return unopened(alloc, b"book NotEmpty", NOT_EMPTY);
     }
     if script.ledger.last().is_some() {
-        return refusal(alloc, b"book Filed");
+        return unopened(alloc, b"book Filed", FILED);
     }
     open_fresh(alloc, script, text, steps)
 }
@@ -69,7 +74,7 @@ fn open_fresh<L: Ledger>(
     script: &mut Script,
     text: &[u8],
     steps: &mut Steps<L>,
-) -> Result<Reply, AllocError>
+) -> Result<LineReply, AllocError>
     requires { IsFresh script.old }
     ensures made { IfOk result (λ reply. IsMadeUntold (IsOpenStep script.old text.now)
         script.new steps.old steps.new (reply_of reply)) }
@@ -84,6 +89,13 @@ fn open_fresh<L: Ledger>(
         Err(BookFault::Memory(error)) => Err(error),
         Err(fault) => book_refusal(alloc, &fault),
     }
+}
+
+/// The refusal to open a saved book, with what is wrong in plain words.
+fn unopened(alloc: Global, detail: &[u8], wrong: &str) -> Result<LineReply, AllocError>
+    ensures { IfOk result (λ reply. reply_of reply ≡ refusal detail.now) }
+{
+    refused(alloc, detail, String::from_str(alloc, wrong)?)
 }
 
 /// Whether a book has no run and no plan.

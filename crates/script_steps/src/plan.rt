@@ -2,20 +2,23 @@
 ghost use Rattle.std.specs.Prelude.{◌≡◌, ◌≢◌, ℕ, List, IfOk, OnErr, Ok, Err};
 ghost use Rattle.std.specs.Result.{ForErr};
 ghost use Rattle.outside.specs.Causes.{Caused};
-ghost use Rattle.plan_answers.specs.ReplyViews.{reply_of};
+ghost use Rattle.plan_answers.specs.Answers.{IsRefusal};
+ghost use Rattle.script_steps.specs.Replies.{reply_of};
 ghost use Rattle.script_lang.specs.Commands as asked;
 ghost use Rattle.script_steps.specs.LineSteps.{IsPut, IsTextsStep, IsTried};
 ghost use Rattle.script_steps.specs.PlanViews.{AreJudged, IsJudged, IsUnjudged};
 ghost use Rattle.script_steps.specs.StepViews.{IsMade, IsUnmade, IsWant, ToldDoes};
 
 use crate::edits::edit_reply;
+use crate::reply::LineReply;
 use crate::script::Script;
 use crate::stop::LineStop;
 use crate::trial::trial_reply;
 use outside::Files;
 use pap_plan::{Plan, PlanRefusal, accept};
 use payroll_records::Day;
-use plan_answers::{Reply, bound_line, read_both, refused};
+use plain_words::{TextFile, plan_words};
+use plan_answers::{Reply, bound_line, read_both};
 use std::alloc::{AllocError, Global};
 use std::sync::ledger::Ledger;
 use steps::Steps;
@@ -27,7 +30,7 @@ pub(crate) enum Judged {
     /// It is accepted, and its bound has this line.
     Accepted { plan: Plan, line: String },
     /// It is refused with this answer.
-    Refused(Reply),
+    Refused(LineReply),
 }
 
 /// The line `plan`, with the names of its files.
@@ -39,7 +42,7 @@ pub(crate) fn plan<F: Files, L: Ledger>(
     limits: &str,
     files: &mut F,
     steps: &mut Steps<L>,
-) -> Result<Reply, LineStop>
+) -> Result<LineReply, LineStop>
     ensures made { IfOk result (λ reply. IsMade
         (ToldDoes (F.told files.old) script.old (Ok (asked.plan day plan.now limits.now)))
         script.new steps.old steps.new (reply_of reply)) }
@@ -63,7 +66,7 @@ pub(crate) fn trial<F: Files, L: Ledger>(
     limits: &str,
     files: &mut F,
     steps: &mut Steps<L>,
-) -> Result<Reply, LineStop>
+) -> Result<LineReply, LineStop>
     ensures made { IfOk result (λ reply. IsMade
         (ToldDoes (F.told files.old) script.now (Ok (asked.trial day plan.now limits.now)))
         script.now steps.old steps.new (reply_of reply)) }
@@ -93,14 +96,26 @@ fn judge<F: Files>(
     ensures kept { result ≢ Err LineStop.File → F.failed files.new ≡ F.failed files.old }
 {
     let (plan_bytes, limits_bytes) = read_both(alloc, plan, limits, files)?;
-    Ok(judge_texts(alloc, &plan_bytes, &limits_bytes)?)
+    let plan_file = TextFile {
+        name: plan,
+        bytes: &plan_bytes,
+    };
+    let limits_file = TextFile {
+        name: limits,
+        bytes: &limits_bytes,
+    };
+    Ok(judge_texts(alloc, plan_file, limits_file)?)
 }
 
 /// The plan of two texts.
-fn judge_texts(alloc: Global, plan: &[u8], limits: &[u8]) -> Result<Judged, AllocError>
-    ensures { IfOk result (IsJudged plan.now limits.now) }
+fn judge_texts(
+    alloc: Global,
+    plan: TextFile<'_>,
+    limits: TextFile<'_>,
+) -> Result<Judged, AllocError>
+    ensures { IfOk result (IsJudged plan.entry.bytes.now limits.entry.bytes.now) }
 {
-    match accept(alloc, plan, limits) {
+    match accept(alloc, plan.bytes, limits.bytes) {
         Ok(accepted) => {
             let line = bound_line(alloc, &accepted)?;
             Ok(Judged::Accepted {
@@ -109,8 +124,26 @@ fn judge_texts(alloc: Global, plan: &[u8], limits: &[u8]) -> Result<Judged, Allo
             })
         }
         Err(PlanRefusal::Memory) => Err(AllocError),
-        Err(fault) => Ok(Judged::Refused(refused(alloc, plan, &fault)?)),
+        Err(fault) => Ok(Judged::Refused(refused_plan(alloc, plan, limits, &fault)?)),
     }
+}
+
+/// The refusal of a plan and its range file.
+fn refused_plan(
+    alloc: Global,
+    plan: TextFile<'_>,
+    limits: TextFile<'_>,
+    fault: &PlanRefusal,
+) -> Result<LineReply, AllocError>
+    ensures { IfOk result (λ reply. IsRefusal plan.entry.bytes.now fault.now (reply_of reply)) }
+{
+    let Reply { text, steps, .. } = plan_answers::refused(alloc, plan.bytes, fault)?;
+    let wrong = plan_words(alloc, plan, limits, fault)?;
+    Ok(LineReply {
+        text,
+        wrong: Some(wrong),
+        steps,
+    })
 }
 
 /// Puts a plan at its day, where it is accepted.
@@ -120,7 +153,7 @@ fn put<L: Ledger>(
     day: Day,
     judged: Judged,
     steps: &mut Steps<L>,
-) -> Result<Reply, AllocError>
+) -> Result<LineReply, AllocError>
     ensures made { (plan limits : List ℕ) → IsJudged plan limits judged → IfOk result
         (λ reply. IsMade (IsTextsStep IsPut script.old day plan limits)
         script.new steps.old steps.new (reply_of reply)) }
@@ -143,7 +176,7 @@ fn tried<L: Ledger>(
     day: Day,
     judged: Judged,
     steps: &mut Steps<L>,
-) -> Result<Reply, AllocError>
+) -> Result<LineReply, AllocError>
     ensures made { (plan limits : List ℕ) → IsJudged plan limits judged → IfOk result
         (λ reply. IsMade (IsTextsStep IsTried script.now day plan limits)
         script.now steps.old steps.new (reply_of reply)) }

@@ -1,73 +1,73 @@
 //! How the refusals of lines, tables, edits, traces, filings and books are written.
 ghost use Rattle.std.specs.Prelude.{IfOk, string_bytes};
 ghost use Rattle.plan_answers.specs.Answers.{refusal};
-ghost use Rattle.plan_answers.specs.ReplyViews.{reply_of};
+ghost use Rattle.script_steps.specs.Replies.{reply_of};
 ghost use Rattle.script_steps.specs.StepViews.{IsBookRefusal, IsEditRefusal, IsLineRefusal, IsTableRefusal};
 ghost use Rattle.script_steps.specs.StepViews.{IsFileRefusal, IsOwedRefusal, IsTraceRefusal};
 
+use crate::reply::{LineReply, refused};
 use book_file::BookFault;
 use correction_ledger::{FileRefusal, OwedRefusal};
 use month_trace::TraceRefusal;
 use payroll_records::TableFault;
-use plan_answers::{Reply, refusal};
 use recalc_engine::EditRefusal;
 use script_lang::LineFault;
 use std::alloc::{AllocError, Global};
 
 /// The refusal of a line.
-pub(crate) fn line_refusal(alloc: Global, fault: &LineFault) -> Result<Reply, AllocError>
+pub(crate) fn line_refusal(alloc: Global, fault: &LineFault) -> Result<LineReply, AllocError>
     ensures { IfOk result (λ reply. IsLineRefusal fault.now (reply_of reply)) }
 {
     let detail = line_detail(alloc, fault)?;
-    refusal(alloc, detail.as_bytes())
+    refused(alloc, detail.as_bytes(), fault.to_string(alloc)?)
 }
 
 /// The refusal of a table.
-pub(crate) fn table_refusal(alloc: Global, fault: &TableFault) -> Result<Reply, AllocError>
+pub(crate) fn table_refusal(alloc: Global, fault: &TableFault) -> Result<LineReply, AllocError>
     ensures { IfOk result (λ reply. IsTableRefusal fault.now (reply_of reply)) }
 {
     let detail = table_detail(alloc, fault)?;
-    refusal(alloc, detail.as_bytes())
+    refused(alloc, detail.as_bytes(), fault.to_string(alloc)?)
 }
 
 /// The refusal of an edit of the book.
-pub(crate) fn edit_refusal(alloc: Global, why: &EditRefusal) -> Result<Reply, AllocError>
+pub(crate) fn edit_refusal(alloc: Global, why: &EditRefusal) -> Result<LineReply, AllocError>
     ensures { IfOk result (λ reply. IsEditRefusal why.now (reply_of reply)) }
 {
     let detail = edit_detail(alloc, why)?;
-    refusal(alloc, detail.as_bytes())
+    refused(alloc, detail.as_bytes(), why.to_string(alloc)?)
 }
 
 /// The refusal of a trace.
-pub(crate) fn trace_refusal(alloc: Global, why: &TraceRefusal) -> Result<Reply, AllocError>
+pub(crate) fn trace_refusal(alloc: Global, why: &TraceRefusal) -> Result<LineReply, AllocError>
     ensures { IfOk result (λ reply. IsTraceRefusal why.now (reply_of reply)) }
 {
     let detail = trace_detail(alloc, why)?;
-    refusal(alloc, detail.as_bytes())
+    refused(alloc, detail.as_bytes(), why.to_string(alloc)?)
 }
 
 /// The refusal of a filing.
-pub(crate) fn file_refusal(alloc: Global, why: &FileRefusal) -> Result<Reply, AllocError>
+pub(crate) fn file_refusal(alloc: Global, why: &FileRefusal) -> Result<LineReply, AllocError>
     ensures { IfOk result (λ reply. IsFileRefusal why.now (reply_of reply)) }
 {
     let detail = file_detail(alloc, why)?;
-    refusal(alloc, detail.as_bytes())
+    refused(alloc, detail.as_bytes(), why.to_string(alloc)?)
 }
 
 /// The refusal of what is owed.
-pub(crate) fn owed_refusal(alloc: Global, why: &OwedRefusal) -> Result<Reply, AllocError>
+pub(crate) fn owed_refusal(alloc: Global, why: &OwedRefusal) -> Result<LineReply, AllocError>
     ensures { IfOk result (λ reply. IsOwedRefusal why.now (reply_of reply)) }
 {
     let detail = owed_detail(alloc, why)?;
-    refusal(alloc, detail.as_bytes())
+    refused(alloc, detail.as_bytes(), why.to_string(alloc)?)
 }
 
 /// The refusal of a text that isn't that of a saved book.
-pub(crate) fn book_refusal(alloc: Global, fault: &BookFault) -> Result<Reply, AllocError>
+pub(crate) fn book_refusal(alloc: Global, fault: &BookFault) -> Result<LineReply, AllocError>
     ensures { IfOk result (λ reply. IsBookRefusal fault.now (reply_of reply)) }
 {
     let detail = book_detail(alloc, fault)?;
-    refusal(alloc, detail.as_bytes())
+    refused(alloc, detail.as_bytes(), fault.to_string(alloc)?)
 }
 
 /// The group, the name and the details of a line's refusal.

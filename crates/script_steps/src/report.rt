@@ -1,5 +1,5 @@
 //! The line `report`.
-ghost use Rattle.std.specs.Prelude.{◌++◌, IfOk, false};
+ghost use Rattle.std.specs.Prelude.{◌++◌, IfOk, false, is_some};
 ghost use Rattle.std.specs.Result.{ForErr};
 ghost use Rattle.outside.specs.Causes.{Caused};
 ghost use Rattle.report_csv.specs.ReportTexts.{report_text};
@@ -13,9 +13,13 @@ use report_csv::{ReportFault, write_report};
 use std::alloc::Global;
 
 /// Writes the report of a book, and the line `end`.
-pub(crate) fn report<W: Sink>(alloc: Global, book: &Book, sink: &mut W) -> Result<bool, LineStop>
-    ensures ok { IfOk result (IsWritten (W.written sink.old) (W.written sink.new)
-        (report_text book.now ++ end_line) false) }
+pub(crate) fn report<W: Sink>(
+    alloc: Global,
+    book: &Book,
+    sink: &mut W,
+) -> Result<Option<String>, LineStop>
+    ensures ok { IfOk result (λ wrong. IsWritten (W.written sink.old) (W.written sink.new)
+        (report_text book.now ++ end_line) false (is_some wrong)) }
     ensures err { ForErr result (IsUnwritten (W.written sink.old) (W.written sink.new)
         (report_text book.now ++ end_line)) }
     ensures write { Caused LineStop.Write (W.faults sink.old) (W.faults sink.new) result }
@@ -26,7 +30,7 @@ pub(crate) fn report<W: Sink>(alloc: Global, book: &Book, sink: &mut W) -> Resul
         Err(ReportFault::Memory(_)) => return Err(LineStop::Memory),
     }
     match put_all(sink, b"end\n") {
-        Ok(()) => Ok(false),
+        Ok(()) => Ok(None),
         Err(_) => Err(LineStop::Write),
     }
 }

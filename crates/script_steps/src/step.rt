@@ -1,5 +1,5 @@
 //! A line of a script, answered.
-ghost use Rattle.std.specs.Prelude.{◌≡◌, ◌≢◌, IfOk, Err};
+ghost use Rattle.std.specs.Prelude.{◌≡◌, ◌≢◌, IfOk, Err, is_some};
 ghost use Rattle.std.specs.Result.{ForErr};
 ghost use Rattle.outside.specs.Causes.{Caused};
 ghost use Rattle.script_steps.specs.StepClauses.{IsAnswered, IsBroken};
@@ -18,8 +18,9 @@ use std::alloc::Global;
 use std::sync::ledger::Ledger;
 use steps::Steps;
 
-/// Answers a line of a script, which stands without its line end. `Ok` says whether the answer is a refusal. The counter rises
-/// by the steps of the answer: of an accepted edit, `try` or `open`. After a stop the script isn't to be gone on with.
+/// Answers a line of a script, which stands without its line end. `Ok` has what is wrong with the line, in plain words, where the
+/// answer is a refusal. The counter rises by the steps of the answer: of an accepted edit, `try` or `open`. After a stop the
+/// script isn't to be gone on with.
 pub fn answer_line<F: Files, W: Sink, L: Ledger>(
     alloc: Global,
     script: &mut Script,
@@ -27,10 +28,10 @@ pub fn answer_line<F: Files, W: Sink, L: Ledger>(
     files: &mut F,
     sink: &mut W,
     steps: &mut Steps<L>,
-) -> Result<bool, LineStop>
-    ensures answered { IfOk result (λ refused. IsAnswered (F.told files.old)
+) -> Result<Option<String>, LineStop>
+    ensures answered { IfOk result (λ wrong. IsAnswered (F.told files.old)
         (W.written sink.old) (W.written sink.new) steps.old steps.new
-        script.old script.new line.now refused) }
+        script.old script.new line.now (is_some wrong)) }
     ensures broken { ForErr result (λ stop. IsBroken (F.told files.old)
         (W.written sink.old) (W.written sink.new) steps.old steps.new
         script.old line.now (F.failed files.new) stop) }
@@ -47,14 +48,19 @@ pub fn answer_line<F: Files, W: Sink, L: Ledger>(
 }
 
 /// Answers a line that is refused.
-fn answer_fault<W: Sink>(alloc: Global, fault: &LineFault, sink: &mut W) -> Result<bool, LineStop>
-    ensures ok { IfOk result (IsRefusalWritten (W.written sink.old) (W.written sink.new) fault.now) }
+fn answer_fault<W: Sink>(
+    alloc: Global,
+    fault: &LineFault,
+    sink: &mut W,
+) -> Result<Option<String>, LineStop>
+    ensures ok { IfOk result (λ wrong.
+        IsRefusalWritten (W.written sink.old) (W.written sink.new) fault.now (is_some wrong)) }
     ensures err { ForErr result
         (IsRefusalUnwritten (W.written sink.old) (W.written sink.new) fault.now) }
     ensures write { Caused LineStop.Write (W.faults sink.old) (W.faults sink.new) result }
 {
     let reply = line_refusal(alloc, fault)?;
-    write_reply(&reply, sink)
+    write_reply(reply, sink)
 }
 
 /// Every line whose files are there has one step. A line of more than 65,536 bytes is answered whatever its bytes are.

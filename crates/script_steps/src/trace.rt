@@ -1,14 +1,13 @@
 //! The line `trace`.
 ghost use Rattle.std.specs.Prelude.{◌≡◌, IfOk, string_bytes};
-ghost use Rattle.plan_answers.specs.ReplyViews.{reply_of};
+ghost use Rattle.script_steps.specs.Replies.{reply_of};
 ghost use Rattle.script_steps.specs.LineTexts.{step_line, trace_text};
 ghost use Rattle.script_steps.specs.TraceSteps.{trace_answer};
 
 use crate::refusals::trace_refusal;
-use crate::reply::accepted;
+use crate::reply::{LineReply, accepted};
 use month_trace::{TraceRefusal, TraceStep};
 use payroll_records::{Employee, When};
-use plan_answers::Reply;
 use recalc_engine::Book;
 use std::alloc::{AllocError, Global};
 
@@ -18,7 +17,7 @@ pub(crate) fn trace(
     book: &Book,
     employee: Employee,
     when: When,
-) -> Result<Reply, AllocError>
+) -> Result<LineReply, AllocError>
     ensures { IfOk result (λ reply. reply_of reply ≡ trace_answer book.now employee when) }
 {
     match month_trace::trace(alloc, book, employee, when) {

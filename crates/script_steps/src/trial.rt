@@ -1,13 +1,12 @@
 //! What the line `try` answers.
 ghost use Rattle.std.specs.Prelude.{◌≡◌, ◌++◌, IfOk, OnOk, string_bytes};
 ghost use Rattle.std.specs.List.{flat_map};
-ghost use Rattle.plan_answers.specs.ReplyViews.{reply_of};
+ghost use Rattle.script_steps.specs.Replies.{reply_of};
 ghost use Rattle.script_steps.specs.LineTexts.{amount_word, shown_word, trial_line, trial_text, would_line};
 ghost use Rattle.script_steps.specs.StepViews.{IsTrialReply};
 
 use crate::refusals::edit_refusal;
-use crate::reply::accepted;
-use plan_answers::Reply;
+use crate::reply::{LineReply, accepted};
 use recalc_engine::{EditRefusal, Work};
 use scaled_decimal::Dec;
 use std::alloc::{AllocError, Global};
@@ -18,7 +17,7 @@ pub(crate) fn trial_reply(
     alloc: Global,
     bound: String,
     trial: Result<Trial, TryRefusal>,
-) -> Result<Reply, AllocError>
+) -> Result<LineReply, AllocError>
     ensures { IfOk result (λ reply. IsTrialReply (string_bytes bound) trial (reply_of reply)) }
 {
     match trial {

@@ -1,5 +1,5 @@
-use Rattle.std.proofs.Common.{◌≡◌, ap, inr}
-use Rattle.std.specs.Prelude.{Bool, Err}
+use Rattle.std.proofs.Common.{◌≡◌, ◌∙◌, [], ◌++◌, ap, inr}
+use Rattle.std.specs.Prelude.{Bool, Err, if◌then◌else◌}
 use Rattle.std.proofs.lemmas.Result.{err_from_is_err_and}
 use Rattle.script_steps.specs.declared.stop.LineStop.TheVariants.{File, Write, Memory}
 use Rattle.script_run.proofs.DeliverLaws.{cut_lost, answer_lost, stop_kept, delivered, broken_as}
@@ -39,4 +39,5 @@ returns-in_err-put_refusal-in-Ok-clause-broken g c = λ stop is.
 pub returns-in-Ok-clause-delivered : goal.returns-in-Ok-clause-delivered
 returns-in-Ok-clause-delivered g c =
     delivered c.args.refusals.now c.put_refusal.new.refusals c.new-buffer.ensures c.bytes.ensures
-    c.in-Ok.ensures.answered c.in_ok-put_refusal-in-Ok.ensures
+    c.in-Ok.ensures.answered (c.in_ok-put_refusal-in-Ok.ensures
+    ∙ ap (λ (t : Bool). c.args.refusals.now.items ++ (if t then c.bytes.result.now else [])) c.is_some.ensures)

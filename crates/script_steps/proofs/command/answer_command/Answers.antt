@@ -1,11 +1,11 @@
 use Rattle.std.proofs.Common.{◌++◌, ◌∙◌, refl, sym, ap, subst}
-use Rattle.std.specs.Prelude.{Ok, Err, IfOk}
+use Rattle.std.specs.Prelude.{Ok, Err, IfOk, is_some}
 use Rattle.std.specs.Result.{ForErr}
 use Rattle.std.proofs.lemmas.Result.{err_from_is_err_and}
 use Rattle.script_lang.specs.Commands as asked
 use Rattle.script_lang.specs.Commands.{asked_of}
 use Rattle.script_lang.specs.Lines.{IsLine}
-use Rattle.plan_answers.specs.ReplyViews.{reply_of}
+use Rattle.script_steps.specs.Replies.{reply_of}
 use Rattle.script_steps.specs.LineSteps.{report_answer}
 use Rattle.report_csv.specs.ReportTexts.{report_text}
 use Rattle.script_steps.specs.LineTexts.{end_line}
@@ -21,8 +21,8 @@ returns-in-Report-clause-answered g c = λ line says.
     made_answered told (g.W.Sink.written c.args.sink.now) (g.W.Sink.written c.report.new.sink) c.args.steps.now
     c.args.steps.now c.args.script.now c.args.script.now (g.F.Files.failed c.args.files.now) asked.report
     (report_answer c.args.script.now) (report_made told c.args.script.now c.args.steps.now) c.report.result
-    (subst (λ (s : Standing). IfOk c.report.result (IsWritten (g.W.Sink.written c.args.sink.now)
-    (g.W.Sink.written c.report.new.sink) (report_answer s).text (report_answer s).refused)) c.script.view_is
+    (subst (λ (s : Standing). IfOk c.report.result (λ wrong. IsWritten (g.W.Sink.written c.args.sink.now)
+    (g.W.Sink.written c.report.new.sink) (report_answer s).text (report_answer s).refused (is_some wrong))) c.script.view_is
     c.report.ensures.ok) line (subst (λ k. IsLine line (asked_of k)) c.in-Report.is says)
 
 pub returns-in-Report-clause-broken : goal.returns-in-Report-clause-broken

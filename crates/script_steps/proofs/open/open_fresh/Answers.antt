@@ -1,5 +1,5 @@
 use Rattle.std.proofs.Common.{◌∙◌, sym, ap, subst}
-use Rattle.plan_answers.specs.ReplyViews.{reply_of}
+use Rattle.script_steps.specs.Replies.{reply_of}
 use Rattle.plan_answers.proofs.Laws.{on_err_any}
 use Rattle.script_steps.specs.OpenSteps.{IsOpenStep}
 use Rattle.script_steps.specs.Standings.{Standing, accepted, with_book}

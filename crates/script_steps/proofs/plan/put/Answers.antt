@@ -2,7 +2,7 @@ use Rattle.std.proofs.Common.{subst}
 use Rattle.std.specs.Prelude.{IfOk, string_bytes}
 use Rattle.book_year.specs.Accepted.{accepted}
 use Rattle.recalc_engine.specs.EditAnswers as edits
-use Rattle.plan_answers.specs.ReplyViews.{reply_of}
+use Rattle.script_steps.specs.Replies.{reply_of}
 use Rattle.script_steps.specs.LineSteps.{IsPut}
 use Rattle.script_steps.specs.PlanViews.{IsJudged}
 use Rattle.script_steps.specs.StepViews.{IsEditReply}

@@ -2,7 +2,7 @@ use Rattle.std.proofs.Common.{◌∙◌, refl, ap}
 use Rattle.std.specs.Prelude.{Ok, Err}
 use Rattle.std.proofs.lemmas.Result.{err_from_is_err_and}
 use Rattle.script_lang.specs.Commands as asked
-use Rattle.plan_answers.specs.ReplyViews.{reply_of}
+use Rattle.script_steps.specs.Replies.{reply_of}
 use Rattle.script_steps.specs.LineSteps.{IsTried, IsTextsStep}
 use Rattle.script_steps.specs.StepViews.{ToldDoes}
 use Rattle.script_steps.proofs.FileLemmas.{plan_told}

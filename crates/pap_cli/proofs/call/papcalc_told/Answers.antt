@@ -1,18 +1,18 @@
 use Rattle.std.proofs.Common.{◌∙◌, sym, subst}
 use Rattle.pap_cli.specs.Words.{texts, run, sample, save}
-use Rattle.pap_cli.specs.WordViews.{form_on_files}
+use Rattle.pap_cli.specs.WordViews.{ReadsScript, form_on_files}
 use Rattle.pap_cli.specs.Outside.{Outside}
 use Rattle.pap_cli.specs.CallClauses.{Carries}
 use Rattle.pap_cli.specs.ScriptClauses.{LeavesOnScript}
 use Rattle.pap_cli.proofs.WordLemmas.{one_form}
-use Rattle.pap_cli.proofs.ScriptLemmas.{headline_script, script_kept}
+use Rattle.pap_cli.proofs.ScriptLemmas.{done_ok, files_read_none, headline_script, script_kept}
 use Rattle.pap_cli.specs.SampleClauses.{LeavesOnSample}
 use Rattle.pap_cli.proofs.SampleLemmas.{headline_sample, leaves_sample}
 use Rattle.pap_cli.specs.SaveClauses.{LeavesOnSave}
 use Rattle.pap_cli.proofs.SaveLemmas.{headline_save, leaves_save}
 use Rattle.pap_cli.proofs.LeavesLemmas.{leaves_form, carries_none, headline_form}
 use Rattle.pap_cli.proofs.StatusLemmas.{file_stop, read_stop, write_stop}
-use Rattle.pap_cli.proofs.call.papcalc.Goals as goal
+use Rattle.pap_cli.proofs.call.papcalc_told.Goals as goal
 
 pub returns-in-Ok-Some-Files-clause-carries : goal.returns-in-Ok-Some-Files-clause-carries
 returns-in-Ok-Some-Files-clause-carries g c = λ form has.
@@ -97,3 +97,26 @@ returns-in-Ok-Some-Sample-clause-read_fault g c =
 
 pub returns-in-Err-clause-carries : goal.returns-in-Err-clause-carries
 returns-in-Err-clause-carries g c = λ form has. carries_none form (record { files = g.F.Files.told c.args.files.now; failed = g.F.Files.failed c.args.files.now; file_faults = g.F.Files.faults c.args.files.now; left = g.R.Source.left c.args.source.now; source_faults = g.R.Source.faults c.args.source.now; written = g.W.Sink.written c.args.sink.now; sink_faults = g.W.Sink.faults c.args.sink.now; steps = c.args.steps.now })
+
+-- of a script that was answered to its end it is told which lines were refused
+
+pub returns-in-Ok-Some-Run-clause-refused_lines : goal.returns-in-Ok-Some-Run-clause-refused_lines
+returns-in-Ok-Some-Run-clause-refused_lines g c = λ form has reads done.
+    done_ok _ c.run.result c.status-in-Ok-Some-Run.result c.status-in-Ok-Some-Run.ensures done c.run.ensures.told
+
+pub returns-in-Ok-Some-Save-clause-refused_lines : goal.returns-in-Ok-Some-Save-clause-refused_lines
+returns-in-Ok-Some-Save-clause-refused_lines g c = λ form has reads done.
+    done_ok _ c.save.result c.status-in-Ok-Some-Save.result c.status-in-Ok-Some-Save.ensures done c.save.ensures.told
+
+pub returns-in-Ok-Some-Files-clause-refused_lines : goal.returns-in-Ok-Some-Files-clause-refused_lines
+returns-in-Ok-Some-Files-clause-refused_lines g c = λ form has reads done.
+    let request = c.in-Ok-Some-Files.request in
+    let own = rw c.in-Ok-Some-Files.field-0-0-is at (rw c.in-Ok-Some-Files.field-0-is at c.in-Ok-Some-Files.ensures) in
+    let same = one_form (texts c.args.words.now) (form_on_files request) form own has in
+    absurd (files_read_none request (subst ReadsScript (sym same) reads))
+
+pub returns-in-Ok-Some-Sample-clause-refused_lines : goal.returns-in-Ok-Some-Sample-clause-refused_lines
+returns-in-Ok-Some-Sample-clause-refused_lines g c = λ form has reads done.
+    let own = rw c.in-Ok-Some-Sample.field-0-0-is at (rw c.in-Ok-Some-Sample.field-0-is at c.in-Ok-Some-Sample.ensures) in
+    let same = one_form (texts c.args.words.now) (sample c.in-Ok-Some-Sample.employees) form own has in
+    absurd (subst ReadsScript (sym same) reads)

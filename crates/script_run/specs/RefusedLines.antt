@@ -1,0 +1,25 @@
+-- Which lines of a script were refused, as they are told.
+use Rattle.std.specs.Prelude.{◌≡◌, ℕ, ◌+◌, Bool, List, length, map, take, min}
+use Rattle.script_run.specs.Limits.{most_told}
+use Rattle.script_run.specs.Transcripts.{noted}
+use Rattle.script_run.specs.declared.refused_lines.RefusedLines.{RefusedLines}
+
+-- a number stands still at the greatest of 64 bits
+abbrev pub greatest_number : ℕ
+greatest_number = 18446744073709551615
+
+abbrev pub told_number : ℕ → ℕ
+told_number n = min n greatest_number
+
+-- so many lines were answered, and those with these numbers were refused: it is told how many there are, and of the
+-- first 20 refused ones which they are
+pub record IsToldOf (answered : ℕ) (refused : List ℕ) (told : RefusedLines) : Type 0 where
+  pub answered_is : told.answered ≡ told_number answered
+  pub count_is : told.count ≡ told_number (length refused)
+  pub first_are : map (λ line. line.number) told.first.items ≡ map told_number (take most_told refused)
+
+-- one more line is told, behind whatever lines were, and whether it is refused
+abbrev pub Notes : RefusedLines → RefusedLines → Bool → Type 0
+Notes was is is_refused =
+    (answered : ℕ) (refused : List ℕ) → IsToldOf answered refused was
+    → IsToldOf (answered + 1) (noted refused (answered + 1) is_refused) is
