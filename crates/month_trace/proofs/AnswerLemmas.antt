@@ -1,8 +1,7 @@
--- A book answers what its runs and plans say, and nothing else; a trace that it tells ends in what it reports.
-use Rattle.std.proofs.Common.{◌≡◌, ℕ, List, [], Option, Some, None, Ok, Err, refl, sym, ap, ap₂, ◌∙◌}
-use Rattle.std.specs.Prelude.{Result, unwrap_or}
-use Rattle.payroll_records.specs.declared.day.Day.{Day}
-use Rattle.payroll_records.specs.declared.month.Month.{Month}
+-- What a book answers of the run that is meant.
+use Rattle.std.proofs.Common.{◌≡◌, ℕ, List, Option, Some, None, Ok, refl, sym, ap, subst, ◌∙◌}
+use Rattle.std.specs.Prelude.{IsOk, IsSome, option_and_then}
+use Rattle.std.specs.Option.{ok_or}
 use Rattle.payroll_records.specs.declared.record.Key.{Key}
 use Rattle.payroll_records.specs.declared.values.NamedValue.{NamedValue}
 use Rattle.payroll_records.specs.declared.when.When.{When}
@@ -11,50 +10,35 @@ use Rattle.pay_run.specs.Runs.{named_values, run_outputs}
 use Rattle.pay_run.proofs.Laws.{outputs_are}
 use Rattle.book_year.specs.declared.outcome.State.TheVariants as state
 use Rattle.book_year.specs.Rows.{Job, Row}
-use Rattle.book_edits.specs.declared.in_month.InMonth.{InMonth}
-use Rattle.book_edits.specs.declared.in_month.InMonth.TheVariants.{Empty, One, Several}
+use Rattle.book_edits.specs.declared.in_month.InMonth.TheVariants.{One}
 use Rattle.recalc_engine.specs.BookLaws.{IsDoneBy}
 use Rattle.recalc_engine.specs.Contents.{Contents, row_at}
+use Rattle.recalc_engine.specs.Jobs.{job_of_key}
 use Rattle.recalc_engine.proofs.Laws.{jobs_done, jobs_safe}
-use Rattle.month_trace.specs.declared.refusal.TraceRefusal.{TraceRefusal}
 use Rattle.month_trace.specs.declared.refusal.TraceRefusal.TheVariants as refusal
 use Rattle.month_trace.specs.declared.step.TraceStep.{TraceStep}
-use Rattle.month_trace.specs.BookTraces.{run_meant, key_of, run_said, key_said, trace_said, TraceAnswers, IsSaid, IsOneAnswer}
+use Rattle.month_trace.specs.BookTraces.{job_trace, key_of, key_said, run_meant, run_said, trace_said}
 use Rattle.month_trace.specs.TraceLaws.{IsDoneWith, TracesEndInReports, outputs_behind}
 use Rattle.month_trace.proofs.OutputLemmas.{tells_outputs}
 use Rattle.month_trace.proofs.ThereLemmas.{one_trace}
 
--- a run is meant, or none
 key_of-one : (e : List ℕ) (w : When) (k : Key) → key_of e w (One k) ≡ Ok k
 key_of-one e (when.Day d) k = refl
 key_of-one e (when.Month m) k = refl
 
-key_of-empty : (e : List ℕ) (w : When) → key_of e w Empty ≡ Err (refusal.Absent e w)
-key_of-empty e (when.Day d) = refl
-key_of-empty e (when.Month m) = refl
+module _ (book : Contents) (e : List ℕ) (w : When) (k : Key) (is : Ok k ≡ key_of e w (run_meant book e w)) where
+  pub of_key : trace_said book e w ≡ run_said book k
+  of_key = ap (key_said book) (sym is)
 
-module _ (book : Contents) (e : List ℕ) (w : When) where
-  said_by : (meant : InMonth) (v : Result Key TraceRefusal) → run_meant book e w ≡ meant → key_of e w meant ≡ v
-      → trace_said book e w ≡ key_said book v
-  said_by meant v m k = ap (λ x. key_said book (key_of e w x)) m ∙ ap (key_said book) k
+  pub of_job : (job : Job) → Some job ≡ job_of_key book k → trace_said book e w ≡ ok_or (job_trace job) (refusal.NotDone k)
+  of_job job some = of_key ∙ ap (λ o. ok_or (option_and_then job_trace o) (refusal.NotDone k)) (sym some)
 
-  pub is_said : IsSaid book e w
-  is_said (Ok steps) h =
-      sym (said_by (One h.key) (Ok h.key) h.meant (key_of-one e w h.key)
-      ∙ ap (run_said h.key) h.ran
-      ∙ ap (λ t. Ok (unwrap_or t [])) h.steps_are)
-  is_said (Err (refusal.Absent f v)) h =
-      ap₂ (λ x y. Err (refusal.Absent x y)) h.0 h.1
-      ∙ sym (said_by Empty (Err (refusal.Absent e w)) h.2 (key_of-empty e w))
-  is_said (Err (refusal.Several f m)) h =
-      ap (λ x. Err (refusal.Several x m)) h.0
-      ∙ sym (said_by Several (Err (refusal.Several e m)) h.2 (ap (λ v. key_of e v Several) h.1))
-  is_said (Err (refusal.NotDone k)) h =
-      sym (said_by (One k) (Ok k) h.meant (key_of-one e w k) ∙ ap (run_said k) h.no_job)
-  is_said (Err (refusal.Memory x)) h = absurd h
-
-  pub one_answer : IsOneAnswer book e w
-  one_answer one other p q = is_said one p ∙ sym (is_said other q)
+  pub has_steps : (job : Job) → Some job ≡ job_of_key book k → IsSome (job_trace job) → IsOk (trace_said book e w)
+  has_steps job some there = subst IsOk (sym (of_job job some)) (by (job_trace job) there)
+    where
+      by : (o : Option (List TraceStep)) → IsSome o → IsOk (ok_or o (refusal.NotDone k))
+      by None h = h
+      by (Some steps) h = refl
 
 -- ---- the trace of a run of a book ends in what the book reports
 
@@ -74,8 +58,8 @@ traces_end book e w k j is kept meant job =
     record {
       steps = trace.steps;
       told =
-          sym (is_said book e w (Ok trace.steps)
-          (record { key = k; meant = meant; job = j; ran = job; steps_are = trace.are }));
+          of_job book e w k (sym (ap (key_of e w) meant ∙ key_of-one e w k)) j (sym job)
+          ∙ ap (λ o. ok_or o (refusal.NotDone k)) trace.are;
       done =
           done_with j reported (sym (outputs_are j.plan j.inputs (outputs_behind f trace.steps) outputs))
           (row_at book k) (jobs_done book k j job);

@@ -1,5 +1,5 @@
 -- A variable gets a value.
-use Rattle.std.proofs.Common.{◌≡◌, ℕ, List, Some, None, true, set, refl, sym, ap, ◌∙◌, subst, arith, inl, inr}
+use Rattle.std.proofs.Common.{◌≡◌, ℕ, List, Some, None, true, set, refl, sym, ap, ◌∙◌, arith, inl, inr}
 use Rattle.std.specs.Prelude.{slice_get}
 use Rattle.std.proofs.lemmas.List.{length-map}
 use Rattle.std.proofs.lemmas.Option.{slice_get_cases, none-some}
@@ -10,13 +10,13 @@ use Rattle.pap_tree.specs.declared.plan.PlanText.{PlanText}
 use Rattle.pap_tree.specs.Declarations.{Declaration}
 use Rattle.pap_tree.specs.Term.{Term, leaf, item, one, two, choice, whole, long, point, text, known, named}
 use Rattle.pap_types.specs.declared.kinds.NodeKind.{NodeKind}
-use Rattle.pap_types.specs.Kinds.{suits, is_factor_literal, kind_of}
+use Rattle.pap_types.specs.Kinds.{suits, is_factor_literal}
 use Rattle.pap_types.specs.Runs.{assigned}
 use Rattle.pap_types.specs.Scopes.{Scope, names_of, number_of, declared_as, declaration_in}
 use Rattle.pap_types.specs.Values.{Env, value, put}
 use Rattle.pap_types.proofs.Laws.{declared_by}
 use Rattle.month_trace.specs.Traces.{value_put}
-use Rattle.month_trace.specs.ValueViews.{IsSized, scope_in, variables_in, values_in, IsFactorOf, CanKeep, CanPut}
+use Rattle.month_trace.specs.ValueViews.{IsSized, scope_in, variables_in, values_in, IsFactorOf, CanKeep}
 use Rattle.month_trace.proofs.NameLemmas.{number_in, put_by}
 
 -- a name that has a variable's number is declared as that variable

@@ -111,3 +111,6 @@ one_trace f inputs h =
     (methods_there scope f.methods longest_chain) f.main 0 (start f inputs) h.ends h.defined in
     let steps = the_value (trace_of f inputs) there in
     record { steps = steps.0; are = steps.1; only = λ others e. some_same others steps.0 (sym e ∙ steps.1) }
+
+pub has_trace : (f : Flowchart) (inputs : List Decimal) → IsSafeFor f inputs → IsSome (trace_of f inputs)
+has_trace f inputs h = subst IsSome (sym (one_trace f inputs h).are) refl

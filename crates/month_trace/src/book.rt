@@ -1,6 +1,6 @@
 //! The trace of a run of a book.
-ghost use Rattle.std.specs.Prelude.{◌≡◌, IfOk, IfErr};
-ghost use Rattle.month_trace.specs.BookTraces.{IsTraceOf, IsTraceRefused, key_of, run_meant};
+ghost use Rattle.std.specs.Prelude.{◌≡◌, Ok, IfOk, IfErr};
+ghost use Rattle.month_trace.specs.BookTraces.{IsTraceRefused, key_of, run_meant, trace_said};
 
 use crate::refusal::TraceRefusal;
 use crate::run::trace_run;
@@ -16,7 +16,7 @@ pub fn trace(
     employee: Employee,
     when: When,
 ) -> Result<Vec<TraceStep>, TraceRefusal>
-    ensures ok { IfOk result (λ steps. IsTraceOf b.now employee when steps.items) }
+    ensures ok { IfOk result (λ steps. trace_said b.now employee when ≡ Ok steps.items) }
     ensures refused { IfErr result (IsTraceRefused b.now employee when) }
 {
     let key = run_meant(b, employee, when)?;
@@ -27,10 +27,9 @@ pub fn trace(
     Ok(steps)
 }
 
-/// The run that is meant: that of the day, or the only one of the month.
+/// The key of the run that is meant: that of the day, or the only one of the month.
 fn run_meant(b: &Book, employee: Employee, when: When) -> Result<Key, TraceRefusal>
-    ensures ok { IfOk result (λ k. run_meant b.now employee when ≡ InMonth.One k) }
-    ensures refused { IfErr result (IsTraceRefused b.now employee when) }
+    ensures { result ≡ key_of employee when (run_meant b.now employee when) }
 {
     match when {
         When::Day(day) => {

@@ -1,13 +1,10 @@
 //! The trace of a plan's run.
-ghost use Rattle.std.specs.Prelude.{◌≡◌, ℕ, List, Some, IfOk};
+ghost use Rattle.std.specs.Prelude.{◌≡◌, List, Some, IsSome, IfOk};
 ghost use Rattle.scaled_decimal.specs.Decimals.{Decimal};
 ghost use Rattle.pap_tree.specs.Flowchart.{Flowchart, flowchart_of};
 ghost use Rattle.pap_types.specs.Checks.{IsWellTyped};
 ghost use Rattle.pap_types.specs.Meaning.{IsSafeFor};
 ghost use Rattle.pap_plan.specs.Plans.{flowchart, Admits};
-ghost use Rattle.payroll_records.specs.declared.when.When.{When};
-ghost use Rattle.recalc_engine.specs.Contents.{Contents};
-ghost use Rattle.month_trace.specs.BookTraces.{IsOneAnswer, IsSaid};
 ghost use Rattle.month_trace.specs.Traces.{trace_of};
 ghost use Rattle.month_trace.specs.TraceLaws.{HasOneTrace, TellsOutputs, TracesEndInReports};
 
@@ -25,8 +22,9 @@ use std::alloc::{AllocError, Global};
 /// variables.
 pub fn trace_run(alloc: Global, p: &Plan, inputs: &[Dec]) -> Result<Vec<TraceStep>, AllocError>
     requires { Admits p.now inputs.now }
-    ensures { IfOk result
+    ensures ok { IfOk result
         (λ steps. trace_of (flowchart p.now) inputs.now ≡ Some steps.items) }
+    ensures there { IsSome (trace_of (flowchart p.now) inputs.now) }
 {
     trace_text(alloc, p.text(), inputs)
 }
@@ -51,16 +49,11 @@ fn trace_text(alloc: Global, plan: &Typed, inputs: &[Dec]) -> Result<Vec<TraceSt
 
 /// The laws of traces; the function does nothing. A run on inputs that are safe for a plan has exactly one trace. In a
 /// well-typed plan each output is the last value that the trace puts there, and what it began with where there is none. Each
-/// run of a book that has a job has a trace, which ends in the outputs that the book reports. What a book answers follows from
-/// its runs and its plans, so it never has two answers.
+/// run of a book that has a job has a trace, which ends in the outputs that the book reports.
 pub fn trace_laws()
     ensures one { (f : Flowchart) (inputs : List Decimal)
         → IsSafeFor f inputs → HasOneTrace f inputs }
     ensures outputs { (f : Flowchart) (inputs : List Decimal)
         → IsWellTyped f → IsSafeFor f inputs → TellsOutputs f inputs }
     ensures reports { TracesEndInReports }
-    ensures said { (book : Contents) (employee : List ℕ) (when : When)
-        → IsSaid book employee when }
-    ensures alone { (book : Contents) (employee : List ℕ) (when : When)
-        → IsOneAnswer book employee when }
 {}

@@ -1,4 +1,4 @@
-use Rattle.month_trace.proofs.AnswerLemmas.{is_said, one_answer, traces_end}
+use Rattle.month_trace.proofs.AnswerLemmas.{traces_end}
 use Rattle.month_trace.proofs.OutputLemmas.{tells_outputs}
 use Rattle.month_trace.proofs.ThereLemmas.{one_trace}
 use Rattle.month_trace.proofs.run.trace_laws.Goals as goal
@@ -11,9 +11,3 @@ returns-clause-outputs c = tells_outputs
 
 pub returns-clause-reports : goal.returns-clause-reports
 returns-clause-reports c = traces_end
-
-pub returns-clause-said : goal.returns-clause-said
-returns-clause-said c = is_said
-
-pub returns-clause-alone : goal.returns-clause-alone
-returns-clause-alone c = one_answer
