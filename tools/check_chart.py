@@ -3,8 +3,9 @@
 
 Of each drawing: no line meets a symbol but where it enters or leaves it, no horizontal line crosses a vertical one, no two
 vertical lines lie over one another, no two symbols share a height, all is inside the drawing, and no cut goes through a
-symbol, a word or a comment. Of each page: each statement and each comment is there once, each link leads to a place of the page, each id
-stands once, and the drawings are well-formed XML. Of a range file that is begun for a plan of random inputs: the plan is accepted with it."""
+symbol, a word or a comment. Of each page: each statement and each comment is there once, a statement's caption has the
+characters of its lines, each link leads to a place of the page, each id stands once, and the drawings are well-formed XML. Of a
+range file that is begun for a plan of random inputs: the plan is accepted with it."""
 import os
 import random
 import re
@@ -132,6 +133,7 @@ class Part:
     def __init__(self, svg):
         _, self.top, self.width, self.height = [int(n) for n in svg.get("viewBox").split()]
         self.symbols, self.words, self.notes, self.verticals, self.horizontals, self.ids = [], [], [], [], [], []
+        self.captions = []
         for element in svg.iter():
             if element.get("id") and not element.tag == "title":
                 self.ids.append(element.get("id"))
@@ -156,6 +158,10 @@ class Part:
             right, top, height = [int(n) for n in re.search(r"M(%s) (%s)h-6v(%s)" % ((NUMBER,) * 3), data).groups()]
             self.notes.append((right - 6, top, right, top + height))
 
+    def take_g(self, group):
+        lines = [text for text in group.iter("text") if text.get("class") != "p"]
+        self.captions.append((group.get("aria-label"), "".join("".join(line.itertext()) for line in lines)))
+
     def take_text(self, text):
         if text.get("class") in ("y", "e"):
             x, y = number(text, "x"), number(text, "y")
@@ -173,6 +179,9 @@ def check_drawing(parts):
         if left < 0 or top < 0 or right > width or low > bottom:
             faults.append("outside %s" % ((left, top, right, low),))
     for part in parts:
+        for caption, lines in part.captions:
+            if "".join(caption.split()) != "".join(lines.split()):
+                faults.append("the caption %r beside the lines %r" % (caption, lines))
         low = part.top + part.height
         for name, boxes in (("symbol", part.symbols), ("word", part.words), ("comment", part.notes)):
             for box in boxes:

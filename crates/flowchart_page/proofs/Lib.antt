@@ -1,2 +1,2 @@
-mod EscapeLemmas
-mod VerdictLemmas
+pub mod VerdictLemmas
+pub mod PageLemmas

@@ -4,10 +4,13 @@ use Rattle.std.specs.Prelude.{is_some}
 use Rattle.pap_plan.specs.declared.refusal.PlanRefusal.{PlanRefusal}
 use Rattle.pap_plan.specs.declared.refusal.PlanRefusal.TheVariants as refusals
 use Rattle.pap_plan.specs.Acceptance.{IsRefused, IsRefusedOrMemory}
+use Rattle.pap_plan.specs.Plans.{meaning}
 use Rattle.flowchart_page.specs.declared.verdict.Verdict.{Verdict}
 use Rattle.flowchart_page.specs.declared.verdict.Verdict.TheVariants.{Accepted, InOrder, Refused}
 use Rattle.flowchart_page.specs.Verdicts.{IsJudged}
 use Rattle.flowchart_page.specs.VerdictViews.{IsVerdict, HasReasonOf, verdict_alone}
+use Rattle.flowchart_page.specs.Pages.{IsVerdictText}
+use Rattle.flowchart_page.specs.PageViews.{verdict_text}
 
 refused_by : (plan limits : List ℕ) (r : PlanRefusal) → r ≢ refusals.Memory → IsRefusedOrMemory plan limits r
     → IsRefused plan limits r
@@ -66,3 +69,21 @@ pub judged : {A : Type 0} (plan : List ℕ) (limits ranges : Option (List ℕ)) 
     → ranges ≡ limits → IsVerdict plan ranges v → HasReasonOf v reason
     → IsJudged plan limits (is_some reason)
 judged plan limits ranges v reason e h r = reason_judged plan limits v reason (subst (λ l. IsVerdict plan l v) e h) r
+
+-- the sentence on it
+text_said : {A : Type 0} (plan : List ℕ) (limits : Option (List ℕ)) (v : Verdict) (reason : Option A)
+    → IsVerdict plan limits v → HasReasonOf v reason
+    → IsVerdictText plan limits (verdict_text v (is_some reason))
+text_said plan (Some l) (Accepted p) reason h r = inl (meaning p, h.accepted, refl)
+text_said plan None (Accepted p) reason h r = inl (meaning p, h.accepted, refl)
+text_said plan (Some l) InOrder reason h r = absurd (some_none l h.0)
+text_said plan None InOrder None h r = inr (inl (h.1.0, h.1.1, refl))
+text_said plan None InOrder (Some w) h r = absurd (true_false r)
+text_said plan (Some l) (Refused f) (Some w) h r = inr (f, refused_by plan l f r.0 h, refl)
+text_said plan None (Refused f) (Some w) h r = inr (inr (f, h.0, refused_by plan [] f r.0 h.1, refl))
+text_said plan limits (Refused f) None h r = absurd (false_true r.1)
+
+pub said : {A : Type 0} (plan : List ℕ) (limits ranges : Option (List ℕ)) (v : Verdict) (reason : Option A)
+    → ranges ≡ limits → IsVerdict plan ranges v → HasReasonOf v reason
+    → IsVerdictText plan limits (verdict_text v (is_some reason))
+said plan limits ranges v reason e h r = text_said plan limits v reason (subst (λ l. IsVerdict plan l v) e h) r

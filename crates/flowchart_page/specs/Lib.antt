@@ -1,3 +1,4 @@
-pub mod Escapes
 pub mod Verdicts
+pub mod Pages
 pub mod VerdictViews
+pub mod PageViews

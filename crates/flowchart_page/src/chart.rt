@@ -1,21 +1,22 @@
 //! The whole page.
-ghost use Rattle.std.specs.Prelude.{◌≡◌, option_map, IfOk, is_some};
+ghost use Rattle.std.specs.Prelude.{◌≡◌, ◌∷◌, [], option_map, IfOk, is_some};
+ghost use Rattle.pap_reader.specs.Trees.{tree_of};
+ghost use Rattle.flowchart_page.specs.Pages.{IsVerdictText, IsWhole, IsPage};
 ghost use Rattle.flowchart_page.specs.Verdicts.{IsJudged};
 ghost use Rattle.flowchart_page.specs.VerdictViews.{HasReasonOf};
+ghost use Rattle.flowchart_page.specs.PageViews.{verdict_text, IsPageOfTree, IsPageOfText};
 
-use crate::callers::Callers;
-use crate::comments::{write_last_paragraph, write_paragraphs};
 use crate::declarations::{Declarations, write_declarations};
-use crate::header::{Reason, write_head, write_lead, write_verdict};
-use crate::method::{Chapter, write_index, write_key, write_method};
-use crate::page::Page;
-use crate::site::{Site, site_of};
+use crate::header::{PAGE_END, PAGE_START, Reason, head_of, write_lead, write_verdict};
+use crate::index::{write_index, write_key};
+use crate::site::site_of;
 use crate::verdict::{Verdict, judge};
-use chart_layout::read_method;
+use flowchart_methods::{
+    Chapter, Page, Site, read_chapters, write_last_paragraph, write_methods, write_paragraphs,
+};
 use limits_file::{Limits, read_limits};
 use pap_plan::PlanRefusal;
 use pap_reader::{Elements, ReadFault, read_elements};
-use pap_tree::Name;
 use plain_words::{TextFile, plan_words};
 use plan_answers::refused;
 use plan_notes::{Element, Notes, read_notes};
@@ -32,18 +33,23 @@ pub struct Chart {
 /// The page of a plan's bytes: with a range file whether the plan is accepted with it, without one what can be said before.
 /// The name of the plan's file stands for the plan's own name where that has none. Takes time linear in the plan beside what
 /// judging it takes, and fails only for want of memory.
+#[tactic(auto, using(crate::proofs::PageLemmas::judged_page))]
 pub fn draw_chart(
     alloc: Global,
     plan: TextFile<'_>,
     limits: Option<TextFile<'_>>,
 ) -> Result<Chart, AllocError>
+    // Whether there is a reason why the plan is refused.
     ensures judged { IfOk result (λ chart. IsJudged plan.entry.bytes.now
         (option_map (λ file. file.bytes.now) limits.entry) (is_some chart.reason)) }
+    // What the page says of the plan, and that it draws its statements.
+    ensures page { IfOk result (λ chart. IsPage plan.entry.bytes.now
+        (option_map (λ file. file.bytes.now) limits.entry) chart.page.items) }
 {
     let judgement = judge_files(alloc, plan, limits)?;
     let page = write_chart(alloc, plan, limits, &judgement)?;
     Ok(Chart {
-        page,
+        page: page.into_bytes(),
         reason: words_of(judgement.reason),
     })
 }
@@ -56,14 +62,17 @@ struct Judgement {
 }
 
 /// Judges a plan's file, with a range file or without one.
-#[tactic(auto, using(crate::proofs::VerdictLemmas::judged))]
+#[tactic(auto, using(crate::proofs::VerdictLemmas::judged, crate::proofs::VerdictLemmas::said))]
 fn judge_files(
     alloc: Global,
     plan: TextFile<'_>,
     limits: Option<TextFile<'_>>,
 ) -> Result<Judgement, AllocError>
-    ensures { IfOk result (λ judgement. IsJudged plan.entry.bytes.now
+    ensures judged { IfOk result (λ judgement. IsJudged plan.entry.bytes.now
         (option_map (λ file. file.bytes.now) limits.entry) (is_some judgement.reason)) }
+    ensures said { IfOk result (λ judgement. IsVerdictText plan.entry.bytes.now
+        (option_map (λ file. file.bytes.now) limits.entry)
+        (verdict_text judgement.verdict (is_some judgement.reason))) }
 {
     let verdict = judge(alloc, plan.bytes, bytes_of(limits));
     let reason = reason_of(alloc, plan, limits, &verdict)?;
@@ -71,13 +80,17 @@ fn judge_files(
 }
 
 /// The page of a plan that is judged.
+#[tactic(auto, using(crate::proofs::PageLemmas::read_page, crate::proofs::PageLemmas::unread_page))]
 fn write_chart(
     alloc: Global,
     plan: TextFile<'_>,
     limits: Option<TextFile<'_>>,
     judgement: &Judgement,
-) -> Result<Vec<u8>, AllocError> {
-    let mut page = Page::new(alloc);
+) -> Result<Page, AllocError>
+    ensures { IfOk result (IsPageOfText
+        (verdict_text judgement.now.verdict (is_some judgement.now.reason))
+        plan.entry.bytes.now) }
+{
     let verdict = &judgement.verdict;
     let reason = &judgement.reason;
     match read_elements(alloc, plan.bytes) {
@@ -86,18 +99,16 @@ fn write_chart(
             let limits = limits_of(alloc, bytes_of(limits))?;
             let source = Source {
                 file: plan.name,
-                elements: &elements,
                 notes: &notes,
                 limits: &limits,
                 verdict,
                 reason,
             };
-            write_page(&mut page, &source)?;
+            plan_page(alloc, &elements, source)
         }
-        Err(ReadFault::Memory) => return Err(AllocError),
-        Err(_) => write_nothing(&mut page, plan.name, verdict, reason)?,
+        Err(ReadFault::Memory) => Err(AllocError),
+        Err(_) => empty_page(alloc, plan.name, verdict, reason),
     }
-    Ok(page.bytes)
 }
 
 /// The bytes of a file, where there is one.
@@ -158,38 +169,62 @@ fn reason_of(
     }
 }
 
-/// What a page is made of.
-#[derive(Drop)]
+/// What a page has beside the plan's elements.
+#[derive(Clone, Copy)]
 struct Source<'a> {
     file: &'a str,
-    elements: &'a Elements,
     notes: &'a Notes,
     limits: &'a Option<Limits>,
     verdict: &'a Verdict,
     reason: &'a Option<Reason>,
 }
 
-/// Appends the page of a file that is no plan: its head alone.
-fn write_nothing(
-    page: &mut Page,
+/// The page of a file that is no plan: its head alone.
+fn empty_page(
+    alloc: Global,
     file: &str,
     verdict: &Verdict,
     reason: &Option<Reason>,
-) -> Result<(), AllocError> {
-    write_head(page, file, None)?;
-    write_verdict(page, verdict, reason, &Site::Nowhere)?;
-    page.own(
-        "<p class=\"sub\" id=\"methods\">There is nothing to draw: the file is not read as a flowchart.</p></header></body></html>\n",
-    )
+) -> Result<Page, AllocError>
+    ensures { IfOk result (IsWhole (verdict_text verdict.now (is_some reason.now) ∷ [])) }
+{
+    let mut page = Page::new(alloc);
+    page.own(PAGE_START)?;
+    page.append(&head_of(alloc, file, None)?)?;
+    write_verdict(&mut page, verdict, reason, &Site::Nowhere)?;
+    page.own(NO_DRAWING)?;
+    page.own(PAGE_END)?;
+    Ok(page)
 }
 
-/// Appends the page of a plan whose elements are read.
-fn write_page(page: &mut Page, source: &Source<'_>) -> Result<(), AllocError> {
-    let alloc = page.alloc;
+/// What stands in place of the drawings of a file that is no plan.
+const NO_DRAWING: &str =
+    "<p class=\"sub\" id=\"methods\">There is nothing to draw: the file is not read as a flowchart.</p></header>";
+
+/// The page of a plan whose elements are read.
+fn plan_page(alloc: Global, elements: &Elements, source: Source<'_>) -> Result<Page, AllocError>
+    ensures { IfOk result (IsPageOfTree
+        (verdict_text source.entry.verdict.now (is_some source.entry.reason.now))
+        (tree_of elements.now)) }
+{
     let site = match source.verdict {
-        Verdict::Refused(refusal) => site_of(source.elements, refusal),
+        Verdict::Refused(refusal) => site_of(elements, refusal),
         Verdict::Accepted(_) | Verdict::InOrder => Site::Nowhere,
     };
+    let chapters = read_chapters(alloc, elements, source.notes, &site)?;
+    let mut page = Page::new(alloc);
+    page.own(PAGE_START)?;
+    page.append(&plan_head(alloc, source)?)?;
+    write_verdict(&mut page, source.verdict, source.reason, &site)?;
+    page.append(&before_methods(alloc, elements, source, &chapters, &site)?)?;
+    write_methods(&mut page, elements, &chapters, &site)?;
+    page.append(&behind_methods(alloc, source.notes)?)?;
+    page.own(PAGE_END)?;
+    Ok(page)
+}
+
+/// The head of a plan's page: its name, its version and the comments before it.
+fn plan_head(alloc: Global, source: Source<'_>) -> Result<Page, AllocError> {
     let notes = source.notes;
     let name = match &notes.name {
         Some(name) => name.as_str(),
@@ -199,27 +234,49 @@ fn write_page(page: &mut Page, source: &Source<'_>) -> Result<(), AllocError> {
         Some(version) => Some(version.as_str()),
         None => None,
     };
-    let chapters = read_chapters(alloc, source, &site)?;
-    write_head(page, name, version)?;
-    write_lead(page, notes.walk().skip_to(Element::Pap))?;
-    write_verdict(page, source.verdict, source.reason, &site)?;
-    write_counts(page, &chapters)?;
-    write_index(page, &chapters, &site)?;
+    let mut page = head_of(alloc, name, version)?;
+    write_lead(&mut page, notes.walk().skip_to(Element::Pap))?;
+    Ok(page)
+}
+
+/// What stands between the sentence on a plan and its methods: their number, their index, the declarations, the key of the
+/// drawings, and comments.
+fn before_methods(
+    alloc: Global,
+    elements: &Elements,
+    source: Source<'_>,
+    chapters: &[Chapter<'_>],
+    site: &Site,
+) -> Result<Page, AllocError> {
+    let mut page = Page::new(alloc);
+    write_counts(&mut page, chapters)?;
+    write_index(&mut page, chapters, site)?;
     let declarations = Declarations {
-        elements: source.elements,
-        notes,
+        elements,
+        notes: source.notes,
         limits: source.limits,
         verdict: source.verdict,
-        site: &site,
+        site,
     };
-    write_declarations(page, &declarations)?;
-    write_drawings(page, source, &chapters, &site)?;
-    page.own("</section></main></div></body></html>\n")
+    write_declarations(&mut page, &declarations)?;
+    write_key(&mut page)?;
+    write_paragraphs(&mut page, source.notes, Element::Methods, false)?;
+    Ok(page)
+}
+
+/// What stands behind the methods: the comments there, and the ends of what is open.
+fn behind_methods(alloc: Global, notes: &Notes) -> Result<Page, AllocError> {
+    let mut page = Page::new(alloc);
+    write_paragraphs(&mut page, notes, Element::Methods, true)?;
+    write_paragraphs(&mut page, notes, Element::Pap, true)?;
+    write_last_paragraph(&mut page, notes)?;
+    page.own("</section></main></div>")?;
+    Ok(page)
 }
 
 /// Appends how many methods and statements there are.
 fn write_counts(page: &mut Page, chapters: &[Chapter<'_>]) -> Result<(), AllocError> {
-    let alloc = page.alloc;
+    let alloc = page.alloc();
     let mut statements: u32 = 0;
     for chapter in chapters {
         statements = statements.saturating_add(chapter.text.count);
@@ -234,64 +291,4 @@ fn write_counts(page: &mut Page, chapters: &[Chapter<'_>]) -> Result<(), AllocEr
     page.own(&format!(in alloc;
         "<p class=\"sub\">{methods} {method}, {statements} {statement}</p></header>\n"
     )?)
-}
-
-/// The methods, MAIN first, with the comments before each.
-fn read_chapters<'a>(
-    alloc: Global,
-    source: &Source<'a>,
-    site: &Site,
-) -> Result<Vec<Chapter<'a>>, AllocError> {
-    let mut chapters = Vec::new(alloc);
-    let mut walk = source.notes.walk();
-    let comments = walk.skip_to(Element::Main);
-    let main = Name::main();
-    let text = read_method(
-        alloc,
-        main,
-        &source.elements.main,
-        &mut walk,
-        refused_in(site, &main),
-    )?;
-    chapters.push(Chapter { text, comments })?;
-    let mut walk = source.notes.walk();
-    for method in &source.elements.methods {
-        let comments = walk.skip_to(Element::Method);
-        let refused = refused_in(site, &method.name);
-        let text = read_method(alloc, method.name, &method.body, &mut walk, refused)?;
-        chapters.push(Chapter { text, comments })?;
-    }
-    Ok(chapters)
-}
-
-/// The number of the statement of a method that a refusal names.
-fn refused_in(site: &Site, name: &Name) -> Option<u32> {
-    match site {
-        Site::Statement { method, number } if method == name => Some(*number),
-        _ => None,
-    }
-}
-
-/// Appends the drawings of the methods, with the comments round them.
-fn write_drawings(
-    page: &mut Page,
-    source: &Source<'_>,
-    chapters: &[Chapter<'_>],
-    site: &Site,
-) -> Result<(), AllocError> {
-    let alloc = page.alloc;
-    let callers = Callers::new(alloc, source.elements)?;
-    let mut names = Vec::new(alloc);
-    for chapter in chapters {
-        names.push(chapter.text.name)?;
-    }
-    names.sort()?;
-    write_key(page)?;
-    write_paragraphs(page, source.notes, Element::Methods, false)?;
-    for (i, chapter) in chapters.iter().enumerate() {
-        write_method(page, chapter, callers.of(i), &names, site)?;
-    }
-    write_paragraphs(page, source.notes, Element::Methods, true)?;
-    write_paragraphs(page, source.notes, Element::Pap, true)?;
-    write_last_paragraph(page, source.notes)
 }

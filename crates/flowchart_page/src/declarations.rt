@@ -1,9 +1,7 @@
 //! The table of declared names.
-use crate::comments::{write_comments, write_paragraphs};
-use crate::page::Page;
 use crate::ranges::{input_range, output_range};
-use crate::site::Site;
 use crate::verdict::Verdict;
+use flowchart_methods::{Page, Site, write_comments, write_paragraphs};
 use limits_file::Limits;
 use pap_expr::{ExprFault, parse_constant};
 use pap_reader::{Elements, RawDeclared};
@@ -102,7 +100,7 @@ fn write_group(
     declarations: &Declarations<'_>,
     group: Group<'_>,
 ) -> Result<(), AllocError> {
-    let alloc = page.alloc;
+    let alloc = page.alloc();
     let title = group.title;
     let count = group.names.len();
     page.own(&format!(in alloc;
@@ -132,7 +130,7 @@ fn write_name(
     let Some(declared) = group.names.get(number) else {
         return Ok(());
     };
-    let alloc = page.alloc;
+    let alloc = page.alloc();
     let range = range_of(alloc, declarations, group.element, number, &declared.name)?;
     write_row(page, declarations.site, declared, &range, comments)
 }
@@ -173,7 +171,7 @@ fn write_row(
     range: &str,
     comments: &[String],
 ) -> Result<(), AllocError> {
-    let alloc = page.alloc;
+    let alloc = page.alloc();
     let name = declared.name;
     let kind = kind_word(declared.kind);
     let class = if *site == Site::Declared(name) {
@@ -226,7 +224,7 @@ fn write_cells(
 
 /// Appends one cell for the values of a table, each with its index, below its comments.
 fn write_items(page: &mut Page, items: &[Dec], comments: &[String]) -> Result<(), AllocError> {
-    let alloc = page.alloc;
+    let alloc = page.alloc();
     page.own("<td colspan=\"3\">")?;
     write_comments(page, comments)?;
     if !comments.is_empty() {

@@ -1,10 +1,12 @@
 //! The head of the page and its verdict.
-use crate::comments::write_comments;
-use crate::page::Page;
-use crate::site::Site;
+ghost use Rattle.std.specs.Prelude.{◌≡◌, ◌∷◌, [], IfOk, OnOk, is_some, string_bytes};
+ghost use Rattle.flowchart_methods.specs.Turns.{AddsInTurn};
+ghost use Rattle.flowchart_page.specs.PageViews.{verdict_text};
+
 use crate::style::STYLE;
 use crate::verdict::Verdict;
-use std::alloc::AllocError;
+use flowchart_methods::{Page, Site, write_comments};
+use std::alloc::{AllocError, Global};
 
 /// A refusal as it is written.
 #[derive(Drop)]
@@ -15,15 +17,21 @@ pub(crate) struct Reason {
     pub words: String,
 }
 
-/// Appends the head of the page, up to the title of its body.
-pub(crate) fn write_head(
-    page: &mut Page,
+/// How a page begins.
+pub(crate) const PAGE_START: &str =
+    "<!DOCTYPE html>\n<html lang=\"en\">\n<head>\n<meta charset=\"utf-8\">\n";
+
+/// How a page ends.
+pub(crate) const PAGE_END: &str = "</body></html>\n";
+
+/// The head of the page from its start on, up to the title of its body.
+pub(crate) fn head_of(
+    alloc: Global,
     name: &str,
     version: Option<&str>,
-) -> Result<(), AllocError> {
-    page.own(
-        "<!DOCTYPE html>\n<html lang=\"en\">\n<head>\n<meta charset=\"utf-8\">\n<meta name=\"viewport\" content=\"width=device-width, initial-scale=1\">\n",
-    )?;
+) -> Result<Page, AllocError> {
+    let mut page = Page::new(alloc);
+    page.own("<meta name=\"viewport\" content=\"width=device-width, initial-scale=1\">\n")?;
     page.element("<title>", name.as_bytes(), ": flowchart</title>\n<style>\n")?;
     page.own(STYLE)?;
     page.own(
@@ -33,7 +41,8 @@ pub(crate) fn write_head(
     if let Some(version) = version {
         page.element(" <small>", version.as_bytes(), "</small>")?;
     }
-    page.own("</h1>\n")
+    page.own("</h1>\n")?;
+    Ok(page)
 }
 
 /// Appends the comments before the plan.
@@ -47,30 +56,70 @@ pub(crate) fn write_lead(page: &mut Page, comments: &[String]) -> Result<(), All
 }
 
 /// Appends what is said of the plan.
+#[tactic(auto, using(crate::proofs::PageLemmas::said_in))]
 pub(crate) fn write_verdict(
     page: &mut Page,
     verdict: &Verdict,
     reason: &Option<Reason>,
     site: &Site,
-) -> Result<(), AllocError> {
-    let alloc = page.alloc;
+) -> Result<(), AllocError>
+    ensures { OnOk result (AddsInTurn
+        (verdict_text verdict.now (is_some reason.now) ∷ []) page.old page.new) }
+{
+    let alloc = page.alloc();
+    page.own(verdict_start(verdict, reason))?;
+    page.own(&verdict_text(alloc, verdict, reason.is_some())?)?;
+    page.append(&verdict_end(alloc, verdict, reason, site)?)?;
+    Ok(())
+}
+
+/// The start tags round the sentence on a plan.
+fn verdict_start(verdict: &Verdict, reason: &Option<Reason>) -> &'static str {
     match (verdict, reason) {
+        (Verdict::Accepted(_), _) | (_, None) => "<p class=\"ok\">",
+        (_, Some(_)) => "<div class=\"no\"><p>",
+    }
+}
+
+/// The sentence on a plan, for which there is a reason or none.
+fn verdict_text(alloc: Global, verdict: &Verdict, has_reason: bool) -> Result<String, AllocError>
+    ensures { IfOk result (λ text. string_bytes text ≡ verdict_text verdict.now has_reason) }
+{
+    match (verdict, has_reason) {
         (Verdict::Accepted(plan), _) => {
             let bound = plan.bound();
-            page.own(&format!(in alloc;
-                "<p class=\"ok\"><b>Accepted.</b> On every input within the ranges a run is safe and takes at most <b>{bound}</b> steps.</p>\n"
-            )?)
+            format!(in alloc;
+                "<b>Accepted.</b> On every input within the ranges a run is safe and takes at most <b>{bound}</b> steps."
+            )
         }
-        (_, Some(reason)) => write_reason(page, reason, site),
-        _ => page.own(
-            "<p class=\"ok\"><b>In order</b>, as far as it can be said without a range file: its expressions, names, types and methods. Whether each run is safe is said with a range file.</p>\n",
+        (_, true) => String::from_str(alloc, "<b>Refused.</b> "),
+        (_, false) => String::from_str(
+            alloc,
+            "<b>In order</b>, as far as it can be said without a range file",
         ),
     }
 }
 
+/// What stands behind the sentence on a plan: of a refused one the reason.
+fn verdict_end(
+    alloc: Global,
+    verdict: &Verdict,
+    reason: &Option<Reason>,
+    site: &Site,
+) -> Result<Page, AllocError> {
+    let mut page = Page::new(alloc);
+    match (verdict, reason) {
+        (Verdict::Accepted(_), _) => page.own("</p>\n")?,
+        (_, Some(reason)) => write_reason(&mut page, reason, site)?,
+        (_, None) => page.own(
+            ": its expressions, names, types and methods. Whether each run is safe is said with a range file.</p>\n",
+        )?,
+    }
+    Ok(page)
+}
+
 /// Appends why the plan is refused.
 fn write_reason(page: &mut Page, reason: &Reason, site: &Site) -> Result<(), AllocError> {
-    page.own("<div class=\"no\"><p><b>Refused.</b> ")?;
     write_words(page, &reason.words)?;
     page.element(".</p>\n<p><code>", reason.line.as_bytes(), "</code>")?;
     write_link(page, site)?;
@@ -97,7 +146,7 @@ fn write_words(page: &mut Page, words: &str) -> Result<(), AllocError> {
 
 /// Appends the link to what a refusal names.
 fn write_link(page: &mut Page, site: &Site) -> Result<(), AllocError> {
-    let alloc = page.alloc;
+    let alloc = page.alloc();
     match site {
         Site::Statement { method, number } => page.own(&format!(in alloc;
             " <a href=\"#{method}:{number}\">Show it in the drawing</a>"

@@ -1,21 +1,12 @@
 //! What a refusal names.
 use call_order::OrderFault;
+use flowchart_methods::Site;
 use interval_analysis::RangeFault;
 use limits_file::LimitsFault;
 use pap_plan::{PlanRefusal, Spot};
 use pap_reader::Elements;
 use pap_tree::Name;
 use pap_types::TypeFault;
-
-/// What a refusal names of the plan.
-#[derive(Clone, Copy, Debug, PartialEq, Eq)]
-pub(crate) enum Site {
-    Statement { method: Name, number: u32 },
-    Method(Name),
-    Declared(Name),
-    /// Nothing that is drawn.
-    Nowhere,
-}
 
 /// What a refusal names, where the page has it.
 pub(crate) fn site_of(elements: &Elements, refusal: &PlanRefusal) -> Site {
@@ -98,6 +89,6 @@ fn is_declared(elements: &Elements, name: &Name) -> bool {
 }
 
 /// Whether there is a method of a name.
-pub(crate) fn has_method(elements: &Elements, name: &Name) -> bool {
+fn has_method(elements: &Elements, name: &Name) -> bool {
     *name == Name::main() || elements.methods.iter().any(|method| method.name == *name)
 }

@@ -13,17 +13,10 @@ pub(crate) struct Callers {
 impl Callers {
     /// The callers of all methods.
     pub(crate) fn new(alloc: Global, elements: &Elements) -> Result<Callers, AllocError> {
-        let mut numbers = BTreeMap::new(alloc);
-        let mut lists = Vec::new(alloc);
-        numbers.insert(Name::main(), 0)?;
-        lists.push(Vec::new(alloc))?;
-        for (i, method) in elements.methods.iter().enumerate() {
-            if numbers.get(&method.name).is_none() {
-                numbers.insert(method.name, i + 1)?;
-            }
-            lists.push(Vec::new(alloc))?;
-        }
-        let mut callers = Callers { lists };
+        let numbers = method_numbers(alloc, elements)?;
+        let mut callers = Callers {
+            lists: no_callers(alloc, elements)?,
+        };
         callers.note(&numbers, Name::main(), &elements.main)?;
         for method in &elements.methods {
             callers.note(&numbers, method.name, &method.body)?;
@@ -72,4 +65,26 @@ impl Callers {
         }
         Ok(())
     }
+}
+
+/// The number of each method, 0 for MAIN; of two of a name, the first.
+fn method_numbers(alloc: Global, elements: &Elements) -> Result<BTreeMap<Name, usize>, AllocError> {
+    let mut numbers = BTreeMap::new(alloc);
+    numbers.insert(Name::main(), 0)?;
+    for (i, method) in elements.methods.iter().enumerate() {
+        if numbers.get(&method.name).is_none() {
+            numbers.insert(method.name, i + 1)?;
+        }
+    }
+    Ok(numbers)
+}
+
+/// No callers for each method.
+fn no_callers(alloc: Global, elements: &Elements) -> Result<Vec<Vec<Name>>, AllocError> {
+    let mut lists = Vec::new(alloc);
+    lists.push(Vec::new(alloc))?;
+    for _ in &elements.methods {
+        lists.push(Vec::new(alloc))?;
+    }
+    Ok(lists)
 }

@@ -4,7 +4,7 @@ use plan_notes::{Element, Notes};
 use std::alloc::AllocError;
 
 /// Appends comments, with a space between two of them.
-pub(crate) fn write_comments(page: &mut Page, comments: &[String]) -> Result<(), AllocError> {
+pub fn write_comments(page: &mut Page, comments: &[String]) -> Result<(), AllocError> {
     for (i, comment) in comments.iter().enumerate() {
         if i > 0 {
             page.own(" ")?;
@@ -15,7 +15,7 @@ pub(crate) fn write_comments(page: &mut Page, comments: &[String]) -> Result<(),
 }
 
 /// Appends the comments before the start tags or before the end tags of an element, a paragraph for each tag that has some.
-pub(crate) fn write_paragraphs(
+pub fn write_paragraphs(
     page: &mut Page,
     notes: &Notes,
     element: Element,
@@ -31,7 +31,7 @@ pub(crate) fn write_paragraphs(
 }
 
 /// Appends the comments behind the last tag.
-pub(crate) fn write_last_paragraph(page: &mut Page, notes: &Notes) -> Result<(), AllocError> {
+pub fn write_last_paragraph(page: &mut Page, notes: &Notes) -> Result<(), AllocError> {
     let behind = match notes.marks.last() {
         Some(mark) => mark.last,
         None => 0,

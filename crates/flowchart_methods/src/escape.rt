@@ -1,6 +1,6 @@
 //! Texts in a page.
 ghost use Rattle.std.specs.Prelude.{◌≡◌, ◌++◌, ℕ, List, IsTrue, All, OnOk};
-ghost use Rattle.flowchart_page.specs.Escapes.{escaped_byte, escaped, is_inert};
+ghost use Rattle.flowchart_methods.specs.Escapes.{escaped_byte, escaped, is_inert};
 
 use std::alloc::AllocError;
 

@@ -1,7 +1,7 @@
 -- Texts in a page have no marks of HTML.
 use Rattle.std.proofs.Common.{ℕ, List, [], ◌∷◌, All, IsTrue, arith}
 use Rattle.std.proofs.lemmas.List.Elements.{All-append}
-use Rattle.flowchart_page.specs.Escapes.{escaped_byte, escaped, is_inert}
+use Rattle.flowchart_methods.specs.Escapes.{escaped_byte, escaped, is_inert}
 
 byte_inert : (byte : ℕ) → All (λ c. IsTrue (is_inert c)) (escaped_byte byte)
 byte_inert byte = grind arith

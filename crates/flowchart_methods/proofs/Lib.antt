@@ -1,0 +1,4 @@
+pub mod Laws
+pub mod EscapeLemmas
+pub mod TurnLemmas
+pub mod ChapterLemmas

@@ -1,0 +1,4 @@
+pub mod Escapes
+pub mod Turns
+pub mod Captions
+pub mod Chapters

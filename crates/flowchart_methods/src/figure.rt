@@ -1,0 +1,165 @@
+//! A drawing as SVG.
+ghost use Rattle.std.specs.Prelude.{[], OnOk};
+ghost use Rattle.std.specs.List.{flat_map};
+ghost use Rattle.chart_layout.specs.Drawn.{row_statements, drawing_statements};
+ghost use Rattle.flowchart_methods.specs.Turns.{AddsInTurn};
+ghost use Rattle.flowchart_methods.specs.Captions.{statement_captions};
+
+use crate::page::Page;
+use crate::statement::{Subject, write_box, write_call, write_test};
+use crate::symbols::{end_symbol, note_symbol, start_symbol, word_text};
+use chart_layout::{Drawing, Head, Part, Px, Row, Stroke};
+use pap_tree::Name;
+use std::alloc::{AllocError, Global};
+
+/// Appends the parts of a drawing.
+pub(crate) fn write_drawing(
+    page: &mut Page,
+    subject: Subject<'_>,
+    drawing: &Drawing<'_>,
+) -> Result<(), AllocError>
+    ensures { OnOk result (AddsInTurn
+        (statement_captions subject.entry.name.now (drawing_statements drawing.now.parts.items))
+        page.old page.new) }
+{
+    for (i, part) in drawing.parts.iter().enumerate() {
+        write_part(page, subject, drawing, i, part)?;
+    }
+    Ok(())
+}
+
+/// Appends the part of a number.
+fn write_part(
+    page: &mut Page,
+    subject: Subject<'_>,
+    drawing: &Drawing<'_>,
+    number: usize,
+    part: &Part<'_>,
+) -> Result<(), AllocError>
+    ensures { OnOk result (AddsInTurn
+        (statement_captions subject.entry.name.now (flat_map row_statements part.now.rows.items))
+        page.old page.new) }
+{
+    page.append(&part_start(page.alloc(), subject.name, drawing, number, part)?)?;
+    write_rows(page, subject, &part.rows)?;
+    page.own("</svg>")?;
+    Ok(())
+}
+
+/// The start of a part: its tag, its title and its lines.
+fn part_start(
+    alloc: Global,
+    name: &Name,
+    drawing: &Drawing<'_>,
+    number: usize,
+    part: &Part<'_>,
+) -> Result<Page, AllocError> {
+    let mut page = Page::new(alloc);
+    let width = drawing.width;
+    let top = part.top;
+    let height = part_end(drawing, number) - top;
+    let title = part_title(alloc, name, number, drawing.parts.len())?;
+    page.own(&format!(in alloc;
+        "<svg role=\"group\" aria-labelledby=\"t-{name}-{number}\" width=\"{width}\" height=\"{height}\" viewBox=\"0 {top} {width} {height}\"><title id=\"t-{name}-{number}\">{title}</title>"
+    )?)?;
+    page.own("<path aria-hidden=\"true\" class=\"l\" d=\"")?;
+    write_strokes(&mut page, &part.verticals, "V")?;
+    write_strokes(&mut page, &part.horizontals, "H")?;
+    page.own("\"/><path aria-hidden=\"true\" class=\"a\" d=\"")?;
+    write_heads(&mut page, &part.heads)?;
+    page.own("\"/>")?;
+    Ok(page)
+}
+
+/// Where the part of a number ends: where the next begins, or at the drawing's height.
+fn part_end(drawing: &Drawing<'_>, number: usize) -> Px {
+    match drawing.parts.get(number.saturating_add(1)) {
+        Some(next) => next.top,
+        None => drawing.height,
+    }
+}
+
+/// The title of a part of a number, of so many.
+fn part_title(
+    alloc: Global,
+    name: &Name,
+    number: usize,
+    count: usize,
+) -> Result<String, AllocError> {
+    if count == 1 {
+        return format!(in alloc; "Flowchart of {name}");
+    }
+    let number = number.saturating_add(1);
+    format!(in alloc; "Flowchart of {name}, part {number} of {count}")
+}
+
+/// Appends lines to a path; `to` is the letter of the way on which they go.
+fn write_strokes(page: &mut Page, strokes: &[Stroke], to: &str) -> Result<(), AllocError> {
+    let alloc = page.alloc();
+    for stroke in strokes {
+        let Stroke { x, y, end } = *stroke;
+        page.own(&format!(in alloc; "M{x} {y}{to}{end}")?)?;
+    }
+    Ok(())
+}
+
+/// Appends arrowheads to a path.
+fn write_heads(page: &mut Page, heads: &[Head]) -> Result<(), AllocError> {
+    let alloc = page.alloc();
+    for head in heads {
+        let Head { x, y, is_left } = *head;
+        let shape = if is_left { "l7-4v8z" } else { "l-4-7h8z" };
+        page.own(&format!(in alloc; "M{x} {y}{shape}")?)?;
+    }
+    Ok(())
+}
+
+/// Appends the symbols and words of a part.
+fn write_rows(page: &mut Page, subject: Subject<'_>, rows: &[Row<'_>]) -> Result<(), AllocError>
+    ensures { OnOk result (AddsInTurn
+        (statement_captions subject.entry.name.now (flat_map row_statements rows.now))
+        page.old page.new) }
+{
+    for row in rows {
+        write_row(page, subject, row)?;
+    }
+    Ok(())
+}
+
+/// Appends a symbol or a word.
+fn write_row(page: &mut Page, subject: Subject<'_>, row: &Row<'_>) -> Result<(), AllocError>
+    ensures { OnOk result (AddsInTurn
+        (statement_captions subject.entry.name.now (row_statements row.now)) page.old page.new) }
+{
+    let alloc = page.alloc();
+    match row {
+        Row::Box {
+            x,
+            y,
+            width,
+            height,
+            row,
+        } => write_box(page, subject, *x, *y, *width, *height, row),
+        Row::Test { x, y, test } => write_test(page, subject, *x, *y, test),
+        Row::Call { x, y, call } => write_call(page, subject, *x, *y, call),
+        Row::Start { x, y, width } => {
+            write_symbol(page, &start_symbol(alloc, subject, *x, *y, *width)?)
+        }
+        Row::End { x, y, width } => {
+            write_symbol(page, &end_symbol(alloc, subject.name, *x, *y, *width)?)
+        }
+        Row::Note { x, y, note } => write_symbol(page, &note_symbol(alloc, *x, *y, note)?),
+        Row::Word { x, y, word, anchor } => {
+            write_symbol(page, &word_text(alloc, *x, *y, *word, *anchor)?)
+        }
+    }
+}
+
+/// Appends what is no statement.
+#[tactic(auto, using(crate::proofs::TurnLemmas::adds_html))]
+fn write_symbol(page: &mut Page, symbol: &Page) -> Result<(), AllocError>
+    ensures { OnOk result (AddsInTurn [] page.old page.new) }
+{
+    page.append(symbol)?;
+    Ok(())
+}

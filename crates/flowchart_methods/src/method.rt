@@ -1,0 +1,122 @@
+//! The sections of the methods.
+ghost use Rattle.std.specs.Prelude.{◌≡◌, IfOk, OnOk, string_bytes};
+ghost use Rattle.std.specs.List.{flat_map};
+ghost use Rattle.flowchart_methods.specs.Turns.{AddsInTurn};
+ghost use Rattle.flowchart_methods.specs.Captions.{heading};
+ghost use Rattle.flowchart_methods.specs.Chapters.{chapter_captions};
+
+use crate::callers::Callers;
+use crate::chapter::Chapter;
+use crate::comments::write_comments;
+use crate::figure::write_drawing;
+use crate::page::Page;
+use crate::site::Site;
+use crate::statement::Subject;
+use chart_layout::draw;
+use pap_reader::Elements;
+use pap_tree::Name;
+use std::alloc::{AllocError, Global};
+
+/// Appends the methods: of each its name, its comments, what executes it, and its drawing. `elements` is the plan that they were
+/// read from. Takes time linear in the plan.
+pub fn write_methods(
+    page: &mut Page,
+    elements: &Elements,
+    chapters: &[Chapter<'_>],
+    site: &Site,
+) -> Result<(), AllocError>
+    ensures { OnOk result
+        (AddsInTurn (flat_map chapter_captions chapters.now) page.old page.new) }
+{
+    let alloc = page.alloc();
+    let callers = Callers::new(alloc, elements)?;
+    let names = names_in_order(alloc, chapters)?;
+    for (i, chapter) in chapters.iter().enumerate() {
+        write_method(page, chapter, callers.of(i), &names, site)?;
+    }
+    Ok(())
+}
+
+/// The names of the methods, in the order of their bytes.
+fn names_in_order(alloc: Global, chapters: &[Chapter<'_>]) -> Result<Vec<Name>, AllocError> {
+    let mut names = Vec::new(alloc);
+    for chapter in chapters {
+        names.push(chapter.text.name)?;
+    }
+    names.sort()?;
+    Ok(names)
+}
+
+/// Appends a method. `methods` are the names of all in order.
+fn write_method(
+    page: &mut Page,
+    chapter: &Chapter<'_>,
+    callers: &[Name],
+    methods: &[Name],
+    site: &Site,
+) -> Result<(), AllocError>
+    ensures { OnOk result (AddsInTurn (chapter_captions chapter.now) page.old page.new) }
+{
+    let alloc = page.alloc();
+    let name = chapter.text.name;
+    let is_refused = *site == Site::Method(name);
+    page.own(&section_start(alloc, &name, is_refused)?)?;
+    page.own(&heading(alloc, &name)?)?;
+    page.append(&figure_start(alloc, chapter, callers)?)?;
+    let drawing = draw(alloc, &chapter.text)?;
+    let subject = Subject {
+        name: &name,
+        is_refused,
+        methods,
+    };
+    write_drawing(page, subject, &drawing)?;
+    page.own("</div></section>\n")?;
+    Ok(())
+}
+
+/// The start tag of a method's section.
+fn section_start(alloc: Global, name: &Name, is_refused: bool) -> Result<String, AllocError> {
+    let class = if is_refused { "m bad" } else { "m" };
+    format!(in alloc;
+        "<section class=\"{class}\" id=\"method-{name}\" aria-labelledby=\"h-{name}\">"
+    )
+}
+
+/// A method's name as a heading.
+fn heading(alloc: Global, name: &Name) -> Result<String, AllocError>
+    ensures { IfOk result (λ text. string_bytes text ≡ heading name.now) }
+{
+    format!(in alloc; "<h3 id=\"h-{name}\">{name}</h3>")
+}
+
+/// What stands between a method's name and its drawing: its comments, and what executes it.
+fn figure_start(
+    alloc: Global,
+    chapter: &Chapter<'_>,
+    callers: &[Name],
+) -> Result<Page, AllocError> {
+    let mut page = Page::new(alloc);
+    page.own("\n")?;
+    if !chapter.comments.is_empty() {
+        page.own("<p class=\"com\">")?;
+        write_comments(&mut page, chapter.comments)?;
+        page.own("</p>\n")?;
+    }
+    if !callers.is_empty() {
+        page.own("<p class=\"by\">Executed by ")?;
+        write_links(&mut page, callers)?;
+        page.own("</p>\n")?;
+    }
+    page.own("<div class=\"fig\">")?;
+    Ok(page)
+}
+
+/// Appends links to methods, with a comma between two of them.
+fn write_links(page: &mut Page, methods: &[Name]) -> Result<(), AllocError> {
+    let alloc = page.alloc();
+    for (i, method) in methods.iter().enumerate() {
+        let comma = if i > 0 { ", " } else { "" };
+        page.own(&format!(in alloc; "{comma}<a href=\"#method-{method}\">{method}</a>")?)?;
+    }
+    Ok(())
+}

@@ -1,0 +1,31 @@
+//! What a refusal names.
+use pap_tree::Name;
+
+/// What a refusal names of the plan.
+#[derive(Clone, Copy, Debug, PartialEq, Eq)]
+pub enum Site {
+    Statement { method: Name, number: u32 },
+    Method(Name),
+    Declared(Name),
+    /// Nothing that is drawn.
+    Nowhere,
+}
+
+impl Site {
+    /// Whether a method or one of its statements is named.
+    pub fn is_in(&self, name: &Name) -> bool {
+        match self {
+            Site::Statement { method, .. } => method == name,
+            Site::Method(method) => method == name,
+            Site::Declared(_) | Site::Nowhere => false,
+        }
+    }
+
+    /// The number of the statement of a method that is named.
+    pub(crate) fn statement_in(&self, name: &Name) -> Option<u32> {
+        match self {
+            Site::Statement { method, number } if method == name => Some(*number),
+            _ => None,
+        }
+    }
+}

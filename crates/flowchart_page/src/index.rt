@@ -1,0 +1,37 @@
+//! The index of the methods, and the key of their drawings.
+use flowchart_methods::{Chapter, Page, Site};
+use std::alloc::AllocError;
+
+/// The key of the symbols, above the drawings.
+const KEY: &str =
+    "<section id=\"methods\"><h2>Drawings</h2>\n<div class=\"key\"><svg aria-hidden=\"true\" width=\"566\" height=\"26\" viewBox=\"0 0 566 26\"><path class=\"d\" d=\"M2 13l10-10h34l10 10l-10 10h-34z\"/><text class=\"c\" x=\"63\" y=\"17\">test</text><rect class=\"b\" x=\"104\" y=\"3\" width=\"44\" height=\"20\"/><text class=\"c\" x=\"155\" y=\"17\">assignments</text><rect class=\"x\" x=\"242\" y=\"3\" width=\"44\" height=\"20\"/><path class=\"xx\" d=\"M247 3v20M281 3v20\"/><text class=\"c\" x=\"293\" y=\"17\">another method</text><path class=\"k\" d=\"M402 13h10M418 3h-6v20h6\"/><text class=\"c\" x=\"424\" y=\"17\">comment of the file</text></svg><p>After a test, <i>yes</i> goes one step to the right and <i>no</i> straight down, unless the words beside the lines say otherwise. The grey words are the places of the statements, as refusals name them.</p></div>\n";
+
+/// Appends the index of the methods.
+pub(crate) fn write_index(
+    page: &mut Page,
+    chapters: &[Chapter<'_>],
+    site: &Site,
+) -> Result<(), AllocError> {
+    let alloc = page.alloc();
+    page.own(
+        "<div class=\"cols\"><nav aria-labelledby=\"index\"><h2 id=\"index\">Methods</h2><ul>\n",
+    )?;
+    for chapter in chapters {
+        let name = chapter.text.name;
+        let count = chapter.text.count;
+        let class = if site.is_in(&name) {
+            " class=\"bad\""
+        } else {
+            ""
+        };
+        page.own(&format!(in alloc;
+            "<li{class}><a href=\"#method-{name}\">{name}</a> <span>{count}</span></li>\n"
+        )?)?;
+    }
+    page.own("</ul><p><a href=\"#declarations\">Declarations</a></p></nav><main>\n")
+}
+
+/// Appends the key of the drawings, which begins their section.
+pub(crate) fn write_key(page: &mut Page) -> Result<(), AllocError> {
+    page.own(KEY)
+}
