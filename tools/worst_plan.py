@@ -12,7 +12,7 @@ branching.xml is nested.xml with a short ELSE in each IF."""
 import sys
 
 INTERNALS, COMPARISONS = 1_024, 241
-WORST_CALLS, NESTED_CALLS = 128, 64
+WORST_CALLS, NESTED_CALLS, BRANCHING_CALLS = 128, 64, 38
 METHODS, DEPTH = 63, 32
 MOST_BYTES = 1_048_576
 RANGES = "[input.X]\nlow = 0\nhigh = 100_000\nplaces = 0\n"
@@ -72,7 +72,7 @@ def write(folder, name, plan):
 def main(folder, calls=None):
     write(folder, "worst", worst(int(calls or WORST_CALLS)))
     write(folder, "nested", nested(int(calls or NESTED_CALLS)))
-    write(folder, "branching", nested(int(calls or NESTED_CALLS), '<ELSE><EVAL exec="Y=1"/></ELSE>'))
+    write(folder, "branching", nested(int(calls or BRANCHING_CALLS), '<ELSE><EVAL exec="Y=1"/></ELSE>'))
 
 
 if __name__ == "__main__":
