@@ -38,7 +38,7 @@ def run_in_pieces(script, size):
 
 
 def answers_before_the_next_line():
-    with subprocess.Popen([program, "run"], stdin=subprocess.PIPE, stdout=subprocess.PIPE, bufsize=0) as process:
+    with subprocess.Popen([program, "run"], stdin=subprocess.PIPE, stdout=subprocess.PIPE, stderr=subprocess.DEVNULL, bufsize=0) as process:
         for line, answer in [(b"work\n", b"work 0 0\n"), (b"ad E1\n", b"refused line Command\n"), (b"work\n", b"work 0 0\n")]:
             process.stdin.write(line)
             if process.stdout.readline() != answer:
