@@ -91,6 +91,26 @@ pub(crate) fn carried_out<F: Files>(
     counted::<Brand, _, _, _>(alloc, words, files, source, sink, Blank::new(1))
 }
 
+/// The same, which tells which lines of a script were refused.
+fn carried_out_told<F: Files>(
+    alloc: Global,
+    words: &[String],
+    files: &mut F,
+    source: &mut MemSource,
+    sink: &mut MemSink,
+    refused_lines: &mut RefusedLines,
+) -> Status {
+    counted_told::<Brand, _, _, _>(
+        alloc,
+        words,
+        files,
+        source,
+        sink,
+        refused_lines,
+        Blank::new(1),
+    )
+}
+
 /// Carries out words over these files, with an empty script, and gives the status.
 fn answered<F: Files>(
     alloc: Global,
@@ -126,15 +146,7 @@ pub(crate) fn write_refused(script: &str, texts: Texts<'_>, text: &mut String) -
     let mut source = MemSource::new(script.as_bytes().to_vec(alloc)?, 64, Vec::new(alloc));
     let mut sink = MemSink::new(alloc, 4000, Vec::new(alloc))?;
     let mut told = RefusedLines::new(alloc);
-    counted_told::<Brand, _, _, _>(
-        alloc,
-        &words,
-        &mut files,
-        &mut source,
-        &mut sink,
-        &mut told,
-        Blank::new(1),
-    );
+    carried_out_told(alloc, &words, &mut files, &mut source, &mut sink, &mut told);
     let said = refused_text(alloc, &told)?;
     write_lines(said.as_bytes(), text)
 }
