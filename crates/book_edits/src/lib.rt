@@ -1,5 +1,5 @@
 //! The runs of a book by employee and calendar year: what stands at a key, and the edits of its runs and of its plans, each of
-//! which runs exactly the runs whose job is new.
+//! which counts as many runs as have a new job.
 #![tactic(auto)]
 
 mod edits;

@@ -1,5 +1,5 @@
 -- What is kept of a year: what computing its runs anew gives.
-use Rattle.std.specs.Prelude.{ℕ, ◌≡◌, ◌≤◌, List, Option, map, length}
+use Rattle.std.specs.Prelude.{◌≡◌, ◌≤◌, List, Option, map, length}
 use Rattle.std.specs.List.{AllByRecursion}
 use Rattle.std.specs.Option.{option_map}
 use Rattle.rising_lists.specs.Keyed.{IsRising}

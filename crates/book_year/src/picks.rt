@@ -6,7 +6,7 @@ ghost use Rattle.payroll_records.specs.declared.day.Day.{Day as Date};
 ghost use Rattle.plan_calendar.specs.Picking.{day_of, pick, serves};
 ghost use Rattle.plan_calendar.specs.Edits.{is_by, picked_after};
 ghost use Rattle.book_year.specs.Accepted.{plans_in};
-ghost use Rattle.book_year.specs.Picks.{before, after, is_edited, same_plan, KnowsSame, ArePicks};
+ghost use Rattle.book_year.specs.Picks.{before, after, is_edited, KnowsSame, ArePicks};
 ghost use Rattle.book_year.specs.Picks.{lent_entry, picked_entry};
 
 use pap_plan::Plan;

@@ -1,5 +1,5 @@
 //! The first method that reaches itself.
-ghost use Rattle.std.specs.Prelude.{◌≡◌, ℕ, ◌+◌, ◌<◌, ◌≤◌, IfOk, length, true, false};
+ghost use Rattle.std.specs.Prelude.{◌≡◌, ℕ, ◌<◌, IfOk, length, true, false};
 ghost use Rattle.call_order.specs.LevelViews.{AllKnown};
 ghost use Rattle.call_order.specs.MarkViews.{AreMarked, TellsCycle, IsFirstInCycle, is_marked};
 

@@ -1,5 +1,5 @@
 //! The expanded statements of methods.
-ghost use Rattle.std.specs.Prelude.{◌≡◌, ◌+◌, ◌<◌, ◌≤◌, All, IfOk, length, min, sum_by, slice_index};
+ghost use Rattle.std.specs.Prelude.{◌≡◌, ◌+◌, ◌<◌, All, IfOk, length, min, slice_index};
 ghost use Rattle.call_order.specs.Faults.{last_count};
 ghost use Rattle.call_order.specs.Orders.{IsOrder};
 ghost use Rattle.call_order.specs.LevelViews.{AllKnown};

@@ -1,8 +1,7 @@
 //! The lengths of the longest chains that methods begin.
-ghost use Rattle.std.specs.Prelude.{◌≡◌, ℕ, ◌+◌, ◌<◌, ◌≤◌, All, IfOk, length, slice_index};
+ghost use Rattle.std.specs.Prelude.{◌+◌, ◌<◌, All, IfOk, length};
 ghost use Rattle.pap_types.specs.Limits.{longest_chain};
-ghost use Rattle.call_order.specs.Chains.{Executes, content_at};
-ghost use Rattle.call_order.specs.LevelViews.{AreKnown, AllKnown, AreLevels, TellsPlaced};
+ghost use Rattle.call_order.specs.LevelViews.{AllKnown, AreLevels, TellsPlaced};
 
 use crate::contents::Contents;
 use pap_types::LONGEST_CHAIN;

@@ -7,7 +7,7 @@ ghost use Rattle.call_order.specs.Graphs.{graph_of};
 ghost use Rattle.call_order.specs.Expanded.{expanded_in};
 ghost use Rattle.call_order.specs.Faults.{IsFirst, last_count};
 ghost use Rattle.call_order.specs.OrderClauses.{OrderAnswer};
-ghost use Rattle.call_order.specs.LevelViews.{AreLevels, AreAllPlaced, IsPartly, IsByLevel};
+ghost use Rattle.call_order.specs.LevelViews.{AreAllPlaced, IsPartly, IsByLevel};
 ghost use Rattle.call_order.specs.OrderViews.{IsSorted, ChainsAnswer, IsLongFault};
 
 use crate::OrderFault;

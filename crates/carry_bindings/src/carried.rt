@@ -1,5 +1,5 @@
 //! What an input carries over from earlier runs.
-ghost use Rattle.std.specs.Prelude.{◌≡◌, ◌≤◌, IfSome, length};
+ghost use Rattle.std.specs.Prelude.{◌≡◌, ◌≤◌, length};
 ghost use Rattle.std.specs.List.{AllByRecursion};
 ghost use Rattle.carry_bindings.specs.Carrying.{amount_of, amounts, carried, latest, named, total};
 ghost use Rattle.carry_bindings.specs.Conditions.{AreBounded};

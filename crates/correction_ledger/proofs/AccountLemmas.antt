@@ -1,5 +1,5 @@
 -- Accounts that tie are one account; the days up to a month are among those up to a later one.
-use Rattle.std.proofs.Common.{◌≡◌, ℕ, List, true, false, refl, sym, ap, ◌∙◌}
+use Rattle.std.proofs.Common.{◌≡◌, ℕ, true, false, refl, ap}
 use Rattle.std.specs.declared.cmp.Ordering.{Ordering}
 use Rattle.std.specs.declared.cmp.Ordering.TheVariants.{Less, Equal, Greater}
 use Rattle.std.specs.Ordering.{is_gt, is_le, nat_cmp, on, ordering_reverse, then_cmp}
@@ -9,8 +9,7 @@ use Rattle.std.proofs.lemmas.Cmp.{upto}
 use Rattle.rising_lists.proofs.Laws.{first_tie, second_tie, text_same}
 use Rattle.payroll_records.specs.declared.day.Day.{Day}
 use Rattle.payroll_records.specs.declared.month.Month.{Month}
-use Rattle.payroll_records.specs.declared.record.Key.{Key}
-use Rattle.payroll_records.specs.Orders.{day_cmp, key_cmp}
+use Rattle.payroll_records.specs.Orders.{key_cmp}
 use Rattle.payroll_records.specs.NamedValues.{name_cmp}
 use Rattle.payroll_records.proofs.Laws.{key_total}
 use Rattle.book_edits.proofs.Laws.{key_same}

@@ -3,7 +3,7 @@ use Rattle.std.proofs.Common.{◌≡◌, ℕ, false, Some, None, List, [], ◌�
 use Rattle.pap_tree.specs.declared.expression.Binary.TheVariants as binaries
 use Rattle.pap_tree.specs.Term.{Term}
 use Rattle.pap_tree.specs.Tokens as tokens
-use Rattle.pap_tree.specs.Tokens.{Sign, Number, Token, Literal, Word, Operator, Mark}
+use Rattle.pap_tree.specs.Tokens.{Sign, Token, Literal, Word, Operator, Mark}
 use Rattle.pap_tree.specs.Grammar.{Guard, free, no_number, no_point, Level, tree}
 use Rattle.pap_tree.specs.Texts.{Text, begins_number, begins_point, forbids}
 use Rattle.expr_grammar.specs.Machine.{Frame, InNew, Negating, State, Want, Have, finish}

@@ -16,13 +16,13 @@ use Rattle.pap_tree.specs.Words.{call_word}
 use Rattle.pap_tree.specs.Tokens as tokens
 use Rattle.pap_tree.specs.Tokens.{Token, Literal, Word, Mark, Dot, Comma, Open, Close, int}
 use Rattle.pap_tree.specs.Grammar as grammar
-use Rattle.pap_tree.specs.Grammar.{Item, Is, Scale, free, Line, Level, Assignment, Rounding, Meaning, tree, mode, at, sign, word, opens, rounding}
+use Rattle.pap_tree.specs.Grammar.{Item, free, Line, Level, Rounding, Meaning, tree, mode, at, sign, word, opens, rounding}
 use Rattle.pap_tree.specs.Texts as texts
 use Rattle.pap_tree.specs.Texts.{Text}
 use Rattle.pap_tree.specs.Fronts as fronts
 use Rattle.pap_tree.specs.Fronts.{Front}
 use Rattle.expr_grammar.specs.Machine as machine
-use Rattle.expr_grammar.specs.Machine.{Frame, InCall, InValue, Assigning, Rounded, dividing, setting, Job, valuing, declaring, Holder, the_decimal, the_mode, holder_word, holder_of, held_word, mode_of, Method, applied, opposite, magnitude, rescaled, method_word, method_of, Constancy, constant, of_number, constancy_word, constancy_of, State, Want, Have, Due, Member, Static, ScaleDue, Parting, Moding, Moded, Naming, level, called, scaled, held, moded, rounded, settled, same_token, step}
+use Rattle.expr_grammar.specs.Machine.{Frame, InCall, InValue, Assigning, Rounded, setting, Job, valuing, declaring, Holder, the_decimal, the_mode, holder_word, holder_of, held_word, mode_of, Method, applied, opposite, magnitude, rescaled, method_word, method_of, Constancy, constant, of_number, constancy_word, constancy_of, State, Want, Have, Due, Member, Static, ScaleDue, Parting, Moding, Moded, Naming, level, called, scaled, held, moded, rounded, same_token, step}
 use Rattle.expr_grammar.proofs.Words.{picked, mapped, if_some, token_is}
 use Rattle.expr_grammar.proofs.Pending.{Pending, Plugs, pass_is, pass_opens, pass_scale, pass_part, finished, front_here, front_inside, further}
 use Rattle.expr_grammar.proofs.Levels.{some_term}

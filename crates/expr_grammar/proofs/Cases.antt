@@ -8,7 +8,7 @@ use Rattle.pap_tree.specs.declared.expression.Binary.TheVariants as binaries
 use Rattle.pap_tree.specs.Term.{Term, whole, point, named, unary, new_big, operator, divide, leaf, item, one, two, choice}
 use Rattle.pap_tree.specs.Declarations.{table}
 use Rattle.pap_tree.specs.Tokens as tokens
-use Rattle.pap_tree.specs.Tokens.{Token, Literal, Quoted, Beyond, Word, Operator, Mark, Equals, Bang, Question, Colon, Dot, Comma, Semicolon, Open, Close, OpenItem, CloseItem, OpenTable, CloseTable, Spot}
+use Rattle.pap_tree.specs.Tokens.{Token, Literal, Quoted, Word, Operator, Mark, Equals, Bang, Question, Colon, Dot, Comma, Semicolon, Open, Close, OpenItem, CloseItem, OpenTable, CloseTable, Spot}
 use Rattle.pap_tree.specs.Grammar.{Level, Assignment, Constant, tree, assignment, declared}
 use Rattle.pap_tree.specs.Stopping as stopping
 use Rattle.expr_grammar.specs.Run.{answer, refusal}

@@ -7,9 +7,9 @@ use Rattle.pap_tree.specs.Term.{Term, named, value_of, new_big, method, leaf, it
 use Rattle.pap_tree.specs.Names.{is_name}
 use Rattle.pap_tree.specs.Words.{level_of_operator}
 use Rattle.pap_tree.specs.Tokens as tokens
-use Rattle.pap_tree.specs.Tokens.{Sign, Token, Word, Operator, Mark, Question, Colon, Dot, Comma, Semicolon, Open, Close, OpenItem, CloseItem}
+use Rattle.pap_tree.specs.Tokens.{Sign, Token, Word, Operator, Mark, Question, Colon, Dot, Comma, Semicolon, Close, OpenItem, CloseItem}
 use Rattle.pap_tree.specs.Grammar as grammar
-use Rattle.pap_tree.specs.Grammar.{Item, Part, free, no_point, Line, Level, Assignment, Meaning, tree, assignment, at, sign}
+use Rattle.pap_tree.specs.Grammar.{Item, free, no_point, Line, Level, Assignment, Meaning, tree, assignment, at, sign}
 use Rattle.pap_tree.specs.Texts as texts
 use Rattle.pap_tree.specs.Texts.{Text}
 use Rattle.pap_tree.specs.Fronts as fronts

@@ -3,7 +3,7 @@ use Rattle.std.proofs.Common.{◌≡◌, ℕ, ◌+◌, ◌≤◌, List, [], ◌�
 use Rattle.std.specs.Prelude.{⊤}
 use Rattle.scaled_decimal.specs.Decimals.{Decimal, scale_of}
 use Rattle.pap_tree.specs.Tokens as tokens
-use Rattle.pap_tree.specs.Tokens.{Number, Token, Literal, Spot, plain, Tokens, IsFirst, IsToken, IsPoint}
+use Rattle.pap_tree.specs.Tokens.{Number, Token, Literal, Spot, plain, Tokens, IsFirst}
 use Rattle.pap_tree.specs.Grammar as grammar
 use Rattle.pap_tree.specs.Grammar.{Item, Is, Opens, Scale, Part, Line, Meaning, Way, leaf_of, negative_of}
 use Rattle.pap_tree.specs.Texts as texts

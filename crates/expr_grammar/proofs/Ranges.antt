@@ -5,7 +5,7 @@ use Rattle.pap_tree.specs.Names.{is_name}
 use Rattle.pap_tree.specs.Term.{Leaf, named, Term, leaf, item, one, two, choice}
 use Rattle.pap_tree.specs.Tokens.{Token}
 use Rattle.pap_tree.specs.Grammar as grammar
-use Rattle.pap_tree.specs.Grammar.{Item, Is, Opens, Scale, Part, Line, Meaning, tree, literal, assignment, Way, leaf_of, negative_of}
+use Rattle.pap_tree.specs.Grammar.{Item, Part, Line, Meaning, tree, literal, assignment, Way, leaf_of, negative_of}
 use Rattle.pap_tree.specs.Tokens as tokens
 use Rattle.pap_tree.specs.Texts as texts
 use Rattle.pap_tree.specs.Texts.{Text, Texts}

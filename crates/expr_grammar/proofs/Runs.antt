@@ -4,7 +4,7 @@ use Rattle.std.specs.Prelude.{⊤, IsTrue, nat_lt, ◌&&◌}
 use Rattle.std.proofs.lemmas.Bool.{lt-ltb, le-ltb}
 use Rattle.pap_tree.specs.Term.{Term, leaf, named}
 use Rattle.pap_tree.specs.Tokens as tokens
-use Rattle.pap_tree.specs.Tokens.{Token, Literal, Beyond, Quoted, Word, Operator, Mark, Alien, Close, Spot}
+use Rattle.pap_tree.specs.Tokens.{Token, Literal, Mark, Close, Spot}
 use Rattle.pap_tree.specs.Grammar.{Line, Level}
 use Rattle.pap_tree.specs.Limits.{most_levels}
 use Rattle.pap_tree.specs.Stopping.{deep, has_limits}

@@ -11,11 +11,11 @@ use Rattle.pap_tree.specs.Term.{Term, value_of_scaled, one}
 use Rattle.pap_tree.specs.Declarations.{big, table}
 use Rattle.pap_tree.specs.Tokens.{Token, Literal, Word, Operator, Mark, Dot, Comma, Open, Close, CloseTable, int}
 use Rattle.pap_tree.specs.Grammar as grammar
-use Rattle.pap_tree.specs.Grammar.{Item, Scale, of_value, of_quotient, of_setting, Line, Level, Assignment, Constant, Big, Bigs, Meaning, tree, declared, decimals, sign, rounding}
+use Rattle.pap_tree.specs.Grammar.{Item, Scale, of_value, of_quotient, of_setting, Line, Level, Assignment, Constant, Big, Bigs, tree, declared, decimals, sign, rounding}
 use Rattle.pap_tree.specs.Texts.{Text}
 use Rattle.pap_tree.specs.Fronts.{Front}
 use Rattle.pap_tree.specs.Stopping.{WantsScale, new_big_decimal}
-use Rattle.expr_grammar.specs.Machine.{Frame, Rounded, dividing, setting, Room, Alone, InTable, valuing, declaring, Slot, OfLine, OfValue, OfNew, Holder, holder_word, State, Want, Have, Named, Due, Member, Static, ScaleDue, Parting, Moding, Moded, Naming, Signed, Minus, ValuedInt, ValuedPoint, Settling, Listing, Listed, Done, rounded}
+use Rattle.expr_grammar.specs.Machine.{Frame, Rounded, dividing, setting, Room, Alone, InTable, valuing, declaring, Slot, OfLine, OfValue, OfNew, holder_word, State, Want, Have, Named, Due, Member, Static, ScaleDue, Parting, Moding, Moded, Naming, Signed, Minus, ValuedInt, ValuedPoint, Settling, Listing, Listed, Done, rounded}
 use Rattle.expr_grammar.specs.Machine as machine
 use Rattle.expr_grammar.proofs.Pending.{Pending}
 use Rattle.expr_grammar.proofs.Stacks.{Stack}

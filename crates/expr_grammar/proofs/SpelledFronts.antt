@@ -7,12 +7,12 @@ use Rattle.scaled_decimal.specs.declared.rounding.Mode.TheVariants as modes
 use Rattle.pap_tree.specs.declared.expression.Binary.TheVariants as binaries
 use Rattle.pap_tree.specs.declared.expression.Known.TheVariants as knowns
 use Rattle.pap_tree.specs.Term as terms
-use Rattle.pap_tree.specs.Term.{Term, leaf, known, named}
+use Rattle.pap_tree.specs.Term.{Term, leaf, named}
 use Rattle.pap_tree.specs.Declarations.{big}
 use Rattle.pap_tree.specs.Tokens as tokens
 use Rattle.pap_tree.specs.Tokens.{Token, Word, Operator, Mark, Dot}
 use Rattle.pap_tree.specs.Grammar as grammar
-use Rattle.pap_tree.specs.Grammar.{Item, Is, Scale, free, Line, Level, Assignment, Constant, Big, Bigs, Meaning, tree, declared, decimals, rounding, sign, word}
+use Rattle.pap_tree.specs.Grammar.{Item, Is, Scale, free, Line, Level, Assignment, Constant, Big, tree, declared, rounding, sign, word}
 use Rattle.pap_tree.specs.Texts as texts
 use Rattle.pap_tree.specs.Texts.{Text}
 use Rattle.pap_tree.specs.Names.{is_name}
@@ -22,7 +22,7 @@ use Rattle.std.specs.Prelude.{IsTrue, codes}
 use Rattle.pap_tree.specs.Fronts as fronts
 use Rattle.pap_tree.specs.Fronts.{Front}
 use Rattle.expr_grammar.specs.Machine as machine
-use Rattle.expr_grammar.specs.Machine.{Frame, Rounded, dividing, setting, Room, Alone, InTable, Job, valuing, declaring, Slot, OfLine, OfValue, OfNew, Holder, the_decimal, the_mode, holder_word, State, Want, Have, Named, Due, Member, Static, ScaleDue, Parting, Moding, Moded, Naming, Signed, Minus, ValuedInt, ValuedPoint, Settling, Listing, Listed, Done, level, level_of, level_of_job, level_of_slot, rounded}
+use Rattle.expr_grammar.specs.Machine.{Frame, Room, Alone, InTable, Job, valuing, declaring, Slot, OfLine, OfValue, OfNew, Holder, the_decimal, the_mode, holder_word, State, Want, Have, Named, Due, Member, Static, ScaleDue, Parting, Moding, Moded, Naming, Signed, Minus, ValuedInt, ValuedPoint, Settling, Listing, Listed, Done, level, level_of, level_of_job, level_of_slot}
 use Rattle.expr_grammar.specs.Holes.{hole, clashes}
 use Rattle.expr_grammar.proofs.Begins.{word_clear, empty_clear}
 use Rattle.expr_grammar.proofs.Closing.{operator_high}

@@ -13,11 +13,11 @@ use Rattle.pap_tree.specs.Term.{Leaf, One, unary, value_of, value_of_scaled, new
 use Rattle.pap_tree.specs.Words.{level_of_operator, round_word}
 use Rattle.pap_tree.specs.Spelling.{level_of, level_of_one, level_of_two}
 use Rattle.pap_tree.specs.Tokens as tokens
-use Rattle.pap_tree.specs.Tokens.{Token, Literal, Word, Operator, Mark, Question, Colon, Dot, Comma, Open, Close}
+use Rattle.pap_tree.specs.Tokens.{Token, Literal, Word, Operator, Mark, Question, Colon, Dot, Open, Close}
 use Rattle.pap_tree.specs.Grammar as grammar
-use Rattle.pap_tree.specs.Grammar.{Level, Meaning, tree, mode}
+use Rattle.pap_tree.specs.Grammar.{Level, tree, mode}
 use Rattle.pap_tree.specs.Texts as texts
-use Rattle.pap_tree.specs.Texts.{Text, Texts, begins_number, begins_point}
+use Rattle.pap_tree.specs.Texts.{Text, begins_number, begins_point}
 use Rattle.expr_grammar.specs.SpelledTokens.{bracketed, at_level, begins_signed, int_tokens, long_tokens, point_tokens, leaf_tokens, one_tokens, two_tokens, spelled_tokens}
 use Rattle.pap_tree.specs.Scales.{OneKeepsScale, TwoKeepsScale}
 use Rattle.expr_grammar.proofs.Closing.{operator_high}

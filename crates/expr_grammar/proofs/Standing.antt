@@ -6,9 +6,9 @@ use Rattle.scaled_decimal.specs.Limits.{most_places}
 use Rattle.pap_tree.specs.declared.expression.Binary.TheVariants as binaries
 use Rattle.pap_tree.specs.Tokens.{Token, Literal, Word, Operator, Mark, Dot, Open, int, point}
 use Rattle.pap_tree.specs.Grammar as grammar
-use Rattle.pap_tree.specs.Grammar.{Line, of_quotient, of_setting}
+use Rattle.pap_tree.specs.Grammar.{Line, of_setting}
 use Rattle.pap_tree.specs.Stopping as stopping
-use Rattle.pap_tree.specs.Stopping.{IsDeep, WantsScale, IsGreat, IsFraction, IsForeign, new_big_decimal, Cause, syntax, unsupported, binary_fraction, number, deep, rank, Earns, HasCause}
+use Rattle.pap_tree.specs.Stopping.{WantsScale, IsFraction, new_big_decimal, unsupported, binary_fraction}
 use Rattle.expr_grammar.specs.Lines.{IsWhole}
 use Rattle.expr_grammar.specs.Machine.{Frame, InNew, dividing, setting, valuing, rounding, declaring, OfLine, OfValue, OfNew, the_decimal, the_mode, State, Want, Have, Named, Due, ScaleDue, Parting, Moded, Signed, Listing, same_token, step, steps, start}
 use Rattle.expr_grammar.specs.Run.{point_cause, close_cause}

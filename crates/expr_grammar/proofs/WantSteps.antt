@@ -10,7 +10,7 @@ use Rattle.pap_tree.specs.Term.{Leaf, Term, text, unary, new_big, leaf, one}
 use Rattle.pap_tree.specs.Tokens as tokens
 use Rattle.pap_tree.specs.Tokens.{Number, Token, Literal, Quoted, Word, Operator, Mark, Dot, Open, Close}
 use Rattle.pap_tree.specs.Grammar as grammar
-use Rattle.pap_tree.specs.Grammar.{Item, Is, Part, no_number, no_point, Line, Level, tree, at, sign, word, leaf_of, negative_of, form_of}
+use Rattle.pap_tree.specs.Grammar.{Is, Part, no_number, no_point, Line, Level, tree, at, sign, word, leaf_of, negative_of, form_of}
 use Rattle.pap_tree.specs.Texts as texts
 use Rattle.pap_tree.specs.Texts.{Text}
 use Rattle.pap_tree.specs.Fronts as fronts

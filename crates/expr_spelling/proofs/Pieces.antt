@@ -8,7 +8,7 @@ use Rattle.pap_tree.specs.declared.expression.Binary.{Binary}
 use Rattle.pap_tree.specs.declared.expression.Binary.TheVariants as binaries
 use Rattle.pap_tree.specs.Spelling as bytes
 use Rattle.pap_tree.specs.Tokens as tokens
-use Rattle.pap_tree.specs.Tokens.{Sign, sign_text, Token, Literal, Word, Operator, Mark, Open, Close, is_word_text, IsToken}
+use Rattle.pap_tree.specs.Tokens.{Token, Word, Operator, Mark, Open, Close, is_word_text, IsToken}
 use Rattle.pap_tree.specs.Texts.{begins_point}
 use Rattle.expr_tokens.specs.Views.{NotFirst, is_sign_byte, IsNoPair}
 use Rattle.expr_tokens.proofs.Laws.{pair_begins, a_token}

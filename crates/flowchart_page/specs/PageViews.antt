@@ -5,7 +5,7 @@ use Rattle.pap_reader.specs.Trees.{ElementTree}
 use Rattle.pap_plan.specs.Plans.{flowchart}
 use Rattle.flowchart_methods.specs.Captions.{AreCaptions, methods_of}
 use Rattle.flowchart_page.specs.declared.verdict.Verdict.{Verdict}
-use Rattle.flowchart_page.specs.declared.verdict.Verdict.TheVariants.{Accepted, InOrder, Refused}
+use Rattle.flowchart_page.specs.declared.verdict.Verdict.TheVariants.{Accepted}
 use Rattle.flowchart_page.specs.Pages.{IsWhole, ArePlanCaptions, accepted_text, refused_text, in_order_text}
 
 -- the sentence on a plan of this verdict, for which there is a reason or none

@@ -1,5 +1,5 @@
 //! The ranges of expressions.
-ghost use Rattle.std.specs.Prelude.{◌≡◌, ◌+◌, ◌<◌, ◌^◌, OnOk};
+ghost use Rattle.std.specs.Prelude.{◌≡◌, ◌<◌, OnOk};
 ghost use Rattle.pap_tree.specs.Term.{term_of, leaf, named};
 ghost use Rattle.pap_types.specs.Scopes.{number_of};
 ghost use Rattle.interval_analysis.specs.PlanViews.{IsSized, variables_in, name_range_in, ranges_after, branches_in};

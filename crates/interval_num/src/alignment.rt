@@ -2,8 +2,8 @@
 ghost use Rattle.std.specs.Prelude.{◌≡◌, ◌≤◌, ◌||◌, ℤ, pos, ◌≤ℤ◌, ◌*ℤ◌, IfOk, unsigned_abs};
 ghost use Rattle.scaled_decimal.specs.Decimals.{ten_to};
 ghost use Rattle.scaled_decimal.specs.Limits.{IsWithinLimit, most_places};
-ghost use Rattle.interval_num.specs.Intervals.{Interval, interval, HasKeptEnds, IsKeptInterval};
-ghost use Rattle.interval_num.specs.Alignment.{is_beyond, ends_beyond, kept, at_scale, greater_scale, aligned, most, has_zero, Align};
+ghost use Rattle.interval_num.specs.Intervals.{Interval, interval, HasKeptEnds};
+ghost use Rattle.interval_num.specs.Alignment.{is_beyond, ends_beyond, kept, at_scale, greater_scale, aligned, most, has_zero};
 ghost use Rattle.interval_num.specs.Rows.{Answer};
 ghost use Rattle.interval_num.specs.Views.{with_pair};
 

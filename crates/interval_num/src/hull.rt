@@ -1,7 +1,7 @@
 //! The interval between the least and the greatest of some numbers.
-ghost use Rattle.std.specs.Prelude.{◌≡◌, ◌≤◌, ◌<◌, length, All, ℤ};
+ghost use Rattle.std.specs.Prelude.{◌≡◌, ◌≤◌, ◌<◌, length, All};
 ghost use Rattle.scaled_decimal.specs.Limits.{IsWithinLimit, most_places};
-ghost use Rattle.interval_num.specs.Alignment.{hull, least, greatest};
+ghost use Rattle.interval_num.specs.Alignment.{hull};
 
 use crate::interval::Abs;
 

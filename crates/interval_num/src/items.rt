@@ -1,9 +1,8 @@
 //! The items of a table that an index may choose.
 ghost use Rattle.std.specs.Prelude.{◌≡◌, ◌<◌, ◌≤◌, length, IfOk};
-ghost use Rattle.scaled_decimal.specs.Decimals.{Decimal, numerator_at, scale_of};
+ghost use Rattle.scaled_decimal.specs.Decimals.{numerator_at};
 ghost use Rattle.scaled_decimal.specs.Limits.{most_places};
 ghost use Rattle.interval_num.specs.Intervals.{IsWhole};
-ghost use Rattle.interval_num.specs.Alignment.{is_beyond};
 ghost use Rattle.interval_num.specs.Rows.{item_row, decimals_row, least_scale, greatest_scale};
 ghost use Rattle.interval_num.specs.Views.{kept_numerator};
 ghost use Rattle.interval_num.specs.Soundness.{ItemIsSound};

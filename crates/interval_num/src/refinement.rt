@@ -2,7 +2,7 @@
 ghost use Rattle.std.specs.Prelude.{◌≡◌, ◌+◌, ◌≤◌, ℤ, ◌≤ℤ◌, unsigned_abs, IfSome, IfNone};
 ghost use Rattle.std.specs.Bool.{OnTrue};
 ghost use Rattle.scaled_decimal.specs.Limits.{limit};
-ghost use Rattle.interval_num.specs.Intervals.{Interval, interval, IsWhole};
+ghost use Rattle.interval_num.specs.Intervals.{interval, IsWhole};
 ghost use Rattle.interval_num.specs.Alignment.{Align};
 ghost use Rattle.interval_num.specs.Refinement.{refined, gap, low_end, high_end, is_apart, past, short_of, unless_empty};
 ghost use Rattle.interval_num.specs.Soundness.{RefinementIsSound, NoneIsAllowed};

@@ -1,6 +1,5 @@
 //! The signs that the decimals of two intervals may have against each other.
 ghost use Rattle.std.specs.Prelude.{◌≡◌};
-ghost use Rattle.interval_num.specs.Intervals.{Interval};
 ghost use Rattle.interval_num.specs.Alignment.{Align};
 ghost use Rattle.interval_num.specs.Soundness.{SignsAreSound};
 ghost use Rattle.interval_num.specs.Signs.{signs_of, signs_at, least_sign, greatest_sign};

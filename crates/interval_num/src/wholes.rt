@@ -1,10 +1,9 @@
 //! The operations of whole numbers, Java's `int` of 32 bits and `long` of 64.
-ghost use Rattle.std.specs.Prelude.{◌≡◌, ◌∷◌, [], length, ◌<◌, ℤ, pos, neg_ℤ, IfOk};
+ghost use Rattle.std.specs.Prelude.{◌≡◌, length, ◌<◌, IfOk};
 ghost use Rattle.std.specs.List.{list_all};
 ghost use Rattle.scaled_decimal.specs.WholeNumbers.{int_bits, long_bits, is_of_bits, whole_sum, whole_difference, whole_product, whole_quotient, whole_remainder, whole_opposite};
 ghost use Rattle.scaled_decimal.specs.Limits.{IsWithinLimit};
-ghost use Rattle.interval_num.specs.Intervals.{Interval, interval, IsWholeOfBits};
-ghost use Rattle.interval_num.specs.Alignment.{corners};
+ghost use Rattle.interval_num.specs.Intervals.{IsWholeOfBits};
 ghost use Rattle.interval_num.specs.Rows.{whole_hull, whole_row, whole_opposite_row, whole_quotient_row, whole_remainder_row, least_remainder, greatest_remainder};
 ghost use Rattle.interval_num.specs.Soundness.{WholeIsSound, WholeQuotientIsSound, WholeOppositeIsSound};
 ghost use Rattle.interval_num.specs.Widths.{bits_of};

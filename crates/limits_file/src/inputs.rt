@@ -1,5 +1,5 @@
 //! `[input]`: the range of each input.
-ghost use Rattle.std.specs.Prelude.{◌≡◌, ◌↔◌, ℕ, IsTrue, MatchOption, IfOk, map, Some, not, option_map};
+ghost use Rattle.std.specs.Prelude.{◌≡◌, ◌↔◌, IsTrue, MatchOption, IfOk, map, Some, not, option_map};
 ghost use Rattle.scaled_decimal.specs.Decimals.{Decimal};
 ghost use Rattle.toml.specs.View.{view, table_view};
 ghost use Rattle.limits_file.specs.AnswerViews.{Tells};

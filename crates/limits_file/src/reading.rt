@@ -4,7 +4,7 @@ ghost use Rattle.toml.specs.View.{table_view};
 ghost use Rattle.limits_file.specs.AnswerViews.{Tells, IsRefused};
 ghost use Rattle.limits_file.specs.Faults.{no_toml, bad_key, bad_bound};
 ghost use Rattle.limits_file.specs.Limits.{longest_limits};
-ghost use Rattle.limits_file.specs.RangeFiles.{SectionSays, joined, IsToml, IsNoToml, FileSays, AreInOrder, HasOneAnswer};
+ghost use Rattle.limits_file.specs.RangeFiles.{SectionSays, joined, IsToml, FileSays, AreInOrder, HasOneAnswer};
 ghost use Rattle.limits_file.specs.Walks.{TableSays};
 
 use crate::bindings::read_bindings;

@@ -2,7 +2,7 @@
 ghost use Rattle.std.specs.Prelude.{◌≡◌, ◌<◌, ◌+◌, ◌^◌, ◌++◌, IfOk, OnOk, length, map, []};
 ghost use Rattle.pap_tree.specs.Flowchart.{flowchart_of, routine_of, body_of};
 ghost use Rattle.pap_tree.specs.Declarations.{declaration_of};
-ghost use Rattle.pap_types.specs.Scopes.{variables_of, first_value, declared_table};
+ghost use Rattle.pap_types.specs.Scopes.{variables_of, first_value};
 ghost use Rattle.call_order.specs.Orders.{IsOrdered};
 ghost use Rattle.pap_compiler.specs.CodeDecisions.{body_length, methods_length, entries_from};
 ghost use Rattle.pap_compiler.specs.CodeDecisions.{first_method, code_of, compiled, numbers_from};

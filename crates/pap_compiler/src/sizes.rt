@@ -1,6 +1,6 @@
 //! How much room code takes.
 ghost use Rattle.std.specs.Prelude.{◌≡◌, ◌<◌, ◌+◌, ◌^◌, max};
-ghost use Rattle.pap_tree.specs.Term.{term_of, two, choice};
+ghost use Rattle.pap_tree.specs.Term.{term_of};
 ghost use Rattle.pap_tree.specs.Flowchart.{body_of, stmt_then, branch, done};
 ghost use Rattle.pap_compiler.specs.CodeDecisions.{term_length, body_length};
 ghost use Rattle.pap_compiler.specs.SizeViews.{IsTermSize, IsBodySize};

@@ -3,7 +3,7 @@ use Rattle.std.proofs.Common.{◌≡◌, false, Some, Result, ℤ, refl, sym, ap
 use Rattle.std.specs.Prelude.{option_map}
 use Rattle.scaled_decimal.specs.Decimals.{Decimal, decimal}
 use Rattle.pap_tree.specs.Tokens as tokens
-use Rattle.pap_tree.specs.Tokens.{Token, Literal, Word, Mark, Comma, Close, Spot}
+use Rattle.pap_tree.specs.Tokens.{Token, Literal, Mark, Comma, Close, Spot}
 use Rattle.expr_grammar.specs.Machine.{State, Due, Room, ValuedInt, ValuedPoint, settled, same_token, step}
 use Rattle.expr_grammar.specs.Shortened.{shortened}
 use Rattle.expr_grammar.specs.Run.{refusal, cause_of}

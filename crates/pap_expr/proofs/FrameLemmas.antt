@@ -3,7 +3,7 @@ use Rattle.std.proofs.Common.{◌≡◌, ℕ, ◌+◌, ◌-◌, ◌<◌, ◌≤�
 use Rattle.std.proofs.lemmas.List.{nil_from_length, take_more, take_all}
 use Rattle.pap_tree.specs.Term.{Term}
 use Rattle.expr_grammar.specs.Machine as machine
-use Rattle.expr_grammar.specs.Machine.{level, close, closes, binds, made}
+use Rattle.expr_grammar.specs.Machine.{close, closes, binds, made}
 use Rattle.pap_expr.specs.declared.frame.Frame.{Frame}
 use Rattle.pap_expr.specs.Frames.{frame_of, frames_of}
 

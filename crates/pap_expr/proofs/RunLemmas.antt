@@ -3,7 +3,7 @@ use Rattle.std.proofs.Common.{◌≡◌, ℕ, ◌+◌, ◌<◌, ◌≤◌, Bool,
 use Rattle.std.specs.Prelude.{nat_lt, ◌&&◌}
 use Rattle.std.proofs.lemmas.List.{drop_more, drop_all, take_all, take-map, drop-map}
 use Rattle.pap_tree.specs.Tokens as tokens
-use Rattle.pap_tree.specs.Tokens.{Spot, Token, Literal, Beyond, Word, Mark, Equals, Close}
+use Rattle.pap_tree.specs.Tokens.{Spot, Token, Literal, Mark, Equals, Close}
 use Rattle.pap_tree.specs.Grammar.{Line, Assignment, Meaning}
 use Rattle.pap_tree.specs.Limits.{most_levels}
 use Rattle.pap_tree.specs.Stopping.{syntax, deep, has_limits}

@@ -7,7 +7,6 @@ use Rattle.pap_tree.specs.Grammar.{Item, Line, Level, Assignment, Constant, Mean
 use Rattle.pap_tree.specs.Declarations.{declared_of}
 use Rattle.pap_tree.specs.declared.declaration.Literal.{Literal}
 use Rattle.pap_tree.specs.Texts as texts
-use Rattle.pap_tree.specs.Texts.{Text}
 use Rattle.pap_tree.specs.Expressions.{IsText, IsAccepted}
 use Rattle.expr_grammar.specs.Lines.{IsWhole, a_constant}
 use Rattle.expr_grammar.specs.Run.{answer}

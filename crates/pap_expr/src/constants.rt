@@ -1,11 +1,9 @@
 //! The reading of declared literals, a token at a time.
 
-ghost use Rattle.std.specs.Prelude.{◌≡◌, ◌≤◌, ℕ, Some, None, IfOk, IfErr, MatchOption};
+ghost use Rattle.std.specs.Prelude.{◌≡◌, ℕ, Some, None, IfOk, IfErr, MatchOption};
 ghost use Rattle.scaled_decimal.specs.Decimals.{decimal};
-ghost use Rattle.scaled_decimal.specs.Limits.{most_places};
 ghost use Rattle.pap_tree.specs.Term.{whole, long as long_leaf, point as point_leaf};
 ghost use Rattle.pap_tree.specs.Tokens as pure;
-ghost use Rattle.pap_tree.specs.Grammar as grammar;
 ghost use Rattle.pap_tree.specs.Grammar.{Constant, declared};
 ghost use Rattle.pap_tree.specs.Declarations.{declared_of};
 ghost use Rattle.pap_tree.specs.Stopping.{syntax};

@@ -1,6 +1,6 @@
 //! The tokens that an expression begins with.
 
-ghost use Rattle.std.specs.Prelude.{◌≡◌, ◌≤◌, ℕ, List, ◌∷◌, Some, None, IsTrue, MatchBool, if◌then◌else◌};
+ghost use Rattle.std.specs.Prelude.{◌≡◌, ◌≤◌, List, ◌∷◌, Some, IsTrue, MatchBool, if◌then◌else◌};
 ghost use Rattle.pap_tree.specs.Names.{is_name};
 ghost use Rattle.pap_tree.specs.Term.{Leaf, leaf};
 ghost use Rattle.pap_tree.specs.Tokens as pure;
@@ -14,7 +14,6 @@ ghost use Rattle.expr_grammar.specs.Machine.{level, taken, literal_step, want_st
 ghost use Rattle.expr_grammar.specs.Run.{refusal, point_cause};
 ghost use Rattle.pap_expr.specs.declared.state.State.TheVariants.{AfterName};
 ghost use Rattle.pap_expr.specs.Stacks.{stack_of};
-ghost use Rattle.pap_expr.specs.Views.{plain_cause};
 ghost use Rattle.pap_expr.specs.States.{state_of};
 ghost use Rattle.pap_expr.specs.Steps.{Steps, Leads};
 

@@ -1,21 +1,17 @@
 //! The reading of an expression, a token at a time: what waits for an operand stands on a stack.
 
-ghost use Rattle.std.specs.Prelude.{◌≡◌, ◌≤◌, ℕ, List, ◌∷◌, Some, None, IfOk, IfErr, MatchBool, if◌then◌else◌};
-ghost use Rattle.pap_tree.specs.Term.{Leaf, leaf, one, unary, term_of};
+ghost use Rattle.std.specs.Prelude.{◌≡◌, ◌≤◌, ℕ, List, ◌∷◌, Some, None, IfOk, IfErr};
+ghost use Rattle.pap_tree.specs.Term.{one, unary, term_of};
 ghost use Rattle.pap_tree.specs.Tokens as pure;
-ghost use Rattle.pap_tree.specs.Tokens.{Number};
-ghost use Rattle.pap_tree.specs.Grammar.{leaf_of, negative_of};
 ghost use Rattle.pap_tree.specs.Limits.{most_levels};
-ghost use Rattle.pap_tree.specs.Stopping.{binary_fraction};
-ghost use Rattle.expr_tokens.specs.Spots.{token_of, spot_of, sign_of, keyword_text};
+ghost use Rattle.expr_tokens.specs.Spots.{token_of, spot_of, sign_of};
 ghost use Rattle.expr_grammar.specs.Machine as machine;
-ghost use Rattle.expr_grammar.specs.Machine.{Frame as Waiting, Want, Have, level, taken, literal_step};
-ghost use Rattle.expr_grammar.specs.Run.{refusal, point_cause};
+ghost use Rattle.expr_grammar.specs.Machine.{Frame as Waiting, Want, Have, level};
+ghost use Rattle.expr_grammar.specs.Run.{refusal};
 ghost use Rattle.pap_expr.specs.declared.fault.ExprFault.TheVariants.{Memory};
 ghost use Rattle.pap_expr.specs.Frames.{frame_of};
 ghost use Rattle.pap_expr.specs.Stacks.{stack_of};
 ghost use Rattle.pap_expr.specs.Views.{plain_cause};
-ghost use Rattle.pap_expr.specs.States.{state_of};
 ghost use Rattle.pap_expr.specs.Steps.{Steps, Leads, Opens};
 
 use crate::fault::ExprFault;
@@ -23,9 +19,8 @@ use crate::frame::Frame;
 use crate::stack::Stack;
 use crate::state::{Rounded, Scaled, State};
 use crate::steps::{is_sign, refused, tightness};
-use expr_tokens::{Keyword, Placed, Sign, Token};
+use expr_tokens::{Placed, Sign, Token};
 use pap_tree::{Binary, Call, Expr, Name, Unary};
-use scaled_decimal::Dec;
 use std::alloc::Global;
 
 /// What is read of a test or an assignment.

@@ -10,7 +10,7 @@ use Rattle.pap_tree.specs.Declarations.{Declaration}
 use Rattle.pap_tree.specs.Flowchart.{Body, done, eval, branch, execute, Routine, Flowchart}
 use Rattle.pap_tree.specs.Statements.{written}
 use Rattle.expr_grammar.proofs.Laws.{bounded, bytes_keep}
-use Rattle.pap_reader.specs.Trees.{RawDeclaration, RawBody, RawRoutine, ElementTree}
+use Rattle.pap_reader.specs.Trees.{RawDeclaration, RawBody, RawRoutine}
 use Rattle.pap_reader.specs.Trees as raw
 use Rattle.pap_reader.specs.TreeLimits.{raw_written, raw_nesting}
 use Rattle.pap_reader.specs.TreeLimits as raws

@@ -1,5 +1,5 @@
 //! An accepted plan.
-ghost use Rattle.std.specs.Prelude.{◌≡◌, ◌≤◌, ◌+◌, ◌↔◌, IsTrue, ℕ, List, Some, IfOk, length, map};
+ghost use Rattle.std.specs.Prelude.{◌≡◌, ◌≤◌, ◌+◌, ◌↔◌, IsTrue, List, Some, IfOk, length};
 ghost use Rattle.scaled_decimal.specs.Decimals.{Decimal};
 ghost use Rattle.pap_compiler.specs.CodeDecisions.{compiled};
 ghost use Rattle.pap_compiler.specs.Correct.{IsCodeOf};

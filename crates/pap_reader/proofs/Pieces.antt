@@ -3,7 +3,7 @@ use Rattle.std.proofs.Common.{◌≡◌, Option, Some, None, List, [], ◌∷◌
 use Rattle.std.proofs.lemmas.List.{append-nil}
 use Rattle.pap_reader.specs.declared.element.Element.{Element}
 use Rattle.pap_reader.specs.Structure as structure
-use Rattle.pap_reader.specs.Structure.{Shape, opens, closes, foreign, Nodes}
+use Rattle.pap_reader.specs.Structure.{Shape, opens, closes, Nodes}
 use Rattle.pap_reader.specs.Tags.{Attribute}
 use Rattle.pap_reader.specs.Marks.{Mark, begins, ends, alien, shape}
 use Rattle.pap_reader.specs.Trees.{RawBody, done, eval, branch, execute}

@@ -8,7 +8,7 @@ use Rattle.pap_reader.specs.declared.reader.Reader.{Reader}
 use Rattle.pap_reader.specs.declared.elements.Elements.{Elements}
 use Rattle.pap_reader.specs.NestingDecisions.{Open, start, is_ended}
 use Rattle.pap_reader.specs.Tags.{Tag, IsTag}
-use Rattle.pap_reader.specs.Tokens.{PlacedTag, Leads, Reads, IsAlien, placed}
+use Rattle.pap_reader.specs.Tokens.{PlacedTag, Leads, Reads, placed}
 use Rattle.pap_reader.specs.Marks.{shapes, marks_of}
 use Rattle.pap_reader.specs.Trees.{ElementTree, tree_of}
 use Rattle.pap_reader.specs.Limits.{most, tested, IsFirstOver}

@@ -1,6 +1,6 @@
 //! How much there is of what there may not be too much of.
 
-ghost use Rattle.std.specs.Prelude.{◌≡◌, ◌+◌, ◌-◌, ◌<◌, List, []};
+ghost use Rattle.std.specs.Prelude.{◌≡◌, ◌-◌, ◌<◌, List, []};
 ghost use Rattle.pap_reader.specs.Limits.{tested, deeper};
 ghost use Rattle.pap_reader.specs.VerdictDecisions.{first_over};
 ghost use Rattle.pap_reader.specs.Structure.{Shape, closes};

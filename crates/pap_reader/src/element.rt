@@ -1,6 +1,6 @@
 //! The elements of a plan's file, and which of them may stand in one.
 
-ghost use Rattle.std.specs.Prelude.{◌≡◌, ◌<◌, List, ◌∷◌, [], ◌++◌};
+ghost use Rattle.std.specs.Prelude.{◌≡◌, ◌<◌, List, []};
 ghost use Rattle.pap_reader.specs.Table.{number, has, may_stand, is_complete};
 ghost use Rattle.pap_reader.specs.Marks.{tag_name, element_of};
 ghost use Rattle.pap_reader.specs.Views.{is_in_body, HasFlags, AddsChild};

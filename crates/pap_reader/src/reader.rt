@@ -1,6 +1,6 @@
 //! The reader: it goes through the tags of a text with the open elements in hand.
 
-ghost use Rattle.std.specs.Prelude.{◌≡◌, ℕ, Bool, true, List, ◌∷◌, [], ◌++◌, map, is_some, OnOk, ◌&&◌, ◌||◌};
+ghost use Rattle.std.specs.Prelude.{◌≡◌, ℕ, List, ◌∷◌, [], ◌++◌, map, is_some, OnOk, ◌&&◌, ◌||◌};
 ghost use Rattle.pap_reader.specs.Structure.{Shape, opens, opens_internals};
 ghost use Rattle.pap_reader.specs.NestingDecisions.{Open, fresh, is_inside, step, start, is_ended};
 ghost use Rattle.pap_reader.specs.Table.{is_complete};

@@ -1,6 +1,6 @@
 //! What is passed over between the tags, and before them.
 
-ghost use Rattle.std.specs.Prelude.{◌≡◌, ℕ, ◌<◌, ◌≤◌, List, length, MatchOption, IfSome};
+ghost use Rattle.std.specs.Prelude.{◌<◌, ◌≤◌, length, MatchOption, IfSome};
 ghost use Rattle.pap_reader.specs.Skipped.{Past, IsPassed, IsAfterMark, IsAfterDeclaration, NoPast, NotPassed, IsAfterProlog};
 ghost use Rattle.pap_reader.specs.Views.{Passes};
 

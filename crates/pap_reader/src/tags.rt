@@ -1,6 +1,6 @@
 //! Tags and their attributes.
 
-ghost use Rattle.std.specs.Prelude.{◌≡◌, ◌<◌, ◌≤◌, ◌∷◌, [], true, length, MatchOption, IfOk, IfSome};
+ghost use Rattle.std.specs.Prelude.{◌≡◌, ◌<◌, ◌∷◌, [], true, length, MatchOption, IfOk, IfSome};
 ghost use Rattle.pap_reader.specs.Values.{is_quote};
 ghost use Rattle.pap_reader.specs.Tags.{Front, IsAttribute, Ending, IsTag, attribute_of, attributes_of, tag_of, NoTag, IsFrontOf};
 ghost use Rattle.pap_reader.specs.Views.{NoQuote, NoAttribute, NoClosing, NoEnding};

@@ -1,7 +1,7 @@
 //! The kinds of an expression's nodes, and which operands each operation takes.
 ghost use Rattle.std.specs.Prelude.{◌≡◌, ◌&&◌};
-ghost use Rattle.pap_tree.specs.Term.{term_of, unary, operator, method};
-ghost use Rattle.pap_types.specs.Kinds.{declared_kind, wider, kind_of_one, kind_of_operator, kind_of_two, is_int, is_big, is_truth, is_table, is_whole, is_convertible, has_few_places, is_factor_literal, is_plain_divisor, takes_one, takes_operator, are_comparable, are_parts, suits};
+ghost use Rattle.pap_tree.specs.Term.{term_of, unary, method};
+ghost use Rattle.pap_types.specs.Kinds.{declared_kind, wider, kind_of_one, kind_of_operator, kind_of_two, is_int, is_big, is_truth, is_table, is_whole, is_convertible, has_few_places, is_factor_literal, takes_one, takes_operator, are_comparable, are_parts, suits};
 
 use crate::literals::FACTOR_PLACES;
 use pap_tree::{Binary, Call, Expr, Kind, Unary, is_kept_at};

@@ -1,7 +1,6 @@
 //! The checks of statements, in the order of their numbers.
 ghost use Rattle.std.specs.Prelude.{◌≡◌, ◌+◌, ◌<◌, ◌^◌, All, map};
 ghost use Rattle.pap_tree.specs.Term.{term_of};
-ghost use Rattle.pap_tree.specs.Numbering.{nodes};
 ghost use Rattle.pap_tree.specs.Flowchart.{done, stmt_then, body_of, routine_of, flowchart_of};
 ghost use Rattle.pap_tree.specs.Statements.{written};
 ghost use Rattle.pap_types.specs.Checks.{last_node};

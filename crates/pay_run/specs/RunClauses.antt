@@ -1,5 +1,5 @@
 -- What the calls that fill and run promise.
-use Rattle.std.specs.Prelude.{ℕ, ◌≡◌, ◌≤◌, List, Some, ⊤}
+use Rattle.std.specs.Prelude.{◌≡◌, ◌≤◌, List, Some, ⊤}
 use Rattle.scaled_decimal.specs.Decimals.{Decimal}
 use Rattle.interval_walk.specs.Admission.{AreAdmitted}
 use Rattle.pap_types.specs.Limits.{most_steps}

@@ -1,11 +1,11 @@
 //! One row of a table.
-ghost use Rattle.std.specs.Prelude.{◌≡◌, ◌↔◌, ◌+◌, ◌<◌, ◌≤◌, ◌^◌, ℕ, IfOk, IfErr, IsTrue, MatchOption, Some, length};
+ghost use Rattle.std.specs.Prelude.{◌≡◌, ◌↔◌, ◌+◌, ◌<◌, ◌≤◌, ℕ, IfOk, IfErr, IsTrue, MatchOption, Some, length};
 ghost use Rattle.std.specs.List.{Contains};
 ghost use Rattle.csv.specs.Records.{fields_of};
 ghost use Rattle.scaled_decimal.specs.Decimals.{Decimal};
 ghost use Rattle.payroll_records.specs.Limits.{most_values};
 ghost use Rattle.payroll_records.specs.NamedValues.{AreValues};
-ghost use Rattle.payroll_records.specs.Tables.{IsHeader, IsNumberText, IsReadable, IsRecordOf, Supplies, cell_of};
+ghost use Rattle.payroll_records.specs.Tables.{IsNumberText, IsReadable, IsRecordOf, Supplies, cell_of};
 ghost use Rattle.payroll_records.specs.CellViews.{filled_cells, is_filled};
 ghost use Rattle.payroll_records.specs.TableViews.{AreColumns, IsFirstBroken, IsRowFault};
 ghost use Rattle.payroll_records.specs.declared.values.NamedValue.{NamedValue};

@@ -1,6 +1,6 @@
 //! Places in a text as an editor counts them.
-ghost use Rattle.std.specs.Prelude.{◌≡◌, ◌+◌, ◌≤◌, ◌<◌, length, drop};
-ghost use Rattle.std.specs.List.{after_last, count_by};
+ghost use Rattle.std.specs.Prelude.{◌≡◌, ◌+◌, ◌≤◌, length, drop};
+ghost use Rattle.std.specs.List.{after_last};
 ghost use Rattle.plain_words.specs.Positions.{is_line_feed, begins_character, line_of, column_of};
 ghost use Rattle.plain_words.specs.Positions.{line_number, column_number};
 

@@ -2,7 +2,6 @@
 ghost use Rattle.std.specs.Prelude.{◌≡◌};
 ghost use Rattle.plain_words.specs.FoundViews.{IsOfPlan, IsOfRanges};
 
-use crate::place::TextFile;
 
 /// One of the two files of a plan.
 #[derive(Clone, Copy)]

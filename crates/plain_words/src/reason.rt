@@ -1,5 +1,5 @@
 //! The reason of a refusal as one line.
-ghost use Rattle.std.specs.Prelude.{◌≡◌, IfOk};
+ghost use Rattle.std.specs.Prelude.{IfOk};
 ghost use Rattle.std.specs.String.{string_bytes};
 ghost use Rattle.plain_words.specs.Lines.{IsOneLine};
 ghost use Rattle.plain_words.specs.Places.{named_text, BeginsWith};

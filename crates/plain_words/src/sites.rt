@@ -1,5 +1,5 @@
 //! Where the statements, the methods and the declared names of a plan stand in its file.
-ghost use Rattle.std.specs.Prelude.{◌≡◌, IfOk, IfSome, IfNone, IsTrue};
+ghost use Rattle.std.specs.Prelude.{◌≡◌, IfOk, IfSome, IfNone};
 ghost use Rattle.pap_reader.specs.Trees.{tree_of, ElementTree};
 ghost use Rattle.pap_reader.specs.Elements.{IsElements};
 ghost use Rattle.plain_words.specs.SiteViews.{declares_input};

@@ -1,5 +1,5 @@
 //! The top call over an outside whose calls fail one after another, or give and take a few bytes at a time.
-ghost use Rattle.std.specs.Prelude.{◌≡◌, ◌≢◌, ◌≤◌, AllPairs, IfOk};
+ghost use Rattle.std.specs.Prelude.{◌≢◌, ◌≤◌, AllPairs, IfOk};
 ghost use Rattle.outside.specs.Memory.{named_files};
 
 use crate::answers::{carried_out, words_of, write_lines};

@@ -1,5 +1,5 @@
 -- The job of each run of a book is safe: it is filled from kept values, after runs whose outputs keep their bound.
-use Rattle.std.proofs.Common.{◌≡◌, ℕ, ◌+◌, ◌≤◌, List, [], ◌∷◌, ◌++◌, length, Option, Some, None, refl, subst, arith}
+use Rattle.std.proofs.Common.{◌≡◌, ◌+◌, ◌≤◌, List, [], ◌∷◌, ◌++◌, length, Option, Some, None, refl, subst, arith}
 use Rattle.std.specs.Prelude.{All, ⊤}
 use Rattle.std.specs.List.{AllByRecursion, flat_map}
 use Rattle.std.specs.Option.{option_and_then}
@@ -34,8 +34,7 @@ use Rattle.book_year.specs.Records.{record_day}
 use Rattle.book_year.specs.Rows.{Job, Planned, Row, outputs_in, row_filled, row_of, rows, year_rows}
 use Rattle.book_year.proofs.Laws.{own_few}
 use Rattle.book_edits.specs.Books.{YearRuns, runs_key, runs_or_none, year_cmp, year_of}
-use Rattle.recalc_engine.specs.BookLaws.{HasKeptValues, HasOwnRuns, HasPlan, HaveKeptValues, IsBook, IsPlan, IsSafeJob, JobsAreSafe}
-use Rattle.recalc_engine.specs.Contents.{Contents, row_at}
+use Rattle.recalc_engine.specs.BookLaws.{HasKeptValues, HasOwnRuns, HasPlan, IsPlan, IsSafeJob, JobsAreSafe}
 use Rattle.recalc_engine.proofs.JobLemmas.{admits_filled, all_at_key}
 use Rattle.recalc_engine.proofs.OutputLemmas.{all_both, picked_plan}
 use Rattle.recalc_engine.proofs.RowLemmas.{next, row_day}

@@ -1,5 +1,5 @@
 //! The incremental book: pay runs and plans, and what each run came to, which is at any time what computing every run anew
-//! gives. An edit runs exactly the runs whose job is new.
+//! gives. An edit runs as many runs as have a new job.
 #![tactic(auto)]
 
 mod book;

@@ -5,7 +5,7 @@ ghost use Rattle.saved_items.specs.ItemDecisions.{Fits, with_item};
 ghost use Rattle.saved_items.specs.ItemViews.{IsKnown, front_in, item_in};
 
 use crate::item::Item;
-use crate::{ItemFault, Items};
+use crate::Items;
 use std::alloc::{AllocError, Global};
 
 /// Which item comes next.

@@ -1,14 +1,11 @@
 //! The next item of a text, behind what was read so far.
-ghost use Rattle.std.specs.Prelude.{◌≡◌, ◌+◌, ◌<◌, ◌≤◌, ◌^◌, [], ◌∷◌, ◌++◌, ℕ, List, IfOk, MatchBool, MatchOption, length};
-ghost use Rattle.std.specs.List.{AllByRecursion};
+ghost use Rattle.std.specs.Prelude.{◌≡◌, ◌+◌, ◌<◌, ◌^◌, ◌++◌, ℕ, List, IfOk, MatchBool, MatchOption, length};
 ghost use Rattle.rising_lists.specs.Keyed.{IsRising};
-ghost use Rattle.payroll_records.specs.Limits.{most_records};
 ghost use Rattle.payroll_records.specs.Orders.{day_cmp, key_cmp};
-ghost use Rattle.payroll_records.specs.Tables.{Text, key_of};
-ghost use Rattle.plan_calendar.specs.Limits.{most_plans};
+ghost use Rattle.payroll_records.specs.Tables.{key_of};
 ghost use Rattle.saved_items.specs.Fronts.{IsFront, nothing, titled, worked, planning, running};
 ghost use Rattle.saved_items.specs.ItemDecisions.{Fits, IsBeyond, IsLater};
-ghost use Rattle.saved_items.specs.ItemViews.{HasNoTexts, HasTexts, Reads, front_in, item_in, plans_of};
+ghost use Rattle.saved_items.specs.ItemViews.{HasNoTexts, HasTexts, Reads, front_in, plans_of};
 ghost use Rattle.saved_items.specs.SavedBooks.{SavedPlan, day_of};
 
 use crate::PlanItem;

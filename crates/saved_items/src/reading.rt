@@ -1,5 +1,5 @@
 //! Reading a saved book.
-ghost use Rattle.std.specs.Prelude.{◌≡◌, ◌+◌, ◌<◌, ◌≤◌, IfOk, IfErr, IsTrue, MatchBool, length};
+ghost use Rattle.std.specs.Prelude.{◌≡◌, ◌+◌, ◌<◌, IfOk, IfErr, MatchBool};
 ghost use Rattle.payroll_records.specs.Tables.{Text};
 ghost use Rattle.saved_items.specs.Fronts.{IsFront, items_in};
 ghost use Rattle.saved_items.specs.ItemDecisions.{Ends};
@@ -11,7 +11,7 @@ ghost use Rattle.saved_items.specs.Views.{IsRefused, saved_in};
 use crate::front::{Front, Stage};
 use crate::next::next_item;
 use crate::{ItemFault, Items};
-use std::alloc::{AllocError, Global};
+use std::alloc::Global;
 
 /// The saved book that a text is, or the first item that isn't of its form.
 pub fn read_items<'a>(alloc: Global, bytes: &'a [u8]) -> Result<Items<'a>, ItemFault<'a>>

@@ -1,5 +1,5 @@
 //! The words of a run.
-ghost use Rattle.std.specs.Prelude.{◌≡◌, ◌≢◌, ◌≤◌, List, Some, IfOk, MatchBool, MatchOption, length, map, take};
+ghost use Rattle.std.specs.Prelude.{◌≡◌, ◌≢◌, List, Some, IfOk, MatchBool, MatchOption, map};
 ghost use Rattle.std.specs.List.{AllByRecursion, join_with_byte};
 ghost use Rattle.payroll_records.specs.NamedValues.{AreValues};
 ghost use Rattle.payroll_records.specs.declared.record.Record.{Record as Run};

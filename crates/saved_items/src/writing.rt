@@ -1,11 +1,11 @@
 //! Writing a saved book, part by part, behind what stands in a list of bytes.
-ghost use Rattle.std.specs.Prelude.{◌≡◌, ◌++◌, ◌<◌, ◌≤◌, [], ◌∷◌, OnOk, codes, length, map};
-ghost use Rattle.std.specs.List.{flat_map, join_with_byte};
+ghost use Rattle.std.specs.Prelude.{◌≡◌, ◌++◌, ◌<◌, [], ◌∷◌, OnOk, codes};
+ghost use Rattle.std.specs.List.{join_with_byte};
 ghost use Rattle.scaled_decimal.specs.PlainTexts.{plain_text, whole_text};
 ghost use Rattle.payroll_records.specs.Days.{two_digits};
 ghost use Rattle.saved_items.specs.SavedBooks.{day_word, end_text, head_text, line_of, plan_text};
 ghost use Rattle.saved_items.specs.SavedBooks.{run_count_text, run_text, run_words, saved_plan};
-ghost use Rattle.saved_items.specs.SavedBooks.{plan_words, value_word, values_text, work_text};
+ghost use Rattle.saved_items.specs.SavedBooks.{plan_words, values_text, work_text};
 
 use pap_tree::Name;
 use payroll_records::{Day, Record, Values};

@@ -1,5 +1,5 @@
 //! Reading a decimal from its plain text.
-ghost use Rattle.std.specs.Prelude.{◌≡◌, ◌^◌, ◌≤◌, ◌∷◌, ◌↔◌, ℕ, IfOk, IfErr, MatchOption, length, take, drop};
+ghost use Rattle.std.specs.Prelude.{◌≡◌, ◌≤◌, ◌∷◌, ◌↔◌, ℕ, IfOk, IfErr, MatchOption, length, take, drop};
 ghost use Rattle.std.specs.Option.{SomeIff};
 ghost use Rattle.std.specs.Str.Parse.{AllDigits, digits_value_after};
 ghost use Rattle.scaled_decimal.specs.Decimals.{Decimal};

@@ -1,5 +1,5 @@
 //! Rounding a quotient to a whole number.
-ghost use Rattle.std.specs.Prelude.{◌≡◌, ◌≢◌, ◌≤◌, pos, ◌<ℤ◌, int_div};
+ghost use Rattle.std.specs.Prelude.{◌≡◌, ◌≢◌, pos, ◌<ℤ◌, int_div};
 ghost use Rattle.scaled_decimal.specs.Rounding.{Rounds, RoundsPositive, EachQuotientHasOneRounding};
 ghost use Rattle.scaled_decimal.specs.RoundingDecision.{moves_away};
 ghost use Rattle.scaled_decimal.specs.Limits.{IsWithinLimit};

@@ -12,7 +12,7 @@ use Rattle.payroll_records.specs.declared.month.Month.{Month}
 use Rattle.payroll_records.proofs.Laws.{month_numbers, day_numbers}
 use Rattle.script_lang.specs.Fields.{fault_of, employee, month, day, day_in, time_field, value_fields}
 use Rattle.script_lang.specs.Lines as lines
-use Rattle.script_lang.specs.Lines.{IsFirstFault, IsDayWord, IsOfPlan, IsDrop, IsFileMonth, IsOfRecord, takes, fields_of}
+use Rattle.script_lang.specs.Lines.{IsFirstFault, IsDayWord, IsOfPlan, IsDrop, IsFileMonth}
 use Rattle.script_lang.specs.Views.{Breaks, BreaksIn, IsFaultOf, texts}
 use Rattle.script_lang.specs.Words.{is_file}
 use Rattle.script_lang.specs.declared.fault.LineFault.{LineFault}

@@ -1,13 +1,12 @@
 -- A line that was answered into memory of its own, of which only a refusal is kept.
-use Rattle.std.proofs.Common.{◌≡◌, ◌≢◌, List, [], ◌∷◌, ◌++◌, ℕ, ◌+◌, ◌≤◌, Bool, true, false, Option, refl, sym, ap, ◌∙◌, subst, arith, inl, inr}
-use Rattle.std.specs.Prelude.{None, Some, Result, Ok, Err, Vec, if◌then◌else◌}
+use Rattle.std.proofs.Common.{◌≡◌, ◌≢◌, List, [], ◌++◌, ℕ, ◌+◌, Bool, Option, refl, ap, ◌∙◌, subst, arith, inl, inr}
+use Rattle.std.specs.Prelude.{None, Some, Result, Err, Vec, if◌then◌else◌}
 use Rattle.std.specs.declared.alloc.Global.{Global}
-use Rattle.outside.specs.Told.{FileMap, Appends}
-use Rattle.script_steps.specs.Steps.{Standing, Answer}
-use Rattle.script_steps.specs.StepClauses.{IsAnswered, IsUnread, IsPart, IsCutShort, IsBroken}
+use Rattle.outside.specs.Told.{FileMap}
+use Rattle.script_steps.specs.Steps.{Standing}
+use Rattle.script_steps.specs.StepClauses.{IsAnswered, IsPart, IsCutShort, IsBroken}
 use Rattle.script_steps.specs.declared.stop.LineStop.{LineStop}
 use Rattle.script_steps.specs.declared.stop.LineStop.TheVariants.{File, Write, Memory}
-use Rattle.script_run.specs.Transcripts.{refusal_of}
 use Rattle.script_run.specs.RunViews.{IsDelivered}
 
 -- where that memory ran out nothing of the answer is kept

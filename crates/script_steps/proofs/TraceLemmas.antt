@@ -1,6 +1,6 @@
 -- What a book answers to a trace, as the answer of the line.
 use Rattle.std.proofs.Common.{◌≡◌, ℕ, List, sym, ap, ◌∙◌}
-use Rattle.std.specs.Prelude.{Ok, Err}
+use Rattle.std.specs.Prelude.{Ok}
 use Rattle.payroll_records.specs.declared.when.When.{When}
 use Rattle.recalc_engine.specs.Contents.{Contents}
 use Rattle.month_trace.specs.BookTraces.{IsTraceRefused, trace_said}

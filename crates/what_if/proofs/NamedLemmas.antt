@@ -1,5 +1,5 @@
 -- What the rows of a trial tell is so in both books, and a run or an output of which they tell nothing stays.
-use Rattle.std.proofs.Common.{◌≡◌, ◌≢◌, ℕ, ◌⊎◌, inl, inr, List, [], ◌∷◌, ◌++◌, map, length, Bool, true, false, if◌then◌else◌, Option, Some, None, option_map, refl, sym, ap, ap₂, subst, ◌∙◌, arith}
+use Rattle.std.proofs.Common.{◌≡◌, ◌≢◌, ℕ, ◌⊎◌, inl, inr, List, [], ◌∷◌, ◌++◌, map, length, Bool, true, false, if◌then◌else◌, Option, Some, None, option_map, refl, sym, ap, subst, ◌∙◌, arith}
 use Rattle.std.specs.List.{AllByRecursion, cons_option, filter_map}
 use Rattle.std.specs.Option.{option_map_or}
 use Rattle.std.specs.declared.cmp.Ordering.{Ordering}
@@ -8,7 +8,7 @@ use Rattle.std.specs.Ordering.{is_eq}
 use Rattle.std.proofs.lemmas.Bool.{false≢true}
 use Rattle.scaled_decimal.specs.Decimals.{Decimal}
 use Rattle.rising_lists.specs.Keyed.{at_key, IsRising}
-use Rattle.rising_lists.proofs.Laws.{all_in, found_in, some_same}
+use Rattle.rising_lists.proofs.Laws.{all_in, found_in}
 use Rattle.payroll_records.specs.declared.record.Key.{Key}
 use Rattle.payroll_records.specs.declared.values.NamedValue.{NamedValue}
 use Rattle.payroll_records.specs.NamedValues.{name_cmp, name_of}
@@ -18,7 +18,6 @@ use Rattle.plan_calendar.specs.Picking.{Entry, pick, with_entry}
 use Rattle.carry_bindings.specs.Carrying.{named}
 use Rattle.book_year.specs.Accepted.{Accepted}
 use Rattle.book_year.specs.declared.outcome.State.{State}
-use Rattle.book_year.specs.Jobs.{same_decimal}
 use Rattle.book_year.proofs.Laws.{decimal_decides}
 use Rattle.book_edits.proofs.Laws.{found_each, key_same, map_rising, rising_map}
 use Rattle.recalc_engine.specs.BookLaws.{IsBook, row_key}

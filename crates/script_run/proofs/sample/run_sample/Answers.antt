@@ -1,4 +1,4 @@
-use Rattle.std.proofs.Common.{ap, sym, ◌∙◌, subst, string_bytes}
+use Rattle.std.proofs.Common.{ap, string_bytes}
 use Rattle.outside.specs.Memory.{named_files, file_named}
 use Rattle.script_run.specs.RunClauses.{IsSpentWithin}
 use Rattle.script_run.specs.Samples.{sample_lines, script_of}

@@ -1,4 +1,4 @@
-use Rattle.std.proofs.Common.{◌≡◌, ◌∙◌, subst}
+use Rattle.std.proofs.Common.{◌≡◌, subst}
 use Rattle.std.specs.Prelude.{Some}
 use Rattle.script_run.specs.RunClauses.{EndsAt}
 use Rattle.script_run.proofs.MemoryLaws.{ends_unwritten, tells_refused}
