@@ -1,6 +1,5 @@
 -- How many runs there are after an edit, and how it counts its steps.
-use Rattle.std.proofs.Common.{◌≡◌, ℕ, ◌+◌, ◌<◌, ◌≤◌, List, [], ◌∷◌, length, Option, Some, None, IsSome, IsNone, Result, Err, refl, sym, arith}
-use Rattle.std.specs.declared.alloc.AllocError.{AllocError}
+use Rattle.std.proofs.Common.{◌≡◌, ℕ, ◌+◌, ◌<◌, ◌≤◌, List, [], ◌∷◌, length, Option, Some, None, IsSome, IsNone, Err, refl, sym, arith}
 use Rattle.std.proofs.lemmas.Bool.{false≢true}
 use Rattle.std.proofs.lemmas.List.{nil_from_length}
 use Rattle.rising_lists.specs.Keyed.{at_key, IsRising}
@@ -14,7 +13,6 @@ use Rattle.plan_calendar.specs.Picking.{Entry}
 use Rattle.book_year.specs.Accepted.{Accepted}
 use Rattle.book_year.specs.declared.outcome.Work.{Work}
 use Rattle.book_year.specs.declared.year.YearKey.{YearKey}
-use Rattle.book_year.specs.Jobs.{Counts}
 use Rattle.book_year.specs.Records.{put_run, record_day, without_run}
 use Rattle.book_year.proofs.Laws.{rising_without}
 use Rattle.book_edits.specs.declared.refusal.EditRefusal.{EditRefusal}
@@ -100,10 +98,6 @@ pub years_from : (plans : List (Entry Accepted)) (ys : Years) → AreKeptYears p
 years_from plans ys h count few = record { rising = h.rising; each = h.each; some = h.some; count = count; few = few }
 
 -- ---- steps
-
--- a refusal for want of memory, from one
-pub counts_memory : {T : Type 0} (r : Result Work EditRefusal) (q : Result T AllocError) (x : EditRefusal) (y : AllocError) (before now total : ℕ) → r ≡ Err x → x ≡ refusal.Memory y → q ≡ Err y → Counts q before now total → CountsEdit r before now total
-counts_memory r q x y before now total is memory was counts = rw (is, memory) (rw was at counts)
 
 -- a refusal without a step
 pub counts_none : (x : EditRefusal) (at total : ℕ) → CountsEdit {T = Work} (Err x) at at total

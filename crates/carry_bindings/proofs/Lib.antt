@@ -1,4 +1,3 @@
 pub mod AmountLemmas
-pub mod SlotLemmas
 pub mod NameLemmas
 pub mod Laws

@@ -2,7 +2,7 @@
 use Rattle.std.proofs.Common.{◌≡◌, ℕ, true, false, refl, ap}
 use Rattle.std.specs.declared.cmp.Ordering.{Ordering}
 use Rattle.std.specs.declared.cmp.Ordering.TheVariants.{Less, Equal, Greater}
-use Rattle.std.specs.Ordering.{is_gt, is_le, nat_cmp, on, ordering_reverse, then_cmp}
+use Rattle.std.specs.Ordering.{is_gt, is_le, nat_cmp, on, then_cmp}
 use Rattle.std.specs.Cmp.{IsTotalOrder, nat_cmp_total, on_total, then_total}
 use Rattle.std.specs.Cmp.Lexicographic.{nat_list_cmp_total}
 use Rattle.std.proofs.lemmas.Cmp.{upto}
@@ -60,7 +60,4 @@ unfolding of_day of_month
 up_to_later m n d l h =
     at_most (order (of_day d) (of_month n)) (upto order_total (of_day d) (of_month m) (of_month n) (not_greater (order (of_day d) (of_month m)) h) (ap is_gt l))
 
--- one of two months is before the other, or they are one
-pub month_back : (m n : Month) → month_cmp m n ≡ ordering_reverse (month_cmp n m)
 unfolding of_month
-month_back m n = order_total.antisymm (of_month m) (of_month n)

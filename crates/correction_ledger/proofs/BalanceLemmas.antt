@@ -103,10 +103,6 @@ met_filed : (o : Option Due) → option_map filed_only o ≡ met None o
 met_filed None = refl
 met_filed (Some f) = refl
 
-met_reported : (o : Option Due) → met o None ≡ option_map reported_only o
-met_reported None = refl
-met_reported (Some r) = refl
-
 module _ (p : Account) where
   at_filed : (fs : List Due) → balance_at (map filed_only fs) p ≡ met None (due_at fs p)
   at_filed fs = at_key_map account_cmp account_of balance_account filed_only (λ f. refl) fs p ∙ met_filed (due_at fs p)

@@ -61,13 +61,6 @@ followed_then old now (Some xs) (Some ys) e =
     let same : old ++ xs ≡ now = cc in
     ap (λ zs. Some zs) (sym (append_assoc old xs ys) ∙ ap (λ zs. zs ++ ys) same)
 
--- one step, and then those of what is inside a statement
-pub followed_inner : (old : List TraceStep) (s : TraceStep) (inner : Trace)
-    → followed old (first_then s (both_in_order inner (Some []))) ≡ followed (old ++ (s ∷ [])) inner
-followed_inner old s None = refl
-followed_inner old s (Some xs) =
-    ap (λ zs. Some zs) (ap (λ zs. old ++ (s ∷ zs)) (append-nil xs) ∙ sym (append_assoc old (s ∷ []) xs))
-
 -- ---- a statement, and those that follow it
 
 module _ (scope : Scope) (calls : Calls) where

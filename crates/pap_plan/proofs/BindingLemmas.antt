@@ -1,5 +1,5 @@
 -- What is looked for among the names of the code is what is looked for among those of the plan.
-use Rattle.std.proofs.Common.{◌≡◌, ℕ, suc, ◌+◌, ◌<◌, ◌≤◌, Bool, true, false, not, cond, ◌||◌, List, [], ◌∷◌, ◌++◌, length, map, drop, get_or, append-nil, Some, None, refl, sym, ap, ap₂, subst, ◌∙◌, arith}
+use Rattle.std.proofs.Common.{◌≡◌, ℕ, suc, ◌+◌, ◌<◌, ◌≤◌, Bool, true, false, not, cond, ◌||◌, List, [], ◌∷◌, ◌++◌, length, map, drop, get_or, Some, None, refl, sym, ap, ap₂, subst, ◌∙◌, arith}
 use Rattle.std.specs.Prelude.{◌↔◌, IsTrue}
 use Rattle.std.specs.List.{All, find}
 use Rattle.std.specs.Option.{option_map}
@@ -88,5 +88,3 @@ one_more l all left d h k = record {
 pub first_unsuited : (f : Flowchart) (l : Limits) (left : List Declaration) (d : Declaration) → AreSuited l f.inputs (d ∷ left) → (HasSuitedLimit l d → ⊥) → IsFirstUnsuited f l d.name
 first_unsuited f l left d h k = record { before = h.before; input = d; after = left; whole = h.whole; suited = h.suited; unsuited = k; named = refl }
 
-pub all_suited : (l : Limits) (all left : List Declaration) → left ≡ [] → AreSuited l all left → All (HasSuitedLimit l) all
-all_suited l all left e h = subst (All (HasSuitedLimit l)) (sym (h.whole ∙ ap (λ r. h.before ++ r) e ∙ append-nil h.before)) h.suited

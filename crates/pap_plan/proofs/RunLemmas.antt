@@ -73,11 +73,6 @@ pub seen_count : (v p : Seen) (code : Program) (most : ℕ) (kept : List Slot) �
 seen_count v p code most kept e c k inputs h =
     input_count p most kept (subst (λ s. IsKept s most kept) e k) inputs h ∙ sym (ap (λ q. q.inputs) (c ∙ ap (λ s. s.code) e))
 
-pub seen_outputs : (v p : Seen) (code : Program) (most : ℕ) (kept : List Slot) (outs : List Decimal) → v ≡ p → code ≡ v.code → IsKept v most kept → length outs ≡ length (flowchart p).outputs → length outs ≡ length code.outputs
-seen_outputs v p code most kept outs e c k h =
-    let kp = subst (λ s. IsKept s most kept) e k in
-    h ∙ sym kp.code.outputs ∙ sym (ap (λ q. length q.outputs) (c ∙ ap (λ s. s.code) e))
-
 pub seen_run : (v p : Seen) (code : Program) (most : ℕ) (kept : List Slot) → v ≡ p → code ≡ v.code → IsKept v most kept → (inputs : List Decimal) → Admits p inputs
     → (count : ℕ) (slots outs : List Decimal) → Runs code inputs count slots → HoldAt slots code.outputs outs → RunIs p inputs count outs
 seen_run v p code most kept e c k inputs h count slots outs r held =

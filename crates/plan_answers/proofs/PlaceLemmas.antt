@@ -29,22 +29,6 @@ searched_past b n left h = term_past b n (omega arith)
 
 -- ---- one statement
 
-pub eval_here : (x : List ℕ) (e : Term) (n : ℕ) → n ≡ 0 → (rest : Body) → IsThere (eval x e rest) n (Some e)
-eval_here x e n h rest = record { within = omega arith; is = grind (arith, nat_tests) }
-
-pub eval_on : (x : List ℕ) (e : Term) (n m : ℕ) → n ≡ m + 1 → (rest : Body) → GoesOn (eval x e rest) rest n m
-eval_on x e n m h rest =
-    let less : n - 1 ≡ m = omega arith in
-    record { same = rw (← less) (grind (arith, nat_tests)); counted = omega arith }
-
-pub execute_here : (m : List ℕ) (n : ℕ) → n ≡ 0 → (rest : Body) → IsThere (execute m rest) n None
-execute_here m n h rest = record { within = omega arith; is = grind (arith, nat_tests) }
-
-pub execute_on : (x : List ℕ) (n m : ℕ) → n ≡ m + 1 → (rest : Body) → GoesOn (execute x rest) rest n m
-execute_on x n m h rest =
-    let less : n - 1 ≡ m = omega arith in
-    record { same = rw (← less) (grind (arith, nat_tests)); counted = omega arith }
-
 module _ (t : Term) (a b : Body) where
   branch_here : (n : ℕ) → n ≡ 0 → (rest : Body) → IsThere (branch t a b rest) n (Some t)
   branch_here n h rest = record { within = omega arith; is = grind (arith, nat_tests) }
@@ -100,9 +84,6 @@ module _ (s : Stmt) (t : Expr) (a b : List Stmt) (is : (rest : Body) → stmt_th
   in_second n k left (Left last) h j i = λ rest. subst (λ x. GoesOn x rest n last) (sym (is rest)) (branch_on (term_of t) (body_of a) (body_of b) n k left last h j i rest)
 
 -- ---- a list of statements
-
-pub goes_start : (b : Body) (n : ℕ) → GoesOn b b n n
-goes_start b n = record { same = refl; counted = refl }
 
 pub goes_then : (a b c : Body) (n m k : ℕ) → GoesOn a b n m → GoesOn b c m k → GoesOn a c n k
 goes_then a b c n m k h j = record { same = h.same ∙ j.same; counted = omega (arith, h.counted, j.counted) }

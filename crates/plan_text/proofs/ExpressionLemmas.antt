@@ -61,9 +61,6 @@ of_internals x = declared_sites x.internals ++ of_constants x
 abbrev of_outputs : ElementTree → List Site
 of_outputs x = declared_sites x.outputs ++ of_internals x
 
-pub inputs_fail : (x : ElementTree) (f : PlanFault) → TellsFault (declared_sites x.inputs) f → TellsFault (sites_of x) f
-inputs_fail x f h = earlier (declared_sites x.inputs) (of_outputs x) f h
-
 behind_inputs : (x : ElementTree) (f : PlanFault) (is : List Declaration) → AreDeclarations x.inputs is → TellsFault (of_outputs x) f → TellsFault (sites_of x) f
 behind_inputs x f is h k = later (declared_sites x.inputs) (of_outputs x) f (declared_readable x.inputs is h) k
 

@@ -26,13 +26,6 @@ use Rattle.plan_text.proofs.ReadLemmas.{body_readable}
 
 -- ---- the kinds of statements
 
-pub execute_is : (m : List ℕ) (at next : ℕ) (x : List ℕ) → next ≡ at + 1 → IsStatement m at next (raws.Execute x) (stmts.Execute x)
-execute_is m at next x e = record {
-  is = λ rest more h. (refl, h);
-  later = λ rest f h. subst (λ n. TellsFault (body_sites m n rest) f) e h;
-  counted = λ rest. omega (arith, e);
-}
-
 pub eval_is : (m : List ℕ) (at next : ℕ) (text : Vec ℕ Global) (s : Stmt) → next ≡ at + 1 → IsAssignment text.items s → IsStatement m at next (raws.Eval text) s
 eval_is m at next text s e h =
     let own : IsReadable (site Assignment text.items (Statement m at)) = (assignment h.target (term_of h.value), h.accepted) in

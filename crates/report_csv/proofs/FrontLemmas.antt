@@ -1,9 +1,9 @@
 -- What was appended of a text that is put piece by piece.
-use Rattle.std.proofs.Common.{◌≡◌, ℕ, List, [], ◌++◌, take, drop, refl, sym, ap, ◌∙◌, subst, append_assoc}
+use Rattle.std.proofs.Common.{◌≡◌, ℕ, List, ◌++◌, take, drop, sym, ap, ◌∙◌, append_assoc}
 use Rattle.std.specs.Prelude.{Option}
-use Rattle.std.proofs.lemmas.List.{append-nil, take-append-drop}
+use Rattle.std.proofs.lemmas.List.{take-append-drop}
 use Rattle.outside.specs.Told.{Appends, AppendsPrefix}
-use Rattle.outside.proofs.Laws.{Appends-nothing, Appends-then}
+use Rattle.outside.proofs.Laws.{Appends-then}
 use Rattle.report_csv.specs.Fronts.{AppendsFront}
 
 -- a part of the whole was appended, and the other is to come
@@ -11,9 +11,6 @@ pub record IsUnderway (old now : Option (List ℕ)) (whole rest : List ℕ) : Ty
   pub done : List ℕ
   pub parts : whole ≡ done ++ rest
   pub appended : Appends old now done
-
-pub underway_first : (o : Option (List ℕ)) (whole : List ℕ) → IsUnderway o o whole whole
-underway_first o whole = record { done = []; parts = refl; appended = Appends-nothing o }
 
 -- one piece more
 pub underway_more : (o m n : Option (List ℕ)) (whole piece rest : List ℕ) → IsUnderway o m whole (piece ++ rest) → Appends m n piece → IsUnderway o n whole rest
@@ -50,26 +47,5 @@ pub prefix_front : (m n : Option (List ℕ)) (piece : List ℕ) → AppendsPrefi
 prefix_front m n piece p =
     record { front = take p.count piece; rest = drop p.count piece; parts = sym (take-append-drop p.count piece); appended = p.appended }
 
-pub underway_end : (o m : Option (List ℕ)) (whole : List ℕ) → IsUnderway o m whole [] → Appends o m whole
-underway_end o m whole h = subst (Appends o m) (sym (h.parts ∙ append-nil h.done)) h.appended
-
 -- ---- a text of two parts, the first of which is put whole before the other
 
-pub front_after : (o m n : Option (List ℕ)) (first rest : List ℕ) → Appends o m first → AppendsFront m n rest → AppendsFront o n (first ++ rest)
-front_after o m n first rest a f =
-    record {
-      front = first ++ f.front;
-      rest = f.rest;
-      parts = ap (λ t. first ++ t) f.parts ∙ sym (append_assoc first f.front f.rest);
-      appended = Appends-then o m n first f.front a f.appended;
-    }
-
-pub front_of_first : (o m : Option (List ℕ)) (first rest : List ℕ) → AppendsPrefix o m first → AppendsFront o m (first ++ rest)
-front_of_first o m first rest p =
-    let f = prefix_front o m first p in
-    record {
-      front = f.front;
-      rest = f.rest ++ rest;
-      parts = ap (λ t. t ++ rest) f.parts ∙ append_assoc f.front f.rest rest;
-      appended = f.appended;
-    }

@@ -1,5 +1,5 @@
 -- Texts that need no quotes in a row: each of their bytes is that of `-` or above it.
-use Rattle.std.proofs.Common.{◌≡◌, ℕ, ◌≤◌, ◌+◌, ◌/◌, ◌%◌, Bool, true, false, List, [], ◌∷◌, ◌++◌, refl, sym, ap, ◌∙◌, subst, arith}
+use Rattle.std.proofs.Common.{◌≡◌, ℕ, ◌≤◌, ◌+◌, Bool, true, false, List, [], ◌∷◌, ◌++◌, refl, sym, ap, ◌∙◌, subst, arith}
 use Rattle.std.specs.Prelude.{nat_le, ◌&&◌, ◌||◌}
 use Rattle.std.specs.List.{list_all}
 use Rattle.std.specs.Str.Parse.{AllDigits}
@@ -10,7 +10,6 @@ use Rattle.csv.specs.Writing.{default_writer, needs_byte, needs_quotes}
 use Rattle.pap_tree.specs.Names.{is_name, is_word}
 use Rattle.scaled_decimal.specs.Decimals.{Decimal}
 use Rattle.scaled_decimal.specs.NumberTexts.{sign_text, point_text, Spells}
-use Rattle.payroll_records.specs.Days.{two_digits, month_text, day_text}
 use Rattle.payroll_records.specs.Employees.{is_employee, is_employee_byte}
 use Rattle.report_csv.specs.Views.{IsPlain}
 
@@ -46,18 +45,6 @@ name_plain name h = weaken is_word word_above name (both _ _ (both _ _ (both _ _
 
 pub employee_plain : (e : List ℕ) → is_employee e ≡ true → IsPlain e
 employee_plain e h = weaken is_employee_byte employee_above e (both _ _ h).1
-
-pub two_plain : (n : ℕ) → IsPlain (two_digits n)
-two_plain n = join _ _ (at_least (48 + n / 10) (omega arith)) (join _ _ (at_least (48 + n % 10) (omega arith)) refl)
-
-pub month_plain : (year month : ℕ) → IsPlain (month_text year month)
-month_plain year month =
-    plain_append (two_digits (year / 100)) (two_digits (year % 100) ++ 45 ∷ two_digits month) (two_plain (year / 100))
-    (plain_append (two_digits (year % 100)) (45 ∷ two_digits month) (two_plain (year % 100)) (two_plain month))
-
-pub day_plain : (year month day : ℕ) → IsPlain (day_text year month day)
-day_plain year month day =
-    plain_append (month_text year month) (45 ∷ two_digits day) (month_plain year month) (two_plain day)
 
 digits_plain : (ds : List ℕ) → AllDigits 10 ds → IsPlain ds
 digits_plain [] h = refl

@@ -1,12 +1,10 @@
 -- What the default writer of `csv` writes of fields that need no quotes.
-use Rattle.std.proofs.Common.{◌≡◌, ℕ, ◌<◌, List, [], ◌∷◌, ◌++◌, length, map, ap, sym, subst, ◌∙◌, ◌+◌, suc, drop, get_or, append_assoc, add-one, arith}
-use Rattle.std.proofs.Math.Seq.{drop-cons}
-use Rattle.payroll_records.specs.declared.values.NamedValue.{NamedValue}
+use Rattle.std.proofs.Common.{◌≡◌, ℕ, ◌<◌, List, [], ◌∷◌, ◌++◌, length, map, ap, sym, subst, ◌+◌, arith}
 use Rattle.std.specs.Borrow.{Bor}
 use Rattle.std.specs.List.{AllByRecursion}
 use Rattle.std.proofs.lemmas.List.{append-nil, length-map}
 use Rattle.csv.specs.Writing.{default_writer, row_text, fields_text, field_text, is_blank}
-use Rattle.report_csv.specs.Reports.{Text, joined, output_fields, row_line, rows_text}
+use Rattle.report_csv.specs.Reports.{joined, row_line}
 use Rattle.report_csv.specs.Views.{IsPlain}
 use Rattle.report_csv.proofs.PlainLemmas.{unquoted}
 
@@ -34,13 +32,3 @@ each_plain (f ∷ fs) h = (h.0, each_plain fs h.1)
 pub written_row : (fields : List (Bor (List ℕ))) → 1 < length fields → AllByRecursion (λ f. IsPlain f.now) fields → row_text default_writer (map (λ f. f.now) fields) ≡ row_line (map (λ f. f.now) fields)
 written_row fields some h = plain_row (map (λ f. f.now) fields) (subst (λ n. 1 < n) (sym (length-map fields (λ f. f.now))) some) (each_plain fields h)
 
--- one output more
-pub output_more : (front : List Text) (outputs : List NamedValue) (i : ℕ) (v : NamedValue) (text more : List ℕ) → i < length outputs → v ≡ get_or outputs i v →
-    more ≡ text ++ row_line (output_fields front v) →
-    more ++ rows_text (map (output_fields front) (drop (i + 1) outputs)) ≡ text ++ rows_text (map (output_fields front) (drop i outputs))
-output_more front outputs i v text more within is e =
-    let rest = drop (i + 1) outputs in
-    let from : drop i outputs ≡ v ∷ rest = rw add-one (drop-cons outputs i v within ∙ ap (λ x. x ∷ drop (suc i) outputs) (sym is)) in
-    ap (λ t. t ++ rows_text (map (output_fields front) rest)) e
-    ∙ append_assoc text (row_line (output_fields front v)) (rows_text (map (output_fields front) rest))
-    ∙ ap (λ l. text ++ rows_text (map (output_fields front) l)) (sym from)
