@@ -6,6 +6,7 @@ its status, with exactly the answers that it leaves."""
 import os
 import subprocess
 import sys
+import tempfile
 
 SCRIPT = open("examples/month.script", "rb").read()
 failed = []
@@ -74,6 +75,18 @@ for word in ["run", "save"]:
     done = subprocess.run([program, word], input=b"# ab\n\n" + b"ab\nwork\n" * 30, capture_output=True, text=False, timeout=300)
     said = "".join(TOLD.format(3 + 2 * number) for number in range(20)) + "and 10 more\n"
     check(f"the refused lines of {word} are told", done.returncode == 1 and done.stderr.decode().startswith(said))
+with tempfile.TemporaryDirectory() as folder:
+    TABLES = [
+        ("employee;month;day;PAY\nanna;2026-01;2026-01-30;1\n", "semicolons"),
+        ("employee,month,day,PAY\nanna,2026-01,2026-01-30,\"2500,55\"\n", "2500.55"),
+    ]
+    for text, helps in TABLES:
+        table = os.path.join(folder, "table.csv")
+        with open(table, "w", encoding="utf-8") as file:
+            file.write(text)
+        done = subprocess.run([program, "run"], input=f"load {table}\n".encode(), capture_output=True, timeout=300)
+        first = done.stderr.decode().splitlines()[0]
+        check(f"a table with {text!r}", done.returncode == 1 and first.startswith(f"stdin:1: {table}: ") and helps in first)
 check("a longest line", run(b"#" * 65_536 + b"\r\nwork\n") == (0, b"work 0 0\n"))
 for name in failed:
     print(f"run_trials: failed: {name}")

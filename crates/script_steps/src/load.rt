@@ -37,13 +37,14 @@ pub(crate) fn load<F: Files, L: Ledger>(
     ensures kept { result ≢ Err LineStop.File → F.failed files.new ≡ F.failed files.old }
 {
     let table = files.read_front(alloc, file, LONGEST_TABLE + 1)?;
-    Ok(load_table(alloc, script, &table, steps)?)
+    Ok(load_table(alloc, script, file, &table, steps)?)
 }
 
-/// Loads the table of a text.
+/// Loads the table of a file's text.
 fn load_table<L: Ledger>(
     alloc: Global,
     script: &mut Script,
+    file: &str,
     table: &[u8],
     steps: &mut Steps<L>,
 ) -> Result<LineReply, AllocError>
@@ -58,6 +59,6 @@ fn load_table<L: Ledger>(
             edit_reply(alloc, &mut script.made, OK, made)
         }
         Err(TableFault::Memory(error)) => Err(error),
-        Err(fault) => table_refusal(alloc, &fault),
+        Err(fault) => table_refusal(alloc, file, &fault),
     }
 }

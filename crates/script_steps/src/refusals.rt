@@ -22,12 +22,29 @@ pub(crate) fn line_refusal(alloc: Global, fault: &LineFault) -> Result<LineReply
     refused(alloc, detail.as_bytes(), fault.to_string(alloc)?)
 }
 
-/// The refusal of a table.
-pub(crate) fn table_refusal(alloc: Global, fault: &TableFault) -> Result<LineReply, AllocError>
+/// The refusal of the table of this file.
+pub(crate) fn table_refusal(
+    alloc: Global,
+    file: &str,
+    fault: &TableFault,
+) -> Result<LineReply, AllocError>
     ensures { IfOk result (λ reply. IsTableRefusal fault.now (reply_of reply)) }
 {
     let detail = table_detail(alloc, fault)?;
-    refused(alloc, detail.as_bytes(), fault.to_string(alloc)?)
+    refused(alloc, detail.as_bytes(), table_words(alloc, file, fault)?)
+}
+
+/// What is wrong with the table of this file, and what helps, in plain words.
+fn table_words(alloc: Global, file: &str, fault: &TableFault) -> Result<String, AllocError> {
+    match fault {
+        TableFault::Header => {
+            format!(in alloc; "{file}: {fault}; commas stand between the fields, not semicolons")
+        }
+        TableFault::Value { .. } => format!(in alloc;
+            "{file}: {fault}; it has a point before decimal places and nothing between thousands, as 2500.55"
+        ),
+        fault => format!(in alloc; "{file}: {fault}"),
+    }
 }
 
 /// The refusal of an edit of the book.
