@@ -87,4 +87,3 @@ one_more l all left d h k = record {
 
 pub first_unsuited : (f : Flowchart) (l : Limits) (left : List Declaration) (d : Declaration) → AreSuited l f.inputs (d ∷ left) → (HasSuitedLimit l d → ⊥) → IsFirstUnsuited f l d.name
 first_unsuited f l left d h k = record { before = h.before; input = d; after = left; whole = h.whole; suited = h.suited; unsuited = k; named = refl }
-
