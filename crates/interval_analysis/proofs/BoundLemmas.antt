@@ -1,5 +1,5 @@
 -- The bound of a plan, summed up in the order of its methods.
-use Rattle.std.proofs.Common.{◌≡◌, ◌≢◌, ℕ, suc, zero, ◌+◌, ◌^◌, ◌<◌, ◌≤◌, List, [], ◌∷◌, length, get_or, set, take, drop, map, Some, inl, inr, refl, sym, ap, ◌∙◌, subst, arith}
+use Rattle.std.proofs.Common.{◌≡◌, ◌≢◌, ℕ, suc, zero, ◌+◌, ◌<◌, ◌≤◌, List, [], ◌∷◌, length, get_or, set, take, drop, map, Some, inl, inr, refl, sym, ap, ◌∙◌, subst, arith}
 use Rattle.std.specs.Prelude.{All, Contains, min, max, slice_get, slice_index}
 use Rattle.std.specs.Option.{option_map, option_map_or}
 use Rattle.std.proofs.lemmas.Bool.{cases_eq}
@@ -92,9 +92,6 @@ if_sum a b t x y z r = with_last last_sum
     with_last : (last : ℕ) → x ≡ min a last → y ≡ min (x + 1) last → z ≡ min b last → r ≡ min (max y z + (t + 1)) last → r ≡ min (t + 1 + max (a + 1) b + 0) last
     with_last last e f g h = omega arith
 
-pub eval_sum : (t r : ℕ) → r ≡ t → r ≤ 2 ^ 33 → r + 1 ≡ min (t + 1 + 0) last_sum
-eval_sum t r e l = omega arith
-
 -- ---- methods in their order
 
 each_so : (P Q : List ℕ → Type 0) → ((x : List ℕ) → P x → Q x) → (b : Body) → EachExecuted P b → EachExecuted Q b
@@ -112,9 +109,6 @@ module _ (f : Flowchart) (order : List ℕ) (typed : IsWellTyped f) (h : IsOrder
 
   pub number_known : (k : ℕ) → k < length order → slice_index order k < length f.methods
   number_known k lt = subst (λ n. slice_index order k < n) (length-map f.methods (λ m. content_of f.methods m.body)) (h.ordered.known k 0 lt)
-
-  pub bounds_none : (bounds : List ℕ) → length bounds ≡ length f.methods → AreBounds f [] bounds
-  bounds_none bounds e = record { all = e; each = λ x i number c. absurd (omega (arith, c.1)) }
 
   pub bounds_more : (k v : ℕ) (bounds next : List ℕ) (m : Routine) → AreBounds f (take k order) bounds → k < length order → slice_get f.methods (slice_index order k) ≡ Some m → v ≡ stopped_bound f bounds m.body → next ≡ set bounds (slice_index order k) v → AreBounds f (take (k + 1) order) next
   bounds_more k v bounds next m b lt at is put = record {

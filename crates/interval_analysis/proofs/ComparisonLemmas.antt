@@ -36,6 +36,8 @@ use Rattle.interval_walk.specs.Shapes.{HasShape}
 use Rattle.interval_walk.proofs.Laws.{leaf_shape, passed_node, shape_bits, wider_left, wider_right, shown_plain, comparison_row_aligned}
 use Rattle.interval_analysis.specs.declared.expressions.Stop.{Stop}
 use Rattle.interval_analysis.specs.declared.expressions.Stop.TheVariants.{At, Memory}
+use Rattle.interval_analysis.specs.declared.branches.Branches.{Branches}
+use Rattle.interval_analysis.specs.declared.comparisons.Compared.{Compared}
 use Rattle.interval_analysis.specs.declared.conditions.Inner.{Inner}
 use Rattle.interval_analysis.specs.declared.conditions.Tested.{Tested}
 use Rattle.interval_analysis.specs.declared.expressions.Operands.{Operands}
@@ -46,17 +48,17 @@ use Rattle.interval_analysis.specs.declared.shapes.Two.{Two}
 use Rattle.interval_analysis.specs.declared.shapes.Two.TheVariants as twos
 use Rattle.interval_analysis.specs.ShapeViews.{TakesOne, TakesTwo, one_meant, two_meant}
 use Rattle.interval_analysis.specs.declared.expressions.Walk.{Walk}
-use Rattle.interval_analysis.specs.PlanViews.{IsSized, scope_in, variable_in, variables_in, ranges_in, branches_in}
-use Rattle.interval_analysis.specs.ComparisonViews.{HasRange, Ways, branches_by, sides_of}
+use Rattle.interval_analysis.specs.PlanViews.{IsSized, scope_in, variable_in, variables_in, ranges_in}
+use Rattle.interval_analysis.specs.ComparisonViews.{CanCompare, HasRange, Ways, branches_by, sides_of}
 use Rattle.interval_analysis.proofs.NameLemmas as names
 use Rattle.interval_analysis.proofs.NameLemmas.{named_by}
-use Rattle.interval_analysis.proofs.NarrowLemmas.{branches_named, named_ways, ways_named}
+use Rattle.interval_analysis.proofs.NarrowLemmas.{branches_named}
 use Rattle.pap_tree.specs.declared.plan.PlanText.{PlanText}
 use Rattle.std.specs.Prelude.{slice_get}
 use Rattle.std.proofs.lemmas.Option.{slice_get_cases}
 use Rattle.interval_analysis.specs.OperationViews.{TakesUnary, TakesWholes, TakesShown, IsPlainShown}
 use Rattle.interval_analysis.specs.ExpressionViews.{AreRanged, CanWalk, CanWalkTwo, IsRanged, StopsAs, ranged_in, second_in}
-use Rattle.interval_analysis.specs.TestViews.{AreSides, ComparesAs, ComparisonAnswer, IsInner, IsPassed, IsPlainComparison, OrderAnswer, TestsAs, comparison, comparison_in, is_compare_to, order_compared, order_node, sides_compared}
+use Rattle.interval_analysis.specs.TestViews.{Comparison, ComparedAnswer, ComparesAs, HaveShapes, IsInner, IsPassed, IsPlainComparison, OrderAnswer, TestsAs, WaysFrom, comparison, comparison_in, is_compare_to, named_ways, order_compared, order_node, sides_compared}
 use Rattle.interval_analysis.proofs.NodeLemmas.{can_item, can_one, can_two, left_shape, right_shape, shape, stops_first, stops_two}
 
 -- a number that is made longer
@@ -206,18 +208,17 @@ module _ (op : Binary) (w : Bool) (direct : meant.Sides) (env : Ranges) where
 
 -- ---- both, from the ranges of the sides
 
--- what is compared by the numbers of the variables is tested by their names
-same_tests : (w : Walk) (q : Result Ways NodeFault) (r : Result meant.Branches NodeFault) (m n : ℕ) (now rs : List Interval) (res : Result Tested Stop) → r ≡ and_then q (λ ways. Ok (named_ways w.plan.now ways)) → n ≡ m → now ≡ rs → ComparesAs q m now res → TestsAs w r n rs res
-same_tests w q r m n now rs (Ok t) is end same h = record {
-  branches =
-      is
-      ∙ ap (λ q. and_then q (λ ways. Ok (named_ways w.plan.now ways))) h.branches
-      ∙ ap Ok (ways_named w.plan.now now t.branches)
-      ∙ ap (λ rs. Ok (branches_in w.plan.now rs t.branches)) same;
+-- what is compared by the numbers of the variables is so by their names
+same_compared : (w : Walk) (c : Comparison) (at : ℕ) (q : WaysFrom) (m : ℕ) (o : Operands) (rs : List Interval) (res : Result Compared Stop)
+    → comparison_in w c at (ranges_in w.plan.now rs) ≡ and_then (q rs) (λ ways. Ok (named_ways w.plan.now ways)) → at + nodes c.left + nodes c.right + 1 ≡ m → HasRange o.first rs → HasRange o.second rs
+    → ComparesAs q m o res → ComparedAnswer w c at rs res
+same_compared w c at q m o rs (Ok d) is end left right h = record {
+  branches = is ∙ ap (λ q. and_then q (λ ways. Ok (named_ways w.plan.now ways))) (h.branches rs);
+  can = subst (λ s. CanCompare s rs) (sym h.sides) (record { ranges = h.refines; left = left; right = right });
   next = h.next ∙ sym end;
 }
-same_tests w q r m n now rs (Err (At i c)) is end same h = is ∙ ap (λ q. and_then q (λ ways. Ok (named_ways w.plan.now ways))) h
-same_tests w q r m n now rs (Err Memory) is end same h = tt
+same_compared w c at q m o rs (Err (At i x)) is end left right h = is ∙ ap (λ q. and_then q (λ ways. Ok (named_ways w.plan.now ways))) (h rs)
+same_compared w c at q m o rs (Err Memory) is end left right h = tt
 
 -- ways behind a node
 behind_node : {A : Type 0} (p : PlanText) (q : Result A NodeFault) (ways : Ways) → and_then q (λ _. Ok (named_ways p ways)) ≡ and_then (and_then q (λ _. Ok ways)) (λ ways. Ok (named_ways p ways))
@@ -254,10 +255,15 @@ module _ (w : Walk) (op : Binary) (e f : Term) (at : ℕ) (rs : List Interval) (
       ∙ ways_are sized (is_whole o.first.kind && is_whole o.second.kind) (signs_where op (pos 0)))
       ∙ behind_node w.plan.now (at_node o.second.next (comparison_range op o.first.range o.second.range)) (branches_by (sides_of o (is_whole o.first.kind && is_whole o.second.kind)) (signs_where op (pos 0)) rs)
 
-  pub sides_answer : (now : List Interval) (res : Result Tested Stop) → now ≡ rs → IsSized w.plan.now rs → IsPlainComparison e f → ComparesAs (sides_compared op o now) (o.second.next + 1) now res → ComparisonAnswer w (comparison op e f) at rs res
-  sides_answer now res same sized plain tests =
-      same_tests w (sides_compared op o now) (comparison_in w (comparison op e f) at env) (o.second.next + 1) (at + nodes e + nodes f + 1) now rs res
-      (sides_are sized plain ∙ ap (λ rs. and_then (sides_compared op o rs) (λ ways. Ok (named_ways w.plan.now ways))) (sym same)) (ap (λ n. n + 1) end_is) same tests
+  left_range : IsSized w.plan.now rs → HasRange o.first rs
+  left_range sized = has_range w e at rs o.first sized h.first
+
+  right_range : IsSized w.plan.now rs → HasRange o.second rs
+  right_range sized = has_range w f o.first.next rs o.second sized h.second
+
+  pub sides_answer : (res : Result Compared Stop) → IsSized w.plan.now rs → IsPlainComparison e f → ComparesAs (sides_compared op o) (o.second.next + 1) o res → ComparedAnswer w (comparison op e f) at rs res
+  sides_answer res sized plain compares =
+      same_compared w (comparison op e f) at (sides_compared op o) (o.second.next + 1) o rs res (sides_are sized plain) (ap (λ n. n + 1) end_is) (left_range sized) (right_range sized) compares
 
   -- the sides of a compareTo
   module _ (k : ℤ) where
@@ -293,8 +299,9 @@ module _ (w : Walk) (op : Binary) (e f : Term) (at : ℕ) (rs : List Interval) (
             at_literal (Err x) = refl
             at_literal (Ok l) = refl
 
-pub order_answer : (w : Walk) (op : Binary) (e f : Term) (i : Inner) (at : ℕ) (now rs : List Interval) (o : Operands) (res : Result Tested Stop) → now ≡ rs → IsSized w.plan.now rs → IsInner e f i → AreRanged w (term_of i.left.now) (term_of i.right.now) at rs o → ComparesAs (order_compared op i.number o now) (o.second.next + 3) now res → ComparisonAnswer w (comparison op e f) at rs res
-order_answer w op e f i at now rs o res same sized inner h tests =
+pub order_answer : (w : Walk) (op : Binary) (e f : Term) (i : Inner) (at : ℕ) (rs : List Interval) (o : Operands) (res : Result Compared Stop) → IsSized w.plan.now rs → IsInner e f i → AreRanged w (term_of i.left.now) (term_of i.right.now) at rs o
+    → ComparesAs (order_compared op i.number o) (o.second.next + 3) o res → ComparedAnswer w (comparison op e f) at rs res
+order_answer w op e f i at rs o res sized inner h compares =
     let x = term_of i.left.now in
     let y = term_of i.right.now in
     let t = two (method calls.CompareTo) x y in
@@ -302,13 +309,12 @@ order_answer w op e f i at now rs o res same sized inner h tests =
     let node = order_node op k o.first.range o.second.range o.second.next in
     let ways =
     ap (λ br. and_then node (λ _. Ok br)) (ways_are w op x y at rs o h sized false (signs_where op k))
-    ∙ behind_node w.plan.now node (branches_by (sides_of o false) (signs_where op k) rs)
-    ∙ ap (λ rs. and_then (order_compared op k o rs) (λ ways. Ok (named_ways w.plan.now ways))) (sym same) in
-    let whole_answer : ComparisonAnswer w (comparison op t (leaf (whole i.number))) at rs res =
-    same_tests w (order_compared op k o now) (comparison_in w (comparison op t (leaf (whole i.number))) at (ranges_in w.plan.now rs)) (o.second.next + 3) (at + nodes t + nodes (leaf (whole i.number)) + 1) now rs res
-    (order_are w op x y at rs o h k ∙ ways) (omega (arith, h.first.next, h.second.next)) same tests in
-    subst (λ e. ComparisonAnswer w (comparison op e f) at rs res) (sym inner.left)
-    (subst (λ f. ComparisonAnswer w (comparison op t f) at rs res) (sym inner.right) whole_answer)
+    ∙ behind_node w.plan.now node (branches_by (sides_of o false) (signs_where op k) rs) in
+    let whole_answer : ComparedAnswer w (comparison op t (leaf (whole i.number))) at rs res =
+    same_compared w (comparison op t (leaf (whole i.number))) at (order_compared op k o) (o.second.next + 3) o rs res
+    (order_are w op x y at rs o h k ∙ ways) (omega (arith, h.first.next, h.second.next)) (left_range w op x y at rs o h sized) (right_range w op x y at rs o h sized) compares in
+    subst (λ e. ComparedAnswer w (comparison op e f) at rs res) (sym inner.left)
+    (subst (λ f. ComparedAnswer w (comparison op t f) at rs res) (sym inner.right) whole_answer)
 
 -- a compareTo stops where one of its sides does
 pub order_stops : (w : Walk) (op : Binary) (e f : Term) (i : Inner) (at : ℕ) (rs : List Interval) (stop : Stop) → IsInner e f i → StopsAs (second_in w (term_of i.left.now) (term_of i.right.now) at rs) stop → StopsAs (comparison_in w (comparison op e f) at (ranges_in w.plan.now rs)) stop
@@ -324,23 +330,8 @@ order_stops w op e f i at rs stop inner h =
 
 -- ---- what the branches of sides need
 
-module _ (w : Walk) (e f : Term) (at : ℕ) (now rs : List Interval) (o : Operands) where
-  -- the sides of a comparison, where their ranges are those of variables that are left as they were
-  pub are_sides : now ≡ rs → IsSized w.plan.now rs → CanWalkTwo w e f at → AreRanged w e f at rs o → AreSides o now
-  are_sides same sized can h =
-      subst (AreSides o) (sym same) (record {
-        left_shape = left_shape w at rs e f o can h;
-        right_shape = right_shape w at rs e f o can h;
-        left = has_range w e at rs o.first sized h.first;
-        right = has_range w f o.first.next rs o.second sized h.second;
-      })
-
-pub can_inner : (w : Walk) (op : Binary) (e f : Term) (i : Inner) (at : ℕ) → IsInner e f i → CanWalk w (two (operator op) e f) at → CanWalkTwo w (term_of i.left.now) (term_of i.right.now) at
-can_inner w op e f i at inner can =
-    let x = term_of i.left.now in
-    let y = term_of i.right.now in
-    let there = subst (λ e. CanWalk w (two (operator op) e f) at) inner.left can in
-    can_two w at (method calls.CompareTo) x y (record { typed = there.typed.0; scales = there.scales.1; room = omega (arith, there.room) })
+pub have_shapes : (w : Walk) (e f : Term) (at : ℕ) (rs : List Interval) (o : Operands) → CanWalkTwo w e f at → AreRanged w e f at rs o → HaveShapes o
+have_shapes w e f at rs o can h = record { left = left_shape w at rs e f o can h; right = right_shape w at rs e f o can h }
 
 pub order_aligned : (op : Binary) (k : ℤ) (a b : Interval) (n : ℕ) (r : Interval) → order_node op k a b n ≡ Ok r → Align a b
 order_aligned op k a b n r h = by (comparison_row a b) refl h
@@ -379,6 +370,10 @@ module _ (op : Binary) (k : ℤ) (a b : Interval) (at : ℕ) (c : Interval) (n :
 pub order_err : (op : Binary) (k : ℤ) (a b : Interval) (at : ℕ) (stop : Stop) (res : Result ℕ Stop) → IsErrAnd res (λ s. s ≡ stop) → StopsAs (order_node op k a b at) stop → OrderAnswer op k a b at res
 order_err op k a b at stop (Ok n) is h = absurd is
 order_err op k a b at stop (Err s) is h = subst (StopsAs (order_node op k a b at)) (sym is) h
+
+pub compared_err : (w : Walk) (c : Comparison) (at : ℕ) (rs : List Interval) (stop : Stop) (res : Result Compared Stop) → IsErrAnd res (λ s. s ≡ stop) → StopsAs (comparison_in w c at (ranges_in w.plan.now rs)) stop → ComparedAnswer w c at rs res
+compared_err w c at rs stop (Ok d) is h = absurd is
+compared_err w c at rs stop (Err s) is h = subst (StopsAs (comparison_in w c at (ranges_in w.plan.now rs))) (sym is) h
 
 pub tests_err : (w : Walk) (r : Result meant.Branches NodeFault) (end : ℕ) (rs : List Interval) (stop : Stop) (res : Result Tested Stop) → IsErrAnd res (λ s. s ≡ stop) → StopsAs r stop → TestsAs w r end rs res
 tests_err w r end rs stop (Ok t) is h = absurd is

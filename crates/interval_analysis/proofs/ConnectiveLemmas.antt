@@ -4,7 +4,8 @@ use Rattle.std.specs.Prelude.{is_some, if◌then◌else◌}
 use Rattle.std.specs.Bool.{then_some}
 use Rattle.std.specs.Option.{option_map}
 use Rattle.pap_tree.specs.declared.expression.Expr.{Expr}
-use Rattle.pap_tree.specs.Term.{term_of}
+use Rattle.pap_tree.specs.declared.plan.PlanText.{PlanText}
+use Rattle.pap_tree.specs.Term.{Term, term_of, two, operator}
 use Rattle.pap_tree.specs.Numbering.{nodes}
 use Rattle.interval_num.specs.Intervals.{Interval}
 use Rattle.interval_walk.specs.Ranges.{Ranges}
@@ -14,12 +15,17 @@ use Rattle.interval_analysis.specs.declared.branches.Branches.{Branches}
 use Rattle.interval_analysis.specs.declared.branches.Change.{Change}
 use Rattle.interval_analysis.specs.declared.branches.Connective.{Connective}
 use Rattle.interval_analysis.specs.declared.branches.Connective.TheVariants.{And, Or}
+use Rattle.interval_analysis.specs.declared.comparisons.Compared.{Compared}
+use Rattle.interval_analysis.specs.declared.conditions.Comparison as declared
 use Rattle.interval_analysis.specs.declared.conditions.Followed.{Followed}
+use Rattle.interval_analysis.specs.declared.expressions.Stop.{Stop}
 use Rattle.interval_analysis.specs.declared.expressions.Walk.{Walk}
 use Rattle.interval_analysis.specs.Changes.{changed, turned_changes}
-use Rattle.interval_analysis.specs.Connectives.{IsFollowedTo, behind_both, connected, reached_in, there_if, turned}
-use Rattle.interval_analysis.specs.TestViews.{IsTestedAs, tested_in}
+use Rattle.interval_analysis.specs.Connectives.{ComparisonFollowed, FollowAnswer, FollowsAnswer, IsFollowedBy, IsFollowedTo, IsOperator, behind_both, connected, directions_of, reached_in, there_if, turned}
+use Rattle.interval_analysis.specs.ComparisonViews.{branch_by, branches_by}
+use Rattle.interval_analysis.specs.TestViews.{Comparison, IsCompared, IsTestedAs, comparison, comparison_in, comparison_of, named_ways, tested_in}
 use Rattle.interval_analysis.specs.PlanViews.{ranges_in, ranges_after, branches_in}
+use Rattle.interval_analysis.proofs.ExpressionLemmas.{plain_operator}
 
 turned_twice : (c : Connective) (br : meant.Branches) → turned c (turned c br) ≡ br
 turned_twice And br = refl
@@ -138,3 +144,52 @@ module _ (w : Walk) (c : Connective) (e f : Expr) (at : ℕ) (rs : List Interval
             ∙ turned_twice c br));
         next = h.next;
       }
+
+-- ---- a comparison
+
+-- a comparison goes on as it is tested
+pub comparison_followed : (w : Walk) (c : Connective) (t : Comparison) (at : ℕ) (rs now : List Interval) (d : Compared) (f : Followed) → IsCompared w t at rs d → IsFollowedBy (directions_of c d.allowed) d rs now f
+    → IsFollowedTo w c (comparison_in w t at (ranges_in w.plan.now rs)) (at + nodes t.left + nodes t.right + 1) now f
+comparison_followed w c t at rs now d f h k = record {
+  follows = record {
+    branches = branches;
+    tested = h.branches;
+    through = onward_is c ∙ ap (option_map (ranges_in p)) k.through ∙ there f.is_through;
+    leaves = ap is_some (outward_is c) ∙ named_some (branch_by d.sides (directions_of c d.allowed).outward rs) ∙ k.leaves;
+  };
+  next = k.next ∙ h.next;
+}
+  where
+    p : PlanText
+    p = w.plan.now
+
+    branches : meant.Branches
+    branches = named_ways p (branches_by d.sides d.allowed rs)
+
+    onward_is : (c : Connective) → (turned c branches).holds ≡ option_map (ranges_in p) (branch_by d.sides (directions_of c d.allowed).onward rs)
+    onward_is And = refl
+    onward_is Or = refl
+
+    outward_is : (c : Connective) → (turned c branches).fails ≡ option_map (ranges_in p) (branch_by d.sides (directions_of c d.allowed).outward rs)
+    outward_is And = refl
+    outward_is Or = refl
+
+    there : (b : Bool) → option_map (ranges_in p) (if b then Some now else None) ≡ there_if w b now
+    there true = refl
+    there false = refl
+
+    named_some : (o : Option (List Interval)) → is_some (option_map (ranges_in p) o) ≡ is_some o
+    named_some None = refl
+    named_some (Some rs) = refl
+
+-- so does an operator that is no connective
+pub operator_followed : (w : Walk) (c : Connective) (t : Term) (s : declared.Comparison) (at : ℕ) (rs now : List Interval) (res : Result Followed Stop) → IsOperator t s
+    → ComparisonFollowed w c (comparison_of s.op s.left.now s.right.now) at rs now res → FollowAnswer w c t at rs now res
+operator_followed w c t s at rs now res h follows =
+    let e = term_of s.left.now in
+    let f = term_of s.right.now in
+    let r = comparison_in w (comparison s.op e f) at (ranges_in w.plan.now rs) in
+    let end : at + nodes (two (operator s.op) e f) ≡ at + nodes e + nodes f + 1 = omega arith in
+    subst (λ t. FollowAnswer w c t at rs now res) (sym h.is)
+    (subst (λ n. FollowsAnswer w c (tested_in w (two (operator s.op) e f) at rs) n now res) (sym end)
+    (subst (λ q. FollowsAnswer w c q (at + nodes e + nodes f + 1) now res) (sym (plain_operator w s.op e f at (ranges_in w.plan.now rs) h.not_and h.not_or)) follows))

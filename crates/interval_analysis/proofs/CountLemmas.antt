@@ -1,15 +1,12 @@
 -- Lists of statements: their numbers, and what may be walked of them.
 use Rattle.std.proofs.Common.{◌≡◌, ℕ, ◌+◌, ◌<◌, List, length, drop, get_or, ap, ◌∙◌, Vec, Global, arith}
-use Rattle.pap_tree.specs.Term.{Term}
 use Rattle.pap_tree.specs.declared.expression.Expr.{Expr}
 use Rattle.pap_tree.specs.declared.plan.Stmt.{Stmt, Eval, If, If', Execute}
-use Rattle.pap_tree.specs.Flowchart.{Body, done, branch, body_of, stmt_then}
+use Rattle.pap_tree.specs.Flowchart.{Body, done, body_of, stmt_then}
 use Rattle.pap_tree.specs.Statements.{written}
 use Rattle.pap_tree.proofs.Laws.{stmt_then-If, stmt_at}
 use Rattle.interval_analysis.specs.declared.expressions.Walk.{Walk}
-use Rattle.interval_analysis.specs.declared.statements.Fork.{Fork}
-use Rattle.interval_analysis.specs.declared.statements.Spot.{Spot}
-use Rattle.interval_analysis.specs.StatementViews.{CanWalkBody, CanWalkLists}
+use Rattle.interval_analysis.specs.StatementViews.{CanWalkBody}
 
 pub written-then : (s : Stmt) (rest : Body) → written (stmt_then s rest) ≡ written (stmt_then s done) + written rest
 written-then (Eval x e) rest = omega arith
@@ -37,13 +34,3 @@ module _ (w : Walk) (at : ℕ) where
   can_rest (Eval x e) rest h = record { typed = h.typed.2; small = h.small.1; room = omega (arith, h.room) }
   can_rest (If' t m ys k zs) rest h = record { typed = h.typed.4; small = h.small.3; room = omega (arith, h.room) }
   can_rest (Execute x) rest h = record { typed = h.typed.1; small = h.small; room = omega (arith, h.room) }
-
--- the lists of an IF
-pub can_lists : (w : Walk) (spot : Spot) (f : Fork) (t : Term) → CanWalkBody w (branch t (body_of f.yes.now) (body_of f.no.now) done) spot.at → CanWalkLists w spot f
-can_lists w spot f t h = record {
-  first = h.typed.2;
-  second = h.typed.3;
-  first_small = h.small.1;
-  second_small = h.small.2;
-  room = omega (arith, h.room);
-}

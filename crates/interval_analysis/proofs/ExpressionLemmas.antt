@@ -21,7 +21,7 @@ use Rattle.interval_analysis.specs.TestViews.{ComparisonAnswer, TestAnswer, comp
 use Rattle.interval_analysis.proofs.NodeLemmas.{stops_two}
 
 -- an operator that is no connective is walked as a comparison
-plain_operator : (w : Walk) (op : Binary) (e f : Term) (at : ℕ) (env : Ranges) → (op ≡ binaries.And → ⊥) → (op ≡ binaries.Or → ⊥) → tested (scope_in w.plan.now) (two (operator op) e f) at env ≡ comparison_in w (comparison op e f) at env
+pub plain_operator : (w : Walk) (op : Binary) (e f : Term) (at : ℕ) (env : Ranges) → (op ≡ binaries.And → ⊥) → (op ≡ binaries.Or → ⊥) → tested (scope_in w.plan.now) (two (operator op) e f) at env ≡ comparison_in w (comparison op e f) at env
 plain_operator w binaries.And e f at env a o = absurd (a refl)
 plain_operator w binaries.Or e f at env a o = absurd (o refl)
 plain_operator w binaries.Mul e f at env a o = refl

@@ -3,7 +3,7 @@ use Rattle.std.proofs.Common.{◌≡◌, ℕ, zero, suc, ◌+◌, ◌-◌, ◌<�
 use Rattle.std.proofs.lemmas.Bool.Decides.{nat_tests}
 use Rattle.std.proofs.lemmas.Int.{ints, clamps}
 use Rattle.std.proofs.lemmas.List.{set_past}
-use Rattle.std.specs.Prelude.{slice_get, ◌||◌, min}
+use Rattle.std.specs.Prelude.{slice_get, ◌||◌, ◌&&◌, min, nat_eq, nat_le, int_le}
 use Rattle.std.specs.Int.{int_min, int_max}
 use Rattle.scaled_decimal.specs.Decimals.{ten_to}
 use Rattle.scaled_decimal.specs.Limits.{IsWithinLimit}
@@ -20,6 +20,7 @@ use Rattle.interval_analysis.specs.PlanViews.{with_names}
 use Rattle.interval_analysis.specs.declared.branches.Change.{Change}
 use Rattle.interval_analysis.specs.Changes.{AreKept}
 use Rattle.interval_analysis.specs.Notes.{AreDistinct, IsOther, taken_back}
+use Rattle.interval_analysis.specs.Meetings.{is_around}
 use Rattle.interval_analysis.specs.StatementViews.{joined_lists}
 use Rattle.interval_analysis.proofs.ChangeLemmas.{set_there}
 use Rattle.interval_analysis.proofs.NoteLemmas.{within_of, length-taken_back}
@@ -181,7 +182,7 @@ own_scale q a same =
     times_one : (n : ℤ) → n *ℤ ten_to 0 ≡ n
     times_one n = omega (arith, ints)
 
-pub join_within : (a b : Interval) → IsKeptInterval a → IsKeptInterval b → a.s_hi ≡ b.s_hi → a.s_lo ≤ b.s_lo → a.lo ≤ℤ b.lo → b.hi ≤ℤ a.hi → join_row a b ≡ Ok a
+join_within : (a b : Interval) → IsKeptInterval a → IsKeptInterval b → a.s_hi ≡ b.s_hi → a.s_lo ≤ b.s_lo → a.lo ≤ℤ b.lo → b.hi ≤ℤ a.hi → join_row a b ≡ Ok a
 join_within a b h k same places low high =
     let g = greater_scale a b in
     let first : at_scale g a ≡ a = own_scale g a (omega (arith, same)) in
@@ -196,3 +197,22 @@ join_within a b h k same places low high =
     ∙ ap (λ l. Ok (interval l (int_max a.hi b.hi) (min a.s_lo b.s_lo) a.s_hi)) lo
     ∙ ap (λ h. Ok (interval a.lo h (min a.s_lo b.s_lo) a.s_hi)) hi
     ∙ ap (λ s. Ok (interval a.lo a.hi s a.s_hi)) scale
+
+and_then_both : (s t : Bool) → (s && t) ≡ true → (s ≡ true) × (t ≡ true)
+and_then_both true t e = (refl, e)
+and_then_both false t e = absurd (cc)
+
+-- a range that contains the other is their join, whichever comes first
+pub first_around : (a b : Interval) → IsKeptInterval a → IsKeptInterval b → is_around a b ≡ true → join_row a b ≡ Ok a
+first_around a b h k around =
+    let scales = and_then_both (nat_eq a.s_hi b.s_hi) (nat_le a.s_lo b.s_lo && (int_le a.lo b.lo && int_le b.hi a.hi)) around in
+    let places = and_then_both (nat_le a.s_lo b.s_lo) (int_le a.lo b.lo && int_le b.hi a.hi) scales.1 in
+    let ends = and_then_both (int_le a.lo b.lo) (int_le b.hi a.hi) places.1 in
+    let same : a.s_hi ≡ b.s_hi = grind (arith, nat_tests, scales.0) in
+    let least : a.s_lo ≤ b.s_lo = grind (arith, nat_tests, places.0) in
+    let low : a.lo ≤ℤ b.lo = grind (arith, ints, ends.0) in
+    let high : b.hi ≤ℤ a.hi = grind (arith, ints, ends.1) in
+    join_within a b h k same least low high
+
+pub second_around : (a b : Interval) → IsKeptInterval a → IsKeptInterval b → is_around b a ≡ true → join_row a b ≡ Ok b
+second_around a b h k around = join_either a b ∙ first_around b a k h around

@@ -1,5 +1,5 @@
 -- A side of a comparison, by the number of its variable and by its name.
-use Rattle.std.proofs.Common.{◌≡◌, ℕ, true, false, ◌++◌, Bool, List, [], ◌∷◌, length, set, Option, Some, None, refl, sym, ap, ap₂, ◌∙◌, arith, inl, inr}
+use Rattle.std.proofs.Common.{◌≡◌, ℕ, true, false, Bool, List, length, set, Option, Some, None, refl, sym, ap, ap₂, ◌∙◌, arith, inl, inr}
 use Rattle.std.specs.Prelude.{if◌then◌else◌, slice_get, slice_set}
 use Rattle.std.specs.Option.{option_map, option_and_then}
 use Rattle.std.proofs.lemmas.List.{length-set}
@@ -14,45 +14,16 @@ use Rattle.interval_num.specs.Signs.{signs_of}
 use Rattle.interval_walk.specs.Ranges.{Ranges, range_named, put_range}
 use Rattle.interval_walk.specs.Branches as meant
 use Rattle.interval_walk.specs.Branches.{can_have, exchanged, others}
-use Rattle.interval_analysis.specs.declared.branches.Branches.{Branches}
-use Rattle.interval_analysis.specs.declared.branches.Change.{Change}
 use Rattle.interval_analysis.specs.declared.comparisons.Against.{Against}
 use Rattle.interval_analysis.specs.declared.comparisons.Sides.{Sides}
-use Rattle.interval_analysis.specs.Changes.{changed, ranges_left}
-use Rattle.interval_analysis.specs.PlanViews.{variable_in, variables_in, ranges_in, ranges_after, branches_in, IsSized}
-use Rattle.interval_analysis.specs.ComparisonViews.{Ways, against, branch_by, branches_by, narrowed, ways_in}
+use Rattle.interval_analysis.specs.PlanViews.{variable_in, variables_in, ranges_in, IsSized}
+use Rattle.interval_analysis.specs.ComparisonViews.{against, branch_by, branches_by, narrowed}
+use Rattle.interval_analysis.specs.TestViews.{named_ways}
 use Rattle.interval_analysis.proofs.NameLemmas.{named_by, named_none, number_in, put_by}
-use Rattle.interval_analysis.proofs.ChangeLemmas.{changed-append}
-use Rattle.std.proofs.Common.{Vec, Global}
-
--- one more change of a variable that is refined
-pub narrowed_more : (n : ℕ) (a : Against) (rs : List Interval) (cs more : List Change) (now new : Interval) (c : Change) → slice_get (changed rs cs) n ≡ Some now → refined now a.range a.allowed a.whole ≡ Some new → more ≡ cs ++ (c ∷ []) → c ≡ record { number = n; range = new } → Some (changed rs more) ≡ narrowed (Some n) a (changed rs cs)
-narrowed_more n a rs cs more now new c there made items is =
-    ap (λ l. Some (changed rs l)) (items ∙ ap (λ d. cs ++ (d ∷ [])) is)
-    ∙ ap Some (changed-append rs cs (record { number = n; range = new } ∷ []))
-    ∙ sym (ap (option_and_then (λ v. option_map (slice_set (changed rs cs) n) (refined v a.range a.allowed a.whole))) there
-    ∙ ap (option_map (slice_set (changed rs cs) n)) made)
-
--- nothing is left of it
-pub narrowed_nothing : (n : ℕ) (a : Against) (rs : List Interval) (now : Interval) → slice_get rs n ≡ Some now → refined now a.range a.allowed a.whole ≡ None → None ≡ narrowed (Some n) a rs
-narrowed_nothing n a rs now there made =
-    sym (ap (option_and_then (λ v. option_map (slice_set rs n) (refined v a.range a.allowed a.whole))) there
-    ∙ ap (option_map (slice_set rs n)) made)
 
 -- ---- by name
 
 module _ (p : PlanText) where
-  -- the ranges of a branch by name
-  abbrev pub named_ways : Ways → meant.Branches
-  named_ways w = record { holds = option_map (ranges_in p) w.holds; fails = option_map (ranges_in p) w.fails }
-
-  after_is : (rs : List Interval) (o : Option (Vec Change Global)) → option_map (ranges_in p) (ranges_left rs o) ≡ ranges_after p rs o
-  after_is rs None = refl
-  after_is rs (Some cs) = refl
-
-  pub ways_named : (rs : List Interval) (b : Branches) → named_ways (ways_in rs b) ≡ branches_in p rs b
-  ways_named rs b = ap₂ (λ (h f : Option Ranges). record { holds = h; fails = f }) (after_is rs b.holds) (after_is rs b.fails)
-
   module _ (a : Against) (rs : List Interval) (sized : IsSized p rs) where
     abbrev env : Ranges
     env = ranges_in p rs
@@ -122,5 +93,5 @@ module _ (p : PlanText) where
             ∙ second_named allowed after refl
 
     -- the branches of a comparison
-    pub branches_named : (allowed : SignSet) → meant.branches_of s.whole allowed (meant.sides e f s.left.range s.right.range) (ranges_in p rs) ≡ named_ways (branches_by s allowed rs)
+    pub branches_named : (allowed : SignSet) → meant.branches_of s.whole allowed (meant.sides e f s.left.range s.right.range) (ranges_in p rs) ≡ named_ways p (branches_by s allowed rs)
     branches_named allowed = ap₂ (λ (h f : Option Ranges). record { holds = h; fails = f }) (branch_named allowed) (branch_named (others allowed))

@@ -197,14 +197,3 @@ module _ (w : Walk) (t u : Term) (at : ℕ) where
         }
         by (Err (At i c)) own = is ∙ own
         by (Err Memory) own = tt
-
--- a part that is reached
-pub reached_answer : (w : Walk) (t : Term) (at : ℕ) (rs : List Interval) (o : Option Ranges) (a : Ranged) → o ≡ Some (ranges_in w.plan.now rs) → IsRanged w t at rs a → IsPartRanged w t at o (record { range = Some a.range; kind = a.kind; next = a.next })
-reached_answer w t at rs o a is h = record {
-  range = ap (part_ranged w t at) is ∙ ap (λ q. and_then q (λ a. Ok (Some a))) h.range;
-  kind = h.kind;
-  next = h.next;
-}
-
-pub reached_stops : (w : Walk) (t : Term) (at : ℕ) (rs : List Interval) (o : Option Ranges) (stop : Stop) → o ≡ Some (ranges_in w.plan.now rs) → StopsAs (ranged_in w t at rs) stop → StopsAs (part_ranged w t at o) stop
-reached_stops w t at rs o stop is h = subst (λ o. StopsAs (part_ranged w t at o) stop) (sym is) (stops_first (ranged_in w t at rs) (λ a. Ok (Some a)) stop h)

@@ -81,29 +81,6 @@ own_same rs (c ∷ cs) h =
     ap (λ o. range_there c.number o ++ own_ranges rs cs) h.0
     ∙ ap (λ l. c ∷ l) (own_same rs cs h.1)
 
-pub own_append : (rs : List Interval) (cs ds : List Change) → own_ranges rs (cs ++ ds) ≡ own_ranges rs cs ++ own_ranges rs ds
-own_append rs [] ds = refl
-own_append rs (c ∷ cs) ds =
-    ap (λ l. range_there c.number (slice_get rs c.number) ++ l) (own_append rs cs ds)
-    ∙ sym (append_assoc (range_there c.number (slice_get rs c.number)) (own_ranges rs cs) (own_ranges rs ds))
-
-pub are_own_append : (rs : List Interval) (cs ds : List Change) → AreOwn rs cs → AreOwn rs ds → AreOwn rs (cs ++ ds)
-are_own_append rs [] ds h k = k
-are_own_append rs (c ∷ cs) ds h k = (h.0, are_own_append rs cs ds h.1 k)
-
--- the variables of ranges of others as long
-pub own_of_own : (rs ss : List Interval) (cs : List Change) → length rs ≡ length ss → own_ranges ss (own_ranges rs cs) ≡ own_ranges ss cs
-own_of_own rs ss [] e = refl
-own_of_own rs ss (c ∷ cs) e = by (own_of_own rs ss cs e) (slice_get rs c.number) (slice_get ss c.number) refl refl
-  where
-    by : own_ranges ss (own_ranges rs cs) ≡ own_ranges ss cs → (o p : Option Interval) → slice_get rs c.number ≡ o → slice_get ss c.number ≡ p → own_ranges ss (range_there c.number o ++ own_ranges rs cs) ≡ range_there c.number p ++ own_ranges ss cs
-    by on None None f g = on
-    by on None (Some w) f g = let past = past_of rs c.number f in let within = within_of ss c.number w g in absurd (omega (arith, e, past, within))
-    by on (Some v) None f g = let within = within_of rs c.number v f in let past = past_of ss c.number g in absurd (omega (arith, e, past, within))
-    by on (Some v) (Some w) f g =
-        ap (λ q. range_there c.number q ++ own_ranges ss (own_ranges rs cs)) g
-        ∙ ap (λ l. record { number = c.number; range = w } ∷ l) on
-
 -- ---- notes
 
 pub length-taken_back : (rs : List Interval) (cs : List Change) → length (taken_back rs cs) ≡ length rs
@@ -225,11 +202,6 @@ drop_there cs i c l is = drop-cons cs i c l ∙ ap (λ x. x ∷ drop (suc i) cs)
 
 pub own_more : (rs : List Interval) (cs : List Change) (i : ℕ) (c : Change) (o : Option Interval) → i < length cs → c ≡ get_or cs i c → slice_get rs c.number ≡ o → own_ranges rs (drop i cs) ≡ range_there c.number o ++ own_ranges rs (drop (i + 1) cs)
 own_more rs cs i c o l is e = ap (own_ranges rs) (drop_there cs i c l is) ∙ ap (λ p. range_there c.number p ++ own_ranges rs (drop (i + 1) cs)) e
-
-pub numbered_more : (rs : List Interval) (i : ℕ) (r : Interval) → i < length rs → r ≡ get_or rs i r → numbered i (drop i rs) ≡ record { number = i; range = r } ∷ numbered (i + 1) (drop (i + 1) rs)
-numbered_more rs i r l is =
-    ap (numbered i) (drop-cons rs i r l ∙ ap (λ x. x ∷ drop (suc i) rs) (sym is))
-    ∙ rw add-one refl
 
 pub kept_none : (rs : List Interval) → AreKept (take 0 rs)
 kept_none rs = tt

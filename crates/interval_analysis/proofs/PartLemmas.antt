@@ -177,7 +177,3 @@ module _ (s : Sides) (allowed : SignSet) (rs after : List Interval) (can : CanCo
 -- the second side of a comparison may be refined after the first one
 pub second_narrows : (s : Sides) (allowed : SignSet) (rs after : List Interval) → CanCompare s rs → Some after ≡ narrowed s.left.variable (against s.right.range allowed s.whole) rs → CanNarrow s.right.variable (against s.left.range (exchanged allowed) s.whole) after
 second_narrows s allowed rs after can is = second_after s allowed rs after can s.left.variable refl (sym is)
-
--- so may the first one before
-pub first_narrows : (s : Sides) (allowed : SignSet) (rs : List Interval) → CanCompare s rs → CanNarrow s.left.variable (against s.right.range allowed s.whole) rs
-first_narrows s allowed rs can n e = record { range = s.left.range; there = can.left n e; refines = can.ranges }

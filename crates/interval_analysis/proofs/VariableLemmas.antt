@@ -1,6 +1,5 @@
 -- The variables of a walk.
-use Rattle.std.proofs.Common.{◌≡◌, ℕ, List, length, Result, Ok, Err, sym, ap, ◌∙◌, subst}
-use Rattle.std.specs.Prelude.{OnOk}
+use Rattle.std.proofs.Common.{◌≡◌, ℕ, List, length, sym, ap, ◌∙◌, subst}
 use Rattle.pap_tree.specs.declared.plan.PlanText.{PlanText}
 use Rattle.interval_analysis.specs.declared.branches.Change.{Change}
 use Rattle.interval_analysis.specs.declared.variables.Variables.{Variables}
@@ -33,10 +32,6 @@ module _ (p : PlanText) where
     noted = noted;
   }
 
-  pub goes_on_then : {A E : Type 0} (a b c : Variables) (r : Result A E) → GoesOn p a b → OnOk r (GoesOn p b c) → OnOk r (GoesOn p a c)
-  goes_on_then a b c (Ok x) h k = goes_then a b c h k
-  goes_on_then a b c (Err e) h k = tt
-
   -- behind what was noted some notes go, and the others take back to the same ranges
   pub goes_again : (was mid now : Variables) (mark : ℕ) → mark ≡ length was.notes.items → GoesOn p was mid → TakesBackAs mark mid now → AreKept now.ranges.items → AreHeld p was → GoesOn p was now
   goes_again was mid now mark e h back kept held = goes_noted was now held (noted_again was mid now mark e h.noted back) kept
@@ -50,10 +45,3 @@ module _ (p : PlanText) where
 
   pub goes_left : (was now : Variables) → IsLeft was now → AreHeld p was → GoesOn p was now
   goes_left was now left h = record { held = held_left was now left h; noted = noted_same was now left.ranges left.notes }
-
-pub left_then : (a b c : Variables) → IsLeft a b → IsLeft b c → IsLeft a c
-left_then a b c h k = record { ranges = k.ranges ∙ h.ranges; notes = k.notes ∙ h.notes }
-
-pub left_on_then : {A E : Type 0} (a b c : Variables) (r : Result A E) → IsLeft a b → OnOk r (IsLeft b c) → OnOk r (IsLeft a c)
-left_on_then a b c (Ok x) h k = left_then a b c h k
-left_on_then a b c (Err e) h k = tt

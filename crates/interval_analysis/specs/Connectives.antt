@@ -1,24 +1,32 @@
 -- What private contracts say of connectives, whose parts are tested in turn.
-use Rattle.std.specs.Prelude.{◌≡◌, ℕ, ◌+◌, ◌||◌, Bool, true, false, List, Option, Some, None, is_some, Result, Ok, Err}
+use Rattle.std.specs.Prelude.{◌≡◌, ◌≢◌, ℕ, ◌+◌, ◌||◌, Bool, true, false, List, Option, Some, None, is_some, if◌then◌else◌, Result, Ok, Err, ⊤}
 use Rattle.pap_tree.specs.declared.expression.Expr.{Expr}
 use Rattle.pap_tree.specs.declared.expression.Binary.{Binary}
 use Rattle.pap_tree.specs.declared.expression.Binary.TheVariants as binaries
 use Rattle.pap_tree.specs.Term.{Term, operator}
 use Rattle.pap_tree.specs.Numbering.{nodes}
+use Rattle.interval_num.specs.declared.sign_set.SignSet.{SignSet}
 use Rattle.interval_num.specs.Intervals.{Interval}
 use Rattle.interval_walk.specs.Ranges.{Ranges}
 use Rattle.interval_walk.specs.Failures.{NodeFault}
 use Rattle.interval_walk.specs.Branches as meant
+use Rattle.interval_walk.specs.Branches.{others}
 use Rattle.interval_walk.specs.Ranged.{tested}
 use Rattle.interval_analysis.specs.declared.branches.Connective.{Connective}
 use Rattle.interval_analysis.specs.declared.branches.Connective.TheVariants.{And, Or}
+use Rattle.interval_analysis.specs.declared.comparisons.Compared as comparisons
+use Rattle.interval_analysis.specs.declared.conditions.Comparison as declared
 use Rattle.interval_analysis.specs.declared.conditions.Connected.{Connected}
+use Rattle.interval_analysis.specs.declared.conditions.Directions.{Directions}
 use Rattle.interval_analysis.specs.declared.conditions.Followed.{Followed}
+use Rattle.interval_analysis.specs.declared.conditions.Role.{Role}
+use Rattle.interval_analysis.specs.declared.conditions.Role.TheVariants.{Same, Compared, Other}
 use Rattle.interval_analysis.specs.declared.expressions.Stop.{Stop}
 use Rattle.interval_analysis.specs.declared.expressions.Walk.{Walk}
 use Rattle.interval_analysis.specs.PlanViews.{scope_in, ranges_in}
 use Rattle.interval_analysis.specs.ExpressionViews.{StopsAs, two_of}
-use Rattle.interval_analysis.specs.TestViews.{tested_in}
+use Rattle.interval_analysis.specs.ComparisonViews.{branch_by}
+use Rattle.interval_analysis.specs.TestViews.{Comparison, comparison_in, tested_in}
 
 abbrev pub operator_of : Connective → Binary
 operator_of And = binaries.And
@@ -30,6 +38,17 @@ connected c e f = two_of (operator (operator_of c)) e f
 
 pub record IsConnected (c : Connective) (t : Term) (s : Connected) : Type 0 where
   pub is : t ≡ connected c s.left.now s.right.now
+
+-- an operator that is no connective
+pub record IsOperator (t : Term) (s : declared.Comparison) : Type 0 where
+  pub is : t ≡ two_of (operator s.op) s.left.now s.right.now
+  pub not_and : s.op ≢ binaries.And
+  pub not_or : s.op ≢ binaries.Or
+
+abbrev pub IsRole : Connective → Term → Role → Type 0
+IsRole c t (Same s) = IsConnected c t s
+IsRole c t (Compared s) = IsOperator t s
+IsRole c t Other = ⊤
 
 -- branches as a connective goes on: where a part of && holds, and where one of || fails
 abbrev pub turned : Connective → meant.Branches → meant.Branches
@@ -75,3 +94,20 @@ reached_in w t at o = meant.reached o (tested (scope_in w.plan.now) t at)
 abbrev pub BehindAnswer : Walk → Connective → Term → Followed → List Interval → List Interval → Result Followed Stop → Type 0
 BehindAnswer w c t first rs now r =
     FollowsAnswer w c (reached_in w t first.next (there_if w first.is_through rs)) (first.next + nodes t) now r
+
+-- ---- comparisons
+
+-- && goes on where a comparison holds, and || where it fails
+abbrev pub directions_of : Connective → SignSet → Directions
+directions_of And s = record { onward = s; outward = others s }
+directions_of Or s = record { onward = others s; outward = s }
+
+-- what is known of a comparison, where the variables have the ranges with which a connective goes on
+pub record IsFollowedBy (to : Directions) (d : comparisons.Compared) (rs now : List Interval) (f : Followed) : Type 0 where
+  pub through : branch_by d.sides to.onward rs ≡ (if f.is_through then Some now else None)
+  pub leaves : is_some (branch_by d.sides to.outward rs) ≡ f.can_leave
+  pub next : f.next ≡ d.next
+
+abbrev pub ComparisonFollowed : Walk → Connective → Comparison → ℕ → List Interval → List Interval → Result Followed Stop → Type 0
+ComparisonFollowed w c t at rs now r =
+    FollowsAnswer w c (comparison_in w t at (ranges_in w.plan.now rs)) (at + nodes t.left + nodes t.right + 1) now r

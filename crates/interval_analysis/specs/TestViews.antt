@@ -1,5 +1,6 @@
 -- What private contracts say of tests.
 use Rattle.std.specs.Prelude.{◌≡◌, ℕ, ℤ, pos, ◌+◌, ◌&&◌, Bool, true, false, List, is_some, Result, Ok, Err, IsFalse}
+use Rattle.std.specs.Option.{option_map}
 use Rattle.scaled_decimal.specs.WholeNumbers.{whole_decimal}
 use Rattle.pap_tree.specs.declared.expression.Expr.{Expr}
 use Rattle.pap_tree.specs.declared.expression.Binary.{Binary}
@@ -16,13 +17,15 @@ use Rattle.interval_walk.specs.NodeRanges.{comparison_range, read_range}
 use Rattle.interval_walk.specs.Branches as meant
 use Rattle.interval_walk.specs.Ranged.{ranged, tested, are_whole, compare_sides}
 use Rattle.interval_walk.specs.Shapes.{HasShape}
+use Rattle.pap_tree.specs.declared.plan.PlanText.{PlanText}
+use Rattle.interval_analysis.specs.declared.comparisons.Compared.{Compared}
 use Rattle.interval_analysis.specs.declared.conditions.Inner.{Inner}
 use Rattle.interval_analysis.specs.declared.conditions.Tested.{Tested}
 use Rattle.interval_analysis.specs.declared.expressions.Operands.{Operands}
 use Rattle.interval_analysis.specs.declared.expressions.Stop.{Stop}
 use Rattle.interval_analysis.specs.declared.expressions.Walk.{Walk}
 use Rattle.interval_analysis.specs.PlanViews.{scope_in, ranges_in, branches_in}
-use Rattle.interval_analysis.specs.ComparisonViews.{HasRange, Ways, ways_in, sides_of, branches_by}
+use Rattle.interval_analysis.specs.ComparisonViews.{CanCompare, CanRefine, Ways, sides_of, branches_by}
 use Rattle.interval_analysis.specs.ExpressionViews.{StopsAs}
 
 -- the branches of a test from ranges by number, and the number behind its nodes
@@ -84,24 +87,28 @@ pub record IsInner (e f : Term) (i : Inner) : Type 0 where
 
 -- ---- sides that can't fail
 
--- their ranges have the shapes of their kinds, and that of a variable is its own
-pub record AreSides (o : Operands) (rs : List Interval) : Type 0 where
-  pub left_shape : HasShape o.first.kind o.first.range
-  pub right_shape : HasShape o.second.kind o.second.range
-  pub left : HasRange o.first rs
-  pub right : HasRange o.second rs
+-- their ranges have the shapes of their kinds
+pub record HaveShapes (o : Operands) : Type 0 where
+  pub left : HasShape o.first.kind o.first.range
+  pub right : HasShape o.second.kind o.second.range
 
--- the branches of a comparison by the numbers of the variables, and the number behind its nodes
-pub record IsComparedAs (r : Result Ways NodeFault) (end : ℕ) (rs : List Interval) (t : Tested) : Type 0 where
-  pub branches : r ≡ Ok (ways_in rs t.branches)
-  pub next : t.next ≡ end
+-- branches by the numbers of the variables, from each ranges that these have
+abbrev pub WaysFrom : Type 0
+WaysFrom = List Interval → Result Ways NodeFault
 
-abbrev pub ComparesAs : Result Ways NodeFault → ℕ → List Interval → Result Tested Stop → Type 0
-ComparesAs r end rs (Ok t) = IsComparedAs r end rs t
-ComparesAs r end rs (Err stop) = StopsAs r stop
+-- what is compared: the operands, which may be refined by each other, and the number behind its nodes
+pub record IsComparedAs (r : WaysFrom) (end : ℕ) (o : Operands) (d : Compared) : Type 0 where
+  pub branches : (rs : List Interval) → r rs ≡ Ok (branches_by d.sides d.allowed rs)
+  pub sides : d.sides ≡ sides_of o d.sides.whole
+  pub refines : CanRefine d.sides.whole o.first.range o.second.range
+  pub next : d.next ≡ end
+
+abbrev pub ComparesAs : WaysFrom → ℕ → Operands → Result Compared Stop → Type 0
+ComparesAs r end o (Ok d) = IsComparedAs r end o d
+ComparesAs r end o (Err stop) = (rs : List Interval) → StopsAs (r rs) stop
 
 -- a comparison of two sides
-abbrev pub sides_compared : Binary → Operands → List Interval → Result Ways NodeFault
+abbrev pub sides_compared : Binary → Operands → WaysFrom
 sides_compared op o rs =
     and_then (at_node o.second.next (comparison_range op o.first.range o.second.range)) (λ _.
     Ok (branches_by (sides_of o (is_whole o.first.kind && is_whole o.second.kind)) (meant.signs_where op (pos 0)) rs))
@@ -123,7 +130,23 @@ OrderAnswer op k a b at (Ok n) = IsPassed (order_node op k a b at) (at + 3) n
 OrderAnswer op k a b at (Err stop) = StopsAs (order_node op k a b at) stop
 
 -- a comparison of their compareTo with a number
-abbrev pub order_compared : Binary → ℤ → Operands → List Interval → Result Ways NodeFault
+abbrev pub order_compared : Binary → ℤ → Operands → WaysFrom
 order_compared op k o rs =
     and_then (order_node op k o.first.range o.second.range o.second.next) (λ _.
     Ok (branches_by (sides_of o false) (meant.signs_where op k) rs))
+
+-- ---- what is compared
+
+-- branches by name
+abbrev pub named_ways : PlanText → Ways → meant.Branches
+named_ways p ways = record { holds = option_map (ranges_in p) ways.holds; fails = option_map (ranges_in p) ways.fails }
+
+-- the branches of a comparison are those of its sides, which may be compared
+pub record IsCompared (w : Walk) (c : Comparison) (at : ℕ) (rs : List Interval) (d : Compared) : Type 0 where
+  pub branches : comparison_in w c at (ranges_in w.plan.now rs) ≡ Ok (named_ways w.plan.now (branches_by d.sides d.allowed rs))
+  pub can : CanCompare d.sides rs
+  pub next : d.next ≡ at + nodes c.left + nodes c.right + 1
+
+abbrev pub ComparedAnswer : Walk → Comparison → ℕ → List Interval → Result Compared Stop → Type 0
+ComparedAnswer w c at rs (Ok d) = IsCompared w c at rs d
+ComparedAnswer w c at rs (Err stop) = StopsAs (comparison_in w c at (ranges_in w.plan.now rs)) stop

@@ -13,6 +13,14 @@ pub(crate) struct Change {
     pub range: Abs,
 }
 
+/// The changes of the variables that the sides of a comparison name.
+#[derive(Clone, Copy)]
+pub(crate) struct Narrowed {
+    pub left: Option<Change>,
+    /// That of the right side, which comes after the left one's.
+    pub right: Option<Change>,
+}
+
 /// What joins two tests.
 #[derive(Clone, Copy)]
 pub(crate) enum Connective {

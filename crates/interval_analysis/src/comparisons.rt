@@ -1,13 +1,14 @@
 //! What a comparison leaves of the ranges of its sides.
-ghost use Rattle.std.specs.Prelude.{◌≡◌, ◌<◌, ◌&&◌, Some, IfOk, length, slice_get};
-ghost use Rattle.interval_num.specs.Signs.{signs_of};
+ghost use Rattle.std.specs.Prelude.{◌≡◌, ◌<◌, ◌&&◌, Some, IfOk, OnOk, List, length, slice_get};
+ghost use Rattle.std.specs.Option.{option_map};
+ghost use Rattle.interval_num.specs.Intervals.{Interval};
 ghost use Rattle.pap_types.specs.Kinds.{is_whole};
 ghost use Rattle.pap_types.specs.Operations.{holds_of};
 ghost use Rattle.interval_walk.specs.Branches.{signs_where, others, exchanged, can_have};
-ghost use Rattle.interval_analysis.specs.Changes.{changed, ranges_left};
+ghost use Rattle.interval_analysis.specs.Changes.{after_both, after_change, changed, ranges_left};
 ghost use Rattle.interval_analysis.specs.ComparisonViews.{CanCompare, CanNarrow, against, branch_by, branches_by, narrowed, sides_of, ways_in};
 
-use crate::branches::{Branches, Change};
+use crate::branches::{Branches, Change, Narrowed};
 use crate::expressions::{Operands, Ranged};
 use interval_num::{Abs, SignSet, refine, signs};
 use pap_tree::Binary;
@@ -85,7 +86,7 @@ fn holds(op: Binary, order: Ordering) -> bool
     }
 }
 
-fn others(signs: SignSet) -> SignSet
+pub(crate) fn others(signs: SignSet) -> SignSet
     ensures { result ≡ others signs }
 {
     SignSet {
@@ -120,90 +121,119 @@ pub(crate) fn are_whole(left: NodeKind, right: NodeKind) -> bool
     left.is_whole() && right.is_whole()
 }
 
-/// The branches of a comparison that holds for the allowed signs.
+/// A comparison whose sides can't fail.
+#[derive(Clone, Copy)]
+pub(crate) struct Compared {
+    pub sides: Sides,
+    /// The signs for which it holds.
+    pub allowed: SignSet,
+    /// The number that follows its nodes'.
+    pub next: u32,
+}
+
+/// The branches of a comparison.
 pub(crate) fn branches_of(
     alloc: Global,
-    sides: &Sides,
-    allowed: SignSet,
+    compared: &Compared,
     ranges: &[Abs],
 ) -> Result<Branches, AllocError>
-    requires { CanCompare sides.now ranges.now }
-    ensures { IfOk result (λ b. ways_in ranges.now b ≡ branches_by sides.now allowed ranges.now) }
+    requires { CanCompare compared.now.sides ranges.now }
+    ensures { IfOk result (λ b. ways_in ranges.now b
+        ≡ branches_by compared.now.sides compared.now.allowed ranges.now) }
 {
-    let between = signs(sides.left.range, sides.right.range);
-    let holds = branch_of(alloc, sides, between, allowed, ranges)?;
-    let fails = branch_of(alloc, sides, between, others(allowed), ranges)?;
+    let Compared { sides, allowed, .. } = compared;
+    let held = branch_of(sides, *allowed, ranges);
+    let failed = branch_of(sides, others(*allowed), ranges);
+    let holds = listed(alloc, held)?;
+    let fails = listed(alloc, failed)?;
     Ok(Branches { holds, fails })
+}
+
+/// The changes of both sides as a list.
+fn listed(alloc: Global, narrowed: Option<Narrowed>) -> Result<Option<Vec<Change>>, AllocError>
+    ensures { IfOk result (λ o. (ranges : List Interval)
+        → ranges_left ranges o ≡ option_map (after_both ranges) narrowed) }
+{
+    let Some(Narrowed { left, right }) = narrowed else {
+        return Ok(None);
+    };
+    let mut changes = Vec::new(alloc);
+    add(&mut changes, left)?;
+    add(&mut changes, right)?;
+    Ok(Some(changes))
+}
+
+/// Adds a change, if there is one.
+fn add(changes: &mut Vec<Change>, change: Option<Change>) -> Result<(), AllocError>
+    ensures { OnOk result ((ranges : List Interval)
+        → changed ranges changes.new.items ≡ after_change (changed ranges changes.old.items) change) }
+{
+    if let Some(change) = change {
+        changes.push(change)?;
+    }
+    Ok(())
 }
 
 /// The changes where a comparison has an allowed sign of those between its sides: of the left side by the right one's range,
 /// then of the right side by the range that the left one had.
-fn branch_of(
-    alloc: Global,
-    sides: &Sides,
-    between: SignSet,
-    allowed: SignSet,
-    ranges: &[Abs],
-) -> Result<Option<Vec<Change>>, AllocError>
-    requires sides { CanCompare sides.now ranges.now }
-    requires between { between ≡ signs_of sides.now.left.range sides.now.right.range }
-    ensures { IfOk result (λ o. ranges_left ranges.now o
-        ≡ branch_by sides.now allowed ranges.now) }
+pub(crate) fn branch_of(sides: &Sides, allowed: SignSet, ranges: &[Abs]) -> Option<Narrowed>
+    requires { CanCompare sides.now ranges.now }
+    ensures { option_map (after_both ranges.now) result ≡ branch_by sides.now allowed ranges.now }
 {
+    let between = signs(sides.left.range, sides.right.range);
     if !can_have(allowed, between) {
-        return Ok(None);
+        return None;
     }
-    let none = Vec::new(alloc);
-    let right = Against::of(&sides.right, allowed, sides.whole);
-    match narrow(sides.left.variable, right, ranges, none)? {
-        None => Ok(None),
-        Some(changes) => {
-            let left = Against::of(&sides.left, exchanged(allowed), sides.whole);
-            narrow(sides.right.variable, left, ranges, changes)
-        }
-    }
+    let by_right = Against::of(&sides.right, allowed, sides.whole);
+    let Some(left) = narrow(sides.left.variable, by_right, ranges, &None) else {
+        return None;
+    };
+    let by_left = Against::of(&sides.left, exchanged(allowed), sides.whole);
+    let Some(right) = narrow(sides.right.variable, by_left, ranges, &left) else {
+        return None;
+    };
+    Some(Narrowed { left, right })
 }
 
-/// The changes with that of a side that is a variable; None where nothing is left of its range.
+/// The change of a side, if it is a variable, after an earlier one; None where nothing is left of its range.
 fn narrow(
     variable: Option<usize>,
     against: Against,
     ranges: &[Abs],
-    changes: Vec<Change>,
-) -> Result<Option<Vec<Change>>, AllocError>
-    requires { CanNarrow variable against (changed ranges.now changes.items) }
-    ensures { IfOk result (λ o. ranges_left ranges.now o
-        ≡ narrowed variable against (changed ranges.now changes.items)) }
+    earlier: &Option<Change>,
+) -> Option<Option<Change>>
+    requires { CanNarrow variable against (after_change ranges.now earlier.now) }
+    ensures { option_map (after_change (after_change ranges.now earlier.now)) result
+        ≡ narrowed variable against (after_change ranges.now earlier.now) }
 {
     let Some(number) = variable else {
-        return Ok(Some(changes));
+        return Some(None);
     };
     let Against {
         range: other,
         allowed,
         whole,
     } = against;
-    let now = range_now(ranges, &changes, number);
+    let now = range_now(ranges, earlier, number);
     match refine(now, other, allowed, whole) {
-        None => Ok(None),
-        Some(range) => {
-            let mut more = changes;
-            more.push(Change { number, range })?;
-            Ok(Some(more))
-        }
+        None => None,
+        Some(range) => Some(Some(Change { number, range })),
     }
 }
 
-/// The range of a variable after changes.
-fn range_now(ranges: &[Abs], changes: &[Change], number: usize) -> Abs
+/// The range of a variable after a change.
+fn range_now(ranges: &[Abs], change: &Option<Change>, number: usize) -> Abs
     requires { number < length ranges.now }
-    ensures { slice_get (changed ranges.now changes.now) number ≡ Some result }
+    ensures { slice_get (after_change ranges.now change.now) number ≡ Some result }
 {
-    let mut range = ranges[number];
-    for change in changes {
-        if change.number == number {
-            range = change.range;
+    match change {
+        Some(change) => {
+            if change.number == number {
+                change.range
+            } else {
+                ranges[number]
+            }
         }
+        None => ranges[number],
     }
-    range
 }

@@ -1,23 +1,27 @@
 //! What tests leave of the ranges of the variables.
-ghost use Rattle.std.specs.Prelude.{◌≡◌, ◌+◌, ◌<◌, ◌^◌, MatchOption, IfSome, OnOk};
+ghost use Rattle.std.specs.Prelude.{◌≡◌, ◌+◌, ◌<◌, ◌^◌, MatchOption, IfOk, OnOk};
 ghost use Rattle.pap_tree.specs.Term.{term_of, unary, operator};
 ghost use Rattle.interval_num.specs.declared.cause.RangeCause.TheVariants.{Wide};
 ghost use Rattle.interval_analysis.specs.VariableViews.{AreHeld, GoesOn, IsLeft};
 ghost use Rattle.interval_analysis.specs.ExpressionViews.{CanWalk, one_of, two_of};
-ghost use Rattle.interval_analysis.specs.TestViews.{AreSides, ComparesAs, ComparisonAnswer, IsInner, IsPlainComparison, OrderAnswer, TestAnswer, comparison_of, order_compared, sides_compared};
-ghost use Rattle.interval_analysis.specs.Connectives.{FollowAnswer, BehindAnswer, IsConnected, behind_both, connected};
+ghost use Rattle.interval_analysis.specs.TestViews.{ComparedAnswer, ComparesAs, ComparisonAnswer, HaveShapes, IsInner, IsPlainComparison, OrderAnswer, TestAnswer, comparison_of, order_compared, sides_compared};
+ghost use Rattle.interval_analysis.specs.Changes.{AreKept};
+ghost use Rattle.interval_analysis.specs.Notes.{IsNoted};
+ghost use Rattle.interval_analysis.specs.ComparisonViews.{CanCompare};
+ghost use Rattle.interval_analysis.specs.Connectives.{FollowAnswer, BehindAnswer, ComparisonFollowed, IsFollowedBy, IsRole, behind_both, connected, directions_of};
 
 use crate::branches::{Branches, Connective, opposite, turned, unchanged_if};
-use crate::comparisons::{Sides, are_whole, branches_of, signs_where};
+use crate::comparisons::{Compared, Sides, are_whole, branch_of, branches_of, others, signs_where};
 use crate::expressions::{Operands, Stop, Walk};
 use crate::nodes::{literal, own};
 use crate::operations::comparison_range;
 use crate::outlines::outline_of;
 use crate::variables::{Variables, taken_back};
-use interval_num::{Abs, RangeCause, abs_cmp};
+use interval_num::{Abs, RangeCause, SignSet, abs_cmp};
 use pap_tree::{Binary, Call, Expr, Unary};
 use pap_types::NodeKind;
 use scaled_decimal::Dec;
+use std::alloc::AllocError;
 
 /// What is known of a test whose nodes can't fail: its branches, and the number that follows its nodes'.
 #[derive(Drop)]
@@ -140,7 +144,8 @@ impl Walk<'_> {
         })
     }
 
-    /// Follows the parts of a connective through an expression, which is one part where it is of no such connective.
+    /// Follows the parts of a connective through an expression, which is one part where it is of no such connective. A
+    /// comparison narrows its variables in place.
     #[cycle(walk)]
     fn follow(
         &self,
@@ -155,9 +160,14 @@ impl Walk<'_> {
             variables.old.ranges.items variables.new.ranges.items result }
         ensures on { GoesOn self.now.plan.now variables.old variables.new }
     {
-        match sides_of(connective, e) {
-            Some(sides) => self.follow_both(connective, sides.left, sides.right, at, variables),
-            None => self.follow_part(connective, e, at, variables),
+        match role_of(connective, e) {
+            Role::Same(sides) => {
+                self.follow_both(connective, sides.left, sides.right, at, variables)
+            }
+            Role::Compared(found) => {
+                self.follow_comparison(connective, found.op, found.left, found.right, at, variables)
+            }
+            Role::Other => self.follow_part(connective, e, at, variables),
         }
     }
 
@@ -241,7 +251,29 @@ impl Walk<'_> {
         }
     }
 
-    /// The branches of a comparison. That of a `compareTo` with an `int` literal compares the sides of the `compareTo`.
+    /// Goes on from a comparison as `follow_part` does.
+    #[cycle(walk)]
+    fn follow_comparison(
+        &self,
+        connective: Connective,
+        op: Binary,
+        left: &Expr,
+        right: &Expr,
+        at: u32,
+        variables: &mut Variables,
+    ) -> Result<Followed, Stop>
+        requires walk { CanWalk self.now (two_of (operator op) left.now right.now) at }
+        requires held { AreHeld self.now.plan.now variables.old }
+        ensures answer { ComparisonFollowed self.now connective
+            (comparison_of op left.now right.now) at variables.old.ranges.items
+            variables.new.ranges.items result }
+        ensures on { GoesOn self.now.plan.now variables.old variables.new }
+    {
+        let compared = self.compare(op, left, right, at, variables)?;
+        let followed = follow_compared(connective, &compared, variables)?;
+        Ok(followed)
+    }
+
     #[cycle(walk)]
     fn test_comparison(
         &self,
@@ -258,55 +290,135 @@ impl Walk<'_> {
         ensures left { OnOk result (IsLeft variables.old variables.new) }
         ensures on { GoesOn self.now.plan.now variables.old variables.new }
     {
-        match compared_sides(left, right) {
-            Some(inner) => {
-                let operands = self.operands(inner.left, inner.right, at, variables)?;
-                self.compare_order(op, inner.number, operands, &variables.ranges)
-            }
-            None => {
-                let operands = self.operands(left, right, at, variables)?;
-                self.compare_sides(op, operands, &variables.ranges)
-            }
-        }
-    }
-
-    /// The branches of a comparison whose sides can't fail.
-    fn compare_sides(&self, op: Binary, operands: Operands, ranges: &[Abs]) -> Result<Tested, Stop>
-        requires sides { AreSides operands ranges.now }
-        requires room { operands.second.next + 1 < 2 ^ 32 }
-        ensures { ComparesAs (sides_compared op operands ranges.now) (operands.second.next + 1)
-            ranges.now result }
-    {
-        let Operands { first, second } = operands;
-        let compared = comparison_range(op, first.range, second.range);
-        let compared = own(compared, NodeKind::Truth, second.next)?;
-        let whole = are_whole(first.kind, second.kind);
-        let sides = Sides::of(operands, whole);
-        let branches = branches_of(self.alloc, &sides, signs_where(op, 0), ranges)?;
+        let compared = self.compare(op, left, right, at, variables)?;
+        let branches = branches_of(self.alloc, &compared, &variables.ranges)?;
         Ok(Tested {
             branches,
             next: compared.next,
         })
     }
 
-    /// The branches of a `compareTo` that is compared with an `int` literal, whose sides can't fail.
-    fn compare_order(
+    /// What is compared, if it can't fail: that of a `compareTo` with an `int` literal compares the sides of the `compareTo`.
+    #[cycle(walk)]
+    fn compare(
         &self,
         op: Binary,
-        number: i32,
-        operands: Operands,
-        ranges: &[Abs],
-    ) -> Result<Tested, Stop>
-        requires sides { AreSides operands ranges.now }
-        requires room { operands.second.next + 3 < 2 ^ 32 }
-        ensures { ComparesAs (order_compared op number operands ranges.now)
-            (operands.second.next + 3) ranges.now result }
+        left: &Expr,
+        right: &Expr,
+        at: u32,
+        variables: &mut Variables,
+    ) -> Result<Compared, Stop>
+        requires walk { CanWalk self.now (two_of (operator op) left.now right.now) at }
+        requires held { AreHeld self.now.plan.now variables.old }
+        ensures answer { ComparedAnswer self.now (comparison_of op left.now right.now) at
+            variables.old.ranges.items result }
+        ensures left { OnOk result (IsLeft variables.old variables.new) }
+        ensures on { GoesOn self.now.plan.now variables.old variables.new }
     {
-        let Operands { first, second } = operands;
-        let next = behind_order(op, number, first.range, second.range, second.next)?;
-        let sides = Sides::of(operands, false);
-        let branches = branches_of(self.alloc, &sides, signs_where(op, number), ranges)?;
-        Ok(Tested { branches, next })
+        match compared_sides(left, right) {
+            Some(inner) => {
+                let operands = self.operands(inner.left, inner.right, at, variables)?;
+                compare_order(op, inner.number, operands)
+            }
+            None => {
+                let operands = self.operands(left, right, at, variables)?;
+                compare_sides(op, operands)
+            }
+        }
+    }
+}
+
+/// A comparison of sides that can't fail.
+fn compare_sides(op: Binary, operands: Operands) -> Result<Compared, Stop>
+    requires shapes { HaveShapes operands }
+    requires room { operands.second.next + 1 < 2 ^ 32 }
+    ensures { ComparesAs (sides_compared op operands) (operands.second.next + 1) operands result }
+{
+    let Operands { first, second } = operands;
+    let compared = comparison_range(op, first.range, second.range);
+    let compared = own(compared, NodeKind::Truth, second.next)?;
+    let whole = are_whole(first.kind, second.kind);
+    Ok(Compared {
+        sides: Sides::of(operands, whole),
+        allowed: signs_where(op, 0),
+        next: compared.next,
+    })
+}
+
+/// A `compareTo` of sides that can't fail, which is compared with an `int` literal.
+fn compare_order(op: Binary, number: i32, operands: Operands) -> Result<Compared, Stop>
+    requires room { operands.second.next + 3 < 2 ^ 32 }
+    ensures { ComparesAs (order_compared op number operands) (operands.second.next + 3)
+        operands result }
+{
+    let Operands { first, second } = operands;
+    let next = behind_order(op, number, first.range, second.range, second.next)?;
+    Ok(Compared {
+        sides: Sides::of(operands, false),
+        allowed: signs_where(op, number),
+        next,
+    })
+}
+
+/// The signs for which a comparison leads on through a connective, and those for which it leads out of it.
+#[derive(Clone, Copy)]
+struct Directions {
+    onward: SignSet,
+    outward: SignSet,
+}
+
+/// `||` goes on where its parts fail.
+fn directions_of(connective: Connective, allowed: SignSet) -> Directions
+    ensures { result ≡ directions_of connective allowed }
+{
+    let other = others(allowed);
+    match connective {
+        Connective::And => Directions {
+            onward: allowed,
+            outward: other,
+        },
+        Connective::Or => Directions {
+            onward: other,
+            outward: allowed,
+        },
+    }
+}
+
+/// Gives the variables the ranges with which the part behind a comparison is walked.
+fn follow_compared(
+    connective: Connective,
+    compared: &Compared,
+    variables: &mut Variables,
+) -> Result<Followed, AllocError>
+    requires can { CanCompare compared.now.sides variables.old.ranges.items }
+    requires kept { AreKept variables.old.ranges.items }
+    ensures follows { IfOk result (IsFollowedBy (directions_of connective compared.now.allowed)
+        compared.now variables.old.ranges.items variables.new.ranges.items) }
+    ensures noted { IsNoted variables.old variables.new }
+    ensures kept { AreKept variables.new.ranges.items }
+{
+    let Compared {
+        sides,
+        allowed,
+        next,
+    } = *compared;
+    let directions = directions_of(connective, allowed);
+    let can_leave = branch_of(&sides, directions.outward, &variables.ranges).is_some();
+    let onward = branch_of(&sides, directions.onward, &variables.ranges);
+    match onward {
+        None => Ok(Followed {
+            is_through: false,
+            can_leave,
+            next,
+        }),
+        Some(narrowed) => {
+            variables.narrow(&narrowed)?;
+            Ok(Followed {
+                is_through: true,
+                can_leave,
+                next,
+            })
+        }
     }
 }
 
@@ -355,18 +467,35 @@ struct Connected<'a> {
     right: &'a Expr,
 }
 
-/// The sides of an expression, where it is of a connective.
-fn sides_of<'a>(connective: Connective, e: &'a Expr) -> Option<Connected<'a>>
-    ensures { IfSome result (IsConnected connective (term_of e.now)) }
+/// An operator that is no connective, with its sides.
+#[derive(Clone, Copy)]
+struct Comparison<'a> {
+    op: Binary,
+    left: &'a Expr,
+    right: &'a Expr,
+}
+
+/// What an expression is to a connective that it is a part of.
+#[derive(Clone, Copy)]
+enum Role<'a> {
+    /// The same connective, whose sides are parts too.
+    Same(Connected<'a>),
+    Compared(Comparison<'a>),
+    Other,
+}
+
+fn role_of<'a>(connective: Connective, e: &'a Expr) -> Role<'a>
+    ensures { IsRole connective (term_of e.now) result }
 {
     let Expr::Binary(op, left, right) = e else {
-        return None;
+        return Role::Other;
     };
     match (connective, *op) {
         (Connective::And, Binary::And) | (Connective::Or, Binary::Or) => {
-            Some(Connected { left, right })
+            Role::Same(Connected { left, right })
         }
-        _ => None,
+        (_, Binary::And | Binary::Or) => Role::Other,
+        (_, op) => Role::Compared(Comparison { op, left, right }),
     }
 }
 

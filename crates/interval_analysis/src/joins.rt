@@ -3,7 +3,7 @@ ghost use Rattle.std.specs.Prelude.{◌≡◌, ◌≤◌, length, drop};
 ghost use Rattle.interval_num.specs.Rows.{join_row};
 ghost use Rattle.interval_analysis.specs.Changes.{AreKept};
 ghost use Rattle.interval_analysis.specs.Notes.{AreDistinct, TakesBackAs, taken_back};
-ghost use Rattle.interval_analysis.specs.Meetings.{MeetsAnswer};
+ghost use Rattle.interval_analysis.specs.Meetings.{MeetsAnswer, is_around};
 
 use crate::branches::Change;
 use crate::expressions::Stop;
@@ -49,18 +49,27 @@ fn join_noted(root: u32, ranges: &mut [Abs], notes: &[Change]) -> Result<(), Sto
     Ok(())
 }
 
-/// The join of two ranges, which is the first one where that contains the other at the same places.
+/// The join of two ranges, which is one of them where that contains the other at the same places.
 fn joined(range: Abs, other: Abs) -> Result<Abs, RangeCause>
     ensures { result ≡ join_row range other }
 {
     is_kept(range);
     is_kept(other);
-    if range.s_hi() == other.s_hi()
+    if is_around(range, other) {
+        return Ok(range);
+    }
+    if is_around(other, range) {
+        return Ok(other);
+    }
+    join(range, other)
+}
+
+/// Whether a range contains another at the same places.
+fn is_around(range: Abs, other: Abs) -> bool
+    ensures { result ≡ is_around range other }
+{
+    range.s_hi() == other.s_hi()
         && range.s_lo() <= other.s_lo()
         && range.lo() <= other.lo()
         && other.hi() <= range.hi()
-    {
-        return Ok(range);
-    }
-    join(range, other)
 }

@@ -1,11 +1,11 @@
 //! The ranges of the variables, with notes of what was changed, so that a branch can be left as it was entered.
 ghost use Rattle.std.specs.Prelude.{◌≡◌, ◌≤◌, length, take, drop, slice_set, IfOk, OnOk, OnErr};
 ghost use Rattle.interval_num.specs.Intervals.{IsKeptInterval};
-ghost use Rattle.interval_analysis.specs.Changes.{AreKept, changed};
+ghost use Rattle.interval_analysis.specs.Changes.{AreKept, after_both, after_change, changed};
 ghost use Rattle.interval_analysis.specs.Notes.{AreDistinct, IsNoted, IsTold, TakesBackAs, taken_back, own_ranges, numbered};
 ghost use Rattle.interval_analysis.specs.VariableViews.{IsLeft};
 
-use crate::branches::Change;
+use crate::branches::{Change, Narrowed};
 use crate::repeats::first_notes;
 use interval_num::Abs;
 use std::alloc::{AllocError, Global};
@@ -65,6 +65,32 @@ impl Variables {
             self.put(change.number, change.range)?;
         }
         Ok(())
+    }
+
+    /// Gives the variables of a comparison's sides their new ranges.
+    pub fn narrow(&mut self, narrowed: &Narrowed) -> Result<(), AllocError>
+        requires { AreKept self.old.ranges.items }
+        ensures value { OnOk result
+            (self.new.ranges.items ≡ after_both self.old.ranges.items narrowed.now) }
+        ensures noted { IsNoted self.old self.new }
+        ensures kept { AreKept self.new.ranges.items }
+    {
+        self.change(&narrowed.left)?;
+        self.change(&narrowed.right)
+    }
+
+    /// Gives a variable its new range, if there is one.
+    fn change(&mut self, change: &Option<Change>) -> Result<(), AllocError>
+        requires { AreKept self.old.ranges.items }
+        ensures value { OnOk result
+            (self.new.ranges.items ≡ after_change self.old.ranges.items change.now) }
+        ensures noted { IsNoted self.old self.new }
+        ensures kept { AreKept self.new.ranges.items }
+    {
+        match change {
+            Some(change) => self.put(change.number, change.range),
+            None => Ok(()),
+        }
     }
 
     /// Gives the variables back the ranges that they had when there were so many notes.

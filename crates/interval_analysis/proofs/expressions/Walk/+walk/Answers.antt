@@ -3,18 +3,18 @@ use Rattle.std.proofs.lemmas.Int.{ints}
 use Rattle.std.specs.Int.{w32}
 use Rattle.pap_tree.specs.Numbering.{nodes}
 use Rattle.pap_tree.specs.Term.{term_of, item, one, two, operator}
-use Rattle.interval_analysis.specs.PlanViews.{ranges_in, ranges_after, branches_in}
+use Rattle.interval_analysis.specs.PlanViews.{ranges_after, branches_in}
 use Rattle.interval_analysis.specs.ShapeViews.{one_meant, two_meant}
 use Rattle.interval_analysis.specs.ExpressionViews.{CanWalk, IsPartRanged, RangeAnswer, StopsAs, part_ranged}
-use Rattle.interval_analysis.specs.TestViews.{ComparesAs, TestAnswer, comparison, comparison_in, order_compared}
-use Rattle.interval_analysis.specs.Connectives.{FollowAnswer, connected}
+use Rattle.interval_analysis.specs.TestViews.{ComparesAs, TestAnswer, comparison, comparison_of, order_compared}
+use Rattle.interval_analysis.specs.Connectives.{FollowAnswer, IsFollowedBy, connected, directions_of}
 use Rattle.interval_analysis.specs.Notes.{IsTold}
 use Rattle.interval_analysis.proofs.NodeLemmas.{can_item, can_one, can_two, first_stops, item_answer, item_stops, one_answer, one_stops, parts_answer, parts_err, range_err, second_stops, two_answer, two_stops}
 use Rattle.interval_analysis.proofs.ExpressionLemmas.{plain_answer, comparison_stops}
-use Rattle.interval_analysis.proofs.ConnectiveLemmas.{both_followed, sequence_tested}
+use Rattle.interval_analysis.proofs.ConnectiveLemmas.{both_followed, comparison_followed, operator_followed, sequence_tested}
 use Rattle.interval_analysis.proofs.NoteLemmas.{noted_then, notes_before, since}
 use Rattle.interval_analysis.proofs.VariableLemmas.{goes_apply, goes_left, goes_noted, goes_then, held_left}
-use Rattle.interval_analysis.proofs.ComparisonLemmas.{are_sides, can_inner, order_answer, order_stops, sides_answer, takes_index, takes_operand, takes_operands, tests_err}
+use Rattle.interval_analysis.proofs.ComparisonLemmas.{compared_err, have_shapes, order_answer, order_stops, sides_answer, takes_index, takes_operand, takes_operands}
 use Rattle.interval_analysis.proofs.expressions.Walk.+walk.Goals as goal
 
 -- ---- an expression by its shape
@@ -146,59 +146,78 @@ test-returns-in-Binary-clause-answer t c =
     let is : term_of c.args.e.now ≡ two (operator c.in-Binary.op) (term_of c.deref-in-Binary.result.now) (term_of c.deref-in-Binary-2.result.now) = search rules in
     subst (λ t. TestAnswer c.args.self.now t c.args.at c.args.variables.now.ranges.items c.test_operator.result) (sym is) c.test_operator.ensures.answer
 
-pub test_comparison-compare_order-requires-clause-sides : goal.test_comparison-compare_order-requires-clause-sides
-test_comparison-compare_order-requires-clause-sides t c =
-    let i = c.in-Some.inner in
-    are_sides c.args.self.now (term_of i.left.now) (term_of i.right.now) c.args.at c.deref.result.now c.args.variables.now.ranges.items c.in_ok-operands-in-Some.operands
-    (c.deref.ensures.value ∙ c.in_ok-operands-in-Some.ensures.left.ranges) c.requires.held.sized
-    (can_inner c.args.self.now c.args.op (term_of c.args.left.now) (term_of c.args.right.now) i c.args.at c.in-Some.ensures c.requires.walk)
-    c.in_ok-operands-in-Some.ensures.answer
-
-pub test_comparison-compare_sides-requires-clause-sides : goal.test_comparison-compare_sides-requires-clause-sides
-test_comparison-compare_sides-requires-clause-sides t c =
+pub compare-compare_sides-requires-clause-shapes : goal.compare-compare_sides-requires-clause-shapes
+compare-compare_sides-requires-clause-shapes t c =
     let e = term_of c.args.left.now in
     let f = term_of c.args.right.now in
-    are_sides c.args.self.now e f c.args.at c.deref-in-None.result.now c.args.variables.now.ranges.items c.in_ok-operands-in-None.operands
-    (c.deref-in-None.ensures.value ∙ c.in_ok-operands-in-None.ensures.left.ranges) c.requires.held.sized
+    have_shapes c.args.self.now e f c.args.at c.args.variables.now.ranges.items c.in_ok-operands-in-None.operands
     (can_two c.args.self.now c.args.at (operator c.args.op) e f c.requires.walk)
     c.in_ok-operands-in-None.ensures.answer
 
-pub test_comparison-returns-in_err-operands-in-Some-clause-answer : goal.test_comparison-returns-in_err-operands-in-Some-clause-answer
-test_comparison-returns-in_err-operands-in-Some-clause-answer t c =
+pub compare-returns-in_err-operands-in-Some-clause-answer : goal.compare-returns-in_err-operands-in-Some-clause-answer
+compare-returns-in_err-operands-in-Some-clause-answer t c =
     let w = c.args.self.now in
     let e = term_of c.args.left.now in
     let f = term_of c.args.right.now in
     let rs = c.args.variables.now.ranges.items in
     let stop = c.in_err-operands-in-Some.field-0.0 in
-    tests_err w (comparison_in w (comparison c.args.op e f) c.args.at (ranges_in w.plan.now rs)) (c.args.at + nodes e + nodes f + 1) rs stop c.from_residual.result c.from_residual.ensures.1
+    compared_err w (comparison c.args.op e f) c.args.at rs stop c.from_residual.result c.from_residual.ensures.1
     (order_stops w c.args.op e f c.in-Some.inner c.args.at rs stop c.in-Some.ensures c.in_err-operands-in-Some.ensures.answer)
 
-pub test_comparison-returns-in_err-operands-in-None-clause-answer : goal.test_comparison-returns-in_err-operands-in-None-clause-answer
-test_comparison-returns-in_err-operands-in-None-clause-answer t c =
+pub compare-returns-in_err-operands-in-None-clause-answer : goal.compare-returns-in_err-operands-in-None-clause-answer
+compare-returns-in_err-operands-in-None-clause-answer t c =
     let w = c.args.self.now in
     let e = term_of c.args.left.now in
     let f = term_of c.args.right.now in
     let rs = c.args.variables.now.ranges.items in
     let stop = c.in_err-operands-in-None.field-0.0 in
-    let res = c.from_residual-in_err-operands-in-None.result in
-    tests_err w (comparison_in w (comparison c.args.op e f) c.args.at (ranges_in w.plan.now rs)) (c.args.at + nodes e + nodes f + 1) rs stop res c.from_residual-in_err-operands-in-None.ensures.1
+    compared_err w (comparison c.args.op e f) c.args.at rs stop c.from_residual-in_err-operands-in-None.result c.from_residual-in_err-operands-in-None.ensures.1
     (comparison_stops w c.args.op e f c.args.at rs stop c.in_err-operands-in-None.ensures.answer)
 
-pub test_comparison-returns-in_ok-operands-in-Some-clause-answer : goal.test_comparison-returns-in_ok-operands-in-Some-clause-answer
-test_comparison-returns-in_ok-operands-in-Some-clause-answer t c =
-    let w = c.args.self.now in
+pub compare-returns-in_ok-operands-in-Some-clause-answer : goal.compare-returns-in_ok-operands-in-Some-clause-answer
+compare-returns-in_ok-operands-in-Some-clause-answer t c =
     let i = c.in-Some.inner in
     let o = c.in_ok-operands-in-Some.operands in
-    let now = c.deref.result.now in
     let number : to_z w32 (of_z w32 i.number) ≡ i.number = omega (arith, ints) in
-    let tests = subst (λ k. ComparesAs (order_compared c.args.op k o now) (o.second.next + 3) now c.compare_order.result) number c.compare_order.ensures in
-    order_answer c.args.self.now c.args.op (term_of c.args.left.now) (term_of c.args.right.now) c.in-Some.inner c.args.at c.deref.result.now c.args.variables.now.ranges.items c.in_ok-operands-in-Some.operands c.compare_order.result
-    (c.deref.ensures.value ∙ c.in_ok-operands-in-Some.ensures.left.ranges) c.requires.held.sized c.in-Some.ensures c.in_ok-operands-in-Some.ensures.answer tests
+    let compares = subst (λ k. ComparesAs (order_compared c.args.op k o) (o.second.next + 3) o c.compare_order.result) number c.compare_order.ensures in
+    order_answer c.args.self.now c.args.op (term_of c.args.left.now) (term_of c.args.right.now) i c.args.at c.args.variables.now.ranges.items o c.compare_order.result
+    c.requires.held.sized c.in-Some.ensures c.in_ok-operands-in-Some.ensures.answer compares
 
-pub test_comparison-returns-in_ok-operands-in-None-clause-answer : goal.test_comparison-returns-in_ok-operands-in-None-clause-answer
-test_comparison-returns-in_ok-operands-in-None-clause-answer t c =
-    sides_answer c.args.self.now c.args.op (term_of c.args.left.now) (term_of c.args.right.now) c.args.at c.args.variables.now.ranges.items c.in_ok-operands-in-None.operands c.in_ok-operands-in-None.ensures.answer c.deref-in-None.result.now c.compare_sides.result
-    (c.deref-in-None.ensures.value ∙ c.in_ok-operands-in-None.ensures.left.ranges) c.requires.held.sized c.in-None.ensures c.compare_sides.ensures
+pub compare-returns-in_ok-operands-in-None-clause-answer : goal.compare-returns-in_ok-operands-in-None-clause-answer
+compare-returns-in_ok-operands-in-None-clause-answer t c =
+    sides_answer c.args.self.now c.args.op (term_of c.args.left.now) (term_of c.args.right.now) c.args.at c.args.variables.now.ranges.items c.in_ok-operands-in-None.operands c.in_ok-operands-in-None.ensures.answer c.compare_sides.result
+    c.requires.held.sized c.in-None.ensures c.compare_sides.ensures
+
+-- ---- a comparison as a part of a connective
+
+pub follow-returns-in-Compared-clause-answer : goal.follow-returns-in-Compared-clause-answer
+follow-returns-in-Compared-clause-answer t c =
+    operator_followed c.args.self.now c.args.connective (term_of c.args.e.now) c.in-Compared.found c.args.at c.args.variables.now.ranges.items c.follow_comparison.new.variables.ranges.items c.follow_comparison.result
+    c.in-Compared.ensures c.follow_comparison.ensures.answer
+
+pub follow_comparison-returns-clause-answer : goal.follow_comparison-returns-clause-answer
+follow_comparison-returns-clause-answer t c =
+    let d = c.in_ok-compared.compared in
+    let f = c.in_ok-followed.followed in
+    let now = c.follow_compared.new.variables.ranges.items in
+    comparison_followed c.args.self.now c.args.connective (comparison_of c.args.op c.args.left.now c.args.right.now) c.args.at c.args.variables.now.ranges.items now d f c.in_ok-compared.ensures.answer
+    (subst (λ rs. IsFollowedBy (directions_of c.args.connective d.allowed) d rs now f) c.in_ok-compared.ensures.left.ranges c.in_ok-followed.ensures.follows)
+
+pub follow_comparison-returns-clause-on : goal.follow_comparison-returns-clause-on
+follow_comparison-returns-clause-on t c =
+    let p = c.args.self.now.plan.now in
+    let mid = c.compare.new.variables in
+    let on = c.in_ok-compared.ensures.on in
+    goes_then p c.args.variables.now mid c.follow_compared.new.variables on
+    (goes_noted p mid c.follow_compared.new.variables on.held c.in_ok-followed.ensures.noted c.in_ok-followed.ensures.kept)
+
+pub follow_comparison-returns-in_err-followed-clause-on : goal.follow_comparison-returns-in_err-followed-clause-on
+follow_comparison-returns-in_err-followed-clause-on t c =
+    let p = c.args.self.now.plan.now in
+    let mid = c.compare.new.variables in
+    let on = c.in_ok-compared.ensures.on in
+    goes_then p c.args.variables.now mid c.follow_compared.new.variables on
+    (goes_noted p mid c.follow_compared.new.variables on.held c.in_err-followed.ensures.noted c.in_err-followed.ensures.kept)
 
 pub test_operator-returns-in_default : goal.test_operator-returns-in_default
 test_operator-returns-in_default t c = record {

@@ -39,6 +39,12 @@ decreases-follow_both l = 8 * (nodes (term_of l.left.now) + nodes (term_of l.rig
 abbrev pub decreases-test_comparison : goal.decreases-test_comparison
 decreases-test_comparison l = 8 * (nodes (term_of l.left.now) + nodes (term_of l.right.now)) + 4
 
+abbrev pub decreases-follow_comparison : goal.decreases-follow_comparison
+decreases-follow_comparison l = 8 * (nodes (term_of l.left.now) + nodes (term_of l.right.now)) + 4
+
+abbrev pub decreases-compare : goal.decreases-compare
+decreases-compare l = 8 * (nodes (term_of l.left.now) + nodes (term_of l.right.now)) + 3
+
 abbrev pub decreases-range_of_parts : goal.decreases-range_of_parts
 decreases-range_of_parts l = 8 * (nodes (term_of l.first.now) + nodes (term_of l.second.now)) + 3
 
