@@ -61,6 +61,9 @@ check("a last line without LF", run(b"work") == (0, b"work 0 0\n"))
 check("a CR before LF", run(b"work\r\nwork") == (0, b"work 0 0\nwork 0 0\n"))
 check("a file that isn't there", run(b"work\nload nofile\nwork\n") == (3, b"work 0 0\n"))
 check("a folder in place of a file", run(b"work\nload examples\nwork\n") == (3, b"work 0 0\n"))
+for name, why in [("nofile", "there is no such file"), ("examples/nofile/nofile", "there is no such file"), ("examples", "it is a folder")]:
+    done = subprocess.run([program, "run"], input=f"load {name}\n".encode(), capture_output=True, timeout=300)
+    check(f"why {name} can't be read", done.stderr.decode() == f"papcalc: the file `{name}`: {why}\n")
 with open("/dev/full", "wb") as full:
     done = subprocess.run([program, "run"], input=b"work\n", stdout=full, stderr=subprocess.DEVNULL, timeout=300)
     check("a full output", done.returncode == 5)

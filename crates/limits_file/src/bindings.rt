@@ -38,7 +38,7 @@ fn read_binding(key: &str, value: &Value) -> Result<Binding, LimitsFault>
     let Some(input) = Name::read(key.as_bytes()) else {
         return Err(LimitsFault::key(key));
     };
-    if let Some(unsuited) = unsuited_key(entry) {
+    if let Some(unsuited) = unsuited_binding_key(entry) {
         return Err(LimitsFault::key(unsuited));
     }
     match carry_of(entry) {
@@ -48,7 +48,7 @@ fn read_binding(key: &str, value: &Value) -> Result<Binding, LimitsFault>
 }
 
 /// The first key that has no place in a binding's entry, or whose value doesn't suit it.
-fn unsuited_key(entry: &Table) -> Option<&str>
+pub fn unsuited_binding_key(entry: &Table) -> Option<&str>
     ensures { option_map (λ key. key.now) result
         ≡ first_unsuited (binding_form.suits (table_view entry.now)) (table_view entry.now) }
 {

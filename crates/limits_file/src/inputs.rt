@@ -41,7 +41,7 @@ fn read_input(before: usize, key: &str, value: &Value) -> Result<InputLimit, Lim
     let Some(name) = Name::read(key.as_bytes()) else {
         return Err(LimitsFault::key(key));
     };
-    if let Some(unsuited) = unsuited_key(entry) {
+    if let Some(unsuited) = unsuited_input_key(entry) {
         return Err(LimitsFault::key(unsuited));
     }
     if lacks_key(entry) {
@@ -57,7 +57,7 @@ fn read_input(before: usize, key: &str, value: &Value) -> Result<InputLimit, Lim
 }
 
 /// The first key that has no place in an input's entry, or whose value is of another type.
-fn unsuited_key(entry: &Table) -> Option<&str>
+pub fn unsuited_input_key(entry: &Table) -> Option<&str>
     ensures { option_map (λ key. key.now) result
         ≡ first_unsuited suits_input (table_view entry.now) }
 {
@@ -115,7 +115,7 @@ fn limit_of(name: Name, entry: &Table) -> Option<InputLimit>
 }
 
 /// The bound at a key of an entry, where there is one that is readable.
-fn bound_at(entry: &Table, key: &str) -> Option<Dec>
+pub fn bound_at(entry: &Table, key: &str) -> Option<Dec>
     ensures { MatchOption result (HasNoBoundAt key.now (table_view entry.now))
         (IsBoundAt key.now (table_view entry.now)) }
 {
@@ -123,7 +123,7 @@ fn bound_at(entry: &Table, key: &str) -> Option<Dec>
 }
 
 /// The number of places of an entry, where it is a whole number from 0 to 255.
-fn places_at(entry: &Table) -> Option<u8>
+pub fn places_at(entry: &Table) -> Option<u8>
     ensures { MatchOption result (HasNoPlaces (table_view entry.now))
         (HasPlaces (table_view entry.now)) }
 {

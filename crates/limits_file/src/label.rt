@@ -28,7 +28,7 @@ impl Model for Label {
 
 impl Label {
     /// The label of a key.
-    pub(crate) fn of(key: &str) -> Label
+    pub fn of(key: &str) -> Label
         ensures { result ≡ label_of key.now }
     {
         let bytes = key.as_bytes();

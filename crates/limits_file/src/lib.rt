@@ -11,7 +11,9 @@ mod limits;
 mod reading;
 mod slots;
 
+pub use bindings::unsuited_binding_key;
 pub use fault::LimitsFault;
+pub use inputs::{bound_at, places_at, unsuited_input_key};
 pub use items::Items;
 pub use label::Label;
 pub use limits::{Binding, Carry, InputLimit, Limits};

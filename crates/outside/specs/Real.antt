@@ -1,6 +1,6 @@
 -- What contracts see of the adapters.
 use Rattle.std.specs.Prelude.{ℕ, List, Option}
-use Rattle.outside.specs.Memory.{name_bytes}
+use Rattle.outside.specs.FileFaults.{failed_name}
 use Rattle.outside.specs.declared.real.RealFiles.{RealFiles}
 use Rattle.outside.specs.declared.real.StdSource.{StdSource}
 use Rattle.outside.specs.declared.real.StdSink.{StdSink}
@@ -11,7 +11,7 @@ real_faults s = s.faults
 
 -- the name of the last call that failed
 abbrev pub real_failed : {R F D : Type 0} → RealFiles R F D → Option (List ℕ)
-real_failed s = name_bytes s.failed
+real_failed s = failed_name s.failed
 
 -- how many calls failed
 abbrev pub source_faults : {R : Type 0} → StdSource R → ℕ

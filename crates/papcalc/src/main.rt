@@ -3,7 +3,7 @@
 
 ghost use Rattle.std.specs.Prelude.{◌≡◌};
 
-use outside::{Files, RealFiles, Sink, Source, StdSink, StdSource};
+use outside::{FailedFile, Files, RealFiles, Sink, Source, StdSink, StdSource};
 use pap_cli::{
     KeptFiles, MOST_GIVEN, RefusedLines, Status, bad_value, papcalc_told, reason, refused_text,
 };
@@ -121,7 +121,7 @@ fn own_answer(words: &[String]) -> Option<&'static str> {
 }
 
 /// Says on standard error what is wrong. That this may fail changes nothing.
-fn explain(rt: &HostRuntime, status: Status, words: &[String], failed_name: Option<&str>) {
+fn explain(rt: &HostRuntime, status: Status, words: &[String], failed: Option<&FailedFile>) {
     let _ = match status {
         Status::Done | Status::Refused => Ok(()),
         Status::BadWords => {
@@ -129,7 +129,7 @@ fn explain(rt: &HostRuntime, status: Status, words: &[String], failed_name: Opti
             eprintln!(rt; "{USAGE}")
         }
         Status::FileFault => {
-            explain_file_fault(rt, failed_name.unwrap_or(""));
+            explain_file_fault(rt, failed);
             Ok(())
         }
         Status::ReadFault => eprintln!(rt; "papcalc: standard input can't be read"),
@@ -156,12 +156,13 @@ fn explain_bad_value(rt: &HostRuntime, words: &[String]) {
     }
 }
 
-/// Says on standard error which file can't be read, in one line whatever its name is. That this may fail changes nothing.
-fn explain_file_fault(rt: &HostRuntime, name: &str) {
-    if let Ok(name) = one_line(rt.alloc(), name) {
-        let _ = eprintln!(rt;
-            "papcalc: the file `{name}` can't be read: is it there, and a file, not a folder?"
-        );
+/// Says on standard error which file can't be read and why, in one line whatever its name is. That this may fail changes nothing.
+fn explain_file_fault(rt: &HostRuntime, failed: Option<&FailedFile>) {
+    if let Some(file) = failed
+        && let Ok(name) = one_line(rt.alloc(), &file.name)
+    {
+        let fault = file.fault;
+        let _ = eprintln!(rt; "papcalc: the file `{name}`: {fault}");
     }
 }
 
@@ -223,7 +224,7 @@ fn main(rt: HostRuntime) -> ExitCode {
         &mut refused_lines,
         Blank::new(1),
     );
-    explain(&rt, status, &words, files.inner().failed_name());
+    explain(&rt, status, &words, files.inner().failed_file());
     if status == Status::Refused {
         match words.as_slice() {
             [word] => explain_script(&rt, word, &refused_lines),

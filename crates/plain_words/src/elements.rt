@@ -27,7 +27,7 @@ pub(crate) fn find_element(
         ReadFault::Attribute { at } => {
             (
                 *at,
-                needed_attributes(element_name(line_from(plan.bytes, *at))),
+                needed_attributes(element_at(line_from(plan.bytes, *at))),
             )
         }
         ReadFault::Many { which } => return find_excess(plan, *which, quote),
@@ -63,53 +63,41 @@ fn misplaced_help(text: &[u8]) -> &'static str {
     } else if text.starts_with(b"</") {
         "the end tag isn't that of the open element, or that element lacks something that it needs (a PAP its METHODS, METHODS a MAIN, OUTPUTS an OUTPUT, an IF its THEN)"
     } else {
-        home_of(element_name(text))
+        home_of(element_at(text))
     }
+}
+
+/// The element with whose tag a text begins. `None` where the profile has none of its name.
+fn element_at(text: &[u8]) -> Option<Element> {
+    Element::named(element_name(text))
 }
 
 /// Where an element may stand.
-fn home_of(name: &[u8]) -> &'static str {
-    if name == b"PAP".as_slice() {
-        "PAP stands once, as the root of the file"
-    } else if name == b"INTERFACE".as_slice() || name == b"VARIABLES".as_slice() {
-        "a PAP has one INTERFACE or VARIABLES"
-    } else if name == b"INPUTS".as_slice() {
-        "INPUTS stands at most once, in INTERFACE or VARIABLES"
-    } else if name == b"OUTPUTS".as_slice() {
-        "OUTPUTS stands in INTERFACE or VARIABLES, and has at least one OUTPUT"
-    } else if name == b"INTERNALS".as_slice() {
-        "INTERNALS stands at most once in the file, in PAP, INTERFACE or VARIABLES"
-    } else if name == b"CONSTANTS".as_slice() {
-        "CONSTANTS stands at most once, in PAP"
-    } else if name == b"METHODS".as_slice() {
-        "METHODS stands once, in PAP, and has a MAIN"
-    } else {
-        home_of_part(name)
-    }
-}
-
-/// The same of the elements that stand inside those groups.
-fn home_of_part(name: &[u8]) -> &'static str {
-    if name == b"INPUT".as_slice() {
-        "an INPUT stands in INPUTS, and has nothing inside"
-    } else if name == b"OUTPUT".as_slice() {
-        "an OUTPUT stands in OUTPUTS, and has nothing inside"
-    } else if name == b"INTERNAL".as_slice() {
-        "an INTERNAL stands in INTERNALS, and has nothing inside"
-    } else if name == b"CONSTANT".as_slice() {
-        "a CONSTANT stands in CONSTANTS, and has nothing inside"
-    } else if name == b"MAIN".as_slice() {
-        "MAIN stands once, in METHODS"
-    } else if name == b"METHOD".as_slice() {
-        "a METHOD stands in METHODS"
-    } else if name == b"EVAL".as_slice() || name == b"EXECUTE".as_slice() {
-        "an EVAL or EXECUTE stands in MAIN, METHOD, THEN or ELSE, and has nothing inside"
-    } else if name == b"IF".as_slice() {
-        "an IF stands in MAIN, METHOD, THEN or ELSE, and has a THEN"
-    } else if name == b"THEN".as_slice() || name == b"ELSE".as_slice() {
-        "an IF has one THEN, and behind it at most one ELSE"
-    } else {
-        "there is no element of this name in the profile; a loop is written by methods and IFs"
+fn home_of(element: Option<Element>) -> &'static str {
+    let Some(element) = element else {
+        return "there is no element of this name in the profile; a loop is written by methods and IFs";
+    };
+    match element {
+        Element::Pap => "PAP stands once, as the root of the file",
+        Element::Interface | Element::Variables => "a PAP has one INTERFACE or VARIABLES",
+        Element::Inputs => "INPUTS stands at most once, in INTERFACE or VARIABLES",
+        Element::Outputs => "OUTPUTS stands in INTERFACE or VARIABLES, and has at least one OUTPUT",
+        Element::Internals => {
+            "INTERNALS stands at most once in the file, in PAP, INTERFACE or VARIABLES"
+        }
+        Element::Constants => "CONSTANTS stands at most once, in PAP",
+        Element::Methods => "METHODS stands once, in PAP, and has a MAIN",
+        Element::Input => "an INPUT stands in INPUTS, and has nothing inside",
+        Element::Output => "an OUTPUT stands in OUTPUTS, and has nothing inside",
+        Element::Internal => "an INTERNAL stands in INTERNALS, and has nothing inside",
+        Element::Constant => "a CONSTANT stands in CONSTANTS, and has nothing inside",
+        Element::Main => "MAIN stands once, in METHODS",
+        Element::Method => "a METHOD stands in METHODS",
+        Element::Eval | Element::Execute => {
+            "an EVAL or EXECUTE stands in MAIN, METHOD, THEN or ELSE, and has nothing inside"
+        }
+        Element::If => "an IF stands in MAIN, METHOD, THEN or ELSE, and has a THEN",
+        Element::Then | Element::Else => "an IF has one THEN, and behind it at most one ELSE",
     }
 }
 
@@ -126,23 +114,20 @@ fn line_from(file: &[u8], at: usize) -> &[u8] {
 }
 
 /// Which attributes an element needs.
-fn needed_attributes(name: &[u8]) -> &'static str {
-    if name == b"INPUT".as_slice() || name == b"INTERNAL".as_slice() {
-        "it needs a name, and a type of int, long, BigDecimal or double"
-    } else if name == b"OUTPUT".as_slice() {
-        "it needs a name, and a type of int, long or BigDecimal"
-    } else if name == b"CONSTANT".as_slice() {
-        "it needs a name, a type of int, long, BigDecimal or BigDecimal[], and a value"
-    } else if name == b"METHOD".as_slice() {
-        "it needs a name"
-    } else if name == b"EVAL".as_slice() {
-        "it needs exec, the text of an assignment"
-    } else if name == b"EXECUTE".as_slice() {
-        "it needs method, the name of a method"
-    } else if name == b"IF".as_slice() {
-        "it needs expr, the text of a test"
-    } else {
-        "it needs none"
+fn needed_attributes(element: Option<Element>) -> &'static str {
+    match element {
+        Some(Element::Input | Element::Internal) => {
+            "it needs a name, and a type of int, long, BigDecimal or double"
+        }
+        Some(Element::Output) => "it needs a name, and a type of int, long or BigDecimal",
+        Some(Element::Constant) => {
+            "it needs a name, a type of int, long, BigDecimal or BigDecimal[], and a value"
+        }
+        Some(Element::Method) => "it needs a name",
+        Some(Element::Eval) => "it needs exec, the text of an assignment",
+        Some(Element::Execute) => "it needs method, the name of a method",
+        Some(Element::If) => "it needs expr, the text of a test",
+        _ => "it needs none",
     }
 }
 

@@ -4,12 +4,14 @@ ghost use Rattle.plain_words.specs.FoundViews.{IsOfPlan};
 
 use crate::found::Found;
 use crate::nodes::is_read;
+use crate::operands::token_from;
 use crate::quotes::{token_at, write_quoted, write_token};
 use crate::sites::{
     DeclaredSite, Source, declaration_of, literal_byte, statement_byte, statement_of,
     write_statement,
 };
 use crate::statements::statement_text;
+use expr_tokens::{Keyword, Sign, Token};
 use pap_expr::{ExprFault, parse_constant};
 use pap_plan::Spot;
 use pap_tree::Name;
@@ -30,15 +32,15 @@ pub(crate) fn find_expression(
     match spot {
         Spot::Statement { method, stmt } => {
             let text = faulty_statement(*quote.allocator(), source, method, *stmt)?;
-            let token = token_at(text, at);
-            write_token(quote, token)?;
+            let token = token_from(*quote.allocator(), text, at)?;
+            write_token(quote, token_at(text, at))?;
             write_statement(quote, source, method, *stmt, at)?;
             let at = statement_byte(source, method, *stmt, at);
-            Ok(Found::in_plan(at, fault_help(fault, token)))
+            Ok(Found::in_plan(at, fault_help(fault, token.as_ref())))
         }
         Spot::Declared { name } => match declaration_of(source, name) {
             Some(found) => find_literal(source, found, fault, at, quote),
-            None => Ok(Found::in_plan(None, fault_help(fault, &[]))),
+            None => Ok(Found::in_plan(None, fault_help(fault, None))),
         },
     }
 }
@@ -80,15 +82,15 @@ fn find_literal(
     ensures { IfOk result (λ found. IsOfPlan found) }
 {
     let text = faulty_literal(*quote.allocator(), found)?;
-    let token = token_at(text, at);
-    write_token(quote, token)?;
+    let token = token_from(*quote.allocator(), text, at)?;
+    write_token(quote, token_at(text, at))?;
     quote.push_str("the literal ")?;
     write_quoted(quote, text, at)?;
     let element = found.group.name();
     let name = found.declared.name;
     write!(quote, " of the {element} {name}")?;
     let at = literal_byte(source, found, at);
-    Ok(Found::in_plan(at, fault_help(fault, token)))
+    Ok(Found::in_plan(at, fault_help(fault, token.as_ref())))
 }
 
 /// A declaration's literal that isn't read. Nothing where it is read.
@@ -103,8 +105,8 @@ fn faulty_literal(alloc: Global, found: DeclaredSite<'_>) -> Result<&[u8], Alloc
     }
 }
 
-/// What helps where a text isn't read on at a token, which is empty at the end of the text.
-fn fault_help(fault: &ExprFault, token: &[u8]) -> &'static str {
+/// What helps where a text isn't read on at a token. At the end of the text there is none.
+fn fault_help(fault: &ExprFault, token: Option<&Token>) -> &'static str {
     match fault {
         ExprFault::Syntax { .. } => syntax_help(token),
         ExprFault::Unsupported { .. } => profile_help(token),
@@ -119,24 +121,39 @@ fn fault_help(fault: &ExprFault, token: &[u8]) -> &'static str {
     }
 }
 
-fn syntax_help(token: &[u8]) -> &'static str {
-    if token.is_empty() {
-        "the text ends too early: an operand, a bracket or a part of it is missing"
-    } else if token == b"MathContext".as_slice() {
-        "a MathContext isn't part of the profile: write a scale and a rounding mode, as in A.divide(B, 2, BigDecimal.ROUND_DOWN)"
-    } else if token == b"=".as_slice() {
-        "a = may stand once, behind the target of an EVAL; a comparison is written =="
-    } else {
-        "see what stands before it, its brackets and its commas"
+fn syntax_help(token: Option<&Token>) -> &'static str {
+    match token {
+        None => "the text ends too early: an operand, a bracket or a part of it is missing",
+        Some(Token::Name(name)) => name_help(name),
+        Some(Token::Mark(Sign::Equals)) => {
+            "a = may stand once, behind the target of an EVAL; a comparison is written =="
+        }
+        Some(_) => SEE_BEFORE,
     }
 }
 
-fn profile_help(token: &[u8]) -> &'static str {
-    if token == b")".as_slice() {
-        "setScale lacks its rounding mode: write it behind the scale, as in A.setScale(2, BigDecimal.ROUND_DOWN)"
-    } else if token == b"BigDecimal".as_slice() || token == b"RoundingMode".as_slice() {
-        "divide lacks its scale: write it before the rounding mode, as in A.divide(B, 2, BigDecimal.ROUND_DOWN)"
+/// What helps where another token is expected.
+const SEE_BEFORE: &str = "see what stands before it, its brackets and its commas";
+
+/// What helps where another token than a name is expected.
+fn name_help(name: &Name) -> &'static str {
+    if name.bytes() == b"MathContext".as_slice() {
+        "a MathContext isn't part of the profile: write a scale and a rounding mode, as in A.divide(B, 2, BigDecimal.ROUND_DOWN)"
     } else {
-        "there are add, subtract, multiply, divide, setScale, compareTo, min, max, negate and abs, and of BigDecimal valueOf, ZERO, ONE, TEN and the modes ROUND_.."
+        SEE_BEFORE
+    }
+}
+
+fn profile_help(token: Option<&Token>) -> &'static str {
+    match token {
+        Some(Token::Mark(Sign::Close)) => {
+            "setScale lacks its rounding mode: write it behind the scale, as in A.setScale(2, BigDecimal.ROUND_DOWN)"
+        }
+        Some(Token::Keyword(Keyword::BigDecimal | Keyword::RoundingMode)) => {
+            "divide lacks its scale: write it before the rounding mode, as in A.divide(B, 2, BigDecimal.ROUND_DOWN)"
+        }
+        _ => {
+            "there are add, subtract, multiply, divide, setScale, compareTo, min, max, negate and abs, and of BigDecimal valueOf, ZERO, ONE, TEN and the modes ROUND_.."
+        }
     }
 }

@@ -18,6 +18,7 @@ mod quotes;
 mod range_file;
 mod ranges;
 mod reason;
+mod section;
 mod sites;
 mod state;
 mod statements;

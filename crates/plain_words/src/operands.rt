@@ -38,6 +38,17 @@ pub(crate) fn name_byte(
     Ok(None)
 }
 
+/// The token that begins at a byte of a text. `None` where none does, as at its end.
+pub(crate) fn token_from(
+    alloc: Global,
+    text: &[u8],
+    at: usize,
+) -> Result<Option<Token>, AllocError> {
+    let tokens = read_tokens(alloc, text)?;
+    let found = tokens.iter().find(|found| found.at == at);
+    Ok(found.map(|found| found.token))
+}
+
 /// What of an expression was passed in the order of its nodes.
 #[derive(Clone, Copy)]
 struct Walk {

@@ -8,8 +8,8 @@ ghost use Rattle.plain_words.specs.FoundViews.{place_of};
 
 use crate::found::{FileKind, Found};
 use crate::place::TextFile;
-use crate::range_file::entry_byte;
 use crate::reason::reason_line;
+use crate::section::{Section, entry_byte};
 use crate::sites::{Outline, named_byte};
 use carry_bindings::Blocked;
 use pap_tree::Name;
@@ -74,7 +74,7 @@ fn find_blocked(
             "give one as NAME=VALUE or in the table, or write a default at its INPUT",
         )),
         Blocked::Range(name) => Ok(Found::in_ranges(
-            entry_byte(alloc, limits, "input", name.as_str())?,
+            entry_byte(alloc, limits, Section::Input, name.as_str())?,
             "correct the value, or widen the input's entry and check the plan again",
         )),
     }

@@ -161,3 +161,33 @@ fn reasoned(assignment: &str, text: &mut String) -> Result<(), Fail> {
 fn reasons_name_the_place(rt: HostRuntime) -> Result<(), Fail> {
     all_rows(rt.alloc(), REASONED, reasoned)
 }
+
+/// Range files of the flowchart, and where each is refused, with what helps.
+const RANGES: &str =
+    r#"[input.N]\nlow = 1\nhigh = 0\nplaces = 0\n => l.toml:1:1: here low is above high
+[input.N]\nlow = "x"\nhigh = 0\nplaces = 0\n => l.toml:1:1: here low is none of the numbers that may stand there: a whole number, or a decimal in quotation marks with at most 30 digits after its point and at most 10^37 without it
+[input.N]\nlow = 0\nhigh = "x"\nplaces = 0\n => l.toml:1:1: here high is none of the numbers that may stand there: a whole number, or a decimal in quotation marks with at most 30 digits after its point and at most 10^37 without it
+[input.N]\nlow = 0\nhigh = 1\nplaces = 31\n => l.toml:1:1: here places isn't from 0 to 30
+[input.N]\nlow = "0.5"\nhigh = 1\nplaces = 0\n => l.toml:1:1: here low has more digits after its point than places, or is beyond 10^37 with so many
+[input.N]\nlow = 0\nhigh = "0.5"\nplaces = 0\n => l.toml:1:1: here high has more digits after its point than places, or is beyond 10^37 with so many
+257 x [input.N{n}]\nlow = 0\nhigh = 1\nplaces = 0\n => l.toml:1025:1: a range file has at most 256 inputs: take out what the flowchart doesn't have
+[input.D]\nlow = 0\nhigh = 1\nplaces = 0\n[input.N]\nlow = 0\nhigh = 1\n => l.toml:5:1: an entry of input has low and high, whole numbers or decimals in quotation marks, and places, a whole number
+[input.D]\nlow = 0\nhigh = 1\nplaces = 0\n[input.N]\n"a b" = 0\n => l.toml:5:1: an entry of input has low and high, whole numbers or decimals in quotation marks, and places, a whole number
+[bind.N]\nkind = "count"\noutput = "Q"\n => l.toml:1:1: an entry of bind has kind, "sum", "last" or "count", and, but for "count", output, the name of an output
+[input."N 1"]\nlow = 0\nhigh = 1\nplaces = 0\n => l.toml:1:1: an entry has the name of an input: a letter or _, and then letters, digits and _
+[ranges.N]\nlow = 0\nhigh = 1\nplaces = 0\n => l.toml: a range file has entries [input.NAME] and [bind.NAME] alone"#;
+
+/// Writes where a range file is refused, and what helps.
+fn range_reasoned(limits: &str, text: &mut String) -> Result<(), Fail> {
+    let texts = Texts { plan: PLAN, limits };
+    let mut reason = String::new(*text.allocator());
+    write_reason("check a.xml l.toml", texts, &mut reason)?;
+    let (place, _) = reason.as_str().split_once(": ").ok_or("a place")?;
+    let (_, help) = reason.as_str().split_once("; ").ok_or("what helps")?;
+    Ok(write!(text, "{place}: {help}")?)
+}
+
+#[test]
+fn range_files_are_refused_with_what_helps(rt: HostRuntime) -> Result<(), Fail> {
+    all_rows(rt.alloc(), RANGES, range_reasoned)
+}

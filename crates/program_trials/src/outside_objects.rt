@@ -10,9 +10,10 @@ use std::str::from_utf8;
 use std::test::Fail;
 use trial_rows::all_rows;
 
-/// Names, and what is read of their files by a call for 5,000 bytes.
-const REAL_FILES: &str = "no such folder/no such file => Failed
-/ => Failed
+/// Names, and what is read of their files by a call for 5,000 bytes, or why not.
+const REAL_FILES: &str = "no such folder/no such file => Failed: there is no such file
+/dev/null/file => Failed: there is no such file
+/ => Failed: it is a folder
 /dev/null => 0 bytes
 /dev/zero => 5000 bytes";
 
@@ -28,7 +29,12 @@ fn read_front<F: Files>(files: &mut F, name: &str, text: &mut String) -> Result<
 #[test]
 fn real_files_are_read_or_fail(rt: HostRuntime) -> Result<(), Fail> {
     all_rows(rt.alloc(), REAL_FILES, |name, text| {
-        read_front(&mut RealFiles::new(&rt), name, text)
+        let mut files = RealFiles::new(&rt);
+        read_front(&mut files, name, text)?;
+        if let Some(file) = files.failed_file() {
+            write!(text, ": {}", file.fault)?;
+        }
+        Ok(())
     })
 }
 

@@ -17,7 +17,7 @@ pub returns-then-lacks_key : goal.returns-then-lacks_key
 returns-then-lacks_key c =
     let named : is_name c.args.key.now ≡ true = ap is_name (sym c.as_bytes.ensures.value) ∙ c.in-Some.ensures.exact.0 refl in
     input_key c.args.before c.args.key.now (view c.args.value.now) (table_view c.in-Table.entry) c.args.key.now c.key-then-lacks_key.result
-    (ap view c.in-Table.is ∙ view-Table c.in-Table.entry) (lacking input_form c.args.key.now (table_view c.in-Table.entry) named (sym c.in_default-unsuited_key.ensures) (not_true (sym c.if-lacks_key.ensures))) c.key-then-lacks_key.ensures
+    (ap view c.in-Table.is ∙ view-Table c.in-Table.entry) (lacking input_form c.args.key.now (table_view c.in-Table.entry) named (sym c.in_default-unsuited_input_key.ensures) (not_true (sym c.if-lacks_key.ensures))) c.key-then-lacks_key.ensures
 
 pub returns-in-None : goal.returns-in-None
 returns-in-None c =
@@ -25,5 +25,5 @@ returns-in-None c =
     let named : is_name c.args.key.now ≡ true = ap is_name (sym c.as_bytes.ensures.value) ∙ c.in-Some.ensures.exact.0 refl in
     let name : c.in-Some.name ≡ c.args.key.now = c.in-Some.ensures.read ∙ c.as_bytes.ensures.value in
     input_bound c.args.before c.args.key.now (view c.args.value.now) entry c.bound-in-None.result
-    (ap view c.in-Table.is ∙ view-Table c.in-Table.entry) (nothing_fails input_form c.args.key.now entry named (sym c.in_default-unsuited_key.ensures) (not_false (sym c.if-lacks_key.ensures))) c.bound-in-None.ensures
+    (ap view c.in-Table.is ∙ view-Table c.in-Table.entry) (nothing_fails input_form c.args.key.now entry named (sym c.in_default-unsuited_input_key.ensures) (not_false (sym c.if-lacks_key.ensures))) c.bound-in-None.ensures
     (inr (subst (λ n. GivesNoLimit n entry) name c.in-None.ensures))

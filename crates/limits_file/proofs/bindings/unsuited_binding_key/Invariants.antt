@@ -2,7 +2,7 @@ use Rattle.std.proofs.Common.{◌≡◌}
 use Rattle.toml.specs.View.{members_view}
 use Rattle.limits_file.specs.Entries.{first_unsuited}
 use Rattle.limits_file.specs.Bindings.{suits_binding}
-use Rattle.limits_file.proofs.bindings.unsuited_key.Given as goal
+use Rattle.limits_file.proofs.bindings.unsuited_binding_key.Given as goal
 
 -- the keys so far suit
 abbrev pub invariant-loop-key : goal.invariant-loop-key
