@@ -2,7 +2,6 @@
 ghost use Rattle.std.specs.Prelude.{◌≡◌};
 ghost use Rattle.plain_words.specs.FoundViews.{IsOfPlan, IsOfRanges};
 
-
 /// One of the two files of a plan.
 #[derive(Clone, Copy)]
 pub(crate) enum FileKind {

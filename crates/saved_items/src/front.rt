@@ -4,8 +4,8 @@ ghost use Rattle.saved_items.specs.Fronts.{nothing};
 ghost use Rattle.saved_items.specs.ItemDecisions.{Fits, with_item};
 ghost use Rattle.saved_items.specs.ItemViews.{IsKnown, front_in, item_in};
 
-use crate::item::Item;
 use crate::Items;
+use crate::item::Item;
 use std::alloc::{AllocError, Global};
 
 /// Which item comes next.
