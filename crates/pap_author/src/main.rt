@@ -1,14 +1,8 @@
 //! Helps the author of a flowchart: draws it as a page, and begins its range file.
 #![tactic(auto)]
 
-mod answer;
-mod status;
-mod words;
-
-use crate::answer::{Answer, answer_request};
-use crate::status::Status;
-use crate::words::read_words;
-use outside::{RealFiles, StdSink, put_all};
+use author_cli::{Stop, exit_number, pap_author};
+use outside::{RealFiles, StdSink};
 use plain_words::one_line;
 use std::env;
 use std::io::{self, ErrorKind};
@@ -49,17 +43,27 @@ fn words_of(rt: &HostRuntime) -> io::Result<Vec<String>> {
     Ok(words)
 }
 
+/// What the program answers by itself: its help and its version, each as the only word.
+fn own_answer(words: &[String]) -> Option<&'static str> {
+    match words {
+        [word] if word.as_str() == "--help" => Some(HELP),
+        [word] if word.as_str() == "--version" => Some(VERSION),
+        _ => None,
+    }
+}
+
 /// Says on standard error what is wrong, in one line. That this may fail changes nothing.
-fn explain(rt: &HostRuntime, status: Status, failed_name: Option<&str>) {
-    let _ = match status {
-        Status::Done | Status::Refused => Ok(()),
-        Status::BadWords => eprintln!(rt; "{USAGE}"),
-        Status::FileFault => {
+fn explain(rt: &HostRuntime, ended: &Result<Option<String>, Stop>, failed_name: Option<&str>) {
+    let _ = match ended {
+        Ok(None) => Ok(()),
+        Ok(Some(reason)) => eprintln!(rt; "{reason}"),
+        Err(Stop::Words) => eprintln!(rt; "{USAGE}"),
+        Err(Stop::File) => {
             explain_file_fault(rt, failed_name.unwrap_or(""));
             Ok(())
         }
-        Status::WriteFault => eprintln!(rt; "pap_author: standard output can't be written"),
-        Status::NoMemory => eprintln!(rt; "pap_author: out of memory"),
+        Err(Stop::Write) => eprintln!(rt; "pap_author: standard output can't be written"),
+        Err(Stop::Memory) => eprintln!(rt; "pap_author: out of memory"),
     };
 }
 
@@ -72,64 +76,33 @@ fn explain_file_fault(rt: &HostRuntime, name: &str) {
     }
 }
 
-/// Writes an answer, and on standard error why the plan is refused.
-fn write_answer(rt: &HostRuntime, answer: Answer) -> Status {
-    let mut sink = StdSink::new(io::writer(rt));
-    if put_all(&mut sink, &answer.text).is_err() {
-        return Status::WriteFault;
-    }
-    match &answer.reason {
-        Some(reason) => {
-            let _ = eprintln!(rt; "{reason}");
-            Status::Refused
-        }
-        None => Status::Done,
-    }
-}
-
-/// Does what the words ask for.
-fn run(rt: &HostRuntime, words: &[String]) -> Status {
-    let text = match words {
-        [word] if word.as_str() == "--help" => HELP,
-        [word] if word.as_str() == "--version" => VERSION,
-        _ => return run_request(rt, words),
-    };
-    match println!(rt; "{text}") {
-        Ok(()) => Status::Done,
-        Err(_) => Status::WriteFault,
-    }
-}
-
-/// Does what words on files ask for.
-fn run_request(rt: &HostRuntime, words: &[String]) -> Status {
-    let Some(request) = read_words(words) else {
-        return Status::BadWords;
-    };
-    let mut files = RealFiles::new(rt);
-    match answer_request(rt.alloc(), request, &mut files) {
-        Ok(answer) => write_answer(rt, answer),
-        Err(status) => {
-            explain_file(rt, status, files.failed_name());
-            status
-        }
-    }
-}
-
-/// Says which file can't be read.
-fn explain_file(rt: &HostRuntime, status: Status, failed_name: Option<&str>) {
-    if status == Status::FileFault {
-        explain(rt, status, failed_name);
-    }
+/// Ends the program: says what is wrong, and gives its number.
+fn end(
+    rt: &HostRuntime,
+    ended: &Result<Option<String>, Stop>,
+    failed_name: Option<&str>,
+) -> ExitCode {
+    explain(rt, ended, failed_name);
+    ExitCode::from(exit_number(ended))
 }
 
 fn main(rt: HostRuntime) -> ExitCode {
-    let status = match words_of(&rt) {
-        Ok(words) => run(&rt, &words),
-        Err(error) if error.kind() == ErrorKind::OutOfMemory => Status::NoMemory,
-        Err(_) => Status::BadWords,
+    let words = match words_of(&rt) {
+        Ok(words) => words,
+        Err(error) if error.kind() == ErrorKind::OutOfMemory => {
+            return end(&rt, &Err(Stop::Memory), None);
+        }
+        Err(_) => return end(&rt, &Err(Stop::Words), None),
     };
-    if status != Status::FileFault {
-        explain(&rt, status, None);
+    if let Some(text) = own_answer(&words) {
+        let ended = match println!(rt; "{text}") {
+            Ok(()) => Ok(None),
+            Err(_) => Err(Stop::Write),
+        };
+        return end(&rt, &ended, None);
     }
-    ExitCode::from(status.number())
+    let mut files = RealFiles::new(&rt);
+    let mut sink = StdSink::new(io::writer(&rt));
+    let ended = pap_author(rt.alloc(), &words, &mut files, &mut sink);
+    end(&rt, &ended, files.failed_name())
 }

@@ -1,13 +1,15 @@
 -- The draft grows by its parts.
-use Rattle.std.proofs.Common.{◌≡◌, ◌≢◌, ℕ, ◌<◌, ◌+◌, inl, inr, Result, Ok, Err, List, [], ◌∷◌, ◌++◌, take, get_or, length, refl, sym, ap, subst, ◌∙◌, append_assoc, arith}
-use Rattle.std.specs.Prelude.{OnOk, is_ok, if◌then◌else◌, codes, encode_utf8, encode_utf8_all}
+use Rattle.std.proofs.Common.{◌≡◌, ◌≢◌, ◌||◌, ℕ, ◌<◌, ◌+◌, inl, inr, Result, Ok, Err, List, [], ◌∷◌, ◌++◌, take, get_or, length, refl, sym, ap, subst, ◌∙◌, append_assoc, arith}
+use Rattle.std.specs.Prelude.{OnOk, is_ok, if◌then◌else◌, map, codes, encode_utf8, encode_utf8_all}
 use Rattle.std.specs.List.{flat_map}
-use Rattle.std.proofs.lemmas.List.{append-nil, take_more}
+use Rattle.std.specs.Str.{bytes_eq}
+use Rattle.std.proofs.lemmas.List.{append-nil, map-append, take_more}
 use Rattle.std.proofs.lemmas.List.Elements.{All-push, All-append}
 use Rattle.std.proofs.lemmas.Str.{encodes-append}
 use Rattle.pap_reader.specs.declared.elements.RawDeclared.{RawDeclared}
-use Rattle.range_draft.specs.Draft.{head, table, IsLine, comment_line, AreComments, IsEntry, none, again, entry, IsDraft}
-use Rattle.range_draft.specs.DraftViews.{Appends, AddsEntry}
+use Rattle.pap_reader.specs.Trees.{RawDeclaration, raw_declaration_of}
+use Rattle.range_draft.specs.Draft.{head, table, IsLine, comment_line, AreComments, IsEntry, declares, none, again, entry, IsDraft}
+use Rattle.range_draft.specs.DraftViews.{Appends, AddsEntry, declared_in}
 
 pub on_ok : {A E : Type 0} (r : Result A E) (P Q : Type 0) → OnOk r P → (P → Q) → OnOk r Q
 on_ok (Ok v) P Q h f = f h
@@ -94,7 +96,7 @@ comments_more old text new f g = record {
 
 -- ---- entries
 
-pub one_entry : (old empty text new : List ℕ) (input : RawDeclared) → empty ≡ old ++ encode_utf8 10 → Appends AreComments empty text
+pub one_entry : (old empty text new : List ℕ) (input : RawDeclaration) → empty ≡ old ++ encode_utf8 10 → Appends AreComments empty text
     → new ≡ text ++ table input.name input.kind → Appends (IsEntry input) old new
 one_entry old empty text new input began comments ended = record {
   more = codes "\n" ++ (comments.more ++ table input.name input.kind);
@@ -108,7 +110,7 @@ one_entry old empty text new input began comments ended = record {
 pub draft_start : (text : List ℕ) → text ≡ head → IsDraft [] text
 draft_start text is = record { entries = []; is = is ∙ sym (append-nil head); have = none }
 
-draft_more : (inputs : List RawDeclared) (old new : List ℕ) (input : RawDeclared) → IsDraft inputs old → AddsEntry inputs input old new
+draft_more : (inputs : List RawDeclaration) (old new : List ℕ) (input : RawDeclaration) → IsDraft inputs old → AddsEntry inputs input old new
     → IsDraft (inputs ++ (input ∷ [])) new
 draft_more inputs old new input draft (inl same) =
     record { entries = draft.entries; is = same.1 ∙ draft.is; have = again input draft.have same.0 }
@@ -122,7 +124,17 @@ draft_more inputs old new input draft (inr more) =
 
 -- one input more of those before a number
 pub draft_step : (inputs : List RawDeclared) (i : ℕ) (old new : List ℕ) (input : RawDeclared) → i < length inputs → input ≡ get_or inputs i input
-    → IsDraft (take i inputs) old → AddsEntry (take i inputs) input old new → IsDraft (take (i + 1) inputs) new
+    → IsDraft (map raw_declaration_of (take i inputs)) old
+    → AddsEntry (map raw_declaration_of (take i inputs)) (raw_declaration_of input) old new
+    → IsDraft (map raw_declaration_of (take (i + 1) inputs)) new
 draft_step inputs i old new input some is draft more =
-    subst (λ z. IsDraft z new) (sym (take_more inputs i input some ∙ ap (λ z. take i inputs ++ (z ∷ [])) (sym is)))
-    (draft_more (take i inputs) old new input draft more)
+    let before : List RawDeclaration = map raw_declaration_of (take i inputs) in
+    let one_more : map raw_declaration_of (take (i + 1) inputs) ≡ before ++ (raw_declaration_of input ∷ []) =
+        ap (λ z. map raw_declaration_of z) (take_more inputs i input some ∙ ap (λ z. take i inputs ++ (z ∷ [])) (sym is))
+        ∙ map-append raw_declaration_of (take i inputs) (input ∷ []) in
+    subst (λ z. IsDraft z new) (sym one_more) (draft_more before old new (raw_declaration_of input) draft more)
+
+-- the declared names are those of the tree
+pub declared_in_tree : (inputs : List RawDeclared) (name : List ℕ) → declared_in inputs name ≡ declares (map raw_declaration_of inputs) name
+declared_in_tree [] name = refl
+declared_in_tree (input ∷ inputs) name = ap (λ b. bytes_eq input.name name || b) (declared_in_tree inputs name)

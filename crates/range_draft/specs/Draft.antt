@@ -4,7 +4,7 @@ use Rattle.std.specs.List.{list_any, flat_map}
 use Rattle.std.specs.Str.{bytes_eq}
 use Rattle.std.specs.Fmt.{decimal}
 use Rattle.pap_tree.specs.declared.declaration.Kind.{Kind}
-use Rattle.pap_reader.specs.declared.elements.RawDeclared.{RawDeclared}
+use Rattle.pap_reader.specs.Trees.{RawDeclaration}
 use Rattle.range_draft.specs.Bounds.{least, greatest, most_places, advice}
 
 -- what stands first
@@ -41,26 +41,26 @@ pub record AreComments (text : List ℕ) : Type 0 where
   pub is : text ≡ flat_map comment_line lines
 
 -- the entry of an input: an empty line, comments, and the table
-pub record IsEntry (input : RawDeclared) (text : List ℕ) : Type 0 where
+pub record IsEntry (input : RawDeclaration) (text : List ℕ) : Type 0 where
   pub comments : List ℕ
   pub lines : AreComments comments
   pub is : text ≡ codes "\n" ++ (comments ++ table input.name input.kind)
 
 -- one of the inputs has the name
-abbrev pub declares : List RawDeclared → List ℕ → Bool
+abbrev pub declares : List RawDeclaration → List ℕ → Bool
 declares inputs name = list_any (λ input. bytes_eq input.name name) inputs
 
 -- The text has an entry of each of the inputs, in declared order, but of a name that is declared before.
-pub data HaveEntries : List RawDeclared → List ℕ → Type 0 where
+pub data HaveEntries : List RawDeclaration → List ℕ → Type 0 where
   none : HaveEntries [] []
-  again : {inputs : List RawDeclared} {text : List ℕ} (input : RawDeclared)
+  again : {inputs : List RawDeclaration} {text : List ℕ} (input : RawDeclaration)
       → HaveEntries inputs text → declares inputs input.name ≡ true → HaveEntries (inputs ++ (input ∷ [])) text
-  entry : {inputs : List RawDeclared} {text more : List ℕ} (input : RawDeclared)
+  entry : {inputs : List RawDeclaration} {text more : List ℕ} (input : RawDeclaration)
       → HaveEntries inputs text → declares inputs input.name ≡ false → IsEntry input more
       → HaveEntries (inputs ++ (input ∷ [])) (text ++ more)
 
 -- the range file of these inputs
-pub record IsDraft (inputs : List RawDeclared) (text : List ℕ) : Type 0 where
+pub record IsDraft (inputs : List RawDeclaration) (text : List ℕ) : Type 0 where
   pub entries : List ℕ
   pub is : text ≡ head ++ entries
   pub have : HaveEntries inputs entries

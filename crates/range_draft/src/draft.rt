@@ -1,8 +1,9 @@
 //! The text of the range file.
-ghost use Rattle.std.specs.Prelude.{◌≡◌, ◌≢◌, ◌++◌, IfOk, OnOk};
+ghost use Rattle.std.specs.Prelude.{◌≡◌, ◌≢◌, ◌++◌, map, IfOk, OnOk};
 ghost use Rattle.std.specs.String.{string_bytes};
-ghost use Rattle.range_draft.specs.Draft.{IsDraft, IsEntry, AreComments, IsLine, table, declares};
-ghost use Rattle.range_draft.specs.DraftViews.{Appends, AddsEntry};
+ghost use Rattle.pap_reader.specs.Trees.{tree_of, raw_declaration_of};
+ghost use Rattle.range_draft.specs.Draft.{IsDraft, IsEntry, AreComments, IsLine, table};
+ghost use Rattle.range_draft.specs.DraftViews.{Appends, AddsEntry, declared_in};
 
 use crate::bounds::widest;
 use pap_reader::{Elements, RawDeclared};
@@ -22,7 +23,7 @@ const HEAD: &str =
 /// A range file for a plan: a table for each input in declared order, with the comments that stand before it in the plan, and
 /// what to narrow. A name that is declared again has no second table.
 pub fn draft_ranges(alloc: Global, elements: &Elements, notes: &Notes) -> Result<String, AllocError>
-    ensures { IfOk result (λ text. IsDraft elements.now.inputs.items (string_bytes text)) }
+    ensures { IfOk result (λ text. IsDraft (tree_of elements.now).inputs (string_bytes text)) }
 {
     let mut text = String::from_str(alloc, HEAD)?;
     let mut walk = notes.walk();
@@ -42,7 +43,8 @@ fn write_new(
     comments: &[String],
 ) -> Result<(), AllocError>
     ensures { OnOk result
-        (AddsEntry before.now input.now (string_bytes text.old) (string_bytes text.new)) }
+        (AddsEntry (map raw_declaration_of before.now) (raw_declaration_of input.now)
+        (string_bytes text.old) (string_bytes text.new)) }
 {
     if is_declared(before, input) {
         return Ok(());
@@ -52,7 +54,7 @@ fn write_new(
 
 /// Whether the name of an input stands among others.
 fn is_declared(inputs: &[RawDeclared], input: &RawDeclared) -> bool
-    ensures { result ≡ declares inputs.now input.now.name }
+    ensures { result ≡ declared_in inputs.now input.now.name }
 {
     inputs.iter().any(|other| other.name == input.name)
 }
@@ -63,8 +65,8 @@ fn write_input(
     input: &RawDeclared,
     comments: &[String],
 ) -> Result<(), AllocError>
-    ensures { OnOk result
-        (Appends (IsEntry input.now) (string_bytes text.old) (string_bytes text.new)) }
+    ensures { OnOk result (Appends (IsEntry (raw_declaration_of input.now))
+        (string_bytes text.old) (string_bytes text.new)) }
 {
     text.push('\n')?;
     write_comments(text, comments)?;

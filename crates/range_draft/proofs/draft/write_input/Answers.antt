@@ -1,5 +1,6 @@
 use Rattle.std.proofs.Common.{◌≡◌, ◌++◌}
 use Rattle.std.specs.String.{string_bytes}
+use Rattle.pap_reader.specs.Trees.{RawDeclaration, raw_declaration_of}
 use Rattle.range_draft.specs.Draft.{IsEntry, table}
 use Rattle.range_draft.specs.DraftViews.{Appends}
 use Rattle.range_draft.proofs.DraftLemmas.{on_ok, one_entry}
@@ -7,7 +8,7 @@ use Rattle.range_draft.proofs.draft.write_input.Goals as goal
 
 pub returns : goal.returns
 returns c =
-    let input = c.args.input.now in
+    let input : RawDeclaration = raw_declaration_of c.args.input.now in
     let old = string_bytes c.args.text.now in
     let empty = string_bytes c.push.new.self in
     let text = string_bytes c.write_comments.new.text in

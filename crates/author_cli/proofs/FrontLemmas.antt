@@ -1,0 +1,128 @@
+-- The answer on what is read of the files is that on their bytes.
+use Rattle.std.proofs.Common.{◌≡◌, ℕ, ◌<◌, List, [], take, inl, inr, sym, subst, arith}
+use Rattle.std.specs.Prelude.{Bool, true, false, Some, None, Ok, Err, MatchOption}
+use Rattle.std.proofs.lemmas.List.{take_all}
+use Rattle.outside.specs.Told.{FileMap, IsFront}
+use Rattle.pap_reader.specs.declared.fault.ReadFault.{ReadFault}
+use Rattle.pap_reader.specs.Trees.{ElementTree}
+use Rattle.pap_reader.specs.Elements.{IsElements, IsFault}
+use Rattle.pap_plan.specs.declared.refusal.PlanRefusal.{PlanRefusal}
+use Rattle.pap_plan.specs.declared.refusal.PlanRefusal.TheVariants as refusals
+use Rattle.pap_plan.specs.Acceptance.{Meaning, IsAccepted, IsRefused}
+use Rattle.plan_answers.specs.Fronts.{AreFronts}
+use Rattle.plan_answers.proofs.Laws.{whole, front_there, answers_front}
+use Rattle.flowchart_page.specs.Verdicts.{IsJudged}
+use Rattle.flowchart_page.specs.Pages.{SaysAccepted, IsVerdictText, ArePlanCaptions}
+use Rattle.author_cli.specs.Words.{chart, chart_within, ranges}
+use Rattle.author_cli.specs.Answers.{Answer, IsChart, IsRanges, Answers}
+
+module _ (n m : ℕ) (more_plan : 1048576 < n) (more_limits : 262144 < m) where
+  -- ---- the judgement
+
+  accepted_front : (plan limits : List ℕ) (x : Meaning) → IsAccepted (take n plan) (take m limits) x → IsAccepted plan limits x
+  accepted_front plan limits x h = answers_front n m more_plan more_limits plan limits (Ok x) h
+
+  refused_front : (plan limits : List ℕ) (r : PlanRefusal) → IsRefused (take n plan) (take m limits) r → IsRefused plan limits r
+  refused_front plan limits r h = answers_front n m more_plan more_limits plan limits (Err r) h
+
+  -- of an empty range file an empty front is read
+  empty_front : (P : List ℕ → Type 0) → P [] → P (take m [])
+  empty_front P h = subst P (sym (take_all m [] (omega arith))) h
+
+  accepted_alone : (plan : List ℕ) (x : Meaning) → IsAccepted (take n plan) [] x → IsAccepted plan [] x
+  accepted_alone plan x h = accepted_front plan [] x (empty_front (λ l. IsAccepted (take n plan) l x) h)
+
+  refused_alone : (plan : List ℕ) (r : PlanRefusal) → IsRefused (take n plan) [] r → IsRefused plan [] r
+  refused_alone plan r h = refused_front plan [] r (empty_front (λ l. IsRefused (take n plan) l r) h)
+
+  judged_front : (plan limits : List ℕ) (b : Bool) → IsJudged (take n plan) (Some (take m limits)) b → IsJudged plan (Some limits) b
+  judged_front plan limits true h = (h.0, refused_front plan limits h.0 h.1)
+  judged_front plan limits false h = (h.0, accepted_front plan limits h.0 h.1)
+
+  judged_alone : (plan : List ℕ) (b : Bool) → IsJudged (take n plan) None b → IsJudged plan None b
+  judged_alone plan true h = (h.0, (h.1.0, refused_alone plan h.0 h.1.1))
+  judged_alone plan false (inl h) = inl (h.0, accepted_alone plan h.0 h.1)
+  judged_alone plan false (inr h) = inr (h.0, refused_alone plan (refusals.LimitName h.0) h.1)
+
+  -- ---- the page
+
+  verdict_front : (plan limits text : List ℕ) → IsVerdictText (take n plan) (Some (take m limits)) text → IsVerdictText plan (Some limits) text
+  verdict_front plan limits text (inl h) = inl (h.0, accepted_front plan limits h.0 h.1, h.2)
+  verdict_front plan limits text (inr h) = inr (h.0, refused_front plan limits h.0 h.1, h.2)
+
+  verdict_alone : (plan text : List ℕ) → IsVerdictText (take n plan) None text → IsVerdictText plan None text
+  verdict_alone plan text (inl h) = inl (h.0, accepted_alone plan h.0 h.1, h.2)
+  verdict_alone plan text (inr (inl h)) = inr (inl (h.0, refused_alone plan (refusals.LimitName h.0) h.1, h.2))
+  verdict_alone plan text (inr (inr h)) = inr (inr (h.0, h.1, refused_alone plan h.0 h.2, h.3))
+
+  elements_front : (plan : List ℕ) (tree : ElementTree) → IsElements (take n plan) tree → IsElements plan tree
+  elements_front plan tree h = subst (λ b. IsElements b tree) (whole 1048576 n plan more_plan h.short) h
+
+  fault_front : (plan : List ℕ) (fault : ReadFault) → IsFault (take n plan) fault → IsFault plan fault
+  fault_front plan fault h = refused_alone plan (refusals.Read fault) h
+
+  captions_front : (plan : List ℕ) (captions : List (List ℕ)) → ArePlanCaptions (take n plan) captions → ArePlanCaptions plan captions
+  captions_front plan captions (inl h) = inl (h.0, elements_front plan h.0 h.1, h.2)
+  captions_front plan captions (inr h) = inr (h.0, fault_front plan h.0 h.1, h.2)
+
+  chart_front : (plan limits : List ℕ) (a : Answer) → IsChart (take n plan) (Some (take m limits)) a → IsChart plan (Some limits) a
+  chart_front plan limits a h = record {
+    page = record {
+      verdict = h.page.verdict;
+      captions = h.page.captions;
+      is_verdict = verdict_front plan limits h.page.verdict h.page.is_verdict;
+      are_captions = captions_front plan h.page.captions h.page.are_captions;
+      whole = h.page.whole;
+    };
+    judged = judged_front plan limits a.refused h.judged;
+  }
+
+  chart_alone : (plan : List ℕ) (a : Answer) → IsChart (take n plan) None a → IsChart plan None a
+  chart_alone plan a h = record {
+    page = record {
+      verdict = h.page.verdict;
+      captions = h.page.captions;
+      is_verdict = verdict_alone plan h.page.verdict h.page.is_verdict;
+      are_captions = captions_front plan h.page.captions h.page.are_captions;
+      whole = h.page.whole;
+    };
+    judged = judged_alone plan a.refused h.judged;
+  }
+
+  -- ---- the range file
+
+  ranges_front : (plan : List ℕ) (a : Answer) → IsRanges (take n plan) a → IsRanges plan a
+  ranges_front plan a (inl h) = inl (record { tree = h.tree; elements = elements_front plan h.tree h.elements; draft = h.draft; read = h.read })
+  ranges_front plan a (inr h) = inr (record { fault = h.fault; has = fault_front plan h.fault h.has; is = h.is })
+
+-- ---- of files that are there
+
+pub chart_of : (files : FileMap) (plan front : List ℕ) (a : Answer) → IsFront files plan 1048577 front → IsChart front None a → Answers (chart plan) files a
+chart_of files plan front a read h =
+    let p = front_there (files plan) 1048577 front read in
+    record {
+      plan_bytes = p.0;
+      plan_there = p.1;
+      is = chart_alone 1048577 262145 (omega arith) (omega arith) p.0 a (subst (λ b. IsChart b None a) p.2 h);
+    }
+
+pub ranges_of : (files : FileMap) (plan front : List ℕ) (a : Answer) → IsFront files plan 1048577 front → IsRanges front a → Answers (ranges plan) files a
+ranges_of files plan front a read h =
+    let p = front_there (files plan) 1048577 front read in
+    record {
+      plan_bytes = p.0;
+      plan_there = p.1;
+      is = ranges_front 1048577 262145 (omega arith) (omega arith) p.0 a (subst (λ b. IsRanges b a) p.2 h);
+    }
+
+pub chart_within_of : (files : FileMap) (plan limits front front' : List ℕ) (a : Answer) → AreFronts files plan limits front front'
+    → IsChart front (Some front') a → Answers (chart_within plan limits) files a
+chart_within_of files plan limits front front' a read h =
+    record {
+      plan_bytes = read.plan_bytes;
+      limits_bytes = read.limits_bytes;
+      plan_there = read.plan_there;
+      limits_there = read.limits_there;
+      is = chart_front 1048577 262145 (omega arith) (omega arith) read.plan_bytes read.limits_bytes a
+          (subst (λ b. IsChart b (Some (take 262145 read.limits_bytes)) a) read.plan_read (subst (λ b. IsChart front (Some b) a) read.limits_read h));
+    }

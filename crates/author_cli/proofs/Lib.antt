@@ -1,0 +1,3 @@
+mod WordLemmas
+mod FrontLemmas
+mod LeavesLemmas

@@ -1,0 +1,16 @@
+use Rattle.std.proofs.Common.{Some, subst}
+use Rattle.author_cli.specs.Answers.{IsChart}
+use Rattle.author_cli.specs.AnswerViews.{answer_of}
+use Rattle.author_cli.proofs.FrontLemmas.{chart_within_of}
+use Rattle.author_cli.proofs.answer.answer_chart_within.Goals as goal
+
+pub returns-clause-made : goal.returns-clause-made
+returns-clause-made g c =
+    let plan = c.in_ok-plan_bytes.plan_bytes.items in
+    let limits = c.in_ok-plan_bytes.limits_bytes.items in
+    let page = answer_of c.in_ok-page_of.field-0 in
+    let of_plan = subst (λ b. IsChart b (Some c.deref-2.result.now) page) c.deref.ensures.value c.in_ok-page_of.ensures in (
+      λ files told. chart_within_of files c.args.plan.now c.args.limits.now plan limits page (c.in_ok-plan_bytes.ensures.read files told)
+          (subst (λ b. IsChart plan (Some b) page) c.deref-2.ensures.value of_plan),
+      c.in_ok-plan_bytes.ensures.kept,
+    )

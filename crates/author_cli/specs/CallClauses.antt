@@ -1,0 +1,74 @@
+-- What a call leaves, as it ended (docs/DEFINITIONS.md).
+use Rattle.std.specs.Prelude.{◌≡◌, ◌≢◌, ℕ, List, ◌++◌, Bool, Option, Some, is_some, Ok, Err, String}
+use Rattle.std.specs.Option.{ForSome}
+use Rattle.std.specs.declared.alloc.Global.{Global}
+use Rattle.outside.specs.Causes.{Still}
+use Rattle.outside.specs.Told.{FileMap, Appends, AppendsPrefix}
+use Rattle.plan_answers.specs.Fronts.{IsMissing}
+use Rattle.author_cli.specs.declared.stop.Stop.TheVariants as stops
+use Rattle.author_cli.specs.Words.{Form, chart, chart_within, ranges}
+use Rattle.author_cli.specs.Answers.{Answer, Answers}
+use Rattle.author_cli.specs.Ends.{Ended}
+use Rattle.author_cli.specs.Outside.{Outside}
+
+-- the name at which the files failed: the plan's, or the range file's where the plan is there
+abbrev pub Lacks : Form → Option FileMap → Option (List ℕ) → Type 0
+Lacks (chart plan) told failed = failed ≡ Some plan
+Lacks (chart_within plan limits) told failed = IsMissing told plan limits failed
+Lacks (ranges plan) told failed = failed ≡ Some plan
+
+-- ---- what each end leaves; of the text where the files tell what they hold, of the rest always
+
+-- the whole answer was written, and the plan is refused or isn't
+pub record IsWhole (form : Form) (before after : Outside) (refused : Bool) : Type 0 where
+  pub text : List ℕ
+  pub written : Appends before.written after.written text
+  pub answers : ForSome before.files (λ files. Answers form files (record { text = text; refused = refused }))
+  pub kept : after.failed ≡ before.failed
+
+-- a front of the answer was written, and not the whole
+pub record IsCutShort (form : Form) (before after : Outside) : Type 0 where
+  pub answer : Answer
+  pub written : AppendsPrefix before.written after.written answer.text
+  pub answers : ForSome before.files (λ files. Answers form files answer)
+  pub kept : after.failed ≡ before.failed
+
+-- a file could not be read, and nothing was written
+pub record IsLacking (form : Form) (before after : Outside) : Type 0 where
+  pub written : after.written ≡ before.written
+  pub lacks : Lacks form before.files after.failed
+
+-- memory ran out, and nothing was written
+pub record IsUnwritten (before after : Outside) : Type 0 where
+  pub written : after.written ≡ before.written
+  pub kept : after.failed ≡ before.failed
+
+abbrev pub Leaves : Form → Outside → Outside → Ended → Type 0
+Leaves form before after (Ok reason) = IsWhole form before after (is_some reason)
+Leaves form before after (Err stops.Words) = ⊥
+Leaves form before after (Err stops.File) = IsLacking form before after
+Leaves form before after (Err stops.Write) = IsCutShort form before after
+Leaves form before after (Err stops.Memory) = IsUnwritten before after
+
+-- ---- the headline
+
+-- the files are there, the answer on them was written whole, and there is a reason exactly where the plan is refused
+pub record IsAnswered (form : Form) (files : FileMap) (written : List ℕ) (after : Outside) (ended : Ended) : Type 0 where
+  pub answer : Answer
+  pub answers : Answers form files answer
+  pub text : after.written ≡ Some (written ++ answer.text)
+  pub reason : Option (String Global)
+  pub is_ok : ended ≡ Ok reason
+  pub refused : is_some reason ≡ answer.refused
+
+-- where the files and the sink tell what they hold, while memory is there and no call of them fails
+abbrev pub Headline : Form → Outside → Outside → Ended → Type 0
+Headline form before after ended =
+    ForSome before.files (λ files. ForSome before.written (λ written.
+    ended ≢ Err stops.Memory → Still before.file_faults after.file_faults → Still before.sink_faults after.sink_faults →
+    IsAnswered form files written after ended))
+
+-- what the call leaves that carries out words of this form
+pub record Carries (form : Form) (before after : Outside) (ended : Ended) : Type 0 where
+  pub leaves : Leaves form before after ended
+  pub headline : Headline form before after ended

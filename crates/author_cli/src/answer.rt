@@ -1,0 +1,181 @@
+//! What is written on a request.
+ghost use Rattle.std.specs.Prelude.{◌≡◌, IfOk, None, option_map};
+ghost use Rattle.outside.specs.Causes.{Caused};
+ghost use Rattle.author_cli.specs.Words.{chart, chart_within, ranges};
+ghost use Rattle.author_cli.specs.WordViews.{form_of};
+ghost use Rattle.author_cli.specs.Answers.{IsChart, IsRanges, refused_answer};
+ghost use Rattle.author_cli.specs.AnswerViews.{answer_of, Makes};
+ghost use Rattle.author_cli.specs.CallClauses.{Leaves};
+
+use crate::stop::Stop;
+use crate::words::Request;
+use flowchart_page::{Chart, draw_chart};
+use outside::{FileAnswer, Files, Sink, put_all};
+use pap_plan::PlanRefusal;
+use pap_reader::{LONGEST_PLAN, ReadFault, read_elements};
+use plain_words::{TextFile, plan_words};
+use plan_answers::{read_both, refused};
+use plan_notes::read_notes;
+use range_draft::draft_ranges;
+use std::alloc::{AllocError, Global};
+
+/// What is written, and why the plan is refused, where it is.
+#[derive(Drop)]
+pub(crate) struct Answer {
+    pub text: Vec<u8>,
+    pub reason: Option<String>,
+}
+
+/// Writes the answer on a request. `Ok` says why the plan is refused, where it is.
+pub(crate) fn write_answer<F: Files, W: Sink>(
+    alloc: Global,
+    request: Request<'_>,
+    files: &mut F,
+    sink: &mut W,
+) -> Result<Option<String>, Stop>
+    ensures leaves { Leaves (form_of request.entry)
+        (record {
+          files = F.told files.old;
+          failed = F.failed files.old;
+          file_faults = F.faults files.old;
+          written = W.written sink.old;
+          sink_faults = W.faults sink.old;
+        })
+        (record {
+          files = F.told files.new;
+          failed = F.failed files.new;
+          file_faults = F.faults files.new;
+          written = W.written sink.new;
+          sink_faults = W.faults sink.new;
+        })
+        result }
+    ensures same { F.told files.new ≡ F.told files.old }
+    ensures file { Caused Stop.File (F.faults files.old) (F.faults files.new) result }
+    ensures write { Caused Stop.Write (W.faults sink.old) (W.faults sink.new) result }
+{
+    let Answer { text, reason } = make_answer(alloc, request, files)?;
+    match put_all(sink, &text) {
+        Ok(()) => Ok(reason),
+        Err(_) => Err(Stop::Write),
+    }
+}
+
+/// The answer on a request.
+fn make_answer<F: Files>(
+    alloc: Global,
+    request: Request<'_>,
+    files: &mut F,
+) -> Result<Answer, FileAnswer>
+    ensures made { Makes (form_of request.entry)
+        (F.told files.old) (F.failed files.old) (F.failed files.new) result }
+    ensures same { F.told files.new ≡ F.told files.old }
+    ensures cause { Caused FileAnswer.Failed (F.faults files.old) (F.faults files.new) result }
+{
+    match request {
+        Request::Chart { plan } => answer_chart(alloc, plan, files),
+        Request::ChartWithin { plan, limits } => answer_chart_within(alloc, plan, limits, files),
+        Request::Ranges { plan } => answer_ranges(alloc, plan, files),
+    }
+}
+
+/// The page of a plan without a range file.
+fn answer_chart<F: Files>(alloc: Global, plan: &str, files: &mut F) -> Result<Answer, FileAnswer>
+    ensures made { Makes (chart plan.now)
+        (F.told files.old) (F.failed files.old) (F.failed files.new) result }
+    ensures same { F.told files.new ≡ F.told files.old }
+    ensures cause { Caused FileAnswer.Failed (F.faults files.old) (F.faults files.new) result }
+{
+    let bytes = files.read_front(alloc, plan, LONGEST_PLAN + 1)?;
+    let plan = TextFile {
+        name: plan,
+        bytes: &bytes,
+    };
+    Ok(page_of(alloc, plan, None)?)
+}
+
+/// The page of a plan with a range file.
+fn answer_chart_within<F: Files>(
+    alloc: Global,
+    plan: &str,
+    limits: &str,
+    files: &mut F,
+) -> Result<Answer, FileAnswer>
+    ensures made { Makes (chart_within plan.now limits.now)
+        (F.told files.old) (F.failed files.old) (F.failed files.new) result }
+    ensures same { F.told files.new ≡ F.told files.old }
+    ensures cause { Caused FileAnswer.Failed (F.faults files.old) (F.faults files.new) result }
+{
+    let (plan_bytes, limits_bytes) = read_both(alloc, plan, limits, files)?;
+    let plan = TextFile {
+        name: plan,
+        bytes: &plan_bytes,
+    };
+    let limits = TextFile {
+        name: limits,
+        bytes: &limits_bytes,
+    };
+    Ok(page_of(alloc, plan, Some(limits))?)
+}
+
+/// A range file to begin with.
+fn answer_ranges<F: Files>(alloc: Global, plan: &str, files: &mut F) -> Result<Answer, FileAnswer>
+    ensures made { Makes (ranges plan.now)
+        (F.told files.old) (F.failed files.old) (F.failed files.new) result }
+    ensures same { F.told files.new ≡ F.told files.old }
+    ensures cause { Caused FileAnswer.Failed (F.faults files.old) (F.faults files.new) result }
+{
+    let bytes = files.read_front(alloc, plan, LONGEST_PLAN + 1)?;
+    let plan = TextFile {
+        name: plan,
+        bytes: &bytes,
+    };
+    Ok(ranges_of(alloc, plan)?)
+}
+
+/// The page of a plan's bytes, with those of a range file or without.
+fn page_of(
+    alloc: Global,
+    plan: TextFile<'_>,
+    limits: Option<TextFile<'_>>,
+) -> Result<Answer, AllocError>
+    ensures { IfOk result (λ answer. IsChart plan.entry.bytes.now
+        (option_map (λ file. file.bytes.now) limits.entry) (answer_of answer)) }
+{
+    let Chart { page, reason } = draw_chart(alloc, plan, limits)?;
+    Ok(Answer { text: page, reason })
+}
+
+/// The range file that begins with a plan's inputs, or the line of its refusal where the bytes aren't read as a plan.
+fn ranges_of(alloc: Global, plan: TextFile<'_>) -> Result<Answer, AllocError>
+    ensures { IfOk result (λ answer. IsRanges plan.entry.bytes.now (answer_of answer)) }
+{
+    match read_elements(alloc, plan.bytes) {
+        Ok(elements) => {
+            let notes = read_notes(alloc, plan.bytes)?;
+            let draft = draft_ranges(alloc, &elements, &notes)?;
+            Ok(Answer {
+                text: draft.into_bytes(),
+                reason: None,
+            })
+        }
+        Err(ReadFault::Memory) => Err(AllocError),
+        Err(fault) => answer_unread(alloc, plan, fault),
+    }
+}
+
+/// The line of a file that isn't read as a plan, as `papcalc check` writes it.
+fn answer_unread(alloc: Global, plan: TextFile<'_>, fault: ReadFault) -> Result<Answer, AllocError>
+    ensures { IfOk result (λ answer. answer_of answer ≡ refused_answer fault) }
+{
+    let refusal = PlanRefusal::Read(fault);
+    let reply = refused(alloc, plan.bytes, &refusal)?;
+    let ranges = TextFile {
+        name: "",
+        bytes: &[],
+    };
+    let reason = plan_words(alloc, plan, ranges, &refusal)?;
+    Ok(Answer {
+        text: reply.text,
+        reason: Some(reason),
+    })
+}

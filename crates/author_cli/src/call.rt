@@ -1,0 +1,70 @@
+//! The top call.
+ghost use Rattle.std.specs.Prelude.{◌≡◌, Err, IsErrOf};
+ghost use Rattle.outside.specs.Causes.{Rose};
+ghost use Rattle.author_cli.specs.Words.{texts, Form, HasForm, IsBad};
+ghost use Rattle.author_cli.specs.Outside.{IsUntouched};
+ghost use Rattle.author_cli.specs.CallClauses.{Carries};
+ghost use Rattle.author_cli.specs.Laws.{HaveOneForm};
+
+use crate::answer::write_answer;
+use crate::stop::Stop;
+use crate::words::read_words;
+use outside::{Files, Sink};
+use std::alloc::Global;
+
+/// Does all that the program does: carries out the words over the files and the sink.
+///
+/// The forms of the words are `chart PLAN` and `chart PLAN LIMITS`, which write the flowchart of the file PLAN as one page of
+/// HTML, without a range file or with that of the file LIMITS, and `ranges PLAN`, which writes a range file to begin with. All
+/// other words are [`Stop::Words`]. `Ok` means that all was written: it has why the plan is refused, in plain words in one
+/// line, and nothing where it isn't.
+pub fn pap_author<F: Files, W: Sink>(
+    alloc: Global,
+    words: &[String],
+    files: &mut F,
+    sink: &mut W,
+) -> Result<Option<String>, Stop>
+    // The words have no form: nothing is called.
+    ensures bad_words { IsBad (texts words.now) → IsErrOf result Stop.Words }
+    ensures bad_words_alone { IsErrOf result Stop.Words → IsBad (texts words.now) }
+    ensures bad_words_untouched { IsBad (texts words.now)
+        → IsUntouched files.old files.new sink.old sink.new }
+
+    // A fault only where the object's count rose.
+    ensures file_fault { IsErrOf result Stop.File
+        → Rose (F.faults files.old) (F.faults files.new) }
+    ensures write_fault { IsErrOf result Stop.Write
+        → Rose (W.faults sink.old) (W.faults sink.new) }
+
+    // The files are only read.
+    ensures files_same { F.told files.new ≡ F.told files.old }
+
+    // By the form of the words: what the call leaves as it ended (`leaves`), and the headline: while memory is there and no
+    // outside call fails, what is written is the page or the range file, or the refusal in its place.
+    ensures carries { (form : Form) → HasForm (texts words.now) form → Carries form
+        (record {
+          files = F.told files.old;
+          failed = F.failed files.old;
+          file_faults = F.faults files.old;
+          written = W.written sink.old;
+          sink_faults = W.faults sink.old;
+        })
+        (record {
+          files = F.told files.new;
+          failed = F.failed files.new;
+          file_faults = F.faults files.new;
+          written = W.written sink.new;
+          sink_faults = W.faults sink.new;
+        })
+        result }
+{
+    match read_words(words) {
+        Some(request) => write_answer(alloc, request, files, sink),
+        None => Err(Stop::Words),
+    }
+}
+
+/// Words have at most one form.
+pub fn word_laws()
+    ensures { HaveOneForm }
+{}

@@ -1,0 +1,10 @@
+//! The companion program's commands, over the outside that the caller hands in.
+#![tactic(auto)]
+
+mod answer;
+mod call;
+mod stop;
+mod words;
+
+pub use call::{pap_author, word_laws};
+pub use stop::{Stop, exit_number};
