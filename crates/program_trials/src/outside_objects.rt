@@ -26,16 +26,23 @@ fn read_front<F: Files>(files: &mut F, name: &str, text: &mut String) -> Result<
     Ok(())
 }
 
+/// The same of a file of the system, and behind a fault why it isn't read.
+fn read_real(rt: &HostRuntime, name: &str, text: &mut String) -> Result<(), Fail> {
+    let mut files = RealFiles::new(rt);
+    read_front(&mut files, name, text)?;
+    if let Some(file) = files.failed_file() {
+        write!(text, ": {}", file.fault)?;
+    }
+    Ok(())
+}
+
 #[test]
 fn real_files_are_read_or_fail(rt: HostRuntime) -> Result<(), Fail> {
-    all_rows(rt.alloc(), REAL_FILES, |name, text| {
-        let mut files = RealFiles::new(&rt);
-        read_front(&mut files, name, text)?;
-        if let Some(file) = files.failed_file() {
-            write!(text, ": {}", file.fault)?;
-        }
-        Ok(())
-    })
+    all_rows(
+        rt.alloc(),
+        REAL_FILES,
+        |name, text| read_real(&rt, name, text),
+    )
 }
 
 /// Writes what a source gives to so many calls for four bytes.
