@@ -1,6 +1,6 @@
 -- The answer on what is read of the files is that on their bytes.
-use Rattle.std.proofs.Common.{◌≡◌, ℕ, ◌<◌, List, [], take, inl, inr, sym, subst, arith}
-use Rattle.std.specs.Prelude.{Bool, true, false, Some, None, Ok, Err, MatchOption}
+use Rattle.std.proofs.Common.{ℕ, ◌<◌, List, [], take, inl, inr, sym, subst, arith}
+use Rattle.std.specs.Prelude.{Bool, true, false, Some, None, Ok, Err}
 use Rattle.std.proofs.lemmas.List.{take_all}
 use Rattle.outside.specs.Told.{FileMap, IsFront}
 use Rattle.pap_reader.specs.declared.fault.ReadFault.{ReadFault}
@@ -12,17 +12,19 @@ use Rattle.pap_plan.specs.Acceptance.{Meaning, IsAccepted, IsRefused}
 use Rattle.plan_answers.specs.Fronts.{AreFronts}
 use Rattle.plan_answers.proofs.Laws.{whole, front_there, answers_front}
 use Rattle.flowchart_page.specs.Verdicts.{IsJudged}
-use Rattle.flowchart_page.specs.Pages.{SaysAccepted, IsVerdictText, ArePlanCaptions}
+use Rattle.flowchart_page.specs.Pages.{IsVerdictText, ArePlanCaptions}
 use Rattle.author_cli.specs.Words.{chart, chart_within, ranges}
 use Rattle.author_cli.specs.Answers.{Answer, IsChart, IsRanges, Answers}
 
 module _ (n m : ℕ) (more_plan : 1048576 < n) (more_limits : 262144 < m) where
   -- ---- the judgement
 
-  accepted_front : (plan limits : List ℕ) (x : Meaning) → IsAccepted (take n plan) (take m limits) x → IsAccepted plan limits x
+  accepted_front : (plan limits : List ℕ) (x : Meaning) → IsAccepted (take n plan) (take m limits) x
+      → IsAccepted plan limits x
   accepted_front plan limits x h = answers_front n m more_plan more_limits plan limits (Ok x) h
 
-  refused_front : (plan limits : List ℕ) (r : PlanRefusal) → IsRefused (take n plan) (take m limits) r → IsRefused plan limits r
+  refused_front : (plan limits : List ℕ) (r : PlanRefusal) → IsRefused (take n plan) (take m limits) r
+      → IsRefused plan limits r
   refused_front plan limits r h = answers_front n m more_plan more_limits plan limits (Err r) h
 
   -- of an empty range file an empty front is read
@@ -35,7 +37,8 @@ module _ (n m : ℕ) (more_plan : 1048576 < n) (more_limits : 262144 < m) where
   refused_alone : (plan : List ℕ) (r : PlanRefusal) → IsRefused (take n plan) [] r → IsRefused plan [] r
   refused_alone plan r h = refused_front plan [] r (empty_front (λ l. IsRefused (take n plan) l r) h)
 
-  judged_front : (plan limits : List ℕ) (b : Bool) → IsJudged (take n plan) (Some (take m limits)) b → IsJudged plan (Some limits) b
+  judged_front : (plan limits : List ℕ) (b : Bool) → IsJudged (take n plan) (Some (take m limits)) b
+      → IsJudged plan (Some limits) b
   judged_front plan limits true h = (h.0, refused_front plan limits h.0 h.1)
   judged_front plan limits false h = (h.0, accepted_front plan limits h.0 h.1)
 
@@ -46,7 +49,8 @@ module _ (n m : ℕ) (more_plan : 1048576 < n) (more_limits : 262144 < m) where
 
   -- ---- the page
 
-  verdict_front : (plan limits text : List ℕ) → IsVerdictText (take n plan) (Some (take m limits)) text → IsVerdictText plan (Some limits) text
+  verdict_front : (plan limits text : List ℕ) → IsVerdictText (take n plan) (Some (take m limits)) text
+      → IsVerdictText plan (Some limits) text
   verdict_front plan limits text (inl h) = inl (h.0, accepted_front plan limits h.0 h.1, h.2)
   verdict_front plan limits text (inr h) = inr (h.0, refused_front plan limits h.0 h.1, h.2)
 
@@ -61,11 +65,13 @@ module _ (n m : ℕ) (more_plan : 1048576 < n) (more_limits : 262144 < m) where
   fault_front : (plan : List ℕ) (fault : ReadFault) → IsFault (take n plan) fault → IsFault plan fault
   fault_front plan fault h = refused_alone plan (refusals.Read fault) h
 
-  captions_front : (plan : List ℕ) (captions : List (List ℕ)) → ArePlanCaptions (take n plan) captions → ArePlanCaptions plan captions
+  captions_front : (plan : List ℕ) (captions : List (List ℕ)) → ArePlanCaptions (take n plan) captions
+      → ArePlanCaptions plan captions
   captions_front plan captions (inl h) = inl (h.0, elements_front plan h.0 h.1, h.2)
   captions_front plan captions (inr h) = inr (h.0, fault_front plan h.0 h.1, h.2)
 
-  chart_front : (plan limits : List ℕ) (a : Answer) → IsChart (take n plan) (Some (take m limits)) a → IsChart plan (Some limits) a
+  chart_front : (plan limits : List ℕ) (a : Answer) → IsChart (take n plan) (Some (take m limits)) a
+      → IsChart plan (Some limits) a
   chart_front plan limits a h = record {
     page = record {
       verdict = h.page.verdict;
@@ -92,12 +98,18 @@ module _ (n m : ℕ) (more_plan : 1048576 < n) (more_limits : 262144 < m) where
   -- ---- the range file
 
   ranges_front : (plan : List ℕ) (a : Answer) → IsRanges (take n plan) a → IsRanges plan a
-  ranges_front plan a (inl h) = inl (record { tree = h.tree; elements = elements_front plan h.tree h.elements; draft = h.draft; read = h.read })
+  ranges_front plan a (inl h) = inl (record {
+    tree = h.tree;
+    elements = elements_front plan h.tree h.elements;
+    draft = h.draft;
+    read = h.read;
+  })
   ranges_front plan a (inr h) = inr (record { fault = h.fault; has = fault_front plan h.fault h.has; is = h.is })
 
 -- ---- of files that are there
 
-pub chart_of : (files : FileMap) (plan front : List ℕ) (a : Answer) → IsFront files plan 1048577 front → IsChart front None a → Answers (chart plan) files a
+pub chart_of : (files : FileMap) (plan front : List ℕ) (a : Answer) → IsFront files plan 1048577 front
+    → IsChart front None a → Answers (chart plan) files a
 chart_of files plan front a read h =
     let p = front_there (files plan) 1048577 front read in
     record {
@@ -106,7 +118,8 @@ chart_of files plan front a read h =
       is = chart_alone 1048577 262145 (omega arith) (omega arith) p.0 a (subst (λ b. IsChart b None a) p.2 h);
     }
 
-pub ranges_of : (files : FileMap) (plan front : List ℕ) (a : Answer) → IsFront files plan 1048577 front → IsRanges front a → Answers (ranges plan) files a
+pub ranges_of : (files : FileMap) (plan front : List ℕ) (a : Answer) → IsFront files plan 1048577 front
+    → IsRanges front a → Answers (ranges plan) files a
 ranges_of files plan front a read h =
     let p = front_there (files plan) 1048577 front read in
     record {
@@ -115,7 +128,8 @@ ranges_of files plan front a read h =
       is = ranges_front 1048577 262145 (omega arith) (omega arith) p.0 a (subst (λ b. IsRanges b a) p.2 h);
     }
 
-pub chart_within_of : (files : FileMap) (plan limits front front' : List ℕ) (a : Answer) → AreFronts files plan limits front front'
+pub chart_within_of : (files : FileMap) (plan limits front front' : List ℕ) (a : Answer)
+    → AreFronts files plan limits front front'
     → IsChart front (Some front') a → Answers (chart_within plan limits) files a
 chart_within_of files plan limits front front' a read h =
     record {
@@ -124,5 +138,6 @@ chart_within_of files plan limits front front' a read h =
       plan_there = read.plan_there;
       limits_there = read.limits_there;
       is = chart_front 1048577 262145 (omega arith) (omega arith) read.plan_bytes read.limits_bytes a
-          (subst (λ b. IsChart b (Some (take 262145 read.limits_bytes)) a) read.plan_read (subst (λ b. IsChart front (Some b) a) read.limits_read h));
+          (subst (λ b. IsChart b (Some (take 262145 read.limits_bytes)) a) read.plan_read
+          (subst (λ b. IsChart front (Some b) a) read.limits_read h));
     }

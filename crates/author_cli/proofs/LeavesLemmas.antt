@@ -1,7 +1,6 @@
 -- What a call leaves by its end, and the headline from it.
 use Rattle.std.proofs.Common.{◌≡◌, ℕ, List, ◌++◌, refl, sym, ap, subst, arith}
-use Rattle.std.specs.Prelude.{Option, Some, None, is_some, Result, Ok, Err, IsErrOf}
-use Rattle.std.specs.Option.{ForSome}
+use Rattle.std.specs.Prelude.{Option, Some, None, is_some, Ok, Err, IsErrOf}
 use Rattle.outside.specs.Causes.{Rose, Still}
 use Rattle.outside.specs.Told.{Appends, AppendsPrefix}
 use Rattle.outside.specs.declared.traits.FileAnswer.{FileAnswer}
@@ -10,7 +9,6 @@ use Rattle.author_cli.specs.declared.answer.Answer.{Answer as Made}
 use Rattle.author_cli.specs.declared.stop.Stop.TheVariants as stops
 use Rattle.author_cli.specs.StopViews.{stop_of_file}
 use Rattle.author_cli.specs.Words.{Form}
-use Rattle.author_cli.specs.Answers.{Answers}
 use Rattle.author_cli.specs.AnswerViews.{answer_of, Makes}
 use Rattle.author_cli.specs.Ends.{Ended}
 use Rattle.author_cli.specs.Outside.{Outside}
@@ -19,22 +17,28 @@ use Rattle.author_cli.specs.CallClauses.{Leaves, Headline, Carries}
 -- ---- each end
 
 -- no answer was made
-pub leaves_unmade : (form : Form) (before after : Outside) (e : FileAnswer) (ended : Ended) → ended ≡ Err (stop_of_file e)
-    → Makes form before.files before.failed after.failed (Err e) → after.written ≡ before.written → Leaves form before after ended
-leaves_unmade form before after e ended is made same = subst (λ r. Leaves form before after r) (sym is) (by e made)
+pub leaves_unmade : (form : Form) (before after : Outside) (e : FileAnswer) (ended : Ended)
+    → ended ≡ Err (stop_of_file e)
+    → Makes form before.files before.failed after.failed (Err e) → after.written ≡ before.written
+    → Leaves form before after ended
+leaves_unmade form before after e ended is made same =
+    subst (λ r. Leaves form before after r) (sym is) (by e made)
   where
-    by : (e : FileAnswer) → Makes form before.files before.failed after.failed (Err e) → Leaves form before after (Err (stop_of_file e))
+    by : (e : FileAnswer) → Makes form before.files before.failed after.failed (Err e)
+        → Leaves form before after (Err (stop_of_file e))
     by files.Failed lacks = record { written = same; lacks = lacks }
     by files.Memory kept = record { written = same; kept = kept }
 
 -- an answer was made, and written whole
-pub leaves_whole : (form : Form) (before after : Outside) (made : Made) → Makes form before.files before.failed after.failed (Ok made)
+pub leaves_whole : (form : Form) (before after : Outside) (made : Made)
+    → Makes form before.files before.failed after.failed (Ok made)
     → Appends before.written after.written made.text.items → Leaves form before after (Ok made.reason)
 leaves_whole form before after made made_so appended =
     record { text = made.text.items; written = appended; answers = made_so.0; kept = made_so.1 }
 
 -- the sink failed
-pub leaves_cut : (form : Form) (before after : Outside) (made : Made) → Makes form before.files before.failed after.failed (Ok made)
+pub leaves_cut : (form : Form) (before after : Outside) (made : Made)
+    → Makes form before.files before.failed after.failed (Ok made)
     → AppendsPrefix before.written after.written made.text.items → Leaves form before after (Err stops.Write)
 leaves_cut form before after made made_so part =
     record { answer = answer_of made; written = part; answers = made_so.0; kept = made_so.1 }

@@ -16,7 +16,8 @@ chart_ranges e = cc
 first : (words : List (List ℕ)) (a b : List ℕ) (x y : List (List ℕ)) → words ≡ a ∷ x → words ≡ b ∷ y → a ≡ b
 first words a b x y h k = ap (λ w. get_or w 0 []) (sym h ∙ k)
 
-second : (words : List (List ℕ)) (a b c d : List ℕ) (x y : List (List ℕ)) → words ≡ a ∷ b ∷ x → words ≡ c ∷ d ∷ y → b ≡ d
+second : (words : List (List ℕ)) (a b c d : List ℕ) (x y : List (List ℕ)) → words ≡ a ∷ b ∷ x → words ≡ c ∷ d ∷ y
+    → b ≡ d
 second words a b c d x y h k = ap (λ w. get_or w 1 []) (sym h ∙ k)
 
 third : (words : List (List ℕ)) (a b c d e f : List ℕ) → words ≡ a ∷ b ∷ c ∷ [] → words ≡ d ∷ e ∷ f ∷ [] → c ≡ f
@@ -38,7 +39,8 @@ one_form words (ranges p) (ranges q) h k = ap (λ x. ranges x) (second words _ p
 -- ---- no form
 
 -- a command and one name
-pub no_two : (command plan : List ℕ) → ¬ (command ≡ codes "chart") → ¬ (command ≡ codes "ranges") → IsBad (command ∷ plan ∷ [])
+pub no_two : (command plan : List ℕ) → ¬ (command ≡ codes "chart") → ¬ (command ≡ codes "ranges")
+    → IsBad (command ∷ plan ∷ [])
 no_two command plan no_chart no_ranges (chart p) h = no_chart (ap (λ w. get_or w 0 []) h)
 no_two command plan no_chart no_ranges (chart_within p l) h = two_three _ plan _ p l h
 no_two command plan no_chart no_ranges (ranges p) h = no_ranges (ap (λ w. get_or w 0 []) h)
@@ -60,21 +62,26 @@ no_other words two three (ranges p) h = two (as_many words _ h)
 
 -- ---- all words
 
-pub two_texts : (words : List (String Global)) (w v : String Global) (a b : List ℕ) → 2 ≤ length words → length words < 3
+pub two_texts : (words : List (String Global)) (w v : String Global) (a b : List ℕ) → 2 ≤ length words
+    → length words < 3
     → w ≡ get_or words 0 w → v ≡ get_or words 1 v → a ≡ string_bytes w → b ≡ string_bytes v → a ∷ b ∷ [] ≡ texts words
 two_texts [] w v a b least below is is' same same' = absurd (omega arith)
 two_texts (x ∷ []) w v a b least below is is' same same' = absurd (omega arith)
 two_texts (x ∷ y ∷ []) w v a b least below is is' same same' =
-    ap (λ t. t ∷ b ∷ []) (same ∙ ap (λ z. string_bytes z) is) ∙ ap (λ t. string_bytes x ∷ t ∷ []) (same' ∙ ap (λ z. string_bytes z) is')
+    ap (λ t. t ∷ b ∷ []) (same ∙ ap (λ z. string_bytes z) is)
+    ∙ ap (λ t. string_bytes x ∷ t ∷ []) (same' ∙ ap (λ z. string_bytes z) is')
 two_texts (x ∷ y ∷ z ∷ words) w v a b least below is is' same same' = absurd (omega arith)
 
-pub three_texts : (words : List (String Global)) (w v u : String Global) (a b c : List ℕ) → 3 ≤ length words → length words < 4
-    → w ≡ get_or words 0 w → v ≡ get_or words 1 v → u ≡ get_or words 2 u → a ≡ string_bytes w → b ≡ string_bytes v → c ≡ string_bytes u
+pub three_texts : (words : List (String Global)) (w v u : String Global) (a b c : List ℕ) → 3 ≤ length words
+    → length words < 4
+    → w ≡ get_or words 0 w → v ≡ get_or words 1 v → u ≡ get_or words 2 u → a ≡ string_bytes w → b ≡ string_bytes v
+    → c ≡ string_bytes u
     → a ∷ b ∷ c ∷ [] ≡ texts words
 three_texts [] w v u a b c least below is is' is'' same same' same'' = absurd (omega arith)
 three_texts (x ∷ []) w v u a b c least below is is' is'' same same' same'' = absurd (omega arith)
 three_texts (x ∷ y ∷ []) w v u a b c least below is is' is'' same same' same'' = absurd (omega arith)
 three_texts (x ∷ y ∷ z ∷ []) w v u a b c least below is is' is'' same same' same'' =
-    ap (λ t. t ∷ b ∷ c ∷ []) (same ∙ ap (λ z. string_bytes z) is) ∙ ap (λ t. string_bytes x ∷ t ∷ c ∷ []) (same' ∙ ap (λ z. string_bytes z) is')
+    ap (λ t. t ∷ b ∷ c ∷ []) (same ∙ ap (λ z. string_bytes z) is)
+    ∙ ap (λ t. string_bytes x ∷ t ∷ c ∷ []) (same' ∙ ap (λ z. string_bytes z) is')
     ∙ ap (λ t. string_bytes x ∷ string_bytes y ∷ t ∷ []) (same'' ∙ ap (λ z. string_bytes z) is'')
 three_texts (x ∷ y ∷ z ∷ k ∷ words) w v u a b c least below is is' is'' same same' same'' = absurd (omega arith)

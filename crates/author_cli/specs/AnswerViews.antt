@@ -12,7 +12,8 @@ use Rattle.author_cli.specs.CallClauses.{Lacks}
 abbrev pub answer_of : Made → Answer
 answer_of made = record { text = made.text.items; refused = is_some made.reason }
 
--- what is made of the files that the words name: the answer on their bytes, or the failed name; without a fault that name stays
+-- what is made of the files that the words name: the answer on their bytes, or the failed name; without a fault that
+-- name stays
 abbrev pub Makes : Form → Option FileMap → (failed failed' : Option (List ℕ)) → Result Made FileAnswer → Type 0
 Makes form told failed failed' (Ok made) =
     ForSome told (λ map. Answers form map (answer_of made)) × (failed' ≡ failed)

@@ -47,7 +47,8 @@ IsRanges plan answer = IsBegun plan answer ⊎ IsUnread plan answer
 -- ---- the files that the words name
 
 -- the file of this name is there, and this is the answer on its bytes
-pub record AnswersFile (IsAnswer : List ℕ → Answer → Type 0) (plan : List ℕ) (files : FileMap) (answer : Answer) : Type 0 where
+pub record AnswersFile (IsAnswer : List ℕ → Answer → Type 0) (plan : List ℕ) (files : FileMap) (answer : Answer)
+    : Type 0 where
   pub plan_bytes : List ℕ
   pub plan_there : files plan ≡ Some plan_bytes
   pub is : IsAnswer plan_bytes answer

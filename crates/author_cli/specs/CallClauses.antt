@@ -53,7 +53,8 @@ Leaves form before after (Err stops.Memory) = IsUnwritten before after
 -- ---- the headline
 
 -- the files are there, the answer on them was written whole, and there is a reason exactly where the plan is refused
-pub record IsAnswered (form : Form) (files : FileMap) (written : List ℕ) (after : Outside) (ended : Ended) : Type 0 where
+pub record IsAnswered (form : Form) (files : FileMap) (written : List ℕ) (after : Outside) (ended : Ended)
+    : Type 0 where
   pub answer : Answer
   pub answers : Answers form files answer
   pub text : after.written ≡ Some (written ++ answer.text)

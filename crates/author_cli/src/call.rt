@@ -14,10 +14,10 @@ use std::alloc::Global;
 
 /// Does all that the program does: carries out the words over the files and the sink.
 ///
-/// The forms of the words are `chart PLAN` and `chart PLAN LIMITS`, which write the flowchart of the file PLAN as one page of
-/// HTML, without a range file or with that of the file LIMITS, and `ranges PLAN`, which writes a range file to begin with. All
-/// other words are [`Stop::Words`]. `Ok` means that all was written: it has why the plan is refused, in plain words in one
-/// line, and nothing where it isn't.
+/// The forms of the words are `chart PLAN` and `chart PLAN LIMITS`, which write the flowchart of the file PLAN as one
+/// page of HTML, without a range file or with that of the file LIMITS, and `ranges PLAN`, which writes a range file to
+/// begin with. All other words are [`Stop::Words`]. `Ok` means that all was written: it has why the plan is refused, in
+/// plain words in one line, and nothing where it isn't.
 pub fn pap_author<F: Files, W: Sink>(
     alloc: Global,
     words: &[String],
@@ -39,8 +39,8 @@ pub fn pap_author<F: Files, W: Sink>(
     // The files are only read.
     ensures files_same { F.told files.new ≡ F.told files.old }
 
-    // By the form of the words: what the call leaves as it ended (`leaves`), and the headline: while memory is there and no
-    // outside call fails, what is written is the page or the range file, or the refusal in its place.
+    // By the form of the words: what the call leaves as it ended (`leaves`), and the headline: while memory is there
+    // and no outside call fails, what is written is the page or the range file, or the refusal in its place.
     ensures carries { (form : Form) → HasForm (texts words.now) form → Carries form
         (record {
           files = F.told files.old;

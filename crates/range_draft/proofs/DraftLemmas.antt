@@ -123,18 +123,22 @@ draft_more inputs old new input draft (inr more) =
     }
 
 -- one input more of those before a number
-pub draft_step : (inputs : List RawDeclared) (i : ℕ) (old new : List ℕ) (input : RawDeclared) → i < length inputs → input ≡ get_or inputs i input
+pub draft_step : (inputs : List RawDeclared) (i : ℕ) (old new : List ℕ) (input : RawDeclared)
+    → i < length inputs → input ≡ get_or inputs i input
     → IsDraft (map raw_declaration_of (take i inputs)) old
     → AddsEntry (map raw_declaration_of (take i inputs)) (raw_declaration_of input) old new
     → IsDraft (map raw_declaration_of (take (i + 1) inputs)) new
 draft_step inputs i old new input some is draft more =
     let before : List RawDeclaration = map raw_declaration_of (take i inputs) in
     let one_more : map raw_declaration_of (take (i + 1) inputs) ≡ before ++ (raw_declaration_of input ∷ []) =
-        ap (λ z. map raw_declaration_of z) (take_more inputs i input some ∙ ap (λ z. take i inputs ++ (z ∷ [])) (sym is))
-        ∙ map-append raw_declaration_of (take i inputs) (input ∷ []) in
+    ap (λ z. map raw_declaration_of z)
+    (take_more inputs i input some ∙ ap (λ z. take i inputs ++ (z ∷ [])) (sym is))
+    ∙ map-append raw_declaration_of (take i inputs) (input ∷ []) in
     subst (λ z. IsDraft z new) (sym one_more) (draft_more before old new (raw_declaration_of input) draft more)
 
 -- the declared names are those of the tree
-pub declared_in_tree : (inputs : List RawDeclared) (name : List ℕ) → declared_in inputs name ≡ declares (map raw_declaration_of inputs) name
+pub declared_in_tree : (inputs : List RawDeclared) (name : List ℕ)
+    → declared_in inputs name ≡ declares (map raw_declaration_of inputs) name
 declared_in_tree [] name = refl
-declared_in_tree (input ∷ inputs) name = ap (λ b. bytes_eq input.name name || b) (declared_in_tree inputs name)
+declared_in_tree (input ∷ inputs) name =
+    ap (λ b. bytes_eq input.name name || b) (declared_in_tree inputs name)

@@ -9,8 +9,10 @@ returns-clause-made g c =
     let plan = c.in_ok-plan_bytes.plan_bytes.items in
     let limits = c.in_ok-plan_bytes.limits_bytes.items in
     let page = answer_of c.in_ok-page_of.field-0 in
-    let of_plan = subst (λ b. IsChart b (Some c.deref-2.result.now) page) c.deref.ensures.value c.in_ok-page_of.ensures in (
-      λ files told. chart_within_of files c.args.plan.now c.args.limits.now plan limits page (c.in_ok-plan_bytes.ensures.read files told)
-          (subst (λ b. IsChart plan (Some b) page) c.deref-2.ensures.value of_plan),
+    let second = c.deref-2.result.now in
+    let of_plan = subst (λ b. IsChart b (Some second) page) c.deref.ensures.value c.in_ok-page_of.ensures in
+    let of_both = subst (λ b. IsChart plan (Some b) page) c.deref-2.ensures.value of_plan in
+    let read = c.in_ok-plan_bytes.ensures.read in (
+      λ files told. chart_within_of files c.args.plan.now c.args.limits.now plan limits page (read files told) of_both,
       c.in_ok-plan_bytes.ensures.kept,
     )

@@ -9,9 +9,11 @@ returns-clause-leaves g c =
     let value = c.deref.ensures.value in
     let text_is = c.in_ok-text.text-is in
     let same : c.deref.result.now ≡ made.text.items = cc in
+    let before = g.W.Sink.written c.args.sink.now in
+    let after = g.W.Sink.written c.put_all.new.sink in
     record {
       answer = answer_of made;
-      written = subst (λ t. AppendsPrefix (g.W.Sink.written c.args.sink.now) (g.W.Sink.written c.put_all.new.sink) t) same c.in-Err.ensures.err;
+      written = subst (λ t. AppendsPrefix before after t) same c.in-Err.ensures.err;
       answers = c.in_ok-text.ensures.made.0;
       kept = c.in_ok-text.ensures.made.1;
     }

@@ -9,7 +9,9 @@ use Rattle.range_draft.proofs.draft.write_new.Goals as goal
 
 pub returns-then-is_declared : goal.returns-then-is_declared
 returns-then-is_declared c =
-    inl (sym (declared_in_tree c.args.before.now c.args.input.now.name) ∙ sym c.is_declared.ensures ∙ c.if-is_declared.true, refl)
+    let before = c.args.before.now in
+    let input = c.args.input.now in
+    inl (sym (declared_in_tree before input.name) ∙ sym c.is_declared.ensures ∙ c.if-is_declared.true, refl)
 
 pub returns : goal.returns
 returns c =
