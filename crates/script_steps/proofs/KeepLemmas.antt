@@ -1,21 +1,27 @@
 -- Each line of a script leaves a book that can be saved.
 use Rattle.std.proofs.Common.{◌≡◌, ℕ, List, [], ◌∷◌, sym, subst, arith, inl, inr}
-use Rattle.std.specs.Prelude.{Result, Ok, Err}
+use Rattle.std.specs.Prelude.{All, Result, Ok, Err}
+use Rattle.std.specs.List.{AllByRecursion}
+use Rattle.std.proofs.lemmas.List.Elements.{All-nil, All-cons}
 use Rattle.outside.specs.Told.{FileMap}
 use Rattle.payroll_records.specs.declared.day.Day.{Day}
 use Rattle.payroll_records.specs.declared.month.Month.{Month}
 use Rattle.payroll_records.specs.declared.record.Record.{Record}
 use Rattle.payroll_records.specs.declared.table.TableFault.{TableFault}
+use Rattle.payroll_records.specs.declared.values.NamedValue.{NamedValue}
 use Rattle.payroll_records.specs.Tables.{TableSays}
 use Rattle.plan_calendar.specs.Picking.{Entry, plan_of}
+use Rattle.saved_items.specs.SavedBooks.{IsRun, IsValue}
+use Rattle.pay_run.specs.Runs.{IsKeptValue}
 use Rattle.book_year.specs.Accepted.{Accepted}
 use Rattle.pap_plan.specs.declared.refusal.PlanRefusal.{PlanRefusal}
 use Rattle.pap_plan.specs.Acceptance.{Answers, Meaning}
 use Rattle.book_edits.specs.declared.refusal.EditRefusal.{EditRefusal}
-use Rattle.recalc_engine.specs.BookLaws.{IsPlan}
+use Rattle.recalc_engine.specs.BookLaws.{HasKeptValues, HaveKeptValues, IsPlan, runs_listed}
 use Rattle.recalc_engine.specs.Contents.{Contents}
 use Rattle.recalc_engine.specs.EditAnswers as edits
 use Rattle.recalc_engine.specs.EditAnswers.{Edit, EditAnswers}
+use Rattle.recalc_engine.proofs.Laws.{jobs_safe}
 use Rattle.script_lang.specs.Commands as asked
 use Rattle.script_lang.specs.Commands.{Asked}
 use Rattle.script_lang.specs.Lines.{LineSays}
@@ -27,7 +33,7 @@ use Rattle.script_steps.specs.LineSteps.{Does, IsEditAnswered, IsEditStep, IsLoa
 use Rattle.script_steps.specs.LineSteps.{IsTried, IsUsed, PlanUse, bound_text}
 use Rattle.script_steps.specs.FilingSteps.{IsFileStep}
 use Rattle.script_steps.specs.OpenSteps.{IsOpenStep, IsOpened, OpenRefusal, OpenSays}
-use Rattle.script_steps.specs.GoingOn.{AreSteps, ScriptsMakeBooks}
+use Rattle.script_steps.specs.GoingOn.{AreSteps, ScriptJobsAreSafe, ScriptsMakeBooks}
 use Rattle.script_steps.proofs.RunLemmas.{table_runs, words_run}
 use Rattle.script_steps.proofs.SoundLemmas.{IsSound, IsSoundEdit, edit_sound, opened_sound, savable}
 
@@ -139,3 +145,19 @@ first_sound = record {
 
 pub make_books : ScriptsMakeBooks
 make_books files lines answers to h = savable to.book (steps_keep files lines answers start to first_sound h)
+
+-- ---- the jobs of such a book
+
+values_kept : (values : List NamedValue) → AllByRecursion IsValue values → All IsKeptValue values
+values_kept [] h = All-nil IsKeptValue
+values_kept (v ∷ values) h = All-cons IsKeptValue v values h.0.kept (values_kept values h.1)
+
+runs_kept : (runs : List Record) → AllByRecursion IsRun runs → AllByRecursion HasKeptValues runs
+runs_kept [] h = tt
+runs_kept (r ∷ runs) h = (values_kept r.values h.0.each, runs_kept runs h.1)
+
+pub make_safe : ScriptJobsAreSafe
+make_safe files lines answers to h k j is =
+    let s = make_books files lines answers to h in
+    let kept : HaveKeptValues to.book = runs_kept (runs_listed to.book) s.saved.records.each in
+    jobs_safe to.book k j s.book_is kept is

@@ -36,7 +36,7 @@ pub stays_one : (from to to' : Standing) (said a a' : Answer) → Stays from to 
     → Same to to' a a'
 stays_one from to to' said a a' h k = (h.0 ∙ sym k.0, h.1 ∙ sym k.1)
 
-one_some : (x y : List ℕ) → Some x ≡ Some y → x ≡ y
+pub one_some : (x y : List ℕ) → Some x ≡ Some y → x ≡ y
 one_some x y e = cc
 
 -- ---- an edit

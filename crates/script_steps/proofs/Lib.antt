@@ -7,6 +7,8 @@ mod FilingLemmas
 mod DoneLemmas
 mod MadeLemmas
 mod StepLemmas
+mod PromiseLemmas
+mod RefusedLemmas
 mod WriteLemmas
 mod TableLemmas
 mod PlanLemmas

@@ -2,11 +2,14 @@
 use Rattle.std.specs.Prelude.{◌≡◌, ◌↔◌, List, [], ◌∷◌, ◌++◌, ℕ, None, Some, Ok}
 use Rattle.std.specs.List.{AllByRecursion}
 use Rattle.outside.specs.Told.{FileMap}
+use Rattle.payroll_records.specs.declared.record.Key.{Key}
 use Rattle.script_lang.specs.Commands as asked
 use Rattle.script_lang.specs.Lines.{IsLine}
 use Rattle.saved_items.specs.SavedBooks.{IsSaved}
-use Rattle.recalc_engine.specs.BookLaws.{IsBook}
+use Rattle.book_year.specs.Rows.{Job}
+use Rattle.recalc_engine.specs.BookLaws.{IsBook, IsSafeJob}
 use Rattle.recalc_engine.specs.Contents.{Contents, whole_cost}
+use Rattle.recalc_engine.specs.Jobs.{job_of_key}
 use Rattle.book_file.specs.BookTexts.{saved_of}
 use Rattle.book_file.specs.Saving.{SaveSays}
 use Rattle.script_steps.specs.LineTexts.{ok_line}
@@ -61,6 +64,13 @@ abbrev pub ScriptsMakeBooks : Type 0
 ScriptsMakeBooks =
     (files : FileMap) (lines : List (List ℕ)) (answers : List Answer) (to : Standing)
     → AreSteps files start lines to answers → IsSavable to.book
+
+-- and each job of it is safe: its plan is accepted, and its run gets to its end
+abbrev pub ScriptJobsAreSafe : Type 0
+ScriptJobsAreSafe =
+    (files : FileMap) (lines : List (List ℕ)) (answers : List Answer) (to : Standing)
+    → AreSteps files start lines to answers
+    → (k : Key) (j : Job) → job_of_key to.book k ≡ Some j → IsSafeJob j
 
 -- what lines answer follows from the book and from what was filed: not from the work of the edits before
 abbrev pub AnswersFollowBooks : Type 0

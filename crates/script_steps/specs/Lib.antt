@@ -7,6 +7,7 @@ pub mod LineSteps
 pub mod Steps
 pub mod Stops
 pub mod StepClauses
+pub mod Promises
 pub mod StepLaws
 pub mod GoingOn
 pub mod Replies

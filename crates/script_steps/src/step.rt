@@ -5,6 +5,7 @@ ghost use Rattle.outside.specs.Causes.{Caused};
 ghost use Rattle.script_steps.specs.StepClauses.{IsAnswered, IsBroken};
 ghost use Rattle.script_steps.specs.StepLaws.{LinesHaveAStep, LinesHaveOneStep, FilesAreTold};
 ghost use Rattle.script_steps.specs.StepLaws.{LongLinesAreOne, LongLinesNameNoFile};
+ghost use Rattle.script_steps.specs.StepLaws.{PutPlansHold, RefusedLinesChangeNothing};
 ghost use Rattle.script_steps.specs.StepViews.{IsRefusalUnwritten, IsRefusalWritten};
 
 use crate::command::answer_command;
@@ -63,11 +64,15 @@ fn answer_fault<W: Sink>(
     write_reply(reply, sink)
 }
 
-/// Every line whose files are there has one step. A line of more than 65,536 bytes is answered whatever its bytes are.
+/// Every line whose files are there has one step. A line of more than 65,536 bytes is answered whatever its bytes
+/// are. A line that is refused changes nothing. No run of a plan that is put fails within its ranges, and none
+/// takes more steps than were answered.
 pub fn step_laws()
     ensures some { LinesHaveAStep }
     ensures one { LinesHaveOneStep }
     ensures told { FilesAreTold }
     ensures long { LongLinesAreOne }
     ensures long_alone { LongLinesNameNoFile }
+    ensures refused { RefusedLinesChangeNothing }
+    ensures plans { PutPlansHold }
 {}

@@ -1,5 +1,5 @@
 use Rattle.script_steps.proofs.step.step_laws.Goals as goal
-use Rattle.script_steps.proofs.Laws.{some, one, told, long, alone}
+use Rattle.script_steps.proofs.Laws.{some, one, told, long, alone, refused, put_plans}
 
 pub returns-clause-some : goal.returns-clause-some
 returns-clause-some c = some
@@ -15,3 +15,9 @@ returns-clause-long c = long
 
 pub returns-clause-long_alone : goal.returns-clause-long_alone
 returns-clause-long_alone c = alone
+
+pub returns-clause-refused : goal.returns-clause-refused
+returns-clause-refused c = refused
+
+pub returns-clause-plans : goal.returns-clause-plans
+returns-clause-plans c = put_plans
