@@ -23,6 +23,7 @@ use Rattle.std.specs.declared.alloc.AllocError.{AllocError}
 use Rattle.book_year.specs.Accepted.{Accepted, accepted, accepted_entry, plans_in}
 use Rattle.book_year.specs.Jobs.{Counts}
 use Rattle.book_edits.proofs.Laws.{map_put}
+use Rattle.recalc_engine.specs.declared.book.RestoredBook.{RestoredBook}
 use Rattle.recalc_engine.specs.BookLaws.{ArePlans, IsPlan}
 use Rattle.recalc_engine.specs.Contents.{Contents, whole_cost}
 use Rattle.recalc_engine.proofs.Laws.{front_below, put_end}
@@ -148,8 +149,9 @@ front_plans_are (running runs steps plans count records) h = h.1
 rose : {T E : Type 0} (q : Result T E) (f : E) (before now total : ℕ) → q ≡ Err f → Counts q before now total → (before ≤ now) × (now ≤ before + total)
 rose q f before now total was counts = rw was at counts
 
-pub counts_made : {T E : Type 0} (s : Saved) (es : List (Entry Accepted)) (r : Result Contents BookFault) (why : BookFault) (error : AllocError)
-    (q : Result T E) (f : E) (before now : ℕ) → AreEntriesOf s.plans es → r ≡ Err why → why ≡ fault.Memory error → q ≡ Err f →
+pub counts_made : {T E : Type 0} (s : Saved) (es : List (Entry Accepted)) (r : Result RestoredBook BookFault)
+    (why : BookFault) (error : AllocError) (q : Result T E) (f : E) (before now : ℕ) → AreEntriesOf s.plans es →
+    r ≡ Err why → why ≡ fault.Memory error → q ≡ Err f →
     Counts q before now (whole_cost (book_with s es)) → CountsMade s r before now
 counts_made s es r why error q f before now are is memory was counts =
     let within = rose q f before now (whole_cost (book_with s es)) was counts in
@@ -201,8 +203,9 @@ module _ (bytes : List ℕ) (few : length bytes ≤ most_book_text) where
   later s old now (inl same) = omega (arith, same)
   later s old now (inr part) = part.later
 
-  pub counts_read : (s : Saved) (result : Said) (old now : ℕ) → IsText bytes s → CountsMade s result old now → CountsRead bytes result old now
-  counts_read s (Ok book) old now h c = c
+  pub counts_read : (s : Saved) (result : Result RestoredBook BookFault) (old now : ℕ) → IsText bytes s →
+      CountsMade s result old now → CountsRead bytes result old now
+  counts_read s (Ok restored) old now h c = c
   counts_read s (Err (fault.Memory e)) old now h c = (later s old now c, within s old now h c)
   counts_read s (Err fault.Long) old now h c = c
   counts_read s (Err (fault.Form item)) old now h c = c

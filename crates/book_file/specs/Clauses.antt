@@ -1,5 +1,6 @@
 -- What the reading of a saved book promises.
 use Rattle.std.specs.Prelude.{◌≡◌, ◌≤◌, ◌+◌, ℕ, List, length, Result, Ok, Err}
+use Rattle.recalc_engine.specs.declared.book.RestoredBook.{RestoredBook}
 use Rattle.recalc_engine.specs.Contents.{Contents, whole_cost}
 use Rattle.book_file.specs.BookSays.{BookSays}
 use Rattle.book_file.specs.Limits.{most_book_text}
@@ -18,8 +19,8 @@ said_cost (Err why) = 0
 
 -- a counter rose by the cost of all jobs of the book that was read; it stayed where a fault was found; where memory ran out
 -- it rose by at most the cost of the book that the text says, and stayed where it says none
-abbrev pub CountsRead : List ℕ → Result Contents BookFault → ℕ → ℕ → Type 0
-CountsRead bytes (Ok book) before now = now ≡ before + whole_cost book
+abbrev pub CountsRead : List ℕ → Result RestoredBook BookFault → ℕ → ℕ → Type 0
+CountsRead bytes (Ok restored) before now = now ≡ before + whole_cost restored.book
 CountsRead bytes (Err (fault.Memory e)) before now =
     (before ≤ now)
     × ((said : Result Contents BookFault) → BookSays bytes said → now ≤ before + said_cost said)

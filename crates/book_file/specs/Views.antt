@@ -6,6 +6,7 @@ use Rattle.pap_plan.specs.AcceptanceClauses.{IsAcceptedAs}
 use Rattle.pap_plan.specs.Plans.{Seen}
 use Rattle.book_year.specs.Accepted.{Accepted}
 use Rattle.book_year.specs.declared.outcome.Work.{Work}
+use Rattle.recalc_engine.specs.declared.book.RestoredBook.{RestoredBook}
 use Rattle.recalc_engine.specs.BookLaws.{ArePlans}
 use Rattle.recalc_engine.specs.Contents.{Contents, book_of, whole_cost}
 use Rattle.book_file.specs.BookSays.{IsFirstRefused, IsUnacceptable}
@@ -59,7 +60,7 @@ pub record IsPartlyMade (s : Saved) (before now : ℕ) : Type 0 where
 
 -- a counter rose by the cost of all jobs of the book that was made; it stayed where a plan was refused; where memory ran out it
 -- stayed, or it rose by at most that
-abbrev pub CountsMade : Saved → Result Contents BookFault → ℕ → ℕ → Type 0
-CountsMade s (Ok book) before now = now ≡ before + whole_cost book
+abbrev pub CountsMade : Saved → Result RestoredBook BookFault → ℕ → ℕ → Type 0
+CountsMade s (Ok restored) before now = now ≡ before + whole_cost restored.book
 CountsMade s (Err (fault.Memory e)) before now = (now ≡ before) ⊎ IsPartlyMade s before now
 CountsMade s (Err why) before now = now ≡ before

@@ -1,7 +1,8 @@
 //! The book of a text.
-ghost use Rattle.std.specs.Prelude.{IfOk, IfErr, Ok};
+ghost use Rattle.std.specs.Prelude.{◌≡◌, IfOk, IfErr, Ok};
 ghost use Rattle.saved_items.specs.SavedBooks.{IsSaved};
 ghost use Rattle.saved_items.specs.Views.{saved_in};
+ghost use Rattle.recalc_engine.specs.Contents.{whole_work};
 ghost use Rattle.book_file.specs.BookLaws.{FrontsTell, TextsAreOfOneBook};
 ghost use Rattle.book_file.specs.BookLaws.{TextsSayOneThing, TextsSaySomething};
 ghost use Rattle.book_file.specs.BookSays.{BookSays};
@@ -10,21 +11,23 @@ ghost use Rattle.book_file.specs.Views.{CountsMade, HasNoPlan, IsBookOf};
 
 use crate::plans::accept_plans;
 use crate::{BookFault, MOST_BOOK_TEXT};
-use recalc_engine::{Book, Work};
+use recalc_engine::{Book, RestoredBook, Work};
 use saved_items::{ItemFault, Items, read_items};
 use std::alloc::Global;
 use std::sync::ledger::Ledger;
 use steps::Steps;
 
-/// The book whose text these bytes are, with the work of its last edit, or what is wrong with them: they are too many; else the
-/// first item that isn't of its form after the items before it, or the first plan that isn't accepted, whichever comes first.
-/// The counter rises by the cost of all jobs of the book; where memory runs out it may have risen by some of it.
+/// The book whose text these bytes are, with the work of its last edit, and the work of running all its jobs; or what
+/// is wrong with them: they are too many; else the first item that isn't of its form after the items before it, or the
+/// first plan that isn't accepted, whichever comes first. The counter rises by the cost of all jobs of the book; where
+/// memory runs out it may have risen by some of it.
 pub fn read_book<L: Ledger>(
     alloc: Global,
     bytes: &[u8],
     steps: &mut Steps<L>,
-) -> Result<Book, BookFault>
-    ensures read { IfOk result (λ book. BookSays bytes.now (Ok book)) }
+) -> Result<RestoredBook, BookFault>
+    ensures read { IfOk result (λ restored. BookSays bytes.now (Ok restored.book)) }
+    ensures work { IfOk result (λ restored. restored.work ≡ whole_work restored.book) }
     ensures refused { IfErr result (IsUnread bytes.now) }
     ensures counted { CountsRead bytes.now result steps.old steps.new }
 {
@@ -41,14 +44,15 @@ pub fn read_book<L: Ledger>(
     }
 }
 
-/// The book of what is saved, once its plans are accepted.
+/// The book of what is saved, once its plans are accepted, and the work of running all its jobs.
 fn restore<L: Ledger>(
     alloc: Global,
     items: Items<'_>,
     steps: &mut Steps<L>,
-) -> Result<Book, BookFault>
+) -> Result<RestoredBook, BookFault>
     requires { IsSaved (saved_in items) }
-    ensures made { IfOk result (IsBookOf (saved_in items.entry)) }
+    ensures made { IfOk result (λ restored. IsBookOf (saved_in items.entry) restored.book) }
+    ensures work { IfOk result (λ restored. restored.work ≡ whole_work restored.book) }
     ensures refused { IfErr result (HasNoPlan (saved_in items.entry).plans) }
     ensures counted { CountsMade (saved_in items.entry) result steps.old steps.new }
 {

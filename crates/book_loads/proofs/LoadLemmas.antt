@@ -187,16 +187,18 @@ none_free : (items : List Record) → AllByRecursion (IsFree []) items
 none_free [] = tt
 none_free (r ∷ rs) = (refl, none_free rs)
 
--- the years are those of the runs alone
-pub record IsRestored (plans : List (Entry Accepted)) (items : List Record) (new : Years) : Type 0 where
+-- the years are those of the runs alone, and the work is that of all their jobs
+pub record IsRestored (plans : List (Entry Accepted)) (items : List Record) (new : Years) (work : Work) : Type 0 where
   pub kept : AreYears plans new
   pub years : years_of new ≡ loaded items []
+  pub work_is : work ≡ work_of (edit_jobs plans [] (loaded items []))
 
 pub none_kept : (plans : List (Entry Accepted)) (list : List Year) → list ≡ [] → AreKeptYears plans list
 none_kept plans list none = subst (AreKeptYears plans) (sym none) (record { rising = tt; each = tt; some = tt })
 
 pub restored : (plans : List (Entry Accepted)) (old : List Year) (new : Years) (items : List Record) (work : Work) → old ≡ [] → AreDistinct items → length items ≤ most_records →
-    IsListEdit plans old new.list.items (loaded items (runs_in old)) work → new.count ≡ length items → IsRestored plans items new
+    IsListEdit plans old new.list.items (loaded items (runs_in old)) work → new.count ≡ length items →
+    IsRestored plans items new work
 restored plans old new items work none distinct few h count =
     let edit = subst (λ t. IsListEdit plans t new.list.items (loaded items (runs_in t)) work) none h in
     let more = count_loaded items [] (record { rising = tt; days = tt; some = tt }) (none_free items) (distinct_apart items distinct) in
@@ -209,6 +211,7 @@ restored plans old new items work none distinct few h count =
         few = omega (arith, count, few);
       };
       years = edit.years_are;
+      work_is = edit.work_is;
     }
 
 pub restored_counts : {T E : Type 0} (plans : List (Entry Accepted)) (old : List Year) (items : List Record) (r : Result T E) (before now : ℕ) → old ≡ [] →

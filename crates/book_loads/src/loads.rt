@@ -1,7 +1,7 @@
 //! Loading many runs.
 ghost use Rattle.std.specs.Prelude.{◌≡◌, ◌≤◌, [], IfOk, IfErr, OnErr, length};
 ghost use Rattle.book_year.specs.Accepted.{plans_in};
-ghost use Rattle.book_year.specs.Jobs.{Counts, total_cost};
+ghost use Rattle.book_year.specs.Jobs.{Counts, total_cost, work_of};
 ghost use Rattle.book_edits.specs.Books.{loaded};
 ghost use Rattle.book_edits.specs.Kept.{AreSameYears, AreYears, IsYearsEdit, edit_cost};
 ghost use Rattle.book_edits.specs.Kept.{edit_jobs, runs_in, years_of};
@@ -23,6 +23,13 @@ use std::alloc::{AllocError, Global};
 use std::mem;
 use std::sync::ledger::Ledger;
 use steps::Steps;
+
+/// The years of some runs alone, and the work of running each of them that has inputs.
+#[derive(Drop)]
+pub struct RestoredYears {
+    pub years: Years,
+    pub work: Work,
+}
 
 /// Puts all these runs into the book, or none of them.
 pub fn load<L: Ledger>(
@@ -49,25 +56,28 @@ pub fn load<L: Ledger>(
     Ok(work)
 }
 
-/// The years of these runs alone. The counter rises by exactly the steps of all runs that have inputs; where memory runs out it
-/// may have risen by some of them.
+/// The years of these runs alone, and the work of running each of them that has inputs. The counter rises by exactly
+/// the steps of that work; where memory runs out it may have risen by some of them.
 pub fn restore<L: Ledger>(
     alloc: Global,
     plans: &Calendar<Plan>,
     items: Vec<Record>,
     steps: &mut Steps<L>,
-) -> Result<Years, AllocError>
+) -> Result<RestoredYears, AllocError>
     requires distinct { AreDistinct items.items }
     requires few { length items.items ≤ most_records }
-    ensures kept { IfOk result (AreYears (plans_in plans.now)) }
-    ensures years { IfOk result (λ years. years_of years ≡ loaded items.items []) }
+    ensures kept { IfOk result (λ restored. AreYears (plans_in plans.now) restored.years) }
+    ensures years { IfOk result (λ restored. years_of restored.years ≡ loaded items.items []) }
+    ensures work { IfOk result (λ restored. restored.work
+        ≡ work_of (edit_jobs (plans_in plans.now) [] (loaded items.items []))) }
     ensures counted { Counts result steps.old steps.new
         (total_cost (edit_jobs (plans_in plans.now) [] (loaded items.items []))) }
 {
     let count = items.len();
     let mut list = Vec::new(alloc);
-    load_runs(plans, &mut list, items, steps)?;
-    Ok(Years { list, count })
+    let work = load_runs(plans, &mut list, items, steps)?;
+    let years = Years { list, count };
+    Ok(RestoredYears { years, work })
 }
 
 /// Puts all these runs into the years. Without memory the years are as before.

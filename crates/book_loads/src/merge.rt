@@ -69,7 +69,7 @@ fn next_year(alloc: Global, olds: &mut VecDeque<Year>, drafts: &mut VecDeque<Dra
     }
 }
 
-/// Whether a year stands before a key. Where there is none, all stand behind it.
+/// How a year stands to a key: before it, at it or behind it. Where no year is left, the key comes first.
 fn order(year: Option<&Year>, key: YearKey) -> Ordering
     ensures { MatchOption year.entry (result ≡ Greater) (λ y. result ≡ year_cmp y.now.key key) }
 {

@@ -7,7 +7,7 @@ use Rattle.payroll_records.specs.Orders.{day_cmp}
 use Rattle.plan_calendar.specs.Picking.{Entry, pick}
 use Rattle.book_year.specs.Accepted.{Accepted}
 use Rattle.book_year.specs.declared.outcome.Work.{Work}
-use Rattle.book_year.specs.Jobs.{total_cost}
+use Rattle.book_year.specs.Jobs.{total_cost, work_of}
 use Rattle.book_year.specs.Rows.{Job, Row, year_rows}
 use Rattle.book_edits.specs.Books.{YearRuns, loaded, runs_of, year_of}
 use Rattle.book_edits.specs.Kept.{jobs_in}
@@ -52,3 +52,7 @@ cost_between old new = total_cost (jobs_between old new)
 -- the cost of all jobs of a book
 abbrev pub whole_cost : Contents → ℕ
 whole_cost book = cost_between (without_runs book) book
+
+-- how many they are, with that cost
+abbrev pub whole_work : Contents → Work
+whole_work book = work_of (jobs_between (without_runs book) book)

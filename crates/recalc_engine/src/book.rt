@@ -10,7 +10,7 @@ ghost use Rattle.book_loads.specs.Loads.{AreDistinct};
 ghost use Rattle.recalc_engine.specs.BookLaws.{ArePlans, BooksAreTheirParts, HaveKeptValues, IsBook, JobsAreDone};
 ghost use Rattle.recalc_engine.specs.BookLaws.{JobsAreSafe, NewJobsAreByKey, RowsAreCounted, RowsAreRuns, RowsRise};
 ghost use Rattle.recalc_engine.specs.BookLaws.{RunsAreDistinct, SameTextsChangeNothing};
-ghost use Rattle.recalc_engine.specs.Contents.{book_of, cost_between, row_at, whole_cost};
+ghost use Rattle.recalc_engine.specs.Contents.{book_of, cost_between, row_at, whole_cost, whole_work};
 ghost use Rattle.recalc_engine.specs.EditAnswers.{EditsHaveOneAnswer, IsEdited, edited};
 ghost use Rattle.recalc_engine.specs.EditAnswers.{add, change, drop, load, put, withdraw};
 ghost use Rattle.recalc_engine.specs.MonthRows.{month_rows};
@@ -22,7 +22,7 @@ use crate::job::{Job, inputs_on, job_of, year_at};
 use crate::months::Months;
 use crate::values::each_year_is_kept;
 use book_edits::{EditRefusal, InMonth, Years, drop_plan, put_plan};
-use book_loads::{load, restore};
+use book_loads::{RestoredYears, load, restore};
 use book_year::Work;
 use pap_plan::Plan;
 use payroll_records::{Day, Employee, Key, Month, Record, When};
@@ -38,6 +38,13 @@ pub struct Book {
     years: Years,
     plans: Calendar<Plan>,
     last: Work,
+}
+
+/// A book of which every run that has inputs was run, and the work of that.
+#[derive(Drop)]
+pub struct RestoredBook {
+    pub book: Book,
+    pub work: Work,
 }
 
 impl Model for Book {
@@ -75,23 +82,28 @@ impl Book {
         }
     }
 
-    /// A book of these runs and plans, whose last work was this. Each run that has inputs is run, and the counter rises by
-    /// exactly their steps; where memory runs out it may have risen by some of them.
+    /// A book of these runs and plans, whose last work was this. Each run that has inputs is run: the answer has the
+    /// work of that, and the counter rises by exactly its steps; where memory runs out it may have risen by some of
+    /// them.
     pub fn restore<L: Ledger>(
         alloc: Global,
         runs: Vec<Record>,
         plans: Calendar<Plan>,
         last: Work,
         steps: &mut Steps<L>,
-    ) -> Result<Book, AllocError>
+    ) -> Result<RestoredBook, AllocError>
         requires distinct { AreDistinct runs.items }
         requires few { length runs.items ≤ most_records }
-        ensures ok { IfOk result (λ book. book ≡ book_of runs.items (plans_in plans) last) }
+        ensures ok { IfOk result
+            (λ restored. restored.book ≡ book_of runs.items (plans_in plans) last) }
+        ensures work { IfOk result
+            (λ restored. restored.work ≡ whole_work (book_of runs.items (plans_in plans) last)) }
         ensures counted { Counts result steps.old steps.new
             (whole_cost (book_of runs.items (plans_in plans) last)) }
     {
-        let years = restore(alloc, &plans, runs, steps)?;
-        Ok(Book { years, plans, last })
+        let RestoredYears { years, work } = restore(alloc, &plans, runs, steps)?;
+        let book = Book { years, plans, last };
+        Ok(RestoredBook { book, work })
     }
 
     /// Each book is as `IsBook` says.

@@ -7,7 +7,7 @@ mod job;
 mod months;
 mod values;
 
-pub use book::{Book, book_laws, edit_laws};
+pub use book::{Book, RestoredBook, book_laws, edit_laws};
 pub use book_edits::{EditRefusal, InMonth};
 pub use book_year::{State, Work};
 pub use job::Job;

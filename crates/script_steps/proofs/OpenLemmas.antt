@@ -7,8 +7,9 @@ use Rattle.payroll_records.specs.declared.month.Month.{Month}
 use Rattle.plan_calendar.specs.Picking.{Entry}
 use Rattle.pap_plan.specs.Plans.{Seen}
 use Rattle.book_year.specs.Accepted.{Accepted, plans_in}
+use Rattle.book_year.specs.declared.outcome.Work.{Work}
 use Rattle.book_edits.specs.Books.{run_count}
-use Rattle.recalc_engine.specs.Contents.{Contents, whole_cost}
+use Rattle.recalc_engine.specs.Contents.{Contents, whole_cost, whole_work}
 use Rattle.book_file.specs.BookSays.{BookSays}
 use Rattle.book_file.specs.Clauses.{CountsRead, IsUnread, said_cost}
 use Rattle.book_file.specs.declared.refusal.BookFault.{BookFault}
@@ -21,10 +22,10 @@ use Rattle.plan_answers.proofs.Laws.{if_ok_map}
 use Rattle.script_steps.specs.LineTexts.{book_detail, ok_line}
 use Rattle.script_steps.specs.OpenSteps.{IsEmpty, IsFresh, IsOpenStep, IsOpened, OpenRefusal, OpenSays, open_detail}
 use Rattle.script_steps.specs.OpenSteps.{not_empty, filed, faulty}
-use Rattle.script_steps.specs.Standings.{Standing, Doing, accepted, with_book}
-use Rattle.script_steps.specs.StepViews.{IsBookRefusal, IsMadeUntold, IsWant, counting}
+use Rattle.script_steps.specs.Standings.{Standing, accepted, with_book}
+use Rattle.script_steps.specs.StepViews.{IsBookRefusal, IsMade, IsWant}
 use Rattle.script_steps.proofs.KindLemmas.{Has, Same, stays_one}
-use Rattle.script_steps.proofs.MadeLemmas.{made_map, made_still}
+use Rattle.script_steps.proofs.MadeLemmas.{made_still}
 
 -- ---- an empty book
 
@@ -130,27 +131,16 @@ open_front n more from text to a h = record { verdict = h.verdict; says = by h.v
 
 -- ---- replies
 
-pub untold_map : (P Q : Doing) (to : Standing) (before now : ℕ) (reply : Answer)
-    → ((to : Standing) (a : Answer) → P to a → Q to a) → IsMadeUntold P to before now reply
-    → IsMadeUntold Q to before now reply
-untold_map P Q to before now reply f m = record {
-  steps = m.steps;
-  made = made_map P Q to before now (counting reply m.steps) f m.made;
-}
-
 -- no book is opened
 pub open_refused : (from : Standing) (text : List ℕ) (steps : ℕ) (why : OpenRefusal) (reply : Result LineReply AllocError)
     → OpenSays from text (Err why) → IfOk reply (λ r. reply_of r ≡ refusal (open_detail why))
-    → IfOk reply (λ r. IsMadeUntold (IsOpenStep from text) from steps steps (reply_of r))
+    → IfOk reply (λ r. IsMade (IsOpenStep from text) from steps steps (reply_of r))
 open_refused from text steps why reply h = if_ok_map reply _ _ (λ r is. made (reply_of r) is)
   where
-    made : (a : Answer) → a ≡ refusal (open_detail why) → IsMadeUntold (IsOpenStep from text) from steps steps a
+    made : (a : Answer) → a ≡ refusal (open_detail why) → IsMade (IsOpenStep from text) from steps steps a
     made a is =
-        record {
-          steps = 0;
-          made = made_still (IsOpenStep from text) from steps (counting a 0)
-              (record { verdict = Err why; says = h; is = (refl, ap (λ x. counting x 0) is) }) refl;
-        }
+        let none : a.steps ≡ 0 = ap (λ (x : Answer). x.steps) is in
+        made_still (IsOpenStep from text) from steps a (record { verdict = Err why; says = h; is = (refl, is) }) none
 
 module _ (from : Standing) (text : List ℕ) (fresh : IsFresh from) (before now : ℕ) where
   -- the text isn't that of a book
@@ -169,35 +159,30 @@ module _ (from : Standing) (text : List ℕ) (fresh : IsFresh from) (before now 
 
   pub fault_made : (why : BookFault) (reply : Result LineReply AllocError) → IsUnread text why
       → CountsRead text (Err why) before now → IfOk reply (λ r. IsBookRefusal why (reply_of r))
-      → IfOk reply (λ r. IsMadeUntold (IsOpenStep from text) from before now (reply_of r))
+      → IfOk reply (λ r. IsMade (IsOpenStep from text) from before now (reply_of r))
   fault_made why reply h counts = if_ok_map reply _ _ (λ r is. made (reply_of r) is)
     where
-      made : (a : Answer) → IsBookRefusal why a → IsMadeUntold (IsOpenStep from text) from before now a
+      made : (a : Answer) → IsBookRefusal why a → IsMade (IsOpenStep from text) from before now a
       made a is =
           let s = says_fault why a h is in
           let stays = still why a counts is in
+          let none : a.steps ≡ 0 = ap (λ (x : Answer). x.steps) s.1 in
           record {
-            steps = 0;
-            made = record {
-              is = record { verdict = Err (faulty why); says = (fresh, s.0); is = (refl, ap (λ x. counting x 0) s.1) };
-              counted = omega (arith, stays);
-            };
+            is = record { verdict = Err (faulty why); says = (fresh, s.0); is = (refl, s.1) };
+            counted = omega (arith, stays, none);
           }
 
   -- the book is opened
-  pub book_made : (book : Contents) (a : Answer) → BookSays text (Ok book) → now ≡ before + whole_cost book
-      → a ≡ accepted ok_line 0 → IsMadeUntold (IsOpenStep from text) (with_book from book) before now a
-  book_made book a h counts is = record {
-    steps = whole_cost book;
-    made = record {
-      is = record {
-        verdict = Ok book;
-        says = (fresh, h);
-        is = (refl, ap (λ x. counting x (whole_cost book)) is);
-      };
-      counted = counts;
-    };
-  }
+  pub book_made : (book : Contents) (work : Work) (a : Answer) → BookSays text (Ok book) → work ≡ whole_work book
+      → now ≡ before + whole_cost book → a ≡ accepted ok_line work.steps
+      → IsMade (IsOpenStep from text) (with_book from book) before now a
+  book_made book work a h all counts is =
+      let told : a ≡ accepted ok_line (whole_cost book) = is ∙ ap (λ (w : Work). accepted ok_line w.steps) all in
+      let steps : a.steps ≡ whole_cost book = ap (λ (x : Answer). x.steps) told in
+      record {
+        is = record { verdict = Ok book; says = (fresh, h); is = (refl, told) };
+        counted = counts ∙ ap (λ n. before + n) (sym steps);
+      }
 
   pub book_lost : (book : Contents) → BookSays text (Ok book) → now ≡ before + whole_cost book
       → IsWant (IsOpenStep from text) before now

@@ -35,15 +35,6 @@ pub record IsMade (Step : Doing) (to : Standing) (before now : ℕ) (answer : An
   pub is : Step to answer
   pub counted : now ≡ before + answer.steps
 
--- the answer of a reply that doesn't tell its steps
-abbrev pub counting : Answer → ℕ → Answer
-counting reply steps = record { text = reply.text; refused = reply.refused; steps = steps }
-
--- the line has left this and has the answer of this reply with some steps, which were counted
-pub record IsMadeUntold (Step : Doing) (to : Standing) (before now : ℕ) (reply : Answer) : Type 0 where
-  pub steps : ℕ
-  pub made : IsMade Step to before now (counting reply steps)
-
 -- the line leaves something and has some answer, at most whose steps were counted
 pub record IsLost (Step : Doing) (before now : ℕ) : Type 0 where
   pub to : Standing

@@ -3,7 +3,6 @@ ghost use Rattle.std.specs.Prelude.{◌≡◌, ◌≢◌, ℕ, List, IfOk, Ok, E
 ghost use Rattle.std.specs.Result.{ForErr};
 ghost use Rattle.outside.specs.Causes.{Caused};
 ghost use Rattle.script_steps.specs.Replies.{reply_of};
-ghost use Rattle.script_lang.specs.Commands as asked;
 ghost use Rattle.script_lang.specs.Commands.{asked_of};
 ghost use Rattle.script_lang.specs.Lines.{IsLine};
 ghost use Rattle.script_steps.specs.LineTexts.{work_line};
@@ -52,10 +51,6 @@ pub(crate) fn answer_command<F: Files, W: Sink, L: Ledger>(
 {
     match command {
         Command::Report => report(alloc, &script.book, sink),
-        Command::Open { file } => {
-            let reply = open(alloc, script, &file, files, steps)?;
-            write_reply(reply, sink)
-        }
         command => {
             let reply = make_reply(alloc, script, command, files, steps)?;
             write_reply(reply, sink)
@@ -63,7 +58,7 @@ pub(crate) fn answer_command<F: Files, W: Sink, L: Ledger>(
     }
 }
 
-/// Does what a line asks for whose reply tells its steps, and that isn't the report.
+/// Does what a line asks for that isn't the report.
 fn make_reply<F: Files, L: Ledger>(
     alloc: Global,
     script: &mut Script,
@@ -71,8 +66,7 @@ fn make_reply<F: Files, L: Ledger>(
     files: &mut F,
     steps: &mut Steps<L>,
 ) -> Result<LineReply, LineStop>
-    requires alone { command ≢ Command.Report }
-    requires told { (file : List ℕ) → asked_of command ≢ asked.opening file }
+    requires { command ≢ Command.Report }
     ensures made { IfOk result (λ reply. IsMade
         (ToldDoes (F.told files.old) script.old (Ok (asked_of command)))
         script.new steps.old steps.new (reply_of reply)) }
@@ -97,11 +91,12 @@ fn make_reply<F: Files, L: Ledger>(
             Ok(withdraw(alloc, script, employee, when, steps)?)
         }
         Command::Load { file } => load(alloc, script, &file, files, steps),
-        Command::Report | Command::Open { .. } => unreachable!(),
+        Command::Report => unreachable!(),
         Command::Work => Ok(work(alloc, &script.book)?),
         Command::Trace { employee, when } => Ok(trace(alloc, &script.book, employee, when)?),
         Command::File { month } => Ok(file(alloc, script, month)?),
         Command::Owed => Ok(owed(alloc, script)?),
+        Command::Open { file } => open(alloc, script, &file, files, steps),
         Command::Try {
             day,
             plan: file,

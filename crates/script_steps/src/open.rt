@@ -6,7 +6,7 @@ ghost use Rattle.plan_answers.specs.Answers.{refusal};
 ghost use Rattle.script_steps.specs.Replies.{reply_of};
 ghost use Rattle.script_lang.specs.Commands as asked;
 ghost use Rattle.script_steps.specs.OpenSteps.{IsEmpty, IsFresh, IsOpenStep};
-ghost use Rattle.script_steps.specs.StepViews.{IsMadeUntold, IsUnmade, IsWant, ToldDoes};
+ghost use Rattle.script_steps.specs.StepViews.{IsMade, IsUnmade, IsWant, ToldDoes};
 
 use crate::edits::OK;
 use crate::refusals::book_refusal;
@@ -33,7 +33,7 @@ pub(crate) fn open<F: Files, L: Ledger>(
     files: &mut F,
     steps: &mut Steps<L>,
 ) -> Result<LineReply, LineStop>
-    ensures made { IfOk result (λ reply. IsMadeUntold
+    ensures made { IfOk result (λ reply. IsMade
         (ToldDoes (F.told files.old) script.old (Ok (asked.opening file.now)))
         script.new steps.old steps.new (reply_of reply)) }
     ensures unmade { ForErr result (IsUnmade (F.told files.old)
@@ -54,7 +54,7 @@ fn open_text<L: Ledger>(
     text: &[u8],
     steps: &mut Steps<L>,
 ) -> Result<LineReply, AllocError>
-    ensures made { IfOk result (λ reply. IsMadeUntold (IsOpenStep script.old text.now)
+    ensures made { IfOk result (λ reply. IsMade (IsOpenStep script.old text.now)
         script.new steps.old steps.new (reply_of reply)) }
     ensures lost { OnErr result
         (IsWant (IsOpenStep script.old text.now) steps.old steps.new) }
@@ -76,15 +76,15 @@ fn open_fresh<L: Ledger>(
     steps: &mut Steps<L>,
 ) -> Result<LineReply, AllocError>
     requires { IsFresh script.old }
-    ensures made { IfOk result (λ reply. IsMadeUntold (IsOpenStep script.old text.now)
+    ensures made { IfOk result (λ reply. IsMade (IsOpenStep script.old text.now)
         script.new steps.old steps.new (reply_of reply)) }
     ensures lost { OnErr result
         (IsWant (IsOpenStep script.old text.now) steps.old steps.new) }
 {
     match read_book(alloc, text, steps) {
-        Ok(book) => {
-            script.book = book;
-            Ok(accepted(Vec::from_slice(alloc, OK)?, 0))
+        Ok(restored) => {
+            script.book = restored.book;
+            Ok(accepted(Vec::from_slice(alloc, OK)?, restored.work.steps))
         }
         Err(BookFault::Memory(error)) => Err(error),
         Err(fault) => book_refusal(alloc, &fault),

@@ -3,6 +3,7 @@ use Rattle.std.proofs.lemmas.Result.{err_from_is_err_and}
 use Rattle.saved_items.specs.Texts.{Stop}
 use Rattle.saved_items.specs.Views.{IsRefused, plan_in, saved_in}
 use Rattle.book_year.specs.Accepted.{plans_in}
+use Rattle.recalc_engine.specs.declared.book.RestoredBook.{RestoredBook}
 use Rattle.book_file.specs.BookSays.{BookSays}
 use Rattle.book_file.specs.Clauses.{IsUnread}
 use Rattle.book_file.specs.Views.{AreEntriesOf, HasNoPlan, IsBookOf}
@@ -24,8 +25,10 @@ pub returns-in-Ok-clause-read : goal.returns-in-Ok-clause-read
 returns-in-Ok-clause-read g c =
     let bytes = c.args.bytes.now in
     let saved = saved_in c.in-Ok.items in
-    ok_more c.restore.result (IsBookOf saved) (λ book. BookSays bytes (Ok book))
-    (λ book of. says_book bytes (omega (arith, c.if-bytes-gt-MOST_BOOK_TEXT.false)) saved book c.in-Ok.ensures.ok of) c.restore.ensures.made
+    ok_more c.restore.result (λ (r : RestoredBook). IsBookOf saved r.book)
+    (λ (r : RestoredBook). BookSays bytes (Ok r.book))
+    (λ r of. says_book bytes (omega (arith, c.if-bytes-gt-MOST_BOOK_TEXT.false)) saved r.book c.in-Ok.ensures.ok of)
+    c.restore.ensures.made
 
 pub returns-in-Ok-clause-refused : goal.returns-in-Ok-clause-refused
 returns-in-Ok-clause-refused g c =

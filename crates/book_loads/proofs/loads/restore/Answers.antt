@@ -1,8 +1,8 @@
 use Rattle.std.proofs.Common.{Ok, Result, arith}
 use Rattle.std.specs.declared.alloc.AllocError.{AllocError}
 use Rattle.book_year.specs.Accepted.{plans_in}
-use Rattle.book_year.specs.declared.outcome.Work.{Work}
 use Rattle.book_edits.specs.declared.years.Years.{Years}
+use Rattle.book_loads.specs.declared.loads.RestoredYears.{RestoredYears}
 use Rattle.book_loads.proofs.LoadLemmas.{none_kept, restored, restored_counts}
 use Rattle.book_loads.proofs.loads.restore.Goals as goal
 
@@ -20,10 +20,14 @@ returns g c =
     let old = c.new-list.result.items in
     let none = c.new-list.ensures.items in
     let new : Years = record { list = c.load_runs.new.list; count = c.len-count.result } in
-    let r : Result Work AllocError = Ok c.in_ok-load_runs.field-0 in
-    let whole = restored plans old new items c.in_ok-load_runs.field-0 none c.requires.distinct c.requires.few c.in_ok-load_runs.ensures.ok (omega (arith, c.len-count.ensures, c.args.items.ok.0)) in
+    let work = c.in_ok-work.work in
+    let r : Result RestoredYears AllocError = Ok (record { years = new; work = work }) in
+    let whole = restored plans old new items work none c.requires.distinct c.requires.few c.in_ok-work.ensures.ok
+    (omega (arith, c.len-count.ensures, c.args.items.ok.0)) in
     record {
       kept = whole.kept;
       years = whole.years;
-      counted = restored_counts plans old items r c.args.steps.now c.load_runs.new.steps none c.in_ok-load_runs.ensures.counted;
+      work = whole.work_is;
+      counted = restored_counts plans old items r c.args.steps.now c.load_runs.new.steps none
+          c.in_ok-work.ensures.counted;
     }

@@ -1,4 +1,4 @@
-use Rattle.std.proofs.Common.{◌++◌, ◌∙◌, refl, sym, ap, subst}
+use Rattle.std.proofs.Common.{◌++◌, ◌∙◌, refl, ap, subst}
 use Rattle.std.specs.Prelude.{Ok, Err, IfOk, is_some}
 use Rattle.std.specs.Result.{ForErr}
 use Rattle.std.proofs.lemmas.Result.{err_from_is_err_and}
@@ -10,7 +10,7 @@ use Rattle.script_steps.specs.LineSteps.{report_answer}
 use Rattle.report_csv.specs.ReportTexts.{report_text}
 use Rattle.script_steps.specs.LineTexts.{end_line}
 use Rattle.script_steps.specs.Standings.{Standing}
-use Rattle.script_steps.specs.StepViews.{IsWritten, IsUnwritten, ToldDoes, counting}
+use Rattle.script_steps.specs.StepViews.{IsWritten, IsUnwritten, ToldDoes}
 use Rattle.script_steps.proofs.WriteLemmas.{never_file}
 use Rattle.script_steps.proofs.MadeLemmas.{made_answered, made_broken, report_made, unmade_broken, unmade_cause}
 use Rattle.script_steps.proofs.command.answer_command.Goals as goal
@@ -38,82 +38,40 @@ returns-in-Report-clause-broken g c = λ line says.
 pub returns-in_err-reply-in_default-clause-broken : goal.returns-in_err-reply-in_default-clause-broken
 returns-in_err-reply-in_default-clause-broken g c = λ line says.
     let stop = c.in_err-reply-in_default.field-0.0 in
-    let p = err_from_is_err_and c.from_residual-in_err-reply-in_default.result c.from_residual-in_err-reply-in_default.ensures.1 in
+    let p = err_from_is_err_and c.from_residual.result c.from_residual.ensures.1 in
     unmade_broken (g.F.Files.told c.args.files.now) (g.W.Sink.written c.args.sink.now) c.args.steps.now
     c.make_reply.new.steps c.args.script.now (g.F.Files.failed c.make_reply.new.files) (asked_of c.args.command)
-    stop (c.in_err-reply-in_default.ensures.unmade stop refl) c.from_residual-in_err-reply-in_default.result
+    stop (c.in_err-reply-in_default.ensures.unmade stop refl) c.from_residual.result
     (p.1 ∙ ap (λ s. Err s) p.2) line says
 
 pub returns-in_err-reply-in_default-clause-write : goal.returns-in_err-reply-in_default-clause-write
 returns-in_err-reply-in_default-clause-write g c =
     let stop = c.in_err-reply-in_default.field-0.0 in
-    let p = err_from_is_err_and c.from_residual-in_err-reply-in_default.result c.from_residual-in_err-reply-in_default.ensures.1 in
+    let p = err_from_is_err_and c.from_residual.result c.from_residual.ensures.1 in
     unmade_cause (g.F.Files.told c.args.files.now) (ToldDoes (g.F.Files.told c.args.files.now) c.args.script.now
     (Ok (asked_of c.args.command))) (asked_of c.args.command) c.args.steps.now c.make_reply.new.steps
     (g.F.Files.failed c.make_reply.new.files) stop (c.in_err-reply-in_default.ensures.unmade stop refl)
-    c.from_residual-in_err-reply-in_default.result
+    c.from_residual.result
     (p.1 ∙ ap (λ s. Err s) p.2) (g.W.Sink.faults c.args.sink.now)
 
 pub returns-in_ok-reply-in_default-clause-answered : goal.returns-in_ok-reply-in_default-clause-answered
 returns-in_ok-reply-in_default-clause-answered g c = λ line says.
     made_answered (g.F.Files.told c.args.files.now) (g.W.Sink.written c.args.sink.now)
-    (g.W.Sink.written c.write_reply-in_default.new.sink) c.args.steps.now c.make_reply.new.steps c.args.script.now
+    (g.W.Sink.written c.write_reply.new.sink) c.args.steps.now c.make_reply.new.steps c.args.script.now
     c.make_reply.new.script (g.F.Files.failed c.make_reply.new.files) (asked_of c.args.command)
-    (reply_of c.in_ok-reply-in_default.reply) c.in_ok-reply-in_default.ensures.made c.write_reply-in_default.result
-    c.write_reply-in_default.ensures.ok line says
+    (reply_of c.in_ok-reply-in_default.reply) c.in_ok-reply-in_default.ensures.made c.write_reply.result
+    c.write_reply.ensures.ok line says
 
 pub returns-in_ok-reply-in_default-clause-broken : goal.returns-in_ok-reply-in_default-clause-broken
 returns-in_ok-reply-in_default-clause-broken g c = λ line says.
     made_broken (g.F.Files.told c.args.files.now) (g.W.Sink.written c.args.sink.now)
-    (g.W.Sink.written c.write_reply-in_default.new.sink) c.args.steps.now c.make_reply.new.steps c.args.script.now
+    (g.W.Sink.written c.write_reply.new.sink) c.args.steps.now c.make_reply.new.steps c.args.script.now
     c.make_reply.new.script (g.F.Files.failed c.make_reply.new.files) (asked_of c.args.command)
-    (reply_of c.in_ok-reply-in_default.reply) c.in_ok-reply-in_default.ensures.made c.write_reply-in_default.result
-    c.write_reply-in_default.ensures.err line says
+    (reply_of c.in_ok-reply-in_default.reply) c.in_ok-reply-in_default.ensures.made c.write_reply.result
+    c.write_reply.ensures.err line says
 
 pub returns-in-Report-clause-file : goal.returns-in-Report-clause-file
 returns-in-Report-clause-file g c =
     never_file (IsUnwritten (g.W.Sink.written c.args.sink.now) (g.W.Sink.written c.report.new.sink)
     (report_text c.script.inside.book ++ end_line)) c.report.result (g.F.Files.faults c.args.files.now) (λ h. h)
     c.report.ensures.err
-
--- `open`
-
-pub returns-in_err-reply-in-Open-clause-broken : goal.returns-in_err-reply-in-Open-clause-broken
-returns-in_err-reply-in-Open-clause-broken g c = λ line says.
-    let stop = c.in_err-reply-in-Open.field-0.0 in
-    let p = err_from_is_err_and c.from_residual.result c.from_residual.ensures.1 in
-    let is = ap asked_of c.in-Open.is ∙ ap asked.opening (sym c.deref.ensures) in
-    unmade_broken (g.F.Files.told c.args.files.now) (g.W.Sink.written c.args.sink.now) c.args.steps.now
-    c.open.new.steps c.args.script.now (g.F.Files.failed c.open.new.files) (asked.opening c.deref.result.now)
-    stop (c.in_err-reply-in-Open.ensures.unmade stop refl) c.from_residual.result
-    (p.1 ∙ ap (λ s. Err s) p.2) line (subst (λ w. IsLine line w) is says)
-
-pub returns-in_err-reply-in-Open-clause-write : goal.returns-in_err-reply-in-Open-clause-write
-returns-in_err-reply-in-Open-clause-write g c =
-    let stop = c.in_err-reply-in-Open.field-0.0 in
-    let p = err_from_is_err_and c.from_residual.result c.from_residual.ensures.1 in
-    let what = asked.opening c.deref.result.now in
-    unmade_cause (g.F.Files.told c.args.files.now) (ToldDoes (g.F.Files.told c.args.files.now) c.args.script.now
-    (Ok what)) what c.args.steps.now c.open.new.steps (g.F.Files.failed c.open.new.files) stop
-    (c.in_err-reply-in-Open.ensures.unmade stop refl) c.from_residual.result (p.1 ∙ ap (λ s. Err s) p.2)
-    (g.W.Sink.faults c.args.sink.now)
-
-pub returns-in_ok-reply-in-Open-clause-answered : goal.returns-in_ok-reply-in-Open-clause-answered
-returns-in_ok-reply-in-Open-clause-answered g c = λ line says.
-    let m = c.in_ok-reply-in-Open.ensures.made in
-    let is = ap asked_of c.in-Open.is ∙ ap asked.opening (sym c.deref.ensures) in
-    made_answered (g.F.Files.told c.args.files.now) (g.W.Sink.written c.args.sink.now)
-    (g.W.Sink.written c.write_reply.new.sink) c.args.steps.now c.open.new.steps c.args.script.now
-    c.open.new.script (g.F.Files.failed c.open.new.files) (asked.opening c.deref.result.now)
-    (counting (reply_of c.in_ok-reply-in-Open.reply) m.steps) m.made c.write_reply.result c.write_reply.ensures.ok
-    line (subst (λ w. IsLine line w) is says)
-
-pub returns-in_ok-reply-in-Open-clause-broken : goal.returns-in_ok-reply-in-Open-clause-broken
-returns-in_ok-reply-in-Open-clause-broken g c = λ line says.
-    let m = c.in_ok-reply-in-Open.ensures.made in
-    let is = ap asked_of c.in-Open.is ∙ ap asked.opening (sym c.deref.ensures) in
-    made_broken (g.F.Files.told c.args.files.now) (g.W.Sink.written c.args.sink.now)
-    (g.W.Sink.written c.write_reply.new.sink) c.args.steps.now c.open.new.steps c.args.script.now
-    c.open.new.script (g.F.Files.failed c.open.new.files) (asked.opening c.deref.result.now)
-    (counting (reply_of c.in_ok-reply-in-Open.reply) m.steps) m.made c.write_reply.result c.write_reply.ensures.err
-    line (subst (λ w. IsLine line w) is says)

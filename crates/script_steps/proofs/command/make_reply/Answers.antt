@@ -1,4 +1,4 @@
-use Rattle.std.proofs.Common.{◌∙◌, sym, ap, subst, inl, inr}
+use Rattle.std.proofs.Common.{◌∙◌, sym, ap, subst}
 use Rattle.std.specs.Prelude.{Ok, string_bytes}
 use Rattle.std.specs.Result.{ForErr}
 use Rattle.script_lang.specs.Commands as asked
@@ -23,6 +23,13 @@ returns-in-Load-clause-unmade g c =
     (g.F.Files.failed c.load.new.files)))
     (ap (λ f. asked.load f) c.deref-in-Load.ensures ∙ sym (ap asked_of c.in-Load.is)) c.load.ensures.unmade
 
+pub returns-in-Open-clause-unmade : goal.returns-in-Open-clause-unmade
+returns-in-Open-clause-unmade g c =
+    subst (λ (w : Asked). ForErr c.open.result (IsUnmade (g.F.Files.told c.args.files.now)
+    (ToldDoes (g.F.Files.told c.args.files.now) c.args.script.now (Ok w)) w c.args.steps.now c.open.new.steps
+    (g.F.Files.failed c.open.new.files)))
+    (ap (λ f. asked.opening f) c.deref-in-Open.ensures ∙ sym (ap asked_of c.in-Open.is)) c.open.ensures.unmade
+
 pub returns-in-Try-clause-unmade : goal.returns-in-Try-clause-unmade
 returns-in-Try-clause-unmade g c =
     let told = g.F.Files.told c.args.files.now in
@@ -32,9 +39,3 @@ returns-in-Try-clause-unmade g c =
     subst (λ (w : Asked). ForErr c.trial.result (IsUnmade told (ToldDoes told c.args.script.now (Ok w)) w
     c.args.steps.now c.trial.new.steps (g.F.Files.failed c.trial.new.files)))
     (files ∙ sym (ap asked_of c.in-Try.is)) c.trial.ensures.unmade
-
-pub unreachable-requires : goal.unreachable-requires
-unreachable-requires g c = elim c.in-Report.is [
-  | inl e ↦ c.requires.alone e
-  | inr e ↦ c.requires.told (string_bytes e.0) (ap asked_of e.1)
-]

@@ -7,8 +7,7 @@ use Rattle.script_steps.specs.Replies.{reply_of}
 use Rattle.script_steps.specs.OpenSteps.{IsOpenStep}
 use Rattle.script_steps.specs.StepViews.{ToldDoes}
 use Rattle.script_steps.proofs.FileLemmas.{open_told}
-use Rattle.script_steps.proofs.MadeLemmas.{want_map, unread, wanting}
-use Rattle.script_steps.proofs.OpenLemmas.{untold_map}
+use Rattle.script_steps.proofs.MadeLemmas.{made_map, want_map, unread, wanting}
 use Rattle.script_steps.proofs.open.open.Goals as goal
 
 pub returns-in_err-text-clause-unmade : goal.returns-in_err-text-clause-unmade
@@ -44,6 +43,6 @@ returns-clause-made g c =
     let front = c.deref.result.now in
     let read = subst (λ b. IsToldFront told c.args.file.now 268435457 b) (sym c.deref.ensures.value)
     c.in_ok-text.ensures.front in
-    untold_map (IsOpenStep c.args.script.now front) (ToldDoes told c.args.script.now (Ok what)) c.open_text.new.script
+    made_map (IsOpenStep c.args.script.now front) (ToldDoes told c.args.script.now (Ok what)) c.open_text.new.script
     c.args.steps.now c.open_text.new.steps (reply_of c.in_ok-open_text.field-0)
     (open_told told c.args.script.now c.args.file.now front read) c.in_ok-open_text.ensures.made

@@ -3,24 +3,26 @@ use Rattle.script_steps.specs.Replies.{reply_of}
 use Rattle.plan_answers.proofs.Laws.{on_err_any}
 use Rattle.script_steps.specs.OpenSteps.{IsOpenStep}
 use Rattle.script_steps.specs.Standings.{Standing, accepted, with_book}
-use Rattle.script_steps.specs.StepViews.{IsMadeUntold}
+use Rattle.script_steps.specs.StepViews.{IsMade}
 use Rattle.script_steps.proofs.OpenLemmas.{book_lost, book_made, fault_made, read_lost}
 use Rattle.script_steps.proofs.open.open_fresh.Goals as goal
 
 pub returns-in_err-from_slice-in-Ok-clause-lost : goal.returns-in_err-from_slice-in-Ok-clause-lost
 returns-in_err-from_slice-in-Ok-clause-lost g c =
     on_err_any c.from_residual.result _
-    (book_lost c.args.script.now c.args.text.now c.requires c.args.steps.now c.read_book.new.steps c.in-Ok.book
-    c.in-Ok.ensures.read c.in-Ok.ensures.counted)
+    (book_lost c.args.script.now c.args.text.now c.requires c.args.steps.now c.read_book.new.steps
+    c.in-Ok.restored.book c.in-Ok.ensures.read c.in-Ok.ensures.counted)
 
 pub returns-in_ok-from_slice-in-Ok-clause-made : goal.returns-in_ok-from_slice-in-Ok-clause-made
 returns-in_ok-from_slice-in-Ok-clause-made g c =
     let text = c.args.text.now in
-    subst (λ (s : Standing). IsMadeUntold (IsOpenStep c.args.script.now text) (with_book s c.in-Ok.book)
-    c.args.steps.now c.read_book.new.steps (reply_of c.accepted.result)) (sym c.script.view_is)
-    (book_made c.args.script.now text c.requires c.args.steps.now c.read_book.new.steps c.in-Ok.book
-    (reply_of c.accepted.result) c.in-Ok.ensures.read c.in-Ok.ensures.counted
-    (c.accepted.ensures ∙ ap (λ t. accepted t 0) c.in_ok-from_slice-in-Ok.ensures.items))
+    let book = c.in-Ok.restored.book in
+    let work = c.in-Ok.restored.work in
+    subst (λ (s : Standing). IsMade (IsOpenStep c.args.script.now text) (with_book s book) c.args.steps.now
+    c.read_book.new.steps (reply_of c.accepted.result)) (sym c.script.view_is)
+    (book_made c.args.script.now text c.requires c.args.steps.now c.read_book.new.steps book work
+    (reply_of c.accepted.result) c.in-Ok.ensures.read c.in-Ok.ensures.work c.in-Ok.ensures.counted
+    (c.accepted.ensures ∙ ap (λ t. accepted t work.steps) c.in_ok-from_slice-in-Ok.ensures.items))
 
 pub returns-in-Err-Memory-clause-lost : goal.returns-in-Err-Memory-clause-lost
 returns-in-Err-Memory-clause-lost g c =
