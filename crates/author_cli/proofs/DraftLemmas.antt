@@ -1,5 +1,6 @@
 -- The range with which an input begins is one that a range file may have.
-use Rattle.std.proofs.Common.{◌≡◌, ℕ, ◌<◌, ◌≤◌, ltb, ◌&&◌, Bool, false, true, List, [], ◌∷◌, ◌++◌, length, refl, sym, subst, arith}
+use Rattle.std.proofs.Common.{◌≡◌, ℕ, ◌<◌, ◌≤◌, ltb, ◌&&◌, Bool, false, true, List, [], ◌∷◌, ◌++◌}
+use Rattle.std.proofs.Common.{length, refl, sym, subst, arith}
 use Rattle.std.specs.Prelude.{IsTrue, codes, pos, negsuc}
 use Rattle.std.specs.Char.{digit_value}
 use Rattle.std.specs.List.{list_all}
@@ -37,16 +38,18 @@ spelled_is : (text : List ℕ) (d : Decimal) (negative : Bool) (whole places : L
     → text ≡ sign_text negative ++ (whole ++ point_text places) → 0 < length whole
     → list_all (λ c. ltb (digit_value c) 10) whole ≡ true → list_all (λ c. ltb (digit_value c) 10) places ≡ true
     → d ≡ spelled negative whole places
-spelled_is text d negative whole places s parts some w p = number_once text d (spelled negative whole places) s (record {
-  negative = negative;
-  whole = whole;
-  places = places;
-  form = record { parts = parts; some = some; whole_digits = digits whole w; place_digits = digits places p };
-  value = refl;
-})
+spelled_is text d negative whole places s parts some w p =
+    number_once text d (spelled negative whole places) s (record {
+      negative = negative;
+      whole = whole;
+      places = places;
+      form = record { parts = parts; some = some; whole_digits = digits whole w; place_digits = digits places p };
+      value = refl;
+    })
 
 -- bounds that are known
-sound : (limit : InputLimit) (places : ℕ) (low high : Decimal) → limit.places ≡ places → limit.low ≡ low → limit.high ≡ high
+sound : (limit : InputLimit) (places : ℕ) (low high : Decimal)
+    → limit.places ≡ places → limit.low ≡ low → limit.high ≡ high
     → places ≤ 30 → scale_of low ≤ places → scale_of high ≤ places → IsAtMost low high
     → IsWithinLimit (numerator_at places low) → IsWithinLimit (numerator_at places high) → HasSoundBounds limit
 sound limit places low high p l h few low_scale high_scale ordered low_kept high_kept = record {
@@ -60,14 +63,16 @@ sound limit places low high p l h few low_scale high_scale ordered low_kept high
       (subst (λ n. IsWithinLimit (numerator_at n high)) (sym p) high_kept);
 }
 
-pub widest_suit : WidestSuit
-widest_suit kinds.Int limit h =
-    let low =
-    spelled_is (codes "-2147483648") limit.low true (codes "2147483648") [] h.low refl (omega arith) refl refl in
-    let high =
-    spelled_is (codes "2147483647") limit.high false (codes "2147483647") [] h.high refl (omega arith) refl refl in
+-- the limits of each type
+
+int_limit : (limit : InputLimit) → IsWidest kinds.Int limit → IsTaken kinds.Int limit
+int_limit limit h =
+    let low = spelled_is _ limit.low true (codes "2147483648") [] h.low refl (omega arith) refl refl in
+    let high = spelled_is _ limit.high false (codes "2147483647") [] h.high refl (omega arith) refl refl in
+    let least : Decimal = decimal (negsuc 2147483647) 0 in
+    let greatest : Decimal = decimal (pos 2147483647) 0 in
     record {
-      sound = sound limit 0 (decimal (negsuc 2147483647) 0) (decimal (pos 2147483647) 0) h.places low high
+      sound = sound limit 0 least greatest h.places low high
           (omega arith) (omega arith) (omega arith) refl (omega arith) (omega arith);
       suits = record {
         places = h.places;
@@ -75,13 +80,15 @@ widest_suit kinds.Int limit h =
         high = subst (λ d. IsOfBits 32 (numerator_of d)) (sym high) (record { low = omega arith; high = omega arith });
       };
     }
-widest_suit kinds.Long limit h =
-    let low =
-    spelled_is (codes "-9223372036854775808") limit.low true (codes "9223372036854775808") [] h.low refl (omega arith) refl refl in
-    let high =
-    spelled_is (codes "9223372036854775807") limit.high false (codes "9223372036854775807") [] h.high refl (omega arith) refl refl in
+
+long_limit : (limit : InputLimit) → IsWidest kinds.Long limit → IsTaken kinds.Long limit
+long_limit limit h =
+    let low = spelled_is _ limit.low true (codes "9223372036854775808") [] h.low refl (omega arith) refl refl in
+    let high = spelled_is _ limit.high false (codes "9223372036854775807") [] h.high refl (omega arith) refl refl in
+    let least : Decimal = decimal (negsuc 9223372036854775807) 0 in
+    let greatest : Decimal = decimal (pos 9223372036854775807) 0 in
     record {
-      sound = sound limit 0 (decimal (negsuc 9223372036854775807) 0) (decimal (pos 9223372036854775807) 0) h.places low high
+      sound = sound limit 0 least greatest h.places low high
           (omega arith) (omega arith) (omega arith) refl (omega arith) (omega arith);
       suits = record {
         places = h.places;
@@ -89,13 +96,15 @@ widest_suit kinds.Long limit h =
         high = subst (λ d. IsOfBits 64 (numerator_of d)) (sym high) (record { low = omega arith; high = omega arith });
       };
     }
-widest_suit kinds.Factor limit h =
-    let low =
-    spelled_is (codes "-999999.999") limit.low true (codes "999999") (codes "999") h.low refl (omega arith) refl refl in
-    let high =
-    spelled_is (codes "999999.999") limit.high false (codes "999999") (codes "999") h.high refl (omega arith) refl refl in
+
+factor_limit : (limit : InputLimit) → IsWidest kinds.Factor limit → IsTaken kinds.Factor limit
+factor_limit limit h =
+    let low = spelled_is _ limit.low true (codes "999999") (codes "999") h.low refl (omega arith) refl refl in
+    let high = spelled_is _ limit.high false (codes "999999") (codes "999") h.high refl (omega arith) refl refl in
+    let least : Decimal = decimal (negsuc 999999998) 3 in
+    let greatest : Decimal = decimal (pos 999999999) 3 in
     record {
-      sound = sound limit 3 (decimal (negsuc 999999998) 3) (decimal (pos 999999999) 3) h.places low high
+      sound = sound limit 3 least greatest h.places low high
           (omega arith) (omega arith) (omega arith) refl (omega arith) (omega arith);
       suits = record {
         places = subst (λ n. n ≤ 3) (sym h.places) (omega arith);
@@ -103,23 +112,19 @@ widest_suit kinds.Factor limit h =
         high = subst (λ d. IsTrue (is_kept_at 3 d)) (sym high) refl;
       };
     }
-widest_suit kinds.Big limit h =
-    let low =
-    spelled_is (codes "-999999999999.99") limit.low true (codes "999999999999") (codes "99") h.low refl (omega arith) refl refl in
-    let high =
-    spelled_is (codes "999999999999.99") limit.high false (codes "999999999999") (codes "99") h.high refl (omega arith) refl refl in
-    record {
-      sound = sound limit 2 (decimal (negsuc 99999999999998) 2) (decimal (pos 99999999999999) 2) h.places low high
-          (omega arith) (omega arith) (omega arith) refl (omega arith) (omega arith);
-      suits = tt;
-    }
+
+-- of an amount, whose limit suits its type whatever it is
+amount_limit : (limit : InputLimit) → IsWidest kinds.Big limit → HasSoundBounds limit
+amount_limit limit h =
+    let low = spelled_is _ limit.low true (codes "999999999999") (codes "99") h.low refl (omega arith) refl refl in
+    let high = spelled_is _ limit.high false (codes "999999999999") (codes "99") h.high refl (omega arith) refl refl in
+    sound limit 2 (decimal (negsuc 99999999999998) 2) (decimal (pos 99999999999999) 2) h.places low high
+    (omega arith) (omega arith) (omega arith) refl (omega arith) (omega arith)
+
+pub widest_suit : WidestSuit
+widest_suit kinds.Int limit h = int_limit limit h
+widest_suit kinds.Long limit h = long_limit limit h
+widest_suit kinds.Factor limit h = factor_limit limit h
+widest_suit kinds.Big limit h = record { sound = amount_limit limit h; suits = tt }
 widest_suit kinds.Table limit h =
-    let low =
-    spelled_is (codes "-999999999999.99") limit.low true (codes "999999999999") (codes "99") h.low refl (omega arith) refl refl in
-    let high =
-    spelled_is (codes "999999999999.99") limit.high false (codes "999999999999") (codes "99") h.high refl (omega arith) refl refl in
-    record {
-      sound = sound limit 2 (decimal (negsuc 99999999999998) 2) (decimal (pos 99999999999999) 2) h.places low high
-          (omega arith) (omega arith) (omega arith) refl (omega arith) (omega arith);
-      suits = tt;
-    }
+    record { sound = amount_limit limit (record { low = h.low; high = h.high; places = h.places }); suits = tt }
