@@ -1,3 +1,4 @@
 mod WordLemmas
 mod FrontLemmas
 mod LeavesLemmas
+mod DraftLemmas

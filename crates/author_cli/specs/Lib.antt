@@ -7,3 +7,4 @@ pub mod Outside
 pub mod StopViews
 pub mod Words
 pub mod WordViews
+pub mod DraftLaws

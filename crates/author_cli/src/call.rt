@@ -5,6 +5,7 @@ ghost use Rattle.author_cli.specs.Words.{texts, Form, HasForm, IsBad};
 ghost use Rattle.author_cli.specs.Outside.{IsUntouched};
 ghost use Rattle.author_cli.specs.CallClauses.{Carries};
 ghost use Rattle.author_cli.specs.Laws.{HaveOneForm};
+ghost use Rattle.author_cli.specs.DraftLaws.{WidestSuit};
 
 use crate::answer::write_answer;
 use crate::stop::Stop;
@@ -67,4 +68,9 @@ pub fn pap_author<F: Files, W: Sink>(
 /// Words have at most one form.
 pub fn word_laws()
     ensures { HaveOneForm }
+{}
+
+/// The range with which an input begins in a drafted range file is one that a range file may have for its type.
+pub fn draft_laws()
+    ensures { WidestSuit }
 {}

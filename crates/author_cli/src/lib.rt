@@ -6,5 +6,5 @@ mod call;
 mod stop;
 mod words;
 
-pub use call::{pap_author, word_laws};
+pub use call::{draft_laws, pap_author, word_laws};
 pub use stop::{Stop, exit_number};
