@@ -1,4 +1,4 @@
--- Every two texts have one answer of `once`, with values as those of words are.
+-- Every two texts have one answer of `once`, with values as those of words are; what `check` prints of a plan holds.
 use Rattle.std.proofs.Common.{◌≡◌, ℕ, List, [], ◌∷◌, ◌++◌, refl, sym, ap, ◌∙◌, subst, arith}
 use Rattle.std.specs.Prelude.{Some, option_map, All, Result, Ok, Err, codes, fold}
 use Rattle.std.specs.declared.cmp.Ordering.{Ordering}
@@ -23,9 +23,13 @@ use Rattle.payroll_records.specs.ValueWords.{Give, AreValueWords}
 use Rattle.pay_run.specs.Accepted.{Accepted}
 use Rattle.pay_run.specs.Runs.{IsKeptValue}
 use Rattle.pay_run.proofs.Laws.{filled_safe, filled_slots}
-use Rattle.plan_answers.specs.Answers.{Answer, refusal}
+use Rattle.plan_answers.specs.Answers.{Answer, IsChecked, refusal}
 use Rattle.plan_answers.specs.Laws.{HasOneAnswer}
+use Rattle.plan_answers.specs.Lines.{range_lines}
 use Rattle.plan_answers.proofs.Laws.{one_refusal, some_refusal}
+use Rattle.script_steps.specs.Promises.{NeverFailsWithin}
+use Rattle.script_steps.proofs.Laws.{never_fails, refused_otherwise}
+use Rattle.pap_cli.specs.Laws.{PrintedAcceptanceHolds}
 use Rattle.pap_cli.specs.RunAnswers.{finished, IsRunOn, IsOnce, OnceAnswers}
 use Rattle.pap_cli.proofs.RunLemmas.{never_waits}
 
@@ -79,6 +83,18 @@ some_once values kept plan limits = let v = plans.some plan limits in by v.0 v.1
 
 pub once_answers : (values : List NamedValue) → All IsKeptValue values → (plan limits : List ℕ) → HasOneAnswer (OnceAnswers values plan limits)
 once_answers values kept plan limits = record { some = some_once values kept plan limits; one = one_once values plan limits }
+
+-- ---- what `check` prints of an accepted plan
+
+pub printed_holds : PrintedAcceptanceHolds
+printed_holds plan limits more steps answer h read = by h.verdict h.accepted h.is
+  where
+    by : (v : Result Meaning PlanRefusal) → Answers plan limits v → IsChecked plan v answer
+        → NeverFailsWithin plan limits steps
+    by (Ok m) accepted is =
+        let printed = ap (λ (a : Answer). a.text) is in
+        never_fails plan limits answer.text (range_lines m.outputs) more m steps accepted printed read
+    by (Err why) accepted is = absurd (refused_otherwise is.detail more steps answer is.is read)
 
 -- ---- the values of words are kept
 

@@ -1,11 +1,14 @@
 -- What holds of the definitions of words and answers.
-use Rattle.std.specs.Prelude.{◌≡◌, ℕ, List, All}
+use Rattle.std.specs.Prelude.{◌≡◌, ℕ, List, ◌++◌, All}
 use Rattle.outside.specs.Told.{FileMap}
 use Rattle.payroll_records.specs.declared.values.NamedValue.{NamedValue}
 use Rattle.payroll_records.specs.ValueWords.{AreValueWords}
 use Rattle.pay_run.specs.Runs.{IsKeptValue}
 use Rattle.pap_cli.specs.Words.{Form, HasForm}
+use Rattle.plan_answers.specs.Answers.{Answer, CheckAnswers}
 use Rattle.plan_answers.specs.Laws.{HasOneAnswer}
+use Rattle.plan_answers.specs.Lines.{bound_line}
+use Rattle.script_steps.specs.Promises.{NeverFailsWithin}
 use Rattle.script_steps.specs.Steps.{AreThere}
 use Rattle.script_run.specs.Transcripts.{lines_of}
 use Rattle.pap_cli.specs.RunAnswers.{OnceAnswers}
@@ -25,6 +28,12 @@ OnceHasOneAnswer =
 abbrev pub WordsGiveKeptValues : Type 0
 WordsGiveKeptValues =
     (words : List (List ℕ)) (values : List NamedValue) → AreValueWords words values → All IsKeptValue values
+
+-- where `check` prints `accepted steps N`, no run within the ranges fails, and none takes more than N steps
+abbrev pub PrintedAcceptanceHolds : Type 0
+PrintedAcceptanceHolds =
+    (plan limits more : List ℕ) (steps : ℕ) (answer : Answer) → CheckAnswers plan limits answer
+    → answer.text ≡ bound_line steps ++ more → NeverFailsWithin plan limits steps
 
 -- a script whose lines name files that are there has one answer of `save`
 abbrev pub ScriptsHaveOneSave : Type 0

@@ -10,7 +10,7 @@ ghost use Rattle.pap_cli.specs.Statuses.{IsDone, status_of};
 ghost use Rattle.script_run.specs.RunClauses.{TellsRefused};
 ghost use Rattle.plan_answers.specs.Laws.{CheckHasOneAnswer};
 ghost use Rattle.pap_cli.specs.Laws.{HaveOneForm, OnceHasOneAnswer};
-ghost use Rattle.pap_cli.specs.Laws.{WordsGiveKeptValues};
+ghost use Rattle.pap_cli.specs.Laws.{PrintedAcceptanceHolds, WordsGiveKeptValues};
 
 use crate::Status;
 use crate::answer::answer;
@@ -189,9 +189,11 @@ pub fn word_laws()
     ensures { HaveOneForm }
 {}
 
-/// Every two texts have an answer of each command, and no other.
+/// Every two texts have an answer of each command, and no other. Where `check` prints `accepted steps N`, no run
+/// within the ranges fails, and none takes more than N steps.
 pub fn answer_laws()
     ensures check { CheckHasOneAnswer }
+    ensures accepted { PrintedAcceptanceHolds }
     ensures once { OnceHasOneAnswer }
     ensures values { WordsGiveKeptValues }
 {}
