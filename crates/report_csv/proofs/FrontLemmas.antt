@@ -48,4 +48,3 @@ prefix_front m n piece p =
     record { front = take p.count piece; rest = drop p.count piece; parts = sym (take-append-drop p.count piece); appended = p.appended }
 
 -- ---- a text of two parts, the first of which is put whole before the other
-

@@ -31,4 +31,3 @@ each_plain (f ∷ fs) h = (h.0, each_plain fs h.1)
 -- the same of fields that are lent
 pub written_row : (fields : List (Bor (List ℕ))) → 1 < length fields → AllByRecursion (λ f. IsPlain f.now) fields → row_text default_writer (map (λ f. f.now) fields) ≡ row_line (map (λ f. f.now) fields)
 written_row fields some h = plain_row (map (λ f. f.now) fields) (subst (λ n. 1 < n) (sym (length-map fields (λ f. f.now))) some) (each_plain fields h)
-
