@@ -2,7 +2,7 @@
 #![tactic(auto)]
 
 use author_cli::{Stop, exit_number, pap_author};
-use outside::{RealFiles, StdSink};
+use outside::{FailedFile, RealFiles, StdSink};
 use plain_words::one_line;
 use std::env;
 use std::io::{self, ErrorKind};
@@ -53,13 +53,13 @@ fn own_answer(words: &[String]) -> Option<&'static str> {
 }
 
 /// Says on standard error what is wrong, in one line. That this may fail changes nothing.
-fn explain(rt: &HostRuntime, ended: &Result<Option<String>, Stop>, failed_name: Option<&str>) {
+fn explain(rt: &HostRuntime, ended: &Result<Option<String>, Stop>, failed: Option<&FailedFile>) {
     let _ = match ended {
         Ok(None) => Ok(()),
         Ok(Some(reason)) => eprintln!(rt; "{reason}"),
         Err(Stop::Words) => eprintln!(rt; "{USAGE}"),
         Err(Stop::File) => {
-            explain_file_fault(rt, failed_name.unwrap_or(""));
+            explain_file_fault(rt, failed);
             Ok(())
         }
         Err(Stop::Write) => eprintln!(rt; "pap_author: standard output can't be written"),
@@ -67,12 +67,13 @@ fn explain(rt: &HostRuntime, ended: &Result<Option<String>, Stop>, failed_name: 
     };
 }
 
-/// Says on standard error which file can't be read, in one line whatever its name is. That this may fail changes nothing.
-fn explain_file_fault(rt: &HostRuntime, name: &str) {
-    if let Ok(name) = one_line(rt.alloc(), name) {
-        let _ = eprintln!(rt;
-            "pap_author: the file `{name}` can't be read: is it there, and a file, not a folder?"
-        );
+/// Says on standard error which file can't be read and why, in one line whatever its name is. That this may fail changes nothing.
+fn explain_file_fault(rt: &HostRuntime, failed: Option<&FailedFile>) {
+    if let Some(file) = failed
+        && let Ok(name) = one_line(rt.alloc(), &file.name)
+    {
+        let fault = file.fault;
+        let _ = eprintln!(rt; "pap_author: the file `{name}`: {fault}");
     }
 }
 
@@ -80,9 +81,9 @@ fn explain_file_fault(rt: &HostRuntime, name: &str) {
 fn end(
     rt: &HostRuntime,
     ended: &Result<Option<String>, Stop>,
-    failed_name: Option<&str>,
+    failed: Option<&FailedFile>,
 ) -> ExitCode {
-    explain(rt, ended, failed_name);
+    explain(rt, ended, failed);
     ExitCode::from(exit_number(ended))
 }
 
@@ -104,5 +105,5 @@ fn main(rt: HostRuntime) -> ExitCode {
     let mut files = RealFiles::new(&rt);
     let mut sink = StdSink::new(io::writer(&rt));
     let ended = pap_author(rt.alloc(), &words, &mut files, &mut sink);
-    end(&rt, &ended, files.failed_name())
+    end(&rt, &ended, files.failed_file())
 }
