@@ -59,5 +59,3 @@ pub up_to_later : (m n : Month) (d : Day) → month_cmp m n ≡ Less → is_up_t
 unfolding of_day of_month
 up_to_later m n d l h =
     at_most (order (of_day d) (of_month n)) (upto order_total (of_day d) (of_month m) (of_month n) (not_greater (order (of_day d) (of_month m)) h) (ap is_gt l))
-
-unfolding of_month
