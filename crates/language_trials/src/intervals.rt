@@ -1,13 +1,10 @@
 //! Intervals: worked examples.
 ghost use Rattle.std.specs.Prelude.{◌≤◌, IfOk};
-ghost use Rattle.scaled_decimal.specs.WholeNumbers.{int_bits, long_bits};
 ghost use Rattle.scaled_decimal.specs.Limits.{most_places};
-ghost use Rattle.interval_num.specs.Intervals.{IsWholeOfBits};
 
 use interval_num::{
     Abs, RangeCause, abs_abs, abs_add, abs_cmp, abs_div, abs_div_exact, abs_max, abs_min, abs_mul,
-    abs_neg, abs_set_scale, abs_sub, int_add, int_div, int_mul, int_neg, int_rem, int_sub, join,
-    long_add, long_div, long_mul, long_neg, long_rem, long_sub,
+    abs_neg, abs_set_scale, abs_sub, join,
 };
 use scaled_decimal::{Dec, Mode, is_plain_divisor, read_dec};
 use std::test::Fail;
@@ -44,32 +41,6 @@ const SHORTENED: &str = r#"0 1000 0 2 : 2 => 0 5000 0 3
 0 1000 0 2 : 100 => 0 1000 0 4
 125 130 2 2 : 1 Up => 13 13 1 1
 -5 5 0 1 : 3 Up => -500 500 3 3"#;
-
-/// Operations on `int` and their operands' ends; then the answer.
-const INTS: &str = r#"% : -7 7 : 3 3 => -2 2 0 0
-% : -7 7 : -3 -1 => -2 2 0 0
-% : -7 7 : -7 7 => Divisor
-/ : -2147483648 -2147483648 : -1 -1 => Wide
-/ : -7 7 : 2 3 => -3 3 0 0
-negate : -2147483648 -2147483648 : 0 0 => Wide
-negate : -7 5 : 0 0 => -5 7 0 0
-+ : -2147483648 -2147483648 : -1 -1 => Wide
-+ : -2147483648 -2147483647 : -1 1 => Wide
-+ : -7 7 : 2 3 => -5 10 0 0
-- : -1 -1 : -7 7 => -8 6 0 0
-* : -7 7 : -2 3 => -21 21 0 0
-* : 65536 65536 : 32768 32768 => Wide"#;
-
-/// The same of `long`.
-const LONGS: &str = r#"/ : -2147483648 -2147483648 : -1 -1 => 2147483648 2147483648 0 0
-negate : -9223372036854775808 -9223372036854775808 : 0 0 => Wide
-/ : -9223372036854775808 -9223372036854775808 : -1 -1 => Wide
-+ : -9223372036854775808 -9223372036854775808 : -1 -1 => Wide
-- : -9223372036854775808 -9223372036854775808 : -1 -1 => -9223372036854775807 -9223372036854775807 0 0
-* : -2147483648 -2147483648 : -2147483648 -2147483648 => 4611686018427387904 4611686018427387904 0 0
-* : 4611686018427387904 4611686018427387904 : 2 2 => Wide
-% : -9223372036854775808 -9223372036854775808 : -7 7 => Divisor
-% : -7 7 : -3 -1 => -2 2 0 0"#;
 
 /// Writes the ends and the scales of an answer, or why it is refused.
 fn write_answer(answer: Result<Abs, RangeCause>, text: &mut String) -> Result<(), Fail> {
@@ -202,93 +173,4 @@ fn exact_quotient(asked: &str, text: &mut String) -> Result<(), Fail> {
 #[test]
 fn exact_quotients_and_scales(rt: HostRuntime) -> Result<(), Fail> {
     all_rows(rt.alloc(), SHORTENED, exact_quotient)
-}
-
-/// A whole number of 64 bits.
-fn number(word: Option<&str>) -> Result<i64, Fail> {
-    Ok(
-        word.ok_or("a number")?
-            .parse::<i64>()
-            .map_err(|_| Fail::from("a number"))?,
-    )
-}
-
-/// The two ends of an interval of whole numbers.
-fn ends(text: &str) -> Result<(i64, i64), Fail> {
-    let mut words = text.split_whitespace();
-    Ok((number(words.next())?, number(words.next())?))
-}
-
-/// An interval of whole numbers of 64 bits.
-fn longs(text: &str) -> Result<Abs, Fail>
-    ensures { IfOk result (IsWholeOfBits long_bits) }
-{
-    let (low, high) = ends(text)?;
-    if low > high {
-        return Err(Fail::from("an interval"));
-    }
-    Ok(Abs::new(low as i128, high as i128, 0, 0))
-}
-
-/// An interval of whole numbers of 32 bits.
-fn ints(text: &str) -> Result<Abs, Fail>
-    ensures { IfOk result (IsWholeOfBits int_bits) }
-{
-    let (low, high) = ends(text)?;
-    if low < -2147483648 || low > high || high > 2147483647 {
-        return Err(Fail::from("an interval"));
-    }
-    Ok(Abs::new(low as i128, high as i128, 0, 0))
-}
-
-/// The operation of this name on `int`.
-fn int_answer(operation: &str, a: Abs, b: Abs) -> Result<Abs, RangeCause>
-    requires left { IsWholeOfBits int_bits a }
-    requires right { IsWholeOfBits int_bits b }
-{
-    match operation {
-        "+" => int_add(a, b),
-        "-" => int_sub(a, b),
-        "*" => int_mul(a, b),
-        "/" => int_div(a, b),
-        "%" => int_rem(a, b),
-        _ => int_neg(a),
-    }
-}
-
-/// The operation of this name on `long`.
-fn long_answer(operation: &str, a: Abs, b: Abs) -> Result<Abs, RangeCause>
-    requires left { IsWholeOfBits long_bits a }
-    requires right { IsWholeOfBits long_bits b }
-{
-    match operation {
-        "+" => long_add(a, b),
-        "-" => long_sub(a, b),
-        "*" => long_mul(a, b),
-        "/" => long_div(a, b),
-        "%" => long_rem(a, b),
-        _ => long_neg(a),
-    }
-}
-
-/// Writes the answer of an operation on `int`.
-fn of_ints(asked: &str, text: &mut String) -> Result<(), Fail> {
-    let (operation, left, right) = operands(asked)?;
-    write_answer(int_answer(operation, ints(left)?, ints(right)?), text)
-}
-
-/// Writes the answer of an operation on `long`.
-fn of_longs(asked: &str, text: &mut String) -> Result<(), Fail> {
-    let (operation, left, right) = operands(asked)?;
-    write_answer(long_answer(operation, longs(left)?, longs(right)?), text)
-}
-
-#[test]
-fn ints_stay_within_32_bits(rt: HostRuntime) -> Result<(), Fail> {
-    all_rows(rt.alloc(), INTS, of_ints)
-}
-
-#[test]
-fn longs_stay_within_64_bits(rt: HostRuntime) -> Result<(), Fail> {
-    all_rows(rt.alloc(), LONGS, of_longs)
 }

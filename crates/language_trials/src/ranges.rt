@@ -71,7 +71,20 @@ M == 0 || 10 / M > 2 | Q= 1 | Q= M => Q 1 5 0 0
 Y.compareTo(BigDecimal.ONE) != -1 | B= X.divide(Y, 2, BigDecimal.ROUND_DOWN) | B= new BigDecimal("0.00") => B -5.00 5.00 2 2
 N >= 0 && N <= 2 | B= T[N] | B= new BigDecimal("1.00") => B 1.00 3.25 0 2
 N > 0 | Q= N > 3 ? N : 4 | Q= 5 => Q 4 10 0 0
-N > 0 | Q= N > 10 ? 1 / 0 : N | Q= 5 => Q 1 10 0 0"#;
+N > 0 | Q= N > 10 ? 1 / 0 : N | Q= 5 => Q 1 10 0 0
+N < 8 | Q= N % 3 | Q= 0 => Q -2 2 0 0
+N < 0 | Q= N / 3 | Q= 0 => Q -3 0 0 0
+N > 5 | Q= -N | Q= -7 => Q -10 -6 0 0
+N > 5 | Q= N + M | Q= 7 => Q 6 15 0 0
+N > 5 | Q= N - M | Q= 7 => Q 1 10 0 0
+N > 5 | Q= N * M | Q= 7 => Q 0 50 0 0
+N > 5 | Q= N * 214748364 | Q= 1288490184 => Q 1288490184 2147483640 0 0
+L > 7 | W= L % 7L | W= 0 => W 0 6 0 0
+L > 7 | W= L / 3L | W= 2 => W 2 33 0 0
+L > 7 | W= -L | W= -8 => W -100 -8 0 0
+L > 7 | W= L + 9223372036854775707L | W= 9223372036854775715L => W 9223372036854775715 9223372036854775807 0 0
+L > 7 | W= L - 9223372036854775807L | W= -9223372036854775799L => W -9223372036854775799 -9223372036854775707 0 0
+L > 7 | W= L * 92233720368547758L | W= 737869762948382064L => W 737869762948382064 9223372036854775800 0 0"#;
 
 /// The same where the first node that may fail is named.
 const REFUSED: &str = r#"N > 5 | Q= 7 | Q= 10 / N => Divisor MAIN:2:2
@@ -83,6 +96,11 @@ N >= 0 | B= T[N] | B= BigDecimal.ONE => Index MAIN:1:1
 N <= 2 | B= T[N] | B= BigDecimal.ONE => Index MAIN:1:1
 N > 0 | Q= N * 300000000 | Q= 5 => Wide MAIN:1:2
 L > 0L | W= L * 100000000000000000L | W= 5 => Wide MAIN:1:2
+N < 8 | Q= N % M | Q= 0 => Divisor MAIN:1:2
+N > 5 | Q= N + 2147483638 | Q= 0 => Wide MAIN:1:2
+N > 5 | Q= 0 | Q= N - 2147483639 => Wide MAIN:2:2
+L > 7L | W= L + 9223372036854775708L | W= 0 => Wide MAIN:1:2
+L > 7L | W= 0 | W= L - 9223372036854775709L => Wide MAIN:2:2
 N > 0 | B= X.multiply(new BigDecimal("0.00000000000000000000000000001")) | B= BigDecimal.ONE => Scale MAIN:1:2
 N > 0 | B= X.multiply(new BigDecimal("0.00000000001")) | B= BigDecimal.ONE => the OUTPUT B may have more than 12 digits after its point, or be beyond 10^20, on inputs within their ranges"#;
 
