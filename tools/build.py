@@ -1,10 +1,11 @@
 #!/usr/bin/env python3
 """Proves the libraries that a program stands on, several side by side: build.py [JOBS [PROGRAM]], from the top of the repository.
 
-A crate begins once those that it stands on are proved, in a room of its own, build/rooms/NAME: `rt` has a crate and all below it to
-itself while it works there, so in one checkout it would prove one after the other. The proved library then goes to crates/NAME/out,
-where `rt run` finds it. A line for each that is done says how many are left. What a crate's check wrote is in build/proofs/NAME; where
-one fails, its end is shown."""
+A crate begins once those that it stands on are proved, first the one with the longest chain of others above it, in a room of its own,
+build/rooms/NAME: `rt` has a crate and all below it to itself while it works there, so in one checkout it would prove one after the other.
+Jobs that no other crate waits for are shared out among those that begin. The proved library then goes to crates/NAME/out, where `rt run`
+finds it. A line for each that is done says how many are left. What a crate's check wrote is in build/proofs/NAME; where one fails, its end
+is shown."""
 import os
 import shutil
 import subprocess
@@ -13,6 +14,7 @@ import time
 from concurrent.futures import FIRST_COMPLETED, ThreadPoolExecutor, wait
 
 GIGABYTES_A_JOB = 2
+MOST_JOBS_A_CRATE = 4
 
 
 def crates():
@@ -50,12 +52,21 @@ def furnish(room, name, proved):
             shutil.copytree(f"crates/{crate}/{part}", f"{room}/crates/{crate}/{part}", copy_function=os.link)
 
 
-def prove(name, proved):
-    """Proves a crate, and gives its name, the status of its check and the seconds that it took."""
+def chains(names, stands_on):
+    """How many crates of these stand one on another from each on, itself the first; of crates listed lowest first."""
+    longest = dict.fromkeys(names, 1)
+    for name in reversed(names):
+        for lower in stands_on[name]:
+            longest[lower] = max(longest[lower], longest[name] + 1)
+    return longest
+
+
+def prove(name, proved, jobs):
+    """Proves a crate by so many jobs, and gives its name, the status of its check and the seconds that it took."""
     began, room, to = time.time(), f"build/rooms/{name}", f"crates/{name}/out/rlib"
     furnish(room, name, proved)
     with open(f"build/proofs/{name}", "w") as log:
-        done = subprocess.run(["rt", "lib", "--jobs", "1"], cwd=f"{room}/crates/{name}", stdin=subprocess.DEVNULL, stdout=log, stderr=log)
+        done = subprocess.run(["rt", "lib", "--jobs", str(jobs)], cwd=f"{room}/crates/{name}", stdin=subprocess.DEVNULL, stdout=log, stderr=log)
     if done.returncode == 0:
         shutil.rmtree(to, ignore_errors=True)
         os.makedirs(os.path.dirname(to), exist_ok=True)
@@ -64,24 +75,43 @@ def prove(name, proved):
     return name, done.returncode, time.time() - began
 
 
+def begin(pool, waiting, stands_on, proved, idle):
+    """Begins crates that can begin while jobs are idle; gives those that began with their jobs."""
+    ready = [name for name in waiting if proved.issuperset(stands_on[name])]
+    began = {}
+    for at, name in enumerate(ready):
+        if idle == 0:
+            break
+        share = max(1, min(MOST_JOBS_A_CRATE, idle // (len(ready) - at)))
+        began[pool.submit(prove, name, below(name, stands_on, []), share)] = (name, share)
+        idle -= share
+    return began
+
+
 def main():
     os.makedirs("build/proofs", exist_ok=True)
     stands_on = crates()
-    waiting = below(sys.argv[2] if sys.argv[2:] else "papcalc", stands_on, [])
-    count, proved, running = len(waiting), set(), set()
-    with ThreadPoolExecutor(int(sys.argv[1]) if sys.argv[1:] and sys.argv[1] else jobs()) as pool:
+    names = below(sys.argv[2] if sys.argv[2:] else "papcalc", stands_on, [])
+    longest = chains(names, stands_on)
+    waiting = sorted(names, key=lambda name: -longest[name])
+    limit = int(sys.argv[1]) if sys.argv[1:] and sys.argv[1] else jobs()
+    proved, running = set(), {}
+    with ThreadPoolExecutor(limit) as pool:
         while waiting or running:
-            ready = [name for name in waiting if proved.issuperset(stands_on[name])]
-            running.update(pool.submit(prove, name, below(name, stands_on, [])) for name in ready)
-            waiting = [name for name in waiting if name not in ready]
-            done, running = wait(running, return_when=FIRST_COMPLETED)
-            for name, status, seconds in (one.result() for one in done):
+            idle = limit - sum(share for _, share in running.values())
+            running.update(begin(pool, waiting, stands_on, proved, idle))
+            started = {name for name, _ in running.values()}
+            waiting = [name for name in waiting if name not in started]
+            done, _ = wait(running, return_when=FIRST_COMPLETED)
+            for one in done:
+                name, status, seconds = one.result()
+                del running[one]
                 if status:
                     print("".join(open(f"build/proofs/{name}").readlines()[-20:]), f"build: {name} isn't proved", sep="")
                     pool.shutdown(cancel_futures=True)
                     sys.exit(1)
                 proved.add(name)
-                print(f"build: {name} is proved ({seconds:.0f} s), {count - len(proved)} of {count} are left", flush=True)
+                print(f"build: {name} is proved ({seconds:.0f} s), {len(names) - len(proved)} of {len(names)} are left", flush=True)
 
 
 if __name__ == "__main__":
