@@ -31,11 +31,16 @@ x => Text { at: 0 }
 <PAP>text => Text { at: 5 }
 <PAP a='>'><!-->--><PAP> => Element { at: 19 }"#;
 
+/// A text's fault.
+fn fault(alloc: Global, text: &str) -> Option<ReadFault> {
+    read_elements(alloc, text.as_bytes()).err()
+}
+
 /// Writes `read`, or a text's fault.
 fn read(asked: &str, text: &mut String) -> Result<(), Fail> {
-    match read_elements(*text.allocator(), asked.as_bytes()) {
-        Ok(_) => text.push_str("read")?,
-        Err(fault) => write!(text, "{fault:?}")?,
+    match fault(*text.allocator(), asked) {
+        None => text.push_str("read")?,
+        Some(fault) => write!(text, "{fault:?}")?,
     }
     Ok(())
 }
@@ -52,7 +57,7 @@ const MESSAGES: &str = r#"x => expected a tag, a comment or white space
 
 /// Writes what is said of a text's fault.
 fn message(asked: &str, text: &mut String) -> Result<(), Fail> {
-    if let Err(fault) = read_elements(*text.allocator(), asked.as_bytes()) {
+    if let Some(fault) = fault(*text.allocator(), asked) {
         write!(text, "{fault}")?;
     }
     Ok(())
@@ -83,15 +88,24 @@ const ESCAPES: &str = r#""a &lt; b" => "a < b"
 '&lt' => none
 '<' => none"#;
 
-/// The text of the test of an IF whose attribute is the one asked.
-fn decoded(asked: &str, text: &mut String) -> Result<(), Fail> {
-    let alloc = *text.allocator();
+/// A plan with an IF whose attribute is the one asked.
+fn plan_with_test(alloc: Global, asked: &str) -> Result<String, Fail> {
     let (before, after) = IN_MAIN.split_once('@').ok_or("a place")?;
-    let plan = format!(in alloc; "{before}<IF expr={asked}><THEN/></IF>{after}")?;
-    match read_elements(alloc, plan.as_bytes()) {
+    Ok(format!(in alloc; "{before}<IF expr={asked}><THEN/></IF>{after}")?)
+}
+
+/// Writes the text of the test of a plan's first IF; `none` where the plan is refused.
+fn write_first_test(plan: &str, text: &mut String) -> Result<(), Fail> {
+    match read_elements(*text.allocator(), plan.as_bytes()) {
         Ok(plan) => write_test(&plan.main, text),
         Err(_) => Ok(text.push_str("none")?),
     }
+}
+
+/// Writes the text of the test of an IF whose attribute is the one asked.
+fn decoded(asked: &str, text: &mut String) -> Result<(), Fail> {
+    let plan = plan_with_test(*text.allocator(), asked)?;
+    write_first_test(plan.as_str(), text)
 }
 
 /// Writes the test of the first of these statements.
@@ -244,7 +258,7 @@ fn framed(alloc: Global, asked: &str) -> Result<String, Fail> {
 /// Writes whether a piece may stand in its place.
 fn may_stand(asked: &str, text: &mut String) -> Result<(), Fail> {
     let plan = framed(*text.allocator(), asked)?;
-    let is_read = read_elements(*text.allocator(), plan.as_bytes()).is_ok();
+    let is_read = fault(*text.allocator(), plan.as_str()).is_none();
     Ok(text.push_str(if is_read { "read" } else { "refused" })?)
 }
 
@@ -277,7 +291,9 @@ fn many_attributes(alloc: Global) -> Result<String, Fail> {
 #[test]
 fn compares_many_names(rt: HostRuntime) -> Result<(), Fail> {
     let text = many_attributes(rt.alloc())?;
-    let fault = read_elements(rt.alloc(), text.as_bytes()).err();
-    assert_eq!(rt; fault, Some(ReadFault::Attribute { at: 0 }));
+    assert_eq!(rt;
+        fault(rt.alloc(), text.as_str()),
+        Some(ReadFault::Attribute { at: 0 })
+    );
     Ok(())
 }

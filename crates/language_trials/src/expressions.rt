@@ -1,6 +1,6 @@
 //! The texts of expressions: what they stand for, by its canonical spelling, and which token stops them.
 use pap_expr::{ExprFault, parse_assign, parse_constant, parse_expr};
-use pap_tree::{Literal, print_expr};
+use pap_tree::{Expr, Literal, print_expr};
 use std::alloc::Global;
 use std::str::from_utf8;
 use std::test::Fail;
@@ -132,12 +132,16 @@ fn fault(alloc: Global, line: Line, text: &str) -> Option<ExprFault> {
     }
 }
 
+/// Writes an expression's canonical spelling.
+fn write_spelling(expression: &Expr, text: &mut String) -> Result<(), Fail> {
+    let spelling = print_expr(*text.allocator(), expression)?;
+    Ok(text.push_str(from_utf8(spelling.as_slice()).unwrap_or(""))?)
+}
+
 /// Writes the canonical spelling of a test.
 fn spelled(asked: &str, text: &mut String) -> Result<(), Fail> {
-    let alloc = *text.allocator();
-    let test = parse_expr(alloc, asked.as_bytes())?;
-    let spelling = print_expr(alloc, &test)?;
-    Ok(text.push_str(from_utf8(spelling.as_slice()).unwrap_or(""))?)
+    let test = parse_expr(*text.allocator(), asked.as_bytes())?;
+    write_spelling(&test, text)
 }
 
 #[test]
@@ -170,11 +174,9 @@ const ASSIGNMENTS: &str = r#"X= RE4.subtract (FREI) => X = RE4.subtract(FREI)
 
 /// Writes the target and the canonical spelling of the value of an assignment.
 fn assigned(asked: &str, text: &mut String) -> Result<(), Fail> {
-    let alloc = *text.allocator();
-    let (target, value) = parse_assign(alloc, asked.as_bytes())?;
-    let spelling = print_expr(alloc, &value)?;
-    let spelling = from_utf8(spelling.as_slice()).unwrap_or("");
-    Ok(write!(text, "{target} = {spelling}")?)
+    let (target, value) = parse_assign(*text.allocator(), asked.as_bytes())?;
+    write!(text, "{target} = ")?;
+    write_spelling(&value, text)
 }
 
 #[test]
@@ -339,15 +341,22 @@ fn cause_behind(alloc: Global, line: Line, front: &str, token: &str) -> Result<&
     })
 }
 
+/// Writes a token that may stand somewhere, or one that is refused there for another cause than `Syntax`.
+fn write_token(token: &str, cause: &str, text: &mut String) -> Result<(), Fail> {
+    match cause {
+        "" => write!(text, "{token} ")?,
+        "Syntax" => {}
+        cause => write!(text, "{token}={cause} ")?,
+    }
+    Ok(())
+}
+
 /// Writes the tokens that may stand behind a front, and those that are refused there for another cause than `Syntax`.
 fn taken_behind(line: Line, asked: &str, text: &mut String) -> Result<(), Fail> {
     let front = if asked == "_" { "" } else { asked };
     for token in TOKENS.split_whitespace() {
-        match cause_behind(*text.allocator(), line, front, token)? {
-            "" => write!(text, "{token} ")?,
-            "Syntax" => {}
-            cause => write!(text, "{token}={cause} ")?,
-        }
+        let cause = cause_behind(*text.allocator(), line, front, token)?;
+        write_token(token, cause, text)?;
     }
     Ok(text.push_str(if text.is_empty() { "nothing" } else { "" })?)
 }

@@ -190,46 +190,54 @@ fn explain_script(rt: &HostRuntime, word: &str, refused_lines: &RefusedLines) {
     }
 }
 
-fn main(rt: HostRuntime) -> ExitCode {
-    let words = match words_of(&rt) {
-        Ok(words) => words,
-        Err(error) => {
-            let status = if error.kind() == ErrorKind::OutOfMemory {
-                Status::NoMemory
-            } else {
-                Status::BadWords
-            };
-            explain(&rt, status, &[], None);
-            return ExitCode::from(status.number());
-        }
-    };
-    if let Some(text) = own_answer(&words) {
-        let status = match println!(rt; "{text}") {
-            Ok(()) => Status::Done,
-            Err(_) => Status::WriteFault,
-        };
-        explain(&rt, status, &[], None);
-        return ExitCode::from(status.number());
-    }
-    let mut files = KeptFiles::new(rt.alloc(), RealFiles::new(&rt), MOST_GIVEN);
+/// Ends the program: says what is wrong, and gives the status' number.
+fn end(
+    rt: &HostRuntime,
+    status: Status,
+    words: &[String],
+    failed: Option<&FailedFile>,
+) -> ExitCode {
+    explain(rt, status, words, failed);
+    ExitCode::from(status.number())
+}
+
+/// Carries out the words over the system's files and streams, and says why an answer is a refusal.
+fn carried_out(rt: &HostRuntime, words: &[String]) -> ExitCode {
+    let mut files = KeptFiles::new(rt.alloc(), RealFiles::new(rt), MOST_GIVEN);
     let mut source = StdSource::new(rt.reader());
-    let mut sink = StdSink::new(io::writer(&rt));
+    let mut sink = StdSink::new(io::writer(rt));
     let mut refused_lines = RefusedLines::new(rt.alloc());
     let status = counted::<Brand, _, _, _>(
         rt.alloc(),
-        &words,
+        words,
         &mut files,
         &mut source,
         &mut sink,
         &mut refused_lines,
         Blank::new(1),
     );
-    explain(&rt, status, &words, files.inner().failed_file());
     if status == Status::Refused {
-        match words.as_slice() {
-            [word] => explain_script(&rt, word, &refused_lines),
-            words => explain_refusal(&rt, words, files.fronts()),
+        match words {
+            [word] => explain_script(rt, word, &refused_lines),
+            words => explain_refusal(rt, words, files.fronts()),
         }
     }
-    ExitCode::from(status.number())
+    end(rt, status, words, files.inner().failed_file())
+}
+
+fn main(rt: HostRuntime) -> ExitCode {
+    let words = match words_of(&rt) {
+        Ok(words) => words,
+        Err(error) if error.kind() == ErrorKind::OutOfMemory => {
+            return end(&rt, Status::NoMemory, &[], None);
+        }
+        Err(_) => return end(&rt, Status::BadWords, &[], None),
+    };
+    match own_answer(&words) {
+        Some(text) => match println!(rt; "{text}") {
+            Ok(()) => end(&rt, Status::Done, &[], None),
+            Err(_) => end(&rt, Status::WriteFault, &[], None),
+        },
+        None => carried_out(&rt, &words),
+    }
 }

@@ -1,4 +1,4 @@
-use Rattle.papcalc.proofs.main.Given as goal
+use Rattle.papcalc.proofs.carried_out.Given as goal
 
 abbrev pub ghosts-counted : goal.ghosts-counted
 ghosts-counted a = record { name = a.blank.name; parts = a.blank.parts }
