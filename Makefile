@@ -56,7 +56,7 @@ client-java:
 
 # The worked examples, on the built program. They aren't part of the repository: in development they lie beside it.
 rows:
-	@test -f ../shared/run_rows.py || { echo 'rows: there are no worked examples in ../shared: they are not part of the repository' >&2; exit 1; }
+	@test -f ../shared/run_rows.py || { echo 'rows: the worked examples (../shared) are not part of the repository' >&2; exit 1; }
 	$(MAKE) build
 	python3 ../shared/run_rows.py --bin "$(CURDIR)/build/papcalc" --stage 20 --words check,once,run,sample,save \
 	    --lines plan,drop,add,change,withdraw,load,report,work,trace,file,owed,open,try --prefixes
