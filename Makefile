@@ -29,14 +29,16 @@ demo: build
 	build/papcalc once examples/payroll_tax.xml examples/payroll_tax.toml PERIOD=2 PAY=450000 TAX_CLASS=1
 	build/papcalc run < examples/month.script
 
-# The program that `make build` made, and its manual page. DESTDIR stands before PREFIX, for packages.
+# The program that `make build` made, and its manual page; pap_author too where `make author` made it. DESTDIR stands before PREFIX, for
+# packages.
 install:
 	@test -x build/papcalc || { echo 'install: there is no build/papcalc yet: make build makes it' >&2; exit 1; }
 	install -D -m 755 build/papcalc '$(DESTDIR)$(PREFIX)/bin/papcalc'
 	install -D -m 644 docs/papcalc.1 '$(DESTDIR)$(PREFIX)/share/man/man1/papcalc.1'
+	if [ -x build/pap_author ]; then install -D -m 755 build/pap_author '$(DESTDIR)$(PREFIX)/bin/pap_author'; fi
 
 uninstall:
-	rm -f '$(DESTDIR)$(PREFIX)/bin/papcalc' '$(DESTDIR)$(PREFIX)/share/man/man1/papcalc.1'
+	rm -f '$(DESTDIR)$(PREFIX)/bin/papcalc' '$(DESTDIR)$(PREFIX)/share/man/man1/papcalc.1' '$(DESTDIR)$(PREFIX)/bin/pap_author'
 
 test:
 	bash .ci/run
@@ -52,13 +54,15 @@ client-java:
 	cmp build/client-python build/client-java
 	cat build/client-java
 
-# The worked examples that lie beside the repository in development, on the built program.
-rows: build
+# The worked examples, on the built program. They aren't part of the repository: in development they lie beside it.
+rows:
+	@test -f ../shared/run_rows.py || { echo 'rows: the worked examples (../shared) are not part of the repository' >&2; exit 1; }
+	$(MAKE) build
 	python3 ../shared/run_rows.py --bin "$(CURDIR)/build/papcalc" --stage 20 --words check,once,run,sample,save \
 	    --lines plan,drop,add,change,withdraw,load,report,work,trace,file,owed,open,try --prefixes
 	python3 tools/call_rows.py build/papcalc ../shared/rows/calls.json
 
-# Tries the wrong bodies that stand outside the gate, of all crates or of those of CRATES="a b".
+# Tries the wrong bodies of all crates or of those of CRATES="a b", also those that the gate leaves out.
 wrong-bodies:
 	tools/wrong_bodies.sh $(CRATES)
 

@@ -7,13 +7,15 @@ set -u
 cd "$(dirname "$0")/.." || exit 2
 crates=("$@")
 if [ "${#crates[@]}" -eq 0 ]; then
-    for folder in crates/*/wrong-bodies; do
-        crates+=("$(basename "$(dirname "$folder")")")
+    for folder in crates/*; do
+        if [ -d "$folder/wrong-bodies" ] || [ -d "$folder/must-fail" ]; then
+            crates+=("$(basename "$folder")")
+        fi
     done
 fi
 for crate in "${crates[@]}"; do
-    if [ ! -d "crates/$crate/wrong-bodies" ]; then
-        echo "wrong_bodies: $crate has no folder wrong-bodies" >&2
+    if [ ! -d "crates/$crate/wrong-bodies" ] && [ ! -d "crates/$crate/must-fail" ]; then
+        echo "wrong_bodies: $crate has no wrong bodies" >&2
         exit 2
     fi
 done
@@ -25,8 +27,10 @@ git -C "$copy" init -q || exit 2
 edits=0
 begin=$SECONDS
 for crate in "${crates[@]}"; do
-    mkdir -p "$copy/crates/$crate/must-fail" || exit 2
-    mv "$copy/crates/$crate/wrong-bodies"/* "$copy/crates/$crate/must-fail" || exit 2
+    if [ -d "$copy/crates/$crate/wrong-bodies" ]; then
+        mkdir -p "$copy/crates/$crate/must-fail" || exit 2
+        mv "$copy/crates/$crate/wrong-bodies"/* "$copy/crates/$crate/must-fail" || exit 2
+    fi
     edits=$((edits + $(find "$copy/crates/$crate/must-fail" -name '*.edit' | wc -l)))
 done
 (cd "$copy" && rt must-fail "${crates[@]}") 2>&1 | tee "$copy/tried"
