@@ -1,3 +1,4 @@
 pub mod KeptLemmas
 pub mod EdgeLemmas
 pub mod Spaces
+pub mod WalkLemmas

@@ -1,5 +1,6 @@
 pub mod Edges
 pub mod Marks
+pub mod Walks
 pub mod ScanViews
 pub mod Lines
 pub mod LineViews

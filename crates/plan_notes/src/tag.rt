@@ -1,6 +1,7 @@
 //! The tags of a plan's file.
 ghost use Rattle.std.specs.Prelude.{◌≡◌, ℕ, List};
 ghost use Rattle.plan_notes.specs.Edges.{Edge, HasEdges};
+ghost use Rattle.plan_notes.specs.Walks.{is_start};
 
 use pap_reader::{Element, split_letters};
 
@@ -26,7 +27,9 @@ pub enum Starts {
 
 impl Starts {
     /// Whether a tag is one of them.
-    pub(crate) fn has(self, mark: &Mark) -> bool {
+    pub(crate) fn has(self, mark: &Mark) -> bool
+        ensures { result ≡ is_start self mark.now }
+    {
         let is_sought = match self {
             Starts::Of(element) => mark.element == element,
             Starts::OfStatements => {
