@@ -2,3 +2,4 @@ pub mod KeptLemmas
 pub mod EdgeLemmas
 pub mod Spaces
 pub mod WalkLemmas
+pub mod NoteLemmas
