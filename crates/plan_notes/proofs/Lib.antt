@@ -3,3 +3,4 @@ pub mod EdgeLemmas
 pub mod Spaces
 pub mod WalkLemmas
 pub mod NoteLemmas
+pub mod AttributeLemmas

@@ -3,6 +3,7 @@ pub mod Marks
 pub mod Walks
 pub mod Contents
 pub mod Notes
+pub mod AttributeBytes
 pub mod ScanViews
 pub mod Lines
 pub mod LineViews
