@@ -4,6 +4,7 @@ pub mod Walks
 pub mod Contents
 pub mod Notes
 pub mod AttributeBytes
+pub mod TagNames
 pub mod ScanViews
 pub mod Lines
 pub mod LineViews
