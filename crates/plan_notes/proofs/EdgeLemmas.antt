@@ -48,7 +48,7 @@ read_more file left rest old new at r e (inr t) =
 cons_nil : (b : ℕ) (x : List ℕ) → b ∷ x ≡ [] → ⊥
 cons_nil b x e = absurd cc
 
-ended : (left : List ℕ) → NotPassed left → NoTag left → (left ≡ []) ⊎ IsAlien left
+pub ended : (left : List ℕ) → NotPassed left → NoTag left → (left ≡ []) ⊎ IsAlien left
 ended [] n m = inl refl
 ended (b ∷ left) n m = inr (record { some = cons_nil b left; no_tag = m; not_passed = n })
 

@@ -1,2 +1,6 @@
 pub mod KeptLemmas
 pub mod EdgeLemmas
+pub mod Spaces
+pub mod WalkLemmas
+pub mod NoteLemmas
+pub mod AttributeLemmas

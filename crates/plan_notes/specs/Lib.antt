@@ -1,3 +1,10 @@
 pub mod Edges
 pub mod Marks
+pub mod Walks
+pub mod Contents
+pub mod Notes
+pub mod AttributeBytes
+pub mod TagNames
 pub mod ScanViews
+pub mod Lines
+pub mod LineViews

@@ -1,11 +1,15 @@
 //! One pass over a plan's file.
-ghost use Rattle.std.specs.Prelude.{◌≡◌, ◌+◌, ◌<◌, ◌≤◌, [], ◌∷◌, map, length, vec_len, All, IfOk, IfSome, OnOk, MatchOption};
+ghost use Rattle.std.specs.Prelude.{◌≡◌, ℕ, ◌+◌, ◌<◌, ◌≤◌, List, [], ◌∷◌, ◌++◌, map, length, vec_len, All, IfOk, IfSome, OnOk, MatchOption, option_map, string_bytes};
 ghost use Rattle.std.specs.List.Sorted.{IsNonDecreasingBy};
-ghost use Rattle.pap_reader.specs.Tags.{tag_of};
+ghost use Rattle.pap_reader.specs.Tags.{tag_of, attributes_of};
 ghost use Rattle.pap_reader.specs.Marks.{marks_of};
+ghost use Rattle.pap_reader.specs.Attributes.{value_of};
+ghost use Rattle.plan_notes.specs.Lines.{line_text};
 ghost use Rattle.plan_notes.specs.Edges.{HasEdges, edge, edges_by};
 ghost use Rattle.plan_notes.specs.Marks.{edge_of, HaveComments};
-ghost use Rattle.plan_notes.specs.ScanViews.{AreKept, Finds, Takes, Stops};
+ghost use Rattle.plan_notes.specs.Contents.{place, comment_with};
+ghost use Rattle.plan_notes.specs.Notes.{noted, SaysOfRoot, HasNotes};
+ghost use Rattle.plan_notes.specs.ScanViews.{AreKept, Finds, Takes, Stops, SameRoot, AddsComment, KeepsPassed, KeepsRoot, KeepsRootBy, TellsMore};
 
 use crate::notes::Notes;
 use crate::tag::Mark;
@@ -23,8 +27,11 @@ struct Scan {
 }
 
 /// The tags and comments of a plan's file, up to its end or to a place where neither a tag nor a comment nor white space
-/// stands. A tag of no element is passed over. Takes time linear in the file, and fails only for want of memory.
+/// stands. A tag of no element is passed over, and a comment that is blank. Takes time linear in the file, and fails only for
+/// want of memory.
 pub fn read_notes(alloc: Global, file: &[u8]) -> Result<Notes, AllocError>
+    // The comments and the places, in the file's order, and what its root says.
+    ensures notes { IfOk result (λ notes. HasNotes file.now notes) }
     // Elements begin and end where the marks say, and nowhere else.
     ensures tags { IfOk result (λ notes. HasEdges file.now (map edge_of notes.marks.items)) }
     ensures places { IfOk result (λ notes. All (λ mark. mark.at < length file.now) notes.marks.items) }
@@ -45,6 +52,8 @@ impl Scan {
     fn new(alloc: Global) -> Scan
         ensures kept { AreKept result.notes result.first 0 }
         ensures empty { result.notes.marks.items ≡ [] }
+        ensures told { noted result.notes result.first ≡ [] }
+        ensures root { SaysOfRoot result.notes [] }
     {
         Scan {
             alloc,
@@ -66,10 +75,12 @@ impl Scan {
             (λ rest. Takes self.old.notes self.new.notes at bytes.now rest.now)) }
         ensures kept { IfOk result (λ o. IfSome o (λ _.
             AreKept self.new.notes self.new.first (at + 1))) }
+        ensures told { IfOk result (λ o. IfSome o (λ rest. TellsMore self.old.notes self.old.first
+            self.new.notes self.new.first at bytes.now rest.now)) }
         ensures shorter { IfOk result (λ o. IfSome o (λ rest. length rest.now < length bytes.now)) }
     {
         if let Some(rest) = after_passed(bytes) {
-            self.keep_comment(&bytes[..bytes.len() - rest.len()])?;
+            self.keep_passed(&bytes[..bytes.len() - rest.len()])?;
             return Ok(Some(rest));
         }
         let Some((tag, rest)) = read_tag(self.alloc, bytes)? else {
@@ -80,15 +91,33 @@ impl Scan {
     }
 
     /// Keeps what stands before a tag, if it is a comment and not white space.
-    fn keep_comment(&mut self, passed: &[u8]) -> Result<(), AllocError>
+    fn keep_passed(&mut self, passed: &[u8]) -> Result<(), AllocError>
+        ensures told { OnOk result (KeepsPassed self.old.notes self.new.notes passed.now) }
         ensures marks { OnOk result (self.new.notes.marks.items ≡ self.old.notes.marks.items) }
         ensures first { OnOk result (self.new.first ≡ self.old.first) }
+        ensures root { OnOk result (SameRoot self.old.notes self.new.notes) }
         ensures more { OnOk result
             (vec_len self.old.notes.comments ≤ vec_len self.new.notes.comments) }
     {
-        let comment = one_line(self.alloc, inside_comment(passed))?;
-        if !comment.is_empty() {
-            self.notes.comments.push(comment)?;
+        match inside_comment(passed) {
+            Some(inside) => self.keep_comment(inside),
+            None => Ok(()),
+        }
+    }
+
+    /// Keeps a comment in one line, unless it is blank.
+    fn keep_comment(&mut self, inside: &[u8]) -> Result<(), AllocError>
+        ensures told { OnOk result (AddsComment self.old.notes.comments.items
+            self.new.notes.comments.items inside.now) }
+        ensures marks { OnOk result (self.new.notes.marks.items ≡ self.old.notes.marks.items) }
+        ensures first { OnOk result (self.new.first ≡ self.old.first) }
+        ensures root { OnOk result (SameRoot self.old.notes self.new.notes) }
+        ensures more { OnOk result
+            (vec_len self.old.notes.comments ≤ vec_len self.new.notes.comments) }
+    {
+        let line = one_line(self.alloc, inside)?;
+        if !line.is_empty() {
+            self.notes.comments.push(line)?;
         }
         Ok(())
     }
@@ -99,6 +128,11 @@ impl Scan {
         ensures kept { OnOk result (AreKept self.new.notes self.new.first (at + 1)) }
         ensures found { OnOk result
             (Finds self.old.notes self.new.notes (edges_by at (marks_of (tag_of tag.now)))) }
+        ensures told { OnOk result (noted self.new.notes self.new.first
+            ≡ noted self.old.notes self.old.first
+            ++ map place (edges_by at (marks_of (tag_of tag.now)))) }
+        ensures root { OnOk result
+            (KeepsRootBy self.old.notes self.new.notes (marks_of (tag_of tag.now))) }
     {
         let Some(element) = Element::named(tag.name) else {
             return Ok(());
@@ -106,9 +140,7 @@ impl Scan {
         if tag.form == Form::End {
             return self.mark(at, element, true);
         }
-        if element == Element::Pap {
-            self.keep_root(tag)?;
-        }
+        self.keep_root(element, tag)?;
         self.mark(at, element, false)?;
         if tag.form == Form::Empty {
             self.mark(at, element, true)?;
@@ -116,12 +148,19 @@ impl Scan {
         Ok(())
     }
 
-    /// Keeps what the start tag of the root says of the plan.
-    fn keep_root(&mut self, tag: &Tag<'_>) -> Result<(), AllocError>
+    /// Keeps what the start tag of an element says of the plan, where it is the root's.
+    fn keep_root(&mut self, element: Element, tag: &Tag<'_>) -> Result<(), AllocError>
+        ensures root { OnOk result (KeepsRoot self.old.notes self.new.notes
+            element (attributes_of tag.now.attributes.items)) }
         ensures marks { OnOk result (self.new.notes.marks ≡ self.old.notes.marks) }
         ensures comments { OnOk result (self.new.notes.comments ≡ self.old.notes.comments) }
         ensures first { OnOk result (self.new.first ≡ self.old.first) }
+        ensures told { OnOk result (noted self.new.notes self.new.first
+            ≡ noted self.old.notes self.old.first) }
     {
+        if element != Element::Pap {
+            return Ok(());
+        }
         self.notes.name = line_of(self.alloc, tag, b"name")?;
         self.notes.version = line_of(self.alloc, tag, b"version")?;
         Ok(())
@@ -133,6 +172,9 @@ impl Scan {
         ensures kept { OnOk result (AreKept self.new.notes self.new.first (at + 1)) }
         ensures found { OnOk result
             (Finds self.old.notes self.new.notes (edge element is_end at ∷ [])) }
+        ensures told { OnOk result (noted self.new.notes self.new.first
+            ≡ noted self.old.notes self.old.first ++ place (edge element is_end at) ∷ []) }
+        ensures root { OnOk result (SameRoot self.old.notes self.new.notes) }
     {
         let first = self.first;
         let last = self.notes.comments.len();
@@ -148,16 +190,20 @@ impl Scan {
     }
 }
 
-/// The text of a comment. Nothing where white space stands.
-fn inside_comment(passed: &[u8]) -> &[u8] {
-    match passed.strip_prefix(b"<!--") {
-        Some(rest) => rest.strip_suffix(b"-->").unwrap_or(&[]),
-        None => &[],
-    }
+/// The text inside a comment. `None` where white space stands.
+fn inside_comment(passed: &[u8]) -> Option<&[u8]>
+    ensures { MatchOption result
+        ((inside : List ℕ) → passed.now ≡ comment_with inside → ⊥)
+        (λ inside. passed.now ≡ comment_with inside.now) }
+{
+    passed.strip_prefix(b"<!--")?.strip_suffix(b"-->")
 }
 
 /// The value of an attribute of a tag, in one line. `None` where the tag has no such attribute.
-fn line_of(alloc: Global, tag: &Tag<'_>, name: &[u8]) -> Result<Option<String>, AllocError> {
+fn line_of(alloc: Global, tag: &Tag<'_>, name: &[u8]) -> Result<Option<String>, AllocError>
+    ensures { IfOk result (λ line. option_map (λ text. string_bytes text) line
+        ≡ option_map line_text (value_of name.now (attributes_of tag.now.attributes.items))) }
+{
     match value_of(&tag.attributes, name) {
         Some(value) => Ok(Some(one_line(alloc, value)?)),
         None => Ok(None),

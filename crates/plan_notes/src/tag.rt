@@ -1,6 +1,8 @@
 //! The tags of a plan's file.
 ghost use Rattle.std.specs.Prelude.{◌≡◌, ℕ, List};
 ghost use Rattle.plan_notes.specs.Edges.{Edge, HasEdges};
+ghost use Rattle.plan_notes.specs.TagNames.{name_at};
+ghost use Rattle.plan_notes.specs.Walks.{is_start};
 
 use pap_reader::{Element, split_letters};
 
@@ -26,7 +28,9 @@ pub enum Starts {
 
 impl Starts {
     /// Whether a tag is one of them.
-    pub(crate) fn has(self, mark: &Mark) -> bool {
+    pub(crate) fn has(self, mark: &Mark) -> bool
+        ensures { result ≡ is_start self mark.now }
+    {
         let is_sought = match self {
             Starts::Of(element) => mark.element == element,
             Starts::OfStatements => {
@@ -37,11 +41,14 @@ impl Starts {
     }
 }
 
-/// The name of the element whose tag stands first in a text. Nothing where none does.
-pub fn element_name(text: &[u8]) -> &[u8] {
-    match text {
-        [b'<', b'/', name @ ..] | [b'<', name @ ..] => split_letters(name).0,
-        _ => &[],
+/// The letters behind the `<` or `</` with which a text begins; of a tag, the name of its element. Nothing where a text begins
+/// with neither.
+pub fn element_name(text: &[u8]) -> &[u8]
+    ensures { result.now ≡ name_at text.now }
+{
+    match text.strip_prefix(b"<") {
+        Some(inner) => split_letters(inner.strip_prefix(b"/").unwrap_or(inner)).0,
+        None => &[],
     }
 }
 

@@ -1,9 +1,15 @@
-use Rattle.std.specs.Prelude.{⊤}
-use Rattle.std.proofs.Common.{length}
+use Rattle.std.proofs.Common.{◌≤◌, List, ℕ, length, drop}
+use Rattle.pap_reader.specs.Bytes.{is_ascii_letter, after}
+use Rattle.pap_reader.specs.Tags.{Tag, IsTag}
+use Rattle.plan_notes.proofs.AttributeLemmas.{Going}
 use Rattle.plan_notes.proofs.attributes.front_of.Given as goal
 
 abbrev pub invariant-loop-front : goal.invariant-loop-front
-invariant-loop-front l = ⊤
+invariant-loop-front l = record {
+  going : (t : Tag) (rest : List ℕ) → IsTag l.text t rest
+      → Going l.name (after is_ascii_letter (drop 1 l.text)) t.attributes l.left;
+  shorter : length l.left ≤ length l.text;
+}
 
 abbrev pub decreases-loop-front : goal.decreases-loop-front
 decreases-loop-front l = length l.left

@@ -1,10 +1,11 @@
 use Rattle.std.proofs.Common.{◌-◌, ◌≤◌, length}
-use Rattle.plan_notes.specs.ScanViews.{AreKept, HasRead}
+use Rattle.plan_notes.specs.ScanViews.{AreKept, HasRead, HasTold}
 use Rattle.plan_notes.proofs.scan.read_notes.Given as goal
 
 abbrev pub invariant-loop-scan : goal.invariant-loop-scan
 invariant-loop-scan l = record {
   read : HasRead l.file l.left l.scan.notes;
+  told : HasTold l.file l.left l.scan.notes l.scan.first;
   kept : AreKept l.scan.notes l.scan.first (length l.file - length l.left);
   shorter : length l.left ≤ length l.file;
 }

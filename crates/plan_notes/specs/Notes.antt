@@ -1,0 +1,43 @@
+-- The notes of a plan's file.
+use Rattle.std.specs.Prelude.{◌≡◌, ◌≤◌, ℕ, ◌⊎◌, List, [], ◌∷◌, ◌++◌, map, drop, vec_len, codes, option_map, String, string_bytes}
+use Rattle.std.specs.declared.alloc.Global.{Global}
+use Rattle.std.specs.List.{flat_map}
+use Rattle.pap_reader.specs.Tags.{Attribute}
+use Rattle.pap_reader.specs.Tokens.{IsAlien}
+use Rattle.pap_reader.specs.Attributes.{value_of}
+use Rattle.plan_notes.specs.declared.tag.Mark.{Mark}
+use Rattle.plan_notes.specs.declared.notes.Notes.{Notes}
+use Rattle.plan_notes.specs.Lines.{line_text}
+use Rattle.plan_notes.specs.Marks.{edge_of, HaveInTurn}
+use Rattle.plan_notes.specs.Walks.{comments_at}
+use Rattle.plan_notes.specs.Contents.{Token, HasTokens, Item, line, place, items_of, root_of}
+
+abbrev pub lines_of : List (String Global) → List Item
+lines_of comments = map (λ comment. line (string_bytes comment)) comments
+
+-- a mark's comments, and then its place
+abbrev pub items_at : List (String Global) → Mark → List Item
+items_at comments mark = lines_of (comments_at comments mark) ++ (place (edge_of mark) ∷ [])
+
+-- what the notes hold, in their order: the comments of each mark before its place, and then those from a number on
+unfoldable pub noted : Notes → ℕ → List Item
+noted notes behind =
+    flat_map (items_at notes.comments.items) notes.marks.items ++ lines_of (drop behind notes.comments.items)
+
+-- The root's name and version are those of these attributes, in one line.
+pub record SaysOfRoot (notes : Notes) (attributes : List Attribute) : Type 0 where
+  pub name : option_map (λ text. string_bytes text) notes.name ≡ option_map line_text (value_of (codes "name") attributes)
+  pub version : option_map (λ text. string_bytes text) notes.version ≡ option_map line_text (value_of (codes "version") attributes)
+
+-- The notes hold the comments of the file that aren't blank, and the places where elements begin and end, in its order, up to
+-- its end or to a place where no token begins: each comment before the first place behind it, or behind the last.
+pub record HasNotes (file : List ℕ) (notes : Notes) : Type 0 where
+  pub tokens : List Token
+  pub rest : List ℕ
+  pub read : HasTokens file tokens rest
+  pub ended : (rest ≡ []) ⊎ IsAlien rest
+  pub behind : ℕ
+  pub in_turn : HaveInTurn 0 notes.marks.items behind
+  pub within : behind ≤ vec_len notes.comments
+  pub items : noted notes behind ≡ items_of tokens
+  pub root : SaysOfRoot notes (root_of tokens)
