@@ -205,12 +205,14 @@ pub record EndsUnwritten (files : FileMap) (script : List ℕ) (ended : Unwritte
   pub refusals : (ended.refusals).items ≡ session.refusals
   pub left : ended.script ≡ session.standing
 
--- the script was answered whole: this is what its transcript says
+-- the script was answered whole: this is what its transcript says; its refusals weren't kept
 pub record IsFinished (files : FileMap) (script : List ℕ) (began steps : ℕ)
     (ended : Ended) : Type 0 where
   pub session : Session
   pub is : IsTranscript files script session
   pub mark : ended.refused ≡ session.refused
+  pub told : IsToldOf session.lines session.refused_lines ended.refused_lines
+  pub unkept : ended.refusals ≡ None
   pub cost : steps ≡ began + session.steps
   pub left : ended.script ≡ session.standing
 
