@@ -2,7 +2,6 @@
 use Rattle.std.specs.Prelude.{◌≡◌, ℕ, ◌+◌, nat_lt, Bool, if◌then◌else◌, List, [], ◌∷◌, ◌++◌, length, map, take, min, Option, None, Some, String}
 use Rattle.std.specs.declared.alloc.Global.{Global}
 use Rattle.script_run.specs.Limits.{most_told}
-use Rattle.script_run.specs.Transcripts.{noted}
 use Rattle.script_run.specs.declared.refused_lines.RefusedLine.{RefusedLine}
 use Rattle.script_run.specs.declared.refused_lines.RefusedLines.{RefusedLines}
 
@@ -19,6 +18,10 @@ pub record IsToldOf (answered : ℕ) (refused : List ℕ) (told : RefusedLines) 
   pub answered_is : told.answered ≡ told_number answered
   pub count_is : told.count ≡ told_number (length refused)
   pub first_are : map (λ line. line.number) told.first.items ≡ map told_number (take most_told refused)
+
+-- the numbers of the refused lines, with that of one more line where it is refused
+abbrev pub noted : List ℕ → ℕ → Bool → List ℕ
+noted refused number is_refused = refused ++ (if is_refused then number ∷ [] else [])
 
 -- one more line is told, behind whatever lines were, and whether it is refused
 abbrev pub Notes : RefusedLines → RefusedLines → Bool → Type 0

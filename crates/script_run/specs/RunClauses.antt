@@ -6,7 +6,7 @@ use Rattle.outside.specs.Told.{FileMap, Appends}
 use Rattle.script_steps.specs.Steps.{Standing, Answer, Names, AreThere, IsStep}
 use Rattle.script_steps.specs.LineSteps.{IsNextFile}
 use Rattle.script_run.specs.Limits.{most_script, most_turn}
-use Rattle.script_run.specs.Transcripts.{Session, opening, lines_of, ended_lines, AreAnswered, IsTranscript}
+use Rattle.script_run.specs.Transcripts.{Session, lines_of, ended_lines, AreAnswered, IsTranscript}
 use Rattle.script_run.specs.declared.turns.Ended.{Ended}
 use Rattle.script_run.specs.declared.turns.Unwritten.{Unwritten}
 use Rattle.script_run.specs.declared.stop.Stop.{Stop}
@@ -57,7 +57,7 @@ pub record IsFrontOf (session : Session) (out : List ℕ) (spent : ℕ) : Type 0
 pub record IsExactly (files : FileMap) (lines : List (List ℕ)) (out : List ℕ)
     (spent : ℕ) : Type 0 where
   pub session : Session
-  pub answered : AreAnswered files opening lines session
+  pub answered : AreAnswered files lines session
   pub text : out ≡ session.text
   pub cost : spent ≡ session.steps
 
@@ -76,7 +76,7 @@ pub record IsWhole (files : FileMap) (script out : List ℕ) (spent : ℕ)
 pub record IsCutAt (files : FileMap) (before : List (List ℕ)) (line out : List ℕ)
     (spent : ℕ) : Type 0 where
   pub session : Session
-  pub answered : AreAnswered files opening before session
+  pub answered : AreAnswered files before session
   pub to : Standing
   pub answer : Answer
   pub step : IsStep files session.standing line to answer
