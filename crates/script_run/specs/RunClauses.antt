@@ -63,7 +63,7 @@ pub record IsExactly (files : FileMap) (lines : List (List ℕ)) (out : List ℕ
 
 -- what was written is the whole transcript, whose lines all name files that are there; exactly its
 -- steps were counted, and this says whether an answer is a refusal
-pub record IsWhole (files : FileMap) (script out : List ℕ) (spent : ℕ)
+pub record IsWholeTranscript (files : FileMap) (script out : List ℕ) (spent : ℕ)
     (refused : Bool) : Type 0 where
   pub session : Session
   pub is : IsTranscript files script session
@@ -138,7 +138,8 @@ pub record IsLongStop (told : Option FileMap) (course : Course) : Type 0 where
 -- the script was read to its end and its transcript was written whole
 pub record IsEnd (told : Option FileMap) (course : Course) (refused : Bool) : Type 0 where
   pub read : course.rest ≡ []
-  pub whole : ForSome told (λ files. IsWhole files course.script course.out course.spent refused)
+  pub whole : ForSome told (λ files.
+      IsWholeTranscript files course.script course.out course.spent refused)
 
 -- what each result says; where a line stops the run, at most so many bytes were taken after its end
 abbrev pub Tells : ℕ → Option FileMap → Course → Option (List ℕ) → Result Bool Stop → Type 0
