@@ -7,45 +7,76 @@ use Rattle.outside.specs.Told.{FileMap}
 use Rattle.script_steps.specs.Steps.{Standing, Answer, AreThere, IsStep}
 use Rattle.script_steps.specs.StepLaws.{LacksAFile}
 use Rattle.script_steps.proofs.Laws as step
-use Rattle.script_run.specs.Transcripts.{Session, opening, with_answer, lines_of, AreAnswered, IsHalted, IsSession}
+use Rattle.script_run.specs.RunViews.{Follow, opening, with_answer}
+use Rattle.script_run.specs.Transcripts.{Session, lines_of, IsHalted, IsSession}
 use Rattle.script_run.specs.TranscriptLaws.{ScriptsHaveATranscript, ScriptsHaveOneTranscript}
 use Rattle.script_run.specs.RunClauses.{IsFrontOf}
 -- The answers of a session, one after another; every script leaves a book that can be saved.
-pub use Rattle.script_run.proofs.AnswerLaws.{HasAnswered, HasSteps, any_refused, has_answered, has_steps, leave_books}
-pub use Rattle.script_run.proofs.AnswerLaws.{no_refusals, refusals, texts}
+pub use Rattle.script_run.proofs.AnswerLaws.{HasAnswered, HasSteps, any_refused, answered_of, follow_of, has_answered, has_steps}
+pub use Rattle.script_run.proofs.AnswerLaws.{leave_books, no_refusals, refusals, texts}
+
+-- these lines take one total to the other, up to the first that names a file that isn't there
+pub record FollowToHalt (files : FileMap) (from : Session) (lines : List (List ℕ)) (to : Session) : Type 0 where
+  pub before : List (List ℕ)
+  pub after : List (List ℕ)
+  pub parts : lines ≡ before ++ after
+  pub answered : Follow files from before to
+  pub halted : IsHalted files after
+
+-- from the first line on that is a session
+pub session_of_totals : (files : FileMap) (lines : List (List ℕ)) (session : Session)
+    → FollowToHalt files opening lines session → IsSession files lines session
+session_of_totals files lines session h = record {
+  before = h.before;
+  after = h.after;
+  parts = h.parts;
+  answered = answered_of files h.before session h.answered;
+  halted = h.halted;
+}
+
+-- and the other way
+pub totals_of_session : (files : FileMap) (lines : List (List ℕ)) (session : Session)
+    → IsSession files lines session → FollowToHalt files opening lines session
+totals_of_session files lines session h = record {
+  before = h.before;
+  after = h.after;
+  parts = h.parts;
+  answered = follow_of files h.before session h.answered;
+  halted = h.halted;
+}
 
 -- lines are answered after others
-pub AreAnswered-append : (files : FileMap) (from mid to : Session) (lines more : List (List ℕ)) →
-    AreAnswered files from lines mid → AreAnswered files mid more to → AreAnswered files from (lines ++ more) to
-AreAnswered-append files from mid to [] more same after = subst (λ v. AreAnswered files v more to) same after
-AreAnswered-append files from mid to (line ∷ lines) more before after = (
+pub Follow-append : (files : FileMap) (from mid to : Session) (lines more : List (List ℕ)) →
+    Follow files from lines mid → Follow files mid more to → Follow files from (lines ++ more) to
+Follow-append files from mid to [] more same after = subst (λ v. Follow files v more to) same after
+Follow-append files from mid to (line ∷ lines) more before after = (
   before.0,
   before.1,
   before.2,
-  AreAnswered-append files
+  Follow-append files
       (with_answer from before.1 before.0) mid to lines more before.3 after,
 )
 
 -- one more line is answered
-pub AreAnswered-next : (files : FileMap) (from mid : Session) (lines : List (List ℕ)) (line : List ℕ)
+pub Follow-next : (files : FileMap) (from mid : Session) (lines : List (List ℕ)) (line : List ℕ)
     (standing : Standing) (answer : Answer) →
-    AreAnswered files from lines mid → IsStep files mid.standing line standing answer →
-    AreAnswered files from (lines ++ line ∷ []) (with_answer mid answer standing)
-AreAnswered-next files from mid lines line standing answer before is =
-    AreAnswered-append files from mid (with_answer mid answer standing) lines (line ∷ []) before
+    Follow files from lines mid → IsStep files mid.standing line standing answer →
+    Follow files from (lines ++ line ∷ []) (with_answer mid answer standing)
+Follow-next files from mid lines line standing answer before is =
+    Follow-append files from mid (with_answer mid answer standing) lines (line ∷ []) before
     (standing, answer, is, refl)
 
 -- answers go onto the text, and steps onto the steps
-pub AreAnswered-grows : (files : FileMap) (from to : Session) (lines : List (List ℕ)) →
-    AreAnswered files from lines to → IsFrontOf to from.text from.steps
-AreAnswered-grows files from to [] same = record {
+pub Follow-grows : (files : FileMap) (from to : Session) (lines : List (List ℕ)) →
+    Follow files from lines to → IsFrontOf to from.text from.steps
+Follow-grows files from to [] same = record {
   later = [];
   text = ap (λ v. v.text) same
       ∙ sym (append-nil from.text);
   cost = omega (arith, ap (λ v. v.steps) same);
 }
-AreAnswered-grows files from to (line ∷ lines) answered =
-    let on = AreAnswered-grows files (with_answer from answered.1 answered.0) to lines answered.3 in
+Follow-grows files from to (line ∷ lines) answered =
+    let on = Follow-grows files (with_answer from answered.1 answered.0) to lines answered.3 in
     let more : from.steps + (answered.1).steps ≤ to.steps = on.cost in
     record {
       later = (answered.1).text ++ on.later;
@@ -58,13 +89,13 @@ not_there : (files : FileMap) (line : List ℕ) → LacksAFile files line → ¬
 not_there files line lack = λ there. let is = subst (λ v. IsSome v) lack.lacks (there lack.name lack.names) in cc
 
 -- answered lines name files that are there
-pub AreAnswered-there : (files : FileMap) (from to : Session) (lines : List (List ℕ)) →
-    AreAnswered files from lines to → All (λ line. AreThere files line) lines
-AreAnswered-there files from to [] same = All-nil (λ line. AreThere files line)
-AreAnswered-there files from to (line ∷ lines) answered =
+pub Follow-there : (files : FileMap) (from to : Session) (lines : List (List ℕ)) →
+    Follow files from lines to → All (λ line. AreThere files line) lines
+Follow-there files from to [] same = All-nil (λ line. AreThere files line)
+Follow-there files from to (line ∷ lines) answered =
     All-cons (λ line. AreThere files line) line lines
     (step.one files from.standing line answered.0 answered.0 answered.1 answered.1 answered.2 answered.2).0
-    (AreAnswered-there files (with_answer from answered.1 answered.0) to lines answered.3)
+    (Follow-there files (with_answer from answered.1 answered.0) to lines answered.3)
 
 cons_head : (a b : List ℕ) (x y : List (List ℕ)) → a ∷ x ≡ b ∷ y → a ≡ b
 cons_head a b x y e = cc
@@ -84,14 +115,14 @@ after_same files from line other standing standing' answer answer' same a b =
 
 session_parts : (files : FileMap) (from mid to : Session) (lines more before after : List (List ℕ)) →
     lines ++ more ≡ before ++ after →
-    AreAnswered files from lines mid → AreAnswered files from before to → IsHalted files after →
-    IsSession files mid more to
+    Follow files from lines mid → Follow files from before to → IsHalted files after →
+    FollowToHalt files mid more to
 session_parts files from mid to [] more before after parts same answered halted =
     record {
       before = before;
       after = after;
       parts = parts;
-      answered = subst (λ v. AreAnswered files v before to)
+      answered = subst (λ v. Follow files v before to)
           (sym same) answered;
       halted = halted;
     }
@@ -104,17 +135,17 @@ session_parts files from mid to (line ∷ lines) more (next ∷ before) after pa
     (lines ++ more) (before ++ after) parts)) first.2 answered.2 in
     session_parts files (with_answer from first.1 first.0) mid to lines more before after (cons_tail line next
     (lines ++ more) (before ++ after) parts) first.3
-    (subst (λ v. AreAnswered files v before to) same answered.3) halted
+    (subst (λ v. Follow files v before to) same answered.3) halted
 
--- where some lines are answered, a session goes on from there
-pub IsSession-rest : (files : FileMap) (from mid to : Session) (lines more : List (List ℕ)) →
-    AreAnswered files from lines mid → IsSession files from (lines ++ more) to → IsSession files mid more to
-IsSession-rest files from mid to lines more answered session =
+-- where some lines are answered, the others go on from there
+pub FollowToHalt-rest : (files : FileMap) (from mid to : Session) (lines more : List (List ℕ)) →
+    Follow files from lines mid → FollowToHalt files from (lines ++ more) to → FollowToHalt files mid more to
+FollowToHalt-rest files from mid to lines more answered session =
     session_parts files from mid to lines more session.before session.after session.parts answered session.answered
     session.halted
 
 nothing_more : (files : FileMap) (mid to : Session) (after before later : List (List ℕ)) → after ≡ before ++ later →
-    IsHalted files after → AreAnswered files mid before to → to ≡ mid
+    IsHalted files after → Follow files mid before to → to ≡ mid
 nothing_more files mid to after [] later parts halted same = same
 nothing_more files mid to [] (line ∷ before) later parts halted answered = cc
 nothing_more files mid to (next ∷ after) (line ∷ before) later parts halted answered =
@@ -122,18 +153,18 @@ nothing_more files mid to (next ∷ after) (line ∷ before) later parts halted 
     answered.2).0 in
     absurd (halted (subst (λ v. AreThere files v) (sym (cons_head next line after (before ++ later) parts)) there))
 
--- lines have one session
-pub IsSession-one : (files : FileMap) (from to other : Session) (lines : List (List ℕ)) →
-    IsSession files from lines to → IsSession files from lines other → to ≡ other
-IsSession-one files from to other lines a b =
-    let rest = IsSession-rest files from to other a.before a.after a.answered (subst
-    (λ v. IsSession files from v other) a.parts b) in
+-- lines take a total to one other
+pub FollowToHalt-one : (files : FileMap) (from to other : Session) (lines : List (List ℕ)) →
+    FollowToHalt files from lines to → FollowToHalt files from lines other → to ≡ other
+FollowToHalt-one files from to other lines a b =
+    let rest = FollowToHalt-rest files from to other a.before a.after a.answered (subst
+    (λ v. FollowToHalt files from v other) a.parts b) in
     sym (nothing_more files to other a.after rest.before rest.after rest.parts a.halted rest.answered)
 
--- lines that are all answered are a session
-pub IsSession-whole : (files : FileMap) (from to : Session) (lines : List (List ℕ)) →
-    AreAnswered files from lines to → IsSession files from lines to
-IsSession-whole files from to lines answered = record {
+-- lines that are all answered are so
+pub FollowToHalt-whole : (files : FileMap) (from to : Session) (lines : List (List ℕ)) →
+    Follow files from lines to → FollowToHalt files from lines to
+FollowToHalt-whole files from to lines answered = record {
   before = lines;
   after = [];
   parts = sym (append-nil lines);
@@ -144,7 +175,7 @@ IsSession-whole files from to lines answered = record {
 -- a session of lines
 record HasSession (files : FileMap) (from : Session) (lines : List (List ℕ)) : Type 0 where
   pub session : Session
-  pub is : IsSession files from lines session
+  pub is : FollowToHalt files from lines session
 
 halts : (files : FileMap) (from : Session) (line : List ℕ) (lines : List (List ℕ)) → ¬ (AreThere files line) →
     HasSession files from (line ∷ lines)
@@ -190,12 +221,12 @@ some_session files from (line ∷ lines) =
 
 -- every script has a transcript
 pub some : ScriptsHaveATranscript
-some files script = let has = some_session files opening (lines_of script) in record {
-  session = has.session;
-  is =
-      has.is;
-}
+some files script =
+    let has = some_session files opening (lines_of script) in
+    record { session = has.session; is = session_of_totals files (lines_of script) has.session has.is }
 
 -- and no other
 pub one : ScriptsHaveOneTranscript
-one files script session other a b = IsSession-one files opening session other (lines_of script) a b
+one files script session other a b =
+    FollowToHalt-one files opening session other (lines_of script) (totals_of_session files (lines_of script) session a)
+    (totals_of_session files (lines_of script) other b)

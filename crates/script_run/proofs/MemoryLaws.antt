@@ -1,6 +1,6 @@
 -- Over files that lack none of a script's, a run is stopped by memory alone.
-use Rattle.std.proofs.Common.{◌≡◌, List, [], ◌∷◌, ◌++◌, ℕ, ◌-◌, ◌≤◌, length, Option, sym, ap, ◌∙◌, subst, arith, length-append}
-use Rattle.std.specs.Prelude.{None, Some, IsSome, All, Bool, Vec, Result, Ok, Err, OnErr}
+use Rattle.std.proofs.Common.{◌≡◌, List, [], ◌∷◌, ◌++◌, ℕ, ◌-◌, ◌≤◌, length, Option, refl, sym, ap, ◌∙◌, subst, arith, length-append}
+use Rattle.std.specs.Prelude.{None, Some, IsSome, is_some, false, All, Bool, Vec, Result, Ok, Err, OnErr}
 use Rattle.std.specs.declared.alloc.Global.{Global}
 use Rattle.std.proofs.lemmas.List.Elements.{All-head, All-tail}
 use Rattle.outside.specs.Told.{FileMap}
@@ -9,6 +9,7 @@ use Rattle.script_steps.specs.Steps.{Standing, AreThere}
 use Rattle.script_run.specs.Limits.{most_script}
 use Rattle.script_run.specs.Transcripts.{lines_of}
 use Rattle.script_run.specs.RunClauses.{Shown, RunMeets, EndsAt, EndsUnwritten, TellsRefused, IsFinished, IsSpentWithin}
+use Rattle.script_run.specs.RefusedLines.{IsToldOf}
 use Rattle.script_run.specs.declared.turns.Ended.{Ended}
 use Rattle.script_run.specs.declared.refused_lines.RefusedLines.{RefusedLines}
 use Rattle.script_run.specs.declared.stop.Stop.TheVariants as stops
@@ -44,12 +45,17 @@ no_long_stop script meets short = omega (
   length-append meets.taken meets.rest,
 )
 
+-- where no refusal was kept there are none
+none_kept : (kept : Option (Vec ℕ Global)) → is_some kept ≡ false → kept ≡ None
+none_kept None e = refl
+none_kept (Some refusals) e = cc
+
 -- what a whole run leaves
 pub finished : {before after : Shown} {left : Option (List ℕ)} (files : FileMap) (script : List ℕ) (ended : Ended) →
     RunMeets before after script left (Ok ended.refused) →
-    EndsAt files script ended.script ended.refusals ended.refused_lines → before.files ≡ Some files →
-    IsFinished files script before.steps after.steps ended
-finished {before = before} {after = after} files script ended meets ends told =
+    EndsAt files script ended.script ended.refusals ended.refused_lines → is_some ended.refusals ≡ false →
+    before.files ≡ Some files → IsFinished files script before.steps after.steps ended
+finished {before = before} {after = after} files script ended meets ends unkept told =
     let whole = meets.leaves.tells.whole files told in
     let same = one files script whole.session ends.session whole.is ends.is in
     let later : before.steps ≤ after.steps = meets.leaves.counted in
@@ -58,6 +64,8 @@ finished {before = before} {after = after} files script ended meets ends told =
       session = whole.session;
       is = whole.is;
       mark = whole.mark;
+      told = subst (λ v. IsToldOf v.lines v.refused_lines ended.refused_lines) (sym same) ends.told_is;
+      unkept = none_kept ended.refusals unkept;
       cost = omega arith;
       left = sym (ap (λ v. v.standing) same ∙ ends.left);
     }

@@ -13,15 +13,16 @@ use Rattle.script_steps.specs.StepClauses.{IsAnswered, IsUnbegun, IsPart, IsCutS
 use Rattle.script_steps.specs.declared.stop.LineStop.{LineStop}
 use Rattle.script_steps.specs.declared.stop.LineStop.TheVariants.{File, Write, Memory}
 use Rattle.script_steps.proofs.Laws as step
-use Rattle.script_run.specs.Transcripts.{Session, opening, with_answer, refusal_of, noted, lines_of, ended_lines, AreAnswered, IsSession, IsTranscript}
+use Rattle.script_run.specs.Transcripts.{Session, refusal_of, lines_of, ended_lines, IsSession, IsTranscript}
 use Rattle.script_run.specs.Stops.{stop_of}
 use Rattle.script_run.specs.RunClauses.{Shown, shown, told_by, IsFrontOf, IsAtLine, Leaves, EndsAt, AreKept}
-use Rattle.script_run.specs.RunViews.{open_line, Holds, IsSameSoFar, IsAtStart, Keeps, IsDelivered, Stands, GoesOn, Breaks, Closes, ClosesAt}
+use Rattle.script_run.specs.RunViews.{Follow, opening, with_answer, open_line, Holds, IsSameSoFar, IsAtStart, Keeps, IsDelivered, Stands, GoesOn, Breaks, Closes, ClosesAt}
 use Rattle.script_run.specs.declared.stop.Stop.TheVariants as stops
 use Rattle.script_run.specs.declared.reading.Reading.{Reading}
-use Rattle.script_run.specs.RefusedLines.{IsToldOf, Notes}
+use Rattle.script_run.specs.RefusedLines.{IsToldOf, Notes, noted}
 use Rattle.script_run.specs.declared.refused_lines.RefusedLines.{RefusedLines}
-use Rattle.script_run.proofs.Laws.{AreAnswered-next, AreAnswered-grows, AreAnswered-there, IsSession-rest, IsSession-whole}
+use Rattle.script_run.proofs.Laws.{FollowToHalt, Follow-next, Follow-grows, Follow-there, FollowToHalt-rest, FollowToHalt-whole}
+use Rattle.script_run.proofs.Laws.{answered_of, session_of_totals, totals_of_session}
 use Rattle.script_run.proofs.LineLaws.{ended_lines-lf, open_line-lf, ended_lines-other, open_line-other, Begins, lines_of-append, lines_of-parts, last_lines, last_lines-some, last_lines-none}
 use Rattle.script_run.proofs.KeepingLaws.{SaysSame}
 
@@ -158,7 +159,7 @@ push_on {old = old} {was = was} {is = is} b other held same = record {
     kept = subst (λ v. AreKept v stands.refusals) (sym same.refusals) stands.kept;
     told = subst (λ v. IsToldOf stands.lines stands.refused_lines v) (sym same.refused_lines) stands.told;
     answered = λ files e.
-        subst (λ v. AreAnswered files opening v (record {
+        subst (λ v. Follow files opening v (record {
           text = stands.out;
           refused = is.refused;
           refusals = stands.refusals;
@@ -167,7 +168,7 @@ push_on {old = old} {was = was} {is = is} b other held same = record {
           steps = old.steps - before.steps;
           standing = is.script;
         })) (sym (ended_lines-other bytes b other))
-        (subst (λ v. AreAnswered files opening (ended_lines bytes) v) (session_same refl (sym same.refused) refl
+        (subst (λ v. Follow files opening (ended_lines bytes) v) (session_same refl (sym same.refused) refl
         (sym same.script)) (stands.answered files e));
   };
 }
@@ -221,7 +222,7 @@ line_on {old = old} {new = new} {was = was} {is = is} {refused = refused} same_f
         told = told_more (stands.lines + 1) stands.refused_lines is.refused_lines refused (answered.answer).refused
             answered.marked (notes stands.lines stands.refused_lines stands.told);
         answered = λ files e.
-            subst (λ v. AreAnswered files opening v (record {
+            subst (λ v. Follow files opening v (record {
               text = stands.out ++ (answered.answer).text;
               refused =
                   is.refused;
@@ -231,10 +232,10 @@ line_on {old = old} {new = new} {was = was} {is = is} {refused = refused} same_f
               steps = new.steps - before.steps;
               standing = is.script;
             })) (sym (ended_lines-lf bytes))
-            (subst (λ v. AreAnswered files opening (ended_lines bytes ++ strip_carriage_return
+            (subst (λ v. Follow files opening (ended_lines bytes ++ strip_carriage_return
             (open_line bytes) ∷ []) v) (session_same refl (ap (λ v. was.refused || v) (sym answered.marked)
             ∙ sym mark) steps refl)
-            (AreAnswered-next files opening _ (ended_lines bytes) (strip_carriage_return
+            (Follow-next files opening _ (ended_lines bytes) (strip_carriage_return
             (open_line bytes)) is.script answered.answer (stands.answered files e) (answered.is files (stands.same
             ∙ e))));
       };
@@ -242,12 +243,13 @@ line_on {old = old} {new = new} {was = was} {is = is} {refused = refused} same_f
 
 -- the session so far is a front of the transcript of a script that begins so
 pub front_so_far : (files : FileMap) (lines more : List (List ℕ)) (script : List ℕ) (session : Session) →
-    lines_of script ≡ lines ++ more → AreAnswered files opening lines session →
+    lines_of script ≡ lines ++ more → Follow files opening lines session →
     (whole : Session) → IsTranscript files script whole → IsFrontOf whole session.text session.steps
 front_so_far files lines more script session begins answered whole transcript =
-    let rest = IsSession-rest files opening session whole lines more answered (subst
-    (λ v. IsSession files opening v whole) begins transcript) in
-    AreAnswered-grows files session whole rest.before rest.answered
+    let totals = totals_of_session files (lines_of script) whole transcript in
+    let rest = FollowToHalt-rest files opening session whole lines more answered (subst
+    (λ v. FollowToHalt files opening v whole) begins totals) in
+    Follow-grows files session whole rest.before rest.answered
 
 -- the lines of a script that goes on after some bytes
 begins_so : (bytes more rest : List ℕ) → Begins (ended_lines bytes) (lines_of ((bytes ++ more) ++ rest))
@@ -270,7 +272,7 @@ nothing_on {before = before} {old = old} {new = new} {bytes = bytes} {was = was}
   kept = stands.kept;
   told = stands.told;
   answered = λ files e.
-      subst (λ v. AreAnswered files opening (ended_lines bytes) (record {
+      subst (λ v. Follow files opening (ended_lines bytes) (record {
         text = stands.out;
         refused = was.refused;
         refusals = stands.refusals;
@@ -294,13 +296,13 @@ front_part out text front rest spent steps parts less is = record {
 -- with the answer to one more line
 front_next : (files : FileMap) (lines later : List (List ℕ)) (line script : List ℕ) (session : Session)
     (to : Standing) (answer : Answer) → lines_of script ≡ lines ++ line ∷ later →
-    AreAnswered files opening lines session → IsStep files session.standing line to answer →
+    Follow files opening lines session → IsStep files session.standing line to answer →
     (whole : Session) → IsTranscript files script whole → IsFrontOf whole (session.text ++ answer.text)
     (session.steps + answer.steps)
 front_next files lines later line script session to answer begins answered is whole transcript =
     front_so_far files (lines ++ line ∷ []) later script (with_answer session answer to) (begins
     ∙ sym (append_assoc lines (line ∷ []) later))
-    (AreAnswered-next files opening session lines line to answer answered is) whole transcript
+    (Follow-next files opening session lines line to answer answered is) whole transcript
 
 -- where a run stands it has left the answers so far
 pub leaves_so_far : {most : ℕ} {before now : Shown} {bytes script taken rest : List ℕ} {reading : Reading} →
@@ -333,7 +335,12 @@ leaves_file {bytes = bytes} {script = script} {line = line} place name names in_
     names = names;
     in_order = in_order;
     failed_there = failed;
-    exact = λ files e. record { session = _; answered = stands.answered files e; text = refl; cost = refl };
+    exact = λ files e. record {
+      session = _;
+      answered = answered_of files (ended_lines bytes) _ (stands.answered files e);
+      text = refl;
+      cost = refl;
+    };
   };
 }
 
@@ -387,7 +394,7 @@ leaves_write {before = before} {old = old} {new = new} {bytes = bytes} {script =
         place = place;
         cut = λ files e. record {
           session = _;
-          answered = stands.answered files e;
+          answered = answered_of files (ended_lines bytes) _ (stands.answered files e);
           to = cut.to;
           answer = cut.answer;
           step = cut.is files (stands.same ∙ e);
@@ -596,11 +603,17 @@ breaks_within {new = new} {stop = stop} front more later piece is p q = record {
       ((bytes ++ front) ++ more) later rest)) leaves);
 }
 
+-- lines that are all answered are a session
+whole_session : (files : FileMap) (lines : List (List ℕ)) (session : Session) → Follow files opening lines session →
+    IsSession files lines session
+whole_session files lines session answered =
+    session_of_totals files lines session (FollowToHalt-whole files opening session lines answered)
+
 -- all lines of a script were answered
 leaves_whole : {before now : Shown} {script : List ℕ} (out : List ℕ) → Appends before.written now.written out →
     before.steps ≤ now.steps → (standing : Standing) (refused : Bool) (refusals : List ℕ) (lines : ℕ)
     (refused_lines : List ℕ) →
-    ForSome before.files (λ files. AreAnswered files opening (lines_of script) (record {
+    ForSome before.files (λ files. Follow files opening (lines_of script) (record {
       text = out;
       refused = refused;
       refusals = refusals;
@@ -620,8 +633,8 @@ leaves_whole {before = before} {now = now} {script = script} out appended counte
     read = refl;
     whole = λ files e. record {
       session = _;
-      is = IsSession-whole files opening _ (lines_of script) (answered files e);
-      there = AreAnswered-there files opening _ (lines_of script) (answered files e);
+      is = whole_session files (lines_of script) _ (answered files e);
+      there = Follow-there files opening _ (lines_of script) (answered files e);
       text = refl;
       cost = refl;
       mark = refl;
@@ -631,12 +644,12 @@ leaves_whole {before = before} {now = now} {script = script} out appended counte
 
 -- what they have left
 ends_whole : {told : Option FileMap} {script : List ℕ} (session : Session) (kept : Option (Vec ℕ Global))
-    (refused : RefusedLines) → ForSome told (λ files. AreAnswered files opening (lines_of script) session) →
+    (refused : RefusedLines) → ForSome told (λ files. Follow files opening (lines_of script) session) →
     AreKept kept session.refusals → IsToldOf session.lines session.refused_lines refused →
     ForSome told (λ files. EndsAt files script session.standing kept refused)
 ends_whole {script = script} session kept refused answered are tells = λ files e. record {
   session = session;
-  is = IsSession-whole files opening session (lines_of script) (answered files e);
+  is = whole_session files (lines_of script) session (answered files e);
   left = refl;
   refusals = are;
   told_is = tells;
@@ -660,7 +673,7 @@ one_last script some held =
 -- all lines of a script that ends with a line end were answered
 answered_none : {before old : Shown} {script : List ℕ} {was : Reading} → lines_of script ≡ ended_lines script →
     (stands : Stands before old script was) →
-    ForSome before.files (λ files. AreAnswered files opening (lines_of script)
+    ForSome before.files (λ files. Follow files opening (lines_of script)
     (record {
       text = stands.out;
       refused = was.refused;
@@ -680,7 +693,7 @@ answered_none {before = before} {old = old} {was = was} all stands = λ files e.
       steps = old.steps - before.steps;
       standing = was.script;
     } in
-    subst (λ v. AreAnswered files opening v so_far) (sym all) (stands.answered files e)
+    subst (λ v. Follow files opening v so_far) (sym all) (stands.answered files e)
 
 pub closes_none : {old : Shown} {was : Reading} → ((line : List ℕ) → Holds was line → length line ≡ 0) →
     Closes old old was (Ok was.refused)
@@ -704,7 +717,7 @@ answered_on : {before old : Shown} (new : Shown) {script : List ℕ} {was : Read
     lines_of script ≡ ended_lines script ++ open_line script ∷ [] →
     (answered : IsAnswered old.files old.written new.written old.steps new.steps was.script to
     (open_line script) refused) → (stands : Stands before old script was) →
-    ForSome before.files (λ files. AreAnswered files opening (lines_of script)
+    ForSome before.files (λ files. Follow files opening (lines_of script)
     (record {
       text = stands.out ++ (answered.answer).text;
       refused = was.refused || refused;
@@ -729,10 +742,10 @@ answered_on {before = before} {old = old} new {script = script} {was = was} {to 
       steps = new.steps - before.steps;
       standing = to;
     } in
-    subst (λ v. AreAnswered files opening v at_last) (sym all)
-    (subst (λ v. AreAnswered files opening (ended_lines script ++ line ∷ []) v) (session_same refl (ap
+    subst (λ v. Follow files opening v at_last) (sym all)
+    (subst (λ v. Follow files opening (ended_lines script ++ line ∷ []) v) (session_same refl (ap
     (λ v. was.refused || v) (sym answered.marked)) steps refl)
-    (AreAnswered-next files opening _ (ended_lines script) line to answered.answer (stands.answered files e)
+    (Follow-next files opening _ (ended_lines script) line to answered.answer (stands.answered files e)
     (answered.is files (stands.same ∙ e))))
 
 pub closes_on : {old new : Shown} {was : Reading} {to : Standing} {kept : Option

@@ -11,7 +11,7 @@ use Rattle.std.specs.Option.{ForSome}
 use Rattle.script_steps.specs.Steps.{Standing}
 use Rattle.script_steps.specs.declared.stop.LineStop.{LineStop}
 use Rattle.script_run.specs.Limits.{most_script, most_turn}
-use Rattle.script_run.specs.Transcripts.{Session, opening, ended_lines, lines_of, AreAnswered}
+use Rattle.script_run.specs.Transcripts.{Session, ended_lines, lines_of, AreAnswered}
 use Rattle.script_run.specs.Stops.{stop_of}
 use Rattle.script_run.specs.RunClauses.{Shown, shown, told_by, IsExactly, Leaves, RunMeets, EndsAt}
 use Rattle.script_run.specs.RunViews.{IsAtStart, Stands, GoesOn, Breaks, Closes, ClosesAt, Stood, TakesAll, run_result}
@@ -19,6 +19,7 @@ use Rattle.script_run.specs.declared.stop.Stop.{Stop}
 use Rattle.script_run.specs.declared.stop.Stop.TheVariants as stops
 use Rattle.script_run.specs.declared.reading.Reading.{Reading}
 use Rattle.script_run.specs.declared.refused_lines.RefusedLines.{RefusedLines}
+use Rattle.script_run.proofs.Laws.{answered_of}
 use Rattle.script_run.proofs.LineLaws.{Begins, lines_of-append}
 use Rattle.script_run.proofs.StepLaws.{stands_first, leaves_ahead, front_so_far}
 
@@ -106,7 +107,12 @@ meets_read {l0 = l0} {l = l} {l' = l'} stood kept within script is =
         counted = stands.counted;
         front = λ files e whole transcript. front_so_far files
             (ended_lines stood.bytes) begins.more script _ begins.is (stands.answered files e) whole transcript;
-        tells = λ files e. record { session = _; answered = stands.answered files e; text = refl; cost = refl };
+        tells = λ files e. record {
+          session = _;
+          answered = answered_of files (ended_lines stood.bytes) _ (stands.answered files e);
+          text = refl;
+          cost = refl;
+        };
       };
     }
 
@@ -116,13 +122,12 @@ begins_so_far bytes piece rest script split = begins_at bytes (piece ++ rest) sc
     ∙ append_assoc bytes piece rest)
 
 exactly_at : (bytes cut : List ℕ) → bytes ≡ cut → (files : FileMap) (out : List ℕ) (spent : ℕ) (session : Session) →
-    AreAnswered files opening (ended_lines bytes) session →
+    AreAnswered files (ended_lines bytes) session →
     out ≡ session.text → spent ≡ session.steps → IsExactly files (ended_lines cut) out spent
 exactly_at bytes cut same files out spent session answered text cost =
     record {
       session = session;
-      answered = subst (λ v. AreAnswered files opening
-          (ended_lines v) session) same answered;
+      answered = subst (λ v. AreAnswered files (ended_lines v) session) same answered;
       text = text;
       cost = cost;
     }
@@ -155,7 +160,7 @@ meets_long {l0 = l0} {l = l} {l' = l'} piece size consumed stood full past scrip
         tells = record {
           past = omega (arith, length-append stood.bytes piece, stood.counted);
           exact = λ files e. exactly_at stood.bytes (take most_script taken) (sym front) files stands.out _ _
-              (stands.answered files e) refl refl;
+              (answered_of files (ended_lines stood.bytes) _ (stands.answered files e)) refl refl;
         };
       };
     }

@@ -6,7 +6,7 @@ use Rattle.outside.specs.Told.{FileMap, Appends}
 use Rattle.script_steps.specs.Steps.{Standing, Answer, Names, AreThere, IsStep}
 use Rattle.script_steps.specs.LineSteps.{IsNextFile}
 use Rattle.script_run.specs.Limits.{most_script, most_turn}
-use Rattle.script_run.specs.Transcripts.{Session, opening, lines_of, ended_lines, AreAnswered, IsTranscript}
+use Rattle.script_run.specs.Transcripts.{Session, lines_of, ended_lines, AreAnswered, IsTranscript}
 use Rattle.script_run.specs.declared.turns.Ended.{Ended}
 use Rattle.script_run.specs.declared.turns.Unwritten.{Unwritten}
 use Rattle.script_run.specs.declared.stop.Stop.{Stop}
@@ -57,13 +57,13 @@ pub record IsFrontOf (session : Session) (out : List ℕ) (spent : ℕ) : Type 0
 pub record IsExactly (files : FileMap) (lines : List (List ℕ)) (out : List ℕ)
     (spent : ℕ) : Type 0 where
   pub session : Session
-  pub answered : AreAnswered files opening lines session
+  pub answered : AreAnswered files lines session
   pub text : out ≡ session.text
   pub cost : spent ≡ session.steps
 
 -- what was written is the whole transcript, whose lines all name files that are there; exactly its
 -- steps were counted, and this says whether an answer is a refusal
-pub record IsWhole (files : FileMap) (script out : List ℕ) (spent : ℕ)
+pub record IsWholeTranscript (files : FileMap) (script out : List ℕ) (spent : ℕ)
     (refused : Bool) : Type 0 where
   pub session : Session
   pub is : IsTranscript files script session
@@ -76,7 +76,7 @@ pub record IsWhole (files : FileMap) (script out : List ℕ) (spent : ℕ)
 pub record IsCutAt (files : FileMap) (before : List (List ℕ)) (line out : List ℕ)
     (spent : ℕ) : Type 0 where
   pub session : Session
-  pub answered : AreAnswered files opening before session
+  pub answered : AreAnswered files before session
   pub to : Standing
   pub answer : Answer
   pub step : IsStep files session.standing line to answer
@@ -138,7 +138,8 @@ pub record IsLongStop (told : Option FileMap) (course : Course) : Type 0 where
 -- the script was read to its end and its transcript was written whole
 pub record IsEnd (told : Option FileMap) (course : Course) (refused : Bool) : Type 0 where
   pub read : course.rest ≡ []
-  pub whole : ForSome told (λ files. IsWhole files course.script course.out course.spent refused)
+  pub whole : ForSome told (λ files.
+      IsWholeTranscript files course.script course.out course.spent refused)
 
 -- what each result says; where a line stops the run, at most so many bytes were taken after its end
 abbrev pub Tells : ℕ → Option FileMap → Course → Option (List ℕ) → Result Bool Stop → Type 0
@@ -205,12 +206,14 @@ pub record EndsUnwritten (files : FileMap) (script : List ℕ) (ended : Unwritte
   pub refusals : (ended.refusals).items ≡ session.refusals
   pub left : ended.script ≡ session.standing
 
--- the script was answered whole: this is what its transcript says
+-- the script was answered whole: this is what its transcript says; its refusals weren't kept
 pub record IsFinished (files : FileMap) (script : List ℕ) (began steps : ℕ)
     (ended : Ended) : Type 0 where
   pub session : Session
   pub is : IsTranscript files script session
   pub mark : ended.refused ≡ session.refused
+  pub told : IsToldOf session.lines session.refused_lines ended.refused_lines
+  pub unkept : ended.refusals ≡ None
   pub cost : steps ≡ began + session.steps
   pub left : ended.script ≡ session.standing
 

@@ -1,22 +1,58 @@
 -- What a run over a front of a script has done, for the contracts of its parts.
-use Rattle.std.specs.Prelude.{◌≡◌, ℕ, ◌+◌, ◌-◌, ◌≤◌, nat_lt, ◌==◌, Bool, false, List, [], ◌∷◌, ◌++◌, length, take, Option, Some, None, Vec, Result, Ok, Err, ⊤}
+use Rattle.std.specs.Prelude.{◌≡◌, ℕ, ◌+◌, ◌-◌, ◌≤◌, nat_lt, ◌==◌, Bool, false, ◌||◌, List, [], ◌∷◌, ◌++◌, length, take, Option, Some, None, Vec, Result, Ok, Err, ⊤}
 use Rattle.std.specs.declared.alloc.Global.{Global}
 use Rattle.std.specs.Option.{ForSome}
 use Rattle.std.specs.List.{slice_split}
 use Rattle.std.specs.Io.KnownBytes.{IsAtEnd}
 use Rattle.outside.specs.Told.{Appends, Consumes}
 use Rattle.script_steps.specs.declared.stop.LineStop.{LineStop}
-use Rattle.script_steps.specs.Steps.{Standing, Answer, start}
+use Rattle.script_steps.specs.Steps.{Standing, Answer, IsStep, start}
 use Rattle.script_steps.specs.StepClauses.{IsAnswered}
 use Rattle.outside.specs.Told.{FileMap}
 use Rattle.script_run.specs.Limits.{most_line, most_script}
 use Rattle.script_run.specs.Stops.{stop_of}
-use Rattle.script_run.specs.Transcripts.{opening, ended_lines, refusal_of, AreAnswered}
+use Rattle.script_run.specs.Transcripts.{Session, ended_lines, refusal_of}
 use Rattle.script_run.specs.RunClauses.{Shown, Leaves, EndsAt, AreKept}
 use Rattle.script_run.specs.declared.stop.Stop.{Stop}
 use Rattle.script_run.specs.declared.reading.Reading.{Reading}
-use Rattle.script_run.specs.RefusedLines.{IsToldOf}
+use Rattle.script_run.specs.RefusedLines.{IsToldOf, noted}
 use Rattle.script_run.specs.declared.refused_lines.RefusedLines.{RefusedLines}
+
+-- ---- the lines so far, as running totals
+
+-- before the first line
+abbrev pub opening : Session
+opening = record {
+  text = [];
+  refused = false;
+  refusals = [];
+  lines = 0;
+  refused_lines = [];
+  steps = 0;
+  standing = start;
+}
+
+-- after one more line, which has this answer and leaves this standing
+abbrev pub with_answer : Session → Answer → Standing → Session
+with_answer session answer standing = record {
+  text = session.text ++ answer.text;
+  refused = session.refused || answer.refused;
+  refusals = session.refusals ++ refusal_of answer;
+  lines = session.lines + 1;
+  refused_lines = noted session.refused_lines (session.lines + 1) answer.refused;
+  steps = session.steps + answer.steps;
+  standing = standing;
+}
+
+-- these lines take one total to the other
+abbrev pub Follow : FileMap → Session → List (List ℕ) → Session → Type 0
+Follow files from [] to = to ≡ from
+Follow files from (line ∷ lines) to =
+    (standing : Standing) × (answer : Answer)
+    × IsStep files from.standing line standing answer
+    × Follow files (with_answer from answer standing) lines to
+
+-- ---- the bytes so far
 
 -- of the parts between LFs, the last
 abbrev pub last_part : List (List ℕ) → List ℕ
@@ -65,7 +101,7 @@ pub record Stands (before now : Shown) (bytes : List ℕ) (reading : Reading) : 
   pub held : Holds reading (open_line bytes)
   pub kept : AreKept reading.refusals refusals
   pub told : IsToldOf lines refused_lines reading.refused_lines
-  pub answered : ForSome before.files (λ files. AreAnswered files opening (ended_lines bytes)
+  pub answered : ForSome before.files (λ files. Follow files opening (ended_lines bytes)
       (record {
         text = out;
         refused = reading.refused;

@@ -1,9 +1,10 @@
 -- What a script answers over files that stay as they are, line by line.
-use Rattle.std.specs.Prelude.{◌≡◌, ℕ, ◌+◌, Bool, false, ◌||◌, ◌==◌, if◌then◌else◌, List, [], ◌∷◌, ◌++◌, ⊤}
-use Rattle.std.specs.List.{slice_split}
+use Rattle.std.specs.Prelude.{◌≡◌, ℕ, Bool, ◌==◌, if◌then◌else◌, List, [], ◌∷◌, ◌++◌, length, map, filter, flat_map, sum_by, ⊤}
+use Rattle.std.specs.List.{enumerate_from, list_any, slice_split}
 use Rattle.std.specs.Str.Lines.{lines, strip_carriage_return}
 use Rattle.outside.specs.Told.{FileMap}
-use Rattle.script_steps.specs.Steps.{Standing, start, Answer, AreThere, IsStep}
+use Rattle.script_steps.specs.GoingOn.{AreSteps}
+use Rattle.script_steps.specs.Steps.{Standing, start, Answer, AreThere}
 
 -- the lines of a script: it is cut at each LF, a CR right before an LF is dropped, and a last line
 -- without LF counts where it isn't empty
@@ -31,45 +32,33 @@ pub record Session : Type 0 where
   pub steps : ℕ
   pub standing : Standing
 
--- before the first line
-abbrev pub opening : Session
-opening = record {
-  text = [];
-  refused = false;
-  refusals = [];
-  lines = 0;
-  refused_lines = [];
-  steps = 0;
-  standing = start;
-}
-
 -- the answer where it is a refusal, else nothing
 abbrev pub refusal_of : Answer → List ℕ
 refusal_of answer = if answer.refused then answer.text else []
 
--- the numbers of the refused lines, with that of one more line where it is refused
-abbrev pub noted : List ℕ → ℕ → Bool → List ℕ
-noted refused number is_refused = refused ++ (if is_refused then number ∷ [] else [])
+-- the numbers of the answers that are refusals, where the first has this number
+abbrev pub refused_from : ℕ → List Answer → List ℕ
+refused_from first answers =
+    map (λ (at : ℕ × Answer). at.0) (filter (λ (at : ℕ × Answer). (at.1).refused) (enumerate_from first answers))
 
--- after one more line, which has this answer and leaves this standing
-abbrev pub with_answer : Session → Answer → Standing → Session
-with_answer session answer standing = record {
-  text = session.text ++ answer.text;
-  refused = session.refused || answer.refused;
-  refusals = session.refusals ++ refusal_of answer;
-  lines = session.lines + 1;
-  refused_lines = noted session.refused_lines (session.lines + 1) answer.refused;
-  steps = session.steps + answer.steps;
-  standing = standing;
+-- what lines have made that have these answers, one after another, and leave this
+abbrev pub session_of : List Answer → Standing → Session
+session_of answers left = record {
+  text = flat_map (λ (answer : Answer). answer.text) answers;
+  refused = list_any (λ (answer : Answer). answer.refused) answers;
+  refusals = flat_map refusal_of answers;
+  lines = length answers;
+  refused_lines = refused_from 1 answers;
+  steps = sum_by (λ (answer : Answer). answer.steps) answers;
+  standing = left;
 }
 
--- the lines are answered one after another
-abbrev pub AreAnswered : FileMap → Session → List (List ℕ) → Session → Type 0
-AreAnswered files from [] to = to ≡ from
-AreAnswered files from (line ∷ lines) to =
-    (standing : Standing) × (answer : Answer)
-    × IsStep files from.standing line standing answer
-    × AreAnswered files (with_answer from answer standing) lines to
+-- the lines are answered one after another, from the first of a script on
+pub record AreAnswered (files : FileMap) (lines : List (List ℕ)) (session : Session) : Type 0 where
+  pub answers : List Answer
+  pub left : Standing
+  pub each : AreSteps files start lines left answers
+  pub is : session ≡ session_of answers left
 
 -- no line is left, or the next one names a file that isn't there
 abbrev pub IsHalted : FileMap → List (List ℕ) → Type 0
@@ -77,14 +66,13 @@ IsHalted files [] = ⊤
 IsHalted files (line ∷ lines) = ¬ (AreThere files line)
 
 -- the lines are answered one after another, up to the first that names a file that isn't there
-pub record IsSession (files : FileMap) (from : Session) (lines : List (List ℕ))
-    (to : Session) : Type 0 where
+pub record IsSession (files : FileMap) (lines : List (List ℕ)) (session : Session) : Type 0 where
   pub before : List (List ℕ)
   pub after : List (List ℕ)
   pub parts : lines ≡ before ++ after
-  pub answered : AreAnswered files from before to
+  pub answered : AreAnswered files before session
   pub halted : IsHalted files after
 
 -- the transcript of a script: the answers to its lines
 abbrev pub IsTranscript : FileMap → List ℕ → Session → Type 0
-IsTranscript files script session = IsSession files opening (lines_of script) session
+IsTranscript files script session = IsSession files (lines_of script) session

@@ -1,6 +1,6 @@
 //! Which lines of a script were refused, and why.
-ghost use Rattle.std.specs.Prelude.{[], is_some, OnOk};
-ghost use Rattle.script_run.specs.RefusedLines.{IsToldOf, Notes};
+ghost use Rattle.std.specs.Prelude.{◌≡◌, [], is_some, OnOk};
+ghost use Rattle.script_run.specs.RefusedLines.{IsToldOf, Notes, with_line};
 
 use std::alloc::{AllocError, Global};
 
@@ -43,7 +43,9 @@ impl RefusedLines {
 
     /// One more line was answered; this is wrong with it, where its answer is a refusal.
     pub(crate) fn note(&mut self, wrong: Option<String>) -> Result<(), AllocError>
-        ensures { OnOk result (Notes self.old self.new (is_some wrong)) }
+        ensures lines { OnOk result (Notes self.old self.new (is_some wrong)) }
+        ensures texts { OnOk result (self.new.first.items
+            ≡ with_line self.old.first.items self.new.answered wrong) }
     {
         self.answered = self.answered.saturating_add(1);
         let Some(wrong) = wrong else {

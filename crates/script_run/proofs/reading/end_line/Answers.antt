@@ -40,4 +40,4 @@ returns-clause-ok g c =
     (says_ended reading.line.items c.ended-line.result.now line reading.long holds.front holds.long said)
     c.in_ok-wrong.ensures.delivered)
     (record { front = c.clear.ensures.items; long = refl })
-    (ap (λ v. reading.refused || v) c.is_some.ensures) c.in_ok-note.ensures
+    (ap (λ v. reading.refused || v) c.is_some.ensures) c.in_ok-note.ensures.lines

@@ -62,4 +62,4 @@ returns-clause-standing g c =
     (λ line holds. kept_some most_line kept.items line holds.front some)
     (λ line holds. delivered_same
     (says_kept kept.items c.deref.result.now line c.deref.ensures.value holds.front)
-    c.in_ok-wrong.ensures.delivered) c.in_ok-note.ensures
+    c.in_ok-wrong.ensures.delivered) c.in_ok-note.ensures.lines
