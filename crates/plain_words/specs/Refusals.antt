@@ -11,6 +11,8 @@ use Rattle.limits_file.specs.declared.fault.LimitsFault.{LimitsFault}
 use Rattle.limits_file.specs.declared.fault.LimitsFault.TheVariants as limits
 use Rattle.pap_plan.specs.declared.refusal.PlanRefusal.{PlanRefusal}
 use Rattle.pap_plan.specs.declared.refusal.PlanRefusal.TheVariants as refusals
+use Rattle.pap_plan.specs.Acceptance.{IsRefused}
+use Rattle.plain_words.specs.Lines.{IsOneLine}
 use Rattle.plain_words.specs.Places.{PlanFiles, PlanPlace, in_plan, in_ranges, BeginsAt}
 
 -- the place is one in the flowchart's file, whichever
@@ -69,3 +71,10 @@ pub record BeginsAtRefusal (files : PlanFiles) (refusal : PlanRefusal) (words : 
   pub place : PlanPlace
   pub is : IsPlaceOf files.plan.bytes refusal place
   pub begins : BeginsAt files place [] words
+
+-- what is said of a refused plan: one line, that begins with the place of the refusal in the file in which it stands
+pub record TellsPlan (files : PlanFiles) (words : List ℕ) : Type 0 where
+  pub refusal : PlanRefusal
+  pub refused : IsRefused files.plan.bytes files.ranges.bytes refusal
+  pub line : IsOneLine words
+  pub begins : BeginsAtRefusal files refusal words
