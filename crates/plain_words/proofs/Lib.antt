@@ -1,1 +1,2 @@
 mod Besides
+mod Shown

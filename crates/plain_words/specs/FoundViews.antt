@@ -1,5 +1,5 @@
 -- What was found, as a place in the files of a plan.
-use Rattle.std.specs.Prelude.{◌≡◌, ℕ, List, Option, None, ⊤}
+use Rattle.std.specs.Prelude.{◌≡◌, ℕ, List, ◌++◌, Option, None, IfSome, ⊤}
 use Rattle.pap_reader.specs.declared.fault.Which.{Which}
 use Rattle.pap_reader.specs.declared.fault.Which.TheVariants as which
 use Rattle.pap_plan.specs.declared.refusal.PlanRefusal.{PlanRefusal}
@@ -16,6 +16,14 @@ place_in Ranges at = in_ranges at
 
 abbrev pub place_of : Found → PlanPlace
 place_of found = place_in found.file found.at
+
+-- what helps, with what is said behind that
+abbrev pub help_text : Found → List ℕ
+help_text found = found.help.now ++ found.also.now
+
+-- where it is known what helps, that is it
+abbrev pub HelpsAs : Option (List ℕ) → Found → Type 0
+HelpsAs help found = IfSome help (λ text. help_text found ≡ text)
 
 -- it was found in the flowchart's file
 abbrev pub IsOfPlan : Found → Type 0

@@ -1,6 +1,7 @@
 pub mod Positions
 pub mod Lines
 pub mod Places
+pub mod Helps
 pub mod Refusals
 pub mod States
 pub mod FoundViews

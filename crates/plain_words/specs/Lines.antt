@@ -1,5 +1,5 @@
 -- Texts that stand in one line.
-use Rattle.std.specs.Prelude.{ℕ, Bool, List, not, ◌||◌, ◌==◌, if◌then◌else◌, map, encode_utf8_all}
+use Rattle.std.specs.Prelude.{◌≡◌, ℕ, Bool, List, ◌++◌, not, ◌||◌, ◌==◌, if◌then◌else◌, map, encode_utf8_all}
 use Rattle.std.specs.Int.{is_in_range}
 use Rattle.std.specs.Str.{NoCharPasses, chars}
 
@@ -14,6 +14,10 @@ shown_char c = if is_shown c then c else (if c == 9 || (c == 10 || c == 13) then
 -- the text as it is shown
 abbrev pub shown_text : List ℕ → List ℕ
 shown_text text = encode_utf8_all (map shown_char (chars text))
+
+-- the words end with a text
+abbrev pub EndsWith : List ℕ → List ℕ → Type 0
+EndsWith text words = (front : List ℕ) × (words ≡ front ++ text)
 
 -- every character of the text is shown as it is: it has no control characters, and stands in one line
 abbrev pub IsOneLine : List ℕ → Type 0

@@ -17,11 +17,6 @@ abbrev pub place_text : NamedText → Option ℕ → List ℕ
 place_text file (Some at) = file.name ++ (codes ":" ++ position_text (line_of file.bytes at) (column_of file.bytes at))
 place_text file None = file.name
 
--- the words begin with this place of a file, a colon and a space, and then with a text
-abbrev pub BeginsWith : NamedText → Option ℕ → List ℕ → List ℕ → Type 0
-BeginsWith file at text words =
-    (rest : List ℕ) × (words ≡ shown_text (place_text file at ++ (codes ": " ++ (text ++ rest))))
-
 -- ---- the two files of a plan
 
 pub record PlanFiles : Type 0 where
@@ -36,7 +31,15 @@ pub data PlanPlace : Type 0 where
   in_plan : Option ℕ → PlanPlace
   in_ranges : Option ℕ → PlanPlace
 
--- the words begin with this place, and then with a text
-abbrev pub BeginsAt : PlanFiles → PlanPlace → List ℕ → List ℕ → Type 0
-BeginsAt files (in_plan at) text words = BeginsWith files.plan at text words
-BeginsAt files (in_ranges at) text words = BeginsWith files.ranges at text words
+-- as the words name it
+abbrev pub place_in_words : PlanFiles → PlanPlace → List ℕ
+place_in_words files (in_plan at) = place_text files.plan at
+place_in_words files (in_ranges at) = place_text files.ranges at
+
+-- what is shown of this place, a colon and a space, and then a text
+abbrev pub words_at : PlanFiles → PlanPlace → List ℕ → List ℕ
+words_at files place text = shown_text (place_in_words files place ++ (codes ": " ++ text))
+
+-- the words begin with this place, a colon and a space
+abbrev pub BeginsAt : PlanFiles → PlanPlace → List ℕ → Type 0
+BeginsAt files place words = (text : List ℕ) × (words ≡ words_at files place text)

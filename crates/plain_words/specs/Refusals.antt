@@ -1,5 +1,5 @@
--- In which file of a plan a refusal stands, and at which byte where the refusal carries it or has none.
-use Rattle.std.specs.Prelude.{◌≡◌, ℕ, List, [], map, Some, None, IsTrue, ⊤}
+-- In which file of a plan a refusal stands, at which byte where its place is pinned to one, and how its words end.
+use Rattle.std.specs.Prelude.{◌≡◌, ℕ, List, ◌++◌, codes, map, Some, None, IfSome, IsTrue, ⊤}
 use Rattle.pap_reader.specs.declared.fault.Which.{Which}
 use Rattle.pap_reader.specs.declared.fault.Which.TheVariants as which
 use Rattle.pap_reader.specs.declared.fault.ReadFault.{ReadFault}
@@ -11,7 +11,10 @@ use Rattle.limits_file.specs.declared.fault.LimitsFault.{LimitsFault}
 use Rattle.limits_file.specs.declared.fault.LimitsFault.TheVariants as limits
 use Rattle.pap_plan.specs.declared.refusal.PlanRefusal.{PlanRefusal}
 use Rattle.pap_plan.specs.declared.refusal.PlanRefusal.TheVariants as refusals
+use Rattle.pap_plan.specs.Acceptance.{IsRefused}
+use Rattle.plain_words.specs.Lines.{IsOneLine, EndsWith}
 use Rattle.plain_words.specs.Places.{PlanFiles, PlanPlace, in_plan, in_ranges, BeginsAt}
+use Rattle.plain_words.specs.Helps.{help_of}
 
 -- the place is one in the flowchart's file, whichever
 abbrev pub IsInPlan : PlanPlace → Type 0
@@ -64,8 +67,16 @@ IsPlaceOf plan (refusals.Bind name) place = IsInRanges place
 IsPlaceOf plan refusals.Memory place = ⊥
 IsPlaceOf plan _ place = IsInPlan place
 
--- the words begin with the place of this refusal
+-- the words begin with the place of this refusal, and end with what helps where the refusal alone decides that
 pub record BeginsAtRefusal (files : PlanFiles) (refusal : PlanRefusal) (words : List ℕ) : Type 0 where
   pub place : PlanPlace
   pub is : IsPlaceOf files.plan.bytes refusal place
-  pub begins : BeginsAt files place [] words
+  pub begins : BeginsAt files place words
+  pub helps : IfSome (help_of refusal) (λ help. EndsWith (codes "; " ++ help) words)
+
+-- what is said of a refused plan: one line, that begins with the place of the refusal in the file in which it stands
+pub record TellsPlan (files : PlanFiles) (words : List ℕ) : Type 0 where
+  pub refusal : PlanRefusal
+  pub refused : IsRefused files.plan.bytes files.ranges.bytes refusal
+  pub line : IsOneLine words
+  pub begins : BeginsAtRefusal files refusal words

@@ -38,7 +38,7 @@ pub(crate) fn find_element(
         quote.push_str(", at ")?;
         write_quoted(quote, line, 0)?;
     }
-    Ok(Found::in_plan(Some(at), help))
+    Ok(Found::in_plan(Some(at)).with_help(help))
 }
 
 /// What helps where no tag, comment or white space begins with a text.
@@ -139,7 +139,7 @@ fn find_excess(plan: TextFile<'_>, which: Which, quote: &mut String) -> Result<F
     if at.is_some() {
         quote.push_str(", and this is one more")?;
     }
-    Ok(Found::in_plan(at, "split the flowchart, or join what can be joined"))
+    Ok(Found::in_plan(at))
 }
 
 /// Where the first tag stands that is one too many, for what is counted over the whole file.

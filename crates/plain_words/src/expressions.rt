@@ -2,7 +2,8 @@
 ghost use Rattle.std.specs.Prelude.{IfOk};
 ghost use Rattle.plain_words.specs.FoundViews.{IsOfPlan};
 
-use crate::found::Found;
+use crate::found::{CHANGED, Found};
+use crate::help::expression_help;
 use crate::nodes::is_read;
 use crate::operands::token_from;
 use crate::quotes::{token_at, write_quoted, write_token};
@@ -36,11 +37,11 @@ pub(crate) fn find_expression(
             write_token(quote, token_at(text, at))?;
             write_statement(quote, source, method, *stmt, at)?;
             let at = statement_byte(source, method, *stmt, at);
-            Ok(Found::in_plan(at, fault_help(fault, token.as_ref())))
+            Ok(Found::in_plan(at).with_help(token_help(fault, token.as_ref())))
         }
         Spot::Declared { name } => match declaration_of(source, name) {
             Some(found) => find_literal(source, found, fault, at, quote),
-            None => Ok(Found::in_plan(None, fault_help(fault, None))),
+            None => Ok(Found::in_plan(None)),
         },
     }
 }
@@ -90,7 +91,7 @@ fn find_literal(
     let name = found.declared.name;
     write!(quote, " of the {element} {name}")?;
     let at = literal_byte(source, found, at);
-    Ok(Found::in_plan(at, fault_help(fault, token.as_ref())))
+    Ok(Found::in_plan(at).with_help(token_help(fault, token.as_ref())))
 }
 
 /// A declaration's literal that isn't read. Nothing where it is read.
@@ -106,18 +107,11 @@ fn faulty_literal(alloc: Global, found: DeclaredSite<'_>) -> Result<&[u8], Alloc
 }
 
 /// What helps where a text isn't read on at a token. At the end of the text there is none.
-fn fault_help(fault: &ExprFault, token: Option<&Token>) -> &'static str {
+fn token_help(fault: &ExprFault, token: Option<&Token>) -> &'static str {
     match fault {
         ExprFault::Syntax { .. } => syntax_help(token),
         ExprFault::Unsupported { .. } => profile_help(token),
-        ExprFault::BinaryFraction { .. } => {
-            "write the number in quotation marks, as in new BigDecimal(\"0.4\"), or BigDecimal.valueOf(0.4)"
-        }
-        ExprFault::Number { .. } => {
-            "an int goes up to 2147483647, a long, with L behind it, up to 9223372036854775807, and a decimal has at most 30 digits after its point and at most 10^37 without its point"
-        }
-        ExprFault::Deep { .. } => "split it into several statements",
-        ExprFault::Memory => "try again",
+        _ => expression_help(fault).unwrap_or(CHANGED),
     }
 }
 

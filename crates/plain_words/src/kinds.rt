@@ -28,13 +28,8 @@ pub(crate) fn find_kind(
         TypeFault::Twice { name } => find_repeated(source, name, quote),
         TypeFault::Unknown { name, place } => find_unknown(source, name, place, quote),
         TypeFault::Kind { place } => find_mismatch(source, place, quote),
-        TypeFault::ConstantWritten { place } => {
-            let help = "make it an INTERNAL, or assign to another name";
-            find_front(source, place, help, quote)
-        }
-        TypeFault::NoMethod { place } => {
-            let help = "correct the name, or add the METHOD";
-            find_front(source, place, help, quote)
+        TypeFault::ConstantWritten { place } | TypeFault::NoMethod { place } => {
+            find_front(source, place, quote)
         }
         TypeFault::Value { name } => find_value(source, name, quote),
         TypeFault::Memory(_) => Err(AllocError),
@@ -42,12 +37,7 @@ pub(crate) fn find_kind(
 }
 
 /// Where the text of a statement begins, behind its white space; the statement is appended.
-fn find_front(
-    source: Source<'_>,
-    place: &Place,
-    help: &'static str,
-    quote: &mut String,
-) -> Result<Found, AllocError>
+fn find_front(source: Source<'_>, place: &Place, quote: &mut String) -> Result<Found, AllocError>
     ensures { IfOk result (λ found. IsOfPlan found) }
 {
     let text = match statement_of(source, &place.method, place.stmt) {
@@ -58,21 +48,20 @@ fn find_front(
     quote.push_str(", in ")?;
     write_statement(quote, source, &place.method, place.stmt, white)?;
     let at = statement_byte(source, &place.method, place.stmt, white);
-    Ok(Found::in_plan(at, help))
+    Ok(Found::in_plan(at))
 }
 
 /// Where a name is declared for the second time; where it is for the first time is appended.
 fn find_repeated(source: Source<'_>, name: &Name, quote: &mut String) -> Result<Found, AllocError>
     ensures { IfOk result (λ found. IsOfPlan found) }
 {
-    let help = "rename one of the two, or take it out";
     match repeated_bytes(source, name) {
         Some((first, second)) => {
             quote.push_str(", first at ")?;
             quote.push_str(&place_text(*quote.allocator(), source.file, first)?)?;
-            Ok(Found::in_plan(second, help))
+            Ok(Found::in_plan(second))
         }
-        None => Ok(Found::in_plan(None, help)),
+        None => Ok(Found::in_plan(None)),
     }
 }
 
@@ -92,10 +81,8 @@ fn find_unknown(
     let at = found.unwrap_or(0);
     quote.push_str(", in ")?;
     write_statement(quote, source, &place.method, place.stmt, at)?;
-    Ok(Found::in_plan(
-        statement_byte(source, &place.method, place.stmt, at),
-        "correct its spelling, or declare it as an INPUT, OUTPUT, INTERNAL or CONSTANT",
-    ))
+    let at = statement_byte(source, &place.method, place.stmt, at);
+    Ok(Found::in_plan(at))
 }
 
 /// Where a node stands whose operands or whose value are of a wrong kind; its spelling and its statement are appended.
@@ -104,7 +91,7 @@ fn find_mismatch(source: Source<'_>, place: &Place, quote: &mut String) -> Resul
 {
     let node = write_node(quote, source, place)?;
     let at = statement_byte(source, &place.method, place.stmt, node.at);
-    let mut found = Found::in_plan(at, node.takes);
+    let mut found = Found::in_plan(at).with_help(node.takes);
     found.also = node.also;
     Ok(found)
 }
@@ -114,16 +101,14 @@ fn find_value(source: Source<'_>, name: &Name, quote: &mut String) -> Result<Fou
     ensures { IfOk result (λ found. IsOfPlan found) }
 {
     let Some(found) = declaration_of(source, name) else {
-        return Ok(Found::in_plan(None, "see its type"));
+        return Ok(Found::in_plan(None).with_help("see its type"));
     };
     if let Some(text) = &found.declared.value {
         quote.push_str(", at ")?;
         write_quoted(quote, text, 0)?;
     }
-    Ok(Found::in_plan(
-        literal_byte(source, found, 0),
-        literal_rule(found.declared.kind),
-    ))
+    let at = literal_byte(source, found, 0);
+    Ok(Found::in_plan(at).with_help(literal_rule(found.declared.kind)))
 }
 
 /// Which literals are of a type.

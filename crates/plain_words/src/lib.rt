@@ -6,6 +6,7 @@ mod elements;
 mod expressions;
 mod found;
 mod group;
+mod help;
 mod kinds;
 mod lines;
 mod methods;

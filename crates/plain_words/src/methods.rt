@@ -12,15 +12,10 @@ pub(crate) fn find_order(source: Source<'_>, fault: &OrderFault) -> Result<Found
     ensures { IfOk result (λ found. IsOfPlan found) }
 {
     match fault {
-        OrderFault::Cycle { method } => Ok(Found::in_plan(
-            method_byte(source, method),
-            "a run might have no end; take one EXECUTE out of that circle",
-        )),
-        OrderFault::Chain { method } => Ok(Found::in_plan(
-            method_byte(source, method),
-            "put the statements of some into the method that executes them",
-        )),
-        OrderFault::TooLong { .. } => Ok(Found::in_plan(None, "execute methods in fewer places")),
+        OrderFault::Cycle { method } | OrderFault::Chain { method } => {
+            Ok(Found::in_plan(method_byte(source, method)))
+        }
+        OrderFault::TooLong { .. } => Ok(Found::in_plan(None)),
         OrderFault::Memory(_) => Err(AllocError),
     }
 }

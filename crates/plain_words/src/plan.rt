@@ -4,11 +4,13 @@ ghost use Rattle.std.specs.String.{string_bytes};
 ghost use Rattle.plain_words.specs.Lines.{IsOneLine};
 ghost use Rattle.plain_words.specs.Places.{files_of};
 ghost use Rattle.plain_words.specs.Refusals.{IsPlaceOf, BeginsAtRefusal};
-ghost use Rattle.plain_words.specs.FoundViews.{place_of, IsOfPlan, IsPlaceBeside};
+ghost use Rattle.plain_words.specs.Helps.{help_of};
+ghost use Rattle.plain_words.specs.FoundViews.{place_of, IsOfPlan, IsPlaceBeside, HelpsAs};
 
 use crate::elements::find_element;
 use crate::expressions::find_expression;
-use crate::found::{FileKind, Found};
+use crate::found::Found;
+use crate::help::help_of;
 use crate::kinds::find_kind;
 use crate::methods::find_order;
 use crate::place::TextFile;
@@ -20,7 +22,7 @@ use pap_plan::PlanRefusal;
 use std::alloc::{AllocError, Global};
 
 /// What is wrong with a plan or its range file, in one line of plain words that begins with the file and the place in it, as
-/// `plan.xml:12:7: `: the refusal's own text, what stands there, and what helps. Fails only for want of memory.
+/// `plan.xml:12:7: `: the refusal's own text, what stands there, and behind `; ` what helps. Fails only for want of memory.
 pub fn plan_words(
     alloc: Global,
     plan: TextFile<'_>,
@@ -34,14 +36,30 @@ pub fn plan_words(
     let mut quote = String::new(alloc);
     let found = find_refusal(plan, limits, refusal, &mut quote)?;
     let wrong = refusal.to_string(alloc)?;
-    match found.file {
-        FileKind::Plan => reason_line(alloc, plan, found, &wrong, &quote),
-        FileKind::Ranges => reason_line(alloc, limits, found, &wrong, &quote),
+    reason_line(alloc, plan, limits, found, &wrong, &quote)
+}
+
+/// Where a plan or its range file is refused, and what helps; what stands there is appended.
+fn find_refusal(
+    plan: TextFile<'_>,
+    limits: TextFile<'_>,
+    refusal: &PlanRefusal,
+    quote: &mut String,
+) -> Result<Found, AllocError>
+    ensures place { IfOk result
+        (λ found. IsPlaceOf plan.entry.bytes.now refusal.now (place_of found)) }
+    ensures help { IfOk result (λ found. HelpsAs (help_of refusal.now) found) }
+{
+    let found = find_place(plan, limits, refusal, quote)?;
+    match help_of(refusal) {
+        Some(help) => Ok(found.with_help(help)),
+        None => Ok(found),
     }
 }
 
-/// Where a plan or its range file is refused; what stands there is appended.
-fn find_refusal(
+/// Where a plan or its range file is refused, and what helps where the refusal alone doesn't decide it; what stands there is
+/// appended.
+fn find_place(
     plan: TextFile<'_>,
     limits: TextFile<'_>,
     refusal: &PlanRefusal,
@@ -59,9 +77,6 @@ fn find_refusal(
     }
 }
 
-/// What helps where a refusal isn't that of these files.
-const CHANGED: &str = "see whether the file has changed since";
-
 /// Where a plan whose elements are read is refused by itself; what stands there is appended.
 fn find_within(
     plan: TextFile<'_>,
@@ -71,7 +86,7 @@ fn find_within(
     ensures { IfOk result (λ found. IsOfPlan found) }
 {
     let Some(outline) = Outline::read(*quote.allocator(), plan)? else {
-        return Ok(Found::in_plan(None, CHANGED));
+        return Ok(Found::in_plan(None));
     };
     let source = outline.source(plan);
     match refusal {
@@ -79,7 +94,7 @@ fn find_within(
         PlanRefusal::Types(fault) => find_kind(source, fault, quote),
         PlanRefusal::Order(fault) => find_order(source, fault),
         PlanRefusal::Range(fault) => find_range(source, fault, quote),
-        _ => Ok(Found::in_plan(None, CHANGED)),
+        _ => Ok(Found::in_plan(None)),
     }
 }
 
@@ -94,13 +109,13 @@ fn find_beside(
         (λ found. IsPlaceBeside plan.entry.bytes.now refusal.now (place_of found)) }
 {
     let Some(outline) = Outline::read(alloc, plan)? else {
-        return Ok(Found::in_ranges(None, CHANGED));
+        return Ok(Found::in_ranges(None));
     };
     let source = outline.source(plan);
     match refusal {
         PlanRefusal::LimitName { name } => find_limit_name(alloc, source, limits, name),
         PlanRefusal::LimitKind { name } => find_limit_kind(alloc, source, limits, name),
         PlanRefusal::Bind { name } => find_binding(alloc, source, limits, name),
-        _ => Ok(Found::in_ranges(None, CHANGED)),
+        _ => Ok(Found::in_ranges(None)),
     }
 }

@@ -28,7 +28,7 @@ pub(crate) fn find_entry(
         LimitsFault::Toml => find_toml(limits, quote),
         LimitsFault::Key { name } => find_key(limits, name, quote),
         LimitsFault::Bound { name } => find_bounds(*quote.allocator(), limits, name),
-        LimitsFault::LimitsLong => Ok(Found::in_ranges(None, "take out what no input needs")),
+        LimitsFault::LimitsLong => Ok(Found::in_ranges(None)),
         LimitsFault::Memory(_) => Err(AllocError),
     }
 }
@@ -45,14 +45,12 @@ fn find_key(limits: TextFile<'_>, label: &Label, quote: &mut String) -> Result<F
                 let name = section.name();
                 write!(quote, ", in the entry [{name}.{entry}]")?;
                 let at = entry_byte(*quote.allocator(), limits, section, entry)?;
-                return Ok(Found::in_ranges(at, entry_rule(section, entry)));
+                return Ok(Found::in_ranges(at).with_help(entry_rule(section, entry)));
             }
         }
     }
-    Ok(Found::in_ranges(
-        None,
-        "a range file has entries [input.NAME] and [bind.NAME] alone",
-    ))
+    let help = "a range file has entries [input.NAME] and [bind.NAME] alone";
+    Ok(Found::in_ranges(None).with_help(help))
 }
 
 /// What is told of an entry of a section.
@@ -114,7 +112,7 @@ fn find_bounds(alloc: Global, limits: TextFile<'_>, label: &Label) -> Result<Fou
         },
         Err(_) => "correct the entry",
     };
-    Ok(Found::in_ranges(at, help))
+    Ok(Found::in_ranges(at).with_help(help))
 }
 
 /// The entry of an input.
@@ -159,16 +157,15 @@ fn range_help(low: Dec, high: Dec, places: u8) -> &'static str
 fn find_toml(limits: TextFile<'_>, quote: &mut String) -> Result<Found, AllocError>
     ensures { IfOk result (λ found. IsOfRanges found) }
 {
-    let help = "correct what stands there, or before it";
     match toml::table_from_slice(*quote.allocator(), limits.bytes) {
-        Ok(_) => Ok(Found::in_ranges(None, help)),
+        Ok(_) => Ok(Found::in_ranges(None)),
         Err(error) => {
             let Some(span) = error.span() else {
                 return Err(AllocError);
             };
             let message = error.message();
             write!(quote, ": {message}")?;
-            Ok(Found::in_ranges(Some(span.start), help))
+            Ok(Found::in_ranges(Some(span.start)))
         }
     }
 }
@@ -186,13 +183,11 @@ pub(crate) fn find_limit_name(
         → IfOk result (λ found. IsOfRanges found) }
 {
     if declares_input(source, name) {
-        return Ok(Found::in_plan(
-            named_byte(source, name),
-            "add the entry with low, high and places to the range file",
-        ));
+        let help = "add the entry with low, high and places to the range file";
+        return Ok(Found::in_plan(named_byte(source, name)).with_help(help));
     }
     let at = entry_byte(alloc, limits, Section::Input, name.as_str())?;
-    Ok(Found::in_ranges(at, "correct the name, or take the entry out"))
+    Ok(Found::in_ranges(at).with_help("correct the name, or take the entry out"))
 }
 
 /// Where the range of an input stands that doesn't suit its type.
@@ -209,7 +204,7 @@ pub(crate) fn find_limit_kind(
         Some(found) => kind_rule(found.declared.kind),
         None => "see its type",
     };
-    Ok(Found::in_ranges(at, rule))
+    Ok(Found::in_ranges(at).with_help(rule))
 }
 
 /// Which ranges suit a type.
@@ -239,5 +234,5 @@ pub(crate) fn find_binding(
     } else {
         "correct the name of the entry, or take it out"
     };
-    Ok(Found::in_ranges(at, help))
+    Ok(Found::in_ranges(at).with_help(help))
 }

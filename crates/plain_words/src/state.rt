@@ -3,10 +3,10 @@ ghost use Rattle.std.specs.Prelude.{◌≡◌, ◌++◌, IfOk, OnOk};
 ghost use Rattle.std.specs.String.{string_bytes};
 ghost use Rattle.plain_words.specs.Lines.{IsOneLine};
 ghost use Rattle.plain_words.specs.Places.{files_of};
-ghost use Rattle.plain_words.specs.States.{state_text, IsPlaceOfState, SaysState};
+ghost use Rattle.plain_words.specs.States.{state_text, state_help, IsPlaceOfState, SaysState};
 ghost use Rattle.plain_words.specs.FoundViews.{place_of};
 
-use crate::found::{FileKind, Found};
+use crate::found::Found;
 use crate::place::TextFile;
 use crate::reason::reason_line;
 use crate::section::{Section, entry_byte};
@@ -29,11 +29,8 @@ pub fn state_words(
 {
     let mut wrong = String::new(alloc);
     write_blocked(&mut wrong, state)?;
-    let found = find_blocked(alloc, plan, limits, state)?;
-    match found.file {
-        FileKind::Plan => reason_line(alloc, plan, found, &wrong, ""),
-        FileKind::Ranges => reason_line(alloc, limits, found, &wrong, ""),
-    }
+    let found = find_blocked(alloc, plan, limits, state)?.with_help(state_help(state));
+    reason_line(alloc, plan, limits, found, &wrong, "")
 }
 
 /// Appends why a run has no inputs.
@@ -67,16 +64,28 @@ fn find_blocked(
     ensures { IfOk result (λ found. IsPlaceOfState state.now (place_of found)) }
 {
     match state {
-        Blocked::Waits(_) => Ok(Found::in_plan(None, "mend that run first")),
-        Blocked::Unknown(_) => Ok(Found::in_plan(None, "leave the value out, or correct its name")),
-        Blocked::Missing(name) => Ok(Found::in_plan(
-            input_byte(alloc, plan, name)?,
-            "give one as NAME=VALUE or in the table, or write a default at its INPUT",
-        )),
-        Blocked::Range(name) => Ok(Found::in_ranges(
-            entry_byte(alloc, limits, Section::Input, name.as_str())?,
-            "correct the value, or widen the input's entry and check the plan again",
-        )),
+        Blocked::Waits(_) | Blocked::Unknown(_) => Ok(Found::in_plan(None)),
+        Blocked::Missing(name) => Ok(Found::in_plan(input_byte(alloc, plan, name)?)),
+        Blocked::Range(name) => {
+            let at = entry_byte(alloc, limits, Section::Input, name.as_str())?;
+            Ok(Found::in_ranges(at))
+        }
+    }
+}
+
+/// What helps where a run has no inputs.
+fn state_help(state: &Blocked) -> &'static str
+    ensures { result.now ≡ state_help state.now }
+{
+    match state {
+        Blocked::Waits(_) => "mend that run first",
+        Blocked::Unknown(_) => "leave the value out, or correct its name",
+        Blocked::Missing(_) => {
+            "give one as NAME=VALUE or in the table, or write a default at its INPUT"
+        }
+        Blocked::Range(_) => {
+            "correct the value, or widen the input's entry and check the plan again"
+        }
     }
 }
 

@@ -1,0 +1,154 @@
+-- What is shown of texts that stand one behind another, and of what helps.
+use Rattle.std.proofs.Common.{◌≡◌, ℕ, List, ◌++◌, refl, sym, ap, ◌∙◌, append_assoc}
+use Rattle.std.specs.Prelude.{Option, None, Some, IfSome, Result, Ok, Err, IfOk, map, codes, encode_utf8_all}
+use Rattle.std.specs.Char.{encode_utf8}
+use Rattle.std.specs.Str.{IsUtf8, chars}
+use Rattle.std.proofs.lemmas.List.{map-append}
+use Rattle.std.proofs.lemmas.Str.{IsUtf8-append, chars-append, encodes-append}
+use Rattle.pap_reader.specs.declared.fault.ReadFault.{ReadFault}
+use Rattle.pap_reader.specs.declared.fault.ReadFault.TheVariants as reads
+use Rattle.pap_expr.specs.declared.fault.ExprFault.{ExprFault}
+use Rattle.pap_expr.specs.declared.fault.ExprFault.TheVariants as expressions
+use Rattle.pap_types.specs.declared.fault.TypeFault.{TypeFault}
+use Rattle.pap_types.specs.declared.fault.TypeFault.TheVariants as types
+use Rattle.call_order.specs.declared.fault.OrderFault.{OrderFault}
+use Rattle.call_order.specs.declared.fault.OrderFault.TheVariants as orders
+use Rattle.limits_file.specs.declared.fault.LimitsFault.{LimitsFault}
+use Rattle.limits_file.specs.declared.fault.LimitsFault.TheVariants as limits
+use Rattle.interval_num.specs.declared.cause.RangeCause.{RangeCause}
+use Rattle.interval_num.specs.declared.cause.RangeCause.TheVariants as causes
+use Rattle.interval_analysis.specs.declared.fault.RangeFault.{RangeFault}
+use Rattle.interval_analysis.specs.declared.fault.RangeFault.TheVariants as ranges
+use Rattle.pap_plan.specs.declared.refusal.PlanRefusal.{PlanRefusal}
+use Rattle.pap_plan.specs.declared.refusal.PlanRefusal.TheVariants as refusals
+use Rattle.carry_bindings.specs.declared.filling.Blocked.{Blocked}
+use Rattle.plain_words.specs.declared.found.Found.{Found}
+use Rattle.plain_words.specs.Lines.{shown_char, shown_text, EndsWith}
+use Rattle.plain_words.specs.Places.{PlanFiles, words_at}
+use Rattle.plain_words.specs.Helps.{read_help, expression_help, type_help, order_help, limits_help, cause_help}
+use Rattle.plain_words.specs.Helps.{range_help, help_of}
+use Rattle.plain_words.specs.Refusals.{IsPlaceOf, BeginsAtRefusal}
+use Rattle.plain_words.specs.States.{state_text, state_help, IsPlaceOfState, SaysState}
+use Rattle.plain_words.specs.FoundViews.{place_of, help_text, HelpsAs}
+
+shown-append : (a b : List ℕ) → IsUtf8 a → shown_text (a ++ b) ≡ shown_text a ++ shown_text b
+shown-append a b whole =
+    ap (λ cs. encode_utf8_all (map shown_char cs)) (chars-append a b whole)
+    ∙ ap encode_utf8_all (map-append shown_char (chars a) (chars b))
+    ∙ encodes-append (map shown_char (chars a)) (map shown_char (chars b))
+
+utf8_colon : IsUtf8 (codes ": ")
+unfolding encode_utf8
+utf8_colon = (codes ": ", (refl, refl))
+
+-- the last of some texts ends what is shown of them
+pub shown_end : (place wrong quote end text : List ℕ) → IsUtf8 place → IsUtf8 wrong → IsUtf8 quote
+    → text ≡ place ++ (codes ": " ++ (wrong ++ (quote ++ end))) → EndsWith (shown_text end) (shown_text text)
+shown_end place wrong quote end text p w q is =
+    let said = wrong ++ quote in
+    let front = place ++ (codes ": " ++ said) in
+    let behind : IsUtf8 (codes ": " ++ said) = IsUtf8-append (codes ": ") said utf8_colon (IsUtf8-append wrong quote w q) in
+    let whole : IsUtf8 front = IsUtf8-append place (codes ": " ++ said) p behind in
+    let parts : text ≡ front ++ end =
+    is ∙ ap (λ x. place ++ (codes ": " ++ x)) (sym (append_assoc wrong quote end))
+    ∙ ap (λ x. place ++ x) (sym (append_assoc (codes ": ") said end)) ∙ sym (append_assoc place (codes ": " ++ said) end) in
+    (shown_text front, ap shown_text parts ∙ shown-append front end whole)
+
+-- ---- what helps is shown as it is
+
+abbrev IsShown : List ℕ → Type 0
+IsShown help = shown_text (codes "; " ++ help) ≡ codes "; " ++ help
+
+read_shown : (f : ReadFault) → IfSome (read_help f) IsShown
+unfolding chars encode_utf8
+read_shown (reads.Many which) = refl
+read_shown _ = tt
+
+expression_shown : (f : ExprFault) → IfSome (expression_help f) IsShown
+unfolding chars encode_utf8
+expression_shown (expressions.BinaryFraction at) = refl
+expression_shown (expressions.Number at) = refl
+expression_shown (expressions.Deep at) = refl
+expression_shown _ = tt
+
+type_shown : (f : TypeFault) → IfSome (type_help f) IsShown
+unfolding chars encode_utf8
+type_shown (types.Twice name) = refl
+type_shown (types.Unknown name place) = refl
+type_shown (types.ConstantWritten place) = refl
+type_shown (types.NoMethod place) = refl
+type_shown _ = tt
+
+order_shown : (f : OrderFault) → IfSome (order_help f) IsShown
+unfolding chars encode_utf8
+order_shown (orders.Cycle method) = refl
+order_shown (orders.Chain method) = refl
+order_shown (orders.TooLong count) = refl
+order_shown (orders.Memory e) = tt
+
+limits_shown : (f : LimitsFault) → IfSome (limits_help f) IsShown
+unfolding chars encode_utf8
+limits_shown limits.Toml = refl
+limits_shown limits.LimitsLong = refl
+limits_shown _ = tt
+
+cause_shown : (cause : RangeCause) → IsShown (cause_help cause)
+unfolding chars encode_utf8
+cause_shown causes.Wide = refl
+cause_shown causes.Scale = refl
+cause_shown causes.Divisor = refl
+cause_shown causes.Index = refl
+
+range_shown : (f : RangeFault) → IfSome (range_help f) IsShown
+unfolding chars encode_utf8
+range_shown (ranges.At place cause) = cause_shown cause
+range_shown (ranges.Output name) = refl
+range_shown (ranges.Memory e) = tt
+
+help_shown : (r : PlanRefusal) → IfSome (help_of r) IsShown
+help_shown (refusals.Read fault) = read_shown fault
+help_shown (refusals.Expr spot fault) = expression_shown fault
+help_shown (refusals.Types fault) = type_shown fault
+help_shown (refusals.Order fault) = order_shown fault
+help_shown (refusals.Limits fault) = limits_shown fault
+help_shown (refusals.Range fault) = range_shown fault
+help_shown _ = tt
+
+-- ---- the words of a refusal
+
+-- words that end with what is shown of what helps end with it, where the refusal decides it
+ends_with_help : (r : PlanRefusal) (found : Found) (words : List ℕ) → HelpsAs (help_of r) found
+    → EndsWith (shown_text (codes "; " ++ help_text found)) words → IfSome (help_of r) (λ help. EndsWith (codes "; " ++ help) words)
+ends_with_help r found words helps ends = by (help_of r) helps (help_shown r)
+  where
+    by : (help : Option (List ℕ)) → HelpsAs help found → IfSome help IsShown → IfSome help (λ h. EndsWith (codes "; " ++ h) words)
+    by None is shown = tt
+    by (Some h) is shown =
+        (ends.0, ends.1 ∙ ap (λ x. ends.0 ++ shown_text (codes "; " ++ x)) is ∙ ap (λ x. ends.0 ++ x) shown)
+
+pub begins_at_refusal : (files : PlanFiles) (r : PlanRefusal) (found : Found) (text words : List ℕ)
+    → IsPlaceOf files.plan.bytes r (place_of found) → HelpsAs (help_of r) found → words ≡ words_at files (place_of found) text
+    → EndsWith (shown_text (codes "; " ++ help_text found)) words → BeginsAtRefusal files r words
+begins_at_refusal files r found text words is helps says ends = record {
+  place = place_of found;
+  is = is;
+  begins = (text, says);
+  helps = ends_with_help r found words helps ends;
+}
+
+-- ---- the words of a state
+
+pub says_state : (files : PlanFiles) (s : Blocked) (f g : Found) (wrong words : List ℕ)
+    → IsPlaceOfState s (place_of f) → place_of g ≡ place_of f → help_text g ≡ state_help s → wrong ≡ state_text s
+    → words ≡ words_at files (place_of g) (wrong ++ (codes "; " ++ help_text g)) → SaysState files s words
+says_state files s f g wrong words is same helps told says = record {
+  place = place_of f;
+  is = is;
+  says = says ∙ ap (λ p. words_at files p (wrong ++ (codes "; " ++ help_text g))) same
+      ∙ ap (λ w. words_at files (place_of f) (w ++ (codes "; " ++ help_text g))) told
+      ∙ ap (λ h. words_at files (place_of f) (state_text s ++ (codes "; " ++ h))) helps;
+}
+
+pub if_ok_both : {A E : Type 0} (r : Result A E) (P Q R : A → Type 0) → ((a : A) → P a → Q a → R a) → IfOk r P → IfOk r Q → IfOk r R
+if_ok_both (Ok a) P Q R by p q = by a p q
+if_ok_both (Err e) P Q R by p q = tt
