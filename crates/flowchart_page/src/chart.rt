@@ -1,7 +1,7 @@
 //! The whole page.
 ghost use Rattle.std.specs.Prelude.{◌≡◌, ◌∷◌, [], option_map, IfOk, is_some, string_bytes};
 ghost use Rattle.pap_reader.specs.Trees.{tree_of};
-ghost use Rattle.flowchart_page.specs.Pages.{IsVerdictText, IsWhole, IsPage};
+ghost use Rattle.flowchart_page.specs.Pages.{IsVerdictText, IsWholePage, IsPage};
 ghost use Rattle.plain_words.specs.Places.{named_text};
 ghost use Rattle.flowchart_page.specs.Verdicts.{file_or_none, files_with, IsJudged};
 ghost use Rattle.flowchart_page.specs.VerdictViews.{words_in, HasReasonOf};
@@ -198,7 +198,7 @@ fn empty_page(
     verdict: &Verdict,
     reason: &Option<Reason>,
 ) -> Result<Page, AllocError>
-    ensures { IfOk result (IsWhole (verdict_text verdict.now (is_some reason.now) ∷ [])) }
+    ensures { IfOk result (IsWholePage (verdict_text verdict.now (is_some reason.now) ∷ [])) }
 {
     let mut page = Page::new(alloc);
     page.own(PAGE_START)?;
