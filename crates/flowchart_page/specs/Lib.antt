@@ -1,5 +1,6 @@
 pub mod Verdicts
 pub mod Pages
+pub mod Ranges
 pub mod Sites
 pub mod VerdictViews
 pub mod PageViews
