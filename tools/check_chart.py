@@ -4,8 +4,9 @@
 Of each drawing: no line meets a symbol but where it enters or leaves it, no horizontal line crosses a vertical one, no two
 vertical lines lie over one another, no two symbols share a height, all is inside the drawing, and no cut goes through a
 symbol, a word or a comment. Of each page: each statement and each comment is there once, a statement's caption has the
-characters of its lines, each link leads to a place of the page, each id stands once, and the drawings are well-formed XML. Of a
-range file that is begun for a plan of random inputs: the plan is accepted with it."""
+characters of its lines, each link leads to a place of the page, each id stands once, and the drawings are well-formed XML; there is no
+script, and nothing that is fetched; what the verdict of a refused plan links to is marked, and of another nothing is. Of a range file
+that is begun for a plan of random inputs: the plan is accepted with it, and the page shows the range of each name."""
 import os
 import random
 import re
@@ -209,9 +210,23 @@ def check_drawing(parts):
     return faults
 
 
-def check_page(plan, page):
+def check_marks(status, text):
+    """Faults of what is marked in red: what the verdict of a refused plan links to, and nothing without one."""
+    marks = re.findall(r'<[a-z]+ [^>]*class="(?:[a-z]+ )?bad"[^>]*>', text)
+    if text.count("<b>Refused.</b>") != status:
+        return ["status %d beside another verdict" % status]
+    if status == 0:
+        return ["marked in a plan that isn't refused: %s" % mark for mark in marks[:1]]
+    return ["not marked: %s" % link for link in re.findall(r'<a href="#([^"]*)">Show it in the', text)
+            if not any(' id="%s"' % link in mark for mark in marks)]
+
+
+def check_page(plan, status, page):
     faults = []
     text = page.decode("utf-8")
+    for part in re.findall(r"<(?:script|link|img|image|iframe|object|embed|base|use)\b|@import|url\(|<[^>]*\s(?:src|on[a-z]+)=", text):
+        faults.append("a script, or what is fetched: %s" % part)
+    faults += check_marks(status, text)
     ids = re.findall(r'\sid="([^"]*)"', text)
     twice = {i for i in ids if ids.count(i) > 1 and not i.startswith("name-")}
     if twice:
@@ -258,7 +273,16 @@ def check_ranges(binary, folder, plan):
     done = subprocess.run([binary, "chart", path, draft], capture_output=True)
     if ranges.returncode != 0 or done.returncode != 0:
         return ["the range file is refused: %s %s" % (ranges.stderr, done.stderr)]
-    return []
+    page, faults = done.stdout.decode("utf-8"), []
+    shown = [("out", "0 to 0")]
+    for name, low, high, places in re.findall(r"\[input\.(\w+)\]\nlow = (\S+)\nhigh = (\S+)\nplaces = (\d)", ranges.stdout.decode("utf-8")):
+        behind = "" if places == "0" else ", %s places" % places
+        shown.append((name, "%s to %s%s" % (low.strip('"'), high.strip('"'), behind)))
+    for name, text in shown:
+        row = re.search('<tr id="name-%s".*?</tr>' % name, page, re.S)
+        if row is None or ">%s<" % text not in row.group():
+            faults.append("the range of %s isn't shown: %s" % (name, text))
+    return faults
 
 
 def main():
@@ -274,7 +298,7 @@ def main():
                 file.write(plan.text())
             done = subprocess.run([binary, "chart", path], capture_output=True)
             faults = [] if done.returncode in (0, 1) else ["status %d %s" % (done.returncode, done.stderr)]
-            faults += check_page(plan, done.stdout)
+            faults += check_page(plan, done.returncode, done.stdout)
             parts += done.stdout.count(b", part ")
             faults += check_ranges(binary, folder, plan_of_inputs(rng))
             if faults:

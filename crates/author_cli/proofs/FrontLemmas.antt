@@ -1,6 +1,6 @@
 -- The answer on what is read of the files is that on their bytes.
 use Rattle.std.proofs.Common.{ℕ, ◌<◌, List, [], take, inl, inr, sym, subst, arith}
-use Rattle.std.specs.Prelude.{Bool, true, false, Some, None, Ok, Err}
+use Rattle.std.specs.Prelude.{Option, Some, None, Ok, Err}
 use Rattle.std.proofs.lemmas.List.{take_all}
 use Rattle.outside.specs.Told.{FileMap, IsFront}
 use Rattle.pap_reader.specs.declared.fault.ReadFault.{ReadFault}
@@ -11,10 +11,12 @@ use Rattle.pap_plan.specs.declared.refusal.PlanRefusal.TheVariants as refusals
 use Rattle.pap_plan.specs.Acceptance.{Meaning, IsAccepted, IsRefused}
 use Rattle.plan_answers.specs.Fronts.{AreFronts}
 use Rattle.plan_answers.proofs.Laws.{whole, front_there, answers_front}
-use Rattle.flowchart_page.specs.Verdicts.{IsJudged}
-use Rattle.flowchart_page.specs.Pages.{IsVerdictText, ArePlanCaptions}
+use Rattle.plain_words.specs.Places.{NamedText}
+use Rattle.flowchart_page.specs.Verdicts.{TellsPlan, file_or_none, files_with, IsJudged}
+use Rattle.flowchart_page.specs.Pages.{IsVerdictText, ArePlanCaptions, IsPage}
 use Rattle.author_cli.specs.Words.{chart, chart_within, ranges}
-use Rattle.author_cli.specs.Answers.{Answer, IsChart, IsRanges, Answers}
+use Rattle.author_cli.specs.Answers.{Answer, IsChart, IsRanges, file_of, Answers}
+use Rattle.author_cli.proofs.TellsLemmas.{front, begins_ranges, begins_plan}
 
 module _ (n m : ℕ) (more_plan : 1048576 < n) (more_limits : 262144 < m) where
   -- ---- the judgement
@@ -37,15 +39,38 @@ module _ (n m : ℕ) (more_plan : 1048576 < n) (more_limits : 262144 < m) where
   refused_alone : (plan : List ℕ) (r : PlanRefusal) → IsRefused (take n plan) [] r → IsRefused plan [] r
   refused_alone plan r h = refused_front plan [] r (empty_front (λ l. IsRefused (take n plan) l r) h)
 
-  judged_front : (plan limits : List ℕ) (b : Bool) → IsJudged (take n plan) (Some (take m limits)) b
-      → IsJudged plan (Some limits) b
-  judged_front plan limits true h = (h.0, refused_front plan limits h.0 h.1)
-  judged_front plan limits false h = (h.0, accepted_front plan limits h.0 h.1)
+  -- ---- the words
 
-  judged_alone : (plan : List ℕ) (b : Bool) → IsJudged (take n plan) None b → IsJudged plan None b
-  judged_alone plan true h = (h.0, (h.1.0, refused_alone plan h.0 h.1.1))
-  judged_alone plan false (inl h) = inl (h.0, accepted_alone plan h.0 h.1)
-  judged_alone plan false (inr h) = inr (h.0, refused_alone plan (refusals.LimitName h.0) h.1)
+  tells_front : (plan limits : NamedText) (words : List ℕ)
+      → TellsPlan (files_with (front n plan) (Some (front m limits))) words → TellsPlan (files_with plan (Some limits)) words
+  tells_front plan limits words h = record {
+    refusal = h.refusal;
+    refused = refused_front plan.bytes limits.bytes h.refusal h.refused;
+    line = h.line;
+    begins = begins_ranges m plan limits h.refusal words
+        (begins_plan n more_plan plan (front m limits) (take m limits.bytes) h.refusal words h.refused h.begins);
+  }
+
+  tells_alone : (plan : NamedText) (words : List ℕ) → TellsPlan (files_with (front n plan) None) words
+      → TellsPlan (files_with plan None) words
+  tells_alone plan words h = record {
+    refusal = h.refusal;
+    refused = refused_alone plan.bytes h.refusal h.refused;
+    line = h.line;
+    begins = begins_plan n more_plan plan (file_or_none None) [] h.refusal words h.refused h.begins;
+  }
+
+  judged_front : (plan limits : NamedText) (words : Option (List ℕ))
+      → IsJudged (front n plan) (Some (front m limits)) words → IsJudged plan (Some limits) words
+  judged_front plan limits (Some words) h = tells_front plan limits words h
+  judged_front plan limits None h = (h.0, accepted_front plan.bytes limits.bytes h.0 h.1)
+
+  judged_alone : (plan : NamedText) (words : Option (List ℕ)) → IsJudged (front n plan) None words
+      → IsJudged plan None words
+  unfolding tells_alone
+  judged_alone plan (Some words) h = record { tells = tells_alone plan words h.tells; other = h.other }
+  judged_alone plan None (inl h) = inl (h.0, accepted_alone plan.bytes h.0 h.1)
+  judged_alone plan None (inr h) = inr (h.0, refused_alone plan.bytes (refusals.LimitName h.0) h.1)
 
   -- ---- the page
 
@@ -70,74 +95,91 @@ module _ (n m : ℕ) (more_plan : 1048576 < n) (more_limits : 262144 < m) where
   captions_front plan captions (inl h) = inl (h.0, elements_front plan h.0 h.1, h.2)
   captions_front plan captions (inr h) = inr (h.0, fault_front plan h.0 h.1, h.2)
 
-  chart_front : (plan limits : List ℕ) (a : Answer) → IsChart (take n plan) (Some (take m limits)) a
-      → IsChart plan (Some limits) a
-  chart_front plan limits a h = record {
-    page = record {
-      verdict = h.page.verdict;
-      captions = h.page.captions;
-      is_verdict = verdict_front plan limits h.page.verdict h.page.is_verdict;
-      are_captions = captions_front plan h.page.captions h.page.are_captions;
-      whole = h.page.whole;
-    };
-    judged = judged_front plan limits a.refused h.judged;
+  page_front : (plan limits page : List ℕ) → IsPage (take n plan) (Some (take m limits)) page
+      → IsPage plan (Some limits) page
+  page_front plan limits page h = record {
+    verdict = h.verdict;
+    captions = h.captions;
+    is_verdict = verdict_front plan limits h.verdict h.is_verdict;
+    are_captions = captions_front plan h.captions h.are_captions;
+    whole = h.whole;
   }
 
-  chart_alone : (plan : List ℕ) (a : Answer) → IsChart (take n plan) None a → IsChart plan None a
+  page_alone : (plan page : List ℕ) → IsPage (take n plan) None page → IsPage plan None page
+  page_alone plan page h = record {
+    verdict = h.verdict;
+    captions = h.captions;
+    is_verdict = verdict_alone plan h.verdict h.is_verdict;
+    are_captions = captions_front plan h.captions h.are_captions;
+    whole = h.whole;
+  }
+
+  chart_front : (plan limits : NamedText) (a : Answer) → IsChart (front n plan) (Some (front m limits)) a
+      → IsChart plan (Some limits) a
+  chart_front plan limits a h = record {
+    page = page_front plan.bytes limits.bytes a.text h.page;
+    judged = judged_front plan limits a.reason h.judged;
+  }
+
+  chart_alone : (plan : NamedText) (a : Answer) → IsChart (front n plan) None a → IsChart plan None a
   chart_alone plan a h = record {
-    page = record {
-      verdict = h.page.verdict;
-      captions = h.page.captions;
-      is_verdict = verdict_alone plan h.page.verdict h.page.is_verdict;
-      are_captions = captions_front plan h.page.captions h.page.are_captions;
-      whole = h.page.whole;
-    };
-    judged = judged_alone plan a.refused h.judged;
+    page = page_alone plan.bytes a.text h.page;
+    judged = judged_alone plan a.reason h.judged;
   }
 
   -- ---- the range file
 
-  ranges_front : (plan : List ℕ) (a : Answer) → IsRanges (take n plan) a → IsRanges plan a
+  ranges_front : (plan : NamedText) (a : Answer) → IsRanges (front n plan) a → IsRanges plan a
   ranges_front plan a (inl h) = inl (record {
     tree = h.tree;
-    elements = elements_front plan h.tree h.elements;
+    elements = elements_front plan.bytes h.tree h.elements;
     draft = h.draft;
     read = h.read;
   })
-  ranges_front plan a (inr h) = inr (record { fault = h.fault; has = fault_front plan h.fault h.has; is = h.is })
+  ranges_front plan a (inr h) = inr (record {
+    fault = h.fault;
+    has = fault_front plan.bytes h.fault h.has;
+    text = h.text;
+    words = h.words;
+    reason = h.reason;
+    tells = tells_alone plan h.words h.tells;
+  })
 
 -- ---- of files that are there
 
-pub chart_of : (files : FileMap) (plan front : List ℕ) (a : Answer) → IsFront files plan 1048577 front
-    → IsChart front None a → Answers (chart plan) files a
-chart_of files plan front a read h =
-    let p = front_there (files plan) 1048577 front read in
+pub chart_of : (files : FileMap) (plan bytes : List ℕ) (a : Answer) → IsFront files plan 1048577 bytes
+    → IsChart (file_of plan bytes) None a → Answers (chart plan) files a
+chart_of files plan bytes a read h =
+    let p = front_there (files plan) 1048577 bytes read in
     record {
       plan_bytes = p.0;
       plan_there = p.1;
-      is = chart_alone 1048577 262145 (omega arith) (omega arith) p.0 a (subst (λ b. IsChart b None a) p.2 h);
+      is = chart_alone 1048577 262145 (omega arith) (omega arith) (file_of plan p.0) a
+          (subst (λ b. IsChart (file_of plan b) None a) p.2 h);
     }
 
-pub ranges_of : (files : FileMap) (plan front : List ℕ) (a : Answer) → IsFront files plan 1048577 front
-    → IsRanges front a → Answers (ranges plan) files a
-ranges_of files plan front a read h =
-    let p = front_there (files plan) 1048577 front read in
+pub ranges_of : (files : FileMap) (plan bytes : List ℕ) (a : Answer) → IsFront files plan 1048577 bytes
+    → IsRanges (file_of plan bytes) a → Answers (ranges plan) files a
+ranges_of files plan bytes a read h =
+    let p = front_there (files plan) 1048577 bytes read in
     record {
       plan_bytes = p.0;
       plan_there = p.1;
-      is = ranges_front 1048577 262145 (omega arith) (omega arith) p.0 a (subst (λ b. IsRanges b a) p.2 h);
+      is = ranges_front 1048577 262145 (omega arith) (omega arith) (file_of plan p.0) a
+          (subst (λ b. IsRanges (file_of plan b) a) p.2 h);
     }
 
-pub chart_within_of : (files : FileMap) (plan limits front front' : List ℕ) (a : Answer)
-    → AreFronts files plan limits front front'
-    → IsChart front (Some front') a → Answers (chart_within plan limits) files a
-chart_within_of files plan limits front front' a read h =
+pub chart_within_of : (files : FileMap) (plan limits bytes bytes' : List ℕ) (a : Answer)
+    → AreFronts files plan limits bytes bytes'
+    → IsChart (file_of plan bytes) (Some (file_of limits bytes')) a → Answers (chart_within plan limits) files a
+chart_within_of files plan limits bytes bytes' a read h =
     record {
       plan_bytes = read.plan_bytes;
       limits_bytes = read.limits_bytes;
       plan_there = read.plan_there;
       limits_there = read.limits_there;
-      is = chart_front 1048577 262145 (omega arith) (omega arith) read.plan_bytes read.limits_bytes a
-          (subst (λ b. IsChart b (Some (take 262145 read.limits_bytes)) a) read.plan_read
-          (subst (λ b. IsChart front (Some b) a) read.limits_read h));
+      is = chart_front 1048577 262145 (omega arith) (omega arith)
+          (file_of plan read.plan_bytes) (file_of limits read.limits_bytes) a
+          (subst (λ b. IsChart (file_of plan b) (Some (file_of limits (take 262145 read.limits_bytes))) a)
+          read.plan_read (subst (λ b. IsChart (file_of plan bytes) (Some (file_of limits b)) a) read.limits_read h));
     }

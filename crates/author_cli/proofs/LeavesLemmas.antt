@@ -1,6 +1,6 @@
 -- What a call leaves by its end, and the headline from it.
 use Rattle.std.proofs.Common.{◌≡◌, ℕ, List, ◌++◌, refl, sym, ap, subst, arith}
-use Rattle.std.specs.Prelude.{Option, Some, None, is_some, Ok, Err, IsErrOf}
+use Rattle.std.specs.Prelude.{Option, Some, None, Ok, Err, IsErrOf}
 use Rattle.outside.specs.Causes.{Rose, Still}
 use Rattle.outside.specs.Told.{Appends, AppendsPrefix}
 use Rattle.outside.specs.declared.traits.FileAnswer.{FileAnswer}
@@ -10,7 +10,7 @@ use Rattle.author_cli.specs.declared.stop.Stop.TheVariants as stops
 use Rattle.author_cli.specs.StopViews.{stop_of_file}
 use Rattle.author_cli.specs.Words.{Form}
 use Rattle.author_cli.specs.AnswerViews.{answer_of, Makes}
-use Rattle.author_cli.specs.Ends.{Ended}
+use Rattle.author_cli.specs.Ends.{Ended, words_of}
 use Rattle.author_cli.specs.Outside.{Outside}
 use Rattle.author_cli.specs.CallClauses.{Leaves, Headline, Carries}
 
@@ -57,12 +57,12 @@ headline : (form : Form) (before after : Outside) (ended : Ended) → Leaves for
     → (IsErrOf ended stops.File → Rose before.file_faults after.file_faults)
     → (IsErrOf ended stops.Write → Rose before.sink_faults after.sink_faults) → Headline form before after ended
 headline form before after (Ok reason) h file write = λ files told written said memory still_files still_sink. record {
-  answer = record { text = h.text; refused = is_some reason };
+  answer = record { text = h.text; reason = words_of reason };
   answers = h.answers files told;
   text = appended_told before.written after.written written h.text said h.written;
   reason = reason;
   is_ok = refl;
-  refused = refl;
+  words = refl;
 }
 headline form before after (Err stops.Words) h file write = absurd h
 headline form before after (Err stops.File) h file write = λ files told written said memory still_files still_sink.

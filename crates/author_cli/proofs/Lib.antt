@@ -1,4 +1,6 @@
 mod WordLemmas
+mod UnreadLemmas
+mod TellsLemmas
 mod FrontLemmas
 mod LeavesLemmas
 mod DraftLemmas

@@ -1,5 +1,5 @@
 -- An answer that was made, as the one that it stands for.
-use Rattle.std.specs.Prelude.{◌≡◌, ℕ, List, Option, is_some, Result, Ok, Err}
+use Rattle.std.specs.Prelude.{◌≡◌, ℕ, List, Option, Result, Ok, Err}
 use Rattle.std.specs.Option.{ForSome}
 use Rattle.outside.specs.Told.{FileMap}
 use Rattle.outside.specs.declared.traits.FileAnswer.{FileAnswer}
@@ -7,10 +7,11 @@ use Rattle.outside.specs.declared.traits.FileAnswer.TheVariants as files
 use Rattle.author_cli.specs.declared.answer.Answer.{Answer as Made}
 use Rattle.author_cli.specs.Words.{Form}
 use Rattle.author_cli.specs.Answers.{Answer, Answers}
+use Rattle.author_cli.specs.Ends.{words_of}
 use Rattle.author_cli.specs.CallClauses.{Lacks}
 
 abbrev pub answer_of : Made → Answer
-answer_of made = record { text = made.text.items; refused = is_some made.reason }
+answer_of made = record { text = made.text.items; reason = words_of made.reason }
 
 -- what is made of the files that the words name: the answer on their bytes, or the failed name; without a fault that
 -- name stays

@@ -1,5 +1,5 @@
 -- What a call leaves, as it ended (docs/DEFINITIONS.md).
-use Rattle.std.specs.Prelude.{◌≡◌, ◌≢◌, ℕ, List, ◌++◌, Bool, Option, Some, is_some, Ok, Err, String}
+use Rattle.std.specs.Prelude.{◌≡◌, ◌≢◌, ℕ, List, ◌++◌, Option, Some, Ok, Err, String}
 use Rattle.std.specs.Option.{ForSome}
 use Rattle.std.specs.declared.alloc.Global.{Global}
 use Rattle.outside.specs.Causes.{Still}
@@ -8,7 +8,7 @@ use Rattle.plan_answers.specs.Fronts.{IsMissing}
 use Rattle.author_cli.specs.declared.stop.Stop.TheVariants as stops
 use Rattle.author_cli.specs.Words.{Form, chart, chart_within, ranges}
 use Rattle.author_cli.specs.Answers.{Answer, Answers}
-use Rattle.author_cli.specs.Ends.{Ended}
+use Rattle.author_cli.specs.Ends.{Ended, words_of}
 use Rattle.author_cli.specs.Outside.{Outside}
 
 -- the name at which the files failed: the plan's, or the range file's where the plan is there
@@ -19,11 +19,11 @@ Lacks (ranges plan) told failed = failed ≡ Some plan
 
 -- ---- what each end leaves; of the text where the files tell what they hold, of the rest always
 
--- the whole answer was written, and the plan is refused or isn't
-pub record IsWhole (form : Form) (before after : Outside) (refused : Bool) : Type 0 where
+-- the whole answer was written, and these words say why the plan is refused, where it is
+pub record IsWholeAnswer (form : Form) (before after : Outside) (words : Option (List ℕ)) : Type 0 where
   pub text : List ℕ
   pub written : Appends before.written after.written text
-  pub answers : ForSome before.files (λ files. Answers form files (record { text = text; refused = refused }))
+  pub answers : ForSome before.files (λ files. Answers form files (record { text = text; reason = words }))
   pub kept : after.failed ≡ before.failed
 
 -- a front of the answer was written, and not the whole
@@ -44,7 +44,7 @@ pub record IsUnwritten (before after : Outside) : Type 0 where
   pub kept : after.failed ≡ before.failed
 
 abbrev pub Leaves : Form → Outside → Outside → Ended → Type 0
-Leaves form before after (Ok reason) = IsWhole form before after (is_some reason)
+Leaves form before after (Ok reason) = IsWholeAnswer form before after (words_of reason)
 Leaves form before after (Err stops.Words) = ⊥
 Leaves form before after (Err stops.File) = IsLacking form before after
 Leaves form before after (Err stops.Write) = IsCutShort form before after
@@ -52,7 +52,7 @@ Leaves form before after (Err stops.Memory) = IsUnwritten before after
 
 -- ---- the headline
 
--- the files are there, the answer on them was written whole, and there is a reason exactly where the plan is refused
+-- the files are there, the answer on them was written whole, and it is told why the plan is refused, where it is
 pub record IsAnswered (form : Form) (files : FileMap) (written : List ℕ) (after : Outside) (ended : Ended)
     : Type 0 where
   pub answer : Answer
@@ -60,7 +60,7 @@ pub record IsAnswered (form : Form) (files : FileMap) (written : List ℕ) (afte
   pub text : after.written ≡ Some (written ++ answer.text)
   pub reason : Option (String Global)
   pub is_ok : ended ≡ Ok reason
-  pub refused : is_some reason ≡ answer.refused
+  pub words : words_of reason ≡ answer.reason
 
 -- where the files and the sink tell what they hold, while memory is there and no call of them fails
 abbrev pub Headline : Form → Outside → Outside → Ended → Type 0

@@ -1,5 +1,5 @@
 -- How a call ends.
-use Rattle.std.specs.Prelude.{ℕ, Option, Some, None, Result, Ok, Err, String}
+use Rattle.std.specs.Prelude.{ℕ, List, Option, Some, None, option_map, Result, Ok, Err, String, string_bytes}
 use Rattle.std.specs.declared.alloc.Global.{Global}
 use Rattle.author_cli.specs.declared.stop.Stop.{Stop}
 use Rattle.author_cli.specs.declared.stop.Stop.TheVariants as stops
@@ -7,6 +7,10 @@ use Rattle.author_cli.specs.declared.stop.Stop.TheVariants as stops
 -- all was written, with the reason why the plan is refused where it is, or why the call stopped
 abbrev pub Ended : Type 0
 Ended = Result (Option (String Global)) Stop
+
+-- the words of a reason
+abbrev pub words_of : Option (String Global) → Option (List ℕ)
+words_of reason = option_map (λ words. string_bytes words) reason
 
 -- the number with which the program ends
 abbrev pub number_of : Ended → ℕ

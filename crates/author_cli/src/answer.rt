@@ -1,9 +1,11 @@
 //! What is written on a request.
 ghost use Rattle.std.specs.Prelude.{◌≡◌, IfOk, None, option_map};
 ghost use Rattle.outside.specs.Causes.{Caused};
+ghost use Rattle.pap_reader.specs.Elements.{IsFault};
+ghost use Rattle.plain_words.specs.Places.{named_text};
 ghost use Rattle.author_cli.specs.Words.{chart, chart_within, ranges};
 ghost use Rattle.author_cli.specs.WordViews.{form_of};
-ghost use Rattle.author_cli.specs.Answers.{IsChart, IsRanges, refused_answer};
+ghost use Rattle.author_cli.specs.Answers.{IsChart, IsUnread, IsRanges};
 ghost use Rattle.author_cli.specs.AnswerViews.{answer_of, Makes};
 ghost use Rattle.author_cli.specs.CallClauses.{Leaves};
 
@@ -133,13 +135,14 @@ fn answer_ranges<F: Files>(alloc: Global, plan: &str, files: &mut F) -> Result<A
 }
 
 /// The page of a plan's bytes, with those of a range file or without.
+#[tactic(auto, using(crate::proofs::UnreadLemmas::charted))]
 fn page_of(
     alloc: Global,
     plan: TextFile<'_>,
     limits: Option<TextFile<'_>>,
 ) -> Result<Answer, AllocError>
-    ensures { IfOk result (λ answer. IsChart plan.entry.bytes.now
-        (option_map (λ file. file.bytes.now) limits.entry) (answer_of answer)) }
+    ensures { IfOk result (λ answer. IsChart (named_text plan.entry)
+        (option_map (λ file. named_text file) limits.entry) (answer_of answer)) }
 {
     let Chart { page, reason } = draw_chart(alloc, plan, limits)?;
     Ok(Answer { text: page, reason })
@@ -147,7 +150,7 @@ fn page_of(
 
 /// The range file that begins with a plan's inputs, or the line of its refusal where the bytes aren't read as a plan.
 fn ranges_of(alloc: Global, plan: TextFile<'_>) -> Result<Answer, AllocError>
-    ensures { IfOk result (λ answer. IsRanges plan.entry.bytes.now (answer_of answer)) }
+    ensures { IfOk result (λ answer. IsRanges (named_text plan.entry) (answer_of answer)) }
 {
     match read_elements(alloc, plan.bytes) {
         Ok(elements) => {
@@ -164,8 +167,10 @@ fn ranges_of(alloc: Global, plan: TextFile<'_>) -> Result<Answer, AllocError>
 }
 
 /// The line of a file that isn't read as a plan, as `papcalc check` writes it.
+#[tactic(auto, using(crate::proofs::UnreadLemmas::unread))]
 fn answer_unread(alloc: Global, plan: TextFile<'_>, fault: ReadFault) -> Result<Answer, AllocError>
-    ensures { IfOk result (λ answer. answer_of answer ≡ refused_answer fault) }
+    requires { IsFault plan.bytes.now fault }
+    ensures { IfOk result (λ answer. IsUnread (named_text plan.entry) (answer_of answer)) }
 {
     let refusal = PlanRefusal::Read(fault);
     let reply = refused(alloc, plan.bytes, &refusal)?;

@@ -41,7 +41,8 @@ pub fn pap_author<F: Files, W: Sink>(
     ensures files_same { F.told files.new ≡ F.told files.old }
 
     // By the form of the words: what the call leaves as it ended (`leaves`), and the headline: while memory is there
-    // and no outside call fails, what is written is the page or the range file, or the refusal in its place.
+    // and no outside call fails, what is written is the page or the range file, or the refusal in its place, and the
+    // words of `Ok` say why the plan is refused, where it is.
     ensures carries { (form : Form) → HasForm (texts words.now) form → Carries form
         (record {
           files = F.told files.old;

@@ -9,13 +9,13 @@ use Rattle.pap_reader.specs.Elements.{IsElements, IsFault, IsFaultOrMemory}
 use Rattle.flowchart_methods.specs.Turns.{AddsInTurn}
 use Rattle.flowchart_methods.specs.Captions.{AreCaptions, methods_of}
 use Rattle.flowchart_methods.proofs.Laws.{adds_none, adds_before, adds_behind, adds_then}
-use Rattle.flowchart_page.specs.Pages.{page_start, page_end, IsWhole, IsVerdictText, IsPage}
+use Rattle.flowchart_page.specs.Pages.{page_start, page_end, IsWholePage, IsVerdictText, IsPage}
 use Rattle.flowchart_page.specs.PageViews.{IsPageOfTree, IsPageOfText}
 
 -- from its start on, HTML a, the sentence, HTML b, the captions, HTML c, and its end
 pub whole_page : (verdict : List ℕ) (captions : List (List ℕ)) (a b c p0 p1 p2 p3 p4 p5 p6 p7 : List ℕ) → p0 ≡ []
     → p1 ≡ p0 ++ page_start → p2 ≡ p1 ++ a → AddsInTurn (verdict ∷ []) p2 p3 → p4 ≡ p3 ++ b → AddsInTurn captions p4 p5 → p6 ≡ p5 ++ c
-    → p7 ≡ p6 ++ page_end → IsWhole (verdict ∷ captions) p7
+    → p7 ≡ p6 ++ page_end → IsWholePage (verdict ∷ captions) p7
 whole_page verdict captions a b c p0 p1 p2 p3 p4 p5 p6 p7 e0 e1 e2 said e4 shown e6 e7 =
     let all : AddsInTurn (verdict ∷ captions) p1 p6 =
     adds_behind (verdict ∷ captions) c p1 p5 p6 e6
@@ -31,7 +31,7 @@ whole_page verdict captions a b c p0 p1 p2 p3 p4 p5 p6 p7 e0 e1 e2 said e4 shown
 
 -- the same with no methods
 pub head_alone : (verdict a b p0 p1 p2 p3 p4 p5 : List ℕ) → p0 ≡ [] → p1 ≡ p0 ++ page_start → p2 ≡ p1 ++ a → AddsInTurn (verdict ∷ []) p2 p3
-    → p4 ≡ p3 ++ b → p5 ≡ p4 ++ page_end → IsWhole (verdict ∷ []) p5
+    → p4 ≡ p3 ++ b → p5 ≡ p4 ++ page_end → IsWholePage (verdict ∷ []) p5
 head_alone verdict a b p0 p1 p2 p3 p4 p5 e0 e1 e2 said e4 e5 =
     whole_page verdict [] a b [] p0 p1 p2 p3 p4 p4 p4 p5 e0 e1 e2 said e4 (adds_none p4) (sym (append-nil p4)) e5
 
@@ -43,7 +43,7 @@ fault_of bytes (faults.Many which) n h = h
 fault_of bytes faults.Memory n h = absurd (n refl)
 
 pub unread_page : {E : Type 0} (verdict plan : List ℕ) (f : ReadFault) (r : Result (List ℕ) E) → f ≢ faults.Memory → IsFaultOrMemory plan f
-    → IfOk r (IsWhole (verdict ∷ [])) → IfOk r (IsPageOfText verdict plan)
+    → IfOk r (IsWholePage (verdict ∷ [])) → IfOk r (IsPageOfText verdict plan)
 unread_page verdict plan f (Ok page) n h whole =
     record { captions = []; are_captions = inr (f, fault_of plan f n h, refl); whole = whole }
 unread_page verdict plan f (Err e) n h whole = whole
@@ -79,5 +79,5 @@ judged_page verdict plan page bytes limits said shown is = record {
   captions = shown.captions;
   is_verdict = said;
   are_captions = shown.are_captions;
-  whole = subst (λ b. IsWhole (verdict ∷ shown.captions) b) (sym is) shown.whole;
+  whole = subst (λ b. IsWholePage (verdict ∷ shown.captions) b) (sym is) shown.whole;
 }

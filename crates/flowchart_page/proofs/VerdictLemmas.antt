@@ -1,14 +1,19 @@
 -- The reason of a page is that of its verdict.
-use Rattle.std.proofs.Common.{◌≡◌, ◌≢◌, ℕ, inl, inr, Option, Some, None, true, false, List, [], refl, sym, subst}
-use Rattle.std.specs.Prelude.{is_some}
+use Rattle.std.proofs.Common.{◌≡◌, ◌≢◌, ℕ, inl, inr, Option, Some, None, List, [], refl, sym, ap, ◌∙◌, subst}
+use Rattle.std.specs.Prelude.{is_some, option_map, unwrap_or, string_bytes}
 use Rattle.pap_plan.specs.declared.refusal.PlanRefusal.{PlanRefusal}
 use Rattle.pap_plan.specs.declared.refusal.PlanRefusal.TheVariants as refusals
 use Rattle.pap_plan.specs.Acceptance.{IsRefused, IsRefusedOrMemory}
 use Rattle.pap_plan.specs.Plans.{meaning}
 use Rattle.flowchart_page.specs.declared.verdict.Verdict.{Verdict}
 use Rattle.flowchart_page.specs.declared.verdict.Verdict.TheVariants.{Accepted, InOrder, Refused}
-use Rattle.flowchart_page.specs.Verdicts.{IsJudged}
-use Rattle.flowchart_page.specs.VerdictViews.{IsVerdict, HasReasonOf, verdict_alone}
+use Rattle.plain_words.specs.declared.place.TextFile.{TextFile}
+use Rattle.plain_words.specs.Lines.{IsOneLine}
+use Rattle.plain_words.specs.Places.{NamedText, named_text, PlanFiles, files_of}
+use Rattle.plain_words.specs.Refusals.{BeginsAtRefusal}
+use Rattle.flowchart_page.specs.declared.header.Reason.{Reason}
+use Rattle.flowchart_page.specs.Verdicts.{TellsPlan, file_or_none, files_with, IsJudged}
+use Rattle.flowchart_page.specs.VerdictViews.{IsVerdict, words_in, SaysRefusal, HasReasonOf, verdict_alone}
 use Rattle.flowchart_page.specs.Pages.{IsVerdictText}
 use Rattle.flowchart_page.specs.PageViews.{verdict_text}
 
@@ -42,48 +47,76 @@ pub refused_alone : (plan : List ℕ) (r : PlanRefusal) (v : Verdict) → v ≡ 
     → IsVerdict plan None v
 refused_alone plan r v e h = subst (λ v. IsVerdict plan None v) (sym e) (alone_of plan r h)
 
-some_none : (l : List ℕ) → Some l ≡ None → ⊥
-some_none l e = absurd cc
+some_none : {A : Type 0} (x : A) → Some x ≡ None → ⊥
+some_none x e = absurd cc
 
-true_false : true ≡ false → ⊥
-true_false e = absurd cc
+-- ---- the words of a reason
 
-false_true : false ≡ true → ⊥
-false_true e = absurd cc
+pub file_kept : (limits : Option TextFile) (file other : TextFile) → file ≡ unwrap_or limits other
+    → named_text other ≡ file_or_none None → named_text file ≡ file_or_none (option_map (λ f. named_text f) limits)
+file_kept (Some l) file other e none = ap (λ f. named_text f) e
+file_kept None file other e none = ap (λ f. named_text f) e ∙ none
 
--- what is said of a verdict
-reason_judged : {A : Type 0} (plan : List ℕ) (limits : Option (List ℕ)) (v : Verdict) (reason : Option A)
-    → IsVerdict plan limits v → HasReasonOf v reason
-    → IsJudged plan limits (is_some reason)
+-- the words on a plan and this range file
+pub says_refusal : (plan file : TextFile) (limits : Option NamedText) (r : PlanRefusal) (words : List ℕ)
+    → named_text file ≡ file_or_none limits → r ≢ refusals.Memory → IsOneLine words
+    → BeginsAtRefusal (files_of plan file) r words → SaysRefusal (files_with (named_text plan) limits) r words
+says_refusal plan file limits r words is known line begins = record {
+  known = known;
+  line = line;
+  begins = subst (λ f. BeginsAtRefusal (record { plan = named_text plan; ranges = f }) r words) is begins;
+}
+
+tells_plan : (files : PlanFiles) (r : PlanRefusal) (words : List ℕ) → SaysRefusal files r words
+    → IsRefusedOrMemory files.plan.bytes files.ranges.bytes r → TellsPlan files words
+tells_plan files r words says h = record {
+  refusal = r;
+  refused = refused_by files.plan.bytes files.ranges.bytes r says.known h;
+  line = says.line;
+  begins = says.begins;
+}
+
+-- ---- what is said of a verdict
+
+reason_judged : (plan : TextFile) (limits : Option TextFile) (v : Verdict) (reason : Option Reason)
+    → IsVerdict plan.bytes.now (option_map (λ f. f.bytes.now) limits) v
+    → HasReasonOf (files_with (named_text plan) (option_map (λ f. named_text f) limits)) v reason
+    → IsJudged (named_text plan) (option_map (λ f. named_text f) limits) (words_in reason)
+unfolding tells_plan
 reason_judged plan (Some l) (Accepted p) None h r = (_, h.accepted)
 reason_judged plan None (Accepted p) None h r = inl (_, h.accepted)
-reason_judged plan limits (Accepted p) (Some w) h r = absurd (true_false r)
-reason_judged plan (Some l) InOrder None h r = absurd (some_none l h.0)
+reason_judged plan limits (Accepted p) (Some w) h r = absurd (some_none w r)
+reason_judged plan (Some l) InOrder None h r = absurd (some_none l.bytes.now h.0)
 reason_judged plan None InOrder None h r = inr h.1
-reason_judged plan limits InOrder (Some w) h r = absurd (true_false r)
-reason_judged plan (Some l) (Refused f) (Some w) h r = (f, refused_by plan l f r.0 h)
-reason_judged plan None (Refused f) (Some w) h r = (f, (h.0, refused_by plan [] f r.0 h.1))
-reason_judged plan limits (Refused f) None h r = absurd (false_true r.1)
+reason_judged plan limits InOrder (Some w) h r = absurd (some_none w r)
+reason_judged plan (Some l) (Refused f) (Some w) h r =
+    tells_plan (files_with (named_text plan) (Some (named_text l))) f (string_bytes w.words) r h
+reason_judged plan None (Refused f) (Some w) h r =
+    record { tells = tells_plan (files_with (named_text plan) None) f (string_bytes w.words) r h.1; other = h.0 }
+reason_judged plan limits (Refused f) None h r = absurd r
 
-pub judged : {A : Type 0} (plan : List ℕ) (limits ranges : Option (List ℕ)) (v : Verdict) (reason : Option A)
-    → ranges ≡ limits → IsVerdict plan ranges v → HasReasonOf v reason
-    → IsJudged plan limits (is_some reason)
-judged plan limits ranges v reason e h r = reason_judged plan limits v reason (subst (λ l. IsVerdict plan l v) e h) r
+pub judged : (plan : TextFile) (limits : Option TextFile) (ranges : Option (List ℕ)) (v : Verdict) (reason : Option Reason)
+    → ranges ≡ option_map (λ f. f.bytes.now) limits → IsVerdict plan.bytes.now ranges v
+    → HasReasonOf (files_with (named_text plan) (option_map (λ f. named_text f) limits)) v reason
+    → IsJudged (named_text plan) (option_map (λ f. named_text f) limits) (words_in reason)
+judged plan limits ranges v reason e h r =
+    reason_judged plan limits v reason (subst (λ l. IsVerdict plan.bytes.now l v) e h) r
 
 -- the sentence on it
-text_said : {A : Type 0} (plan : List ℕ) (limits : Option (List ℕ)) (v : Verdict) (reason : Option A)
-    → IsVerdict plan limits v → HasReasonOf v reason
+text_said : (files : PlanFiles) (plan : List ℕ) (limits : Option (List ℕ)) (v : Verdict) (reason : Option Reason)
+    → IsVerdict plan limits v → HasReasonOf files v reason
     → IsVerdictText plan limits (verdict_text v (is_some reason))
-text_said plan (Some l) (Accepted p) reason h r = inl (meaning p, h.accepted, refl)
-text_said plan None (Accepted p) reason h r = inl (meaning p, h.accepted, refl)
-text_said plan (Some l) InOrder reason h r = absurd (some_none l h.0)
-text_said plan None InOrder None h r = inr (inl (h.1.0, h.1.1, refl))
-text_said plan None InOrder (Some w) h r = absurd (true_false r)
-text_said plan (Some l) (Refused f) (Some w) h r = inr (f, refused_by plan l f r.0 h, refl)
-text_said plan None (Refused f) (Some w) h r = inr (inr (f, h.0, refused_by plan [] f r.0 h.1, refl))
-text_said plan limits (Refused f) None h r = absurd (false_true r.1)
+text_said files plan (Some l) (Accepted p) reason h r = inl (meaning p, h.accepted, refl)
+text_said files plan None (Accepted p) reason h r = inl (meaning p, h.accepted, refl)
+text_said files plan (Some l) InOrder reason h r = absurd (some_none l h.0)
+text_said files plan None InOrder None h r = inr (inl (h.1.0, h.1.1, refl))
+text_said files plan None InOrder (Some w) h r = absurd (some_none w r)
+text_said files plan (Some l) (Refused f) (Some w) h r = inr (f, refused_by plan l f r.known h, refl)
+text_said files plan None (Refused f) (Some w) h r = inr (inr (f, h.0, refused_by plan [] f r.known h.1, refl))
+text_said files plan limits (Refused f) None h r = absurd r
 
-pub said : {A : Type 0} (plan : List ℕ) (limits ranges : Option (List ℕ)) (v : Verdict) (reason : Option A)
-    → ranges ≡ limits → IsVerdict plan ranges v → HasReasonOf v reason
+pub said : (files : PlanFiles) (plan : List ℕ) (limits ranges : Option (List ℕ)) (v : Verdict) (reason : Option Reason)
+    → ranges ≡ limits → IsVerdict plan ranges v → HasReasonOf files v reason
     → IsVerdictText plan limits (verdict_text v (is_some reason))
-said plan limits ranges v reason e h r = text_said plan limits v reason (subst (λ l. IsVerdict plan l v) e h) r
+said files plan limits ranges v reason e h r =
+    text_said files plan limits v reason (subst (λ l. IsVerdict plan l v) e h) r

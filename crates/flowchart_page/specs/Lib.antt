@@ -1,4 +1,7 @@
 pub mod Verdicts
 pub mod Pages
+pub mod Ranges
+pub mod Sites
 pub mod VerdictViews
 pub mod PageViews
+pub mod SiteViews

@@ -6,7 +6,7 @@ use Rattle.pap_plan.specs.Plans.{flowchart}
 use Rattle.flowchart_methods.specs.Captions.{AreCaptions, methods_of}
 use Rattle.flowchart_page.specs.declared.verdict.Verdict.{Verdict}
 use Rattle.flowchart_page.specs.declared.verdict.Verdict.TheVariants.{Accepted}
-use Rattle.flowchart_page.specs.Pages.{IsWhole, ArePlanCaptions, accepted_text, refused_text, in_order_text}
+use Rattle.flowchart_page.specs.Pages.{IsWholePage, ArePlanCaptions, accepted_text, refused_text, in_order_text}
 
 -- the sentence on a plan of this verdict, for which there is a reason or none
 abbrev pub verdict_text : Verdict → Bool → List ℕ
@@ -18,9 +18,9 @@ verdict_text _ false = in_order_text
 pub record IsPageOfTree (verdict : List ℕ) (tree : ElementTree) (page : List ℕ) : Type 0 where
   pub captions : List (List ℕ)
   pub are_captions : AreCaptions (methods_of tree) captions
-  pub whole : IsWhole (verdict ∷ captions) page
+  pub whole : IsWholePage (verdict ∷ captions) page
 
 pub record IsPageOfText (verdict plan page : List ℕ) : Type 0 where
   pub captions : List (List ℕ)
   pub are_captions : ArePlanCaptions plan captions
-  pub whole : IsWhole (verdict ∷ captions) page
+  pub whole : IsWholePage (verdict ∷ captions) page

@@ -20,7 +20,7 @@ abbrev pub page_end : List ℕ
 page_end = codes "</body></html>\n"
 
 -- a page from its start to its end, with these texts in it in turn
-pub record IsWhole (texts : List (List ℕ)) (page : List ℕ) : Type 0 where
+pub record IsWholePage (texts : List (List ℕ)) (page : List ℕ) : Type 0 where
   pub inside : List ℕ
   pub whole : page ≡ page_start ++ (inside ++ page_end)
   pub stand : StandInTurn texts inside
@@ -38,7 +38,7 @@ refused_text = codes "<b>Refused.</b> "
 abbrev pub in_order_text : List ℕ
 in_order_text = codes "<b>In order</b>, as far as it can be said without a range file"
 
--- it is accepted with its bound, or refused
+-- it is accepted, and the sentence has its bound
 abbrev pub SaysAccepted : List ℕ → List ℕ → List ℕ → Type 0
 SaysAccepted plan limits text = (m : Meaning) × IsAccepted plan limits m × (text ≡ accepted_text (bound_of m.flowchart))
 
@@ -65,4 +65,4 @@ pub record IsPage (plan : List ℕ) (limits : Option (List ℕ)) (page : List �
   pub captions : List (List ℕ)
   pub is_verdict : IsVerdictText plan limits verdict
   pub are_captions : ArePlanCaptions plan captions
-  pub whole : IsWhole (verdict ∷ captions) page
+  pub whole : IsWholePage (verdict ∷ captions) page

@@ -1,20 +1,44 @@
 -- What is said of a plan.
-use Rattle.std.specs.Prelude.{◌≡◌, ◌⊎◌, ℕ, List, [], Bool, true, false, Option, Some, None}
+use Rattle.std.specs.Prelude.{◌≡◌, ◌⊎◌, ℕ, List, [], Bool, true, false, Option, Some, None, unwrap_or}
 use Rattle.pap_plan.specs.declared.refusal.PlanRefusal.{PlanRefusal}
 use Rattle.pap_plan.specs.declared.refusal.PlanRefusal.TheVariants.{LimitName}
 use Rattle.pap_plan.specs.Acceptance.{Meaning, IsAccepted, IsRefused}
+use Rattle.plain_words.specs.Places.{NamedText, PlanFiles}
+use Rattle.plain_words.specs.Lines.{IsOneLine}
+use Rattle.plain_words.specs.Refusals.{BeginsAtRefusal}
 
 -- a refusal for an input without a limit, or a limit without an input
 abbrev pub lacks_limit : PlanRefusal → Bool
 lacks_limit (LimitName name) = true
 lacks_limit _ = false
 
--- Whether there is a reason why a plan is refused. With a range file there is one exactly where
--- the two are not accepted. Without a range file the plan is judged with an empty one, and
--- an input without a limit is no reason then.
-abbrev pub IsJudged : List ℕ → Option (List ℕ) → Bool → Type 0
-IsJudged plan (Some limits) true = (r : PlanRefusal) × IsRefused plan limits r
-IsJudged plan (Some limits) false = (m : Meaning) × IsAccepted plan limits m
-IsJudged plan None true = (r : PlanRefusal) × ((lacks_limit r ≡ false) × IsRefused plan [] r)
-IsJudged plan None false =
-    ((m : Meaning) × IsAccepted plan [] m) ⊎ ((name : List ℕ) × IsRefused plan [] (LimitName name))
+-- what is said of a refused plan: one line, that begins with the place of the refusal in the file in which it stands
+pub record TellsPlan (files : PlanFiles) (words : List ℕ) : Type 0 where
+  pub refusal : PlanRefusal
+  pub refused : IsRefused files.plan.bytes files.ranges.bytes refusal
+  pub line : IsOneLine words
+  pub begins : BeginsAtRefusal files refusal words
+
+-- the range file, or an empty one of no name where there is none
+abbrev pub file_or_none : Option NamedText → NamedText
+file_or_none limits = unwrap_or limits (record { name = []; bytes = [] })
+
+-- the files by which a plan is judged
+abbrev pub files_with : NamedText → Option NamedText → PlanFiles
+files_with plan limits = record { plan = plan; ranges = file_or_none limits }
+
+-- the words say why a plan without a range file is refused, which isn't for an input without a limit
+pub record TellsAlone (plan : NamedText) (words : List ℕ) : Type 0 where
+  pub tells : TellsPlan (files_with plan None) words
+  pub other : lacks_limit tells.refusal ≡ false
+
+-- Why a plan is refused, in words. With a range file there are words exactly where the two are
+-- not accepted. Without a range file the plan is judged with an empty one, and an input without
+-- a limit is no reason then.
+abbrev pub IsJudged : NamedText → Option NamedText → Option (List ℕ) → Type 0
+IsJudged plan (Some limits) (Some words) = TellsPlan (files_with plan (Some limits)) words
+IsJudged plan (Some limits) None = (m : Meaning) × IsAccepted plan.bytes limits.bytes m
+IsJudged plan None (Some words) = TellsAlone plan words
+IsJudged plan None None =
+    ((m : Meaning) × IsAccepted plan.bytes [] m)
+    ⊎ ((name : List ℕ) × IsRefused plan.bytes [] (LimitName name))

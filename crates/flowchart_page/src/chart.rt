@@ -1,9 +1,10 @@
 //! The whole page.
-ghost use Rattle.std.specs.Prelude.{◌≡◌, ◌∷◌, [], option_map, IfOk, is_some};
+ghost use Rattle.std.specs.Prelude.{◌≡◌, ◌∷◌, [], option_map, IfOk, is_some, string_bytes};
 ghost use Rattle.pap_reader.specs.Trees.{tree_of};
-ghost use Rattle.flowchart_page.specs.Pages.{IsVerdictText, IsWhole, IsPage};
-ghost use Rattle.flowchart_page.specs.Verdicts.{IsJudged};
-ghost use Rattle.flowchart_page.specs.VerdictViews.{HasReasonOf};
+ghost use Rattle.flowchart_page.specs.Pages.{IsVerdictText, IsWholePage, IsPage};
+ghost use Rattle.plain_words.specs.Places.{named_text};
+ghost use Rattle.flowchart_page.specs.Verdicts.{file_or_none, files_with, IsJudged};
+ghost use Rattle.flowchart_page.specs.VerdictViews.{words_in, HasReasonOf};
 ghost use Rattle.flowchart_page.specs.PageViews.{verdict_text, IsPageOfTree, IsPageOfText};
 
 use crate::declarations::{Declarations, write_declarations};
@@ -39,9 +40,10 @@ pub fn draw_chart(
     plan: TextFile<'_>,
     limits: Option<TextFile<'_>>,
 ) -> Result<Chart, AllocError>
-    // Whether there is a reason why the plan is refused.
-    ensures judged { IfOk result (λ chart. IsJudged plan.entry.bytes.now
-        (option_map (λ file. file.bytes.now) limits.entry) (is_some chart.reason)) }
+    // Why the plan is refused, where it is.
+    ensures judged { IfOk result (λ chart. IsJudged (named_text plan.entry)
+        (option_map (λ file. named_text file) limits.entry)
+        (option_map (λ words. string_bytes words) chart.reason)) }
     // What the page says of the plan, and that it draws its statements.
     ensures page { IfOk result (λ chart. IsPage plan.entry.bytes.now
         (option_map (λ file. file.bytes.now) limits.entry) chart.page.items) }
@@ -68,8 +70,8 @@ fn judge_files(
     plan: TextFile<'_>,
     limits: Option<TextFile<'_>>,
 ) -> Result<Judgement, AllocError>
-    ensures judged { IfOk result (λ judgement. IsJudged plan.entry.bytes.now
-        (option_map (λ file. file.bytes.now) limits.entry) (is_some judgement.reason)) }
+    ensures judged { IfOk result (λ judgement. IsJudged (named_text plan.entry)
+        (option_map (λ file. named_text file) limits.entry) (words_in judgement.reason)) }
     ensures said { IfOk result (λ judgement. IsVerdictText plan.entry.bytes.now
         (option_map (λ file. file.bytes.now) limits.entry)
         (verdict_text judgement.verdict (is_some judgement.reason))) }
@@ -124,7 +126,7 @@ fn bytes_of(file: Option<TextFile<'_>>) -> Option<&[u8]>
 
 /// The words of a reason.
 fn words_of(reason: Option<Reason>) -> Option<String>
-    ensures { is_some result ≡ is_some reason }
+    ensures { option_map (λ words. string_bytes words) result ≡ words_in reason }
 {
     match reason {
         Some(Reason { line: _, words }) => Some(words),
@@ -145,28 +147,38 @@ fn limits_of(alloc: Global, limits: Option<&[u8]>) -> Result<Option<Limits>, All
 }
 
 /// Why a plan is refused, where it is.
+#[tactic(auto, using(crate::proofs::VerdictLemmas::says_refusal))]
 fn reason_of(
     alloc: Global,
     plan: TextFile<'_>,
     limits: Option<TextFile<'_>>,
     verdict: &Verdict,
 ) -> Result<Option<Reason>, AllocError>
-    ensures { IfOk result (HasReasonOf verdict.now) }
+    ensures { IfOk result (HasReasonOf (files_with (named_text plan.entry)
+        (option_map (λ file. named_text file) limits.entry)) verdict.now) }
 {
     match verdict {
         Verdict::Refused(PlanRefusal::Memory) => Err(AllocError),
         Verdict::Refused(refusal) => {
             let reply = refused(alloc, plan.bytes, refusal)?;
             let line = plan_notes::one_line(alloc, &reply.text)?;
-            let ranges = limits.unwrap_or(TextFile {
-                name: "",
-                bytes: &[],
-            });
-            let words = plan_words(alloc, plan, ranges, refusal)?;
+            let words = plan_words(alloc, plan, file_or_none(limits), refusal)?;
             Ok(Some(Reason { line, words }))
         }
         Verdict::Accepted(_) | Verdict::InOrder => Ok(None),
     }
+}
+
+/// The range file, or an empty one of no name where there is none.
+#[tactic(auto, using(crate::proofs::VerdictLemmas::file_kept))]
+fn file_or_none<'a>(limits: Option<TextFile<'a>>) -> TextFile<'a>
+    ensures { named_text result
+        ≡ file_or_none (option_map (λ file. named_text file) limits.entry) }
+{
+    limits.unwrap_or(TextFile {
+        name: "",
+        bytes: &[],
+    })
 }
 
 /// What a page has beside the plan's elements.
@@ -186,7 +198,7 @@ fn empty_page(
     verdict: &Verdict,
     reason: &Option<Reason>,
 ) -> Result<Page, AllocError>
-    ensures { IfOk result (IsWhole (verdict_text verdict.now (is_some reason.now) ∷ [])) }
+    ensures { IfOk result (IsWholePage (verdict_text verdict.now (is_some reason.now) ∷ [])) }
 {
     let mut page = Page::new(alloc);
     page.own(PAGE_START)?;

@@ -1,4 +1,7 @@
 //! The ranges of declared names as the table shows them.
+ghost use Rattle.std.specs.Prelude.{◌≡◌, IfOk, string_bytes};
+ghost use Rattle.flowchart_page.specs.Ranges.{range_text};
+
 use interval_analysis::OutputRange;
 use limits_file::{Binding, Carry, InputLimit, Limits};
 use pap_tree::Name;
@@ -47,7 +50,9 @@ fn binding_text(alloc: Global, binding: &Binding) -> Result<String, AllocError> 
 }
 
 /// The range of an output, as `0.00 to 140000.00`.
-pub(crate) fn output_range(alloc: Global, output: &OutputRange) -> Result<String, AllocError> {
+pub(crate) fn output_range(alloc: Global, output: &OutputRange) -> Result<String, AllocError>
+    ensures { IfOk result (λ text. string_bytes text ≡ range_text output.now.range) }
+{
     let range = output.range;
     let low = Dec::new(range.lo(), range.s_hi());
     let high = Dec::new(range.hi(), range.s_hi());

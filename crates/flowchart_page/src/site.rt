@@ -1,24 +1,33 @@
 //! What a refusal names.
+ghost use Rattle.std.specs.Prelude.{◌≡◌};
+ghost use Rattle.pap_reader.specs.Trees.{tree_of};
+ghost use Rattle.flowchart_page.specs.Sites.{named_by, named_by_spot, named_by_types, named_by_key, has_row, has_method, site_of_name, site_of};
+ghost use Rattle.flowchart_page.specs.SiteViews.{declares, names_method};
+
 use call_order::OrderFault;
 use flowchart_methods::Site;
 use interval_analysis::RangeFault;
-use limits_file::LimitsFault;
+use limits_file::{Label, LimitsFault};
 use pap_plan::{PlanRefusal, Spot};
-use pap_reader::Elements;
+use pap_reader::{Elements, RawDeclared, RawMethod};
 use pap_tree::Name;
 use pap_types::TypeFault;
 
 /// What a refusal names, where the page has it.
-pub(crate) fn site_of(elements: &Elements, refusal: &PlanRefusal) -> Site {
+pub(crate) fn site_of(elements: &Elements, refusal: &PlanRefusal) -> Site
+    ensures { result ≡ site_of (tree_of elements.now) refusal.now }
+{
     match named_by(refusal) {
-        Site::Declared(name) => named_site(elements, &name),
+        Site::Declared(name) => site_of_name(elements, &name),
         site => site,
     }
 }
 
 /// Where a name stands: among the declared names, or else as a method's.
-fn named_site(elements: &Elements, name: &Name) -> Site {
-    if is_declared(elements, name) {
+fn site_of_name(elements: &Elements, name: &Name) -> Site
+    ensures { result ≡ site_of_name (tree_of elements.now) name.now }
+{
+    if has_row(elements, name) {
         Site::Declared(*name)
     } else if has_method(elements, name) {
         Site::Method(*name)
@@ -28,24 +37,17 @@ fn named_site(elements: &Elements, name: &Name) -> Site {
 }
 
 /// What a refusal names.
-fn named_by(refusal: &PlanRefusal) -> Site {
+fn named_by(refusal: &PlanRefusal) -> Site
+    ensures { result ≡ named_by refusal.now }
+{
     match refusal {
-        PlanRefusal::Expr { spot, .. } => match spot {
-            Spot::Statement { method, stmt } => Site::Statement {
-                method: *method,
-                number: *stmt,
-            },
-            Spot::Declared { name } => Site::Declared(*name),
-        },
+        PlanRefusal::Expr { spot, .. } => named_by_spot(spot),
         PlanRefusal::Types(fault) => named_by_types(fault),
         PlanRefusal::Order(OrderFault::Cycle { method } | OrderFault::Chain { method }) => {
             Site::Method(*method)
         }
         PlanRefusal::Limits(LimitsFault::Key { name } | LimitsFault::Bound { name }) => {
-            match Name::read(name.as_str().as_bytes()) {
-                Some(name) => Site::Declared(name),
-                None => Site::Nowhere,
-            }
+            named_by_key(name)
         }
         PlanRefusal::LimitName { name }
         | PlanRefusal::LimitKind { name }
@@ -59,7 +61,21 @@ fn named_by(refusal: &PlanRefusal) -> Site {
     }
 }
 
-fn named_by_types(fault: &TypeFault) -> Site {
+fn named_by_spot(spot: &Spot) -> Site
+    ensures { result ≡ named_by_spot spot.now }
+{
+    match spot {
+        Spot::Statement { method, stmt } => Site::Statement {
+            method: *method,
+            number: *stmt,
+        },
+        Spot::Declared { name } => Site::Declared(*name),
+    }
+}
+
+fn named_by_types(fault: &TypeFault) -> Site
+    ensures { result ≡ named_by_types fault.now }
+{
     match fault {
         TypeFault::Twice { name } | TypeFault::Value { name } => Site::Declared(*name),
         TypeFault::Unknown { place, .. }
@@ -73,22 +89,46 @@ fn named_by_types(fault: &TypeFault) -> Site {
     }
 }
 
-fn is_declared(elements: &Elements, name: &Name) -> bool {
-    let groups = [
-        &elements.inputs,
-        &elements.outputs,
-        &elements.internals,
-        &elements.constants,
-    ];
-    for group in groups {
-        if group.iter().any(|declared| declared.name == *name) {
-            return true;
-        }
+/// What a key of a range file names: an input, where it has the form of a name.
+#[tactic(auto, using(crate::proofs::SiteLemmas::key_is, crate::proofs::SiteLemmas::key_is_none))]
+fn named_by_key(key: &Label) -> Site
+    ensures { result ≡ named_by_key key.now }
+{
+    match Name::read(key.as_str().as_bytes()) {
+        Some(name) => Site::Declared(name),
+        None => Site::Nowhere,
     }
-    false
+}
+
+/// Whether a name has a row in the table of declarations.
+#[tactic(auto, using(crate::proofs::SiteLemmas::declares_among))]
+fn has_row(elements: &Elements, name: &Name) -> bool
+    ensures { result ≡ has_row (tree_of elements.now) name.now }
+{
+    declares(&elements.inputs, name)
+        || declares(&elements.outputs, name)
+        || declares(&elements.internals, name)
+        || declares(&elements.constants, name)
+}
+
+/// Whether a name is among declared ones.
+fn declares(group: &[RawDeclared], name: &Name) -> bool
+    ensures { result ≡ declares group.now name.now }
+{
+    group.iter().any(|declared| *name == declared.name)
 }
 
 /// Whether there is a method of a name.
-fn has_method(elements: &Elements, name: &Name) -> bool {
-    *name == Name::main() || elements.methods.iter().any(|method| method.name == *name)
+#[tactic(auto, using(crate::proofs::SiteLemmas::method_among))]
+fn has_method(elements: &Elements, name: &Name) -> bool
+    ensures { result ≡ has_method (tree_of elements.now) name.now }
+{
+    *name == Name::main() || names_method(&elements.methods, name)
+}
+
+/// Whether a name is among those of methods.
+fn names_method(methods: &[RawMethod], name: &Name) -> bool
+    ensures { result ≡ names_method methods.now name.now }
+{
+    methods.iter().any(|method| *name == method.name)
 }

@@ -1,6 +1,6 @@
 -- The draft grows by its parts.
-use Rattle.std.proofs.Common.{◌≡◌, ◌≢◌, ◌||◌, ℕ, ◌<◌, ◌+◌, inl, inr, Result, Ok, Err, List, [], ◌∷◌, ◌++◌, take, get_or, length, refl, sym, ap, subst, ◌∙◌, append_assoc, arith}
-use Rattle.std.specs.Prelude.{OnOk, is_ok, if◌then◌else◌, map, codes, encode_utf8, encode_utf8_all}
+use Rattle.std.proofs.Common.{◌≡◌, ◌||◌, ℕ, ◌<◌, ◌+◌, inl, inr, Result, Ok, Err, List, [], ◌∷◌, ◌++◌, take, get_or, length, refl, sym, ap, subst, ◌∙◌, append_assoc, arith}
+use Rattle.std.specs.Prelude.{OnOk, IsTrue, is_ok, if◌then◌else◌, map, codes, encode_utf8, encode_utf8_all}
 use Rattle.std.specs.List.{flat_map}
 use Rattle.std.specs.Str.{bytes_eq}
 use Rattle.std.proofs.lemmas.List.{append-nil, map-append, take_more}
@@ -8,7 +8,7 @@ use Rattle.std.proofs.lemmas.List.Elements.{All-push, All-append}
 use Rattle.std.proofs.lemmas.Str.{encodes-append}
 use Rattle.pap_reader.specs.declared.elements.RawDeclared.{RawDeclared}
 use Rattle.pap_reader.specs.Trees.{RawDeclaration, raw_declaration_of}
-use Rattle.range_draft.specs.Draft.{head, table, IsLine, comment_line, AreComments, IsEntry, declares, none, again, entry, IsDraft}
+use Rattle.range_draft.specs.Draft.{head, table, is_comment_char, IsLine, comment_line, AreComments, IsEntry, declares, none, again, entry, IsDraft}
 use Rattle.range_draft.specs.DraftViews.{Appends, AddsEntry, declared_in}
 
 pub on_ok : {A E : Type 0} (r : Result A E) (P Q : Type 0) → OnOk r P → (P → Q) → OnOk r Q
@@ -35,11 +35,11 @@ pub line_start : (old : List ℕ) → Appends IsLine old old
 line_start old = record {
   more = [];
   grown = sym (append-nil old);
-  is = record { chars = []; is = refl; no_end = λ k d below. absurd (omega arith) };
+  is = record { chars = []; is = refl; no_control = λ k d below. absurd (omega arith) };
 }
 
-pub line_char : (old text new : List ℕ) (c : ℕ) → Appends IsLine old text → new ≡ text ++ encode_utf8 c → c ≢ 10 → Appends IsLine old new
-line_char old text new c so_far pushed other =
+pub line_char : (old text new : List ℕ) (c : ℕ) → Appends IsLine old text → new ≡ text ++ encode_utf8 c → IsTrue (is_comment_char c) → Appends IsLine old new
+line_char old text new c so_far pushed shown =
     let line = so_far.is in
     record {
       more = so_far.more ++ encode_utf8 c;
@@ -48,15 +48,15 @@ line_char old text new c so_far pushed other =
         chars = line.chars ++ (c ∷ []);
         is = ap (λ z. z ++ encode_utf8 c) line.is
             ∙ sym (encodes-append line.chars (c ∷ []) ∙ ap (λ z. encode_utf8_all line.chars ++ z) (append-nil (encode_utf8 c)));
-        no_end = All-push (λ (n : ℕ). n ≢ 10) line.chars c line.no_end other;
+        no_control = All-push (λ (n : ℕ). IsTrue (is_comment_char n)) line.chars c line.no_control shown;
       };
     }
 
 pub line_dots : (old text new : List ℕ) → Appends IsLine old text → new ≡ text ++ codes ".." → Appends IsLine old new
 line_dots old text new so_far pushed =
     let one : List ℕ = text ++ encode_utf8 46 in
-    line_char old one new 46 (line_char old text one 46 so_far refl (omega arith))
-    (pushed ∙ sym (ap (λ z. (text ++ z) ++ z) point ∙ append_assoc text (codes ".") (codes "."))) (omega arith)
+    line_char old one new 46 (line_char old text one 46 so_far refl refl)
+    (pushed ∙ sym (ap (λ z. (text ++ z) ++ z) point ∙ append_assoc text (codes ".") (codes "."))) refl
 
 -- ---- comments
 

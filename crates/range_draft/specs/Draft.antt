@@ -1,5 +1,5 @@
 -- The text of a range file to begin with.
-use Rattle.std.specs.Prelude.{◌≡◌, ◌≢◌, ℕ, Bool, true, false, All, List, [], ◌∷◌, ◌++◌, codes, encode_utf8_all}
+use Rattle.std.specs.Prelude.{◌≡◌, ℕ, Bool, true, false, not, ◌&&◌, ◌==◌, nat_le, IsTrue, All, List, [], ◌∷◌, ◌++◌, codes, encode_utf8_all}
 use Rattle.std.specs.List.{list_any, flat_map}
 use Rattle.std.specs.Str.{bytes_eq}
 use Rattle.std.specs.Fmt.{decimal}
@@ -25,11 +25,15 @@ table name kind =
     ++ (codes "\nplaces = " ++ (decimal (most_places kind)
     ++ codes "\n")))))))))
 
--- characters that are no line feeds
+-- a character of a comment: no control character, as TOML asks (it lets a tab stand besides)
+abbrev pub is_comment_char : ℕ → Bool
+is_comment_char c = nat_le 0x20 c && not (c == 0x7F)
+
+-- such characters: they stand in one line
 pub record IsLine (text : List ℕ) : Type 0 where
   pub chars : List ℕ
   pub is : text ≡ encode_utf8_all chars
-  pub no_end : All (λ c. c ≢ 10) chars
+  pub no_control : All (λ c. IsTrue (is_comment_char c)) chars
 
 abbrev pub comment_line : List ℕ → List ℕ
 comment_line line = codes "# " ++ (line ++ codes "\n")

@@ -1,8 +1,8 @@
 //! The text of the range file.
-ghost use Rattle.std.specs.Prelude.{◌≡◌, ◌≢◌, ◌++◌, map, IfOk, OnOk};
+ghost use Rattle.std.specs.Prelude.{◌≡◌, ◌++◌, map, IfOk, IsTrue, OnOk};
 ghost use Rattle.std.specs.String.{string_bytes};
 ghost use Rattle.pap_reader.specs.Trees.{tree_of, raw_declaration_of};
-ghost use Rattle.range_draft.specs.Draft.{IsDraft, IsEntry, AreComments, IsLine, table};
+ghost use Rattle.range_draft.specs.Draft.{IsDraft, IsEntry, AreComments, IsLine, is_comment_char, table};
 ghost use Rattle.range_draft.specs.DraftViews.{Appends, AddsEntry, declared_in};
 
 use crate::bounds::widest;
@@ -21,7 +21,8 @@ const HEAD: &str =
 ";
 
 /// A range file for a plan: a table for each input in declared order, with the comments that stand before it in the plan, and
-/// what to narrow. A name that is declared again has no second table.
+/// what to narrow. A name that is declared again has no second table. A comment has a space for each control character, since
+/// TOML refuses them in comments.
 pub fn draft_ranges(alloc: Global, elements: &Elements, notes: &Notes) -> Result<String, AllocError>
     ensures { IfOk result (λ text. IsDraft (tree_of elements.now).inputs (string_bytes text)) }
 {
@@ -129,9 +130,16 @@ fn write_front(text: &mut String, comment: &str, room: usize) -> Result<(), Allo
     Ok(())
 }
 
-/// A character of a line: a space for a line feed.
+/// A character of a comment: a space for a control character.
 fn within_line(c: char) -> char
-    ensures { result ≢ 10 }
+    ensures { IsTrue (is_comment_char result) }
 {
-    if c == '\n' { ' ' } else { c }
+    if is_comment_char(c) { c } else { ' ' }
+}
+
+/// Whether a character may stand in a comment of TOML: it is no control character.
+fn is_comment_char(c: char) -> bool
+    ensures { result ≡ is_comment_char c }
+{
+    c >= ' ' && c != '\u{7F}'
 }

@@ -1,6 +1,6 @@
 use Rattle.std.proofs.Common.{None, subst}
 use Rattle.outside.specs.Told.{IsToldFront}
-use Rattle.author_cli.specs.Answers.{IsChart}
+use Rattle.author_cli.specs.Answers.{IsChart, file_of}
 use Rattle.author_cli.specs.AnswerViews.{answer_of}
 use Rattle.author_cli.proofs.FrontLemmas.{chart_of}
 use Rattle.author_cli.proofs.answer.answer_chart.Goals as goal
@@ -12,6 +12,6 @@ returns-clause-made g c =
     let page = answer_of c.in_ok-page_of.field-0 in (
       λ files told. chart_of files plan bytes page
           (subst (λ t. IsToldFront t plan 1048577 bytes) told c.in_ok-bytes.ensures.front)
-          (subst (λ b. IsChart b None page) c.deref.ensures.value c.in_ok-page_of.ensures),
+          (subst (λ b. IsChart (file_of plan b) None page) c.deref.ensures.value c.in_ok-page_of.ensures),
       c.in_ok-bytes.ensures.cause.kept_ok,
     )

@@ -1,18 +1,22 @@
 use Rattle.std.proofs.Common.{Some, subst}
-use Rattle.author_cli.specs.Answers.{IsChart}
+use Rattle.author_cli.specs.Answers.{IsChart, file_of}
 use Rattle.author_cli.specs.AnswerViews.{answer_of}
 use Rattle.author_cli.proofs.FrontLemmas.{chart_within_of}
 use Rattle.author_cli.proofs.answer.answer_chart_within.Goals as goal
 
 pub returns-clause-made : goal.returns-clause-made
 returns-clause-made g c =
-    let plan = c.in_ok-plan_bytes.plan_bytes.items in
-    let limits = c.in_ok-plan_bytes.limits_bytes.items in
+    let plan = c.args.plan.now in
+    let limits = c.args.limits.now in
+    let bytes = c.in_ok-plan_bytes.plan_bytes.items in
+    let bytes' = c.in_ok-plan_bytes.limits_bytes.items in
     let page = answer_of c.in_ok-page_of.field-0 in
     let second = c.deref-2.result.now in
-    let of_plan = subst (λ b. IsChart b (Some second) page) c.deref.ensures.value c.in_ok-page_of.ensures in
-    let of_both = subst (λ b. IsChart plan (Some b) page) c.deref-2.ensures.value of_plan in
+    let of_plan = subst (λ b. IsChart (file_of plan b) (Some (file_of limits second)) page)
+    c.deref.ensures.value c.in_ok-page_of.ensures in
+    let of_both = subst (λ b. IsChart (file_of plan bytes) (Some (file_of limits b)) page)
+    c.deref-2.ensures.value of_plan in
     let read = c.in_ok-plan_bytes.ensures.read in (
-      λ files told. chart_within_of files c.args.plan.now c.args.limits.now plan limits page (read files told) of_both,
+      λ files told. chart_within_of files plan limits bytes bytes' page (read files told) of_both,
       c.in_ok-plan_bytes.ensures.kept,
     )
