@@ -47,11 +47,13 @@ pub shown_end : (place wrong quote end text : List ℕ) → IsUtf8 place → IsU
 shown_end place wrong quote end text p w q is =
     let said = wrong ++ quote in
     let front = place ++ (codes ": " ++ said) in
-    let behind : IsUtf8 (codes ": " ++ said) = IsUtf8-append (codes ": ") said utf8_colon (IsUtf8-append wrong quote w q) in
+    let behind : IsUtf8 (codes ": " ++ said) =
+    IsUtf8-append (codes ": ") said utf8_colon (IsUtf8-append wrong quote w q) in
     let whole : IsUtf8 front = IsUtf8-append place (codes ": " ++ said) p behind in
     let parts : text ≡ front ++ end =
     is ∙ ap (λ x. place ++ (codes ": " ++ x)) (sym (append_assoc wrong quote end))
-    ∙ ap (λ x. place ++ x) (sym (append_assoc (codes ": ") said end)) ∙ sym (append_assoc place (codes ": " ++ said) end) in
+    ∙ ap (λ x. place ++ x) (sym (append_assoc (codes ": ") said end))
+    ∙ sym (append_assoc place (codes ": " ++ said) end) in
     (shown_text front, ap shown_text parts ∙ shown-append front end whole)
 
 -- ---- what helps is shown as it is
@@ -118,16 +120,19 @@ help_shown _ = tt
 
 -- words that end with what is shown of what helps end with it, where the refusal decides it
 ends_with_help : (r : PlanRefusal) (found : Found) (words : List ℕ) → HelpsAs (help_of r) found
-    → EndsWith (shown_text (codes "; " ++ help_text found)) words → IfSome (help_of r) (λ help. EndsWith (codes "; " ++ help) words)
+    → EndsWith (shown_text (codes "; " ++ help_text found)) words
+    → IfSome (help_of r) (λ help. EndsWith (codes "; " ++ help) words)
 ends_with_help r found words helps ends = by (help_of r) helps (help_shown r)
   where
-    by : (help : Option (List ℕ)) → HelpsAs help found → IfSome help IsShown → IfSome help (λ h. EndsWith (codes "; " ++ h) words)
+    by : (help : Option (List ℕ)) → HelpsAs help found → IfSome help IsShown
+        → IfSome help (λ h. EndsWith (codes "; " ++ h) words)
     by None is shown = tt
     by (Some h) is shown =
         (ends.0, ends.1 ∙ ap (λ x. ends.0 ++ shown_text (codes "; " ++ x)) is ∙ ap (λ x. ends.0 ++ x) shown)
 
 pub begins_at_refusal : (files : PlanFiles) (r : PlanRefusal) (found : Found) (text words : List ℕ)
-    → IsPlaceOf files.plan.bytes r (place_of found) → HelpsAs (help_of r) found → words ≡ words_at files (place_of found) text
+    → IsPlaceOf files.plan.bytes r (place_of found) → HelpsAs (help_of r) found
+    → words ≡ words_at files (place_of found) text
     → EndsWith (shown_text (codes "; " ++ help_text found)) words → BeginsAtRefusal files r words
 begins_at_refusal files r found text words is helps says ends = record {
   place = place_of found;
@@ -149,6 +154,7 @@ says_state files s f g wrong words is same helps told says = record {
       ∙ ap (λ h. words_at files (place_of f) (state_text s ++ (codes "; " ++ h))) helps;
 }
 
-pub if_ok_both : {A E : Type 0} (r : Result A E) (P Q R : A → Type 0) → ((a : A) → P a → Q a → R a) → IfOk r P → IfOk r Q → IfOk r R
+pub if_ok_both : {A E : Type 0} (r : Result A E) (P Q R : A → Type 0) → ((a : A) → P a → Q a → R a)
+    → IfOk r P → IfOk r Q → IfOk r R
 if_ok_both (Ok a) P Q R by p q = by a p q
 if_ok_both (Err e) P Q R by p q = tt

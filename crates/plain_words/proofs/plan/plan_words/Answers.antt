@@ -8,5 +8,6 @@ returns-clause-place c =
     let files = files_of c.args.plan c.args.limits in
     let found = c.in_ok-found.ensures in
     if_ok_both c.reason_line.result _ _ _
-    (λ words says ends. begins_at_refusal files c.args.refusal.now c.in_ok-found.found _ (string_bytes words) found.place found.help says ends)
+    (λ words says ends. begins_at_refusal files c.args.refusal.now c.in_ok-found.found _ (string_bytes words)
+    found.place found.help says ends)
     c.reason_line.ensures.text c.reason_line.ensures.end

@@ -8,7 +8,9 @@ use Rattle.plain_words.proofs.state.state_words.Goals as goal
 pub returns-clause-place : goal.returns-clause-place
 returns-clause-place c =
     let files = files_of c.args.plan c.args.limits in
+    let found = c.with_help-found in
     IfOk-weaker c.reason_line.result _ _
-    (λ words says. says_state files c.args.state.now c.in_ok-find_blocked.field-0 c.with_help-found.result c.deref.result.now (string_bytes words)
-    c.in_ok-find_blocked.ensures c.with_help-found.ensures.place (c.with_help-found.ensures.help ∙ c.state_help.ensures) (search rules) says)
+    (λ words says. says_state files c.args.state.now c.in_ok-find_blocked.field-0 found.result c.deref.result.now
+    (string_bytes words) c.in_ok-find_blocked.ensures found.ensures.place (found.ensures.help ∙ c.state_help.ensures)
+    (search rules) says)
     c.reason_line.ensures.text
