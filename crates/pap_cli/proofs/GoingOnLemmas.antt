@@ -16,10 +16,11 @@ use Rattle.script_steps.specs.GoingOn.{AreSameFor, IsCut, opened}
 use Rattle.script_steps.specs.Standings.{with_book}
 use Rattle.script_steps.specs.Steps.{Standing, AreThere, start}
 use Rattle.script_steps.proofs.Laws.{GoAlike, cut_opens, go_alike, not_filed, steps_over}
-use Rattle.script_run.specs.Transcripts.{AreAnswered, IsHalted, IsSession, Session, lines_of, with_answer}
-use Rattle.script_run.specs.Transcripts.{opening as beginning}
-use Rattle.script_run.proofs.Laws.{HasAnswered, HasSteps, any_refused, has_answered, has_steps, no_refusals, refusals, texts}
-use Rattle.script_run.proofs.Laws.{IsSession-one, IsSession-rest, one}
+use Rattle.script_run.specs.RunViews.{Follow, with_answer}
+use Rattle.script_run.specs.RunViews.{opening as beginning}
+use Rattle.script_run.specs.Transcripts.{IsHalted, Session, lines_of}
+use Rattle.script_run.proofs.Laws.{FollowToHalt, FollowToHalt-one, FollowToHalt-rest, HasAnswered, HasSteps}
+use Rattle.script_run.proofs.Laws.{any_refused, has_answered, has_steps, no_refusals, one, refusals, texts, totals_of_session}
 use Rattle.pap_cli.specs.GoingOn.{GoOnAlike, IsTakenUp, SavedScriptsAreSaved, SavedScriptsGoOn}
 use Rattle.pap_cli.proofs.SaveLawLemmas.{same_save}
 use Rattle.pap_cli.specs.SaveAnswers.{IsSave, IsVerdict, Written, was_filed}
@@ -33,12 +34,12 @@ there_behind files (b ∷ before) line later h =
     there_behind files before line later (All-tail (λ line. AreThere files line) b (before ++ line ∷ later) h)
 
 all_answered : (files : FileMap) (from to : Session) (lines : List (List ℕ)) → All (λ line. AreThere files line) lines
-    → IsSession files from lines to → AreAnswered files from lines to
+    → FollowToHalt files from lines to → Follow files from lines to
 all_answered files from to lines there s = by s.after s.parts s.halted
   where
-    by : (after : List (List ℕ)) → lines ≡ s.before ++ after → IsHalted files after → AreAnswered files from lines to
+    by : (after : List (List ℕ)) → lines ≡ s.before ++ after → IsHalted files after → Follow files from lines to
     by [] parts halted =
-        subst (λ ls. AreAnswered files from ls to) (sym (parts ∙ append-nil s.before)) s.answered
+        subst (λ ls. Follow files from ls to) (sym (parts ∙ append-nil s.before)) s.answered
     by (line ∷ after) parts halted =
         absurd (halted (there_behind files s.before line after (subst (All (λ line. AreThere files line)) parts there)))
 
@@ -95,9 +96,10 @@ module _ (files later : FileMap) (script opening : List ℕ) (up : IsTakenUp fil
   abbrev left : Standing
   left = saved_session.standing
 
-  first_answered : AreAnswered files beginning (lines_of script) saved_session
+  first_answered : Follow files beginning (lines_of script) saved_session
   first_answered =
-      all_answered files beginning saved_session (lines_of script) up.saved.there up.saved.is
+      all_answered files beginning saved_session (lines_of script) up.saved.there
+      (totals_of_session files (lines_of script) saved_session up.saved.is)
 
   first_steps : HasSteps files beginning (lines_of script) saved_session
   first_steps = has_steps files beginning (lines_of script) saved_session first_answered
@@ -131,7 +133,7 @@ module _ (files later : FileMap) (script opening : List ℕ) (up : IsTakenUp fil
   abbrev begun : Session
   begun = with_answer beginning (opened left.book) (with_book start left.book)
 
-  opening_answered : AreAnswered later beginning (opening ∷ []) begun
+  opening_answered : Follow later beginning (opening ∷ []) begun
   unfolding cut
   opening_answered = (
     with_book start left.book,
@@ -141,7 +143,7 @@ module _ (files later : FileMap) (script opening : List ℕ) (up : IsTakenUp fil
   )
 
   module _ (further : List (List ℕ)) (same : AllByRecursion (AreSameFor files later) further) (whole next : Session)
-      (long : IsSession files saved_session further whole) (short : IsSession later begun further next) where
+      (long : FollowToHalt files saved_session further whole) (short : FollowToHalt later begun further next) where
     answered_there : HasSteps files saved_session long.before whole
     answered_there = has_steps files saved_session long.before whole long.answered
 
@@ -156,7 +158,7 @@ module _ (files later : FileMap) (script opening : List ℕ) (up : IsTakenUp fil
         (all_front (AreSameFor files later) long.before long.after (subst (AllByRecursion (AreSameFor files later)) long.parts same))
         gone_on.steps)
 
-    later_session : IsSession later begun further answered_later.session
+    later_session : FollowToHalt later begun further answered_later.session
     later_session = record {
       before = long.before;
       after = long.after;
@@ -168,7 +170,7 @@ module _ (files later : FileMap) (script opening : List ℕ) (up : IsTakenUp fil
     }
 
     is_next : answered_later.session ≡ next
-    is_next = IsSession-one later begun answered_later.session next further later_session short
+    is_next = FollowToHalt-one later begun answered_later.session next further later_session short
 
     alike : GoOnAlike saved_session whole next
     alike = record {
@@ -189,12 +191,14 @@ pub go_on : SavedScriptsGoOn
 go_on files later script opening long short first whole next two of_first of_whole of_next =
     let up = two.taken_up in
     let saved = up.saved.session in
-    let behind = IsSession-rest files beginning saved whole (lines_of script) two.further
+    let behind = FollowToHalt-rest files beginning saved whole (lines_of script) two.further
     (first_answered files later script opening up)
-    (subst (λ ls. IsSession files beginning ls whole) two.long_lines of_whole) in
-    let opened_then = IsSession-rest later beginning (begun files later script opening up) next (opening ∷ []) two.further
+    (subst (λ ls. FollowToHalt files beginning ls whole) two.long_lines
+    (totals_of_session files (lines_of long) whole of_whole)) in
+    let opened_then = FollowToHalt-rest later beginning (begun files later script opening up) next (opening ∷ []) two.further
     (opening_answered files later script opening up)
-    (subst (λ ls. IsSession later beginning ls next) two.short_lines of_next) in
+    (subst (λ ls. FollowToHalt later beginning ls next) two.short_lines
+    (totals_of_session later (lines_of short) next of_next)) in
     subst (λ s. GoOnAlike s whole next) (one files script saved first up.saved.is of_first)
     (alike files later script opening up two.further two.same whole next behind opened_then)
 
