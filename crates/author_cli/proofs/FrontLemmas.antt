@@ -12,7 +12,8 @@ use Rattle.pap_plan.specs.Acceptance.{Meaning, IsAccepted, IsRefused}
 use Rattle.plan_answers.specs.Fronts.{AreFronts}
 use Rattle.plan_answers.proofs.Laws.{whole, front_there, answers_front}
 use Rattle.plain_words.specs.Places.{NamedText}
-use Rattle.flowchart_page.specs.Verdicts.{TellsPlan, file_or_none, files_with, IsJudged}
+use Rattle.plain_words.specs.Refusals.{TellsPlan}
+use Rattle.flowchart_page.specs.Verdicts.{file_or_none, files_with, IsJudged}
 use Rattle.flowchart_page.specs.Pages.{IsVerdictText, ArePlanCaptions, IsPage}
 use Rattle.author_cli.specs.Words.{chart, chart_within, ranges}
 use Rattle.author_cli.specs.Answers.{Answer, IsChart, IsRanges, file_of, Answers}

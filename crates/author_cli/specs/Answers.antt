@@ -5,11 +5,12 @@ use Rattle.pap_reader.specs.declared.fault.ReadFault.{ReadFault}
 use Rattle.pap_reader.specs.Trees.{ElementTree}
 use Rattle.pap_reader.specs.Elements.{IsElements, IsFault}
 use Rattle.plain_words.specs.Places.{NamedText}
+use Rattle.plain_words.specs.Refusals.{TellsPlan}
 use Rattle.plan_answers.specs.Lines.{refusal_line}
 use Rattle.plan_answers.specs.Refusals.{read_detail}
 use Rattle.range_draft.specs.Draft.{IsDraft}
 use Rattle.flowchart_page.specs.Pages.{IsPage}
-use Rattle.flowchart_page.specs.Verdicts.{TellsPlan, files_with, IsJudged}
+use Rattle.flowchart_page.specs.Verdicts.{files_with, IsJudged}
 use Rattle.author_cli.specs.Words.{Form, chart, chart_within, ranges}
 
 -- what is written, and why the plan is refused, in words, where it is

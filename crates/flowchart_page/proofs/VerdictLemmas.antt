@@ -10,9 +10,9 @@ use Rattle.flowchart_page.specs.declared.verdict.Verdict.TheVariants.{Accepted, 
 use Rattle.plain_words.specs.declared.place.TextFile.{TextFile}
 use Rattle.plain_words.specs.Lines.{IsOneLine}
 use Rattle.plain_words.specs.Places.{NamedText, named_text, PlanFiles, files_of}
-use Rattle.plain_words.specs.Refusals.{BeginsAtRefusal}
+use Rattle.plain_words.specs.Refusals.{BeginsAtRefusal, TellsPlan}
 use Rattle.flowchart_page.specs.declared.header.Reason.{Reason}
-use Rattle.flowchart_page.specs.Verdicts.{TellsPlan, file_or_none, files_with, IsJudged}
+use Rattle.flowchart_page.specs.Verdicts.{file_or_none, files_with, IsJudged}
 use Rattle.flowchart_page.specs.VerdictViews.{IsVerdict, words_in, SaysRefusal, HasReasonOf, verdict_alone}
 use Rattle.flowchart_page.specs.Pages.{IsVerdictText}
 use Rattle.flowchart_page.specs.PageViews.{verdict_text}

@@ -4,20 +4,12 @@ use Rattle.pap_plan.specs.declared.refusal.PlanRefusal.{PlanRefusal}
 use Rattle.pap_plan.specs.declared.refusal.PlanRefusal.TheVariants.{LimitName}
 use Rattle.pap_plan.specs.Acceptance.{Meaning, IsAccepted, IsRefused}
 use Rattle.plain_words.specs.Places.{NamedText, PlanFiles}
-use Rattle.plain_words.specs.Lines.{IsOneLine}
-use Rattle.plain_words.specs.Refusals.{BeginsAtRefusal}
+use Rattle.plain_words.specs.Refusals.{TellsPlan}
 
 -- a refusal for an input without a limit, or a limit without an input
 abbrev pub lacks_limit : PlanRefusal → Bool
 lacks_limit (LimitName name) = true
 lacks_limit _ = false
-
--- what is said of a refused plan: one line, that begins with the place of the refusal in the file in which it stands
-pub record TellsPlan (files : PlanFiles) (words : List ℕ) : Type 0 where
-  pub refusal : PlanRefusal
-  pub refused : IsRefused files.plan.bytes files.ranges.bytes refusal
-  pub line : IsOneLine words
-  pub begins : BeginsAtRefusal files refusal words
 
 -- the range file, or an empty one of no name where there is none
 abbrev pub file_or_none : Option NamedText → NamedText
