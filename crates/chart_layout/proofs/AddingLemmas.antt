@@ -1,5 +1,5 @@
 -- Statements that a builder appends.
-use Rattle.std.proofs.Common.{◌≡◌, ℕ, ◌+◌, ◌<◌, ◌≤◌, List, [], ◌∷◌, ◌++◌, length, take, get_or, refl, sym, ap, subst, ◌∙◌, append_assoc, Vec, Global}
+use Rattle.std.proofs.Common.{◌≡◌, ℕ, Option, ◌+◌, ◌<◌, ◌≤◌, List, [], ◌∷◌, ◌++◌, length, take, get_or, refl, sym, ap, subst, ◌∙◌, append_assoc, Vec, Global}
 use Rattle.std.specs.List.{flat_map}
 use Rattle.std.proofs.lemmas.List.{append-nil, flat_map_more, take_more, take_all}
 use Rattle.pap_reader.specs.declared.elements.RawStmt.{RawStmt}
@@ -8,48 +8,58 @@ use Rattle.pap_reader.specs.declared.elements.RawStmt.TheVariants as variants
 use Rattle.pap_reader.specs.Trees.{RawBody, done, raw_stmt_then, raw_body_of, raw_body_of_row}
 use Rattle.pap_reader.proofs.Laws.{raw_stmt_then-If}
 use Rattle.pap_tree.specs.Grammar.{Level, Assignment}
-use Rattle.chart_layout.specs.Drawn.{Drawn, drawn}
-use Rattle.chart_layout.specs.Statements.{FileStatement, expression, execution, statements_of, statements_in, next_number, number_behind, IsSpelledAs, IsDrawnAs, AreDrawn, Adds}
+use Rattle.chart_layout.specs.declared.build.Numbering.{Numbering}
+use Rattle.chart_layout.specs.Drawn.{Drawn}
+use Rattle.chart_layout.specs.Statements.{FileStatement, expression, execution, statements_of, statements_in, next_number, number_behind, IsSpelledAs, IsDrawnAs, is_number, AreDrawn, after, numbering_behind, next_drawn, Adds}
 
 behind_append : (number : ℕ) (ss ts : List FileStatement) → number_behind number (ss ++ ts) ≡ number_behind (number_behind number ss) ts
 behind_append number [] ts = refl
 behind_append number (s ∷ ss) ts = behind_append (next_number number) ss ts
 
-drawn_append : (number : ℕ) (ss ts : List FileStatement) (xs ys : List Drawn) → AreDrawn number ss xs
-    → AreDrawn (number_behind number ss) ts ys → AreDrawn number (ss ++ ts) (xs ++ ys)
-drawn_append number [] ts [] ys first second = second
-drawn_append number [] ts (x ∷ xs) ys first second = absurd first
-drawn_append number (s ∷ ss) ts [] ys first second = absurd first
-drawn_append number (s ∷ ss) ts (x ∷ xs) ys first second =
-    (first.0, first.1, drawn_append (next_number number) ss ts xs ys first.2 second)
+numbering_append : (n : Numbering) (ss ts : List FileStatement)
+    → numbering_behind n (ss ++ ts) ≡ numbering_behind (numbering_behind n ss) ts
+numbering_append n ss ts = ap (λ k. record n { next = k }) (behind_append n.next ss ts)
 
-pub adds_none : (number next : ℕ) (old new : List Drawn) → next ≡ number → new ≡ old → Adds number next [] old new
-adds_none number next old new same is = record {
+drawn_append : (refused : Option ℕ) (number : ℕ) (ss ts : List FileStatement) (xs ys : List Drawn)
+    → AreDrawn refused number ss xs → AreDrawn refused (number_behind number ss) ts ys
+    → AreDrawn refused number (ss ++ ts) (xs ++ ys)
+drawn_append refused number [] ts [] ys first second = second
+drawn_append refused number [] ts (x ∷ xs) ys first second = absurd first
+drawn_append refused number (s ∷ ss) ts [] ys first second = absurd first
+drawn_append refused number (s ∷ ss) ts (x ∷ xs) ys first second =
+    (first.0, first.1, first.2, drawn_append refused (next_number number) ss ts xs ys first.3 second)
+
+pub adds_none : (from to : Numbering) (old new : List Drawn) → to ≡ from → new ≡ old → Adds from to [] old new
+adds_none from to old new same is = record {
   more = [];
   drawn = tt;
   behind = same;
   grown = is ∙ sym (append-nil old);
 }
 
-pub adds_then : (a b c : ℕ) (ss ts : List FileStatement) (x y z : List Drawn) → Adds a b ss x y → Adds b c ts y z → Adds a c (ss ++ ts) x z
+pub adds_then : (a b c : Numbering) (ss ts : List FileStatement) (x y z : List Drawn) → Adds a b ss x y → Adds b c ts y z
+    → Adds a c (ss ++ ts) x z
 adds_then a b c ss ts x y z first second = record {
   more = first.more ++ second.more;
-  drawn = drawn_append a ss ts first.more second.more first.drawn (subst (λ n. AreDrawn n ts second.more) first.behind second.drawn);
-  behind = second.behind ∙ ap (λ n. number_behind n ts) first.behind ∙ sym (behind_append a ss ts);
+  drawn =
+      drawn_append a.refused a.next ss ts first.more second.more first.drawn
+      (subst (λ n. AreDrawn n.refused n.next ts second.more) first.behind second.drawn);
+  behind = second.behind ∙ ap (λ n. numbering_behind n ts) first.behind ∙ sym (numbering_append a ss ts);
   grown = second.grown ∙ ap (λ l. l ++ second.more) first.grown ∙ append_assoc x first.more second.more;
 }
 
-pub adds_one : (number next : ℕ) (s : FileStatement) (d : Drawn) (old new : List Drawn) → d.number ≡ number → IsDrawnAs s d.text
-    → next ≡ next_number number → new ≡ old ++ d ∷ [] → Adds number next (s ∷ []) old new
-adds_one number next s d old new numbered text behind grown = record {
+pub adds_one : (from to : Numbering) (s : FileStatement) (d : Drawn) (old new : List Drawn) → d.number ≡ from.next
+    → d.is_refused ≡ is_number from.refused from.next → IsDrawnAs s d.text → to ≡ after from → new ≡ old ++ d ∷ []
+    → Adds from to (s ∷ []) old new
+adds_one from to s d old new numbered marked text behind grown = record {
   more = d ∷ [];
-  drawn = (numbered, text, tt);
+  drawn = (numbered, marked, text, tt);
   behind = behind;
   grown = grown;
 }
 
 -- the same between lists and numbers that are the same
-pub adds_as : (a b c d : ℕ) (ss ts : List FileStatement) (x y u v : List Drawn) → a ≡ c → b ≡ d → ss ≡ ts → x ≡ u → y ≡ v
+pub adds_as : (a b c d : Numbering) (ss ts : List FileStatement) (x y u v : List Drawn) → a ≡ c → b ≡ d → ss ≡ ts → x ≡ u → y ≡ v
     → Adds a b ss x y → Adds c d ts u v
 adds_as a b c d ss ts x y u v first last same old new adds =
     subst (λ l. Adds c d ts u l) new
@@ -57,7 +67,7 @@ adds_as a b c d ss ts x y u v first last same old new adds =
     (subst (λ l. Adds c d l x y) same (subst (λ n. Adds c n ss x y) last (subst (λ n. Adds n b ss x y) first adds))))
 
 -- a test and both branches, appended as one IF
-pub adds_choice : (a b c d : ℕ) (test : FileStatement) (ss ts : List FileStatement) (t : Drawn) (x y old new : List Drawn)
+pub adds_choice : (a b c d : Numbering) (test : FileStatement) (ss ts : List FileStatement) (t : Drawn) (x y old new : List Drawn)
     → Adds a b (test ∷ []) old (old ++ t ∷ []) → Adds b c ss [] x → Adds c d ts [] y → new ≡ old ++ (t ∷ (x ++ y))
     → Adds a d (test ∷ (ss ++ ts)) old new
 adds_choice a b c d test ss ts t x y old new first second third is =
@@ -85,7 +95,7 @@ in_all [] = refl
 in_all (s ∷ ss) = ap (λ l. statements_in s ++ l) (in_all ss) ∙ sym (in_then s (raw_body_of ss))
 
 -- one statement more of a list
-pub adds_next : (a b c : ℕ) (ss : List RawStmt) (i : ℕ) (s : RawStmt) (x y z : List Drawn) → i < length ss → s ≡ get_or ss i s
+pub adds_next : (a b c : Numbering) (ss : List RawStmt) (i : ℕ) (s : RawStmt) (x y z : List Drawn) → i < length ss → s ≡ get_or ss i s
     → Adds a b (flat_map statements_in (take i ss)) x y → Adds b c (statements_in s) y z → Adds a c (flat_map statements_in (take (i + 1) ss)) x z
 adds_next a b c ss i s x y z some is first second =
     subst (λ l. Adds a c l x z)
@@ -95,7 +105,7 @@ adds_next a b c ss i s x y z some is first second =
     (adds_then a b c (flat_map statements_in (take i ss)) (statements_in s) x y z first second)
 
 -- the whole list, and then nothing more
-pub adds_all : (a b c : ℕ) (ss : List RawStmt) (i : ℕ) (x y z : List Drawn) → length ss ≤ i → c ≡ b → z ≡ y
+pub adds_all : (a b c : Numbering) (ss : List RawStmt) (i : ℕ) (x y z : List Drawn) → length ss ≤ i → c ≡ b → z ≡ y
     → Adds a b (flat_map statements_in (take i ss)) x y → Adds a c (statements_of (raw_body_of ss)) x z
 adds_all a b c ss i x y z all same is first =
     adds_as a b a c (flat_map statements_in (take i ss)) (statements_of (raw_body_of ss)) x y x z refl (sym same)
@@ -128,11 +138,11 @@ of_if s t ys zs text a b is test first second =
     ∙ ap statements_in (sym is)
 
 -- an IF is appended, of a test that is drawn in its spelling
-pub adds_if : (a b c d : ℕ) (written spelling : List ℕ) (ss ts : List FileStatement) (t : Drawn) (x y old new : List Drawn)
-    → t ≡ drawn a spelling → IsSpelledAs (Level 0) written spelling → b ≡ next_number a → Adds b c ss [] x → Adds c d ts [] y
+pub adds_if : (a b c d : Numbering) (written spelling : List ℕ) (ss ts : List FileStatement) (t : Drawn) (x y old new : List Drawn)
+    → t ≡ next_drawn a spelling → IsSpelledAs (Level 0) written spelling → b ≡ after a → Adds b c ss [] x → Adds c d ts [] y
     → new ≡ old ++ (t ∷ (x ++ y)) → Adds a d (expression (Level 0) written ∷ (ss ++ ts)) old new
 adds_if a b c d written spelling ss ts t x y old new is same behind second third grown =
     adds_choice a b c d (expression (Level 0) written) ss ts t x y old new
-    (adds_one a b (expression (Level 0) written) t old (old ++ t ∷ []) (ap (λ e. e.number) is)
+    (adds_one a b (expression (Level 0) written) t old (old ++ t ∷ []) (ap (λ e. e.number) is) (ap (λ e. e.is_refused) is)
     (subst (λ e. IsSpelledAs (Level 0) written e.text) (sym is) same) behind refl)
     second third grown

@@ -1,5 +1,5 @@
 -- The statements of a method's figures and of its drawing, in order.
-use Rattle.std.specs.Prelude.{◌≡◌, ℕ, List, [], ◌∷◌, ◌++◌, map, ⊤}
+use Rattle.std.specs.Prelude.{◌≡◌, ℕ, Bool, List, [], ◌∷◌, ◌++◌, map, ⊤}
 use Rattle.std.specs.List.{flat_map}
 use Rattle.chart_layout.specs.declared.statement.Statement.{Statement}
 use Rattle.chart_layout.specs.declared.statement.Call.{Call as Execute}
@@ -15,19 +15,21 @@ use Rattle.chart_layout.specs.declared.drawing.Row.{Row}
 use Rattle.chart_layout.specs.declared.drawing.Row.TheVariants as rows
 use Rattle.chart_layout.specs.declared.drawing.Part.{Part}
 
--- a statement as it is drawn: its number in its method, and its text, of an EXECUTE the name of the method
+-- a statement as it is drawn: its number in its method, whether it is marked as the refused one, and its text, of an EXECUTE the
+-- name of the method
 pub record Drawn : Type 0 where
   pub number : ℕ
+  pub is_refused : Bool
   pub text : List ℕ
 
-abbrev pub drawn : ℕ → List ℕ → Drawn
-drawn number text = record { number = number; text = text }
+abbrev pub drawn : ℕ → Bool → List ℕ → Drawn
+drawn number is_refused text = record { number = number; is_refused = is_refused; text = text }
 
 abbrev pub drawn_statement : Statement → Drawn
-drawn_statement s = drawn s.number s.written.text.items
+drawn_statement s = drawn s.number s.is_refused s.written.text.items
 
 abbrev pub drawn_call : Execute → Drawn
-drawn_call c = drawn c.number c.method
+drawn_call c = drawn c.number c.is_refused c.method
 
 -- ---- of figures: each step is given the statements of the parts
 

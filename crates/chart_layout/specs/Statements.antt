@@ -1,12 +1,14 @@
 -- The statements of a method as they stand in a plan's file, and what is drawn for each.
-use Rattle.std.specs.Prelude.{◌≡◌, ℕ, ◌+◌, ◌-◌, ◌^◌, ◌⊎◌, min, List, [], ◌∷◌, ◌++◌, codes, ⊤}
+use Rattle.std.specs.Prelude.{◌≡◌, ℕ, ◌+◌, ◌-◌, ◌^◌, ◌⊎◌, min, nat_eq, Bool, Option, Some, List, [], ◌∷◌, ◌++◌, codes, ⊤}
+use Rattle.std.specs.Option.{option_eq}
 use Rattle.pap_tree.specs.Grammar.{Line, Level, Assignment, Meaning, tree, assignment}
 use Rattle.pap_tree.specs.Spelling.{spelling}
 use Rattle.pap_tree.specs.Stopping.{Cause}
 use Rattle.pap_tree.specs.Expressions.{IsAccepted, IsWrong}
 use Rattle.pap_reader.specs.declared.elements.RawStmt.{RawStmt}
 use Rattle.pap_reader.specs.Trees.{RawBody, done, eval, branch, execute, raw_stmt_then}
-use Rattle.chart_layout.specs.Drawn.{Drawn}
+use Rattle.chart_layout.specs.Drawn.{Drawn, drawn}
+use Rattle.chart_layout.specs.declared.build.Numbering.{Numbering}
 
 -- a statement of the file: the text of its expression, with the line of the grammar that it is read by, or the name of the
 -- method that it executes
@@ -46,11 +48,17 @@ abbrev pub number_behind : ℕ → List FileStatement → ℕ
 number_behind number [] = number
 number_behind number (s ∷ ss) = number_behind (next_number number) ss
 
--- each statement is drawn, in the same order, with its number
-abbrev pub AreDrawn : ℕ → List FileStatement → List Drawn → Type 0
-AreDrawn number [] [] = ⊤
-AreDrawn number (s ∷ ss) (d ∷ ds) = (d.number ≡ number) × IsDrawnAs s d.text × AreDrawn (next_number number) ss ds
-AreDrawn _ _ _ = ⊥
+-- whether the refused statement has this number
+abbrev pub is_number : Option ℕ → ℕ → Bool
+is_number refused number = option_eq nat_eq refused (Some number)
+
+-- each statement is drawn, in the same order, with its number, and marked exactly where that is the refused one's
+abbrev pub AreDrawn : Option ℕ → ℕ → List FileStatement → List Drawn → Type 0
+AreDrawn refused number [] [] = ⊤
+AreDrawn refused number (s ∷ ss) (d ∷ ds) =
+    (d.number ≡ number) × (d.is_refused ≡ is_number refused number) × IsDrawnAs s d.text
+    × AreDrawn refused (next_number number) ss ds
+AreDrawn _ _ _ _ = ⊥
 
 -- ---- what a builder does
 
@@ -58,9 +66,20 @@ AreDrawn _ _ _ = ⊥
 abbrev pub statements_in : RawStmt → List FileStatement
 statements_in s = statements_of (raw_stmt_then s done)
 
+-- the numbers behind the next statement, and behind some
+abbrev pub after : Numbering → Numbering
+after n = record n { next = next_number n.next }
+
+abbrev pub numbering_behind : Numbering → List FileStatement → Numbering
+numbering_behind n ss = record n { next = number_behind n.next ss }
+
+-- the next statement as it is drawn, with this text
+abbrev pub next_drawn : Numbering → List ℕ → Drawn
+next_drawn n text = drawn n.next (is_number n.refused n.next) text
+
 -- the drawn statements of these are appended, numbered from one number up to the next
-pub record Adds (number next : ℕ) (ss : List FileStatement) (old new : List Drawn) : Type 0 where
+pub record Adds (from to : Numbering) (ss : List FileStatement) (old new : List Drawn) : Type 0 where
   pub more : List Drawn
-  pub drawn : AreDrawn number ss more
-  pub behind : next ≡ number_behind number ss
+  pub drawn : AreDrawn from.refused from.next ss more
+  pub behind : to ≡ numbering_behind from ss
   pub grown : new ≡ old ++ more

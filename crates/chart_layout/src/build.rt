@@ -2,8 +2,8 @@
 ghost use Rattle.std.specs.Prelude.{◌≡◌, ◌++◌, [], ◌∷◌, IsTrue, IfOk, OnOk, map};
 ghost use Rattle.pap_tree.specs.Grammar.{Level, Assignment};
 ghost use Rattle.pap_reader.specs.Trees.{raw_body_of};
-ghost use Rattle.chart_layout.specs.Drawn.{drawn, drawn_statement, arm_statements, body_statements, choice_statements, figures_statements};
-ghost use Rattle.chart_layout.specs.Statements.{expression, execution, statements_of, statements_in, next_number, IsSpelledAs, AreDrawn, Adds};
+ghost use Rattle.chart_layout.specs.Drawn.{drawn_statement, arm_statements, body_statements, choice_statements, figures_statements};
+ghost use Rattle.chart_layout.specs.Statements.{expression, execution, statements_of, statements_in, is_number, after, next_drawn, IsSpelledAs, AreDrawn, Adds};
 
 use crate::choice::{Arm, Choice};
 use crate::figure::{Body, Figure, row_height};
@@ -37,14 +37,13 @@ pub fn read_method(
 ) -> Result<MethodText, AllocError>
     ensures name { IfOk result (λ method. method.name ≡ name) }
     ensures statements { IfOk result (λ method.
-        AreDrawn 0 (statements_of (raw_body_of statements.now)) (body_statements method.body)) }
+        AreDrawn refused 0 (statements_of (raw_body_of statements.now)) (body_statements method.body)) }
 {
     let mut builder = Builder {
         alloc,
         method: name,
         walk: *walk,
-        refused,
-        count: 0,
+        numbering: Numbering { next: 0, refused },
     };
     let mut figures = Vec::new(alloc);
     builder.body(statements, 0, &mut figures)?;
@@ -52,7 +51,7 @@ pub fn read_method(
     Ok(MethodText {
         name,
         body: Body::new(figures),
-        count: builder.count,
+        count: builder.numbering.next,
     })
 }
 
@@ -62,9 +61,16 @@ struct Builder<'a> {
     alloc: Global,
     method: Name,
     walk: Walk<'a>,
+    numbering: Numbering,
+}
+
+/// The numbers of a method's statements.
+#[derive(Clone, Copy)]
+struct Numbering {
+    /// That of the next statement: how many were read.
+    next: u32,
+    /// That of the statement for which the plan is refused.
     refused: Option<u32>,
-    /// How many statements were read.
-    count: u32,
 }
 
 impl Builder<'_> {
@@ -77,7 +83,7 @@ impl Builder<'_> {
         depth: u32,
         figures: &mut Vec<Figure>,
     ) -> Result<(), AllocError>
-        ensures { OnOk result (Adds self.old.count self.new.count
+        ensures { OnOk result (Adds self.old.numbering self.new.numbering
             (statements_of (raw_body_of statements.now))
             (figures_statements figures.old.items) (figures_statements figures.new.items)) }
     {
@@ -95,7 +101,7 @@ impl Builder<'_> {
         depth: u32,
         figures: &mut Vec<Figure>,
     ) -> Result<(), AllocError>
-        ensures { OnOk result (Adds self.old.count self.new.count (statements_in statement.now)
+        ensures { OnOk result (Adds self.old.numbering self.new.numbering (statements_in statement.now)
             (figures_statements figures.old.items) (figures_statements figures.new.items)) }
     {
         self.next_tag(depth, figures)?;
@@ -120,7 +126,7 @@ impl Builder<'_> {
         depth: u32,
         figures: &mut Vec<Figure>,
     ) -> Result<(), AllocError>
-        ensures { OnOk result (Adds self.old.count self.new.count
+        ensures { OnOk result (Adds self.old.numbering self.new.numbering
             (expression Assignment exec.now ∷ [])
             (figures_statements figures.old.items) (figures_statements figures.new.items)) }
     {
@@ -131,7 +137,7 @@ impl Builder<'_> {
 
     /// Appends the figure of an EXECUTE.
     fn execution(&mut self, method: Name, figures: &mut Vec<Figure>) -> Result<(), AllocError>
-        ensures { OnOk result (Adds self.old.count self.new.count (execution method ∷ [])
+        ensures { OnOk result (Adds self.old.numbering self.new.numbering (execution method ∷ [])
             (figures_statements figures.old.items) (figures_statements figures.new.items)) }
     {
         let site = self.site();
@@ -147,7 +153,7 @@ impl Builder<'_> {
         depth: u32,
         is_alone: bool,
     ) -> Result<Vec<Figure>, AllocError>
-        ensures { IfOk result (λ figures. Adds self.old.count self.new.count
+        ensures { IfOk result (λ figures. Adds self.old.numbering self.new.numbering
             (statements_of (raw_body_of no.now)) [] (figures_statements figures.items)) }
     {
         if no.is_empty() && !self.walk.is_at(Element::Else) {
@@ -160,7 +166,7 @@ impl Builder<'_> {
     /// The figures of a branch, with the comments before its start tag.
     #[cycle(build)]
     fn branch(&mut self, statements: &[RawStmt], depth: u32) -> Result<Vec<Figure>, AllocError>
-        ensures { IfOk result (λ figures. Adds self.old.count self.new.count
+        ensures { IfOk result (λ figures. Adds self.old.numbering self.new.numbering
             (statements_of (raw_body_of statements.now)) [] (figures_statements figures.items)) }
     {
         let mut figures = Vec::new(self.alloc);
@@ -171,7 +177,7 @@ impl Builder<'_> {
 
     /// Appends the comments before the next tag, and goes past it.
     fn next_tag(&mut self, depth: u32, figures: &mut Vec<Figure>) -> Result<(), AllocError>
-        ensures count { self.new.count ≡ self.old.count }
+        ensures numbering { self.new.numbering ≡ self.old.numbering }
         ensures same { OnOk result
             (figures_statements figures.new.items ≡ figures_statements figures.old.items) }
     {
@@ -181,8 +187,9 @@ impl Builder<'_> {
 
     /// The next statement, of a text that stands in a symbol with so much room at its sides.
     fn written(&mut self, text: Vec<u8>, depth: u32, sides: u32) -> Result<Statement, AllocError>
-        ensures count { self.new.count ≡ next_number self.old.count }
-        ensures drawn { IfOk result (λ s. drawn_statement s ≡ drawn self.old.count text.items) }
+        ensures numbering { self.new.numbering ≡ after self.old.numbering }
+        ensures drawn { IfOk result (λ s.
+            drawn_statement s ≡ next_drawn self.old.numbering text.items) }
     {
         let site = self.site();
         let room = room_at(depth).saturating_sub(sides);
@@ -191,12 +198,14 @@ impl Builder<'_> {
 
     /// The place of the next statement.
     fn site(&mut self) -> Site
-        ensures count { self.new.count ≡ next_number self.old.count }
-        ensures number { result.number ≡ self.old.count }
+        ensures numbering { self.new.numbering ≡ after self.old.numbering }
+        ensures number { result.number ≡ self.old.numbering.next }
+        ensures refused { result.is_refused
+            ≡ is_number self.old.numbering.refused self.old.numbering.next }
     {
-        let number = self.count;
-        self.count = number.saturating_add(1);
-        let is_refused = self.refused == Some(number);
+        let number = self.numbering.next;
+        self.numbering.next = number.saturating_add(1);
+        let is_refused = self.numbering.refused == Some(number);
         let signs = if is_refused { 9 } else { 1 };
         let name = self.method.bytes().len();
         Site {

@@ -61,7 +61,7 @@ impl Statement {
         text: Vec<u8>,
         room: u32,
     ) -> Result<Statement, AllocError>
-        ensures { IfOk result (λ s. drawn_statement s ≡ drawn site.number text.items) }
+        ensures { IfOk result (λ s. drawn_statement s ≡ drawn site.number site.is_refused text.items) }
     {
         let beside = beside_place(site.chars);
         let room = Room {
@@ -106,7 +106,7 @@ impl Statement {
 
 impl Call {
     pub(crate) fn new(site: Site, method: Name) -> Call
-        ensures { drawn_call result ≡ drawn site.number method }
+        ensures { drawn_call result ≡ drawn site.number site.is_refused method }
     {
         let name = tenths(method.bytes().len(), 73);
         let place = tenths(site.chars, 59);

@@ -1,5 +1,5 @@
 -- The captions of methods, one method more.
-use Rattle.std.proofs.Common.{◌≡◌, ℕ, ◌+◌, ◌<◌, ◌≤◌, List, [], ◌∷◌, ◌++◌, length, take, map, get_or, refl, sym, ap, subst, ◌∙◌, append_assoc}
+use Rattle.std.proofs.Common.{◌≡◌, ℕ, Option, ◌+◌, ◌<◌, ◌≤◌, List, [], ◌∷◌, ◌++◌, length, take, map, get_or, refl, sym, ap, subst, ◌∙◌, append_assoc}
 use Rattle.std.specs.List.{flat_map}
 use Rattle.std.proofs.lemmas.List.{append-nil, flat_map_more, map_push, take_more, take_all}
 use Rattle.pap_reader.specs.declared.elements.RawMethod.{RawMethod}
@@ -8,26 +8,28 @@ use Rattle.pap_reader.specs.Trees.{RawRoutine, raw_body_of, raw_routine_of}
 use Rattle.chart_layout.specs.Drawn.{Drawn, body_statements}
 use Rattle.flowchart_methods.specs.declared.chapter.Chapter.{Chapter}
 use Rattle.flowchart_methods.specs.Turns.{AddsInTurn}
+use Rattle.flowchart_methods.specs.Sites.{NamedStatement, number_in}
 use Rattle.flowchart_methods.specs.Captions.{heading, statement_captions, method_captions, AreCaptions}
 use Rattle.flowchart_methods.specs.Chapters.{chapter_captions, IsChapter}
 use Rattle.flowchart_methods.proofs.Laws.{adds_before, adds_behind, adds_then}
 use Rattle.flowchart_methods.proofs.TurnLemmas.{adds_text}
 
-captions_push : (ms : List RawRoutine) (m : RawRoutine) (captions more : List (List ℕ)) → AreCaptions ms captions
-    → AreCaptions (m ∷ []) more → AreCaptions (ms ++ m ∷ []) (captions ++ more)
-captions_push [] m captions more first second = subst (λ l. AreCaptions (m ∷ []) (l ++ more)) (sym first) second
-captions_push (n ∷ ms) m captions more first second = (
+captions_push : (refused : Option NamedStatement) (ms : List RawRoutine) (m : RawRoutine) (captions more : List (List ℕ))
+    → AreCaptions refused ms captions → AreCaptions refused (m ∷ []) more → AreCaptions refused (ms ++ m ∷ []) (captions ++ more)
+captions_push refused [] m captions more first second = subst (λ l. AreCaptions refused (m ∷ []) (l ++ more)) (sym first) second
+captions_push refused (n ∷ ms) m captions more first second = (
   first.0,
   first.1,
   (
     first.2.0 ++ more,
-    captions_push ms m first.2.0 more first.2.1 second,
+    captions_push refused ms m first.2.0 more first.2.1 second,
     ap (λ l. l ++ more) first.2.2 ∙ append_assoc (method_captions n.name first.0) first.2.0 more,
   ),
 )
 
-one_chapter : (m : RawRoutine) (c : Chapter) → IsChapter m.name m.body c → AreCaptions (m ∷ []) (chapter_captions c)
-one_chapter m c is = (
+one_chapter : (refused : Option NamedStatement) (m : RawRoutine) (c : Chapter) → IsChapter (number_in refused m.name) m.name m.body c
+    → AreCaptions refused (m ∷ []) (chapter_captions c)
+one_chapter refused m c is = (
   body_statements c.text.body,
   is.1,
   (
@@ -39,34 +41,41 @@ one_chapter m c is = (
 )
 
 -- the first method
-pub first_chapter : (name main : List ℕ) (statements body : List RawStmt) (c : Chapter) (old new : List Chapter) → old ≡ []
-    → new ≡ old ++ c ∷ [] → name ≡ main → statements ≡ body → IsChapter name (raw_body_of statements) c
-    → AreCaptions (record { name = main; body = raw_body_of body } ∷ []) (flat_map chapter_captions new)
-first_chapter name main statements body c old new none is named same chapter =
+pub first_chapter : (refused : Option NamedStatement) (name main : List ℕ) (statements body : List RawStmt) (c : Chapter)
+    (old new : List Chapter) → old ≡ [] → new ≡ old ++ c ∷ [] → name ≡ main → statements ≡ body
+    → IsChapter (number_in refused name) name (raw_body_of statements) c
+    → AreCaptions refused (record { name = main; body = raw_body_of body } ∷ []) (flat_map chapter_captions new)
+first_chapter refused name main statements body c old new none is named same chapter =
     let m : RawRoutine = record { name = main; body = raw_body_of body } in
-    subst (λ l. AreCaptions (m ∷ []) (flat_map chapter_captions l)) (sym (is ∙ ap (λ l. l ++ c ∷ []) none))
-    (subst (λ l. AreCaptions (m ∷ []) l) (sym (append-nil (chapter_captions c)))
-    (one_chapter m c (subst (λ n. IsChapter n (raw_body_of body) c) named (subst (λ b. IsChapter name (raw_body_of b) c) same chapter))))
+    subst (λ l. AreCaptions refused (m ∷ []) (flat_map chapter_captions l)) (sym (is ∙ ap (λ l. l ++ c ∷ []) none))
+    (subst (λ l. AreCaptions refused (m ∷ []) l) (sym (append-nil (chapter_captions c)))
+    (one_chapter refused m c
+    (subst (λ n. IsChapter (number_in refused n) n (raw_body_of body) c) named
+    (subst (λ b. IsChapter (number_in refused name) name (raw_body_of b) c) same chapter))))
 
 -- one method more
-pub next_chapter : (main : RawRoutine) (ms : List RawMethod) (i : ℕ) (m : RawMethod) (statements : List RawStmt) (c : Chapter)
-    (old new : List Chapter) → i < length ms → m ≡ get_or ms i m → new ≡ old ++ c ∷ [] → statements ≡ m.body.items
-    → IsChapter m.name (raw_body_of statements) c
-    → AreCaptions (main ∷ map raw_routine_of (take i ms)) (flat_map chapter_captions old)
-    → AreCaptions (main ∷ map raw_routine_of (take (i + 1) ms)) (flat_map chapter_captions new)
-next_chapter main ms i m statements c old new some at is same chapter before =
-    subst (λ l. AreCaptions (main ∷ l) (flat_map chapter_captions new))
+pub next_chapter : (refused : Option NamedStatement) (main : RawRoutine) (ms : List RawMethod) (i : ℕ) (m : RawMethod)
+    (statements : List RawStmt) (c : Chapter) (old new : List Chapter) → i < length ms → m ≡ get_or ms i m → new ≡ old ++ c ∷ []
+    → statements ≡ m.body.items → IsChapter (number_in refused m.name) m.name (raw_body_of statements) c
+    → AreCaptions refused (main ∷ map raw_routine_of (take i ms)) (flat_map chapter_captions old)
+    → AreCaptions refused (main ∷ map raw_routine_of (take (i + 1) ms)) (flat_map chapter_captions new)
+next_chapter refused main ms i m statements c old new some at is same chapter before =
+    subst (λ l. AreCaptions refused (main ∷ l) (flat_map chapter_captions new))
     (sym (ap (map raw_routine_of) (take_more ms i m some)
     ∙ map_push raw_routine_of (take i ms) (get_or ms i m)
     ∙ ap (λ x. map raw_routine_of (take i ms) ++ raw_routine_of x ∷ []) (sym at)))
-    (subst (λ l. AreCaptions (main ∷ (map raw_routine_of (take i ms) ++ raw_routine_of m ∷ [])) l)
+    (subst (λ l. AreCaptions refused (main ∷ (map raw_routine_of (take i ms) ++ raw_routine_of m ∷ [])) l)
     (flat_map_more chapter_captions [] old c ∙ ap (flat_map chapter_captions) (sym is))
-    (captions_push (main ∷ map raw_routine_of (take i ms)) (raw_routine_of m) (flat_map chapter_captions old) (chapter_captions c) before
-    (one_chapter (raw_routine_of m) c (subst (λ b. IsChapter m.name (raw_body_of b) c) same chapter))))
+    (captions_push refused (main ∷ map raw_routine_of (take i ms)) (raw_routine_of m) (flat_map chapter_captions old)
+    (chapter_captions c) before
+    (one_chapter refused (raw_routine_of m) c
+    (subst (λ b. IsChapter (number_in refused m.name) m.name (raw_body_of b) c) same chapter))))
 
-pub all_chapters : (main : RawRoutine) (ms : List RawMethod) (i : ℕ) (captions : List (List ℕ)) → length ms ≤ i
-    → AreCaptions (main ∷ map raw_routine_of (take i ms)) captions → AreCaptions (main ∷ map raw_routine_of ms) captions
-all_chapters main ms i captions all are = subst (λ l. AreCaptions (main ∷ map raw_routine_of l) captions) (take_all i ms all) are
+pub all_chapters : (refused : Option NamedStatement) (main : RawRoutine) (ms : List RawMethod) (i : ℕ) (captions : List (List ℕ))
+    → length ms ≤ i → AreCaptions refused (main ∷ map raw_routine_of (take i ms)) captions
+    → AreCaptions refused (main ∷ map raw_routine_of ms) captions
+all_chapters refused main ms i captions all are =
+    subst (λ l. AreCaptions refused (main ∷ map raw_routine_of l) captions) (take_all i ms all) are
 
 -- a section: HTML, its heading, HTML, the captions of its drawing, and HTML
 pub adds_chapter : (chapter : Chapter) (ds : List Drawn) (title x y z p0 p1 p2 p3 p4 p5 : List ℕ) → p1 ≡ p0 ++ x

@@ -1,5 +1,5 @@
 -- The methods as the page has them.
-use Rattle.std.specs.Prelude.{◌≡◌, ℕ, List}
+use Rattle.std.specs.Prelude.{◌≡◌, ℕ, Option, List}
 use Rattle.pap_reader.specs.Trees.{RawBody}
 use Rattle.chart_layout.specs.Drawn.{body_statements}
 use Rattle.chart_layout.specs.Statements.{statements_of, AreDrawn}
@@ -9,6 +9,7 @@ use Rattle.flowchart_methods.specs.Captions.{method_captions}
 abbrev pub chapter_captions : Chapter → List (List ℕ)
 chapter_captions c = method_captions c.text.name (body_statements c.text.body)
 
--- a chapter has the statements of this body under this name
-abbrev pub IsChapter : List ℕ → RawBody → Chapter → Type 0
-IsChapter name body c = (c.text.name ≡ name) × AreDrawn 0 (statements_of body) (body_statements c.text.body)
+-- a chapter has the statements of this body under this name, and the one of the refused number is marked
+abbrev pub IsChapter : Option ℕ → List ℕ → RawBody → Chapter → Type 0
+IsChapter refused name body c =
+    (c.text.name ≡ name) × AreDrawn refused 0 (statements_of body) (body_statements c.text.body)

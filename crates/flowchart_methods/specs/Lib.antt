@@ -1,4 +1,5 @@
 pub mod Escapes
 pub mod Turns
+pub mod Sites
 pub mod Captions
 pub mod Chapters

@@ -2,6 +2,7 @@
 ghost use Rattle.std.specs.Prelude.{IfOk};
 ghost use Rattle.std.specs.List.{flat_map};
 ghost use Rattle.pap_reader.specs.Trees.{raw_body_of, tree_of};
+ghost use Rattle.flowchart_methods.specs.Sites.{named_statement, number_in};
 ghost use Rattle.flowchart_methods.specs.Captions.{methods_of, AreCaptions};
 ghost use Rattle.flowchart_methods.specs.Chapters.{chapter_captions, IsChapter};
 
@@ -20,7 +21,7 @@ pub struct Chapter<'a> {
     pub comments: &'a [String],
 }
 
-/// The methods, MAIN first, with the comments before each.
+/// The methods, MAIN first, with the comments before each. The statement that `site` names is marked as the refused one.
 #[tactic(auto, using(crate::proofs::ChapterLemmas::first_chapter))]
 pub fn read_chapters<'a>(
     alloc: Global,
@@ -29,7 +30,8 @@ pub fn read_chapters<'a>(
     site: &Site,
 ) -> Result<Vec<Chapter<'a>>, AllocError>
     ensures { IfOk result (λ chapters.
-        AreCaptions (methods_of (tree_of elements.now)) (flat_map chapter_captions chapters.items)) }
+        AreCaptions (named_statement site.now) (methods_of (tree_of elements.now))
+        (flat_map chapter_captions chapters.items)) }
 {
     let mut chapters = Vec::new(alloc);
     let main = Name::main();
@@ -55,7 +57,8 @@ fn read_chapter<'a>(
     walk: &mut Walk<'_>,
     site: &Site,
 ) -> Result<Chapter<'a>, AllocError>
-    ensures { IfOk result (IsChapter name (raw_body_of body.now)) }
+    ensures { IfOk result (IsChapter (number_in (named_statement site.now) name) name
+        (raw_body_of body.now)) }
 {
     let refused = site.statement_in(&name);
     let text = read_method(alloc, name, body, walk, refused)?;

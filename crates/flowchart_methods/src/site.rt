@@ -1,4 +1,7 @@
 //! What a refusal names.
+ghost use Rattle.std.specs.Prelude.{◌≡◌};
+ghost use Rattle.flowchart_methods.specs.Sites.{is_in, named_statement, number_in};
+
 use pap_tree::Name;
 
 /// What a refusal names of the plan.
@@ -13,7 +16,9 @@ pub enum Site {
 
 impl Site {
     /// Whether a method or one of its statements is named.
-    pub fn is_in(&self, name: &Name) -> bool {
+    pub fn is_in(&self, name: &Name) -> bool
+        ensures { result ≡ is_in self.now name.now }
+    {
         match self {
             Site::Statement { method, .. } => method == name,
             Site::Method(method) => method == name,
@@ -22,7 +27,9 @@ impl Site {
     }
 
     /// The number of the statement of a method that is named.
-    pub(crate) fn statement_in(&self, name: &Name) -> Option<u32> {
+    pub(crate) fn statement_in(&self, name: &Name) -> Option<u32>
+        ensures { result ≡ number_in (named_statement self.now) name.now }
+    {
         match self {
             Site::Statement { method, number } if method == name => Some(*number),
             _ => None,

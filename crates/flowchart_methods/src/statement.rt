@@ -2,7 +2,7 @@
 ghost use Rattle.std.specs.Prelude.{◌≡◌, ◌++◌, ◌∷◌, [], IfOk, OnOk, map, string_bytes};
 ghost use Rattle.chart_layout.specs.Drawn.{drawn, drawn_statement, drawn_call};
 ghost use Rattle.flowchart_methods.specs.Turns.{AddsInTurn};
-ghost use Rattle.flowchart_methods.specs.Captions.{caption_start, statement_caption, statement_captions};
+ghost use Rattle.flowchart_methods.specs.Captions.{caption_start, caption_end, statement_caption, statement_captions};
 
 use crate::page::Page;
 use chart_layout::{Call, Line, Piece, Px, Statement, Written};
@@ -147,7 +147,13 @@ fn write_statement(
     ensures { OnOk result (AddsInTurn
         (statement_captions name.now (drawn_statement statement.now ∷ [])) page.old page.new) }
 {
-    write_caption(page, name, statement.number, &statement.written.text)?;
+    write_caption(
+        page,
+        name,
+        statement.number,
+        statement.is_refused,
+        &statement.written.text,
+    )?;
     page.append(&statement_lines(page.alloc(), name, statement, frame)?)?;
     Ok(())
 }
@@ -164,21 +170,34 @@ pub(crate) fn write_call(
     ensures { OnOk result (AddsInTurn
         (statement_captions subject.entry.name.now (drawn_call call.now ∷ [])) page.old page.new) }
 {
-    write_caption(page, subject.name, call.number, call.method.bytes())?;
+    write_caption(
+        page,
+        subject.name,
+        call.number,
+        call.is_refused,
+        call.method.bytes(),
+    )?;
     page.append(&call_symbol(page.alloc(), subject, x, y, call)?)?;
     Ok(())
 }
 
-/// Appends the start of a statement's group: its place as the name to which links lead, and its text as it is read aloud.
+/// Appends the start of a statement's group: its place as the name to which links lead, its text as it is read aloud, and its
+/// class.
 #[tactic(auto, using(crate::proofs::TurnLemmas::three_parts))]
-fn write_caption(page: &mut Page, name: &Name, number: u32, text: &[u8]) -> Result<(), AllocError>
-    ensures { OnOk result
-        (page.new ≡ page.old ++ statement_caption name.now (drawn number text.now)) }
+fn write_caption(
+    page: &mut Page,
+    name: &Name,
+    number: u32,
+    is_refused: bool,
+    text: &[u8],
+) -> Result<(), AllocError>
+    ensures { OnOk result (page.new
+        ≡ page.old ++ statement_caption name.now (drawn number is_refused text.now)) }
 {
     let start = caption_start(page.alloc(), name, number)?;
     page.own(&start)?;
     page.text(text)?;
-    page.own("\"")?;
+    page.own(caption_end(is_refused))?;
     Ok(())
 }
 
@@ -189,12 +208,14 @@ fn caption_start(alloc: Global, name: &Name, number: u32) -> Result<String, Allo
     format!(in alloc; "<g id=\"{name}:{number}\" role=\"group\" aria-label=\"")
 }
 
-/// The end of the start tag of a statement's group.
-fn class_text(is_refused: bool) -> &'static str {
+/// The end of a caption, behind the text: the class of a statement, which marks the refused one.
+fn caption_end(is_refused: bool) -> &'static str
+    ensures { result.now ≡ caption_end is_refused }
+{
     if is_refused {
-        " class=\"s bad\">"
+        "\" class=\"s bad\">"
     } else {
-        " class=\"s\">"
+        "\" class=\"s\">"
     }
 }
 
@@ -206,7 +227,6 @@ fn statement_lines(
     frame: TextFrame,
 ) -> Result<Page, AllocError> {
     let mut page = Page::new(alloc);
-    page.own(class_text(statement.is_refused))?;
     if statement.is_refused {
         let x = frame.x - MARK_SIDE;
         let y = frame.top;
@@ -312,7 +332,6 @@ fn call_symbol(
 ) -> Result<Page, AllocError> {
     let mut page = Page::new(alloc);
     let method = call.method;
-    page.own(class_text(call.is_refused))?;
     let is_there = subject.methods.binary_search(&method).is_ok();
     if is_there {
         page.own(&format!(in alloc; "<a href=\"#method-{method}\">")?)?;

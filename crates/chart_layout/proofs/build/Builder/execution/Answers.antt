@@ -7,7 +7,8 @@ use Rattle.chart_layout.proofs.build.Builder.execution.Goals as goal
 
 pub returns : goal.returns
 returns c =
-    adds_one c.args.self.now.count c.site-site.new.self.count (execution c.args.method) (drawn_call c.new.result)
+    adds_one c.args.self.now.numbering c.site-site.new.self.numbering (execution c.args.method) (drawn_call c.new.result)
     (figures_statements c.args.figures.now.items) (figures_statements c.push.new.self.items)
-    (ap (λ d. d.number) c.new.ensures ∙ c.site-site.ensures.number) (ap (λ d. d.text) c.new.ensures) c.site-site.ensures.count
+    (ap (λ d. d.number) c.new.ensures ∙ c.site-site.ensures.number)
+    (ap (λ d. d.is_refused) c.new.ensures ∙ c.site-site.ensures.refused) (ap (λ d. d.text) c.new.ensures) c.site-site.ensures.numbering
     (one_figure c.args.figures.now.items c.push.new.self.items _ _ c.in_ok-push.ensures.items (figure_call c.new.result))
