@@ -7,6 +7,7 @@ use Rattle.pap_reader.specs.declared.fault.ReadFault.TheVariants as faults
 use Rattle.pap_reader.specs.Trees.{ElementTree}
 use Rattle.pap_reader.specs.Elements.{IsElements, IsFault, IsFaultOrMemory}
 use Rattle.flowchart_methods.specs.Turns.{AddsInTurn}
+use Rattle.flowchart_methods.specs.Sites.{NamedStatement}
 use Rattle.flowchart_methods.specs.Captions.{AreCaptions, methods_of}
 use Rattle.flowchart_methods.proofs.Laws.{adds_none, adds_before, adds_behind, adds_then}
 use Rattle.flowchart_page.specs.Pages.{page_start, page_end, IsWholePage, IsVerdictText, IsPage}
@@ -51,14 +52,15 @@ unread_page verdict plan f (Err e) n h whole = whole
 pub read_page : {E : Type 0} (verdict plan : List ℕ) (tree : ElementTree) (r : Result (List ℕ) E) → IsElements plan tree
     → IfOk r (IsPageOfTree verdict tree) → IfOk r (IsPageOfText verdict plan)
 read_page verdict plan tree (Ok page) read shown =
-    record { captions = shown.captions; are_captions = inl (tree, read, shown.are_captions); whole = shown.whole }
+    record { captions = shown.captions; are_captions = inl (tree, read, (shown.refused, shown.are_captions)); whole = shown.whole }
 read_page verdict plan tree (Err e) read shown = shown
 
 -- the page of a plan that is read
-pub tree_page : (verdict : List ℕ) (captions : List (List ℕ)) (tree : ElementTree) (a b c p0 p1 p2 p3 p4 p5 p6 p7 : List ℕ)
-    → AreCaptions (methods_of tree) captions → p0 ≡ [] → p1 ≡ p0 ++ page_start → p2 ≡ p1 ++ a → AddsInTurn (verdict ∷ []) p2 p3
+pub tree_page : (verdict : List ℕ) (refused : Option NamedStatement) (captions : List (List ℕ)) (tree : ElementTree)
+    (a b c p0 p1 p2 p3 p4 p5 p6 p7 : List ℕ) → AreCaptions refused (methods_of tree) captions → p0 ≡ [] → p1 ≡ p0 ++ page_start → p2 ≡ p1 ++ a → AddsInTurn (verdict ∷ []) p2 p3
     → p4 ≡ p3 ++ b → AddsInTurn captions p4 p5 → p6 ≡ p5 ++ c → p7 ≡ p6 ++ page_end → IsPageOfTree verdict tree p7
-tree_page verdict captions tree a b c p0 p1 p2 p3 p4 p5 p6 p7 are e0 e1 e2 said e4 shown e6 e7 = record {
+tree_page verdict refused captions tree a b c p0 p1 p2 p3 p4 p5 p6 p7 are e0 e1 e2 said e4 shown e6 e7 = record {
+  refused = refused;
   captions = captions;
   are_captions = are;
   whole = whole_page verdict captions a b c p0 p1 p2 p3 p4 p5 p6 p7 e0 e1 e2 said e4 shown e6 e7;

@@ -1,8 +1,9 @@
 -- What is in a page of what was read.
-use Rattle.std.specs.Prelude.{ℕ, Bool, true, false, List, ◌∷◌}
+use Rattle.std.specs.Prelude.{ℕ, Bool, true, false, Option, List, ◌∷◌}
 use Rattle.pap_types.specs.Meaning.{bound_of}
 use Rattle.pap_reader.specs.Trees.{ElementTree}
 use Rattle.pap_plan.specs.Plans.{flowchart}
+use Rattle.flowchart_methods.specs.Sites.{NamedStatement}
 use Rattle.flowchart_methods.specs.Captions.{AreCaptions, methods_of}
 use Rattle.flowchart_page.specs.declared.verdict.Verdict.{Verdict}
 use Rattle.flowchart_page.specs.declared.verdict.Verdict.TheVariants.{Accepted}
@@ -16,8 +17,9 @@ verdict_text _ false = in_order_text
 
 -- the sentence, and behind it the captions of the methods
 pub record IsPageOfTree (verdict : List ℕ) (tree : ElementTree) (page : List ℕ) : Type 0 where
+  pub refused : Option NamedStatement
   pub captions : List (List ℕ)
-  pub are_captions : AreCaptions (methods_of tree) captions
+  pub are_captions : AreCaptions refused (methods_of tree) captions
   pub whole : IsWholePage (verdict ∷ captions) page
 
 pub record IsPageOfText (verdict plan page : List ℕ) : Type 0 where

@@ -9,6 +9,7 @@ use Rattle.pap_plan.specs.declared.refusal.PlanRefusal.{PlanRefusal}
 use Rattle.pap_plan.specs.declared.refusal.PlanRefusal.TheVariants.{LimitName}
 use Rattle.pap_plan.specs.Acceptance.{Meaning, IsAccepted, IsRefused}
 use Rattle.flowchart_methods.specs.Turns.{StandInTurn}
+use Rattle.flowchart_methods.specs.Sites.{NamedStatement}
 use Rattle.flowchart_methods.specs.Captions.{AreCaptions, methods_of}
 use Rattle.flowchart_page.specs.Verdicts.{lacks_limit}
 
@@ -53,10 +54,11 @@ IsVerdictText plan None text =
 
 -- ---- the drawings
 
--- the captions of the plan's methods; none of a file that isn't read as a plan
+-- the captions of the plan's methods, a statement marked or none; no captions of a file that isn't read as a plan
 abbrev pub ArePlanCaptions : List ℕ → List (List ℕ) → Type 0
 ArePlanCaptions plan captions =
-    ((tree : ElementTree) × IsElements plan tree × AreCaptions (methods_of tree) captions)
+    ((tree : ElementTree) × IsElements plan tree
+    × ((refused : Option NamedStatement) × AreCaptions refused (methods_of tree) captions))
     ⊎ ((fault : ReadFault) × IsFault plan fault × (captions ≡ []))
 
 -- a whole page, in it the sentence on the plan, and behind that the captions of its methods

@@ -9,7 +9,7 @@ use Rattle.flowchart_page.proofs.chart.plan_page.Goals as goal
 
 pub returns : goal.returns
 returns c =
-    tree_page (verdict_text c.args.source.verdict.now (is_some c.args.source.reason.now))
+    tree_page (verdict_text c.args.source.verdict.now (is_some c.args.source.reason.now)) _
     (flat_map chapter_captions c.in_ok-chapters.chapters.items) (tree_of c.args.elements.now) _ _ _ c.new-page.result c.own.new.self
     c.append.new.self c.write_verdict.new.page c.append-2.new.self c.write_methods.new.page c.append-3.new.self c.own-2.new.self
     c.in_ok-chapters.ensures c.new-page.ensures c.in_ok-own.ensures c.in_ok-append.ensures c.in_ok-write_verdict.ensures
