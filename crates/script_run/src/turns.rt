@@ -1,5 +1,5 @@
 //! A script, run over a source.
-ghost use Rattle.std.specs.Prelude.{◌≡◌, ◌≢◌, ◌+◌, ◌≤◌, [], length, is_some, None, Err, IfOk, OnOk};
+ghost use Rattle.std.specs.Prelude.{◌≡◌, ◌≢◌, ◌+◌, ◌≤◌, [], length, is_some, None, Err, IfOk, OnOk, OnErr};
 ghost use Rattle.std.specs.Option.{ForSome};
 ghost use Rattle.std.specs.Result.{ForErr};
 ghost use Rattle.outside.specs.Causes.{Caused, HasCause};
@@ -160,6 +160,7 @@ pub fn run<F: Files, R: Source, W: Sink, L: Ledger>(
         script (R.left source.new) result) }
     ensures told { IfOk result (λ refused. ForSome (R.left source.old) (λ script.
         ForSome (F.told files.old) (λ files. TellsRefused files script refused_lines.new))) }
+    ensures untold { OnErr result (refused_lines.new ≡ refused_lines.old) }
     ensures same { F.told files.new ≡ F.told files.old }
     ensures kept { result ≢ Err Stop.File → F.failed files.new ≡ F.failed files.old }
     ensures file { Caused Stop.File (F.faults files.old) (F.faults files.new) result }
@@ -199,6 +200,7 @@ pub fn run_unwritten<F: Files, R: Source, L: Ledger>(
         ForSome (F.told files.old) (λ files. EndsUnwritten files script ended))) }
     ensures told { IfOk result (λ ended. ForSome (R.left source.old) (λ script.
         ForSome (F.told files.old) (λ files. TellsRefused files script refused_lines.new))) }
+    ensures untold { OnErr result (refused_lines.new ≡ refused_lines.old) }
     ensures same { F.told files.new ≡ F.told files.old }
     ensures kept { result ≢ Err Stop.File → F.failed files.new ≡ F.failed files.old }
     ensures file { Caused Stop.File (F.faults files.old) (F.faults files.new) result }
