@@ -12,6 +12,7 @@ use Rattle.pap_cli.specs.declared.status.Status.TheVariants.{FileFault, WriteFau
 use Rattle.script_run.specs.declared.stop.Stop.{Stop}
 use Rattle.script_run.specs.declared.stop.Stop.TheVariants as stops
 use Rattle.script_run.specs.Stops.{stop_of_file}
+use Rattle.script_run.specs.RunClauses.{shown}
 use Rattle.pap_cli.specs.declared.words.Command.{Command}
 use Rattle.pap_cli.specs.declared.words.Command.TheVariants.{Check, Once}
 use Rattle.pap_cli.specs.Statuses.{done_status, status_of}
@@ -19,10 +20,9 @@ use Rattle.plan_answers.specs.Answers.{Answer, CheckAnswers}
 use Rattle.pap_cli.specs.RunAnswers.{OnceAnswers}
 use Rattle.plan_answers.specs.ReplyViews.{reply_of}
 use Rattle.pap_cli.specs.AnswerViews.{answers_of}
-use Rattle.pap_cli.specs.Outside.{Outside}
+use Rattle.pap_cli.specs.Outside.{Outside, shown_of}
 use Rattle.pap_cli.specs.FileClauses.{Answering, AnswersFiles, IsCounted, LeavesOnFiles, HeadlineOnFiles}
 use Rattle.plan_answers.specs.Fronts.{AreFronts, IsMissing}
-use Rattle.pap_cli.specs.FileViews.{shown}
 use Rattle.pap_cli.specs.CallClauses.{Leaves, Headline, Carries}
 use Rattle.pap_cli.specs.Words.{Form, check, once, run, sample, save}
 use Rattle.pap_cli.proofs.ScriptLemmas.{script_none}
@@ -127,10 +127,10 @@ leaves_answer Answers plan limits told told' failed failed' first began answer m
 pub leaves_form : (c : Command) (plan limits : List ℕ) (before after : Outside) (status : Status) →
     LeavesOnFiles (answers_of c) plan limits (shown before.files before.failed before.written before.steps) (shown after.files after.failed after.written after.steps) status →
     Leaves (form_by c plan limits) before after status
-leaves_form Check plan limits before after status h = record { out = h.out; appended = h.appended; counted = h.counted; whole = h.whole; cut = h.cut; file = h.file; kept = h.kept; memory = h.memory; memory_counted = h.memory_counted; words_are_good = h.words_are_good; reads_no_script = h.reads_no_script; takes_no_script = h.takes_no_script }
-leaves_form (Once values) plan limits before after status h = record { out = h.out; appended = h.appended; counted = h.counted; whole = h.whole; cut = h.cut; file = h.file; kept = h.kept; memory = h.memory; memory_counted = h.memory_counted; words_are_good = h.words_are_good; reads_no_script = h.reads_no_script; takes_no_script = h.takes_no_script }
+leaves_form Check plan limits before after status h = h
+leaves_form (Once values) plan limits before after status h = h
 
-headline_on : (Answers : Answering) (plan limits : List ℕ) (before after : Outside) (status : Status) → LeavesOnFiles Answers plan limits before after status →
+headline_on : (Answers : Answering) (plan limits : List ℕ) (before after : Outside) (status : Status) → LeavesOnFiles Answers plan limits (shown_of before) (shown_of after) status →
     (status ≡ FileFault → Rose before.file_faults after.file_faults) → (status ≡ WriteFault → Rose before.sink_faults after.sink_faults) → HeadlineOnFiles Answers plan limits before after status
 headline_on Answers plan limits before after status h file write files told written said memory still_files still_sink =
     let done = is_done status h.words_are_good (λ e. rose_and_still before.file_faults after.file_faults (file e) still_files) h.reads_no_script (λ e. rose_and_still before.sink_faults after.sink_faults (write e) still_sink) memory h.takes_no_script in

@@ -22,7 +22,7 @@ use Rattle.pap_cli.specs.Words.{Form, check, once, HasForm}
 use Rattle.pap_cli.specs.WordViews.{form_by, IsOnFiles}
 use Rattle.plan_answers.specs.Answers.{Answer, IsRefusal, IsChecked, CheckAnswers}
 use Rattle.pap_cli.specs.RunAnswers.{IsRunOn, IsRunOnce, IsOnce, OnceAnswers}
-use Rattle.pap_cli.specs.AnswerViews.{answers_of, IsFilledFrom, TellsRefused}
+use Rattle.pap_cli.specs.AnswerViews.{answers_of, IsFilledFrom, MarksRefusals}
 use Rattle.plain_words.specs.Places.{PlanFiles}
 use Rattle.pap_cli.specs.Reasons.{bytes_of, SaysRefused, SaysRefusedOn, files_on, TellsPlan, TellsReason}
 use Rattle.pap_cli.specs.ReasonViews.{TellsOn, TellsFilled}
@@ -50,11 +50,11 @@ filled_as values m x a h k =
     subst (λ y. IsRunOn m.flowchart y a) (ap (λ s. filled_by s values []) slots ∙ sym h.is) k.ran
 
 -- filled inputs are no refusal
-pub told_inputs : (values : List NamedValue) (m : Meaning) (vs : List Decimal) → IsFilledFrom values m (Inputs vs) → TellsRefused (IsRunOnce values m) false
+pub told_inputs : (values : List NamedValue) (m : Meaning) (vs : List Decimal) → IsFilledFrom values m (Inputs vs) → MarksRefusals (IsRunOnce values m) false
 told_inputs values m vs h a k = told_run m.flowchart vs a (filled_as values m (Inputs vs) a h k)
 
 -- a run without inputs is one
-pub told_state : (values : List NamedValue) (m : Meaning) (b : Blocked) → IsFilledFrom values m (State b) → TellsRefused (IsRunOnce values m) true
+pub told_state : (values : List NamedValue) (m : Meaning) (b : Blocked) → IsFilledFrom values m (State b) → MarksRefusals (IsRunOnce values m) true
 told_state values m b h a k = told_blocked m.flowchart b a (filled_as values m (State b) a h k)
 
 -- ---- two texts
@@ -66,13 +66,13 @@ told_refusal : (plan : List ℕ) (r : PlanRefusal) (a : Answer) → IsRefusal pl
 told_refusal plan r a h = refused_by h.is
 
 -- accepted texts are no refusal of `check`
-pub told_accepted : (plan limits : List ℕ) (p : Seen) → IsAcceptedAs plan limits p → TellsRefused (CheckAnswers plan limits) false
+pub told_accepted : (plan limits : List ℕ) (p : Seen) → IsAcceptedAs plan limits p → MarksRefusals (CheckAnswers plan limits) false
 told_accepted plan limits p h a k =
     let same = plans.one plan limits k.verdict (Ok (meaning p)) k.accepted h.accepted in
     told_checked plan (meaning p) a (subst (λ v. IsChecked plan v a) same k.is)
 
 -- nor of `once` but where the run is one
-pub told_once : (values : List NamedValue) (plan limits : List ℕ) (p : Seen) (told : Bool) → IsAcceptedAs plan limits p → TellsRefused (IsRunOnce values (meaning p)) told → TellsRefused (OnceAnswers values plan limits) told
+pub told_once : (values : List NamedValue) (plan limits : List ℕ) (p : Seen) (told : Bool) → IsAcceptedAs plan limits p → MarksRefusals (IsRunOnce values (meaning p)) told → MarksRefusals (OnceAnswers values plan limits) told
 told_once values plan limits p told h t a k =
     let same = plans.one plan limits k.verdict (Ok (meaning p)) k.accepted h.accepted in
     t a (subst (λ v. IsOnce values plan v a) same k.is)
@@ -91,7 +91,7 @@ refused_is plan limits (refusals.Range fault) other h = h
 refused_is plan limits refusals.Memory other h = absurd (other refl)
 
 -- refused texts are one
-pub told_refused : (c : Command) (plan limits : List ℕ) (r : PlanRefusal) → IsRefusedPlan plan limits r → TellsRefused (answers_of c plan limits) true
+pub told_refused : (c : Command) (plan limits : List ℕ) (r : PlanRefusal) → IsRefusedPlan plan limits r → MarksRefusals (answers_of c plan limits) true
 told_refused Check plan limits r h a k =
     let same = plans.one plan limits k.verdict (Err r) k.accepted h in
     told_refusal plan r a (subst (λ v. IsChecked plan v a) same k.is)
@@ -112,7 +112,7 @@ some_answer (Once values) words plan limits front front' h = (once_answers value
 
 -- there is an answer on two texts
 says_refused : (c : Command) (words : List (List ℕ)) (plan limits bytes ranges : List ℕ) (told : Bool) → HasForm words (form_by c plan limits)
-    → TellsRefused (answers_of c bytes ranges) told → SaysRefused (answers_of c bytes ranges) told
+    → MarksRefusals (answers_of c bytes ranges) told → SaysRefused (answers_of c bytes ranges) told
 unfolding HasAnswer
 says_refused c words plan limits bytes ranges told has t =
     let a = some_answer c words plan limits bytes ranges has in
@@ -133,7 +133,7 @@ first_two (a ∷ b ∷ more) plan limits few is is' = (bytes_of more, cc)
 -- what is told on two texts is told on what was given, where they are its first two
 pub told_given : (c : Command) (words : List (List ℕ)) (plan limits : List ℕ) (given : List (Vec ℕ Global)) (bytes ranges : Vec ℕ Global) (told : Bool)
     → HasForm words (form_by c plan limits) → 2 ≤ length given → bytes ≡ get_or given 0 bytes → ranges ≡ get_or given 1 ranges
-    → TellsRefused (answers_of c bytes.items ranges.items) told → SaysRefusedOn (form_by c plan limits) (bytes_of given) told
+    → MarksRefusals (answers_of c bytes.items ranges.items) told → SaysRefusedOn (form_by c plan limits) (bytes_of given) told
 told_given c words plan limits given bytes ranges told has few is is' t =
     let first = first_two given bytes ranges few is is' in
     let says = says_refused c words plan limits bytes.items ranges.items told has t in
@@ -171,6 +171,7 @@ tells_state values plan limits bytes ranges p words h t = inr (record {
   inputs = t.filled.inputs;
   state = t.state;
   blocked = t.filled.is;
+  line = t.line;
   begins = t.begins;
 })
 

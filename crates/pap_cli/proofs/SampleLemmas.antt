@@ -1,6 +1,6 @@
 -- What the call leaves that runs a sample, and the headline from what each status says.
-use Rattle.std.proofs.Common.{◌≡◌, ℕ, ◌+◌, ◌-◌, ◌≤◌, ◌<◌, Bool, List, [], ◌++◌, length, take, refl, sym, ap, ◌∙◌, subst, arith}
-use Rattle.std.specs.Prelude.{Option, Some, None, Result, Err}
+use Rattle.std.proofs.Common.{◌≡◌, ℕ, ◌+◌, ◌≤◌, ◌<◌, Bool, List, [], ◌++◌, length, take, refl, sym, ap, ◌∙◌, subst, arith}
+use Rattle.std.specs.Prelude.{Option, Some, Result, Err}
 use Rattle.outside.specs.Causes.{Rose}
 use Rattle.outside.specs.Told.{Appends, AppendsPrefix}
 use Rattle.outside.proofs.Laws.{Appends-nothing}
@@ -16,8 +16,7 @@ use Rattle.pap_cli.specs.declared.status.Status.TheVariants.{WriteFault, NoMemor
 use Rattle.script_run.specs.declared.stop.Stop.{Stop}
 use Rattle.script_run.specs.declared.stop.Stop.TheVariants as stops
 use Rattle.pap_cli.specs.Statuses.{done_status, status_of}
-use Rattle.pap_cli.specs.Outside.{Outside}
-use Rattle.pap_cli.specs.FileViews.{shown}
+use Rattle.pap_cli.specs.Outside.{Outside, output, output_of}
 use Rattle.pap_cli.specs.SampleAnswers.{IsSampled, summary_text}
 use Rattle.pap_cli.specs.SampleClauses.{IsSpentWithin, LeavesOnSample, HeadlineOnSample}
 use Rattle.pap_cli.proofs.StatusLemmas.{appended_told, is_done, no_file, no_memory, no_write, not_bad, not_long, not_read}
@@ -43,7 +42,7 @@ module _ (employees began steps : ℕ) (first written : Option (List ℕ)) (ende
   whole_text = text_is ∙ ap (λ v. summary_text employees v) is.left
 
   -- its summary was written whole
-  pub leaves_whole : Appends first written text → LeavesOnSample employees (shown None None first began) (shown None None written steps) (done_status ended.refused)
+  pub leaves_whole : Appends first written text → LeavesOnSample employees (output first began) (output written steps) (done_status ended.refused)
   leaves_whole appended =
       let cost : steps ≡ began + (is.session).steps = is.cost in
       record {
@@ -61,7 +60,7 @@ module _ (employees began steps : ℕ) (first written : Option (List ℕ)) (ende
       }
 
   -- the sink failed
-  pub leaves_cut : AppendsPrefix first written text → LeavesOnSample employees (shown None None first began) (shown None None written steps) WriteFault
+  pub leaves_cut : AppendsPrefix first written text → LeavesOnSample employees (output first began) (output written steps) WriteFault
   leaves_cut part =
       let cost : steps ≡ began + (is.session).steps = is.cost in
       record {
@@ -80,7 +79,7 @@ module _ (employees began steps : ℕ) (first written : Option (List ℕ)) (ende
 
 -- memory ran out before anything was written
 pub leaves_memory : (employees began steps : ℕ) (first : Option (List ℕ)) → began ≤ steps → IsSpentWithin employees began steps →
-    LeavesOnSample employees (shown None None first began) (shown None None first steps) NoMemory
+    LeavesOnSample employees (output first began) (output first steps) NoMemory
 leaves_memory employees began steps first later spent = record {
   out = [];
   appended = Appends-nothing first;
@@ -97,46 +96,27 @@ leaves_memory employees began steps first later spent = record {
 
 -- at a stop
 pub leaves_stop : (employees began steps : ℕ) (first : Option (List ℕ)) → IsRunWithin sample_files (script_of (sample_lines employees)) began steps → (r : Result Bool Stop) → r ≡ Err stops.Memory →
-    LeavesOnSample employees (shown None None first began) (shown None None first steps) (status_of r)
+    LeavesOnSample employees (output first began) (output first steps) (status_of r)
 leaves_stop employees began steps first h r is =
-    subst (λ x. LeavesOnSample employees (shown None None first began) (shown None None first steps) (status_of x)) (sym is)
+    subst (λ x. LeavesOnSample employees (output first began) (output first steps) (status_of x)) (sym is)
     (leaves_memory employees began steps first h.later (spent_within employees began steps h))
 
 -- memory ran out after the script was run
 pub leaves_unsaid : (employees began steps : ℕ) (first : Option (List ℕ)) (ended : Ended) → IsFinished sample_files (script_of (sample_lines employees)) began steps ended → (r : Result Bool Stop) → r ≡ Err stops.Memory →
-    LeavesOnSample employees (shown None None first began) (shown None None first steps) (status_of r)
+    LeavesOnSample employees (output first began) (output first steps) (status_of r)
 leaves_unsaid employees began steps first ended is r r_is =
     let cost : steps ≡ began + (is.session).steps = is.cost in
     leaves_stop employees began steps first (record { session = is.session; is = is.is; later = omega arith; within = omega arith }) r r_is
 
--- ---- all that the outside shows
-
-pub leaves_sample : (employees : ℕ) (before after : Outside) (status : Status) →
-    LeavesOnSample employees (shown None None before.written before.steps) (shown None None after.written after.steps) status → LeavesOnSample employees before after status
-leaves_sample employees before after status h = record {
-  out = h.out;
-  appended = h.appended;
-  counted = h.counted;
-  whole = h.whole;
-  cut = h.cut;
-  memory = h.memory;
-  memory_counted = h.memory_counted;
-  words_are_good = h.words_are_good;
-  reads_no_file = h.reads_no_file;
-  reads_no_script = h.reads_no_script;
-  takes_no_script = h.takes_no_script;
-}
-
 -- memory ran out before anything was touched
-pub sample_none : (employees : ℕ) (o : Outside) → LeavesOnSample employees o o NoMemory
+pub sample_none : (employees : ℕ) (o : Outside) → LeavesOnSample employees (output_of o) (output_of o) NoMemory
 sample_none employees o =
     let has = some sample_files (script_of (sample_lines employees)) in
-    leaves_sample employees o o NoMemory
-    (leaves_memory employees o.steps o.steps o.written (omega arith) (record { answer = answer_of employees has.session; is = sampled employees has.session has.is; within = omega arith }))
+    leaves_memory employees o.steps o.steps o.written (omega arith) (record { answer = answer_of employees has.session; is = sampled employees has.session has.is; within = omega arith })
 
 -- ---- the headline
 
-pub headline_sample : (employees : ℕ) (before after : Outside) (status : Status) → LeavesOnSample employees before after status →
+pub headline_sample : (employees : ℕ) (before after : Outside) (status : Status) → LeavesOnSample employees (output_of before) (output_of after) status →
     (status ≡ WriteFault → Rose before.sink_faults after.sink_faults) → HeadlineOnSample employees before after status
 headline_sample employees before after status h write written said memory still_sink =
     let done = is_done status h.words_are_good h.reads_no_file h.reads_no_script (λ e. rose_and_still before.sink_faults after.sink_faults (write e) still_sink) memory h.takes_no_script in

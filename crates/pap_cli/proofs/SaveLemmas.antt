@@ -1,5 +1,5 @@
 -- What `save` leaves, and the headline from what each status says.
-use Rattle.std.proofs.Common.{◌≡◌, ◌≢◌, ℕ, ◌+◌, ◌-◌, ◌≤◌, Bool, false, List, [], ◌++◌, length, take, refl, sym, ap, ◌∙◌, subst, arith, inl, inr, length-append}
+use Rattle.std.proofs.Common.{◌≡◌, ◌≢◌, ℕ, ◌-◌, ◌≤◌, Bool, false, List, [], ◌++◌, length, take, refl, sym, ap, ◌∙◌, subst, arith, inl, inr, length-append}
 use Rattle.std.specs.Prelude.{Option, Some, None, Result, Ok, Err, codes}
 use Rattle.std.specs.Option.{ForSome}
 use Rattle.outside.specs.Causes.{Rose}
@@ -24,7 +24,7 @@ use Rattle.book_file.specs.Saving.{SaveSays}
 use Rattle.book_file.specs.declared.refusal.SaveRefusal.TheVariants as unsaved
 use Rattle.pap_cli.specs.SaveAnswers.{Written, IsBookWritten, IsSave, IsSaved, was_filed}
 use Rattle.pap_cli.specs.SaveClauses.{unwritten, IsSaveEnd, SaveEnds, LeavesOnSave, IsSavedWhole, HeadlineOnSave}
-use Rattle.pap_cli.specs.SaveViews.{seen, written_of}
+use Rattle.pap_cli.specs.SaveViews.{written_of}
 use Rattle.pap_cli.proofs.StatusLemmas.{appended_told, no_write, rose_and_still, written_whole}
 
 -- ---- a script that was answered to its end
@@ -230,14 +230,3 @@ headline_save before after status leaves file read write files told script left 
     headline_by before after script written files leaves.out status leaves.result (leaves.meets script left) leaves.ends leaves.appended
     (λ e. rose_and_still before.file_faults after.file_faults (file e) still_f) (λ e. rose_and_still before.source_faults after.source_faults (read e) still_r)
     (λ e. rose_and_still before.sink_faults after.sink_faults (write e) still_w) memory short told left said
-
--- ---- all that the outside shows
-
-same_ends : (before after : Outside) (out : List ℕ) (status : Status) (r : Result Bool Stop) →
-    SaveEnds (seen before.files before.failed before.left before.written before.steps) (seen after.files after.failed after.left after.written after.steps) out status r → SaveEnds before after out status r
-same_ends before after out status (Ok refused) ends = record { ended = ends.ended; whole = ends.whole; cut = ends.cut }
-same_ends before after out status (Err stop) ends = ends
-
-pub leaves_save : (before after : Outside) (status : Status) →
-    LeavesOnSave (seen before.files before.failed before.left before.written before.steps) (seen after.files after.failed after.left after.written after.steps) status → LeavesOnSave before after status
-leaves_save before after status h = record { result = h.result; meets = h.meets; out = h.out; appended = h.appended; ends = same_ends before after h.out status h.result h.ends; kept = h.kept }

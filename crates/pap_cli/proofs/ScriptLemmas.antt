@@ -1,8 +1,8 @@
 -- What a run over a script leaves, and the headline from what each status says.
 use Rattle.std.proofs.Common.{◌≡◌, ◌≢◌, ℕ, ◌≤◌, Bool, List, [], ◌++◌, length, refl, sym, ap, ◌∙◌, subst, arith, length-append}
-use Rattle.std.specs.Prelude.{Option, Some, Result, Ok, Err, IfOk}
+use Rattle.std.specs.Prelude.{Option, Some, Result, Ok, Err, IfOk, OnErr}
 use Rattle.outside.specs.Causes.{Rose, Still}
-use Rattle.outside.specs.Told.{FileMap, Appends}
+use Rattle.outside.specs.Told.{FileMap}
 use Rattle.outside.proofs.Laws.{Appends-nothing}
 use Rattle.script_run.specs.Limits.{most_script}
 use Rattle.script_run.specs.RunClauses.{RunMeets}
@@ -15,9 +15,9 @@ use Rattle.pap_cli.specs.WordViews.{ReadsScript, form_by, form_on_files}
 use Rattle.pap_cli.specs.declared.words.Command.{Command}
 use Rattle.pap_cli.specs.declared.words.Command.TheVariants.{Check, Once}
 use Rattle.pap_cli.specs.declared.words.FileRequest.{FileRequest}
-use Rattle.pap_cli.specs.Outside.{Outside}
-use Rattle.pap_cli.specs.ScriptClauses.{shown_of, LeavesOnScript, IsTranscribed, HeadlineOnScript}
-use Rattle.pap_cli.proofs.StatusLemmas.{appended_told, rose_and_still}
+use Rattle.pap_cli.specs.Outside.{Outside, shown_of}
+use Rattle.pap_cli.specs.ScriptClauses.{LeavesOnScript, IsTranscribed, HeadlineOnScript}
+use Rattle.pap_cli.proofs.StatusLemmas.{appended_told, rose_and_still, written_whole}
 
 -- the failed name is as before, but where the status is that of a file's fault
 pub script_kept : (r : Result Bool Stop) (s : Status) (failed failed' : Option (List ℕ)) → s ≡ status_of r → (r ≢ Err stops.File → failed' ≡ failed) → s ≢ FileFault → failed' ≡ failed
@@ -33,6 +33,11 @@ done_ok P (Err stops.Read) s is done h = absurd (subst IsDone is done)
 done_ok P (Err stops.Write) s is done h = absurd (subst IsDone is done)
 done_ok P (Err stops.Memory) s is done h = absurd (subst IsDone is done)
 done_ok P (Err stops.Long) s is done h = absurd (subst IsDone is done)
+
+-- what is so of a call that stopped is so where its status says that no answer was written whole
+pub undone_err : (P : Type 0) (r : Result Bool Stop) (s : Status) → s ≡ status_of r → ¬ (IsDone s) → OnErr r P → P
+undone_err P (Ok refused) s is undone h = absurd (undone (subst IsDone (sym is) (written_whole refused)))
+undone_err P (Err stop) s is undone h = h
 
 -- an answer on two files reads no script
 reads_none : (c : Command) (plan limits : List ℕ) → ReadsScript (form_by c plan limits) → ⊥

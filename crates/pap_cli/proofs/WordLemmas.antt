@@ -16,7 +16,9 @@ use Rattle.std.specs.Fmt.{decimal as number}
 use Rattle.std.proofs.lemmas.Fmt.{decimal_injective, parse-decimal}
 use Rattle.std.specs.Str.Parse.{ParsesUnsigned}
 use Rattle.pap_cli.specs.Words.{texts, Form, check, once, run, sample, save, HasForm, HasSampleForm, IsBad}
-use Rattle.pap_cli.specs.WordViews.{AskNoFiles, AskNoSample, IsInRange, IsSampleWord}
+use Rattle.pap_cli.specs.declared.words.Command.{Command}
+use Rattle.pap_cli.specs.declared.words.Command.TheVariants.{Check, Once}
+use Rattle.pap_cli.specs.WordViews.{form_by, AskNoFiles, AskNoSample, IsInRange, IsSampleWord}
 
 -- ---- the words of the program
 
@@ -152,6 +154,11 @@ one_form words run save h k = absurd (run_save (one_command words run save h k))
 one_form words save run h k = absurd (save_run (one_command words save run h k))
 one_form words (sample n) save h k = absurd (sample_save (one_command words (sample n) save h k))
 one_form words save (sample n) h k = absurd (save_sample (one_command words save (sample n) h k))
+
+-- a form on two files that is `check` has this command
+pub is_check : (c : Command) (plan limits plan' limits' : List ℕ) → form_by c plan limits ≡ check plan' limits' → c ≡ Check
+is_check Check plan limits plan' limits' e = refl
+is_check (Once values) plan limits plan' limits' e = cc
 
 -- ---- no form
 

@@ -23,5 +23,5 @@ pub record IsFilledFrom (values : List NamedValue) (m : Meaning) (f : Filled) : 
   pub is : f ≡ filled_by slots values []
 
 -- it is told whether the answers of this kind are refusals
-abbrev pub TellsRefused : (Answer → Type 0) → Bool → Type 0
-TellsRefused IsAnswer told = (answer : Answer) → IsAnswer answer → told ≡ answer.refused
+abbrev pub MarksRefusals : (Answer → Type 0) → Bool → Type 0
+MarksRefusals IsAnswer told = (answer : Answer) → IsAnswer answer → told ≡ answer.refused

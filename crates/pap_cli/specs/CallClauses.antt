@@ -1,9 +1,12 @@
 -- What a call leaves, by the form of its words: a form more is a case more.
+use Rattle.std.specs.Prelude.{ℕ, List}
 use Rattle.pap_cli.specs.declared.status.Status.{Status}
-use Rattle.pap_cli.specs.Words.{Form, check, once, run, sample, save}
+use Rattle.pap_cli.specs.Statuses.{IsDone}
+use Rattle.pap_cli.specs.Words.{Form, check, once, run, sample, save, HasForm}
+use Rattle.pap_cli.specs.WordViews.{ReadsScript}
 use Rattle.plan_answers.specs.Answers.{CheckAnswers}
 use Rattle.pap_cli.specs.RunAnswers.{OnceAnswers}
-use Rattle.pap_cli.specs.Outside.{Outside}
+use Rattle.pap_cli.specs.Outside.{Outside, shown_of, output_of}
 use Rattle.pap_cli.specs.FileClauses.{LeavesOnFiles, HeadlineOnFiles}
 use Rattle.pap_cli.specs.ScriptClauses.{LeavesOnScript, HeadlineOnScript}
 use Rattle.pap_cli.specs.SampleClauses.{LeavesOnSample, HeadlineOnSample}
@@ -11,10 +14,12 @@ use Rattle.pap_cli.specs.SaveClauses.{LeavesOnSave, HeadlineOnSave}
 
 -- what each status says of the text, of the counter and of the failed name
 abbrev pub Leaves : Form → Outside → Outside → Status → Type 0
-Leaves (check plan limits) before after status = LeavesOnFiles CheckAnswers plan limits before after status
-Leaves (once plan limits values) before after status = LeavesOnFiles (OnceAnswers values) plan limits before after status
+Leaves (check plan limits) before after status =
+    LeavesOnFiles CheckAnswers plan limits (shown_of before) (shown_of after) status
+Leaves (once plan limits values) before after status =
+    LeavesOnFiles (OnceAnswers values) plan limits (shown_of before) (shown_of after) status
 Leaves run before after status = LeavesOnScript before after status
-Leaves (sample employees) before after status = LeavesOnSample employees before after status
+Leaves (sample employees) before after status = LeavesOnSample employees (output_of before) (output_of after) status
 Leaves save before after status = LeavesOnSave before after status
 
 -- while memory is there and no outside call fails, what is written is the defined answer, or the transcript
@@ -29,3 +34,10 @@ Headline save before after status = HeadlineOnSave before after status
 pub record Carries (form : Form) (before after : Outside) (status : Status) : Type 0 where
   pub leaves : Leaves form before after status
   pub headline : Headline form before after status
+
+-- the words ask for a script to be carried out, by `run` or by `save`, and it was answered to its end
+pub record AnswersScript (words : List (List ℕ)) (status : Status) : Type 0 where
+  pub form : Form
+  pub has : HasForm words form
+  pub reads : ReadsScript form
+  pub done : IsDone status

@@ -22,4 +22,3 @@ pub mod ReasonViews
 pub mod Words
 pub mod BadWords
 pub mod WordViews
-pub mod FileViews

@@ -4,6 +4,7 @@ use Rattle.payroll_records.specs.declared.values.NamedValue.{NamedValue}
 use Rattle.carry_bindings.specs.declared.filling.Blocked.{Blocked}
 use Rattle.carry_bindings.specs.declared.filling.Filled.TheVariants.{State}
 use Rattle.pap_plan.specs.Acceptance.{Meaning}
+use Rattle.plain_words.specs.Lines.{IsOneLine}
 use Rattle.plain_words.specs.Places.{PlanFiles}
 use Rattle.plain_words.specs.States.{SaysState}
 use Rattle.pap_cli.specs.declared.words.Command.{Command}
@@ -21,8 +22,9 @@ TellsOn (Once values) files words = TellsPlan files words ⊎ TellsState values 
 abbrev pub files_in : FileRequest → List ℕ → List ℕ → PlanFiles
 files_in r bytes ranges = files_on r.plan.now r.limits.now bytes ranges
 
--- the words say why a run on these values has no inputs
+-- the words say in one line why a run on these values has no inputs
 pub record TellsFilled (values : List NamedValue) (m : Meaning) (files : PlanFiles) (words : List ℕ) : Type 0 where
   pub state : Blocked
   pub filled : IsFilledFrom values m (State state)
+  pub line : IsOneLine words
   pub begins : SaysState files state words

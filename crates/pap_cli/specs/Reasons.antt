@@ -9,6 +9,7 @@ use Rattle.carry_bindings.specs.Filling.{filled_by}
 use Rattle.pap_plan.specs.declared.refusal.PlanRefusal.{PlanRefusal}
 use Rattle.pap_plan.specs.Acceptance.{Meaning, IsAccepted, IsRefused}
 use Rattle.pap_plan.specs.Inputs.{AreSlots}
+use Rattle.plain_words.specs.Lines.{IsOneLine}
 use Rattle.plain_words.specs.Places.{PlanFiles}
 use Rattle.plain_words.specs.Refusals.{BeginsAtRefusal}
 use Rattle.plain_words.specs.States.{SaysState}
@@ -42,13 +43,14 @@ files_on plan limits bytes ranges = record {
   ranges = record { name = limits; bytes = ranges };
 }
 
--- the words begin with the place of the reason for which these files are refused
+-- what is said of a refused plan: one line, that begins with the place of the refusal in the file in which it stands
 pub record TellsPlan (files : PlanFiles) (words : List ℕ) : Type 0 where
   pub refusal : PlanRefusal
   pub refused : IsRefused files.plan.bytes files.ranges.bytes refusal
+  pub line : IsOneLine words
   pub begins : BeginsAtRefusal files refusal words
 
--- these files are accepted, and a run on these values has no inputs: the words begin with the place of that, and say why
+-- these files are accepted, and a run on these values has no inputs: one line, that begins with the place of that, and says why
 pub record TellsState (values : List NamedValue) (files : PlanFiles) (words : List ℕ) : Type 0 where
   pub meaning : Meaning
   pub accepted : IsAccepted files.plan.bytes files.ranges.bytes meaning
@@ -56,9 +58,11 @@ pub record TellsState (values : List NamedValue) (files : PlanFiles) (words : Li
   pub inputs : AreSlots meaning.limits meaning.flowchart.inputs slots
   pub state : Blocked
   pub blocked : State state ≡ filled_by slots values []
+  pub line : IsOneLine words
   pub begins : SaysState files state words
 
--- the words begin with the place of what is refused in the given bytes, the plan's and then those of its range file
+-- the words are one line, that begins with the place of what is refused in the given bytes, the plan's and then those of its
+-- range file
 abbrev pub TellsReason : Form → List (List ℕ) → List ℕ → Type 0
 TellsReason (check plan limits) (bytes ∷ ranges ∷ more) words = TellsPlan (files_on plan limits bytes ranges) words
 TellsReason (once plan limits values) (bytes ∷ ranges ∷ more) words =

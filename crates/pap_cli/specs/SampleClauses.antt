@@ -7,7 +7,7 @@ use Rattle.plan_answers.specs.Answers.{Answer}
 use Rattle.pap_cli.specs.declared.status.Status.{Status}
 use Rattle.pap_cli.specs.declared.status.Status.TheVariants as statuses
 use Rattle.pap_cli.specs.Statuses.{done_status, IsDone}
-use Rattle.pap_cli.specs.Outside.{Outside}
+use Rattle.pap_cli.specs.Outside.{Outside, Output}
 use Rattle.pap_cli.specs.FileClauses.{IsWhole, IsCutShort}
 use Rattle.pap_cli.specs.SampleAnswers.{IsSampled}
 
@@ -18,7 +18,7 @@ pub record IsSpentWithin (employees began steps : ℕ) : Type 0 where
   pub within : steps ≤ began + answer.steps
 
 -- what the call leaves; nothing but the sink and the counter is touched
-pub record LeavesOnSample (employees : ℕ) (before after : Outside) (status : Status) : Type 0 where
+pub record LeavesOnSample (employees : ℕ) (before after : Output) (status : Status) : Type 0 where
   pub out : List ℕ
   pub appended : Appends before.written after.written out
   pub counted : before.steps ≤ after.steps

@@ -6,16 +6,12 @@ use Rattle.outside.specs.Told.{FileMap}
 use Rattle.script_steps.specs.Steps.{AreThere}
 use Rattle.script_run.specs.Limits.{most_script}
 use Rattle.script_run.specs.Transcripts.{Session, lines_of, IsTranscript}
-use Rattle.script_run.specs.RunClauses.{Shown, shown, RunMeets}
+use Rattle.script_run.specs.RunClauses.{RunMeets}
 use Rattle.script_run.specs.declared.stop.Stop.{Stop}
 use Rattle.pap_cli.specs.declared.status.Status.{Status}
 use Rattle.pap_cli.specs.declared.status.Status.TheVariants as statuses
 use Rattle.pap_cli.specs.Statuses.{done_status, status_of}
-use Rattle.pap_cli.specs.Outside.{Outside}
-
--- the files, the sink and the counter
-abbrev pub shown_of : Outside → Shown
-shown_of o = shown o.files o.failed o.written o.steps
+use Rattle.pap_cli.specs.Outside.{Outside, shown_of}
 
 -- what a run leaves; of the text where the source tells the script and the files what they hold
 pub record LeavesOnScript (before after : Outside) (status : Status) : Type 0 where

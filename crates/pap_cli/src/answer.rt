@@ -2,9 +2,9 @@
 ghost use Rattle.std.specs.Prelude.{◌≡◌, ◌+◌, IfOk, OnErr};
 ghost use Rattle.outside.specs.Causes.{Caused};
 ghost use Rattle.plan_answers.specs.ReplyViews.{reply_of};
+ghost use Rattle.script_run.specs.RunClauses.{shown};
 ghost use Rattle.pap_cli.specs.AnswerViews.{answers_of};
 ghost use Rattle.pap_cli.specs.FileClauses.{IsCounted, LeavesOnFiles};
-ghost use Rattle.pap_cli.specs.FileViews.{shown};
 ghost use Rattle.pap_cli.specs.Statuses.{status_of};
 
 use crate::once::once_reply;
@@ -29,6 +29,7 @@ fn reply_on_bytes<L: Ledger>(
     ensures counted { IfOk result (λ reply. steps.new ≡ steps.old + reply.steps) }
     ensures memory { OnErr result
         (IsCounted (answers_of command plan.now limits.now) steps.old steps.new) }
+    ensures check { command ≡ Command.Check → steps.new ≡ steps.old }
 {
     match command {
         Command::Check => check_reply(alloc, plan, limits),
@@ -49,6 +50,7 @@ pub(crate) fn answer<F: Files, W: Sink, L: Ledger>(
         (shown (F.told files.old) (F.failed files.old) (W.written sink.old) steps.old)
         (shown (F.told files.new) (F.failed files.new) (W.written sink.new) steps.new)
         (status_of result) }
+    ensures check { request.entry.command ≡ Command.Check → steps.new ≡ steps.old }
     ensures same { F.told files.new ≡ F.told files.old }
     ensures file { Caused Stop.File (F.faults files.old) (F.faults files.new) result }
     ensures write { Caused Stop.Write (W.faults sink.old) (W.faults sink.new) result }

@@ -1,12 +1,12 @@
 //! The top call.
-ghost use Rattle.std.specs.Prelude.{◌≡◌, ◌≢◌, ℕ};
+ghost use Rattle.std.specs.Prelude.{◌≡◌, ◌≢◌, ℕ, List};
 ghost use Rattle.std.specs.Option.{ForSome};
 ghost use Rattle.outside.specs.Causes.{Rose};
-ghost use Rattle.pap_cli.specs.Words.{texts, Form, HasForm, IsBad, sample};
+ghost use Rattle.pap_cli.specs.Words.{texts, Form, HasForm, IsBad, check, sample};
 ghost use Rattle.pap_cli.specs.Outside.{IsUntouched};
-ghost use Rattle.pap_cli.specs.CallClauses.{Carries};
+ghost use Rattle.pap_cli.specs.CallClauses.{AnswersScript, Carries};
 ghost use Rattle.pap_cli.specs.WordViews.{ReadsScript};
-ghost use Rattle.pap_cli.specs.Statuses.{IsDone, status_of};
+ghost use Rattle.pap_cli.specs.Statuses.{status_of};
 ghost use Rattle.script_run.specs.RunClauses.{TellsRefused};
 ghost use Rattle.plan_answers.specs.Laws.{CheckHasOneAnswer};
 ghost use Rattle.pap_cli.specs.Laws.{HaveOneForm, OnceHasOneAnswer};
@@ -78,6 +78,10 @@ pub fn papcalc<F: Files, R: Source, W: Sink, L: Ledger>(
     ensures sample_reads_no_file { (employees : ℕ) → HasForm (texts words.now) (sample employees)
         → files.new ≡ files.old }
 
+    // `check` runs nothing, whatever the files hold.
+    ensures check_counts_nothing { (plan limits : List ℕ)
+        → HasForm (texts words.now) (check plan limits) → steps.new ≡ steps.old }
+
     // By the form of the words: what each status says of the text, of the counter, of the source and of the failed name
     // (`leaves`), and the headline: while memory is there and no outside call fails, what is written is the defined answer or
     // transcript.
@@ -108,7 +112,8 @@ pub fn papcalc<F: Files, R: Source, W: Sink, L: Ledger>(
     papcalc_told(alloc, words, files, source, sink, &mut untold, steps)
 }
 
-/// Does what [`papcalc`] does, and tells of a script that `run` or `save` carries out which of its lines were refused, and why.
+/// Does what [`papcalc`] does, and tells of a script that `run` or `save` answers to its end which of its lines were refused, and
+/// why. In every other case the list stays as it was.
 pub fn papcalc_told<F: Files, R: Source, W: Sink, L: Ledger>(
     alloc: Global,
     words: &[String],
@@ -141,6 +146,10 @@ pub fn papcalc_told<F: Files, R: Source, W: Sink, L: Ledger>(
     ensures sample_reads_no_file { (employees : ℕ) → HasForm (texts words.now) (sample employees)
         → files.new ≡ files.old }
 
+    // `check` runs nothing, whatever the files hold.
+    ensures check_counts_nothing { (plan limits : List ℕ)
+        → HasForm (texts words.now) (check plan limits) → steps.new ≡ steps.old }
+
     // By the form of the words: what each status says of the text, of the counter, of the source and of the failed name
     // (`leaves`), and the headline: while memory is there and no outside call fails, what is written is the defined answer or
     // transcript.
@@ -167,10 +176,12 @@ pub fn papcalc_told<F: Files, R: Source, W: Sink, L: Ledger>(
         })
         result }
 
-    // Of a script that was answered to its end it is told which of its lines were refused.
-    ensures refused_lines { (form : Form) → HasForm (texts words.now) form → ReadsScript form
-        → IsDone result → ForSome (R.left source.old) (λ script. ForSome (F.told files.old)
+    // Of a script that was answered to its end it is told which of its lines were refused, and of nothing else.
+    ensures refused_lines { AnswersScript (texts words.now) result
+        → ForSome (R.left source.old) (λ script. ForSome (F.told files.old)
         (λ files. TellsRefused files script refused_lines.new)) }
+    ensures untold { ¬ (AnswersScript (texts words.now) result)
+        → refused_lines.new ≡ refused_lines.old }
 {
     match read_words(alloc, words) {
         Ok(Some(Request::Files(request))) => status(answer(alloc, request, files, sink, steps)),

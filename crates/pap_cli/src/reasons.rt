@@ -2,9 +2,8 @@
 ghost use Rattle.std.specs.Prelude.{◌≡◌, All, IfOk, IfSome, None, is_some, string_bytes};
 ghost use Rattle.pap_plan.specs.Bindings.{HasSuitedLimit};
 ghost use Rattle.pap_plan.specs.Plans.{flowchart, meaning};
-ghost use Rattle.plain_words.specs.Lines.{IsOneLine};
 ghost use Rattle.pap_cli.specs.RunAnswers.{IsRunOnce};
-ghost use Rattle.pap_cli.specs.AnswerViews.{answers_of, TellsRefused};
+ghost use Rattle.pap_cli.specs.AnswerViews.{answers_of, MarksRefusals};
 ghost use Rattle.pap_cli.specs.Words.{texts, Form, HasForm, IsBad};
 ghost use Rattle.plain_words.specs.Places.{files_of};
 ghost use Rattle.pap_cli.specs.Reasons.{bytes_of, SaysRefusedOn, TellsReason};
@@ -36,8 +35,7 @@ pub fn reason(
     // There is a reason exactly where the answer on these bytes is a refusal.
     ensures refused { (form : Form) → HasForm (texts words.now) form → IfOk result
         (λ reason. SaysRefusedOn form (bytes_of given.now) (is_some reason)) }
-    ensures line { IfOk result (λ reason. IfSome reason (λ r. IsOneLine (string_bytes r))) }
-    // It begins with the place of what is refused.
+    // It is one line, that begins with the place of what is refused.
     ensures place { (form : Form) → HasForm (texts words.now) form → IfOk result (λ reason.
         IfSome reason (λ r. TellsReason form (bytes_of given.now) (string_bytes r))) }
 
@@ -61,8 +59,7 @@ fn reason_on_bytes(
     limits: &[u8],
 ) -> Result<Option<String>, AllocError>
     ensures refused { IfOk result (λ reason.
-        TellsRefused (answers_of request.entry.command plan.now limits.now) (is_some reason)) }
-    ensures line { IfOk result (λ reason. IfSome reason (λ r. IsOneLine (string_bytes r))) }
+        MarksRefusals (answers_of request.entry.command plan.now limits.now) (is_some reason)) }
     ensures place { IfOk result (λ reason. IfSome reason (λ r. TellsOn request.entry.command
         (files_in request.entry plan.now limits.now) (string_bytes r))) }
 {
@@ -99,8 +96,7 @@ fn state_reason(
 ) -> Result<Option<String>, AllocError>
     requires { All (HasSuitedLimit accepted.now.ranges) (flowchart accepted.now).inputs }
     ensures refused { IfOk result
-        (λ reason. TellsRefused (IsRunOnce values (meaning accepted.now)) (is_some reason)) }
-    ensures line { IfOk result (λ reason. IfSome reason (λ r. IsOneLine (string_bytes r))) }
+        (λ reason. MarksRefusals (IsRunOnce values (meaning accepted.now)) (is_some reason)) }
     ensures place { IfOk result (λ reason. IfSome reason (λ r. TellsFilled values
         (meaning accepted.now) (files_of plan.entry limits.entry) (string_bytes r))) }
 {

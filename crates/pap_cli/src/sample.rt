@@ -1,11 +1,11 @@
 //! The answer of `sample`: what came of a generated script.
-ghost use Rattle.std.specs.Prelude.{◌≡◌, ◌≤◌, length, codes, IfOk, None, string_bytes};
+ghost use Rattle.std.specs.Prelude.{◌≡◌, ◌≤◌, length, codes, IfOk, string_bytes};
 ghost use Rattle.recalc_engine.specs.MonthRows.{month_rows};
 ghost use Rattle.outside.specs.Causes.{Caused};
 ghost use Rattle.carry_bindings.specs.Carrying.{named};
 ghost use Rattle.recalc_engine.specs.RowViews.{lent_row};
 ghost use Rattle.script_run.specs.Limits.{most_employees};
-ghost use Rattle.pap_cli.specs.FileViews.{shown};
+ghost use Rattle.pap_cli.specs.Outside.{output};
 ghost use Rattle.pap_cli.specs.SampleAnswers.{book_lines, work_lines};
 ghost use Rattle.pap_cli.specs.SampleAnswers.{summary_text, tax_of, tax_sum};
 ghost use Rattle.pap_cli.specs.SampleClauses.{LeavesOnSample};
@@ -31,8 +31,7 @@ pub(crate) fn sample<W: Sink, L: Ledger>(
 ) -> Result<bool, Stop>
     requires { employees ≤ most_employees }
     ensures leaves { LeavesOnSample employees
-        (shown None None (W.written sink.old) steps.old)
-        (shown None None (W.written sink.new) steps.new)
+        (output (W.written sink.old) steps.old) (output (W.written sink.new) steps.new)
         (status_of result) }
     ensures write { Caused Stop.Write (W.faults sink.old) (W.faults sink.new) result }
 {

@@ -1,5 +1,5 @@
 //! The answer of `save`: the last book of a script as a text.
-ghost use Rattle.std.specs.Prelude.{◌≡◌, IfOk, Err};
+ghost use Rattle.std.specs.Prelude.{◌≡◌, IfOk, OnErr, Err};
 ghost use Rattle.std.specs.Option.{ForSome};
 ghost use Rattle.outside.specs.Causes.{Caused};
 ghost use Rattle.script_run.specs.RunClauses.{TellsRefused};
@@ -7,7 +7,7 @@ ghost use Rattle.pap_cli.specs.GoingOn.{SavedScriptsAreSaved, SavedScriptsGoOn};
 ghost use Rattle.pap_cli.specs.Laws.{ScriptsHaveOneSave};
 ghost use Rattle.pap_cli.specs.SaveAnswers.{IsSave, was_filed};
 ghost use Rattle.pap_cli.specs.SaveClauses.{LeavesOnSave};
-ghost use Rattle.pap_cli.specs.SaveViews.{seen, written_of};
+ghost use Rattle.pap_cli.specs.SaveViews.{written_of};
 ghost use Rattle.pap_cli.specs.Statuses.{status_of};
 
 use book_file::{SaveRefusal, saving_laws, write_book};
@@ -19,7 +19,7 @@ use std::sync::ledger::Ledger;
 use steps::Steps;
 
 /// Runs the script that the source gives, writes none of its answers, and then writes the text of the last book, or why there
-/// is none. `Ok` says whether that is a refusal, and then it is told which lines were refused.
+/// is none. `Ok` says whether that is a refusal, and then it is told which lines were refused; else the list stays as it was.
 pub(crate) fn save<F: Files, R: Source, W: Sink, L: Ledger>(
     alloc: Global,
     files: &mut F,
@@ -29,22 +29,43 @@ pub(crate) fn save<F: Files, R: Source, W: Sink, L: Ledger>(
     steps: &mut Steps<L>,
 ) -> Result<bool, Stop>
     ensures leaves { LeavesOnSave
-        (seen (F.told files.old) (F.failed files.old) (R.left source.old)
-        (W.written sink.old) steps.old)
-        (seen (F.told files.new) (F.failed files.new) (R.left source.new)
-        (W.written sink.new) steps.new)
+        (record {
+          files = F.told files.old;
+          failed = F.failed files.old;
+          file_faults = F.faults files.old;
+          left = R.left source.old;
+          source_faults = R.faults source.old;
+          written = W.written sink.old;
+          sink_faults = W.faults sink.old;
+          steps = steps.old;
+        })
+        (record {
+          files = F.told files.new;
+          failed = F.failed files.new;
+          file_faults = F.faults files.new;
+          left = R.left source.new;
+          source_faults = R.faults source.new;
+          written = W.written sink.new;
+          sink_faults = W.faults sink.new;
+          steps = steps.new;
+        })
         (status_of result) }
     ensures told { IfOk result (λ refused. ForSome (R.left source.old) (λ script.
         ForSome (F.told files.old) (λ files. TellsRefused files script refused_lines.new))) }
+    ensures untold { OnErr result (refused_lines.new ≡ refused_lines.old) }
     ensures same { F.told files.new ≡ F.told files.old }
     ensures file { Caused Stop.File (F.faults files.old) (F.faults files.new) result }
     ensures read { Caused Stop.Read (R.faults source.old) (R.faults source.new) result }
     ensures write { Caused Stop.Write (W.faults sink.old) (W.faults sink.new) result }
 {
-    let ended = run_unwritten(alloc, files, source, refused_lines, steps)?;
+    let mut told = RefusedLines::new(alloc);
+    let ended = run_unwritten(alloc, files, source, &mut told, steps)?;
     let reply = saved(alloc, ended)?;
     match put_all(sink, &reply.text) {
-        Ok(()) => Ok(reply.refused),
+        Ok(()) => {
+            *refused_lines = told;
+            Ok(reply.refused)
+        }
         Err(_) => Err(Stop::Write),
     }
 }

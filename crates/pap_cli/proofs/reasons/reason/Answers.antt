@@ -3,7 +3,7 @@ use Rattle.std.specs.Prelude.{IfOk, IfSome, string_bytes}
 use Rattle.plan_answers.proofs.Laws.{if_ok_map}
 use Rattle.pap_cli.specs.Words.{texts, HasForm}
 use Rattle.pap_cli.specs.WordViews.{form_on_files}
-use Rattle.pap_cli.specs.AnswerViews.{answers_of, TellsRefused}
+use Rattle.pap_cli.specs.AnswerViews.{answers_of, MarksRefusals}
 use Rattle.pap_cli.specs.Reasons.{bytes_of, SaysRefusedOn, TellsReason, files_on}
 use Rattle.pap_cli.specs.ReasonViews.{TellsOn}
 use Rattle.pap_cli.proofs.WordLemmas.{one_form}
@@ -19,12 +19,12 @@ returns-in-len2-up-clause-refused c = λ form has.
     let limits = c.limits-item.result in
     let own : HasForm words (form_on_files request) = rw c.in-Some-Files.field-0-is at (rw c.in-Some-Files.is at c.in_ok-request.ensures) in
     let same = one_form words (form_on_files request) form own has in
-    let first = subst (λ b. IfOk c.reason_on_bytes.result (λ reason. TellsRefused (answers_of request.command b c.deref-in-len2-up.result.now) (is_some reason)))
+    let first = subst (λ b. IfOk c.reason_on_bytes.result (λ reason. MarksRefusals (answers_of request.command b c.deref-in-len2-up.result.now) (is_some reason)))
     c.deref.ensures.value c.reason_on_bytes.ensures.refused in
-    let both = subst (λ b. IfOk c.reason_on_bytes.result (λ reason. TellsRefused (answers_of request.command plan.items b) (is_some reason)))
+    let both = subst (λ b. IfOk c.reason_on_bytes.result (λ reason. MarksRefusals (answers_of request.command plan.items b) (is_some reason)))
     c.deref-in-len2-up.ensures.value first in
     subst (λ f. IfOk c.reason_on_bytes.result (λ reason. SaysRefusedOn f (bytes_of given) (is_some reason))) same
-    (if_ok_map c.reason_on_bytes.result (λ reason. TellsRefused (answers_of request.command plan.items limits.items) (is_some reason))
+    (if_ok_map c.reason_on_bytes.result (λ reason. MarksRefusals (answers_of request.command plan.items limits.items) (is_some reason))
     (λ reason. SaysRefusedOn (form_on_files request) (bytes_of given) (is_some reason))
     (λ reason told. told_given request.command words request.plan.now request.limits.now given plan limits (is_some reason) own
     c.in-len2-up.len_at_least c.plan-item.is c.limits-item.is told) both)

@@ -4,7 +4,7 @@ use Rattle.pap_plan.specs.Plans.{meaning}
 use Rattle.pap_plan.specs.declared.refusal.PlanRefusal.TheVariants as refusals
 use Rattle.pap_cli.specs.declared.words.Command.TheVariants as commands
 use Rattle.pap_cli.specs.RunAnswers.{IsRunOnce, OnceAnswers}
-use Rattle.pap_cli.specs.AnswerViews.{TellsRefused}
+use Rattle.pap_cli.specs.AnswerViews.{MarksRefusals}
 use Rattle.pap_cli.specs.ReasonViews.{files_in, TellsOn, TellsFilled}
 use Rattle.plan_answers.proofs.Laws.{if_ok_map}
 use Rattle.pap_cli.proofs.ReasonLemmas.{told_accepted, told_once, refused_is, told_refused, if_some_map, tells_state, tells_plan}
@@ -20,7 +20,7 @@ returns-in-Ok-clause-refused c =
     let limits = c.args.limits.now in
     let accepted = c.in-Ok.accepted in
     rw c.in-Once.is
-    (if_ok_map c.state_reason.result (λ reason. TellsRefused (IsRunOnce values (meaning accepted)) (is_some reason)) (λ reason. TellsRefused (OnceAnswers values plan limits) (is_some reason))
+    (if_ok_map c.state_reason.result (λ reason. MarksRefusals (IsRunOnce values (meaning accepted)) (is_some reason)) (λ reason. MarksRefusals (OnceAnswers values plan limits) (is_some reason))
     (λ reason h. told_once values plan limits accepted (is_some reason) c.in-Ok.ensures.accepted h) c.state_reason.ensures.refused)
 
 pub returns-clause-refused : goal.returns-clause-refused
@@ -49,5 +49,6 @@ returns-clause-place c =
     tells_plan c.args.request.command (files_in c.args.request c.args.plan.now c.args.limits.now) _ (record {
       refusal = c.in-Err.refusal;
       refused = refused_is c.args.plan.now c.args.limits.now c.in-Err.refusal other c.in-Err.ensures.refused;
+      line = c.in_ok-plan_words-in-Err.ensures.line;
       begins = c.in_ok-plan_words-in-Err.ensures.place;
     })

@@ -20,5 +20,6 @@ pub returns-clause-place : goal.returns-clause-place
 returns-clause-place c = record {
   state = c.in-State.state;
   filled = filled_from c.args.values (accepted c.args.accepted.now) c.record_of-record.result.values (State c.in-State.state) c.requires c.record_of-record.ensures (sym c.in-State.is ∙ c.in_ok-inputs.ensures.are);
+  line = c.in_ok-state_words-in-State.ensures.line;
   begins = c.in_ok-state_words-in-State.ensures.place;
 }
