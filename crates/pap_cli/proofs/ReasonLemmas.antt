@@ -24,7 +24,8 @@ use Rattle.plan_answers.specs.Answers.{Answer, IsRefusal, IsChecked, CheckAnswer
 use Rattle.pap_cli.specs.RunAnswers.{IsRunOn, IsRunOnce, IsOnce, OnceAnswers}
 use Rattle.pap_cli.specs.AnswerViews.{answers_of, IsFilledFrom, MarksRefusals}
 use Rattle.plain_words.specs.Places.{PlanFiles}
-use Rattle.pap_cli.specs.Reasons.{bytes_of, SaysRefused, SaysRefusedOn, files_on, TellsPlan, TellsReason}
+use Rattle.plain_words.specs.Refusals.{TellsPlan}
+use Rattle.pap_cli.specs.Reasons.{bytes_of, SaysRefused, SaysRefusedOn, files_on, TellsReason}
 use Rattle.pap_cli.specs.ReasonViews.{TellsOn, TellsFilled}
 use Rattle.plan_answers.proofs.Laws.{check_answers}
 use Rattle.pap_cli.proofs.AnswerLemmas.{once_answers, words_kept}

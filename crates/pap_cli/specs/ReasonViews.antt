@@ -6,12 +6,13 @@ use Rattle.carry_bindings.specs.declared.filling.Filled.TheVariants.{State}
 use Rattle.pap_plan.specs.Acceptance.{Meaning}
 use Rattle.plain_words.specs.Lines.{IsOneLine}
 use Rattle.plain_words.specs.Places.{PlanFiles}
+use Rattle.plain_words.specs.Refusals.{TellsPlan}
 use Rattle.plain_words.specs.States.{SaysState}
 use Rattle.pap_cli.specs.declared.words.Command.{Command}
 use Rattle.pap_cli.specs.declared.words.Command.TheVariants.{Check, Once}
 use Rattle.pap_cli.specs.declared.words.FileRequest.{FileRequest}
 use Rattle.pap_cli.specs.AnswerViews.{IsFilledFrom}
-use Rattle.pap_cli.specs.Reasons.{files_on, TellsPlan, TellsState}
+use Rattle.pap_cli.specs.Reasons.{files_on, TellsState}
 
 -- the words of a command's reason on two files
 abbrev pub TellsOn : Command → PlanFiles → List ℕ → Type 0

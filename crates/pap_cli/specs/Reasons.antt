@@ -6,12 +6,11 @@ use Rattle.payroll_records.specs.declared.values.NamedValue.{NamedValue}
 use Rattle.carry_bindings.specs.declared.filling.Blocked.{Blocked}
 use Rattle.carry_bindings.specs.declared.filling.Filled.TheVariants.{State}
 use Rattle.carry_bindings.specs.Filling.{filled_by}
-use Rattle.pap_plan.specs.declared.refusal.PlanRefusal.{PlanRefusal}
-use Rattle.pap_plan.specs.Acceptance.{Meaning, IsAccepted, IsRefused}
+use Rattle.pap_plan.specs.Acceptance.{Meaning, IsAccepted}
 use Rattle.pap_plan.specs.Inputs.{AreSlots}
 use Rattle.plain_words.specs.Lines.{IsOneLine}
 use Rattle.plain_words.specs.Places.{PlanFiles}
-use Rattle.plain_words.specs.Refusals.{BeginsAtRefusal}
+use Rattle.plain_words.specs.Refusals.{TellsPlan}
 use Rattle.plain_words.specs.States.{SaysState}
 use Rattle.plan_answers.specs.Answers.{Answer, CheckAnswers}
 use Rattle.pap_cli.specs.RunAnswers.{OnceAnswers}
@@ -42,13 +41,6 @@ files_on plan limits bytes ranges = record {
   plan = record { name = plan; bytes = bytes };
   ranges = record { name = limits; bytes = ranges };
 }
-
--- what is said of a refused plan: one line, that begins with the place of the refusal in the file in which it stands
-pub record TellsPlan (files : PlanFiles) (words : List ℕ) : Type 0 where
-  pub refusal : PlanRefusal
-  pub refused : IsRefused files.plan.bytes files.ranges.bytes refusal
-  pub line : IsOneLine words
-  pub begins : BeginsAtRefusal files refusal words
 
 -- these files are accepted, and a run on these values has no inputs: one line, that begins with the place of that, and says why
 pub record TellsState (values : List NamedValue) (files : PlanFiles) (words : List ℕ) : Type 0 where
