@@ -72,22 +72,23 @@ moved plan refusals.Memory a b h = h
 -- the words begin with the place behind these bytes
 abbrev IsBehind : (name words before : List ℕ) → Type 0
 IsBehind name words before =
-    (rest : List ℕ) × (words ≡ shown_text
-    ((name ++ (codes ":" ++ position_text (line_number before) (column_number before))) ++ (codes ": " ++ ([] ++ rest))))
+    (text : List ℕ) × (words ≡ shown_text
+    ((name ++ (codes ":" ++ position_text (line_number before) (column_number before))) ++ (codes ": " ++ text)))
 
 pub begins_ranges : (m : ℕ) (plan limits : NamedText) (r : PlanRefusal) (words : List ℕ)
     → BeginsAtRefusal (both plan (front m limits)) r words → BeginsAtRefusal (both plan limits) r words
 begins_ranges m plan limits r words h = by h.place h.is h.begins
   where
     by : (place : PlanPlace) → IsPlaceOf plan.bytes r place
-        → BeginsAt (both plan (front m limits)) place [] words → BeginsAtRefusal (both plan limits) r words
-    by (in_plan at) is begins = record { place = in_plan at; is = is; begins = begins }
-    by (in_ranges None) is begins = record { place = in_ranges None; is = is; begins = begins }
+        → BeginsAt (both plan (front m limits)) place words → BeginsAtRefusal (both plan limits) r words
+    by (in_plan at) is begins = record { place = in_plan at; is = is; begins = begins; helps = h.helps }
+    by (in_ranges None) is begins = record { place = in_ranges None; is = is; begins = begins; helps = h.helps }
     by (in_ranges (Some at)) is begins =
         let same = front_place at m limits.bytes in record {
           place = in_ranges (Some same.0);
           is = moved plan.bytes r at same.0 is;
           begins = subst (λ before. IsBehind limits.name words before) same.1 begins;
+          helps = h.helps;
         }
 
 -- ---- the plan's file
@@ -125,7 +126,8 @@ on_long : (n : ℕ) (plan limits : NamedText) (words : List ℕ)
 on_long n plan limits words h = record {
   place = in_plan None;
   is = refl;
-  begins = subst (λ p. BeginsAt (both (front n plan) limits) p [] words) h.is h.begins;
+  begins = subst (λ p. BeginsAt (both (front n plan) limits) p words) h.is h.begins;
+  helps = h.helps;
 }
 
 pub begins_plan : (n : ℕ) → 1048576 < n → (plan limits : NamedText) (bytes : List ℕ) (r : PlanRefusal) (words : List ℕ)
