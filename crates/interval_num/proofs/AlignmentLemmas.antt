@@ -1,5 +1,5 @@
 -- Decimals at a scale that is no less than their own, and what an aligned operation takes for granted.
-use Rattle.std.proofs.Common.{◌≡◌, ℕ, ◌-◌, ◌^◌, ◌≤◌, ◌*ℤ◌, ◌≤ℤ◌, Bool, true, false, ◌||◌, Ok, Err, refl, subst, arith}
+use Rattle.std.proofs.Common.{◌≡◌, ℕ, ◌-◌, ◌^◌, ◌≤◌, ℤ, ◌*ℤ◌, ◌≤ℤ◌, max, Bool, true, false, ◌||◌, Ok, Err, refl, sym, ap, ap₂, ◌∙◌, subst, arith}
 use Rattle.std.specs.Prelude.{IfOk}
 use Rattle.scaled_decimal.specs.laws.IntegerLemmas.{le_times}
 use Rattle.scaled_decimal.specs.Decimals.{Decimal, numerator_of, scale_of, numerator_at, ten_to}
@@ -8,10 +8,11 @@ use Rattle.scaled_decimal.specs.WorkingNumbers.{ComparisonFits}
 use Rattle.scaled_decimal.specs.Limits.{IsWithinLimit}
 use Rattle.interval_num.specs.declared.cause.RangeCause.{RangeCause}
 use Rattle.interval_num.specs.declared.cause.RangeCause.TheVariants.{Wide}
-use Rattle.interval_num.specs.Intervals.{Interval, Contains, HasKeptEnds}
+use Rattle.interval_num.specs.Intervals.{Interval, interval, Contains, HasKeptEnds}
 use Rattle.interval_num.specs.Alignment.{unless, is_beyond, ends_beyond, kept, at_scale, greater_scale, aligned, Align}
 use Rattle.interval_num.specs.Rows.{Answer}
-use Rattle.interval_num.proofs.NumberLemmas.{longer, within_out, kept_shorter, kept_between}
+use Rattle.interval_num.specs.Signs.{signs_at, signs_of}
+use Rattle.interval_num.proofs.NumberLemmas.{longer, times_one, within_in, within_out, kept_shorter, kept_between}
 
 -- a numerator at one scale, at a greater one
 pub at_greater : (x : Decimal) (p q : ℕ) → scale_of x ≤ p → p ≤ q → numerator_at p x *ℤ ten_to (q - p) ≡ numerator_at q x
@@ -110,3 +111,29 @@ unless_passes false cause answer e = refl
 pub unless_refuses : (t : Bool) (cause : RangeCause) (answer : Answer) → t ≡ true → unless t cause answer ≡ Err cause
 unless_refuses true cause answer e = refl
 unless_refuses false cause answer e = absurd (cc)
+
+-- ---- intervals of one greatest scale
+
+at_own : (s : ℕ) (a : Interval) → a.s_hi ≡ s → at_scale s a ≡ a
+at_own s a e =
+    let none : s - a.s_hi ≡ 0 = omega arith in
+    let low : a.lo *ℤ ten_to (s - a.s_hi) ≡ a.lo = ap (λ k. a.lo *ℤ ten_to k) none ∙ times_one a.lo in
+    let high : a.hi *ℤ ten_to (s - a.s_hi) ≡ a.hi = ap (λ k. a.hi *ℤ ten_to k) none ∙ times_one a.hi in
+    ap₂ (λ l h. interval l h a.s_lo s) low high ∙ ap (λ m. interval a.lo a.hi a.s_lo m) (sym e)
+
+ends_within : (a : Interval) → HasKeptEnds a → ends_beyond a ≡ false
+ends_within a h = cc (within_in a.lo h.low, within_in a.hi h.high)
+
+module _ (a b : Interval) (same : a.s_hi ≡ b.s_hi) where
+  left_own : at_scale (greater_scale a b) a ≡ a
+  left_own = at_own (greater_scale a b) a (omega arith)
+
+  right_own : at_scale (greater_scale a b) b ≡ b
+  right_own = at_own (greater_scale a b) b (omega arith)
+
+  -- their numerators are at one scale already
+  pub signs_same : signs_of a b ≡ signs_at a b
+  signs_same = cc (left_own, right_own)
+
+  pub aligned_same : (make : Interval → Interval → Answer) → HasKeptEnds a → HasKeptEnds b → aligned make a b ≡ make a b
+  aligned_same make left right = cc (left_own, right_own, ends_within a left, ends_within b right)

@@ -49,6 +49,9 @@ pub(crate) fn aligned(a: Abs, b: Abs) -> Result<(Abs, Abs), RangeCause>
     ensures left { IfOk result (λ p. p.0.lo ≤ℤ p.0.hi) }
     ensures right { IfOk result (λ p. p.1.lo ≤ℤ p.1.hi) }
 {
+    if a.s_hi() == b.s_hi() {
+        return Ok((a, b));
+    }
     let q = greater_scale(a, b);
     if ends_beyond_at(a, q) || ends_beyond_at(b, q) {
         return Err(RangeCause::Wide);

@@ -52,6 +52,9 @@ pub fn signs(a: Abs, b: Abs) -> SignSet
     ensures exact { result ≡ signs_of a b }
     ensures sound { SignsAreSound a b result }
 {
+    if a.s_hi() == b.s_hi() {
+        return signs_at(a, b);
+    }
     let q = greater_scale(a, b);
     signs_at(at_scale(a, q), at_scale(b, q))
 }
