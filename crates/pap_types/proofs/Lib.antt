@@ -3,6 +3,7 @@ pub mod ScopeLemmas
 pub mod CheckLemmas
 pub mod DeclarationLemmas
 pub mod TypingLemmas
+mod WellTypedLemmas
 pub mod StatementLemmas
 pub mod BodyLemmas
 pub mod MethodLemmas

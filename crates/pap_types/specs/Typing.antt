@@ -1,5 +1,5 @@
--- What holds of the parts of a well-typed plan: each name is declared, each operation takes its operands, each target suits
--- its value.
+-- What holds of the parts of a plan exactly where it is well typed: each name is declared, each operation takes its
+-- operands, each target suits its value.
 use Rattle.std.specs.Prelude.{◌≡◌, ◌≢◌, ℕ, IsTrue, true, is_some, List, ◌∷◌, ◌++◌, Some, All, AllPairs, ⊤}
 use Rattle.std.specs.Option.{option_map_or}
 use Rattle.pap_tree.specs.Term.{Leaf, named, Term, leaf, item, one, two, choice}

@@ -1,6 +1,6 @@
 //! The laws: what the definitions say of every plan. The functions do nothing; their contracts are the laws.
 
-ghost use Rattle.std.specs.Prelude.{List};
+ghost use Rattle.std.specs.Prelude.{◌↔◌, List};
 ghost use Rattle.scaled_decimal.specs.Decimals.{Decimal};
 ghost use Rattle.pap_tree.specs.Term.{Term};
 ghost use Rattle.pap_tree.specs.Flowchart.{Flowchart};
@@ -9,11 +9,11 @@ ghost use Rattle.pap_types.specs.Typing.{HasTypes};
 ghost use Rattle.pap_types.specs.Meaning.{IsSafeFor};
 ghost use Rattle.pap_types.specs.MeaningLaws.{HasOneOutputs, OutputsStandByName, CostsAtMostBound, IsBoundedByNodes};
 
-/// In a well-typed plan no two declared names, and no two methods, are the same; each literal is of its type; in each
-/// statement names are declared, operations take their operands, the target suits the value, and the executed method is
-/// there.
+/// A plan is well typed exactly where no two declared names, and no two methods, are the same; each literal is of its type;
+/// and in each statement names are declared, operations take their operands, the target suits the value, and the executed
+/// method is there.
 pub fn typed_parts()
-    ensures { (f : Flowchart) → IsWellTyped f → HasTypes f }
+    ensures { (f : Flowchart) → IsWellTyped f ↔ HasTypes f }
 {}
 
 /// Inputs that are safe for a plan have exactly one list of outputs, with a value for each declared output; in a well-typed
