@@ -2,6 +2,7 @@
 ghost use Rattle.std.specs.Prelude.{◌≡◌, ◌<◌, ◌&&◌, Some, IfOk, OnOk, List, length, slice_get};
 ghost use Rattle.std.specs.Option.{option_map};
 ghost use Rattle.interval_num.specs.Intervals.{Interval};
+ghost use Rattle.interval_num.specs.Signs.{signs_of};
 ghost use Rattle.pap_types.specs.Kinds.{is_whole};
 ghost use Rattle.pap_types.specs.Operations.{holds_of};
 ghost use Rattle.interval_walk.specs.Branches.{signs_where, others, exchanged, can_have};
@@ -142,8 +143,9 @@ pub(crate) fn branches_of(
         ≡ branches_by compared.now.sides compared.now.allowed ranges.now) }
 {
     let Compared { sides, allowed, .. } = compared;
-    let held = branch_of(sides, *allowed, ranges);
-    let failed = branch_of(sides, others(*allowed), ranges);
+    let between = signs(sides.left.range, sides.right.range);
+    let held = branch_of(sides, between, *allowed, ranges);
+    let failed = branch_of(sides, between, others(*allowed), ranges);
     let holds = listed(alloc, held)?;
     let fails = listed(alloc, failed)?;
     Ok(Branches { holds, fails })
@@ -176,11 +178,16 @@ fn add(changes: &mut Vec<Change>, change: Option<Change>) -> Result<(), AllocErr
 
 /// The changes where a comparison has an allowed sign of those between its sides: of the left side by the right one's range,
 /// then of the right side by the range that the left one had.
-pub(crate) fn branch_of(sides: &Sides, allowed: SignSet, ranges: &[Abs]) -> Option<Narrowed>
-    requires { CanCompare sides.now ranges.now }
+pub(crate) fn branch_of(
+    sides: &Sides,
+    between: SignSet,
+    allowed: SignSet,
+    ranges: &[Abs],
+) -> Option<Narrowed>
+    requires can { CanCompare sides.now ranges.now }
+    requires between { between ≡ signs_of sides.now.left.range sides.now.right.range }
     ensures { option_map (after_both ranges.now) result ≡ branch_by sides.now allowed ranges.now }
 {
-    let between = signs(sides.left.range, sides.right.range);
     if !can_have(allowed, between) {
         return None;
     }

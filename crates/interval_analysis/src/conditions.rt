@@ -17,7 +17,7 @@ use crate::nodes::{literal, own};
 use crate::operations::comparison_range;
 use crate::outlines::outline_of;
 use crate::variables::{Variables, taken_back};
-use interval_num::{Abs, RangeCause, SignSet, abs_cmp};
+use interval_num::{Abs, RangeCause, SignSet, abs_cmp, signs};
 use pap_tree::{Binary, Call, Expr, Unary};
 use pap_types::NodeKind;
 use scaled_decimal::Dec;
@@ -401,10 +401,12 @@ fn follow_compared(
         sides,
         allowed,
         next,
-    } = *compared;
-    let directions = directions_of(connective, allowed);
-    let can_leave = branch_of(&sides, directions.outward, &variables.ranges).is_some();
-    let onward = branch_of(&sides, directions.onward, &variables.ranges);
+    } = compared;
+    let next = *next;
+    let directions = directions_of(connective, *allowed);
+    let between = signs(sides.left.range, sides.right.range);
+    let can_leave = branch_of(sides, between, directions.outward, &variables.ranges).is_some();
+    let onward = branch_of(sides, between, directions.onward, &variables.ranges);
     match onward {
         None => Ok(Followed {
             is_through: false,

@@ -15,4 +15,4 @@ narrow-requires-2 c n right =
     ∙ c.narrow.ensures
     ∙ ap (λ a. narrowed s.left.variable a rs) c.of-by_right.ensures in
     subst (λ a. CanNarrowAt n a after) (sym (c.of-by_left.ensures ∙ ap (λ e. against s.left.range e s.whole) c.exchanged.ensures))
-    (second_narrows s c.args.allowed rs after c.requires first n right)
+    (second_narrows s c.args.allowed rs after c.requires.can first n right)
