@@ -36,7 +36,6 @@ use Rattle.interval_walk.specs.Shapes.{HasShape}
 use Rattle.interval_walk.proofs.Laws.{leaf_shape, passed_node, shape_bits, wider_left, wider_right, shown_plain, comparison_row_aligned}
 use Rattle.interval_analysis.specs.declared.expressions.Stop.{Stop}
 use Rattle.interval_analysis.specs.declared.expressions.Stop.TheVariants.{At, Memory}
-use Rattle.interval_analysis.specs.declared.branches.Branches.{Branches}
 use Rattle.interval_analysis.specs.declared.comparisons.Compared.{Compared}
 use Rattle.interval_analysis.specs.declared.conditions.Inner.{Inner}
 use Rattle.interval_analysis.specs.declared.conditions.Tested.{Tested}
