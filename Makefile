@@ -1,6 +1,6 @@
 # `make look` runs the program on an example without a proof; `make build` proves and builds build/papcalc, `make demo` runs
 # that on the examples; `make install` puts it and its manual page under PREFIX; `make test` is the whole gate.
-.PHONY: build author look demo install uninstall test rows client-java wrong-bodies decimal-tool bench-decimal bench-machine bench-plan \
+.PHONY: build author look demo install uninstall test answers rows client-java wrong-bodies decimal-tool bench-decimal bench-machine bench-plan \
     refused-memory bench-book bench-worst bench-intervals bench-processes check-java
 
 PREFIX ?= /usr/local
@@ -42,6 +42,10 @@ uninstall:
 
 test:
 	bash .ci/run
+
+# The rows of examples/answers, on the built program.
+answers: build
+	python3 tools/answer_rows.py build/papcalc
 
 # Each piece of memory that the program asks for refused in turn, on small scripts and the other words (needs a C compiler).
 refused-memory: build
