@@ -1,11 +1,8 @@
-//! The tests of the book and of what it is made of: pay runs, the lines of a script, and a book under them.
+//! The tests of what a book is made of: pay runs and the lines of a script. What a book answers to
+//! them stands in `examples/answers`, as rows for the built program.
 #![tactic(auto)]
 
-#[cfg(test)]
-mod books;
 #[cfg(test)]
 mod lines;
 #[cfg(test)]
 mod records;
-#[cfg(test)]
-mod trials;

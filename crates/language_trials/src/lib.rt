@@ -1,25 +1,12 @@
-//! The tests of the language: texts of plans and of range files, what is told of them, and intervals.
+//! The tests of the language: each public call that takes memory, with ample memory. What a whole
+//! flowchart is answered stands in `examples/answers`, as rows for the built program.
 #![tactic(auto)]
 
-#[cfg(test)]
-mod decimals;
 #[cfg(test)]
 mod element_texts;
 #[cfg(test)]
 mod expressions;
 #[cfg(test)]
-mod intervals;
-#[cfg(test)]
-mod kinds;
-#[cfg(test)]
-mod names;
-#[cfg(test)]
-mod orders;
-#[cfg(test)]
 mod range_files;
 #[cfg(test)]
-mod ranges;
-#[cfg(test)]
 mod tokens;
-#[cfg(test)]
-mod verdicts;

@@ -1,14 +1,22 @@
-//! The top call over an outside whose calls fail one after another, or give and take a few bytes at a time.
+//! The top call over an outside whose calls fail one after another, or give and take a few bytes at
+//! a time.
 ghost use Rattle.std.specs.Prelude.{◌≢◌, ◌≤◌, AllPairs, IfOk};
 ghost use Rattle.outside.specs.Memory.{named_files};
 
 use crate::answers::{carried_out, words_of, write_lines};
-use crate::commands::{LIMITS, PLAN};
 use outside::{MemFiles, MemSink, MemSource};
 use pap_cli::Status;
 use std::alloc::{AllocError, Global};
 use std::test::Fail;
 use trial_rows::all_rows;
+
+/// A flowchart with an input N, a default, a test of a divisor and an output.
+const PLAN: &str =
+    "<PAP><INTERFACE><INPUTS><INPUT name='N' type='int'/><INPUT name='D' type='int' default='2'/></INPUTS><OUTPUTS><OUTPUT name='Q' type='int'/></OUTPUTS></INTERFACE><METHODS><MAIN><IF expr='D != 0'><THEN><EVAL exec='Q = N / D'/></THEN></IF></MAIN></METHODS></PAP>\n";
+
+/// The range file of the flowchart.
+const LIMITS: &str =
+    "[input.N]\nlow = 0\nhigh = 10\nplaces = 0\n[input.D]\nlow = 0\nhigh = 5\nplaces = 0\n";
 
 /// A saved book with a run.
 const BOOK: &str = "papbook 1\nwork 0 0\nplans 0\nruns 1\nrun E0 2025-01-31 N=1\nend\n";
@@ -24,7 +32,8 @@ add E1 2025-01 2025-01-31 N=7
 change E1 2025-01 2025-01-31 N=8
 ";
 
-/// The same edits, and then lines that tell what they made. The line `try` names two files once more.
+/// The same edits, and then lines that tell what they made. The line `try` names two files once
+/// more.
 const SCRIPT: &str = "open b
 plan 2025-01-01 a.xml l.toml
 load t.csv
@@ -36,21 +45,25 @@ add E1 2025-01 2025-01-31
 try 2025-02-01 a.xml l.toml
 file 2025-01
 owed
+trace E1 2025-01
+withdraw E1 2025-01
+drop 2025-01-01
 ";
 
 /// Words, and the lines that are written where no call fails.
 const WHOLE: &str =
-    r#"run => ok / accepted steps 10 / ok / ok / ok / work 1 10 / employee,month,day,plan,state,name,value / E0,2025-01,2025-01-31,2025-01-01,ok,Q,0 / E1,2025-01,2025-01-31,2025-01-01,ok,Q,4 / E2,2025-01,2025-01-31,2025-01-01,ok,Q,4 / end / refused edit Present E1 2025-01-31 / accepted steps 10 / would 0 0 / due E1 2025-01-31 Q 4 / due E2 2025-01-31 Q 4 / filed 2 / end
+    r#"run => ok / accepted steps 10 / ok / ok / ok / work 1 10 / employee,month,day,plan,state,name,value / E0,2025-01,2025-01-31,2025-01-01,ok,Q,0 / E1,2025-01,2025-01-31,2025-01-01,ok,Q,4 / E2,2025-01,2025-01-31,2025-01-01,ok,Q,4 / end / refused edit Present E1 2025-01-31 / accepted steps 10 / would 0 0 / due E1 2025-01-31 Q 4 / due E2 2025-01-31 Q 4 / filed 2 / end / test MAIN:0 yes / set MAIN:1 Q 4 / end / ok / ok
 save => papbook 1 / work 1 10 / plans 1 / plan 2025-01-01 260 77 / <PAP><INTERFACE><INPUTS><INPUT name='N' type='int'/><INPUT name='D' type='int' default='2'/></INPUTS><OUTPUTS><OUTPUT name='Q' type='int'/></OUTPUTS></INTERFACE><METHODS><MAIN><IF expr='D != 0'><THEN><EVAL exec='Q = N / D'/></THEN></IF></MAIN></METHODS></PAP> / [input.N] / low = 0 / high = 10 / places = 0 / [input.D] / low = 0 / high = 5 / places = 0 /  / runs 3 / run E0 2025-01-31 N=1 / run E1 2025-01-31 N=8 / run E2 2025-01-31 N=9 / end"#;
 
-/// Words and what disturbs them; then, for each call that fails, until none does, the status and how many lines were written.
+/// Words and what disturbs them; then, for each call that fails, until none does, the status and
+/// how many lines were written.
 const ENDS: &str =
-    r#"run | files => FileFault(0) FileFault(1) FileFault(1) FileFault(2) FileFault(12) FileFault(12) Refused(18)
-run | source => ReadFault(0) ReadFault(3) ReadFault(11) ReadFault(17) ReadFault(18) Refused(18)
-run | sink => WriteFault(0) WriteFault(1) WriteFault(2) WriteFault(3) WriteFault(4) WriteFault(5) WriteFault(6) WriteFault(10) WriteFault(11) WriteFault(12) WriteFault(14) WriteFault(17) Refused(18)
-run | bytes in => Refused(18)
-run | sevens in => Refused(18)
-run | bytes out => Refused(18)
+    r#"run | files => FileFault(0) FileFault(1) FileFault(1) FileFault(2) FileFault(12) FileFault(12) Refused(23)
+run | source => ReadFault(0) ReadFault(3) ReadFault(11) ReadFault(17) ReadFault(23) Refused(23)
+run | sink => WriteFault(0) WriteFault(1) WriteFault(2) WriteFault(3) WriteFault(4) WriteFault(5) WriteFault(6) WriteFault(10) WriteFault(11) WriteFault(12) WriteFault(14) WriteFault(17) WriteFault(18) WriteFault(21) WriteFault(22) Refused(23)
+run | bytes in => Refused(23)
+run | sevens in => Refused(23)
+run | bytes out => Refused(23)
 save | files => FileFault(0) FileFault(0) FileFault(0) FileFault(0) Done(19)
 save | source => ReadFault(0) ReadFault(0) ReadFault(0) Done(19)
 save | sink => WriteFault(0) Done(19)
@@ -129,13 +142,15 @@ fn most_taken(disturbed: &str) -> usize
     }
 }
 
-/// The calls that fail of an object: this one where the object is disturbed, and else none, since calls are counted from 1.
+/// The calls that fail of an object: this one where the object is disturbed, and else none, since
+/// calls are counted from 1.
 fn failing(alloc: Global, is_disturbed: bool, call: u64) -> Result<Vec<u64>, AllocError> {
     let call = if is_disturbed { call } else { 0 };
     Ok(vec![in alloc; call; 1]?)
 }
 
-/// Carries out words over the files, their script and a sink. The call of this number of what is disturbed fails.
+/// Carries out words over the files, their script and a sink. The call of this number of what is
+/// disturbed fails.
 fn end_of(alloc: Global, words: &str, disturbed: &str, call: u64) -> Result<End, Fail> {
     let fails = failing(alloc, disturbed == "files", call)?;
     let mut files = MemFiles::new(four_files(alloc)?, fails);
@@ -155,7 +170,8 @@ fn write_whole(words: &str, text: &mut String) -> Result<(), Fail> {
     write_lines(end.sink.written(), text)
 }
 
-/// Writes an end: the status, and how many lines were written. Fails where what was written is no front of the whole answer.
+/// Writes an end: the status, and how many lines were written. Fails where what was written is no
+/// front of the whole answer.
 fn write_end(end: &End, whole: &[u8], text: &mut String) -> Result<(), Fail> {
     let written = end.sink.written();
     if !whole.starts_with(written) {

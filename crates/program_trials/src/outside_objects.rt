@@ -1,21 +1,11 @@
-//! Real files and streams, and the objects that never fail.
+//! Streams, and the objects that never fail.
 ghost use Rattle.std.specs.Prelude.{◌≡◌, ◌≢◌, AllPairs, IfOk};
 ghost use Rattle.outside.specs.Memory.{named_files};
 
-use outside::{
-    Files, RealFiles, Sink, Source, StdSink, StdSource, SureFiles, SureSink, SureSource, put_all,
-};
+use outside::{Files, Source, StdSink, StdSource, SureFiles, SureSink, SureSource, put_all};
 use std::alloc::{AllocError, Global};
 use std::str::from_utf8;
 use std::test::Fail;
-use trial_rows::all_rows;
-
-/// Names, and what is read of their files by a call for 5,000 bytes, or why not.
-const REAL_FILES: &str = "no such folder/no such file => Failed: there is no such file
-/dev/null/file => Failed: there is no such file
-/ => Failed: it is a folder
-/dev/null => 0 bytes
-/dev/zero => 5000 bytes";
 
 /// Writes how much is read of a file by a call for 5,000 bytes, or the fault.
 fn read_front<F: Files>(files: &mut F, name: &str, text: &mut String) -> Result<(), Fail> {
@@ -24,25 +14,6 @@ fn read_front<F: Files>(files: &mut F, name: &str, text: &mut String) -> Result<
         Err(answer) => write!(text, "{answer:?}")?,
     }
     Ok(())
-}
-
-/// The same of a file of the system, and behind a fault why it isn't read.
-fn read_real(rt: &HostRuntime, name: &str, text: &mut String) -> Result<(), Fail> {
-    let mut files = RealFiles::new(rt);
-    read_front(&mut files, name, text)?;
-    if let Some(file) = files.failed_file() {
-        write!(text, ": {}", file.fault)?;
-    }
-    Ok(())
-}
-
-#[test]
-fn real_files_are_read_or_fail(rt: HostRuntime) -> Result<(), Fail> {
-    all_rows(
-        rt.alloc(),
-        REAL_FILES,
-        |name, text| read_real(&rt, name, text),
-    )
 }
 
 /// Writes what a source gives to so many calls for four bytes.
