@@ -1,8 +1,8 @@
 //! What a row asks, written out.
 use std::test::Fail;
 
-/// Appends what a row asks: its parts, between which ` ~ ` stands, once each. A part that begins with `N x ` is appended N times,
-/// `{n}` being the number of the time. `\n` is the end of a line.
+/// Appends what a row asks: its parts, between which ` ~ ` stands, once each. A part that begins
+/// with `N x ` is appended N times, `{n}` being the number of the time. `\n` is the end of a line.
 pub(crate) fn write_asked(asked: &str, text: &mut String) -> Result<(), Fail> {
     for part in asked.split(" ~ ") {
         write_part(part, text)?;
@@ -50,19 +50,6 @@ fn write_piece(piece: &str, text: &mut String) -> Result<(), Fail> {
         }
         is_first = false;
         text.push_str(line)?;
-    }
-    Ok(())
-}
-
-/// Appends an expression's text as it stands in an attribute.
-pub fn write_attribute(expression: &str, text: &mut String) -> Result<(), Fail> {
-    for c in expression.chars() {
-        match c {
-            '&' => text.push_str("&amp;")?,
-            '<' => text.push_str("&lt;")?,
-            '"' => text.push_str("&quot;")?,
-            c => text.push(c)?,
-        }
     }
     Ok(())
 }

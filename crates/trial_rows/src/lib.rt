@@ -4,5 +4,4 @@
 mod asked;
 mod rows;
 
-pub use asked::write_attribute;
-pub use rows::{all_rows, sides};
+pub use rows::all_rows;

@@ -4,12 +4,12 @@ use std::alloc::Global;
 use std::test::Fail;
 
 /// The two sides of a row.
-pub fn sides(row: &str) -> Result<(&str, &str), Fail> {
+fn sides(row: &str) -> Result<(&str, &str), Fail> {
     Ok(row.split_once(" => ").ok_or("a row")?)
 }
 
-/// Fails at the first row that isn't answered as it says. `answer` takes what is asked, written out as in `write_asked`, and
-/// writes into an empty text.
+/// Fails at the first row that isn't answered as it says. `answer` takes what is asked, written out
+/// as in `write_asked`, and writes into an empty text.
 pub fn all_rows<F: Fn(&str, &mut String) -> Result<(), Fail>>(
     alloc: Global,
     table: &str,
