@@ -12,3 +12,4 @@ mod RunLemmas
 mod AnswerLemmas
 mod ReasonLemmas
 mod GoingOnLemmas
+mod CallLemmas

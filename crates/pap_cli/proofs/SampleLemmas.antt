@@ -5,6 +5,7 @@ use Rattle.outside.specs.Causes.{Rose}
 use Rattle.outside.specs.Told.{Appends, AppendsPrefix}
 use Rattle.outside.proofs.Laws.{Appends-nothing}
 use Rattle.plan_answers.specs.Answers.{Answer}
+use Rattle.script_run.specs.RefusedLines.{tells_one}
 use Rattle.script_run.specs.RunClauses.{IsFinished, IsSpentWithin as IsRunWithin}
 use Rattle.script_run.specs.Samples.{sample_lines, script_of}
 use Rattle.script_run.specs.SampleFiles.{sample_files}
@@ -42,7 +43,7 @@ module _ (employees began steps : ℕ) (first written : Option (List ℕ)) (ende
   whole_text = text_is ∙ ap (λ v. summary_text employees v) is.left
 
   -- its summary was written whole
-  pub leaves_whole : Appends first written text → LeavesOnSample employees (output first began) (output written steps) (done_status ended.refused)
+  pub leaves_whole : Appends first written text → LeavesOnSample employees (output first began) (output written steps) (done_status (tells_one ended.refused_lines))
   leaves_whole appended =
       let cost : steps ≡ began + (is.session).steps = is.cost in
       record {
@@ -50,13 +51,13 @@ module _ (employees began steps : ℕ) (first written : Option (List ℕ)) (ende
         appended = appended;
         counted = omega arith;
         whole = λ done. record { answer = answer_of employees is.session; is = sampled employees is.session is.is; text = whole_text; cost = omega arith; ended = ap (λ r. done_status r) is.mark };
-        cut = λ e. absurd (no_write ended.refused e);
-        memory = λ e. absurd (no_memory ended.refused e);
-        memory_counted = λ e. absurd (no_memory ended.refused e);
-        words_are_good = not_bad ended.refused;
-        reads_no_file = no_file ended.refused;
-        reads_no_script = not_read ended.refused;
-        takes_no_script = not_long ended.refused;
+        cut = λ e. absurd (no_write (tells_one ended.refused_lines) e);
+        memory = λ e. absurd (no_memory (tells_one ended.refused_lines) e);
+        memory_counted = λ e. absurd (no_memory (tells_one ended.refused_lines) e);
+        words_are_good = not_bad (tells_one ended.refused_lines);
+        reads_no_file = no_file (tells_one ended.refused_lines);
+        reads_no_script = not_read (tells_one ended.refused_lines);
+        takes_no_script = not_long (tells_one ended.refused_lines);
       }
 
   -- the sink failed

@@ -8,7 +8,9 @@ use Rattle.outside.proofs.Laws.{Appends-nothing}
 use Rattle.plan_answers.specs.Answers.{Answer, refusal}
 use Rattle.plan_answers.specs.ReplyViews.{reply_of}
 use Rattle.plan_answers.specs.declared.reply.Reply.{Reply}
+use Rattle.script_steps.specs.Steps.{Standing}
 use Rattle.script_run.specs.Limits.{most_script}
+use Rattle.script_run.specs.RefusedLines.{tells_one}
 use Rattle.script_run.specs.RunClauses.{Shown, RunMeets, EndsUnwritten}
 use Rattle.script_run.specs.Transcripts.{Session}
 use Rattle.script_run.specs.declared.turns.Unwritten.{Unwritten}
@@ -33,8 +35,8 @@ use Rattle.pap_cli.proofs.StatusLemmas.{appended_told, no_write, rose_and_still,
 abbrev save_of : (reply : Reply) → ℕ → Answer
 save_of reply steps = record { text = reply.text.items; refused = reply.refused; steps = steps }
 
-same_save : (ended : Unwritten) (session : Session) (reply : Reply) → ended.refused ≡ session.refused → (ended.refusals).items ≡ session.refusals → ended.script ≡ session.standing →
-    IsSave ended.refused (was_filed ended.script) (ended.refusals).items (ended.script).book (written_of reply) →
+same_save : (ended : Unwritten) (session : Session) (reply : Reply) → tells_one ended.refused_lines ≡ session.refused → (ended.refusals).items ≡ session.refusals → ended.script ≡ session.standing →
+    IsSave (tells_one ended.refused_lines) (was_filed ended.script) (ended.refusals).items (ended.script).book (written_of reply) →
     IsSave session.refused (was_filed session.standing) session.refusals (session.standing).book (written_of reply)
 same_save ended session reply p q r h =
     subst (λ v. IsSave session.refused (was_filed v) session.refusals v.book (written_of reply)) r
@@ -50,8 +52,8 @@ pub record IsSavedWith (files : FileMap) (script : List ℕ) (reply : Reply) (sp
   pub cost : spent ≡ answer.steps
 
 pub saved_with : (before after : Outside) {script : List ℕ} (files : FileMap) (ended : Unwritten) (reply : Reply) →
-    RunMeets (unwritten before) (unwritten after) script after.left (Ok ended.refused) → EndsUnwritten files script ended → before.files ≡ Some files →
-    IsSave ended.refused (was_filed ended.script) (ended.refusals).items (ended.script).book (written_of reply) → IsSavedWith files script reply (after.steps - before.steps)
+    RunMeets (unwritten before) (unwritten after) script after.left (Ok (tells_one ended.refused_lines)) → EndsUnwritten files script ended → before.files ≡ Some files →
+    IsSave (tells_one ended.refused_lines) (was_filed ended.script) (ended.refusals).items (ended.script).book (written_of reply) → IsSavedWith files script reply (after.steps - before.steps)
 saved_with before after {script = script} files ended reply meets ends told save =
     let whole = meets.leaves.tells.whole files told in
     let same = one files script whole.session ends.session whole.is ends.is in
@@ -71,14 +73,14 @@ saved_with before after {script = script} files ended reply meets ends told save
     }
 
 module _ (before after : Outside) (ended : Unwritten) (reply : Reply)
-    (meets : ForSome before.left (λ script. RunMeets (unwritten before) (unwritten after) script after.left (Ok ended.refused)))
+    (meets : ForSome before.left (λ script. RunMeets (unwritten before) (unwritten after) script after.left (Ok (tells_one ended.refused_lines))))
     (ends : ForSome before.left (λ script. ForSome before.files (λ files. EndsUnwritten files script ended)))
-    (save : IsSave ended.refused (was_filed ended.script) (ended.refusals).items (ended.script).book (written_of reply))
+    (save : IsSave (tells_one ended.refused_lines) (was_filed ended.script) (ended.refusals).items (ended.script).book (written_of reply))
     (kept : after.failed ≡ before.failed) where
   -- the answer was written whole
   pub leaves_whole : Appends before.written after.written reply.text.items → LeavesOnSave before after (done_status reply.refused)
   leaves_whole appended = record {
-    result = Ok ended.refused;
+    result = Ok (tells_one ended.refused_lines);
     meets = meets;
     out = reply.text.items;
     appended = appended;
@@ -96,7 +98,7 @@ module _ (before after : Outside) (ended : Unwritten) (reply : Reply)
   pub leaves_cut : AppendsPrefix before.written after.written reply.text.items → LeavesOnSave before after WriteFault
   unfolding saved_with
   leaves_cut part = record {
-    result = Ok ended.refused;
+    result = Ok (tells_one ended.refused_lines);
     meets = meets;
     out = take part.count reply.text.items;
     appended = part.appended;
@@ -113,17 +115,18 @@ module _ (before after : Outside) (ended : Unwritten) (reply : Reply)
 -- ---- the book
 
 -- no answer is a refusal, and no month was filed: this is written of the book
-pub saved_book : (ended : Unwritten) (written : Written) → ended.refused ≡ false → was_filed ended.script ≡ false → IsBookWritten (ended.script).book written →
-    IsSave ended.refused (was_filed ended.script) (ended.refusals).items (ended.script).book written
-saved_book ended written p q h =
-    subst (λ r. IsSave r (was_filed ended.script) (ended.refusals).items (ended.script).book written) (sym p)
-    (subst (λ f. IsSave false f (ended.refusals).items (ended.script).book written) (sym q) h)
+pub saved_book : (refused : Bool) (standing : Standing) (refusals : List ℕ) (written : Written) → refused ≡ false → was_filed standing ≡ false →
+    IsBookWritten standing.book written → IsSave refused (was_filed standing) refusals standing.book written
+saved_book refused standing refusals written p q h =
+    subst (λ (r : Bool). IsSave r (was_filed standing) refusals standing.book written) (sym p)
+    (subst (λ (f : Bool). IsSave false f refusals standing.book written) (sym q) h)
 
 -- its text is too long
-pub long_book : (ended : Unwritten) (book : Contents) (reply : Reply) → ended.refused ≡ false → was_filed ended.script ≡ false → book ≡ (ended.script).book → SaveSays book (Err unsaved.Long) →
-    reply_of reply ≡ refusal (codes "book Long") → IsSave ended.refused (was_filed ended.script) (ended.refusals).items (ended.script).book (written_of reply)
-long_book ended book reply p q b says is =
-    saved_book ended (written_of reply) p q (record {
+pub long_book : (refused : Bool) (standing : Standing) (refusals : List ℕ) (book : Contents) (reply : Reply) → refused ≡ false → was_filed standing ≡ false →
+    book ≡ standing.book → SaveSays book (Err unsaved.Long) →
+    reply_of reply ≡ refusal (codes "book Long") → IsSave refused (was_filed standing) refusals standing.book (written_of reply)
+long_book refused standing refusals book reply p q b says is =
+    saved_book refused standing refusals (written_of reply) p q (record {
       verdict = Err unsaved.Long;
       says = subst (λ v. SaveSays v (Err unsaved.Long)) b says;
       is = ap (λ a. record { text = a.text; refused = a.refused }) is;

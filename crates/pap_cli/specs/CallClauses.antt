@@ -1,16 +1,37 @@
 -- What a call leaves, by the form of its words: a form more is a case more.
-use Rattle.std.specs.Prelude.{ℕ, List}
+use Rattle.std.specs.Prelude.{◌≡◌, ◌≢◌, ℕ, List}
+use Rattle.outside.specs.Causes.{Rose}
 use Rattle.pap_cli.specs.declared.status.Status.{Status}
+use Rattle.pap_cli.specs.declared.status.Status.TheVariants.{BadWords, FileFault, NoMemory, ReadFault, WriteFault}
 use Rattle.pap_cli.specs.Statuses.{IsDone}
-use Rattle.pap_cli.specs.Words.{Form, check, once, run, sample, save, HasForm}
+use Rattle.pap_cli.specs.Words.{Form, check, once, run, sample, save, HasForm, IsBad}
 use Rattle.pap_cli.specs.WordViews.{ReadsScript}
 use Rattle.plan_answers.specs.Answers.{CheckAnswers}
 use Rattle.pap_cli.specs.RunAnswers.{OnceAnswers}
-use Rattle.pap_cli.specs.Outside.{Outside, shown_of, output_of}
+use Rattle.pap_cli.specs.Outside.{Objects, Outside, shown_of, output_of}
 use Rattle.pap_cli.specs.FileClauses.{LeavesOnFiles, HeadlineOnFiles}
 use Rattle.pap_cli.specs.ScriptClauses.{LeavesOnScript, HeadlineOnScript}
 use Rattle.pap_cli.specs.SampleClauses.{LeavesOnSample, HeadlineOnSample}
 use Rattle.pap_cli.specs.SaveClauses.{LeavesOnSave, HeadlineOnSave}
+
+-- the status says that the words have no form exactly where they have none, unless memory runs out
+pub record TellsBadWords (words : List (List ℕ)) (status : Status) : Type 0 where
+  pub told : IsBad words → status ≢ NoMemory → status ≡ BadWords
+  pub alone : status ≡ BadWords → IsBad words
+
+-- words without a form touch nothing; words that read no script leave the source, a sample leaves the files, and `check`
+-- the counter, whatever the files hold
+pub record TouchesOnly {F R W : Type 0} (words : List (List ℕ)) (before after : Objects F R W) : Type 0 where
+  pub without_form : IsBad words → after ≡ before
+  pub source_same : (form : Form) → HasForm words form → ¬ (ReadsScript form) → after.source ≡ before.source
+  pub files_same : (employees : ℕ) → HasForm words (sample employees) → after.files ≡ before.files
+  pub steps_same : (plan limits : List ℕ) → HasForm words (check plan limits) → after.steps ≡ before.steps
+
+-- a fault is told only where its object's count rose
+pub record IsCaused (before after : Outside) (status : Status) : Type 0 where
+  pub file : status ≡ FileFault → Rose before.file_faults after.file_faults
+  pub read : status ≡ ReadFault → Rose before.source_faults after.source_faults
+  pub write : status ≡ WriteFault → Rose before.sink_faults after.sink_faults
 
 -- what each status says of the text, of the counter and of the failed name
 abbrev pub Leaves : Form → Outside → Outside → Status → Type 0

@@ -1,6 +1,9 @@
--- What the outside shows at one time, and when nothing of it was touched.
-use Rattle.std.specs.Prelude.{◌≡◌, ℕ, List, Option}
+-- The outside that a call is handed, and what it shows at one time.
+use Rattle.std.specs.Prelude.{ℕ, List, Option}
 use Rattle.outside.specs.Told.{FileMap}
+use Rattle.outside.specs.declared.traits.Files.{Ghosts as FilesTell}
+use Rattle.outside.specs.declared.traits.Sink.{Ghosts as SinkTells}
+use Rattle.outside.specs.declared.traits.Source.{Ghosts as SourceTells}
 use Rattle.script_run.specs.RunClauses.{Shown, shown}
 
 -- the files, the source and the sink with their counts of faults, and the counter of steps; what an object holds is there
@@ -14,6 +17,34 @@ pub record Outside : Type 0 where
   pub written : Option (List ℕ)
   pub sink_faults : ℕ
   pub steps : ℕ
+
+-- the files, the source, the sink and the counter of steps themselves
+pub record Objects (F R W : Type 0) : Type 0 where
+  pub files : F
+  pub source : R
+  pub sink : W
+  pub steps : ℕ
+
+abbrev pub objects : {F R W : Type 0} → F → R → W → ℕ → Objects F R W
+objects files source sink steps = record {
+  files = files;
+  source = source;
+  sink = sink;
+  steps = steps;
+}
+
+-- what they show
+abbrev pub outside_of : {F R W : Type 0} → FilesTell F → SourceTells R → SinkTells W → Objects F R W → Outside
+outside_of of_files of_source of_sink o = record {
+  files = of_files.told o.files;
+  failed = of_files.failed o.files;
+  file_faults = of_files.faults o.files;
+  left = of_source.left o.source;
+  source_faults = of_source.faults o.source;
+  written = of_sink.written o.sink;
+  sink_faults = of_sink.faults o.sink;
+  steps = o.steps;
+}
 
 -- the files, the sink and the counter
 abbrev pub shown_of : Outside → Shown
@@ -29,10 +60,3 @@ output written steps = record { written = written; steps = steps }
 
 abbrev pub output_of : Outside → Output
 output_of o = output o.written o.steps
-
--- nothing outside was called, and nothing was counted
-pub record IsUntouched {F R W : Type 0} (files files' : F) (source source' : R) (sink sink' : W) (steps steps' : ℕ) : Type 0 where
-  pub files_same : files' ≡ files
-  pub source_same : source' ≡ source
-  pub sink_same : sink' ≡ sink
-  pub steps_same : steps' ≡ steps

@@ -1,13 +1,12 @@
 //! The top call.
-ghost use Rattle.std.specs.Prelude.{◌≡◌, ◌≢◌, ℕ, List};
+ghost use Rattle.std.specs.Prelude.{◌≡◌, IfOk, OnErr};
 ghost use Rattle.std.specs.Option.{ForSome};
-ghost use Rattle.outside.specs.Causes.{Rose};
-ghost use Rattle.pap_cli.specs.Words.{texts, Form, HasForm, IsBad, check, sample};
-ghost use Rattle.pap_cli.specs.Outside.{IsUntouched};
-ghost use Rattle.pap_cli.specs.CallClauses.{AnswersScript, Carries};
-ghost use Rattle.pap_cli.specs.WordViews.{ReadsScript};
+ghost use Rattle.pap_cli.specs.Words.{texts, Form, HasForm};
+ghost use Rattle.pap_cli.specs.Outside.{objects, outside_of};
+ghost use Rattle.pap_cli.specs.CallClauses.{AnswersScript, Carries, IsCaused};
+ghost use Rattle.pap_cli.specs.CallClauses.{TellsBadWords, TouchesOnly};
 ghost use Rattle.pap_cli.specs.Statuses.{status_of};
-ghost use Rattle.script_run.specs.RunClauses.{TellsRefused};
+ghost use Rattle.script_run.specs.RunClauses.{TellsRefused, refused_by};
 ghost use Rattle.plan_answers.specs.Laws.{CheckHasOneAnswer};
 ghost use Rattle.pap_cli.specs.Laws.{HaveOneForm, OnceHasOneAnswer};
 ghost use Rattle.pap_cli.specs.Laws.{PrintedAcceptanceHolds, WordsGiveKeptValues};
@@ -38,6 +37,17 @@ fn status(ended: Result<bool, Stop>) -> Status
     }
 }
 
+/// Puts into the list which lines of a script were refused, where it was answered to its end.
+/// `Ok` says whether one was.
+fn tell(ended: Result<RefusedLines, Stop>, refused_lines: &mut RefusedLines) -> Result<bool, Stop>
+    ensures refused { result ≡ refused_by ended (λ told. told) }
+    ensures told { IfOk ended (λ told. refused_lines.new ≡ told) }
+    ensures untold { OnErr ended (refused_lines.new ≡ refused_lines.old) }
+{
+    *refused_lines = ended?;
+    Ok(refused_lines.any())
+}
+
 /// Does all that the program does: carries out the words over the files, the source and the sink, and counts the steps of
 /// runs.
 ///
@@ -56,56 +66,27 @@ pub fn papcalc<F: Files, R: Source, W: Sink, L: Ledger>(
     steps: &mut Steps<L>,
 ) -> Status
     // The words have no form: nothing is called.
-    ensures bad_words { IsBad (texts words.now)
-        → result ≢ Status.NoMemory → result ≡ Status.BadWords }
-    ensures bad_words_alone { result ≡ Status.BadWords → IsBad (texts words.now) }
-    ensures bad_words_untouched { IsBad (texts words.now)
-        → IsUntouched files.old files.new source.old source.new
-        sink.old sink.new steps.old steps.new }
+    ensures bad_words { TellsBadWords (texts words.now) result }
+
+    // What the words don't ask for stays: the source but under `run` and `save`, all files under a
+    // sample, and the counter under `check`. The files are only read.
+    ensures touches { TouchesOnly (texts words.now)
+        (objects files.old source.old sink.old steps.old)
+        (objects files.new source.new sink.new steps.new) }
+    ensures files_same { F.told files.new ≡ F.told files.old }
 
     // A fault only where the object's count rose.
-    ensures file_fault { result ≡ Status.FileFault
-        → Rose (F.faults files.old) (F.faults files.new) }
-    ensures read_fault { result ≡ Status.ReadFault
-        → Rose (R.faults source.old) (R.faults source.new) }
-    ensures write_fault { result ≡ Status.WriteFault
-        → Rose (W.faults sink.old) (W.faults sink.new) }
+    ensures caused { IsCaused
+        (outside_of F.Files R.Source W.Sink (objects files.old source.old sink.old steps.old))
+        (outside_of F.Files R.Source W.Sink (objects files.new source.new sink.new steps.new))
+        result }
 
-    // The files are only read, and by a sample not even that. Only `run` and `save` touch the source.
-    ensures files_same { F.told files.new ≡ F.told files.old }
-    ensures source_same { (form : Form) → HasForm (texts words.now) form
-        → ¬ (ReadsScript form) → source.new ≡ source.old }
-    ensures sample_reads_no_file { (employees : ℕ) → HasForm (texts words.now) (sample employees)
-        → files.new ≡ files.old }
-
-    // `check` runs nothing, whatever the files hold.
-    ensures check_counts_nothing { (plan limits : List ℕ)
-        → HasForm (texts words.now) (check plan limits) → steps.new ≡ steps.old }
-
-    // By the form of the words: what each status says of the text, of the counter, of the source and of the failed name
-    // (`leaves`), and the headline: while memory is there and no outside call fails, what is written is the defined answer or
-    // transcript.
+    // By the form of the words: what each status says of the text, of the counter, of the source
+    // and of the failed name (`leaves`), and the headline: while memory is there and no outside
+    // call fails, what is written is the defined answer or transcript.
     ensures carries { (form : Form) → HasForm (texts words.now) form → Carries form
-        (record {
-          files = F.told files.old;
-          failed = F.failed files.old;
-          file_faults = F.faults files.old;
-          left = R.left source.old;
-          source_faults = R.faults source.old;
-          written = W.written sink.old;
-          sink_faults = W.faults sink.old;
-          steps = steps.old;
-        })
-        (record {
-          files = F.told files.new;
-          failed = F.failed files.new;
-          file_faults = F.faults files.new;
-          left = R.left source.new;
-          source_faults = R.faults source.new;
-          written = W.written sink.new;
-          sink_faults = W.faults sink.new;
-          steps = steps.new;
-        })
+        (outside_of F.Files R.Source W.Sink (objects files.old source.old sink.old steps.old))
+        (outside_of F.Files R.Source W.Sink (objects files.new source.new sink.new steps.new))
         result }
 {
     let mut untold = RefusedLines::new(alloc);
@@ -124,56 +105,27 @@ pub fn papcalc_told<F: Files, R: Source, W: Sink, L: Ledger>(
     steps: &mut Steps<L>,
 ) -> Status
     // The words have no form: nothing is called.
-    ensures bad_words { IsBad (texts words.now)
-        → result ≢ Status.NoMemory → result ≡ Status.BadWords }
-    ensures bad_words_alone { result ≡ Status.BadWords → IsBad (texts words.now) }
-    ensures bad_words_untouched { IsBad (texts words.now)
-        → IsUntouched files.old files.new source.old source.new
-        sink.old sink.new steps.old steps.new }
+    ensures bad_words { TellsBadWords (texts words.now) result }
+
+    // What the words don't ask for stays: the source but under `run` and `save`, all files under a
+    // sample, and the counter under `check`. The files are only read.
+    ensures touches { TouchesOnly (texts words.now)
+        (objects files.old source.old sink.old steps.old)
+        (objects files.new source.new sink.new steps.new) }
+    ensures files_same { F.told files.new ≡ F.told files.old }
 
     // A fault only where the object's count rose.
-    ensures file_fault { result ≡ Status.FileFault
-        → Rose (F.faults files.old) (F.faults files.new) }
-    ensures read_fault { result ≡ Status.ReadFault
-        → Rose (R.faults source.old) (R.faults source.new) }
-    ensures write_fault { result ≡ Status.WriteFault
-        → Rose (W.faults sink.old) (W.faults sink.new) }
+    ensures caused { IsCaused
+        (outside_of F.Files R.Source W.Sink (objects files.old source.old sink.old steps.old))
+        (outside_of F.Files R.Source W.Sink (objects files.new source.new sink.new steps.new))
+        result }
 
-    // The files are only read, and by a sample not even that. Only `run` and `save` touch the source.
-    ensures files_same { F.told files.new ≡ F.told files.old }
-    ensures source_same { (form : Form) → HasForm (texts words.now) form
-        → ¬ (ReadsScript form) → source.new ≡ source.old }
-    ensures sample_reads_no_file { (employees : ℕ) → HasForm (texts words.now) (sample employees)
-        → files.new ≡ files.old }
-
-    // `check` runs nothing, whatever the files hold.
-    ensures check_counts_nothing { (plan limits : List ℕ)
-        → HasForm (texts words.now) (check plan limits) → steps.new ≡ steps.old }
-
-    // By the form of the words: what each status says of the text, of the counter, of the source and of the failed name
-    // (`leaves`), and the headline: while memory is there and no outside call fails, what is written is the defined answer or
-    // transcript.
+    // By the form of the words: what each status says of the text, of the counter, of the source
+    // and of the failed name (`leaves`), and the headline: while memory is there and no outside
+    // call fails, what is written is the defined answer or transcript.
     ensures carries { (form : Form) → HasForm (texts words.now) form → Carries form
-        (record {
-          files = F.told files.old;
-          failed = F.failed files.old;
-          file_faults = F.faults files.old;
-          left = R.left source.old;
-          source_faults = R.faults source.old;
-          written = W.written sink.old;
-          sink_faults = W.faults sink.old;
-          steps = steps.old;
-        })
-        (record {
-          files = F.told files.new;
-          failed = F.failed files.new;
-          file_faults = F.faults files.new;
-          left = R.left source.new;
-          source_faults = R.faults source.new;
-          written = W.written sink.new;
-          sink_faults = W.faults sink.new;
-          steps = steps.new;
-        })
+        (outside_of F.Files R.Source W.Sink (objects files.old source.old sink.old steps.old))
+        (outside_of F.Files R.Source W.Sink (objects files.new source.new sink.new steps.new))
         result }
 
     // Of a script that was answered to its end it is told which of its lines were refused, and of nothing else.
@@ -185,7 +137,9 @@ pub fn papcalc_told<F: Files, R: Source, W: Sink, L: Ledger>(
 {
     match read_words(alloc, words) {
         Ok(Some(Request::Files(request))) => status(answer(alloc, request, files, sink, steps)),
-        Ok(Some(Request::Run)) => { status(run(alloc, files, source, sink, refused_lines, steps)) },
+        Ok(Some(Request::Run)) => {
+            status(tell(run(alloc, files, source, sink, steps), refused_lines))
+        },
         Ok(Some(Request::Sample(employees))) => status(sample(alloc, employees, sink, steps)),
         Ok(Some(Request::Save)) => {
             status(save(alloc, files, source, sink, refused_lines, steps))

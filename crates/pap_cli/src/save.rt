@@ -5,6 +5,7 @@ ghost use Rattle.outside.specs.Causes.{Caused};
 ghost use Rattle.script_run.specs.RunClauses.{TellsRefused};
 ghost use Rattle.pap_cli.specs.GoingOn.{SavedScriptsAreSaved, SavedScriptsGoOn};
 ghost use Rattle.pap_cli.specs.Laws.{ScriptsHaveOneSave};
+ghost use Rattle.pap_cli.specs.Outside.{objects, outside_of};
 ghost use Rattle.pap_cli.specs.SaveAnswers.{IsSave, was_filed};
 ghost use Rattle.pap_cli.specs.SaveClauses.{LeavesOnSave};
 ghost use Rattle.pap_cli.specs.SaveViews.{written_of};
@@ -13,7 +14,8 @@ ghost use Rattle.pap_cli.specs.Statuses.{status_of};
 use book_file::{SaveRefusal, saving_laws, write_book};
 use outside::{Files, Sink, Source, put_all};
 use plan_answers::{Reply, refusal};
-use script_run::{RefusedLines, Stop, Unwritten, run_unwritten};
+use script_run::{RefusedLines, Stop, run_unwritten};
+use script_steps::Script;
 use std::alloc::{AllocError, Global};
 use std::sync::ledger::Ledger;
 use steps::Steps;
@@ -29,26 +31,8 @@ pub(crate) fn save<F: Files, R: Source, W: Sink, L: Ledger>(
     steps: &mut Steps<L>,
 ) -> Result<bool, Stop>
     ensures leaves { LeavesOnSave
-        (record {
-          files = F.told files.old;
-          failed = F.failed files.old;
-          file_faults = F.faults files.old;
-          left = R.left source.old;
-          source_faults = R.faults source.old;
-          written = W.written sink.old;
-          sink_faults = W.faults sink.old;
-          steps = steps.old;
-        })
-        (record {
-          files = F.told files.new;
-          failed = F.failed files.new;
-          file_faults = F.faults files.new;
-          left = R.left source.new;
-          source_faults = R.faults source.new;
-          written = W.written sink.new;
-          sink_faults = W.faults sink.new;
-          steps = steps.new;
-        })
+        (outside_of F.Files R.Source W.Sink (objects files.old source.old sink.old steps.old))
+        (outside_of F.Files R.Source W.Sink (objects files.new source.new sink.new steps.new))
         (status_of result) }
     ensures told { IfOk result (λ refused. ForSome (R.left source.old) (λ script.
         ForSome (F.told files.old) (λ files. TellsRefused files script refused_lines.new))) }
@@ -58,12 +42,12 @@ pub(crate) fn save<F: Files, R: Source, W: Sink, L: Ledger>(
     ensures read { Caused Stop.Read (R.faults source.old) (R.faults source.new) result }
     ensures write { Caused Stop.Write (W.faults sink.old) (W.faults sink.new) result }
 {
-    let mut told = RefusedLines::new(alloc);
-    let ended = run_unwritten(alloc, files, source, &mut told, steps)?;
-    let reply = saved(alloc, ended)?;
+    let ended = run_unwritten(alloc, files, source, steps)?;
+    let refused = ended.refused_lines.any();
+    let reply = saved(alloc, refused, ended.refusals, &ended.script)?;
     match put_all(sink, &reply.text) {
         Ok(()) => {
-            *refused_lines = told;
+            *refused_lines = ended.refused_lines;
             Ok(reply.refused)
         }
         Err(_) => Err(Stop::Write),
@@ -72,21 +56,26 @@ pub(crate) fn save<F: Files, R: Source, W: Sink, L: Ledger>(
 
 /// What is written of a script that was answered to its end: its refusals alone, where it has some; that a month was filed; or the
 /// text of the last book.
-fn saved(alloc: Global, ended: Unwritten) -> Result<Reply, AllocError>
-    ensures { IfOk result (λ reply. IsSave ended.refused (was_filed ended.script)
-        ended.refusals.items ended.script.book (written_of reply)) }
+fn saved(
+    alloc: Global,
+    refused: bool,
+    refusals: Vec<u8>,
+    script: &Script,
+) -> Result<Reply, AllocError>
+    ensures { IfOk result (λ reply. IsSave refused (was_filed script.now)
+        refusals.items script.now.book (written_of reply)) }
 {
-    if ended.refused {
+    if refused {
         return Ok(Reply {
-            text: ended.refusals,
+            text: refusals,
             refused: true,
             steps: 0,
         });
     }
-    if ended.script.ledger().last().is_some() {
+    if script.ledger().last().is_some() {
         return refusal(alloc, b"book Filed");
     }
-    match write_book(alloc, ended.script.book()) {
+    match write_book(alloc, script.book()) {
         Ok(text) => Ok(Reply {
             text,
             refused: false,

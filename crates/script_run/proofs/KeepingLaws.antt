@@ -8,10 +8,10 @@ use Rattle.std.proofs.lemmas.Bool.Decides.{nat_tests}
 use Rattle.std.proofs.lemmas.Grind.{common_steps}
 use Rattle.script_run.specs.Limits.{most_line}
 
-below : (a b : ℕ) → b ≤ a → nat_lt a b ≡ false
+pub below : (a b : ℕ) → b ≤ a → nat_lt a b ≡ false
 below a b le = grind (arith, nat_tests)
 
-above : (a b : ℕ) → a < b → nat_lt a b ≡ true
+pub above : (a b : ℕ) → a < b → nat_lt a b ≡ true
 above a b lt = grind (arith, nat_tests)
 
 is_above : (a b : ℕ) → nat_lt a b ≡ true → a < b

@@ -1,5 +1,6 @@
 pub mod LineLaws
 pub mod KeepingLaws
+pub mod ToldLaws
 pub mod Laws
 pub mod StepLaws
 pub mod TurnLaws

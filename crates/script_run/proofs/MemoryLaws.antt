@@ -1,6 +1,6 @@
 -- Over files that lack none of a script's, a run is stopped by memory alone.
 use Rattle.std.proofs.Common.{◌≡◌, List, [], ◌∷◌, ◌++◌, ℕ, ◌-◌, ◌≤◌, length, Option, refl, sym, ap, ◌∙◌, subst, arith, length-append}
-use Rattle.std.specs.Prelude.{None, Some, IsSome, is_some, false, All, Bool, Vec, Result, Ok, Err, OnErr}
+use Rattle.std.specs.Prelude.{None, Some, IsSome, is_some, false, All, Vec, Result, Ok, Err, OnErr}
 use Rattle.std.specs.declared.alloc.Global.{Global}
 use Rattle.std.proofs.lemmas.List.Elements.{All-head, All-tail}
 use Rattle.outside.specs.Told.{FileMap}
@@ -9,7 +9,7 @@ use Rattle.script_steps.specs.Steps.{Standing, AreThere}
 use Rattle.script_run.specs.Limits.{most_script}
 use Rattle.script_run.specs.Transcripts.{lines_of}
 use Rattle.script_run.specs.RunClauses.{Shown, RunMeets, EndsAt, EndsUnwritten, TellsRefused, IsFinished, IsSpentWithin}
-use Rattle.script_run.specs.RefusedLines.{IsToldOf}
+use Rattle.script_run.specs.RefusedLines.{IsToldOf, tells_one}
 use Rattle.script_run.specs.declared.turns.Ended.{Ended}
 use Rattle.script_run.specs.declared.refused_lines.RefusedLines.{RefusedLines}
 use Rattle.script_run.specs.declared.stop.Stop.TheVariants as stops
@@ -52,7 +52,7 @@ none_kept (Some refusals) e = cc
 
 -- what a whole run leaves
 pub finished : {before after : Shown} {left : Option (List ℕ)} (files : FileMap) (script : List ℕ) (ended : Ended) →
-    RunMeets before after script left (Ok ended.refused) →
+    RunMeets before after script left (Ok (tells_one ended.refused_lines)) →
     EndsAt files script ended.script ended.refusals ended.refused_lines → is_some ended.refusals ≡ false →
     before.files ≡ Some files → IsFinished files script before.steps after.steps ended
 finished {before = before} {after = after} files script ended meets ends unkept told =
@@ -72,17 +72,18 @@ finished {before = before} {after = after} files script ended meets ends unkept 
 
 -- what a whole run has made whose refusals were kept
 pub ends_unwritten : {before after : Shown} {left : Option (List ℕ)} (files : FileMap) (script : List ℕ)
-    (refused : Bool) (standing : Standing) (kept : Vec ℕ Global) {lines : RefusedLines} →
-    RunMeets before after script left (Ok refused) → EndsAt files script standing (Some kept) lines →
+    (lines : RefusedLines) (standing : Standing) (kept : Vec ℕ Global) →
+    RunMeets before after script left (Ok (tells_one lines)) → EndsAt files script standing (Some kept) lines →
     before.files ≡ Some files →
-    EndsUnwritten files script (record { refused = refused; refusals = kept; script = standing })
-ends_unwritten files script refused standing kept meets ends told =
+    EndsUnwritten files script (record { refused_lines = lines; refusals = kept; script = standing })
+ends_unwritten files script lines standing kept meets ends told =
     let whole = meets.leaves.tells.whole files told in
     let same = one files script whole.session ends.session whole.is ends.is in
     record {
       session = ends.session;
       is = ends.is;
       mark = whole.mark ∙ ap (λ v. v.refused) same;
+      told = ends.told_is;
       refusals = ends.refusals;
       left = sym ends.left;
     }

@@ -15,16 +15,17 @@ use Rattle.script_steps.specs.declared.stop.LineStop.TheVariants.{File, Write, M
 use Rattle.script_steps.proofs.Laws as step
 use Rattle.script_run.specs.Transcripts.{Session, refusal_of, lines_of, ended_lines, IsSession, IsTranscript}
 use Rattle.script_run.specs.Stops.{stop_of}
-use Rattle.script_run.specs.RunClauses.{Shown, shown, told_by, IsFrontOf, IsAtLine, Leaves, EndsAt, AreKept}
+use Rattle.script_run.specs.RunClauses.{Shown, shown, told_by, IsFrontOf, IsAtLine, Leaves, EndsAt, AreKept, refused_by}
 use Rattle.script_run.specs.RunViews.{Follow, opening, with_answer, open_line, Holds, IsSameSoFar, IsAtStart, Keeps, IsDelivered, Stands, GoesOn, Breaks, Closes, ClosesAt}
 use Rattle.script_run.specs.declared.stop.Stop.TheVariants as stops
 use Rattle.script_run.specs.declared.reading.Reading.{Reading}
-use Rattle.script_run.specs.RefusedLines.{IsToldOf, Notes, noted}
+use Rattle.script_run.specs.RefusedLines.{IsToldOf, Notes, noted, tells_one}
 use Rattle.script_run.specs.declared.refused_lines.RefusedLines.{RefusedLines}
 use Rattle.script_run.proofs.Laws.{FollowToHalt, Follow-next, Follow-grows, Follow-there, FollowToHalt-rest, FollowToHalt-whole}
 use Rattle.script_run.proofs.Laws.{answered_of, session_of_totals, totals_of_session}
 use Rattle.script_run.proofs.LineLaws.{ended_lines-lf, open_line-lf, ended_lines-other, open_line-other, Begins, lines_of-append, lines_of-parts, last_lines, last_lines-some, last_lines-none}
 use Rattle.script_run.proofs.KeepingLaws.{SaysSame}
+use Rattle.script_run.proofs.ToldLaws.{tells_none, tells_noted, told_more}
 
 -- what is kept of a line is answered as the line
 step_same : (files : FileMap) (from to : Standing) (said line : List ℕ) (answer : Answer) → SaysSame said line →
@@ -67,12 +68,6 @@ kept_more None None answer refusals keeps kept = tt
 kept_more None (Some more) answer refusals keeps kept = absurd keeps
 kept_more (Some few) None answer refusals keeps kept = absurd keeps
 kept_more (Some few) (Some more) answer refusals keeps kept = keeps ∙ ap (λ v. v ++ refusal_of answer) kept
-
--- what is told of the refused lines, with one more answer
-told_more : (answered : ℕ) (lines : List ℕ) (told : RefusedLines) (refused mark : Bool) → refused ≡ mark →
-    IsToldOf answered (noted lines answered refused) told → IsToldOf answered (noted lines answered mark) told
-told_more answered lines told refused mark marked tells =
-    subst (λ (v : Bool). IsToldOf answered (noted lines answered v) told) marked tells
 
 -- what a stop leaves at a line
 pub record BreaksLine (old new : Shown) (from : Standing) (line : List ℕ) (stop : LineStop) : Type 0 where
@@ -140,7 +135,7 @@ stands_first before reading first = record {
   held = record { front = first.line; long = first.long };
   kept = first.refusals;
   told = first.refused_lines;
-  answered = λ files e. session_same refl first.refused (omega arith) first.script;
+  answered = λ files e. session_same refl (tells_none first.refused_lines) (omega arith) first.script;
 }
 
 -- a byte that ends no line
@@ -161,14 +156,14 @@ push_on {old = old} {was = was} {is = is} b other held same = record {
     answered = λ files e.
         subst (λ v. Follow files opening v (record {
           text = stands.out;
-          refused = is.refused;
+          refused = tells_one is.refused_lines;
           refusals = stands.refusals;
           lines = stands.lines;
           refused_lines = stands.refused_lines;
           steps = old.steps - before.steps;
           standing = is.script;
         })) (sym (ended_lines-other bytes b other))
-        (subst (λ v. Follow files opening (ended_lines bytes) v) (session_same refl (sym same.refused) refl
+        (subst (λ v. Follow files opening (ended_lines bytes) v) (session_same refl (ap (λ v. tells_one v) (sym same.refused_lines)) refl
         (sym same.script)) (stands.answered files e));
   };
 }
@@ -199,15 +194,16 @@ pub line_on : {old new : Shown} {was is : Reading} {refused : Bool} → new.file
     ((line : List ℕ) → Holds was line →
     IsDelivered old.files old.written new.written old.steps new.steps was.script is.script was.refusals is.refusals
     (strip_carriage_return line) refused) →
-    Holds is [] → is.refused ≡ (was.refused || refused) → Notes was.refused_lines is.refused_lines refused →
-    GoesOn old new was is (10 ∷ [])
-line_on {old = old} {new = new} {was = was} {is = is} {refused = refused} same_files answers held mark notes = record {
+    Holds is [] → Notes was.refused_lines is.refused_lines refused → GoesOn old new was is (10 ∷ [])
+line_on {old = old} {new = new} {was = was} {is = is} {refused = refused} same_files answers held notes = record {
   on = λ before bytes stands.
       let delivered = answers (open_line bytes) stands.held in
       let answered = delivered.answered in
       let rose : before.steps ≤ old.steps = stands.counted in
       let counted : new.steps ≡ old.steps + (answered.answer).steps = answered.counted in
       let steps : (old.steps - before.steps) + (answered.answer).steps ≡ new.steps - before.steps = omega arith in
+      let told = notes stands.lines stands.refused_lines stands.told in
+      let mark = tells_noted stands.refused_lines (stands.lines + 1) refused stands.told told in
       record {
         out = stands.out ++ (answered.answer).text;
         refusals = stands.refusals ++ refusal_of answered.answer;
@@ -220,12 +216,11 @@ line_on {old = old} {new = new} {was = was} {is = is} {refused = refused} same_f
         held = subst (λ v. Holds is v) (sym (open_line-lf bytes)) held;
         kept = kept_more was.refusals is.refusals answered.answer stands.refusals delivered.kept stands.kept;
         told = told_more (stands.lines + 1) stands.refused_lines is.refused_lines refused (answered.answer).refused
-            answered.marked (notes stands.lines stands.refused_lines stands.told);
+            answered.marked told;
         answered = λ files e.
             subst (λ v. Follow files opening v (record {
               text = stands.out ++ (answered.answer).text;
-              refused =
-                  is.refused;
+              refused = tells_one is.refused_lines;
               refusals = stands.refusals ++ refusal_of answered.answer;
               lines = stands.lines + 1;
               refused_lines = noted stands.refused_lines (stands.lines + 1) (answered.answer).refused;
@@ -233,8 +228,8 @@ line_on {old = old} {new = new} {was = was} {is = is} {refused = refused} same_f
               standing = is.script;
             })) (sym (ended_lines-lf bytes))
             (subst (λ v. Follow files opening (ended_lines bytes ++ strip_carriage_return
-            (open_line bytes) ∷ []) v) (session_same refl (ap (λ v. was.refused || v) (sym answered.marked)
-            ∙ sym mark) steps refl)
+            (open_line bytes) ∷ []) v) (session_same refl (ap (λ v. tells_one was.refused_lines || v)
+            (sym answered.marked) ∙ sym mark) steps refl)
             (Follow-next files opening _ (ended_lines bytes) (strip_carriage_return
             (open_line bytes)) is.script answered.answer (stands.answered files e) (answered.is files (stands.same
             ∙ e))));
@@ -274,7 +269,7 @@ nothing_on {before = before} {old = old} {new = new} {bytes = bytes} {was = was}
   answered = λ files e.
       subst (λ v. Follow files opening (ended_lines bytes) (record {
         text = stands.out;
-        refused = was.refused;
+        refused = tells_one was.refused_lines;
         refusals = stands.refusals;
         lines = stands.lines;
         refused_lines = stands.refused_lines;
@@ -676,7 +671,7 @@ answered_none : {before old : Shown} {script : List ℕ} {was : Reading} → lin
     ForSome before.files (λ files. Follow files opening (lines_of script)
     (record {
       text = stands.out;
-      refused = was.refused;
+      refused = tells_one was.refused_lines;
       refusals = stands.refusals;
       lines = stands.lines;
       refused_lines = stands.refused_lines;
@@ -686,7 +681,7 @@ answered_none : {before old : Shown} {script : List ℕ} {was : Reading} → lin
 answered_none {before = before} {old = old} {was = was} all stands = λ files e.
     let so_far : Session = record {
       text = stands.out;
-      refused = was.refused;
+      refused = tells_one was.refused_lines;
       refusals = stands.refusals;
       lines = stands.lines;
       refused_lines = stands.refused_lines;
@@ -696,10 +691,10 @@ answered_none {before = before} {old = old} {was = was} all stands = λ files e.
     subst (λ v. Follow files opening v so_far) (sym all) (stands.answered files e)
 
 pub closes_none : {old : Shown} {was : Reading} → ((line : List ℕ) → Holds was line → length line ≡ 0) →
-    Closes old old was (Ok was.refused)
+    Closes old old was (Ok (tells_one was.refused_lines))
 closes_none {was = was} none = record {
   on = λ before script stands.
-      leaves_whole stands.out stands.appended stands.counted was.script was.refused stands.refusals stands.lines
+      leaves_whole stands.out stands.appended stands.counted was.script (tells_one was.refused_lines) stands.refusals stands.lines
       stands.refused_lines (answered_none
       (no_last script none stands.held) stands);
 }
@@ -720,7 +715,7 @@ answered_on : {before old : Shown} (new : Shown) {script : List ℕ} {was : Read
     ForSome before.files (λ files. Follow files opening (lines_of script)
     (record {
       text = stands.out ++ (answered.answer).text;
-      refused = was.refused || refused;
+      refused = tells_one was.refused_lines || refused;
       refusals = stands.refusals ++ refusal_of answered.answer;
       lines = stands.lines + 1;
       refused_lines = noted stands.refused_lines (stands.lines + 1) (answered.answer).refused;
@@ -735,7 +730,7 @@ answered_on {before = before} {old = old} new {script = script} {was = was} {to 
     let steps : (old.steps - before.steps) + (answered.answer).steps ≡ new.steps - before.steps = omega arith in
     let at_last : Session = record {
       text = stands.out ++ (answered.answer).text;
-      refused = was.refused || refused;
+      refused = tells_one was.refused_lines || refused;
       refusals = stands.refusals ++ refusal_of answered.answer;
       lines = stands.lines + 1;
       refused_lines = noted stands.refused_lines (stands.lines + 1) (answered.answer).refused;
@@ -744,26 +739,30 @@ answered_on {before = before} {old = old} new {script = script} {was = was} {to 
     } in
     subst (λ v. Follow files opening v at_last) (sym all)
     (subst (λ v. Follow files opening (ended_lines script ++ line ∷ []) v) (session_same refl (ap
-    (λ v. was.refused || v) (sym answered.marked)) steps refl)
+    (λ v. tells_one was.refused_lines || v) (sym answered.marked)) steps refl)
     (Follow-next files opening _ (ended_lines script) line to answered.answer (stands.answered files e)
     (answered.is files (stands.same ∙ e))))
 
 pub closes_on : {old new : Shown} {was : Reading} {to : Standing} {kept : Option
-    (Vec ℕ Global)} {refused : Bool} → ((line : List ℕ) →
+    (Vec ℕ Global)} {refused : Bool} {told : RefusedLines} → ((line : List ℕ) →
     Holds was line → 0 < length line) →
     ((line : List ℕ) → Holds was line →
     IsDelivered old.files old.written new.written old.steps new.steps was.script to was.refusals kept line refused) →
-    Closes old new was (Ok (was.refused || refused))
-closes_on {old = old} {new = new} {was = was} {to = to} {refused = refused} some answers = record {
+    Notes was.refused_lines told refused → Closes old new was (Ok (tells_one told))
+closes_on {old = old} {new = new} {was = was} {to = to} {refused = refused} {told = told} some answers notes = record {
   on = λ before script stands.
+      let mark = tells_noted stands.refused_lines (stands.lines + 1) refused stands.told
+      (notes stands.lines stands.refused_lines stands.told) in
       let answered = (answers (open_line script) stands.held).answered in
       let rose : before.steps ≤ old.steps = stands.counted in
       let counted : new.steps ≡ old.steps + (answered.answer).steps = answered.counted in
-      leaves_whole (stands.out ++ (answered.answer).text)
+      subst (λ (v : Bool). Leaves 0 before new script script [] (Ok v)) (sym mark)
+      (leaves_whole (stands.out ++ (answered.answer).text)
       (Appends-then before.written old.written new.written stands.out
       (answered.answer).text stands.appended answered.appended) (omega arith)
-      to (was.refused || refused) (stands.refusals ++ refusal_of answered.answer) (stands.lines + 1)
-      (noted stands.refused_lines (stands.lines + 1) (answered.answer).refused) (answered_on new (one_last script some stands.held) answered stands);
+      to (tells_one was.refused_lines || refused) (stands.refusals ++ refusal_of answered.answer) (stands.lines + 1)
+      (noted stands.refused_lines (stands.lines + 1) (answered.answer).refused)
+      (answered_on new (one_last script some stands.held) answered stands));
 }
 
 pub stays_on : {old : Shown} (new : Shown) {was : Reading} {to : Standing} {kept : Option
@@ -805,6 +804,8 @@ closes_broken same some stop broken = record {
       (broken (open_line script) stands.held) stands;
 }
 
-pub closes_at : {old new : Shown} {was : Reading} {result : Result Bool LineStop} (same : Result Bool LineStop) →
-    same ≡ result → Closes old new was result → Closes old new was same
-closes_at {old = old} {new = new} {was = was} same is closes = subst (λ v. Closes old new was v) (sym is) closes
+-- the same stop, where a `?` passes it on
+pub closes_at : {old new : Shown} {was : Reading} {T : Type 0} (result : Result T LineStop) (told_in : T → RefusedLines)
+    (stop : LineStop) → result ≡ Err stop → Closes old new was (Err stop) → Closes old new was (refused_by result told_in)
+closes_at {old = old} {new = new} {was = was} result told_in stop is closes =
+    subst (λ v. Closes old new was (refused_by v told_in)) (sym is) closes

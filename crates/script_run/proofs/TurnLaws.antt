@@ -13,7 +13,7 @@ use Rattle.script_steps.specs.declared.stop.LineStop.{LineStop}
 use Rattle.script_run.specs.Limits.{most_script, most_turn}
 use Rattle.script_run.specs.Transcripts.{Session, ended_lines, lines_of, AreAnswered}
 use Rattle.script_run.specs.Stops.{stop_of}
-use Rattle.script_run.specs.RunClauses.{Shown, shown, told_by, IsExactly, Leaves, RunMeets, EndsAt}
+use Rattle.script_run.specs.RunClauses.{Shown, shown, told_by, IsExactly, Leaves, RunMeets, EndsAt, refused_by}
 use Rattle.script_run.specs.RunViews.{IsAtStart, Stands, GoesOn, Breaks, Closes, ClosesAt, Stood, TakesAll, run_result}
 use Rattle.script_run.specs.declared.stop.Stop.{Stop}
 use Rattle.script_run.specs.declared.stop.Stop.TheVariants as stops
@@ -69,20 +69,20 @@ begins_at taken rest script split = subst (λ v. Begins (ended_lines taken) (lin
 
 -- memory ran out before anything was done
 pub meets_nothing : (before : Shown) (left : Option (List ℕ)) (script : List ℕ) → left ≡ Some script →
-    (result : Result Bool Stop) → result ≡ Err stops.Memory → RunMeets before before script left result
-meets_nothing before left script is result result_is = record {
+    RunMeets before before script left (Err stops.Memory)
+meets_nothing before left script is = record {
   taken = [];
   rest = script;
   split = refl;
   left_rest = is;
   within = λ not_long. omega arith;
-  leaves = subst (λ v. Leaves most_turn before before script [] script v) (sym result_is) (record {
+  leaves = record {
     out = [];
     appended = Appends-nothing before.written;
     counted = omega arith;
     front = λ files e whole transcript. record { later = whole.text; text = refl; cost = omega arith };
     tells = tt;
-  });
+  };
 }
 
 -- the source failed
@@ -264,12 +264,12 @@ meets_at {before = before} {now = now} {script = script} {left = left} {found = 
     let same : found ≡ stop = cc in
     subst (λ v. RunMeets before now script left (Err v)) same meets
 
--- a stop before the end
-pub meets_stop : {before now : Shown} {l0 l' : Option (List ℕ)} {stop : Stop} → ((script : List ℕ) →
-    l0 ≡ Some script → RunMeets before now script l' (Err stop)) → (script : List ℕ) → l0 ≡ Some script →
-    (result : Result Bool Stop) → result ≡ Err stop → RunMeets before now script l' result
-meets_stop {before = before} {now = now} {l' = l'} meets script is result result_is =
-    subst (λ v. RunMeets before now script l' v) (sym result_is) (meets script is)
+-- a stop before the end, where a `?` passes it on
+pub meets_err : {before now : Shown} {script : List ℕ} {left : Option (List ℕ)} {T : Type 0} {stop : Stop}
+    (result : Result T Stop) (told_in : T → RefusedLines) → result ≡ Err stop →
+    RunMeets before now script left (Err stop) → RunMeets before now script left (refused_by result told_in)
+meets_err {before = before} {now = now} {script = script} {left = left} result told_in is meets =
+    subst (λ v. RunMeets before now script left (refused_by v told_in)) (sym is) meets
 
 -- ---- what is shown of the sink
 

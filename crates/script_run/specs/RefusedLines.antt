@@ -19,6 +19,10 @@ pub record IsToldOf (answered : ℕ) (refused : List ℕ) (told : RefusedLines) 
   pub count_is : told.count ≡ told_number (length refused)
   pub first_are : map (λ line. line.number) told.first.items ≡ map told_number (take most_told refused)
 
+-- it is told that a line was refused
+abbrev pub tells_one : RefusedLines → Bool
+tells_one told = nat_lt 0 told.count
+
 -- the numbers of the refused lines, with that of one more line where it is refused
 abbrev pub noted : List ℕ → ℕ → Bool → List ℕ
 noted refused number is_refused = refused ++ (if is_refused then number ∷ [] else [])

@@ -3,6 +3,8 @@ use Rattle.std.specs.Prelude.{◌≡◌, ◌≢◌, ◌⊎◌, ℕ, ◌+◌, ◌
 use Rattle.std.specs.declared.alloc.Global.{Global}
 use Rattle.std.specs.Option.{ForSome}
 use Rattle.outside.specs.Told.{FileMap, Appends}
+use Rattle.outside.specs.declared.traits.Files.{Ghosts as FilesTell}
+use Rattle.outside.specs.declared.traits.Sink.{Ghosts as SinkTells}
 use Rattle.script_steps.specs.Steps.{Standing, Answer, Names, AreThere, IsStep}
 use Rattle.script_steps.specs.LineSteps.{IsNextFile}
 use Rattle.script_run.specs.Limits.{most_script, most_turn}
@@ -10,7 +12,7 @@ use Rattle.script_run.specs.Transcripts.{Session, lines_of, ended_lines, AreAnsw
 use Rattle.script_run.specs.declared.turns.Ended.{Ended}
 use Rattle.script_run.specs.declared.turns.Unwritten.{Unwritten}
 use Rattle.script_run.specs.declared.stop.Stop.{Stop}
-use Rattle.script_run.specs.RefusedLines.{IsToldOf}
+use Rattle.script_run.specs.RefusedLines.{IsToldOf, tells_one}
 use Rattle.script_run.specs.declared.refused_lines.RefusedLines.{RefusedLines}
 use Rattle.script_run.specs.declared.stop.Stop.TheVariants as stops
 
@@ -29,9 +31,17 @@ shown files failed written steps = record {
   steps = steps;
 }
 
+-- what files, a sink and a counter show
+abbrev pub shown_by : {F W : Type 0} → FilesTell F → SinkTells W → F → W → ℕ → Shown
+shown_by of_files of_sink files sink steps =
+    shown (of_files.told files) (of_files.failed files) (of_sink.written sink) steps
+
 -- what is shown of a sink: nothing, where answers are kept and not written
 abbrev pub told_by : Option (Vec ℕ Global) → Option (List ℕ) → Option (List ℕ)
 told_by kept written = if is_some kept then None else written
+
+abbrev pub unless_kept : Option (Vec ℕ Global) → Shown → Shown
+unless_kept kept s = shown s.files s.failed (told_by kept s.written) s.steps
 
 -- where refusals are kept, they are these
 abbrev pub AreKept : Option (Vec ℕ Global) → List ℕ → Type 0
@@ -189,20 +199,17 @@ pub record TellsRefused (files : FileMap) (script : List ℕ) (told : RefusedLin
   pub is : IsTranscript files script session
   pub told_is : IsToldOf session.lines session.refused_lines told
 
--- whether an answer was a refusal, or the stop
-abbrev pub refused_of : Result Ended Stop → Result Bool Stop
-refused_of (Ok ended) = Ok ended.refused
-refused_of (Err stop) = Err stop
-
-abbrev pub unwritten_refused : Result Unwritten Stop → Result Bool Stop
-unwritten_refused (Ok ended) = Ok ended.refused
-unwritten_refused (Err stop) = Err stop
+-- whether a line was refused, by what the value of a result tells; or its error
+abbrev pub refused_by : {T E : Type 0} → Result T E → (T → RefusedLines) → Result Bool E
+refused_by (Ok value) told_in = Ok (tells_one (told_in value))
+refused_by (Err error) told_in = Err error
 
 -- the lines of a script whose answers weren't written have made this at last
 pub record EndsUnwritten (files : FileMap) (script : List ℕ) (ended : Unwritten) : Type 0 where
   pub session : Session
   pub is : IsTranscript files script session
-  pub mark : ended.refused ≡ session.refused
+  pub mark : tells_one ended.refused_lines ≡ session.refused
+  pub told : IsToldOf session.lines session.refused_lines ended.refused_lines
   pub refusals : (ended.refusals).items ≡ session.refusals
   pub left : ended.script ≡ session.standing
 
@@ -211,7 +218,7 @@ pub record IsFinished (files : FileMap) (script : List ℕ) (began steps : ℕ)
     (ended : Ended) : Type 0 where
   pub session : Session
   pub is : IsTranscript files script session
-  pub mark : ended.refused ≡ session.refused
+  pub mark : tells_one ended.refused_lines ≡ session.refused
   pub told : IsToldOf session.lines session.refused_lines ended.refused_lines
   pub unkept : ended.refusals ≡ None
   pub cost : steps ≡ began + session.steps

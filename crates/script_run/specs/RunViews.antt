@@ -15,7 +15,7 @@ use Rattle.script_run.specs.Transcripts.{Session, ended_lines, refusal_of}
 use Rattle.script_run.specs.RunClauses.{Shown, Leaves, EndsAt, AreKept}
 use Rattle.script_run.specs.declared.stop.Stop.{Stop}
 use Rattle.script_run.specs.declared.reading.Reading.{Reading}
-use Rattle.script_run.specs.RefusedLines.{IsToldOf, noted}
+use Rattle.script_run.specs.RefusedLines.{IsToldOf, noted, tells_one}
 use Rattle.script_run.specs.declared.refused_lines.RefusedLines.{RefusedLines}
 
 -- ---- the lines so far, as running totals
@@ -73,7 +73,6 @@ pub record Holds (reading : Reading) (line : List ℕ) : Type 0 where
 pub record IsSameSoFar (was is : Reading) : Type 0 where
   pub refused_lines : is.refused_lines ≡ was.refused_lines
   pub script : is.script ≡ was.script
-  pub refused : is.refused ≡ was.refused
   pub refusals : is.refusals ≡ was.refusals
 
 -- where refusals are kept, the answer was put to them where it is one
@@ -104,7 +103,7 @@ pub record Stands (before now : Shown) (bytes : List ℕ) (reading : Reading) : 
   pub answered : ForSome before.files (λ files. Follow files opening (ended_lines bytes)
       (record {
         text = out;
-        refused = reading.refused;
+        refused = tells_one reading.refused_lines;
         refusals = refusals;
         lines = lines;
         refused_lines = refused_lines;
@@ -152,7 +151,6 @@ pub record IsAtStart (reading : Reading) : Type 0 where
   pub line : reading.line.items ≡ []
   pub long : reading.long ≡ false
   pub script : reading.script ≡ start
-  pub refused : reading.refused ≡ false
   pub refusals : AreKept reading.refusals []
   pub refused_lines : IsToldOf 0 [] reading.refused_lines
 

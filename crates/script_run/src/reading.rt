@@ -5,8 +5,9 @@ ghost use Rattle.std.specs.Result.{ForErr};
 ghost use Rattle.std.specs.Str.Lines.{strip_carriage_return};
 ghost use Rattle.outside.specs.Causes.{Caused};
 ghost use Rattle.script_steps.specs.Steps.{start};
-ghost use Rattle.script_run.specs.RunClauses.{AreKept, shown, told_by};
-ghost use Rattle.script_run.specs.RunViews.{Holds, IsSameSoFar, IsAtStart, GoesOn, Breaks, Closes, ClosesAt};
+ghost use Rattle.script_run.specs.RunClauses.{AreKept, refused_by, shown_by, unless_kept};
+ghost use Rattle.script_run.specs.RunViews.{Holds, IsSameSoFar, IsAtStart};
+ghost use Rattle.script_run.specs.RunViews.{GoesOn, Breaks, Closes, ClosesAt};
 
 use crate::deliver::deliver;
 use crate::refused_lines::RefusedLines;
@@ -26,8 +27,6 @@ pub(crate) struct Reading {
     pub(crate) long: bool,
     /// What the lines before it have made.
     pub(crate) script: Script,
-    /// Whether an answer was a refusal.
-    pub(crate) refused: bool,
     /// Which lines were refused.
     pub(crate) refused_lines: RefusedLines,
     /// The answers that were refusals, where they are kept and no answer is written.
@@ -45,10 +44,157 @@ impl Reading {
             line: Vec::new(alloc),
             long: false,
             script: Script::new(alloc),
-            refused: false,
             refused_lines: RefusedLines::new(alloc),
             refusals,
         }
+    }
+
+    /// One more byte of the line that is being read.
+    fn push(&mut self, byte: u8) -> Result<(), AllocError>
+        ensures ok { OnOk result ((line : List ℕ) → Holds self.old line
+            → Holds self.new (line ++ byte ∷ [])) }
+        ensures same { IsSameSoFar self.old self.new }
+    {
+        if self.line.len() <= MOST_LINE {
+            self.line.push(byte)?;
+        } else {
+            self.long = true;
+        }
+        Ok(())
+    }
+
+    /// Answers the line that an LF ends. The next line begins.
+    fn end_line<F: Files, W: Sink, L: Ledger>(
+        &mut self,
+        alloc: Global,
+        files: &mut F,
+        sink: &mut W,
+        steps: &mut Steps<L>,
+    ) -> Result<(), LineStop>
+        ensures ok { OnOk result (GoesOn
+            (unless_kept self.old.refusals (shown_by F.Files W.Sink files.old sink.old steps.old))
+            (unless_kept self.new.refusals (shown_by F.Files W.Sink files.new sink.new steps.new))
+            self.old self.new (10 ∷ [])) }
+        ensures err { ForErr result (λ stop. Breaks
+            (unless_kept self.old.refusals (shown_by F.Files W.Sink files.old sink.old steps.old))
+            (unless_kept self.new.refusals (shown_by F.Files W.Sink files.new sink.new steps.new))
+            self.old (10 ∷ []) stop) }
+        ensures mode { is_some self.new.refusals ≡ is_some self.old.refusals }
+        ensures same { F.told files.new ≡ F.told files.old }
+        ensures kept { result ≢ Err LineStop.File → F.failed files.new ≡ F.failed files.old }
+        ensures file { Caused LineStop.File (F.faults files.old) (F.faults files.new) result }
+        ensures write { Caused LineStop.Write (W.faults sink.old) (W.faults sink.new) result }
+    {
+        let line = ended(&self.line, self.long);
+        let wrong = deliver(
+            alloc,
+            &mut self.refusals,
+            &mut self.script,
+            line,
+            files,
+            sink,
+            steps,
+        )?;
+        self.refused_lines.note(wrong)?;
+        self.line.clear();
+        self.long = false;
+        Ok(())
+    }
+
+    /// Takes one more byte of the script, and answers the line that it ends.
+    fn take_byte<F: Files, W: Sink, L: Ledger>(
+        &mut self,
+        alloc: Global,
+        byte: u8,
+        files: &mut F,
+        sink: &mut W,
+        steps: &mut Steps<L>,
+    ) -> Result<(), LineStop>
+        ensures ok { OnOk result (GoesOn
+            (unless_kept self.old.refusals (shown_by F.Files W.Sink files.old sink.old steps.old))
+            (unless_kept self.new.refusals (shown_by F.Files W.Sink files.new sink.new steps.new))
+            self.old self.new (byte ∷ [])) }
+        ensures err { ForErr result (λ stop. Breaks
+            (unless_kept self.old.refusals (shown_by F.Files W.Sink files.old sink.old steps.old))
+            (unless_kept self.new.refusals (shown_by F.Files W.Sink files.new sink.new steps.new))
+            self.old (byte ∷ []) stop) }
+        ensures mode { is_some self.new.refusals ≡ is_some self.old.refusals }
+        ensures same { F.told files.new ≡ F.told files.old }
+        ensures kept { result ≢ Err LineStop.File → F.failed files.new ≡ F.failed files.old }
+        ensures file { Caused LineStop.File (F.faults files.old) (F.faults files.new) result }
+        ensures write { Caused LineStop.Write (W.faults sink.old) (W.faults sink.new) result }
+    {
+        if byte == b'\n' {
+            return self.end_line(alloc, files, sink, steps);
+        }
+        self.push(byte)?;
+        Ok(())
+    }
+
+    /// Takes these bytes of the script, and answers the lines that end in them.
+    pub(crate) fn feed<F: Files, W: Sink, L: Ledger>(
+        &mut self,
+        alloc: Global,
+        piece: &[u8],
+        files: &mut F,
+        sink: &mut W,
+        steps: &mut Steps<L>,
+    ) -> Result<(), LineStop>
+        ensures ok { OnOk result (GoesOn
+            (unless_kept self.old.refusals (shown_by F.Files W.Sink files.old sink.old steps.old))
+            (unless_kept self.new.refusals (shown_by F.Files W.Sink files.new sink.new steps.new))
+            self.old self.new piece.now) }
+        ensures err { ForErr result (λ stop. Breaks
+            (unless_kept self.old.refusals (shown_by F.Files W.Sink files.old sink.old steps.old))
+            (unless_kept self.new.refusals (shown_by F.Files W.Sink files.new sink.new steps.new))
+            self.old piece.now stop) }
+        ensures mode { is_some self.new.refusals ≡ is_some self.old.refusals }
+        ensures same { F.told files.new ≡ F.told files.old }
+        ensures kept { result ≢ Err LineStop.File → F.failed files.new ≡ F.failed files.old }
+        ensures file { Caused LineStop.File (F.faults files.old) (F.faults files.new) result }
+        ensures write { Caused LineStop.Write (W.faults sink.old) (W.faults sink.new) result }
+    {
+        for byte in piece {
+            self.take_byte(alloc, *byte, files, sink, steps)?;
+        }
+        Ok(())
+    }
+
+    /// Answers a last line that no LF ends.
+    pub(crate) fn last_line<F: Files, W: Sink, L: Ledger>(
+        &mut self,
+        alloc: Global,
+        files: &mut F,
+        sink: &mut W,
+        steps: &mut Steps<L>,
+    ) -> Result<(), LineStop>
+        ensures closes { Closes
+            (unless_kept self.old.refusals (shown_by F.Files W.Sink files.old sink.old steps.old))
+            (unless_kept self.new.refusals (shown_by F.Files W.Sink files.new sink.new steps.new))
+            self.old (refused_by result (λ _. self.new.refused_lines)) }
+        ensures standing { OnOk result (ClosesAt
+            (unless_kept self.old.refusals (shown_by F.Files W.Sink files.old sink.old steps.old))
+            self.old self.new.script self.new.refusals self.new.refused_lines) }
+        ensures mode { is_some self.new.refusals ≡ is_some self.old.refusals }
+        ensures same { F.told files.new ≡ F.told files.old }
+        ensures kept { result ≢ Err LineStop.File → F.failed files.new ≡ F.failed files.old }
+        ensures file { Caused LineStop.File (F.faults files.old) (F.faults files.new) result }
+        ensures write { Caused LineStop.Write (W.faults sink.old) (W.faults sink.new) result }
+    {
+        if self.line.is_empty() {
+            return Ok(());
+        }
+        let wrong = deliver(
+            alloc,
+            &mut self.refusals,
+            &mut self.script,
+            &self.line,
+            files,
+            sink,
+            steps,
+        )?;
+        self.refused_lines.note(wrong)?;
+        Ok(())
     }
 }
 
@@ -70,154 +216,4 @@ fn ended(kept: &[u8], long: bool) -> &[u8]
         return kept;
     }
     without_cr(kept)
-}
-
-/// One more byte of the line that is being read.
-fn push(reading: &mut Reading, byte: u8) -> Result<(), AllocError>
-    ensures ok { OnOk result ((line : List ℕ) → Holds reading.old line
-        → Holds reading.new (line ++ byte ∷ [])) }
-    ensures same { IsSameSoFar reading.old reading.new }
-{
-    if reading.line.len() <= MOST_LINE {
-        reading.line.push(byte)?;
-    } else {
-        reading.long = true;
-    }
-    Ok(())
-}
-
-/// Answers the line that an LF ends. The next line begins.
-fn end_line<F: Files, W: Sink, L: Ledger>(
-    alloc: Global,
-    reading: &mut Reading,
-    files: &mut F,
-    sink: &mut W,
-    steps: &mut Steps<L>,
-) -> Result<(), LineStop>
-    ensures ok { OnOk result (GoesOn
-        (shown (F.told files.old) (F.failed files.old) (told_by reading.old.refusals (W.written sink.old)) steps.old)
-        (shown (F.told files.new) (F.failed files.new) (told_by reading.new.refusals (W.written sink.new)) steps.new)
-        reading.old reading.new (10 ∷ [])) }
-    ensures err { ForErr result (λ stop. Breaks
-        (shown (F.told files.old) (F.failed files.old) (told_by reading.old.refusals (W.written sink.old)) steps.old)
-        (shown (F.told files.new) (F.failed files.new) (told_by reading.new.refusals (W.written sink.new)) steps.new)
-        reading.old (10 ∷ []) stop) }
-    ensures mode { is_some reading.new.refusals ≡ is_some reading.old.refusals }
-    ensures same { F.told files.new ≡ F.told files.old }
-    ensures kept { result ≢ Err LineStop.File → F.failed files.new ≡ F.failed files.old }
-    ensures file { Caused LineStop.File (F.faults files.old) (F.faults files.new) result }
-    ensures write { Caused LineStop.Write (W.faults sink.old) (W.faults sink.new) result }
-{
-    let line = ended(&reading.line, reading.long);
-    let wrong = deliver(
-        alloc,
-        &mut reading.refusals,
-        &mut reading.script,
-        line,
-        files,
-        sink,
-        steps,
-    )?;
-    reading.refused |= wrong.is_some();
-    reading.refused_lines.note(wrong)?;
-    reading.line.clear();
-    reading.long = false;
-    Ok(())
-}
-
-/// Takes one more byte of the script, and answers the line that it ends.
-fn take_byte<F: Files, W: Sink, L: Ledger>(
-    alloc: Global,
-    reading: &mut Reading,
-    byte: u8,
-    files: &mut F,
-    sink: &mut W,
-    steps: &mut Steps<L>,
-) -> Result<(), LineStop>
-    ensures ok { OnOk result (GoesOn
-        (shown (F.told files.old) (F.failed files.old) (told_by reading.old.refusals (W.written sink.old)) steps.old)
-        (shown (F.told files.new) (F.failed files.new) (told_by reading.new.refusals (W.written sink.new)) steps.new)
-        reading.old reading.new (byte ∷ [])) }
-    ensures err { ForErr result (λ stop. Breaks
-        (shown (F.told files.old) (F.failed files.old) (told_by reading.old.refusals (W.written sink.old)) steps.old)
-        (shown (F.told files.new) (F.failed files.new) (told_by reading.new.refusals (W.written sink.new)) steps.new)
-        reading.old (byte ∷ []) stop) }
-    ensures mode { is_some reading.new.refusals ≡ is_some reading.old.refusals }
-    ensures same { F.told files.new ≡ F.told files.old }
-    ensures kept { result ≢ Err LineStop.File → F.failed files.new ≡ F.failed files.old }
-    ensures file { Caused LineStop.File (F.faults files.old) (F.faults files.new) result }
-    ensures write { Caused LineStop.Write (W.faults sink.old) (W.faults sink.new) result }
-{
-    if byte == b'\n' {
-        return end_line(alloc, reading, files, sink, steps);
-    }
-    push(reading, byte)?;
-    Ok(())
-}
-
-/// Takes these bytes of the script, and answers the lines that end in them.
-pub(crate) fn feed<F: Files, W: Sink, L: Ledger>(
-    alloc: Global,
-    reading: &mut Reading,
-    piece: &[u8],
-    files: &mut F,
-    sink: &mut W,
-    steps: &mut Steps<L>,
-) -> Result<(), LineStop>
-    ensures ok { OnOk result (GoesOn
-        (shown (F.told files.old) (F.failed files.old) (told_by reading.old.refusals (W.written sink.old)) steps.old)
-        (shown (F.told files.new) (F.failed files.new) (told_by reading.new.refusals (W.written sink.new)) steps.new)
-        reading.old reading.new piece.now) }
-    ensures err { ForErr result (λ stop. Breaks
-        (shown (F.told files.old) (F.failed files.old) (told_by reading.old.refusals (W.written sink.old)) steps.old)
-        (shown (F.told files.new) (F.failed files.new) (told_by reading.new.refusals (W.written sink.new)) steps.new)
-        reading.old piece.now stop) }
-    ensures mode { is_some reading.new.refusals ≡ is_some reading.old.refusals }
-    ensures same { F.told files.new ≡ F.told files.old }
-    ensures kept { result ≢ Err LineStop.File → F.failed files.new ≡ F.failed files.old }
-    ensures file { Caused LineStop.File (F.faults files.old) (F.faults files.new) result }
-    ensures write { Caused LineStop.Write (W.faults sink.old) (W.faults sink.new) result }
-{
-    for byte in piece {
-        take_byte(alloc, reading, *byte, files, sink, steps)?;
-    }
-    Ok(())
-}
-
-/// Answers a last line that no LF ends. `Ok` says whether an answer of the script was a refusal.
-pub(crate) fn last_line<F: Files, W: Sink, L: Ledger>(
-    alloc: Global,
-    reading: &mut Reading,
-    files: &mut F,
-    sink: &mut W,
-    steps: &mut Steps<L>,
-) -> Result<bool, LineStop>
-    ensures closes { Closes
-        (shown (F.told files.old) (F.failed files.old) (told_by reading.old.refusals (W.written sink.old)) steps.old)
-        (shown (F.told files.new) (F.failed files.new) (told_by reading.new.refusals (W.written sink.new)) steps.new)
-        reading.old result }
-    ensures standing { OnOk result (ClosesAt
-        (shown (F.told files.old) (F.failed files.old) (told_by reading.old.refusals (W.written sink.old)) steps.old)
-        reading.old reading.new.script reading.new.refusals reading.new.refused_lines) }
-    ensures mode { is_some reading.new.refusals ≡ is_some reading.old.refusals }
-    ensures same { F.told files.new ≡ F.told files.old }
-    ensures kept { result ≢ Err LineStop.File → F.failed files.new ≡ F.failed files.old }
-    ensures file { Caused LineStop.File (F.faults files.old) (F.faults files.new) result }
-    ensures write { Caused LineStop.Write (W.faults sink.old) (W.faults sink.new) result }
-{
-    if reading.line.is_empty() {
-        return Ok(reading.refused);
-    }
-    let wrong = deliver(
-        alloc,
-        &mut reading.refusals,
-        &mut reading.script,
-        &reading.line,
-        files,
-        sink,
-        steps,
-    )?;
-    let refused = reading.refused | wrong.is_some();
-    reading.refused_lines.note(wrong)?;
-    Ok(refused)
 }

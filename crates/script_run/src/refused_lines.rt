@@ -1,6 +1,6 @@
 //! Which lines of a script were refused, and why.
 ghost use Rattle.std.specs.Prelude.{◌≡◌, [], is_some, OnOk};
-ghost use Rattle.script_run.specs.RefusedLines.{IsToldOf, Notes, with_line};
+ghost use Rattle.script_run.specs.RefusedLines.{IsToldOf, Notes, tells_one, with_line};
 
 use std::alloc::{AllocError, Global};
 
@@ -39,6 +39,13 @@ impl RefusedLines {
             count: 0,
             first: Vec::new(alloc),
         }
+    }
+
+    /// Whether a line was refused.
+    pub fn any(&self) -> bool
+        ensures { result ≡ tells_one self.now }
+    {
+        self.count > 0
     }
 
     /// One more line was answered; this is wrong with it, where its answer is a refusal.

@@ -1,5 +1,5 @@
 //! The script of a sample: a book of so many employees for a year.
-ghost use Rattle.std.specs.Prelude.{◌≡◌, ◌≤◌, ◌∷◌, [], ◌++◌, length, map};
+ghost use Rattle.std.specs.Prelude.{◌≡◌, ◌≤◌, ◌+◌, ◌*◌, ◌∷◌, [], ◌++◌, length, map};
 ghost use Rattle.std.specs.Prelude.{OnOk, OnErr, IfOk, string_bytes, codes};
 ghost use Rattle.std.specs.List.{flat_map};
 ghost use Rattle.script_run.specs.Samples.{month_text, add_line, change_line, year_lines};
@@ -60,6 +60,15 @@ fn month_words(alloc: Global, month: u32) -> Result<String, AllocError>
     Ok(format!(in alloc; "2025-{tens}{ones}")?)
 }
 
+/// The pay of an employee in a month.
+fn pay_of(employee: u32, month: u32) -> u32
+    requires employees { employee ≤ most_employees }
+    requires months { month ≤ 12 }
+    ensures { result ≡ 100000 + 1000 * employee * month }
+{
+    100_000 + 1000 * employee * month
+}
+
 /// The record of an employee for a month, as a line.
 fn record_line(alloc: Global, employee: u32, month: u32) -> Result<String, AllocError>
     requires employees { employee ≤ most_employees }
@@ -67,7 +76,7 @@ fn record_line(alloc: Global, employee: u32, month: u32) -> Result<String, Alloc
     ensures { IfOk result (λ line. string_bytes line ≡ add_line employee month ++ 10 ∷ []) }
 {
     let words = month_words(alloc, month)?;
-    let value = 100_000 + 1000 * employee * month;
+    let value = pay_of(employee, month);
     Ok(format!(in alloc; "add E{employee} {words} {words}-28 RE4={value}\n")?)
 }
 

@@ -1,15 +1,15 @@
 //! A script, run over a source.
-ghost use Rattle.std.specs.Prelude.{◌≡◌, ◌≢◌, ◌+◌, ◌≤◌, [], length, is_some, None, Err, IfOk, OnOk, OnErr};
+ghost use Rattle.std.specs.Prelude.{◌≡◌, ◌≢◌, ◌+◌, ◌≤◌, [], length, is_some, None, Err, IfOk, OnOk};
 ghost use Rattle.std.specs.Option.{ForSome};
 ghost use Rattle.std.specs.Result.{ForErr};
 ghost use Rattle.outside.specs.Causes.{Caused, HasCause};
 ghost use Rattle.outside.specs.Told.{ReadConsumes};
 ghost use Rattle.script_run.specs.Limits.{most_script, most_turn};
-ghost use Rattle.script_run.specs.RunClauses.{RunMeets, AreKept, EndsAt, shown, told_by};
-ghost use Rattle.script_run.specs.RunClauses.{EndsUnwritten, TellsRefused, refused_of, unwritten_refused};
+ghost use Rattle.script_run.specs.RunClauses.{RunMeets, AreKept, EndsAt, EndsUnwritten, TellsRefused};
+ghost use Rattle.script_run.specs.RunClauses.{refused_by, shown, shown_by, unless_kept};
 ghost use Rattle.script_run.specs.RunViews.{IsAtStart, TakesAll};
 
-use crate::reading::{Reading, feed, last_line};
+use crate::reading::Reading;
 use crate::refused_lines::RefusedLines;
 use crate::stop::Stop;
 use crate::{MOST_SCRIPT, MOST_TURN};
@@ -57,12 +57,12 @@ fn take_turns<F: Files, R: Source, W: Sink, L: Ledger>(
     requires room { length buf.old ≡ most_turn }
     requires start { IsAtStart reading.old }
     ensures ok { OnOk result (TakesAll
-        (shown (F.told files.old) (F.failed files.old) (told_by reading.old.refusals (W.written sink.old)) steps.old)
-        (shown (F.told files.new) (F.failed files.new) (told_by reading.new.refusals (W.written sink.new)) steps.new)
+        (unless_kept reading.old.refusals (shown_by F.Files W.Sink files.old sink.old steps.old))
+        (unless_kept reading.new.refusals (shown_by F.Files W.Sink files.new sink.new steps.new))
         (R.left source.old) (R.left source.new) reading.new) }
     ensures err { ForErr result (λ stop. ForSome (R.left source.old) (λ script. RunMeets
-        (shown (F.told files.old) (F.failed files.old) (told_by reading.old.refusals (W.written sink.old)) steps.old)
-        (shown (F.told files.new) (F.failed files.new) (told_by reading.new.refusals (W.written sink.new)) steps.new)
+        (unless_kept reading.old.refusals (shown_by F.Files W.Sink files.old sink.old steps.old))
+        (unless_kept reading.new.refusals (shown_by F.Files W.Sink files.new sink.new steps.new))
         script (R.left source.new) (Err stop))) }
     ensures mode { is_some reading.new.refusals ≡ is_some reading.old.refusals }
     ensures same { F.told files.new ≡ F.told files.old }
@@ -84,15 +84,13 @@ fn take_turns<F: Files, R: Source, W: Sink, L: Ledger>(
         if taken > MOST_SCRIPT {
             return Err(Stop::Long);
         }
-        feed(alloc, reading, &buf[..count], files, sink, steps)?;
+        reading.feed(alloc, &buf[..count], files, sink, steps)?;
     }
 }
 
 /// What a script has made that was read and answered to its end.
 #[derive(Drop)]
 pub struct Ended {
-    /// Whether an answer was a refusal.
-    pub refused: bool,
     /// Which lines were refused.
     pub refused_lines: RefusedLines,
     /// What its lines have made.
@@ -113,11 +111,9 @@ pub(crate) fn run_to_end<F: Files, R: Source, W: Sink, L: Ledger>(
 ) -> Result<Ended, Stop>
     requires { AreKept refusals [] }
     ensures script { ForSome (R.left source.old) (λ script. RunMeets
-        (shown (F.told files.old) (F.failed files.old)
-        (told_by refusals (W.written sink.old)) steps.old)
-        (shown (F.told files.new) (F.failed files.new)
-        (told_by refusals (W.written sink.new)) steps.new)
-        script (R.left source.new) (refused_of result)) }
+        (unless_kept refusals (shown_by F.Files W.Sink files.old sink.old steps.old))
+        (unless_kept refusals (shown_by F.Files W.Sink files.new sink.new steps.new))
+        script (R.left source.new) (refused_by result (λ ended. ended.refused_lines))) }
     ensures standing { IfOk result (λ ended. ForSome (R.left source.old) (λ script.
         ForSome (F.told files.old) (λ files.
         EndsAt files script ended.script ended.refusals ended.refused_lines))) }
@@ -131,9 +127,8 @@ pub(crate) fn run_to_end<F: Files, R: Source, W: Sink, L: Ledger>(
     let mut buf = room(alloc, MOST_TURN)?;
     let mut reading = Reading::new(alloc, refusals);
     take_turns(alloc, &mut buf, &mut reading, files, source, sink, steps)?;
-    let refused = last_line(alloc, &mut reading, files, sink, steps)?;
+    reading.last_line(alloc, files, sink, steps)?;
     Ok(Ended {
-        refused,
         refused_lines: reading.refused_lines,
         script: reading.script,
         refusals: reading.refusals,
@@ -141,8 +136,7 @@ pub(crate) fn run_to_end<F: Files, R: Source, W: Sink, L: Ledger>(
 }
 
 /// Runs a script: takes it from the source turn by turn, and answers each line before bytes past its turn are taken.
-/// `Ok` says whether an answer was a refusal, and then it is told which lines were refused; after an `Err` what was told before
-/// stays. The counter rises by the steps of the answers: of accepted edits, `try` and `open`.
+/// `Ok` tells which lines were refused. The counter rises by the steps of the answers: of accepted edits, `try` and `open`.
 ///
 /// A script has at most [`MOST_SCRIPT`] bytes. A line of more than [`MOST_LINE`](crate::MOST_LINE) bytes is
 /// answered once, and of its bytes no more than that many and one are kept.
@@ -151,16 +145,14 @@ pub fn run<F: Files, R: Source, W: Sink, L: Ledger>(
     files: &mut F,
     source: &mut R,
     sink: &mut W,
-    refused_lines: &mut RefusedLines,
     steps: &mut Steps<L>,
-) -> Result<bool, Stop>
+) -> Result<RefusedLines, Stop>
     ensures script { ForSome (R.left source.old) (λ script. RunMeets
-        (shown (F.told files.old) (F.failed files.old) (W.written sink.old) steps.old)
-        (shown (F.told files.new) (F.failed files.new) (W.written sink.new) steps.new)
-        script (R.left source.new) result) }
-    ensures told { IfOk result (λ refused. ForSome (R.left source.old) (λ script.
-        ForSome (F.told files.old) (λ files. TellsRefused files script refused_lines.new))) }
-    ensures untold { OnErr result (refused_lines.new ≡ refused_lines.old) }
+        (shown_by F.Files W.Sink files.old sink.old steps.old)
+        (shown_by F.Files W.Sink files.new sink.new steps.new)
+        script (R.left source.new) (refused_by result (λ told. told))) }
+    ensures told { IfOk result (λ told. ForSome (R.left source.old) (λ script.
+        ForSome (F.told files.old) (λ files. TellsRefused files script told))) }
     ensures same { F.told files.new ≡ F.told files.old }
     ensures kept { result ≢ Err Stop.File → F.failed files.new ≡ F.failed files.old }
     ensures file { Caused Stop.File (F.faults files.old) (F.faults files.new) result }
@@ -168,15 +160,14 @@ pub fn run<F: Files, R: Source, W: Sink, L: Ledger>(
     ensures write { Caused Stop.Write (W.faults sink.old) (W.faults sink.new) result }
 {
     let ended = run_to_end(alloc, None, files, source, sink, steps)?;
-    *refused_lines = ended.refused_lines;
-    Ok(ended.refused)
+    Ok(ended.refused_lines)
 }
 
 /// What a script has made none of whose answers was written.
 #[derive(Drop)]
 pub struct Unwritten {
-    /// Whether an answer was a refusal.
-    pub refused: bool,
+    /// Which lines were refused.
+    pub refused_lines: RefusedLines,
     /// The answers that are refusals, one after another.
     pub refusals: Vec<u8>,
     /// What its lines have made.
@@ -189,18 +180,14 @@ pub fn run_unwritten<F: Files, R: Source, L: Ledger>(
     alloc: Global,
     files: &mut F,
     source: &mut R,
-    refused_lines: &mut RefusedLines,
     steps: &mut Steps<L>,
 ) -> Result<Unwritten, Stop>
     ensures script { ForSome (R.left source.old) (λ script. RunMeets
         (shown (F.told files.old) (F.failed files.old) None steps.old)
         (shown (F.told files.new) (F.failed files.new) None steps.new)
-        script (R.left source.new) (unwritten_refused result)) }
+        script (R.left source.new) (refused_by result (λ ended. ended.refused_lines))) }
     ensures standing { IfOk result (λ ended. ForSome (R.left source.old) (λ script.
         ForSome (F.told files.old) (λ files. EndsUnwritten files script ended))) }
-    ensures told { IfOk result (λ ended. ForSome (R.left source.old) (λ script.
-        ForSome (F.told files.old) (λ files. TellsRefused files script refused_lines.new))) }
-    ensures untold { OnErr result (refused_lines.new ≡ refused_lines.old) }
     ensures same { F.told files.new ≡ F.told files.old }
     ensures kept { result ≢ Err Stop.File → F.failed files.new ≡ F.failed files.old }
     ensures file { Caused Stop.File (F.faults files.old) (F.faults files.new) result }
@@ -210,15 +197,13 @@ pub fn run_unwritten<F: Files, R: Source, L: Ledger>(
     let mut sink = SureSink::new();
     let kept = Some(Vec::new(alloc));
     let Ended {
-        refused,
-        refused_lines: told,
+        refused_lines,
         script,
         refusals,
     } = run_to_end(alloc, kept, files, source, &mut sink, steps)?;
-    *refused_lines = told;
     match refusals {
         Some(refusals) => Ok(Unwritten {
-            refused,
+            refused_lines,
             refusals,
             script,
         }),

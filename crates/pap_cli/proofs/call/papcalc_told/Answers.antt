@@ -1,104 +1,235 @@
-use Rattle.std.proofs.Common.{◌∙◌, sym, subst}
-use Rattle.pap_cli.specs.Words.{texts, check, run, sample, save}
+use Rattle.std.proofs.Common.{◌∙◌, ap, refl, subst, sym}
+use Rattle.script_run.specs.declared.stop.Stop.TheVariants as stops
+use Rattle.pap_cli.specs.Words.{texts, run, sample, save}
 use Rattle.pap_cli.specs.WordViews.{ReadsScript, form_on_files}
-use Rattle.pap_cli.specs.Outside.{Outside}
+use Rattle.pap_cli.specs.Outside.{objects, outside_of}
 use Rattle.pap_cli.specs.CallClauses.{Carries}
 use Rattle.pap_cli.specs.ScriptClauses.{LeavesOnScript}
+use Rattle.pap_cli.specs.Statuses.{status_of}
+use Rattle.pap_cli.proofs.CallLemmas.{caused_by, files_no_sample, tells_good, touches_own}
+use Rattle.pap_cli.proofs.CallLemmas.{refused, run_told, run_untold, same_stop}
 use Rattle.pap_cli.proofs.WordLemmas.{is_check, one_form}
 use Rattle.pap_cli.proofs.ScriptLemmas.{done_ok, undone_err, files_read_none, headline_script, script_kept}
 use Rattle.pap_cli.proofs.SampleLemmas.{headline_sample}
 use Rattle.pap_cli.proofs.SaveLemmas.{headline_save}
 use Rattle.pap_cli.proofs.LeavesLemmas.{leaves_form, carries_none, headline_form}
-use Rattle.pap_cli.proofs.StatusLemmas.{file_stop, read_stop, write_stop}
 use Rattle.pap_cli.proofs.call.papcalc_told.Goals as goal
+
+-- ---- words of a form aren't bad
+
+pub returns-in-Ok-Some-Files-clause-bad_words : goal.returns-in-Ok-Some-Files-clause-bad_words
+returns-in-Ok-Some-Files-clause-bad_words g c =
+    let own = rw c.in-Ok-Some-Files.field-0-0-is at (rw c.in-Ok-Some-Files.field-0-is at c.in-Ok-Some-Files.ensures) in
+    tells_good (texts c.args.words.now) (form_on_files c.in-Ok-Some-Files.request) own c.status.result c.answer.result
+    c.status.ensures
+
+pub returns-in-Ok-Some-Run-clause-bad_words : goal.returns-in-Ok-Some-Run-clause-bad_words
+returns-in-Ok-Some-Run-clause-bad_words g c =
+    let own = rw c.in-Ok-Some-Run.field-0-0-is at (rw c.in-Ok-Some-Run.field-0-is at c.in-Ok-Some-Run.ensures) in
+    tells_good (texts c.args.words.now) run own c.status-in-Ok-Some-Run.result (refused c.run.result)
+    (c.status-in-Ok-Some-Run.ensures ∙ ap (λ r. status_of r) c.tell.ensures.refused)
+
+pub returns-in-Ok-Some-Sample-clause-bad_words : goal.returns-in-Ok-Some-Sample-clause-bad_words
+returns-in-Ok-Some-Sample-clause-bad_words g c =
+    let own = rw c.in-Ok-Some-Sample.field-0-0-is at (rw c.in-Ok-Some-Sample.field-0-is at c.in-Ok-Some-Sample.ensures) in
+    tells_good (texts c.args.words.now) (sample c.in-Ok-Some-Sample.employees) own
+    c.status-in-Ok-Some-Sample.result c.sample.result c.status-in-Ok-Some-Sample.ensures
+
+pub returns-in-Ok-Some-Save-clause-bad_words : goal.returns-in-Ok-Some-Save-clause-bad_words
+returns-in-Ok-Some-Save-clause-bad_words g c =
+    let own = rw c.in-Ok-Some-Save.field-0-0-is at (rw c.in-Ok-Some-Save.field-0-is at c.in-Ok-Some-Save.ensures) in
+    tells_good (texts c.args.words.now) save own c.status-in-Ok-Some-Save.result c.save.result
+    c.status-in-Ok-Some-Save.ensures
+
+-- ---- what the words don't ask for stays
+
+pub returns-in-Ok-Some-Files-clause-touches : goal.returns-in-Ok-Some-Files-clause-touches
+returns-in-Ok-Some-Files-clause-touches g c =
+    let request = c.in-Ok-Some-Files.request in
+    let own = rw c.in-Ok-Some-Files.field-0-0-is at (rw c.in-Ok-Some-Files.field-0-is at c.in-Ok-Some-Files.ensures) in
+    touches_own (texts c.args.words.now) (form_on_files c.in-Ok-Some-Files.request) own
+    (objects c.args.files.now c.args.source.now c.args.sink.now c.args.steps.now)
+    (objects c.answer.new.files c.args.source.now c.answer.new.sink c.answer.new.steps)
+    (λ none. refl)
+    (λ employees e. absurd (files_no_sample c.in-Ok-Some-Files.request employees e))
+    (λ plan limits e. c.answer.ensures.check
+    (is_check request.command request.plan.now request.limits.now plan limits e))
+
+pub returns-in-Ok-Some-Run-clause-touches : goal.returns-in-Ok-Some-Run-clause-touches
+returns-in-Ok-Some-Run-clause-touches g c =
+    let own = rw c.in-Ok-Some-Run.field-0-0-is at (rw c.in-Ok-Some-Run.field-0-is at c.in-Ok-Some-Run.ensures) in
+    touches_own (texts c.args.words.now) run own
+    (objects c.args.files.now c.args.source.now c.args.sink.now c.args.steps.now)
+    (objects c.run.new.files c.run.new.source c.run.new.sink c.run.new.steps)
+    (λ none. absurd (none tt)) (λ employees e. cc) (λ plan limits e. cc)
+
+pub returns-in-Ok-Some-Sample-clause-touches : goal.returns-in-Ok-Some-Sample-clause-touches
+returns-in-Ok-Some-Sample-clause-touches g c =
+    let own = rw c.in-Ok-Some-Sample.field-0-0-is at (rw c.in-Ok-Some-Sample.field-0-is at c.in-Ok-Some-Sample.ensures) in
+    touches_own (texts c.args.words.now) (sample c.in-Ok-Some-Sample.employees) own
+    (objects c.args.files.now c.args.source.now c.args.sink.now c.args.steps.now)
+    (objects c.args.files.now c.args.source.now c.sample.new.sink c.sample.new.steps)
+    (λ none. refl) (λ employees e. refl) (λ plan limits e. cc)
+
+pub returns-in-Ok-Some-Save-clause-touches : goal.returns-in-Ok-Some-Save-clause-touches
+returns-in-Ok-Some-Save-clause-touches g c =
+    let own = rw c.in-Ok-Some-Save.field-0-0-is at (rw c.in-Ok-Some-Save.field-0-is at c.in-Ok-Some-Save.ensures) in
+    touches_own (texts c.args.words.now) save own
+    (objects c.args.files.now c.args.source.now c.args.sink.now c.args.steps.now)
+    (objects c.save.new.files c.save.new.source c.save.new.sink c.save.new.steps)
+    (λ none. absurd (none tt)) (λ employees e. cc) (λ plan limits e. cc)
+
+-- ---- a fault only where its object's count rose
+
+pub returns-in-Ok-Some-Files-clause-caused : goal.returns-in-Ok-Some-Files-clause-caused
+returns-in-Ok-Some-Files-clause-caused g c =
+    let before = outside_of g.F.Files g.R.Source g.W.Sink
+    (objects c.args.files.now c.args.source.now c.args.sink.now c.args.steps.now) in
+    let after = outside_of g.F.Files g.R.Source g.W.Sink
+    (objects c.answer.new.files c.args.source.now c.answer.new.sink c.answer.new.steps) in
+    caused_by before after c.status.result c.answer.result c.status.ensures
+    (λ e. c.answer.ensures.file.rose e)
+    (λ e. absurd (c.answer.ensures.leaves.reads_no_script (ap (λ r. status_of r) e)))
+    (λ e. c.answer.ensures.write.rose e)
+
+pub returns-in-Ok-Some-Run-clause-caused : goal.returns-in-Ok-Some-Run-clause-caused
+returns-in-Ok-Some-Run-clause-caused g c =
+    let before = outside_of g.F.Files g.R.Source g.W.Sink
+    (objects c.args.files.now c.args.source.now c.args.sink.now c.args.steps.now) in
+    let after = outside_of g.F.Files g.R.Source g.W.Sink
+    (objects c.run.new.files c.run.new.source c.run.new.sink c.run.new.steps) in
+    caused_by before after c.status-in-Ok-Some-Run.result (refused c.run.result)
+    (c.status-in-Ok-Some-Run.ensures ∙ ap (λ r. status_of r) c.tell.ensures.refused)
+    (λ e. c.run.ensures.file.rose (same_stop c.run.result stops.File e))
+    (λ e. c.run.ensures.read.rose (same_stop c.run.result stops.Read e))
+    (λ e. c.run.ensures.write.rose (same_stop c.run.result stops.Write e))
+
+pub returns-in-Ok-Some-Sample-clause-caused : goal.returns-in-Ok-Some-Sample-clause-caused
+returns-in-Ok-Some-Sample-clause-caused g c =
+    let before = outside_of g.F.Files g.R.Source g.W.Sink
+    (objects c.args.files.now c.args.source.now c.args.sink.now c.args.steps.now) in
+    let after = outside_of g.F.Files g.R.Source g.W.Sink
+    (objects c.args.files.now c.args.source.now c.sample.new.sink c.sample.new.steps) in
+    caused_by before after c.status-in-Ok-Some-Sample.result c.sample.result c.status-in-Ok-Some-Sample.ensures
+    (λ e. absurd (c.sample.ensures.leaves.reads_no_file (ap (λ r. status_of r) e)))
+    (λ e. absurd (c.sample.ensures.leaves.reads_no_script (ap (λ r. status_of r) e)))
+    (λ e. c.sample.ensures.write.rose e)
+
+pub returns-in-Ok-Some-Save-clause-caused : goal.returns-in-Ok-Some-Save-clause-caused
+returns-in-Ok-Some-Save-clause-caused g c =
+    let before = outside_of g.F.Files g.R.Source g.W.Sink
+    (objects c.args.files.now c.args.source.now c.args.sink.now c.args.steps.now) in
+    let after = outside_of g.F.Files g.R.Source g.W.Sink
+    (objects c.save.new.files c.save.new.source c.save.new.sink c.save.new.steps) in
+    caused_by before after c.status-in-Ok-Some-Save.result c.save.result c.status-in-Ok-Some-Save.ensures
+    (λ e. c.save.ensures.file.rose e) (λ e. c.save.ensures.read.rose e) (λ e. c.save.ensures.write.rose e)
+
+-- ---- by the form of the words
 
 pub returns-in-Ok-Some-Files-clause-carries : goal.returns-in-Ok-Some-Files-clause-carries
 returns-in-Ok-Some-Files-clause-carries g c = λ form has.
     let request = c.in-Ok-Some-Files.request in
     let own = rw c.in-Ok-Some-Files.field-0-0-is at (rw c.in-Ok-Some-Files.field-0-is at c.in-Ok-Some-Files.ensures) in
-    let same = one_form (texts c.args.words.now) (form_on_files request) form own has in
-    let before : Outside = record { files = g.F.Files.told c.args.files.now; failed = g.F.Files.failed c.args.files.now; file_faults = g.F.Files.faults c.args.files.now; left = g.R.Source.left c.args.source.now; source_faults = g.R.Source.faults c.args.source.now; written = g.W.Sink.written c.args.sink.now; sink_faults = g.W.Sink.faults c.args.sink.now; steps = c.args.steps.now } in
-    let after : Outside = record { files = g.F.Files.told c.answer.new.files; failed = g.F.Files.failed c.answer.new.files; file_faults = g.F.Files.faults c.answer.new.files; left = g.R.Source.left c.args.source.now; source_faults = g.R.Source.faults c.args.source.now; written = g.W.Sink.written c.answer.new.sink; sink_faults = g.W.Sink.faults c.answer.new.sink; steps = c.answer.new.steps } in
+    let same = one_form (texts c.args.words.now) (form_on_files c.in-Ok-Some-Files.request) form own has in
+    let before = outside_of g.F.Files g.R.Source g.W.Sink
+    (objects c.args.files.now c.args.source.now c.args.sink.now c.args.steps.now) in
+    let after = outside_of g.F.Files g.R.Source g.W.Sink
+    (objects c.answer.new.files c.args.source.now c.answer.new.sink c.answer.new.steps) in
+    let status = c.status.result in
+    let caused =
+    caused_by before after c.status.result c.answer.result c.status.ensures
+    (λ e. c.answer.ensures.file.rose e)
+    (λ e. absurd (c.answer.ensures.leaves.reads_no_script (ap (λ r. status_of r) e)))
+    (λ e. c.answer.ensures.write.rose e) in
     let is = c.status.ensures in
     let meets = rw (← is) at c.answer.ensures.leaves in
-    let all = leaves_form request.command request.plan.now request.limits.now before after c.status.result meets in
-    subst (λ f. Carries f before after c.status.result) same (record {
+    let all = leaves_form request.command request.plan.now request.limits.now before after status meets in
+    subst (λ f. Carries f before after status) same (record {
       leaves = all;
-      headline = headline_form request.command request.plan.now request.limits.now before after c.status.result all
-          (λ e. c.answer.ensures.file.rose (file_stop c.answer.result (sym is ∙ e)))
-          (λ e. c.answer.ensures.write.rose (write_stop c.answer.result (sym is ∙ e)));
+      headline = headline_form request.command request.plan.now request.limits.now before after status all
+          caused.file caused.write;
     })
 
 pub returns-in-Ok-Some-Run-clause-carries : goal.returns-in-Ok-Some-Run-clause-carries
 returns-in-Ok-Some-Run-clause-carries g c = λ form has.
     let own = rw c.in-Ok-Some-Run.field-0-0-is at (rw c.in-Ok-Some-Run.field-0-is at c.in-Ok-Some-Run.ensures) in
     let same = one_form (texts c.args.words.now) run form own has in
-    let before : Outside = record { files = g.F.Files.told c.args.files.now; failed = g.F.Files.failed c.args.files.now; file_faults = g.F.Files.faults c.args.files.now; left = g.R.Source.left c.args.source.now; source_faults = g.R.Source.faults c.args.source.now; written = g.W.Sink.written c.args.sink.now; sink_faults = g.W.Sink.faults c.args.sink.now; steps = c.args.steps.now } in
-    let after : Outside = record { files = g.F.Files.told c.run.new.files; failed = g.F.Files.failed c.run.new.files; file_faults = g.F.Files.faults c.run.new.files; left = g.R.Source.left c.run.new.source; source_faults = g.R.Source.faults c.run.new.source; written = g.W.Sink.written c.run.new.sink; sink_faults = g.W.Sink.faults c.run.new.sink; steps = c.run.new.steps } in
-    let is = c.status-in-Ok-Some-Run.ensures in
-    let leaves : LeavesOnScript before after c.status-in-Ok-Some-Run.result = record {
-      result = c.run.result;
+    let before = outside_of g.F.Files g.R.Source g.W.Sink
+    (objects c.args.files.now c.args.source.now c.args.sink.now c.args.steps.now) in
+    let after = outside_of g.F.Files g.R.Source g.W.Sink
+    (objects c.run.new.files c.run.new.source c.run.new.sink c.run.new.steps) in
+    let status = c.status-in-Ok-Some-Run.result in
+    let caused =
+    caused_by before after c.status-in-Ok-Some-Run.result (refused c.run.result)
+    (c.status-in-Ok-Some-Run.ensures ∙ ap (λ r. status_of r) c.tell.ensures.refused)
+    (λ e. c.run.ensures.file.rose (same_stop c.run.result stops.File e))
+    (λ e. c.run.ensures.read.rose (same_stop c.run.result stops.Read e))
+    (λ e. c.run.ensures.write.rose (same_stop c.run.result stops.Write e)) in
+    let is = c.status-in-Ok-Some-Run.ensures ∙ ap (λ r. status_of r) c.tell.ensures.refused in
+    let leaves : LeavesOnScript before after status = record {
+      result = refused c.run.result;
       ended = is;
       meets = c.run.ensures.script;
-      kept = script_kept c.run.result c.status-in-Ok-Some-Run.result before.failed after.failed is c.run.ensures.kept;
+      kept = script_kept (refused c.run.result) status before.failed after.failed is
+          (λ other. c.run.ensures.kept (λ e. other (ap (λ v. refused v) e)));
     } in
-    subst (λ f. Carries f before after c.status-in-Ok-Some-Run.result) same (record {
+    subst (λ f. Carries f before after status) same (record {
       leaves = leaves;
-      headline = headline_script before after c.status-in-Ok-Some-Run.result leaves
-          (λ e. c.run.ensures.file.rose (file_stop c.run.result (sym is ∙ e)))
-          (λ e. c.run.ensures.read.rose (read_stop c.run.result (sym is ∙ e)))
-          (λ e. c.run.ensures.write.rose (write_stop c.run.result (sym is ∙ e)));
+      headline = headline_script before after status leaves caused.file caused.read caused.write;
     })
 
 pub returns-in-Ok-Some-Sample-clause-carries : goal.returns-in-Ok-Some-Sample-clause-carries
 returns-in-Ok-Some-Sample-clause-carries g c = λ form has.
-    let employees = c.in-Ok-Some-Sample.employees in
     let own = rw c.in-Ok-Some-Sample.field-0-0-is at (rw c.in-Ok-Some-Sample.field-0-is at c.in-Ok-Some-Sample.ensures) in
-    let same = one_form (texts c.args.words.now) (sample employees) form own has in
-    let before : Outside = record { files = g.F.Files.told c.args.files.now; failed = g.F.Files.failed c.args.files.now; file_faults = g.F.Files.faults c.args.files.now; left = g.R.Source.left c.args.source.now; source_faults = g.R.Source.faults c.args.source.now; written = g.W.Sink.written c.args.sink.now; sink_faults = g.W.Sink.faults c.args.sink.now; steps = c.args.steps.now } in
-    let after : Outside = record { files = g.F.Files.told c.args.files.now; failed = g.F.Files.failed c.args.files.now; file_faults = g.F.Files.faults c.args.files.now; left = g.R.Source.left c.args.source.now; source_faults = g.R.Source.faults c.args.source.now; written = g.W.Sink.written c.sample.new.sink; sink_faults = g.W.Sink.faults c.sample.new.sink; steps = c.sample.new.steps } in
+    let same = one_form (texts c.args.words.now) (sample c.in-Ok-Some-Sample.employees) form own has in
+    let before = outside_of g.F.Files g.R.Source g.W.Sink
+    (objects c.args.files.now c.args.source.now c.args.sink.now c.args.steps.now) in
+    let after = outside_of g.F.Files g.R.Source g.W.Sink
+    (objects c.args.files.now c.args.source.now c.sample.new.sink c.sample.new.steps) in
+    let status = c.status-in-Ok-Some-Sample.result in
+    let caused =
+    caused_by before after c.status-in-Ok-Some-Sample.result c.sample.result c.status-in-Ok-Some-Sample.ensures
+    (λ e. absurd (c.sample.ensures.leaves.reads_no_file (ap (λ r. status_of r) e)))
+    (λ e. absurd (c.sample.ensures.leaves.reads_no_script (ap (λ r. status_of r) e)))
+    (λ e. c.sample.ensures.write.rose e) in
     let is = c.status-in-Ok-Some-Sample.ensures in
     let all = rw (← is) at c.sample.ensures.leaves in
-    subst (λ f. Carries f before after c.status-in-Ok-Some-Sample.result) same (record {
+    subst (λ f. Carries f before after status) same (record {
       leaves = all;
-      headline = headline_sample employees before after c.status-in-Ok-Some-Sample.result all
-          (λ e. c.sample.ensures.write.rose (write_stop c.sample.result (sym is ∙ e)));
+      headline = headline_sample c.in-Ok-Some-Sample.employees before after status all caused.write;
     })
 
 pub returns-in-Ok-Some-Save-clause-carries : goal.returns-in-Ok-Some-Save-clause-carries
 returns-in-Ok-Some-Save-clause-carries g c = λ form has.
     let own = rw c.in-Ok-Some-Save.field-0-0-is at (rw c.in-Ok-Some-Save.field-0-is at c.in-Ok-Some-Save.ensures) in
     let same = one_form (texts c.args.words.now) save form own has in
-    let before : Outside = record { files = g.F.Files.told c.args.files.now; failed = g.F.Files.failed c.args.files.now; file_faults = g.F.Files.faults c.args.files.now; left = g.R.Source.left c.args.source.now; source_faults = g.R.Source.faults c.args.source.now; written = g.W.Sink.written c.args.sink.now; sink_faults = g.W.Sink.faults c.args.sink.now; steps = c.args.steps.now } in
-    let after : Outside = record { files = g.F.Files.told c.save.new.files; failed = g.F.Files.failed c.save.new.files; file_faults = g.F.Files.faults c.save.new.files; left = g.R.Source.left c.save.new.source; source_faults = g.R.Source.faults c.save.new.source; written = g.W.Sink.written c.save.new.sink; sink_faults = g.W.Sink.faults c.save.new.sink; steps = c.save.new.steps } in
+    let before = outside_of g.F.Files g.R.Source g.W.Sink
+    (objects c.args.files.now c.args.source.now c.args.sink.now c.args.steps.now) in
+    let after = outside_of g.F.Files g.R.Source g.W.Sink
+    (objects c.save.new.files c.save.new.source c.save.new.sink c.save.new.steps) in
+    let status = c.status-in-Ok-Some-Save.result in
+    let caused =
+    caused_by before after c.status-in-Ok-Some-Save.result c.save.result c.status-in-Ok-Some-Save.ensures
+    (λ e. c.save.ensures.file.rose e) (λ e. c.save.ensures.read.rose e) (λ e. c.save.ensures.write.rose e) in
     let is = c.status-in-Ok-Some-Save.ensures in
     let all = rw (← is) at c.save.ensures.leaves in
-    subst (λ f. Carries f before after c.status-in-Ok-Some-Save.result) same (record {
+    subst (λ f. Carries f before after status) same (record {
       leaves = all;
-      headline = headline_save before after c.status-in-Ok-Some-Save.result all
-          (λ e. c.save.ensures.file.rose (file_stop c.save.result (sym is ∙ e)))
-          (λ e. c.save.ensures.read.rose (read_stop c.save.result (sym is ∙ e)))
-          (λ e. c.save.ensures.write.rose (write_stop c.save.result (sym is ∙ e)));
+      headline = headline_save before after status all caused.file caused.read caused.write;
     })
 
--- an answer on two files, and a sample, read no script
-
-pub returns-in-Ok-Some-Files-clause-read_fault : goal.returns-in-Ok-Some-Files-clause-read_fault
-returns-in-Ok-Some-Files-clause-read_fault g c =
-    λ e. absurd (c.answer.ensures.leaves.reads_no_script (sym c.status.ensures ∙ e))
-
-pub returns-in-Ok-Some-Sample-clause-read_fault : goal.returns-in-Ok-Some-Sample-clause-read_fault
-returns-in-Ok-Some-Sample-clause-read_fault g c =
-    λ e. absurd (c.sample.ensures.leaves.reads_no_script (sym c.status-in-Ok-Some-Sample.ensures ∙ e))
-
 pub returns-in-Err-clause-carries : goal.returns-in-Err-clause-carries
-returns-in-Err-clause-carries g c = λ form has. carries_none form (record { files = g.F.Files.told c.args.files.now; failed = g.F.Files.failed c.args.files.now; file_faults = g.F.Files.faults c.args.files.now; left = g.R.Source.left c.args.source.now; source_faults = g.R.Source.faults c.args.source.now; written = g.W.Sink.written c.args.sink.now; sink_faults = g.W.Sink.faults c.args.sink.now; steps = c.args.steps.now })
+returns-in-Err-clause-carries g c = λ form has.
+    carries_none form (outside_of g.F.Files g.R.Source g.W.Sink
+    (objects c.args.files.now c.args.source.now c.args.sink.now c.args.steps.now))
 
--- of a script that was answered to its end it is told which lines were refused
+-- ---- of a script that was answered to its end it is told which lines were refused
 
 pub returns-in-Ok-Some-Run-clause-refused_lines : goal.returns-in-Ok-Some-Run-clause-refused_lines
 returns-in-Ok-Some-Run-clause-refused_lines g c = λ answers.
-    done_ok _ c.run.result c.status-in-Ok-Some-Run.result c.status-in-Ok-Some-Run.ensures answers.done c.run.ensures.told
+    run_told _ c.run.result c.status-in-Ok-Some-Run.result
+    (c.status-in-Ok-Some-Run.ensures ∙ ap (λ r. status_of r) c.tell.ensures.refused) answers.done
+    c.tell.ensures.told c.run.ensures.told
 
 pub returns-in-Ok-Some-Save-clause-refused_lines : goal.returns-in-Ok-Some-Save-clause-refused_lines
 returns-in-Ok-Some-Save-clause-refused_lines g c = λ answers.
@@ -122,38 +253,12 @@ returns-in-Ok-Some-Sample-clause-refused_lines g c = λ answers.
 pub returns-in-Ok-Some-Run-clause-untold : goal.returns-in-Ok-Some-Run-clause-untold
 returns-in-Ok-Some-Run-clause-untold g c = λ none.
     let own = rw c.in-Ok-Some-Run.field-0-0-is at (rw c.in-Ok-Some-Run.field-0-is at c.in-Ok-Some-Run.ensures) in
-    undone_err _ c.run.result c.status-in-Ok-Some-Run.result c.status-in-Ok-Some-Run.ensures
-    (λ done. none (record { form = run; has = own; reads = tt; done = done })) c.run.ensures.untold
+    run_untold _ c.run.result c.status-in-Ok-Some-Run.result
+    (c.status-in-Ok-Some-Run.ensures ∙ ap (λ r. status_of r) c.tell.ensures.refused)
+    (λ done. none (record { form = run; has = own; reads = tt; done = done })) c.tell.ensures.untold
 
 pub returns-in-Ok-Some-Save-clause-untold : goal.returns-in-Ok-Some-Save-clause-untold
 returns-in-Ok-Some-Save-clause-untold g c = λ none.
     let own = rw c.in-Ok-Some-Save.field-0-0-is at (rw c.in-Ok-Some-Save.field-0-is at c.in-Ok-Some-Save.ensures) in
     undone_err _ c.save.result c.status-in-Ok-Some-Save.result c.status-in-Ok-Some-Save.ensures
     (λ done. none (record { form = save; has = own; reads = tt; done = done })) c.save.ensures.untold
-
--- `check` counts nothing, and the other words ask for no check
-
-pub returns-in-Ok-Some-Files-clause-check_counts_nothing : goal.returns-in-Ok-Some-Files-clause-check_counts_nothing
-returns-in-Ok-Some-Files-clause-check_counts_nothing g c = λ plan limits has.
-    let request = c.in-Ok-Some-Files.request in
-    let own = rw c.in-Ok-Some-Files.field-0-0-is at (rw c.in-Ok-Some-Files.field-0-is at c.in-Ok-Some-Files.ensures) in
-    let same = one_form (texts c.args.words.now) (form_on_files request) (check plan limits) own has in
-    c.answer.ensures.check (is_check request.command request.plan.now request.limits.now plan limits same)
-
-pub returns-in-Ok-Some-Run-clause-check_counts_nothing : goal.returns-in-Ok-Some-Run-clause-check_counts_nothing
-returns-in-Ok-Some-Run-clause-check_counts_nothing g c = λ plan limits has.
-    let own = rw c.in-Ok-Some-Run.field-0-0-is at (rw c.in-Ok-Some-Run.field-0-is at c.in-Ok-Some-Run.ensures) in
-    let same = one_form (texts c.args.words.now) run (check plan limits) own has in
-    cc
-
-pub returns-in-Ok-Some-Sample-clause-check_counts_nothing : goal.returns-in-Ok-Some-Sample-clause-check_counts_nothing
-returns-in-Ok-Some-Sample-clause-check_counts_nothing g c = λ plan limits has.
-    let own = rw c.in-Ok-Some-Sample.field-0-0-is at (rw c.in-Ok-Some-Sample.field-0-is at c.in-Ok-Some-Sample.ensures) in
-    let same = one_form (texts c.args.words.now) (sample c.in-Ok-Some-Sample.employees) (check plan limits) own has in
-    cc
-
-pub returns-in-Ok-Some-Save-clause-check_counts_nothing : goal.returns-in-Ok-Some-Save-clause-check_counts_nothing
-returns-in-Ok-Some-Save-clause-check_counts_nothing g c = λ plan limits has.
-    let own = rw c.in-Ok-Some-Save.field-0-0-is at (rw c.in-Ok-Some-Save.field-0-is at c.in-Ok-Some-Save.ensures) in
-    let same = one_form (texts c.args.words.now) save (check plan limits) own has in
-    cc

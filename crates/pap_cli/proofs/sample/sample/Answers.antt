@@ -1,6 +1,9 @@
-use Rattle.std.proofs.Common.{◌∙◌, ap}
+use Rattle.std.proofs.Common.{◌∙◌, Bool, ap, subst, sym}
 use Rattle.std.specs.Prelude.{Err}
 use Rattle.std.proofs.lemmas.Result.{err_from_is_err_and}
+use Rattle.pap_cli.specs.Outside.{output}
+use Rattle.pap_cli.specs.SampleClauses.{LeavesOnSample}
+use Rattle.pap_cli.specs.Statuses.{done_status}
 use Rattle.pap_cli.proofs.SampleLemmas.{leaves_whole, leaves_cut, leaves_stop, leaves_unsaid}
 use Rattle.pap_cli.proofs.sample.sample.Goals as goal
 
@@ -16,8 +19,10 @@ returns-in_err-text-clause-leaves g c =
 
 pub returns-in-Ok-clause-leaves : goal.returns-in-Ok-clause-leaves
 returns-in-Ok-clause-leaves g c =
-    leaves_whole c.args.employees c.args.steps.now c.run_sample.new.steps (g.W.Sink.written c.args.sink.now) (g.W.Sink.written c.put_all.new.sink) c.in_ok-ended.ended c.as_bytes.result.now c.in_ok-ended.ensures.ok
-    (c.as_bytes.ensures.value ∙ c.in_ok-text.ensures) c.in-Ok.ensures.ok
+    subst (λ (r : Bool). LeavesOnSample c.args.employees (output (g.W.Sink.written c.args.sink.now) c.args.steps.now)
+    (output (g.W.Sink.written c.put_all.new.sink) c.run_sample.new.steps) (done_status r)) (sym c.any.ensures)
+    (leaves_whole c.args.employees c.args.steps.now c.run_sample.new.steps (g.W.Sink.written c.args.sink.now) (g.W.Sink.written c.put_all.new.sink) c.in_ok-ended.ended c.as_bytes.result.now c.in_ok-ended.ensures.ok
+    (c.as_bytes.ensures.value ∙ c.in_ok-text.ensures) c.in-Ok.ensures.ok)
 
 pub returns-clause-leaves : goal.returns-clause-leaves
 returns-clause-leaves g c =

@@ -11,14 +11,15 @@ use Rattle.pap_cli.proofs.save.saved.Goals as goal
 
 pub returns-in-Ok : goal.returns-in-Ok
 returns-in-Ok c =
-    let unfiled : was_filed c.args.ended.script ≡ false = ap (λ f. is_some f.last) (sym c.ledger.ensures) ∙ ap (λ o. is_some o) (sym c.last.ensures) ∙ sym c.is_some.ensures ∙ c.if-is_some.false in
-    saved_book c.args.ended (record { text = c.in-Ok.text.items; refused = false }) c.if-ended.false unfiled
+    let unfiled : was_filed c.args.script.now ≡ false = ap (λ f. is_some f.last) (sym c.ledger.ensures) ∙ ap (λ o. is_some o) (sym c.last.ensures) ∙ sym c.is_some.ensures ∙ c.if-is_some.false in
+    saved_book c.args.refused c.args.script.now c.args.refusals.items (record { text = c.in-Ok.text.items; refused = false })
+    c.if-refused.false unfiled
     (record { verdict = Ok c.in-Ok.text.items; says = subst (λ b. SaveSays b (Ok c.in-Ok.text.items)) c.book.ensures c.in-Ok.ensures.saved; is = refl })
 
 pub returns-in-Err-Long : goal.returns-in-Err-Long
 returns-in-Err-Long c =
-    let unfiled : was_filed c.args.ended.script ≡ false = ap (λ f. is_some f.last) (sym c.ledger.ensures) ∙ ap (λ o. is_some o) (sym c.last.ensures) ∙ sym c.is_some.ensures ∙ c.if-is_some.false in
+    let unfiled : was_filed c.args.script.now ≡ false = ap (λ f. is_some f.last) (sym c.ledger.ensures) ∙ ap (λ o. is_some o) (sym c.last.ensures) ∙ sym c.is_some.ensures ∙ c.if-is_some.false in
     let says = rw c.in-Err-Long.field-0-is at c.in-Err-Long.ensures.refused in
     if_ok_map c.refusal-in-Err-Long.result (λ reply. reply_of reply ≡ refusal (codes "book Long"))
-    (λ reply. IsSave c.args.ended.refused (was_filed c.args.ended.script) c.args.ended.refusals.items c.args.ended.script.book (written_of reply))
-    (λ reply is. long_book c.args.ended c.book.result.now reply c.if-ended.false unfiled c.book.ensures says is) c.refusal-in-Err-Long.ensures
+    (λ reply. IsSave c.args.refused (was_filed c.args.script.now) c.args.refusals.items c.args.script.now.book (written_of reply))
+    (λ reply is. long_book c.args.refused c.args.script.now c.args.refusals.items c.book.result.now reply c.if-refused.false unfiled c.book.ensures says is) c.refusal-in-Err-Long.ensures

@@ -1,18 +1,14 @@
 use Rattle.std.proofs.Common.{◌≡◌, subst}
 use Rattle.std.specs.Prelude.{Some}
 use Rattle.script_run.specs.RunClauses.{EndsAt}
-use Rattle.script_run.proofs.MemoryLaws.{ends_unwritten, tells_refused}
+use Rattle.script_run.proofs.MemoryLaws.{ends_unwritten}
 use Rattle.script_run.proofs.turns.run_unwritten.Goals as goal
 
 pub returns-clause-standing : goal.returns-clause-standing
 returns-clause-standing g c = λ script left files told.
-    let ended = c.in_ok-refused.field-0 in
+    let ended = c.in_ok-refused_lines.field-0 in
     let kept : ended.refusals ≡ Some c.in-Some.refusals = cc c.in-Some.is in
-    ends_unwritten files script ended.refused ended.script c.in-Some.refusals (c.in_ok-refused.ensures.script script left)
-    (subst (λ v. EndsAt files script ended.script v ended.refused_lines) kept (c.in_ok-refused.ensures.standing script left files told)) told
-
-pub returns-clause-told : goal.returns-clause-told
-returns-clause-told g c = λ script left files told.
-    let ended = c.in_ok-refused.field-0 in
-    tells_refused files script ended.script ended.refusals ended.refused_lines
-    (c.in_ok-refused.ensures.standing script left files told)
+    ends_unwritten files script ended.refused_lines ended.script c.in-Some.refusals
+    (c.in_ok-refused_lines.ensures.script script left)
+    (subst (λ v. EndsAt files script ended.script v ended.refused_lines) kept
+    (c.in_ok-refused_lines.ensures.standing script left files told)) told

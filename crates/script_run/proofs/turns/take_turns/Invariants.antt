@@ -1,16 +1,15 @@
 use Rattle.std.proofs.Common.{◌≡◌, ◌≤◌, ◌-◌, length}
 use Rattle.script_run.specs.Limits.{most_script, most_turn}
 use Rattle.std.specs.Prelude.{is_some}
-use Rattle.script_run.specs.RunClauses.{shown, told_by}
+use Rattle.script_run.specs.RunClauses.{shown_by, unless_kept}
 use Rattle.script_run.specs.RunViews.{Stood}
 use Rattle.script_run.proofs.turns.take_turns.Given as goal
 
 abbrev pub invariant-turns : goal.invariant-turns
 invariant-turns g l = record {
   stood : Stood
-      (shown (g.F.Files.told l.initial.files) (g.F.Files.failed l.initial.files)
-      (told_by l.initial.reading.refusals (g.W.Sink.written l.initial.sink)) l.initial.steps)
-      (shown (g.F.Files.told l.files) (g.F.Files.failed l.files) (told_by l.reading.refusals (g.W.Sink.written l.sink)) l.steps)
+      (unless_kept l.initial.reading.refusals (shown_by g.F.Files g.W.Sink l.initial.files l.initial.sink l.initial.steps))
+      (unless_kept l.reading.refusals (shown_by g.F.Files g.W.Sink l.files l.sink l.steps))
       (g.R.Source.left l.initial.source) (g.R.Source.left l.source) l.taken l.reading;
   room : length l.buf ≡ most_turn;
   within : l.taken ≤ most_script;

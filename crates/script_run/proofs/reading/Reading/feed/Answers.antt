@@ -1,7 +1,7 @@
 use Rattle.std.proofs.Common.{◌≡◌, ◌∙◌, [], ◌∷◌, ◌+◌, get_or, take, drop, arith}
 use Rattle.std.proofs.lemmas.Result.{err_from_is_err_and}
 use Rattle.script_run.proofs.StepLaws.{goes_byte, goes_all, breaks_within, at_byte, err_same}
-use Rattle.script_run.proofs.reading.feed.Goals as goal
+use Rattle.script_run.proofs.reading.Reading.feed.Goals as goal
 
 pub returns-in_err-take_byte-clause-err : goal.returns-in_err-take_byte-clause-err
 returns-in_err-take_byte-clause-err g c = λ stop is.
