@@ -14,7 +14,8 @@ use Rattle.plan_answers.proofs.Laws.{whole, front_there, answers_front}
 use Rattle.plain_words.specs.Places.{NamedText}
 use Rattle.plain_words.specs.Refusals.{TellsPlan}
 use Rattle.flowchart_page.specs.Verdicts.{file_or_none, files_with, IsJudged}
-use Rattle.flowchart_page.specs.Pages.{IsVerdictText, ArePlanCaptions, IsPage}
+use Rattle.flowchart_page.specs.Findings.{Finding, accepted, in_order, refused, IsFound}
+use Rattle.flowchart_page.specs.Pages.{ArePlanCaptions, Shows, IsPage}
 use Rattle.author_cli.specs.Words.{chart, chart_within, ranges}
 use Rattle.author_cli.specs.Answers.{Answer, IsChart, IsRanges, file_of, Answers}
 use Rattle.author_cli.proofs.TellsLemmas.{front, begins_ranges, begins_plan}
@@ -75,15 +76,16 @@ module _ (n m : ℕ) (more_plan : 1048576 < n) (more_limits : 262144 < m) where
 
   -- ---- the page
 
-  verdict_front : (plan limits text : List ℕ) → IsVerdictText (take n plan) (Some (take m limits)) text
-      → IsVerdictText plan (Some limits) text
-  verdict_front plan limits text (inl h) = inl (h.0, accepted_front plan limits h.0 h.1, h.2)
-  verdict_front plan limits text (inr h) = inr (h.0, refused_front plan limits h.0 h.1, h.2)
+  found_front : (plan limits : List ℕ) (finding : Finding) → IsFound (take n plan) (Some (take m limits)) finding
+      → IsFound plan (Some limits) finding
+  found_front plan limits (accepted x) h = accepted_front plan limits x h
+  found_front plan limits in_order h = absurd h
+  found_front plan limits (refused r) h = refused_front plan limits r h
 
-  verdict_alone : (plan text : List ℕ) → IsVerdictText (take n plan) None text → IsVerdictText plan None text
-  verdict_alone plan text (inl h) = inl (h.0, accepted_alone plan h.0 h.1, h.2)
-  verdict_alone plan text (inr (inl h)) = inr (inl (h.0, refused_alone plan (refusals.LimitName h.0) h.1, h.2))
-  verdict_alone plan text (inr (inr h)) = inr (inr (h.0, h.1, refused_alone plan h.0 h.2, h.3))
+  found_alone : (plan : List ℕ) (finding : Finding) → IsFound (take n plan) None finding → IsFound plan None finding
+  found_alone plan (accepted x) h = accepted_alone plan x h
+  found_alone plan in_order h = (h.0, refused_alone plan (refusals.LimitName h.0) h.1)
+  found_alone plan (refused r) h = (h.0, refused_alone plan r h.1)
 
   elements_front : (plan : List ℕ) (tree : ElementTree) → IsElements (take n plan) tree → IsElements plan tree
   elements_front plan tree h = subst (λ b. IsElements b tree) (whole 1048576 n plan more_plan h.short) h
@@ -91,28 +93,32 @@ module _ (n m : ℕ) (more_plan : 1048576 < n) (more_limits : 262144 < m) where
   fault_front : (plan : List ℕ) (fault : ReadFault) → IsFault (take n plan) fault → IsFault plan fault
   fault_front plan fault h = refused_alone plan (refusals.Read fault) h
 
-  captions_front : (plan : List ℕ) (captions : List (List ℕ)) → ArePlanCaptions (take n plan) captions
-      → ArePlanCaptions plan captions
-  captions_front plan captions (inl h) = inl (h.0, elements_front plan h.0 h.1, h.2)
-  captions_front plan captions (inr h) = inr (h.0, fault_front plan h.0 h.1, h.2)
+  captions_front : (plan : List ℕ) (finding : Finding) (captions : List (List ℕ))
+      → ArePlanCaptions (take n plan) finding captions → ArePlanCaptions plan finding captions
+  captions_front plan finding captions (inl h) = inl (h.0, elements_front plan h.0 h.1, h.2)
+  captions_front plan finding captions (inr h) = inr (h.0, fault_front plan h.0 h.1, h.2)
+
+  shown_front : (plan : List ℕ) (finding : Finding) (page : List ℕ) → Shows (take n plan) finding page
+      → Shows plan finding page
+  shown_front plan finding page h = record {
+    captions = h.captions;
+    are_captions = captions_front plan finding h.captions h.are_captions;
+    whole = h.whole;
+  }
 
   page_front : (plan limits page : List ℕ) → IsPage (take n plan) (Some (take m limits)) page
       → IsPage plan (Some limits) page
   page_front plan limits page h = record {
-    verdict = h.verdict;
-    captions = h.captions;
-    is_verdict = verdict_front plan limits h.verdict h.is_verdict;
-    are_captions = captions_front plan h.captions h.are_captions;
-    whole = h.whole;
+    finding = h.finding;
+    found = found_front plan limits h.finding h.found;
+    shown = shown_front plan h.finding page h.shown;
   }
 
   page_alone : (plan page : List ℕ) → IsPage (take n plan) None page → IsPage plan None page
   page_alone plan page h = record {
-    verdict = h.verdict;
-    captions = h.captions;
-    is_verdict = verdict_alone plan h.verdict h.is_verdict;
-    are_captions = captions_front plan h.captions h.are_captions;
-    whole = h.whole;
+    finding = h.finding;
+    found = found_alone plan h.finding h.found;
+    shown = shown_front plan h.finding page h.shown;
   }
 
   chart_front : (plan limits : NamedText) (a : Answer) → IsChart (front n plan) (Some (front m limits)) a

@@ -137,12 +137,16 @@ of_if s t ys zs text a b is test first second =
     ∙ sym (in_if t ys zs)
     ∙ ap statements_in (sym is)
 
--- an IF is appended, of a test that is drawn in its spelling
-pub adds_if : (a b c d : Numbering) (written spelling : List ℕ) (ss ts : List FileStatement) (t : Drawn) (x y old new : List Drawn)
-    → t ≡ next_drawn a spelling → IsSpelledAs (Level 0) written spelling → b ≡ after a → Adds b c ss [] x → Adds c d ts [] y
+-- a test that is drawn in its spelling is the next statement
+pub test_drawn : (n : Numbering) (written spelling : List ℕ) (t : Drawn) → t ≡ next_drawn n spelling
+    → IsSpelledAs (Level 0) written spelling → AreDrawn n.refused n.next (expression (Level 0) written ∷ []) (t ∷ [])
+test_drawn n written spelling t is same =
+    (ap (λ e. e.number) is, ap (λ e. e.is_refused) is, subst (λ e. IsSpelledAs (Level 0) written e.text) (sym is) same, tt)
+
+-- an IF is appended, of a test that is the next statement
+pub adds_if : (a b c d : Numbering) (written : List ℕ) (ss ts : List FileStatement) (t : Drawn) (x y old new : List Drawn)
+    → AreDrawn a.refused a.next (expression (Level 0) written ∷ []) (t ∷ []) → b ≡ after a → Adds b c ss [] x → Adds c d ts [] y
     → new ≡ old ++ (t ∷ (x ++ y)) → Adds a d (expression (Level 0) written ∷ (ss ++ ts)) old new
-adds_if a b c d written spelling ss ts t x y old new is same behind second third grown =
+adds_if a b c d written ss ts t x y old new is behind second third grown =
     adds_choice a b c d (expression (Level 0) written) ss ts t x y old new
-    (adds_one a b (expression (Level 0) written) t old (old ++ t ∷ []) (ap (λ e. e.number) is) (ap (λ e. e.is_refused) is)
-    (subst (λ e. IsSpelledAs (Level 0) written e.text) (sym is) same) behind refl)
-    second third grown
+    (adds_one a b (expression (Level 0) written) t old (old ++ t ∷ []) is.0 is.1 is.2 behind refl) second third grown

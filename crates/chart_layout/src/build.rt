@@ -1,18 +1,22 @@
 //! From the statements of a plan's file to figures.
 ghost use Rattle.std.specs.Prelude.{◌≡◌, ◌++◌, [], ◌∷◌, IsTrue, IfOk, OnOk, map};
-ghost use Rattle.pap_tree.specs.Grammar.{Level, Assignment};
+ghost use Rattle.pap_tree.specs.Grammar.{Level, Assignment, assignment};
+ghost use Rattle.pap_tree.specs.Term.{term_of};
 ghost use Rattle.pap_reader.specs.Trees.{raw_body_of};
 ghost use Rattle.chart_layout.specs.Drawn.{drawn_statement, arm_statements, body_statements, choice_statements, figures_statements};
-ghost use Rattle.chart_layout.specs.Statements.{expression, execution, statements_of, statements_in, is_number, after, next_drawn, IsSpelledAs, AreDrawn, Adds};
+ghost use Rattle.chart_layout.specs.Statements.{expression, execution, statements_of, statements_in, is_number, after, next_drawn, spelled, IsSpelledAs, AreDrawn, Adds};
 
 use crate::choice::{Arm, Choice};
 use crate::figure::{Body, Figure, row_height};
+use crate::measures::{
+    BOX_SIDE, HIGHEST_BOX, LEAST_ROOM, STATEMENT_GAP, STEP, TEST_SIDE, WIDEST_ROOM,
+};
 use crate::note::Note;
 use crate::px::Px;
-use crate::statement::{BOX_SIDES, Call, Site, Statement, TEST_SIDES};
+use crate::statement::{Call, Site, Statement};
 use pap_expr::{ExprFault, parse_assign, parse_expr};
 use pap_reader::RawStmt;
-use pap_tree::{Name, print_expr};
+use pap_tree::{Expr, Name, print_expr};
 use plan_notes::{Element, Walk};
 use std::alloc::{AllocError, Global};
 
@@ -109,8 +113,7 @@ impl Builder<'_> {
             RawStmt::Eval { exec } => self.evaluation(exec, depth, figures)?,
             RawStmt::Execute { method } => self.execution(*method, figures)?,
             RawStmt::If { test, yes, no } => {
-                let text = spelled_test(self.alloc, test)?;
-                let test = self.written(text, depth, TEST_SIDES)?;
+                let test = self.next_test(test, depth)?;
                 let then = self.branch(yes, depth.saturating_add(1))?;
                 let otherwise = self.otherwise(no, depth, then.is_empty())?;
                 push_choice(self.alloc, figures, test, then, otherwise)?;
@@ -131,7 +134,7 @@ impl Builder<'_> {
             (figures_statements figures.old.items) (figures_statements figures.new.items)) }
     {
         let text = spelled_assignment(self.alloc, exec)?;
-        let statement = self.written(text, depth, BOX_SIDES)?;
+        let statement = self.written(text, depth, BOX_SIDE)?;
         push_evaluation(self.alloc, figures, statement)
     }
 
@@ -185,14 +188,27 @@ impl Builder<'_> {
         push_comments(self.alloc, figures, comments, room_at(depth))
     }
 
-    /// The next statement, of a text that stands in a symbol with so much room at its sides.
-    fn written(&mut self, text: Vec<u8>, depth: u32, sides: u32) -> Result<Statement, AllocError>
+    /// The next statement, which is the test of an IF.
+    #[tactic(auto, using(crate::proofs::AddingLemmas::test_drawn))]
+    fn next_test(&mut self, test: &[u8], depth: u32) -> Result<Statement, AllocError>
+        ensures numbering { OnOk result (self.new.numbering ≡ after self.old.numbering) }
+        ensures drawn { IfOk result (λ s.
+            AreDrawn self.old.numbering.refused self.old.numbering.next
+            (expression (Level 0) test.now ∷ []) (drawn_statement s ∷ [])) }
+    {
+        let text = spelled_test(self.alloc, test)?;
+        let statement = self.written(text, depth, TEST_SIDE)?;
+        Ok(statement)
+    }
+
+    /// The next statement, of a text that stands in a symbol with so much room on each side.
+    fn written(&mut self, text: Vec<u8>, depth: u32, side: Px) -> Result<Statement, AllocError>
         ensures numbering { self.new.numbering ≡ after self.old.numbering }
         ensures drawn { IfOk result (λ s.
             drawn_statement s ≡ next_drawn self.old.numbering text.items) }
     {
         let site = self.site();
-        let room = room_at(depth).saturating_sub(sides);
+        let room = room_at(depth) - side - side;
         Statement::new(self.alloc, site, text, room)
     }
 
@@ -216,9 +232,9 @@ impl Builder<'_> {
     }
 }
 
-/// The room of a body in px, with some THENs around it: its right edge stays where it is.
-fn room_at(depth: u32) -> u32 {
-    640_u32.saturating_sub(depth.saturating_mul(44)).max(340)
+/// The room of a body with some THENs around it: its right edge stays where it is.
+fn room_at(depth: u32) -> Px {
+    (WIDEST_ROOM - STEP.times(depth as usize)).max(LEAST_ROOM)
 }
 
 /// The least numbers of two digits and more.
@@ -259,7 +275,7 @@ fn push_comments(
     alloc: Global,
     figures: &mut Vec<Figure>,
     comments: &[String],
-    room: u32,
+    room: Px,
 ) -> Result<(), AllocError>
     ensures { OnOk result
         (figures_statements figures.new.items ≡ figures_statements figures.old.items) }
@@ -384,9 +400,6 @@ fn cascade(first: Arm, note: Option<Note>, choice: Choice) -> Result<Choice, All
     })
 }
 
-/// The greatest height of a box of several statements.
-const HIGHEST_BOX: Px = Px(900);
-
 /// Appends an EVAL: to the box before it, where that has room.
 #[tactic(auto, using(crate::proofs::DrawnLemmas::figures_push))]
 fn push_evaluation(
@@ -415,7 +428,7 @@ fn last_box(
 {
     match figures.pop() {
         Some(Figure::Box(row)) => {
-            if row_height(&row) + height + 4 <= HIGHEST_BOX {
+            if row_height(&row) + height + STATEMENT_GAP <= HIGHEST_BOX {
                 return Ok(row);
             }
             figures.push(Figure::Box(row))?;
@@ -431,15 +444,21 @@ fn spelled_assignment(alloc: Global, text: &[u8]) -> Result<Vec<u8>, AllocError>
     ensures { IfOk result (λ spelling. IsSpelledAs Assignment text.now spelling.items) }
 {
     match parse_assign(alloc, text) {
-        Ok((target, value)) => {
-            let mut spelled = Vec::from_slice(alloc, target.bytes())?;
-            spelled.extend_from_slice(b" = ")?;
-            spelled.extend_from_slice(&print_expr(alloc, &value)?)?;
-            Ok(spelled)
-        }
+        Ok((target, value)) => assignment_text(alloc, target, &value),
         Err(ExprFault::Memory) => Err(AllocError),
         Err(_) => Vec::from_slice(alloc, text),
     }
+}
+
+/// An assignment in its canonical spelling.
+fn assignment_text(alloc: Global, target: Name, value: &Expr) -> Result<Vec<u8>, AllocError>
+    ensures { IfOk result (λ text. text.items ≡ spelled (assignment target (term_of value.now))) }
+{
+    let value = print_expr(alloc, value)?;
+    let mut spelled = Vec::from_slice(alloc, target.bytes())?;
+    spelled.extend_from_slice(b" = ")?;
+    spelled.extend_from_slice(&value)?;
+    Ok(spelled)
 }
 
 /// A test in its canonical spelling, or as it is written where it isn't one.

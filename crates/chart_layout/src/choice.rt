@@ -2,12 +2,10 @@
 ghost use Rattle.chart_layout.specs.Drawn.{HasShape};
 
 use crate::figure::{Body, End};
+use crate::measures::{RAIL_ROOM, STEP};
 use crate::note::Note;
 use crate::px::Px;
 use crate::statement::Statement;
-
-/// One step to the right.
-pub(crate) const STEP: u32 = 44;
 
 /// A test with its THEN. An ELSE with one IF and nothing else makes that test the next arm.
 #[cycle(figure)]
@@ -30,7 +28,7 @@ pub struct Choice {
 }
 
 /// How the branches of an IF come together.
-#[derive(Clone, Copy, Debug, PartialEq, Eq)]
+#[derive(Clone, Copy)]
 pub(crate) enum Shape {
     /// THEN alone: to the right and back.
     Then,
@@ -65,24 +63,24 @@ impl Choice {
 
     /// The room inside its rail, or all where it has none.
     pub(crate) fn inner(&self) -> Px {
-        let shape = self.shape();
-        let end = if shape == Shape::Rail {
-            End::Rail
-        } else {
-            End::Spine
+        let (end, indent) = match self.shape() {
+            Shape::Rail => (End::Rail, Px(0)),
+            Shape::Else => (End::Spine, STEP),
+            Shape::Then | Shape::Nothing => (End::Spine, Px(0)),
         };
-        let indent = if shape == Shape::Else { STEP } else { 0 };
-        let mut width = self.first.width(end).or(self.otherwise.width(end) + indent);
+        let otherwise = self.otherwise.width(end) + indent;
+        let mut width = self.first.width(end).max(otherwise);
         for arm in &self.later {
-            width = width.or(arm.width(end));
+            width = width.max(arm.width(end));
         }
         width
     }
 
-    /// How much room it takes, where it stands at the end of a body with that end: 20 px for a rail of its own.
+    /// How much room it takes, where it stands at the end of a body with that end. A rail of its own
+    /// takes some.
     pub(crate) fn width(&self, end: End) -> Px {
         match (self.shape(), end) {
-            (Shape::Rail, End::Spine) => self.inner() + 20,
+            (Shape::Rail, End::Spine) => self.inner() + RAIL_ROOM,
             _ => self.inner(),
         }
     }
@@ -95,6 +93,6 @@ impl Arm {
             None => Px(0),
         };
         let then = self.then.width(end) + STEP;
-        self.test.test_width().or(note).or(then)
+        self.test.test_width().max(note).max(then)
     }
 }

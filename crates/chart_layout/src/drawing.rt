@@ -1,7 +1,11 @@
 //! A method's drawing: symbols and words in reading order, lines, arrowheads.
+ghost use Rattle.std.specs.Prelude.{◌≡◌, []};
+ghost use Rattle.chart_layout.specs.Drawn.{part_statements};
+
 use crate::note::Note;
 use crate::px::Px;
 use crate::statement::{Call, Statement};
+use std::alloc::Global;
 
 /// The drawing of a method, in parts for print: each begins at its top and ends where the next begins, or at the height.
 #[derive(Drop)]
@@ -22,8 +26,23 @@ pub struct Part<'a> {
     pub heads: Vec<Head>,
 }
 
+impl<'a> Part<'a> {
+    /// A part in which nothing stands.
+    pub(crate) fn new(alloc: Global, top: Px) -> Part<'a>
+        ensures { part_statements result ≡ [] }
+    {
+        Part {
+            top,
+            rows: Vec::new(alloc),
+            verticals: Vec::new(alloc),
+            horizontals: Vec::new(alloc),
+            heads: Vec::new(alloc),
+        }
+    }
+}
+
 /// A line from one place to another of the same height, or of the same distance from the left.
-#[derive(Clone, Copy, Debug)]
+#[derive(Clone, Copy)]
 pub struct Stroke {
     pub x: Px,
     pub y: Px,
@@ -32,7 +51,7 @@ pub struct Stroke {
 }
 
 /// An arrowhead, by its point.
-#[derive(Clone, Copy, Debug)]
+#[derive(Clone, Copy)]
 pub struct Head {
     pub x: Px,
     pub y: Px,
@@ -84,7 +103,7 @@ pub enum Row<'a> {
 }
 
 /// Which way of a test a line is.
-#[derive(Clone, Copy, Debug, PartialEq, Eq)]
+#[derive(Clone, Copy)]
 pub enum Word {
     Yes,
     No,
@@ -92,7 +111,7 @@ pub enum Word {
 }
 
 /// Whether a word begins or ends at its place.
-#[derive(Clone, Copy, Debug, PartialEq, Eq)]
+#[derive(Clone, Copy)]
 pub enum Anchor {
     Begins,
     Ends,

@@ -3,6 +3,7 @@ ghost use Rattle.std.specs.Prelude.{◌≡◌, [], IsTrue};
 ghost use Rattle.chart_layout.specs.Drawn.{body_statements, figures_statements};
 
 use crate::choice::Choice;
+use crate::measures::{LEAST_SYMBOL, STATEMENT_GAP, TEXT_DROP};
 use crate::note::Note;
 use crate::px::Px;
 use crate::statement::{Call, Statement};
@@ -30,7 +31,7 @@ pub struct Body {
 }
 
 /// Whose line a body's end joins.
-#[derive(Clone, Copy, Debug, PartialEq, Eq)]
+#[derive(Clone, Copy)]
 pub(crate) enum End {
     /// That of its own spine.
     Spine,
@@ -47,8 +48,8 @@ impl Body {
         let mut shared = Px(0);
         for figure in &figures {
             front = alone;
-            alone = front.or(figure.width(End::Spine));
-            shared = front.or(figure.width(End::Rail));
+            alone = front.max(figure.width(End::Spine));
+            shared = front.max(figure.width(End::Rail));
         }
         Body {
             figures,
@@ -86,18 +87,18 @@ impl Figure {
 
 /// The width of the box of some statements.
 pub(crate) fn row_width(row: &[Statement]) -> Px {
-    let mut width = Px(200);
+    let mut width = LEAST_SYMBOL;
     for statement in row {
-        width = width.or(statement.box_width());
+        width = width.max(statement.box_width());
     }
     width
 }
 
-/// The height of the box of some statements: 4 px between two of them, 8 above and below.
+/// The height of the box of some statements, with the room between them, above them and below them.
 pub(crate) fn row_height(row: &[Statement]) -> Px {
-    let mut height = Px(12);
+    let mut height = TEXT_DROP + TEXT_DROP - STATEMENT_GAP;
     for statement in row {
-        height = height + statement.height() + 4;
+        height = height + statement.height() + STATEMENT_GAP;
     }
     height
 }

@@ -5,9 +5,14 @@ ghost use Rattle.chart_layout.specs.declared.choice.Choice.{out-Choice};
 ghost use Rattle.chart_layout.specs.Drawn.{drawn_statement, drawn_call, joined_back, drawing_statements, body_statements, figure_statements, choice_statements, arm_statements};
 
 use crate::build::MethodText;
-use crate::choice::{Arm, Choice, STEP, Shape};
+use crate::choice::{Arm, Choice, Shape};
 use crate::drawing::{Anchor, Drawing, Row, Word};
 use crate::figure::{Body, End, Figure, row_height, row_width};
+use crate::measures::{
+    BELOW_RAIL, BRANCH_DROP, CALL_HEIGHT, CUT_GAP, EITHER_DROP, EMPTY_JOIN_GAP, JOIN_GAP,
+    LEAST_TERMINATOR, LONGEST_PART, MARGIN, NOTE_CUT_GAP, NOTE_GAP, RAIL_GAP, RAIL_JOIN_GAP, SPINE,
+    STEP, SYMBOL_GAP, TERMINATOR_HEIGHT, TERMINATOR_SIDE, WORD_CHAR, WORD_DROP, WORD_SIDE,
+};
 use crate::note::Note;
 use crate::pen::Pen;
 use crate::px::{Px, tenths};
@@ -15,40 +20,24 @@ use crate::statement::{Call, Statement};
 use pap_tree::Name;
 use std::alloc::{AllocError, Global};
 
-/// How far a part reaches from its top to the end of its last symbol.
-const LONGEST_PART: u32 = 1070;
-
-/// How far a spine is from its body's left edge.
-const SPINE: u32 = 28;
-
 /// The drawing of a method. Takes time linear in its statements.
 pub fn draw(alloc: Global, method: &MethodText) -> Result<Drawing<'_>, AllocError>
     ensures { IfOk result (λ drawing.
         drawing_statements drawing.parts.items ≡ body_statements method.now.body) }
 {
     let mut pen = Pen::new(alloc);
-    let left = Px(2);
-    let start = start_width(&method.name);
-    pen.row(Row::Start {
-        x: left,
-        y: left,
-        width: start,
-    })?;
-    let below = Spot::at(left + 30);
-    let end = pen.body(&method.body, left, below, None)?;
-    let y = end.y + 20;
-    pen.enter(left + SPINE, end.from, y)?;
-    let last = end_width(&method.name);
-    pen.row(Row::End {
-        x: left,
-        y,
-        width: last,
-    })?;
+    let height = pen.method(method)?;
     Ok(Drawing {
-        width: method.body.width(End::Spine).or(start).or(last) + 4,
-        height: y + 32,
+        width: method_width(method),
+        height,
         parts: pen.parts,
     })
+}
+
+/// The width of the drawing of a method.
+fn method_width(method: &MethodText) -> Px {
+    let symbols = start_width(&method.name).max(end_width(&method.name));
+    method.body.width(End::Spine).max(symbols) + MARGIN + MARGIN
 }
 
 /// The width of the symbol with which a method begins.
@@ -62,7 +51,8 @@ fn end_width(name: &Name) -> Px {
 }
 
 fn terminator_width(chars: usize) -> Px {
-    (Px::of_tenths(tenths(chars, 80)) + 32).or(Px(56))
+    let word = Px::of_tenths(tenths(chars, WORD_CHAR));
+    (word + TERMINATOR_SIDE + TERMINATOR_SIDE).max(LEAST_TERMINATOR)
 }
 
 /// How far a body is drawn.
@@ -105,7 +95,7 @@ impl Fork {
 
     /// The spine of its branch.
     fn side(&self) -> Px {
-        self.x + (SPINE + STEP)
+        self.x + SPINE + STEP
     }
 }
 
@@ -118,16 +108,39 @@ struct Ending {
 }
 
 impl<'a> Pen<'a> {
+    /// Draws a method, and answers the height of its drawing.
+    fn method(&mut self, method: &'a MethodText) -> Result<Px, AllocError>
+        ensures { OnOk result (drawing_statements self.new.parts.items
+            ≡ drawing_statements self.old.parts.items ++ body_statements method.now.body) }
+    {
+        let x = MARGIN;
+        self.row(Row::Start {
+            x,
+            y: MARGIN,
+            width: start_width(&method.name),
+        })?;
+        let below = Spot::at(MARGIN + TERMINATOR_HEIGHT);
+        let end = self.body(&method.body, x, below, None)?;
+        let y = end.y + SYMBOL_GAP;
+        self.enter(x + SPINE, end.from, y)?;
+        self.row(Row::End {
+            x,
+            y,
+            width: end_width(&method.name),
+        })?;
+        Ok(y + TERMINATOR_HEIGHT + MARGIN)
+    }
+
     /// Makes room for a symbol of a height below a spot, in a new part where it would end too far below the top of this one,
     /// and draws the comments above it and the line into it. Its upper edge.
     fn place(&mut self, x: Px, spot: Spot<'a>, height: Px) -> Result<Px, AllocError>
         ensures { OnOk result (drawing_statements self.new.parts.items
             ≡ drawing_statements self.old.parts.items) }
     {
-        let y = spot.y + 20;
+        let y = spot.y + SYMBOL_GAP;
         let cut = match spot.note {
-            Some((top, _)) => top - 2,
-            None => y - 8,
+            Some((top, _)) => top - NOTE_CUT_GAP,
+            None => y - CUT_GAP,
         };
         let top = self.top(self.last());
         if y + height > top + LONGEST_PART && cut > top {
@@ -223,9 +236,9 @@ impl<'a> Pen<'a> {
         ensures { OnOk result (drawing_statements self.new.parts.items
             ≡ drawing_statements self.old.parts.items ++ drawn_call call.now ∷ []) }
     {
-        let y = self.place(x, spot, Px(34))?;
+        let y = self.place(x, spot, CALL_HEIGHT)?;
         self.row(Row::Call { x, y, call })?;
-        Ok(Spot::at(y + 34))
+        Ok(Spot::at(y + CALL_HEIGHT))
     }
 
     /// Draws an IF.
@@ -291,16 +304,25 @@ impl<'a> Pen<'a> {
         ensures { OnOk result (drawing_statements self.new.parts.items
             ≡ drawing_statements self.old.parts.items ++ body_statements branch.now) }
     {
-        let y = fork.bottom + 8;
+        let begin = self.begin_branch(fork, word)?;
+        self.body(branch, fork.x + STEP, begin, rail)
+    }
+
+    /// Draws the beginning of a branch to the right, with its word.
+    fn begin_branch(&mut self, fork: Fork, word: Word) -> Result<Spot<'a>, AllocError>
+        ensures { OnOk result (drawing_statements self.new.parts.items
+            ≡ drawing_statements self.old.parts.items) }
+    {
+        let y = fork.bottom + BRANCH_DROP;
         self.vertical(fork.side(), fork.bottom, y)?;
         self.word(
             fork.part,
-            fork.side() + 6,
-            fork.bottom + 16,
+            fork.side() + WORD_SIDE,
+            fork.bottom + WORD_DROP,
             word,
             Anchor::Begins,
         )?;
-        self.body(branch, fork.x + STEP, Spot::at(y), rail)
+        Ok(Spot::at(y))
     }
 
     /// Draws the spine beside a branch, and its word.
@@ -311,8 +333,8 @@ impl<'a> Pen<'a> {
         self.vertical(fork.spine(), fork.bottom, end)?;
         self.word(
             fork.part,
-            fork.spine() - 6,
-            fork.bottom + 16,
+            fork.spine() - WORD_SIDE,
+            fork.bottom + WORD_DROP,
             word,
             Anchor::Ends,
         )
@@ -325,7 +347,15 @@ impl<'a> Pen<'a> {
             ≡ drawing_statements self.old.parts.items ++ body_statements branch.now) }
     {
         let end = self.branch(fork, branch, word, None)?;
-        let y = end.y + 12;
+        self.come_back(fork, end, word)
+    }
+
+    /// Draws the way back from the end of the one branch of a word.
+    fn come_back(&mut self, fork: Fork, end: Spot<'a>, word: Word) -> Result<Spot<'a>, AllocError>
+        ensures { OnOk result (drawing_statements self.new.parts.items
+            ≡ drawing_statements self.old.parts.items) }
+    {
+        let y = end.y + JOIN_GAP;
         self.vertical(fork.side(), end.from, y)?;
         self.beside(fork, y, other(word))?;
         self.horizontal(fork.spine(), y, fork.side())?;
@@ -338,13 +368,12 @@ impl<'a> Pen<'a> {
         ensures { OnOk result (drawing_statements self.new.parts.items
             ≡ drawing_statements self.old.parts.items) }
     {
-        let y = fork.bottom + 26;
+        let y = fork.bottom + EITHER_DROP;
         self.vertical(fork.spine(), fork.bottom, y)?;
-        let x = fork.spine() + 6;
         self.word(
             fork.part,
-            x,
-            fork.bottom + 16,
+            fork.spine() + WORD_SIDE,
+            fork.bottom + WORD_DROP,
             Word::YesOrNo,
             Anchor::Begins,
         )?;
@@ -363,27 +392,37 @@ impl<'a> Pen<'a> {
         ensures { OnOk result (drawing_statements self.new.parts.items
             ≡ drawing_statements self.old.parts.items ++ choice_statements choice.now) }
     {
-        let shared = match rail {
-            Some(shared) => shared,
-            None => self.new_rail(x + choice.inner() + 18)?,
-        };
-        let is_own = rail.is_none();
-        let ending = Ending {
-            rail: shared,
-            is_own,
-        };
+        let ending = self.ending(rail, x + choice.inner() + RAIL_GAP)?;
         let end = self.arms(choice, x, spot, ending)?;
-        let end = self.body(&choice.otherwise, x, end, Some(shared))?;
-        if !is_own {
+        let end = self.body(&choice.otherwise, x, end, Some(ending.rail))?;
+        if !ending.is_own {
             return Ok(end);
         }
         let y = if choice.ends_in_branch() {
             end.y
         } else {
-            end.y + 14
+            end.y + RAIL_JOIN_GAP
         };
-        self.close_rail(shared, x + SPINE, end.from, y)?;
+        self.close_rail(ending.rail, x + SPINE, end.from, y)?;
         Ok(Spot::at(y))
+    }
+
+    /// Where the branches of an IF meet: the rail to which the end of its body leads, or one of its
+    /// own at `x`.
+    fn ending(&mut self, rail: Option<usize>, x: Px) -> Result<Ending, AllocError>
+        ensures { OnOk result (drawing_statements self.new.parts.items
+            ≡ drawing_statements self.old.parts.items) }
+    {
+        match rail {
+            Some(rail) => Ok(Ending {
+                rail,
+                is_own: false,
+            }),
+            None => Ok(Ending {
+                rail: self.new_rail(x)?,
+                is_own: true,
+            }),
+        }
     }
 
     /// Draws the arms of an IF, whose branches go to a rail.
@@ -445,21 +484,40 @@ impl<'a> Pen<'a> {
             ≡ drawing_statements self.old.parts.items ++ body_statements branch.now) }
     {
         let end = self.branch(fork, branch, Word::Yes, Some(rail))?;
-        let y = end.y + if branch.is_empty() { 14 } else { 12 };
+        let gap = if branch.is_empty() {
+            EMPTY_JOIN_GAP
+        } else {
+            JOIN_GAP
+        };
+        let y = end.y + gap;
         self.vertical(fork.side(), end.from, y)?;
-        if is_closing {
-            self.beside(fork, y, Word::No)?;
-            return Ok(Spot::at(y));
+        self.leave_branch(fork, y, rail, is_closing)
+    }
+
+    /// Draws what leaves the end of a branch: the way to the rail, and the spine beside the branch.
+    fn leave_branch(
+        &mut self,
+        fork: Fork,
+        y: Px,
+        rail: usize,
+        is_closing: bool,
+    ) -> Result<Spot<'a>, AllocError>
+        ensures { OnOk result (drawing_statements self.new.parts.items
+            ≡ drawing_statements self.old.parts.items) }
+    {
+        let mut end = y;
+        if !is_closing {
+            self.meet_rail(rail, fork.side(), y)?;
+            end = y + BELOW_RAIL;
         }
-        self.meet_rail(rail, fork.side(), y)?;
-        self.beside(fork, y + 2, Word::No)?;
-        Ok(Spot::at(y + 2))
+        self.beside(fork, end, Word::No)?;
+        Ok(Spot::at(end))
     }
 }
 
 /// The spot below comments.
 fn below_note<'a>(spot: Spot<'a>, note: &'a Note) -> Spot<'a> {
-    let top = spot.y + 14;
+    let top = spot.y + NOTE_GAP;
     Spot {
         from: spot.from,
         y: top + note.height(),

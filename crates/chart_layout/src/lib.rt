@@ -11,6 +11,7 @@ mod drawing;
 mod figure;
 mod layout;
 mod lines;
+mod measures;
 mod note;
 mod pen;
 mod pieces;
@@ -23,6 +24,10 @@ pub use drawing::{Anchor, Drawing, Head, Part, Row, Stroke, Word};
 pub use figure::{Body, Figure};
 pub use layout::draw;
 pub use lines::Line;
+pub use measures::{
+    BOX_SIDE, CALL_HEIGHT, CALL_SIDE, LINE_HEIGHT, NOTE_LINE, STATEMENT_GAP, TERMINATOR_HEIGHT,
+    TERMINATOR_SIDE, TEST_SIDE, TEXT_DROP,
+};
 pub use note::Note;
 pub use pieces::Piece;
 pub use px::Px;

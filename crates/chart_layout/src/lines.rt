@@ -1,15 +1,24 @@
 //! The lines of a text.
+use crate::measures::INDENT;
 use crate::pieces::{CALL, Piece, Weight};
+use crate::px::Px;
 use std::alloc::{AllocError, Global};
 
 /// A line of a text: its pieces from the first on, before the last, and how far it is indented, in characters.
-#[derive(Clone, Copy, Debug)]
+#[derive(Clone, Copy)]
 pub struct Line {
     pub first: usize,
     pub last: usize,
     pub indent: usize,
     /// How many characters stand behind the indent.
     pub chars: usize,
+}
+
+impl Line {
+    /// How far it is indented.
+    pub fn left(&self) -> Px {
+        INDENT.times(self.indent)
+    }
 }
 
 /// How many characters lines have room for.
@@ -30,28 +39,32 @@ pub(crate) fn break_lines(
     let mut lines = Vec::new(alloc);
     let mut first = 0;
     for _ in 0..pieces.len() {
-        let rest = pieces.get(first..).unwrap_or(&[]);
-        let Some(begin) = rest.first() else {
+        let Some(line) = next_line(pieces, first, room) else {
             break;
         };
-        let indent = if first == 0 { 0 } else { indent_of(begin) };
-        let width = if first == 0 {
-            room.first
-        } else {
-            room.other.saturating_sub(indent)
-        };
-        let count = line_length(rest, width);
-        let last = first.saturating_add(count);
-        let chars = chars_of(rest.get(..count).unwrap_or(&[]));
-        lines.push(Line {
-            first,
-            last,
-            indent,
-            chars,
-        })?;
-        first = last;
+        first = line.last;
+        lines.push(line)?;
     }
     Ok(lines)
+}
+
+/// The line that begins with the piece of a number, if there is that piece.
+fn next_line(pieces: &[Piece], first: usize, room: Room) -> Option<Line> {
+    let rest = pieces.get(first..)?;
+    let begin = rest.first()?;
+    let indent = if first == 0 { 0 } else { indent_of(begin) };
+    let width = if first == 0 {
+        room.first
+    } else {
+        room.other.saturating_sub(indent)
+    };
+    let count = line_length(rest, width);
+    Some(Line {
+        first,
+        last: first.saturating_add(count),
+        indent,
+        chars: chars_of(rest.get(..count).unwrap_or(&[])),
+    })
 }
 
 /// How far a line is indented that begins with a piece: 4, and 2 for each of at most 6 open brackets.

@@ -1,4 +1,5 @@
 //! Comments of the file beside the spine.
+use crate::measures::{BOX_SIDE, CODE_CHAR, NOTE_CHAR, NOTE_CHARS_LESS, NOTE_LINE, NOTE_SIDES};
 use crate::pieces::count_chars;
 use crate::px::{Px, tenths};
 use std::alloc::{AllocError, Global};
@@ -10,14 +11,16 @@ pub struct Note {
 }
 
 impl Note {
-    /// Appends comments in lines that break at spaces, where the symbols have some room in px. A longer word stands alone.
+    /// Appends comments in lines that break at spaces, where the symbols have some room. A longer
+    /// word stands alone.
     pub(crate) fn append(
         &mut self,
         alloc: Global,
         comments: &[String],
-        room: u32,
+        room: Px,
     ) -> Result<(), AllocError> {
-        let chars = (room.saturating_sub(24).saturating_mul(10) / 73).saturating_sub(8);
+        let text = room - BOX_SIDE - BOX_SIDE;
+        let chars = (text.tenths() / CODE_CHAR).saturating_sub(NOTE_CHARS_LESS);
         for comment in comments {
             append_lines(alloc, &mut self.lines, comment, chars as usize)?;
         }
@@ -25,7 +28,7 @@ impl Note {
     }
 
     pub fn height(&self) -> Px {
-        Px(tenths(self.lines.len(), 14))
+        NOTE_LINE.times(self.lines.len())
     }
 
     pub(crate) fn width(&self) -> Px {
@@ -33,7 +36,7 @@ impl Note {
         for line in &self.lines {
             longest = count_chars(line.as_bytes()).max(longest);
         }
-        Px::of_tenths(tenths(longest, 62)) + 50
+        Px::of_tenths(tenths(longest, NOTE_CHAR)) + NOTE_SIDES
     }
 }
 
@@ -44,23 +47,30 @@ fn append_lines(
     comment: &str,
     room: usize,
 ) -> Result<(), AllocError> {
-    let mut line = String::new(alloc);
+    lines.push(String::new(alloc))?;
     let mut chars: usize = 0;
     for word in comment.split(' ') {
         let length = count_chars(word.as_bytes());
         let longer = chars.saturating_add(length).saturating_add(1);
-        if chars > 0 && longer > room {
-            lines.push(line)?;
-            line = String::from_str(alloc, word)?;
+        if chars == 0 {
+            append_word(lines, "", word)?;
+            chars = length;
+        } else if longer > room {
+            lines.push(String::from_str(alloc, word)?)?;
             chars = length;
         } else {
-            if chars > 0 {
-                line.push(' ')?;
-            }
-            line.push_str(word)?;
-            chars = if chars > 0 { longer } else { length };
+            append_word(lines, " ", word)?;
+            chars = longer;
         }
     }
-    lines.push(line)?;
+    Ok(())
+}
+
+/// Appends a word to the last line, behind a space or nothing.
+fn append_word(lines: &mut Vec<String>, space: &str, word: &str) -> Result<(), AllocError> {
+    if let Some(line) = lines.last_mut() {
+        line.push_str(space)?;
+        line.push_str(word)?;
+    }
     Ok(())
 }

@@ -52,14 +52,21 @@ impl<'a> Pen<'a> {
             ≡ drawing_statements self.old.parts.items) }
         ensures some { OnOk result (0 < vec_len self.new.parts) }
     {
-        self.parts.push(Part {
-            top,
-            rows: Vec::new(self.alloc),
-            verticals: Vec::new(self.alloc),
-            horizontals: Vec::new(self.alloc),
-            heads: Vec::new(self.alloc),
-        })?;
+        self.parts.push(Part::new(self.alloc, top))?;
         Ok(())
+    }
+
+    /// Begins the first part, where there is none.
+    fn begin(&mut self) -> Result<(), AllocError>
+        ensures same { OnOk result (drawing_statements self.new.parts.items
+            ≡ drawing_statements self.old.parts.items) }
+        ensures some { OnOk result (0 < vec_len self.new.parts) }
+    {
+        if self.parts.is_empty() {
+            self.begin_part(Px(0))
+        } else {
+            Ok(())
+        }
     }
 
     /// Appends a symbol or a word to the last part; the first row begins one.
@@ -67,9 +74,7 @@ impl<'a> Pen<'a> {
         ensures { OnOk result (drawing_statements self.new.parts.items
             ≡ drawing_statements self.old.parts.items ++ row_statements row.entry) }
     {
-        if self.parts.is_empty() {
-            self.begin_part(Px(0))?;
-        }
+        self.begin()?;
         if let Some(part) = self.parts.last_mut() {
             part.rows.push(row)?;
         }
@@ -106,7 +111,7 @@ impl<'a> Pen<'a> {
                 number,
                 Stroke {
                     x,
-                    y: top.or(y),
+                    y: top.max(y),
                     end,
                 },
             )?;

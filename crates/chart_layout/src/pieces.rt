@@ -4,7 +4,7 @@ use pap_tree::{Binary, is_white};
 use std::alloc::{AllocError, Global};
 
 /// How ill a break would be: the open brackets, then how tight its operator is.
-#[derive(Clone, Copy, Debug, PartialEq, Eq, PartialOrd, Ord)]
+#[derive(Clone, Copy, PartialEq, PartialOrd)]
 pub struct Weight {
     pub brackets: usize,
     pub tightness: u8,
@@ -34,6 +34,11 @@ pub struct Piece {
 /// The pieces of a text.
 pub(crate) fn read_pieces(alloc: Global, text: &[u8]) -> Result<Vec<Piece>, AllocError> {
     let tokens = read_tokens(alloc, text)?;
+    pieces_of(alloc, text, &tokens)
+}
+
+/// The pieces of a text with these tokens.
+fn pieces_of(alloc: Global, text: &[u8], tokens: &[Placed]) -> Result<Vec<Piece>, AllocError> {
     let mut pieces = Vec::new(alloc);
     let mut brackets: usize = 0;
     let mut before = Before::Nothing;
@@ -64,7 +69,7 @@ pub(crate) fn read_pieces(alloc: Global, text: &[u8]) -> Result<Vec<Piece>, Allo
 }
 
 /// What a token is for those beside it.
-#[derive(Clone, Copy, Debug, PartialEq, Eq)]
+#[derive(Clone, Copy, PartialEq)]
 enum Before {
     Nothing,
     /// A name, a number or a keyword other than the next.

@@ -1,20 +1,13 @@
 //! Lengths.
+use crate::measures::{LEAST_SYMBOL, SYMBOL_STEP};
 use std::fmt;
 use std::ops::{Add, Sub};
 
 /// A length or a place of the drawing, in whole px. Sums stop at the greatest number, differences at 0.
-#[derive(Clone, Copy, Debug, PartialEq, Eq, PartialOrd, Ord)]
+#[derive(Clone, Copy, PartialEq, PartialOrd)]
 pub struct Px(pub u32);
 
-impl Add<u32> for Px {
-    type Output = Px;
-
-    fn add(self, length: u32) -> Px {
-        Px(self.0.saturating_add(length))
-    }
-}
-
-impl Add<Px> for Px {
+impl Add for Px {
     type Output = Px;
 
     fn add(self, length: Px) -> Px {
@@ -22,15 +15,7 @@ impl Add<Px> for Px {
     }
 }
 
-impl Sub<u32> for Px {
-    type Output = Px;
-
-    fn sub(self, length: u32) -> Px {
-        Px(self.0.saturating_sub(length))
-    }
-}
-
-impl Sub<Px> for Px {
+impl Sub for Px {
     type Output = Px;
 
     fn sub(self, length: Px) -> Px {
@@ -46,8 +31,18 @@ impl fmt::Display for Px {
 
 impl Px {
     /// The greater of two lengths.
-    pub fn or(self, other: Px) -> Px {
+    pub fn max(self, other: Px) -> Px {
         Px(self.0.max(other.0))
+    }
+
+    /// The half of a length, rounded down.
+    pub fn half(self) -> Px {
+        Px(self.0 / 2)
+    }
+
+    /// A length so many times.
+    pub(crate) fn times(self, count: usize) -> Px {
+        Px(tenths(count, self.0))
     }
 
     /// Tenths of a px, rounded up.
@@ -55,17 +50,19 @@ impl Px {
         Px(tenths / 10 + u32::from(tenths % 10 != 0))
     }
 
-    /// The width of a symbol: the next multiple of 40, at least 200.
+    /// The tenths of a px of a length.
+    pub(crate) fn tenths(self) -> u32 {
+        self.0.saturating_mul(10)
+    }
+
+    /// The width of a symbol: the next multiple of its step, and no less than the least.
     pub(crate) fn symbol_width(self) -> Px {
-        Px(
-            (self.0 / 40 + u32::from(self.0 % 40 != 0))
-                .saturating_mul(40)
-                .max(200),
-        )
+        let steps = self.0 / SYMBOL_STEP + u32::from(self.0 % SYMBOL_STEP != 0);
+        Px(steps.saturating_mul(SYMBOL_STEP)).max(LEAST_SYMBOL)
     }
 }
 
-/// How many lengths of some tenths of a px there are.
+/// How many tenths of a px some characters take, of so many each.
 pub(crate) fn tenths(count: usize, each: u32) -> u32 {
     u32::try_from(count)
         .unwrap_or(u32::MAX)

@@ -3,16 +3,13 @@ ghost use Rattle.std.specs.Prelude.{◌≡◌, IfOk};
 ghost use Rattle.chart_layout.specs.Drawn.{drawn, drawn_statement, drawn_call};
 
 use crate::lines::{Line, Room, break_lines};
+use crate::measures::{
+    BOX_SIDE, CALL_SIDE, CODE_CHAR, LINE_HEIGHT, PLACE_CHAR, PLACE_GAP, TEST_SIDE, TEXT_DROP,
+};
 use crate::pieces::{Piece, read_pieces};
 use crate::px::{Px, tenths};
 use pap_tree::Name;
 use std::alloc::{AllocError, Global};
-
-/// The room beside the text in a box, in px.
-pub(crate) const BOX_SIDES: u32 = 24;
-
-/// The room beside the text in a hexagon, in px.
-pub(crate) const TEST_SIDES: u32 = 48;
 
 /// A text in lines.
 #[derive(Drop)]
@@ -54,19 +51,19 @@ pub(crate) struct Site {
 }
 
 impl Statement {
-    /// A statement of a text, of which a line may take some px.
+    /// A statement of a text, of which a line may take some room.
     pub(crate) fn new(
         alloc: Global,
         site: Site,
         text: Vec<u8>,
-        room: u32,
+        room: Px,
     ) -> Result<Statement, AllocError>
         ensures { IfOk result (λ s. drawn_statement s ≡ drawn site.number site.is_refused text.items) }
     {
         let beside = beside_place(site.chars);
         let room = Room {
-            first: chars_in(room.saturating_mul(10).saturating_sub(beside)),
-            other: chars_in(room.saturating_mul(10)),
+            first: chars_in(room.tenths().saturating_sub(beside)),
+            other: chars_in(room.tenths()),
         };
         let pieces = read_pieces(alloc, &text)?;
         let lines = break_lines(alloc, &pieces, room)?;
@@ -83,24 +80,24 @@ impl Statement {
         })
     }
 
-    /// The height of its lines: 18 px each, of an empty text one.
+    /// The height of its lines, of an empty text of one.
     pub fn height(&self) -> Px {
-        Px(tenths(self.written.lines.len().max(1), 18))
+        LINE_HEIGHT.times(self.written.lines.len().max(1))
     }
 
     /// The width of a box in which it stands alone.
     pub(crate) fn box_width(&self) -> Px {
-        (self.width + BOX_SIDES).symbol_width()
+        (self.width + BOX_SIDE + BOX_SIDE).symbol_width()
     }
 
     /// The width of its hexagon, where it is a test.
     pub fn test_width(&self) -> Px {
-        (self.width + TEST_SIDES).symbol_width()
+        (self.width + TEST_SIDE + TEST_SIDE).symbol_width()
     }
 
     /// The height of its hexagon.
     pub fn test_height(&self) -> Px {
-        self.height() + 16
+        self.height() + TEXT_DROP + TEXT_DROP
     }
 }
 
@@ -108,13 +105,13 @@ impl Call {
     pub(crate) fn new(site: Site, method: Name) -> Call
         ensures { drawn_call result ≡ drawn site.number site.is_refused method }
     {
-        let name = tenths(method.bytes().len(), 73);
-        let place = tenths(site.chars, 59);
+        let name = tenths(method.bytes().len(), CODE_CHAR);
+        let names = Px::of_tenths(name.saturating_add(tenths(site.chars, PLACE_CHAR)));
         Call {
             number: site.number,
             is_refused: site.is_refused,
             method,
-            width: (Px::of_tenths(name.saturating_add(place)) + 54).symbol_width(),
+            width: (names + PLACE_GAP + CALL_SIDE + CALL_SIDE).symbol_width(),
         }
     }
 
@@ -125,19 +122,19 @@ impl Call {
 
 /// How many tenths of a px a place of some characters takes in a statement's first line.
 fn beside_place(chars: usize) -> u32 {
-    tenths(chars, 59).saturating_add(140)
+    tenths(chars, PLACE_CHAR).saturating_add(PLACE_GAP.tenths())
 }
 
 /// How many characters have room in tenths of a px.
 fn chars_in(room: u32) -> usize {
-    (room / 73) as usize
+    (room / CODE_CHAR) as usize
 }
 
 /// The width of lines, the first of which has a place beside it.
 fn text_width(lines: &[Line], beside: u32) -> Px {
     let mut widest = 0;
     for (i, line) in lines.iter().enumerate() {
-        let width = tenths(line.chars, 73).saturating_add(tenths(line.indent, 70));
+        let width = tenths(line.chars, CODE_CHAR).saturating_add(line.left().tenths());
         let width = if i == 0 {
             width.saturating_add(beside)
         } else {

@@ -5,18 +5,20 @@ use Rattle.std.proofs.lemmas.List.{append-nil, flat_map_more, map_push, take_mor
 use Rattle.pap_reader.specs.declared.elements.RawMethod.{RawMethod}
 use Rattle.pap_reader.specs.declared.elements.RawStmt.{RawStmt}
 use Rattle.pap_reader.specs.Trees.{RawRoutine, raw_body_of, raw_routine_of}
-use Rattle.chart_layout.specs.Drawn.{Drawn, body_statements}
+use Rattle.chart_layout.specs.Drawn.{body_statements}
 use Rattle.flowchart_methods.specs.declared.chapter.Chapter.{Chapter}
 use Rattle.flowchart_methods.specs.Turns.{AddsInTurn}
 use Rattle.flowchart_methods.specs.Sites.{NamedStatement, number_in}
 use Rattle.flowchart_methods.specs.Captions.{heading, statement_captions, method_captions, AreCaptions}
 use Rattle.flowchart_methods.specs.Chapters.{chapter_captions, IsChapter}
-use Rattle.flowchart_methods.proofs.Laws.{adds_before, adds_behind, adds_then}
-use Rattle.flowchart_methods.proofs.TurnLemmas.{adds_text}
+use Rattle.flowchart_methods.proofs.Laws.{adds_behind, adds_then}
 
-captions_push : (refused : Option NamedStatement) (ms : List RawRoutine) (m : RawRoutine) (captions more : List (List ℕ))
-    → AreCaptions refused ms captions → AreCaptions refused (m ∷ []) more → AreCaptions refused (ms ++ m ∷ []) (captions ++ more)
-captions_push refused [] m captions more first second = subst (λ l. AreCaptions refused (m ∷ []) (l ++ more)) (sym first) second
+captions_push : (refused : Option NamedStatement) (ms : List RawRoutine) (m : RawRoutine) (captions more : List (List
+    ℕ))
+    → AreCaptions refused ms captions → AreCaptions refused (m ∷ []) more
+    → AreCaptions refused (ms ++ m ∷ []) (captions ++ more)
+captions_push refused [] m captions more first second = subst (λ l. AreCaptions refused (m ∷ []) (l ++ more)) (sym
+    first) second
 captions_push refused (n ∷ ms) m captions more first second = (
   first.0,
   first.1,
@@ -27,7 +29,8 @@ captions_push refused (n ∷ ms) m captions more first second = (
   ),
 )
 
-one_chapter : (refused : Option NamedStatement) (m : RawRoutine) (c : Chapter) → IsChapter (number_in refused m.name) m.name m.body c
+one_chapter : (refused : Option NamedStatement) (m : RawRoutine) (c : Chapter)
+    → IsChapter (number_in refused m.name) m.name m.body c
     → AreCaptions refused (m ∷ []) (chapter_captions c)
 one_chapter refused m c is = (
   body_statements c.text.body,
@@ -41,7 +44,8 @@ one_chapter refused m c is = (
 )
 
 -- the first method
-pub first_chapter : (refused : Option NamedStatement) (name main : List ℕ) (statements body : List RawStmt) (c : Chapter)
+pub first_chapter : (refused : Option NamedStatement) (name main : List ℕ) (statements body : List RawStmt) (c :
+    Chapter)
     (old new : List Chapter) → old ≡ [] → new ≡ old ++ c ∷ [] → name ≡ main → statements ≡ body
     → IsChapter (number_in refused name) name (raw_body_of statements) c
     → AreCaptions refused (record { name = main; body = raw_body_of body } ∷ []) (flat_map chapter_captions new)
@@ -55,7 +59,8 @@ first_chapter refused name main statements body c old new none is named same cha
 
 -- one method more
 pub next_chapter : (refused : Option NamedStatement) (main : RawRoutine) (ms : List RawMethod) (i : ℕ) (m : RawMethod)
-    (statements : List RawStmt) (c : Chapter) (old new : List Chapter) → i < length ms → m ≡ get_or ms i m → new ≡ old ++ c ∷ []
+    (statements : List RawStmt) (c : Chapter) (old new : List Chapter) → i < length ms → m ≡ get_or ms i m
+    → new ≡ old ++ c ∷ []
     → statements ≡ m.body.items → IsChapter (number_in refused m.name) m.name (raw_body_of statements) c
     → AreCaptions refused (main ∷ map raw_routine_of (take i ms)) (flat_map chapter_captions old)
     → AreCaptions refused (main ∷ map raw_routine_of (take (i + 1) ms)) (flat_map chapter_captions new)
@@ -71,20 +76,19 @@ next_chapter refused main ms i m statements c old new some at is same chapter be
     (one_chapter refused (raw_routine_of m) c
     (subst (λ b. IsChapter (number_in refused m.name) m.name (raw_body_of b) c) same chapter))))
 
-pub all_chapters : (refused : Option NamedStatement) (main : RawRoutine) (ms : List RawMethod) (i : ℕ) (captions : List (List ℕ))
+pub all_chapters : (refused : Option NamedStatement) (main : RawRoutine) (ms : List RawMethod) (i : ℕ) (captions :
+    List (List ℕ))
     → length ms ≤ i → AreCaptions refused (main ∷ map raw_routine_of (take i ms)) captions
     → AreCaptions refused (main ∷ map raw_routine_of ms) captions
 all_chapters refused main ms i captions all are =
     subst (λ l. AreCaptions refused (main ∷ map raw_routine_of l) captions) (take_all i ms all) are
 
--- a section: HTML, its heading, HTML, the captions of its drawing, and HTML
-pub adds_chapter : (chapter : Chapter) (ds : List Drawn) (title x y z p0 p1 p2 p3 p4 p5 : List ℕ) → p1 ≡ p0 ++ x
-    → p2 ≡ p1 ++ title → title ≡ heading chapter.text.name → p3 ≡ p2 ++ y → AddsInTurn (statement_captions chapter.text.name ds) p3 p4
-    → ds ≡ body_statements chapter.text.body → p5 ≡ p4 ++ z → AddsInTurn (chapter_captions chapter) p0 p5
-adds_chapter chapter ds title x y z p0 p1 p2 p3 p4 p5 e1 e2 named e3 drawing all e5 =
-    let captions = statement_captions chapter.text.name (body_statements chapter.text.body) in
-    let drawn : AddsInTurn captions p3 p4 = subst (λ l. AddsInTurn (statement_captions chapter.text.name l) p3 p4) all drawing in
-    let titled = adds_text (heading chapter.text.name) p1 p2 (e2 ∙ ap (λ t. p1 ++ t) named) in
-    adds_behind (chapter_captions chapter) z p0 p4 p5 e5
-    (adds_before (chapter_captions chapter) x p0 p1 p4 e1
-    (adds_then (heading chapter.text.name ∷ []) captions p1 p2 p4 titled (adds_before captions y p2 p3 p4 e3 drawn)))
+-- a section: its heading, the captions of its drawing, and HTML
+pub adds_chapter : (chapter : Chapter) (html a b c d : List ℕ) → AddsInTurn (heading chapter.text.name ∷ []) a b
+    → AddsInTurn (statement_captions chapter.text.name (body_statements chapter.text.body)) b c → d ≡ c ++ html
+    → AddsInTurn (chapter_captions chapter) a d
+adds_chapter chapter html a b c d titled drawn behind =
+    adds_behind (chapter_captions chapter) html a c d behind
+    (adds_then (heading chapter.text.name ∷ []) (statement_captions chapter.text.name (body_statements
+    chapter.text.body)) a b c titled
+    drawn)

@@ -30,6 +30,12 @@ pub adds_inside : (texts : List (List ℕ)) (first last a b c d : List ℕ) → 
 adds_inside texts first last a b c d before adds behind =
     adds_behind texts last a c d behind (adds_before texts first a b c before adds)
 
+-- HTML, a text, and HTML
+pub adds_between : (text written first last a b c d : List ℕ) → b ≡ a ++ first → c ≡ b ++ written → written ≡ text → d ≡ c ++ last
+    → AddsInTurn (text ∷ []) a d
+adds_between text written first last a b c d before said is behind =
+    adds_inside (text ∷ []) first last a b c d before (adds_text text b c (said ∙ ap (λ l. b ++ l) is)) behind
+
 -- three parts
 pub three_parts : (a b c old first second new : List ℕ) → first ≡ old ++ a → second ≡ first ++ b → new ≡ second ++ c
     → new ≡ old ++ (a ++ (b ++ c))
@@ -75,3 +81,8 @@ pub captions_all : {A : Type 0} (name : List ℕ) (g : A → List Drawn) (xs : L
     → AddsInTurn (flat_map (λ x. statement_captions name (g x)) (take i xs)) a b → AddsInTurn (statement_captions name (flat_map g xs)) a b
 captions_all name g xs i a b all adds =
     subst (λ l. AddsInTurn l a b) (captions_each name g xs) (adds_all (λ x. statement_captions name (g x)) xs i a b all adds)
+
+-- the captions of the same statements
+pub adds_same : (name : List ℕ) (xs ys : List Drawn) (a b : List ℕ) → xs ≡ ys → AddsInTurn (statement_captions name xs) a b
+    → AddsInTurn (statement_captions name ys) a b
+adds_same name xs ys a b same adds = subst (λ l. AddsInTurn (statement_captions name l) a b) same adds

@@ -7,7 +7,7 @@ ghost use Rattle.flowchart_methods.specs.Captions.{statement_captions};
 
 use crate::page::Page;
 use crate::statement::{Subject, write_box, write_call, write_test};
-use crate::symbols::{end_symbol, note_symbol, start_symbol, word_text};
+use crate::symbols::{write_end, write_note, write_start, write_word};
 use chart_layout::{Drawing, Head, Part, Px, Row, Stroke};
 use pap_tree::Name;
 use std::alloc::{AllocError, Global};
@@ -55,20 +55,36 @@ fn part_start(
     part: &Part<'_>,
 ) -> Result<Page, AllocError> {
     let mut page = Page::new(alloc);
+    write_part_tag(&mut page, name, drawing, number, part.top)?;
+    write_part_lines(&mut page, part)?;
+    Ok(page)
+}
+
+/// Appends the start tag of the part of a number, and its title.
+fn write_part_tag(
+    page: &mut Page,
+    name: &Name,
+    drawing: &Drawing<'_>,
+    number: usize,
+    top: Px,
+) -> Result<(), AllocError> {
+    let alloc = page.alloc();
     let width = drawing.width;
-    let top = part.top;
     let height = part_end(drawing, number) - top;
     let title = part_title(alloc, name, number, drawing.parts.len())?;
     page.own(&format!(in alloc;
         "<svg role=\"group\" aria-labelledby=\"t-{name}-{number}\" width=\"{width}\" height=\"{height}\" viewBox=\"0 {top} {width} {height}\"><title id=\"t-{name}-{number}\">{title}</title>"
-    )?)?;
+    )?)
+}
+
+/// Appends the lines of a part, and its arrowheads.
+fn write_part_lines(page: &mut Page, part: &Part<'_>) -> Result<(), AllocError> {
     page.own("<path aria-hidden=\"true\" class=\"l\" d=\"")?;
-    write_strokes(&mut page, &part.verticals, "V")?;
-    write_strokes(&mut page, &part.horizontals, "H")?;
+    write_strokes(page, &part.verticals, "V")?;
+    write_strokes(page, &part.horizontals, "H")?;
     page.own("\"/><path aria-hidden=\"true\" class=\"a\" d=\"")?;
-    write_heads(&mut page, &part.heads)?;
-    page.own("\"/>")?;
-    Ok(page)
+    write_heads(page, &part.heads)?;
+    page.own("\"/>")
 }
 
 /// Where the part of a number ends: where the next begins, or at the drawing's height.
@@ -131,7 +147,6 @@ fn write_row(page: &mut Page, subject: Subject<'_>, row: &Row<'_>) -> Result<(),
     ensures { OnOk result (AddsInTurn
         (statement_captions subject.entry.name.now (row_statements row.now)) page.old page.new) }
 {
-    let alloc = page.alloc();
     match row {
         Row::Box {
             x,
@@ -142,24 +157,9 @@ fn write_row(page: &mut Page, subject: Subject<'_>, row: &Row<'_>) -> Result<(),
         } => write_box(page, subject, *x, *y, *width, *height, row),
         Row::Test { x, y, test } => write_test(page, subject, *x, *y, test),
         Row::Call { x, y, call } => write_call(page, subject, *x, *y, call),
-        Row::Start { x, y, width } => {
-            write_symbol(page, &start_symbol(alloc, subject, *x, *y, *width)?)
-        }
-        Row::End { x, y, width } => {
-            write_symbol(page, &end_symbol(alloc, subject.name, *x, *y, *width)?)
-        }
-        Row::Note { x, y, note } => write_symbol(page, &note_symbol(alloc, *x, *y, note)?),
-        Row::Word { x, y, word, anchor } => {
-            write_symbol(page, &word_text(alloc, *x, *y, *word, *anchor)?)
-        }
+        Row::Start { x, y, width } => write_start(page, subject, *x, *y, *width),
+        Row::End { x, y, width } => write_end(page, subject.name, *x, *y, *width),
+        Row::Note { x, y, note } => write_note(page, *x, *y, note),
+        Row::Word { x, y, word, anchor } => write_word(page, *x, *y, *word, *anchor),
     }
-}
-
-/// Appends what is no statement.
-#[tactic(auto, using(crate::proofs::TurnLemmas::adds_html))]
-fn write_symbol(page: &mut Page, symbol: &Page) -> Result<(), AllocError>
-    ensures { OnOk result (AddsInTurn [] page.old page.new) }
-{
-    page.append(symbol)?;
-    Ok(())
 }

@@ -6,6 +6,7 @@ mod chapter;
 mod comments;
 mod escape;
 mod figure;
+mod measures;
 mod method;
 mod page;
 mod site;

@@ -1,8 +1,9 @@
 //! The sections of the methods.
-ghost use Rattle.std.specs.Prelude.{◌≡◌, IfOk, OnOk, string_bytes};
+ghost use Rattle.std.specs.Prelude.{◌≡◌, ◌∷◌, [], IfOk, OnOk, string_bytes};
 ghost use Rattle.std.specs.List.{flat_map};
 ghost use Rattle.flowchart_methods.specs.Turns.{AddsInTurn};
-ghost use Rattle.flowchart_methods.specs.Captions.{heading};
+ghost use Rattle.chart_layout.specs.Drawn.{body_statements};
+ghost use Rattle.flowchart_methods.specs.Captions.{heading, statement_captions};
 ghost use Rattle.flowchart_methods.specs.Chapters.{chapter_captions};
 
 use crate::callers::Callers;
@@ -12,7 +13,7 @@ use crate::figure::write_drawing;
 use crate::page::Page;
 use crate::site::Site;
 use crate::statement::Subject;
-use chart_layout::draw;
+use chart_layout::{MethodText, draw};
 use pap_reader::Elements;
 use pap_tree::Name;
 use std::alloc::{AllocError, Global};
@@ -57,20 +58,50 @@ fn write_method(
 ) -> Result<(), AllocError>
     ensures { OnOk result (AddsInTurn (chapter_captions chapter.now) page.old page.new) }
 {
-    let alloc = page.alloc();
-    let name = chapter.text.name;
-    let is_refused = *site == Site::Method(name);
-    page.own(&section_start(alloc, &name, is_refused)?)?;
-    page.own(&heading(alloc, &name)?)?;
-    page.append(&figure_start(alloc, chapter, callers)?)?;
-    let drawing = draw(alloc, &chapter.text)?;
+    let name = &chapter.text.name;
+    let is_refused = *site == Site::Method(*name);
+    write_method_head(page, chapter, callers, is_refused)?;
     let subject = Subject {
-        name: &name,
+        name,
         is_refused,
         methods,
     };
-    write_drawing(page, subject, &drawing)?;
+    write_figure(page, subject, &chapter.text)?;
     page.own("</div></section>\n")?;
+    Ok(())
+}
+
+/// Appends what stands before a method's drawing: its name, its comments, and what executes it.
+#[tactic(auto, using(crate::proofs::TurnLemmas::adds_between))]
+fn write_method_head(
+    page: &mut Page,
+    chapter: &Chapter<'_>,
+    callers: &[Name],
+    is_refused: bool,
+) -> Result<(), AllocError>
+    ensures { OnOk result (AddsInTurn (heading chapter.now.text.name ∷ []) page.old page.new) }
+{
+    let alloc = page.alloc();
+    let name = chapter.text.name;
+    page.own(&section_start(alloc, &name, is_refused)?)?;
+    page.own(&heading(alloc, &name)?)?;
+    page.append(&figure_start(alloc, chapter.comments, callers)?)?;
+    Ok(())
+}
+
+/// Appends the drawing of a method.
+#[tactic(auto, using(crate::proofs::TurnLemmas::adds_same))]
+fn write_figure(
+    page: &mut Page,
+    subject: Subject<'_>,
+    method: &MethodText,
+) -> Result<(), AllocError>
+    ensures { OnOk result (AddsInTurn
+        (statement_captions subject.entry.name.now (body_statements method.now.body))
+        page.old page.new) }
+{
+    let drawing = draw(page.alloc(), method)?;
+    write_drawing(page, subject, &drawing)?;
     Ok(())
 }
 
@@ -90,25 +121,33 @@ fn heading(alloc: Global, name: &Name) -> Result<String, AllocError>
 }
 
 /// What stands between a method's name and its drawing: its comments, and what executes it.
-fn figure_start(
-    alloc: Global,
-    chapter: &Chapter<'_>,
-    callers: &[Name],
-) -> Result<Page, AllocError> {
+fn figure_start(alloc: Global, comments: &[String], callers: &[Name]) -> Result<Page, AllocError> {
     let mut page = Page::new(alloc);
     page.own("\n")?;
-    if !chapter.comments.is_empty() {
-        page.own("<p class=\"com\">")?;
-        write_comments(&mut page, chapter.comments)?;
-        page.own("</p>\n")?;
-    }
-    if !callers.is_empty() {
-        page.own("<p class=\"by\">Executed by ")?;
-        write_links(&mut page, callers)?;
-        page.own("</p>\n")?;
-    }
+    write_method_comments(&mut page, comments)?;
+    write_callers(&mut page, callers)?;
     page.own("<div class=\"fig\">")?;
     Ok(page)
+}
+
+/// Appends the comments of a method, where it has some.
+fn write_method_comments(page: &mut Page, comments: &[String]) -> Result<(), AllocError> {
+    if comments.is_empty() {
+        return Ok(());
+    }
+    page.own("<p class=\"com\">")?;
+    write_comments(page, comments)?;
+    page.own("</p>\n")
+}
+
+/// Appends what executes a method, where something does.
+fn write_callers(page: &mut Page, callers: &[Name]) -> Result<(), AllocError> {
+    if callers.is_empty() {
+        return Ok(());
+    }
+    page.own("<p class=\"by\">Executed by ")?;
+    write_links(page, callers)?;
+    page.own("</p>\n")
 }
 
 /// Appends links to methods, with a comma between two of them.

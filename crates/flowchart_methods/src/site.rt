@@ -5,7 +5,7 @@ ghost use Rattle.flowchart_methods.specs.Sites.{is_in, named_statement, number_i
 use pap_tree::Name;
 
 /// What a refusal names of the plan.
-#[derive(Clone, Copy, Debug, PartialEq, Eq)]
+#[derive(Clone, Copy, PartialEq)]
 pub enum Site {
     Statement { method: Name, number: u32 },
     Method(Name),

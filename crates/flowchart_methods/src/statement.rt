@@ -4,8 +4,12 @@ ghost use Rattle.chart_layout.specs.Drawn.{drawn, drawn_statement, drawn_call};
 ghost use Rattle.flowchart_methods.specs.Turns.{AddsInTurn};
 ghost use Rattle.flowchart_methods.specs.Captions.{caption_start, caption_end, statement_caption, statement_captions};
 
+use crate::measures::{CALL_BASE, CALL_LINE, CALL_PLACE_BASE, MARK_SIDE, PLACE_BASE, TEXT_BASE};
 use crate::page::Page;
-use chart_layout::{Call, Line, Piece, Px, Statement, Written};
+use chart_layout::{
+    BOX_SIDE, CALL_HEIGHT, CALL_SIDE, Call, LINE_HEIGHT, Line, Piece, Px, STATEMENT_GAP, Statement,
+    TEST_SIDE, TEXT_DROP, Written,
+};
 use pap_tree::Name;
 use std::alloc::{AllocError, Global};
 
@@ -18,38 +22,6 @@ pub(crate) struct Subject<'a> {
     /// The names of the methods that there are, in order.
     pub methods: &'a [Name],
 }
-
-/// The room beside a box's text, on each side.
-const BOX_SIDE: Px = Px(12);
-
-/// The room beside a test's text, on each side.
-const TEST_SIDE: Px = Px(24);
-
-/// The room beside an EXECUTE's names, on each side.
-const CALL_SIDE: Px = Px(20);
-
-/// How far the two lines of an EXECUTE are from its sides.
-const CALL_LINE: Px = Px(7);
-
-/// The room above a symbol's text.
-const TEXT_DROP: Px = Px(8);
-
-/// The room between two statements of a box.
-const STATEMENT_GAP: Px = Px(4);
-
-/// How far below the top of a line its letters stand, those of a statement and those of its place.
-const TEXT_BASE: Px = Px(13);
-
-const PLACE_BASE: Px = Px(12);
-
-/// The height of a line.
-const LINE_HEIGHT: Px = Px(18);
-
-/// How much wider than its text the mark of a refused statement is, on each side.
-const MARK_SIDE: Px = Px(6);
-
-/// How far a line is indented for each character, in px.
-const INDENT: u32 = 7;
 
 /// Where the text of a statement stands.
 #[derive(Clone, Copy)]
@@ -120,12 +92,13 @@ pub(crate) fn write_test(
 {
     let alloc = page.alloc();
     let width = test.test_width();
-    let half = Px(test.test_height().0 / 2);
+    let half = test.test_height().half();
     let middle = y + half;
+    let point = TEST_SIDE.half();
     let flat = width - TEST_SIDE;
     let class = if test.is_refused { "d bad" } else { "d" };
     page.own(&format!(in alloc;
-        "<path class=\"{class}\" d=\"M{x} {middle}l12 -{half}h{flat}l12 {half}l-12 {half}h-{flat}z\"/>"
+        "<path class=\"{class}\" d=\"M{x} {middle}l{point} -{half}h{flat}l{point} {half}l-{point} {half}h-{flat}z\"/>"
     )?)?;
     let frame = TextFrame {
         x: x + TEST_SIDE,
@@ -228,13 +201,7 @@ fn statement_lines(
 ) -> Result<Page, AllocError> {
     let mut page = Page::new(alloc);
     if statement.is_refused {
-        let x = frame.x - MARK_SIDE;
-        let y = frame.top;
-        let width = frame.end + MARK_SIDE - x;
-        let height = statement.height();
-        page.own(&format!(in alloc;
-            "<rect x=\"{x}\" y=\"{y}\" width=\"{width}\" height=\"{height}\"/>"
-        )?)?;
+        write_mark(&mut page, frame, statement.height())?;
     }
     write_lines(
         &mut page,
@@ -253,6 +220,17 @@ fn statement_lines(
     )?;
     page.own("</g>")?;
     Ok(page)
+}
+
+/// Appends the mark of a refused statement, of a height.
+fn write_mark(page: &mut Page, frame: TextFrame, height: Px) -> Result<(), AllocError> {
+    let alloc = page.alloc();
+    let x = frame.x - MARK_SIDE;
+    let y = frame.top;
+    let width = frame.end + MARK_SIDE - x;
+    page.own(&format!(in alloc;
+        "<rect x=\"{x}\" y=\"{y}\" width=\"{width}\" height=\"{height}\"/>"
+    )?)
 }
 
 /// Appends the lines of a text, the first with its letters at a height.
@@ -274,10 +252,7 @@ fn write_line(
     base: Px,
 ) -> Result<(), AllocError> {
     let alloc = page.alloc();
-    let x = x
-        + u32::try_from(line.indent)
-            .unwrap_or(0)
-            .saturating_mul(INDENT);
+    let x = x + line.left();
     page.own(&format!(in alloc; "<text x=\"{x}\" y=\"{base}\">")?)?;
     let pieces = written.pieces.get(line.first..line.last).unwrap_or(&[]);
     write_pieces(page, &written.text, pieces)?;
@@ -288,20 +263,31 @@ fn write_line(
 fn write_pieces(page: &mut Page, text: &[u8], pieces: &[Piece]) -> Result<(), AllocError> {
     let mut is_grey = false;
     for (i, piece) in pieces.iter().enumerate() {
-        if is_grey && !piece.is_qualifier {
-            page.own("</tspan>")?;
-        }
-        if i > 0 && piece.is_spaced {
-            page.own(" ")?;
-        }
-        if piece.is_qualifier && !is_grey {
-            page.own("<tspan>")?;
-        }
+        write_gap(page, piece, i == 0, is_grey)?;
         is_grey = piece.is_qualifier;
         page.text(text.get(piece.start..piece.end).unwrap_or(&[]))?;
     }
     if is_grey {
         page.own("</tspan>")?;
+    }
+    Ok(())
+}
+
+/// Appends what stands before a piece: its space, and where grey begins or ends.
+fn write_gap(
+    page: &mut Page,
+    piece: &Piece,
+    is_first: bool,
+    is_grey: bool,
+) -> Result<(), AllocError> {
+    if is_grey && !piece.is_qualifier {
+        page.own("</tspan>")?;
+    }
+    if piece.is_spaced && !is_first {
+        page.own(" ")?;
+    }
+    if piece.is_qualifier && !is_grey {
+        page.own("<tspan>")?;
     }
     Ok(())
 }
@@ -331,15 +317,7 @@ fn call_symbol(
     call: &Call,
 ) -> Result<Page, AllocError> {
     let mut page = Page::new(alloc);
-    let method = call.method;
-    let is_there = subject.methods.binary_search(&method).is_ok();
-    if is_there {
-        page.own(&format!(in alloc; "<a href=\"#method-{method}\">")?)?;
-    }
-    write_call_box(&mut page, &method, x, y, call.width())?;
-    if is_there {
-        page.own("</a>")?;
-    }
+    write_call_link(&mut page, subject, x, y, call)?;
     let end = x + call.width() - CALL_SIDE;
     write_place(
         &mut page,
@@ -347,10 +325,28 @@ fn call_symbol(
         call.number,
         call.is_refused,
         end,
-        y + 20,
+        y + CALL_PLACE_BASE,
     )?;
     page.own("</g>")?;
     Ok(page)
+}
+
+/// Appends the box of an EXECUTE, as a link to its method where that is there.
+fn write_call_link(
+    page: &mut Page,
+    subject: Subject<'_>,
+    x: Px,
+    y: Px,
+    call: &Call,
+) -> Result<(), AllocError> {
+    let alloc = page.alloc();
+    let method = call.method;
+    if subject.methods.binary_search(&method).is_err() {
+        return write_call_box(page, &method, x, y, call.width());
+    }
+    page.own(&format!(in alloc; "<a href=\"#method-{method}\">")?)?;
+    write_call_box(page, &method, x, y, call.width())?;
+    page.own("</a>")
 }
 
 /// Appends the box of an EXECUTE, with the name of its method.
@@ -365,8 +361,9 @@ fn write_call_box(
     let left = x + CALL_LINE;
     let right = x + width - CALL_LINE;
     let text_x = x + CALL_SIDE;
-    let text_y = y + 21;
+    let text_y = y + CALL_BASE;
+    let height = CALL_HEIGHT;
     page.own(&format!(in alloc;
-        "<rect class=\"x\" x=\"{x}\" y=\"{y}\" width=\"{width}\" height=\"34\"/><path class=\"xx\" d=\"M{left} {y}v34M{right} {y}v34\"/><text class=\"m\" x=\"{text_x}\" y=\"{text_y}\">{method}</text>"
+        "<rect class=\"x\" x=\"{x}\" y=\"{y}\" width=\"{width}\" height=\"{height}\"/><path class=\"xx\" d=\"M{left} {y}v{height}M{right} {y}v{height}\"/><text class=\"m\" x=\"{text_x}\" y=\"{text_y}\">{method}</text>"
     )?)
 }

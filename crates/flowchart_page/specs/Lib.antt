@@ -1,4 +1,5 @@
 pub mod Verdicts
+pub mod Findings
 pub mod Pages
 pub mod Ranges
 pub mod Sites

@@ -1,25 +1,25 @@
 //! The whole page.
-ghost use Rattle.std.specs.Prelude.{◌≡◌, ◌∷◌, [], option_map, IfOk, is_some, string_bytes};
+ghost use Rattle.std.specs.Prelude.{◌≡◌, ◌∷◌, [], option_map, IfOk, string_bytes};
+ghost use Rattle.std.specs.List.{flat_map};
 ghost use Rattle.pap_reader.specs.Trees.{tree_of};
-ghost use Rattle.flowchart_page.specs.Pages.{IsVerdictText, IsWholePage, IsPage};
+ghost use Rattle.flowchart_methods.specs.Chapters.{chapter_captions};
 ghost use Rattle.plain_words.specs.Places.{named_text};
-ghost use Rattle.flowchart_page.specs.Verdicts.{file_or_none, files_with, IsJudged};
-ghost use Rattle.flowchart_page.specs.VerdictViews.{words_in, HasReasonOf};
-ghost use Rattle.flowchart_page.specs.PageViews.{verdict_text, IsPageOfTree, IsPageOfText};
+ghost use Rattle.flowchart_page.specs.Verdicts.{IsJudged};
+ghost use Rattle.flowchart_page.specs.Pages.{IsWholePage, sentence_on, Shows, IsPage};
+ghost use Rattle.flowchart_page.specs.PageViews.{ShowsTree};
+ghost use Rattle.flowchart_page.specs.VerdictViews.{finding_of, words_of};
 
 use crate::declarations::{Declarations, write_declarations};
-use crate::header::{PAGE_END, PAGE_START, Reason, head_of, write_lead, write_verdict};
+use crate::header::{PAGE_END, PAGE_START, head_of, write_lead, write_verdict};
 use crate::index::{write_index, write_key};
-use crate::site::site_of;
-use crate::verdict::{Verdict, judge};
+use crate::site::site_shown;
+use crate::verdict::{Reason, Verdict, judge};
 use flowchart_methods::{
     Chapter, Page, Site, read_chapters, write_last_paragraph, write_methods, write_paragraphs,
 };
-use limits_file::{Limits, read_limits};
-use pap_plan::PlanRefusal;
+use limits_file::{Limits, LimitsFault, read_limits};
 use pap_reader::{Elements, ReadFault, read_elements};
-use plain_words::{TextFile, plan_words};
-use plan_answers::refused;
+use plain_words::TextFile;
 use plan_notes::{Element, Notes, read_notes};
 use std::alloc::{AllocError, Global};
 
@@ -48,37 +48,22 @@ pub fn draw_chart(
     ensures page { IfOk result (λ chart. IsPage plan.entry.bytes.now
         (option_map (λ file. file.bytes.now) limits.entry) chart.page.items) }
 {
-    let judgement = judge_files(alloc, plan, limits)?;
-    let page = write_chart(alloc, plan, limits, &judgement)?;
+    let verdict = judge(alloc, plan, limits)?;
+    let page = write_chart(alloc, plan, limits, &verdict)?;
     Ok(Chart {
         page: page.into_bytes(),
-        reason: words_of(judgement.reason),
+        reason: words_of(verdict),
     })
 }
 
-/// What is said of a plan, and why it is refused.
-#[derive(Drop)]
-struct Judgement {
-    verdict: Verdict,
-    reason: Option<Reason>,
-}
-
-/// Judges a plan's file, with a range file or without one.
-#[tactic(auto, using(crate::proofs::VerdictLemmas::judged, crate::proofs::VerdictLemmas::said))]
-fn judge_files(
-    alloc: Global,
-    plan: TextFile<'_>,
-    limits: Option<TextFile<'_>>,
-) -> Result<Judgement, AllocError>
-    ensures judged { IfOk result (λ judgement. IsJudged (named_text plan.entry)
-        (option_map (λ file. named_text file) limits.entry) (words_in judgement.reason)) }
-    ensures said { IfOk result (λ judgement. IsVerdictText plan.entry.bytes.now
-        (option_map (λ file. file.bytes.now) limits.entry)
-        (verdict_text judgement.verdict (is_some judgement.reason))) }
+/// The words of a verdict's reason.
+fn words_of(verdict: Verdict) -> Option<String>
+    ensures { option_map (λ words. string_bytes words) result ≡ words_of verdict }
 {
-    let verdict = judge(alloc, plan.bytes, bytes_of(limits));
-    let reason = reason_of(alloc, plan, limits, &verdict)?;
-    Ok(Judgement { verdict, reason })
+    match verdict {
+        Verdict::Refused(Reason { words, .. }) => Some(words),
+        Verdict::Accepted(_) | Verdict::InOrder => None,
+    }
 }
 
 /// The page of a plan that is judged.
@@ -87,98 +72,48 @@ fn write_chart(
     alloc: Global,
     plan: TextFile<'_>,
     limits: Option<TextFile<'_>>,
-    judgement: &Judgement,
+    verdict: &Verdict,
 ) -> Result<Page, AllocError>
-    ensures { IfOk result (IsPageOfText
-        (verdict_text judgement.now.verdict (is_some judgement.now.reason))
-        plan.entry.bytes.now) }
+    ensures { IfOk result (Shows plan.entry.bytes.now (finding_of verdict.now)) }
 {
-    let verdict = &judgement.verdict;
-    let reason = &judgement.reason;
     match read_elements(alloc, plan.bytes) {
-        Ok(elements) => {
-            let notes = read_notes(alloc, plan.bytes)?;
-            let limits = limits_of(alloc, bytes_of(limits))?;
-            let source = Source {
-                file: plan.name,
-                notes: &notes,
-                limits: &limits,
-                verdict,
-                reason,
-            };
-            plan_page(alloc, &elements, source)
-        }
+        Ok(elements) => read_page(alloc, plan, limits, verdict, &elements),
         Err(ReadFault::Memory) => Err(AllocError),
-        Err(_) => empty_page(alloc, plan.name, verdict, reason),
+        Err(_) => empty_page(alloc, plan.name, verdict),
     }
 }
 
-/// The bytes of a file, where there is one.
-fn bytes_of(file: Option<TextFile<'_>>) -> Option<&[u8]>
-    ensures { option_map (λ bytes. bytes.now) result
-        ≡ option_map (λ file. file.bytes.now) file.entry }
-{
-    match file {
-        Some(file) => Some(file.bytes),
-        None => None,
-    }
-}
-
-/// The words of a reason.
-fn words_of(reason: Option<Reason>) -> Option<String>
-    ensures { option_map (λ words. string_bytes words) result ≡ words_in reason }
-{
-    match reason {
-        Some(Reason { line: _, words }) => Some(words),
-        None => None,
-    }
-}
-
-/// The ranges of a range file, where it is read.
-fn limits_of(alloc: Global, limits: Option<&[u8]>) -> Result<Option<Limits>, AllocError> {
-    match limits {
-        Some(limits) => match read_limits(alloc, limits) {
-            Ok(limits) => Ok(Some(limits)),
-            Err(limits_file::LimitsFault::Memory(error)) => Err(error),
-            Err(_) => Ok(None),
-        },
-        None => Ok(None),
-    }
-}
-
-/// Why a plan is refused, where it is.
-#[tactic(auto, using(crate::proofs::VerdictLemmas::says_refusal))]
-fn reason_of(
+/// The page of a plan whose elements are read, with its comments and the ranges of its range file.
+fn read_page(
     alloc: Global,
     plan: TextFile<'_>,
     limits: Option<TextFile<'_>>,
     verdict: &Verdict,
-) -> Result<Option<Reason>, AllocError>
-    ensures { IfOk result (HasReasonOf (files_with (named_text plan.entry)
-        (option_map (λ file. named_text file) limits.entry)) verdict.now) }
+    elements: &Elements,
+) -> Result<Page, AllocError>
+    ensures { IfOk result (ShowsTree (finding_of verdict.now) (tree_of elements.now)) }
 {
-    match verdict {
-        Verdict::Refused(PlanRefusal::Memory) => Err(AllocError),
-        Verdict::Refused(refusal) => {
-            let reply = refused(alloc, plan.bytes, refusal)?;
-            let line = plan_notes::one_line(alloc, &reply.text)?;
-            let words = plan_words(alloc, plan, file_or_none(limits), refusal)?;
-            Ok(Some(Reason { line, words }))
-        }
-        Verdict::Accepted(_) | Verdict::InOrder => Ok(None),
-    }
+    let notes = read_notes(alloc, plan.bytes)?;
+    let limits = limits_of(alloc, limits)?;
+    let source = Source {
+        file: plan.name,
+        notes: &notes,
+        limits: &limits,
+        verdict,
+    };
+    plan_page(alloc, elements, source)
 }
 
-/// The range file, or an empty one of no name where there is none.
-#[tactic(auto, using(crate::proofs::VerdictLemmas::file_kept))]
-fn file_or_none<'a>(limits: Option<TextFile<'a>>) -> TextFile<'a>
-    ensures { named_text result
-        ≡ file_or_none (option_map (λ file. named_text file) limits.entry) }
-{
-    limits.unwrap_or(TextFile {
-        name: "",
-        bytes: &[],
-    })
+/// The ranges of a range file, where it is read.
+fn limits_of(alloc: Global, file: Option<TextFile<'_>>) -> Result<Option<Limits>, AllocError> {
+    let Some(file) = file else {
+        return Ok(None);
+    };
+    match read_limits(alloc, file.bytes) {
+        Ok(limits) => Ok(Some(limits)),
+        Err(LimitsFault::Memory(error)) => Err(error),
+        Err(_) => Ok(None),
+    }
 }
 
 /// What a page has beside the plan's elements.
@@ -188,22 +123,16 @@ struct Source<'a> {
     notes: &'a Notes,
     limits: &'a Option<Limits>,
     verdict: &'a Verdict,
-    reason: &'a Option<Reason>,
 }
 
 /// The page of a file that is no plan: its head alone.
-fn empty_page(
-    alloc: Global,
-    file: &str,
-    verdict: &Verdict,
-    reason: &Option<Reason>,
-) -> Result<Page, AllocError>
-    ensures { IfOk result (IsWholePage (verdict_text verdict.now (is_some reason.now) ∷ [])) }
+fn empty_page(alloc: Global, file: &str, verdict: &Verdict) -> Result<Page, AllocError>
+    ensures { IfOk result (IsWholePage (sentence_on (finding_of verdict.now) ∷ [])) }
 {
     let mut page = Page::new(alloc);
     page.own(PAGE_START)?;
     page.append(&head_of(alloc, file, None)?)?;
-    write_verdict(&mut page, verdict, reason, &Site::Nowhere)?;
+    write_verdict(&mut page, verdict, &Site::Nowhere)?;
     page.own(NO_DRAWING)?;
     page.own(PAGE_END)?;
     Ok(page)
@@ -213,23 +142,32 @@ fn empty_page(
 const NO_DRAWING: &str =
     "<p class=\"sub\" id=\"methods\">There is nothing to draw: the file is not read as a flowchart.</p></header>";
 
-/// The page of a plan whose elements are read.
+/// The page of a plan with its methods.
 fn plan_page(alloc: Global, elements: &Elements, source: Source<'_>) -> Result<Page, AllocError>
-    ensures { IfOk result (IsPageOfTree
-        (verdict_text source.entry.verdict.now (is_some source.entry.reason.now))
-        (tree_of elements.now)) }
+    ensures { IfOk result (ShowsTree (finding_of source.entry.verdict.now) (tree_of elements.now)) }
 {
-    let site = match source.verdict {
-        Verdict::Refused(refusal) => site_of(elements, refusal),
-        Verdict::Accepted(_) | Verdict::InOrder => Site::Nowhere,
-    };
+    let site = site_shown(elements, source.verdict);
     let chapters = read_chapters(alloc, elements, source.notes, &site)?;
+    whole_page(alloc, elements, source, &chapters, &site)
+}
+
+/// The page of a plan with these methods.
+fn whole_page(
+    alloc: Global,
+    elements: &Elements,
+    source: Source<'_>,
+    chapters: &[Chapter<'_>],
+    site: &Site,
+) -> Result<Page, AllocError>
+    ensures { IfOk result (IsWholePage (sentence_on (finding_of source.entry.verdict.now)
+        ∷ flat_map chapter_captions chapters.now)) }
+{
     let mut page = Page::new(alloc);
     page.own(PAGE_START)?;
     page.append(&plan_head(alloc, source)?)?;
-    write_verdict(&mut page, source.verdict, source.reason, &site)?;
-    page.append(&before_methods(alloc, elements, source, &chapters, &site)?)?;
-    write_methods(&mut page, elements, &chapters, &site)?;
+    write_verdict(&mut page, source.verdict, site)?;
+    page.append(&before_methods(alloc, elements, source, chapters, site)?)?;
+    write_methods(&mut page, elements, chapters, site)?;
     page.append(&behind_methods(alloc, source.notes)?)?;
     page.own(PAGE_END)?;
     Ok(page)
@@ -289,11 +227,8 @@ fn behind_methods(alloc: Global, notes: &Notes) -> Result<Page, AllocError> {
 /// Appends how many methods and statements there are.
 fn write_counts(page: &mut Page, chapters: &[Chapter<'_>]) -> Result<(), AllocError> {
     let alloc = page.alloc();
-    let mut statements: u32 = 0;
-    for chapter in chapters {
-        statements = statements.saturating_add(chapter.text.count);
-    }
     let methods = chapters.len();
+    let statements = count_statements(chapters);
     let method = if methods == 1 { "method" } else { "methods" };
     let statement = if statements == 1 {
         "statement"
@@ -303,4 +238,13 @@ fn write_counts(page: &mut Page, chapters: &[Chapter<'_>]) -> Result<(), AllocEr
     page.own(&format!(in alloc;
         "<p class=\"sub\">{methods} {method}, {statements} {statement}</p></header>\n"
     )?)
+}
+
+/// How many statements there are.
+fn count_statements(chapters: &[Chapter<'_>]) -> u32 {
+    let mut count: u32 = 0;
+    for chapter in chapters {
+        count = count.saturating_add(chapter.text.count);
+    }
+    count
 }

@@ -41,18 +41,23 @@ pub(crate) fn write_declarations(
     page.own("<section id=\"declarations\"><h2>Declarations</h2>\n")?;
     write_paragraphs(page, notes, Element::Interface, false)?;
     write_paragraphs(page, notes, Element::Variables, false)?;
+    write_table(page, declarations)?;
+    write_paragraphs(page, notes, Element::Interface, true)?;
+    write_paragraphs(page, notes, Element::Variables, true)?;
+    page.own("</section>\n")
+}
+
+/// Appends the table alone.
+fn write_table(page: &mut Page, declarations: &Declarations<'_>) -> Result<(), AllocError> {
     page.own(
         "<div class=\"scroll\"><table><thead><tr><th scope=\"col\">Name<th scope=\"col\">Type<th scope=\"col\">Default or value<th scope=\"col\">Range<th scope=\"col\">Comment</tr></thead>\n",
     )?;
     for group in groups_of(declarations.elements) {
-        if !group.names.is_empty() || has_comments(notes, group.home) {
+        if !group.names.is_empty() || has_comments(declarations.notes, group.home) {
             write_group(page, declarations, group)?;
         }
     }
-    page.own("</table></div>\n")?;
-    write_paragraphs(page, notes, Element::Interface, true)?;
-    write_paragraphs(page, notes, Element::Variables, true)?;
-    page.own("</section>\n")
+    page.own("</table></div>\n")
 }
 
 /// The kinds of declared names, in the order of the table.
@@ -106,6 +111,16 @@ fn write_group(
     page.own(&format!(in alloc;
         "<tbody><tr><th class=\"g\" colspan=\"5\" scope=\"rowgroup\">{title} <span>{count}</span></tr>\n"
     )?)?;
+    write_names(page, declarations, group)?;
+    page.own("</tbody>\n")
+}
+
+/// Appends the rows of a kind.
+fn write_names(
+    page: &mut Page,
+    declarations: &Declarations<'_>,
+    group: Group<'_>,
+) -> Result<(), AllocError> {
     let mut number: usize = 0;
     for mark in &declarations.notes.marks {
         let comments = declarations.notes.before(mark);
@@ -116,7 +131,7 @@ fn write_group(
             write_comments_row(page, comments)?;
         }
     }
-    page.own("</tbody>\n")
+    Ok(())
 }
 
 /// Appends the row of the name of a number among those of its kind.
@@ -182,22 +197,27 @@ fn write_row(
     page.own(&format!(in alloc;
         "<tr id=\"name-{name}\"{class}><th scope=\"row\">{name}<td>{kind}"
     )?)?;
+    write_value(page, declared, range, comments)?;
+    page.own("</tr>\n")
+}
+
+/// Appends the cells behind the type of a name: its value or values, its range, and comments.
+fn write_value(
+    page: &mut Page,
+    declared: &RawDeclared,
+    range: &str,
+    comments: &[String],
+) -> Result<(), AllocError> {
+    let alloc = page.alloc();
     let text = match &declared.value {
         Some(text) => text.as_slice(),
         None => &[],
     };
     match literal_of(alloc, text)? {
-        Some(Literal::Table(items)) => write_items(page, &items, comments)?,
-        Some(literal) => {
-            let value = literal_text(alloc, &literal)?;
-            write_cells(page, value.as_bytes(), range, comments)?;
-        }
-        None => {
-            let value = plan_notes::one_line(alloc, text)?;
-            write_cells(page, value.as_bytes(), range, comments)?;
-        }
+        Some(Literal::Table(items)) => write_items(page, &items, comments),
+        Some(literal) => write_cells(page, &literal_text(alloc, &literal)?, range, comments),
+        None => write_cells(page, &plan_notes::one_line(alloc, text)?, range, comments),
     }
-    page.own("</tr>\n")
 }
 
 /// The literal of a text, where it is one.
@@ -212,11 +232,11 @@ fn literal_of(alloc: Global, text: &[u8]) -> Result<Option<Literal>, AllocError>
 /// Appends the cells of a value, a range and comments.
 fn write_cells(
     page: &mut Page,
-    value: &[u8],
+    value: &str,
     range: &str,
     comments: &[String],
 ) -> Result<(), AllocError> {
-    page.element("<td class=\"num\">", value, "<td class=\"num\">")?;
+    page.element("<td class=\"num\">", value.as_bytes(), "<td class=\"num\">")?;
     page.text(range.as_bytes())?;
     page.own("<td>")?;
     write_comments(page, comments)
@@ -224,18 +244,24 @@ fn write_cells(
 
 /// Appends one cell for the values of a table, each with its index, below its comments.
 fn write_items(page: &mut Page, items: &[Dec], comments: &[String]) -> Result<(), AllocError> {
-    let alloc = page.alloc();
     page.own("<td colspan=\"3\">")?;
     write_comments(page, comments)?;
     if !comments.is_empty() {
         page.own("<br>")?;
     }
     page.own("<span class=\"tab\">")?;
+    write_numbered(page, items)?;
+    page.own("</span>")
+}
+
+/// Appends values, each with its index.
+fn write_numbered(page: &mut Page, items: &[Dec]) -> Result<(), AllocError> {
+    let alloc = page.alloc();
     for (i, item) in items.iter().enumerate() {
         let space = if i > 0 { " " } else { "" };
         page.own(&format!(in alloc; "{space}<span><i>{i}</i>{item}</span>")?)?;
     }
-    page.own("</span>")
+    Ok(())
 }
 
 /// The number of a literal that is no table.

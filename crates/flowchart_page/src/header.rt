@@ -1,21 +1,13 @@
 //! The head of the page and its verdict.
-ghost use Rattle.std.specs.Prelude.{◌≡◌, ◌∷◌, [], IfOk, OnOk, is_some, string_bytes};
+ghost use Rattle.std.specs.Prelude.{◌≡◌, ◌∷◌, [], IfOk, OnOk, string_bytes};
 ghost use Rattle.flowchart_methods.specs.Turns.{AddsInTurn};
-ghost use Rattle.flowchart_page.specs.PageViews.{verdict_text};
+ghost use Rattle.flowchart_page.specs.Pages.{sentence_on};
+ghost use Rattle.flowchart_page.specs.VerdictViews.{finding_of};
 
 use crate::style::STYLE;
-use crate::verdict::Verdict;
+use crate::verdict::{Reason, Verdict};
 use flowchart_methods::{Page, Site, write_comments};
 use std::alloc::{AllocError, Global};
-
-/// A refusal as it is written.
-#[derive(Drop)]
-pub(crate) struct Reason {
-    /// The line of standard output, without its end.
-    pub line: String,
-    /// What it means, in plain words.
-    pub words: String,
-}
 
 /// How a page begins.
 pub(crate) const PAGE_START: &str =
@@ -60,60 +52,54 @@ pub(crate) fn write_lead(page: &mut Page, comments: &[String]) -> Result<(), All
 pub(crate) fn write_verdict(
     page: &mut Page,
     verdict: &Verdict,
-    reason: &Option<Reason>,
     site: &Site,
 ) -> Result<(), AllocError>
-    ensures { OnOk result (AddsInTurn
-        (verdict_text verdict.now (is_some reason.now) ∷ []) page.old page.new) }
+    ensures { OnOk result (AddsInTurn (sentence_on (finding_of verdict.now) ∷ [])
+        page.old page.new) }
 {
     let alloc = page.alloc();
-    page.own(verdict_start(verdict, reason))?;
-    page.own(&verdict_text(alloc, verdict, reason.is_some())?)?;
-    page.append(&verdict_end(alloc, verdict, reason, site)?)?;
+    page.own(verdict_start(verdict))?;
+    page.own(&verdict_text(alloc, verdict)?)?;
+    page.append(&verdict_end(alloc, verdict, site)?)?;
     Ok(())
 }
 
 /// The start tags round the sentence on a plan.
-fn verdict_start(verdict: &Verdict, reason: &Option<Reason>) -> &'static str {
-    match (verdict, reason) {
-        (Verdict::Accepted(_), _) | (_, None) => "<p class=\"ok\">",
-        (_, Some(_)) => "<div class=\"no\"><p>",
+fn verdict_start(verdict: &Verdict) -> &'static str {
+    match verdict {
+        Verdict::Accepted(_) | Verdict::InOrder => "<p class=\"ok\">",
+        Verdict::Refused(_) => "<div class=\"no\"><p>",
     }
 }
 
-/// The sentence on a plan, for which there is a reason or none.
-fn verdict_text(alloc: Global, verdict: &Verdict, has_reason: bool) -> Result<String, AllocError>
-    ensures { IfOk result (λ text. string_bytes text ≡ verdict_text verdict.now has_reason) }
+/// The sentence on a plan.
+fn verdict_text(alloc: Global, verdict: &Verdict) -> Result<String, AllocError>
+    ensures { IfOk result (λ text. string_bytes text ≡ sentence_on (finding_of verdict.now)) }
 {
-    match (verdict, has_reason) {
-        (Verdict::Accepted(plan), _) => {
+    match verdict {
+        Verdict::Accepted(plan) => {
             let bound = plan.bound();
             format!(in alloc;
                 "<b>Accepted.</b> On every input within the ranges a run is safe and takes at most <b>{bound}</b> steps."
             )
         }
-        (_, true) => String::from_str(alloc, "<b>Refused.</b> "),
-        (_, false) => String::from_str(
+        Verdict::InOrder => String::from_str(
             alloc,
             "<b>In order</b>, as far as it can be said without a range file",
         ),
+        Verdict::Refused(_) => String::from_str(alloc, "<b>Refused.</b> "),
     }
 }
 
 /// What stands behind the sentence on a plan: of a refused one the reason.
-fn verdict_end(
-    alloc: Global,
-    verdict: &Verdict,
-    reason: &Option<Reason>,
-    site: &Site,
-) -> Result<Page, AllocError> {
+fn verdict_end(alloc: Global, verdict: &Verdict, site: &Site) -> Result<Page, AllocError> {
     let mut page = Page::new(alloc);
-    match (verdict, reason) {
-        (Verdict::Accepted(_), _) => page.own("</p>\n")?,
-        (_, Some(reason)) => write_reason(&mut page, reason, site)?,
-        (_, None) => page.own(
+    match verdict {
+        Verdict::Accepted(_) => page.own("</p>\n")?,
+        Verdict::InOrder => page.own(
             ": its expressions, names, types and methods. Whether each run is safe is said with a range file.</p>\n",
         )?,
+        Verdict::Refused(reason) => write_reason(&mut page, reason, site)?,
     }
     Ok(page)
 }

@@ -12,23 +12,28 @@ pub(crate) fn write_index(
     chapters: &[Chapter<'_>],
     site: &Site,
 ) -> Result<(), AllocError> {
-    let alloc = page.alloc();
     page.own(
         "<div class=\"cols\"><nav aria-labelledby=\"index\"><h2 id=\"index\">Methods</h2><ul>\n",
     )?;
     for chapter in chapters {
-        let name = chapter.text.name;
-        let count = chapter.text.count;
-        let class = if site.is_in(&name) {
-            " class=\"bad\""
-        } else {
-            ""
-        };
-        page.own(&format!(in alloc;
-            "<li{class}><a href=\"#method-{name}\">{name}</a> <span>{count}</span></li>\n"
-        )?)?;
+        write_entry(page, chapter, site)?;
     }
     page.own("</ul><p><a href=\"#declarations\">Declarations</a></p></nav><main>\n")
+}
+
+/// Appends the entry of a method: a link to it, and how many statements it has.
+fn write_entry(page: &mut Page, chapter: &Chapter<'_>, site: &Site) -> Result<(), AllocError> {
+    let alloc = page.alloc();
+    let name = chapter.text.name;
+    let count = chapter.text.count;
+    let class = if site.is_in(&name) {
+        " class=\"bad\""
+    } else {
+        ""
+    };
+    page.own(&format!(in alloc;
+        "<li{class}><a href=\"#method-{name}\">{name}</a> <span>{count}</span></li>\n"
+    )?)
 }
 
 /// Appends the key of the drawings, which begins their section.

@@ -14,21 +14,26 @@ pub(crate) fn input_range(
     limits: &Limits,
     name: &Name,
 ) -> Result<String, AllocError> {
-    let found = limits
-        .inputs
-        .as_slice()
-        .iter()
-        .find(|limit| limit.name == *name);
-    let mut text = match found {
-        Some(limit) => limit_text(alloc, limit)?,
-        None => String::new(alloc),
-    };
+    let mut text = limit_of(alloc, limits, name)?;
     for binding in limits.bindings.as_slice() {
         if binding.input == *name {
             text.push_str(&binding_text(alloc, binding)?)?;
         }
     }
     Ok(text)
+}
+
+/// The limit of an input. Empty where the range file has none.
+fn limit_of(alloc: Global, limits: &Limits, name: &Name) -> Result<String, AllocError> {
+    let found = limits
+        .inputs
+        .as_slice()
+        .iter()
+        .find(|limit| limit.name == *name);
+    match found {
+        Some(limit) => limit_text(alloc, limit),
+        None => Ok(String::new(alloc)),
+    }
 }
 
 fn limit_text(alloc: Global, limit: &InputLimit) -> Result<String, AllocError> {

@@ -2,8 +2,12 @@
 ghost use Rattle.std.specs.Prelude.{◌≡◌};
 ghost use Rattle.pap_reader.specs.Trees.{tree_of};
 ghost use Rattle.flowchart_page.specs.Sites.{named_by, named_by_spot, named_by_types, named_by_key, has_row, has_method, site_of_name, site_of};
+ghost use Rattle.flowchart_methods.specs.Sites.{named_statement};
+ghost use Rattle.flowchart_page.specs.Findings.{marked};
+ghost use Rattle.flowchart_page.specs.VerdictViews.{finding_of};
 ghost use Rattle.flowchart_page.specs.SiteViews.{declares, names_method};
 
+use crate::verdict::Verdict;
 use call_order::OrderFault;
 use flowchart_methods::Site;
 use interval_analysis::RangeFault;
@@ -13,8 +17,19 @@ use pap_reader::{Elements, RawDeclared, RawMethod};
 use pap_tree::Name;
 use pap_types::TypeFault;
 
+/// What the page shows of a verdict: where a plan is refused what that names.
+#[tactic(auto, using(crate::proofs::SiteLemmas::named_on))]
+pub(crate) fn site_shown(elements: &Elements, verdict: &Verdict) -> Site
+    ensures { named_statement result ≡ marked (finding_of verdict.now) }
+{
+    match verdict {
+        Verdict::Refused(reason) => site_of(elements, &reason.refusal),
+        Verdict::Accepted(_) | Verdict::InOrder => Site::Nowhere,
+    }
+}
+
 /// What a refusal names, where the page has it.
-pub(crate) fn site_of(elements: &Elements, refusal: &PlanRefusal) -> Site
+fn site_of(elements: &Elements, refusal: &PlanRefusal) -> Site
     ensures { result ≡ site_of (tree_of elements.now) refusal.now }
 {
     match named_by(refusal) {

@@ -1,10 +1,14 @@
 //! What is said of a plan, with a range file or without one.
-ghost use Rattle.std.specs.Prelude.{◌≡◌, Some, None, option_map};
-ghost use Rattle.flowchart_page.specs.VerdictViews.{IsVerdict, verdict_alone};
-ghost use Rattle.flowchart_page.specs.Verdicts.{lacks_limit};
+ghost use Rattle.std.specs.Prelude.{◌≡◌, IfOk, IsTrue, option_map, is_none, string_bytes};
+ghost use Rattle.plain_words.specs.Places.{named_text, files_of};
+ghost use Rattle.flowchart_page.specs.Verdicts.{lacks_limit, file_or_none, IsJudged};
+ghost use Rattle.flowchart_page.specs.Findings.{IsFound};
+ghost use Rattle.flowchart_page.specs.VerdictViews.{finding_of, words_of, is_excused, SaysRefusal};
 
 use pap_plan::{Plan, PlanRefusal, accept};
-use std::alloc::Global;
+use plain_words::{TextFile, plan_words};
+use plan_answers::refused;
+use std::alloc::{AllocError, Global};
 
 /// What is said of a plan.
 #[derive(Drop)]
@@ -13,55 +17,86 @@ pub(crate) enum Verdict {
     Accepted(Plan),
     /// There is no range file, and all that is judged before the limits of inputs is in order.
     InOrder,
-    Refused(PlanRefusal),
+    Refused(Reason),
 }
 
-/// Judges a plan, with a range file or without one.
-pub(crate) fn judge(alloc: Global, plan: &[u8], limits: Option<&[u8]>) -> Verdict
-    ensures { IsVerdict plan.now (option_map (λ bytes. bytes.now) limits.entry) result }
+/// A refusal as it is written.
+#[derive(Drop)]
+pub(crate) struct Reason {
+    pub refusal: PlanRefusal,
+    /// The line of standard output, without its end.
+    pub line: String,
+    /// What it means, in plain words.
+    pub words: String,
+}
+
+/// Judges a plan, with a range file or without one, that is with an empty one: the first refusal
+/// that comes of that is an input without a limit, and all that is judged before is then in order.
+pub(crate) fn judge(
+    alloc: Global,
+    plan: TextFile<'_>,
+    limits: Option<TextFile<'_>>,
+) -> Result<Verdict, AllocError>
+    ensures found { IfOk result (λ verdict. IsFound plan.entry.bytes.now
+        (option_map (λ file. file.bytes.now) limits.entry) (finding_of verdict)) }
+    ensures judged { IfOk result (λ verdict. IsJudged (named_text plan.entry)
+        (option_map (λ file. named_text file) limits.entry) (words_of verdict)) }
 {
-    match limits {
-        Some(limits) => judge_with(alloc, plan, limits),
-        None => judge_alone(alloc, plan),
+    let ranges = file_or_none(limits);
+    match accept(alloc, plan.bytes, ranges.bytes) {
+        Ok(accepted) => Ok(Verdict::Accepted(accepted)),
+        Err(PlanRefusal::Memory) => Err(AllocError),
+        Err(refusal) => {
+            if is_excused(limits.is_none(), &refusal) {
+                return Ok(Verdict::InOrder);
+            }
+            let reason = reason_of(alloc, plan, ranges, refusal)?;
+            Ok(Verdict::Refused(reason))
+        }
     }
 }
 
-/// Judges a plan with a range file.
-fn judge_with(alloc: Global, plan: &[u8], limits: &[u8]) -> Verdict
-    ensures { IsVerdict plan.now (Some limits.now) result }
+/// The range file, or an empty one of no name where there is none.
+#[tactic(auto, using(crate::proofs::VerdictLemmas::file_kept))]
+fn file_or_none<'a>(limits: Option<TextFile<'a>>) -> TextFile<'a>
+    ensures { named_text result
+        ≡ file_or_none (option_map (λ file. named_text file) limits.entry) }
 {
-    match accept(alloc, plan, limits) {
-        Ok(plan) => Verdict::Accepted(plan),
-        Err(refusal) => Verdict::Refused(refusal),
-    }
+    limits.unwrap_or(TextFile {
+        name: "",
+        bytes: &[],
+    })
 }
 
-/// Judges a plan without a range file, that is with an empty one: the first refusal that comes of that is an input without a
-/// limit, and all that is judged before is then in order.
-#[tactic(auto, using(crate::proofs::VerdictLemmas::refused_alone))]
-fn judge_alone(alloc: Global, plan: &[u8]) -> Verdict
-    ensures { IsVerdict plan.now None result }
+/// Whether a refusal is none where a plan is judged alone: that of an input without a limit.
+fn is_excused(is_alone: bool, refusal: &PlanRefusal) -> bool
+    ensures { result ≡ is_excused is_alone refusal.now }
 {
-    match accept(alloc, plan, &[]) {
-        Ok(plan) => Verdict::Accepted(plan),
-        Err(refusal) => verdict_alone(refusal),
-    }
+    is_alone && matches!(refusal, PlanRefusal::LimitName { .. })
 }
 
-/// What is said of a plan for a refusal where there is no range file.
-fn verdict_alone(refusal: PlanRefusal) -> Verdict
-    ensures { result ≡ verdict_alone refusal }
+/// A refusal with what is written of it.
+fn reason_of(
+    alloc: Global,
+    plan: TextFile<'_>,
+    ranges: TextFile<'_>,
+    refusal: PlanRefusal,
+) -> Result<Reason, AllocError>
+    ensures refusal { IfOk result (λ reason. reason.refusal ≡ refusal) }
+    ensures says { IfOk result (λ reason. SaysRefusal (files_of plan.entry ranges.entry) refusal
+        (string_bytes reason.words)) }
 {
-    if lacks_limit(&refusal) {
-        Verdict::InOrder
-    } else {
-        Verdict::Refused(refusal)
-    }
+    let line = refusal_line(alloc, plan.bytes, &refusal)?;
+    let words = plan_words(alloc, plan, ranges, &refusal)?;
+    Ok(Reason {
+        refusal,
+        line,
+        words,
+    })
 }
 
-/// Whether a refusal is that of an input without a limit.
-fn lacks_limit(refusal: &PlanRefusal) -> bool
-    ensures { result ≡ lacks_limit refusal.now }
-{
-    matches!(refusal, PlanRefusal::LimitName { .. })
+/// The line that is written of a refusal, without its end.
+fn refusal_line(alloc: Global, plan: &[u8], refusal: &PlanRefusal) -> Result<String, AllocError> {
+    let reply = refused(alloc, plan, refusal)?;
+    plan_notes::one_line(alloc, &reply.text)
 }

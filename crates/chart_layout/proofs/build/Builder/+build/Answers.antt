@@ -4,7 +4,7 @@ use Rattle.chart_layout.specs.Statements.{statements_of, statements_in, Adds}
 use Rattle.pap_reader.specs.Trees.{raw_body_of}
 use Rattle.chart_layout.proofs.AddingLemmas.{adds_next, adds_all, adds_as, adds_if, of_eval, of_execute, of_if}
 use Rattle.chart_layout.proofs.DrawnLemmas.{on_ok}
-use Rattle.chart_layout.proofs.build.Builder.+build.Goals.{statement-in-Eval+in_ok-evaluation-in-Eval, statement-in-Execute+in_ok-execution-in-Execute, statement-in-If+in_ok-text-in-If+in_ok-test-in-If+in_ok-then-in-If+in_ok-otherwise-in-If+in_ok-push_choice-in-If}
+use Rattle.chart_layout.proofs.build.Builder.+build.Goals.{statement-in-Eval+in_ok-evaluation-in-Eval, statement-in-Execute+in_ok-execution-in-Execute, statement-in-If+in_ok-test-in-If+in_ok-then-in-If+in_ok-otherwise-in-If+in_ok-push_choice-in-If}
 use Rattle.chart_layout.proofs.build.Builder.+build.Goals as goal
 
 -- one statement more
@@ -40,17 +40,17 @@ statement-returns t c =
           adds_as from w.execution.new.self.numbering from to _ ss old (figures_statements w.execution.new.figures.items) old new
           refl (ap (λ b. b.numbering) (sym w.self-is)) (of_execute c.args.statement.now _ w.in-Execute.is)
           refl (ap (λ f. figures_statements f.items) (sym w.figures-is)) w.in_ok-execution-in-Execute.ensures
-      | statement-in-If+in_ok-text-in-If+in_ok-test-in-If+in_ok-then-in-If+in_ok-otherwise-in-If+in_ok-push_choice-in-If w ↦
+      | statement-in-If+in_ok-test-in-If+in_ok-then-in-If+in_ok-otherwise-in-If+in_ok-push_choice-in-If w ↦
           adds_as from w.otherwise.new.self.numbering from to _ ss old (figures_statements w.push_choice.new.figures.items) old new
           refl (ap (λ b. b.numbering) (sym w.self-is))
           (of_if c.args.statement.now w.in-If.test w.in-If.yes w.in-If.no w.deref-in-If.result.now w.deref-in-If-2.result.now w.deref-in-If-3.result.now
           w.in-If.is w.deref-in-If.ensures.value w.deref-in-If-2.ensures.value w.deref-in-If-3.ensures.value)
           refl (ap (λ f. figures_statements f.items) (sym w.figures-is))
-          (adds_if from w.written.new.self.numbering w.branch-self.new.self.numbering w.otherwise.new.self.numbering w.deref-in-If.result.now
-          w.in_ok-text-in-If.text.items (statements_of (raw_body_of w.deref-in-If-2.result.now)) (statements_of (raw_body_of w.deref-in-If-3.result.now))
+          (adds_if from w.next_test.new.self.numbering w.branch-self.new.self.numbering w.otherwise.new.self.numbering w.deref-in-If.result.now
+          (statements_of (raw_body_of w.deref-in-If-2.result.now)) (statements_of (raw_body_of w.deref-in-If-3.result.now))
           (drawn_statement w.in_ok-test-in-If.test) (figures_statements w.in_ok-then-in-If.then.items)
           (figures_statements w.in_ok-otherwise-in-If.otherwise.items) old (figures_statements w.push_choice.new.figures.items)
-          w.in_ok-test-in-If.ensures.drawn w.in_ok-text-in-If.ensures w.in_ok-test-in-If.ensures.numbering w.in_ok-then-in-If.ensures
+          w.in_ok-test-in-If.ensures.drawn w.in_ok-test-in-If.ensures.numbering w.in_ok-then-in-If.ensures
           w.in_ok-otherwise-in-If.ensures w.in_ok-push_choice-in-If.ensures)
     ] in
     on_ok c.next_tag-2.result (λ same.

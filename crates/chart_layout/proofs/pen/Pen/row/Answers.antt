@@ -1,17 +1,12 @@
 use Rattle.std.proofs.Common.{◌∙◌, ap, ◌++◌, ◌-◌, refl, arith, vec_len}
-use Rattle.chart_layout.specs.Drawn.{row_statements, drawing_statements}
+use Rattle.chart_layout.specs.Drawn.{row_statements}
 use Rattle.chart_layout.proofs.DrawnLemmas.{last_part, row_push}
-use Rattle.chart_layout.proofs.pen.Pen.row.Goals.{then-is_empty+in_ok-begin_part, else-is_empty}
 use Rattle.chart_layout.proofs.pen.Pen.row.Goals as goal
 
 pub returns-in_ok-push : goal.returns-in_ok-push
 returns-in_ok-push c =
-    let parts = c.if-is_empty.self.parts in
+    let parts = c.begin.new.self.parts in
     last_part parts.items (vec_len parts - 1) c.in-Some.part.now _ (row_statements c.args.row)
     (omega (arith, c.in-Some.ensures.variant.0 refl, parts.ok.0)) (omega (arith, parts.ok.0)) c.in-Some.ensures.value
     (row_push c.in-Some.part.now.rows.items _ _ c.in_ok-push.ensures.items)
-    ∙ ap (λ l. l ++ row_statements c.args.row)
-    (elim c.if-is_empty.branch [
-      | then-is_empty+in_ok-begin_part w ↦ ap (λ p. drawing_statements p.parts.items) w.self-is ∙ w.in_ok-begin_part.ensures.same
-      | else-is_empty w ↦ ap (λ p. drawing_statements p.parts.items) w.self-is
-    ])
+    ∙ ap (λ l. l ++ row_statements c.args.row) c.in_ok-begin.ensures.same

@@ -1,0 +1,31 @@
+//! The measures of what stands in a symbol or beside it, in px. Those of the symbols themselves are
+//! `chart_layout`'s.
+use chart_layout::Px;
+
+/// How far below the top of a line of a statement its letters stand.
+pub(crate) const TEXT_BASE: Px = Px(13);
+
+/// How far below it those of a statement's place stand.
+pub(crate) const PLACE_BASE: Px = Px(12);
+
+/// How much wider than its text the mark of a refused statement is, on each side.
+pub(crate) const MARK_SIDE: Px = Px(6);
+
+/// How far the two lines of an EXECUTE are from its sides.
+pub(crate) const CALL_LINE: Px = Px(7);
+
+/// How far below the top of an EXECUTE the letters of its method stand, and those of its place.
+pub(crate) const CALL_BASE: Px = Px(21);
+
+pub(crate) const CALL_PLACE_BASE: Px = Px(20);
+
+/// How far below the top of the symbol with which a method begins or ends its letters stand.
+pub(crate) const TERMINATOR_BASE: Px = Px(20);
+
+/// How far the bracket beside comments is from the spine at the right, and their text.
+pub(crate) const BRACKET: Px = Px(16);
+
+pub(crate) const NOTE_TEXT: Px = Px(18);
+
+/// How far below the top of a line of comments its letters stand.
+pub(crate) const NOTE_BASE: Px = Px(11);

@@ -1,0 +1,33 @@
+use Rattle.std.proofs.Common.{◌≡◌, ◌≢◌, true, false, rules}
+use Rattle.std.specs.Prelude.{is_none, string_bytes}
+use Rattle.pap_plan.specs.declared.refusal.PlanRefusal.TheVariants as refusals
+use Rattle.flowchart_page.specs.VerdictViews.{is_excused}
+use Rattle.flowchart_page.proofs.VerdictLemmas.{found_in_order, judged_in_order, found_refused, judged_refused}
+use Rattle.flowchart_page.proofs.verdict.judge.Goals as goal
+
+pub returns-then-is_excused : goal.returns-then-is_excused
+returns-then-is_excused c =
+    let excused : is_excused (is_none c.args.limits) c.in-Err.refusal ≡ true = search rules in
+    let known : c.in-Err.refusal ≢ refusals.Memory = search rules in
+    record {
+      found = found_in_order c.args.plan c.file_or_none-ranges.result c.args.limits c.in-Err.refusal
+          c.file_or_none-ranges.ensures
+          excused known c.in-Err.ensures.refused;
+      judged = judged_in_order c.args.plan c.file_or_none-ranges.result c.args.limits c.in-Err.refusal
+          c.file_or_none-ranges.ensures
+          excused known c.in-Err.ensures.refused;
+    }
+
+pub returns-in_ok-reason-in-Err : goal.returns-in_ok-reason-in-Err
+returns-in_ok-reason-in-Err c =
+    let other : is_excused (is_none c.args.limits) c.in-Err.refusal ≡ false = search rules in
+    let known : c.in-Err.refusal ≢ refusals.Memory = search rules in
+    record {
+      found = found_refused c.args.plan c.file_or_none-ranges.result c.args.limits c.in-Err.refusal _
+          c.file_or_none-ranges.ensures
+          other known c.in-Err.ensures.refused c.in_ok-reason-in-Err.ensures.refusal;
+      judged = judged_refused c.args.plan c.file_or_none-ranges.result c.args.limits c.in-Err.refusal
+          (string_bytes c.in_ok-reason-in-Err.reason.words) c.file_or_none-ranges.ensures other known
+          c.in-Err.ensures.refused
+          c.in_ok-reason-in-Err.ensures.says;
+    }
