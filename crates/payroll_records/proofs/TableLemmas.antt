@@ -20,7 +20,7 @@ use Rattle.payroll_records.specs.RowViews.{IsBetweenRows, rows_left, ReadsRow}
 use Rattle.payroll_records.specs.CsvRows.{csv_rows}
 use Rattle.payroll_records.specs.declared.table.TableFault.{TableFault}
 use Rattle.payroll_records.specs.Limits.{longest_table}
-use Rattle.payroll_records.specs.Tables.{BreaksAt, IsHeader, IsRefused, Text, AreRecordsOf, IsRecordOf, HasKeyOf, IsFirstFault, WrongValue, key_of, Repeats}
+use Rattle.payroll_records.specs.Tables.{BreaksAt, IsHeader, IsTableFaultOrMemory, Text, AreRecordsOf, IsRecordOf, HasKeyOf, IsFirstFault, WrongValue, key_of, Repeats}
 use Rattle.payroll_records.specs.TableViews.{BreaksIn, IsRowFault, fault_at}
 use Rattle.payroll_records.proofs.OrderLemmas.{key_total}
 
@@ -127,7 +127,7 @@ at_table : (bytes : List ℕ) (number : ℕ) (Fault : List Text → List Record 
 at_table bytes number Fault header names rows short read is first = record { short = short; header = header; names = names; rows = rows; read = read; is_header = is; first = first }
 
 refused : (bytes : List ℕ) (header names : List Text) (rows : List (List Text)) → length bytes ≤ longest_table → csv_rows bytes ≡ header ∷ rows → IsHeader header names →
-    (e : TableFault) → BreaksIn names rows e → IsRefused bytes e
+    (e : TableFault) → BreaksIn names rows e → IsTableFaultOrMemory bytes e
 refused bytes header names rows short read is whole.TableLong b = absurd b
 refused bytes header names rows short read is whole.Header b = absurd b
 refused bytes header names rows short read is (whole.Width n) b = at_table bytes n _ header names rows short read is b
@@ -139,6 +139,6 @@ refused bytes header names rows short read is (whole.Repeat n) b = at_table byte
 refused bytes header names rows short read is (whole.Memory e) b = tt
 
 pub table_refused : {A : Type 0} (bytes : List ℕ) (header names : List Text) (rows : List (List Text)) (r : Result A TableFault) (P : A → Type 0) → length bytes ≤ longest_table →
-    csv_rows bytes ≡ header ∷ rows → IsHeader header names → MatchResult r P (BreaksIn names rows) → IfErr r (IsRefused bytes)
+    csv_rows bytes ≡ header ∷ rows → IsHeader header names → MatchResult r P (BreaksIn names rows) → IfErr r (IsTableFaultOrMemory bytes)
 table_refused bytes header names rows (Ok records) P short read is m = tt
 table_refused bytes header names rows (Err e) P short read is m = refused bytes header names rows short read is e m

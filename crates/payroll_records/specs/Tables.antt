@@ -164,23 +164,27 @@ abbrev pub IsNoHeader : List (List Text) → Type 0
 IsNoHeader [] = ⊤
 IsNoHeader (row ∷ rows) = (names : List Text) → IsHeader row names → ⊥
 
--- why a table is refused; want of memory is free
-abbrev pub IsRefused : List ℕ → TableFault → Type 0
-IsRefused bytes fault.TableLong = longest_table < length bytes
-IsRefused bytes fault.Header = (length bytes ≤ longest_table) × IsNoHeader (csv_rows bytes)
-IsRefused bytes (fault.Width row) = BreaksAt bytes row WrongWidth
-IsRefused bytes (fault.Employee row) = BreaksAt bytes row WrongEmployee
-IsRefused bytes (fault.Month row) = BreaksAt bytes row WrongMonth
-IsRefused bytes (fault.Day row) = BreaksAt bytes row WrongDay
-IsRefused bytes (fault.Value row name) = BreaksAt bytes row (WrongValue name)
-IsRefused bytes (fault.Repeat row) = BreaksAt bytes row Repeats
-IsRefused bytes (fault.Memory error) = ⊤
+-- why a table is refused; want of memory is nothing that a text says
+abbrev pub IsTableFault : List ℕ → TableFault → Type 0
+IsTableFault bytes fault.TableLong = longest_table < length bytes
+IsTableFault bytes fault.Header = (length bytes ≤ longest_table) × IsNoHeader (csv_rows bytes)
+IsTableFault bytes (fault.Width row) = BreaksAt bytes row WrongWidth
+IsTableFault bytes (fault.Employee row) = BreaksAt bytes row WrongEmployee
+IsTableFault bytes (fault.Month row) = BreaksAt bytes row WrongMonth
+IsTableFault bytes (fault.Day row) = BreaksAt bytes row WrongDay
+IsTableFault bytes (fault.Value row name) = BreaksAt bytes row (WrongValue name)
+IsTableFault bytes (fault.Repeat row) = BreaksAt bytes row Repeats
+IsTableFault bytes (fault.Memory error) = ⊥
 
--- what a table's text says: its records, or why it is refused; want of memory is nothing that a text says
+-- the same of a refusal that is answered: want of memory comes whatever the text is
+abbrev pub IsTableFaultOrMemory : List ℕ → TableFault → Type 0
+IsTableFaultOrMemory bytes (fault.Memory error) = ⊤
+IsTableFaultOrMemory bytes other = IsTableFault bytes other
+
+-- what a table's text says: its records, or why it is refused
 abbrev pub TableSays : List ℕ → Result (List Record) TableFault → Type 0
 TableSays bytes (Ok records) = IsTable bytes records
-TableSays bytes (Err (fault.Memory error)) = ⊥
-TableSays bytes (Err other) = IsRefused bytes other
+TableSays bytes (Err why) = IsTableFault bytes why
 
 -- a text says one thing
 pub record HasOneAnswer (bytes : List ℕ) : Type 0 where

@@ -1,7 +1,7 @@
 //! Tables of pay runs.
 ghost use Rattle.std.specs.Prelude.{◌≡◌, ◌↔◌, ◌<◌, ◌≤◌, ℕ, List, [], IfOk, IfErr, Err, MatchResult, length};
 ghost use Rattle.payroll_records.specs.Limits.{longest_table, most_values};
-ghost use Rattle.payroll_records.specs.Tables.{AreRecordsOf, HasOneAnswer, IsRefused, IsTable};
+ghost use Rattle.payroll_records.specs.Tables.{AreRecordsOf, HasOneAnswer, IsTableFaultOrMemory, IsTable};
 ghost use Rattle.payroll_records.specs.RowViews.{IsBetweenRows, rows_left};
 ghost use Rattle.payroll_records.specs.TableViews.{AreColumns, BreaksIn, fault_at};
 
@@ -44,7 +44,7 @@ pub enum TableFault {
 /// `TableFault`.
 pub fn read_table(alloc: Global, bytes: &[u8]) -> Result<Vec<Record>, TableFault>
     ensures ok { IfOk result (λ records. IsTable bytes.now records.items) }
-    ensures err { IfErr result (IsRefused bytes.now) }
+    ensures err { IfErr result (IsTableFaultOrMemory bytes.now) }
     ensures long { (result ≡ Err TableFault.TableLong) ↔ (longest_table < length bytes.now) }
 {
     if bytes.len() > LONGEST_TABLE {

@@ -20,7 +20,7 @@ saved_in items = record {
 }
 
 -- why a text is refused; want of memory is free
-abbrev pub IsRefused : Text → ItemFault → Type 0
-IsRefused bytes (fault.Form item plans) =
+abbrev pub IsItemFaultOrMemory : Text → ItemFault → Type 0
+IsItemFaultOrMemory bytes (fault.Form item plans) =
     StopsAt bytes (record { item = item; plans = map plan_in plans.items })
-IsRefused bytes (fault.Memory error) = ⊤
+IsItemFaultOrMemory bytes (fault.Memory error) = ⊤

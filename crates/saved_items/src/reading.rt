@@ -6,7 +6,7 @@ ghost use Rattle.saved_items.specs.ItemDecisions.{Ends};
 ghost use Rattle.saved_items.specs.ItemViews.{EndsWith, IsComplete, front_in};
 ghost use Rattle.saved_items.specs.SavedBooks.{IsText};
 ghost use Rattle.saved_items.specs.Texts.{HasOneAnswer};
-ghost use Rattle.saved_items.specs.Views.{IsRefused, saved_in};
+ghost use Rattle.saved_items.specs.Views.{IsItemFaultOrMemory, saved_in};
 
 use crate::front::{Front, Stage};
 use crate::next::next_item;
@@ -16,7 +16,7 @@ use std::alloc::Global;
 /// The saved book that a text is, or the first item that isn't of its form.
 pub fn read_items<'a>(alloc: Global, bytes: &'a [u8]) -> Result<Items<'a>, ItemFault<'a>>
     ensures ok { IfOk result (λ items. IsText bytes.now (saved_in items)) }
-    ensures err { IfErr result (IsRefused bytes.now) }
+    ensures err { IfErr result (IsItemFaultOrMemory bytes.now) }
 {
     let mut front = Front::new(alloc);
     let mut rest = bytes;

@@ -225,17 +225,21 @@ AreWrong words fault.Words = AreNotTaken words
 AreWrong words (fault.Memory error) = ⊤
 AreWrong words other = HaveFirstFault words other
 
--- why a line is refused; want of memory is free where the line is not too long
-abbrev pub IsRefused : Text → LineFault → Type 0
-IsRefused line fault.LineLong = most_line < length line
-IsRefused line (fault.Memory error) = IsShort line
-IsRefused line other = IsShort line × AreWrong (words_of line) other
+-- why a line is refused; want of memory is nothing that a line says
+abbrev pub IsLineFault : Text → LineFault → Type 0
+IsLineFault line fault.LineLong = most_line < length line
+IsLineFault line (fault.Memory error) = ⊥
+IsLineFault line other = IsShort line × AreWrong (words_of line) other
 
--- what a line says: what it asks for, or why it is refused; want of memory is nothing that a line says
+-- the same of a refusal that is answered: want of memory comes whatever a line says that is not too long
+abbrev pub IsLineFaultOrMemory : Text → LineFault → Type 0
+IsLineFaultOrMemory line (fault.Memory error) = IsShort line
+IsLineFaultOrMemory line other = IsLineFault line other
+
+-- what a line says: what it asks for, or why it is refused
 abbrev pub LineSays : Text → Result Asked LineFault → Type 0
 LineSays line (Ok what) = IsLine line what
-LineSays line (Err (fault.Memory error)) = ⊥
-LineSays line (Err other) = IsRefused line other
+LineSays line (Err why) = IsLineFault line why
 
 -- a line says one thing
 pub record HasOneAnswer (line : Text) : Type 0 where

@@ -3,7 +3,7 @@ ghost use Rattle.std.specs.Prelude.{◌≡◌, ◌↔◌, ◌<◌, ◌∷◌, co
 ghost use Rattle.payroll_records.specs.Tables.{Text};
 ghost use Rattle.script_lang.specs.Commands.{asked_of};
 ghost use Rattle.script_lang.specs.Lines as lines;
-ghost use Rattle.script_lang.specs.Lines.{Ask, HasOneAnswer, IsLine, IsOfFile, IsOfPlan, IsOfRun, IsRefused};
+ghost use Rattle.script_lang.specs.Lines.{Ask, HasOneAnswer, IsLine, IsOfFile, IsOfPlan, IsOfRun, IsLineFaultOrMemory};
 ghost use Rattle.script_lang.specs.Views.{Answers, IsFaultOf, texts};
 
 use crate::run::{read_day, read_employee, read_month, read_record, read_when};
@@ -20,7 +20,7 @@ pub const MOST_LINE: usize = 65_536;
 /// only where the line is not too long.
 pub fn read_line(alloc: Global, line: &[u8]) -> Result<Command, LineFault>
     ensures ok { IfOk result (λ command. IsLine line.now (asked_of command)) }
-    ensures err { IfErr result (IsRefused line.now) }
+    ensures err { IfErr result (IsLineFaultOrMemory line.now) }
 {
     if line.len() > MOST_LINE {
         return Err(LineFault::LineLong);

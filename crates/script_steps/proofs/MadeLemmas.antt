@@ -11,7 +11,7 @@ use Rattle.outside.specs.declared.traits.FileAnswer.TheVariants as answers
 use Rattle.outside.proofs.Laws.{Appends-nothing}
 use Rattle.script_lang.specs.Commands.{Asked}
 use Rattle.script_lang.specs.Commands as asked
-use Rattle.script_lang.specs.Lines.{IsLine, LineSays, IsRefused}
+use Rattle.script_lang.specs.Lines.{IsLine, LineSays, IsLineFaultOrMemory}
 use Rattle.script_lang.specs.declared.fault.LineFault.{LineFault}
 use Rattle.script_lang.specs.declared.fault.LineFault.TheVariants as faults
 use Rattle.plan_answers.specs.Answers.{Answer, refusal}
@@ -163,7 +163,7 @@ module _ (told : Option FileMap) (old new : Option (List ℕ)) (before now : ℕ
   -- ---- a line that is refused
 
   -- the refusal is what the line says, and want of memory is not
-  says_refused : (why : LineFault) (answer : Answer) → IsRefused line why → IsLineRefusal why answer
+  says_refused : (why : LineFault) (answer : Answer) → IsLineFaultOrMemory line why → IsLineRefusal why answer
       → LineSays line (Err why) × (answer ≡ refusal (line_detail why))
   says_refused (faults.Memory e) answer h is = absurd is
   says_refused faults.LineLong answer h is = (h, is)
@@ -175,19 +175,19 @@ module _ (told : Option FileMap) (old new : Option (List ℕ)) (before now : ℕ
   says_refused (faults.Value word) answer h is = (h, is)
   says_refused (faults.Twice name) answer h is = (h, is)
 
-  refused_step : (why : LineFault) (answer : Answer) → IsRefused line why → IsLineRefusal why answer
+  refused_step : (why : LineFault) (answer : Answer) → IsLineFaultOrMemory line why → IsLineRefusal why answer
       → (files : FileMap) → told ≡ Some files → IsStep files from line from answer
   refused_step why answer h is files e =
       let s = says_refused why answer h is in
       record { said = Err why; says = s.0; does = (refl, s.1) }
 
-  none : (why : LineFault) (answer : Answer) → IsRefused line why → IsLineRefusal why answer → now ≡ before
+  none : (why : LineFault) (answer : Answer) → IsLineFaultOrMemory line why → IsLineRefusal why answer → now ≡ before
       → now ≡ before + answer.steps
   none why answer h is still =
       let steps : answer.steps ≡ 0 = ap (λ (a : Answer). a.steps) (says_refused why answer h is).1 in
       omega (arith, steps, still)
 
-  pub fault_answered : (why : LineFault) (refused : Bool) → now ≡ before → IsRefused line why
+  pub fault_answered : (why : LineFault) (refused : Bool) → now ≡ before → IsLineFaultOrMemory line why
       → IsRefusalWritten old new why refused → IsAnswered told old new before now from from line refused
   fault_answered why refused still h w = record {
     answer = w.answer;
@@ -198,7 +198,7 @@ module _ (told : Option FileMap) (old new : Option (List ℕ)) (before now : ℕ
   }
 
   pub fault_broken : (why : LineFault) (failed : Option (List ℕ)) (stop : LineStop) → now ≡ before
-      → IsRefused line why → IsRefusalUnwritten old new why stop
+      → IsLineFaultOrMemory line why → IsRefusalUnwritten old new why stop
       → IsBroken told old new before now from line failed stop
   fault_broken why failed stops.File still h u = absurd u
   fault_broken why failed stops.Write still h u =
@@ -256,14 +256,14 @@ want_broken told old steps from line failed result is =
 
 -- a line that is refused
 pub faults_answered : (told : Option FileMap) (old new : Option (List ℕ)) (steps : ℕ) (from : Standing)
-    (line : List ℕ) (why : LineFault) (result : Result (Option (String Global)) LineStop) → IsRefused line why
+    (line : List ℕ) (why : LineFault) (result : Result (Option (String Global)) LineStop) → IsLineFaultOrMemory line why
     → IfOk result (λ wrong. IsRefusalWritten old new why (is_some wrong))
     → IfOk result (λ wrong. IsAnswered told old new steps steps from from line (is_some wrong))
 faults_answered told old new steps from line why result h =
     if_ok_map result _ _ (λ wrong. fault_answered told old new steps steps from line why (is_some wrong) refl h)
 
 pub faults_broken : (told : Option FileMap) (old new : Option (List ℕ)) (steps : ℕ) (from : Standing) (line : List ℕ)
-    (failed : Option (List ℕ)) (why : LineFault) (result : Result (Option (String Global)) LineStop) → IsRefused line why
+    (failed : Option (List ℕ)) (why : LineFault) (result : Result (Option (String Global)) LineStop) → IsLineFaultOrMemory line why
     → ForErr result (IsRefusalUnwritten old new why)
     → ForErr result (λ stop. IsBroken told old new steps steps from line failed stop)
 faults_broken told old new steps from line failed why result h u =

@@ -5,7 +5,7 @@ use Rattle.std.specs.declared.alloc.AllocError.{AllocError}
 use Rattle.payroll_records.specs.declared.record.Record.{Record}
 use Rattle.payroll_records.specs.declared.table.TableFault.{TableFault}
 use Rattle.payroll_records.specs.declared.table.TableFault.TheVariants as tables
-use Rattle.payroll_records.specs.Tables.{IsTable, IsRefused, TableSays}
+use Rattle.payroll_records.specs.Tables.{IsTable, IsTableFaultOrMemory, TableSays}
 use Rattle.recalc_engine.specs.EditAnswers as edits
 use Rattle.plan_answers.specs.Answers.{Answer, refusal}
 use Rattle.script_steps.specs.declared.reply.LineReply.{LineReply}
@@ -38,7 +38,7 @@ module _ (from : Standing) (table : List ℕ) (before now : ℕ) where
       before now (loaded records t) l))
 
 -- a table that is refused
-refused_says : (table : List ℕ) (why : TableFault) (a : Answer) → IsRefused table why → IsTableRefusal why a
+refused_says : (table : List ℕ) (why : TableFault) (a : Answer) → IsTableFaultOrMemory table why → IsTableRefusal why a
     → TableSays table (Err why) × (a ≡ refusal (table_detail why))
 refused_says table (tables.Memory e) a h is = absurd is
 refused_says table tables.TableLong a h is = (h, is)
@@ -51,7 +51,7 @@ refused_says table (tables.Value row name) a h is = (h, is)
 refused_says table (tables.Repeat row) a h is = (h, is)
 
 pub table_refused : (from : Standing) (table : List ℕ) (steps : ℕ) (why : TableFault)
-    (reply : Result LineReply AllocError) → IsRefused table why → IfOk reply (λ r. IsTableRefusal why (reply_of r))
+    (reply : Result LineReply AllocError) → IsTableFaultOrMemory table why → IfOk reply (λ r. IsTableRefusal why (reply_of r))
     → IfOk reply (λ r. IsMade (IsTableStep from table) from steps steps (reply_of r))
 table_refused from table steps why reply h = if_ok_map reply _ _ (λ r is. made (reply_of r) is)
   where
