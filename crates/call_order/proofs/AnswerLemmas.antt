@@ -10,7 +10,7 @@ use Rattle.call_order.specs.Graphs.{graph_of}
 use Rattle.call_order.specs.Chains.{ReachesItself, BeginsMore}
 use Rattle.call_order.specs.Expanded.{expanded_in}
 use Rattle.call_order.specs.Orders.{HasNone}
-use Rattle.call_order.specs.Faults.{IsFirst, IsFirstMethod, IsRefused, last_count}
+use Rattle.call_order.specs.Faults.{IsFirst, IsFirstMethod, HasOrderFault, last_count}
 use Rattle.call_order.specs.OrderLaws.{HasOrder, HasFault}
 use Rattle.call_order.proofs.OrderLemmas.{is_order}
 use Rattle.call_order.proofs.WholeLemmas.{graph_known, length_graph}
@@ -39,7 +39,7 @@ module _ (f : Flowchart) where
   never_both h (TooLong n, r) = let s = h.1.short in let l = r.long in omega (arith, s, l)
   never_both h (Memory e, r) = r
 
-  pub one_fault : (a b : OrderFault) → IsRefused f a → IsRefused f b → a ≡ b
+  pub one_fault : (a b : OrderFault) → HasOrderFault f a → HasOrderFault f b → a ≡ b
   one_fault (Cycle x) (Cycle y) r s = ap Cycle (same_name (ReachesItself (graph_of f.methods)) x y r s)
   one_fault (Cycle x) (Chain y) r s = absurd (none_first (ReachesItself (graph_of f.methods)) x s.acyclic r)
   one_fault (Cycle x) (TooLong y) r s = absurd (none_first (ReachesItself (graph_of f.methods)) x s.acyclic r)

@@ -38,8 +38,8 @@ pub record IsTooLong (f : Flowchart) (count : ℕ) : Type 0 where
   pub counted : min (expanded_in f) last_count ≡ count
 
 -- why a plan is refused; the definition knows no want of memory
-abbrev pub IsRefused : Flowchart → OrderFault → Type 0
-IsRefused f (Cycle name) = IsFirstMethod f (ReachesItself (graph_of f.methods)) name
-IsRefused f (Chain name) = HasLongChain f name
-IsRefused f (TooLong count) = IsTooLong f count
-IsRefused f (Memory e) = ⊥
+abbrev pub HasOrderFault : Flowchart → OrderFault → Type 0
+HasOrderFault f (Cycle name) = IsFirstMethod f (ReachesItself (graph_of f.methods)) name
+HasOrderFault f (Chain name) = HasLongChain f name
+HasOrderFault f (TooLong count) = IsTooLong f count
+HasOrderFault f (Memory e) = ⊥

@@ -5,11 +5,11 @@ use Rattle.pap_tree.specs.Flowchart.{Flowchart}
 use Rattle.call_order.specs.declared.fault.OrderFault.{OrderFault}
 use Rattle.call_order.specs.declared.fault.OrderFault.TheVariants.{Cycle, Chain, TooLong, Memory}
 use Rattle.call_order.specs.Orders.{IsOrdered}
-use Rattle.call_order.specs.Faults.{IsRefused}
+use Rattle.call_order.specs.Faults.{HasOrderFault}
 
 abbrev pub OrderAnswer : Flowchart → Result (Vec ℕ Global) OrderFault → Type 0
 OrderAnswer f (Ok order) = IsOrdered f order.items
-OrderAnswer f (Err (Cycle name)) = IsRefused f (Cycle name)
-OrderAnswer f (Err (Chain name)) = IsRefused f (Chain name)
-OrderAnswer f (Err (TooLong count)) = IsRefused f (TooLong count)
+OrderAnswer f (Err (Cycle name)) = HasOrderFault f (Cycle name)
+OrderAnswer f (Err (Chain name)) = HasOrderFault f (Chain name)
+OrderAnswer f (Err (TooLong count)) = HasOrderFault f (TooLong count)
 OrderAnswer f (Err (Memory e)) = ⊤

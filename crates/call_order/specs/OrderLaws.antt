@@ -6,18 +6,18 @@ use Rattle.pap_types.specs.Limits.{most_steps}
 use Rattle.pap_types.specs.Meaning.{bound_of}
 use Rattle.call_order.specs.declared.fault.OrderFault.{OrderFault}
 use Rattle.call_order.specs.Orders.{IsOrdered}
-use Rattle.call_order.specs.Faults.{IsRefused}
+use Rattle.call_order.specs.Faults.{HasOrderFault}
 
 abbrev pub HasOrder : Flowchart → Type 0
 HasOrder f = (order : List ℕ) × IsOrdered f order
 
 abbrev pub HasFault : Flowchart → Type 0
-HasFault f = (fault : OrderFault) × IsRefused f fault
+HasFault f = (fault : OrderFault) × HasOrderFault f fault
 
 pub record HaveOneAnswer : Type 0 where
   pub some : (f : Flowchart) → HasOrder f ⊎ HasFault f
   pub never_both : (f : Flowchart) → HasOrder f → HasFault f → ⊥
-  pub one_fault : (f : Flowchart) (a b : OrderFault) → IsRefused f a → IsRefused f b → a ≡ b
+  pub one_fault : (f : Flowchart) (a b : OrderFault) → HasOrderFault f a → HasOrderFault f b → a ≡ b
 
 -- no run of an ordered plan takes more steps
 abbrev pub HaveSmallBounds : Type 0

@@ -3,7 +3,7 @@ use Rattle.std.proofs.Common.{◌≡◌, ℕ, ◌⊎◌, inl, inr, List, subst, 
 use Rattle.pap_tree.specs.Tokens.{Spot, plain, Tokens}
 use Rattle.pap_tree.specs.Grammar.{Line, Meaning}
 use Rattle.pap_tree.specs.Texts.{Text}
-use Rattle.pap_tree.specs.Stopping.{Cause, IsRead, IsRefused}
+use Rattle.pap_tree.specs.Stopping.{Cause, IsRead, IsRefusedAt}
 use Rattle.pap_tree.specs.Expressions.{IsText, IsAccepted, IsWrong}
 use Rattle.expr_grammar.specs.Lines.{IsWhole}
 use Rattle.expr_grammar.specs.GrammarLaws.{IsTaken}
@@ -29,9 +29,9 @@ accepted_or_wrong one l w bytes x c at h k =
 pub one_wrong : HasOneReading → (l : Line) → IsWhole l → (bytes : List ℕ) (c d : Cause) (m n : ℕ) → IsWrong l bytes c m → IsWrong l bytes d n → (c ≡ d) × (m ≡ n)
 one_wrong one l w bytes c d m n h k =
     let e = one bytes h.spots k.spots h.tokens k.tokens in
-    one_refusal l k.spots (length bytes) c d m n (subst (λ ts. IsRefused l ts (length bytes) c m) e h.refused) k.refused
+    one_refusal l k.spots (length bytes) c d m n (subst (λ ts. IsRefusedAt l ts (length bytes) c m) e h.refused) k.refused
 
-said : (l : Line) (bytes : List ℕ) (ts : List Spot) → Tokens 0 bytes ts → ((x : Meaning) × IsTaken l ts x) ⊎ ((c : Cause) × (at : ℕ) × IsRefused l ts (length bytes) c at)
+said : (l : Line) (bytes : List ℕ) (ts : List Spot) → Tokens 0 bytes ts → ((x : Meaning) × IsTaken l ts x) ⊎ ((c : Cause) × (at : ℕ) × IsRefusedAt l ts (length bytes) c at)
     → ((x : Meaning) × IsAccepted l bytes x) ⊎ ((c : Cause) × (at : ℕ) × IsWrong l bytes c at)
 said l bytes ts t (inl h) = inl (h.0, record { spots = ts; tokens = t; text = h.1.0; read = h.1.1 })
 said l bytes ts t (inr h) = inr (h.0, h.1, record { spots = ts; tokens = t; refused = h.2 })

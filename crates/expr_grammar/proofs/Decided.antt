@@ -6,7 +6,7 @@ use Rattle.pap_tree.specs.Tokens.{Token, Spot, plain}
 use Rattle.pap_tree.specs.Grammar.{Line, Meaning}
 use Rattle.pap_tree.specs.Texts.{Text}
 use Rattle.pap_tree.specs.Limits.{most_tokens}
-use Rattle.pap_tree.specs.Stopping.{IsRead, HasCause, StopsBefore, IsRefused, Cause, syntax, unsupported, binary_fraction, number, deep, rank, has_limits}
+use Rattle.pap_tree.specs.Stopping.{IsRead, HasCause, StopsBefore, IsRefusedAt, Cause, syntax, unsupported, binary_fraction, number, deep, rank, has_limits}
 use Rattle.expr_grammar.specs.Lines.{IsWhole}
 use Rattle.expr_grammar.specs.Machine.{start}
 use Rattle.expr_grammar.specs.Run.{Refusal, refusal, run, never, cut_answer, answer}
@@ -31,7 +31,7 @@ stops_after : (line : Line) (ts : List Spot) (end : ℕ) (x : Meaning) (c : Caus
 stops_after line ts end x c at before [] t r e s = s.2 x (subst (λ p. Text line (plain p) x) (e ∙ append-nil before) t)
 stops_after line ts end x c at before (u ∷ after) t r e s = r (plain before) (plain after) u.token (ap plain e ∙ plain_append before (u ∷ after)) s.1
 
-pub text_or_refusal : (line : Line) (ts : List Spot) (end : ℕ) (x : Meaning) (c : Cause) (at : ℕ) → Text line (plain ts) x → IsRead line (plain ts) → IsRefused line ts end c at → ⊥
+pub text_or_refusal : (line : Line) (ts : List Spot) (end : ℕ) (x : Meaning) (c : Cause) (at : ℕ) → Text line (plain ts) x → IsRead line (plain ts) → IsRefusedAt line ts end c at → ⊥
 text_or_refusal line ts end x c at t r h = stops_after line ts end x c at h.before h.after t r h.whole h.stop
 
 -- ---- one refusal
@@ -96,7 +96,7 @@ ordered line end a x b y (t ∷ d) c e m n p q h k r =
 turned : (c d : Cause) (m n : ℕ) → IsSame c m d n → IsSame d n c m
 turned c d m n h = (sym h.0, sym h.1)
 
-pub one_refusal : (line : Line) (ts : List Spot) (end : ℕ) (c d : Cause) (m n : ℕ) → IsRefused line ts end c m → IsRefused line ts end d n → IsSame c m d n
+pub one_refusal : (line : Line) (ts : List Spot) (end : ℕ) (c d : Cause) (m n : ℕ) → IsRefusedAt line ts end c m → IsRefusedAt line ts end d n → IsSame c m d n
 one_refusal line ts end c d m n h k = elim (cuts h.before k.before h.after k.after (sym h.whole ∙ k.whole)) as (λ z. IsSame c m d n) [
   | inl f ↦ ordered line end h.before h.after k.before k.after f.0 c d m n f.1 f.2 h.stop k.stop k.read
   | inr f ↦ turned d c n m (ordered line end k.before k.after h.before h.after f.0 d c n m f.1 f.2 k.stop h.stop h.read)
@@ -107,7 +107,7 @@ one_refusal line ts end c d m n h k = elim (cuts h.before k.before h.after k.aft
 -- what the answer says of the tokens
 abbrev pub Says : Line → ℕ → List Spot → Result Meaning Refusal → Type 0
 Says line end ts (Ok x) = Text line (plain ts) x × IsRead line (plain ts)
-Says line end ts (Err e) = IsRefused line ts end e.cause e.at
+Says line end ts (Err e) = IsRefusedAt line ts end e.cause e.at
 
 ended : (line : Line) (end : ℕ) (before : List Token) (after : List Spot) (e : Refusal) → Halts line (refusal syntax end) before after e → StopsBefore line end before after e.cause e.at
 ended line end before [] e h = (ap (λ f. f.at) h.0, ap (λ f. f.cause) h.0, h.1)
@@ -129,17 +129,17 @@ from_start line w f ts few = runs line w ts f ts [] (start line) refl few refl (
 
 -- where a token too many follows
 cut_refused : (line : Line) (end : ℕ) (front : List Spot) (t : Spot) (rest : List Spot) → IsTrue (has_limits line) → most_tokens ≤ length front → IsRead line (plain front)
-    → IsRefused line (front ++ (t ∷ rest)) end deep t.at
+    → IsRefusedAt line (front ++ (t ∷ rest)) end deep t.at
 cut_refused line end front t rest limits many read =
     let l = length_plain front in
     let h = stopped_deep line (refusal syntax end) (front ++ (t ∷ rest)) front t rest refl read (limits, inl (omega (arith, l, many))) in
     record { before = h.before; after = h.after; whole = h.whole; read = h.read; stop = ended line end (plain h.before) h.after (refusal deep t.at) h.stop }
 
-refused_is : (line : Line) (ts : List Spot) (end : ℕ) (e f : Refusal) → f ≡ e → IsRefused line ts end f.cause f.at → IsRefused line ts end e.cause e.at
-refused_is line ts end e f g h = subst (λ e. IsRefused line ts end e.cause e.at) g h
+refused_is : (line : Line) (ts : List Spot) (end : ℕ) (e f : Refusal) → f ≡ e → IsRefusedAt line ts end f.cause f.at → IsRefusedAt line ts end e.cause e.at
+refused_is line ts end e f g h = subst (λ e. IsRefusedAt line ts end e.cause e.at) g h
 
 early : (line : Line) (end : ℕ) (front : List Spot) (t : Spot) (rest : List Spot) (e : Refusal) (before after : List Spot) → IsTrue (has_limits line) → most_tokens ≤ length front
-    → front ≡ before ++ after → IsRead line (plain before) → Halts line (refusal deep t.at) (plain before) after e → IsRefused line (front ++ (t ∷ rest)) end e.cause e.at
+    → front ≡ before ++ after → IsRead line (plain before) → Halts line (refusal deep t.at) (plain before) after e → IsRefusedAt line (front ++ (t ∷ rest)) end e.cause e.at
 early line end front t rest e before [] limits many g read h =
     let same : before ≡ front = sym (append-nil before) ∙ sym g in
     refused_is line (front ++ (t ∷ rest)) end e (refusal deep t.at) (sym h.0) (cut_refused line end front t rest limits many (subst (λ p. IsRead line (plain p)) same read))
@@ -188,7 +188,7 @@ answered line w end ts = by_limits line w end ts (has_limits line) refl
 ok_says : (line : Line) (end : ℕ) (ts : List Spot) (x : Meaning) (r : Result Meaning Refusal) → r ≡ Ok x → Says line end ts r → Text line (plain ts) x × IsRead line (plain ts)
 ok_says line end ts x r e h = subst (λ r. Says line end ts r) e h
 
-err_says : (line : Line) (end : ℕ) (ts : List Spot) (f : Refusal) (r : Result Meaning Refusal) → r ≡ Err f → Says line end ts r → IsRefused line ts end f.cause f.at
+err_says : (line : Line) (end : ℕ) (ts : List Spot) (f : Refusal) (r : Result Meaning Refusal) → r ≡ Err f → Says line end ts r → IsRefusedAt line ts end f.cause f.at
 err_says line end ts f r e h = subst (λ r. Says line end ts r) e h
 
 says_ok : (line : Line) → IsWhole line → (end : ℕ) (ts : List Spot) (x : Meaning) (r : Result Meaning Refusal) → Says line end ts r → Text line (plain ts) x → IsRead line (plain ts) → r ≡ Ok x
@@ -198,7 +198,7 @@ says_ok line w end ts x (Err e) h t read = absurd (text_or_refusal line ts end x
 refusal_is : (e f : Refusal) → IsSame e.cause e.at f.cause f.at → e ≡ f
 refusal_is e f h = ap (λ c. refusal c e.at) h.0 ∙ ap (λ n. refusal f.cause n) h.1
 
-says_err : (line : Line) (end : ℕ) (ts : List Spot) (f : Refusal) (r : Result Meaning Refusal) → Says line end ts r → IsRefused line ts end f.cause f.at → r ≡ Err f
+says_err : (line : Line) (end : ℕ) (ts : List Spot) (f : Refusal) (r : Result Meaning Refusal) → Says line end ts r → IsRefusedAt line ts end f.cause f.at → r ≡ Err f
 says_err line end ts f (Ok x) h k = absurd (text_or_refusal line ts end x f.cause f.at h.0 h.1 k)
 says_err line end ts f (Err e) h k = ap Err (refusal_is e f (one_refusal line ts end e.cause f.cause e.at f.at h k))
 
@@ -208,15 +208,15 @@ answer_ok line w end ts x e = ok_says line end ts x (answer line end ts) e (answ
 pub ok_answer : (line : Line) → IsWhole line → (end : ℕ) (ts : List Spot) (x : Meaning) → Text line (plain ts) x → IsRead line (plain ts) → answer line end ts ≡ Ok x
 ok_answer line w end ts x t read = says_ok line w end ts x (answer line end ts) (answered line w end ts) t read
 
-pub answer_err : (line : Line) → IsWhole line → (end : ℕ) (ts : List Spot) (f : Refusal) → answer line end ts ≡ Err f → IsRefused line ts end f.cause f.at
+pub answer_err : (line : Line) → IsWhole line → (end : ℕ) (ts : List Spot) (f : Refusal) → answer line end ts ≡ Err f → IsRefusedAt line ts end f.cause f.at
 answer_err line w end ts f e = err_says line end ts f (answer line end ts) e (answered line w end ts)
 
-pub err_answer : (line : Line) → IsWhole line → (end : ℕ) (ts : List Spot) (f : Refusal) → IsRefused line ts end f.cause f.at → answer line end ts ≡ Err f
+pub err_answer : (line : Line) → IsWhole line → (end : ℕ) (ts : List Spot) (f : Refusal) → IsRefusedAt line ts end f.cause f.at → answer line end ts ≡ Err f
 err_answer line w end ts f h = says_err line end ts f (answer line end ts) (answered line w end ts) h
 
-said : (line : Line) (end : ℕ) (ts : List Spot) (r : Result Meaning Refusal) → Says line end ts r → ((x : Meaning) × IsTaken line ts x) ⊎ ((c : Cause) × (at : ℕ) × IsRefused line ts end c at)
+said : (line : Line) (end : ℕ) (ts : List Spot) (r : Result Meaning Refusal) → Says line end ts r → ((x : Meaning) × IsTaken line ts x) ⊎ ((c : Cause) × (at : ℕ) × IsRefusedAt line ts end c at)
 said line end ts (Ok x) h = inl (x, h)
 said line end ts (Err e) h = inr (e.cause, e.at, h)
 
-pub one_of_two : (line : Line) → IsWhole line → (end : ℕ) (ts : List Spot) → ((x : Meaning) × IsTaken line ts x) ⊎ ((c : Cause) × (at : ℕ) × IsRefused line ts end c at)
+pub one_of_two : (line : Line) → IsWhole line → (end : ℕ) (ts : List Spot) → ((x : Meaning) × IsTaken line ts x) ⊎ ((c : Cause) × (at : ℕ) × IsRefusedAt line ts end c at)
 one_of_two line w end ts = said line end ts (answer line end ts) (answered line w end ts)

@@ -6,7 +6,7 @@ use Rattle.pap_tree.specs.Grammar.{Item, Line, Level, Meaning, tree}
 use Rattle.pap_tree.specs.Texts.{Text}
 use Rattle.pap_tree.specs.Fronts.{Front, IsFront}
 use Rattle.pap_tree.specs.Limits.{most_tokens}
-use Rattle.pap_tree.specs.Stopping.{Cause, IsRead, IsRefused, has_limits}
+use Rattle.pap_tree.specs.Stopping.{Cause, IsRead, IsRefusedAt, has_limits}
 use Rattle.pap_tree.specs.Expressions.{IsText}
 use Rattle.expr_grammar.specs.Machine.{State, level_of, start, steps}
 use Rattle.expr_grammar.specs.Run.{Refusal, answer}
@@ -23,15 +23,15 @@ HasOneMeaning l = (ts : List Token) (x y : Meaning) → Text l ts x → Text l t
 
 -- what is taken isn't refused
 abbrev pub TakesOrRefuses : Line → Type 0
-TakesOrRefuses l = (ts : List Spot) (end : ℕ) (x : Meaning) (c : Cause) (at : ℕ) → IsTaken l ts x → IsRefused l ts end c at → ⊥
+TakesOrRefuses l = (ts : List Spot) (end : ℕ) (x : Meaning) (c : Cause) (at : ℕ) → IsTaken l ts x → IsRefusedAt l ts end c at → ⊥
 
 -- tokens are refused for one cause, at one place
 abbrev pub HasOneRefusal : Line → Type 0
-HasOneRefusal l = (ts : List Spot) (end : ℕ) (c d : Cause) (m n : ℕ) → IsRefused l ts end c m → IsRefused l ts end d n → (c ≡ d) × (m ≡ n)
+HasOneRefusal l = (ts : List Spot) (end : ℕ) (c d : Cause) (m n : ℕ) → IsRefusedAt l ts end c m → IsRefusedAt l ts end d n → (c ≡ d) × (m ≡ n)
 
 -- all tokens are taken or refused
 abbrev pub HasAnswer : Line → Type 0
-HasAnswer l = (ts : List Spot) (end : ℕ) → ((x : Meaning) × IsTaken l ts x) ⊎ ((c : Cause) × (at : ℕ) × IsRefused l ts end c at)
+HasAnswer l = (ts : List Spot) (end : ℕ) → ((x : Meaning) × IsTaken l ts x) ⊎ ((c : Cause) × (at : ℕ) × IsRefusedAt l ts end c at)
 
 -- the machine reads exactly the fronts
 abbrev pub ReadsFronts : Line → Type 0
@@ -56,7 +56,7 @@ GivesMeaning l = (ts : List Spot) (end : ℕ) (x : Meaning) → (answer l end ts
 
 -- and the cause and the place, exactly where they are refused
 abbrev pub GivesRefusal : Line → Type 0
-GivesRefusal l = (ts : List Spot) (end : ℕ) (r : Refusal) → (answer l end ts ≡ Err r) ↔ IsRefused l ts end r.cause r.at
+GivesRefusal l = (ts : List Spot) (end : ℕ) (r : Refusal) → (answer l end ts ≡ Err r) ↔ IsRefusedAt l ts end r.cause r.at
 
 -- a tree has no more nodes than its text has tokens
 abbrev pub IsSized : Line → Type 0

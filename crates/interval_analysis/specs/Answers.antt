@@ -12,8 +12,13 @@ use Rattle.interval_analysis.specs.declared.fault.RangeFault.TheVariants as faul
 abbrev pub named_range : OutputRange → NamedRange
 named_range o = record { name = o.name; range = o.range }
 
--- the walk of a plan fails there, for that cause; memory is free
+-- the walk of a plan fails there, for that cause; want of memory is no failure of the walk
 abbrev pub IsWalkFault : Flowchart → Limits → RangeFault → Type 0
 IsWalkFault f limits (faults.At place cause) = analysed f limits ≡ Err (node_fails place cause)
 IsWalkFault f limits (faults.Output name) = analysed f limits ≡ Err (output_fails name)
-IsWalkFault f limits (faults.Memory e) = ⊤
+IsWalkFault f limits (faults.Memory e) = ⊥
+
+-- the same of a refusal that is answered: want of memory comes whatever the plan is
+abbrev pub IsWalkFaultOrMemory : Flowchart → Limits → RangeFault → Type 0
+IsWalkFaultOrMemory f limits (faults.Memory e) = ⊤
+IsWalkFaultOrMemory f limits other = IsWalkFault f limits other

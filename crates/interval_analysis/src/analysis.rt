@@ -7,7 +7,7 @@ ghost use Rattle.call_order.specs.Orders.{IsOrdered};
 ghost use Rattle.interval_walk.specs.Admission.{HaveLimits, AreAdmitted};
 ghost use Rattle.interval_walk.specs.Analysis.{analysed};
 ghost use Rattle.interval_walk.specs.Soundness.{RunHolds};
-ghost use Rattle.interval_analysis.specs.Answers.{named_range, IsWalkFault};
+ghost use Rattle.interval_analysis.specs.Answers.{named_range, IsWalkFaultOrMemory};
 ghost use Rattle.interval_analysis.specs.OutputViews.{OutputAnswer};
 
 use crate::bounds::bound_of;
@@ -45,7 +45,7 @@ pub fn analyse(
     ensures ranges { IfOk result
         (λ v. analysed (flowchart_of t.now) limits.now ≡ Ok (map named_range v.outputs.items)) }
     ensures bound { IfOk result (λ v. v.bound ≡ bound_of (flowchart_of t.now)) }
-    ensures fault { IfErr result (IsWalkFault (flowchart_of t.now) limits.now) }
+    ensures fault { IfErr result (IsWalkFaultOrMemory (flowchart_of t.now) limits.now) }
     ensures sound { IfOk result (λ v. (inputs : List Decimal)
         → AreAdmitted (flowchart_of t.now) limits.now inputs
         → RunHolds (flowchart_of t.now) (map named_range v.outputs.items) inputs

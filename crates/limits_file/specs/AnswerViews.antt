@@ -15,7 +15,7 @@ Tells IsSo (Err answered.LimitsLong) = IsSo (Err too_long)
 Tells IsSo (Err (answered.Memory e)) = ⊤
 
 -- what a fault of the text as a whole tells
-abbrev pub IsRefused : List ℕ → LimitsFault → Type 0
-IsRefused bytes answered.Toml = IsNoToml bytes
-IsRefused bytes (answered.Memory e) = ⊤
-IsRefused bytes other = ⊥
+abbrev pub IsNoTomlOrMemory : List ℕ → LimitsFault → Type 0
+IsNoTomlOrMemory bytes answered.Toml = IsNoToml bytes
+IsNoTomlOrMemory bytes (answered.Memory e) = ⊤
+IsNoTomlOrMemory bytes other = ⊥

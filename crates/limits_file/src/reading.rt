@@ -1,7 +1,7 @@
 //! A range file is read key by key, in byte order of its keys.
 ghost use Rattle.std.specs.Prelude.{◌≡◌, ◌<◌, ◌≤◌, ◌↔◌, ℕ, List, Ok, Err, IfOk, IfErr, length};
 ghost use Rattle.toml.specs.View.{table_view};
-ghost use Rattle.limits_file.specs.AnswerViews.{Tells, IsRefused};
+ghost use Rattle.limits_file.specs.AnswerViews.{Tells, IsNoTomlOrMemory};
 ghost use Rattle.limits_file.specs.Faults.{no_toml, bad_key, bad_bound};
 ghost use Rattle.limits_file.specs.Limits.{longest_limits};
 ghost use Rattle.limits_file.specs.RangeFiles.{SectionSays, joined, IsToml, FileSays, AreInOrder, HasOneAnswer};
@@ -48,7 +48,7 @@ pub fn each_text_has_one_answer()
 fn read_toml(alloc: Global, bytes: &[u8]) -> Result<Table, LimitsFault>
     requires { length bytes.now ≤ longest_limits }
     ensures read { IfOk result (λ table. IsToml bytes.now (table_view table)) }
-    ensures refused { IfErr result (IsRefused bytes.now) }
+    ensures refused { IfErr result (IsNoTomlOrMemory bytes.now) }
 {
     match toml::table_from_slice(alloc, bytes) {
         Ok(table) => Ok(table),

@@ -12,13 +12,14 @@ use Rattle.pap_types.specs.declared.fault.TypeFault.{TypeFault}
 use Rattle.pap_types.specs.Checks.{IsWellTyped, type_fault}
 use Rattle.call_order.specs.declared.fault.OrderFault.{OrderFault}
 use Rattle.call_order.specs.OrderLaws.{HasOrder, HasFault}
-use Rattle.call_order.specs.Faults.{IsRefused as HasOrderFault}
+use Rattle.call_order.specs.Faults.{HasOrderFault}
 use Rattle.call_order.proofs.Laws as orders
 use Rattle.interval_walk.specs.Ranges.{Ranges}
 use Rattle.interval_walk.specs.Failures.{WalkFault, node_fails, output_fails}
 use Rattle.interval_walk.specs.Analysis.{analysed}
 use Rattle.interval_analysis.specs.declared.fault.RangeFault.{RangeFault}
 use Rattle.interval_analysis.specs.declared.fault.RangeFault.TheVariants as walks
+use Rattle.interval_analysis.specs.Answers.{IsWalkFault}
 use Rattle.plan_text.specs.declared.fault.PlanFault.{PlanFault}
 use Rattle.plan_text.specs.declared.fault.PlanFault.TheVariants as texts
 use Rattle.plan_text.specs.Plans.{IsPlan, IsPlanFault}
@@ -26,7 +27,7 @@ use Rattle.plan_text.proofs.Laws as plans
 use Rattle.pap_plan.specs.declared.refusal.PlanRefusal.{PlanRefusal}
 use Rattle.pap_plan.specs.declared.refusal.PlanRefusal.TheVariants as refusals
 use Rattle.pap_plan.specs.Bindings.{unmatched_name, HasSuitedLimit, IsFirstUnsuited, unbound_input}
-use Rattle.pap_plan.specs.Acceptance.{Meaning, IsTypedPlan, IsOrderedPlan, HasRangeFile, HasMatchingNames, HasSuitedLimits, HasBindings, IsLimitsFault, IsWalkFault, Answers}
+use Rattle.pap_plan.specs.Acceptance.{Meaning, IsTypedPlan, IsOrderedPlan, HasRangeFile, HasMatchingNames, HasSuitedLimits, HasBindings, IsLimitsFault, Answers}
 use Rattle.pap_plan.specs.PlanViews.{text_refusal}
 use Rattle.pap_plan.proofs.SuitedLemmas.{suited_or_first, never_suited, one_unsuited}
 

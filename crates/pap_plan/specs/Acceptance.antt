@@ -8,12 +8,10 @@ use Rattle.limits_file.specs.Faults.{too_long, no_toml, bad_key, bad_bound}
 use Rattle.limits_file.specs.RangeFiles.{FileSays}
 use Rattle.pap_types.specs.Checks.{IsWellTyped, type_fault}
 use Rattle.call_order.specs.OrderLaws.{HasOrder}
-use Rattle.call_order.specs.Faults.{IsRefused as HasOrderFault}
+use Rattle.call_order.specs.Faults.{HasOrderFault}
 use Rattle.interval_walk.specs.Ranges.{Ranges}
-use Rattle.interval_walk.specs.Failures.{node_fails, output_fails}
 use Rattle.interval_walk.specs.Analysis.{analysed}
-use Rattle.interval_analysis.specs.declared.fault.RangeFault.{RangeFault}
-use Rattle.interval_analysis.specs.declared.fault.RangeFault.TheVariants as walks
+use Rattle.interval_analysis.specs.Answers.{IsWalkFault}
 use Rattle.plan_text.specs.declared.fault.PlanFault.TheVariants as texts
 use Rattle.plan_text.specs.Plans.{IsPlan, IsPlanFault}
 use Rattle.pap_plan.specs.declared.refusal.PlanRefusal.{PlanRefusal}
@@ -73,12 +71,7 @@ IsLimitsFault bytes (ranges.Bound label) = FileSays bytes (Err (bad_bound label)
 IsLimitsFault bytes ranges.LimitsLong = FileSays bytes (Err too_long)
 IsLimitsFault bytes (ranges.Memory e) = ⊥
 
--- what the walk over ranges refuses
-abbrev pub IsWalkFault : Flowchart → Limits → RangeFault → Type 0
-IsWalkFault f l (walks.At place cause) = analysed f l ≡ Err (node_fails place cause)
-IsWalkFault f l (walks.Output name) = analysed f l ≡ Err (output_fails name)
-IsWalkFault f l (walks.Memory e) = ⊥
-
+-- why two texts are refused; want of memory is nothing that texts say
 abbrev pub IsRefused : List ℕ → List ℕ → PlanRefusal → Type 0
 IsRefused plan limits (refusals.Read fault) = IsPlanFault plan (texts.Read fault)
 IsRefused plan limits (refusals.Expr spot fault) = IsPlanFault plan (texts.Expr spot fault)

@@ -8,11 +8,11 @@ use Rattle.pap_types.specs.Meaning.{bound_of}
 use Rattle.call_order.specs.Orders.{IsOrdered}
 use Rattle.interval_walk.specs.Analysis.{analysed}
 use Rattle.interval_analysis.specs.declared.verdict.Verdict.{Verdict}
-use Rattle.interval_analysis.specs.Answers.{named_range}
+use Rattle.interval_analysis.specs.Answers.{named_range, IsWalkFault}
 use Rattle.pap_plan.specs.declared.refusal.PlanRefusal.{PlanRefusal}
 use Rattle.pap_plan.specs.declared.refusal.PlanRefusal.TheVariants as refusals
 use Rattle.pap_plan.specs.declared.acceptance.Judged.{Judged}
-use Rattle.pap_plan.specs.Acceptance.{IsTypedPlan, IsRefusedOrMemory, IsWalkFault}
+use Rattle.pap_plan.specs.Acceptance.{IsTypedPlan, IsRefusedOrMemory}
 use Rattle.pap_plan.specs.AcceptanceClauses.{AreMatched, IsUnmatched}
 
 -- the limits are those of the plan, and this is its verdict

@@ -5,7 +5,7 @@ use Rattle.pap_tree.specs.Tokens.{Spot, plain, Tokens}
 use Rattle.pap_tree.specs.Grammar.{Line, Level, Assignment, Constant, Meaning, tree, assignment, declared}
 use Rattle.pap_tree.specs.Declarations.{DeclaredLiteral}
 use Rattle.pap_tree.specs.Texts.{Text}
-use Rattle.pap_tree.specs.Stopping.{IsRead, IsRefused, Cause}
+use Rattle.pap_tree.specs.Stopping.{IsRead, IsRefusedAt, Cause}
 
 -- the bytes are a text of the line that stands for this
 pub record IsText (l : Line) (bytes : List ℕ) (x : Meaning) : Type 0 where
@@ -33,4 +33,4 @@ pub record IsAccepted (l : Line) (bytes : List ℕ) (x : Meaning) : Type 0 where
 pub record IsWrong (l : Line) (bytes : List ℕ) (c : Cause) (at : ℕ) : Type 0 where
   pub spots : List Spot
   pub tokens : Tokens 0 bytes spots
-  pub refused : IsRefused l spots (length bytes) c at
+  pub refused : IsRefusedAt l spots (length bytes) c at

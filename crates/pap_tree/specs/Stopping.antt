@@ -101,7 +101,7 @@ StopsBefore l end before [] c at = (at ≡ end) × (c ≡ syntax) × ((x : Meani
 StopsBefore l end before (t ∷ ts) c at = (at ≡ t.at) × Stops l before t.token × HasCause l before t.token c
 
 -- the tokens of a text of so many bytes are refused for this cause at this place
-pub record IsRefused (l : Line) (ts : List Spot) (end : ℕ) (c : Cause) (at : ℕ) : Type 0 where
+pub record IsRefusedAt (l : Line) (ts : List Spot) (end : ℕ) (c : Cause) (at : ℕ) : Type 0 where
   pub before : List Spot
   pub after : List Spot
   pub whole : ts ≡ before ++ after
