@@ -14,7 +14,7 @@ use book_year::Year;
 use pap_plan::Plan;
 use payroll_records::{Day, Record};
 use recalc_engine::{Book, Work};
-use saved_items::{is_run, push_end, push_head, push_plan, push_run, push_run_count};
+use saved_items::{push_end, push_head, push_plan, push_run, push_run_count, run_law};
 use std::alloc::{AllocError, Global};
 
 /// The text as which a book is saved, of at most 268,435,456 bytes. It is the text of this book and of no other.
@@ -23,9 +23,9 @@ pub fn write_book(alloc: Global, b: &Book) -> Result<Vec<u8>, SaveRefusal>
     ensures refused { IfErr result (IsUnsaved b.now) }
     ensures read { IfOk result (λ text. BookSays text.items (Ok b.now)) }
 {
-    b.is_whole();
+    b.law();
     let work = b.last_work();
-    fits(work);
+    work_law(work);
     let plans = b.plans();
     let years = b.years();
     let mut text = Vec::new(alloc);
@@ -40,8 +40,8 @@ pub fn write_book(alloc: Global, b: &Book) -> Result<Vec<u8>, SaveRefusal>
     Ok(text)
 }
 
-/// The numbers of a work fit 64 bits, as can be written.
-fn fits(work: Work)
+/// A law, with nothing to run: the numbers of a work fit 64 bits, as can be written.
+fn work_law(work: Work)
     ensures { IsWork work.runs work.steps }
 {
     let _ = work;
@@ -81,7 +81,7 @@ fn write_runs(text: &mut Vec<u8>, runs: &[Record]) -> Result<(), AllocError>
     ensures ok { OnOk result (text.new.items ≡ text.old.items ++ flat_map run_text runs.now) }
 {
     for run in runs {
-        is_run(run);
+        run_law(run);
         push_run(text, run)?;
     }
     Ok(())

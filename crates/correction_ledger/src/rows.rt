@@ -55,7 +55,7 @@ fn outputs_by<'a>(row: &MonthRow<'a>, month: Month) -> &'a [NamedValue]
 pub(crate) fn reported(alloc: Global, b: &Book, month: Month) -> Result<Vec<Due>, AllocError>
     ensures { IfOk result (λ dues. AreReported (month_rows b.now) month dues.items) }
 {
-    b.has_whole_rows();
+    b.rows_law();
     let mut dues = Vec::new(alloc);
     let mut of_run = Vec::new(alloc);
     for row in b.months() {

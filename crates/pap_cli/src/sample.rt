@@ -83,8 +83,8 @@ fn run_count(book: &Book) -> usize
 fn tax_sum(book: &Book) -> Dec
     ensures { result ≡ tax_sum book.now }
 {
-    book.is_whole();
-    book.has_whole_rows();
+    book.law();
+    book.rows_law();
     let mut total = Dec::new(0, 0);
     for row in book.months() {
         total = with_tax(total, &row);

@@ -106,23 +106,23 @@ impl Book {
         Ok(RestoredBook { book, work })
     }
 
-    /// Each book is as `IsBook` says.
-    pub fn is_whole(&self)
+    /// A law, with nothing to run: each book is as `IsBook` says.
+    pub fn law(&self)
         ensures { IsBook self.now }
     {
         each_is_accepted(self.plans.entries());
     }
 
-    /// The rows of each book are as `AreBookRows` says.
-    pub fn has_whole_rows(&self)
+    /// A law, with nothing to run: the rows of each book are as `AreBookRows` says.
+    pub fn rows_law(&self)
         ensures { AreBookRows (month_rows self.now) }
     {
         let _ = &self.years;
-        self.is_whole();
+        self.law();
     }
 
-    /// The values of each book's runs are as `HaveKeptValues` says.
-    pub fn has_kept_values(&self)
+    /// A law, with nothing to run: the values of each book's runs are as `HaveKeptValues` says.
+    pub fn values_law(&self)
         ensures { HaveKeptValues self.now }
     {
         each_year_is_kept(self.years.list.as_slice());

@@ -15,5 +15,5 @@ mod writing;
 
 pub use items::{ItemFault, Items, PlanItem};
 pub use reading::{each_text_has_one_answer, read_items};
-pub use run_words::is_run;
+pub use run_words::run_law;
 pub use writing::{push_end, push_head, push_plan, push_run, push_run_count};

@@ -119,7 +119,7 @@ fn next_plan<'a>(
     ensures { (runs steps count : ℕ) → length plans.now < count →
         IfOk result (Reads (Fits (planning runs steps count (plans_of plans.now))) rest.now) }
 {
-    is_short(rest);
+    text_law(rest);
     let Some(line) = first_line(alloc, rest)? else {
         return Ok(None);
     };
@@ -136,7 +136,7 @@ fn next_plan<'a>(
 }
 
 /// A law, with nothing to run: 64 bits count the bytes of a text.
-fn is_short(bytes: &[u8])
+fn text_law(bytes: &[u8])
     ensures { length bytes.now < 2 ^ 64 }
 {
     let _ = bytes.len();

@@ -39,14 +39,14 @@ fn is_written(alloc: Global, text: &[u8], run: &Record) -> Result<bool, AllocErr
         (text.now ≡ join_with_byte 32 (run_words run.now))
         (text.now ≢ join_with_byte 32 (run_words run.now))) }
 {
-    is_run(run);
+    run_law(run);
     let mut written = Vec::with_capacity(alloc, text.len())?;
     push_run_words(&mut written, run)?;
     Ok(written.as_slice() == text)
 }
 
 /// A law, with nothing to run: each record has a text.
-pub fn is_run(run: &Record)
+pub fn run_law(run: &Record)
     ensures { IsRun run.now }
 {
     let _ = run.employee.bytes();

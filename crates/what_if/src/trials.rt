@@ -41,7 +41,7 @@ pub fn try_plan<L: Ledger>(
     if is_full(b.plans().entries(), day) {
         return Err(TryRefusal::Plans);
     }
-    b.is_whole();
+    b.law();
     let _ = p.bound();
     let picks = Picks::edited(b.plans(), day, Some((day, &p)));
     let trial = try_years(alloc, &picks, b.years(), steps)?;

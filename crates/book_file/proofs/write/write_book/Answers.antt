@@ -75,10 +75,10 @@ returns-clause-read c =
     ∙ ap (λ t. t ++ end_text) (c.in_ok-write_years.ensures.ok ∙ ap (λ years. text ++ flat_map year_text (runs_in years)) c.as_slice.ensures.value)
     ∙ whole_text book es ys text so_far in
     let saved =
-    sound book ys.list.items c.is_whole.ensures (subst (λ (w : Work). IsWork w.runs w.steps) c.last_work-work.ensures c.fits.ensures)
+    sound book ys.list.items c.law.ensures (subst (λ (w : Work). IsWork w.runs w.steps) c.last_work-work.ensures c.work_law.ensures)
     c.years-years.ensures.years (subst (All HasRuns) c.as_slice.ensures.value c.in_ok-write_years.ensures.runs) in
     record {
       few = omega (arith, c.len-2.ensures, c.if-len-gt-MOST_BOOK_TEXT.false);
-      book_is = c.is_whole.ensures;
+      book_is = c.law.ensures;
       text = record { sound = saved; text = whole };
     }

@@ -8,5 +8,5 @@ loop-run-preserved c = record {
   text =
       more_runs c.args.text.now.items c.loop-run.text.items c.push_run.new.out.items c.args.runs.now c.loop-run.run-index c.run-item.result
       (omega arith) c.run-item.is c.loop-run.invariant.text c.in_ok-push_run.ensures;
-  runs = one_more IsRun c.args.runs.now c.loop-run.run-index c.run-item.result (omega arith) c.run-item.is c.is_run.ensures c.loop-run.invariant.runs;
+  runs = one_more IsRun c.args.runs.now c.loop-run.run-index c.run-item.result (omega arith) c.run-item.is c.run_law.ensures c.loop-run.invariant.runs;
 }

@@ -13,7 +13,7 @@ loop-row-init c = record {
 
 pub loop-row-preserved : goal.loop-row-preserved
 loop-row-preserved c =
-    let rows = subst AreBookRows (sym (c.into_iter-row-iterator.ensures.into_iter_gives ∙ c.months-row-items.ensures)) c.has_whole_rows.ensures in
+    let rows = subst AreBookRows (sym (c.into_iter-row-iterator.ensures.into_iter_gives ∙ c.months-row-items.ensures)) c.rows_law.ensures in
     let underway = rw c.in-Some.ensures.steps at c.loop-row.invariant.underway in
     let listed = rw c.outputs_by.ensures at c.in_ok-list_outputs.ensures in
     record {
@@ -23,7 +23,7 @@ loop-row-preserved c =
 
 pub list_outputs-requires-clause-named : goal.list_outputs-requires-clause-named
 list_outputs-requires-clause-named c =
-    let rows = subst AreBookRows (sym (c.into_iter-row-iterator.ensures.into_iter_gives ∙ c.months-row-items.ensures)) c.has_whole_rows.ensures in
+    let rows = subst AreBookRows (sym (c.into_iter-row-iterator.ensures.into_iter_gives ∙ c.months-row-items.ensures)) c.rows_law.ensures in
     let underway = rw c.in-Some.ensures.steps at c.loop-row.invariant.underway in
     subst HaveNames (sym c.outputs_by.ensures) (named_there c.into_iter-row-iterator.result c.args.month (lent_row c.in-Some.row) c.next.new.self c.loop-row.dues.items rows.named underway)
 

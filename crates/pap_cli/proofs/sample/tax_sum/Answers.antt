@@ -9,8 +9,8 @@ use Rattle.pap_cli.proofs.sample.tax_sum.Goals as goal
 pub loop-row-init : goal.loop-row-init
 loop-row-init c =
     let is = c.into_iter-row-iterator.ensures.into_iter_gives ∙ c.months-row-items.ensures in
-    let rows = subst AreBookRows (sym is) c.has_whole_rows.ensures in
-    let few : length c.into_iter-row-iterator.result ≤ most_records = omega (arith, ap (λ r. length r) is, book_rows_counted c.args.book.now, c.is_whole.ensures.few) in
+    let rows = subst AreBookRows (sym is) c.rows_law.ensures in
+    let few : length c.into_iter-row-iterator.result ≤ most_records = omega (arith, ap (λ r. length r) is, book_rows_counted c.args.book.now, c.law.ensures.few) in
     begins c.into_iter-row-iterator.result c.new-total.result c.new-total.ensures rows.bounded few
 
 pub with_tax-total-requires : goal.with_tax-total-requires

@@ -12,7 +12,7 @@ returns-in_default-2 c =
     let split : AreWordsOf c.in-Some.line.text.now c.as_slice.result.now = rw c.as_slice.ensures.value line.words in
     λ runs steps count more.
     none_plan c.args.rest.now c.in-Some.line.text.now c.in-Some.line.rest.now
-    (texts c.as_slice.result.now) line.is split c.is_short.ensures (rw c.in_default-2.is at c.in_ok-front.ensures)
+    (texts c.as_slice.result.now) line.is split c.text_law.ensures (rw c.in_default-2.is at c.in_ok-front.ensures)
     runs steps count (plans_of c.args.plans.now) (omega (arith, more, length-map c.args.plans.now plan_in))
 
 pub returns-in_default-plan_texts : goal.returns-in_default-plan_texts

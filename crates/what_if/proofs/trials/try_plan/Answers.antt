@@ -21,21 +21,21 @@ pub try_years-requires-clause-before : goal.try_years-requires-clause-before
 try_years-requires-clause-before g c =
     let e : Entry Accepted = (c.args.day, accepted c.args.p) in
     let picks = c.edited-picks.result in
-    old_planned c.args.b.now e c.is_whole.ensures (plans_in c.plans-2.result.now) c.plans-2.ensures (before picks)
+    old_planned c.args.b.now e c.law.ensures (plans_in c.plans-2.result.now) c.plans-2.ensures (before picks)
     (after picks) c.edited-picks.ensures.before c.edited-picks.ensures.after
 
 pub try_years-requires-clause-after : goal.try_years-requires-clause-after
 try_years-requires-clause-after g c =
     let e : Entry Accepted = (c.args.day, accepted c.args.p) in
     let picks = c.edited-picks.result in
-    new_planned c.args.b.now e c.is_whole.ensures (plans_in c.plans-2.result.now) c.plans-2.ensures (before picks)
+    new_planned c.args.b.now e c.law.ensures (plans_in c.plans-2.result.now) c.plans-2.ensures (before picks)
     (after picks) c.edited-picks.ensures.before c.edited-picks.ensures.after c.bound.ensures.accepted
 
 pub returns-in_err-trial-clause-counted : goal.returns-in_err-trial-clause-counted
 returns-in_err-trial-clause-counted g c =
     let e : Entry Accepted = (c.args.day, accepted c.args.p) in
     let picks = c.edited-picks.result in
-    let total = cost_is c.args.b.now e c.is_whole.ensures (plans_in c.plans-2.result.now) c.plans-2.ensures
+    let total = cost_is c.args.b.now e c.law.ensures (plans_in c.plans-2.result.now) c.plans-2.ensures
     (before picks) (after picks) c.edited-picks.ensures.before c.edited-picks.ensures.after c.years.result.now
     c.years.ensures.years in
     let p = err_from_is_err_and c.from_residual.result c.from_residual.ensures.1 in
@@ -47,7 +47,7 @@ pub returns-clause-ok : goal.returns-clause-ok
 returns-clause-ok g c =
     let e : Entry Accepted = (c.args.day, accepted c.args.p) in
     let picks = c.edited-picks.result in
-    tried c.args.b.now e c.is_whole.ensures (plans_in c.plans-2.result.now) c.plans-2.ensures (before picks)
+    tried c.args.b.now e c.law.ensures (plans_in c.plans-2.result.now) c.plans-2.ensures (before picks)
     (after picks) c.edited-picks.ensures.before c.edited-picks.ensures.after c.years.result.now
     c.years.ensures.years c.in_ok-trial.trial c.in_ok-trial.ensures.ok
 
@@ -56,6 +56,6 @@ returns-clause-counted g c =
     let e : Entry Accepted = (c.args.day, accepted c.args.p) in
     let picks = c.edited-picks.result in
     c.in_ok-trial.ensures.counted
-    ∙ ap (λ t. c.args.steps.now + t) (cost_is c.args.b.now e c.is_whole.ensures (plans_in c.plans-2.result.now)
+    ∙ ap (λ t. c.args.steps.now + t) (cost_is c.args.b.now e c.law.ensures (plans_in c.plans-2.result.now)
     c.plans-2.ensures (before picks) (after picks) c.edited-picks.ensures.before c.edited-picks.ensures.after
     c.years.result.now c.years.ensures.years)

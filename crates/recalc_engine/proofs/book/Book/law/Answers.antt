@@ -1,5 +1,5 @@
 use Rattle.recalc_engine.proofs.BookLemmas.{whole_book}
-use Rattle.recalc_engine.proofs.book.Book.is_whole.Goals as goal
+use Rattle.recalc_engine.proofs.book.Book.law.Goals as goal
 
 pub returns : goal.returns
 returns c =

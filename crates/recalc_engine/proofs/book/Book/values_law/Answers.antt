@@ -2,7 +2,7 @@ use Rattle.std.proofs.Common.{subst}
 use Rattle.std.specs.Prelude.{All}
 use Rattle.recalc_engine.specs.ValueViews.{IsYearKept}
 use Rattle.recalc_engine.proofs.ValueLemmas.{listed_kept}
-use Rattle.recalc_engine.proofs.book.Book.has_kept_values.Goals as goal
+use Rattle.recalc_engine.proofs.book.Book.values_law.Goals as goal
 
 pub returns : goal.returns
 returns c =
