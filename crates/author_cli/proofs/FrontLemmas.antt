@@ -2,7 +2,7 @@
 use Rattle.std.proofs.Common.{ℕ, ◌<◌, List, [], take, inl, inr, sym, subst, arith}
 use Rattle.std.specs.Prelude.{Option, Some, None, Ok, Err}
 use Rattle.std.proofs.lemmas.List.{take_all}
-use Rattle.outside.specs.Told.{FileMap, IsFront}
+use Rattle.outside.specs.Told.{FileMap, IsFileFront}
 use Rattle.pap_reader.specs.declared.fault.ReadFault.{ReadFault}
 use Rattle.pap_reader.specs.Trees.{ElementTree}
 use Rattle.pap_reader.specs.Elements.{IsElements, IsFault}
@@ -154,7 +154,7 @@ module _ (n m : ℕ) (more_plan : 1048576 < n) (more_limits : 262144 < m) where
 
 -- ---- of files that are there
 
-pub chart_of : (files : FileMap) (plan bytes : List ℕ) (a : Answer) → IsFront files plan 1048577 bytes
+pub chart_of : (files : FileMap) (plan bytes : List ℕ) (a : Answer) → IsFileFront files plan 1048577 bytes
     → IsChart (file_of plan bytes) None a → Answers (chart plan) files a
 chart_of files plan bytes a read h =
     let p = front_there (files plan) 1048577 bytes read in
@@ -165,7 +165,7 @@ chart_of files plan bytes a read h =
           (subst (λ b. IsChart (file_of plan b) None a) p.2 h);
     }
 
-pub ranges_of : (files : FileMap) (plan bytes : List ℕ) (a : Answer) → IsFront files plan 1048577 bytes
+pub ranges_of : (files : FileMap) (plan bytes : List ℕ) (a : Answer) → IsFileFront files plan 1048577 bytes
     → IsRanges (file_of plan bytes) a → Answers (ranges plan) files a
 ranges_of files plan bytes a read h =
     let p = front_there (files plan) 1048577 bytes read in

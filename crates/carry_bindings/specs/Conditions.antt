@@ -12,5 +12,5 @@ AreBounded None = ⊤
 AreBounded (Some outputs) = AllByRecursion (λ v. IsWithinBound v.value) outputs
 
 -- the limit of a `double` is one for that
-abbrev pub SuitsKind : Slot → Type 0
-SuitsKind s = s.kind ≡ Factor → IsFactorLimit s.limit
+abbrev pub KeepsFactorLimit : Slot → Type 0
+KeepsFactorLimit s = s.kind ≡ Factor → IsFactorLimit s.limit

@@ -1,7 +1,7 @@
 //! The inputs of a run.
 ghost use Rattle.std.specs.Prelude.{◌≡◌, ◌≤◌, IfOk, None, length, true};
 ghost use Rattle.std.specs.List.{AllByRecursion};
-ghost use Rattle.carry_bindings.specs.Conditions.{AreBounded, SuitsKind};
+ghost use Rattle.carry_bindings.specs.Conditions.{AreBounded, KeepsFactorLimit};
 ghost use Rattle.carry_bindings.specs.Limits.{most_runs};
 ghost use Rattle.carry_bindings.specs.Filling.{admits, filled_by, first_of, given, has_carry, input_of, inputs, missing};
 ghost use Rattle.carry_bindings.specs.Filling.{outside, value_of, waits};
@@ -47,7 +47,7 @@ pub fn fill(
 ) -> Result<Filled, AllocError>
     requires few { length earlier.now ≤ most_runs }
     requires bounded { AllByRecursion (λ e. AreBounded e.outputs) earlier.now }
-    requires doubles { AllByRecursion SuitsKind spec.now.slots }
+    requires doubles { AllByRecursion KeepsFactorLimit spec.now.slots }
     ensures { IfOk result (λ f. f ≡ filled_by spec.now.slots item.now.values earlier.now) }
 {
     let slots = spec.slots.as_slice();
@@ -137,7 +137,7 @@ fn admits(limit: &InputLimit, value: Dec) -> bool
 
 /// The value as the run takes it.
 fn input_of(slot: &Slot, value: Dec) -> Dec
-    requires suits { SuitsKind slot.now }
+    requires suits { KeepsFactorLimit slot.now }
     requires admitted { admits slot.now.limit value ≡ true }
     ensures { result ≡ input_of slot.now.kind value }
 {
@@ -158,7 +158,7 @@ fn inputs(
     requires places { places.now ≡ places_of slots.now values.now }
     requires few { length earlier.now ≤ most_runs }
     requires bounded { AllByRecursion (λ e. AreBounded e.outputs) earlier.now }
-    requires doubles { AllByRecursion SuitsKind slots.now }
+    requires doubles { AllByRecursion KeepsFactorLimit slots.now }
     ensures { let state = outside slots.now values.now earlier.now in
         IfOk result (λ f. f ≡ first_of None None None state (inputs slots.now values.now earlier.now)) }
 {

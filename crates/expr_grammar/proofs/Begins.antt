@@ -7,7 +7,7 @@ use Rattle.pap_tree.specs.Tokens.{Sign, Token, Literal, Word, Operator, Mark}
 use Rattle.pap_tree.specs.Grammar.{Guard, free, no_number, no_point, Level, tree}
 use Rattle.pap_tree.specs.Texts.{Text, begins_number, begins_point, forbids}
 use Rattle.expr_grammar.specs.Machine.{Frame, InNew, Negating, State, Want, Have, finish}
-use Rattle.expr_grammar.specs.Holes.{clashes}
+use Rattle.expr_grammar.proofs.Holes.{clashes}
 use Rattle.expr_grammar.proofs.Handles as handles
 use Rattle.expr_grammar.proofs.Forward.{goes, some_is}
 

@@ -9,7 +9,7 @@ use Rattle.pap_tree.specs.Tokens.{Token}
 use Rattle.pap_tree.specs.Grammar.{Item, Part, Guard, free, no_number, Line, Level, Meaning, tree}
 use Rattle.pap_tree.specs.Texts.{forbids}
 use Rattle.expr_grammar.specs.Machine.{Frame, InBrackets, InCall, InItem, InValue, InNew, Negating, Denying, Left, Chosen, Otherwise, Assigning, close}
-use Rattle.expr_grammar.specs.Holes.{hole}
+use Rattle.expr_grammar.proofs.Holes.{hole}
 use Rattle.expr_grammar.proofs.Begins.{begins, forbids_more}
 use Rattle.expr_grammar.proofs.Pending.{Pending, Read, pass_part, finished}
 use Rattle.expr_grammar.proofs.Levels.{looser}

@@ -8,7 +8,7 @@ use Rattle.pap_tree.specs.Term.{Term}
 use Rattle.pap_tree.specs.Words.{level_of_operator}
 use Rattle.pap_tree.specs.Tokens.{Token}
 use Rattle.expr_grammar.specs.Machine.{Frame, InBrackets, InCall, InItem, InValue, InNew, Negating, Denying, Left, Chosen, Otherwise, Assigning, Have, binds, made, closes, close, tightness, joined, step, finish, whole_line}
-use Rattle.expr_grammar.specs.Holes.{hole}
+use Rattle.expr_grammar.proofs.Holes.{hole}
 
 pub operator_low : (o : Binary) → 1 ≤ level_of_operator o
 operator_low binaries.Mul = omega arith

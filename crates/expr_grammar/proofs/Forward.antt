@@ -13,7 +13,7 @@ use Rattle.pap_tree.specs.Texts.{Text, Texts, begins_number, begins_point}
 use Rattle.pap_tree.specs.Fronts as fronts
 use Rattle.pap_tree.specs.Fronts.{Front, Fronts}
 use Rattle.expr_grammar.specs.Machine.{InNew, Negating, OfLine, OfValue, OfNew, State, Want, Moding, Naming, Signed, Listing, level_of, step, and_then, steps}
-use Rattle.expr_grammar.specs.Holes.{clashes, follows}
+use Rattle.expr_grammar.proofs.Holes.{clashes, follows}
 use Rattle.expr_grammar.proofs.Handles as handles
 use Rattle.expr_grammar.proofs.Handles.{Suits, after, Same, Follows, wants, never, Handles}
 use Rattle.expr_grammar.proofs.Ways.{ways}

@@ -8,7 +8,7 @@ use Rattle.pap_tree.specs.Grammar as grammar
 use Rattle.pap_tree.specs.Grammar.{Form, an_int, a_point, Line, Level, Rounding, Assignment, Constant, Big, Bigs, Meaning, tree, literal, mode, assignment, declared, decimals, Guard, Item, Is, Opens, Scale, Part}
 use Rattle.pap_tree.specs.Texts.{forbids}
 use Rattle.expr_grammar.specs.Machine.{Frame, Rounded, dividing, setting, Room, Alone, InTable, valuing, rounding, declaring, OfLine, OfValue, OfNew, State, Want, Have, Due, ScaleDue, Moding, Naming, Signed, ValuedInt, ValuedPoint, Listing, Listed, Done, level_of, settled, moded, step, finish}
-use Rattle.expr_grammar.specs.Holes.{hole, clashes, follows}
+use Rattle.expr_grammar.proofs.Holes.{hole, clashes, follows}
 
 -- where the decimal of a constant is due
 abbrev pub opening : Room → State

@@ -14,7 +14,7 @@ use Rattle.pap_tree.specs.Texts as texts
 use Rattle.pap_tree.specs.Texts.{Text}
 use Rattle.pap_tree.specs.Fronts as fronts
 use Rattle.expr_grammar.specs.Machine.{Frame, InBrackets, InCall, InItem, InValue, InNew, Negating, Denying, Left, Chosen, Otherwise, Assigning, rounding, dividing, valuing, State, Want, Have, Named, Member, ScaleDue, Done, close, ended, ended_in, step, finish, whole_of}
-use Rattle.expr_grammar.specs.Holes.{hole}
+use Rattle.expr_grammar.proofs.Holes.{hole}
 use Rattle.expr_grammar.proofs.Begins.{word_clear}
 use Rattle.expr_grammar.proofs.Closing.{operator_low, operator_high, stays_whole}
 use Rattle.expr_grammar.proofs.Pending.{Pending, pass_is, pass_opens, further}

@@ -1,3 +1,4 @@
+pub mod Holes
 pub mod Cases
 pub mod Handles
 pub mod Closing

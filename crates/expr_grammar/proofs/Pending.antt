@@ -9,7 +9,7 @@ use Rattle.pap_tree.specs.Texts.{Text, Texts, forbids}
 use Rattle.pap_tree.specs.Fronts as fronts
 use Rattle.pap_tree.specs.Fronts.{Front, Fronts}
 use Rattle.expr_grammar.specs.Machine.{Frame, Want}
-use Rattle.expr_grammar.specs.Holes.{hole, clashes}
+use Rattle.expr_grammar.proofs.Holes.{hole, clashes}
 
 -- what may not begin the items that are left
 abbrev pub bars : List Item → List Token → Bool

@@ -10,7 +10,7 @@ use Rattle.pap_tree.specs.Fronts.{Front, IsFront}
 use Rattle.expr_grammar.specs.Lines as lines
 use Rattle.expr_grammar.specs.Lines.{IsWhole}
 use Rattle.expr_grammar.specs.Machine.{State, Want, Have, Named, Due, Member, Static, ScaleDue, Parting, Moding, Moded, Naming, Signed, Minus, ValuedInt, ValuedPoint, Settling, Listing, Listed, Done, level_of, step, finish, and_then, steps, start}
-use Rattle.expr_grammar.specs.Holes.{clashes}
+use Rattle.expr_grammar.proofs.Holes.{clashes}
 use Rattle.expr_grammar.proofs.Handles as handles
 use Rattle.expr_grammar.proofs.Handles.{Suits, after}
 use Rattle.expr_grammar.proofs.Forward.{goes, Reaches, reaches, some_is, steps_then, one_step}

@@ -9,7 +9,7 @@ use Rattle.pap_tree.specs.Grammar.{Line, Level}
 use Rattle.pap_tree.specs.Limits.{most_levels}
 use Rattle.pap_tree.specs.Stopping.{deep, has_limits}
 use Rattle.expr_grammar.specs.Machine.{Frame, State, Have, Named, binds, made, level_of, step}
-use Rattle.expr_grammar.specs.Holes.{follows}
+use Rattle.expr_grammar.proofs.Holes.{follows}
 use Rattle.expr_grammar.specs.Run.{Refusal, refusal, cause_of, or_refusal, is_over, next, run}
 use Rattle.expr_grammar.proofs.Closing.{taking, taking_last}
 

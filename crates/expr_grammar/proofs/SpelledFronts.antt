@@ -23,7 +23,7 @@ use Rattle.pap_tree.specs.Fronts as fronts
 use Rattle.pap_tree.specs.Fronts.{Front}
 use Rattle.expr_grammar.specs.Machine as machine
 use Rattle.expr_grammar.specs.Machine.{Frame, Room, Alone, InTable, Job, valuing, declaring, Slot, OfLine, OfValue, OfNew, Holder, the_decimal, the_mode, holder_word, State, Want, Have, Named, Due, Member, Static, ScaleDue, Parting, Moding, Moded, Naming, Signed, Minus, ValuedInt, ValuedPoint, Settling, Listing, Listed, Done, level, level_of, level_of_job, level_of_slot}
-use Rattle.expr_grammar.specs.Holes.{hole, clashes}
+use Rattle.expr_grammar.proofs.Holes.{hole, clashes}
 use Rattle.expr_grammar.proofs.Begins.{word_clear, empty_clear}
 use Rattle.expr_grammar.proofs.Closing.{operator_high}
 use Rattle.expr_grammar.proofs.Pending.{Pending, Plugs, pass_is, front_here, front_inside, front_read, text_front}

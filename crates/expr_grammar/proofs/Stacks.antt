@@ -18,7 +18,7 @@ use Rattle.pap_tree.specs.Fronts as fronts
 use Rattle.pap_tree.specs.Fronts.{Front}
 use Rattle.pap_tree.specs.Stopping.{new_big_decimal}
 use Rattle.expr_grammar.specs.Machine.{Frame, InBrackets, InCall, InItem, InValue, InNew, Negating, Denying, Left, Chosen, Otherwise, Assigning, Want, level}
-use Rattle.expr_grammar.specs.Holes.{hole, clashes}
+use Rattle.expr_grammar.proofs.Holes.{hole, clashes}
 use Rattle.expr_grammar.proofs.Pending.{Pending, Plugs, Fits, front_inside}
 use Rattle.expr_grammar.proofs.Levels.{looser_front, some_term}
 

@@ -8,7 +8,7 @@ use Rattle.pap_tree.specs.Texts.{Text, Texts}
 use Rattle.pap_tree.specs.Fronts as fronts
 use Rattle.pap_tree.specs.Fronts.{Front, Fronts}
 use Rattle.expr_grammar.specs.Machine.{Frame, Want}
-use Rattle.expr_grammar.specs.Holes.{clashes}
+use Rattle.expr_grammar.proofs.Holes.{clashes}
 use Rattle.expr_grammar.proofs.Begins.{begins, clash_more}
 use Rattle.expr_grammar.proofs.Pending.{bars, Fits, Pending, Read}
 

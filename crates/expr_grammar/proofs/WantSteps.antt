@@ -16,7 +16,7 @@ use Rattle.pap_tree.specs.Texts.{Text}
 use Rattle.pap_tree.specs.Fronts as fronts
 use Rattle.pap_tree.specs.Stopping.{new_big_decimal}
 use Rattle.expr_grammar.specs.Machine.{Frame, InBrackets, InNew, Negating, Denying, Head, the_class, a_new, head_word, head_of, State, Want, Have, Named, Due, Static, level, taken, literal_step, quoted_step, begun as begins_with, step}
-use Rattle.expr_grammar.specs.Holes.{clashes}
+use Rattle.expr_grammar.proofs.Holes.{clashes}
 use Rattle.expr_grammar.proofs.Begins.{word_clear, mark_clear, minus_clear}
 use Rattle.expr_grammar.proofs.Words.{picked, either_some}
 use Rattle.expr_grammar.proofs.Pending.{Pending, pass_is, finished, front_here, further, Fits}

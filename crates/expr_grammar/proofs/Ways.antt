@@ -16,7 +16,7 @@ use Rattle.pap_tree.specs.Tokens.{Number, Token, Literal, Word, Operator, Mark, 
 use Rattle.pap_tree.specs.Grammar as grammar
 use Rattle.pap_tree.specs.Grammar.{Item, Line, Level, Meaning, Way, leaf_of, negative_of}
 use Rattle.expr_grammar.specs.Machine.{Job, Head, the_class, a_new, head_word, head_of, big_begun, settling, of_number, applied, opposite, magnitude, rescaled, held, moded, Frame, InBrackets, InCall, InItem, InValue, InNew, Negating, Denying, Left, Chosen, Otherwise, Assigning, Room, Alone, InTable, rounding, dividing, setting, valuing, declaring, OfLine, OfValue, OfNew, the_decimal, the_mode, State, Want, Have, Named, Due, Member, Static, ScaleDue, Parting, Moding, Moded, Naming, Signed, Minus, ValuedInt, ValuedPoint, Settling, Listing, Listed, Done, level, level_of, binds, made, joined, tightness, called, of_class, taken, literal_step, begun, scaled, settled, step}
-use Rattle.expr_grammar.specs.Holes.{hole, clashes, follows}
+use Rattle.expr_grammar.proofs.Holes.{hole, clashes, follows}
 use Rattle.expr_grammar.proofs.Handles as handles
 use Rattle.expr_grammar.proofs.Handles.{Suits, opening, after, Same, Follows, Handles}
 use Rattle.expr_grammar.proofs.Closing.{operator_low, operator_high, stays, stays_whole, taking, taking_last}

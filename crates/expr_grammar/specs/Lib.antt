@@ -1,6 +1,5 @@
 pub mod Shortened
 pub mod Machine
-pub mod Holes
 pub mod Run
 pub mod Lines
 pub mod Trees

@@ -31,10 +31,6 @@ own_ranges ranges (c ∷ cs) = range_there c.number (slice_get ranges c.number) 
 abbrev pub AreOwn : List Interval → List Change → Type 0
 AreOwn ranges cs = AllByRecursion (λ c. slice_get ranges c.number ≡ Some c.range) cs
 
--- each is of one of so many variables
-abbrev pub AreIn : ℕ → List Change → Type 0
-AreIn count cs = AllByRecursion (λ c. c.number < count) cs
-
 -- these changes make the ranges of before those of now, and each is a range of now
 pub record IsTold (was now : List Interval) (cs : List Change) : Type 0 where
   pub whole : changed was cs ≡ now

@@ -7,12 +7,12 @@ use Rattle.pap_types.specs.declared.kinds.NodeKind.{NodeKind}
 use Rattle.pap_types.specs.declared.kinds.NodeKind.TheVariants.{Int, Long}
 
 -- a whole number has the bits of its kind
-abbrev pub SuitsKind : NodeKind → Interval → Type 0
-SuitsKind Int a = IsWholeOfBits int_bits a
-SuitsKind Long a = IsWholeOfBits long_bits a
-SuitsKind _ a = ⊤
+abbrev pub IsRangeOf : NodeKind → Interval → Type 0
+IsRangeOf Int a = IsWholeOfBits int_bits a
+IsRangeOf Long a = IsWholeOfBits long_bits a
+IsRangeOf _ a = ⊤
 
 -- and nothing has more than 30 places
 pub record HasShape (k : NodeKind) (a : Interval) : Type 0 where
   pub places : a.s_hi ≤ most_places
-  pub suits : SuitsKind k a
+  pub suits : IsRangeOf k a

@@ -4,13 +4,13 @@ use Rattle.scaled_decimal.specs.Decimals.{Decimal}
 use Rattle.pap_tree.specs.Flowchart.{Flowchart}
 use Rattle.pap_types.specs.Meaning.{IsSafeFor, outputs_of, cost_of}
 use Rattle.pap_machine.specs.Code.{Program}
-use Rattle.pap_machine.specs.Machine.{Runs, HoldAt, IsSafeFor as IsSafeForCode}
+use Rattle.pap_machine.specs.Machine.{Runs, HoldAt, IsSafeCode}
 use Rattle.pap_compiler.specs.Depths.{depth_of}
 use Rattle.pap_compiler.specs.Heights.{height_of}
 
 -- the code is safe on the inputs, and its run has the plan's outputs and as many instructions as the plan has steps
 pub record BehavesOn (f : Flowchart) (p : Program) (inputs : List Decimal) : Type 0 where
-  pub safe : IsSafeForCode p inputs
+  pub safe : IsSafeCode p inputs
   pub outputs : List Decimal
   pub meant : outputs_of f inputs ≡ Some outputs
   pub slots : List Decimal

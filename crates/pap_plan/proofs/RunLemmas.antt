@@ -6,7 +6,7 @@ use Rattle.limits_file.specs.declared.slots.Slot.{Slot}
 use Rattle.pap_types.specs.Limits.{most_steps}
 use Rattle.pap_types.specs.Meaning.{IsSafeFor, outputs_of, cost_of, bound_of}
 use Rattle.pap_machine.specs.Code.{Program}
-use Rattle.pap_machine.specs.Machine.{Runs, HoldAt, IsSafeFor as IsSafeForCode}
+use Rattle.pap_machine.specs.Machine.{Runs, HoldAt, IsSafeCode}
 use Rattle.pap_machine.proofs.Laws.{one_end, held_once}
 use Rattle.interval_walk.specs.Admission.{AllAdmitted}
 use Rattle.interval_walk.specs.Soundness.{AreOutputs}
@@ -65,9 +65,9 @@ run_is p most kept k inputs h count slots outs r held =
 pub seen_safe : (v p : Seen) (most : ℕ) (kept : List Slot) → v ≡ p → IsKept v most kept → (inputs : List Decimal) → Admits p inputs → IsSafeFor (flowchart p) inputs
 seen_safe v p most kept e k inputs h = (to_end p most kept (subst (λ s. IsKept s most kept) e k) inputs h).safe
 
-pub seen_code : (v p : Seen) (code : Program) (most : ℕ) (kept : List Slot) → v ≡ p → code ≡ v.code → IsKept v most kept → (inputs : List Decimal) → Admits p inputs → IsSafeForCode code inputs
+pub seen_code : (v p : Seen) (code : Program) (most : ℕ) (kept : List Slot) → v ≡ p → code ≡ v.code → IsKept v most kept → (inputs : List Decimal) → Admits p inputs → IsSafeCode code inputs
 seen_code v p code most kept e c k inputs h =
-    subst (λ q. IsSafeForCode q inputs) (sym (c ∙ ap (λ s. s.code) e)) (behaves p most kept (subst (λ s. IsKept s most kept) e k) inputs h).safe
+    subst (λ q. IsSafeCode q inputs) (sym (c ∙ ap (λ s. s.code) e)) (behaves p most kept (subst (λ s. IsKept s most kept) e k) inputs h).safe
 
 pub seen_count : (v p : Seen) (code : Program) (most : ℕ) (kept : List Slot) → v ≡ p → code ≡ v.code → IsKept v most kept → (inputs : List Decimal) → Admits p inputs → length inputs ≡ code.inputs
 seen_count v p code most kept e c k inputs h =

@@ -7,7 +7,7 @@ use Rattle.std.proofs.lemmas.List.Folds.{list_any-append}
 use Rattle.pap_reader.specs.declared.element.Element.{Element}
 use Rattle.pap_reader.specs.declared.element.Element.TheVariants.{Pap, Interface, Variables, Outputs, Output, Methods, Main, If, Then}
 use Rattle.pap_reader.specs.Table.{same, is_complete, all_stand, fits}
-use Rattle.pap_reader.specs.Structure.{Shape, opens, closes, Nodes, none, node, count, opens_internals, IsDocument, IsFront}
+use Rattle.pap_reader.specs.Structure.{Shape, opens, closes, Nodes, none, node, count, opens_internals, IsDocument, BeginsDocument}
 use Rattle.pap_reader.specs.NestingDecisions.{Open, fresh, enters, start}
 use Rattle.pap_reader.proofs.Structures.{Spelled, whole, within, adds, closed, nodes-append, more_stand, goes}
 
@@ -202,7 +202,7 @@ no_empty (within e h m n a) f = absurd cc
 no_stack : {ss : List Shape} → Spelled [] ss → ⊥
 no_stack h = no_empty h refl
 
-pub is_front : (before : List Shape) (os : List Open) → Spelled os before → count opens_internals before ≤ 1 → IsFront before
+pub is_front : (before : List Shape) (os : List Open) → Spelled os before → count opens_internals before ≤ 1 → BeginsDocument before
 is_front before [] h le = absurd (no_stack h)
 is_front before (o ∷ os) h le =
     let f = finish os o before h in

@@ -9,7 +9,7 @@ use Rattle.pap_reader.specs.declared.fault.Which.{Which}
 use Rattle.pap_reader.specs.declared.fault.Which.TheVariants as which
 use Rattle.pap_reader.specs.declared.fault.ReadFault.{ReadFault}
 use Rattle.pap_reader.specs.declared.fault.ReadFault.TheVariants as faults
-use Rattle.pap_reader.specs.Structure.{Shape, IsFront}
+use Rattle.pap_reader.specs.Structure.{Shape, BeginsDocument}
 use Rattle.pap_reader.specs.NestingDecisions.{Open, start, steps, is_ended}
 use Rattle.pap_reader.specs.Tokens.{PlacedTag}
 use Rattle.pap_reader.specs.Marks.{Mark, marks_of, marks, shape, shapes}
@@ -163,7 +163,7 @@ judged_entered : (before : List PlacedTag) (t : PlacedTag) (os : List Open) (o :
     → Reached (shapes before) os → steps (shapes before) os (map shape (marks_of t.tag)) ≡ o
     → Judged before t (entered t.at (list_all mark_is_right (marks_of t.tag)) (first_over (shapes before ++ map shape (marks_of t.tag)) tested) o)
 judged_entered before t os None r e =
-    (refl, (λ f. steps_refused (map shape (marks_of t.tag)) (shapes before) os r e (subst IsFront (shapes-one before t) f)))
+    (refl, (λ f. steps_refused (map shape (marks_of t.tag)) (shapes before) os r e (subst BeginsDocument (shapes-one before t) f)))
 judged_entered before t os (Some os') r e =
     judged_right before t os' (list_all mark_is_right (marks_of t.tag)) refl
     (subst (λ ss. Reached ss os') (sym (shapes-one before t)) (steps_reached (map shape (marks_of t.tag)) (shapes before) os os' r e))

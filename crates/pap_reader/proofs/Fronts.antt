@@ -6,7 +6,7 @@ use Rattle.std.proofs.lemmas.Bool.{and_parts, and_from, cases_Bool}
 use Rattle.std.proofs.lemmas.List.{append-nil}
 use Rattle.pap_reader.specs.declared.element.Element.{Element}
 use Rattle.pap_reader.specs.Table.{all_stand, is_complete}
-use Rattle.pap_reader.specs.Structure.{Shape, none, count, opens_internals, IsDocument, IsFront}
+use Rattle.pap_reader.specs.Structure.{Shape, none, count, opens_internals, IsDocument, BeginsDocument}
 use Rattle.pap_reader.specs.NestingDecisions.{Open, enter, enters, and_then, is_second, step, steps, start, is_ended}
 use Rattle.pap_reader.proofs.Structures.{Spelled, whole, enter_spelled}
 use Rattle.pap_reader.proofs.Completion.{count-append, Reached, document_read}
@@ -86,10 +86,10 @@ step_reached before os os' s h e = elim (cases_Bool (is_second before s)) [
       }
 ]
 
-pub front_front : (a b : List Shape) → IsFront (a ++ b) → IsFront a
+pub front_front : (a b : List Shape) → BeginsDocument (a ++ b) → BeginsDocument a
 front_front a b (m, d) = (b ++ m, subst IsDocument (append_assoc a b m) d)
 
-pub step_refused : (before : List Shape) (os : List Open) (s : Shape) → Reached before os → step before os s ≡ None → IsFront (before ++ (s ∷ [])) → ⊥
+pub step_refused : (before : List Shape) (os : List Open) (s : Shape) → Reached before os → step before os s ≡ None → BeginsDocument (before ++ (s ∷ [])) → ⊥
 step_refused before os s h e (m, d) =
     let all = document_read ((before ++ (s ∷ [])) ++ m) d in
     let first = enters_front (before ++ (s ∷ [])) m start _ all in
@@ -119,21 +119,21 @@ steps_reached (s ∷ ss) before os os' h e =
     subst (λ b. Reached b os') (append_assoc before (s ∷ []) ss)
     (through_reached (step before os s) ss before s os' (λ x f g. steps_reached ss (before ++ (s ∷ [])) x os' (step_reached before os x s h f) g) e)
 
-through_refused : (o : Option (List Open)) (ss before : List Shape) (s : Shape) → (o ≡ None → IsFront (before ++ (s ∷ [])) → ⊥)
-    → ((x : List Open) → o ≡ Some x → steps (before ++ (s ∷ [])) x ss ≡ None → IsFront ((before ++ (s ∷ [])) ++ ss) → ⊥)
-    → and_then o (λ x. steps (before ++ (s ∷ [])) x ss) ≡ None → IsFront ((before ++ (s ∷ [])) ++ ss) → ⊥
+through_refused : (o : Option (List Open)) (ss before : List Shape) (s : Shape) → (o ≡ None → BeginsDocument (before ++ (s ∷ [])) → ⊥)
+    → ((x : List Open) → o ≡ Some x → steps (before ++ (s ∷ [])) x ss ≡ None → BeginsDocument ((before ++ (s ∷ [])) ++ ss) → ⊥)
+    → and_then o (λ x. steps (before ++ (s ∷ [])) x ss) ≡ None → BeginsDocument ((before ++ (s ∷ [])) ++ ss) → ⊥
 through_refused None ss before s n h e f = n refl (front_front (before ++ (s ∷ [])) ss f)
 through_refused (Some x) ss before s n h e f = h x refl e f
 
 none_some : (os : List Open) → Some os ≡ None → ⊥
 none_some os e = absurd cc
 
-pub steps_refused : (ss before : List Shape) (os : List Open) → Reached before os → steps before os ss ≡ None → IsFront (before ++ ss) → ⊥
+pub steps_refused : (ss before : List Shape) (os : List Open) → Reached before os → steps before os ss ≡ None → BeginsDocument (before ++ ss) → ⊥
 steps_refused [] before os h e f = none_some os e
 steps_refused (s ∷ ss) before os h e f =
     through_refused (step before os s) ss before s (λ n. step_refused before os s h n)
     (λ x g. steps_refused ss (before ++ (s ∷ [])) x (step_reached before os x s h g)) e
-    (subst IsFront (sym (append_assoc before (s ∷ []) ss)) f)
+    (subst BeginsDocument (sym (append_assoc before (s ∷ []) ss)) f)
 
 -- ---- the end
 
@@ -159,5 +159,5 @@ pub reached_start : Reached [] start
 reached_start = record { read = refl; spelled = whole none refl; once = omega arith }
 
 -- the shapes of a front are read
-pub front_read : (ss : List Shape) → IsFront ss → (os : List Open) × (enters start ss ≡ Some os)
+pub front_read : (ss : List Shape) → BeginsDocument ss → (os : List Open) × (enters start ss ≡ Some os)
 front_read ss (m, d) = enters_front ss m start _ (document_read (ss ++ m) d)

@@ -6,7 +6,7 @@ use Rattle.std.proofs.lemmas.List.Folds.{list_all-append}
 use Rattle.pap_reader.specs.declared.fault.Which.{Which}
 use Rattle.pap_reader.specs.declared.fault.ReadFault.{ReadFault}
 use Rattle.pap_reader.specs.declared.fault.ReadFault.TheVariants as faults
-use Rattle.pap_reader.specs.Structure.{IsDocument, IsFront}
+use Rattle.pap_reader.specs.Structure.{IsDocument, BeginsDocument}
 use Rattle.pap_reader.specs.Tokens.{PlacedTag}
 use Rattle.pap_reader.specs.Marks.{marks_of, marks, shapes}
 use Rattle.pap_reader.specs.Attributes.{mark_is_right}
@@ -26,7 +26,7 @@ one_tree ts x y h k = sym h.tree ∙ ap piece_tree (one_piece (marks ts) h.piece
 both_ways : (b : Bool) → b ≡ true → b ≡ false → ⊥
 both_ways b e f = absurd cc
 
-document_front : (a b : List PlacedTag) → IsDocument (shapes (a ++ b)) → IsFront (shapes a)
+document_front : (a b : List PlacedTag) → IsDocument (shapes (a ++ b)) → BeginsDocument (shapes a)
 document_front a b d = (shapes b, subst IsDocument (shapes-append a b) d)
 
 some_over : (before : List PlacedTag) (t : PlacedTag) (ws : List Which) (w : Which) → IsFirstOver before t ws w → (v : Which) × (most v < amount v (shapes (before ++ (t ∷ []))))

@@ -3,7 +3,7 @@ use Rattle.std.specs.Prelude.{◌≡◌, ◌∷◌, ◌++◌, false, List, []}
 use Rattle.std.specs.List.{list_all}
 use Rattle.pap_reader.specs.declared.fault.ReadFault.{ReadFault}
 use Rattle.pap_reader.specs.declared.fault.ReadFault.TheVariants as faults
-use Rattle.pap_reader.specs.Structure.{IsFront}
+use Rattle.pap_reader.specs.Structure.{BeginsDocument}
 use Rattle.pap_reader.specs.Tokens.{PlacedTag}
 use Rattle.pap_reader.specs.Marks.{marks_of, shapes}
 use Rattle.pap_reader.specs.Attributes.{mark_is_right}
@@ -11,7 +11,7 @@ use Rattle.pap_reader.specs.Limits.{tested, IsFirstOver}
 
 -- It may not stand there: no text begins with the tags before it and with it, attributes aside.
 abbrev pub IsMisplaced : List PlacedTag → PlacedTag → Type 0
-IsMisplaced before t = IsFront (shapes (before ++ (t ∷ []))) → ⊥
+IsMisplaced before t = BeginsDocument (shapes (before ++ (t ∷ []))) → ⊥
 
 -- One of its attributes is missing, stands twice, is too long, or is not of its form.
 abbrev pub IsIllFormed : PlacedTag → Type 0

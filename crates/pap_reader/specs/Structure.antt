@@ -35,5 +35,5 @@ pub record IsDocument (ss : List Shape) : Type 0 where
   pub once : count opens_internals ss ≤ 1
 
 -- A front of a whole text: some shapes after it make one.
-abbrev pub IsFront : List Shape → Type 0
-IsFront ss = (more : List Shape) × IsDocument (ss ++ more)
+abbrev pub BeginsDocument : List Shape → Type 0
+BeginsDocument ss = (more : List Shape) × IsDocument (ss ++ more)

@@ -68,7 +68,7 @@ fn split_quote(bytes: &[u8]) -> Option<(u8, &[u8])>
 }
 
 /// What stands before the value of the attribute that comes first.
-pub fn read_front(bytes: &[u8]) -> Option<ValueFront<'_>>
+pub fn read_value_front(bytes: &[u8]) -> Option<ValueFront<'_>>
     ensures found { MatchOption result
         ((f : Front bytes.now) → ⊥)
         (λ r. IsFrontOf bytes.now r.name.now r.quote r.text.now) }
@@ -94,7 +94,7 @@ fn read_attribute(alloc: Global, bytes: &[u8]) -> Result<Option<(Attribute<'_>, 
         (λ r. IsAttribute bytes.now (attribute_of r.0) r.1.now)) }
     ensures shorter { IfOk result (λ o. IfSome o (λ r. length r.1.now < length bytes.now)) }
 {
-    let Some(ValueFront { name, quote, text }) = read_front(bytes) else {
+    let Some(ValueFront { name, quote, text }) = read_value_front(bytes) else {
         return Ok(None);
     };
     let Some((value, rest)) = read_value(alloc, text, quote)? else {

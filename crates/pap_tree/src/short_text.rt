@@ -112,7 +112,10 @@ impl Ord for ShortText {
     ghost matches_eq = { λ s t. texts_ties s t };
 
     fn cmp(&self, other: &ShortText) -> Ordering {
-        self.bytes.cmp(&other.bytes).then(self.len.cmp(&other.len))
+        match self.bytes.cmp(&other.bytes) {
+            Ordering::Equal => self.len.cmp(&other.len),
+            different => different,
+        }
     }
 }
 

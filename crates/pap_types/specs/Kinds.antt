@@ -46,7 +46,8 @@ abbrev pub is_fraction : NodeKind → Bool
 is_fraction Fraction = true
 is_fraction _ = false
 
--- the kind of a whole number that comes of two: `int` where both are
+-- the kind of what comes of two: `long` where the second is, else that of the first; so of two whole numbers `int` where
+-- both are, and of two decimals a decimal
 abbrev pub wider : NodeKind → NodeKind → NodeKind
 wider j Long = Long
 wider j _ = j
@@ -107,7 +108,7 @@ is_factor_literal (leaf (whole i)) = true
 is_factor_literal (leaf (point d)) = has_few_places d
 is_factor_literal _ = false
 
--- a whole number, at least 1, that divides 10^30
+-- `IsPlainDivisor` as a test: a whole number, at least 1, that divides 10^30
 abbrev pub is_plain_number : ℤ → Bool
 is_plain_number (pos n) = nat_lt 0 n && ((10 ^ most_places) % n == 0)
 is_plain_number (negsuc n) = false

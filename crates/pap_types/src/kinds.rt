@@ -103,7 +103,8 @@ impl NodeKind {
         self.is_whole() || self == NodeKind::Factor || self == NodeKind::Fraction
     }
 
-    /// The kind of a whole number that comes of two: `int` where both are.
+    /// The kind of what comes of two: `long` where the second is, else that of the first; so of two whole numbers `int`
+    /// where both are, and of two decimals a decimal.
     pub fn wider(self, other: NodeKind) -> NodeKind
         ensures { result ≡ wider self other }
     {

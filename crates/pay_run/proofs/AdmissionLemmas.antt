@@ -18,7 +18,7 @@ use Rattle.limits_file.specs.declared.slots.Slot.{Slot}
 use Rattle.limits_file.specs.Limits.{Fits, IsAtMost}
 use Rattle.payroll_records.specs.declared.day.Day.{Day}
 use Rattle.payroll_records.specs.declared.values.NamedValue.{NamedValue}
-use Rattle.carry_bindings.specs.Conditions.{SuitsKind}
+use Rattle.carry_bindings.specs.Conditions.{KeepsFactorLimit}
 use Rattle.carry_bindings.specs.Filling.{value_of, admits, missing, outside, inputs, input_of, waits, unknown, first_of, filled_by}
 use Rattle.carry_bindings.specs.declared.carried.Earlier.{Earlier}
 use Rattle.carry_bindings.specs.declared.filling.Filled.TheVariants as filled
@@ -96,7 +96,7 @@ suited_slot l d s h is =
     some_same : {x y : InputLimit} → ◌≡◌ {A = Option InputLimit} (Some x) (Some y) → x ≡ y
     some_same e = cc e
 
-pub suits_kinds : (l : Limits) (ds : List Declaration) (slots : List Slot) → All (HasSuitedLimit l) ds → AreSlots l ds slots → AllByRecursion SuitsKind slots
+pub suits_kinds : (l : Limits) (ds : List Declaration) (slots : List Slot) → All (HasSuitedLimit l) ds → AreSlots l ds slots → AllByRecursion KeepsFactorLimit slots
 suits_kinds l [] [] h k = tt
 suits_kinds l [] (s ∷ slots) h k = absurd k
 suits_kinds l (d ∷ ds) [] h k = absurd k

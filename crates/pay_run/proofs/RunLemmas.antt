@@ -19,7 +19,7 @@ use Rattle.payroll_records.specs.declared.values.NamedValue.{NamedValue}
 use Rattle.carry_bindings.specs.declared.carried.Earlier.{Earlier}
 use Rattle.carry_bindings.specs.declared.filling.Filled.{Filled}
 use Rattle.carry_bindings.specs.declared.filling.Filled.TheVariants as filling
-use Rattle.carry_bindings.specs.Conditions.{SuitsKind}
+use Rattle.carry_bindings.specs.Conditions.{KeepsFactorLimit}
 use Rattle.carry_bindings.specs.Filling.{filled_by}
 use Rattle.pap_plan.specs.Acceptance.{Meaning, IsAccepted}
 use Rattle.pap_plan.specs.Inputs.{IsSlot, AreSlots}
@@ -49,7 +49,7 @@ unfolding filled
 filled_slots p slots values earlier are = ap (λ s. filled_by s values earlier) (sym (are_slots p.meaning.limits p.meaning.flowchart.inputs slots are))
 
 module _ (p : Accepted) (accepted : IsAccepted p.plan p.limits p.meaning) (slots : List Slot) (are : AreSlots p.meaning.limits p.meaning.flowchart.inputs slots) where
-  pub doubles : AllByRecursion SuitsKind slots
+  pub doubles : AllByRecursion KeepsFactorLimit slots
   doubles = suits_kinds p.meaning.limits p.meaning.flowchart.inputs slots accepted.bound.suited.suited are
 
   -- kept inputs that are filled are admitted

@@ -5,7 +5,7 @@ ghost use Rattle.pap_reader.specs.Tags.{Tag, IsTag};
 ghost use Rattle.pap_reader.specs.Attributes.{value_of};
 ghost use Rattle.plan_notes.specs.AttributeBytes.{IsValueAt, IsBehind, IsAttributeByte};
 
-use pap_reader::{ValueFront, past_mark, read_byte, read_front, split_letters};
+use pap_reader::{ValueFront, past_mark, read_byte, read_value_front, split_letters};
 
 /// The byte of a file at which the byte of a number, counted from 0, is written that the value of an attribute stands for, in
 /// the tag that begins at a place; behind the value's last byte it is that of its closing quote. `None` where the tag has no
@@ -30,7 +30,7 @@ fn front_of<'a>(text: &'a [u8], name: &[u8]) -> Option<ValueFront<'a>>
     ensures within { IfSome result (λ front. length front.text.now ≤ length text.entry.now) }
 {
     let mut left = split_letters(text.get(1..)?).1;
-    while let Some(front) = read_front(left) {
+    while let Some(front) = read_value_front(left) {
         if front.name == name {
             return Some(front);
         }

@@ -2,7 +2,7 @@ use Rattle.std.proofs.Common.{refl, sym, ap, ◌∙◌}
 use Rattle.pap_reader.specs.Bytes.{is_inner, leading, after}
 use Rattle.pap_tree.specs.White.{is_white}
 use Rattle.pap_reader.proofs.Lexing.{no_front, a_front}
-use Rattle.pap_reader.proofs.tags.read_front.Goals as goal
+use Rattle.pap_reader.proofs.tags.read_value_front.Goals as goal
 
 pub returns-in_err-quote-clause-found : goal.returns-in_err-quote-clause-found
 returns-in_err-quote-clause-found c =
