@@ -1,11 +1,12 @@
 #!/usr/bin/env python3
 """Proves the libraries that a program stands on, several side by side: build.py [JOBS [PROGRAM]], from the top of the repository.
 
-A crate begins once those that it stands on are proved, first the one with the longest chain of others above it, in a room of its own,
+A crate begins once those that it stands on are proved, first the one with the longest chain of lines above it, in a room of its own,
 build/rooms/NAME: `rt` has a crate and all below it to itself while it works there, so in one checkout it would prove one after the other.
-Jobs that no other crate waits for are shared out among those that begin. The proved library then goes to crates/NAME/out, where `rt run`
-finds it. A line for each that is done says how many are left. What a crate's check wrote is in build/proofs/NAME; where one fails, its end
+There are twice as many jobs as processors, since a check also has parts that one job does alone; the longest chain goes before the others
+where processors are short. The proved library then goes to crates/NAME/out, where `rt run` finds it. A line for each that is done says how many are left. What a crate's check wrote is in build/proofs/NAME; where one fails, its end
 is shown."""
+import glob
 import os
 import shutil
 import subprocess
@@ -15,6 +16,7 @@ from concurrent.futures import FIRST_COMPLETED, ThreadPoolExecutor, wait
 
 GIGABYTES_A_JOB = 2
 MOST_JOBS_A_CRATE = 4
+PATIENCE = 5
 
 
 def crates():
@@ -34,9 +36,9 @@ def below(name, stands_on, found):
 
 
 def jobs():
-    """As many as there are processors, and as memory has room for."""
+    """Twice as many as there are processors, or as memory has room for."""
     free = next(int(line.split()[1]) for line in open("/proc/meminfo") if line.startswith("MemAvailable"))
-    return max(1, min(os.cpu_count() or 1, free // (GIGABYTES_A_JOB << 20)))
+    return max(1, min(2 * (os.cpu_count() or 1), free // (GIGABYTES_A_JOB << 20)))
 
 
 def furnish(room, name, proved):
@@ -52,21 +54,27 @@ def furnish(room, name, proved):
             shutil.copytree(f"crates/{crate}/{part}", f"{room}/crates/{crate}/{part}", copy_function=os.link)
 
 
+def lines(name):
+    """How many lines a crate's sources, definitions and proofs have."""
+    files = [file for part in ("src", "specs", "proofs") for file in glob.glob(f"crates/{name}/{part}/**", recursive=True)]
+    return sum(len(open(file).readlines()) for file in files if os.path.isfile(file))
+
+
 def chains(names, stands_on):
-    """How many crates of these stand one on another from each on, itself the first; of crates listed lowest first."""
-    longest = dict.fromkeys(names, 1)
+    """How many lines the crates of these have that stand one on another from each on, its own with them; of crates listed lowest first."""
+    longest = {name: lines(name) for name in names}
     for name in reversed(names):
         for lower in stands_on[name]:
-            longest[lower] = max(longest[lower], longest[name] + 1)
+            longest[lower] = max(longest[lower], longest[name] + lines(lower))
     return longest
 
 
-def prove(name, proved, jobs):
-    """Proves a crate by so many jobs, and gives its name, the status of its check and the seconds that it took."""
+def prove(name, proved, jobs, patience):
+    """Proves a crate by so many jobs, that patiently (as `nice` counts it), and gives its name, the status of its check and its seconds."""
     began, room, to = time.time(), f"build/rooms/{name}", f"crates/{name}/out/rlib"
     furnish(room, name, proved)
     with open(f"build/proofs/{name}", "w") as log:
-        done = subprocess.run(["rt", "lib", "--jobs", str(jobs)], cwd=f"{room}/crates/{name}", stdin=subprocess.DEVNULL, stdout=log, stderr=log)
+        done = subprocess.run(["nice", "-n", str(patience), "rt", "lib", "--jobs", str(jobs)], cwd=f"{room}/crates/{name}", stdin=subprocess.DEVNULL, stdout=log, stderr=log)
     if done.returncode == 0:
         shutil.rmtree(to, ignore_errors=True)
         os.makedirs(os.path.dirname(to), exist_ok=True)
@@ -75,15 +83,17 @@ def prove(name, proved, jobs):
     return name, done.returncode, time.time() - began
 
 
-def begin(pool, waiting, stands_on, proved, idle):
-    """Begins crates that can begin while jobs are idle; gives those that began with their jobs."""
+def begin(pool, waiting, first, stands_on, proved, idle):
+    """Begins crates that can begin while jobs are idle, all but the first of those not yet proved with patience; gives those that began with
+    their jobs."""
     ready = [name for name in waiting if proved.issuperset(stands_on[name])]
     began = {}
     for at, name in enumerate(ready):
         if idle == 0:
             break
         share = max(1, min(MOST_JOBS_A_CRATE, idle // (len(ready) - at)))
-        began[pool.submit(prove, name, below(name, stands_on, []), share)] = (name, share)
+        patience = 0 if name == first else PATIENCE
+        began[pool.submit(prove, name, below(name, stands_on, []), share, patience)] = (name, share)
         idle -= share
     return began
 
@@ -99,7 +109,8 @@ def main():
     with ThreadPoolExecutor(limit) as pool:
         while waiting or running:
             idle = limit - sum(share for _, share in running.values())
-            running.update(begin(pool, waiting, stands_on, proved, idle))
+            first = max((name for name in names if name not in proved), key=longest.get)
+            running.update(begin(pool, waiting, first, stands_on, proved, idle))
             started = {name for name, _ in running.values()}
             waiting = [name for name in waiting if name not in started]
             done, _ = wait(running, return_when=FIRST_COMPLETED)
