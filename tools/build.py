@@ -3,9 +3,10 @@
 
 A crate begins once those that it stands on are proved, first the one with the longest chain of lines above it, in a room of its own,
 build/rooms/NAME: `rt` has a crate and all below it to itself while it works there, so in one checkout it would prove one after the other.
-There are twice as many jobs as processors, since a check also has parts that one job does alone; the longest chain goes before the others
-where processors are short. The proved library then goes to crates/NAME/out, where `rt run` finds it. A line for each that is done says how many are left. What a crate's check wrote is in build/proofs/NAME; where one fails, its end
-is shown."""
+There are twice as many jobs as processors, since a check also has parts that one job does alone; the head of the longest chain has as many
+as a crate may, and goes before the others where processors are short. The proved library then goes to crates/NAME/out, where `rt run` finds
+it. A line for each that is done says how many are left. What a crate's check wrote is in build/proofs/NAME; where one fails, its end is
+shown."""
 import glob
 import os
 import shutil
@@ -70,11 +71,12 @@ def chains(names, stands_on):
 
 
 def prove(name, proved, jobs, patience):
-    """Proves a crate by so many jobs, that patiently (as `nice` counts it), and gives its name, the status of its check and its seconds."""
+    """Proves a crate by so many jobs, as patiently as `nice` is told; gives its name, the status of its check and its seconds."""
     began, room, to = time.time(), f"build/rooms/{name}", f"crates/{name}/out/rlib"
     furnish(room, name, proved)
     with open(f"build/proofs/{name}", "w") as log:
-        done = subprocess.run(["nice", "-n", str(patience), "rt", "lib", "--jobs", str(jobs)], cwd=f"{room}/crates/{name}", stdin=subprocess.DEVNULL, stdout=log, stderr=log)
+        words = ["nice", "-n", str(patience), "rt", "lib", "--jobs", str(jobs)]
+        done = subprocess.run(words, cwd=f"{room}/crates/{name}", stdin=subprocess.DEVNULL, stdout=log, stderr=log)
     if done.returncode == 0:
         shutil.rmtree(to, ignore_errors=True)
         os.makedirs(os.path.dirname(to), exist_ok=True)
@@ -84,14 +86,14 @@ def prove(name, proved, jobs, patience):
 
 
 def begin(pool, waiting, first, stands_on, proved, idle):
-    """Begins crates that can begin while jobs are idle, all but the first of those not yet proved with patience; gives those that began with
-    their jobs."""
+    """Begins crates that can begin while jobs are idle, and the first of all that are left in any case, with all jobs that a crate may have
+    and without patience. Gives those that began with their jobs."""
     ready = [name for name in waiting if proved.issuperset(stands_on[name])]
     began = {}
     for at, name in enumerate(ready):
-        if idle == 0:
+        if idle <= 0 and name != first:
             break
-        share = max(1, min(MOST_JOBS_A_CRATE, idle // (len(ready) - at)))
+        share = MOST_JOBS_A_CRATE if name == first else max(1, min(MOST_JOBS_A_CRATE, idle // (len(ready) - at)))
         patience = 0 if name == first else PATIENCE
         began[pool.submit(prove, name, below(name, stands_on, []), share, patience)] = (name, share)
         idle -= share
@@ -106,7 +108,7 @@ def main():
     waiting = sorted(names, key=lambda name: -longest[name])
     limit = int(sys.argv[1]) if sys.argv[1:] and sys.argv[1] else jobs()
     proved, running = set(), {}
-    with ThreadPoolExecutor(limit) as pool:
+    with ThreadPoolExecutor(len(names)) as pool:
         while waiting or running:
             idle = limit - sum(share for _, share in running.values())
             first = max((name for name in names if name not in proved), key=longest.get)
