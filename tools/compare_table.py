@@ -140,11 +140,18 @@ def show(payroll, number):
     return 0
 
 
+def inputs_of(limits):
+    """The tables of a range file's inputs, by name."""
+    try:
+        with open(limits, encoding="utf-8-sig") as text:
+            return tomllib.loads(text.read()).get("input", {})
+    except tomllib.TOMLDecodeError as fault:
+        give_up(f"{limits}: this tool reads TOML 1.0 alone: {fault}")
+
+
 def main(program, plan, limits, table, word=None):
     outputs = outputs_of(program, plan, limits)
-    with open(limits, "rb") as text:
-        inputs = tomllib.load(text).get("input", {})
-    rows, columns = read_table(table, inputs, outputs)
+    rows, columns = read_table(table, inputs_of(limits), outputs)
     number = row_number(word, rows) if word else None
     with Payroll(program) as payroll:
         try:

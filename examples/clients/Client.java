@@ -16,8 +16,8 @@ import java.util.TreeSet;
 /**
  * Drives `papcalc run` from another program: `java Client.java [PROGRAM]`, from the top of the repository.
  *
- * Loads a month's pay runs from a table, corrects one of them, and prints what the correction changed. Paste the class Payroll into
- * a program of your own: it sends a line and reads its whole answer before it sends the next.
+ * Loads a month's pay runs from a table, corrects one of them, and prints what the correction changed. Paste the classes Refused
+ * and Payroll into a program of your own: Payroll sends a line and reads its whole answer before it sends the next.
  */
 public final class Client {
     /** The line was refused: it changed nothing, and the next line may be sent. */

@@ -1,13 +1,10 @@
 #!/usr/bin/env python3
 """Drives `papcalc run` from another program: client.py [PROGRAM], from the top of the repository.
 
-Loads a month's pay runs from a table, corrects one of them, and prints what the correction changed. Paste the class Payroll into a
-program of your own: it sends a line and reads its whole answer before it sends the next."""
+Loads a month's pay runs from a table, corrects one of them, and prints what the correction changed. Paste the classes Refused and
+Payroll into a program of your own: it sends a line and reads its whole answer before it sends the next."""
 import subprocess
 import sys
-
-# How the last line of an answer begins. Each other line is answered by one line; an empty line or a comment by none.
-LAST_WORD = {"report": "end", "trace": "end", "owed": "end", "file": "filed", "try": "would"}
 
 
 class Refused(Exception):
@@ -15,6 +12,9 @@ class Refused(Exception):
 
 
 class Payroll:
+    # How the last line of an answer begins. Each other line is answered by one line; an empty line or a comment by none.
+    LAST_WORD = {"report": "end", "trace": "end", "owed": "end", "file": "filed", "try": "would"}
+
     def __init__(self, program="papcalc"):
         self.process = subprocess.Popen(
             [program, "run"], stdin=subprocess.PIPE, stdout=subprocess.PIPE, encoding="ascii")
@@ -41,7 +41,8 @@ class Payroll:
             if line.startswith("refused "):
                 raise Refused(f"{line} (the line was: {' '.join(words)})")
             answer.append(line)
-            if words[0] not in LAST_WORD or line.split(" ")[0] == LAST_WORD[words[0]]:
+            last = self.LAST_WORD.get(words[0])
+            if last is None or line.split(" ")[0] == last:
                 return answer
 
     def report(self):
