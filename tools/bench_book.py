@@ -3,7 +3,9 @@
 
 Books of 300 and of 49,992 runs (twelve months an employee), with the flowchart of examples/ and with one as large as the published ones
 (tools/full_plan.py, 25 values a run). Each time is that from a line to the end of its answer, in milliseconds; `adds and report` are all
-lines of a script, which a plain Java program (tools/BenchBook.java) carries out besides: its report has to be the same."""
+lines of a script, which a plain Java program (tools/BenchBook.java) carries out besides: its report has to be the same. `all runs anew` is a
+`plan` line with another text of the same flowchart, and beside it the Java program's first and best of ten rounds of all runs, whose inputs
+it has read before."""
 import random
 import subprocess
 import sys
@@ -12,6 +14,7 @@ import time
 
 PROGRAM = sys.argv[1]
 EDITS = 20
+ROUNDS = 10
 
 
 def small_values(rng):
@@ -60,6 +63,14 @@ class Session:
         return self.answer(f"plan {day} {plan}.xml {plan}.toml")[1]
 
 
+def another_text(plan, folder):
+    """The same flowchart and range file, with a line more."""
+    for kind in ["xml", "toml"]:
+        with open(f"{plan}.{kind}") as text, open(f"{folder}/another.{kind}", "w") as other:
+            other.write(text.read() + "\n")
+    return f"{folder}/another"
+
+
 def edits(plan, values, employees, folder):
     """Milliseconds of each kind of edit."""
     rows = list(records(employees, values))
@@ -80,6 +91,7 @@ def edits(plan, values, employees, folder):
             spent.append(session.answer(line_of("change", employee, at, day, values(rng)))[1])
         told[name] = sum(spent) / EDITS
     told["plan, the same"] = session.plan("2026-01-01", plan)
+    told["all runs anew"] = session.plan("2026-01-01", another_text(plan, folder))
     told["plan in mid-year"] = session.plan("2026-07-01", plan)
     told["drop"] = session.answer("drop 2026-07-01")[1]
     session.process.stdin.close()
@@ -112,7 +124,9 @@ def whole_script(plan, values, employees, folder):
         reports.append([line for line in done.stdout.split(b"\n") if line.startswith(b"E")])
     if reports[0] != reports[1]:
         sys.exit("bench_book: the reports differ")
-    return told
+    rounds = subprocess.run(["java", "-cp", folder, "BenchBook", name, str(ROUNDS)], stdout=subprocess.PIPE, check=True, encoding="ascii")
+    spent = [float(line) for line in rounds.stdout.split()]
+    return {**told, "runs in Java, first": spent[0], "runs in Java, best": min(spent)}
 
 
 def main():

@@ -15,7 +15,7 @@ use scaled_decimal::{Dec, power_of_ten};
 /// The least interval that contains each item of a table from the least index on to the greatest.
 ///
 /// `Index` where an index may be outside the table, then `Wide` where an item, aligned to the greatest scale of these
-/// items, is beyond 10^37.
+/// items, is beyond 10^37. Takes time linear in these items.
 pub fn abs_item(items: &[Dec], index: Abs) -> Result<Abs, RangeCause>
     requires { IsWhole index }
     ensures exact { result ≡ item_row items.now index }
