@@ -1,5 +1,6 @@
 //! A short text kept in place: what names of every kind stand on.
-ghost use Rattle.std.specs.Prelude.{◌≡◌, ◌↔◌, IsSome, IfSome, Some, nat_eq, refl};
+ghost use Rattle.std.specs.Prelude.{◌≡◌, ◌↔◌, IsSome, IfSome, Some, nat_eq, refl, take};
+ghost use Rattle.std.specs.Int.{from_be_bytes, w64};
 ghost use Rattle.std.specs.Ordering.{nat_cmp};
 ghost use Rattle.std.specs.Cmp.{partial_equiv_from_equiv};
 ghost use Rattle.std.specs.Cmp.Lexicographic.{pointwise, slice_cmp, nat_list_eq_equiv, nat_list_cmp_total, texts_po, texts_ties};
@@ -78,6 +79,16 @@ impl ShortText {
     }
 }
 
+/// The first eight bytes as one number, the first byte the most significant: a comparison of two such numbers is one step,
+/// and decides between most names.
+fn front(bytes: &[u8; LONGEST]) -> u64
+    ensures { result ≡ from_be_bytes w64 (take 8 bytes.now) }
+{
+    u64::from_be_bytes([
+        bytes[0], bytes[1], bytes[2], bytes[3], bytes[4], bytes[5], bytes[6], bytes[7],
+    ])
+}
+
 impl PartialEq for ShortText {
     ghost eq = { pointwise nat_eq };
 
@@ -112,8 +123,8 @@ impl Ord for ShortText {
     ghost matches_eq = { λ s t. texts_ties s t };
 
     fn cmp(&self, other: &ShortText) -> Ordering {
-        match self.bytes.cmp(&other.bytes) {
-            Ordering::Equal => self.len.cmp(&other.len),
+        match front(&self.bytes).cmp(&front(&other.bytes)) {
+            Ordering::Equal => self.bytes.cmp(&other.bytes).then(self.len.cmp(&other.len)),
             different => different,
         }
     }
