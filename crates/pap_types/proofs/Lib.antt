@@ -12,4 +12,5 @@ pub mod BoundLemmas
 pub mod RunLemmas
 mod OutputLemmas
 pub mod LiteralLemmas
+pub mod DivisorLemmas
 pub mod Laws

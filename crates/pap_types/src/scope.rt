@@ -184,14 +184,9 @@ fn int_literal(e: &Expr) -> Option<Dec>
     }
 }
 
-/// 10^30, which plain divisors divide.
-const TEN_TO_30: u128 = 1_000_000_000_000_000_000_000_000_000_000;
-
 /// Whether a decimal is a whole number, at least 1, that divides 10^30.
 fn is_plain_divisor(number: Dec) -> bool
     ensures { result ≡ is_plain_divisor number }
 {
-    number.scale() == 0
-        && number.numerator() > 0
-        && TEN_TO_30 % number.numerator().unsigned_abs() == 0
+    number.scale() == 0 && scaled_decimal::is_plain_divisor(number.numerator())
 }
