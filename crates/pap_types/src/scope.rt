@@ -149,7 +149,8 @@ fn constant_at(plan: &PlanText, number: usize) -> Option<&Declared>
     plan.constants.get(number)
 }
 
-fn variable_at(plan: &PlanText, number: usize) -> Option<&Declared>
+/// The declaration of the variable of a number.
+pub(crate) fn variable_at(plan: &PlanText, number: usize) -> Option<&Declared>
     ensures { option_map (λ d. declaration_of d.now) result
         ≡ slice_get (variables_of (flowchart_of plan.now)) number }
 {

@@ -1,5 +1,5 @@
 //! A plan that is well typed.
-ghost use Rattle.std.specs.Prelude.{◌≡◌, IfOk, OnOk, IfErr};
+ghost use Rattle.std.specs.Prelude.{◌≡◌, IfOk, OnOk, IfErr, slice_get};
 ghost use Rattle.std.specs.Option.{option_map};
 ghost use Rattle.pap_tree.specs.Declarations.{declaration_of};
 ghost use Rattle.pap_tree.specs.Flowchart.{flowchart_of};
@@ -17,7 +17,7 @@ ghost use Rattle.pap_types.specs.Counts.{IsWithinCounts};
 use crate::TypeFault;
 use crate::kinds::NodeKind;
 use crate::literals::first_value;
-use crate::scope::{Names, Scope};
+use crate::scope::{Names, Scope, variable_at};
 use pap_tree::{Declared, Expr, Name, PlanText};
 use scaled_decimal::Dec;
 use std::alloc::Global;
@@ -84,6 +84,14 @@ impl Typed {
         ensures { result ≡ number_of (names_of (variables_of (flowchart_of self.now))) name.now }
     {
         self.names.variables.number_of(name)
+    }
+
+    /// The declaration of the variable of a number, as `variable` numbers them, or none where no variable has it.
+    pub fn variable_at(&self, number: usize) -> Option<&Declared>
+        ensures { option_map (λ d. declaration_of d.now) result
+            ≡ slice_get (variables_of (flowchart_of self.now)) number }
+    {
+        variable_at(&self.plan, number)
     }
 
     /// The number of a constant, from 0 in declared order.
