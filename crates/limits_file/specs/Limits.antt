@@ -1,10 +1,13 @@
 -- How long a range file is at most, which values a range admits, and the bound of outputs.
-use Rattle.std.specs.Prelude.{◌≡◌, ℕ, ◌^◌, ◌≤◌, IsTrue, IsFalse, unsigned_abs, List, Any}
+use Rattle.std.specs.Prelude.{◌≡◌, ℕ, ◌^◌, ◌≤◌, IsTrue, IsFalse, unsigned_abs, List, Any, Option}
+use Rattle.std.specs.List.{find}
+use Rattle.std.specs.Str.{bytes_eq}
 use Rattle.std.specs.Ordering.{is_gt}
 use Rattle.scaled_decimal.specs.Decimals.{Decimal, numerator_at, scale_of, value_order}
 use Rattle.scaled_decimal.specs.Limits.{IsWithinLimit, most_places}
 use Rattle.pap_tree.specs.Scales.{is_kept_at}
 use Rattle.limits_file.specs.declared.limits.InputLimit.{InputLimit}
+use Rattle.limits_file.specs.declared.limits.Limits.{Limits}
 
 -- the most bytes of a range file
 abbrev pub longest_limits : ℕ
@@ -19,6 +22,10 @@ pub record Fits (limit : InputLimit) (value : Decimal) : Type 0 where
   pub places : scale_of value ≤ limit.places
   pub above : IsAtMost limit.low value
   pub below : IsAtMost value limit.high
+
+-- the limit of a name
+abbrev pub limit_named : Limits → List ℕ → Option InputLimit
+limit_named limits x = find (λ l. bytes_eq l.name x) limits.inputs
 
 -- some limit of that name admits the value
 abbrev pub FitsNamed : List InputLimit → List ℕ → Decimal → Type 0

@@ -1,6 +1,7 @@
 //! The limits of a plan's inputs.
-ghost use Rattle.std.specs.Prelude.{◌↔◌, IsTrue};
-ghost use Rattle.limits_file.specs.Limits.{Fits, FitsNamed};
+ghost use Rattle.std.specs.Prelude.{◌≡◌, ◌↔◌, IsTrue};
+ghost use Rattle.std.specs.Option.{option_map};
+ghost use Rattle.limits_file.specs.Limits.{Fits, FitsNamed, limit_named};
 
 use crate::Items;
 use pap_tree::Name;
@@ -56,6 +57,16 @@ impl InputLimit {
 }
 
 impl Limits {
+    /// The limit of a name, if there is one. It takes time linear in the number of limits, and no memory.
+    pub fn limit_of(&self, name: &Name) -> Option<&InputLimit>
+        ensures { option_map (λ limit. limit.now) result ≡ limit_named self.now name.now }
+    {
+        self.inputs
+            .as_slice()
+            .iter()
+            .find(|limit| limit.name == *name)
+    }
+
     /// Whether there is a limit of that name which the value fits. It takes no memory.
     pub fn fits(&self, name: &Name, value: Dec) -> bool
         ensures { IsTrue result ↔ FitsNamed self.now.inputs name.now value }
