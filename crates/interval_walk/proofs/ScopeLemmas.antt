@@ -1,21 +1,18 @@
 -- What the names of a typed plan stand for, and the divisor that its text shows.
-use Rattle.std.proofs.Common.{◌≡◌, ℕ, ◌*◌, ◌/◌, ◌%◌, ◌^◌, ◌<◌, ℤ, pos, negsuc, nat_lt, List, Bool, true, false, ◌&&◌, Option, Some, None, refl, ap, ◌∙◌, subst, arith}
-use Rattle.std.specs.Prelude.{◌==◌}
+use Rattle.std.proofs.Common.{◌≡◌, ℕ, ℤ, List, true, false, Option, Some, None, refl, ap, ◌∙◌, subst}
 use Rattle.std.specs.Option.{option_map_or, option_and_then}
-use Rattle.std.proofs.lemmas.Int.{ints}
-use Rattle.std.proofs.lemmas.Bool.Decides.{nat_tests}
 use Rattle.scaled_decimal.specs.Decimals.{Decimal, decimal, numerator_of}
-use Rattle.scaled_decimal.specs.Limits.{most_places}
 use Rattle.scaled_decimal.specs.ExactQuotients.{IsPlainDivisor}
 use Rattle.pap_tree.specs.declared.declaration.Kind.{Kind}
 use Rattle.pap_tree.specs.declared.declaration.Kind.TheVariants as declares
 use Rattle.pap_tree.specs.Term.{whole, long, point, text, known, named, Term, leaf, item, one, two, choice, unary, value_of, value_of_scaled, new_big, set_scale}
 use Rattle.pap_tree.specs.Declarations.{Declaration, DeclaredLiteral, number, big, table}
 use Rattle.pap_types.specs.Scopes.{Scope, declared_as, kept_as, declared_decimal, first_value}
-use Rattle.pap_types.specs.Kinds.{is_plain_number, is_plain_divisor, literal_big, written_decimal, int_literal, shown_divisor, shows_plain_divisor}
+use Rattle.pap_types.specs.Kinds.{is_plain_divisor, literal_big, written_decimal, int_literal, shown_divisor, shows_plain_divisor}
 use Rattle.pap_types.specs.Checks.{is_of_type}
 use Rattle.pap_types.specs.Typing.{HasItsType}
 use Rattle.pap_types.specs.Values.{Env, value, named_value}
+use Rattle.pap_types.proofs.Laws.{plain_divisor}
 use Rattle.interval_walk.specs.Soundness.{AreVariables}
 
 -- what the soundness of an expression takes of the names of a plan
@@ -24,26 +21,6 @@ pub record IsSoundScope (scope : Scope) : Type 0 where
   pub apart : (x : List ℕ) (d : Declaration) → declared_as scope.constants x ≡ Some d → declared_as scope.variables x ≡ None
   -- a constant's literal is of its type
   pub typed : (x : List ℕ) (d : Declaration) → declared_as scope.constants x ≡ Some d → HasItsType d
-
--- ---- plain divisors
-
-both_true : (s t : Bool) → (s && t) ≡ true → (s ≡ true) × (t ≡ true)
-both_true true t e = (refl, e)
-both_true false t e = absurd (cc)
-
-plain_number : (n : ℤ) → is_plain_number n ≡ true → IsPlainDivisor n
-plain_number (pos n) e =
-    let p = both_true (nat_lt 0 n) ((10 ^ most_places) % n == 0) e in
-    let some : 0 < n = (let f = p.0 in grind (arith, nat_tests)) in
-    let none : (10 ^ most_places) % n ≡ 0 = (let f = p.1 in grind (arith, nat_tests)) in
-    record { positive = omega (arith, ints); divides = (pos ((10 ^ most_places) / n), ap pos (cofactor_is (10 ^ most_places) n some none)) }
-  where
-    cofactor_is : (x n : ℕ) → 0 < n → x % n ≡ 0 → (x / n) * n ≡ x
-    cofactor_is x n some none = omega arith
-plain_number (negsuc n) e = absurd (cc)
-
-pub plain_divisor : (d : Decimal) → is_plain_divisor d ≡ true → IsPlainDivisor (numerator_of d)
-plain_divisor d e = plain_number (numerator_of d) (both_true _ (is_plain_number (numerator_of d)) e).1
 
 -- ---- the divisor that the text shows is the value of the operand
 
