@@ -1,7 +1,5 @@
 //! What the names of a plan stand for.
-ghost use Rattle.std.specs.Prelude.{◌≡◌, slice_get};
-ghost use Rattle.std.specs.Option.{option_map};
-ghost use Rattle.pap_tree.specs.Declarations.{declaration_of};
+ghost use Rattle.std.specs.Prelude.{◌≡◌};
 ghost use Rattle.pap_tree.specs.Term.{term_of};
 ghost use Rattle.pap_types.specs.Kinds.{name_kind};
 ghost use Rattle.pap_types.specs.Scopes.{number_of, table_in};
@@ -10,7 +8,7 @@ ghost use Rattle.interval_walk.specs.NodeRanges.{big_range};
 ghost use Rattle.interval_analysis.specs.PlanViews.{scope_in, variables_in, kind_at};
 
 use interval_num::Abs;
-use pap_tree::{Declared, Expr, Name};
+use pap_tree::{Expr, Name};
 use pap_types::{NodeKind, Typed, items_of, shortened};
 use scaled_decimal::Dec;
 
@@ -41,27 +39,10 @@ pub(crate) fn kind_named(plan: &Typed, name: &Name, variable: Option<usize>) -> 
 fn kind_at(plan: &Typed, number: usize) -> NodeKind
     ensures { result ≡ kind_at (scope_in plan.now) number }
 {
-    match variable_at(plan, number) {
+    match plan.variable_at(number) {
         Some(declared) => NodeKind::of_declared(declared.kind),
         None => NodeKind::Int,
     }
-}
-
-/// The declaration of a variable by its number.
-pub(crate) fn variable_at(plan: &Typed, number: usize) -> Option<&Declared>
-    ensures { option_map (λ d. declaration_of d.now) result
-        ≡ slice_get (scope_in plan.now).variables number }
-{
-    let text = plan.plan();
-    let inputs = text.inputs.len();
-    let outputs = text.outputs.len();
-    if number < inputs {
-        return text.inputs.get(number);
-    }
-    if number - inputs < outputs {
-        return text.outputs.get(number - inputs);
-    }
-    text.internals.get(number - inputs - outputs)
 }
 
 /// The items of a table.

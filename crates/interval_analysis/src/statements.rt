@@ -16,12 +16,11 @@ use crate::conditions::Tested;
 use crate::expressions::{Stop, Walk};
 use crate::joins::meet;
 use crate::lists::written;
-use crate::names::variable_at;
 use crate::variables::Variables;
 use crate::weights::weight;
 use interval_num::{Abs, RangeCause};
 use pap_tree::{Expr, Kind, Method, Name, Place, Stmt};
-use pap_types::Typed;
+use pap_types::{FACTOR_PLACES, Typed};
 use scaled_decimal::power_of_ten;
 use std::alloc::AllocError;
 
@@ -130,7 +129,7 @@ impl Walk<'_> {
         let Some(number) = self.plan.variable(target) else {
             return Ok(());
         };
-        let kept = match variable_at(self.plan, number) {
+        let kept = match self.plan.variable_at(number) {
             Some(declared) => kept_as(declared.kind, range),
             None => range,
         };
@@ -425,8 +424,13 @@ fn at_three_places(range: Abs) -> Abs
     requires { CanKeep Kind.Factor range }
     ensures { result ≡ range_kept_as Kind.Factor range }
 {
-    let power = power_of_ten(3 - range.s_hi());
-    Abs::new(range.lo() * power, range.hi() * power, 3, 3)
+    let power = power_of_ten(FACTOR_PLACES - range.s_hi());
+    Abs::new(
+        range.lo() * power,
+        range.hi() * power,
+        FACTOR_PLACES,
+        FACTOR_PLACES,
+    )
 }
 
 /// The fault of an expression's node at its statement.
