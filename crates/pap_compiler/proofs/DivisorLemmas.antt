@@ -1,41 +1,24 @@
 -- The divisor that the text of a divide(d) shows is the divisor's value, and a plain one.
-use Rattle.std.proofs.Common.{◌≡◌, ℕ, ◌*◌, ◌/◌, ◌%◌, ◌^◌, ◌<◌, List, ◌++◌, true, false, Option, Some, None, refl, sym, ap, ◌∙◌, subst, arith, inl, inr}
-use Rattle.std.specs.Prelude.{◌==◌, nat_lt, ℤ, pos, negsuc}
+use Rattle.std.proofs.Common.{◌≡◌, ℕ, List, ◌++◌, true, false, Option, Some, None, refl, sym, ap, ◌∙◌, subst, inl, inr}
+use Rattle.std.specs.Prelude.{pos}
 use Rattle.std.specs.List.{All}
 use Rattle.std.specs.Option.{option_map_or, option_and_then}
-use Rattle.std.proofs.lemmas.Bool.Decides.{nat_tests}
-use Rattle.scaled_decimal.specs.Decimals.{Decimal, scale_of, numerator_of}
-use Rattle.scaled_decimal.specs.Limits.{most_places}
+use Rattle.scaled_decimal.specs.Decimals.{Decimal, numerator_of}
 use Rattle.scaled_decimal.specs.ExactQuotients.{IsPlainDivisor}
-use Rattle.scaled_decimal.proofs.Laws.{plain_divisor}
 use Rattle.pap_tree.specs.declared.declaration.Kind.{Kind as DeclaredKind}
 use Rattle.pap_tree.specs.declared.declaration.Kind.TheVariants as declares
 use Rattle.pap_tree.specs.Term.{whole, long, point, text, known, named, Term, leaf, item, one, two, choice, One, unary, value_of, value_of_scaled, new_big, set_scale}
 use Rattle.pap_tree.specs.Declarations.{DeclaredLiteral, number, big, table}
 use Rattle.pap_types.specs.Scopes.{Scope, names_of, declared_as, first_value, kept_as, declared_decimal}
-use Rattle.pap_types.specs.Kinds.{literal_big, written_decimal, int_literal, shown_divisor, shows_plain_divisor, is_plain_divisor, is_plain_number}
+use Rattle.pap_types.specs.Kinds.{literal_big, written_decimal, int_literal, shown_divisor, shows_plain_divisor, is_plain_divisor}
 use Rattle.pap_types.specs.Values.{Env, value, named_value}
 use Rattle.pap_types.specs.Operations.{of_one}
 use Rattle.pap_types.specs.Checks.{is_of_type}
 use Rattle.pap_compiler.specs.CodeDecisions.{shown_number}
 use Rattle.pap_types.specs.Typing.{HasItsType, AreDistinct}
-use Rattle.pap_types.proofs.Laws.{declared_type}
+use Rattle.pap_types.proofs.Laws.{declared_type, plain_divisor}
 use Rattle.pap_compiler.proofs.NameLemmas.{AreHeld, looked, apart}
-use Rattle.pap_compiler.proofs.KindLemmas.{both_true, and_then_some, map_some, some_is}
-
-cofactor : (m n : ℕ) → 0 < n → m % n ≡ 0 → (m / n) * n ≡ m
-cofactor m n h e = omega arith
-
-plain_number : (n : ℤ) → is_plain_number n ≡ true → IsPlainDivisor n
-plain_number (pos n) h =
-    let k = both_true (nat_lt 0 n) ((10 ^ most_places) % n == 0) h in
-    let some : 0 < n = let t = k.0 in grind (arith, nat_tests) in
-    let rest : (10 ^ most_places) % n ≡ 0 = let t = k.1 in grind (arith, nat_tests) in
-    plain_divisor n ((10 ^ most_places) / n) (cofactor (10 ^ most_places) n some rest)
-plain_number (negsuc n) h = absurd (cc)
-
-pub plain : (d : Decimal) → is_plain_divisor d ≡ true → IsPlainDivisor (numerator_of d)
-plain d h = plain_number (numerator_of d) (both_true (scale_of d == 0) (is_plain_number (numerator_of d)) h).1
+use Rattle.pap_compiler.proofs.KindLemmas.{and_then_some, map_some, some_is}
 
 -- a declaration that writes a decimal begins with it
 written : (k : DeclaredKind) (o : Option DeclaredLiteral) (s : Decimal) → option_map_or (is_of_type k) o true ≡ true → option_and_then literal_big o ≡ Some s → kept_as k (declared_decimal o) ≡ s
@@ -118,4 +101,4 @@ module _ (scope : Scope) (env : Env) (held : AreHeld scope.variables env) (types
       by_shown None is h = absurd (cc)
       by_shown (Some s) is h =
           let n : shown_number scope f ≡ numerator_of s = ap (λ o. option_map_or numerator_of o (pos 0)) is in
-          record { number = ap numerator_of (shown f s b is v) ∙ sym n; plain = subst IsPlainDivisor (sym n) (plain s h) }
+          record { number = ap numerator_of (shown f s b is v) ∙ sym n; plain = subst IsPlainDivisor (sym n) (plain_divisor s h) }
