@@ -1,23 +1,21 @@
 //! The ranges with which the walk of MAIN begins.
 ghost use Rattle.std.specs.Prelude.{◌≡◌, ◌≤◌, ◌++◌, IfOk, OnOk};
 ghost use Rattle.std.specs.List.{All};
-ghost use Rattle.scaled_decimal.specs.Decimals.{scale_of, numerator_at};
-ghost use Rattle.scaled_decimal.specs.Limits.{IsWithinLimit, most_places};
+ghost use Rattle.scaled_decimal.specs.Decimals.{numerator_at};
 ghost use Rattle.pap_tree.specs.Declarations.{declaration_of};
 ghost use Rattle.pap_tree.specs.Flowchart.{flowchart_of};
 ghost use Rattle.limits_file.specs.Limits.{HasSoundBounds};
 ghost use Rattle.interval_num.specs.Intervals.{interval};
 ghost use Rattle.pap_types.specs.Typing.{HasItsType};
-ghost use Rattle.interval_walk.specs.Admission.{HaveLimits, HasLimit, SuitsLimit, limit_named};
+ghost use Rattle.interval_walk.specs.Admission.{HaveLimits, HasLimit, SuitsLimit};
 ghost use Rattle.interval_walk.specs.Analysis.{limit_range, input_range};
 ghost use Rattle.interval_analysis.specs.StartViews.{CanSpan, IsStart, declarations, limited, begun};
 
 use crate::names::single;
 use interval_num::Abs;
 use limits_file::{InputLimit, Limits};
-use pap_tree::{Declared, Kind, Name};
-use pap_types::{Typed, first_value};
-use scaled_decimal::{Dec, power_of_ten};
+use pap_tree::{Declared, Kind};
+use pap_types::{FACTOR_PLACES, Typed, first_value};
 use std::alloc::{AllocError, Global};
 
 /// Inputs at their limits, the other variables at what they begin with.
@@ -72,22 +70,10 @@ fn input_range(input: &Declared, limits: &Limits) -> Abs
     requires typed { HasItsType (declaration_of input.now) }
     ensures { result ≡ (input_range limits.now (declaration_of input.now)).range }
 {
-    match limit_of(limits, &input.name) {
-        Some(limit) => limit_range(input.kind, &limit),
+    match limits.limit_of(&input.name) {
+        Some(limit) => limit_range(input.kind, limit),
         None => single(first_value(input)),
     }
-}
-
-/// The limit of a name.
-fn limit_of(limits: &Limits, name: &Name) -> Option<InputLimit>
-    ensures { result ≡ limit_named limits.now name.now }
-{
-    limits
-        .inputs
-        .as_slice()
-        .iter()
-        .find(|limit| limit.name == *name)
-        .copied()
 }
 
 /// From a limit's low to its high bound, with no to all of its places; a `double` has three places.
@@ -97,7 +83,7 @@ fn limit_range(kind: Kind, limit: &InputLimit) -> Abs
     ensures { result ≡ limit_range kind limit.now }
 {
     match kind {
-        Kind::Factor => between(limit, 3, 3),
+        Kind::Factor => between(limit, FACTOR_PLACES, FACTOR_PLACES),
         Kind::Int | Kind::Long | Kind::Big | Kind::Table => between(limit, 0, limit.places),
     }
 }
@@ -109,19 +95,9 @@ fn between(limit: &InputLimit, s_lo: u8, s_hi: u8) -> Abs
         ≡ interval (numerator_at s_hi limit.now.low) (numerator_at s_hi limit.now.high) s_lo s_hi }
 {
     Abs::new(
-        numerator_at(limit.low, s_hi),
-        numerator_at(limit.high, s_hi),
+        limit.low.numerator_at(s_hi),
+        limit.high.numerator_at(s_hi),
         s_lo,
         s_hi,
     )
-}
-
-/// The numerator of a decimal at so many places.
-fn numerator_at(value: Dec, places: u8) -> i128
-    requires longer { scale_of value ≤ places }
-    requires few { places ≤ most_places }
-    requires kept { IsWithinLimit (numerator_at places value) }
-    ensures { result ≡ numerator_at places value }
-{
-    value.numerator() * power_of_ten(places - value.scale())
 }

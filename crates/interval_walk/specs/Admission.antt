@@ -1,7 +1,5 @@
 -- The limits of a plan's inputs, and which values they admit.
-use Rattle.std.specs.Prelude.{◌≡◌, ℕ, List, [], ◌∷◌, All, Option, Some, ⊤}
-use Rattle.std.specs.List.{find}
-use Rattle.std.specs.Str.{bytes_eq}
+use Rattle.std.specs.Prelude.{◌≡◌, ℕ, List, [], ◌∷◌, All, Some, ⊤}
 use Rattle.std.specs.declared.cmp.Ordering.TheVariants.{Equal}
 use Rattle.scaled_decimal.specs.Decimals.{Decimal, numerator_of, scale_of, value_order}
 use Rattle.scaled_decimal.specs.Limits.{IsKept}
@@ -12,12 +10,8 @@ use Rattle.pap_tree.specs.Declarations.{Declaration}
 use Rattle.pap_tree.specs.Flowchart.{Flowchart}
 use Rattle.limits_file.specs.declared.limits.InputLimit.{InputLimit}
 use Rattle.limits_file.specs.declared.limits.Limits.{Limits}
-use Rattle.limits_file.specs.Limits.{Fits, HasSoundBounds, IsFactorLimit}
+use Rattle.limits_file.specs.Limits.{limit_named, Fits, HasSoundBounds, IsFactorLimit}
 use Rattle.pap_types.specs.Scopes.{factor_places}
-
--- the limit of a name
-abbrev pub limit_named : Limits → List ℕ → Option InputLimit
-limit_named limits x = find (λ l. bytes_eq l.name x) limits.inputs
 
 -- a limit of whole numbers of so many bits
 pub record IsWholeLimit (bits : ℕ) (limit : InputLimit) : Type 0 where

@@ -9,7 +9,7 @@ use Rattle.pap_tree.specs.Declarations.{Declaration}
 use Rattle.pap_tree.specs.Flowchart.{Flowchart}
 use Rattle.limits_file.specs.declared.limits.InputLimit.{InputLimit}
 use Rattle.limits_file.specs.declared.limits.Limits.{Limits}
-use Rattle.limits_file.specs.Limits.{output_places, output_limit}
+use Rattle.limits_file.specs.Limits.{output_places, output_limit, limit_named}
 use Rattle.interval_num.specs.Intervals.{Interval, interval}
 use Rattle.interval_num.specs.Alignment.{at_scale}
 use Rattle.pap_types.specs.Scopes.{scope_of, first_value, factor_places}
@@ -18,7 +18,6 @@ use Rattle.pap_types.specs.Limits.{longest_chain}
 use Rattle.interval_walk.specs.Ranges.{NamedRange, Ranges, single}
 use Rattle.interval_walk.specs.Failures.{WalkFault, output_fails, and_then}
 use Rattle.interval_walk.specs.Walked.{RangeCalls, walked, range_calls_of}
-use Rattle.interval_walk.specs.Admission.{limit_named}
 
 -- ---- the start
 

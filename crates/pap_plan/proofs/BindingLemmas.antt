@@ -1,5 +1,5 @@
 -- What is looked for among the names of the code is what is looked for among those of the plan.
-use Rattle.std.proofs.Common.{◌≡◌, ℕ, suc, ◌+◌, ◌<◌, ◌≤◌, Bool, true, false, not, cond, ◌||◌, List, [], ◌∷◌, ◌++◌, length, map, drop, get_or, Some, None, refl, sym, ap, ap₂, subst, ◌∙◌, arith}
+use Rattle.std.proofs.Common.{◌≡◌, ℕ, suc, ◌+◌, ◌<◌, ◌≤◌, Bool, true, false, not, cond, ◌||◌, List, [], ◌∷◌, ◌++◌, length, map, drop, get_or, Option, Some, None, refl, sym, ap, ap₂, subst, ◌∙◌, arith}
 use Rattle.std.specs.Prelude.{◌↔◌, IsTrue}
 use Rattle.std.specs.List.{All, find}
 use Rattle.std.specs.Option.{option_map}
@@ -12,10 +12,13 @@ use Rattle.pap_tree.specs.declared.declaration.Declared.{Declared}
 use Rattle.pap_tree.specs.Declarations.{Declaration, declaration_of}
 use Rattle.limits_file.specs.declared.limits.InputLimit.{InputLimit}
 use Rattle.limits_file.specs.declared.limits.Limits.{Limits}
+use Rattle.limits_file.specs.declared.limits.Binding.{Binding}
+use Rattle.limits_file.specs.declared.limits.Carry.{Carry}
 use Rattle.pap_types.specs.Scopes.{names_of}
 use Rattle.pap_types.specs.Checks.{has_name}
-use Rattle.interval_walk.specs.Admission.{limit_named, SuitsLimit}
-use Rattle.pap_plan.specs.Bindings.{has_limit, HasSuitedLimit, IsFirstUnsuited}
+use Rattle.limits_file.specs.Limits.{limit_named}
+use Rattle.interval_walk.specs.Admission.{SuitsLimit}
+use Rattle.pap_plan.specs.Bindings.{has_limit, is_bound, HasSuitedLimit, IsFirstUnsuited}
 use Rattle.pap_tree.specs.Flowchart.{Flowchart}
 use Rattle.pap_plan.specs.BindingViews.{declares, without_limit, without_input}
 
@@ -32,7 +35,7 @@ found_map p (d ∷ ds) = by_test (p (declaration_of d)) (found_map p ds)
     by_test true r = refl
     by_test false r = r
 
-pub limits_found : (ds : List Declared) (l : Limits) → without_limit ds l.inputs ≡ option_map (λ d. d.name) (find (λ d. not (has_limit l d.name)) (map declaration_of ds))
+pub limits_found : (ds : List Declared) (l : Limits) → without_limit ds l ≡ option_map (λ d. d.name) (find (λ d. not (has_limit l d.name)) (map declaration_of ds))
 limits_found ds l = sym (found_map (λ d. not (has_limit l d.name)) ds)
 
 same_tests : (p q : InputLimit → Bool) → ((l : InputLimit) → p l ≡ q l) → (ls : List InputLimit) → find p ls ≡ find q ls
@@ -42,6 +45,16 @@ same_tests p q h (l ∷ ls) = ap₂ (λ a b. cond a (Some l) b) (h l) (same_test
 pub inputs_found : (ds : List Declared) (ls : List InputLimit) → without_input ds ls ≡ option_map (λ l. l.name) (find (λ l. not (has_name (names_of (map declaration_of ds)) l.name)) ls)
 inputs_found ds ls =
     ap (option_map (λ l. l.name)) (same_tests (λ l. not (declares ds l.name)) (λ l. not (has_name (names_of (map declaration_of ds)) l.name)) (λ l. ap not (declared_names ds l.name)) ls)
+
+-- ---- bindings
+
+-- the input of the first of these bindings that isn't sound
+abbrev pub unbound_among : Flowchart → Limits → List Binding → Option (List ℕ)
+unbound_among f l bs = option_map (λ b. b.input) (find (λ b. not (is_bound f l b)) bs)
+
+-- what the first of these bindings of an input carries over
+abbrev pub carry_among : List Binding → List ℕ → Option Carry
+carry_among bs x = option_map (λ b. b.carry) (find (λ b. bytes_eq b.input x) bs)
 
 -- ---- kinds
 

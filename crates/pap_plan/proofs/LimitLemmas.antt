@@ -9,12 +9,11 @@ use Rattle.limits_file.specs.declared.limits.InputLimit.{InputLimit}
 use Rattle.limits_file.specs.declared.limits.Limits.{Limits}
 use Rattle.limits_file.specs.Faults.{Fault, bad_key}
 use Rattle.limits_file.specs.Labels.{label_of}
-use Rattle.limits_file.specs.Limits.{HasSoundBounds}
+use Rattle.limits_file.specs.Limits.{HasSoundBounds, limit_named}
 use Rattle.limits_file.specs.Inputs.{InputSays}
 use Rattle.limits_file.specs.Bindings.{BindingSays}
 use Rattle.limits_file.specs.Walks.{AllOrFirstFault, TableSays}
 use Rattle.limits_file.specs.RangeFiles.{with_inputs, with_bindings, SectionSays, FileSays}
-use Rattle.interval_walk.specs.Admission.{limit_named}
 
 inputs_sound : (n : ℕ) (entries : Members) (said : List InputLimit) → AllOrFirstFault InputSays n entries (Ok said) → All HasSoundBounds said
 inputs_sound n no_members said h = subst (All HasSoundBounds) (sym h) (All-nil HasSoundBounds)

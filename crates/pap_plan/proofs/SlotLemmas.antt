@@ -11,7 +11,7 @@ use Rattle.limits_file.specs.declared.limits.Limits.{Limits}
 use Rattle.limits_file.specs.declared.limits.Carry.{Carry}
 use Rattle.limits_file.specs.declared.slots.Slot.{Slot}
 use Rattle.pap_types.specs.Scopes.{literal_decimal}
-use Rattle.interval_walk.specs.Admission.{limit_named}
+use Rattle.limits_file.specs.Limits.{limit_named}
 use Rattle.pap_plan.specs.Bindings.{has_limit}
 use Rattle.pap_plan.specs.Inputs.{carry_named, IsSlot, AreSlots}
 

@@ -15,9 +15,9 @@ use Rattle.pap_tree.specs.Declarations.{Declaration}
 use Rattle.pap_tree.specs.Flowchart.{Flowchart}
 use Rattle.limits_file.specs.declared.limits.InputLimit.{InputLimit}
 use Rattle.limits_file.specs.declared.limits.Limits.{Limits}
-use Rattle.limits_file.specs.Limits.{IsFactorLimit}
+use Rattle.limits_file.specs.Limits.{IsFactorLimit, limit_named}
 use Rattle.pap_types.specs.Kinds.{has_few_places}
-use Rattle.interval_walk.specs.Admission.{limit_named, IsWholeLimit, SuitsLimit}
+use Rattle.interval_walk.specs.Admission.{IsWholeLimit, SuitsLimit}
 use Rattle.pap_plan.specs.Bindings.{HasSuitedLimit, IsFirstUnsuited}
 
 -- ---- whether a limit suits a type is decided

@@ -11,7 +11,8 @@ use Rattle.limits_file.specs.declared.limits.Carry.{Carry}
 use Rattle.limits_file.specs.declared.limits.Carry.TheVariants.{Sum, Last, Count}
 use Rattle.pap_types.specs.Scopes.{names_of}
 use Rattle.pap_types.specs.Checks.{has_name}
-use Rattle.interval_walk.specs.Admission.{limit_named, SuitsLimit}
+use Rattle.limits_file.specs.Limits.{limit_named}
+use Rattle.interval_walk.specs.Admission.{SuitsLimit}
 
 -- ---- names
 

@@ -8,7 +8,7 @@ use Rattle.limits_file.specs.declared.limits.Limits.{Limits}
 use Rattle.limits_file.specs.declared.limits.Carry.{Carry}
 use Rattle.limits_file.specs.declared.slots.Slot.{Slot}
 use Rattle.pap_types.specs.Scopes.{literal_decimal}
-use Rattle.interval_walk.specs.Admission.{limit_named}
+use Rattle.limits_file.specs.Limits.{limit_named}
 
 -- what the input of a name carries over, where it is bound
 abbrev pub carry_named : Limits → List ℕ → Option Carry

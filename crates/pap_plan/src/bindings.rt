@@ -1,8 +1,6 @@
 //! Whether the limits and bindings of a range file are those of a plan.
 ghost use Rattle.std.specs.Prelude.{◌≡◌, ◌↔◌, IsTrue, MatchOption};
-ghost use Rattle.std.specs.Option.{option_map};
-ghost use Rattle.std.specs.List.{All, find};
-ghost use Rattle.std.specs.Str.{bytes_eq};
+ghost use Rattle.std.specs.List.{All};
 ghost use Rattle.pap_tree.specs.Declarations.{declaration_of};
 ghost use Rattle.pap_tree.specs.Flowchart.{flowchart_of};
 ghost use Rattle.interval_walk.specs.Admission.{SuitsLimit};
@@ -14,14 +12,6 @@ use pap_tree::{Declared, Kind, Name, PlanText};
 use pap_types::{FACTOR_PLACES, has_few_places};
 use scaled_decimal::{is_int, is_long};
 
-/// The limit of an input.
-pub(crate) fn limit_named<'a>(limits: &'a [InputLimit], name: &Name) -> Option<&'a InputLimit>
-    ensures { option_map (λ limit. limit.now) result
-        ≡ find (λ limit. bytes_eq limit.name name.now) limits.now }
-{
-    limits.iter().find(|limit| limit.name == *name)
-}
-
 fn declares(declared: &[Declared], name: &Name) -> bool
     ensures { result ≡ declares declared.now name.now }
 {
@@ -32,18 +22,17 @@ fn declares(declared: &[Declared], name: &Name) -> bool
 pub(crate) fn unmatched_name(plan: &PlanText, ranges: &Limits) -> Option<Name>
     ensures { result ≡ unmatched_name (flowchart_of plan.now) ranges.now }
 {
-    let limits = ranges.inputs.as_slice();
-    match input_without_limit(&plan.inputs, limits) {
+    match input_without_limit(&plan.inputs, ranges) {
         Some(name) => Some(name),
-        None => limit_without_input(&plan.inputs, limits),
+        None => limit_without_input(&plan.inputs, ranges.inputs.as_slice()),
     }
 }
 
-fn input_without_limit(inputs: &[Declared], limits: &[InputLimit]) -> Option<Name>
-    ensures { result ≡ without_limit inputs.now limits.now }
+fn input_without_limit(inputs: &[Declared], ranges: &Limits) -> Option<Name>
+    ensures { result ≡ without_limit inputs.now ranges.now }
 {
     for input in inputs {
-        if limit_named(limits, &input.name).is_none() {
+        if ranges.limit_of(&input.name).is_none() {
             return Some(input.name);
         }
     }
@@ -76,8 +65,7 @@ pub(crate) fn unbound_input(plan: &PlanText, ranges: &Limits) -> Option<Name>
 fn is_bound(plan: &PlanText, ranges: &Limits, binding: &Binding) -> bool
     ensures { result ≡ is_bound (flowchart_of plan.now) ranges.now binding.now }
 {
-    limit_named(ranges.inputs.as_slice(), &binding.input).is_some()
-        && carries_output(plan, &binding.carry)
+    ranges.limit_of(&binding.input).is_some() && carries_output(plan, &binding.carry)
 }
 
 #[tactic(auto, using(crate::proofs::BindingLemmas::declared_names))]
@@ -106,7 +94,7 @@ pub(crate) fn first_unsuited(plan: &PlanText, ranges: &Limits) -> Option<Name>
 fn has_suited_limit(input: &Declared, ranges: &Limits) -> bool
     ensures { IsTrue result ↔ HasSuitedLimit ranges.now (declaration_of input.now) }
 {
-    match limit_named(ranges.inputs.as_slice(), &input.name) {
+    match ranges.limit_of(&input.name) {
         Some(limit) => suits(input.kind, limit),
         None => false,
     }

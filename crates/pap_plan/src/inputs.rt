@@ -7,7 +7,6 @@ ghost use Rattle.pap_types.specs.Scopes.{literal_decimal};
 ghost use Rattle.pap_plan.specs.Bindings.{input_without_limit};
 ghost use Rattle.pap_plan.specs.Inputs.{carry_named, AreSlots};
 
-use crate::bindings::limit_named;
 use limits_file::{Carry, Items, Limits, Slot, Spec};
 use pap_tree::{Declared, Literal, Name, PlanText};
 use scaled_decimal::Dec;
@@ -20,7 +19,7 @@ pub(crate) fn spec_of(alloc: Global, plan: &PlanText, ranges: &Limits) -> Result
 {
     let mut slots = Vec::new(alloc);
     for input in &plan.inputs {
-        if let Some(limit) = limit_named(ranges.inputs.as_slice(), &input.name) {
+        if let Some(limit) = ranges.limit_of(&input.name) {
             slots.push(Slot {
                 name: input.name,
                 kind: input.kind,

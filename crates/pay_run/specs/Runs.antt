@@ -10,7 +10,7 @@ use Rattle.limits_file.specs.declared.limits.InputLimit.{InputLimit}
 use Rattle.limits_file.specs.declared.slots.Slot.{Slot}
 use Rattle.pap_types.specs.Scopes.{literal_decimal}
 use Rattle.pap_types.specs.Meaning.{outputs_of, cost_of, IsSafeFor}
-use Rattle.interval_walk.specs.Admission.{limit_named}
+use Rattle.limits_file.specs.Limits.{limit_named}
 use Rattle.payroll_records.specs.declared.values.NamedValue.{NamedValue}
 use Rattle.carry_bindings.specs.declared.carried.Earlier.{Earlier}
 use Rattle.carry_bindings.specs.declared.filling.Filled.{Filled}

@@ -3,4 +3,4 @@ use Rattle.pap_plan.specs.BindingViews.{without_limit}
 use Rattle.pap_plan.proofs.bindings.input_without_limit.Given as goal
 
 abbrev pub invariant-loop-input : goal.invariant-loop-input
-invariant-loop-input l = without_limit (drop l.input-index l.inputs) l.limits ≡ without_limit l.inputs l.limits
+invariant-loop-input l = without_limit (drop l.input-index l.inputs) l.ranges ≡ without_limit l.inputs l.ranges

@@ -1,6 +1,6 @@
 use Rattle.std.proofs.Common.{◌≡◌, drop}
 use Rattle.pap_tree.specs.Flowchart.{flowchart_of}
-use Rattle.pap_plan.specs.BindingViews.{unbound_among}
+use Rattle.pap_plan.proofs.BindingLemmas.{unbound_among}
 use Rattle.pap_plan.proofs.bindings.unbound_input.Given as goal
 
 abbrev pub invariant-loop-binding : goal.invariant-loop-binding

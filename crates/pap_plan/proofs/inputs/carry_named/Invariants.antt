@@ -1,5 +1,5 @@
 use Rattle.std.proofs.Common.{◌≡◌, drop}
-use Rattle.pap_plan.specs.BindingViews.{carry_among}
+use Rattle.pap_plan.proofs.BindingLemmas.{carry_among}
 use Rattle.pap_plan.proofs.inputs.carry_named.Given as goal
 
 abbrev pub invariant-loop-binding : goal.invariant-loop-binding

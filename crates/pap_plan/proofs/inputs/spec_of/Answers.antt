@@ -1,8 +1,5 @@
-use Rattle.std.proofs.Common.{◌+◌, ◌<◌, ◌≤◌, List, Option, length, map, drop, slice_index_or, sym, ap, subst, ◌∙◌}
-use Rattle.std.specs.List.{find}
+use Rattle.std.proofs.Common.{◌+◌, ◌<◌, ◌≤◌, length, map, drop, slice_index_or, sym, ap, subst, ◌∙◌}
 use Rattle.std.specs.Option.{option_map}
-use Rattle.std.specs.Str.{bytes_eq}
-use Rattle.limits_file.specs.declared.limits.InputLimit.{InputLimit}
 use Rattle.pap_tree.specs.Declarations.{declaration_of}
 use Rattle.pap_plan.specs.Inputs.{AreSlots}
 use Rattle.pap_plan.proofs.BindingLemmas.{left_from, none_left}
@@ -27,9 +24,8 @@ loop-input-preserved c e =
     let less = subst (λ xs. i < length xs) c.deref-input-items.ensures.value c.loop-input-test.true in
     let d = declaration_of c.input-item.result in
     let so_far = subst (λ ds. AreSlotsBefore c.args.ranges.now all ds c.loop-input.slots.items) (left_from items i c.input-item.result is less) (c.loop-input.invariant e) in
-    let named : List InputLimit → Option InputLimit = λ ls. find (λ l. bytes_eq l.name c.input-item.result.name) ls in
-    let limit = c.limit_named.ensures ∙ ap named c.as_slice.ensures in
-    elim c.match-limit_named.branch [
+    let limit = c.limit_of.ensures in
+    elim c.match-limit_of.branch [
       | in-Some+in_ok-push w ↦
           let slot = slot_is c.args.ranges.now d w.in-Some.limit.now w.default_of.result w.carry_named.result (sym limit ∙ ap (option_map (λ l. l.now)) w.in-Some.is) w.default_of.ensures w.carry_named.ensures in
           subst (AreSlotsBefore c.args.ranges.now all left) (sym (ap (λ v. v.items) w.slots-is ∙ w.in_ok-push.ensures.items)) (one_slot c.args.ranges.now all left c.loop-input.slots.items d _ so_far slot)
