@@ -1,34 +1,52 @@
 //! Declared names of one sort, by number.
-ghost use Rattle.std.specs.Prelude.{◌≡◌, []};
+ghost use Rattle.std.specs.Prelude.{◌≡◌, [], IfOk, IfErr};
+ghost use Rattle.std.specs.Ordering.{nat_cmp};
+ghost use Rattle.std.specs.Cmp.Lexicographic.{slice_cmp};
+ghost use Rattle.rising_lists.specs.Keyed.{IsRising};
+ghost use Rattle.rising_lists.specs.Places.{Finds, Misses};
 ghost use Rattle.pap_types.specs.Scopes.{number_of};
 ghost use Rattle.pap_types.specs.Checks.{has_name};
-ghost use Rattle.pap_types.specs.NameViews.{IsInserted};
+ghost use Rattle.pap_types.specs.NameViews.{IsInserted, numbered_name};
 
 use pap_tree::Name;
 use std::alloc::{AllocError, Global};
-use std::collections::BTreeMap;
 use std::marker::Model;
 
+/// A name with its number.
+#[derive(Clone, Copy)]
+pub(crate) struct Numbered {
+    pub name: Name,
+    pub number: usize,
+}
+
 /// Names, each once, numbered from 0 in the order in which they were inserted. They are looked up by the order of their
-/// bytes, so no choice of names makes a look-up slow. Contracts see the list of the names by number.
+/// bytes, so no choice of names makes a look-up slow; a new name moves the numbers of those behind it. Contracts see the list of
+/// the names by number.
 #[derive(Drop)]
 pub(crate) struct DeclaredNames {
     names: Vec<Name>,
-    numbers: BTreeMap<Name, usize>,
+    /// In the order of the names.
+    numbers: Vec<Numbered>,
 }
 
 impl Model for DeclaredNames {
     ghost use Rattle.std.specs.Prelude.{ℕ, List};
-    ghost use Rattle.std.specs.Ordering.{nat_cmp};
-    ghost use Rattle.std.specs.Cmp.Lexicographic.{slice_cmp};
-    ghost use Rattle.std.specs.BTreeMap.{get};
-    ghost use Rattle.pap_types.specs.NameViews.{AreNumbers};
+    ghost use Rattle.pap_types.specs.NameViews.{AreNumbered};
 
     ghost Value = { List (List ℕ) };
 
     ghost view = { λ d. d.names.items };
 
-    ghost invariant = { λ d. AreNumbers d.names.items (get (slice_cmp nat_cmp) d.numbers) };
+    ghost invariant = { λ d. AreNumbered d.names.items d.numbers.items };
+}
+
+/// Where a name stands among those in order, or would go.
+fn place(numbers: &[Numbered], name: &Name) -> Result<usize, usize>
+    requires { IsRising (slice_cmp nat_cmp) numbered_name numbers.now }
+    ensures found { IfOk result (Finds (slice_cmp nat_cmp) numbered_name numbers.now name.now) }
+    ensures absent { IfErr result (Misses (slice_cmp nat_cmp) numbered_name numbers.now name.now) }
+{
+    numbers.binary_search_by_key(name, |n| n.name)
 }
 
 impl DeclaredNames {
@@ -38,7 +56,7 @@ impl DeclaredNames {
     {
         DeclaredNames {
             names: Vec::new(alloc),
-            numbers: BTreeMap::new(alloc),
+            numbers: Vec::new(alloc),
         }
     }
 
@@ -46,25 +64,29 @@ impl DeclaredNames {
     pub fn number_of(&self, name: &Name) -> Option<usize>
         ensures { result ≡ number_of self.now name.now }
     {
-        self.numbers.get(name).copied()
+        match place(self.numbers.as_slice(), name) {
+            Ok(at) => Some(self.numbers[at].number),
+            Err(_) => None,
+        }
     }
 
     /// Whether a name is there.
     pub fn contains(&self, name: &Name) -> bool
         ensures { result ≡ has_name self.now name.now }
     {
-        self.numbers.contains_key(name)
+        self.number_of(name).is_some()
     }
 
     /// Gives a new name the next number; whether it is new. Where memory runs out, the names are as before.
     pub fn insert(&mut self, name: Name) -> Result<bool, AllocError>
         ensures { IsInserted self.old self.new name result }
     {
-        if self.contains(&name) {
+        let Err(at) = place(self.numbers.as_slice(), &name) else {
             return Ok(false);
-        }
+        };
         self.names.reserve(1)?;
-        self.numbers.insert(name, self.names.len())?;
+        let number = self.names.len();
+        self.numbers.insert(at, Numbered { name, number })?;
         self.names.push(name)?;
         Ok(true)
     }
