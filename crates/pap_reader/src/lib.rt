@@ -22,6 +22,6 @@ pub use element::Element;
 pub use elements::{Elements, RawDeclared, RawMethod, RawStmt};
 pub use fault::{ReadFault, Which};
 pub use skipped::{after_passed, after_prolog, past_mark};
-pub use tags::{Attribute, Form, Tag, ValueFront, read_value_front, read_tag};
+pub use tags::{Attribute, Form, Tag, ValueFront, read_tag, read_value_front};
 pub use text::{LONGEST_PLAN, element_laws, read_elements};
 pub use values::read_byte;
