@@ -1,6 +1,5 @@
 -- The records of a table, row by row.
-use Rattle.std.proofs.Common.{Option, ◌≡◌, ℕ, ◌+◌, ◌≤◌, List, [], ◌∷◌, ◌++◌, length, Bool, true, false, not, ◌||◌, cond, refl, sym, ap, subst, ◌∙◌, arith, length-append, append_assoc}
-use Rattle.std.specs.Prelude.{Result, Ok, Err, MatchResult, IfErr}
+use Rattle.std.proofs.Common.{Option, ◌≡◌, ℕ, ◌+◌, List, [], ◌∷◌, ◌++◌, length, Bool, true, false, not, ◌||◌, cond, refl, sym, ap, subst, ◌∙◌, arith, length-append, append_assoc}
 use Rattle.std.specs.List.{list_any}
 use Rattle.std.specs.BTreeSet.{contains, Updates, BTreeSet}
 use Rattle.std.specs.declared.cmp.Ordering.{Ordering}
@@ -14,13 +13,9 @@ use Rattle.payroll_records.specs.declared.record.Key.{Key}
 use Rattle.payroll_records.specs.declared.record.Record.{Record}
 use Rattle.payroll_records.specs.declared.row.RowFault.{RowFault}
 use Rattle.payroll_records.specs.declared.row.RowFault.TheVariants as fault
-use Rattle.payroll_records.specs.declared.table.TableFault.TheVariants as whole
 use Rattle.payroll_records.specs.Orders.{key_cmp}
 use Rattle.payroll_records.specs.RowViews.{IsBetweenRows, rows_left, ReadsRow}
-use Rattle.payroll_records.specs.CsvRows.{csv_rows}
-use Rattle.payroll_records.specs.declared.table.TableFault.{TableFault}
-use Rattle.payroll_records.specs.Limits.{longest_table}
-use Rattle.payroll_records.specs.Tables.{BreaksAt, IsHeader, IsTableFaultOrMemory, Text, AreRecordsOf, IsRecordOf, HasKeyOf, IsFirstFault, WrongValue, key_of, Repeats}
+use Rattle.payroll_records.specs.Tables.{Text, AreRecordsOf, IsRecordOf, HasKeyOf, IsFirstFault, WrongValue, key_of, Repeats}
 use Rattle.payroll_records.specs.TableViews.{BreaksIn, IsRowFault, fault_at}
 use Rattle.payroll_records.proofs.OrderLemmas.{key_total}
 
@@ -120,25 +115,3 @@ module _ {R : Type 0} (rem : R → Option (List ℕ)) (names : List Text) (start
     absent : (b : Bool) → true ≡ not b → b ≡ true → ⊥
     absent true e t = false≢true (sym e)
     absent false e t = false≢true t
-
--- a fault of the rows is one of the table
-at_table : (bytes : List ℕ) (number : ℕ) (Fault : List Text → List Record → List Text → Type 0) (header names : List Text) (rows : List (List Text)) → length bytes ≤ longest_table →
-    csv_rows bytes ≡ header ∷ rows → IsHeader header names → IsFirstFault names rows number Fault → BreaksAt bytes number Fault
-at_table bytes number Fault header names rows short read is first = record { short = short; header = header; names = names; rows = rows; read = read; is_header = is; first = first }
-
-refused : (bytes : List ℕ) (header names : List Text) (rows : List (List Text)) → length bytes ≤ longest_table → csv_rows bytes ≡ header ∷ rows → IsHeader header names →
-    (e : TableFault) → BreaksIn names rows e → IsTableFaultOrMemory bytes e
-refused bytes header names rows short read is whole.TableLong b = absurd b
-refused bytes header names rows short read is whole.Header b = absurd b
-refused bytes header names rows short read is (whole.Width n) b = at_table bytes n _ header names rows short read is b
-refused bytes header names rows short read is (whole.Employee n) b = at_table bytes n _ header names rows short read is b
-refused bytes header names rows short read is (whole.Month n) b = at_table bytes n _ header names rows short read is b
-refused bytes header names rows short read is (whole.Day n) b = at_table bytes n _ header names rows short read is b
-refused bytes header names rows short read is (whole.Value n name) b = at_table bytes n _ header names rows short read is b
-refused bytes header names rows short read is (whole.Repeat n) b = at_table bytes n _ header names rows short read is b
-refused bytes header names rows short read is (whole.Memory e) b = tt
-
-pub table_refused : {A : Type 0} (bytes : List ℕ) (header names : List Text) (rows : List (List Text)) (r : Result A TableFault) (P : A → Type 0) → length bytes ≤ longest_table →
-    csv_rows bytes ≡ header ∷ rows → IsHeader header names → MatchResult r P (BreaksIn names rows) → IfErr r (IsTableFaultOrMemory bytes)
-table_refused bytes header names rows (Ok records) P short read is m = tt
-table_refused bytes header names rows (Err e) P short read is m = refused bytes header names rows short read is e m

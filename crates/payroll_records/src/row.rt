@@ -8,6 +8,7 @@ ghost use Rattle.payroll_records.specs.NamedValues.{AreValues};
 ghost use Rattle.payroll_records.specs.Tables.{IsNumberText, IsReadable, IsRecordOf, Supplies, cell_of};
 ghost use Rattle.payroll_records.specs.CellViews.{filled_cells, is_filled};
 ghost use Rattle.payroll_records.specs.TableViews.{AreColumns, IsFirstBroken, IsRowFault};
+ghost use Rattle.payroll_records.specs.declared.row.RowFault.TheVariants.{Memory};
 ghost use Rattle.payroll_records.specs.declared.values.NamedValue.{NamedValue};
 
 use crate::header::{FIRST_VALUE, Header, field};
@@ -26,6 +27,14 @@ pub(crate) enum RowFault {
     Day,
     Value { name: Name },
     Memory(AllocError),
+}
+
+impl From<AllocError> for RowFault {
+    ghost from_gives = { λ error fault. fault ≡ Memory error };
+
+    fn from(error: AllocError) -> RowFault {
+        RowFault::Memory(error)
+    }
 }
 
 /// The record of a row, or its first fault. `before` is the record of the row before, if there is one.
@@ -60,14 +69,12 @@ pub(crate) fn read_row(
             name: header.names[place],
         });
     }
-    match values_of(alloc, header, row, before) {
-        Ok(values) => Ok(Record {
-            employee,
-            day,
-            values,
-        }),
-        Err(error) => Err(RowFault::Memory(error)),
-    }
+    let values = values_of(alloc, header, row, before)?;
+    Ok(Record {
+        employee,
+        day,
+        values,
+    })
 }
 
 /// The place of the leftmost cell of values that neither is empty nor spells a number.

@@ -1,9 +1,10 @@
 //! Tables of pay runs.
-ghost use Rattle.std.specs.Prelude.{◌≡◌, ◌↔◌, ◌<◌, ◌≤◌, ℕ, List, [], IfOk, IfErr, Err, MatchResult, length};
+ghost use Rattle.std.specs.Prelude.{◌≡◌, ◌↔◌, ◌<◌, ◌≤◌, ℕ, List, [], IfOk, IfErr, Err, MatchResult, alloc_error, length};
 ghost use Rattle.payroll_records.specs.Limits.{longest_table, most_values};
 ghost use Rattle.payroll_records.specs.Tables.{AreRecordsOf, HasOneAnswer, IsTableFaultOrMemory, IsTable};
 ghost use Rattle.payroll_records.specs.RowViews.{IsBetweenRows, rows_left};
 ghost use Rattle.payroll_records.specs.TableViews.{AreColumns, BreaksIn, fault_at};
+ghost use Rattle.payroll_records.specs.declared.table.TableFault.TheVariants.{Memory};
 
 use crate::header::{Header, read_header};
 use crate::row::{RowFault, read_row};
@@ -11,7 +12,7 @@ use crate::rows::{next_row, row_reader};
 use crate::{LONGEST_TABLE, Record};
 use csv::{ByteRecord, Reader};
 use pap_tree::Name;
-use std::alloc::{AllocError, Global};
+use std::alloc::{AllocError, AllocFailed, Global};
 use std::collections::BTreeSet;
 use std::io::Read;
 use thiserror::Error;
@@ -27,16 +28,32 @@ pub enum TableFault {
     Width { row: u64 },
     #[error("row {row}: the employee is not 1 to 32 letters, digits, `_`, `-` and `.`")]
     Employee { row: u64 },
-    #[error("row {row}: the month is not of the form YYYY-MM")]
+    #[error("row {row}: the month is not of the form YYYY-MM, or not of the years 1900 to 2999")]
     Month { row: u64 },
-    #[error("row {row}: the day is not of the form YYYY-MM-DD, not in the calendar or not in the month")]
+    #[error("row {row}: the day is not of the form YYYY-MM-DD, not in the calendar, not of the years 1900 to 2999 or not in the month")]
     Day { row: u64 },
-    #[error("row {row}: the value of {name} is no number")]
+    #[error("row {row}: the value of {name} is no number of at most 30 decimal places and at most 10^37 without its point")]
     Value { row: u64, name: Name },
     #[error("row {row}: an earlier row has the same employee and day")]
     Repeat { row: u64 },
     #[error("out of memory")]
     Memory(AllocError),
+}
+
+impl From<AllocError> for TableFault {
+    ghost from_gives = { λ error fault. fault ≡ Memory error };
+
+    fn from(error: AllocError) -> TableFault {
+        TableFault::Memory(error)
+    }
+}
+
+impl<T: Drop> From<AllocFailed<T>> for TableFault {
+    ghost from_gives = { λ failed fault. fault ≡ Memory alloc_error };
+
+    fn from(_failed: AllocFailed<T>) -> TableFault {
+        TableFault::Memory(AllocError)
+    }
 }
 
 /// The pay runs of a table: the records of a CSV text, one for each row after the header, in order. A table is refused by
@@ -52,17 +69,11 @@ pub fn read_table(alloc: Global, bytes: &[u8]) -> Result<Vec<Record>, TableFault
     }
     let mut reader = row_reader(alloc, bytes);
     let mut row = ByteRecord::new(alloc);
-    let Ok(found) = next_row(&mut reader, &mut row) else {
-        return Err(TableFault::Memory(AllocError));
-    };
-    if !found {
+    if !next_row(&mut reader, &mut row)? {
         return Err(TableFault::Header);
     }
-    match read_header(alloc, &row) {
-        Ok(Some(header)) => read_records(alloc, &header, &mut reader),
-        Ok(None) => Err(TableFault::Header),
-        Err(error) => Err(TableFault::Memory(error)),
-    }
+    let header = read_header(alloc, &row)?.ok_or(TableFault::Header)?;
+    read_records(alloc, &header, &mut reader)
 }
 
 /// A text has one answer: its records or why it is refused, and not both.
@@ -87,10 +98,7 @@ fn read_records<R: Read>(
     let mut keys = BTreeSet::new(alloc);
     let mut row = ByteRecord::new(alloc);
     'rows: loop {
-        let Ok(found) = next_row(reader, &mut row) else {
-            return Err(TableFault::Memory(AllocError));
-        };
-        if !found {
+        if !next_row(reader, &mut row)? {
             return Ok(records);
         }
         let number = records.len() as u64 + 1;
@@ -98,15 +106,10 @@ fn read_records<R: Read>(
             Ok(record) => record,
             Err(fault) => return Err(fault_at(fault, number)),
         };
-        let Ok(new) = keys.insert(record.key()) else {
-            return Err(TableFault::Memory(AllocError));
-        };
-        if !new {
+        if !keys.insert(record.key())? {
             return Err(TableFault::Repeat { row: number });
         }
-        if records.push(record).is_err() {
-            return Err(TableFault::Memory(AllocError));
-        }
+        records.push(record)?;
     }
 }
 
