@@ -1,13 +1,13 @@
 //! The calendar of plans.
 ghost use Rattle.std.specs.Prelude.{◌≡◌, ◌↔◌, [], length, IfOk, IfErr, OnOk, OnErr, Err, IsNone, IsTrue, option_map};
-ghost use Rattle.rising_lists.specs.Places.{Finds, Misses};
+ghost use Rattle.rising_lists.specs.Places.{Finds, IsAt, IsGap, Misses};
 ghost use Rattle.payroll_records.specs.Orders.{day_cmp};
 ghost use Rattle.plan_calendar.specs.Limits.{most_plans};
 ghost use Rattle.plan_calendar.specs.Picking.{AreEntries, day_of, plan_of, entry_at, with_entry, without_day};
-ghost use Rattle.plan_calendar.specs.Picking.{pick, pick_before, serves, serves_before};
+ghost use Rattle.plan_calendar.specs.Picking.{pick, pick_before};
 ghost use Rattle.plan_calendar.specs.Edits.{EditsMovePicks, PicksLatest};
 ghost use Rattle.plan_calendar.specs.Refusals.{refused_plan};
-ghost use Rattle.plan_calendar.specs.Views.{picked_entry};
+ghost use Rattle.plan_calendar.specs.Views.{last_of_year, picked_entry};
 
 use payroll_records::Day;
 use std::alloc::Global;
@@ -136,46 +136,46 @@ impl<P> Calendar<P> {
 /// Where the entry of a day stands, or would go.
 fn place<P>(entries: &[(Day, P)], day: Day) -> Result<usize, usize>
     requires { AreEntries entries.now }
+    ensures at { IfOk result (IsAt day_cmp day_of entries.now day) }
     ensures found { IfOk result (Finds day_cmp day_of entries.now day) }
+    ensures gap { IfErr result (IsGap day_cmp day_of entries.now day) }
     ensures absent { IfErr result (Misses day_cmp day_of entries.now day) }
 {
     entries.binary_search_by_key(&day, |e| e.0)
 }
 
 fn pick<P>(entries: &[(Day, P)], day: Day) -> Option<(Day, &P)>
+    requires { AreEntries entries.now }
     ensures { option_map picked_entry result ≡ pick entries.now day }
 {
-    let mut best = None;
-    for entry in entries {
-        if serves(entry.0, day) {
-            best = Some((entry.0, &entry.1));
-        }
-    }
-    best
+    let end = match place(entries, day) {
+        Ok(at) => at + 1,
+        Err(at) => at,
+    };
+    last_of_year(&entries[..end], day.year)
 }
 
 fn pick_before<P>(entries: &[(Day, P)], day: Day) -> Option<(Day, &P)>
+    requires { AreEntries entries.now }
     ensures { option_map picked_entry result ≡ pick_before entries.now day }
 {
-    let mut best = None;
-    for entry in entries {
-        if serves_before(entry.0, day) {
-            best = Some((entry.0, &entry.1));
-        }
+    let end = match place(entries, day) {
+        Ok(at) => at,
+        Err(at) => at,
+    };
+    last_of_year(&entries[..end], day.year)
+}
+
+/// The last entry, where its day is of this year.
+fn last_of_year<P>(entries: &[(Day, P)], year: u16) -> Option<(Day, &P)>
+    ensures { option_map picked_entry result ≡ last_of_year entries.now year }
+{
+    let (from, plan) = entries.last()?;
+    if from.year == year {
+        Some((*from, plan))
+    } else {
+        None
     }
-    best
-}
-
-fn serves(entry: Day, day: Day) -> bool
-    ensures { result ≡ serves entry day }
-{
-    entry.year == day.year && entry <= day
-}
-
-fn serves_before(entry: Day, day: Day) -> bool
-    ensures { result ≡ serves_before entry day }
-{
-    entry.year == day.year && entry < day
 }
 
 /// What an edit of a calendar does to the plan of each day.

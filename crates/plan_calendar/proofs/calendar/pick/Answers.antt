@@ -1,15 +1,12 @@
-use Rattle.std.proofs.Common.{arith}
-use Rattle.plan_calendar.specs.Picking.{Entry, day_of, serves}
-use Rattle.plan_calendar.proofs.LastLemmas.{last_more}
+use Rattle.plan_calendar.proofs.LastLemmas.{pick_at, pick_gap}
 use Rattle.plan_calendar.proofs.calendar.pick.Goals as goal
-use Rattle.plan_calendar.proofs.calendar.pick.Goals.{then-serves, else-serves}
+use Rattle.plan_calendar.proofs.calendar.pick.Goals.{in-Ok, in-Err}
 
-pub loop-entry-preserved : goal.loop-entry-preserved
-loop-entry-preserved g c =
-    let xs = c.args.entries.now in
-    let i = c.loop-entry.entry-index in
-    let more = last_more (λ (e : Entry g.row.P.Denot). serves (day_of e) c.args.day) xs i c.entry-item.result (omega arith) in
-    elim c.if-serves.branch [
-      | then-serves w ↦ rw (w.best-is, more, ← c.entry-item.is, ← c.serves.ensures, w.if-serves.true)
-      | else-serves w ↦ rw (w.best-is, more, ← c.entry-item.is, ← c.serves.ensures, w.if-serves.false) c.loop-entry.invariant
+pub returns : goal.returns
+returns g c =
+    elim c.match-place.branch [
+      | in-Ok w ↦ rw (c.last_of_year.ensures, w.end-is)
+          (pick_at c.args.entries.now c.args.day w.in-Ok.at c.requires.rising w.in-Ok.ensures.at)
+      | in-Err w ↦ rw (c.last_of_year.ensures, w.end-is)
+          (pick_gap c.args.entries.now c.args.day w.in-Err.at c.requires.rising w.in-Err.ensures.gap)
     ]

@@ -1,15 +1,12 @@
-use Rattle.std.proofs.Common.{arith}
-use Rattle.plan_calendar.specs.Picking.{Entry, day_of, serves_before}
-use Rattle.plan_calendar.proofs.LastLemmas.{last_more}
+use Rattle.plan_calendar.proofs.LastLemmas.{pick_before_at, pick_before_gap}
 use Rattle.plan_calendar.proofs.calendar.pick_before.Goals as goal
-use Rattle.plan_calendar.proofs.calendar.pick_before.Goals.{then-serves_before, else-serves_before}
+use Rattle.plan_calendar.proofs.calendar.pick_before.Goals.{in-Ok, in-Err}
 
-pub loop-entry-preserved : goal.loop-entry-preserved
-loop-entry-preserved g c =
-    let xs = c.args.entries.now in
-    let i = c.loop-entry.entry-index in
-    let more = last_more (λ (e : Entry g.row.P.Denot). serves_before (day_of e) c.args.day) xs i c.entry-item.result (omega arith) in
-    elim c.if-serves_before.branch [
-      | then-serves_before w ↦ rw (w.best-is, more, ← c.entry-item.is, ← c.serves_before.ensures, w.if-serves_before.true)
-      | else-serves_before w ↦ rw (w.best-is, more, ← c.entry-item.is, ← c.serves_before.ensures, w.if-serves_before.false) c.loop-entry.invariant
+pub returns : goal.returns
+returns g c =
+    elim c.match-place.branch [
+      | in-Ok w ↦ rw (c.last_of_year.ensures, w.end-is)
+          (pick_before_at c.args.entries.now c.args.day w.in-Ok.at c.requires.rising w.in-Ok.ensures.at)
+      | in-Err w ↦ rw (c.last_of_year.ensures, w.end-is)
+          (pick_before_gap c.args.entries.now c.args.day w.in-Err.at c.requires.rising w.in-Err.ensures.gap)
     ]
