@@ -135,6 +135,11 @@ module _ (words before after : List Text) (word : Text) (sorted : List NamedValu
 texts_taken : (words : List (Bor Text)) (i : ℕ) → i < length words → length (texts (take i words)) ≡ i
 texts_taken words i l = length-map (take i words) (λ (x : Bor Text). x.now) ∙ length-take-le i words (omega (arith, l))
 
+-- there is room for the value of the word at a place
+pub not_full_at : (words : List (Bor Text)) (i : ℕ) (sorted : List NamedValue) → i < length words →
+    AreSoFar (texts (take i words)) sorted → length words ≤ 256 → length sorted ≢ 256
+not_full_at words i sorted within h few full = omega (arith, h.count, texts_taken words i within, few, full)
+
 module _ (words : List (Bor Text)) (i : ℕ) (d : Bor Text) (sorted : List NamedValue) (within : i < length words) (h : AreSoFar (texts (take i words)) sorted) where
   word_at : Bor Text
   word_at = get_or words i d

@@ -17,9 +17,9 @@ pub enum LineFault {
     Employee,
     #[error("the month is not of the form YYYY-MM, or not of the years 1900 to 2999")]
     Month,
-    #[error("the day is not of the form YYYY-MM-DD, not in the calendar or not in the month")]
+    #[error("the day is not of the form YYYY-MM-DD, not in the calendar, not of the years 1900 to 2999 or not in the month; withdraw and trace also take a month, as 2025-01")]
     Day,
-    #[error("word {word} is not of the form NAME=VALUE with a name and a number")]
+    #[error("word {word} is not of the form NAME=VALUE with a name and a number of at most 30 decimal places and at most 10^37 without its point")]
     Value { word: u32 },
     #[error("an earlier word gives {name} a value already")]
     Twice { name: Name },

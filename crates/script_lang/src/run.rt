@@ -105,8 +105,8 @@ fn read_values(alloc: Global, words: &[&[u8]]) -> Result<Values, LineFault>
         match values.insert(value) {
             Ok(()) => number += 1,
             Err(InsertFault::Twice) => return Err(LineFault::Twice { name }),
-            // Never comes: there are no more words than values.
-            Err(InsertFault::Full) => return Err(LineFault::Words),
+            // There are no more words than a run may have values.
+            Err(InsertFault::Full) => unreachable!(),
             Err(InsertFault::Memory(error)) => return Err(LineFault::Memory(error)),
         }
     }

@@ -1,6 +1,6 @@
 use Rattle.std.proofs.Common.{◌∙◌, ap, arith, length}
 use Rattle.std.specs.Prelude.{Err}
-use Rattle.script_lang.proofs.ValueLemmas.{no_value_at, name_again_at, value_at_place}
+use Rattle.script_lang.proofs.ValueLemmas.{no_value_at, name_again_at, not_full_at, value_at_place}
 use Rattle.script_lang.proofs.run.read_values.Goals as goal
 
 pub returns-in_default-clause-err : goal.returns-in_default-clause-err
@@ -23,3 +23,9 @@ loop-word-preserved c =
           (λ some. cc (c.in-Ok.ensures.twice.1 some)) (λ full. cc (c.in-Ok.ensures.full.1 full)) (omega (arith, ap length c.values.view_is, c.values.invariant.are.few));
       counted = omega (arith, l.invariant.counted);
     }
+
+pub unreachable-requires : goal.unreachable-requires
+unreachable-requires c =
+    let l = c.loop-word in
+    let full = c.insert.ensures.full.0 (c.in-Err-Full.is ∙ ap (λ f. Err f) c.in-Err-Full.field-0-is) in
+    not_full_at c.args.words.now l.word-index l.values c.loop-word-test.true l.invariant.read c.requires full.1
