@@ -45,7 +45,7 @@ impl Model for Ledger {
 pub enum FileRefusal {
     #[error("the month is not after {last}, the last filed one")]
     Early { last: Month },
-    #[error("a run up to the month is not ok")]
+    #[error("the run of {} on {} is not ok; `report` says why", key.employee, key.day)]
     Open { key: Key },
     #[error("there would be more than 2000000 entries")]
     Entries,
@@ -69,7 +69,7 @@ impl From<AllocError> for FileRefusal {
 pub enum OwedRefusal {
     #[error("no month was filed")]
     NothingFiled,
-    #[error("a run up to the last filed month is not ok")]
+    #[error("the run of {} on {} is not ok; `report` says why", key.employee, key.day)]
     Open { key: Key },
     #[error("out of memory")]
     Memory(AllocError),

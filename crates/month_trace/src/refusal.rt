@@ -15,7 +15,7 @@ pub enum TraceRefusal {
     #[error("{employee} has several runs in {month}")]
     Several { employee: Employee, month: Month },
     /// The run has no plan, or no inputs.
-    #[error("the run of {} on {} has not run", key.employee, key.day)]
+    #[error("the run of {} on {} is not ok, so it has no trace; `report` says why", key.employee, key.day)]
     NotDone { key: Key },
     #[error("out of memory")]
     Memory(AllocError),
