@@ -3,6 +3,7 @@ mod FullLemmas
 pub mod Laws
 mod NamedLemmas
 mod OrderLemmas
+mod PairLemmas
 mod RisingLemmas
 mod SideLemmas
 mod StateLemmas

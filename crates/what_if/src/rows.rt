@@ -50,11 +50,7 @@ fn push_runs(
         ++ changes (kept_rows records.now before.now) (kept_rows records.now after.now)) }
 {
     for (at, record) in records.iter().enumerate() {
-        let key = Key {
-            employee: record.employee,
-            day: record.day,
-        };
-        push_run(rows, &key, &before[at].state, &after[at].state)?;
+        push_run(rows, &record.key(), &before[at].state, &after[at].state)?;
     }
     Ok(())
 }

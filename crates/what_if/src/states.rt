@@ -39,19 +39,7 @@ fn same_cause(a: &Blocked, b: &Blocked) -> bool
 fn same_outputs(a: &[NamedValue], b: &[NamedValue]) -> bool
     ensures { result ≡ pointwise same_output a.now b.now }
 {
-    let mut left = a;
-    let mut right = b;
-    while let Some((first, rest)) = left.split_first() {
-        let Some((second, more)) = right.split_first() else {
-            return false;
-        };
-        if !same_output(first, second) {
-            return false;
-        }
-        left = rest;
-        right = more;
-    }
-    right.is_empty()
+    a.len() == b.len() && a.iter().zip(b).all(|(v, w)| same_output(v, w))
 }
 
 /// Whether two outputs have the same name, number and scale.

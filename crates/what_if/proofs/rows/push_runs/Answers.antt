@@ -18,7 +18,8 @@ loop-at-preserved c =
     let front = changes (kept_rows (take i rs) (take i bs)) (kept_rows (take i rs) (take i ns)) in
     let same : run_changes (key_of r) (get_or bs i b).state (get_or ns i a).state ≡ run_changes (key_of r) b.state
     a.state = λ j. run_changes (key_of r) (sym c.index-before-at.is j).state (sym c.index-after-at.is j).state in
-    c.in_ok-push_run.ensures ∙ ap₂ (λ s t. s ++ t) c.loop-at.invariant same
+    let done = rw c.key.ensures at c.in_ok-push_run.ensures in
+    done ∙ ap₂ (λ s t. s ++ t) c.loop-at.invariant same
     ∙ append_assoc began front (run_changes (key_of r) b.state a.state)
     ∙ ap (λ t. began ++ t)
     (sym (runs_more rs bs ns i r b a c.requires.before.paired c.requires.after.paired c.loop-at-test.true
