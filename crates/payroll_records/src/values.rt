@@ -14,7 +14,7 @@ use std::marker::Model;
 use thiserror::Error;
 
 /// A value under a name: an input of a run, or an output.
-#[derive(Clone, Copy, Debug, PartialEq, Eq)]
+#[derive(Clone, Copy, Debug)]
 pub struct NamedValue {
     pub name: Name,
     pub value: Dec,
