@@ -63,20 +63,21 @@ with_runs k [] years = without year_cmp runs_key k years
 with_runs k (r ∷ rs) years = put year_cmp runs_key (record { key = k; runs = r ∷ rs }) years
 
 -- the years with one of them edited
-abbrev pub edited : YearKey → (List Record → List Record) → List YearRuns → List YearRuns
-edited k edit years = with_runs k (edit (runs_of years k)) years
+abbrev pub with_edited_year : YearKey → (List Record → List Record) → List YearRuns → List YearRuns
+with_edited_year k edit years = with_runs k (edit (runs_of years k)) years
 
 -- a run put at its day
 abbrev pub added : Record → List YearRuns → List YearRuns
-added r years = edited (year_of (key_of r)) (put_run r) years
+added r years = with_edited_year (year_of (key_of r)) (put_run r) years
 
 -- a run put in place of that of a day of its year
 abbrev pub changed : Day → Record → List YearRuns → List YearRuns
-changed from r years = edited (year_of (key_of r)) (λ rs. put_run r (without_run from rs)) years
+changed from r years = with_edited_year (year_of (key_of r))
+    (λ rs. put_run r (without_run from rs)) years
 
 -- a run taken away
 abbrev pub withdrawn : Key → List YearRuns → List YearRuns
-withdrawn k years = edited (year_of k) (without_run k.day) years
+withdrawn k years = with_edited_year (year_of k) (without_run k.day) years
 
 -- several runs put, one after another
 abbrev pub loaded : List Record → List YearRuns → List YearRuns

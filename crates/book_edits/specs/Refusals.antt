@@ -18,13 +18,13 @@ pub record CanAdd (years : List YearRuns) (r : Record) : Type 0 where
   pub room : run_count years + 1 ≤ most_records
 
 -- no run stands at the record's key, and with it there would be too many
-pub record IsFull (years : List YearRuns) (r : Record) : Type 0 where
+pub record HasMostRecords (years : List YearRuns) (r : Record) : Type 0 where
   pub free : IsNone (run_at years (key_of r))
   pub full : most_records < run_count years + 1
 
 abbrev pub IsAddRefused : List YearRuns → Record → EditRefusal → Type 0
 IsAddRefused years r (refusal.Present k) = (k ≡ key_of r) × IsSome (run_at years k)
-IsAddRefused years r refusal.Records = IsFull years r
+IsAddRefused years r refusal.Records = HasMostRecords years r
 IsAddRefused years r (refusal.Memory e) = CanAdd years r
 IsAddRefused years r _ = ⊥
 

@@ -33,13 +33,13 @@ pub record IsReplan
 -- ---- refusals
 
 -- no plan has that day, and with one more there would be too many
-pub record IsFull (plans : List (Entry Accepted)) (day : Day) : Type 0 where
+pub record HasMostPlans (plans : List (Entry Accepted)) (day : Day) : Type 0 where
   pub free : IsNone (entry_at plans day)
   pub full : most_plans < length plans + 1
 
 abbrev pub IsPutRefused : List (Entry Accepted) → Day → EditRefusal → Type 0
-IsPutRefused plans day refusal.Plans = IsFull plans day
-IsPutRefused plans day (refusal.Memory e) = IsFull plans day → ⊥
+IsPutRefused plans day refusal.Plans = HasMostPlans plans day
+IsPutRefused plans day (refusal.Memory e) = HasMostPlans plans day → ⊥
 IsPutRefused plans day _ = ⊥
 
 abbrev pub IsDropRefused : List (Entry Accepted) → Day → EditRefusal → Type 0

@@ -5,7 +5,7 @@ ghost use Rattle.book_year.specs.Accepted.{accepted, plans_in};
 ghost use Rattle.book_year.specs.Jobs.{Counts};
 ghost use Rattle.book_edits.specs.Kept.{AreSameYears, AreYears};
 ghost use Rattle.book_edits.specs.Refusals.{CountsEdit};
-ghost use Rattle.book_edits.specs.Replans.{IsDropRefused, IsFull, IsPutRefused, IsReplan, replan_cost};
+ghost use Rattle.book_edits.specs.Replans.{IsDropRefused, HasMostPlans, IsPutRefused, IsReplan, replan_cost};
 ghost use Rattle.book_edits.specs.RedoneClauses.{AreRedoneFor};
 
 use crate::redone::{Redone, put_in, redo_years};
@@ -33,7 +33,7 @@ pub fn put_plan<L: Ledger>(
     ensures ok { IfOk result
         (IsReplan (plans_in plans.old) years.old (plans_in plans.new) years.new
         (with_entry (day, accepted plan) (plans_in plans.old))) }
-    ensures can { IfOk result (λ _. IsFull (plans_in plans.old) day → ⊥) }
+    ensures can { IfOk result (λ _. HasMostPlans (plans_in plans.old) day → ⊥) }
     ensures plans_stay { OnErr result (plans.new ≡ plans.old) }
     ensures years_stay { OnErr result (AreSameYears (plans_in plans.old) years.old years.new) }
     ensures refused { IfErr result (IsPutRefused (plans_in plans.old) day) }
@@ -124,7 +124,7 @@ fn redone_without<L: Ledger>(
 /// Whether there are 64 plans, and none of a day.
 pub fn is_full(entries: &[(Day, Plan)], day: Day) -> bool
     requires { AreEntries entries.now }
-    ensures { IsTrue result ↔ IsFull (plans_in entries.now) day }
+    ensures { IsTrue result ↔ HasMostPlans (plans_in entries.now) day }
 {
     entries.len() == MOST_PLANS && !has_plan(entries, day)
 }

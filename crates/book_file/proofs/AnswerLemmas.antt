@@ -9,12 +9,12 @@ use Rattle.saved_items.specs.Texts.{Stop, TextSays}
 use Rattle.saved_items.proofs.Laws.{text_once, text_some}
 use Rattle.recalc_engine.specs.Contents.{Contents}
 use Rattle.book_file.specs.BookLaws.{FrontsTell, TextsSayOneThing, TextsSaySomething}
-use Rattle.book_file.specs.BookSays.{BookSays, BreaksAt, HasRefusedPlan, IsAcceptable, IsFirstRefused, plans_read}
+use Rattle.book_file.specs.BookSays.{BookSays, BreaksAtItem, HasRefusedPlan, IsAcceptable, IsFirstRefused, plans_read}
 use Rattle.book_file.specs.BookTexts.{IsTextOf, saved_of}
 use Rattle.book_file.specs.Limits.{most_book_text}
 use Rattle.book_file.specs.declared.refusal.BookFault.{BookFault}
 use Rattle.book_file.specs.declared.refusal.BookFault.TheVariants as fault
-use Rattle.book_file.specs.Views.{book_with}
+use Rattle.book_file.specs.Views.{book_of_saved}
 use Rattle.book_file.proofs.BookLemmas.{books_same, made_text}
 use Rattle.book_file.proofs.PlanLemmas.{all_acceptable, entries_for, first_refused, never_refused, one_refused}
 
@@ -44,7 +44,7 @@ module _ (bytes : List ℕ) where
       books_same a b h.book_is k.book_is
       (saved_same (saved_of a) (saved_of b) (text_once bytes (Ok (saved_of a)) (Ok (saved_of b)) h.text k.text))
 
-  whole_or_broken : (a : Contents) (item : ℕ) → IsTextOf bytes a → BreaksAt bytes item → ⊥
+  whole_or_broken : (a : Contents) (item : ℕ) → IsTextOf bytes a → BreaksAtItem bytes item → ⊥
   whole_or_broken a item h k = ok_or_err (saved_of a) k.stop (text_once bytes (Ok (saved_of a)) (Err k.stop) h.text k.says)
 
   whole_or_refused : (a : Contents) (day : Day) → IsTextOf bytes a → HasRefusedPlan bytes day → ⊥
@@ -52,12 +52,12 @@ module _ (bytes : List ℕ) where
       never_refused (saved_of a).plans day (all_acceptable a.plans h.book_is.plans)
       (subst (λ t. IsFirstRefused (plans_read t) day) (text_once bytes k.said (Ok (saved_of a)) k.says h.text) k.first)
 
-  broken_or_refused : (item : ℕ) (day : Day) → BreaksAt bytes item → HasRefusedPlan bytes day → ⊥
+  broken_or_refused : (item : ℕ) (day : Day) → BreaksAtItem bytes item → HasRefusedPlan bytes day → ⊥
   broken_or_refused item day h k =
       never_refused h.stop.plans day h.accepted
       (subst (λ t. IsFirstRefused (plans_read t) day) (text_once bytes k.said (Err h.stop) k.says h.says) k.first)
 
-  one_break : (a b : ℕ) → BreaksAt bytes a → BreaksAt bytes b → a ≡ b
+  one_break : (a b : ℕ) → BreaksAtItem bytes a → BreaksAtItem bytes b → a ≡ b
   one_break a b h k =
       h.item_is ∙ ap (λ s. s.item) (stop_same h.stop k.stop (text_once bytes (Err h.stop) (Err k.stop) h.says k.says)) ∙ sym k.item_is
 
@@ -96,7 +96,10 @@ Answer bytes = (said : Result Contents BookFault) × BookSays bytes said
 
 module _ (bytes : List ℕ) (few : length bytes ≤ most_book_text) where
   whole : (s : Saved) → IsText bytes s → AllByRecursion IsAcceptable s.plans ⊎ ((day : Day) × IsFirstRefused s.plans day) → Answer bytes
-  whole s h (inl all) = (let es = entries_for s.plans all in (Ok (book_with s es.0), made_text bytes s es.0 few h es.1))
+  whole s h (inl all) = (let es = entries_for s.plans all in (
+    Ok (book_of_saved s es.0),
+    made_text bytes s es.0 few h es.1,
+  ))
   whole s h (inr (day, f)) = (Err (fault.Plan day), record { few = few; said = Ok s; says = h; first = f })
 
   broken : (s : Stop) → TextSays bytes (Err s) → AllByRecursion IsAcceptable s.plans ⊎ ((day : Day) × IsFirstRefused s.plans day) → Answer bytes
@@ -133,6 +136,6 @@ front_long n bytes more long = by (cases_lt n (length bytes))
 pub fronts : FrontsTell
 fronts n bytes more (Ok book) h = subst (λ t. IsTextOf t book) (front_whole n bytes more h.few) h
 fronts n bytes more (Err fault.Long) h = front_long n bytes more h
-fronts n bytes more (Err (fault.Form item)) h = subst (λ t. BreaksAt t item) (front_whole n bytes more h.few) h
+fronts n bytes more (Err (fault.Form item)) h = subst (λ t. BreaksAtItem t item) (front_whole n bytes more h.few) h
 fronts n bytes more (Err (fault.Plan day)) h = subst (λ t. HasRefusedPlan t day) (front_whole n bytes more h.few) h
 fronts n bytes more (Err (fault.Memory e)) h = absurd h

@@ -15,7 +15,7 @@ use Rattle.recalc_engine.specs.Contents.{Contents, book_of}
 use Rattle.recalc_engine.proofs.Laws.{parts_make}
 use Rattle.book_file.specs.BookTexts.{IsTextOf, saved_of, saved_entry}
 use Rattle.book_file.specs.Limits.{most_book_text}
-use Rattle.book_file.specs.Views.{AreEntriesOf, book_with}
+use Rattle.book_file.specs.Views.{AreEntriesOf, book_of_saved}
 use Rattle.book_file.proofs.PlanLemmas.{entries_same}
 use Rattle.book_file.proofs.RunLemmas.{listed, years_made}
 
@@ -41,7 +41,8 @@ are_entries s es h texts = record {
   few = subst (λ t. t ≤ 64) (sym (ap length texts) ∙ length-map es saved_entry) h.plans.few;
 }
 
-pub made_book : (s : Saved) (es : List (Entry Accepted)) → IsSaved s → AreEntriesOf s.plans es → IsBook (book_with s es)
+pub made_book : (s : Saved) (es : List (Entry Accepted)) → IsSaved s → AreEntriesOf s.plans es →
+    IsBook (book_of_saved s es)
 made_book s es h e =
     let g = years_made s.records h.records.rising in
     record {
@@ -52,7 +53,7 @@ made_book s es h e =
       plans = e.plans;
     }
 
-pub made_saved : (s : Saved) (es : List (Entry Accepted)) → IsSaved s → AreEntriesOf s.plans es → saved_of (book_with s es) ≡ s
+pub made_saved : (s : Saved) (es : List (Entry Accepted)) → IsSaved s → AreEntriesOf s.plans es → saved_of (book_of_saved s es) ≡ s
 made_saved s es h e = λ i. record {
   runs = s.runs;
   steps = s.steps;
@@ -62,7 +63,7 @@ made_saved s es h e = λ i. record {
 
 -- the text of what is saved is the book's
 pub made_text : (bytes : List ℕ) (s : Saved) (es : List (Entry Accepted)) → length bytes ≤ most_book_text → IsText bytes s →
-    AreEntriesOf s.plans es → IsTextOf bytes (book_with s es)
+    AreEntriesOf s.plans es → IsTextOf bytes (book_of_saved s es)
 made_text bytes s es few h e = record {
   few = few;
   book_is = made_book s es h.sound e;

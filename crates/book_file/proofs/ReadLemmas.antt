@@ -27,11 +27,11 @@ use Rattle.recalc_engine.specs.declared.book.RestoredBook.{RestoredBook}
 use Rattle.recalc_engine.specs.BookLaws.{ArePlans, IsPlan}
 use Rattle.recalc_engine.specs.Contents.{Contents, whole_cost}
 use Rattle.recalc_engine.proofs.Laws.{front_below, put_end}
-use Rattle.book_file.specs.BookSays.{BookSays, BreaksAt, IsAcceptable}
+use Rattle.book_file.specs.BookSays.{BookSays, BreaksAtItem, IsAcceptable}
 use Rattle.book_file.specs.BookTexts.{IsTextOf, saved_entry}
-use Rattle.book_file.specs.Clauses.{CountsRead, IsUnread, said_cost}
+use Rattle.book_file.specs.Clauses.{CountsRead, IsBookFaultOrMemory, said_cost}
 use Rattle.book_file.specs.Limits.{most_book_text}
-use Rattle.book_file.specs.Views.{AreEntriesOf, CountsMade, HasNoPlan, IsBookOf, IsNoPlan, IsPartlyMade, IsPlanOf, book_with}
+use Rattle.book_file.specs.Views.{AreEntriesOf, CountsMade, HasNoPlan, IsBookOf, IsNoPlan, IsPartlyMade, IsPlanOf, book_of_saved}
 use Rattle.book_file.specs.declared.refusal.BookFault.{BookFault}
 use Rattle.book_file.specs.declared.refusal.BookFault.TheVariants as fault
 use Rattle.book_file.proofs.AnswerLemmas.{one}
@@ -152,11 +152,11 @@ rose q f before now total was counts = rw was at counts
 pub counts_made : {T E : Type 0} (s : Saved) (es : List (Entry Accepted)) (r : Result RestoredBook BookFault)
     (why : BookFault) (error : AllocError) (q : Result T E) (f : E) (before now : ℕ) → AreEntriesOf s.plans es →
     r ≡ Err why → why ≡ fault.Memory error → q ≡ Err f →
-    Counts q before now (whole_cost (book_with s es)) → CountsMade s r before now
+    Counts q before now (whole_cost (book_of_saved s es)) → CountsMade s r before now
 counts_made s es r why error q f before now are is memory was counts =
-    let within = rose q f before now (whole_cost (book_with s es)) was counts in
+    let within = rose q f before now (whole_cost (book_of_saved s es)) was counts in
     let part : IsPartlyMade s before now = record {
-      book = book_with s es;
+      book = book_of_saved s es;
       of = record { entries = es; are = are; book_is = refl };
       later = within.0;
       most = within.1;
@@ -166,19 +166,20 @@ counts_made s es r why error q f before now are is memory was counts =
 -- ---- what the text says
 
 module _ (bytes : List ℕ) (few : length bytes ≤ most_book_text) where
-  pub unread_whole : (s : Saved) (f : BookFault) → IsText bytes s → HasNoPlan s.plans f → IsUnread bytes f
+  pub unread_whole : (s : Saved) (f : BookFault) → IsText bytes s → HasNoPlan s.plans f → IsBookFaultOrMemory bytes f
   unread_whole s (fault.Plan day) h bad = record { few = few; said = Ok s; says = h; first = bad }
   unread_whole s (fault.Memory e) h bad = few
   unread_whole s fault.Long h bad = absurd bad
   unread_whole s (fault.Form item) h bad = absurd bad
 
-  pub unread_broken : (stop : Stop) (f : BookFault) → StopsAt bytes stop → HasNoPlan stop.plans f → IsUnread bytes f
+  pub unread_broken : (stop : Stop) (f : BookFault) → StopsAt bytes stop → HasNoPlan stop.plans f →
+      IsBookFaultOrMemory bytes f
   unread_broken stop (fault.Plan day) h bad = record { few = few; said = Err stop; says = h; first = bad }
   unread_broken stop (fault.Memory e) h bad = few
   unread_broken stop fault.Long h bad = absurd bad
   unread_broken stop (fault.Form item) h bad = absurd bad
 
-  pub breaks : (stop : Stop) (es : List (Entry Accepted)) → StopsAt bytes stop → AreEntriesOf stop.plans es → BreaksAt bytes stop.item
+  pub breaks : (stop : Stop) (es : List (Entry Accepted)) → StopsAt bytes stop → AreEntriesOf stop.plans es → BreaksAtItem bytes stop.item
   breaks stop es h are = record {
     few = few;
     stop = stop;

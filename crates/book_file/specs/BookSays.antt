@@ -35,7 +35,7 @@ plans_read (Ok saved) = saved.plans
 plans_read (Err stop) = stop.plans
 
 -- the item isn't of its form after the items before it, and the plans among these are accepted
-pub record BreaksAt (bytes : List ℕ) (item : ℕ) : Type 0 where
+pub record BreaksAtItem (bytes : List ℕ) (item : ℕ) : Type 0 where
   pub few : length bytes ≤ most_book_text
   pub stop : Stop
   pub says : TextSays bytes (Err stop)
@@ -54,6 +54,6 @@ pub record HasRefusedPlan (bytes : List ℕ) (day : Day) : Type 0 where
 abbrev pub BookSays : List ℕ → Result Contents BookFault → Type 0
 BookSays bytes (Ok book) = IsTextOf bytes book
 BookSays bytes (Err fault.Long) = most_book_text < length bytes
-BookSays bytes (Err (fault.Form item)) = BreaksAt bytes item
+BookSays bytes (Err (fault.Form item)) = BreaksAtItem bytes item
 BookSays bytes (Err (fault.Plan day)) = HasRefusedPlan bytes day
 BookSays bytes (Err (fault.Memory e)) = ⊥

@@ -8,9 +8,9 @@ use Rattle.book_file.specs.declared.refusal.BookFault.{BookFault}
 use Rattle.book_file.specs.declared.refusal.BookFault.TheVariants as fault
 
 -- the fault is what the text says; want of memory comes whatever it says, unless it is too long
-abbrev pub IsUnread : List ℕ → BookFault → Type 0
-IsUnread bytes (fault.Memory e) = length bytes ≤ most_book_text
-IsUnread bytes why = BookSays bytes (Err why)
+abbrev pub IsBookFaultOrMemory : List ℕ → BookFault → Type 0
+IsBookFaultOrMemory bytes (fault.Memory e) = length bytes ≤ most_book_text
+IsBookFaultOrMemory bytes why = BookSays bytes (Err why)
 
 -- the cost of all jobs of the book, where the text says one
 abbrev pub said_cost : Result Contents BookFault → ℕ

@@ -42,14 +42,14 @@ HasNoPlan ps _ = ⊥
 abbrev pub saved_work : Saved → Work
 saved_work s = record { runs = s.runs; steps = s.steps }
 
-abbrev pub book_with : Saved → List (Entry Accepted) → Contents
-book_with s es = book_of s.records es (saved_work s)
+abbrev pub book_of_saved : Saved → List (Entry Accepted) → Contents
+book_of_saved s es = book_of s.records es (saved_work s)
 
 -- the book is that of what is saved, with its plans accepted
 pub record IsBookOf (s : Saved) (book : Contents) : Type 0 where
   pub entries : List (Entry Accepted)
   pub are : AreEntriesOf s.plans entries
-  pub book_is : book ≡ book_with s entries
+  pub book_is : book ≡ book_of_saved s entries
 
 -- a counter rose by at most the cost of all jobs of that book
 pub record IsPartlyMade (s : Saved) (before now : ℕ) : Type 0 where

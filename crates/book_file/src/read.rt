@@ -6,7 +6,7 @@ ghost use Rattle.recalc_engine.specs.Contents.{whole_work};
 ghost use Rattle.book_file.specs.BookLaws.{FrontsTell, TextsAreOfOneBook};
 ghost use Rattle.book_file.specs.BookLaws.{TextsSayOneThing, TextsSaySomething};
 ghost use Rattle.book_file.specs.BookSays.{BookSays};
-ghost use Rattle.book_file.specs.Clauses.{CountsRead, IsUnread};
+ghost use Rattle.book_file.specs.Clauses.{CountsRead, IsBookFaultOrMemory};
 ghost use Rattle.book_file.specs.Views.{CountsMade, HasNoPlan, IsBookOf};
 
 use crate::plans::accept_plans;
@@ -28,7 +28,7 @@ pub fn read_book<L: Ledger>(
 ) -> Result<RestoredBook, BookFault>
     ensures read { IfOk result (λ restored. BookSays bytes.now (Ok restored.book)) }
     ensures work { IfOk result (λ restored. restored.work ≡ whole_work restored.book) }
-    ensures refused { IfErr result (IsUnread bytes.now) }
+    ensures refused { IfErr result (IsBookFaultOrMemory bytes.now) }
     ensures counted { CountsRead bytes.now result steps.old steps.new }
 {
     if bytes.len() > MOST_BOOK_TEXT {

@@ -28,8 +28,8 @@ use Rattle.book_edits.proofs.Laws.{IsQuiet, all_put, jobs_quiet, put_some, runs_
 use Rattle.book_loads.specs.declared.drafts.Computed.{Computed}
 use Rattle.book_loads.specs.declared.drafts.Draft.{Draft}
 use Rattle.book_loads.specs.declared.groups.Group.{Group}
-use Rattle.book_loads.specs.Groups.{IsGroup, group_year, group_years, put_runs, with_years}
-use Rattle.book_loads.specs.Drafts.{AreDrafted, HasRoom, IsComputedGroup, IsDraft, IsRoomy, draft_year, group_cost, group_jobs, groups_cost, groups_jobs}
+use Rattle.book_loads.specs.Groups.{IsGroup, group_year, group_years, put_runs, put_years}
+use Rattle.book_loads.specs.Drafts.{AreDrafted, HasRoom, IsComputedGroup, IsYearDraft, IsRoomy, draft_year, group_cost, group_jobs, groups_cost, groups_jobs}
 use Rattle.book_loads.proofs.GroupLemmas.{all_more}
 use Rattle.book_loads.proofs.OrderLemmas.{put_year}
 use Rattle.book_loads.proofs.RecordLemmas.{all_puts, rising_puts}
@@ -124,22 +124,22 @@ module _ (planned : Planned) (old : List YearRuns) where
   quiet_all k [] all = tt
   quiet_all k (x ∷ xs) all = (inr all.0, quiet_all k xs all.1)
 
-  quiet_puts : (k : YearKey) (ds xs : List YearRuns) → AreAbove year_cmp runs_key k ds → AllByRecursion (IsQuiet planned old) xs → AllByRecursion (IsQuietTo k) (with_years ds xs)
+  quiet_puts : (k : YearKey) (ds xs : List YearRuns) → AreAbove year_cmp runs_key k ds → AllByRecursion (IsQuiet planned old) xs → AllByRecursion (IsQuietTo k) (put_years ds xs)
   quiet_puts k [] xs above all = quiet_all k xs all
-  quiet_puts k (d ∷ ds) xs above all = all_put year_cmp runs_key (IsQuietTo k) d (with_years ds xs) (inl above.0) (quiet_puts k ds xs above.1 all)
+  quiet_puts k (d ∷ ds) xs above all = all_put year_cmp runs_key (IsQuietTo k) d (put_years ds xs) (inl above.0) (quiet_puts k ds xs above.1 all)
 
   -- where the keys of the years that are put rise, the new jobs are those of these years
-  pub jobs_puts : (ds xs : List YearRuns) → IsRising year_cmp runs_key ds → AllByRecursion (IsQuiet planned old) xs → jobs_in planned planned old (with_years ds xs) ≡ jobs_in planned planned old ds
+  pub jobs_puts : (ds xs : List YearRuns) → IsRising year_cmp runs_key ds → AllByRecursion (IsQuiet planned old) xs → jobs_in planned planned old (put_years ds xs) ≡ jobs_in planned planned old ds
   jobs_puts [] xs rising all = jobs_quiet planned old xs all
   jobs_puts (d ∷ ds) xs rising all =
-      jobs_first d (with_years ds xs) (quiet_puts d.key ds xs rising.0 all) ∙ ap (λ t. jobs_of_year d ++ t) (jobs_puts ds xs rising.1 all)
+      jobs_first d (put_years ds xs) (quiet_puts d.key ds xs rising.0 all) ∙ ap (λ t. jobs_of_year d ++ t) (jobs_puts ds xs rising.1 all)
 
 -- ---- one group after another
 
 -- the drafts of the groups that came, where these are left
 pub record AreDraftedSoFar (plans : List (Entry Accepted)) (old : List YearRuns) (groups rest : List Group) (drafts : List Draft) (runs taken began now : ℕ) : Type 0 where
   pub years : map (draft_year old) drafts ++ group_years old rest ≡ group_years old groups
-  pub each : AllByRecursion (IsDraft plans old) drafts
+  pub each : AllByRecursion (IsYearDraft plans old) drafts
   pub rooms : AllByRecursion (IsRoomy old) drafts
   pub left : AllByRecursion IsGroup rest
   pub number : runs + length (groups_jobs plans old rest) ≡ length (groups_jobs plans old groups)
@@ -164,7 +164,7 @@ module _ (plans : List (Entry Accepted)) (old : List YearRuns) where
       AreDraftedSoFar plans old groups rest (drafts ++ d ∷ []) (runs + c.work.runs) (taken + c.work.steps) began after
   one_drafted groups g rest drafts runs taken began now after c d h is key items room outcomes counted =
       let year : draft_year old d ≡ group_year old g = λ i. record { key = key i; runs = put_runs (items i).items (runs_of old (key i)) } in
-      let draft : IsDraft plans old d = record {
+      let draft : IsYearDraft plans old d = record {
         kept = subst (λ t. AreKept (pick plans) t.runs d.outcomes.items) (sym year) (subst (λ t. AreKept (pick plans) (group_year old g).runs t.items) (sym outcomes) is.kept);
         own = subst (λ t. AllByRecursion (IsOwn t.key) t.runs) (sym year) is.own;
         some = subst (λ t. 0 < length t.runs) (sym year) is.some;
@@ -175,7 +175,7 @@ module _ (plans : List (Entry Accepted)) (old : List YearRuns) where
       let long = length_push drafts d in
       record {
         years = ap (λ t. t ++ group_years old rest) (map-append (draft_year old) drafts (d ∷ [])) ∙ append_assoc (map (draft_year old) drafts) (draft_year old d ∷ []) (group_years old rest) ∙ ap (λ t. map (draft_year old) drafts ++ t ∷ group_years old rest) year ∙ h.years;
-        each = all_more (IsDraft plans old) drafts d h.each draft;
+        each = all_more (IsYearDraft plans old) drafts d h.each draft;
         rooms = all_more (IsRoomy old) drafts d h.rooms roomy;
         left = h.left.1;
         number = omega (arith, number, split_number g rest, h.number);

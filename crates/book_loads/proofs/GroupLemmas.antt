@@ -17,7 +17,7 @@ use Rattle.book_year.specs.Years.{IsOwn}
 use Rattle.book_edits.specs.Books.{YearRuns, added, loaded, runs_key, runs_of, runs_or_none, year_cmp}
 use Rattle.book_edits.proofs.Laws.{all_put, at_key_map, at_key_tied, map_put, year_total, year_same}
 use Rattle.book_loads.specs.declared.groups.Group.{Group}
-use Rattle.book_loads.specs.Groups.{AreGroups, IsGroup, IsPutGroup, group_key, group_year, group_years, items_of, items_or_none, put_runs, with_years}
+use Rattle.book_loads.specs.Groups.{AreGroups, IsGroup, IsPutGroup, group_key, group_year, group_years, items_of, items_or_none, put_runs, put_years}
 use Rattle.book_loads.proofs.OrderLemmas.{added_is, put_year, year_at, year_holding}
 use Rattle.book_loads.proofs.PutLemmas.{at_key_puts, first_of, puts_put}
 
@@ -47,7 +47,7 @@ found_runs : (before : List Group) (old : List YearRuns) (k : YearKey) (o : Opti
 found_runs before old k None e = refl
 found_runs before old k (Some g) e = ap (λ t. put_runs g.items.items (runs_of old t)) (year_same g.key k (at_key_tied year_cmp group_key before k g e))
 
-group_runs : (before : List Group) (old : List YearRuns) (k : YearKey) → runs_of (with_years (group_years old before) old) k ≡ put_runs (items_of before k) (runs_of old k)
+group_runs : (before : List Group) (old : List YearRuns) (k : YearKey) → runs_of (put_years (group_years old before) old) k ≡ put_runs (items_of before k) (runs_of old k)
 group_runs before old k =
     ap runs_or_none (at_key_puts year_cmp year_total runs_key (group_years old before) old k)
     ∙ ap (λ o. runs_or_none (first_of o (at_key year_cmp runs_key old k))) (at_key_map year_cmp runs_key (group_year old) before k)
@@ -66,14 +66,14 @@ own_found before k (Some g) e each =
     subst (λ t. AllByRecursion (IsOwn t) g.items.items) (year_same g.key k (at_key_tied year_cmp group_key before k g e)) (found_all IsGroup before k g e each).own
 
 -- to put the group's year is to put the run
-groups_put : (done : List Record) (r : Record) (before after : List Group) → AreGroups done before → IsPutGroup r before after → (old : List YearRuns) → with_years (group_years old after) old ≡ loaded (done ++ r ∷ []) old
+groups_put : (done : List Record) (r : Record) (before after : List Group) → AreGroups done before → IsPutGroup r before after → (old : List YearRuns) → put_years (group_years old after) old ≡ loaded (done ++ r ∷ []) old
 groups_put done r before after h p old =
     let k = year_at r in
-    let all = with_years (group_years old before) old in
+    let all = put_years (group_years old before) old in
     let runs : put_runs p.group.items.items (runs_of old p.group.key) ≡ put_run r (runs_of all k) =
     (λ i. put_runs (p.items i) (runs_of old (p.key i))) ∙ put_runs_more (items_of before k) r (runs_of old k) ∙ ap (put_run r) (sym (group_runs before old k)) in
-    ap (λ gs. with_years (group_years old gs) old) p.are
-    ∙ ap (λ l. with_years l old) (map_put year_cmp runs_key (group_year old) p.group before)
+    ap (λ gs. put_years (group_years old gs) old) p.are
+    ∙ ap (λ l. put_years l old) (map_put year_cmp runs_key (group_year old) p.group before)
     ∙ puts_put year_cmp year_total runs_key (group_year old p.group) (group_years old before) old
     ∙ (λ i. put_year (year_holding (p.key i) (runs i)) all)
     ∙ sym (added_is r all)

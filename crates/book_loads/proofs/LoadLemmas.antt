@@ -26,7 +26,7 @@ use Rattle.book_edits.proofs.Laws.{kept_in_order, map_rising, quiet_years, risin
 use Rattle.book_loads.specs.Loads.{AreDistinct, CanLoad, IsFree, IsLoadRefused}
 use Rattle.book_loads.specs.declared.drafts.Drafted.{Drafted}
 use Rattle.book_loads.specs.declared.groups.Group.{Group}
-use Rattle.book_loads.specs.Groups.{AreGroups, group_year, group_years, with_years}
+use Rattle.book_loads.specs.Groups.{AreGroups, group_year, group_years, put_years}
 use Rattle.book_loads.specs.Drafts.{AreDrafted, draft_year, groups_cost, groups_jobs}
 use Rattle.book_loads.specs.Merges.{AreMergeable, CanMerge, IsKeptYear, merged_runs}
 use Rattle.book_loads.proofs.DraftLemmas.{jobs_puts}
@@ -94,7 +94,7 @@ module _ (plans : List (Entry Accepted)) (list : List Year) (kept : AreKeptYears
     -- the years that are left
     pub load_done : (new : List Year) → runs_in new ≡ merged_runs list done.drafts.items → AllByRecursion (IsKeptYear plans) new → IsListEdit plans list new (loaded items (runs_in list)) done.work
     load_done new runs all =
-        let with : runs_in new ≡ with_years (group_years (runs_in list) groups) (runs_in list) = runs ∙ ap (λ t. with_years t (runs_in list)) drafted.years in
+        let with : runs_in new ≡ put_years (group_years (runs_in list) groups) (runs_in list) = runs ∙ ap (λ t. put_years t (runs_in list)) drafted.years in
         record {
           kept = record {
             rising = rising_map year_cmp runs_key runs_in_year new (subst (IsRising year_cmp runs_key) (sym with) (puts_rising year_cmp year_total runs_key (group_years (runs_in list) groups) (runs_in list) old_rise));

@@ -18,8 +18,8 @@ use Rattle.book_edits.specs.Books.{YearRuns, runs_key, runs_of, runs_or_none, ye
 use Rattle.book_edits.specs.Kept.{kept_key, runs_in, runs_in_year}
 use Rattle.book_edits.proofs.Laws.{map_rising, year_total}
 use Rattle.book_loads.specs.declared.drafts.Draft.{Draft}
-use Rattle.book_loads.specs.Groups.{put_runs, with_years}
-use Rattle.book_loads.specs.Drafts.{HasRoom, IsDraft, IsRoomy, draft_key, draft_year}
+use Rattle.book_loads.specs.Groups.{put_runs, put_years}
+use Rattle.book_loads.specs.Drafts.{HasRoom, IsYearDraft, IsRoomy, draft_key, draft_year}
 use Rattle.book_loads.specs.Merges.{AreMergeable, CanMerge, IsFirst, IsKeptYear, merged_runs}
 use Rattle.book_loads.proofs.GroupLemmas.{all_more}
 use Rattle.book_loads.proofs.PutLemmas.{puts_new, puts_old, puts_tied}
@@ -40,7 +40,7 @@ module _ (y : Year) (ys : List Year) where
   rooms_beyond [] h all = tt
   rooms_beyond (d ∷ ds) h all = (subst (λ t. HasRoom (length t) (vec_len d.items) d.room) (runs_beyond y ys d.key h.0) all.0, rooms_beyond ds h.1 all.1)
 
-  drafts_beyond : (plans : List (Entry Accepted)) (ds : List Draft) → AreAbove year_cmp draft_key y.key ds → AllByRecursion (IsDraft plans (runs_in (y ∷ ys))) ds → AllByRecursion (IsDraft plans (runs_in ys)) ds
+  drafts_beyond : (plans : List (Entry Accepted)) (ds : List Draft) → AreAbove year_cmp draft_key y.key ds → AllByRecursion (IsYearDraft plans (runs_in (y ∷ ys))) ds → AllByRecursion (IsYearDraft plans (runs_in ys)) ds
   drafts_beyond plans [] h all = tt
   drafts_beyond plans (d ∷ ds) h all =
       let e = runs_beyond y ys d.key h.0 in (
@@ -63,7 +63,7 @@ pub record IsWritten (d : Draft) (rs : List Record) (y : Year) : Type 0 where
 written_runs : (old : List YearRuns) (d : Draft) (rs : List Record) (y : Year) → runs_of old d.key ≡ rs → IsWritten d rs y → draft_year old d ≡ runs_in_year y
 written_runs old d rs y base w = λ i. record { key = sym w.key i; runs = (ap (put_runs d.items.items) base ∙ sym w.records) i }
 
-written_kept : (plans : List (Entry Accepted)) (old : List YearRuns) (d : Draft) (rs : List Record) (y : Year) → runs_of old d.key ≡ rs → IsWritten d rs y → IsDraft plans old d → IsKeptYear plans y
+written_kept : (plans : List (Entry Accepted)) (old : List YearRuns) (d : Draft) (rs : List Record) (y : Year) → runs_of old d.key ≡ rs → IsWritten d rs y → IsYearDraft plans old d → IsKeptYear plans y
 written_kept plans old d rs y base w h =
     let year = written_runs old d rs y base w in
     record {
@@ -93,7 +93,7 @@ first_old y ys d ds can l =
     record {
       can = record { olds_rise = can.olds_rise.1; drafts_rise = can.drafts_rise; days = can.days.1; rooms = rooms_beyond y ys (d ∷ ds) above can.rooms };
       runs = puts_old year_cmp year_total runs_key (draft_year (runs_in (y ∷ ys)) d) (map (draft_year (runs_in (y ∷ ys))) ds) (runs_in_year y) (runs_in ys) l rising
-          ∙ ap (λ t. runs_in_year y ∷ with_years t (runs_in ys)) (draft_years_beyond y ys (d ∷ ds) above);
+          ∙ ap (λ t. runs_in_year y ∷ put_years t (runs_in ys)) (draft_years_beyond y ys (d ∷ ds) above);
       kept = λ plans h. h.years.0;
       left = λ plans h. record { years = h.years.1; new = drafts_beyond y ys plans (d ∷ ds) above h.new };
     }
@@ -107,7 +107,7 @@ first_both y ys d ds w can e written =
     record {
       can = record { olds_rise = can.olds_rise.1; drafts_rise = can.drafts_rise.1; days = can.days.1; rooms = rooms_beyond y ys ds above can.rooms.1 };
       runs = puts_tied year_cmp year_total runs_key (draft_year (runs_in (y ∷ ys)) d) (map (draft_year (runs_in (y ∷ ys))) ds) (runs_in_year y) (runs_in ys) e rising
-          ∙ (λ i. written_runs (runs_in (y ∷ ys)) d y.records.items w base written i ∷ with_years (draft_years_beyond y ys ds above i) (runs_in ys));
+          ∙ (λ i. written_runs (runs_in (y ∷ ys)) d y.records.items w base written i ∷ put_years (draft_years_beyond y ys ds above i) (runs_in ys));
       kept = λ plans h. written_kept plans (runs_in (y ∷ ys)) d y.records.items w base written h.new.0;
       left = λ plans h. record { years = h.years.1; new = drafts_beyond y ys plans ds above h.new.1 };
     }
@@ -125,7 +125,7 @@ first_new ys d ds w can above written =
     record {
       can = record { olds_rise = can.olds_rise; drafts_rise = can.drafts_rise.1; days = can.days; rooms = can.rooms.1 };
       runs = puts_new year_cmp year_total runs_key (draft_year (runs_in ys) d) (map (draft_year (runs_in ys)) ds) (runs_in ys) rising beyond
-          ∙ ap (λ t. t ∷ with_years (map (draft_year (runs_in ys)) ds) (runs_in ys)) (written_runs (runs_in ys) d [] w base written);
+          ∙ ap (λ t. t ∷ put_years (map (draft_year (runs_in ys)) ds) (runs_in ys)) (written_runs (runs_in ys) d [] w base written);
       kept = λ plans h. written_kept plans (runs_in ys) d [] w base written h.new.0;
       left = λ plans h. record { years = h.years; new = h.new.1 };
     }

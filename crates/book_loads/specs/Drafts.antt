@@ -60,7 +60,8 @@ abbrev pub draft_year : List YearRuns → Draft → YearRuns
 draft_year old d = year_with old d.key d.items.items
 
 -- what is kept of a draft's year is what computing its runs anew gives
-pub record IsDraft (plans : List (Entry Accepted)) (old : List YearRuns) (d : Draft) : Type 0 where
+pub record IsYearDraft (plans : List (Entry Accepted)) (old : List YearRuns)
+    (d : Draft) : Type 0 where
   pub kept : AreKept (pick plans) (draft_year old d).runs d.outcomes.items
   pub own : AllByRecursion (IsOwn d.key) (draft_year old d).runs
   pub some : 0 < length (draft_year old d).runs
@@ -74,6 +75,6 @@ pub record AreDrafted
     (plans : List (Entry Accepted)) (old : List YearRuns) (gs : List Group)
     (r : Drafted) : Type 0 where
   pub years : map (draft_year old) r.drafts.items ≡ group_years old gs
-  pub each : AllByRecursion (IsDraft plans old) r.drafts.items
+  pub each : AllByRecursion (IsYearDraft plans old) r.drafts.items
   pub rooms : AllByRecursion (IsRoomy old) r.drafts.items
   pub work : r.work ≡ work_of (groups_jobs plans old gs)

@@ -17,8 +17,8 @@ put_runs [] rs = rs
 put_runs (i ∷ is) rs = put_runs is (put_run i rs)
 
 -- the years with each of these years at its key
-abbrev pub with_years : List YearRuns → List YearRuns → List YearRuns
-with_years ds years = puts year_cmp runs_key ds years
+abbrev pub put_years : List YearRuns → List YearRuns → List YearRuns
+put_years ds years = puts year_cmp runs_key ds years
 
 -- a year once these runs are put into it
 abbrev pub year_with : List YearRuns → YearKey → List Record → YearRuns
@@ -43,7 +43,7 @@ pub record AreGroups (items : List Record) (groups : List Group) : Type 0 where
   pub rising : IsRising year_cmp group_key groups
   pub each : AllByRecursion IsGroup groups
   pub few : length groups ≤ length items
-  pub are : (old : List YearRuns) → with_years (group_years old groups) old ≡ loaded items old
+  pub are : (old : List YearRuns) → put_years (group_years old groups) old ≡ loaded items old
 
 -- ---- one more run
 

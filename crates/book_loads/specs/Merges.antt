@@ -11,8 +11,8 @@ use Rattle.book_year.specs.Years.{IsYear}
 use Rattle.book_edits.specs.Books.{YearRuns, year_cmp}
 use Rattle.book_edits.specs.Kept.{HasRuns, kept_key, runs_in, runs_in_year}
 use Rattle.book_loads.specs.declared.drafts.Draft.{Draft}
-use Rattle.book_loads.specs.Drafts.{IsDraft, IsRoomy, draft_key, draft_year}
-use Rattle.book_loads.specs.Groups.{with_years}
+use Rattle.book_loads.specs.Drafts.{IsYearDraft, IsRoomy, draft_key, draft_year}
+use Rattle.book_loads.specs.Groups.{put_years}
 
 -- both lists rise, the days of each year do, and each draft has room for the runs of its year
 pub record CanMerge (olds : List Year) (drafts : List Draft) : Type 0 where
@@ -23,7 +23,7 @@ pub record CanMerge (olds : List Year) (drafts : List Draft) : Type 0 where
 
 -- the runs of the years, with each draft at its key
 abbrev pub merged_runs : List Year → List Draft → List YearRuns
-merged_runs olds drafts = with_years (map (draft_year (runs_in olds)) drafts) (runs_in olds)
+merged_runs olds drafts = put_years (map (draft_year (runs_in olds)) drafts) (runs_in olds)
 
 -- what is kept of a year, which has a run
 pub record IsKeptYear (plans : List (Entry Accepted)) (y : Year) : Type 0 where
@@ -33,7 +33,7 @@ pub record IsKeptYear (plans : List (Entry Accepted)) (y : Year) : Type 0 where
 pub record AreMergeable
     (plans : List (Entry Accepted)) (olds : List Year) (drafts : List Draft) : Type 0 where
   pub years : AllByRecursion (IsKeptYear plans) olds
-  pub new : AllByRecursion (IsDraft plans (runs_in olds)) drafts
+  pub new : AllByRecursion (IsYearDraft plans (runs_in olds)) drafts
 
 -- a year is the first of all, and these are left
 pub record IsFirst

@@ -19,11 +19,11 @@ use Rattle.book_edits.specs.declared.in_month.InMonth.TheVariants.{Empty, One, S
 use Rattle.book_edits.specs.declared.refusal.EditRefusal.{EditRefusal}
 use Rattle.book_edits.specs.declared.refusal.EditRefusal.TheVariants as refusal
 use Rattle.book_edits.specs.Books.{YearRuns, run_at, run_count, source_of, withdrawal}
-use Rattle.book_edits.specs.Refusals.{CanAdd, IsFull, IsMonthOf, IsOne, most_records}
-use Rattle.book_edits.specs.Replans.{IsFull as NoRoom, most_plans}
+use Rattle.book_edits.specs.Refusals.{CanAdd, HasMostRecords, IsMonthOf, IsOne, most_records}
+use Rattle.book_edits.specs.Replans.{HasMostPlans, most_plans}
 use Rattle.book_loads.specs.Loads.{CanLoad, IsFirstPresent, IsFree, IsOver}
 use Rattle.recalc_engine.specs.Contents.{Contents}
-use Rattle.recalc_engine.specs.EditAnswers.{add, change, withdraw, load, put, drop, EditAnswers, EditsHaveOneAnswer, HasOneAnswer, edited}
+use Rattle.recalc_engine.specs.EditAnswers.{add, change, withdraw, load, put, drop, EditAnswers, EditsHaveOneAnswer, HasOneAnswer, edited_book}
 
 none_or_some : {X : Type 0} (o : Option X) → IsNone o → IsSome o → ⊥
 none_or_some None n s = cc
@@ -48,7 +48,7 @@ module _ (book : Contents) (r : Record) where
       by (Err refusal.Plans) h = absurd h
       by (Err (refusal.NoPlanThere d)) h = absurd h
 
-  add_full : IsFull book.years r → HasOneAnswer book (add r)
+  add_full : HasMostRecords book.years r → HasOneAnswer book (add r)
   add_full full = record { answer = Err refusal.Records; says = full; alone = by }
     where
       by : (other : Answer) → EditAnswers book (add r) other → other ≡ Err refusal.Records
@@ -63,9 +63,9 @@ module _ (book : Contents) (r : Record) where
       by (Err (refusal.NoPlanThere d)) h = absurd h
 
   add_made : CanAdd book.years r → HasOneAnswer book (add r)
-  add_made can = record { answer = Ok (edited (add r) book); says = (can, refl); alone = by }
+  add_made can = record { answer = Ok (edited_book (add r) book); says = (can, refl); alone = by }
     where
-      by : (other : Answer) → EditAnswers book (add r) other → other ≡ Ok (edited (add r) book)
+      by : (other : Answer) → EditAnswers book (add r) other → other ≡ Ok (edited_book (add r) book)
       by (Ok next) h = ap (λ t. Ok t) h.1
       by (Err (refusal.Present k)) h =
           absurd (none_or_some (run_at book.years (key_of r)) can.free (subst (λ t. IsSome (run_at book.years t)) h.0 h.1))
@@ -149,9 +149,9 @@ module _ (book : Contents) (r : Record) where
 
   change_made : (k : Key) → source_of book.years r ≡ One k → HasOneAnswer book (change r)
   change_made k one =
-      record { answer = Ok (edited (change r) book); says = (subst IsOne (sym one) tt, refl); alone = by }
+      record { answer = Ok (edited_book (change r) book); says = (subst IsOne (sym one) tt, refl); alone = by }
     where
-      by : (other : Answer) → EditAnswers book (change r) other → other ≡ Ok (edited (change r) book)
+      by : (other : Answer) → EditAnswers book (change r) other → other ≡ Ok (edited_book (change r) book)
       by (Ok next) h = ap (λ t. Ok t) h.1
       by (Err (refusal.Absent e w)) h = absurd (let p = h.2 in cc)
       by (Err (refusal.Several e m)) h = absurd (let p = h.2 in cc)
@@ -187,9 +187,9 @@ module _ (book : Contents) (e : List ℕ) (w : When) where
 
   withdraw_made : (k : Key) → withdrawal book.years e w ≡ One k → HasOneAnswer book (withdraw e w)
   withdraw_made k one =
-      record { answer = Ok (edited (withdraw e w) book); says = (subst IsOne (sym one) tt, refl); alone = by }
+      record { answer = Ok (edited_book (withdraw e w) book); says = (subst IsOne (sym one) tt, refl); alone = by }
     where
-      by : (other : Answer) → EditAnswers book (withdraw e w) other → other ≡ Ok (edited (withdraw e w) book)
+      by : (other : Answer) → EditAnswers book (withdraw e w) other → other ≡ Ok (edited_book (withdraw e w) book)
       by (Ok next) h = ap (λ t. Ok t) h.1
       by (Err (refusal.Absent e' w')) h = absurd (let p = h.2 in cc)
       by (Err (refusal.Several e' m)) h = absurd (let p = h.2 in cc)
@@ -344,9 +344,9 @@ module _ (book : Contents) (items : List Record) where
       by (Err (refusal.NoPlanThere d)) h = absurd h
 
   load_made : CanLoad book.years items → HasOneAnswer book (load items)
-  load_made can = record { answer = Ok (edited (load items) book); says = (can, refl); alone = by }
+  load_made can = record { answer = Ok (edited_book (load items) book); says = (can, refl); alone = by }
     where
-      by : (other : Answer) → EditAnswers book (load items) other → other ≡ Ok (edited (load items) book)
+      by : (other : Answer) → EditAnswers book (load items) other → other ≡ Ok (edited_book (load items) book)
       by (Ok next) h = ap (λ t. Ok t) h.1
       by (Err (refusal.Present k)) h = absurd (not_free book.years items h.0 h.1 can.free)
       by (Err refusal.Records) h = absurd (omega (arith, can.room, h.over))
@@ -368,7 +368,7 @@ module _ (book : Contents) (items : List Record) where
 -- ---- plans
 
 module _ (book : Contents) (p : Entry Accepted) where
-  put_full : NoRoom book.plans (day_of p) → HasOneAnswer book (put p)
+  put_full : HasMostPlans book.plans (day_of p) → HasOneAnswer book (put p)
   put_full full = record { answer = Err refusal.Plans; says = full; alone = by }
     where
       by : (other : Answer) → EditAnswers book (put p) other → other ≡ Err refusal.Plans
@@ -381,10 +381,10 @@ module _ (book : Contents) (p : Entry Accepted) where
       by (Err (refusal.Several e m)) h = absurd h
       by (Err (refusal.NoPlanThere d)) h = absurd h
 
-  put_made : (NoRoom book.plans (day_of p) → ⊥) → HasOneAnswer book (put p)
-  put_made room = record { answer = Ok (edited (put p) book); says = (room, refl); alone = by }
+  put_made : (HasMostPlans book.plans (day_of p) → ⊥) → HasOneAnswer book (put p)
+  put_made room = record { answer = Ok (edited_book (put p) book); says = (room, refl); alone = by }
     where
-      by : (other : Answer) → EditAnswers book (put p) other → other ≡ Ok (edited (put p) book)
+      by : (other : Answer) → EditAnswers book (put p) other → other ≡ Ok (edited_book (put p) book)
       by (Ok next) h = ap (λ t. Ok t) h.1
       by (Err refusal.Plans) h = absurd (room h)
       by (Err (refusal.Present k)) h = absurd h
@@ -423,9 +423,9 @@ module _ (book : Contents) (d : Day) where
       by (Err (refusal.Several e m)) h = absurd h
 
   drop_made : IsSome (entry_at book.plans d) → HasOneAnswer book (drop d)
-  drop_made there = record { answer = Ok (edited (drop d) book); says = (there, refl); alone = by }
+  drop_made there = record { answer = Ok (edited_book (drop d) book); says = (there, refl); alone = by }
     where
-      by : (other : Answer) → EditAnswers book (drop d) other → other ≡ Ok (edited (drop d) book)
+      by : (other : Answer) → EditAnswers book (drop d) other → other ≡ Ok (edited_book (drop d) book)
       by (Ok next) h = ap (λ t. Ok t) h.1
       by (Err (refusal.NoPlanThere e)) h = absurd (none_or_some (entry_at book.plans d) h.1 there)
       by (Err refusal.Plans) h = absurd h

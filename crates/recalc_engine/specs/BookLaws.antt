@@ -19,7 +19,7 @@ use Rattle.book_edits.specs.Books.{AreInOrder, YearRuns, run_count, year_of}
 use Rattle.book_edits.specs.Refusals.{most_records}
 use Rattle.book_loads.specs.Loads.{AreDistinct}
 use Rattle.recalc_engine.specs.Contents.{Contents, book_of, jobs_between, row_at}
-use Rattle.recalc_engine.specs.EditAnswers.{edited, put}
+use Rattle.recalc_engine.specs.EditAnswers.{edited_book, put}
 use Rattle.recalc_engine.specs.Jobs.{job_of_key}
 use Rattle.recalc_engine.specs.MonthRows.{KeyedRow, keyed_row, month_rows}
 
@@ -97,8 +97,8 @@ idle book = record { years = book.years; plans = book.plans; last = record { run
 
 -- the plan put makes no job new, and leaves the book as it is
 pub record PutsTheSame (book : Contents) (e : Entry Accepted) : Type 0 where
-  pub jobs : jobs_between book (edited (put e) book) ≡ []
-  pub book_is : edited (put e) book ≡ idle book
+  pub jobs : jobs_between book (edited_book (put e) book) ≡ []
+  pub book_is : edited_book (put e) book ≡ idle book
 
 -- so it is of each plan put in place of one with its texts
 abbrev pub SameTextsChangeNothing : Type 0

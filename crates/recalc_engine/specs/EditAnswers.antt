@@ -11,7 +11,7 @@ use Rattle.book_edits.specs.declared.refusal.EditRefusal.{EditRefusal}
 use Rattle.book_edits.specs.declared.refusal.EditRefusal.TheVariants as refusal
 use Rattle.book_edits.specs.Books.{added, loaded, source_of, withdrawal}
 use Rattle.book_edits.specs.Refusals.{CanAdd, IsAddRefused, IsChangeRefused, IsOne, IsWithdrawRefused}
-use Rattle.book_edits.specs.Replans.{IsDropRefused, IsFull, IsPutRefused}
+use Rattle.book_edits.specs.Replans.{IsDropRefused, HasMostPlans, IsPutRefused}
 use Rattle.book_loads.specs.Loads.{CanLoad, IsLoadRefused}
 use Rattle.recalc_engine.specs.Contents.{Contents, jobs_between, with_plans, with_years}
 use Rattle.recalc_engine.specs.Edits.{with_change, with_withdrawal}
@@ -35,8 +35,8 @@ with_edit (put e) book = with_plans (with_entry e book.plans) book
 with_edit (drop d) book = with_plans (without_day d book.plans) book
 
 -- the book with the edit, whose last work is that of the jobs that it made new
-abbrev pub edited : Edit → Contents → Contents
-edited e book =
+abbrev pub edited_book : Edit → Contents → Contents
+edited_book e book =
     let next = with_edit e book in
     record { years = next.years; plans = next.plans; last = work_of (jobs_between book next) }
 
@@ -46,7 +46,7 @@ CanEdit book (add r) = CanAdd book.years r
 CanEdit book (change r) = IsOne (source_of book.years r)
 CanEdit book (withdraw e w) = IsOne (withdrawal book.years e w)
 CanEdit book (load rs) = CanLoad book.years rs
-CanEdit book (put e) = IsFull book.plans (day_of e) → ⊥
+CanEdit book (put e) = HasMostPlans book.plans (day_of e) → ⊥
 CanEdit book (drop d) = IsSome (entry_at book.plans d)
 
 -- this stands against the edit
@@ -60,7 +60,7 @@ IsEditRefused book (drop d) why = IsDropRefused book.plans d why
 
 -- the book that comes of an edit, or why it is refused; want of memory is nothing that a book answers
 abbrev pub EditAnswers : Contents → Edit → Result Contents EditRefusal → Type 0
-EditAnswers book e (Ok next) = CanEdit book e × (next ≡ edited e book)
+EditAnswers book e (Ok next) = CanEdit book e × (next ≡ edited_book e book)
 EditAnswers book e (Err (refusal.Memory error)) = ⊥
 EditAnswers book e (Err why) = IsEditRefused book e why
 
@@ -74,7 +74,7 @@ pub record HasOneAnswer (book : Contents) (e : Edit) : Type 0 where
 abbrev pub IsEdited : Contents → Edit → Contents → Result Work EditRefusal → Type 0
 IsEdited old e new (Ok work) = EditAnswers old e (Ok new) × (work ≡ new.last)
 IsEdited old e new (Err (refusal.Memory error)) =
-    EditAnswers old e (Ok (edited e old)) × (new ≡ old)
+    EditAnswers old e (Ok (edited_book e old)) × (new ≡ old)
 IsEdited old e new (Err why) = EditAnswers old e (Err why) × (new ≡ old)
 
 -- ---- a law

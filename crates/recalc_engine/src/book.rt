@@ -11,7 +11,7 @@ ghost use Rattle.recalc_engine.specs.BookLaws.{ArePlans, BooksAreTheirParts, Hav
 ghost use Rattle.recalc_engine.specs.BookLaws.{JobsAreSafe, NewJobsAreByKey, RowsAreCounted, RowsAreRuns, RowsRise};
 ghost use Rattle.recalc_engine.specs.BookLaws.{RunsAreDistinct, SameTextsChangeNothing};
 ghost use Rattle.recalc_engine.specs.Contents.{book_of, cost_between, row_at, whole_cost, whole_work};
-ghost use Rattle.recalc_engine.specs.EditAnswers.{EditsHaveOneAnswer, IsEdited, edited};
+ghost use Rattle.recalc_engine.specs.EditAnswers.{EditsHaveOneAnswer, IsEdited, edited_book};
 ghost use Rattle.recalc_engine.specs.EditAnswers.{add, change, drop, load, put, withdraw};
 ghost use Rattle.recalc_engine.specs.MonthRows.{month_rows};
 ghost use Rattle.recalc_engine.specs.RowLaws.{AreBookRows};
@@ -192,7 +192,7 @@ impl Book {
         ensures answers { IsEdited self.old (add item) self.new result }
         ensures err { OnErr result (self.new ≡ self.old) }
         ensures counted { CountsEdit result steps.old steps.new
-            (cost_between self.old (edited (add item) self.old)) }
+            (cost_between self.old (edited_book (add item) self.old)) }
     {
         let work = self.years.add(&self.plans, item, steps)?;
         self.last = work;
@@ -209,7 +209,7 @@ impl Book {
         ensures answers { IsEdited self.old (change item) self.new result }
         ensures err { OnErr result (self.new ≡ self.old) }
         ensures counted { CountsEdit result steps.old steps.new
-            (cost_between self.old (edited (change item) self.old)) }
+            (cost_between self.old (edited_book (change item) self.old)) }
     {
         let work = self.years.change(&self.plans, item, steps)?;
         self.last = work;
@@ -226,7 +226,7 @@ impl Book {
         ensures answers { IsEdited self.old (withdraw employee when) self.new result }
         ensures err { OnErr result (self.new ≡ self.old) }
         ensures counted { CountsEdit result steps.old steps.new
-            (cost_between self.old (edited (withdraw employee when) self.old)) }
+            (cost_between self.old (edited_book (withdraw employee when) self.old)) }
     {
         let work = self.years.withdraw(&self.plans, employee, when, steps)?;
         self.last = work;
@@ -243,7 +243,7 @@ impl Book {
         ensures answers { IsEdited self.old (load items.items) self.new result }
         ensures err { OnErr result (self.new ≡ self.old) }
         ensures counted { CountsEdit result steps.old steps.new
-            (cost_between self.old (edited (load items.items) self.old)) }
+            (cost_between self.old (edited_book (load items.items) self.old)) }
     {
         let work = load(&self.plans, &mut self.years, items, steps)?;
         self.last = work;
@@ -260,7 +260,7 @@ impl Book {
         ensures answers { IsEdited self.old (put (day, accepted plan)) self.new result }
         ensures err { OnErr result (self.new ≡ self.old) }
         ensures counted { CountsEdit result steps.old steps.new
-            (cost_between self.old (edited (put (day, accepted plan)) self.old)) }
+            (cost_between self.old (edited_book (put (day, accepted plan)) self.old)) }
     {
         let work = put_plan(&mut self.plans, &mut self.years, day, plan, steps)?;
         self.last = work;
@@ -276,7 +276,7 @@ impl Book {
         ensures answers { IsEdited self.old (drop day) self.new result }
         ensures err { OnErr result (self.new ≡ self.old) }
         ensures counted { CountsEdit result steps.old steps.new
-            (cost_between self.old (edited (drop day) self.old)) }
+            (cost_between self.old (edited_book (drop day) self.old)) }
     {
         let work = drop_plan(&mut self.plans, &mut self.years, day, steps)?;
         self.last = work;

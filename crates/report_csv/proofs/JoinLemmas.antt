@@ -7,7 +7,7 @@ use Rattle.plan_calendar.specs.Picking.{Entry, pick}
 use Rattle.book_year.specs.Accepted.{Accepted}
 use Rattle.book_edits.specs.Books.{YearRuns, loaded}
 use Rattle.recalc_engine.specs.Contents.{Contents, with_years}
-use Rattle.recalc_engine.specs.EditAnswers.{edited, load}
+use Rattle.recalc_engine.specs.EditAnswers.{edited_book, load}
 use Rattle.recalc_engine.specs.MonthRows.{KeyedRow, keyed_rows, month_rows}
 use Rattle.report_csv.specs.Reports.{Text, header, row_line, run_text}
 use Rattle.report_csv.specs.ReportTexts.{months_text, report_text}
@@ -56,7 +56,8 @@ text_of_parts plans (p ∷ more) =
     ∙ ap (λ t. months_text (flat_map rows (loaded p [])) ++ t) (text_of_parts plans more)
 
 pub rows_of_parts : (book : Contents) (table : List Record) (parts : List (List Record)) → book.years ≡ [] →
-    AreParts table parts → report_text (edited (load table) book) ≡ row_line header ++ flat_map (table_text book) parts
+    AreParts table parts →
+    report_text (edited_book (load table) book) ≡ row_line header ++ flat_map (table_text book) parts
 rows_of_parts book table parts none h =
     let rows = keyed_rows (pick book.plans) in
     ap (λ years. row_line header ++ months_text (flat_map rows (loaded table years))) none

@@ -6,7 +6,7 @@ use Rattle.plan_calendar.specs.Picking.{Entry, pick}
 use Rattle.book_year.specs.Accepted.{Accepted}
 use Rattle.book_edits.specs.Books.{YearRuns}
 use Rattle.recalc_engine.specs.Contents.{Contents, with_years}
-use Rattle.recalc_engine.specs.EditAnswers.{edited, load}
+use Rattle.recalc_engine.specs.EditAnswers.{edited_book, load}
 use Rattle.recalc_engine.specs.MonthRows.{keyed_rows, month_rows}
 use Rattle.report_csv.specs.Reports.{Text, header, row_line}
 use Rattle.report_csv.specs.ReportTexts.{months_text, report_text}
@@ -30,7 +30,7 @@ ReportsAreJoined =
 
 -- the rows of the report of a book into which a table is loaded, behind the first row
 abbrev pub table_text : Contents → List Record → Text
-table_text book table = months_text (month_rows (edited (load table) book))
+table_text book table = months_text (month_rows (edited_book (load table) book))
 
 -- where the parts of a table are loaded into books without runs that have the same plans, the first row and the rows of
 -- these books, one after another, are the report of the book into which the whole table is loaded
@@ -38,4 +38,5 @@ abbrev pub ReportsOfPartsAreJoined : Type 0
 ReportsOfPartsAreJoined =
     (book : Contents) (table : List Record) (parts : List (List Record)) → book.years ≡ []
     → AreParts table parts
-    → report_text (edited (load table) book) ≡ row_line header ++ flat_map (table_text book) parts
+    → report_text (edited_book (load table) book)
+    ≡ row_line header ++ flat_map (table_text book) parts

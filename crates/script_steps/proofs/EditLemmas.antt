@@ -7,7 +7,7 @@ use Rattle.book_edits.specs.declared.refusal.EditRefusal.{EditRefusal}
 use Rattle.book_edits.specs.declared.refusal.EditRefusal.TheVariants as refusals
 use Rattle.book_edits.specs.Refusals.{CountsEdit}
 use Rattle.recalc_engine.specs.Contents.{Contents, cost_between}
-use Rattle.recalc_engine.specs.EditAnswers.{Edit, EditAnswers, IsEdited, edited}
+use Rattle.recalc_engine.specs.EditAnswers.{Edit, EditAnswers, IsEdited, edited_book}
 use Rattle.correction_ledger.specs.Filings.{Filings}
 use Rattle.plan_answers.specs.Answers.{Answer, refusal}
 use Rattle.script_steps.specs.declared.reply.LineReply.{LineReply}
@@ -26,7 +26,7 @@ refused_step text from e why answer h is = record { verdict = Err why; says = h;
 -- the steps of the work of an edit are the cost, and its line is answered
 module _ (text : List ℕ) (from : Standing) (e : Edit) (book : Contents) where
   steps_are : (work : Work) → IsEdited from.book e book (Ok work)
-      → cost_between from.book (edited e from.book) ≡ work.steps
+      → cost_between from.book (edited_book e from.book) ≡ work.steps
   steps_are work h = sym (ap (λ (w : Work). w.steps) h.1 ∙ ap (λ (b : Contents). b.last.steps) h.0.1)
 
   made_step : (work : Work) → IsEdited from.book e book (Ok work)
@@ -58,7 +58,7 @@ module _ (text : List ℕ) (from : Standing) (e : Edit) (book : Contents) (total
 
   -- the reply to an edit is its step's answer
   reply_made : (made : Result Work EditRefusal) (answer : Answer) → IsEdited from.book e book made
-      → CountsEdit made before now (cost_between from.book (edited e from.book))
+      → CountsEdit made before now (cost_between from.book (edited_book e from.book))
       → IsEditReply text made from.made total answer
       → IsMade (IsEditStep text from e) left before now answer
   reply_made (Ok work) answer h counts is = record {
@@ -81,7 +81,7 @@ module _ (text : List ℕ) (from : Standing) (e : Edit) (book : Contents) (total
       refused_made (refusals.NoPlanThere d) answer h.0 h.1 counts is.0 is.1
 
   reply_all : (made : Result Work EditRefusal) (reply : Result LineReply AllocError) → IsEdited from.book e book made
-      → CountsEdit made before now (cost_between from.book (edited e from.book))
+      → CountsEdit made before now (cost_between from.book (edited_book e from.book))
       → IfOk reply (λ r. IsEditReply text made from.made total (reply_of r))
       → IfOk reply (λ r. IsMade (IsEditStep text from e) left before now (reply_of r))
   reply_all made reply h counts = if_ok_map reply _ _ (λ r is. reply_made made (reply_of r) h counts is)
@@ -100,7 +100,7 @@ module _ (text : List ℕ) (from : Standing) (e : Edit) (book : Contents) (befor
 
   -- where memory ran out at the edit or after it
   made_lost : (made : Result Work EditRefusal) → IsEdited from.book e book made
-      → CountsEdit made before now (cost_between from.book (edited e from.book))
+      → CountsEdit made before now (cost_between from.book (edited_book e from.book))
       → IsLost (IsEditStep text from e) before now
   made_lost (Ok work) h counts =
       let is = counts ∙ ap (λ n. before + n) (steps_are text from e book work h) in
@@ -112,9 +112,9 @@ module _ (text : List ℕ) (from : Standing) (e : Edit) (book : Contents) (befor
         within = omega (arith, is);
       }
   made_lost (Err (refusals.Memory x)) h counts = record {
-    to = after_edit from (edited e from.book);
-    answer = accepted text (cost_between from.book (edited e from.book));
-    is = record { verdict = Ok (edited e from.book); says = h.0; is = (refl, refl) };
+    to = after_edit from (edited_book e from.book);
+    answer = accepted text (cost_between from.book (edited_book e from.book));
+    is = record { verdict = Ok (edited_book e from.book); says = h.0; is = (refl, refl) };
     later = counts.0;
     within = counts.1;
   }
@@ -133,7 +133,7 @@ standing filings made b = record { book = b; filings = filings; made = made }
 module _ (text : List ℕ) (from : Standing) (e : Edit) (filings : Filings) (total : Work) (old : Contents)
     (same : standing filings total old ≡ from) (book : Contents) (before now : ℕ) (made : Result Work EditRefusal)
     (reply : Result LineReply AllocError) (h : IsEdited old e book made)
-    (counts : CountsEdit made before now (cost_between old (edited e old))) where
+    (counts : CountsEdit made before now (cost_between old (edited_book e old))) where
   pub edit_made : (after : Work) → IfOk reply (λ r. IsEditReply text made total after (reply_of r))
       → IfOk reply (λ r. IsMade (IsEditStep text from e) (standing filings after book) before now (reply_of r))
   edit_made after is =

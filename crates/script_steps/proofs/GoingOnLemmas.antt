@@ -26,7 +26,7 @@ use Rattle.plan_answers.specs.Answers.{Answer, refusal}
 use Rattle.script_steps.specs.LineTexts.{ok_line, line_detail, table_detail}
 use Rattle.script_steps.specs.Standings.{Standing, Doing, Stays, more_work, silence, start, with_book}
 use Rattle.script_steps.specs.LineSteps.{Does, IsEditAnswered, IsEditStep, IsFileOf, IsLoaded, IsPlanStep, IsPut, IsReadStep}
-use Rattle.script_steps.specs.LineSteps.{IsTableStep, IsTextsStep, IsTried, IsUsed, PlanUse, bound_text}
+use Rattle.script_steps.specs.LineSteps.{IsTableStep, IsTextsStep, IsTrialStep, IsUsed, PlanUse, bound_text}
 use Rattle.script_steps.specs.LineSteps.{report_answer, work_answer}
 use Rattle.script_steps.specs.FilingSteps.{IsFileStep, IsOwedStep}
 use Rattle.script_steps.specs.OpenSteps.{IsFresh, IsOpenStep, IsOpened, OpenRefusal, OpenSays, not_empty, filed, faulty}
@@ -133,7 +133,7 @@ read_going Step going files file made from to answer h =
 put_going : (e : Entry Accepted) → Going (λ from. IsPut from e)
 put_going e made from to answer h = edit_going (bound_text e) (edits.put e) made from to answer h
 
-tried_going : (e : Entry Accepted) → Going (λ from. IsTried from e)
+tried_going : (e : Entry Accepted) → Going (λ from. IsTrialStep from e)
 tried_going e made from to answer h = (
   made,
   record { verdict = h.verdict; says = h.says; is = (ap (with_made made) h.is.0, h.is.1) },
@@ -212,7 +212,7 @@ module _ (files : FileMap) where
   does_going (Ok (asked.filing month)) = file_going month
   does_going (Ok asked.owed) = owed_going
   does_going (Ok (asked.opening file)) = read_going IsOpenStep open_going files file
-  does_going (Ok (asked.trial day plan limits)) = plan_going IsTried tried_going day files plan limits
+  does_going (Ok (asked.trial day plan limits)) = plan_going IsTrialStep tried_going day files plan limits
 
   step_going : (line : List ℕ) → Going (λ from. IsStep files from line)
   step_going line made from to answer h =
@@ -295,7 +295,7 @@ module _ (files other : FileMap) where
   does_over asked.owed from to answer same h = h
   does_over (asked.opening file) from to answer same h = read_over (IsOpenStep from) file to answer (same file refl) h
   does_over (asked.trial day plan limits) from to answer same h =
-      plan_over IsTried from day plan limits to answer (same plan (inl refl)) (same limits (inr refl)) h
+      plan_over IsTrialStep from day plan limits to answer (same plan (inl refl)) (same limits (inr refl)) h
 
   step_over : (line : List ℕ) (from to : Standing) (answer : Answer) → AreSameFor files other line
       → IsStep files from line to answer → IsStep other from line to answer

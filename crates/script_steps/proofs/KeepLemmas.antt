@@ -30,7 +30,7 @@ use Rattle.plan_answers.specs.Answers.{Answer}
 use Rattle.script_steps.specs.LineTexts.{ok_line}
 use Rattle.script_steps.specs.Standings.{Doing, Standing, start}
 use Rattle.script_steps.specs.LineSteps.{Does, IsEditAnswered, IsEditStep, IsLoaded, IsPlanStep, IsPut, IsReadStep, IsTableStep}
-use Rattle.script_steps.specs.LineSteps.{IsTried, IsUsed, PlanUse, bound_text}
+use Rattle.script_steps.specs.LineSteps.{IsTrialStep, IsUsed, PlanUse, bound_text}
 use Rattle.script_steps.specs.FilingSteps.{IsFileStep}
 use Rattle.script_steps.specs.OpenSteps.{IsOpenStep, IsOpened, OpenRefusal, OpenSays}
 use Rattle.script_steps.specs.GoingOn.{AreSteps, ScriptJobsAreSafe, ScriptsMakeBooks}
@@ -78,7 +78,7 @@ module _ (from : Standing) (sound : IsSound from.book) where
   put_keeps : (e : Entry Accepted) → IsPlan (plan_of e) → Keeping (IsPut from e)
   put_keeps e h = edit_keeps (bound_text e) (edits.put e) h
 
-  tried_keeps : (e : Entry Accepted) → IsPlan (plan_of e) → Keeping (IsTried from e)
+  tried_keeps : (e : Entry Accepted) → IsPlan (plan_of e) → Keeping (IsTrialStep from e)
   tried_keeps e h to answer k = same to k.is.0
 
   plan_keeps : (Use : PlanUse) → ((e : Entry Accepted) → IsPlan (plan_of e) → Keeping (Use from e)) → (files : FileMap)
@@ -122,7 +122,7 @@ module _ (from : Standing) (sound : IsSound from.book) where
   does_keeps files line (Ok (asked.opening file)) says to answer h =
       read_keeps (IsOpenStep from) open_keeps files file to answer h
   does_keeps files line (Ok (asked.trial day plan limits)) says to answer h =
-      plan_keeps IsTried tried_keeps files day plan limits to answer h
+      plan_keeps IsTrialStep tried_keeps files day plan limits to answer h
 
 -- ---- several lines
 

@@ -21,7 +21,7 @@ use Rattle.plan_answers.specs.Answers.{Answer, refusal}
 use Rattle.plan_answers.proofs.Laws.{one_refusal, some_refusal}
 use Rattle.script_steps.specs.LineTexts.{ok_line, table_detail, edit_detail}
 use Rattle.script_steps.specs.Standings.{Standing, Doing, Stays, accepted, after_edit}
-use Rattle.script_steps.specs.LineSteps.{IsEditAnswered, IsEditStep, IsLoaded, IsTableStep, IsReadStep, IsPut, IsTried}
+use Rattle.script_steps.specs.LineSteps.{IsEditAnswered, IsEditStep, IsLoaded, IsTableStep, IsReadStep, IsPut, IsTrialStep}
 use Rattle.script_steps.specs.LineSteps.{IsUsed, IsTextsStep, IsPlanStep, PlanUse, bound_text, trial_answer}
 
 -- there is something that a line leaves and answers
@@ -107,12 +107,12 @@ put_some from e = edit_some (bound_text e) from (edits.put e)
 pub put_one : OneUse IsPut
 put_one from e to to' a a' h k = edit_one (bound_text e) from (edits.put e) to to' a a' h k
 
-pub tried_some : (from : Standing) (e : Entry Accepted) → Has (IsTried from e)
+pub tried_some : (from : Standing) (e : Entry Accepted) → Has (IsTrialStep from e)
 tried_some from e =
     let o = one_answer from.book (edits.put e) in
     (from, trial_answer from.book e o.answer, record { verdict = o.answer; says = o.says; is = (refl, refl) })
 
-pub tried_one : OneUse IsTried
+pub tried_one : OneUse IsTrialStep
 tried_one from e to to' a a' h k =
     let o = one_answer from.book (edits.put e) in
     let same = o.alone h.verdict h.says ∙ sym (o.alone k.verdict k.says) in

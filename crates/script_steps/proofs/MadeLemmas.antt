@@ -25,7 +25,7 @@ use Rattle.script_steps.specs.Steps.{IsStep}
 use Rattle.script_steps.specs.Stops.{stop_of}
 use Rattle.script_steps.specs.StepClauses.{IsAnswered, IsBroken}
 use Rattle.script_steps.specs.StepViews.{IsMade, IsLost, IsWant, ToldDoes, IsUnmade, IsLineRefusal, IsWritten}
-use Rattle.script_steps.specs.StepViews.{IsUnwritten, IsRefusalWritten, IsRefusalUnwritten}
+use Rattle.script_steps.specs.StepViews.{IsFrontWritten, IsRefusalWritten, IsRefusalUnwritten}
 use Rattle.script_steps.specs.PlanViews.{IsUnjudged}
 
 err_same : {T E : Type 0} (r : Result T E) (x y : E) → r ≡ Err x → r ≡ Err y → x ≡ y
@@ -103,7 +103,7 @@ module _ (told : Option FileMap) (old new : Option (List ℕ)) (before now : ℕ
 
     -- the answer wasn't written whole
     pub cut : (to : Standing) (answer : Answer) (failed : Option (List ℕ)) (stop : LineStop)
-        → IsMade (ToldDoes told from (Ok what)) to before now answer → IsUnwritten old new answer.text stop
+        → IsMade (ToldDoes told from (Ok what)) to before now answer → IsFrontWritten old new answer.text stop
         → IsBroken told old new before now from line failed stop
     cut to answer failed stops.File m u = absurd u
     cut to answer failed stops.Write m u =
@@ -225,7 +225,7 @@ module _ (told : Option FileMap) (old new : Option (List ℕ)) (before now : ℕ
   made_answered w line says = if_ok_map result _ _ (λ wrong. answered told old new before now from line what says to
       answer (is_some wrong) made) w
 
-  pub made_broken : ForErr result (IsUnwritten old new answer.text) → (line : List ℕ) → IsLine line what
+  pub made_broken : ForErr result (IsFrontWritten old new answer.text) → (line : List ℕ) → IsLine line what
       → ForErr result (λ stop. IsBroken told old new before now from line failed stop)
   made_broken u line says = λ stop e. cut told old new before now from line what says to answer failed stop made
       (u stop e)

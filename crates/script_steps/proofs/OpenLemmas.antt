@@ -11,7 +11,7 @@ use Rattle.book_year.specs.declared.outcome.Work.{Work}
 use Rattle.book_edits.specs.Books.{run_count}
 use Rattle.recalc_engine.specs.Contents.{Contents, whole_cost, whole_work}
 use Rattle.book_file.specs.BookSays.{BookSays}
-use Rattle.book_file.specs.Clauses.{CountsRead, IsUnread, said_cost}
+use Rattle.book_file.specs.Clauses.{CountsRead, IsBookFaultOrMemory, said_cost}
 use Rattle.book_file.specs.declared.refusal.BookFault.{BookFault}
 use Rattle.book_file.specs.declared.refusal.BookFault.TheVariants as books
 use Rattle.book_file.proofs.Laws as texts
@@ -144,7 +144,7 @@ open_refused from text steps why reply h = if_ok_map reply _ _ (λ r is. made (r
 
 module _ (from : Standing) (text : List ℕ) (fresh : IsFresh from) (before now : ℕ) where
   -- the text isn't that of a book
-  says_fault : (why : BookFault) (a : Answer) → IsUnread text why → IsBookRefusal why a
+  says_fault : (why : BookFault) (a : Answer) → IsBookFaultOrMemory text why → IsBookRefusal why a
       → BookSays text (Err why) × (a ≡ refusal (book_detail why))
   says_fault (books.Memory e) a h is = absurd is
   says_fault books.Long a h is = (h, is)
@@ -157,7 +157,7 @@ module _ (from : Standing) (text : List ℕ) (fresh : IsFresh from) (before now 
   still (books.Form item) a h is = h
   still (books.Plan day) a h is = h
 
-  pub fault_made : (why : BookFault) (reply : Result LineReply AllocError) → IsUnread text why
+  pub fault_made : (why : BookFault) (reply : Result LineReply AllocError) → IsBookFaultOrMemory text why
       → CountsRead text (Err why) before now → IfOk reply (λ r. IsBookRefusal why (reply_of r))
       → IfOk reply (λ r. IsMade (IsOpenStep from text) from before now (reply_of r))
   fault_made why reply h counts = if_ok_map reply _ _ (λ r is. made (reply_of r) is)

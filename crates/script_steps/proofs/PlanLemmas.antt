@@ -15,7 +15,7 @@ use Rattle.script_steps.specs.Replies.{reply_of}
 use Rattle.plan_answers.proofs.Laws.{if_ok_map, on_err_map, refused_is, refusal_steps}
 use Rattle.script_steps.specs.declared.plan.Judged.TheVariants.{Refused}
 use Rattle.script_steps.specs.Standings.{Standing}
-use Rattle.script_steps.specs.LineSteps.{IsEditStep, IsPut, IsTextsStep, IsTried, PlanUse}
+use Rattle.script_steps.specs.LineSteps.{IsEditStep, IsPut, IsTextsStep, IsTrialStep, PlanUse}
 use Rattle.script_steps.specs.PlanViews.{IsJudged}
 use Rattle.script_steps.specs.StepViews.{IsMade, IsLost, IsWant}
 use Rattle.script_steps.proofs.MadeLemmas.{made_map, made_still, lost_map, want_map}
@@ -69,17 +69,18 @@ module _ (from : Standing) (day : Day) (plan limits : List ℕ) where
 
       -- the plan was tried, or not
       abbrev Tries : Standing → Answer → Type 0
-      Tries = IsTried from (day, accepted p)
+      Tries = IsTrialStep from (day, accepted p)
 
       pub tried_made : (to : Standing) (reply : Result LineReply AllocError)
           → IfOk reply (λ r. IsMade Tries to before now (reply_of r))
-          → IfOk reply (λ r. IsMade (IsTextsStep IsTried from day plan limits) to before now (reply_of r))
+          → IfOk reply (λ r. IsMade (IsTextsStep IsTrialStep from day plan limits) to before now (reply_of r))
       tried_made to reply =
           if_ok_map reply _ _
-          (λ r. made_map Tries (IsTextsStep IsTried from day plan limits) to before now (reply_of r) (used IsTried))
+          (λ r. made_map Tries (IsTextsStep IsTrialStep from day plan limits) to before now (reply_of r)
+          (used IsTrialStep))
 
       pub tried_lost : (reply : Result LineReply AllocError) → OnErr reply (IsWant Tries before now)
-          → OnErr reply (IsWant (IsTextsStep IsTried from day plan limits) before now)
+          → OnErr reply (IsWant (IsTextsStep IsTrialStep from day plan limits) before now)
       tried_lost reply =
           on_err_map reply _ _
-          (want_map Tries (IsTextsStep IsTried from day plan limits) before now (used IsTried))
+          (want_map Tries (IsTextsStep IsTrialStep from day plan limits) before now (used IsTrialStep))

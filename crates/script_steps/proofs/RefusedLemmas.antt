@@ -35,7 +35,7 @@ use Rattle.script_steps.specs.TraceSteps.{told_trace}
 use Rattle.script_steps.specs.FilingSteps.{IsFileStep, IsOwedStep, owed_answer}
 use Rattle.script_steps.specs.OpenSteps.{IsOpenStep, IsOpened, OpenRefusal, open_detail}
 use Rattle.script_steps.specs.LineSteps.{Does, IsEditAnswered, IsEditStep, IsLoaded, IsPlanStep, IsPut, IsReadStep}
-use Rattle.script_steps.specs.LineSteps.{IsTableStep, IsTextsStep, IsTried, IsUsed, PlanUse, bound_text, report_answer}
+use Rattle.script_steps.specs.LineSteps.{IsTableStep, IsTextsStep, IsTrialStep, IsUsed, PlanUse, bound_text, report_answer}
 use Rattle.script_steps.specs.LineSteps.{trial_answer, work_answer}
 use Rattle.script_steps.specs.Promises.{NeverFailsWithin}
 use Rattle.script_steps.specs.StepLaws.{PutPlansHold, RefusedLinesChangeNothing}
@@ -90,7 +90,7 @@ module _ (from : Standing) where
   put_still : (e : Entry Accepted) → Stilled from (IsPut from e)
   put_still e = edit_still (bound_text e) (edits.put e)
 
-  tried_still : (e : Entry Accepted) → Stilled from (IsTried from e)
+  tried_still : (e : Entry Accepted) → Stilled from (IsTrialStep from e)
   tried_still e to answer h = by h.verdict h.is
     where
       by : (v : Result Contents EditRefusal) → Stays from to (trial_answer from.book e v) answer → Still from to answer
@@ -140,7 +140,7 @@ module _ (from : Standing) where
   does_still files (Ok (asked.filing month)) = file_still month
   does_still files (Ok asked.owed) = owed_still
   does_still files (Ok (asked.opening file)) = read_still (IsOpenStep from) open_still files file
-  does_still files (Ok (asked.trial day plan limits)) = plan_still IsTried tried_still files day plan limits
+  does_still files (Ok (asked.trial day plan limits)) = plan_still IsTrialStep tried_still files day plan limits
 
 pub refused : RefusedLinesChangeNothing
 refused files from to line answer is marked = does_still from files is.said to answer is.does marked

@@ -15,13 +15,13 @@ use Rattle.saved_items.specs.SavedBooks.{IsRun, IsWork}
 use Rattle.saved_items.specs.SavedBooks as saved
 use Rattle.book_year.specs.Accepted.{Accepted}
 use Rattle.book_edits.specs.Books.{YearRuns, run_count, source_of, withdrawal}
-use Rattle.book_edits.specs.Replans.{IsFull}
+use Rattle.book_edits.specs.Replans.{HasMostPlans}
 use Rattle.book_edits.proofs.Laws.{all_put, all_without, length_put, map_rising, sum_put}
 use Rattle.book_file.specs.BookTexts.{IsTextOf, saved_entry}
 use Rattle.book_file.specs.Saving.{SaveSays}
 use Rattle.recalc_engine.specs.BookLaws.{ArePlans, HasOwnRuns, HasPlan, IsBook, IsPlan}
 use Rattle.recalc_engine.specs.Contents.{Contents}
-use Rattle.recalc_engine.specs.EditAnswers.{CanEdit, Edit, add, change, drop, edited, load, put, withdraw, with_edit}
+use Rattle.recalc_engine.specs.EditAnswers.{CanEdit, Edit, add, change, drop, edited_book, load, put, withdraw, with_edit}
 use Rattle.recalc_engine.proofs.Laws.{picked_plan, runs_rise}
 use Rattle.script_steps.specs.GoingOn.{IsSavable}
 use Rattle.script_steps.proofs.CostLemmas.{work_fits}
@@ -117,7 +117,7 @@ ones [] = refl
 ones (x ∷ xs) = omega (arith, ones xs, sum_by-cons (λ x. 1) x xs)
 
 -- a plan put in place of another, or where there is room
-put_few : (e : Entry Accepted) (plans : List (Entry Accepted)) → AreEntries plans → (IsFull plans (day_of e) → ⊥)
+put_few : (e : Entry Accepted) (plans : List (Entry Accepted)) → AreEntries plans → (HasMostPlans plans (day_of e) → ⊥)
     → length (with_entry e plans) ≤ 64
 put_few e plans h room = by (entry_at plans (day_of e)) refl
   where
@@ -130,7 +130,8 @@ put_few e plans h room = by (entry_at plans (day_of e)) refl
         let s = rw there at (sum_put day_cmp day_total day_of (λ x. 1) e plans h.rising) in
         omega (arith, s, ones (with_entry e plans), ones plans, h.few)
 
-put_entries : (e : Entry Accepted) (plans : List (Entry Accepted)) → AreEntries plans → (IsFull plans (day_of e) → ⊥)
+put_entries : (e : Entry Accepted) (plans : List (Entry Accepted)) → AreEntries plans →
+    (HasMostPlans plans (day_of e) → ⊥)
     → AreEntries (with_entry e plans)
 put_entries e plans h room =
     record { rising = put_rising day_cmp day_total day_of e plans h.rising; few = put_few e plans h room }
@@ -200,7 +201,8 @@ with_parts book (drop d) h s can = record {
   plans = all_without day_cmp day_of HasPlanText d book.plans h.plans;
 }
 
-pub edit_sound : (book : Contents) (e : Edit) → IsSound book → IsSoundEdit e → CanEdit book e → IsSound (edited e book)
+pub edit_sound : (book : Contents) (e : Edit) → IsSound book → IsSoundEdit e → CanEdit book e →
+    IsSound (edited_book e book)
 edit_sound book e h s can =
     let next = with_edit e book in
     let parts = with_parts book e h s can in record {

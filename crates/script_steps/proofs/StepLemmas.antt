@@ -15,7 +15,7 @@ use Rattle.recalc_engine.specs.EditAnswers as edits
 use Rattle.plan_answers.specs.Answers.{Answer, refusal}
 use Rattle.script_steps.specs.LineTexts.{ok_line, line_detail}
 use Rattle.script_steps.specs.Standings.{Standing, Doing, silence}
-use Rattle.script_steps.specs.LineSteps.{IsTableStep, IsReadStep, IsPut, IsTried, IsPlanStep, PlanUse, Does, IsFileOf}
+use Rattle.script_steps.specs.LineSteps.{IsTableStep, IsReadStep, IsPut, IsTrialStep, IsPlanStep, PlanUse, Does, IsFileOf}
 use Rattle.script_steps.specs.LineSteps.{report_answer, work_answer}
 use Rattle.script_steps.specs.OpenSteps.{IsOpenStep}
 use Rattle.script_steps.specs.Steps.{Names, AreThere}
@@ -74,7 +74,7 @@ module _ (files : FileMap) (from : Standing) where
   does_some asked.owed there = owed_some from
   does_some (asked.opening file) there = read_some (IsOpenStep from) (open_some from) file (there file refl)
   does_some (asked.trial day plan limits) there =
-      plan_some IsTried (tried_some from) day plan limits (there plan (inl refl)) (there limits (inr refl))
+      plan_some IsTrialStep (tried_some from) day plan limits (there plan (inl refl)) (there limits (inr refl))
 
   does_one : (said : Result Asked LineFault) (to to' : Standing) (a a' : Answer) → Does files from said to a
       → Does files from said to' a' → Same to to' a a'
@@ -97,7 +97,7 @@ module _ (files : FileMap) (from : Standing) where
   does_one (Ok (asked.opening file)) to to' a a' h k =
       read_one (IsOpenStep from) (open_one from) files file to to' a a' h k
   does_one (Ok (asked.trial day plan limits)) to to' a a' h k =
-      plan_one IsTried from day tried_one files plan limits to to' a a' h k
+      plan_one IsTrialStep from day tried_one files plan limits to to' a a' h k
 
   -- the files of what was done are there
   files_there : (what : Asked) (to : Standing) (a : Answer) (name : List ℕ) → Does files from (Ok what) to a

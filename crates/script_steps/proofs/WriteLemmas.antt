@@ -12,7 +12,7 @@ use Rattle.report_csv.specs.Fronts.{AppendsFront}
 use Rattle.plan_answers.specs.Answers.{Answer}
 use Rattle.script_steps.specs.declared.stop.LineStop.{LineStop}
 use Rattle.script_steps.specs.declared.stop.LineStop.TheVariants as stops
-use Rattle.script_steps.specs.StepViews.{IsUnwritten, IsLineRefusal, IsRefusalUnwritten}
+use Rattle.script_steps.specs.StepViews.{IsFrontWritten, IsLineRefusal, IsRefusalUnwritten}
 
 -- a front of the first part is one of the whole
 pub first_front : (old new : Option (List ℕ)) (first rest : List ℕ) → AppendsFront old new first
@@ -55,11 +55,11 @@ second_prefix old mid new first rest a p =
 
 -- what was written of an answer is what was written of a line's refusal
 pub refusal_unwritten : (old new : Option (List ℕ)) (why : LineFault) (answer : Answer) (stop : LineStop)
-    → IsLineRefusal why answer → stop ≡ stops.Write → IsUnwritten old new answer.text stop
+    → IsLineRefusal why answer → stop ≡ stops.Write → IsFrontWritten old new answer.text stop
     → IsRefusalUnwritten old new why stop
 refusal_unwritten old new why answer stop is same u =
     subst (λ s. IsRefusalUnwritten old new why s) (sym same)
-    (record { answer = answer; is = is; cut = subst (λ s. IsUnwritten old new answer.text s) same u })
+    (record { answer = answer; is = is; cut = subst (λ s. IsFrontWritten old new answer.text s) same u })
 
 -- the files are no cause where this error doesn't come
 pub never_file : {T : Type 0} (P : LineStop → Type 0) (result : Result T LineStop) (faults : ℕ) → (P stops.File → ⊥)

@@ -106,7 +106,7 @@ trial_answer book e (Ok next) =
 trial_answer book e (Err why) = refusal (edit_detail why)
 
 -- and nothing changes
-pub record IsTried (from : Standing) (e : Entry Accepted) (to : Standing) (answer : Answer) : Type 0 where
+pub record IsTrialStep (from : Standing) (e : Entry Accepted) (to : Standing) (answer : Answer) : Type 0 where
   pub verdict : Result Contents EditRefusal
   pub says : EditAnswers from.book (edits.put e) verdict
   pub is : Stays from to (trial_answer from.book e verdict) answer
@@ -138,7 +138,8 @@ Does files from (Ok (asked.trace who when)) to answer = Stays from to (trace_ans
 Does files from (Ok (asked.filing month)) to answer = IsFileStep from month to answer
 Does files from (Ok asked.owed) to answer = IsOwedStep from to answer
 Does files from (Ok (asked.opening file)) to answer = IsReadStep (IsOpenStep from) files file to answer
-Does files from (Ok (asked.trial day plan limits)) to answer = IsPlanStep IsTried files from day plan limits to answer
+Does files from (Ok (asked.trial day plan limits)) to answer =
+    IsPlanStep IsTrialStep files from day plan limits to answer
 
 -- the files that are asked for
 abbrev pub IsFileOf : Asked → List ℕ → Type 0

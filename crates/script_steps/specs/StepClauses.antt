@@ -48,7 +48,7 @@ pub record IsCutShort
   pub is : ForSome told (λ files. IsStep files from line to answer)
 
 -- the files failed at a name of the line, where those that are read before it are there
-pub record IsUnread
+pub record IsStoppedByFile
     (told : Option FileMap) (old new : Option (List ℕ)) (before now : ℕ) (line : List ℕ)
     (failed : Option (List ℕ)) : Type 0 where
   pub unbegun : IsUnbegun old new before now
@@ -61,7 +61,7 @@ pub record IsUnread
 abbrev pub IsBroken :
     Option FileMap → Option (List ℕ) → Option (List ℕ) → ℕ → ℕ
     → Standing → List ℕ → Option (List ℕ) → LineStop → Type 0
-IsBroken told old new before now from line failed stops.File = IsUnread told old new before now line failed
+IsBroken told old new before now from line failed stops.File = IsStoppedByFile told old new before now line failed
 IsBroken told old new before now from line failed stops.Write = IsCutShort told old new before now from line
 IsBroken told old new before now from line failed stops.Memory =
     IsUnbegun old new before now ⊎ IsPart told old new before now from line

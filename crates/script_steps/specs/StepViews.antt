@@ -114,10 +114,10 @@ pub record IsWritten (old new : Option (List ℕ)) (text : List ℕ) (mark refus
   pub appended : Appends old new text
 
 -- a front of the text, which is not the whole where the sink failed
-abbrev pub IsUnwritten : Option (List ℕ) → Option (List ℕ) → List ℕ → LineStop → Type 0
-IsUnwritten old new text stops.File = ⊥
-IsUnwritten old new text stops.Write = AppendsPrefix old new text
-IsUnwritten old new text stops.Memory = AppendsFront old new text
+abbrev pub IsFrontWritten : Option (List ℕ) → Option (List ℕ) → List ℕ → LineStop → Type 0
+IsFrontWritten old new text stops.File = ⊥
+IsFrontWritten old new text stops.Write = AppendsPrefix old new text
+IsFrontWritten old new text stops.Memory = AppendsFront old new text
 
 -- the same of the refusal of a line; out of memory nothing is written of it
 pub record IsRefusalWritten (old new : Option (List ℕ)) (why : LineFault) (refused : Bool) : Type 0 where

@@ -5,7 +5,7 @@ ghost use Rattle.outside.specs.Causes.{Caused};
 ghost use Rattle.plan_answers.specs.Answers.{IsRefusal};
 ghost use Rattle.script_steps.specs.Replies.{reply_of};
 ghost use Rattle.script_lang.specs.Commands as asked;
-ghost use Rattle.script_steps.specs.LineSteps.{IsPut, IsTextsStep, IsTried};
+ghost use Rattle.script_steps.specs.LineSteps.{IsPut, IsTextsStep, IsTrialStep};
 ghost use Rattle.script_steps.specs.PlanViews.{AreJudged, IsJudged, IsUnjudged};
 ghost use Rattle.script_steps.specs.StepViews.{IsMade, IsUnmade, IsWant, ToldDoes};
 
@@ -178,10 +178,10 @@ fn tried<L: Ledger>(
     steps: &mut Steps<L>,
 ) -> Result<LineReply, AllocError>
     ensures made { (plan limits : List ℕ) → IsJudged plan limits judged → IfOk result
-        (λ reply. IsMade (IsTextsStep IsTried script.now day plan limits)
+        (λ reply. IsMade (IsTextsStep IsTrialStep script.now day plan limits)
         script.now steps.old steps.new (reply_of reply)) }
     ensures lost { (plan limits : List ℕ) → IsJudged plan limits judged → OnErr result
-        (IsWant (IsTextsStep IsTried script.now day plan limits) steps.old steps.new) }
+        (IsWant (IsTextsStep IsTrialStep script.now day plan limits) steps.old steps.new) }
 {
     match judged {
         Judged::Accepted { plan, line } => {

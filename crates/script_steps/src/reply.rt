@@ -5,7 +5,7 @@ ghost use Rattle.outside.specs.Causes.{Caused};
 ghost use Rattle.plan_answers.specs.Answers.{refusal};
 ghost use Rattle.script_steps.specs.Replies.{reply_of};
 ghost use Rattle.script_steps.specs.Standings.{accepted};
-ghost use Rattle.script_steps.specs.StepViews.{IsUnwritten, IsWritten};
+ghost use Rattle.script_steps.specs.StepViews.{IsFrontWritten, IsWritten};
 
 use crate::stop::LineStop;
 use outside::{Sink, put_all};
@@ -53,7 +53,7 @@ pub(crate) fn write_reply<W: Sink>(
 ) -> Result<Option<String>, LineStop>
     ensures ok { IfOk result (λ wrong. IsWritten (W.written sink.old) (W.written sink.new)
         reply.text.items (is_some reply.wrong) (is_some wrong)) }
-    ensures err { ForErr result (IsUnwritten (W.written sink.old) (W.written sink.new)
+    ensures err { ForErr result (IsFrontWritten (W.written sink.old) (W.written sink.new)
         reply.text.items) }
     ensures alone { ForErr result (λ stop. stop ≡ LineStop.Write) }
     ensures write { Caused LineStop.Write (W.faults sink.old) (W.faults sink.new) result }

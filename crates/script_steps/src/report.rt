@@ -4,7 +4,7 @@ ghost use Rattle.std.specs.Result.{ForErr};
 ghost use Rattle.outside.specs.Causes.{Caused};
 ghost use Rattle.report_csv.specs.ReportTexts.{report_text};
 ghost use Rattle.script_steps.specs.LineTexts.{end_line};
-ghost use Rattle.script_steps.specs.StepViews.{IsUnwritten, IsWritten};
+ghost use Rattle.script_steps.specs.StepViews.{IsFrontWritten, IsWritten};
 
 use crate::stop::LineStop;
 use outside::{Sink, put_all};
@@ -20,7 +20,7 @@ pub(crate) fn report<W: Sink>(
 ) -> Result<Option<String>, LineStop>
     ensures ok { IfOk result (λ wrong. IsWritten (W.written sink.old) (W.written sink.new)
         (report_text book.now ++ end_line) false (is_some wrong)) }
-    ensures err { ForErr result (IsUnwritten (W.written sink.old) (W.written sink.new)
+    ensures err { ForErr result (IsFrontWritten (W.written sink.old) (W.written sink.new)
         (report_text book.now ++ end_line)) }
     ensures write { Caused LineStop.Write (W.faults sink.old) (W.faults sink.new) result }
 {

@@ -2,9 +2,9 @@
 use Rattle.std.specs.Prelude.{ℕ, ◌≡◌, ◌+◌, ◌≤◌, Result, Ok, Err}
 use Rattle.plan_calendar.specs.Picking.{Entry, day_of}
 use Rattle.book_year.specs.Accepted.{Accepted}
-use Rattle.book_edits.specs.Replans.{IsFull}
+use Rattle.book_edits.specs.Replans.{HasMostPlans}
 use Rattle.recalc_engine.specs.Contents.{Contents}
-use Rattle.recalc_engine.specs.EditAnswers.{CanEdit, edited, put}
+use Rattle.recalc_engine.specs.EditAnswers.{CanEdit, edited_book, put}
 use Rattle.recalc_engine.specs.MonthRows.{month_rows}
 use Rattle.what_if.specs.declared.trial.Trial.{Trial}
 use Rattle.what_if.specs.declared.trial.TryRefusal.{TryRefusal}
@@ -13,7 +13,7 @@ use Rattle.what_if.specs.Changes.{changes}
 
 -- the book with the plan put at its day
 abbrev pub book_with : Contents → Entry Accepted → Contents
-book_with book e = edited (put e) book
+book_with book e = edited_book (put e) book
 
 -- what differs between the runs of the book and those of the book with the plan, and the work of putting it
 abbrev pub trial_of : Contents → Entry Accepted → Trial
@@ -24,7 +24,7 @@ trial_of book e = record {
 
 -- why a plan is not tried: there would be too many; memory may run out only where nothing else stands against it
 abbrev pub IsTryRefused : Contents → Entry Accepted → TryRefusal → Type 0
-IsTryRefused book e trying.Plans = IsFull book.plans (day_of e)
+IsTryRefused book e trying.Plans = HasMostPlans book.plans (day_of e)
 IsTryRefused book e (trying.Memory error) = CanEdit book (put e)
 
 -- a counter rose by exactly the steps of the work, by at most those where memory ran out, and by none after a refusal

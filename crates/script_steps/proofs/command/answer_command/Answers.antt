@@ -10,7 +10,7 @@ use Rattle.script_steps.specs.LineSteps.{report_answer}
 use Rattle.report_csv.specs.ReportTexts.{report_text}
 use Rattle.script_steps.specs.LineTexts.{end_line}
 use Rattle.script_steps.specs.Standings.{Standing}
-use Rattle.script_steps.specs.StepViews.{IsWritten, IsUnwritten, ToldDoes}
+use Rattle.script_steps.specs.StepViews.{IsWritten, IsFrontWritten, ToldDoes}
 use Rattle.script_steps.proofs.WriteLemmas.{never_file}
 use Rattle.script_steps.proofs.MadeLemmas.{made_answered, made_broken, report_made, unmade_broken, unmade_cause}
 use Rattle.script_steps.proofs.command.answer_command.Goals as goal
@@ -31,7 +31,7 @@ returns-in-Report-clause-broken g c = λ line says.
     made_broken told (g.W.Sink.written c.args.sink.now) (g.W.Sink.written c.report.new.sink) c.args.steps.now
     c.args.steps.now c.args.script.now c.args.script.now (g.F.Files.failed c.args.files.now) asked.report
     (report_answer c.args.script.now) (report_made told c.args.script.now c.args.steps.now) c.report.result
-    (subst (λ (s : Standing). ForErr c.report.result (IsUnwritten (g.W.Sink.written c.args.sink.now)
+    (subst (λ (s : Standing). ForErr c.report.result (IsFrontWritten (g.W.Sink.written c.args.sink.now)
     (g.W.Sink.written c.report.new.sink) (report_answer s).text)) c.script.view_is c.report.ensures.err) line
     (subst (λ k. IsLine line (asked_of k)) c.in-Report.is says)
 
@@ -72,6 +72,6 @@ returns-in_ok-reply-in_default-clause-broken g c = λ line says.
 
 pub returns-in-Report-clause-file : goal.returns-in-Report-clause-file
 returns-in-Report-clause-file g c =
-    never_file (IsUnwritten (g.W.Sink.written c.args.sink.now) (g.W.Sink.written c.report.new.sink)
+    never_file (IsFrontWritten (g.W.Sink.written c.args.sink.now) (g.W.Sink.written c.report.new.sink)
     (report_text c.script.inside.book ++ end_line)) c.report.result (g.F.Files.faults c.args.files.now) (λ h. h)
     c.report.ensures.err

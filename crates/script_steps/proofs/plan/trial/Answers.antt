@@ -3,7 +3,7 @@ use Rattle.std.specs.Prelude.{Ok, Err}
 use Rattle.std.proofs.lemmas.Result.{err_from_is_err_and}
 use Rattle.script_lang.specs.Commands as asked
 use Rattle.script_steps.specs.Replies.{reply_of}
-use Rattle.script_steps.specs.LineSteps.{IsTried, IsTextsStep}
+use Rattle.script_steps.specs.LineSteps.{IsTrialStep, IsTextsStep}
 use Rattle.script_steps.specs.StepViews.{ToldDoes}
 use Rattle.script_steps.proofs.FileLemmas.{plan_told}
 use Rattle.script_steps.proofs.MadeLemmas.{made_map, want_map, unjudged, wanting}
@@ -28,9 +28,9 @@ returns-in_err-tried-clause-unmade g c =
     let p = err_from_is_err_and c.from_residual-in_err-tried.result c.from_residual-in_err-tried.ensures.1 in
     wanting told (ToldDoes told from (Ok what)) what c.args.steps.now c.tried.new.steps
     (g.F.Files.failed c.judge.new.files) c.from_residual-in_err-tried.result (p.1 ∙ ap (λ s. Err s) p.2)
-    (want_map (IsTextsStep IsTried from c.args.day j.plan_front j.limits_front) (ToldDoes told from (Ok what))
+    (want_map (IsTextsStep IsTrialStep from c.args.day j.plan_front j.limits_front) (ToldDoes told from (Ok what))
     c.args.steps.now c.tried.new.steps
-    (plan_told IsTried told from c.args.day c.args.plan.now c.args.limits.now c.in_ok-judged.judged j)
+    (plan_told IsTrialStep told from c.args.day c.args.plan.now c.args.limits.now c.in_ok-judged.judged j)
     (c.in_err-tried.ensures.lost j.plan_front j.limits_front j.is))
 
 pub returns-clause-made : goal.returns-clause-made
@@ -39,7 +39,7 @@ returns-clause-made g c =
     let told = g.F.Files.told c.args.files.now in
     let from = c.args.script.now in
     let j = c.in_ok-judged.ensures.judged in
-    made_map (IsTextsStep IsTried from c.args.day j.plan_front j.limits_front) (ToldDoes told from (Ok what))
+    made_map (IsTextsStep IsTrialStep from c.args.day j.plan_front j.limits_front) (ToldDoes told from (Ok what))
     c.args.script.now c.args.steps.now c.tried.new.steps (reply_of c.in_ok-tried.field-0)
-    (plan_told IsTried told from c.args.day c.args.plan.now c.args.limits.now c.in_ok-judged.judged j)
+    (plan_told IsTrialStep told from c.args.day c.args.plan.now c.args.limits.now c.in_ok-judged.judged j)
     (c.in_ok-tried.ensures.made j.plan_front j.limits_front j.is)

@@ -1,7 +1,7 @@
 use Rattle.std.proofs.Common.{subst}
 use Rattle.std.specs.Prelude.{string_bytes}
 use Rattle.book_year.specs.Accepted.{accepted}
-use Rattle.script_steps.specs.LineSteps.{IsTried}
+use Rattle.script_steps.specs.LineSteps.{IsTrialStep}
 use Rattle.script_steps.specs.PlanViews.{IsJudged}
 use Rattle.script_steps.proofs.PlanLemmas.{refused, tried_made, tried_lost}
 use Rattle.script_steps.proofs.TrialLemmas.{trial_made, trial_lost}
@@ -32,5 +32,5 @@ returns-in-Accepted-clause-lost g c = λ plan limits j.
 
 pub returns-in-Refused-clause-made : goal.returns-in-Refused-clause-made
 returns-in-Refused-clause-made g c = λ plan limits j.
-    refused c.args.script.now c.args.day plan limits IsTried c.args.steps.now c.in-Refused.reply
+    refused c.args.script.now c.args.day plan limits IsTrialStep c.args.steps.now c.in-Refused.reply
     (subst (IsJudged plan limits) c.in-Refused.is j)
