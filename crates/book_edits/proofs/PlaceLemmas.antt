@@ -3,10 +3,12 @@ use Rattle.std.proofs.Common.{◌≡◌, ℕ, List, [], Some, None, IsSome, is_s
 use Rattle.std.specs.Result.{IsOk, result_ok}
 use Rattle.std.proofs.lemmas.Bool.{false≢true}
 use Rattle.rising_lists.specs.Keyed.{at_key}
-use Rattle.rising_lists.specs.Places.{Finds, Misses}
+use Rattle.rising_lists.specs.Places.{Finds, IsAt, IsGap, Misses}
+use Rattle.rising_lists.proofs.Laws.{at_key_gap, at_key_here}
 use Rattle.payroll_records.specs.declared.day.Day.{Day}
 use Rattle.payroll_records.specs.declared.record.Record.{Record}
 use Rattle.payroll_records.specs.Orders.{day_cmp}
+use Rattle.payroll_records.proofs.Laws.{day_total}
 use Rattle.book_year.specs.declared.year.Year.{Year}
 use Rattle.book_year.specs.declared.year.YearKey.{YearKey}
 use Rattle.book_year.specs.Records.{record_day}
@@ -44,11 +46,12 @@ year_missing ys slice k key (Err i) s e is h = runs_missed ys k (year_gap ys sli
 pub runs_found : (ys : List Year) (k : YearKey) (i : ℕ) (y : Year) → IsFound ys k i y → runs_of (runs_in ys) k ≡ y.records.items
 runs_found ys k i y found = runs_kept ys k y (found.here.at y ∙ ap (λ t. Some t) (sym found.is))
 
-pub run_missing : (rs slice : List Record) (d : Day) (r : Result ℕ ℕ) → slice ≡ rs → result_ok r ≡ None → IfErr r (Misses day_cmp record_day slice d) → at_key day_cmp record_day rs d ≡ None
+pub run_missing : (rs slice : List Record) (d : Day) (r : Result ℕ ℕ) → slice ≡ rs → result_ok r ≡ None → IfErr r (IsGap day_cmp record_day slice d) → at_key day_cmp record_day rs d ≡ None
 run_missing rs slice d (Ok i) s is h = cc
-run_missing rs slice d (Err i) s is h = ap (λ t. at_key day_cmp record_day t d) (sym s) ∙ h.at
+run_missing rs slice d (Err i) s is h =
+    ap (λ t. at_key day_cmp record_day t d) (sym s) ∙ at_key_gap day_cmp day_total record_day slice d i h
 
-pub run_found : (rs slice : List Record) (d : Day) (r : Result ℕ ℕ) (i : ℕ) (x : Record) → slice ≡ rs → r ≡ Ok i → IfOk r (Finds day_cmp record_day slice d) → x ≡ get_or slice i x → Some x ≡ at_key day_cmp record_day rs d
+pub run_found : (rs slice : List Record) (d : Day) (r : Result ℕ ℕ) (i : ℕ) (x : Record) → slice ≡ rs → r ≡ Ok i → IfOk r (IsAt day_cmp record_day slice d) → x ≡ get_or slice i x → Some x ≡ at_key day_cmp record_day rs d
 run_found rs slice d r i x s is h here =
-    let found : Finds day_cmp record_day slice d i = rw is at h in
-    ap (λ t. Some t) here ∙ sym (found.at x) ∙ ap (λ t. at_key day_cmp record_day t d) s
+    let found : IsAt day_cmp record_day slice d i = rw is at h in
+    ap (λ t. Some t) here ∙ sym (at_key_here day_cmp day_total record_day slice d i x found) ∙ ap (λ t. at_key day_cmp record_day t d) s

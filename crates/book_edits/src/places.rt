@@ -1,16 +1,14 @@
-//! Where the year of an employee stands, and where a run stands in it.
+//! Where the year of an employee stands, and which runs of a year fall in a month.
 ghost use Rattle.std.specs.Prelude.{◌≡◌, IfOk, IfErr, filter};
 ghost use Rattle.rising_lists.specs.Keyed.{IsRising};
 ghost use Rattle.rising_lists.specs.Places.{Finds, Misses};
-ghost use Rattle.payroll_records.specs.Orders.{day_cmp};
-ghost use Rattle.book_year.specs.Records.{record_day};
 ghost use Rattle.book_edits.specs.Books.{is_in_month, only_one, year_cmp, year_of};
 ghost use Rattle.book_edits.specs.Kept.{kept_key};
 ghost use Rattle.book_edits.specs.Views.{with_one_more};
 
 use crate::InMonth;
 use book_year::{Year, YearKey};
-use payroll_records::{Day, Key, Record};
+use payroll_records::{Key, Record};
 
 /// The year in which a run stands.
 pub fn year_of(key: &Key) -> YearKey
@@ -29,15 +27,6 @@ pub fn place_year(years: &[Year], key: &YearKey) -> Result<usize, usize>
     ensures absent { IfErr result (Misses year_cmp kept_key years.now key.now) }
 {
     years.binary_search_by_key(key, |y| y.key)
-}
-
-/// Where the run of a day stands, or would go.
-pub(crate) fn place_run(records: &[Record], day: Day) -> Result<usize, usize>
-    requires { IsRising day_cmp record_day records.now }
-    ensures found { IfOk result (Finds day_cmp record_day records.now day) }
-    ensures absent { IfErr result (Misses day_cmp record_day records.now day) }
-{
-    records.binary_search_by_key(&day, |r| r.day)
 }
 
 /// The runs of a year that fall in a month of it.

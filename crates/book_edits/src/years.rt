@@ -7,8 +7,8 @@ ghost use Rattle.book_edits.specs.Books.{AreInOrder, in_month, run_at};
 ghost use Rattle.book_edits.specs.Kept.{AreYears, YearsAreInOrder, years_of};
 
 use crate::InMonth;
-use crate::places::{only_one, place_run, place_year, year_of};
-use book_year::{Year, YearKey};
+use crate::places::{only_one, place_year, year_of};
+use book_year::{Year, YearKey, place_run};
 use payroll_records::{Employee, Key, Month, Record};
 use std::alloc::Global;
 

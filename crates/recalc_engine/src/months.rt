@@ -124,10 +124,7 @@ impl<'a> Iterator for YearRows<'a> {
         self.records = records;
         self.outcomes = outcomes;
         Some(MonthRow {
-            key: Key {
-                employee: record.employee,
-                day: record.day,
-            },
+            key: record.key(),
             plan: outcome.plan,
             state: &outcome.state,
         })

@@ -14,7 +14,7 @@ use crate::item::Item;
 use crate::item_words::{PlanLine, is_title, read_count, read_plan_line, read_work};
 use crate::lines::first_line;
 use crate::run_words::read_run;
-use payroll_records::{Day, Key, Record};
+use payroll_records::{Day, Record};
 use std::alloc::{AllocError, Global};
 
 /// The most plans of a saved book, as many as a calendar has.
@@ -214,17 +214,7 @@ fn is_beyond(records: &[Record], run: &Record) -> bool
     ensures { MatchBool result (IsBeyond records.now run.now) (IsBeyond records.now run.now → ⊥) }
 {
     match records.last() {
-        Some(last) => key(last).cmp(&key(run)).is_lt(),
+        Some(last) => last.key().cmp(&run.key()).is_lt(),
         None => true,
-    }
-}
-
-/// What a run is known by.
-fn key(run: &Record) -> Key
-    ensures { result ≡ key_of run.now }
-{
-    Key {
-        employee: run.employee,
-        day: run.day,
     }
 }
