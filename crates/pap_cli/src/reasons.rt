@@ -35,7 +35,8 @@ pub fn reason(
     // There is a reason exactly where the answer on these bytes is a refusal.
     ensures refused { (form : Form) → HasForm (texts words.now) form → IfOk result
         (λ reason. SaysRefusedOn form (bytes_of given.now) (is_some reason)) }
-    // It is one line, that begins with the place of what is refused.
+    // It is one line, that begins with the file in which the refusal stands, and its byte where a text, tag or attribute isn't
+    // read.
     ensures place { (form : Form) → HasForm (texts words.now) form → IfOk result (λ reason.
         IfSome reason (λ r. TellsReason form (bytes_of given.now) (string_bytes r))) }
 
