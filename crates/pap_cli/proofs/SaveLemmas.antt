@@ -11,7 +11,7 @@ use Rattle.plan_answers.specs.declared.reply.Reply.{Reply}
 use Rattle.script_steps.specs.Steps.{Standing}
 use Rattle.script_run.specs.Limits.{most_script}
 use Rattle.script_run.specs.RefusedLines.{tells_one}
-use Rattle.script_run.specs.RunClauses.{Shown, RunMeets, EndsUnwritten}
+use Rattle.script_run.specs.RunClauses.{OutsideShown, RunMeets, EndsUnwritten}
 use Rattle.script_run.specs.Transcripts.{Session}
 use Rattle.script_run.specs.declared.turns.Unwritten.{Unwritten}
 use Rattle.script_run.specs.declared.stop.Stop.{Stop}
@@ -134,7 +134,7 @@ long_book refused standing refusals book reply p q b says is =
 
 -- ---- a stop before the end
 
-no_more : {before after : Shown} {script : List ℕ} {left : Option (List ℕ)} {refused : Bool} → RunMeets before after script left (Ok refused) → RunMeets before after script left (Err stops.Memory)
+no_more : {before after : OutsideShown} {script : List ℕ} {left : Option (List ℕ)} {refused : Bool} → RunMeets before after script left (Ok refused) → RunMeets before after script left (Err stops.Memory)
 no_more {refused = refused} meets = record {
   taken = meets.taken;
   rest = meets.rest;

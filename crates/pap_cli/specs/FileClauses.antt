@@ -3,7 +3,7 @@ use Rattle.std.specs.Prelude.{◌≡◌, ◌≢◌, ◌⊎◌, ℕ, ◌+◌, ◌
 use Rattle.std.specs.Option.{ForSome}
 use Rattle.outside.specs.Causes.{Still}
 use Rattle.outside.specs.Told.{FileMap, Appends}
-use Rattle.script_run.specs.RunClauses.{Shown}
+use Rattle.script_run.specs.RunClauses.{OutsideShown}
 use Rattle.pap_cli.specs.declared.status.Status.{Status}
 use Rattle.pap_cli.specs.declared.status.Status.TheVariants as statuses
 use Rattle.pap_cli.specs.Statuses.{done_status, IsDone}
@@ -41,17 +41,17 @@ pub record IsCutShort (IsAnswer : Answer → Type 0) (out : List ℕ) (spent : �
   pub cost : spent ≡ answer.steps
 
 -- the run was counted, and its answer wasn't written
-pub record IsUnwritten (IsAnswer : Answer → Type 0) (began steps : ℕ) : Type 0 where
+pub record IsRunCounted (IsAnswer : Answer → Type 0) (began steps : ℕ) : Type 0 where
   pub answer : Answer
   pub is : IsAnswer answer
   pub cost : steps ≡ began + answer.steps
 
 -- where memory ran out: nothing was counted, or the run was
 abbrev pub IsCounted : (Answer → Type 0) → ℕ → ℕ → Type 0
-IsCounted IsAnswer began steps = (steps ≡ began) ⊎ IsUnwritten IsAnswer began steps
+IsCounted IsAnswer began steps = (steps ≡ began) ⊎ IsRunCounted IsAnswer began steps
 
 -- what the call leaves, by its status; of the text where the files tell what they hold, of the rest always
-pub record LeavesOnFiles (Answers : Answering) (plan limits : List ℕ) (before after : Shown) (status : Status) : Type 0 where
+pub record LeavesOnFiles (Answers : Answering) (plan limits : List ℕ) (before after : OutsideShown) (status : Status) : Type 0 where
   pub out : List ℕ
   pub appended : Appends before.written after.written out
   pub counted : before.steps ≤ after.steps

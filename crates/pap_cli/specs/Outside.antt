@@ -4,7 +4,7 @@ use Rattle.outside.specs.Told.{FileMap}
 use Rattle.outside.specs.declared.traits.Files.{Ghosts as FilesTell}
 use Rattle.outside.specs.declared.traits.Sink.{Ghosts as SinkTells}
 use Rattle.outside.specs.declared.traits.Source.{Ghosts as SourceTells}
-use Rattle.script_run.specs.RunClauses.{Shown, shown}
+use Rattle.script_run.specs.RunClauses.{OutsideShown, shown}
 
 -- the files, the source and the sink with their counts of faults, and the counter of steps; what an object holds is there
 -- where it tells it
@@ -47,7 +47,7 @@ outside_of of_files of_source of_sink o = record {
 }
 
 -- the files, the sink and the counter
-abbrev pub shown_of : Outside → Shown
+abbrev pub shown_of : Outside → OutsideShown
 shown_of o = shown o.files o.failed o.written o.steps
 
 -- the sink and the counter alone

@@ -5,7 +5,7 @@ use Rattle.outside.specs.Causes.{Still}
 use Rattle.outside.specs.Told.{FileMap, Appends}
 use Rattle.plan_answers.specs.Answers.{Answer}
 use Rattle.script_run.specs.Limits.{most_script}
-use Rattle.script_run.specs.RunClauses.{Shown, shown, RunMeets}
+use Rattle.script_run.specs.RunClauses.{OutsideShown, shown, RunMeets}
 use Rattle.script_run.specs.declared.stop.Stop.{Stop}
 use Rattle.script_run.specs.declared.stop.Stop.TheVariants as stops
 use Rattle.pap_cli.specs.declared.status.Status.{Status}
@@ -16,7 +16,7 @@ use Rattle.pap_cli.specs.FileClauses.{IsWhole, IsCutShort}
 use Rattle.pap_cli.specs.SaveAnswers.{IsSaved}
 
 -- what is shown of a run that writes nothing: the files and the counter
-abbrev pub unwritten : Outside → Shown
+abbrev pub unwritten : Outside → OutsideShown
 unwritten o = shown o.files o.failed None o.steps
 
 -- the script was answered to its end: the answer was written whole, or a front of it where the sink failed

@@ -1,6 +1,6 @@
 -- Over files that lack none of a script's, a run is stopped by memory alone.
 use Rattle.std.proofs.Common.{◌≡◌, List, [], ◌∷◌, ◌++◌, ℕ, ◌-◌, ◌≤◌, length, Option, refl, sym, ap, ◌∙◌, subst, arith, length-append}
-use Rattle.std.specs.Prelude.{None, Some, IsSome, is_some, false, All, Vec, Result, Ok, Err, OnErr}
+use Rattle.std.specs.Prelude.{None, Some, IsSome, All, Vec, Result, Ok, Err, OnErr}
 use Rattle.std.specs.declared.alloc.Global.{Global}
 use Rattle.std.proofs.lemmas.List.Elements.{All-head, All-tail}
 use Rattle.outside.specs.Told.{FileMap}
@@ -8,7 +8,7 @@ use Rattle.outside.specs.Memory.{file_named}
 use Rattle.script_steps.specs.Steps.{Standing, AreThere}
 use Rattle.script_run.specs.Limits.{most_script}
 use Rattle.script_run.specs.Transcripts.{lines_of}
-use Rattle.script_run.specs.RunClauses.{Shown, RunMeets, EndsAt, EndsUnwritten, TellsRefused, IsFinished, IsSpentWithin}
+use Rattle.script_run.specs.RunClauses.{OutsideShown, RunMeets, EndsAt, EndsUnwritten, TellsRefused, IsFinished, IsSpentWithin}
 use Rattle.script_run.specs.RefusedLines.{IsToldOf, tells_one}
 use Rattle.script_run.specs.declared.turns.Ended.{Ended}
 use Rattle.script_run.specs.declared.refused_lines.RefusedLines.{RefusedLines}
@@ -22,7 +22,7 @@ line_there files (first ∷ before) later line there =
     line_there files before later line (All-tail (λ v. AreThere files v) first (before ++ line ∷ later) there)
 
 -- a file that a line names isn't lacking
-pub no_file_stop : {before after : Shown} {left : Option (List ℕ)} (files : FileMap) (script : List ℕ) →
+pub no_file_stop : {before after : OutsideShown} {left : Option (List ℕ)} (files : FileMap) (script : List ℕ) →
     RunMeets before after script left (Err stops.File) →
     All (λ line. AreThere files line) (lines_of script) → ((name : List ℕ) → after.failed ≡ Some name →
     files name ≡ None) → ⊥
@@ -35,7 +35,7 @@ no_file_stop files script meets there lacks =
     cc
 
 -- a script within the limit isn't too long
-pub no_long_stop : {before after : Shown} {left : Option (List ℕ)} (script : List ℕ) →
+pub no_long_stop : {before after : OutsideShown} {left : Option (List ℕ)} (script : List ℕ) →
     RunMeets before after script left (Err stops.Long) → length script ≤ most_script → ⊥
 no_long_stop script meets short = omega (
   arith,
@@ -45,17 +45,13 @@ no_long_stop script meets short = omega (
   length-append meets.taken meets.rest,
 )
 
--- where no refusal was kept there are none
-none_kept : (kept : Option (Vec ℕ Global)) → is_some kept ≡ false → kept ≡ None
-none_kept None e = refl
-none_kept (Some refusals) e = cc
-
 -- what a whole run leaves
-pub finished : {before after : Shown} {left : Option (List ℕ)} (files : FileMap) (script : List ℕ) (ended : Ended) →
+pub finished : {before after : OutsideShown} {left : Option (List ℕ)} (files : FileMap) (script : List ℕ)
+    (ended : Ended) (kept : Option (Vec ℕ Global)) →
     RunMeets before after script left (Ok (tells_one ended.refused_lines)) →
-    EndsAt files script ended.script ended.refusals ended.refused_lines → is_some ended.refusals ≡ false →
+    EndsAt files script ended.script kept ended.refused_lines →
     before.files ≡ Some files → IsFinished files script before.steps after.steps ended
-finished {before = before} {after = after} files script ended meets ends unkept told =
+finished {before = before} {after = after} files script ended kept meets ends told =
     let whole = meets.leaves.tells.whole files told in
     let same = one files script whole.session ends.session whole.is ends.is in
     let later : before.steps ≤ after.steps = meets.leaves.counted in
@@ -65,13 +61,12 @@ finished {before = before} {after = after} files script ended meets ends unkept 
       is = whole.is;
       mark = whole.mark;
       told = subst (λ v. IsToldOf v.lines v.refused_lines ended.refused_lines) (sym same) ends.told_is;
-      unkept = none_kept ended.refusals unkept;
       cost = omega arith;
       left = sym (ap (λ v. v.standing) same ∙ ends.left);
     }
 
 -- what a whole run has made whose refusals were kept
-pub ends_unwritten : {before after : Shown} {left : Option (List ℕ)} (files : FileMap) (script : List ℕ)
+pub ends_unwritten : {before after : OutsideShown} {left : Option (List ℕ)} (files : FileMap) (script : List ℕ)
     (lines : RefusedLines) (standing : Standing) (kept : Vec ℕ Global) →
     RunMeets before after script left (Ok (tells_one lines)) → EndsAt files script standing (Some kept) lines →
     before.files ≡ Some files →
@@ -95,7 +90,7 @@ tells_refused files script standing kept lines ends =
     record { session = ends.session; is = ends.is; told_is = ends.told_is }
 
 -- what a run leaves that memory stopped
-pub spent_within : {before after : Shown} {left : Option (List ℕ)} (files : FileMap) (script : List ℕ) →
+pub spent_within : {before after : OutsideShown} {left : Option (List ℕ)} (files : FileMap) (script : List ℕ) →
     RunMeets before after script left (Err stops.Memory) → before.files ≡ Some files →
     IsSpentWithin files script before.steps after.steps
 spent_within {before = before} {after = after} files script meets told =

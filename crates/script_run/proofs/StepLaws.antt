@@ -15,7 +15,7 @@ use Rattle.script_steps.specs.declared.stop.LineStop.TheVariants.{File, Write, M
 use Rattle.script_steps.proofs.Laws as step
 use Rattle.script_run.specs.Transcripts.{Session, refusal_of, lines_of, ended_lines, IsSession, IsTranscript}
 use Rattle.script_run.specs.Stops.{stop_of}
-use Rattle.script_run.specs.RunClauses.{Shown, shown, told_by, IsFrontOf, IsAtLine, Leaves, EndsAt, AreKept, refused_by}
+use Rattle.script_run.specs.RunClauses.{OutsideShown, shown, told_by, IsFrontOf, IsAtLine, Leaves, EndsAt, AreKept, refused_by}
 use Rattle.script_run.specs.RunViews.{Follow, opening, with_answer, open_line, Holds, IsSameSoFar, IsAtStart, Keeps, IsDelivered, Stands, GoesOn, Breaks, Closes, ClosesAt}
 use Rattle.script_run.specs.declared.stop.Stop.TheVariants as stops
 use Rattle.script_run.specs.declared.reading.Reading.{Reading}
@@ -70,10 +70,11 @@ kept_more (Some few) None answer refusals keeps kept = absurd keeps
 kept_more (Some few) (Some more) answer refusals keeps kept = keeps ∙ ap (λ v. v ++ refusal_of answer) kept
 
 -- what a stop leaves at a line
-pub record BreaksLine (old new : Shown) (from : Standing) (line : List ℕ) (stop : LineStop) : Type 0 where
+pub record BreaksLine (old new : OutsideShown) (from : Standing) (line : List ℕ) (stop : LineStop) : Type 0 where
   pub is : IsBroken old.files old.written new.written old.steps new.steps from line new.failed stop
 
-pub broken_same : {old new : Shown} {from : Standing} {said line : List ℕ} → SaysSame said line → (stop : LineStop) →
+pub broken_same : {old new : OutsideShown} {from : Standing} {said line : List ℕ} → SaysSame said line →
+    (stop : LineStop) →
     BreaksLine old new from said stop → BreaksLine old new from line stop
 broken_same {old = old} {new = new} {from = from} (inl same) File broken =
     subst (λ v. BreaksLine old new from v File) same broken
@@ -123,7 +124,7 @@ session_same {e = e} {n = n} {l = l} p q r s = λ i. record {
 }
 
 -- before the first byte
-pub stands_first : (before : Shown) (reading : Reading) → IsAtStart reading → Stands before before [] reading
+pub stands_first : (before : OutsideShown) (reading : Reading) → IsAtStart reading → Stands before before [] reading
 stands_first before reading first = record {
   out = [];
   refusals = [];
@@ -139,7 +140,7 @@ stands_first before reading first = record {
 }
 
 -- a byte that ends no line
-pub push_on : {old : Shown} {was is : Reading} (b : ℕ) → (b == 10) ≡ false → ((line : List ℕ) → Holds was line →
+pub push_on : {old : OutsideShown} {was is : Reading} (b : ℕ) → (b == 10) ≡ false → ((line : List ℕ) → Holds was line →
     Holds is (line ++ b ∷ [])) → IsSameSoFar was is → GoesOn old old was is (b ∷ [])
 push_on {old = old} {was = was} {is = is} b other held same = record {
   on = λ before bytes stands. record {
@@ -190,7 +191,7 @@ breaks_told files failed w steps was is more stop same breaks =
     more stop) (sym same) breaks
 
 -- an LF, with the answer to its line
-pub line_on : {old new : Shown} {was is : Reading} {refused : Bool} → new.files ≡ old.files →
+pub line_on : {old new : OutsideShown} {was is : Reading} {refused : Bool} → new.files ≡ old.files →
     ((line : List ℕ) → Holds was line →
     IsDelivered old.files old.written new.written old.steps new.steps was.script is.script was.refusals is.refusals
     (strip_carriage_return line) refused) →
@@ -252,7 +253,7 @@ begins_so bytes more rest = subst (λ v. Begins (ended_lines bytes) (lines_of v)
     (lines_of-append bytes (more ++ rest))
 
 -- where nothing was written or counted the run stands as it stood
-nothing_on : {before old new : Shown} {bytes : List ℕ} {was : Reading} → new.files ≡ old.files →
+nothing_on : {before old new : OutsideShown} {bytes : List ℕ} {was : Reading} → new.files ≡ old.files →
     IsUnbegun old.written new.written old.steps new.steps → Stands before old bytes was → Stands before new bytes was
 nothing_on {before = before} {old = old} {new = new} {bytes = bytes} {was = was} same nothing stands = record {
   out = stands.out;
@@ -300,7 +301,7 @@ front_next files lines later line script session to answer begins answered is wh
     (Follow-next files opening session lines line to answer answered is) whole transcript
 
 -- where a run stands it has left the answers so far
-pub leaves_so_far : {most : ℕ} {before now : Shown} {bytes script taken rest : List ℕ} {reading : Reading} →
+pub leaves_so_far : {most : ℕ} {before now : OutsideShown} {bytes script taken rest : List ℕ} {reading : Reading} →
     Begins (ended_lines bytes) (lines_of script) → Stands before now bytes reading →
     Leaves most before now script taken rest (Err stops.Memory)
 leaves_so_far {bytes = bytes} {script = script} begins stands = record {
@@ -312,7 +313,7 @@ leaves_so_far {bytes = bytes} {script = script} begins stands = record {
   tells = tt;
 }
 
-leaves_file : {most : ℕ} {before now : Shown} {bytes script taken rest line : List ℕ} {reading : Reading} →
+leaves_file : {most : ℕ} {before now : OutsideShown} {bytes script taken rest line : List ℕ} {reading : Reading} →
     IsAtLine most script taken (ended_lines bytes) line → (name : List ℕ) (names : Names line name) →
     ForSome before.files (λ files. IsNextFile files names.what name) → now.failed ≡ Some name →
     Stands before now bytes reading → Leaves most before now script taken rest (Err stops.File)
@@ -339,7 +340,7 @@ leaves_file {bytes = bytes} {script = script} {line = line} place name names in_
   };
 }
 
-leaves_part : {most : ℕ} {before old new : Shown} {bytes script taken rest line : List ℕ} {was : Reading} →
+leaves_part : {most : ℕ} {before old new : OutsideShown} {bytes script taken rest line : List ℕ} {was : Reading} →
     IsAtLine most script taken (ended_lines bytes) line →
     IsPart old.files old.written new.written old.steps new.steps was.script line → Stands before old bytes was →
     Leaves most before new script taken rest (Err stops.Memory)
@@ -361,7 +362,7 @@ leaves_part {before = before} {old = old} {new = new} {bytes = bytes} {script = 
       tells = tt;
     }
 
-leaves_write : {most : ℕ} {before old new : Shown} {bytes script taken rest line : List ℕ} {was : Reading} →
+leaves_write : {most : ℕ} {before old new : OutsideShown} {bytes script taken rest line : List ℕ} {was : Reading} →
     IsAtLine most script taken (ended_lines bytes) line →
     IsCutShort old.files old.written new.written old.steps new.steps was.script line → Stands before old bytes was →
     Leaves most before new script taken rest (Err stops.Write)
@@ -403,7 +404,7 @@ leaves_write {before = before} {old = old} {new = new} {bytes = bytes} {script =
     }
 
 -- a stop at a line
-leaves_broken : {most : ℕ} {before old new : Shown} {bytes script taken rest line : List ℕ} {was : Reading} →
+leaves_broken : {most : ℕ} {before old new : OutsideShown} {bytes script taken rest line : List ℕ} {was : Reading} →
     new.files ≡ old.files → IsAtLine most script taken (ended_lines bytes) line →
     (stop : LineStop) → BreaksLine old new was.script line stop → Stands before old bytes was →
     Leaves most before new script taken rest (Err (stop_of stop))
@@ -439,7 +440,7 @@ ended_place bytes rest =
     }
 
 -- a stop at the line that an LF ends, where a `?` passes it on
-pub breaks_line : {old new : Shown} {was : Reading} {e stop : LineStop} → e ≡ stop → new.files ≡ old.files →
+pub breaks_line : {old new : OutsideShown} {was : Reading} {e stop : LineStop} → e ≡ stop → new.files ≡ old.files →
     ((line : List ℕ) → Holds was line → BreaksLine old new was.script (strip_carriage_return line) e) →
     Breaks old new was (10 ∷ []) stop
 breaks_line {old = old} {new = new} {was = was} {e = e} passed same broken =
@@ -450,7 +451,7 @@ breaks_line {old = old} {new = new} {was = was} {e = e} passed same broken =
     subst (λ v. Breaks old new was (10 ∷ []) v) passed breaks
 
 -- want of memory before anything was done
-pub breaks_memory : {old : Shown} {was : Reading} {stop : LineStop} (more : List ℕ) → Memory ≡ stop →
+pub breaks_memory : {old : OutsideShown} {was : Reading} {stop : LineStop} (more : List ℕ) → Memory ≡ stop →
     Breaks old old was more stop
 breaks_memory {old = old} {was = was} more passed =
     let breaks : Breaks old old was more Memory = record {
@@ -460,7 +461,7 @@ breaks_memory {old = old} {was = was} more passed =
     subst (λ v. Breaks old old was more v) passed breaks
 
 -- a line was answered, and then memory ran out
-pub answered_lost : {old new : Shown} {from to : Standing} {line : List ℕ} {was is : Option (Vec ℕ Global)} {refused : Bool} →
+pub answered_lost : {old new : OutsideShown} {from to : Standing} {line : List ℕ} {was is : Option (Vec ℕ Global)} {refused : Bool} →
     IsDelivered old.files old.written new.written old.steps new.steps from to was is line refused →
     BreaksLine old new from line Memory
 answered_lost {old = old} {new = new} {to = to} delivered =
@@ -483,27 +484,28 @@ answered_lost {old = old} {new = new} {to = to} delivered =
 pub err_same : {T : Type 0} {a b : LineStop} → a ≡ b → ◌≡◌ {A = Result T LineStop} (Err a) (Err b)
 err_same e = ap (λ v. Err v) e
 
-pub goes_nowhere : {old : Shown} {was : Reading} → GoesOn old old was was []
+pub goes_nowhere : {old : OutsideShown} {was : Reading} → GoesOn old old was was []
 goes_nowhere {old = old} {was = was} = record {
   on = λ before bytes stands. subst (λ v. Stands before old v was) (sym
       (append-nil bytes)) stands;
 }
 
-goes_further : {old mid new : Shown} {was half is : Reading} (front more : List ℕ) → GoesOn old mid was half front →
+goes_further : {old mid new : OutsideShown} {was half is : Reading} (front more : List ℕ) →
+    GoesOn old mid was half front →
     GoesOn mid new half is more → GoesOn old new was is (front ++ more)
 goes_further {new = new} {is = is} front more p q = record {
   on = λ before bytes stands. subst (λ v. Stands before new v is) (append_assoc bytes front more) (q.on before
       (bytes ++ front) (p.on before bytes stands));
 }
 
-pub goes_byte : {old mid new : Shown} {was half is : Reading} (piece : List ℕ) (i : ℕ) → i < length piece →
+pub goes_byte : {old mid new : OutsideShown} {was half is : Reading} (piece : List ℕ) (i : ℕ) → i < length piece →
     GoesOn old mid was half (take i piece) → GoesOn mid new half is (get_or piece i 0 ∷ []) →
     GoesOn old new was is (take (i + 1) piece)
 goes_byte {old = old} {new = new} {was = was} {is = is} piece i lt p q =
     subst (λ v. GoesOn old new was is v) (sym (take_more piece i 0 lt)) (goes_further (take i piece)
     (get_or piece i 0 ∷ []) p q)
 
-pub goes_all : {old new : Shown} {was is : Reading} (piece : List ℕ) (i : ℕ) → length piece ≤ i →
+pub goes_all : {old new : OutsideShown} {was is : Reading} (piece : List ℕ) (i : ℕ) → length piece ≤ i →
     GoesOn old new was is (take i piece) → GoesOn old new was is piece
 goes_all {old = old} {new = new} {was = was} {is = is} piece i le p = subst (λ v. GoesOn old new was is v)
     (take_all i piece le) p
@@ -522,7 +524,7 @@ place_ahead ahead fits place = record {
 }
 
 -- further bytes were taken before the stop, and none of them was looked at
-pub leaves_ahead : {most n : ℕ} {before now : Shown} {script taken rest : List ℕ} (ahead : List ℕ) →
+pub leaves_ahead : {most n : ℕ} {before now : OutsideShown} {script taken rest : List ℕ} (ahead : List ℕ) →
     most + length ahead ≤ n → (stop : LineStop) →
     Leaves most before now script taken (ahead ++ rest) (Err (stop_of stop)) → Leaves n before now script
     (taken ++ ahead) rest (Err (stop_of stop))
@@ -584,7 +586,8 @@ longer front more later piece is = omega (
 )
 
 -- a stop after some bytes of a piece, and before the rest
-pub breaks_within : {old mid new : Shown} {was half : Reading} {stop : LineStop} (front more later piece : List ℕ) →
+pub breaks_within : {old mid new : OutsideShown} {was half : Reading} {stop : LineStop}
+    (front more later piece : List ℕ) →
     piece ≡ (front ++ more) ++ later →
     GoesOn old mid was half front → Breaks mid new half more stop → Breaks old new was piece stop
 breaks_within {new = new} {stop = stop} front more later piece is p q = record {
@@ -605,7 +608,7 @@ whole_session files lines session answered =
     session_of_totals files lines session (FollowToHalt-whole files opening session lines answered)
 
 -- all lines of a script were answered
-leaves_whole : {before now : Shown} {script : List ℕ} (out : List ℕ) → Appends before.written now.written out →
+leaves_whole : {before now : OutsideShown} {script : List ℕ} (out : List ℕ) → Appends before.written now.written out →
     before.steps ≤ now.steps → (standing : Standing) (refused : Bool) (refusals : List ℕ) (lines : ℕ)
     (refused_lines : List ℕ) →
     ForSome before.files (λ files. Follow files opening (lines_of script) (record {
@@ -666,7 +669,7 @@ one_last script some held =
     (open_line script) held))
 
 -- all lines of a script that ends with a line end were answered
-answered_none : {before old : Shown} {script : List ℕ} {was : Reading} → lines_of script ≡ ended_lines script →
+answered_none : {before old : OutsideShown} {script : List ℕ} {was : Reading} → lines_of script ≡ ended_lines script →
     (stands : Stands before old script was) →
     ForSome before.files (λ files. Follow files opening (lines_of script)
     (record {
@@ -690,7 +693,7 @@ answered_none {before = before} {old = old} {was = was} all stands = λ files e.
     } in
     subst (λ v. Follow files opening v so_far) (sym all) (stands.answered files e)
 
-pub closes_none : {old : Shown} {was : Reading} → ((line : List ℕ) → Holds was line → length line ≡ 0) →
+pub closes_none : {old : OutsideShown} {was : Reading} → ((line : List ℕ) → Holds was line → length line ≡ 0) →
     Closes old old was (Ok (tells_one was.refused_lines))
 closes_none {was = was} none = record {
   on = λ before script stands.
@@ -699,7 +702,7 @@ closes_none {was = was} none = record {
       (no_last script none stands.held) stands);
 }
 
-pub stays_none : {old : Shown} {was : Reading} → ((line : List ℕ) → Holds was line → length line ≡ 0) →
+pub stays_none : {old : OutsideShown} {was : Reading} → ((line : List ℕ) → Holds was line → length line ≡ 0) →
     ClosesAt old was was.script was.refusals was.refused_lines
 stays_none {was = was} none = record {
   on = λ before script stands.
@@ -708,7 +711,8 @@ stays_none {was = was} none = record {
 }
 
 -- with a last line that no LF ends all were answered
-answered_on : {before old : Shown} (new : Shown) {script : List ℕ} {was : Reading} {to : Standing} {refused : Bool} →
+answered_on : {before old : OutsideShown} (new : OutsideShown) {script : List ℕ} {was : Reading} {to : Standing}
+    {refused : Bool} →
     lines_of script ≡ ended_lines script ++ open_line script ∷ [] →
     (answered : IsAnswered old.files old.written new.written old.steps new.steps was.script to
     (open_line script) refused) → (stands : Stands before old script was) →
@@ -743,7 +747,7 @@ answered_on {before = before} {old = old} new {script = script} {was = was} {to 
     (Follow-next files opening _ (ended_lines script) line to answered.answer (stands.answered files e)
     (answered.is files (stands.same ∙ e))))
 
-pub closes_on : {old new : Shown} {was : Reading} {to : Standing} {kept : Option
+pub closes_on : {old new : OutsideShown} {was : Reading} {to : Standing} {kept : Option
     (Vec ℕ Global)} {refused : Bool} {told : RefusedLines} → ((line : List ℕ) →
     Holds was line → 0 < length line) →
     ((line : List ℕ) → Holds was line →
@@ -765,7 +769,7 @@ closes_on {old = old} {new = new} {was = was} {to = to} {refused = refused} {tol
       (answered_on new (one_last script some stands.held) answered stands));
 }
 
-pub stays_on : {old : Shown} (new : Shown) {was : Reading} {to : Standing} {kept : Option
+pub stays_on : {old : OutsideShown} (new : OutsideShown) {was : Reading} {to : Standing} {kept : Option
     (Vec ℕ Global)} {refused : Bool} {told : RefusedLines} → ((line : List ℕ) →
     Holds was line → 0 < length line) →
     ((line : List ℕ) → Holds was line →
@@ -795,7 +799,8 @@ last_place script line all = record {
 }
 
 -- a stop at the last line
-pub closes_broken : {old new : Shown} {was : Reading} → new.files ≡ old.files → ((line : List ℕ) → Holds was line →
+pub closes_broken : {old new : OutsideShown} {was : Reading} → new.files ≡ old.files →
+    ((line : List ℕ) → Holds was line →
     0 < length line) → (stop : LineStop) →
     ((line : List ℕ) → Holds was line → BreaksLine old new was.script line stop) → Closes old new was (Err stop)
 closes_broken same some stop broken = record {
@@ -805,7 +810,8 @@ closes_broken same some stop broken = record {
 }
 
 -- the same stop, where a `?` passes it on
-pub closes_at : {old new : Shown} {was : Reading} {T : Type 0} (result : Result T LineStop) (told_in : T → RefusedLines)
+pub closes_at : {old new : OutsideShown} {was : Reading} {T : Type 0} (result : Result T LineStop)
+    (told_in : T → RefusedLines)
     (stop : LineStop) → result ≡ Err stop → Closes old new was (Err stop) → Closes old new was (refused_by result told_in)
 closes_at {old = old} {new = new} {was = was} result told_in stop is closes =
     subst (λ v. Closes old new was (refused_by v told_in)) (sym is) closes

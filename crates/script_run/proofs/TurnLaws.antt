@@ -13,7 +13,7 @@ use Rattle.script_steps.specs.declared.stop.LineStop.{LineStop}
 use Rattle.script_run.specs.Limits.{most_script, most_turn}
 use Rattle.script_run.specs.Transcripts.{Session, ended_lines, lines_of, AreAnswered}
 use Rattle.script_run.specs.Stops.{stop_of}
-use Rattle.script_run.specs.RunClauses.{Shown, shown, told_by, IsExactly, Leaves, RunMeets, EndsAt, refused_by}
+use Rattle.script_run.specs.RunClauses.{OutsideShown, shown, told_by, IsExactly, Leaves, RunMeets, EndsAt, refused_by}
 use Rattle.script_run.specs.RunViews.{IsAtStart, Stands, GoesOn, Breaks, Closes, ClosesAt, Stood, TakesAll, run_result}
 use Rattle.script_run.specs.declared.stop.Stop.{Stop}
 use Rattle.script_run.specs.declared.stop.Stop.TheVariants as stops
@@ -43,7 +43,7 @@ end_told : (now : Option (List ℕ)) (rest : List ℕ) → now ≡ Some rest →
 end_told now rest e at_end = subst IsAtEnd e at_end
 
 -- before the first turn
-pub stood_first : (before : Shown) (left : Option (List ℕ)) (reading : Reading) → IsAtStart reading →
+pub stood_first : (before : OutsideShown) (left : Option (List ℕ)) (reading : Reading) → IsAtStart reading →
     Stood before before left left 0 reading
 stood_first before left reading first = record {
   bytes = [];
@@ -53,7 +53,7 @@ stood_first before left reading first = record {
 }
 
 -- a turn's bytes were taken and answered
-pub stood_on : {before mid now : Shown} {l0 l l' : Option (List ℕ)} {count n : ℕ} {was is : Reading}
+pub stood_on : {before mid now : OutsideShown} {l0 l l' : Option (List ℕ)} {count n : ℕ} {was is : Reading}
     (piece : List ℕ) → length piece ≡ n → Consumes l l' piece → GoesOn mid now was is piece →
     Stood before mid l0 l count was → Stood before now l0 l' (count + n) is
 stood_on {before = before} {l0 = l0} {l = l} {l' = l'} piece size consumed goes stood = record {
@@ -68,7 +68,7 @@ begins_at taken rest script split = subst (λ v. Begins (ended_lines taken) (lin
     (lines_of-append taken rest)
 
 -- memory ran out before anything was done
-pub meets_nothing : (before : Shown) (left : Option (List ℕ)) (script : List ℕ) → left ≡ Some script →
+pub meets_nothing : (before : OutsideShown) (left : Option (List ℕ)) (script : List ℕ) → left ≡ Some script →
     RunMeets before before script left (Err stops.Memory)
 meets_nothing before left script is = record {
   taken = [];
@@ -86,7 +86,7 @@ meets_nothing before left script is = record {
 }
 
 -- the source failed
-pub meets_read : {before now : Shown} {l0 l l' : Option (List ℕ)} {count : ℕ} {reading : Reading} →
+pub meets_read : {before now : OutsideShown} {l0 l l' : Option (List ℕ)} {count : ℕ} {reading : Reading} →
     Stood before now l0 l count reading → Keeps l l' → count ≤ most_script →
     (script : List ℕ) → l0 ≡ Some script → RunMeets before now script l' (Err stops.Read)
 meets_read {l0 = l0} {l = l} {l' = l'} stood kept within script is =
@@ -133,7 +133,8 @@ exactly_at bytes cut same files out spent session answered text cost =
     }
 
 -- the script goes on past its limit
-pub meets_long : {before now : Shown} {l0 l l' : Option (List ℕ)} {count n : ℕ} {reading : Reading} (piece : List ℕ) →
+pub meets_long : {before now : OutsideShown} {l0 l l' : Option (List ℕ)} {count n : ℕ} {reading : Reading}
+    (piece : List ℕ) →
     length piece ≡ n → Consumes l l' piece → Stood before now l0 l count reading →
     count ≡ most_script → count + n ≡ most_script + 1 → (script : List ℕ) → l0 ≡ Some script →
     RunMeets before now script l' (Err stops.Long)
@@ -165,7 +166,8 @@ meets_long {l0 = l0} {l = l} {l' = l'} piece size consumed stood full past scrip
       };
     }
 
-leaves_turn : {most : ℕ} {before now : Shown} {script taken rest : List ℕ} → most ≤ most_turn → (stop : LineStop) →
+leaves_turn : {most : ℕ} {before now : OutsideShown} {script taken rest : List ℕ} → most ≤ most_turn →
+    (stop : LineStop) →
     Leaves most before now script taken rest (Err (stop_of stop)) → Leaves most_turn before now script taken rest (Err
     (stop_of stop))
 leaves_turn {most = most} {before = before} {now = now} {script = script} {taken = taken} {rest =
@@ -174,7 +176,7 @@ leaves_turn {most = most} {before = before} {now = now} {script = script} {taken
     (omega arith) stop leaves)
 
 -- a stop within a turn's bytes
-pub meets_break : {before mid now : Shown} {l0 l l' : Option
+pub meets_break : {before mid now : OutsideShown} {l0 l l' : Option
     (List ℕ)} {count n : ℕ} {reading : Reading} {stop : LineStop} (piece : List ℕ) → length piece ≡ n →
     n ≤ most_turn → count + n ≤ most_script →
     Consumes l l' piece → Stood before mid l0 l count reading → Breaks mid now reading piece stop →
@@ -195,7 +197,7 @@ meets_break {before = before} {now = now} {l0 = l0} {l = l} {l' = l'} {stop =
           (subst (λ v. Leaves most_turn before now (taken ++ left.rest) taken left.rest v) (sym result_is) leaves);
     }
 
-leaves_end : {before now : Shown} {script : List ℕ} → (result : Result Bool LineStop) →
+leaves_end : {before now : OutsideShown} {script : List ℕ} → (result : Result Bool LineStop) →
     Leaves 0 before now script script [] (run_result result) → Leaves most_turn before now script script []
     (run_result result)
 leaves_end (Ok refused) leaves = record {
@@ -216,7 +218,7 @@ record IsTakenWhole (bytes script : List ℕ) (left : Option (List ℕ)) : Type 
   pub whole : bytes ≡ script
   pub none_left : left ≡ Some []
 
-all_taken : {before mid : Shown} {l0 l' : Option (List ℕ)} {reading : Reading}
+all_taken : {before mid : OutsideShown} {l0 l' : Option (List ℕ)} {reading : Reading}
     (all : TakesAll before mid l0 l' reading) (script : List ℕ) →
     l0 ≡ Some script → IsTakenWhole all.bytes script l'
 all_taken {l0 = l0} {l' = l'} all script is =
@@ -229,7 +231,7 @@ all_taken {l0 = l0} {l' = l'} all script is =
     }
 
 -- the script is at its end
-pub meets_end : {before mid now : Shown} {l0 l' : Option (List ℕ)} {reading : Reading} →
+pub meets_end : {before mid now : OutsideShown} {l0 l' : Option (List ℕ)} {reading : Reading} →
     TakesAll before mid l0 l' reading →
     (line : Result Bool LineStop) → Closes mid now reading line → (script : List ℕ) → l0 ≡ Some script →
     (result : Result Bool Stop) → result ≡ run_result line → RunMeets before now script l' result
@@ -248,8 +250,8 @@ meets_end {before = before} {mid = mid} {now = now} {l0 = l0} {l' = l'} {reading
     }
 
 -- what the script's lines have left at last
-pub ends_at : {before mid : Shown} {l0 l' : Option (List ℕ)} {reading : Reading} {standing : Standing} {kept : Option
-    (Vec ℕ Global)} {told : RefusedLines} →
+pub ends_at : {before mid : OutsideShown} {l0 l' : Option (List ℕ)} {reading : Reading} {standing : Standing}
+    {kept : Option (Vec ℕ Global)} {told : RefusedLines} →
     TakesAll before mid l0 l' reading →
     ClosesAt mid reading standing kept told → (script : List ℕ) → l0 ≡ Some script →
     ForSome before.files (λ files. EndsAt files script standing kept told)
@@ -257,7 +259,7 @@ ends_at {before = before} {mid = mid} {l0 = l0} {l' = l'} {reading = reading} al
     closes.on before script (subst (λ v. Stands before mid v reading) (all_taken all script is).whole all.stands)
 
 -- the same stop
-pub meets_at : {before now : Shown} {script : List ℕ} {left : Option (List ℕ)} {T : Type 0} {found : Stop}
+pub meets_at : {before now : OutsideShown} {script : List ℕ} {left : Option (List ℕ)} {T : Type 0} {found : Stop}
     (stop : Stop) → ◌≡◌ {A = Result T Stop} (Err found) (Err stop) →
     RunMeets before now script left (Err found) → RunMeets before now script left (Err stop)
 meets_at {before = before} {now = now} {script = script} {left = left} {found = found} stop is meets =
@@ -265,7 +267,7 @@ meets_at {before = before} {now = now} {script = script} {left = left} {found = 
     subst (λ v. RunMeets before now script left (Err v)) same meets
 
 -- a stop before the end, where a `?` passes it on
-pub meets_err : {before now : Shown} {script : List ℕ} {left : Option (List ℕ)} {T : Type 0} {stop : Stop}
+pub meets_err : {before now : OutsideShown} {script : List ℕ} {left : Option (List ℕ)} {T : Type 0} {stop : Stop}
     (result : Result T Stop) (told_in : T → RefusedLines) → result ≡ Err stop →
     RunMeets before now script left (Err stop) → RunMeets before now script left (refused_by result told_in)
 meets_err {before = before} {now = now} {script = script} {left = left} result told_in is meets =

@@ -17,13 +17,13 @@ use Rattle.script_run.specs.declared.refused_lines.RefusedLines.{RefusedLines}
 use Rattle.script_run.specs.declared.stop.Stop.TheVariants as stops
 
 -- what the files tell, the name at which they failed last, what was written, and the counter of steps
-pub record Shown : Type 0 where
+pub record OutsideShown : Type 0 where
   pub files : Option FileMap
   pub failed : Option (List ℕ)
   pub written : Option (List ℕ)
   pub steps : ℕ
 
-abbrev pub shown : Option FileMap → Option (List ℕ) → Option (List ℕ) → ℕ → Shown
+abbrev pub shown : Option FileMap → Option (List ℕ) → Option (List ℕ) → ℕ → OutsideShown
 shown files failed written steps = record {
   files = files;
   failed = failed;
@@ -32,7 +32,7 @@ shown files failed written steps = record {
 }
 
 -- what files, a sink and a counter show
-abbrev pub shown_by : {F W : Type 0} → FilesTell F → SinkTells W → F → W → ℕ → Shown
+abbrev pub shown_by : {F W : Type 0} → FilesTell F → SinkTells W → F → W → ℕ → OutsideShown
 shown_by of_files of_sink files sink steps =
     shown (of_files.told files) (of_files.failed files) (of_sink.written sink) steps
 
@@ -40,7 +40,7 @@ shown_by of_files of_sink files sink steps =
 abbrev pub told_by : Option (Vec ℕ Global) → Option (List ℕ) → Option (List ℕ)
 told_by kept written = if is_some kept then None else written
 
-abbrev pub unless_kept : Option (Vec ℕ Global) → Shown → Shown
+abbrev pub unless_kept : Option (Vec ℕ Global) → OutsideShown → OutsideShown
 unless_kept kept s = shown s.files s.failed (told_by kept s.written) s.steps
 
 -- where refusals are kept, they are these
@@ -162,7 +162,7 @@ Tells most told course failed (Err stops.Long) = IsLongStop told course
 
 -- what a run wrote and counted that took this of a script and left the rest: always a front of the
 -- transcript, and what its result says
-pub record Leaves (most : ℕ) (before after : Shown) (script taken rest : List ℕ)
+pub record Leaves (most : ℕ) (before after : OutsideShown) (script taken rest : List ℕ)
     (result : Result Bool Stop) : Type 0 where
   pub out : List ℕ
   pub appended : Appends before.written after.written out
@@ -175,7 +175,7 @@ pub record Leaves (most : ℕ) (before after : Shown) (script taken rest : List 
 
 -- what a run leaves over a source that tells this script: what was taken is a front of it, within
 -- the limit of scripts
-pub record RunMeets (before after : Shown) (script : List ℕ) (left : Option (List ℕ))
+pub record RunMeets (before after : OutsideShown) (script : List ℕ) (left : Option (List ℕ))
     (result : Result Bool Stop) : Type 0 where
   pub taken : List ℕ
   pub rest : List ℕ
@@ -213,14 +213,13 @@ pub record EndsUnwritten (files : FileMap) (script : List ℕ) (ended : Unwritte
   pub refusals : (ended.refusals).items ≡ session.refusals
   pub left : ended.script ≡ session.standing
 
--- the script was answered whole: this is what its transcript says; its refusals weren't kept
+-- the script was answered whole: this is what its transcript says
 pub record IsFinished (files : FileMap) (script : List ℕ) (began steps : ℕ)
     (ended : Ended) : Type 0 where
   pub session : Session
   pub is : IsTranscript files script session
   pub mark : tells_one ended.refused_lines ≡ session.refused
   pub told : IsToldOf session.lines session.refused_lines ended.refused_lines
-  pub unkept : ended.refusals ≡ None
   pub cost : steps ≡ began + session.steps
   pub left : ended.script ≡ session.standing
 

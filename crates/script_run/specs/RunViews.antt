@@ -12,7 +12,7 @@ use Rattle.outside.specs.Told.{FileMap}
 use Rattle.script_run.specs.Limits.{most_line, most_script}
 use Rattle.script_run.specs.Stops.{stop_of}
 use Rattle.script_run.specs.Transcripts.{Session, ended_lines, refusal_of}
-use Rattle.script_run.specs.RunClauses.{Shown, Leaves, EndsAt, AreKept}
+use Rattle.script_run.specs.RunClauses.{OutsideShown, Leaves, EndsAt, AreKept}
 use Rattle.script_run.specs.declared.stop.Stop.{Stop}
 use Rattle.script_run.specs.declared.reading.Reading.{Reading}
 use Rattle.script_run.specs.RefusedLines.{IsToldOf, noted, tells_one}
@@ -89,7 +89,7 @@ pub record IsDelivered
   pub kept : Keeps was is answered.answer
 
 -- of these bytes each line whose LF is among them was answered, and nothing else was written or kept
-pub record Stands (before now : Shown) (bytes : List ℕ) (reading : Reading) : Type 0 where
+pub record Stands (before now : OutsideShown) (bytes : List ℕ) (reading : Reading) : Type 0 where
   pub out : List ℕ
   pub refusals : List ℕ
   pub lines : ℕ
@@ -112,13 +112,14 @@ pub record Stands (before now : Shown) (bytes : List ℕ) (reading : Reading) : 
       }))
 
 -- wherever the run stood over some bytes, it stands over these more
-pub record GoesOn (old new : Shown) (was is : Reading) (more : List ℕ) : Type 0 where
-  pub on : (before : Shown) (bytes : List ℕ) → Stands before old bytes was →
+pub record GoesOn (old new : OutsideShown) (was is : Reading) (more : List ℕ) : Type 0 where
+  pub on : (before : OutsideShown) (bytes : List ℕ) → Stands before old bytes was →
       Stands before new (bytes ++ more) is
 
 -- wherever the run stood over some bytes, what a stop within these more leaves, whatever is left of the script
-pub record Breaks (old new : Shown) (was : Reading) (more : List ℕ) (stop : LineStop) : Type 0 where
-  pub on : (before : Shown) (bytes rest : List ℕ) → Stands before old bytes was
+pub record Breaks (old new : OutsideShown) (was : Reading) (more : List ℕ)
+    (stop : LineStop) : Type 0 where
+  pub on : (before : OutsideShown) (bytes rest : List ℕ) → Stands before old bytes was
       → Leaves (length more) before new ((bytes ++ more) ++ rest) (bytes ++ more) rest (Err
       (stop_of stop))
 
@@ -128,18 +129,19 @@ run_result (Ok refused) = Ok refused
 run_result (Err stop) = Err (stop_of stop)
 
 -- wherever the run stood over a whole script, what its end leaves
-pub record Closes (old new : Shown) (was : Reading) (result : Result Bool LineStop) : Type 0 where
-  pub on : (before : Shown) (script : List ℕ) → Stands before old script was
+pub record Closes (old new : OutsideShown) (was : Reading)
+    (result : Result Bool LineStop) : Type 0 where
+  pub on : (before : OutsideShown) (script : List ℕ) → Stands before old script was
       → Leaves 0 before new script script [] (run_result result)
 
 -- wherever the run stood over a whole script, what its lines have left
-pub record ClosesAt (old : Shown) (was : Reading) (standing : Standing)
+pub record ClosesAt (old : OutsideShown) (was : Reading) (standing : Standing)
     (kept : Option (Vec ℕ Global)) (told : RefusedLines) : Type 0 where
-  pub on : (before : Shown) (script : List ℕ) → Stands before old script was
+  pub on : (before : OutsideShown) (script : List ℕ) → Stands before old script was
       → ForSome before.files (λ files. EndsAt files script standing kept told)
 
 -- of a run over a source, between two turns
-pub record Stood (before now : Shown) (left left_now : Option (List ℕ)) (count : ℕ)
+pub record Stood (before now : OutsideShown) (left left_now : Option (List ℕ)) (count : ℕ)
     (reading : Reading) : Type 0 where
   pub bytes : List ℕ
   pub consumed : Consumes left left_now bytes
@@ -155,7 +157,7 @@ pub record IsAtStart (reading : Reading) : Type 0 where
   pub refused_lines : IsToldOf 0 [] reading.refused_lines
 
 -- of a run over a source, at its end
-pub record TakesAll (before now : Shown) (left left_now : Option (List ℕ))
+pub record TakesAll (before now : OutsideShown) (left left_now : Option (List ℕ))
     (reading : Reading) : Type 0 where
   pub bytes : List ℕ
   pub consumed : Consumes left left_now bytes

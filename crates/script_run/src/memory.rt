@@ -35,7 +35,7 @@ pub fn run_in_memory<L: Ledger>(
     let mut source = SureSource::new(script, MOST_TURN);
     let mut sink = SureSink::new();
     match run_to_end(alloc, None, &mut files, &mut source, &mut sink, steps) {
-        Ok(ended) => Ok(ended),
+        Ok(made) => Ok(made.ended),
         Err(Stop::Memory) => Err(AllocError),
         Err(Stop::File) => unreachable!(),
         Err(Stop::Read) => unreachable!(),

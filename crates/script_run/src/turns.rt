@@ -95,8 +95,15 @@ pub struct Ended {
     pub refused_lines: RefusedLines,
     /// What its lines have made.
     pub script: Script,
-    /// The answers that are refusals, where they were kept and no answer was written.
-    pub refusals: Option<Vec<u8>>,
+}
+
+/// The same, and the answers that are refusals, where these were kept and no answer was written.
+#[derive(Drop)]
+pub(crate) struct EndedWithRefusals {
+    /// What the script has made.
+    pub(crate) ended: Ended,
+    /// The refusals, one after another.
+    pub(crate) refusals: Option<Vec<u8>>,
 }
 
 /// Runs a script as [`run`] does, and gives what its lines have made. Where refusals are to be kept the answers that are
@@ -108,16 +115,16 @@ pub(crate) fn run_to_end<F: Files, R: Source, W: Sink, L: Ledger>(
     source: &mut R,
     sink: &mut W,
     steps: &mut Steps<L>,
-) -> Result<Ended, Stop>
+) -> Result<EndedWithRefusals, Stop>
     requires { AreKept refusals [] }
     ensures script { ForSome (R.left source.old) (λ script. RunMeets
         (unless_kept refusals (shown_by F.Files W.Sink files.old sink.old steps.old))
         (unless_kept refusals (shown_by F.Files W.Sink files.new sink.new steps.new))
-        script (R.left source.new) (refused_by result (λ ended. ended.refused_lines))) }
-    ensures standing { IfOk result (λ ended. ForSome (R.left source.old) (λ script.
+        script (R.left source.new) (refused_by result (λ made. made.ended.refused_lines))) }
+    ensures standing { IfOk result (λ made. ForSome (R.left source.old) (λ script.
         ForSome (F.told files.old) (λ files.
-        EndsAt files script ended.script ended.refusals ended.refused_lines))) }
-    ensures mode { IfOk result (λ ended. is_some ended.refusals ≡ is_some refusals) }
+        EndsAt files script made.ended.script made.refusals made.ended.refused_lines))) }
+    ensures mode { IfOk result (λ made. is_some made.refusals ≡ is_some refusals) }
     ensures same { F.told files.new ≡ F.told files.old }
     ensures kept { result ≢ Err Stop.File → F.failed files.new ≡ F.failed files.old }
     ensures file { Caused Stop.File (F.faults files.old) (F.faults files.new) result }
@@ -128,9 +135,11 @@ pub(crate) fn run_to_end<F: Files, R: Source, W: Sink, L: Ledger>(
     let mut reading = Reading::new(alloc, refusals);
     take_turns(alloc, &mut buf, &mut reading, files, source, sink, steps)?;
     reading.last_line(alloc, files, sink, steps)?;
-    Ok(Ended {
-        refused_lines: reading.refused_lines,
-        script: reading.script,
+    Ok(EndedWithRefusals {
+        ended: Ended {
+            refused_lines: reading.refused_lines,
+            script: reading.script,
+        },
         refusals: reading.refusals,
     })
 }
@@ -159,8 +168,8 @@ pub fn run<F: Files, R: Source, W: Sink, L: Ledger>(
     ensures read { Caused Stop.Read (R.faults source.old) (R.faults source.new) result }
     ensures write { Caused Stop.Write (W.faults sink.old) (W.faults sink.new) result }
 {
-    let ended = run_to_end(alloc, None, files, source, sink, steps)?;
-    Ok(ended.refused_lines)
+    let made = run_to_end(alloc, None, files, source, sink, steps)?;
+    Ok(made.ended.refused_lines)
 }
 
 /// What a script has made none of whose answers was written.
@@ -196,16 +205,14 @@ pub fn run_unwritten<F: Files, R: Source, L: Ledger>(
 {
     let mut sink = SureSink::new();
     let kept = Some(Vec::new(alloc));
-    let Ended {
-        refused_lines,
-        script,
-        refusals,
-    } = run_to_end(alloc, kept, files, source, &mut sink, steps)?;
+    let EndedWithRefusals { ended, refusals } = run_to_end(
+        alloc, kept, files, source, &mut sink, steps,
+    )?;
     match refusals {
         Some(refusals) => Ok(Unwritten {
-            refused_lines,
+            refused_lines: ended.refused_lines,
             refusals,
-            script,
+            script: ended.script,
         }),
         None => unreachable!(),
     }

@@ -11,8 +11,9 @@ returns-in-Ok-clause-ok g c =
     let script = c.args.script.items in
     let told = told_files c.new-files.ensures.files in
     let left = ap (λ v. Some v.left) c.new-source.ensures in
-    finished files script c.in-Ok.ended (c.in-Ok.ensures.script script left)
-    (c.in-Ok.ensures.standing script left files told) c.in-Ok.ensures.mode told
+    let made = c.in-Ok.made in
+    finished files script made.ended made.refusals
+    (c.in-Ok.ensures.script script left) (c.in-Ok.ensures.standing script left files told) told
 
 pub unreachable-requires : goal.unreachable-requires
 unreachable-requires g c =

@@ -6,9 +6,9 @@ use Rattle.script_run.proofs.turns.run_unwritten.Goals as goal
 
 pub returns-clause-standing : goal.returns-clause-standing
 returns-clause-standing g c = λ script left files told.
-    let ended = c.in_ok-refused_lines.field-0 in
-    let kept : ended.refusals ≡ Some c.in-Some.refusals = cc c.in-Some.is in
-    ends_unwritten files script ended.refused_lines ended.script c.in-Some.refusals
-    (c.in_ok-refused_lines.ensures.script script left)
-    (subst (λ v. EndsAt files script ended.script v ended.refused_lines) kept
-    (c.in_ok-refused_lines.ensures.standing script left files told)) told
+    let made = c.in_ok-ended.field-0 in
+    let kept : made.refusals ≡ Some c.in-Some.refusals = cc c.in-Some.is in
+    ends_unwritten files script made.ended.refused_lines made.ended.script c.in-Some.refusals
+    (c.in_ok-ended.ensures.script script left)
+    (subst (λ v. EndsAt files script made.ended.script v made.ended.refused_lines) kept
+    (c.in_ok-ended.ensures.standing script left files told)) told
