@@ -10,12 +10,13 @@ use Rattle.pap_plan.specs.declared.refusal.PlanRefusal.{PlanRefusal}
 use Rattle.pap_plan.specs.declared.refusal.PlanRefusal.TheVariants as refusals
 use Rattle.pap_plan.specs.Acceptance.{Meaning, IsAccepted, IsRefused}
 use Rattle.plan_answers.specs.Fronts.{AreFronts}
-use Rattle.plan_answers.proofs.Laws.{whole, front_there, answers_front}
+use Rattle.plan_answers.proofs.Laws.{whole, front_there, answers_front, refusal_answer}
+use Rattle.plan_notes.specs.Notes.{HasNotes}
 use Rattle.plain_words.specs.Places.{NamedText}
 use Rattle.plain_words.specs.Refusals.{TellsPlan}
 use Rattle.flowchart_page.specs.Verdicts.{file_or_none, files_with, IsJudged}
 use Rattle.flowchart_page.specs.Findings.{Finding, accepted, in_order, refused, IsFound}
-use Rattle.flowchart_page.specs.Pages.{ArePlanCaptions, Shows, IsPage}
+use Rattle.flowchart_page.specs.Pages.{ArePlanCaptions, Says, Shows, IsPage}
 use Rattle.author_cli.specs.Words.{chart, chart_within, ranges}
 use Rattle.author_cli.specs.Answers.{Answer, IsChart, IsRanges, file_of, Answers}
 use Rattle.author_cli.proofs.TellsLemmas.{front, begins_ranges, begins_plan}
@@ -98,39 +99,61 @@ module _ (n m : ℕ) (more_plan : 1048576 < n) (more_limits : 262144 < m) where
   captions_front plan finding captions (inl h) = inl (h.0, elements_front plan h.0 h.1, h.2)
   captions_front plan finding captions (inr h) = inr (h.0, fault_front plan h.0 h.1, h.2)
 
-  shown_front : (plan : List ℕ) (finding : Finding) (page : List ℕ) → Shows (take n plan) finding page
-      → Shows plan finding page
-  shown_front plan finding page h = record {
+  says_front : (plan : List ℕ) (finding : Finding) (words : Option (List ℕ)) (said : List (List ℕ))
+      → Says (take n plan) finding words said → Says plan finding words said
+  says_front plan (accepted x) None said h = h
+  says_front plan (accepted x) (Some w) said h = h
+  says_front plan in_order None said h = h
+  says_front plan in_order (Some w) said h = h
+  says_front plan (refused r) None said h = h
+  says_front plan (refused r) (Some w) said h = record {
+    line = h.line;
+    is_line = record {
+      answer = h.is_line.answer;
+      refused = refusal_answer n m more_plan more_limits plan r h.is_line.answer h.is_line.refused;
+      is = h.is_line.is;
+    };
+    is = h.is;
+  }
+
+  shown_front : (plan : List ℕ) (finding : Finding) (said : List (List ℕ)) (page : List ℕ)
+      → Shows (take n plan) finding said page → Shows plan finding said page
+  shown_front plan finding said page h = record {
     captions = h.captions;
     are_captions = captions_front plan finding h.captions h.are_captions;
     whole = h.whole;
   }
 
-  page_front : (plan limits page : List ℕ) → IsPage (take n plan) (Some (take m limits)) page
-      → IsPage plan (Some limits) page
-  page_front plan limits page h = record {
+  page_front : (plan limits : List ℕ) (words : Option (List ℕ)) (page : List ℕ)
+      → IsPage (take n plan) (Some (take m limits)) words page → IsPage plan (Some limits) words page
+  page_front plan limits words page h = record {
     finding = h.finding;
     found = found_front plan limits h.finding h.found;
-    shown = shown_front plan h.finding page h.shown;
+    said = h.said;
+    says = says_front plan h.finding words h.said h.says;
+    shown = shown_front plan h.finding h.said page h.shown;
   }
 
-  page_alone : (plan page : List ℕ) → IsPage (take n plan) None page → IsPage plan None page
-  page_alone plan page h = record {
+  page_alone : (plan : List ℕ) (words : Option (List ℕ)) (page : List ℕ) → IsPage (take n plan) None words page
+      → IsPage plan None words page
+  page_alone plan words page h = record {
     finding = h.finding;
     found = found_alone plan h.finding h.found;
-    shown = shown_front plan h.finding page h.shown;
+    said = h.said;
+    says = says_front plan h.finding words h.said h.says;
+    shown = shown_front plan h.finding h.said page h.shown;
   }
 
   chart_front : (plan limits : NamedText) (a : Answer) → IsChart (front n plan) (Some (front m limits)) a
       → IsChart plan (Some limits) a
   chart_front plan limits a h = record {
-    page = page_front plan.bytes limits.bytes a.text h.page;
+    page = page_front plan.bytes limits.bytes a.reason a.text h.page;
     judged = judged_front plan limits a.reason h.judged;
   }
 
   chart_alone : (plan : NamedText) (a : Answer) → IsChart (front n plan) None a → IsChart plan None a
   chart_alone plan a h = record {
-    page = page_alone plan.bytes a.text h.page;
+    page = page_alone plan.bytes a.reason a.text h.page;
     judged = judged_alone plan a.reason h.judged;
   }
 
@@ -140,7 +163,10 @@ module _ (n m : ℕ) (more_plan : 1048576 < n) (more_limits : 262144 < m) where
   ranges_front plan a (inl h) = inl (record {
     tree = h.tree;
     elements = elements_front plan.bytes h.tree h.elements;
+    notes = h.notes;
+    noted = subst (λ b. HasNotes b h.notes) (whole 1048576 n plan.bytes more_plan h.elements.short) h.noted;
     draft = h.draft;
+    short = h.short;
     read = h.read;
   })
   ranges_front plan a (inr h) = inr (record {

@@ -1,8 +1,13 @@
 -- The answers on a plan from what the calls below promise.
-use Rattle.std.proofs.Common.{◌≡◌, ℕ, List, Option, Some, None, ap, ◌∙◌, subst}
+use Rattle.std.proofs.Common.{◌≡◌, ◌≤◌, ℕ, length, arith, List, Option, Some, None, ap, ◌∙◌, subst}
 use Rattle.std.specs.Prelude.{option_map}
+use Rattle.std.proofs.lemmas.List.{length-map}
+use Rattle.pap_tree.specs.Limits.{most_inputs}
 use Rattle.pap_reader.specs.declared.fault.ReadFault.{ReadFault}
-use Rattle.pap_reader.specs.Elements.{IsFault}
+use Rattle.pap_reader.specs.declared.elements.Elements.{Elements}
+use Rattle.pap_reader.specs.Trees.{tree_of, raw_declaration_of}
+use Rattle.pap_reader.specs.Elements.{IsElements, IsFault}
+use Rattle.pap_reader.proofs.Laws.{small_tree}
 use Rattle.pap_plan.specs.declared.refusal.PlanRefusal.TheVariants as refusals
 use Rattle.plan_answers.specs.Answers.{Answer as Written, IsRefusal}
 use Rattle.plan_answers.specs.Lines.{refusal_line}
@@ -15,7 +20,7 @@ use Rattle.flowchart_page.specs.Verdicts.{file_or_none, IsJudged}
 use Rattle.author_cli.specs.Answers.{Answer, IsChart, IsUnread}
 
 pub charted : (plan : TextFile) (limits : Option TextFile) (answer : Answer)
-    → IsPage plan.bytes.now (option_map (λ f. f.bytes.now) limits) answer.text
+    → IsPage plan.bytes.now (option_map (λ f. f.bytes.now) limits) answer.reason answer.text
     → IsJudged (named_text plan) (option_map (λ f. named_text f) limits) answer.reason
     → IsChart (named_text plan) (option_map (λ f. named_text f) limits) answer
 charted plan (Some l) answer page judged = record { page = page; judged = judged }
@@ -41,3 +46,11 @@ unread plan file fault written answer words none has refused same reason line be
         none begins;
   };
 }
+
+-- a plan that is read has no more inputs than one may have
+pub few_inputs : (plan : List ℕ) (elements : Elements) → IsElements plan (tree_of elements)
+    → length elements.inputs.items ≤ most_inputs
+few_inputs plan elements read =
+    let size = length-map elements.inputs.items raw_declaration_of in
+    let few = (small_tree plan (tree_of elements) read).inputs in
+    omega (arith, size, few)

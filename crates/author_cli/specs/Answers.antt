@@ -1,9 +1,12 @@
 -- What is written on the bytes of a plan's file and of a range file (docs/DEFINITIONS.md).
-use Rattle.std.specs.Prelude.{◌≡◌, ◌⊎◌, ℕ, List, Option, Some, None, option_map}
+use Rattle.std.specs.Prelude.{◌≡◌, ◌≤◌, ◌⊎◌, ℕ, List, length, Option, Some, None, option_map}
 use Rattle.outside.specs.Told.{FileMap}
 use Rattle.pap_reader.specs.declared.fault.ReadFault.{ReadFault}
 use Rattle.pap_reader.specs.Trees.{ElementTree}
 use Rattle.pap_reader.specs.Elements.{IsElements, IsFault}
+use Rattle.limits_file.specs.Limits.{longest_limits}
+use Rattle.plan_notes.specs.declared.notes.Notes.{Notes}
+use Rattle.plan_notes.specs.Notes.{HasNotes}
 use Rattle.plain_words.specs.Places.{NamedText}
 use Rattle.plain_words.specs.Refusals.{TellsPlan}
 use Rattle.plan_answers.specs.Lines.{refusal_line}
@@ -20,18 +23,22 @@ pub record Answer : Type 0 where
 
 -- ---- chart
 
--- the page of a plan, with a range file or without one
+-- the page of a plan, with a range file or without one: it has the words that say why the plan is refused, where it is
 pub record IsChart (plan : NamedText) (limits : Option NamedText) (answer : Answer) : Type 0 where
-  pub page : IsPage plan.bytes (option_map (λ file. file.bytes) limits) answer.text
+  pub page : IsPage plan.bytes (option_map (λ file. file.bytes) limits) answer.reason answer.text
   pub judged : IsJudged plan limits answer.reason
 
 -- ---- ranges
 
--- the range file that begins with the plan's inputs; the plan isn't judged
+-- the range file that begins with the plan's inputs and the comments on them, no longer than a range file may be; the plan
+-- isn't judged
 pub record IsBegun (plan : NamedText) (answer : Answer) : Type 0 where
   pub tree : ElementTree
   pub elements : IsElements plan.bytes tree
-  pub draft : IsDraft tree.inputs answer.text
+  pub notes : Notes
+  pub noted : HasNotes plan.bytes notes
+  pub draft : IsDraft tree.inputs notes answer.text
+  pub short : length answer.text ≤ longest_limits
   pub read : answer.reason ≡ None
 
 -- the line of a file that isn't read as a plan, as `check` writes it, and the words that say why

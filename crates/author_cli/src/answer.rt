@@ -149,6 +149,7 @@ fn page_of(
 }
 
 /// The range file that begins with a plan's inputs, or the line of its refusal where the bytes aren't read as a plan.
+#[tactic(auto, using(crate::proofs::UnreadLemmas::few_inputs))]
 fn ranges_of(alloc: Global, plan: TextFile<'_>) -> Result<Answer, AllocError>
     ensures { IfOk result (λ answer. IsRanges (named_text plan.entry) (answer_of answer)) }
 {

@@ -1,5 +1,6 @@
 -- A page that is gone on with, piece by piece.
 use Rattle.std.proofs.Common.{◌≡◌, ℕ, ◌+◌, ◌<◌, ◌≤◌, List, [], ◌∷◌, ◌++◌, length, take, map, get_or, refl, sym, ap, subst, ◌∙◌, append_assoc}
+use Rattle.std.specs.Prelude.{Result, Ok, Err, OnOk}
 use Rattle.std.specs.List.{flat_map}
 use Rattle.std.proofs.lemmas.List.{append-nil, map-append, flat_map_more, take_more, take_all}
 use Rattle.chart_layout.specs.Drawn.{Drawn}
@@ -35,6 +36,11 @@ pub adds_between : (text written first last a b c d : List ℕ) → b ≡ a ++ f
     → AddsInTurn (text ∷ []) a d
 adds_between text written first last a b c d before said is behind =
     adds_inside (text ∷ []) first last a b c d before (adds_text text b c (said ∙ ap (λ l. b ++ l) is)) behind
+
+-- what follows of an answer that is Ok
+pub on_ok : {A E : Type 0} (r : Result A E) (P Q : Type 0) → OnOk r P → (P → Q) → OnOk r Q
+on_ok (Ok v) P Q h f = f h
+on_ok (Err e) P Q h f = h
 
 -- three parts
 pub three_parts : (a b c old first second new : List ℕ) → first ≡ old ++ a → second ≡ first ++ b → new ≡ second ++ c

@@ -66,9 +66,12 @@ impl Page {
     }
 
     /// Appends a text between HTML before it and behind it.
-    pub fn element(&mut self, open: &str, text: &[u8], close: &str) -> Result<(), AllocError> {
-        self.own(open)?;
+    pub fn element(&mut self, before: &str, text: &[u8], behind: &str) -> Result<(), AllocError>
+        ensures { OnOk result (self.new
+            ≡ self.old ++ (before.now ++ (escaped text.now ++ behind.now))) }
+    {
+        self.own(before)?;
         self.text(text)?;
-        self.own(close)
+        self.own(behind)
     }
 }

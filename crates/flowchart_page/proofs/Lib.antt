@@ -1,3 +1,4 @@
 pub mod VerdictLemmas
 pub mod PageLemmas
+pub mod HeaderLemmas
 pub mod SiteLemmas

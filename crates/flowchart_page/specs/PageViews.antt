@@ -1,12 +1,12 @@
 -- What is in a page of what was read.
-use Rattle.std.specs.Prelude.{ℕ, List, ◌∷◌}
+use Rattle.std.specs.Prelude.{ℕ, List, ◌++◌}
 use Rattle.pap_reader.specs.Trees.{ElementTree}
 use Rattle.flowchart_methods.specs.Captions.{AreCaptions, methods_of}
 use Rattle.flowchart_page.specs.Findings.{Finding, marked}
-use Rattle.flowchart_page.specs.Pages.{IsWholePage, sentence_on}
+use Rattle.flowchart_page.specs.Pages.{IsWholePage}
 
--- the sentence, and behind it the captions of the methods
-pub record ShowsTree (finding : Finding) (tree : ElementTree) (page : List ℕ) : Type 0 where
+-- what is said, and behind it the captions of the methods
+pub record ShowsTree (finding : Finding) (said : List (List ℕ)) (tree : ElementTree) (page : List ℕ) : Type 0 where
   pub captions : List (List ℕ)
   pub are_captions : AreCaptions (marked finding) (methods_of tree) captions
-  pub whole : IsWholePage (sentence_on finding ∷ captions) page
+  pub whole : IsWholePage (said ++ captions) page

@@ -1,10 +1,14 @@
 -- What a page says of its plan.
-use Rattle.std.specs.Prelude.{◌≡◌, ◌⊎◌, ℕ, List, [], ◌∷◌, ◌++◌, codes, Option}
+use Rattle.std.specs.Prelude.{◌≡◌, ◌⊎◌, ℕ, Bool, false, not, ◌==◌, if◌then◌else◌, List, [], ◌∷◌, ◌++◌, codes, Option, Some, None}
 use Rattle.std.specs.Fmt.{decimal}
 use Rattle.pap_reader.specs.declared.fault.ReadFault.{ReadFault}
 use Rattle.pap_reader.specs.Trees.{ElementTree}
 use Rattle.pap_reader.specs.Elements.{IsElements, IsFault}
 use Rattle.pap_types.specs.Meaning.{bound_of}
+use Rattle.pap_plan.specs.declared.refusal.PlanRefusal.{PlanRefusal}
+use Rattle.plan_answers.specs.Answers.{Answer, IsRefusal}
+use Rattle.plan_notes.specs.Lines.{line_text}
+use Rattle.flowchart_methods.specs.Escapes.{escaped_byte, escaped}
 use Rattle.flowchart_methods.specs.Turns.{StandInTurn}
 use Rattle.flowchart_methods.specs.Captions.{AreCaptions, methods_of}
 use Rattle.flowchart_page.specs.Findings.{Finding, accepted, in_order, refused, IsFound, marked}
@@ -22,24 +26,58 @@ pub record IsWholePage (texts : List (List ℕ)) (page : List ℕ) : Type 0 wher
   pub whole : page ≡ page_start ++ (inside ++ page_end)
   pub stand : StandInTurn texts inside
 
--- ---- the sentence on the plan
+-- ---- what is said of the plan
 
 abbrev pub accepted_text : ℕ → List ℕ
 accepted_text bound =
     codes "<b>Accepted.</b> On every input within the ranges a run is safe and takes at most <b>"
     ++ (decimal bound ++ codes "</b> steps.")
 
-abbrev pub refused_text : List ℕ
-refused_text = codes "<b>Refused.</b> "
-
 abbrev pub in_order_text : List ℕ
 in_order_text = codes "<b>In order</b>, as far as it can be said without a range file"
 
--- what is said of a plan of which this is found: where it is accepted the sentence has its bound
-abbrev pub sentence_on : Finding → List ℕ
-sentence_on (accepted m) = accepted_text (bound_of m.flowchart)
-sentence_on in_order = in_order_text
-sentence_on (refused r) = refused_text
+abbrev pub refused_text : List ℕ
+refused_text = codes "<b>Refused.</b> "
+
+-- the tag at a backquote: it begins code, or ends it
+abbrev pub code_tag : Bool → List ℕ
+code_tag is_code = if is_code then codes "</code>" else codes "<code>"
+
+-- a byte of words in a page
+abbrev pub byte_text : Bool → ℕ → List ℕ
+byte_text is_code byte = if byte == 0x60 then code_tag is_code else escaped_byte byte
+
+-- whether code goes on behind a byte
+abbrev pub is_code_behind : Bool → ℕ → Bool
+is_code_behind is_code byte = if byte == 0x60 then not is_code else is_code
+
+-- words in a page, where the first are code or not: a backquote begins code or ends it, and no code goes on behind them
+abbrev pub words_from : Bool → List ℕ → List ℕ
+words_from is_code [] = if is_code then codes "</code>" else []
+words_from is_code (byte ∷ words) =
+    byte_text is_code byte ++ words_from (is_code_behind is_code byte) words
+
+abbrev pub shown_words : List ℕ → List ℕ
+shown_words words = words_from false words
+
+-- the line that `check` writes of a refusal, without its end
+pub record IsRefusalLine (plan : List ℕ) (r : PlanRefusal) (line : List ℕ) : Type 0 where
+  pub answer : Answer
+  pub refused : IsRefusal plan r answer
+  pub is : line ≡ line_text answer.text
+
+-- what is said of a refused plan: that it is refused, why in words, and the line that is written of it
+pub record SaysRefused (plan : List ℕ) (r : PlanRefusal) (words : List ℕ) (said : List (List ℕ)) : Type 0 where
+  pub line : List ℕ
+  pub is_line : IsRefusalLine plan r line
+  pub is : said ≡ refused_text ∷ shown_words words ∷ escaped line ∷ []
+
+-- what is said of a plan of which this is found, with these words where it is refused
+abbrev pub Says : List ℕ → Finding → Option (List ℕ) → List (List ℕ) → Type 0
+Says plan (accepted m) None said = said ≡ accepted_text (bound_of m.flowchart) ∷ []
+Says plan in_order None said = said ≡ in_order_text ∷ []
+Says plan (refused r) (Some words) said = SaysRefused plan r words said
+Says _ _ _ _ = ⊥
 
 -- ---- the drawings
 
@@ -50,14 +88,17 @@ ArePlanCaptions plan finding captions =
     ((tree : ElementTree) × IsElements plan tree × AreCaptions (marked finding) (methods_of tree) captions)
     ⊎ ((fault : ReadFault) × IsFault plan fault × (captions ≡ []))
 
--- a whole page, in it the sentence on the plan, and behind that the captions of its methods, both of the same finding
-pub record Shows (plan : List ℕ) (finding : Finding) (page : List ℕ) : Type 0 where
+-- a whole page, in it what is said of the plan, and behind that the captions of its methods
+pub record Shows (plan : List ℕ) (finding : Finding) (said : List (List ℕ)) (page : List ℕ) : Type 0 where
   pub captions : List (List ℕ)
   pub are_captions : ArePlanCaptions plan finding captions
-  pub whole : IsWholePage (sentence_on finding ∷ captions) page
+  pub whole : IsWholePage (said ++ captions) page
 
--- what is found of the plan, with the range file or without one, is what the page shows
-pub record IsPage (plan : List ℕ) (limits : Option (List ℕ)) (page : List ℕ) : Type 0 where
+-- what is found of the plan, with the range file or without one, is what the page says and shows, and it has these words
+-- on a refusal
+pub record IsPage (plan : List ℕ) (limits : Option (List ℕ)) (words : Option (List ℕ)) (page : List ℕ) : Type 0 where
   pub finding : Finding
   pub found : IsFound plan limits finding
-  pub shown : Shows plan finding page
+  pub said : List (List ℕ)
+  pub says : Says plan finding words said
+  pub shown : Shows plan finding said page

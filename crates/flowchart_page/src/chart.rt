@@ -1,13 +1,13 @@
 //! The whole page.
-ghost use Rattle.std.specs.Prelude.{◌≡◌, ◌∷◌, [], option_map, IfOk, string_bytes};
+ghost use Rattle.std.specs.Prelude.{◌≡◌, ◌++◌, option_map, IfOk, string_bytes};
 ghost use Rattle.std.specs.List.{flat_map};
 ghost use Rattle.pap_reader.specs.Trees.{tree_of};
 ghost use Rattle.flowchart_methods.specs.Chapters.{chapter_captions};
 ghost use Rattle.plain_words.specs.Places.{named_text};
 ghost use Rattle.flowchart_page.specs.Verdicts.{IsJudged};
-ghost use Rattle.flowchart_page.specs.Pages.{IsWholePage, sentence_on, Shows, IsPage};
+ghost use Rattle.flowchart_page.specs.Pages.{IsWholePage, Shows, IsPage};
 ghost use Rattle.flowchart_page.specs.PageViews.{ShowsTree};
-ghost use Rattle.flowchart_page.specs.VerdictViews.{finding_of, words_of};
+ghost use Rattle.flowchart_page.specs.VerdictViews.{finding_of, words_of, said_of};
 
 use crate::declarations::{Declarations, write_declarations};
 use crate::header::{PAGE_END, PAGE_START, head_of, write_lead, write_verdict};
@@ -32,8 +32,8 @@ pub struct Chart {
 }
 
 /// The page of a plan's bytes: with a range file whether the plan is accepted with it, without one what can be said before.
-/// The name of the plan's file stands for the plan's own name where that has none. Takes time linear in the plan beside what
-/// judging it takes, and fails only for want of memory.
+/// The name of the plan's file stands for the plan's own name where that has none. Takes time linear in the plan, beside what
+/// judging it takes and a look through the range file's tables for each input, and fails only for want of memory.
 #[tactic(auto, using(crate::proofs::PageLemmas::judged_page))]
 pub fn draw_chart(
     alloc: Global,
@@ -46,7 +46,8 @@ pub fn draw_chart(
         (option_map (λ words. string_bytes words) chart.reason)) }
     // What the page says of the plan, and that it draws its statements.
     ensures page { IfOk result (λ chart. IsPage plan.entry.bytes.now
-        (option_map (λ file. file.bytes.now) limits.entry) chart.page.items) }
+        (option_map (λ file. file.bytes.now) limits.entry)
+        (option_map (λ words. string_bytes words) chart.reason) chart.page.items) }
 {
     let verdict = judge(alloc, plan, limits)?;
     let page = write_chart(alloc, plan, limits, &verdict)?;
@@ -74,7 +75,8 @@ fn write_chart(
     limits: Option<TextFile<'_>>,
     verdict: &Verdict,
 ) -> Result<Page, AllocError>
-    ensures { IfOk result (Shows plan.entry.bytes.now (finding_of verdict.now)) }
+    ensures { IfOk result
+        (Shows plan.entry.bytes.now (finding_of verdict.now) (said_of verdict.now)) }
 {
     match read_elements(alloc, plan.bytes) {
         Ok(elements) => read_page(alloc, plan, limits, verdict, &elements),
@@ -91,7 +93,8 @@ fn read_page(
     verdict: &Verdict,
     elements: &Elements,
 ) -> Result<Page, AllocError>
-    ensures { IfOk result (ShowsTree (finding_of verdict.now) (tree_of elements.now)) }
+    ensures { IfOk result
+        (ShowsTree (finding_of verdict.now) (said_of verdict.now) (tree_of elements.now)) }
 {
     let notes = read_notes(alloc, plan.bytes)?;
     let limits = limits_of(alloc, limits)?;
@@ -127,7 +130,7 @@ struct Source<'a> {
 
 /// The page of a file that is no plan: its head alone.
 fn empty_page(alloc: Global, file: &str, verdict: &Verdict) -> Result<Page, AllocError>
-    ensures { IfOk result (IsWholePage (sentence_on (finding_of verdict.now) ∷ [])) }
+    ensures { IfOk result (IsWholePage (said_of verdict.now)) }
 {
     let mut page = Page::new(alloc);
     page.own(PAGE_START)?;
@@ -144,7 +147,8 @@ const NO_DRAWING: &str =
 
 /// The page of a plan with its methods.
 fn plan_page(alloc: Global, elements: &Elements, source: Source<'_>) -> Result<Page, AllocError>
-    ensures { IfOk result (ShowsTree (finding_of source.entry.verdict.now) (tree_of elements.now)) }
+    ensures { IfOk result (ShowsTree (finding_of source.entry.verdict.now)
+        (said_of source.entry.verdict.now) (tree_of elements.now)) }
 {
     let site = site_shown(elements, source.verdict);
     let chapters = read_chapters(alloc, elements, source.notes, &site)?;
@@ -159,8 +163,8 @@ fn whole_page(
     chapters: &[Chapter<'_>],
     site: &Site,
 ) -> Result<Page, AllocError>
-    ensures { IfOk result (IsWholePage (sentence_on (finding_of source.entry.verdict.now)
-        ∷ flat_map chapter_captions chapters.now)) }
+    ensures { IfOk result (IsWholePage (said_of source.entry.verdict.now
+        ++ flat_map chapter_captions chapters.now)) }
 {
     let mut page = Page::new(alloc);
     page.own(PAGE_START)?;

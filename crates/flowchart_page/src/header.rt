@@ -1,8 +1,9 @@
 //! The head of the page and its verdict.
-ghost use Rattle.std.specs.Prelude.{◌≡◌, ◌∷◌, [], IfOk, OnOk, string_bytes};
+ghost use Rattle.std.specs.Prelude.{◌≡◌, ◌∷◌, ◌++◌, [], IfOk, OnOk, string_bytes};
 ghost use Rattle.flowchart_methods.specs.Turns.{AddsInTurn};
-ghost use Rattle.flowchart_page.specs.Pages.{sentence_on};
-ghost use Rattle.flowchart_page.specs.VerdictViews.{finding_of};
+ghost use Rattle.flowchart_methods.specs.Escapes.{escaped};
+ghost use Rattle.flowchart_page.specs.Pages.{code_tag, byte_text, is_code_behind, words_from, shown_words};
+ghost use Rattle.flowchart_page.specs.VerdictViews.{said_of, sentence_of, behind_sentence};
 
 use crate::style::STYLE;
 use crate::verdict::{Reason, Verdict};
@@ -48,20 +49,17 @@ pub(crate) fn write_lead(page: &mut Page, comments: &[String]) -> Result<(), All
 }
 
 /// Appends what is said of the plan.
-#[tactic(auto, using(crate::proofs::PageLemmas::said_in))]
 pub(crate) fn write_verdict(
     page: &mut Page,
     verdict: &Verdict,
     site: &Site,
 ) -> Result<(), AllocError>
-    ensures { OnOk result (AddsInTurn (sentence_on (finding_of verdict.now) ∷ [])
-        page.old page.new) }
+    ensures { OnOk result (AddsInTurn (said_of verdict.now) page.old page.new) }
 {
     let alloc = page.alloc();
     page.own(verdict_start(verdict))?;
     page.own(&verdict_text(alloc, verdict)?)?;
-    page.append(&verdict_end(alloc, verdict, site)?)?;
-    Ok(())
+    write_verdict_end(page, verdict, site)
 }
 
 /// The start tags round the sentence on a plan.
@@ -74,7 +72,7 @@ fn verdict_start(verdict: &Verdict) -> &'static str {
 
 /// The sentence on a plan.
 fn verdict_text(alloc: Global, verdict: &Verdict) -> Result<String, AllocError>
-    ensures { IfOk result (λ text. string_bytes text ≡ sentence_on (finding_of verdict.now)) }
+    ensures { IfOk result (λ text. string_bytes text ≡ sentence_of verdict.now) }
 {
     match verdict {
         Verdict::Accepted(plan) => {
@@ -91,21 +89,25 @@ fn verdict_text(alloc: Global, verdict: &Verdict) -> Result<String, AllocError>
     }
 }
 
-/// What stands behind the sentence on a plan: of a refused one the reason.
-fn verdict_end(alloc: Global, verdict: &Verdict, site: &Site) -> Result<Page, AllocError> {
-    let mut page = Page::new(alloc);
+/// Appends what stands behind the sentence on a plan: of a refused one the reason.
+#[tactic(auto, using(crate::proofs::HeaderLemmas::on_html))]
+fn write_verdict_end(page: &mut Page, verdict: &Verdict, site: &Site) -> Result<(), AllocError>
+    ensures { OnOk result (AddsInTurn (behind_sentence verdict.now) page.old page.new) }
+{
     match verdict {
-        Verdict::Accepted(_) => page.own("</p>\n")?,
+        Verdict::Accepted(_) => page.own("</p>\n"),
         Verdict::InOrder => page.own(
             ": its expressions, names, types and methods. Whether each run is safe is said with a range file.</p>\n",
-        )?,
-        Verdict::Refused(reason) => write_reason(&mut page, reason, site)?,
+        ),
+        Verdict::Refused(reason) => write_reason(page, reason, site),
     }
-    Ok(page)
 }
 
 /// Appends why the plan is refused.
-fn write_reason(page: &mut Page, reason: &Reason, site: &Site) -> Result<(), AllocError> {
+fn write_reason(page: &mut Page, reason: &Reason, site: &Site) -> Result<(), AllocError>
+    ensures { OnOk result (AddsInTurn (shown_words (string_bytes reason.now.words)
+        ∷ escaped (string_bytes reason.now.line) ∷ []) page.old page.new) }
+{
     write_words(page, &reason.words)?;
     page.element(".</p>\n<p><code>", reason.line.as_bytes(), "</code>")?;
     write_link(page, site)?;
@@ -113,25 +115,56 @@ fn write_reason(page: &mut Page, reason: &Reason, site: &Site) -> Result<(), All
 }
 
 /// Appends plain words, with what stands in backquotes as code.
-fn write_words(page: &mut Page, words: &str) -> Result<(), AllocError> {
+fn write_words(page: &mut Page, words: &str) -> Result<(), AllocError>
+    ensures { OnOk result (page.new ≡ page.old ++ shown_words words.now) }
+{
     let mut is_code = false;
     for byte in words.as_bytes() {
-        match *byte {
-            b'`' => {
-                page.own(if is_code { "</code>" } else { "<code>" })?;
-                is_code = !is_code;
-            }
-            byte => page.text(&[byte])?,
-        }
+        write_word_byte(page, *byte, is_code)?;
+        is_code = is_code_behind(is_code, *byte);
     }
+    end_words(page, is_code)
+}
+
+/// Ends plain words: no code goes on behind them.
+fn end_words(page: &mut Page, is_code: bool) -> Result<(), AllocError>
+    ensures { OnOk result (page.new ≡ page.old ++ words_from is_code []) }
+{
     if is_code {
-        page.own("</code>")?;
+        return page.own("</code>");
     }
     Ok(())
 }
 
+/// Whether code goes on behind a byte of plain words.
+fn is_code_behind(is_code: bool, byte: u8) -> bool
+    ensures { result ≡ is_code_behind is_code byte }
+{
+    if byte == b'`' { !is_code } else { is_code }
+}
+
+/// Appends a byte of plain words: a backquote begins code or ends it.
+fn write_word_byte(page: &mut Page, byte: u8, is_code: bool) -> Result<(), AllocError>
+    ensures { OnOk result (page.new ≡ page.old ++ byte_text is_code byte) }
+{
+    if byte == b'`' {
+        return page.own(code_tag(is_code));
+    }
+    page.text(&[byte])
+}
+
+/// The tag at a backquote.
+fn code_tag(is_code: bool) -> &'static str
+    ensures { result.now ≡ code_tag is_code }
+{
+    if is_code { "</code>" } else { "<code>" }
+}
+
 /// Appends the link to what a refusal names.
-fn write_link(page: &mut Page, site: &Site) -> Result<(), AllocError> {
+#[tactic(auto, using(crate::proofs::HeaderLemmas::on_html, crate::proofs::HeaderLemmas::on_nothing))]
+fn write_link(page: &mut Page, site: &Site) -> Result<(), AllocError>
+    ensures { OnOk result (AddsInTurn [] page.old page.new) }
+{
     let alloc = page.alloc();
     match site {
         Site::Statement { method, number } => page.own(&format!(in alloc;

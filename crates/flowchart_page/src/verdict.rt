@@ -3,7 +3,8 @@ ghost use Rattle.std.specs.Prelude.{◌≡◌, IfOk, IsTrue, option_map, is_none
 ghost use Rattle.plain_words.specs.Places.{named_text, files_of};
 ghost use Rattle.flowchart_page.specs.Verdicts.{lacks_limit, file_or_none, IsJudged};
 ghost use Rattle.flowchart_page.specs.Findings.{IsFound};
-ghost use Rattle.flowchart_page.specs.VerdictViews.{finding_of, words_of, is_excused, SaysRefusal};
+ghost use Rattle.flowchart_page.specs.Pages.{IsRefusalLine, Says};
+ghost use Rattle.flowchart_page.specs.VerdictViews.{finding_of, words_of, said_of, is_excused, SaysRefusal};
 
 use pap_plan::{Plan, PlanRefusal, accept};
 use plain_words::{TextFile, plan_words};
@@ -41,6 +42,8 @@ pub(crate) fn judge(
         (option_map (λ file. file.bytes.now) limits.entry) (finding_of verdict)) }
     ensures judged { IfOk result (λ verdict. IsJudged (named_text plan.entry)
         (option_map (λ file. named_text file) limits.entry) (words_of verdict)) }
+    ensures says { IfOk result (λ verdict. Says plan.entry.bytes.now (finding_of verdict)
+        (words_of verdict) (said_of verdict)) }
 {
     let ranges = file_or_none(limits);
     match accept(alloc, plan.bytes, ranges.bytes) {
@@ -85,6 +88,8 @@ fn reason_of(
     ensures refusal { IfOk result (λ reason. reason.refusal ≡ refusal) }
     ensures says { IfOk result (λ reason. SaysRefusal (files_of plan.entry ranges.entry) refusal
         (string_bytes reason.words)) }
+    ensures line { IfOk result (λ reason.
+        IsRefusalLine plan.entry.bytes.now refusal (string_bytes reason.line)) }
 {
     let line = refusal_line(alloc, plan.bytes, &refusal)?;
     let words = plan_words(alloc, plan, ranges, &refusal)?;
@@ -96,7 +101,9 @@ fn reason_of(
 }
 
 /// The line that is written of a refusal, without its end.
-fn refusal_line(alloc: Global, plan: &[u8], refusal: &PlanRefusal) -> Result<String, AllocError> {
+fn refusal_line(alloc: Global, plan: &[u8], refusal: &PlanRefusal) -> Result<String, AllocError>
+    ensures { IfOk result (λ line. IsRefusalLine plan.now refusal.now (string_bytes line)) }
+{
     let reply = refused(alloc, plan, refusal)?;
     plan_notes::one_line(alloc, &reply.text)
 }

@@ -1,16 +1,19 @@
 //! The text of the range file.
-ghost use Rattle.std.specs.Prelude.{◌≡◌, ◌++◌, map, IfOk, IsTrue, OnOk};
-ghost use Rattle.std.specs.String.{string_bytes};
+ghost use Rattle.std.specs.Prelude.{◌≡◌, ◌≤◌, ◌++◌, length, map, IfOk, OnOk, string_bytes};
+ghost use Rattle.std.specs.Str.{chars};
+ghost use Rattle.pap_tree.specs.Limits.{most_inputs};
 ghost use Rattle.pap_reader.specs.Trees.{tree_of, raw_declaration_of};
-ghost use Rattle.range_draft.specs.Draft.{IsDraft, IsEntry, AreComments, IsLine, is_comment_char, table};
-ghost use Rattle.range_draft.specs.DraftViews.{Appends, AddsEntry, declared_in};
+ghost use Rattle.limits_file.specs.Limits.{longest_limits};
+ghost use Rattle.range_draft.specs.Draft.{IsDraft, entry_of, is_comment_char, shown_char, front, comment_line, comment_lines, longest_comment, table};
+ghost use Rattle.range_draft.specs.DraftViews.{texts_of};
 
 use crate::bounds::widest;
 use pap_reader::{Elements, RawDeclared};
 use plan_notes::{Element, Notes};
 use std::alloc::{AllocError, Global};
+use std::collections::BTreeSet;
 
-/// The most bytes of a comment of the plan that are taken over: 256 of them stay within the longest range file.
+/// The most bytes of an input's comments that are taken over: those of 256 inputs stay within the longest range file.
 const LONGEST_COMMENT: usize = 200;
 
 /// What stands first.
@@ -22,42 +25,23 @@ const HEAD: &str =
 
 /// A range file for a plan: a table for each input in declared order, with the comments that stand before it in the plan, and
 /// what to narrow. A name that is declared again has no second table. A comment has a space for each control character, since
-/// TOML refuses them in comments.
+/// TOML refuses them in comments. The text is no longer than a range file may be.
 pub fn draft_ranges(alloc: Global, elements: &Elements, notes: &Notes) -> Result<String, AllocError>
-    ensures { IfOk result (λ text. IsDraft (tree_of elements.now).inputs (string_bytes text)) }
+    requires few { length elements.now.inputs.items ≤ most_inputs }
+    ensures draft { IfOk result (λ text.
+        IsDraft (tree_of elements.now).inputs notes.now (string_bytes text)) }
+    ensures short { IfOk result (λ text. length (string_bytes text) ≤ longest_limits) }
 {
     let mut text = String::from_str(alloc, HEAD)?;
     let mut walk = notes.walk();
-    let inputs = elements.inputs.as_slice();
-    for (i, input) in inputs.iter().enumerate() {
+    let mut names = BTreeSet::new(alloc);
+    for input in elements.inputs.as_slice() {
         let comments = walk.skip_to(Element::Input);
-        write_new(&mut text, &inputs[..i], input, comments)?;
+        if names.insert(input.name.bytes())? {
+            write_input(&mut text, input, comments)?;
+        }
     }
     Ok(text)
-}
-
-/// Appends the entry of an input, unless its name stands among those before it.
-fn write_new(
-    text: &mut String,
-    before: &[RawDeclared],
-    input: &RawDeclared,
-    comments: &[String],
-) -> Result<(), AllocError>
-    ensures { OnOk result
-        (AddsEntry (map raw_declaration_of before.now) (raw_declaration_of input.now)
-        (string_bytes text.old) (string_bytes text.new)) }
-{
-    if is_declared(before, input) {
-        return Ok(());
-    }
-    write_input(text, input, comments)
-}
-
-/// Whether the name of an input stands among others.
-fn is_declared(inputs: &[RawDeclared], input: &RawDeclared) -> bool
-    ensures { result ≡ declared_in inputs.now input.now.name }
-{
-    inputs.iter().any(|other| other.name == input.name)
 }
 
 /// Appends the entry of an input.
@@ -66,8 +50,8 @@ fn write_input(
     input: &RawDeclared,
     comments: &[String],
 ) -> Result<(), AllocError>
-    ensures { OnOk result (Appends (IsEntry (raw_declaration_of input.now))
-        (string_bytes text.old) (string_bytes text.new)) }
+    ensures { OnOk result (string_bytes text.new ≡ string_bytes text.old
+        ++ entry_of (raw_declaration_of input.now) (texts_of comments.now)) }
 {
     text.push('\n')?;
     write_comments(text, comments)?;
@@ -76,12 +60,13 @@ fn write_input(
 
 /// Appends comments, as many as have room.
 fn write_comments(text: &mut String, comments: &[String]) -> Result<(), AllocError>
-    ensures { OnOk result (Appends AreComments (string_bytes text.old) (string_bytes text.new)) }
+    ensures { OnOk result (string_bytes text.new ≡ string_bytes text.old
+        ++ comment_lines longest_comment (texts_of comments.now)) }
 {
-    let mut room = LONGEST_COMMENT;
+    let end = text.len() + LONGEST_COMMENT;
     for comment in comments {
+        let room = end.saturating_sub(text.len());
         write_comment(text, comment, room)?;
-        room = room.saturating_sub(comment.len());
     }
     Ok(())
 }
@@ -105,7 +90,8 @@ fn write_table(text: &mut String, input: &RawDeclared) -> Result<(), AllocError>
 
 /// Appends the line of a comment, of a long one the front that has room. Without any room there is no line.
 fn write_comment(text: &mut String, comment: &str, room: usize) -> Result<(), AllocError>
-    ensures { OnOk result (Appends AreComments (string_bytes text.old) (string_bytes text.new)) }
+    ensures { OnOk result (string_bytes text.new
+        ≡ string_bytes text.old ++ comment_line room comment.now) }
 {
     if room == 0 {
         return Ok(());
@@ -117,22 +103,24 @@ fn write_comment(text: &mut String, comment: &str, room: usize) -> Result<(), Al
 
 /// Appends a text in one line, of a long one the front that has room.
 fn write_front(text: &mut String, comment: &str, room: usize) -> Result<(), AllocError>
-    ensures { OnOk result (Appends IsLine (string_bytes text.old) (string_bytes text.new)) }
+    ensures { OnOk result (string_bytes text.new
+        ≡ string_bytes text.old ++ front room (map shown_char (chars comment.now))) }
 {
     let mut left = room;
     for c in comment.chars() {
         if left < 4 {
             return text.push_str("..");
         }
-        text.push(within_line(c))?;
-        left = left.saturating_sub(c.len_utf8());
+        let shown = shown_char(c);
+        text.push(shown)?;
+        left = left.saturating_sub(shown.len_utf8());
     }
     Ok(())
 }
 
 /// A character of a comment: a space for a control character.
-fn within_line(c: char) -> char
-    ensures { IsTrue (is_comment_char result) }
+fn shown_char(c: char) -> char
+    ensures { result ≡ shown_char c }
 {
     if is_comment_char(c) { c } else { ' ' }
 }

@@ -1,13 +1,12 @@
 use Rattle.std.specs.List.{flat_map}
 use Rattle.flowchart_methods.specs.Chapters.{chapter_captions}
-use Rattle.flowchart_page.specs.Pages.{sentence_on}
-use Rattle.flowchart_page.specs.VerdictViews.{finding_of}
+use Rattle.flowchart_page.specs.VerdictViews.{said_of}
 use Rattle.flowchart_page.proofs.PageLemmas.{whole_page}
 use Rattle.flowchart_page.proofs.chart.whole_page.Goals as goal
 
 pub returns : goal.returns
 returns c =
-    whole_page (sentence_on (finding_of c.args.source.verdict.now)) (flat_map chapter_captions c.args.chapters.now) _
+    whole_page (said_of c.args.source.verdict.now) (flat_map chapter_captions c.args.chapters.now) _
     _ _ c.new-page.result
     c.own.new.self c.append.new.self c.write_verdict.new.page c.append-2.new.self c.write_methods.new.page
     c.append-3.new.self

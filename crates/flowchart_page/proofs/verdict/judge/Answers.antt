@@ -1,8 +1,8 @@
-use Rattle.std.proofs.Common.{◌≡◌, ◌≢◌, true, false, rules}
+use Rattle.std.proofs.Common.{◌≡◌, ◌≢◌, true, false, rules, refl}
 use Rattle.std.specs.Prelude.{is_none, string_bytes}
 use Rattle.pap_plan.specs.declared.refusal.PlanRefusal.TheVariants as refusals
 use Rattle.flowchart_page.specs.VerdictViews.{is_excused}
-use Rattle.flowchart_page.proofs.VerdictLemmas.{found_in_order, judged_in_order, found_refused, judged_refused}
+use Rattle.flowchart_page.proofs.VerdictLemmas.{found_in_order, judged_in_order, found_refused, judged_refused, says_refused}
 use Rattle.flowchart_page.proofs.verdict.judge.Goals as goal
 
 pub returns-then-is_excused : goal.returns-then-is_excused
@@ -16,6 +16,7 @@ returns-then-is_excused c =
       judged = judged_in_order c.args.plan c.file_or_none-ranges.result c.args.limits c.in-Err.refusal
           c.file_or_none-ranges.ensures
           excused known c.in-Err.ensures.refused;
+      says = refl;
     }
 
 pub returns-in_ok-reason-in-Err : goal.returns-in_ok-reason-in-Err
@@ -30,4 +31,7 @@ returns-in_ok-reason-in-Err c =
           (string_bytes c.in_ok-reason-in-Err.reason.words) c.file_or_none-ranges.ensures other known
           c.in-Err.ensures.refused
           c.in_ok-reason-in-Err.ensures.says;
+      says = says_refused c.args.plan.bytes.now c.in-Err.refusal c.in_ok-reason-in-Err.reason.refusal
+          (string_bytes c.in_ok-reason-in-Err.reason.words) (string_bytes c.in_ok-reason-in-Err.reason.line)
+          c.in_ok-reason-in-Err.ensures.refusal c.in_ok-reason-in-Err.ensures.line;
     }

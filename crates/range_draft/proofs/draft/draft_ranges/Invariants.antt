@@ -1,9 +1,6 @@
-use Rattle.std.proofs.Common.{take}
-use Rattle.std.specs.Prelude.{map}
-use Rattle.std.specs.String.{string_bytes}
-use Rattle.pap_reader.specs.Trees.{raw_declaration_of}
-use Rattle.range_draft.specs.Draft.{IsDraft}
+use Rattle.std.proofs.Common.{string_bytes}
+use Rattle.range_draft.proofs.DraftLemmas.{IsDrafted}
 use Rattle.range_draft.proofs.draft.draft_ranges.Given as goal
 
-abbrev pub invariant-loop-i : goal.invariant-loop-i
-invariant-loop-i l = IsDraft (map raw_declaration_of (take l.i l.inputs)) (string_bytes l.text)
+abbrev pub invariant-loop-input : goal.invariant-loop-input
+invariant-loop-input l = IsDrafted l.elements.inputs.items l.notes l.input-index l.walk l.names (string_bytes l.text)

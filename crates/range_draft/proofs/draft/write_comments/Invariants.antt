@@ -1,7 +1,9 @@
-use Rattle.std.specs.String.{string_bytes}
-use Rattle.range_draft.specs.Draft.{AreComments}
-use Rattle.range_draft.specs.DraftViews.{Appends}
+use Rattle.std.proofs.Common.{drop, string_bytes}
+use Rattle.range_draft.specs.DraftViews.{texts_of}
+use Rattle.range_draft.proofs.DraftLemmas.{AreBefore}
 use Rattle.range_draft.proofs.draft.write_comments.Given as goal
 
 abbrev pub invariant-loop-comment : goal.invariant-loop-comment
-invariant-loop-comment l = Appends AreComments (string_bytes l.initial.text) (string_bytes l.text)
+invariant-loop-comment l =
+    AreBefore (string_bytes l.initial.text) (string_bytes l.text) (texts_of (drop l.comment-index l.comments))
+    l.end (texts_of l.comments)

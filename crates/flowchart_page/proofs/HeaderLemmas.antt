@@ -1,0 +1,68 @@
+-- What is said of a plan, from its parts.
+use Rattle.std.proofs.Common.{◌≡◌, ℕ, Bool, Result, Ok, Err, String, string_bytes, List, [], ◌∷◌, ◌++◌, refl, sym, ap, ◌∙◌, append_assoc}
+use Rattle.std.specs.Prelude.{OnOk, IfOk}
+use Rattle.std.specs.declared.alloc.Global.{Global}
+use Rattle.std.proofs.lemmas.List.{append-nil}
+use Rattle.pap_plan.specs.declared.refusal.PlanRefusal.{PlanRefusal}
+use Rattle.plan_answers.specs.Answers.{Answer, IsRefusal}
+use Rattle.plan_notes.specs.Lines.{line_text}
+use Rattle.flowchart_methods.specs.Turns.{AddsInTurn}
+use Rattle.flowchart_methods.proofs.Laws.{adds_none, adds_before, adds_behind, adds_then}
+use Rattle.flowchart_page.specs.Pages.{byte_text, is_code_behind, words_from, IsRefusalLine}
+
+pub on_ok : {A E : Type 0} (r : Result A E) (P Q : Type 0) → OnOk r P → (P → Q) → OnOk r Q
+on_ok (Ok v) P Q h f = f h
+on_ok (Err e) P Q h f = h
+
+-- HTML with no text
+pub adds_html : (html old new : List ℕ) → new ≡ old ++ html → AddsInTurn [] old new
+adds_html html old new is = adds_behind [] html old old new is (adds_none old)
+
+pub on_html : {A E : Type 0} (r : Result A E) (html old new : List ℕ) → OnOk r (new ≡ old ++ html)
+    → OnOk r (AddsInTurn [] old new)
+on_html r html old new written = on_ok r (new ≡ old ++ html) (AddsInTurn [] old new) written (adds_html html old new)
+
+pub on_nothing : (page : List ℕ) → AddsInTurn [] page page
+on_nothing page = adds_none page
+
+-- a text alone, and one in HTML
+adds_text : (text old new : List ℕ) → new ≡ old ++ text → AddsInTurn (text ∷ []) old new
+adds_text text old new is = record { more = text; grown = is; stand = ([], [], sym (append-nil text), tt) }
+
+adds_part : (text first last old new : List ℕ) → new ≡ old ++ (first ++ (text ++ last)) → AddsInTurn (text ∷ []) old new
+adds_part text first last old new is =
+    record { more = first ++ (text ++ last); grown = is; stand = (first, last, refl, tt) }
+
+-- HTML, the sentence, and what stands behind it
+pub said_in : (sentence text first : List ℕ) (behind : List (List ℕ)) (a b c d : List ℕ) → b ≡ a ++ first
+    → c ≡ b ++ text → text ≡ sentence → AddsInTurn behind c d → AddsInTurn (sentence ∷ behind) a d
+said_in sentence text first behind a b c d before said is adds =
+    adds_before (sentence ∷ behind) first a b d before
+    (adds_then (sentence ∷ []) behind b c d (adds_text sentence b c (said ∙ ap (λ t. b ++ t) is)) adds)
+
+-- the words, the line in HTML, HTML, and HTML
+pub reason_in : (words line first last end a b c d e : List ℕ) → b ≡ a ++ words → c ≡ b ++ (first ++ (line ++ last))
+    → AddsInTurn [] c d → e ≡ d ++ end → AddsInTurn (words ∷ line ∷ []) a e
+reason_in words line first last end a b c d e worded lined linked ended =
+    adds_then (words ∷ []) (line ∷ []) a b e (adds_text words a b worded)
+    (adds_behind (line ∷ []) end b d e ended
+    (adds_then (line ∷ []) [] b c d (adds_part line first last b c lined) linked))
+
+-- ---- words, byte by byte
+
+pub words_more : (old whole page new words : List ℕ) (is_code : Bool) (byte : ℕ) → new ≡ page ++ byte_text is_code byte
+    → page ++ words_from is_code (byte ∷ words) ≡ old ++ whole
+    → new ++ words_from (is_code_behind is_code byte) words ≡ old ++ whole
+words_more old whole page new words is_code byte written so_far =
+    let rest = words_from (is_code_behind is_code byte) words in
+    ap (λ z. z ++ rest) written ∙ append_assoc page (byte_text is_code byte) rest ∙ so_far
+
+-- ---- the line
+
+pub line_written : {E : Type 0} (r : Result (String Global) E) (plan : List ℕ) (refusal : PlanRefusal) (answer : Answer)
+    (bytes : List ℕ) → IsRefusal plan refusal answer → bytes ≡ answer.text
+    → IfOk r (λ line. string_bytes line ≡ line_text bytes)
+    → IfOk r (λ line. IsRefusalLine plan refusal (string_bytes line))
+line_written (Ok line) plan refusal answer bytes refused same is =
+    record { answer = answer; refused = refused; is = is ∙ ap line_text same }
+line_written (Err e) plan refusal answer bytes refused same is = is
