@@ -29,7 +29,9 @@ PLAN is the file of a flowchart in the ministry's pseudocode (XML), LIMITS a ran
 no script and fetches nothing. Open it in a browser, or print it from there.
 
 Where the plan is refused, a line on standard error says in plain words what is wrong, where it is in the file, and what
-helps. The page is written all the same.
+helps. `chart` writes the page all the same, with the reason in it; that of a file that can't be read as a flowchart has no
+drawing. `ranges` doesn't judge the flowchart: only of a file that can't be read as one the line of its refusal is written,
+in place of the range file.
 
 It ends with 0 where all was written, 1 where that is of a refused plan, 2 where the words are none of these, 3 where a file
 can't be read, 5 where the output can't be written, 6 where memory runs out.";
