@@ -11,12 +11,51 @@ use crate::alignment::product_is_beyond;
 use crate::cause::RangeCause;
 use crate::interval::Abs;
 use scaled_decimal::{Dec, power_of_ten};
+use std::alloc::{AllocError, Global};
+use std::marker::Model;
+
+/// The items of a table with their ranges. Contracts see the items.
+#[derive(Drop)]
+pub struct ItemRanges {
+    items: Vec<Dec>,
+}
+
+impl Model for ItemRanges {
+    ghost use Rattle.std.specs.Prelude.{List};
+    ghost use Rattle.scaled_decimal.specs.Decimals.{Decimal};
+
+    ghost Value = { List Decimal };
+
+    ghost view = { λ r. r.items.items };
+}
+
+impl ItemRanges {
+    /// The ranges of some items.
+    pub fn of(alloc: Global, items: &[Dec]) -> Result<ItemRanges, AllocError>
+        ensures { IfOk result (λ ranges. ranges ≡ items.now) }
+    {
+        let items = items.to_vec(alloc)?;
+        Ok(ItemRanges { items })
+    }
+
+    /// The least interval that contains each item from the least index on to the greatest.
+    ///
+    /// `Index` where an index may be outside the table, then `Wide` where an item, aligned to the greatest scale of these
+    /// items, is beyond 10^37.
+    pub fn chosen_by(&self, index: Abs) -> Result<Abs, RangeCause>
+        requires { IsWhole index }
+        ensures exact { result ≡ item_row self.now index }
+        ensures sound { IfOk result (ItemIsSound self.now index) }
+    {
+        abs_item(self.items.as_slice(), index)
+    }
+}
 
 /// The least interval that contains each item of a table from the least index on to the greatest.
 ///
 /// `Index` where an index may be outside the table, then `Wide` where an item, aligned to the greatest scale of these
 /// items, is beyond 10^37. Takes time linear in these items.
-pub fn abs_item(items: &[Dec], index: Abs) -> Result<Abs, RangeCause>
+fn abs_item(items: &[Dec], index: Abs) -> Result<Abs, RangeCause>
     requires { IsWhole index }
     ensures exact { result ≡ item_row items.now index }
     ensures sound { IfOk result (ItemIsSound items.now index) }
