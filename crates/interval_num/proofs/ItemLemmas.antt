@@ -34,12 +34,12 @@ max_member n [] k z e = absurd (cc)
 max_member n (m ∷ ms) zero z e = let b = max_above (int_max n m) ms in let same : m ≡ z = cc in rw (← same) (omega (arith, ints, clamps))
 max_member n (m ∷ ms) (suc k) z e = max_member (int_max n m) ms k z e
 
-least_member : (ns : List ℤ) (k : ℕ) (z : ℤ) → slice_get ns k ≡ Some z → least ns ≤ℤ z
+pub least_member : (ns : List ℤ) (k : ℕ) (z : ℤ) → slice_get ns k ≡ Some z → least ns ≤ℤ z
 least_member [] k z e = absurd (cc)
 least_member (n ∷ ns) zero z e = let same : n ≡ z = cc in rw (← same) (min_below n ns)
 least_member (n ∷ ns) (suc k) z e = min_member n ns k z e
 
-greatest_member : (ns : List ℤ) (k : ℕ) (z : ℤ) → slice_get ns k ≡ Some z → z ≤ℤ greatest ns
+pub greatest_member : (ns : List ℤ) (k : ℕ) (z : ℤ) → slice_get ns k ≡ Some z → z ≤ℤ greatest ns
 greatest_member [] k z e = absurd (cc)
 greatest_member (n ∷ ns) zero z e = let same : n ≡ z = cc in rw (← same) (max_above n ns)
 greatest_member (n ∷ ns) (suc k) z e = max_member n ns k z e
@@ -68,7 +68,7 @@ least_scale_holds [] k d e = absurd (cc)
 least_scale_holds (c ∷ ds) zero d e = let b = min_scale_below (scale_of c) (map scale_of ds) in let same : c ≡ d = cc in let scales = ap scale_of same in omega arith
 least_scale_holds (c ∷ ds) (suc k) d e = min_scale_member (scale_of c) (map scale_of ds) k (scale_of d) (slice_get-map scale_of ds k ∙ rw e refl)
 
-greatest_scale_holds : (ds : List Decimal) (k : ℕ) (d : Decimal) → slice_get ds k ≡ Some d → scale_of d ≤ greatest_scale ds
+pub greatest_scale_holds : (ds : List Decimal) (k : ℕ) (d : Decimal) → slice_get ds k ≡ Some d → scale_of d ≤ greatest_scale ds
 greatest_scale_holds ds k d e = max_scale_member 0 (map scale_of ds) k (scale_of d) (slice_get-map scale_of ds k ∙ rw e refl)
 
 decimals_hold : (ds : List Decimal) (r : Interval) (k : ℕ) (d : Decimal) → decimals_row ds ≡ Ok r → slice_get ds k ≡ Some d → Contains r d

@@ -5,7 +5,9 @@ pub mod DivisorLemmas
 pub mod ExactLemmas
 pub mod HullLemmas
 pub mod ItemLemmas
+pub mod JoinLemmas
 pub mod Laws
+pub mod LevelLemmas
 pub mod ListLemmas
 pub mod MachineLemmas
 pub mod OrderLemmas

@@ -1,16 +1,15 @@
 //! The items of a table that an index may choose.
-ghost use Rattle.std.specs.Prelude.{◌≡◌, ◌<◌, ◌≤◌, length, IfOk};
-ghost use Rattle.scaled_decimal.specs.Decimals.{numerator_at};
-ghost use Rattle.scaled_decimal.specs.Limits.{most_places};
+ghost use Rattle.std.specs.Prelude.{◌≡◌, ◌<◌, ◌≤◌, ℕ, List, [], ◌∷◌, length, map, All, Ok, slice_get, slice_range, Some, IfOk};
+ghost use Rattle.scaled_decimal.specs.Decimals.{Decimal};
 ghost use Rattle.interval_num.specs.Intervals.{IsWhole};
-ghost use Rattle.interval_num.specs.Rows.{item_row, decimals_row, least_scale, greatest_scale};
-ghost use Rattle.interval_num.specs.Views.{kept_numerator};
+ghost use Rattle.interval_num.specs.Rows.{item_row, decimals_row};
+ghost use Rattle.interval_num.specs.Views.{joined, halved, single_rows, first_level, AreLevels, AreLevelsOf, IsSome, items_of};
 ghost use Rattle.interval_num.specs.Soundness.{ItemIsSound};
 
-use crate::alignment::product_is_beyond;
 use crate::cause::RangeCause;
+use crate::decimals::join;
 use crate::interval::Abs;
-use scaled_decimal::{Dec, power_of_ten};
+use scaled_decimal::Dec;
 use std::alloc::{AllocError, Global};
 use std::marker::Model;
 
@@ -18,105 +17,152 @@ use std::marker::Model;
 #[derive(Drop)]
 pub struct ItemRanges {
     items: Vec<Dec>,
+    /// From the items' own ranges up to one range of all.
+    levels: Vec<Level>,
 }
 
 impl Model for ItemRanges {
     ghost use Rattle.std.specs.Prelude.{List};
     ghost use Rattle.scaled_decimal.specs.Decimals.{Decimal};
+    ghost use Rattle.interval_num.specs.Views.{AreLevelsOf};
 
     ghost Value = { List Decimal };
 
     ghost view = { λ r. r.items.items };
+
+    ghost invariant = { λ r. AreLevelsOf r.items.items r.levels.items };
 }
 
 impl ItemRanges {
-    /// The ranges of some items.
+    /// The ranges of some items. Takes time and memory linear in them.
     pub fn of(alloc: Global, items: &[Dec]) -> Result<ItemRanges, AllocError>
         ensures { IfOk result (λ ranges. ranges ≡ items.now) }
     {
+        let levels = levels_of(alloc, items)?;
         let items = items.to_vec(alloc)?;
-        Ok(ItemRanges { items })
+        Ok(ItemRanges { items, levels })
     }
 
     /// The least interval that contains each item from the least index on to the greatest.
     ///
     /// `Index` where an index may be outside the table, then `Wide` where an item, aligned to the greatest scale of these
-    /// items, is beyond 10^37.
+    /// items, is beyond 10^37. Takes time logarithmic in the items.
     pub fn chosen_by(&self, index: Abs) -> Result<Abs, RangeCause>
         requires { IsWhole index }
         ensures exact { result ≡ item_row self.now index }
         ensures sound { IfOk result (ItemIsSound self.now index) }
     {
-        abs_item(self.items.as_slice(), index)
+        if index.lo() < 0 || index.hi() >= self.items.len() as i128 {
+            return Err(RangeCause::Index);
+        }
+        let levels = self.levels.as_slice();
+        between(levels, index.lo() as usize, index.hi() as usize + 1)
     }
 }
 
-/// The least interval that contains each item of a table from the least index on to the greatest.
-///
-/// `Index` where an index may be outside the table, then `Wide` where an item, aligned to the greatest scale of these
-/// items, is beyond 10^37. Takes time linear in these items.
-fn abs_item(items: &[Dec], index: Abs) -> Result<Abs, RangeCause>
-    requires { IsWhole index }
-    ensures exact { result ≡ item_row items.now index }
-    ensures sound { IfOk result (ItemIsSound items.now index) }
-{
-    if index.lo() < 0 || index.hi() >= items.len() as i128 {
-        return Err(RangeCause::Index);
-    }
-    least_interval(&items[index.lo() as usize..index.hi() as usize + 1])
+/// The ranges of runs of items, or why a run has none. Contracts see them as a list.
+#[derive(Drop)]
+struct Level {
+    ranges: Vec<Result<Abs, RangeCause>>,
 }
 
-/// The least interval that contains some decimals.
-fn least_interval(decimals: &[Dec]) -> Result<Abs, RangeCause>
-    requires { 0 < length decimals.now }
-    ensures { result ≡ decimals_row decimals.now }
-{
-    let s_lo = least_scale(decimals);
-    let s_hi = greatest_scale(decimals);
-    let Some(mut lo) = numerator_at(decimals[0], s_hi) else {
-        return Err(RangeCause::Wide);
-    };
-    let mut hi = lo;
-    for d in decimals {
-        let Some(n) = numerator_at(*d, s_hi) else {
-            return Err(RangeCause::Wide);
-        };
-        lo = lo.min(n);
-        hi = hi.max(n);
-    }
-    Ok(Abs::new(lo, hi, s_lo, s_hi))
+impl Model for Level {
+    ghost use Rattle.std.specs.Prelude.{List};
+    ghost use Rattle.interval_num.specs.Rows.{Answer};
+
+    ghost Value = { List Answer };
+
+    ghost view = { λ l. l.ranges.items };
 }
 
-fn least_scale(decimals: &[Dec]) -> u8
-    requires { 0 < length decimals.now }
-    ensures value { result ≡ least_scale decimals.now }
-{
-    let mut least = decimals[0].scale();
-    for d in decimals {
-        least = least.min(d.scale());
+impl Level {
+    fn len(&self) -> usize
+        ensures { result ≡ length self.now }
+    {
+        self.ranges.len()
     }
-    least
+
+    fn at(&self, i: usize) -> Result<Abs, RangeCause>
+        requires { i < length self.now }
+        ensures { slice_get self.now i ≡ Some result }
+    {
+        self.ranges[i]
+    }
 }
 
-fn greatest_scale(decimals: &[Dec]) -> u8
-    ensures value { result ≡ greatest_scale decimals.now }
-    ensures kept { result ≤ most_places }
+/// The range of what two runs have together.
+fn joined(left: Result<Abs, RangeCause>, right: Result<Abs, RangeCause>) -> Result<Abs, RangeCause>
+    ensures { result ≡ joined left right }
 {
-    let mut greatest = 0;
-    for d in decimals {
-        greatest = greatest.max(d.scale());
-    }
-    greatest
+    join(left?, right?)
 }
 
-/// The numerator at scale `q`, which is no less than the decimal's own, where it is within 10^37.
-fn numerator_at(d: Dec, q: u8) -> Option<i128>
-    requires { q ≤ most_places }
-    ensures { result ≡ kept_numerator (numerator_at q d) }
+/// The range of one item.
+fn single(item: Dec) -> Abs
+    ensures { Ok result ≡ decimals_row (item ∷ []) }
 {
-    let power = power_of_ten(q.saturating_sub(d.scale()));
-    if product_is_beyond(d.numerator(), power) {
-        return None;
+    let n = item.numerator();
+    Abs::new(n, n, item.scale(), item.scale())
+}
+
+/// The range of each item.
+fn singles(alloc: Global, items: &[Dec]) -> Result<Level, AllocError>
+    ensures { IfOk result (λ level. level ≡ single_rows items.now) }
+{
+    let mut ranges = Vec::new(alloc);
+    for item in items {
+        ranges.push(Ok(single(*item)))?;
     }
-    Some(d.numerator() * power)
+    Ok(Level { ranges })
+}
+
+/// The joined ranges of each two neighbours, an odd last one as it is.
+fn halved(alloc: Global, level: &Level) -> Result<Level, AllocError>
+    ensures { IfOk result (λ half. half ≡ halved level.now) }
+{
+    let mut ranges = Vec::new(alloc);
+    let count = level.len();
+    for i in 0..count / 2 {
+        ranges.push(joined(level.at(2 * i), level.at(2 * i + 1)))?;
+    }
+    if count % 2 == 1 {
+        ranges.push(level.at(count - 1))?;
+    }
+    Ok(Level { ranges })
+}
+
+/// The ranges of the items, then of twice as many at each level, up to one range of all.
+fn levels_of(alloc: Global, items: &[Dec]) -> Result<Vec<Level>, AllocError>
+    ensures { IfOk result (λ levels. AreLevelsOf items.now levels.items) }
+{
+    let mut levels = Vec::new(alloc);
+    let mut level = singles(alloc, items)?;
+    while level.len() > 1 {
+        let next = halved(alloc, &level)?;
+        levels.push(level)?;
+        level = next;
+    }
+    levels.push(level)?;
+    Ok(levels)
+}
+
+/// The range of the runs from `lo` on and before `hi` of the first level together.
+fn between(levels: &[Level], lo: usize, hi: usize) -> Result<Abs, RangeCause>
+    requires levels { AreLevels levels.now }
+    requires some { lo < hi }
+    requires inside { hi ≤ length (first_level levels.now) }
+    ensures { (runs : List (List Decimal)) → All IsSome runs → first_level levels.now ≡ map decimals_row runs →
+        result ≡ decimals_row (items_of (slice_range runs lo hi)) }
+{
+    let level = &levels[0];
+    if hi - lo == 1 {
+        return level.at(lo);
+    }
+    if lo % 2 == 1 {
+        return joined(level.at(lo), between(levels, lo + 1, hi));
+    }
+    if hi % 2 == 1 {
+        return joined(between(levels, lo, hi - 1), level.at(hi - 1));
+    }
+    between(&levels[1..], lo / 2, hi / 2)
 }
