@@ -22,7 +22,7 @@ min_same n = omega (arith, ints, clamps)
 max_same : (n : ℤ) → int_max n n ≡ n
 max_same n = omega (arith, ints, clamps)
 
-pub is_hull : (ns : List ℤ) (first l h : ℤ) → 0 < length ns → All IsWithinLimit ns → first ≡ slice_index_or ns 0 (pos 0) → l ≡ fold int_min first ns → h ≡ fold int_max first ns → IsHull ns l h
+is_hull : (ns : List ℤ) (first l h : ℤ) → 0 < length ns → All IsWithinLimit ns → first ≡ slice_index_or ns 0 (pos 0) → l ≡ fold int_min first ns → h ≡ fold int_max first ns → IsHull ns l h
 is_hull [] first l h some all f e g = absurd (omega arith)
 is_hull (n ∷ ns) first l h some all f e g =
     let lo : l ≡ fold int_min n ns = e ∙ ap (λ m. fold int_min (int_min m n) ns) f ∙ ap (λ m. fold int_min m ns) (min_same n) in
@@ -39,7 +39,7 @@ is_hull (n ∷ ns) first l h some all f e g =
       order = rw (lo, hi) (omega (arith, ints));
     }
 
-pub take_whole : (ns : List ℤ) (i : ℕ) → length ns ≤ i → take i ns ≡ ns
+take_whole : (ns : List ℤ) (i : ℕ) → length ns ≤ i → take i ns ≡ ns
 take_whole [] zero h = refl
 take_whole [] (suc i) h = refl
 take_whole (n ∷ ns) zero h = absurd (omega arith)

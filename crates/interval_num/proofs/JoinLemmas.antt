@@ -1,18 +1,18 @@
 -- The range of two runs of items together is the join of their ranges.
-use Rattle.std.proofs.Common.{◌≡◌, ℕ, zero, suc, ◌+◌, ◌-◌, ◌^◌, ◌<◌, ◌≤◌, max, min, ℤ, pos, ◌*ℤ◌, ◌≤ℤ◌, ◌<ℤ◌, Bool, true, false, ◌||◌, List, [], ◌∷◌, ◌++◌, length, map, fold, All, Some, Ok, Err, Ordering, Less, Equal, Greater, refl, sym, ap, ap₂, ◌∙◌, subst, arith}
+use Rattle.std.proofs.Common.{◌≡◌, ℕ, suc, ◌-◌, ◌^◌, ◌<◌, ◌≤◌, max, min, ℤ, ◌*ℤ◌, ◌≤ℤ◌, Bool, true, false, ◌||◌, List, [], ◌∷◌, ◌++◌, length, map, fold, All, Some, Ok, Ordering, Less, Equal, Greater, refl, sym, ap, ap₂, ◌∙◌, subst, arith}
 use Rattle.std.specs.Prelude.{slice_get}
 use Rattle.std.specs.List.{list_any}
 use Rattle.std.specs.Int.{int_min, int_max}
 use Rattle.std.specs.Ordering.{int_cmp}
 use Rattle.std.specs.Cmp.{int_ranks}
 use Rattle.std.proofs.lemmas.Int.{ints, clamps}
-use Rattle.std.proofs.lemmas.List.Elements.{All-head, All-tail}
+use Rattle.std.proofs.lemmas.List.Elements.{All-head, All-tail, All-nil, All-cons}
 use Rattle.scaled_decimal.specs.laws.IntegerLemmas.{le_times}
-use Rattle.scaled_decimal.specs.Decimals.{Decimal, numerator_of, scale_of, numerator_at, ten_to}
+use Rattle.scaled_decimal.specs.Decimals.{Decimal, scale_of, numerator_at, ten_to}
 use Rattle.scaled_decimal.specs.Limits.{IsWithinLimit}
 use Rattle.interval_num.specs.declared.cause.RangeCause.TheVariants.{Wide}
 use Rattle.interval_num.specs.Intervals.{Interval, interval}
-use Rattle.interval_num.specs.Alignment.{unless, is_beyond, ends_beyond, at_scale, greater_scale, least, greatest, hull}
+use Rattle.interval_num.specs.Alignment.{unless, is_beyond, ends_beyond, at_scale, least, greatest, hull}
 use Rattle.interval_num.specs.Rows.{Answer, join_of, least_scale, greatest_scale, decimals_row}
 use Rattle.interval_num.specs.Views.{joined}
 use Rattle.interval_num.proofs.NumberLemmas.{times_one, within_in, within_out, kept_shorter, kept_between}
@@ -20,7 +20,6 @@ use Rattle.interval_num.proofs.AlignmentLemmas.{at_greater}
 use Rattle.interval_num.proofs.ItemLemmas.{least_member, greatest_member, greatest_scale_holds}
 use Rattle.interval_num.proofs.OrderLemmas.{Ranks}
 use Rattle.interval_num.proofs.WholeLemmas.{fold_min_keeps, fold_max_keeps}
-use Rattle.interval_num.proofs.ListLemmas.{all_kept}
 
 -- ---- of two lists, one after the other
 
@@ -157,6 +156,12 @@ either_false false t e = (refl, e)
 either_true : (s : Bool) → (s || true) ≡ true
 either_true true = refl
 either_true false = refl
+
+all_kept : (ns : List ℤ) → list_any is_beyond ns ≡ false → All IsWithinLimit ns
+all_kept [] e = All-nil IsWithinLimit
+all_kept (n ∷ ns) e =
+    let both = either_false (is_beyond n) (list_any is_beyond ns) e in
+    All-cons IsWithinLimit n ns (within_out n both.0) (all_kept ns both.1)
 
 -- numbers that aren't beyond it at a greater scale aren't at their own
 none_shorter : (k : ℕ) (ns : List ℤ) → list_any is_beyond (longer_by k ns) ≡ false → list_any is_beyond ns ≡ false

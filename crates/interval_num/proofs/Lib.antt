@@ -8,7 +8,6 @@ pub mod ItemLemmas
 pub mod JoinLemmas
 pub mod Laws
 pub mod LevelLemmas
-pub mod ListLemmas
 pub mod MachineLemmas
 pub mod OrderLemmas
 pub mod QuotientLemmas

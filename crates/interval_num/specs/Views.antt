@@ -1,19 +1,14 @@
 -- What private contracts cite.
-use Rattle.std.specs.Prelude.{◌≡◌, ℕ, ◌<◌, ◌≤◌, ℤ, List, [], ◌∷◌, ◌++◌, length, map, Option, Some, None, Result, Ok, Err, if◌then◌else◌}
+use Rattle.std.specs.Prelude.{◌≡◌, ◌<◌, ◌≤◌, List, [], ◌∷◌, ◌++◌, length, map, Result, Ok, Err}
 use Rattle.scaled_decimal.specs.Decimals.{Decimal}
 use Rattle.interval_num.specs.declared.cause.RangeCause.{RangeCause}
 use Rattle.interval_num.specs.Intervals.{Interval}
-use Rattle.interval_num.specs.Alignment.{is_beyond}
 use Rattle.interval_num.specs.Rows.{Answer, join_row, decimals_row}
 
 -- what is made of two intervals, where they are there
 abbrev pub with_pair : (Interval → Interval → Answer) → Result (Interval × Interval) RangeCause → Answer
 with_pair make (Ok p) = make p.0 p.1
 with_pair make (Err cause) = Err cause
-
--- a numerator, where it is within the limit
-abbrev pub kept_numerator : ℤ → Option ℤ
-kept_numerator n = if is_beyond n then None else Some n
 
 -- the range of what two runs of items have together, where both have one
 abbrev pub joined : Answer → Answer → Answer
@@ -31,6 +26,7 @@ halved (r ∷ (s ∷ rs)) = joined r s ∷ halved rs
 abbrev pub single_rows : List Decimal → List Answer
 single_rows items = map (λ d. decimals_row (d ∷ [])) items
 
+-- none where there is no level
 abbrev pub first_level : List (List Answer) → List Answer
 first_level [] = []
 first_level (level ∷ levels) = level
