@@ -16,4 +16,5 @@ pub mod PartLemmas
 pub mod RepeatLemmas
 pub mod StartLemmas
 pub mod StatementLemmas
+pub mod TableLemmas
 pub mod VariableLemmas

@@ -13,5 +13,6 @@ pub mod PlanViews
 pub mod ShapeViews
 pub mod StartViews
 pub mod StatementViews
+pub mod TableViews
 pub mod TestViews
 pub mod VariableViews

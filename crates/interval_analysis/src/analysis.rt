@@ -15,6 +15,7 @@ use crate::expressions::Walk;
 use crate::outputs::output_ranges;
 use crate::start::start_ranges;
 use crate::statements::Spot;
+use crate::tables::TabledPlan;
 use crate::variables::Variables;
 use crate::weights::weights_of;
 use crate::{OutputRange, RangeFault, Verdict};
@@ -32,8 +33,10 @@ use std::alloc::Global;
 /// 10^20; `Memory`.
 ///
 /// Takes time linear in the nodes that are walked, those of a method again at each EXECUTE of it, with a factor logarithmic in
-/// the number of names; and, at each IF both of whose branches can be reached, in the variables that these change. So what
-/// stands within IFs counts as often as there are such IFs around it, with those around an EXECUTE of its method.
+/// the number of names and, at an item of a table, in the table's length; and, at each IF both of whose branches can be
+/// reached, in the variables that these change. So what stands within IFs counts as often as there are such IFs around it,
+/// with those around an EXECUTE of its method. Before the walk the items of the tables are kept with their ranges, in memory
+/// linear in their number.
 pub fn analyse(
     alloc: Global,
     t: &Typed,
@@ -70,10 +73,11 @@ fn walked_outputs(
 {
     let ranges = start_ranges(alloc, plan, limits)?;
     let mut variables = Variables::new(alloc, ranges);
+    let tabled = TabledPlan::of(alloc, plan)?;
     let main = plan.plan().main.as_slice();
     let walk = Walk {
         alloc,
-        plan,
+        plan: &tabled,
         weights,
     };
     let start = Spot {

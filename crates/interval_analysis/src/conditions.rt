@@ -212,7 +212,7 @@ impl Walk<'_> {
         Ok(Followed {
             is_through: false,
             can_leave: false,
-            next: outline_of(self.plan, e, first.next).next,
+            next: outline_of(self.plan.typed(), e, first.next).next,
         })
     }
 

@@ -9,15 +9,16 @@ ghost use Rattle.interval_analysis.specs.ExpressionViews.{CanWalk, CanWalkTwo, C
 
 use crate::branches::{Branches, Change};
 use crate::conditions::Tested;
-use crate::names::{kind_named, single, table};
+use crate::names::{kind_named, single};
 use crate::nodes::{either, item, literal, named, one, reached, two, unreached};
 use crate::operations::read;
 use crate::outlines::outline_of;
 use crate::shapes::{Leaf, Shape, shape_of};
+use crate::tables::TabledPlan;
 use crate::variables::Variables;
 use interval_num::{Abs, RangeCause};
 use pap_tree::{Expr, Name};
-use pap_types::{NodeKind, Typed};
+use pap_types::NodeKind;
 use scaled_decimal::Dec;
 use std::alloc::{AllocError, Global};
 
@@ -69,7 +70,7 @@ pub(crate) struct Part {
 #[derive(Clone, Copy)]
 pub(crate) struct Walk<'a> {
     pub alloc: Global,
-    pub plan: &'a Typed,
+    pub plan: &'a TabledPlan<'a>,
     /// The weights of the methods by number.
     pub weights: &'a [u64],
 }
@@ -88,7 +89,7 @@ impl Walk<'_> {
             Shape::Leaf(source) => self.range_of_leaf(&source, at, &variables.ranges),
             Shape::Item(name, index) => {
                 let chosen = self.range_of(index, at, variables)?;
-                item(table(self.plan, name), chosen)
+                item(self.plan.table(name), chosen)
             }
             Shape::One(op, operand) => {
                 let a = self.range_of(operand, at, variables)?;
@@ -96,7 +97,7 @@ impl Walk<'_> {
             }
             Shape::Two(op, left, right) => {
                 let operands = self.operands(left, right, at, variables)?;
-                two(self.plan, op, right, operands)
+                two(self.plan.typed(), op, right, operands)
             }
             Shape::Choice(test, first, second) => {
                 self.range_of_choice(test, first, second, at, variables)
@@ -125,8 +126,9 @@ impl Walk<'_> {
         requires sized { IsSized self.now.plan.now ranges.now }
         ensures { RangeAnswer self.now (leaf (named name.now)) at ranges.now result }
     {
-        let variable = self.plan.variable(name);
-        let kind = kind_named(self.plan, name, variable);
+        let typed = self.plan.typed();
+        let variable = typed.variable(name);
+        let kind = kind_named(typed, name, variable);
         match self.value_of_name(name, variable, ranges) {
             Some(range) => named(variable, read(kind, range), kind, at),
             None => named(variable, Err(RangeCause::Wide), kind, at),
@@ -141,7 +143,7 @@ impl Walk<'_> {
     {
         match variable {
             Some(number) => Some(ranges[number]),
-            None => match self.plan.constant_value(name) {
+            None => match self.plan.typed().constant_value(name) {
                 Some(value) => Some(single(value)),
                 None => None,
             },
@@ -229,7 +231,7 @@ impl Walk<'_> {
         ensures on { GoesOn self.now.plan.now variables.old variables.new }
     {
         let Some(changes) = changes else {
-            return Ok(unreached(outline_of(self.plan, e, at)));
+            return Ok(unreached(outline_of(self.plan.typed(), e, at)));
         };
         let mark = variables.notes.len();
         variables.apply(changes)?;

@@ -19,6 +19,7 @@ mod repeats;
 mod shapes;
 mod start;
 mod statements;
+mod tables;
 mod variables;
 mod verdict;
 mod weights;

@@ -2,14 +2,14 @@
 ghost use Rattle.std.specs.Prelude.{◌≡◌};
 ghost use Rattle.pap_tree.specs.Term.{term_of};
 ghost use Rattle.pap_types.specs.Kinds.{name_kind};
-ghost use Rattle.pap_types.specs.Scopes.{number_of, table_in};
+ghost use Rattle.pap_types.specs.Scopes.{number_of};
 ghost use Rattle.interval_walk.specs.Ranges.{single};
 ghost use Rattle.interval_walk.specs.NodeRanges.{big_range};
 ghost use Rattle.interval_analysis.specs.PlanViews.{scope_in, variables_in, kind_at};
 
 use interval_num::Abs;
 use pap_tree::{Expr, Name};
-use pap_types::{NodeKind, Typed, items_of, shortened};
+use pap_types::{NodeKind, Typed, shortened};
 use scaled_decimal::Dec;
 
 /// The range of a single value.
@@ -42,16 +42,6 @@ fn kind_at(plan: &Typed, number: usize) -> NodeKind
     match plan.variable_at(number) {
         Some(declared) => NodeKind::of_declared(declared.kind),
         None => NodeKind::Int,
-    }
-}
-
-/// The items of a table.
-pub(crate) fn table<'a>(plan: &'a Typed, name: &Name) -> &'a [Dec]
-    ensures { result.now ≡ table_in (scope_in plan.now) name.now }
-{
-    match plan.declaration(name) {
-        Some(declared) => items_of(declared),
-        None => &[],
     }
 }
 

@@ -14,7 +14,7 @@ use crate::names::single;
 use crate::operations::{item_range, one_range, read, two_range};
 use crate::outlines::Outline;
 use crate::shapes::{One, Two};
-use interval_num::{Abs, RangeCause, join};
+use interval_num::{Abs, ItemRanges, RangeCause, join};
 use pap_tree::Expr;
 use pap_types::{NodeKind, Typed, kind_of_call, kind_of_operator, kind_of_unary};
 use scaled_decimal::Dec;
@@ -57,7 +57,7 @@ pub(crate) fn literal(value: Dec, kind: NodeKind, at: u32) -> Result<Ranged, Sto
 }
 
 /// The items of a table that an index may choose.
-pub(crate) fn item(items: &[Dec], index: Ranged) -> Result<Ranged, Stop>
+pub(crate) fn item(items: &ItemRanges, index: Ranged) -> Result<Ranged, Stop>
     requires room { index.next + 1 < 2 ^ 32 }
     requires whole { IsWhole index.range }
     ensures { OwnAnswer (item_range items.now index.range) NodeKind.Big index.next result }

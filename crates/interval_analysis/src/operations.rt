@@ -15,9 +15,9 @@ ghost use Rattle.interval_analysis.specs.OperationViews.{TakesWholes, TakesUnary
 use crate::names::as_big;
 use crate::shapes::{One, Two};
 use interval_num::{
-    Abs, RangeCause, abs_abs, abs_add, abs_cmp, abs_div, abs_div_exact, abs_item, abs_max, abs_min,
-    abs_mul, abs_neg, abs_set_scale, abs_sub, int_add, int_div, int_mul, int_neg, int_rem, int_sub,
-    long_add, long_div, long_mul, long_neg, long_rem, long_sub,
+    Abs, ItemRanges, RangeCause, abs_abs, abs_add, abs_cmp, abs_div, abs_div_exact, abs_max,
+    abs_min, abs_mul, abs_neg, abs_set_scale, abs_sub, int_add, int_div, int_mul, int_neg, int_rem,
+    int_sub, long_add, long_div, long_mul, long_neg, long_rem, long_sub,
 };
 use pap_tree::{Binary, Call, Expr, Unary};
 use pap_types::{NodeKind, Typed};
@@ -195,11 +195,11 @@ pub(crate) fn comparison_range(op: Binary, a: Abs, b: Abs) -> Result<Abs, RangeC
 }
 
 /// The range of the items of a table that an index may choose.
-pub(crate) fn item_range(items: &[Dec], index: Abs) -> Result<Abs, RangeCause>
+pub(crate) fn item_range(items: &ItemRanges, index: Abs) -> Result<Abs, RangeCause>
     requires { IsWhole index }
     ensures { result ≡ item_range items.now index }
 {
-    match abs_item(items, index) {
+    match items.chosen_by(index) {
         Ok(range) => read(NodeKind::Big, range),
         Err(cause) => Err(cause),
     }

@@ -126,10 +126,11 @@ impl Walk<'_> {
             ≡ assigned_in self.now.plan.now target.now range variables.old.ranges.items) }
         ensures on { GoesOn self.now.plan.now variables.old variables.new }
     {
-        let Some(number) = self.plan.variable(target) else {
+        let typed = self.plan.typed();
+        let Some(number) = typed.variable(target) else {
             return Ok(());
         };
-        let kept = match self.plan.variable_at(number) {
+        let kept = match typed.variable_at(number) {
             Some(declared) => kept_as(declared.kind, range),
             None => range,
         };
@@ -273,8 +274,9 @@ impl Walk<'_> {
             variables.new.ranges.items result }
         ensures on { GoesOn self.now.plan.now variables.old variables.new }
     {
-        let first = weight(self.plan, fork.yes, self.weights);
-        let second = weight(self.plan, fork.no, self.weights);
+        let typed = self.plan.typed();
+        let first = weight(typed, fork.yes, self.weights);
+        let second = weight(typed, fork.no, self.weights);
         if first < second {
             self.walk_second_last(spot, fork, held, failed, variables)
         } else {
@@ -373,7 +375,7 @@ impl Walk<'_> {
         if chain == 0 {
             return Err(fault_at(start, 0, RangeCause::Wide));
         }
-        match method_body(self.plan, name) {
+        match method_body(self.plan.typed(), name) {
             Some(body) => {
                 let within = Spot {
                     chain: chain - 1,

@@ -2,6 +2,7 @@ use Rattle.std.proofs.Common.{Ok, Err, ◌≡◌, ◌+◌, ◌-◌, drop, sym, a
 use Rattle.pap_tree.specs.Flowchart.{body_of, stmt_then, done}
 use Rattle.pap_tree.specs.Statements.{written}
 use Rattle.pap_tree.proofs.Laws.{stmt_at, branch_is}
+use Rattle.pap_types.specs.Routines.{body_named}
 use Rattle.interval_analysis.specs.PlanViews.{scope_in, ranges_in, branches_in}
 use Rattle.interval_analysis.specs.StatementViews.{joined_lists, first_spot, CanWalkBody, FaultOf, Passes, through_body, through_fork, through_if, if_of, walked_in, met_in, executed, methods_in}
 use Rattle.interval_analysis.specs.declared.statements.Fork.{Fork}
@@ -109,14 +110,14 @@ walk_method-returns-in_err-walk_body-in-Some-clause-passes t c =
     let b = body_of c.in-Some.body.now in
     let f = c.in_err-walk_body-in-Some.field-0.0 in
     let r = executed w c.args.name.now c.args.chain rs in
-    let is = calls_body (scope_in p) (methods_in p) c.args.name.now (ranges_in p rs) c.args.chain b c.if-chain-eq0.false (sym c.in-Some.ensures.body) in
+    let is = calls_body (scope_in p) (methods_in p) c.args.name.now (ranges_in p rs) c.args.chain b c.if-chain-eq0.false (sym (c.in-Some.ensures.body ∙ ap (λ p. body_named (methods_in p) c.args.name.now) c.typed.ensures)) in
     env_err w r c.walk_body.new.variables.ranges.items c.from_residual.result f c.from_residual.ensures.1
     (fault_as r (walked_in w (record { method = c.args.name.now; at = 0; chain = c.args.chain - 1 }) b rs) f is c.in_err-walk_body-in-Some.ensures.passes)
 
 pub walk_method-returns-in_ok-walk_body-in-Some-clause-passes : goal.walk_method-returns-in_ok-walk_body-in-Some-clause-passes
 walk_method-returns-in_ok-walk_body-in-Some-clause-passes t c =
     let p = c.args.self.now.plan.now in
-    calls_body (scope_in p) (methods_in p) c.args.name.now (ranges_in p c.args.variables.now.ranges.items) c.args.chain (body_of c.in-Some.body.now) c.if-chain-eq0.false (sym c.in-Some.ensures.body)
+    calls_body (scope_in p) (methods_in p) c.args.name.now (ranges_in p c.args.variables.now.ranges.items) c.args.chain (body_of c.in-Some.body.now) c.if-chain-eq0.false (sym (c.in-Some.ensures.body ∙ ap (λ p. body_named (methods_in p) c.args.name.now) c.typed.ensures))
     ∙ c.in_ok-walk_body-in-Some.ensures.passes.0
 
 pub walk_method-returns-in-None-clause-passes : goal.walk_method-returns-in-None-clause-passes
@@ -124,7 +125,7 @@ walk_method-returns-in-None-clause-passes t c =
     let w = c.args.self.now in
     let p = w.plan.now in
     let rs = c.args.variables.now.ranges.items in
-    subst (FaultOf (executed w c.args.name.now c.args.chain rs)) (sym c.fault_at-in-None.ensures) (no_method (scope_in p) (methods_in p) c.args.name.now (ranges_in p rs) c.args.chain (sym c.in-None.ensures.body))
+    subst (FaultOf (executed w c.args.name.now c.args.chain rs)) (sym c.fault_at-in-None.ensures) (no_method (scope_in p) (methods_in p) c.args.name.now (ranges_in p rs) c.args.chain (sym (c.in-None.ensures.body ∙ ap (λ p. body_named (methods_in p) c.args.name.now) c.typed.ensures)))
 
 pub walk_statement-walk_if-requires : goal.walk_statement-walk_if-requires
 walk_statement-walk_if-requires t c =

@@ -3,9 +3,10 @@ use Rattle.std.proofs.lemmas.Int.{ints}
 use Rattle.std.specs.Int.{w32}
 use Rattle.pap_tree.specs.Numbering.{nodes}
 use Rattle.pap_tree.specs.Term.{term_of, item, one, two, operator}
-use Rattle.interval_analysis.specs.PlanViews.{ranges_after, branches_in}
-use Rattle.interval_analysis.specs.ShapeViews.{one_meant, two_meant}
-use Rattle.interval_analysis.specs.ExpressionViews.{CanWalk, IsPartRanged, RangeAnswer, StopsAs, part_ranged}
+use Rattle.pap_types.specs.Kinds.{kind_of_two}
+use Rattle.interval_analysis.specs.PlanViews.{scope_in, ranges_after, branches_in}
+use Rattle.interval_analysis.specs.ShapeViews.{TakesTwo, one_meant, two_meant}
+use Rattle.interval_analysis.specs.ExpressionViews.{CanWalk, IsPartRanged, RangeAnswer, StopsAs, TwoAnswer, part_ranged}
 use Rattle.interval_analysis.specs.TestViews.{ComparesAs, TestAnswer, comparison, comparison_of, order_compared}
 use Rattle.interval_analysis.specs.Connectives.{FollowAnswer, IsFollowedBy, connected, directions_of}
 use Rattle.interval_analysis.specs.Notes.{IsTold}
@@ -49,8 +50,13 @@ range_of-one-requires-clause-takes t c =
 
 pub range_of-two-requires-clause-takes : goal.range_of-two-requires-clause-takes
 range_of-two-requires-clause-takes t c =
-    takes_operands c.args.self.now c.args.at c.args.variables.now.ranges.items c.in-Two.op (term_of c.in-Two.left.now) (term_of c.in-Two.right.now) c.in_ok-operands-in-Two.operands
-    (subst (λ t. CanWalk c.args.self.now t c.args.at) c.in-Two.ensures c.requires.walk) c.in_ok-operands-in-Two.ensures.answer
+    let w = c.args.self.now in
+    let f = term_of c.in-Two.right.now in
+    let o = c.in_ok-operands-in-Two.operands in
+    let kind = kind_of_two (two_meant c.in-Two.op) o.first.kind o.second.kind in
+    subst (λ p. TakesTwo (scope_in p) c.in-Two.op kind f o.first.range o.second.range) (sym c.typed.ensures)
+    (takes_operands w c.args.at c.args.variables.now.ranges.items c.in-Two.op (term_of c.in-Two.left.now) f o
+    (subst (λ t. CanWalk w t c.args.at) c.in-Two.ensures c.requires.walk) c.in_ok-operands-in-Two.ensures.answer)
 
 pub range_of-returns-in_ok-chosen-in-Item-clause-answer : goal.range_of-returns-in_ok-chosen-in-Item-clause-answer
 range_of-returns-in_ok-chosen-in-Item-clause-answer t c =
@@ -70,8 +76,12 @@ pub range_of-returns-in_ok-operands-in-Two-clause-answer : goal.range_of-returns
 range_of-returns-in_ok-operands-in-Two-clause-answer t c =
     let w = c.args.self.now in
     let rs = c.args.variables.now.ranges.items in
+    let op = two_meant c.in-Two.op in
+    let f = term_of c.in-Two.right.now in
+    let o = c.in_ok-operands-in-Two.operands in
+    let answer = subst (λ p. TwoAnswer (scope_in p) op f o c.two.result) c.typed.ensures c.two.ensures in
     subst (λ t. RangeAnswer w t c.args.at rs c.two.result) (sym c.in-Two.ensures)
-    (two_answer w c.args.at rs (two_meant c.in-Two.op) (term_of c.in-Two.left.now) (term_of c.in-Two.right.now) c.in_ok-operands-in-Two.operands c.two.result c.in_ok-operands-in-Two.ensures.answer c.two.ensures)
+    (two_answer w c.args.at rs op (term_of c.in-Two.left.now) f o c.two.result c.in_ok-operands-in-Two.ensures.answer answer)
 
 pub range_of-returns-in_err-chosen-in-Item-clause-answer : goal.range_of-returns-in_err-chosen-in-Item-clause-answer
 range_of-returns-in_err-chosen-in-Item-clause-answer t c =

@@ -24,10 +24,12 @@ pub returns-in-Some-constant_value : goal.returns-in-Some-constant_value
 returns-in-Some-constant_value c =
     let p = c.args.self.now.plan.now in
     let none = named_none (variables_in p) c.args.ranges.now c.args.name.now c.requires.sized (sym c.requires.number ∙ c.in-None.is) in
-    ap Some c.single.ensures ∙ ap₂ (λ o v. option_or o (option_map single v)) (sym none) c.in-Some-constant_value.ensures
+    let value = c.in-Some-constant_value.ensures ∙ ap (λ p. constant_in (scope_in p) c.args.name.now) c.typed.ensures in
+    ap Some c.single.ensures ∙ ap₂ (λ o v. option_or o (option_map single v)) (sym none) value
 
 pub returns-in-None-constant_value : goal.returns-in-None-constant_value
 returns-in-None-constant_value c =
     let p = c.args.self.now.plan.now in
     let none = named_none (variables_in p) c.args.ranges.now c.args.name.now c.requires.sized (sym c.requires.number ∙ c.in-None.is) in
-    ap₂ (λ o v. option_or o (option_map single v)) (sym none) c.in-None-constant_value.ensures
+    let value = c.in-None-constant_value.ensures ∙ ap (λ p. constant_in (scope_in p) c.args.name.now) c.typed.ensures in
+    ap₂ (λ o v. option_or o (option_map single v)) (sym none) value
