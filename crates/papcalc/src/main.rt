@@ -150,7 +150,7 @@ fn explain_bad_value(rt: &HostRuntime, words: &[String]) {
     if let Some(word) = bad_value(values) {
         if let Ok(word) = one_line(rt.alloc(), word) {
             let _ = eprintln!(rt;
-                "papcalc: `{word}` is not of the form NAME=VALUE with a name and a number"
+                "papcalc: `{word}` is not of the form NAME=VALUE with a name and a number of at most 30 decimal places and at most 10^37 without its point"
             );
         }
     }
