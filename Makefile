@@ -109,12 +109,10 @@ bench-plan: build
 bench-book: build
 	python3 tools/bench_book.py build/papcalc
 
-# Seconds of `check` on the three flowcharts that take it longest, of those we know.
+# Seconds of `check` on the flowcharts that take it longest, of those we know.
 bench-worst: build
 	python3 tools/worst_plan.py build
-	bash -c 'time build/papcalc check build/worst.xml build/worst.toml'
-	bash -c 'time build/papcalc check build/nested.xml build/nested.toml'
-	bash -c 'time build/papcalc check build/branching.xml build/branching.toml'
+	bash -c 'for name in worst table tests nested branching; do echo $$name; time build/papcalc check build/$$name.xml build/$$name.toml; done'
 
 # Nanoseconds of each operation on intervals.
 bench-intervals:
