@@ -1,5 +1,5 @@
 -- The answers on a plan from what the calls below promise.
-use Rattle.std.proofs.Common.{◌≡◌, ◌≤◌, ℕ, length, arith, List, Option, Some, None, ap, ◌∙◌, subst}
+use Rattle.std.proofs.Common.{◌≡◌, ◌≤◌, ℕ, length, arith, List, Option, Some, None, inl, sym, ap, ◌∙◌, subst}
 use Rattle.std.specs.Prelude.{option_map}
 use Rattle.std.proofs.lemmas.List.{length-map}
 use Rattle.pap_tree.specs.Limits.{most_inputs}
@@ -11,13 +11,17 @@ use Rattle.pap_reader.proofs.Laws.{small_tree}
 use Rattle.pap_plan.specs.declared.refusal.PlanRefusal.TheVariants as refusals
 use Rattle.plan_answers.specs.Answers.{Answer as Written, IsRefusal}
 use Rattle.plan_answers.specs.Lines.{refusal_line}
+use Rattle.limits_file.specs.Limits.{longest_limits}
+use Rattle.plan_notes.specs.declared.notes.Notes.{Notes}
+use Rattle.plan_notes.specs.Notes.{HasNotes}
+use Rattle.range_draft.specs.Draft.{IsDraft}
 use Rattle.plain_words.specs.declared.place.TextFile.{TextFile}
 use Rattle.plain_words.specs.Lines.{IsOneLine}
 use Rattle.plain_words.specs.Places.{named_text, files_of}
 use Rattle.plain_words.specs.Refusals.{BeginsAtRefusal}
 use Rattle.flowchart_page.specs.Pages.{IsPage}
 use Rattle.flowchart_page.specs.Verdicts.{file_or_none, IsJudged}
-use Rattle.author_cli.specs.Answers.{Answer, IsChart, IsUnread}
+use Rattle.author_cli.specs.Answers.{Answer, IsChart, IsUnread, IsRanges}
 
 pub charted : (plan : TextFile) (limits : Option TextFile) (answer : Answer)
     → IsPage plan.bytes.now (option_map (λ f. f.bytes.now) limits) answer.reason answer.text
@@ -54,3 +58,18 @@ few_inputs plan elements read =
     let size = length-map elements.inputs.items raw_declaration_of in
     let few = (small_tree plan (tree_of elements) read).inputs in
     omega (arith, size, few)
+
+-- the range file that is begun
+pub begun : (plan : TextFile) (elements : Elements) (notes : Notes) (text : List ℕ) (answer : Answer)
+    → IsElements plan.bytes.now (tree_of elements) → HasNotes plan.bytes.now notes
+    → IsDraft (tree_of elements).inputs notes text → length text ≤ longest_limits → answer.text ≡ text
+    → answer.reason ≡ None → IsRanges (named_text plan) answer
+begun plan elements notes text answer read noted draft short same reason = inl (record {
+  tree = tree_of elements;
+  elements = read;
+  notes = notes;
+  noted = noted;
+  draft = subst (λ t. IsDraft (tree_of elements).inputs notes t) (sym same) draft;
+  short = subst (λ t. length t ≤ longest_limits) (sym same) short;
+  read = reason;
+})
