@@ -5,6 +5,7 @@ The files are examples/answers/*.rows; README.md beside them says how they are w
 own, and standard output, standard error and the status are compared. With --write the files get what comes, for you to read in `git diff`."""
 import concurrent.futures
 import glob
+import itertools
 import os
 import re
 import subprocess
@@ -32,13 +33,26 @@ class Row:
     def add(self, mark, line):
         if mark == "=":
             self.other = int(line)
+        elif mark == "?":
+            self.asked.append(line)
         else:
-            {"?": self.asked, ">": self.out, "!": self.err}[mark].append(line)
+            times = re.match(r"(\d+) x ", line)
+            {">": self.out, "!": self.err}[mark].extend([line[times.end():]] * int(times[1]) if times else [line])
 
     def lines(self):
         """The row as it stands in a file."""
-        parts = [("?", self.asked), (">", self.out), ("!", self.err), ("=", [] if self.other is None else [str(self.other)])]
+        status = [] if self.other is None else [str(self.other)]
+        parts = [("?", self.asked), (">", shortened(self.out)), ("!", shortened(self.err)), ("=", status)]
         return [f"{mark} {line}" if line else mark for mark, lines in parts for line in lines]
+
+
+def shortened(lines):
+    """The lines, with `N x ` before one in place of more than eight that are the same."""
+    found = []
+    for line, same in itertools.groupby(lines):
+        count = len(list(same))
+        found += [f"{count} x {line}"] if count > 8 else [line] * count
+    return found
 
 
 def read_rows(text):
