@@ -4,9 +4,9 @@
 A crate begins once those that it stands on are proved, first the one with the longest chain of lines above it, in a room of its own,
 build/rooms/NAME: `rt` has a crate and all below it to itself while it works there, so in one checkout it would prove one after the other.
 There are twice as many jobs as processors, since a check also has parts that one job does alone; the head of the longest chain has as many
-as a crate may, and goes before the others where processors are short. The proved library then goes to crates/NAME/out, where `rt run` finds
-it. A line for each that is done says how many are left. What a crate's check wrote is in build/proofs/NAME; where one fails, its end is
-shown."""
+as a crate may, and where processors are short a crate goes before others by the length of its chain. The proved library then goes to
+crates/NAME/out, where `rt run` finds it. A line for each that is done says how many are left. What a crate's check wrote is in
+build/proofs/NAME; where one fails, its end is shown."""
 import glob
 import os
 import shutil
@@ -17,7 +17,7 @@ from concurrent.futures import FIRST_COMPLETED, ThreadPoolExecutor, wait
 
 GIGABYTES_A_JOB = 2
 MOST_JOBS_A_CRATE = 4
-PATIENCE = 5
+MOST_PATIENCE = 19
 
 
 def crates():
@@ -85,16 +85,17 @@ def prove(name, proved, jobs, patience):
     return name, done.returncode, time.time() - began
 
 
-def begin(pool, waiting, first, stands_on, proved, idle):
-    """Begins crates that can begin while jobs are idle, and the first of all that are left in any case, with all jobs that a crate may have
-    and without patience. Gives those that began with their jobs."""
+def begin(pool, waiting, longest, stands_on, proved, idle):
+    """Begins crates that can begin while jobs are idle, and the first of all that are left in any case, with all jobs that a crate may have;
+    the others the more patiently, the shorter their chain is beside its. Gives those that began with their jobs."""
+    first = max((name for name in longest if name not in proved), key=longest.get)
     ready = [name for name in waiting if proved.issuperset(stands_on[name])]
     began = {}
     for at, name in enumerate(ready):
         if idle <= 0 and name != first:
             break
         share = MOST_JOBS_A_CRATE if name == first else max(1, min(MOST_JOBS_A_CRATE, idle // (len(ready) - at)))
-        patience = 0 if name == first else PATIENCE
+        patience = round(MOST_PATIENCE * (1 - longest[name] / longest[first]))
         began[pool.submit(prove, name, below(name, stands_on, []), share, patience)] = (name, share)
         idle -= share
     return began
@@ -111,8 +112,7 @@ def main():
     with ThreadPoolExecutor(len(names)) as pool:
         while waiting or running:
             idle = limit - sum(share for _, share in running.values())
-            first = max((name for name in names if name not in proved), key=longest.get)
-            running.update(begin(pool, waiting, first, stands_on, proved, idle))
+            running.update(begin(pool, waiting, longest, stands_on, proved, idle))
             started = {name for name, _ in running.values()}
             waiting = [name for name in waiting if name not in started]
             done, _ = wait(running, return_when=FIRST_COMPLETED)
