@@ -8,14 +8,14 @@ PREFIX ?= /usr/local
 # The crates below the program are proved side by side, on as many processors as there are; JOBS=N says otherwise.
 build:
 	python3 tools/build.py $(JOBS)
-	cd crates/papcalc && rt run -- --version
+	cd crates/papcalc && python3 ../../tools/rt.py run -- --version
 	mkdir -p build
 	cp crates/papcalc/out/papcalc build/papcalc
 
 # The companion program for authors of flowcharts: build/pap_author draws a flowchart as a page, and begins a range file.
 author:
 	python3 tools/build.py "$(JOBS)" pap_author
-	cd crates/pap_author && rt run -- --version
+	cd crates/pap_author && python3 ../../tools/rt.py run -- --version
 	mkdir -p build
 	cp crates/pap_author/out/pap_author build/pap_author
 

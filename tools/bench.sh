@@ -3,6 +3,7 @@
 # `.txt`. It is laid out as a crate of a scratch copy. `tools/bench.sh NAME WORDS..`: the words are the program's.
 set -u
 cd "$(dirname "$0")/.." || exit 2
+rt=$PWD/tools/rt.py
 name=${1:?the name of a bench}
 bench=tools/benches/$name
 shift
@@ -20,4 +21,4 @@ echo "$name: $(cat "$bench/stands_on")" >> "$copy/crates.txt"
     mkdir -p "$copy/crates/$name/$(dirname "$file")"
     cp "$bench/$file" "$copy/crates/$name/${file%.txt}"
 done
-cd "$copy/crates/$name" && rt run -- "$@"
+cd "$copy/crates/$name" && python3 "$rt" run -- "$@"

@@ -5,6 +5,7 @@
 # in which time.
 set -u
 cd "$(dirname "$0")/.." || exit 2
+rt=$PWD/tools/rt.py
 crates=("$@")
 if [ "${#crates[@]}" -eq 0 ]; then
     for folder in crates/*; do
@@ -33,7 +34,7 @@ for crate in "${crates[@]}"; do
     fi
     edits=$((edits + $(find "$copy/crates/$crate/must-fail" -name '*.edit' | wc -l)))
 done
-(cd "$copy" && rt must-fail "${crates[@]}") 2>&1 | tee "$copy/tried"
+(cd "$copy" && python3 "$rt" must-fail "${crates[@]}") 2>&1 | tee "$copy/tried"
 status=${PIPESTATUS[0]}
 refused=$(grep -c ': refused, as it must be' "$copy/tried")
 seconds=$((SECONDS - begin))

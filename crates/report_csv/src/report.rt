@@ -92,9 +92,9 @@ fn put_rows<W: Sink>(rows: Rows, sink: &mut W) -> Result<Vec<u8>, ReportFault>
 }
 
 /// The laws of reports: the rows of a book are those of its employees' years, one after another, each of which depends on the
-/// plans and on that employee's own runs alone; so the reports of two books with the same plans, between which the employees
+/// plans and on that employee's own runs alone; so the rows of two books with the same plans, between which the employees
 /// are split in order, are the rows of one book. And where a table is split so, part by part, and each part is loaded into a
-/// book of its own, the reports of the parts, one after another, are the report of the whole table.
+/// book of its own, the first row and then the rows of the parts, one after another, are the report of the whole table.
 pub fn report_laws()
     ensures years { ReportsAreTheirYears }
     ensures joined { ReportsAreJoined }
