@@ -44,16 +44,17 @@ def jobs():
 
 
 def furnish(room, name, proved):
-    """Makes a room for a crate: links to its files, and to those of the crates below it with their libraries."""
+    """Makes a room for a crate: links to its files and to those of the crates below it, with their libraries. Its own is there too, if an
+    earlier call proved it: where nothing below it changed either, it is taken as it is."""
     shutil.rmtree(room, ignore_errors=True)
     os.makedirs(room)
     os.link("HANDLES", f"{room}/HANDLES")
     with open(f"{room}/crates.txt", "w") as listed:
         listed.writelines(line for line in open("crates.txt") if line.split(":")[0].split(" ")[0] in [*proved, name])
     for crate in [*proved, name]:
-        parts = [part for part in ("src", "specs", "proofs") if os.path.isdir(f"crates/{crate}/{part}")]
-        for part in parts + (["out/rlib"] if crate in proved else []):
-            shutil.copytree(f"crates/{crate}/{part}", f"{room}/crates/{crate}/{part}", copy_function=os.link)
+        for part in ("src", "specs", "proofs", "out/rlib"):
+            if os.path.isdir(f"crates/{crate}/{part}"):
+                shutil.copytree(f"crates/{crate}/{part}", f"{room}/crates/{crate}/{part}", copy_function=os.link)
 
 
 def lines(name):
