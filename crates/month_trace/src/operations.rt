@@ -4,10 +4,10 @@ ghost use Rattle.scaled_decimal.specs.Decimals.{numerator_of};
 ghost use Rattle.scaled_decimal.specs.ExactQuotients.{IsPlainDivisor};
 ghost use Rattle.scaled_decimal.specs.ShortenedDecimals.{exact_quotient};
 ghost use Rattle.scaled_decimal.specs.RoundedDecimals.{rescaled};
-ghost use Rattle.scaled_decimal.specs.WholeNumbers.{IsOfBits, long_bits, whole_quotient, whole_remainder, whole_difference, whole_decimal, truth, item_at};
+ghost use Rattle.scaled_decimal.specs.WholeNumbers.{IsOfBits, long_bits, whole_quotient, whole_remainder, whole_difference, whole_decimal, truth, item_at, of_wholes};
 ghost use Rattle.scaled_decimal.specs.WorkingNumbers.{RescaleFits, ExactQuotientFits};
 ghost use Rattle.pap_tree.specs.Term.{Term, term_of, unary, operator, divide};
-ghost use Rattle.pap_types.specs.Operations.{as_big, is_zero, of_one, of_operator, of_method, of_two, of_wholes, holds_of};
+ghost use Rattle.pap_types.specs.Operations.{as_big, is_zero, of_one, of_operator, of_method, of_two, holds_of};
 ghost use Rattle.pap_types.specs.Values.{goes_right};
 ghost use Rattle.month_trace.specs.OperationViews.{CanTakeOne, CanOperate, CanCall, CanDivide};
 

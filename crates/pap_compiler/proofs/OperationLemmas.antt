@@ -9,7 +9,7 @@ use Rattle.scaled_decimal.specs.Decimals.{Decimal, decimal, numerator_of, value_
 use Rattle.scaled_decimal.specs.RoundedDecimals.{quotient, rescaled}
 use Rattle.scaled_decimal.specs.ShortenedDecimals.{exact_quotient}
 use Rattle.scaled_decimal.specs.ExactQuotients.{IsPlainDivisor}
-use Rattle.scaled_decimal.specs.WholeNumbers.{int_bits, long_bits, IsOfBits, truth, whole_sum, whole_difference, whole_product, whole_quotient, whole_remainder, whole_opposite, whole_decimal}
+use Rattle.scaled_decimal.specs.WholeNumbers.{int_bits, long_bits, IsOfBits, truth, whole_sum, whole_difference, whole_product, whole_quotient, whole_remainder, whole_opposite, whole_decimal, of_whole, of_wholes}
 use Rattle.scaled_decimal.specs.WorkingNumbers.{ComparisonFits, SumFits, DifferenceFits, ProductFits, RescaleFits, ExactQuotientFits}
 use Rattle.pap_tree.specs.declared.expression.Unary.TheVariants.{Minus, Not, Negate, Abs}
 use Rattle.pap_tree.specs.declared.expression.Binary.{Binary}
@@ -26,7 +26,7 @@ use Rattle.pap_machine.specs.declared.code.Instr.{Instr}
 use Rattle.pap_machine.specs.declared.code.Instr.TheVariants as i
 use Rattle.pap_machine.specs.Code.{Program}
 use Rattle.pap_machine.specs.Machine.{State, state_of, Does, Works, Two as TwoStacked}
-use Rattle.pap_machine.specs.Operations.{IsWhole, IsTruth, IsWholeWithPlaces, DivisionFits, ExactDivisionFits, WholeFits, WholeDivisionFits, OppositeFits, of_whole, of_wholes}
+use Rattle.pap_machine.specs.Operations.{IsWhole, IsTruth, IsWholeWithPlaces, DivisionFits, ExactDivisionFits, WholeFits, WholeDivisionFits, OppositeFits}
 use Rattle.pap_machine.proofs.Laws.{one, two}
 use Rattle.pap_compiler.specs.CodeDecisions.{instr_of_one, instr_of_two, shown_number}
 use Rattle.pap_compiler.proofs.KindLemmas.{both_true, IsTruthValue, some_is, unless_some}

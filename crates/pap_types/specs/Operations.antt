@@ -1,10 +1,10 @@
 -- What each operation of the flowchart's expressions gives, over unbounded numbers: Java's arithmetic on whole numbers (The
 -- Java Language Specification, 15.15 to 15.24) and that of java.math.BigDecimal. A truth is 1 or 0, a whole number has scale 0.
-use Rattle.std.specs.Prelude.{ℕ, Bool, false, not, ◌||◌, if◌then◌else◌, Option, Some, None, ℤ, pos}
+use Rattle.std.specs.Prelude.{ℕ, Bool, false, not, ◌||◌, if◌then◌else◌, Option, Some, None, pos}
 use Rattle.std.specs.Ordering.{int_eq, is_lt, is_gt}
 use Rattle.std.specs.declared.cmp.Ordering.{Ordering}
 use Rattle.scaled_decimal.specs.Decimals.{Decimal, decimal, numerator_of, sum, difference, product, negated, magnitude, value_order, comparison, lesser, greater}
-use Rattle.scaled_decimal.specs.WholeNumbers.{whole_sum, whole_difference, whole_product, whole_quotient, whole_remainder, whole_opposite, whole_decimal, truth}
+use Rattle.scaled_decimal.specs.WholeNumbers.{whole_sum, whole_difference, whole_product, whole_quotient, whole_remainder, whole_opposite, whole_decimal, of_whole, of_wholes, truth}
 use Rattle.scaled_decimal.specs.RoundedDecimals.{quotient, rescaled}
 use Rattle.scaled_decimal.specs.ShortenedDecimals.{shortened, exact_quotient}
 use Rattle.pap_tree.specs.declared.expression.Unary.TheVariants.{Minus, Not, Negate, Abs}
@@ -16,10 +16,6 @@ use Rattle.pap_tree.specs.Term.{point, Term, leaf, One, unary, value_of, value_o
 
 abbrev pub is_zero : Decimal → Bool
 is_zero a = int_eq (numerator_of a) (pos 0)
-
--- an operation of two whole numbers
-abbrev pub of_wholes : (ℤ → ℤ → ℤ) → Decimal → Decimal → Decimal
-of_wholes f a b = whole_decimal (f (numerator_of a) (numerator_of b))
 
 -- whether a comparison holds of two values in this order
 abbrev pub holds_of : Binary → Ordering → Bool
@@ -74,7 +70,7 @@ as_big _ a = a
 
 -- an operation on the value of its operand
 abbrev pub of_one : One → Term → Decimal → Decimal
-of_one (unary Minus) e a = whole_decimal (whole_opposite (numerator_of a))
+of_one (unary Minus) e a = of_whole whole_opposite a
 of_one (unary Not) e a = truth (is_zero a)
 of_one (unary Negate) e a = negated a
 of_one (unary Abs) e a = magnitude a

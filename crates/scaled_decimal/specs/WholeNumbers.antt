@@ -1,7 +1,7 @@
 -- Whole numbers as Java's int and long compute with them, before a width bounds the result (The Java Language
 -- Specification, 15.15.4, 15.17 and 15.18).
 use Rattle.std.specs.Prelude.{ℕ, ◌-◌, ◌^◌, Bool, ◌&&◌, if◌then◌else◌, List, Option, None, slice_get, ℤ, pos, negsuc, ◌+ℤ◌, ◌-ℤ◌, ◌*ℤ◌, neg_ℤ, ◌≤ℤ◌, ◌<ℤ◌, int_le, int_lt, int_div, int_rem}
-use Rattle.scaled_decimal.specs.Decimals.{Decimal, decimal}
+use Rattle.scaled_decimal.specs.Decimals.{Decimal, decimal, numerator_of}
 
 -- how many bits an int has, and a long
 abbrev pub int_bits : ℕ
@@ -42,6 +42,14 @@ whole_opposite a = neg_ℤ a
 -- a whole number as a decimal
 abbrev pub whole_decimal : ℤ → Decimal
 whole_decimal n = decimal n 0
+
+-- an operation on a whole number, as one on a decimal that stands for it
+abbrev pub of_whole : (ℤ → ℤ) → Decimal → Decimal
+of_whole f a = whole_decimal (f (numerator_of a))
+
+-- an operation on two whole numbers, as one on the decimals that stand for them
+abbrev pub of_wholes : (ℤ → ℤ → ℤ) → Decimal → Decimal → Decimal
+of_wholes f a b = whole_decimal (f (numerator_of a) (numerator_of b))
 
 -- a truth as a whole number, which is 1 or 0
 abbrev pub truth : Bool → Decimal
