@@ -6,7 +6,8 @@ use Rattle.std.specs.Str.{bytes_eq}
 use Rattle.pap_tree.specs.Flowchart.{Body, done, eval, branch, execute, Routine, Flowchart}
 use Rattle.pap_tree.specs.Statements.{written}
 use Rattle.pap_types.specs.Scopes.{Scope, scope_of}
-use Rattle.pap_types.specs.Routines.{body_named, main_name}
+use Rattle.pap_types.specs.Routines.{body_named}
+use Rattle.pap_tree.specs.Names.{main_name}
 use Rattle.pap_types.specs.declared.fault.TypeFault.{TypeFault}
 use Rattle.pap_types.specs.declared.fault.TypeFault.TheVariants.{NoMethod}
 use Rattle.pap_types.specs.Checks.{Check, place, first_fault, check, eval_checks, test_checks, body_checks, routine_checks, declaration_checks, method_checks, IsWellTyped}

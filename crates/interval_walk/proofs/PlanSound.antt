@@ -10,7 +10,7 @@ use Rattle.scaled_decimal.proofs.Laws.{le_times}
 use Rattle.interval_num.specs.Intervals.{Interval, Contains}
 use Rattle.interval_num.specs.Alignment.{at_scale}
 use Rattle.pap_types.specs.Scopes.{scope_of}
-use Rattle.pap_types.specs.Routines.{main_name}
+use Rattle.pap_tree.specs.Names.{main_name}
 use Rattle.pap_types.specs.Values.{Env}
 use Rattle.pap_types.specs.Limits.{longest_chain}
 use Rattle.pap_types.specs.Meaning.{calls_in, start, outputs_in}

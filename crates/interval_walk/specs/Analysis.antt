@@ -13,7 +13,7 @@ use Rattle.limits_file.specs.Limits.{output_places, output_limit, limit_named}
 use Rattle.interval_num.specs.Intervals.{Interval, interval}
 use Rattle.interval_num.specs.Alignment.{at_scale}
 use Rattle.pap_types.specs.Scopes.{scope_of, first_value, factor_places}
-use Rattle.pap_types.specs.Routines.{main_name}
+use Rattle.pap_tree.specs.Names.{main_name}
 use Rattle.pap_types.specs.Limits.{longest_chain}
 use Rattle.interval_walk.specs.Ranges.{NamedRange, Ranges, single}
 use Rattle.interval_walk.specs.Failures.{WalkFault, output_fails, and_then}

@@ -9,7 +9,8 @@ use Rattle.pap_tree.specs.Statements.{written}
 use Rattle.pap_types.specs.Limits.{longest_chain}
 use Rattle.pap_types.specs.Meaning.{calls_in, start, IsSafeFor}
 use Rattle.pap_types.specs.Operations.{is_zero}
-use Rattle.pap_types.specs.Routines.{body_named, main_name}
+use Rattle.pap_types.specs.Routines.{body_named}
+use Rattle.pap_tree.specs.Names.{main_name}
 use Rattle.pap_types.specs.Runs.{Calls, after, assigned, calls_of}
 use Rattle.pap_types.specs.Scopes.{Scope, scope_of}
 use Rattle.pap_types.specs.Values.{Env, value}

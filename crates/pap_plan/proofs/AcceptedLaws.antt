@@ -9,7 +9,7 @@ use Rattle.pap_tree.specs.Declarations.{Declaration}
 use Rattle.limits_file.specs.declared.limits.Limits.{Limits}
 use Rattle.pap_types.specs.Limits.{longest_chain}
 use Rattle.pap_types.specs.Meaning.{IsSafeFor, outputs_in}
-use Rattle.pap_types.specs.Routines.{main_name}
+use Rattle.pap_tree.specs.Names.{main_name}
 use Rattle.pap_types.specs.Scopes.{names_of, scope_of}
 use Rattle.pap_types.proofs.Laws.{cost_at_most}
 use Rattle.call_order.proofs.Laws.{bound_small}

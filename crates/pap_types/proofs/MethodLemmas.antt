@@ -10,7 +10,8 @@ use Rattle.pap_tree.specs.declared.plan.Stmt.{Stmt}
 use Rattle.pap_tree.specs.Statements.{written}
 use Rattle.pap_types.specs.declared.fault.TypeFault.{TypeFault}
 use Rattle.pap_types.specs.declared.scope.Scope.{Scope as InScope}
-use Rattle.pap_types.specs.Routines.{main_name, method_names}
+use Rattle.pap_types.specs.Routines.{method_names}
+use Rattle.pap_tree.specs.Names.{main_name}
 use Rattle.pap_types.specs.Counts.{AreSmallTerms, methods_written}
 use Rattle.pap_types.specs.Checks.{first_fault, method_checks}
 use Rattle.pap_types.specs.StatementViews.{IsVerdict}

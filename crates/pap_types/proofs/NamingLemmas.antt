@@ -9,7 +9,8 @@ use Rattle.pap_types.specs.declared.fault.TypeFault.{TypeFault}
 use Rattle.pap_types.specs.declared.fault.TypeFault.TheVariants as faults
 use Rattle.pap_types.specs.declared.scope.Names.{Names}
 use Rattle.pap_types.specs.Scopes.{names_of, variables_of}
-use Rattle.pap_types.specs.Routines.{main_name, method_names}
+use Rattle.pap_types.specs.Routines.{method_names}
+use Rattle.pap_tree.specs.Names.{main_name}
 use Rattle.pap_types.specs.Checks.{first_fault, declaration_checks, method_checks, checks_of, type_fault}
 use Rattle.pap_types.specs.Faults.{IsTypeFault}
 use Rattle.pap_types.specs.DeclarationViews.{AreDeclared, UnlessMemory}

@@ -17,7 +17,8 @@ use Rattle.pap_tree.specs.Declarations.{Declaration}
 use Rattle.pap_tree.specs.Flowchart.{Body, done, eval, branch, execute, Routine, Flowchart}
 use Rattle.pap_types.specs.declared.fault.TypeFault.{TypeFault}
 use Rattle.pap_types.specs.Scopes.{Scope, scope_of, declared_as, names_of}
-use Rattle.pap_types.specs.Routines.{body_named, main_name, method_names}
+use Rattle.pap_types.specs.Routines.{body_named, method_names}
+use Rattle.pap_tree.specs.Names.{main_name}
 use Rattle.pap_types.specs.Kinds.{kind_of, name_kind, is_table, is_int, is_truth, are_parts, suits}
 use Rattle.pap_types.specs.Checks.{Check, first_fault, place, node_checks, leaf_checks, eval_checks, test_checks, body_checks, routine_checks, declaration_checks, method_checks, IsWellTyped, has_name}
 use Rattle.pap_types.specs.Typing.{IsDeclaredLeaf, IsTypedTerm, TargetSuits, IsMethod, IsTypedBody, HasItsType, declarations_of, AreDistinct, HasTypes}

@@ -15,7 +15,8 @@ use Rattle.pap_tree.specs.Statements.{written}
 use Rattle.pap_types.specs.declared.fault.TypeFault.{TypeFault}
 use Rattle.pap_types.specs.declared.fault.TypeFault.TheVariants as faults
 use Rattle.pap_types.specs.Scopes.{Scope, scope_of, declared_as, declaration_in}
-use Rattle.pap_types.specs.Routines.{body_named, main_name}
+use Rattle.pap_types.specs.Routines.{body_named}
+use Rattle.pap_tree.specs.Names.{main_name}
 use Rattle.pap_types.specs.Kinds.{leaf_kind, kind_of, is_table, is_int, is_truth, takes_one, takes_two, are_parts, has_few_places, suits}
 
 pub record Check : Type 0 where

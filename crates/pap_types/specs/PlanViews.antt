@@ -6,7 +6,8 @@ use Rattle.pap_types.specs.declared.fault.TypeFault.{TypeFault}
 use Rattle.pap_types.specs.declared.scope.Names.{Names}
 use Rattle.pap_types.specs.declared.scope.Scope.{Scope as InScope}
 use Rattle.pap_types.specs.Scopes.{scope_of}
-use Rattle.pap_types.specs.Routines.{main_name, method_names}
+use Rattle.pap_types.specs.Routines.{method_names}
+use Rattle.pap_tree.specs.Names.{main_name}
 use Rattle.pap_types.specs.ScopeViews.{IsNumbered}
 use Rattle.pap_types.specs.Checks.{Check, first_fault, declaration_checks, method_checks, body_checks, routine_checks}
 use Rattle.pap_types.specs.DeclarationViews.{UnlessMemory}

@@ -1,12 +1,9 @@
 -- The methods of a plan by name.
-use Rattle.std.specs.Prelude.{ℕ, if◌then◌else◌, List, [], ◌∷◌, map, codes, Option, Some, None}
+use Rattle.std.specs.Prelude.{ℕ, if◌then◌else◌, List, [], ◌∷◌, map, Option, Some, None}
 use Rattle.std.specs.Str.{bytes_eq}
 use Rattle.pap_tree.specs.Flowchart.{Body, Routine}
 
--- the method that a run begins with
-abbrev pub main_name : List ℕ
-main_name = codes "MAIN"
-
+-- the names of methods, in their order
 abbrev pub method_names : List Routine → List (List ℕ)
 method_names ms = map (λ m. m.name) ms
 

@@ -6,7 +6,8 @@ use Rattle.pap_tree.specs.Term.{Leaf, named, Term, leaf, item, one, two, choice}
 use Rattle.pap_tree.specs.Declarations.{Declaration}
 use Rattle.pap_tree.specs.Flowchart.{Body, done, eval, branch, execute, Routine, Flowchart}
 use Rattle.pap_types.specs.Scopes.{Scope, scope_of, declared_as, declaration_in, names_of}
-use Rattle.pap_types.specs.Routines.{body_named, main_name, method_names}
+use Rattle.pap_types.specs.Routines.{body_named, method_names}
+use Rattle.pap_tree.specs.Names.{main_name}
 use Rattle.pap_types.specs.Kinds.{name_kind, kind_of, is_table, is_int, is_truth, are_parts, takes_one, takes_two, suits}
 use Rattle.pap_types.specs.Checks.{is_of_type}
 

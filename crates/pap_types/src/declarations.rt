@@ -5,7 +5,7 @@ ghost use Rattle.pap_tree.specs.Declarations.{declared_of, declaration_of};
 ghost use Rattle.pap_tree.specs.declared.declaration.Kind.TheVariants.{Factor};
 ghost use Rattle.pap_types.specs.Checks.{is_of_type};
 ghost use Rattle.pap_tree.specs.Flowchart.{routine_of};
-ghost use Rattle.pap_types.specs.Routines.{main_name};
+ghost use Rattle.pap_tree.specs.Names.{main_name};
 ghost use Rattle.pap_types.specs.PlanViews.{AreMethodNames};
 ghost use Rattle.pap_types.specs.DeclarationViews.{AreDeclared, IsDeclared, IsAdded};
 

@@ -11,7 +11,8 @@ use Rattle.pap_tree.specs.Term.{Term, term_of}
 use Rattle.pap_tree.specs.Flowchart.{Flowchart, Body, done, eval, branch, execute, body_of, stmt_then, routine_of}
 use Rattle.pap_tree.specs.Statements.{written, term_at}
 use Rattle.pap_tree.proofs.Laws.{stmt_at, stmt_then-If}
-use Rattle.pap_types.specs.Routines.{body_named, main_name}
+use Rattle.pap_types.specs.Routines.{body_named}
+use Rattle.pap_tree.specs.Names.{main_name}
 use Rattle.plan_answers.specs.Refusals.{body_in}
 use Rattle.plan_answers.specs.declared.places.Search.{Search}
 use Rattle.plan_answers.specs.declared.places.Search.TheVariants.{Found, Executes, Left}

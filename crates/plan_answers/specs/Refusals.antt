@@ -19,7 +19,8 @@ use Rattle.pap_expr.specs.declared.fault.ExprFault.TheVariants as exprs
 use Rattle.plan_text.specs.declared.fault.Spot.{Spot}
 use Rattle.plan_text.specs.Spots.{spot_text}
 use Rattle.plan_text.specs.Plans.{IsPlan}
-use Rattle.pap_types.specs.Routines.{main_name, body_named}
+use Rattle.pap_types.specs.Routines.{body_named}
+use Rattle.pap_tree.specs.Names.{main_name}
 use Rattle.pap_types.specs.declared.fault.TypeFault.{TypeFault}
 use Rattle.pap_types.specs.declared.fault.TypeFault.TheVariants as types
 use Rattle.call_order.specs.declared.fault.OrderFault.{OrderFault}

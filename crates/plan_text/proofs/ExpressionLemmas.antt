@@ -7,7 +7,8 @@ use Rattle.pap_reader.specs.declared.elements.RawMethod.{RawMethod}
 use Rattle.pap_reader.specs.Trees.{RawRoutine, raw_routine_of, ElementTree}
 use Rattle.pap_reader.specs.TreeLimits.{raw_written, methods_written}
 use Rattle.plan_text.specs.declared.fault.PlanFault.{PlanFault}
-use Rattle.plan_text.specs.Sites.{Site, declared_sites, body_sites, routine_sites, main_name, sites_of}
+use Rattle.plan_text.specs.Sites.{Site, declared_sites, body_sites, routine_sites, sites_of}
+use Rattle.pap_tree.specs.Names.{main_name}
 use Rattle.plan_text.specs.Plans.{AreDeclarations, IsBody, AreRoutines}
 use Rattle.plan_text.specs.Views.{TellsFault}
 use Rattle.plan_text.proofs.SiteLemmas.{earlier, later}

@@ -26,7 +26,8 @@ use Rattle.plan_text.specs.declared.fault.Spot.TheVariants.{Statement, Declared}
 use Rattle.plan_text.specs.declared.fault.PlanFault.{PlanFault}
 use Rattle.plan_text.specs.declared.fault.PlanFault.TheVariants as faults
 use Rattle.plan_text.specs.ExprFaults.{IsExprFault}
-use Rattle.plan_text.specs.Sites.{Site, site, literal_sites, declared_sites, body_sites, routine_sites, main_name, sites_of, IsReadable, IsFirstFault}
+use Rattle.plan_text.specs.Sites.{Site, site, literal_sites, declared_sites, body_sites, routine_sites, sites_of, IsReadable, IsFirstFault}
+use Rattle.pap_tree.specs.Names.{main_name}
 use Rattle.plan_text.specs.Plans.{IsValue, IsDeclaration, AreDeclarations, IsBody, AreRoutines, HasFlowchart, IsPlan, IsPlanFault}
 use Rattle.plan_text.proofs.MeaningLemmas.{of_text}
 use Rattle.plan_text.proofs.ReadLemmas.{declared_readable, body_readable, routines_readable}

@@ -1,9 +1,10 @@
 -- The texts of a plan's expressions, in the order in which they are read: the declared literals of inputs, outputs, internals
 -- and constants, then the expressions of MAIN's statements and of the methods', and the first that is none.
-use Rattle.std.specs.Prelude.{◌≡◌, ℕ, ◌+◌, List, [], ◌∷◌, ◌++◌, All, codes}
+use Rattle.std.specs.Prelude.{◌≡◌, ℕ, ◌+◌, List, [], ◌∷◌, ◌++◌, All}
 use Rattle.std.specs.Option.{option_map_or}
 use Rattle.pap_tree.specs.Grammar.{Line, Level, Assignment, Constant, Meaning}
 use Rattle.pap_tree.specs.Expressions.{IsAccepted}
+use Rattle.pap_tree.specs.Names.{main_name}
 use Rattle.pap_expr.specs.declared.fault.ExprFault.{ExprFault}
 use Rattle.plan_text.specs.ExprFaults.{IsExprFault}
 use Rattle.pap_reader.specs.Trees.{RawDeclaration, RawBody, done, eval, branch, execute, RawRoutine, ElementTree}
@@ -43,10 +44,7 @@ abbrev pub routine_sites : List RawRoutine → List Site
 routine_sites [] = []
 routine_sites (m ∷ ms) = body_sites m.name 0 m.body ++ routine_sites ms
 
--- the name of the method that a run begins with
-abbrev pub main_name : List ℕ
-main_name = codes "MAIN"
-
+-- all of them, in the order in which they are read
 abbrev pub sites_of : ElementTree → List Site
 sites_of x =
     declared_sites x.inputs

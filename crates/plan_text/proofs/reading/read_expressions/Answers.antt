@@ -3,7 +3,8 @@ use Rattle.pap_tree.specs.Declarations.{declaration_of}
 use Rattle.pap_tree.specs.Flowchart.{flowchart_of, body_of}
 use Rattle.pap_reader.specs.Trees.{raw_declaration_of, raw_body_of, raw_routine_of, tree_of}
 use Rattle.plan_text.specs.Plans.{HasFlowchart, AreDeclarations, IsBody}
-use Rattle.plan_text.specs.Sites.{sites_of, declared_sites, body_sites, routine_sites, main_name}
+use Rattle.plan_text.specs.Sites.{sites_of, declared_sites, body_sites, routine_sites}
+use Rattle.pap_tree.specs.Names.{main_name}
 use Rattle.plan_text.specs.Views.{TellsFault}
 use Rattle.plan_text.proofs.ExpressionLemmas.{outputs_fail, internals_fail, constants_fail, main_fails, methods_fail}
 use Rattle.plan_text.proofs.SiteLemmas.{passed}
