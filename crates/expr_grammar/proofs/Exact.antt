@@ -1,6 +1,6 @@
 -- What the run answers is what the tokens stand for, or why they are refused.
 use Rattle.std.proofs.Common.{◌≡◌, ℕ, suc, ◌+◌, ◌≤◌, ◌<◌, ◌⊎◌, inl, inr, Bool, true, false, cond, Option, Some, None, Result, Ok, Err, List, [], ◌∷◌, ◌++◌, length, refl, sym, ap, subst, ◌∙◌, append_assoc, arith}
-use Rattle.std.specs.Prelude.{IsTrue, nat_lt, ◌&&◌}
+use Rattle.std.specs.Prelude.{IsTrue, nat_lt, ◌&&◌, option_and_then}
 use Rattle.std.proofs.lemmas.Bool.{ltb-true, ltb-false}
 use Rattle.std.proofs.lemmas.List.{append-nil, length-append}
 use Rattle.pap_tree.specs.Tokens.{Token, Spot, plain}
@@ -10,7 +10,7 @@ use Rattle.pap_tree.specs.Fronts.{IsFront}
 use Rattle.pap_tree.specs.Limits.{most_tokens, most_levels}
 use Rattle.pap_tree.specs.Stopping.{IsDeep, Stops, IsRead, HasCause, Cause, syntax, unsupported, binary_fraction, number, deep, rank, Earns, has_limits}
 use Rattle.expr_grammar.specs.Lines.{IsWhole}
-use Rattle.expr_grammar.specs.Machine.{State, level_of, step, finish, and_then, steps, start}
+use Rattle.expr_grammar.specs.Machine.{State, level_of, step, finish, steps, start}
 use Rattle.expr_grammar.specs.Run.{Refusal, refusal, cause_of, or_refusal, is_over, next, run}
 use Rattle.expr_grammar.proofs.Forward.{some_is, steps_then}
 use Rattle.expr_grammar.proofs.SpelledFronts.{is_front}
@@ -104,7 +104,7 @@ at_end line w f all p s None g e h k = record {
 no_front : (line : Line) → IsWhole line → (s : State) (a : List Token) (t : Token) → steps (start line) a ≡ Some s → step s t ≡ None → IsFront line (a ++ (t ∷ [])) → ⊥
 no_front line w s a t e f (n, i, h) =
     let g = front_reaches line w (a ++ (t ∷ [])) n i h in
-    let none : steps (start line) (a ++ (t ∷ [])) ≡ None = steps_then (start line) a (t ∷ []) s e ∙ ap (λ o. and_then o (λ x. steps x [])) f in
+    let none : steps (start line) (a ++ (t ∷ [])) ≡ None = steps_then (start line) a (t ∷ []) s e ∙ ap (λ o. option_and_then (λ x. steps x []) o) f in
     let both : None ≡ Some g.to = sym none ∙ g.run in
     absurd cc
 

@@ -1,6 +1,6 @@
 -- The machine goes through each text and each front.
 use Rattle.std.proofs.Common.{◌≡◌, ℕ, ◌+◌, ◌≤◌, Bool, true, false, Option, Some, None, List, [], ◌∷◌, ◌++◌, refl, ap, ◌∙◌, arith}
-use Rattle.std.specs.Prelude.{⊤}
+use Rattle.std.specs.Prelude.{⊤, option_and_then}
 use Rattle.std.proofs.lemmas.List.{append-nil}
 use Rattle.pap_tree.specs.declared.expression.Binary.TheVariants as binaries
 use Rattle.pap_tree.specs.Term.{whole, point}
@@ -12,7 +12,7 @@ use Rattle.pap_tree.specs.Texts as texts
 use Rattle.pap_tree.specs.Texts.{Text, Texts, begins_number, begins_point}
 use Rattle.pap_tree.specs.Fronts as fronts
 use Rattle.pap_tree.specs.Fronts.{Front, Fronts}
-use Rattle.expr_grammar.specs.Machine.{InNew, Negating, OfLine, OfValue, OfNew, State, Want, Moding, Naming, Signed, Listing, level_of, step, and_then, steps}
+use Rattle.expr_grammar.specs.Machine.{InNew, Negating, OfLine, OfValue, OfNew, State, Want, Moding, Naming, Signed, Listing, level_of, step, steps}
 use Rattle.expr_grammar.proofs.Holes.{clashes, follows}
 use Rattle.expr_grammar.proofs.Handles as handles
 use Rattle.expr_grammar.proofs.Handles.{Suits, after, Same, Follows, wants, never, Handles}
@@ -51,7 +51,7 @@ pub some_is : (s r : State) → Some s ≡ Some r → s ≡ r
 some_is s r e = cc
 
 through : (o : Option State) (a b : List Token) (r : State) → ((x : State) → steps x a ≡ Some r → steps x (a ++ b) ≡ steps r b)
-    → and_then o (λ x. steps x a) ≡ Some r → and_then o (λ x. steps x (a ++ b)) ≡ steps r b
+    → option_and_then (λ x. steps x a) o ≡ Some r → option_and_then (λ x. steps x (a ++ b)) o ≡ steps r b
 through None a b r h e = absurd cc
 through (Some x) a b r h e = h x e
 
@@ -60,7 +60,7 @@ steps_then s [] b r e = ap (λ x. steps x b) (some_is s r e)
 steps_then s (t ∷ a) b r e = through (step s t) a b r (λ x. steps_then x a b r) e
 
 pub one_step : (s : State) (t : Token) (ts : List Token) (r : State) → step s t ≡ Some r → steps s (t ∷ ts) ≡ steps r ts
-one_step s t ts r e = ap (λ o. and_then o (λ x. steps x ts)) e
+one_step s t ts r e = ap (λ o. option_and_then (λ x. steps x ts) o) e
 
 -- ---- texts
 

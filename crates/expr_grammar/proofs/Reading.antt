@@ -9,7 +9,8 @@ use Rattle.pap_tree.specs.Texts.{Text}
 use Rattle.pap_tree.specs.Fronts.{Front, IsFront}
 use Rattle.expr_grammar.specs.Lines as lines
 use Rattle.expr_grammar.specs.Lines.{IsWhole}
-use Rattle.expr_grammar.specs.Machine.{State, Want, Have, Named, Due, Member, Static, ScaleDue, Parting, Moding, Moded, Naming, Signed, Minus, ValuedInt, ValuedPoint, Settling, Listing, Listed, Done, level_of, step, finish, and_then, steps, start}
+use Rattle.expr_grammar.specs.Machine.{State, Want, Have, Named, Due, Member, Static, ScaleDue, Parting, Moding, Moded, Naming, Signed, Minus, ValuedInt, ValuedPoint, Settling, Listing, Listed, Done, level_of, step, finish, steps, start}
+use Rattle.std.specs.Prelude.{option_and_then}
 use Rattle.expr_grammar.proofs.Holes.{clashes}
 use Rattle.expr_grammar.proofs.Handles as handles
 use Rattle.expr_grammar.proofs.Handles.{Suits, after}
@@ -86,7 +87,7 @@ text_ends line w a x s (texts.by way v h) e =
 pub text_runs : (line : Line) → IsWhole line → (a : List Token) (x : Meaning) → Text line a x → (s : State) × (steps (start line) a ≡ Some s)
 text_runs line w a x h = let g = goes h (start line) (start_suits line w) (start_clear line w a) in (g.to, g.run)
 
-through_spelled : (o : Option State) (b : List Token) (r : State) (P : State → Type 0) → ((x : State) → o ≡ Some x → steps x b ≡ Some r → P r) → and_then o (λ x. steps x b) ≡ Some r → P r
+through_spelled : (o : Option State) (b : List Token) (r : State) (P : State → Type 0) → ((x : State) → o ≡ Some x → steps x b ≡ Some r → P r) → option_and_then (λ x. steps x b) o ≡ Some r → P r
 through_spelled None b r P h e = absurd cc
 through_spelled (Some x) b r P h e = h x refl e
 
@@ -110,12 +111,12 @@ record Prior (r : State) (a : List Token) (t : Token) (s : State) : Type 0 where
   run : steps r a ≡ Some state
   last : step state t ≡ Some s
 
-one_of : (o : Option State) (s : State) → and_then o (λ x. steps x []) ≡ Some s → o ≡ Some s
+one_of : (o : Option State) (s : State) → option_and_then (λ x. steps x []) o ≡ Some s → o ≡ Some s
 one_of None s e = e
 one_of (Some x) s e = e
 
 through_prior : (o : Option State) (u : Token) (r : State) (a : List Token) (t : Token) (s : State) → ((x : State) → steps x (a ++ (t ∷ [])) ≡ Some s → Prior x a t s)
-    → step r u ≡ o → and_then o (λ x. steps x (a ++ (t ∷ []))) ≡ Some s → Prior r (u ∷ a) t s
+    → step r u ≡ o → option_and_then (λ x. steps x (a ++ (t ∷ []))) o ≡ Some s → Prior r (u ∷ a) t s
 through_prior None u r a t s h f e = absurd cc
 through_prior (Some x) u r a t s h f e = let p = h x e in record { state = p.state; run = one_step r u a x f ∙ p.run; last = p.last }
 
@@ -141,8 +142,8 @@ front_reaches line w a n i h = reaches h (start line) (start_suits line w) (star
 
 -- ---- beginnings
 
-through_first : (o : Option State) (a b : List Token) (r : State) → ((x : State) → steps x (a ++ b) ≡ Some r → (q : State) × (steps x a ≡ Some q)) → and_then o (λ x. steps x (a ++ b)) ≡ Some r
-    → (q : State) × (and_then o (λ x. steps x a) ≡ Some q)
+through_first : (o : Option State) (a b : List Token) (r : State) → ((x : State) → steps x (a ++ b) ≡ Some r → (q : State) × (steps x a ≡ Some q)) → option_and_then (λ x. steps x (a ++ b)) o ≡ Some r
+    → (q : State) × (option_and_then (λ x. steps x a) o ≡ Some q)
 through_first None a b r h e = absurd cc
 through_first (Some x) a b r h e = h x e
 

@@ -1,5 +1,5 @@
 -- A machine that reads a line a token at a time, with what waits on a stack of partial trees. It never looks back.
-use Rattle.std.specs.Prelude.{ℕ, suc, Bool, false, nat_le, if◌then◌else◌, Option, Some, None, option_map, List, [], ◌∷◌, ◌++◌, ℤ, codes}
+use Rattle.std.specs.Prelude.{ℕ, suc, Bool, false, nat_le, if◌then◌else◌, Option, Some, None, option_map, option_and_then, List, [], ◌∷◌, ◌++◌, ℤ, codes}
 use Rattle.std.specs.Str.{bytes_eq}
 use Rattle.scaled_decimal.specs.Decimals.{Decimal, decimal}
 use Rattle.scaled_decimal.specs.Limits.{most_places}
@@ -484,14 +484,10 @@ finish (Named w k) = whole_line (close 0 (leaf (named w)) k)
 finish (Done x) = Some x
 finish _ = None
 
-abbrev pub and_then : {A B : Type 0} → Option A → (A → Option B) → Option B
-and_then None f = None
-and_then (Some x) f = f x
-
 -- all of the tokens, where none of them stops the machine
 abbrev pub steps : State → List Token → Option State
 steps s [] = Some s
-steps s (t ∷ ts) = and_then (step s t) (λ r. steps r ts)
+steps s (t ∷ ts) = option_and_then (λ r. steps r ts) (step s t)
 
 -- where a line begins: a test, an assignment or a declared literal
 abbrev pub start : Line → State

@@ -32,12 +32,6 @@ use Rattle.expr_spelling.proofs.Held.{IsHeldLeaf}
 
 -- ---- how digits begin
 
-yes_digit : (b : ℕ) → is_ascii_digit b ≡ true → bytes.is_digit b ≡ true
-yes_digit b h = grind (arith, nat_tests)
-
-no_digit : (b : ℕ) → is_ascii_digit b ≡ false → bytes.is_digit b ≡ false
-no_digit b h = grind (arith, nat_tests)
-
 digit_no_minus : (b : ℕ) → is_ascii_digit b ≡ true → (b == 45) ≡ false
 digit_no_minus b h = grind (arith, nat_tests)
 
@@ -47,7 +41,7 @@ digit_no_point b h = grind (arith, nat_tests)
 digit_no_equals : (b : ℕ) → is_ascii_digit b ≡ true → b ≡ 61 → ⊥
 digit_no_equals b h e = let f : is_ascii_digit 61 ≡ true = ap is_ascii_digit (sym e) ∙ h in absurd cc
 
-letter_no_digit : (b : ℕ) → is_letter b ≡ true → bytes.is_digit b ≡ false
+letter_no_digit : (b : ℕ) → is_letter b ≡ true → is_ascii_digit b ≡ false
 letter_no_digit b h = grind (arith, nat_tests)
 
 letter_no_minus : (b : ℕ) → is_letter b ≡ true → (b == 45) ≡ false
@@ -89,7 +83,7 @@ record IsPlain (rest : List ℕ) : Type 0 where
 
 first_plain : (bs : List ℕ) → Stops is_ascii_digit bs → bytes.begins_digit bs ≡ false
 first_plain [] h = refl
-first_plain (b ∷ bs) h = no_digit b h
+first_plain (b ∷ bs) h = h
 
 by_point : (b : ℕ) (bs : List ℕ) (c : Bool) → (b == 46) ≡ c → ((c ≡ true) → bytes.begins_digit bs ≡ false) → (c && bytes.begins_digit bs) ≡ false
 by_point b bs true e h = h refl
@@ -98,7 +92,7 @@ by_point b bs false e h = refl
 cut_plain : (rest : List ℕ) → Cut rest → IsPlain rest
 cut_plain [] h = record { point = refl; fraction = refl }
 cut_plain (b ∷ bs) h = record {
-  point = first_false (bytes.is_digit b) _ (no_digit b (cut_no_digit (b ∷ bs) h));
+  point = first_false (is_ascii_digit b) _ (cut_no_digit (b ∷ bs) h);
   fraction = by_point b bs (b == 46) refl (λ e. let f : b ≡ 46 = (Decides-eqb b 46).0 e in first_plain bs (cut_no_places (b ∷ bs) h bs (ap (λ b. b ∷ bs) f)));
 }
 
@@ -110,21 +104,21 @@ digits_point : (ds rest : List ℕ) → list_all is_ascii_digit ds ≡ true → 
 digits_point [] rest h p = p.point
 digits_point (d ∷ ds) rest h p =
     let k = (and_parts (is_ascii_digit d) (list_all is_ascii_digit ds) h).1 in
-    and_false (bytes.is_digit d) _ (neither (bytes.begins_fraction (ds ++ rest)) (bytes.begins_point (ds ++ rest)) (digits_fraction ds rest k p) (digits_point ds rest k p))
+    and_false (is_ascii_digit d) _ (neither (bytes.begins_fraction (ds ++ rest)) (bytes.begins_point (ds ++ rest)) (digits_fraction ds rest k p) (digits_point ds rest k p))
 
 -- digits, a point and a digit
 point_after : (ds more : List ℕ) → 0 < length ds → list_all is_ascii_digit ds ≡ true → bytes.begins_digit more ≡ true → bytes.begins_point (ds ++ (46 ∷ more)) ≡ true
 point_after [] more some h g = absurd (omega (arith, some))
 point_after (d ∷ []) more some h g =
-    both (bytes.is_digit d) _ (yes_digit d (and_parts (is_ascii_digit d) true h).0) (ap (λ c. c || bytes.begins_point (46 ∷ more)) g)
+    both (is_ascii_digit d) _ (and_parts (is_ascii_digit d) true h).0 (ap (λ c. c || bytes.begins_point (46 ∷ more)) g)
 point_after (d ∷ e ∷ ds) more some h g =
     let k = and_parts (is_ascii_digit d) (list_all is_ascii_digit (e ∷ ds)) h in
-    both (bytes.is_digit d) _ (yes_digit d k.0) (or_true (bytes.begins_fraction ((e ∷ ds) ++ (46 ∷ more))) _ (point_after (e ∷ ds) more (omega arith) k.1 g))
+    both (is_ascii_digit d) _ k.0 (or_true (bytes.begins_fraction ((e ∷ ds) ++ (46 ∷ more))) _ (point_after (e ∷ ds) more (omega arith) k.1 g))
 
 -- a text that begins with a digit
 digit_start : (text : List ℕ) → First is_ascii_digit text → bytes.begins_number text ≡ true
 digit_start [] h = absurd h
-digit_start (b ∷ bs) h = ap (λ c. c || (b == 45)) (yes_digit b h)
+digit_start (b ∷ bs) h = ap (λ c. c || (b == 45)) h
 
 no_equals : (text : List ℕ) → First is_ascii_digit text → NoEquals text
 no_equals [] h = absurd h
@@ -191,7 +185,7 @@ first_place : (s n : ℕ) (rest : List ℕ) → 1 ≤ s → bytes.begins_digit (
 first_place zero n rest some = absurd (omega (arith, some))
 first_place (suc s) n rest some =
     let h = all_digits (last_digits (suc s) n) (digits_last (suc s) n) in
-    yes_digit (digit_byte (n / 10 ^ s % 10)) (and_parts (is_ascii_digit (digit_byte (n / 10 ^ s % 10))) (list_all is_ascii_digit (last_digits s n)) h).0
+    (and_parts (is_ascii_digit (digit_byte (n / 10 ^ s % 10))) (list_all is_ascii_digit (last_digits s n)) h).0
 
 place_point : (n s : ℕ) (rest : List ℕ) → 1 ≤ s → bytes.begins_point (place_text n s ++ rest) ≡ true
 place_point n s rest some =
@@ -267,8 +261,8 @@ word_good x h = by_first x h (word_first x h)
     by_first [] h f = absurd f
     by_first (b ∷ bs) h f = record {
       lex = word_lex (b ∷ bs) h;
-      number = λ rest us c. neither (bytes.is_digit b) (b == 45) (letter_no_digit b f) (letter_no_minus b f);
-      point = λ rest us c. neither (bytes.begins_point (b ∷ (bs ++ rest))) ((b == 45) && bytes.begins_point (bs ++ rest)) (first_false (bytes.is_digit b) _ (letter_no_digit b f)) (first_false (b == 45) _ (letter_no_minus b f));
+      number = λ rest us c. neither (is_ascii_digit b) (b == 45) (letter_no_digit b f) (letter_no_minus b f);
+      point = λ rest us c. neither (bytes.begins_point (b ∷ (bs ++ rest))) ((b == 45) && bytes.begins_point (bs ++ rest)) (first_false (is_ascii_digit b) _ (letter_no_digit b f)) (first_false (b == 45) _ (letter_no_minus b f));
       start = λ rest more e. letter_no_equals b f (heads b 61 (bs ++ rest) more e);
     }
 

@@ -1,6 +1,7 @@
 -- The spelled trees.
 use Rattle.std.proofs.Common.{◌≡◌, ℕ, ◌+◌, ◌≤◌, Bool, true, false, List, [], ◌∷◌, ◌++◌, refl, sym, ap, subst, ◌∙◌, append_assoc, arith}
 use Rattle.std.specs.Prelude.{codes, nat_lt, ◌||◌, ◌&&◌, ◌==◌}
+use Rattle.std.specs.Char.{is_ascii_digit}
 use Rattle.std.proofs.lemmas.List.{append-nil}
 use Rattle.scaled_decimal.specs.Limits.{most_places}
 use Rattle.scaled_decimal.specs.PlainTexts.{whole_text}
@@ -92,7 +93,7 @@ scaled_lex a ts s h g =
 -- a text that begins with no number has no point in front
 no_number : (text : List ℕ) → bytes.begins_number text ≡ false → bytes.begins_point text ≡ false
 no_number [] h = refl
-no_number (b ∷ bs) h = ap (λ c. c && (bytes.begins_fraction bs || bytes.begins_point bs)) (neither (bytes.is_digit b) (b == 45) h)
+no_number (b ∷ bs) h = ap (λ c. c && (bytes.begins_fraction bs || bytes.begins_point bs)) (neither (is_ascii_digit b) (b == 45) h)
   where
     neither : (a b : Bool) → (a || b) ≡ false → a ≡ false
     neither true b e = e

@@ -1,14 +1,15 @@
 -- What is read at a place is decided.
 use Rattle.std.proofs.Common.{◌≡◌, ℕ, zero, suc, ◌-◌, ◌≤◌, ◌<◌, ◌⊎◌, inl, inr, Bool, true, false, Option, Some, None, List, [], ◌∷◌, ◌++◌, length, refl, sym, ap, subst, ◌∙◌, arith}
 use Rattle.std.specs.Prelude.{◌==◌, codes}
-use Rattle.std.specs.List.{prefix_len}
+use Rattle.std.specs.List.{prefix_len, take_while}
 use Rattle.std.proofs.lemmas.Bool.{cases_Bool, eqb-true, eqb-false}
 use Rattle.std.proofs.lemmas.List.{length-append, length-drop}
 use Rattle.pap_tree.specs.White.{is_white}
 use Rattle.pap_reader.specs.declared.tags.Form.{Form}
 use Rattle.pap_reader.specs.declared.tags.Form.TheVariants as forms
 use Rattle.pap_reader.specs.Tags.{Attribute, Tag, Front, IsAttribute, Ending, start, empty, more, IsTag, closing, NoTag}
-use Rattle.pap_reader.specs.Bytes.{is_ascii_letter, is_first, is_inner, begins_with, leading, after}
+use Rattle.pap_reader.specs.Bytes.{is_first, is_inner, begins_with, drop_while}
+use Rattle.std.specs.Char.{is_ascii_alphabetic}
 use Rattle.pap_reader.specs.Values.{byte_named, Escape, Plain, Quoted, closing_quote, byte, is_quote, IsByte, NoValue}
 use Rattle.pap_reader.specs.Views.{is_code, NoAttribute, NoEnding}
 use Rattle.pap_reader.specs.Skipped.{Past, here, later, IsPassed, white, comment, byte_order_mark, IsAfterMark, IsAfterDeclaration}
@@ -28,7 +29,7 @@ no_cons b x e = absurd cc
 both_ways : (b : Bool) → b ≡ true → b ≡ false → ⊥
 both_ways b e f = absurd cc
 
-after_shorter : (p : ℕ → Bool) (bytes : List ℕ) → length (after p bytes) ≤ length bytes
+after_shorter : (p : ℕ → Bool) (bytes : List ℕ) → length (drop_while p bytes) ≤ length bytes
 after_shorter p bytes = let l = length-drop (prefix_len p bytes) bytes in omega arith
 
 -- ---- marks
@@ -126,10 +127,10 @@ dec_named (Some c) = inl (c, refl)
 dec_escape : (bytes : List ℕ) → ((c : ℕ) × (rest : List ℕ) × Escape bytes c rest) ⊎ ((c : ℕ) (rest : List ℕ) → Escape bytes c rest → ⊥)
 dec_escape bytes = elim (dec_stop bytes 38) [
   | inr n ↦ inr (λ c rest e. let f = found bytes c rest e in n f.inner f.amp)
-  | inl w ↦ elim (dec_named (byte_named (leading is_code w.0))) [
-    | inr n ↦ inr (λ c rest e. let f = found bytes c rest e in n c (ap (λ z. byte_named (leading is_code z)) (tail_of 38 38 w.0 f.inner (sym w.1 ∙ f.amp)) ∙ f.byte))
-    | inl b ↦ elim (dec_stop (after is_code w.0) 59) [
-      | inr n ↦ inr (λ c rest e. let f = found bytes c rest e in n rest (ap (after is_code) (tail_of 38 38 w.0 f.inner (sym w.1 ∙ f.amp)) ∙ f.stop))
+  | inl w ↦ elim (dec_named (byte_named (take_while is_code w.0))) [
+    | inr n ↦ inr (λ c rest e. let f = found bytes c rest e in n c (ap (λ z. byte_named (take_while is_code z)) (tail_of 38 38 w.0 f.inner (sym w.1 ∙ f.amp)) ∙ f.byte))
+    | inl b ↦ elim (dec_stop (drop_while is_code w.0) 59) [
+      | inr n ↦ inr (λ c rest e. let f = found bytes c rest e in n rest (ap (drop_while is_code) (tail_of 38 38 w.0 f.inner (sym w.1 ∙ f.amp)) ∙ f.stop))
       | inl s ↦ inl (b.0, s.0, escaped bytes b.0 s.0 (record { inner = w.0; amp = w.1; byte = b.1; stop = s.1 }))
     ]
   ]
@@ -193,8 +194,8 @@ quoted_shorter (byte {q} {c} {bytes} {next} h k) = let a = byte_shorter q bytes 
 front_shorter : (bytes : List ℕ) (f : Front bytes) → length f.text < length bytes
 front_shorter bytes f =
     let a = after_shorter is_white bytes in
-    let b = after_shorter is_inner (after is_white bytes) in
-    let c = after_shorter is_white (after is_inner (after is_white bytes)) in
+    let b = after_shorter is_inner (drop_while is_white bytes) in
+    let c = after_shorter is_white (drop_while is_inner (drop_while is_white bytes)) in
     let d = ap length f.equals in
     let e = after_shorter is_white f.value in
     let g = ap length f.opened in
@@ -210,13 +211,13 @@ dec_opened (b ∷ x) = elim (cases_Bool (is_quote b)) [
 dec_front : (bytes : List ℕ) → Front bytes ⊎ (Front bytes → ⊥)
 dec_front bytes = elim (cases_Bool (begins_with is_white bytes)) [
   | inr t ↦ inr (λ f. both_ways (begins_with is_white bytes) f.apart t)
-  | inl t ↦ elim (cases_Bool (begins_with is_first (after is_white bytes))) [
-    | inr u ↦ inr (λ f. both_ways (begins_with is_first (after is_white bytes)) f.named u)
-    | inl u ↦ elim (dec_stop (after is_white (after is_inner (after is_white bytes))) 61) [
+  | inl t ↦ elim (cases_Bool (begins_with is_first (drop_while is_white bytes))) [
+    | inr u ↦ inr (λ f. both_ways (begins_with is_first (drop_while is_white bytes)) f.named u)
+    | inl u ↦ elim (dec_stop (drop_while is_white (drop_while is_inner (drop_while is_white bytes))) 61) [
       | inr n ↦ inr (λ f. n f.value f.equals)
-      | inl v ↦ elim (dec_opened (after is_white v.0)) [
+      | inl v ↦ elim (dec_opened (drop_while is_white v.0)) [
         | inl w ↦ inl (record { apart = t; named = u; value = v.0; equals = v.1; quote = w.0; text = w.1; opened = w.2; quotes = w.3 })
-        | inr n ↦ inr (λ f. n f.quote f.text (ap (after is_white) (tail_of 61 61 v.0 f.value (sym v.1 ∙ f.equals)) ∙ f.opened) f.quotes)
+        | inr n ↦ inr (λ f. n f.quote f.text (ap (drop_while is_white) (tail_of 61 61 v.0 f.value (sym v.1 ∙ f.equals)) ∙ f.opened) f.quotes)
       ]
     ]
   ]
@@ -230,8 +231,8 @@ dec_attribute bytes = elim (dec_front bytes) [
   | inr n ↦ inr (λ a rest i. n i.front)
   | inl f ↦ elim (dec_quoted (length f.text) f.quote f.text (omega arith) f.quotes) [
     | inl v ↦
-        let a = an_attribute bytes (leading is_inner (after is_white bytes)) f.text v.0 v.1 f.quote f refl refl refl v.2 (quoted_shorter v.2) in
-        inl (record { name = leading is_inner (after is_white bytes); written = length f.text - length v.1 - 1; value = v.0 }, v.1, a)
+        let a = an_attribute bytes (take_while is_inner (drop_while is_white bytes)) f.text v.0 v.1 f.quote f refl refl refl v.2 (quoted_shorter v.2) in
+        inl (record { name = take_while is_inner (drop_while is_white bytes); written = length f.text - length v.1 - 1; value = v.0 }, v.1, a)
     | inr n ↦ inr (no_attribute bytes f.text f.quote f refl refl n)
   ]
 ]
@@ -253,20 +254,20 @@ ending_after : (bytes next : List ℕ) (a : Attribute) → IsAttribute bytes a n
 ending_after bytes next a i (inl e) = inl (e.0, a ∷ e.1, e.2, more a i e.3)
 ending_after bytes next a i (inr n) = inr (λ f attributes rest k. let o = attributes_next bytes next a f attributes rest i k in n f o.0 rest o.1)
 
-no_close_here : (bytes : List ℕ) (f : Form) (rest : List ℕ) → ((r : List ℕ) → after is_white bytes ≡ 62 ∷ r → ⊥) → ((r : List ℕ) → after is_white bytes ≡ 47 ∷ 62 ∷ r → ⊥) → ClosesAs bytes f rest → ⊥
+no_close_here : (bytes : List ℕ) (f : Form) (rest : List ℕ) → ((r : List ℕ) → drop_while is_white bytes ≡ 62 ∷ r → ⊥) → ((r : List ℕ) → drop_while is_white bytes ≡ 47 ∷ 62 ∷ r → ⊥) → ClosesAs bytes f rest → ⊥
 no_close_here bytes f rest n m (inl e) = n rest e.1
 no_close_here bytes f rest n m (inr e) = m rest e.1
 
-no_ending_here : (bytes : List ℕ) → NoAttribute bytes → ((r : List ℕ) → after is_white bytes ≡ 62 ∷ r → ⊥) → ((r : List ℕ) → after is_white bytes ≡ 47 ∷ 62 ∷ r → ⊥) → NoEnding bytes
+no_ending_here : (bytes : List ℕ) → NoAttribute bytes → ((r : List ℕ) → drop_while is_white bytes ≡ 62 ∷ r → ⊥) → ((r : List ℕ) → drop_while is_white bytes ≡ 47 ∷ 62 ∷ r → ⊥) → NoEnding bytes
 no_ending_here bytes a n m f attributes rest k = elim (unended k) [
   | inl e ↦ no_close_here bytes f rest n m e.1
   | inr g ↦ a g.a g.next g.first
 ]
 
 ending_here : (bytes : List ℕ) → NoAttribute bytes → AnEnding bytes ⊎ NoEnding bytes
-ending_here bytes a = elim (dec_stop (after is_white bytes) 62) [
+ending_here bytes a = elim (dec_stop (drop_while is_white bytes) 62) [
   | inl s ↦ inl (forms.Start, [], s.0, start s.1)
-  | inr n ↦ elim (dec_stop (after is_white bytes) 47) [
+  | inr n ↦ elim (dec_stop (drop_while is_white bytes) 47) [
     | inr m ↦ inr (no_ending_here bytes a n (λ r e. m (62 ∷ r) e))
     | inl s ↦ elim (dec_stop s.0 62) [
       | inl t ↦ inl (forms.Empty, [], t.0, empty (s.1 ∙ ap (λ z. 47 ∷ z) t.1))
@@ -288,31 +289,31 @@ dec_ending (suc n) bytes le = elim (dec_attribute bytes) [
 abbrev pub ATag : List ℕ → Type 0
 ATag bytes = (t : Tag) × (rest : List ℕ) × IsTag bytes t rest
 
-end_only : (bytes inner : List ℕ) (g : Tag) (rest : List ℕ) → bytes ≡ 60 ∷ 47 ∷ inner → IsTag bytes g rest → (begins_with is_ascii_letter inner ≡ true → after is_white (after is_ascii_letter inner) ≡ 62 ∷ rest → ⊥) → ⊥
+end_only : (bytes inner : List ℕ) (g : Tag) (rest : List ℕ) → bytes ≡ 60 ∷ 47 ∷ inner → IsTag bytes g rest → (begins_with is_ascii_alphabetic inner ≡ true → drop_while is_white (drop_while is_ascii_alphabetic inner) ≡ 62 ∷ rest → ⊥) → ⊥
 end_only bytes inner g rest e i h = elim (untagged i) [
   | inl f ↦ slash_no_letter f.inner inner (tail_of 60 60 f.inner (47 ∷ inner) (sym f.is ∙ e)) f.letter
   | inr f ↦
       let s : f.inner ≡ inner = tail_of 47 47 f.inner inner (tail_of 60 60 (47 ∷ f.inner) (47 ∷ inner) (sym f.is ∙ e)) in
-      h (ap (begins_with is_ascii_letter) (sym s) ∙ f.letter) (ap (λ z. after is_white (after is_ascii_letter z)) (sym s) ∙ f.closes)
+      h (ap (begins_with is_ascii_alphabetic) (sym s) ∙ f.letter) (ap (λ z. drop_while is_white (drop_while is_ascii_alphabetic z)) (sym s) ∙ f.closes)
 ]
 
 -- after `</`
 dec_end : (bytes inner : List ℕ) → bytes ≡ 60 ∷ 47 ∷ inner → ATag bytes ⊎ NoTag bytes
-dec_end bytes inner e = elim (cases_Bool (begins_with is_ascii_letter inner)) [
-  | inr t ↦ inr (λ g rest i. end_only bytes inner g rest e i (λ b c. both_ways (begins_with is_ascii_letter inner) b t))
-  | inl t ↦ elim (dec_stop (after is_white (after is_ascii_letter inner)) 62) [
-    | inl s ↦ inl (record { form = forms.End; name = leading is_ascii_letter inner; attributes = [] }, s.0, subst (λ z. IsTag z (end_tag (leading is_ascii_letter inner) []) s.0) (sym e) (closing t s.1))
+dec_end bytes inner e = elim (cases_Bool (begins_with is_ascii_alphabetic inner)) [
+  | inr t ↦ inr (λ g rest i. end_only bytes inner g rest e i (λ b c. both_ways (begins_with is_ascii_alphabetic inner) b t))
+  | inl t ↦ elim (dec_stop (drop_while is_white (drop_while is_ascii_alphabetic inner)) 62) [
+    | inl s ↦ inl (record { form = forms.End; name = take_while is_ascii_alphabetic inner; attributes = [] }, s.0, subst (λ z. IsTag z (end_tag (take_while is_ascii_alphabetic inner) []) s.0) (sym e) (closing t s.1))
     | inr n ↦ inr (λ g rest i. end_only bytes inner g rest e i (λ b c. n rest c))
   ]
 ]
 
 -- after `<`
 dec_start : (bytes inner : List ℕ) → bytes ≡ 60 ∷ inner → ((r : List ℕ) → inner ≡ 47 ∷ r → ⊥) → ATag bytes ⊎ NoTag bytes
-dec_start bytes inner e n = elim (cases_Bool (begins_with is_ascii_letter inner)) [
+dec_start bytes inner e n = elim (cases_Bool (begins_with is_ascii_alphabetic inner)) [
   | inr t ↦ inr (no_letter bytes inner e n t)
-  | inl t ↦ elim (dec_ending (length (after is_ascii_letter inner)) (after is_ascii_letter inner) (omega arith)) [
-    | inl h ↦ inl (a_tag h.0 (leading is_ascii_letter inner) h.1, h.2, an_opening bytes inner (leading is_ascii_letter inner) (after is_ascii_letter inner) h.2 h.0 h.1 e t refl refl h.3)
-    | inr m ↦ inr (no_opening bytes inner (after is_ascii_letter inner) e n refl m)
+  | inl t ↦ elim (dec_ending (length (drop_while is_ascii_alphabetic inner)) (drop_while is_ascii_alphabetic inner) (omega arith)) [
+    | inl h ↦ inl (a_tag h.0 (take_while is_ascii_alphabetic inner) h.1, h.2, an_opening bytes inner (take_while is_ascii_alphabetic inner) (drop_while is_ascii_alphabetic inner) h.2 h.0 h.1 e t refl refl h.3)
+    | inr m ↦ inr (no_opening bytes inner (drop_while is_ascii_alphabetic inner) e n refl m)
   ]
 ]
 
@@ -327,8 +328,8 @@ dec_tag bytes = elim (dec_stop bytes 60) [
 
 pub tag_shorter : (bytes : List ℕ) (t : Tag) (rest : List ℕ) → IsTag bytes t rest → length rest < length bytes
 tag_shorter bytes t rest i = elim (untagged i) [
-  | inl f ↦ let a = ap length f.is in let b = after_shorter is_ascii_letter f.inner in let c = ending_shorter f.ending in omega arith
-  | inr f ↦ let a = ap length f.is in let b = after_shorter is_ascii_letter f.inner in let d = after_shorter is_white (after is_ascii_letter f.inner) in let c = ap length f.closes in omega arith
+  | inl f ↦ let a = ap length f.is in let b = after_shorter is_ascii_alphabetic f.inner in let c = ending_shorter f.ending in omega arith
+  | inr f ↦ let a = ap length f.is in let b = after_shorter is_ascii_alphabetic f.inner in let d = after_shorter is_white (drop_while is_ascii_alphabetic f.inner) in let c = ap length f.closes in omega arith
 ]
 
 -- ---- what may stand before the tokens

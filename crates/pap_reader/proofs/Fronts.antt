@@ -1,13 +1,13 @@
 -- A shape is entered exactly where it makes a front with the shapes before it.
 use Rattle.std.proofs.Common.{◌≡◌, ◌+◌, ◌≤◌, Bool, true, false, ◌&&◌, ◌||◌, inl, inr, Option, Some, None, List, [], ◌∷◌, ◌++◌, refl, sym, ap, subst, ◌∙◌, append_assoc, arith}
-use Rattle.std.specs.Prelude.{if◌then◌else◌}
+use Rattle.std.specs.Prelude.{if◌then◌else◌, option_and_then}
 use Rattle.std.specs.List.{list_any}
 use Rattle.std.proofs.lemmas.Bool.{and_parts, and_from, cases_Bool}
 use Rattle.std.proofs.lemmas.List.{append-nil}
 use Rattle.pap_reader.specs.declared.element.Element.{Element}
 use Rattle.pap_reader.specs.Table.{all_stand, is_complete}
 use Rattle.pap_reader.specs.Structure.{Shape, none, count, opens_internals, IsDocument, BeginsDocument}
-use Rattle.pap_reader.specs.NestingDecisions.{Open, enter, enters, and_then, is_second, step, steps, start, is_ended}
+use Rattle.pap_reader.specs.NestingDecisions.{Open, enter, enters, is_second, step, steps, start, is_ended}
 use Rattle.pap_reader.proofs.Structures.{Spelled, whole, enter_spelled}
 use Rattle.pap_reader.proofs.Completion.{count-append, Reached, document_read}
 
@@ -20,7 +20,7 @@ no_some a e = absurd cc
 -- ---- all of the shapes
 
 through : (o : Option (List Open)) (a b : List Shape) (r : List Open) → ((x : List Open) → enters x a ≡ Some r → enters x (a ++ b) ≡ enters r b)
-    → and_then o (λ x. enters x a) ≡ Some r → and_then o (λ x. enters x (a ++ b)) ≡ enters r b
+    → option_and_then (λ x. enters x a) o ≡ Some r → option_and_then (λ x. enters x (a ++ b)) o ≡ enters r b
 through None a b r h e = absurd (no_some r e)
 through (Some x) a b r h e = h x e
 
@@ -29,7 +29,7 @@ enters_then [] b os r e = ap (λ x. enters x b) (is_some os r e)
 enters_then (s ∷ a) b os r e = through (enter os s) a b r (λ x. enters_then a b x r) e
 
 through_front : (o : Option (List Open)) (a b : List Shape) (r : List Open) → ((x : List Open) → enters x (a ++ b) ≡ Some r → (q : List Open) × (enters x a ≡ Some q))
-    → and_then o (λ x. enters x (a ++ b)) ≡ Some r → (q : List Open) × (and_then o (λ x. enters x a) ≡ Some q)
+    → option_and_then (λ x. enters x (a ++ b)) o ≡ Some r → (q : List Open) × (option_and_then (λ x. enters x a) o ≡ Some q)
 through_front None a b r h e = absurd (no_some r e)
 through_front (Some x) a b r h e = h x e
 
@@ -38,9 +38,9 @@ enters_front [] b os r e = (os, refl)
 enters_front (s ∷ a) b os r e = through_front (enter os s) a b r (λ x. enters_front a b x r) e
 
 pub enters_one : (os r : List Open) (s : Shape) → enter os s ≡ Some r → enters os (s ∷ []) ≡ Some r
-enters_one os r s e = ap (λ o. and_then o (λ x. Some x)) e
+enters_one os r s e = ap (λ o. option_and_then (λ x. Some x) o) e
 
-one_enters : (o : Option (List Open)) (r : List Open) → and_then o (λ x. Some x) ≡ Some r → o ≡ Some r
+one_enters : (o : Option (List Open)) (r : List Open) → option_and_then (λ x. Some x) o ≡ Some r → o ≡ Some r
 one_enters None r e = e
 one_enters (Some x) r e = e
 
@@ -109,7 +109,7 @@ step_refused before os s h e (m, d) =
 -- ---- all of a tag's shapes
 
 through_reached : (o : Option (List Open)) (ss before : List Shape) (s : Shape) (os' : List Open) → ((x : List Open) → o ≡ Some x → steps (before ++ (s ∷ [])) x ss ≡ Some os' → Reached ((before ++ (s ∷ [])) ++ ss) os')
-    → and_then o (λ x. steps (before ++ (s ∷ [])) x ss) ≡ Some os' → Reached ((before ++ (s ∷ [])) ++ ss) os'
+    → option_and_then (λ x. steps (before ++ (s ∷ [])) x ss) o ≡ Some os' → Reached ((before ++ (s ∷ [])) ++ ss) os'
 through_reached None ss before s os' h e = absurd (no_some os' e)
 through_reached (Some x) ss before s os' h e = h x refl e
 
@@ -121,7 +121,7 @@ steps_reached (s ∷ ss) before os os' h e =
 
 through_refused : (o : Option (List Open)) (ss before : List Shape) (s : Shape) → (o ≡ None → BeginsDocument (before ++ (s ∷ [])) → ⊥)
     → ((x : List Open) → o ≡ Some x → steps (before ++ (s ∷ [])) x ss ≡ None → BeginsDocument ((before ++ (s ∷ [])) ++ ss) → ⊥)
-    → and_then o (λ x. steps (before ++ (s ∷ [])) x ss) ≡ None → BeginsDocument ((before ++ (s ∷ [])) ++ ss) → ⊥
+    → option_and_then (λ x. steps (before ++ (s ∷ [])) x ss) o ≡ None → BeginsDocument ((before ++ (s ∷ [])) ++ ss) → ⊥
 through_refused None ss before s n h e f = n refl (front_front (before ++ (s ∷ [])) ss f)
 through_refused (Some x) ss before s n h e f = h x refl e f
 

@@ -7,7 +7,8 @@ use Rattle.pap_reader.specs.declared.tags.Form.{Form}
 use Rattle.pap_reader.specs.declared.tags.Form.TheVariants as forms
 use Rattle.pap_reader.specs.Tags.{Attribute, Front, IsAttribute, Ending, start, empty, more}
 use Rattle.pap_reader.specs.Values.{byte_named, Escape, Plain, Quoted, closing_quote, byte, is_quote, IsByte, NoByte}
-use Rattle.pap_reader.specs.Bytes.{is_first, is_inner, begins_with, leading, after}
+use Rattle.pap_reader.specs.Bytes.{is_first, is_inner, begins_with, drop_while}
+use Rattle.std.specs.List.{take_while}
 use Rattle.pap_reader.specs.Views.{is_code, FoundEscape, NoFoundEscape, Closing}
 use Rattle.pap_reader.proofs.Escapes.{found, escaped}
 
@@ -37,7 +38,7 @@ byte_one q bytes c d n m (inr p) (inr r) =
     let f = found bytes c n p in
     let g = found bytes d m r in
     let w : f.inner ≡ g.inner = tail_of 38 38 f.inner g.inner (sym f.amp ∙ g.amp) in
-    (some_of c d (sym f.byte ∙ ap (λ x. byte_named (leading is_code x)) w ∙ g.byte), tail_of 59 59 n m (sym f.stop ∙ ap (after is_code) w ∙ g.stop))
+    (some_of c d (sym f.byte ∙ ap (λ x. byte_named (take_while is_code x)) w ∙ g.byte), tail_of 59 59 n m (sym f.stop ∙ ap (drop_while is_code) w ∙ g.stop))
 
 eq_self : (b c : ℕ) → b ≡ c → (b == c) ≡ true
 eq_self b c e = eq-eqb b c e
@@ -124,26 +125,26 @@ or_escape q bytes tail (Some r) e h = inr (escaped bytes r.0 r.1.now h)
 
 -- the pieces of a front, as they are read
 pub record Pieces (bytes named rest value text : List ℕ) (q : ℕ) : Type 0 where
-  pub named_is : named ≡ after is_white bytes
-  pub rest_is : rest ≡ after is_white (after is_inner named)
+  pub named_is : named ≡ drop_while is_white bytes
+  pub rest_is : rest ≡ drop_while is_white (drop_while is_inner named)
   pub equals : rest ≡ 61 ∷ value
-  pub opened : after is_white value ≡ q ∷ text
+  pub opened : drop_while is_white value ≡ q ∷ text
 
-value_is : (bytes named rest value : List ℕ) (f : Front bytes) → named ≡ after is_white bytes → rest ≡ after is_white (after is_inner named) → rest ≡ 61 ∷ value → f.value ≡ value
-value_is bytes named rest value f i j k = tail_of 61 61 f.value value (sym f.equals ∙ sym (j ∙ ap (λ x. after is_white (after is_inner x)) i) ∙ k)
+value_is : (bytes named rest value : List ℕ) (f : Front bytes) → named ≡ drop_while is_white bytes → rest ≡ drop_while is_white (drop_while is_inner named) → rest ≡ 61 ∷ value → f.value ≡ value
+value_is bytes named rest value f i j k = tail_of 61 61 f.value value (sym f.equals ∙ sym (j ∙ ap (λ x. drop_while is_white (drop_while is_inner x)) i) ∙ k)
 
-pub no_front : (bytes named rest value last : List ℕ) → named ≡ after is_white bytes → rest ≡ after is_white (after is_inner named) → rest ≡ 61 ∷ value → last ≡ after is_white value
+pub no_front : (bytes named rest value last : List ℕ) → named ≡ drop_while is_white bytes → rest ≡ drop_while is_white (drop_while is_inner named) → rest ≡ 61 ∷ value → last ≡ drop_while is_white value
     → ((q : ℕ) (text : List ℕ) → last ≡ q ∷ text → is_quote q ≡ true → ⊥) → Front bytes → ⊥
 no_front bytes named rest value last i j k l h f =
-    h f.quote f.text (l ∙ ap (after is_white) (sym (value_is bytes named rest value f i j k)) ∙ f.opened) f.quotes
+    h f.quote f.text (l ∙ ap (drop_while is_white) (sym (value_is bytes named rest value f i j k)) ∙ f.opened) f.quotes
 
-abbrev pub a_front : (bytes named rest value last text : List ℕ) (q : ℕ) → begins_with is_white bytes ≡ true → begins_with is_first named ≡ true → named ≡ after is_white bytes → rest ≡ after is_white (after is_inner named) → rest ≡ 61 ∷ value → last ≡ after is_white value
+abbrev pub a_front : (bytes named rest value last text : List ℕ) (q : ℕ) → begins_with is_white bytes ≡ true → begins_with is_first named ≡ true → named ≡ drop_while is_white bytes → rest ≡ drop_while is_white (drop_while is_inner named) → rest ≡ 61 ∷ value → last ≡ drop_while is_white value
     → last ≡ q ∷ text → is_quote q ≡ true → Front bytes
 a_front bytes named rest value last text q a b i j k l m n = record {
   apart = a;
   named = sym (ap (begins_with is_first) i) ∙ b;
   value = value;
-  equals = sym (j ∙ ap (λ x. after is_white (after is_inner x)) i) ∙ k;
+  equals = sym (j ∙ ap (λ x. drop_while is_white (drop_while is_inner x)) i) ∙ k;
   quote = q;
   text = text;
   opened = sym l ∙ m;
@@ -153,13 +154,13 @@ a_front bytes named rest value last text q a b i j k l m n = record {
 pub same_front : (bytes : List ℕ) (f g : Front bytes) → (f.quote ≡ g.quote) × (f.text ≡ g.text)
 same_front bytes f g =
     let v : f.value ≡ g.value = tail_of 61 61 f.value g.value (sym f.equals ∙ g.equals) in
-    let o = sym f.opened ∙ ap (after is_white) v ∙ g.opened in
+    let o = sym f.opened ∙ ap (drop_while is_white) v ∙ g.opened in
     (head_of f.quote g.quote f.text g.text o, tail_of f.quote g.quote f.text g.text o)
 
 shorter_value : {q : ℕ} {bytes value rest : List ℕ} → Quoted q bytes value rest → 1 + length rest ≤ length bytes → (length bytes - length rest - 1) + 1 + length rest ≡ length bytes
 shorter_value h le = omega arith
 
-pub an_attribute : (bytes name text value rest : List ℕ) (q : ℕ) (f : Front bytes) → name ≡ leading is_inner (after is_white bytes) → q ≡ f.quote → text ≡ f.text → Quoted q text value rest → length rest < length text
+pub an_attribute : (bytes name text value rest : List ℕ) (q : ℕ) (f : Front bytes) → name ≡ take_while is_inner (drop_while is_white bytes) → q ≡ f.quote → text ≡ f.text → Quoted q text value rest → length rest < length text
     → IsAttribute bytes (record { name = name; written = length text - length rest - 1; value = value }) rest
 an_attribute bytes name text value rest q f i j k h lt = record {
   front = f;
@@ -192,7 +193,7 @@ pub record FirstAttribute (bytes : List ℕ) (f : Form) (attributes : List Attri
 
 -- how it closes: as a start tag, or as an empty one
 abbrev pub ClosesAs : List ℕ → Form → List ℕ → Type 0
-ClosesAs bytes f rest = ((f ≡ forms.Start) × (after is_white bytes ≡ 62 ∷ rest)) ⊎ ((f ≡ forms.Empty) × (after is_white bytes ≡ 47 ∷ 62 ∷ rest))
+ClosesAs bytes f rest = ((f ≡ forms.Start) × (drop_while is_white bytes ≡ 62 ∷ rest)) ⊎ ((f ≡ forms.Empty) × (drop_while is_white bytes ≡ 47 ∷ 62 ∷ rest))
 
 pub unended : {bytes rest : List ℕ} {f : Form} {attributes : List Attribute} → Ending bytes f attributes rest → ((attributes ≡ []) × ClosesAs bytes f rest) ⊎ FirstAttribute bytes f attributes rest
 unended (start e) = inl (refl, inl (refl, e))
@@ -200,8 +201,8 @@ unended (empty e) = inl (refl, inr (refl, e))
 unended (more {next} {attributes} a h k) = inr (record { a = a; next = next; left = attributes; is = refl; first = h; others = k })
 
 pub attribute_no_close : (bytes : List ℕ) (a : Attribute) (next : List ℕ) (f : Form) (rest : List ℕ) → IsAttribute bytes a next → ClosesAs bytes f rest → ⊥
-attribute_no_close bytes a next f rest h (inl e) = both_ways (begins_with is_first (after is_white bytes)) h.front.named (ap (begins_with is_first) e.1)
-attribute_no_close bytes a next f rest h (inr e) = both_ways (begins_with is_first (after is_white bytes)) h.front.named (ap (begins_with is_first) e.1)
+attribute_no_close bytes a next f rest h (inl e) = both_ways (begins_with is_first (drop_while is_white bytes)) h.front.named (ap (begins_with is_first) e.1)
+attribute_no_close bytes a next f rest h (inr e) = both_ways (begins_with is_first (drop_while is_white bytes)) h.front.named (ap (begins_with is_first) e.1)
 
 no_slash : (x y : List ℕ) → 62 ∷ x ≡ 47 ∷ y → ⊥
 no_slash x y e = absurd cc

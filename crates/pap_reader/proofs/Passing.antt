@@ -5,7 +5,9 @@ use Rattle.pap_tree.specs.White.{is_white}
 use Rattle.pap_reader.specs.declared.tags.Form.{Form}
 use Rattle.pap_reader.specs.declared.tags.Form.TheVariants as forms
 use Rattle.pap_reader.specs.Tags.{Attribute, Tag, Ending, IsTag, opening, closing}
-use Rattle.pap_reader.specs.Bytes.{is_ascii_letter, begins_with, leading, after}
+use Rattle.pap_reader.specs.Bytes.{begins_with, drop_while}
+use Rattle.std.specs.Char.{is_ascii_alphabetic}
+use Rattle.std.specs.List.{take_while}
 use Rattle.pap_reader.specs.Skipped.{Past, here, later, IsPassed, white, comment}
 use Rattle.pap_reader.proofs.Lexing.{same_ending}
 
@@ -98,13 +100,13 @@ a_tag f n attributes = record { form = f; name = n; attributes = attributes }
 abbrev pub end_tag : List ℕ → List Attribute → Tag
 end_tag n attributes = record { form = forms.End; name = n; attributes = attributes }
 
-pub a_closing : (bytes name left rest : List ℕ) (attributes : List Attribute) → begins_with is_ascii_letter bytes ≡ true → name ≡ leading is_ascii_letter bytes → attributes ≡ [] → left ≡ after is_white (after is_ascii_letter bytes) → left ≡ 62 ∷ rest
+pub a_closing : (bytes name left rest : List ℕ) (attributes : List Attribute) → begins_with is_ascii_alphabetic bytes ≡ true → name ≡ take_while is_ascii_alphabetic bytes → attributes ≡ [] → left ≡ drop_while is_white (drop_while is_ascii_alphabetic bytes) → left ≡ 62 ∷ rest
     → IsTag (60 ∷ 47 ∷ bytes) (record { form = forms.End; name = name; attributes = attributes }) rest
 a_closing bytes name left rest attributes b e f g h =
-    let t : end_tag (leading is_ascii_letter bytes) [] ≡ end_tag name attributes = λ i. record { form = forms.End; name = sym e i; attributes = sym f i } in
+    let t : end_tag (take_while is_ascii_alphabetic bytes) [] ≡ end_tag name attributes = λ i. record { form = forms.End; name = sym e i; attributes = sym f i } in
     subst (λ z. IsTag (60 ∷ 47 ∷ bytes) z rest) t (closing b (sym g ∙ h))
 
-pub an_opening : (bytes inner name left rest : List ℕ) (f : Form) (attributes : List Attribute) → bytes ≡ 60 ∷ inner → begins_with is_ascii_letter inner ≡ true → name ≡ leading is_ascii_letter inner → left ≡ after is_ascii_letter inner → Ending left f attributes rest → IsTag bytes (a_tag f name attributes) rest
+pub an_opening : (bytes inner name left rest : List ℕ) (f : Form) (attributes : List Attribute) → bytes ≡ 60 ∷ inner → begins_with is_ascii_alphabetic inner ≡ true → name ≡ take_while is_ascii_alphabetic inner → left ≡ drop_while is_ascii_alphabetic inner → Ending left f attributes rest → IsTag bytes (a_tag f name attributes) rest
 an_opening bytes inner name left rest f attributes e b i j h =
     subst (λ z. IsTag z (a_tag f name attributes) rest) (sym e)
     (subst (λ z. IsTag (60 ∷ inner) (a_tag f z attributes) rest) (sym i) (opening b (subst (λ z. Ending z f attributes rest) j h)))
@@ -113,35 +115,35 @@ an_opening bytes inner name left rest f attributes e b i j h =
 pub record OpeningFirst (bytes : List ℕ) (t : Tag) (rest : List ℕ) : Type 0 where
   pub inner : List ℕ
   pub is : bytes ≡ 60 ∷ inner
-  pub letter : begins_with is_ascii_letter inner ≡ true
-  pub ending : Ending (after is_ascii_letter inner) t.form t.attributes rest
-  pub name : t.name ≡ leading is_ascii_letter inner
+  pub letter : begins_with is_ascii_alphabetic inner ≡ true
+  pub ending : Ending (drop_while is_ascii_alphabetic inner) t.form t.attributes rest
+  pub name : t.name ≡ take_while is_ascii_alphabetic inner
 
 pub record ClosingFirst (bytes : List ℕ) (t : Tag) (rest : List ℕ) : Type 0 where
   pub inner : List ℕ
   pub is : bytes ≡ 60 ∷ 47 ∷ inner
-  pub letter : begins_with is_ascii_letter inner ≡ true
-  pub closes : after is_white (after is_ascii_letter inner) ≡ 62 ∷ rest
-  pub tag : t ≡ end_tag (leading is_ascii_letter inner) []
+  pub letter : begins_with is_ascii_alphabetic inner ≡ true
+  pub closes : drop_while is_white (drop_while is_ascii_alphabetic inner) ≡ 62 ∷ rest
+  pub tag : t ≡ end_tag (take_while is_ascii_alphabetic inner) []
 
 pub untagged : {bytes rest : List ℕ} {t : Tag} → IsTag bytes t rest → OpeningFirst bytes t rest ⊎ ClosingFirst bytes t rest
 untagged (opening {bytes} b h) = inl (record { inner = bytes; is = refl; letter = b; ending = h; name = refl })
 untagged (closing {bytes} b h) = inr (record { inner = bytes; is = refl; letter = b; closes = h; tag = refl })
 
-pub slash_no_letter : (inner more : List ℕ) → inner ≡ 47 ∷ more → begins_with is_ascii_letter inner ≡ true → ⊥
-slash_no_letter inner more e h = both_ways (begins_with is_ascii_letter inner) h (ap (begins_with is_ascii_letter) e)
+pub slash_no_letter : (inner more : List ℕ) → inner ≡ 47 ∷ more → begins_with is_ascii_alphabetic inner ≡ true → ⊥
+slash_no_letter inner more e h = both_ways (begins_with is_ascii_alphabetic inner) h (ap (begins_with is_ascii_alphabetic) e)
 
-pub no_opening : (bytes inner left : List ℕ) → bytes ≡ 60 ∷ inner → ((r : List ℕ) → inner ≡ 47 ∷ r → ⊥) → left ≡ after is_ascii_letter inner → ((f : Form) (attributes : List Attribute) (rest : List ℕ) → Ending left f attributes rest → ⊥) → (t : Tag) (rest : List ℕ) → IsTag bytes t rest → ⊥
+pub no_opening : (bytes inner left : List ℕ) → bytes ≡ 60 ∷ inner → ((r : List ℕ) → inner ≡ 47 ∷ r → ⊥) → left ≡ drop_while is_ascii_alphabetic inner → ((f : Form) (attributes : List Attribute) (rest : List ℕ) → Ending left f attributes rest → ⊥) → (t : Tag) (rest : List ℕ) → IsTag bytes t rest → ⊥
 no_opening bytes inner left e n j h t rest k = elim (untagged k) [
   | inl g ↦
       let s : g.inner ≡ inner = tail_of 60 60 g.inner inner (sym g.is ∙ e) in
-      h t.form t.attributes rest (subst (λ z. Ending z t.form t.attributes rest) (ap (after is_ascii_letter) s ∙ sym j) g.ending)
+      h t.form t.attributes rest (subst (λ z. Ending z t.form t.attributes rest) (ap (drop_while is_ascii_alphabetic) s ∙ sym j) g.ending)
   | inr g ↦ n g.inner (tail_of 60 60 inner (47 ∷ g.inner) (sym e ∙ g.is))
 ]
 
-pub no_letter : (bytes inner : List ℕ) → bytes ≡ 60 ∷ inner → ((r : List ℕ) → inner ≡ 47 ∷ r → ⊥) → begins_with is_ascii_letter inner ≡ false → (t : Tag) (rest : List ℕ) → IsTag bytes t rest → ⊥
+pub no_letter : (bytes inner : List ℕ) → bytes ≡ 60 ∷ inner → ((r : List ℕ) → inner ≡ 47 ∷ r → ⊥) → begins_with is_ascii_alphabetic inner ≡ false → (t : Tag) (rest : List ℕ) → IsTag bytes t rest → ⊥
 no_letter bytes inner e n b t rest k = elim (untagged k) [
-  | inl g ↦ both_ways (begins_with is_ascii_letter inner) (ap (begins_with is_ascii_letter) (tail_of 60 60 inner g.inner (sym e ∙ g.is)) ∙ g.letter) b
+  | inl g ↦ both_ways (begins_with is_ascii_alphabetic inner) (ap (begins_with is_ascii_alphabetic) (tail_of 60 60 inner g.inner (sym e ∙ g.is)) ∙ g.letter) b
   | inr g ↦ n g.inner (tail_of 60 60 inner (47 ∷ g.inner) (sym e ∙ g.is))
 ]
 
@@ -154,23 +156,23 @@ same_tag bytes t u x y h k = elim (untagged h) [
   | inl f ↦ elim (untagged k) [
     | inl g ↦
         let i : f.inner ≡ g.inner = tail_of 60 60 f.inner g.inner (sym f.is ∙ g.is) in
-        let s = same_ending f.ending u.form u.attributes y (subst (λ z. Ending (after is_ascii_letter z) u.form u.attributes y) (sym i) g.ending) in
-        record { tag = λ j. record { form = s.form j; name = (f.name ∙ ap (leading is_ascii_letter) i ∙ sym g.name) j; attributes = s.own_is j }; rest = s.rest }
+        let s = same_ending f.ending u.form u.attributes y (subst (λ z. Ending (drop_while is_ascii_alphabetic z) u.form u.attributes y) (sym i) g.ending) in
+        record { tag = λ j. record { form = s.form j; name = (f.name ∙ ap (take_while is_ascii_alphabetic) i ∙ sym g.name) j; attributes = s.own_is j }; rest = s.rest }
     | inr g ↦ absurd (slash_no_letter f.inner g.inner (tail_of 60 60 f.inner (47 ∷ g.inner) (sym f.is ∙ g.is)) f.letter)
   ]
   | inr f ↦ elim (untagged k) [
     | inl g ↦ absurd (slash_no_letter g.inner f.inner (tail_of 60 60 g.inner (47 ∷ f.inner) (sym g.is ∙ f.is)) g.letter)
     | inr g ↦
         let i : f.inner ≡ g.inner = tail_of 47 47 f.inner g.inner (tail_of 60 60 (47 ∷ f.inner) (47 ∷ g.inner) (sym f.is ∙ g.is)) in
-        record { tag = f.tag ∙ ap (λ z. end_tag (leading is_ascii_letter z) []) i ∙ sym g.tag; rest = tail_of 62 62 x y (sym f.closes ∙ ap (λ z. after is_white (after is_ascii_letter z)) i ∙ g.closes) }
+        record { tag = f.tag ∙ ap (λ z. end_tag (take_while is_ascii_alphabetic z) []) i ∙ sym g.tag; rest = tail_of 62 62 x y (sym f.closes ∙ ap (λ z. drop_while is_white (drop_while is_ascii_alphabetic z)) i ∙ g.closes) }
   ]
 ]
 
 angle_no_white : (b : ℕ) (x y : List ℕ) → b ∷ x ≡ 60 ∷ y → is_white b ≡ true → ⊥
 angle_no_white b x y e h = both_ways (is_white b) h (ap is_white (head_of b 60 x y e))
 
-bang_no_letter : (inner more : List ℕ) → inner ≡ 33 ∷ more → begins_with is_ascii_letter inner ≡ true → ⊥
-bang_no_letter inner more e h = both_ways (begins_with is_ascii_letter inner) h (ap (begins_with is_ascii_letter) e)
+bang_no_letter : (inner more : List ℕ) → inner ≡ 33 ∷ more → begins_with is_ascii_alphabetic inner ≡ true → ⊥
+bang_no_letter inner more e h = both_ways (begins_with is_ascii_alphabetic inner) h (ap (begins_with is_ascii_alphabetic) e)
 
 no_slash : (x y : List ℕ) → 60 ∷ 33 ∷ x ≡ 60 ∷ 47 ∷ y → ⊥
 no_slash x y e = absurd cc

@@ -1,13 +1,13 @@
 -- What the stack of open elements has read is a front, and each front is read.
 use Rattle.std.proofs.Common.{◌≡◌, ℕ, true, ◌&&◌, inl, inr, Option, Some, None, List, [], ◌∷◌, ◌++◌, refl, sym, ap, subst, ◌∙◌, append_assoc}
-use Rattle.std.specs.Prelude.{◌==◌, if◌then◌else◌}
+use Rattle.std.specs.Prelude.{◌==◌, if◌then◌else◌, option_and_then}
 use Rattle.std.proofs.lemmas.Bool.{and_parts, and_from, eqb-true, cases_Bool}
 use Rattle.std.proofs.lemmas.List.{append-nil}
 use Rattle.pap_reader.specs.declared.element.Element.{Element}
 use Rattle.pap_reader.specs.declared.element.Element.TheVariants.{Pap, Interface, Variables, Inputs, Outputs, Internals, Constants, Input, Output, Internal, Constant, Methods, Main, Method, Eval, Execute, If, Then, Else}
 use Rattle.pap_reader.specs.Table.{number, same, may_stand, is_complete, all_stand, fits}
 use Rattle.pap_reader.specs.Structure.{Shape, opens, closes, foreign, Nodes, none, node}
-use Rattle.pap_reader.specs.NestingDecisions.{Open, fresh, with_child, is_inside, enter, enters, and_then}
+use Rattle.pap_reader.specs.NestingDecisions.{Open, fresh, with_child, is_inside, enter, enters}
 
 -- ---- two elements with one number are the same
 
@@ -97,13 +97,13 @@ goes (node {inside} {rest = after} {children} {kinds} f i fit r) o os rest e =
     let parts = and_parts (may_stand o.inside o.children f) (all_stand o.inside (o.children ++ (f ∷ [])) kinds) e in
     let fits_parts = and_parts (all_stand (Some f) [] children) (is_complete (Some f) children) fit in
     let first : enters (o ∷ os) (opens f ∷ ((inside ++ (closes f ∷ after)) ++ rest)) ≡ enters (fresh (Some f) ∷ with_child o f ∷ os) ((inside ++ (closes f ∷ after)) ++ rest)
-    = ap (λ b. and_then (if b then Some (fresh (Some f) ∷ with_child o f ∷ os) else None) (λ x. enters x ((inside ++ (closes f ∷ after)) ++ rest))) parts.0 in
+    = ap (λ b. option_and_then (λ x. enters x ((inside ++ (closes f ∷ after)) ++ rest)) (if b then Some (fresh (Some f) ∷ with_child o f ∷ os) else None)) parts.0 in
     let regroup : enters (fresh (Some f) ∷ with_child o f ∷ os) ((inside ++ (closes f ∷ after)) ++ rest) ≡ enters (fresh (Some f) ∷ with_child o f ∷ os) (inside ++ (closes f ∷ (after ++ rest)))
     = ap (λ x. enters (fresh (Some f) ∷ with_child o f ∷ os) x) (append_assoc inside (closes f ∷ after) rest) in
     let second = goes i (fresh (Some f)) (with_child o f ∷ os) (closes f ∷ (after ++ rest)) fits_parts.0 in
     let close_parts = and_from (same f f) (is_complete (Some f) children) (same_refl f) fits_parts.1 in
     let third : enters (with_children (fresh (Some f)) children ∷ with_child o f ∷ os) (closes f ∷ (after ++ rest)) ≡ enters (with_child o f ∷ os) (after ++ rest)
-    = ap (λ b. and_then (if b then Some (with_child o f ∷ os) else None) (λ x. enters x (after ++ rest))) close_parts in
+    = ap (λ b. option_and_then (λ x. enters x (after ++ rest)) (if b then Some (with_child o f ∷ os) else None)) close_parts in
     let fourth = goes r (with_child o f) os rest parts.1 in
     let last : enters (with_children (with_child o f) kinds ∷ os) rest ≡ enters (with_children o (f ∷ kinds) ∷ os) rest
     = ap (λ es. enters (record { inside = o.inside; children = es } ∷ os) rest) (append_assoc o.children (f ∷ []) kinds) in

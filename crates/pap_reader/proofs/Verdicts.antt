@@ -1,6 +1,6 @@
 -- The verdict on a tag, from what the reader's calls say of its marks.
 use Rattle.std.proofs.Common.{◌≡◌, ℕ, Bool, true, false, ◌&&◌, inl, inr, Option, Some, None, Result, Ok, Err, List, [], ◌∷◌, ◌++◌, refl, sym, ap, subst, ◌∙◌, append_assoc, arith}
-use Rattle.std.specs.Prelude.{if◌then◌else◌, nat_lt, MatchResult}
+use Rattle.std.specs.Prelude.{if◌then◌else◌, nat_lt, MatchResult, option_and_then}
 use Rattle.std.specs.List.{list_all}
 use Rattle.std.proofs.lemmas.Bool.{cases_Bool, ltb-true}
 use Rattle.pap_reader.specs.declared.element.Element.{Element}
@@ -13,7 +13,7 @@ use Rattle.pap_reader.specs.declared.reader.Reader.{Reader}
 use Rattle.pap_reader.specs.declared.tags.Form.{Form}
 use Rattle.pap_reader.specs.Table.{is_complete}
 use Rattle.pap_reader.specs.Structure.{Shape, opens, closes, foreign}
-use Rattle.pap_reader.specs.NestingDecisions.{Open, with_child, and_then, is_second, step, steps}
+use Rattle.pap_reader.specs.NestingDecisions.{Open, with_child, is_second, step, steps}
 use Rattle.pap_reader.specs.Tags.{Attribute, Tag}
 use Rattle.pap_reader.specs.Marks.{Mark, begins, ends, alien, element_of, marks_by, marks_of, shape}
 use Rattle.pap_reader.specs.Attributes.{mark_is_right, is_right}
@@ -36,7 +36,7 @@ and-true : (b : Bool) → (b && true) ≡ b
 and-true true = refl
 and-true false = refl
 
-then-some : (o : Option (List Open)) → and_then o (λ x. Some x) ≡ o
+then-some : (o : Option (List Open)) → option_and_then (λ x. Some x) o ≡ o
 then-some None = refl
 then-some (Some x) = refl
 
@@ -44,7 +44,7 @@ then-some (Some x) = refl
 
 on_one : (at : ℕ) (before : List Shape) (os : List Open) (m : Mark) → verdict_on before os at (m ∷ []) ≡ one_verdict at before os (mark_is_right m) (shape m)
 on_one at before os m =
-    ap (λ b. entered at b (first_over (before ++ (shape m ∷ [])) tested) (and_then (step before os (shape m)) (λ x. Some x))) (and-true (mark_is_right m))
+    ap (λ b. entered at b (first_over (before ++ (shape m ∷ [])) tested) (option_and_then (λ x. Some x) (step before os (shape m)))) (and-true (mark_is_right m))
     ∙ ap (entered at (mark_is_right m) (first_over (before ++ (shape m ∷ [])) tested)) (then-some (step before os (shape m)))
 
 ok_one : (at : ℕ) (before : List Shape) (os next : List Open) (r : Bool) (s : Shape) → step before os s ≡ Some next → r ≡ true → IsFew (before ++ (s ∷ [])) tested → one_verdict at before os r s ≡ Ok next
@@ -97,10 +97,10 @@ no_stack : (before : List Shape) (e : Element) (n : List Open) → step before [
 no_stack before e n h = no_some n (sym (none_empty before (opens e)) ∙ h)
 
 pair_none : (before : List Shape) (os : List Open) (e : Element) (o : Option (List Open)) → step before os (opens e) ≡ o → is_complete (Some e) [] ≡ false
-    → and_then o (λ n. and_then (step (before ++ (opens e ∷ [])) n (closes e)) (λ x. Some x)) ≡ None
+    → option_and_then (λ n. option_and_then (λ x. Some x) (step (before ++ (opens e ∷ [])) n (closes e))) o ≡ None
 pair_none before os e None h f = refl
 pair_none before [] e (Some n) h f = absurd (no_stack before e n h)
-pair_none before (o ∷ os) e (Some n) h f = ap (λ z. and_then z (λ x. Some x)) (closing_fresh before o os n e false h f)
+pair_none before (o ∷ os) e (Some n) h f = ap (λ z. option_and_then (λ x. Some x) z) (closing_fresh before o os n e false h f)
 
 pub pair_incomplete : (at : ℕ) (before : List Shape) (os : List Open) (e : Element) (attributes : List Attribute) → is_complete (Some e) [] ≡ false → verdict_on before os at (pair e attributes) ≡ Err (faults.Element at)
 pair_incomplete at before os e attributes f =
@@ -135,11 +135,11 @@ same_refusal at true (Some w) n m g h = h
 same_refusal at false o n m g h = h
 
 pair_refused_at : (at : ℕ) (before : List Shape) (os : List Open) (e : Element) (r : Bool) (over : Option Which) (o : Option (List Open)) (g : ReadFault) → step before os (opens e) ≡ o → is_complete (Some e) [] ≡ true
-    → entered at r over o ≡ Err g → entered at r over (and_then o (λ n. and_then (step (before ++ (opens e ∷ [])) n (closes e)) (λ x. Some x))) ≡ Err g
+    → entered at r over o ≡ Err g → entered at r over (option_and_then (λ n. option_and_then (λ x. Some x) (step (before ++ (opens e ∷ [])) n (closes e))) o) ≡ Err g
 pair_refused_at at before os e r over None g h f k = k
 pair_refused_at at before [] e r over (Some n) g h f k = absurd (no_stack before e n h)
 pair_refused_at at before (o ∷ os) e r over (Some n) g h f k =
-    ap (λ z. entered at r over (and_then z (λ x. Some x))) (closing_fresh before o os n e true h f)
+    ap (λ z. entered at r over (option_and_then (λ x. Some x) z)) (closing_fresh before o os n e true h f)
     ∙ same_refusal at r over n (with_child o e ∷ os) g k
 
 pub pair_refused : (at : ℕ) (before : List Shape) (os : List Open) (e : Element) (attributes : List Attribute) (g : ReadFault) → is_complete (Some e) [] ≡ true
@@ -151,7 +151,7 @@ pair_refused at before os e attributes g f h =
 
 pair_steps : (before : List Shape) (os n m : List Open) (e : Element) → step before os (opens e) ≡ Some n → step (before ++ (opens e ∷ [])) n (closes e) ≡ Some m → steps_pair before os e ≡ Some m
 pair_steps before os n m e h k =
-    ap (λ o. and_then o (λ n. and_then (step (before ++ (opens e ∷ [])) n (closes e)) (λ x. Some x))) h ∙ ap (λ o. and_then o (λ x. Some x)) k
+    ap (λ o. option_and_then (λ n. option_and_then (λ x. Some x) (step (before ++ (opens e ∷ [])) n (closes e))) o) h ∙ ap (λ o. option_and_then (λ x. Some x) o) k
 
 regroup : (x : Reader) (before : List Shape) (e : Element) (os : List Open) (ws : List Work) → Stands x ((before ++ (opens e ∷ [])) ++ (closes e ∷ [])) os ws → Stands x (before ++ (opens e ∷ closes e ∷ [])) os ws
 regroup x before e os ws h = subst (λ ss. Stands x ss os ws) (append_assoc before (opens e ∷ []) (closes e ∷ [])) h
@@ -186,7 +186,7 @@ foreign_none before [] = refl
 foreign_none before (o ∷ os) = refl
 
 pub verdict_foreign : (at : ℕ) (before : List Shape) (os : List Open) → verdict_on before os at (alien ∷ []) ≡ Err (faults.Element at)
-verdict_foreign at before os = ap (λ o. entered at true (first_over (before ++ (foreign ∷ [])) tested) (and_then o (λ x. Some x))) (foreign_none before os)
+verdict_foreign at before os = ap (λ o. entered at true (first_over (before ++ (foreign ∷ [])) tested) (option_and_then (λ x. Some x) o)) (foreign_none before os)
 
 -- a tag of an element, written in one of the forms
 pub takes_form : (at : ℕ) (before : List Shape) (os : List Open) (ws : List Work) (t : Tag) (f : Form) (n : Option Element) (e : Element) (attributes : List Attribute) (x : Reader) (u : Result (Unit {0}) ReadFault)

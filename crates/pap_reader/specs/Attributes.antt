@@ -7,7 +7,6 @@ use Rattle.pap_tree.specs.declared.declaration.Kind.{Kind}
 use Rattle.pap_tree.specs.declared.declaration.Kind.TheVariants as kinds
 use Rattle.pap_reader.specs.declared.element.Element.{Element}
 use Rattle.pap_reader.specs.declared.element.Element.TheVariants.{Input, Output, Internal, Constant, Method, Eval, Execute, If}
-use Rattle.pap_reader.specs.Bytes.{same_text}
 use Rattle.pap_reader.specs.Tags.{Attribute}
 use Rattle.pap_reader.specs.Marks.{Mark, begins, ends, alien}
 
@@ -77,7 +76,7 @@ has_form (a_type ks) v = is_kind ks (kind_of v)
 -- the value of the attribute of that name
 abbrev pub value_of : List ℕ → List Attribute → Option (List ℕ)
 value_of name [] = None
-value_of name (a ∷ attributes) = if same_text a.name name then Some a.value else value_of name attributes
+value_of name (a ∷ attributes) = if bytes_eq a.name name then Some a.value else value_of name attributes
 
 abbrev pub is_met_by : ValueForm → Option (List ℕ) → Bool
 is_met_by form None = false
@@ -90,7 +89,7 @@ is_met attributes n = is_met_by n.form (value_of n.name attributes)
 -- No two of the texts are the same.
 abbrev pub are_different : List (List ℕ) → Bool
 are_different [] = true
-are_different (t ∷ ts) = not (list_any (same_text t) ts) && are_different ts
+are_different (t ∷ ts) = not (list_any (bytes_eq t) ts) && are_different ts
 
 -- No name stands twice.
 abbrev pub are_distinct : List Attribute → Bool

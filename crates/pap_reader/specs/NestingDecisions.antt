@@ -1,5 +1,5 @@
 -- The stack of open elements. It decides which shapes are nested as the table of elements says.
-use Rattle.std.specs.Prelude.{Bool, false, ◌&&◌, Option, Some, None, List, [], ◌∷◌, ◌++◌, if◌then◌else◌}
+use Rattle.std.specs.Prelude.{Bool, false, ◌&&◌, Option, Some, None, option_and_then, List, [], ◌∷◌, ◌++◌, if◌then◌else◌}
 use Rattle.std.specs.List.{list_any}
 use Rattle.pap_reader.specs.declared.element.Element.{Element}
 use Rattle.pap_reader.specs.Table.{same, may_stand, is_complete}
@@ -29,14 +29,10 @@ enter (o ∷ []) (closes e) = None
 enter (o ∷ u ∷ os) (closes e) = if is_inside o.inside e && is_complete o.inside o.children then Some (u ∷ os) else None
 enter (o ∷ os) foreign = None
 
-abbrev pub and_then : {A B : Type 0} → Option A → (A → Option B) → Option B
-and_then None f = None
-and_then (Some x) f = f x
-
 -- the open elements after all of the shapes
 abbrev pub enters : List Open → List Shape → Option (List Open)
 enters os [] = Some os
-enters os (s ∷ ss) = and_then (enter os s) (λ o. enters o ss)
+enters os (s ∷ ss) = option_and_then (λ o. enters o ss) (enter os s)
 
 -- a second INTERNALS
 abbrev pub is_second : List Shape → Shape → Bool
@@ -48,7 +44,7 @@ step before os s = if is_second before s then None else enter os s
 
 abbrev pub steps : List Shape → List Open → List Shape → Option (List Open)
 steps before os [] = Some os
-steps before os (s ∷ ss) = and_then (step before os s) (λ o. steps (before ++ (s ∷ [])) o ss)
+steps before os (s ∷ ss) = option_and_then (λ o. steps (before ++ (s ∷ [])) o ss) (step before os s)
 
 abbrev pub start : List Open
 start = fresh None ∷ []

@@ -6,7 +6,9 @@ use Rattle.pap_reader.specs.declared.tags.Form.{Form}
 use Rattle.pap_reader.specs.declared.tags.Form.TheVariants as forms
 use Rattle.pap_reader.specs.declared.tags.Attribute.{Attribute as WrittenAttribute}
 use Rattle.pap_reader.specs.declared.tags.Tag.{Tag as WrittenTag}
-use Rattle.pap_reader.specs.Bytes.{is_ascii_letter, is_first, is_inner, begins_with, leading, after}
+use Rattle.pap_reader.specs.Bytes.{is_first, is_inner, begins_with, drop_while}
+use Rattle.std.specs.Char.{is_ascii_alphabetic}
+use Rattle.std.specs.List.{take_while}
 use Rattle.pap_reader.specs.Values.{Quoted, is_quote}
 
 -- an attribute: its name, how many bytes stand between its quotes, and the text that they stand for
@@ -24,42 +26,42 @@ pub record Tag : Type 0 where
 -- there is some.
 pub record Front (bytes : List ℕ) : Type 0 where
   pub apart : begins_with is_white bytes ≡ true
-  pub named : begins_with is_first (after is_white bytes) ≡ true
+  pub named : begins_with is_first (drop_while is_white bytes) ≡ true
   pub value : List ℕ
-  pub equals : after is_white (after is_inner (after is_white bytes)) ≡ 61 ∷ value
+  pub equals : drop_while is_white (drop_while is_inner (drop_while is_white bytes)) ≡ 61 ∷ value
   pub quote : ℕ
   pub text : List ℕ
-  pub opened : after is_white value ≡ quote ∷ text
+  pub opened : drop_while is_white value ≡ quote ∷ text
   pub quotes : is_quote quote ≡ true
 
 -- the name, the quote and the text of what stands before an attribute's value
 abbrev pub IsFrontOf : List ℕ → List ℕ → ℕ → List ℕ → Type 0
 IsFrontOf bytes name quote text =
     (f : Front bytes)
-    × (name ≡ leading is_inner (after is_white bytes)) × (quote ≡ f.quote) × (text ≡ f.text)
+    × (name ≡ take_while is_inner (drop_while is_white bytes)) × (quote ≡ f.quote) × (text ≡ f.text)
 
 -- an attribute
 pub record IsAttribute (bytes : List ℕ) (a : Attribute) (rest : List ℕ) : Type 0 where
   pub front : Front bytes
-  pub name : a.name ≡ leading is_inner (after is_white bytes)
+  pub name : a.name ≡ take_while is_inner (drop_while is_white bytes)
   pub quoted : Quoted front.quote front.text a.value rest
   pub written : a.written + 1 + length rest ≡ length front.text
 
 -- what follows the name in a start tag or an empty tag: attributes, and `>` or `/>`
 pub data Ending : List ℕ → Form → List Attribute → List ℕ → Type 0 where
-  start : {bytes rest : List ℕ} → after is_white bytes ≡ 62 ∷ rest → Ending bytes forms.Start [] rest
-  empty : {bytes rest : List ℕ} → after is_white bytes ≡ 47 ∷ 62 ∷ rest → Ending bytes forms.Empty [] rest
+  start : {bytes rest : List ℕ} → drop_while is_white bytes ≡ 62 ∷ rest → Ending bytes forms.Start [] rest
+  empty : {bytes rest : List ℕ} → drop_while is_white bytes ≡ 47 ∷ 62 ∷ rest → Ending bytes forms.Empty [] rest
   more : {bytes next rest : List ℕ} {f : Form} {attributes : List Attribute} (a : Attribute)
       → IsAttribute bytes a next → Ending next f attributes rest → Ending bytes f (a ∷ attributes) rest
 
 -- a tag: `<NAME ..>`, `<NAME ../>` or `</NAME>`, with a name of letters
 pub data IsTag : List ℕ → Tag → List ℕ → Type 0 where
   opening : {bytes rest : List ℕ} {f : Form} {attributes : List Attribute}
-      → begins_with is_ascii_letter bytes ≡ true → Ending (after is_ascii_letter bytes) f attributes rest
-      → IsTag (60 ∷ bytes) (record { form = f; name = leading is_ascii_letter bytes; attributes = attributes }) rest
+      → begins_with is_ascii_alphabetic bytes ≡ true → Ending (drop_while is_ascii_alphabetic bytes) f attributes rest
+      → IsTag (60 ∷ bytes) (record { form = f; name = take_while is_ascii_alphabetic bytes; attributes = attributes }) rest
   closing : {bytes rest : List ℕ}
-      → begins_with is_ascii_letter bytes ≡ true → after is_white (after is_ascii_letter bytes) ≡ 62 ∷ rest
-      → IsTag (60 ∷ 47 ∷ bytes) (record { form = forms.End; name = leading is_ascii_letter bytes; attributes = [] }) rest
+      → begins_with is_ascii_alphabetic bytes ≡ true → drop_while is_white (drop_while is_ascii_alphabetic bytes) ≡ 62 ∷ rest
+      → IsTag (60 ∷ 47 ∷ bytes) (record { form = forms.End; name = take_while is_ascii_alphabetic bytes; attributes = [] }) rest
 
 abbrev pub NoTag : List ℕ → Type 0
 NoTag bytes = (t : Tag) (rest : List ℕ) → IsTag bytes t rest → ⊥

@@ -2,10 +2,11 @@
 -- there, and the bytes that are left.
 use Rattle.std.specs.Prelude.{◌≡◌, ℕ, ◌+◌, ◌-◌, ◌*◌, ◌⊎◌, Bool, false, ◌&&◌, ◌||◌, ◌==◌, nat_le, Option, Some, None, List, [], ◌∷◌, ◌++◌, codes, if◌then◌else◌}
 use Rattle.std.specs.List.{list_all, fold}
-use Rattle.pap_reader.specs.Bytes.{is_digit, same_text}
+use Rattle.std.specs.Char.{is_ascii_digit}
+use Rattle.std.specs.Str.{bytes_eq}
 
 abbrev pub is_hex : ℕ → Bool
-is_hex b = is_digit b || (nat_le 97 b && nat_le b 102) || (nat_le 65 b && nat_le b 70)
+is_hex b = is_ascii_digit b || (nat_le 97 b && nat_le b 102) || (nat_le 65 b && nat_le b 70)
 
 abbrev pub hex_digit : ℕ → ℕ
 hex_digit b = if nat_le 97 b then b - 87 else (if nat_le 65 b then b - 55 else b - 48)
@@ -26,7 +27,7 @@ are_digits p [] = false
 are_digits p (b ∷ bs) = list_all p (b ∷ bs)
 
 abbrev pub by_decimal : List ℕ → Option ℕ
-by_decimal ds = if are_digits is_digit ds then in_range (decimal ds) else None
+by_decimal ds = if are_digits is_ascii_digit ds then in_range (decimal ds) else None
 
 abbrev pub by_hexadecimal : List ℕ → Option ℕ
 by_hexadecimal ds = if are_digits is_hex ds then in_range (hexadecimal ds) else None
@@ -43,11 +44,11 @@ after_hash (b ∷ ds) = if b == 35 then byte_numbered ds else None
 -- the byte that an escape's word stands for
 abbrev pub byte_named : List ℕ → Option ℕ
 byte_named w =
-    if same_text w (codes "lt") then Some 60 else
-    (if same_text w (codes "gt") then Some 62 else
-    (if same_text w (codes "amp") then Some 38 else
-    (if same_text w (codes "quot") then Some 34 else
-    (if same_text w (codes "apos") then Some 39 else after_hash w))))
+    if bytes_eq w (codes "lt") then Some 60 else
+    (if bytes_eq w (codes "gt") then Some 62 else
+    (if bytes_eq w (codes "amp") then Some 38 else
+    (if bytes_eq w (codes "quot") then Some 34 else
+    (if bytes_eq w (codes "apos") then Some 39 else after_hash w))))
 
 -- `&`, a word that stands for the byte c, and `;`
 pub record Escape (bytes : List ℕ) (c : ℕ) (rest : List ℕ) : Type 0 where

@@ -12,7 +12,9 @@ use Rattle.pap_reader.specs.declared.attributes.TagValue.{TagValue}
 use Rattle.pap_reader.specs.declared.attributes.TagValue.TheVariants.{Declared, Text, Named}
 use Rattle.pap_reader.specs.Table.{number, has}
 use Rattle.pap_reader.specs.Structure.{Shape, opens}
-use Rattle.pap_reader.specs.Bytes.{is_ascii_letter, is_digit, leading, after}
+use Rattle.pap_reader.specs.Bytes.{drop_while}
+use Rattle.std.specs.Char.{is_ascii_alphabetic, is_ascii_digit}
+use Rattle.std.specs.List.{take_while}
 use Rattle.pap_reader.specs.Values.{byte_named, is_quote}
 use Rattle.pap_reader.specs.Tags.{Attribute, IsAttribute, Ending}
 use Rattle.pap_reader.specs.Skipped.{IsPassed}
@@ -25,14 +27,14 @@ use Rattle.pap_reader.specs.Limits.{amount, is_counted, deeper}
 
 -- what an escape's word is made of: letters, digits and `#`
 abbrev pub is_code : ℕ → Bool
-is_code b = is_ascii_letter b || is_digit b || b == 35
+is_code b = is_ascii_alphabetic b || is_ascii_digit b || b == 35
 
 -- an escape as it is found: the longest word after `&`
 pub record FoundEscape (bytes : List ℕ) (c : ℕ) (rest : List ℕ) : Type 0 where
   pub inner : List ℕ
   pub amp : bytes ≡ 38 ∷ inner
-  pub byte : byte_named (leading is_code inner) ≡ Some c
-  pub stop : after is_code inner ≡ 59 ∷ rest
+  pub byte : byte_named (take_while is_code inner) ≡ Some c
+  pub stop : drop_while is_code inner ≡ 59 ∷ rest
 
 abbrev pub NoFoundEscape : List ℕ → Type 0
 NoFoundEscape bytes = (c : ℕ) (rest : List ℕ) → FoundEscape bytes c rest → ⊥
@@ -45,7 +47,7 @@ NoAttribute bytes = (a : Attribute) (rest : List ℕ) → IsAttribute bytes a re
 
 -- `>`, or `/>`, after white space
 abbrev pub Closing : List ℕ → List ℕ → Type 0
-Closing bytes rest = (after is_white bytes ≡ 62 ∷ rest) ⊎ (after is_white bytes ≡ 47 ∷ 62 ∷ rest)
+Closing bytes rest = (drop_while is_white bytes ≡ 62 ∷ rest) ⊎ (drop_while is_white bytes ≡ 47 ∷ 62 ∷ rest)
 
 abbrev pub NoClosing : List ℕ → Type 0
 NoClosing bytes = (rest : List ℕ) → Closing bytes rest → ⊥

@@ -1,38 +1,25 @@
 //! Runs of bytes of one kind, and what is left after them.
 
 ghost use Rattle.std.specs.Prelude.{◌≡◌, ℕ, ◌<◌, ◌≤◌, ◌∷◌, ◌++◌, [], List, length, MatchOption, IfSome};
-ghost use Rattle.std.specs.List.{prefix_len};
+ghost use Rattle.std.specs.List.{prefix_len, take_while};
 ghost use Rattle.pap_tree.specs.White.{is_white};
-ghost use Rattle.pap_reader.specs.Bytes.{is_ascii_letter, is_digit, is_first, is_inner, begins_with, leading, after};
+ghost use Rattle.pap_reader.specs.Bytes.{is_first, is_inner, begins_with, drop_while};
+ghost use Rattle.std.specs.Char.{is_ascii_alphabetic, is_ascii_digit};
 
 use pap_tree::is_white;
-
-/// Whether the byte is a letter.
-pub(crate) fn is_ascii_letter(b: u8) -> bool
-    ensures { result ≡ is_ascii_letter b }
-{
-    b.is_ascii_uppercase() || b.is_ascii_lowercase()
-}
-
-/// Whether the byte is a digit.
-pub(crate) fn is_digit(b: u8) -> bool
-    ensures { result ≡ is_digit b }
-{
-    b.is_ascii_digit()
-}
 
 /// Whether an attribute's name may begin with the byte.
 fn is_first(b: u8) -> bool
     ensures { result ≡ is_first b }
 {
-    is_ascii_letter(b) || b == b'_'
+    b.is_ascii_alphabetic() || b == b'_'
 }
 
 /// Whether the byte may stand in an attribute's name.
 fn is_inner(b: u8) -> bool
     ensures { result ≡ is_inner b }
 {
-    is_first(b) || is_digit(b) || b == b'-' || b == b'.' || b == b':'
+    is_first(b) || b.is_ascii_digit() || b == b'-' || b == b'.' || b == b':'
 }
 
 /// The first byte and those after it.
@@ -66,10 +53,10 @@ pub(crate) fn begins_with_first(bytes: &[u8]) -> bool
 
 /// Whether a tag's name begins here.
 pub(crate) fn begins_with_letter(bytes: &[u8]) -> bool
-    ensures { result ≡ begins_with is_ascii_letter bytes.now }
+    ensures { result ≡ begins_with is_ascii_alphabetic bytes.now }
 {
     match split(bytes) {
-        Some((first, _)) => is_ascii_letter(first),
+        Some((first, _)) => first.is_ascii_alphabetic(),
         None => false,
     }
 }
@@ -84,10 +71,10 @@ fn white_len(bytes: &[u8]) -> usize
 
 /// How many letters come first.
 fn letters_len(bytes: &[u8]) -> usize
-    ensures count { result ≡ prefix_len is_ascii_letter bytes.now }
+    ensures count { result ≡ prefix_len is_ascii_alphabetic bytes.now }
     ensures within { result ≤ length bytes.now }
 {
-    bytes.iter().take_while(|b| is_ascii_letter(**b)).count()
+    bytes.iter().take_while(|b| b.is_ascii_alphabetic()).count()
 }
 
 /// How many bytes of an attribute's name come first.
@@ -100,7 +87,7 @@ fn name_len(bytes: &[u8]) -> usize
 
 /// What is left after white space.
 pub(crate) fn after_white(bytes: &[u8]) -> &[u8]
-    ensures left { result.now ≡ after is_white bytes.now }
+    ensures left { result.now ≡ drop_while is_white bytes.now }
     ensures shorter { length result.now ≤ length bytes.now }
 {
     bytes.split_at(white_len(bytes)).1
@@ -108,8 +95,8 @@ pub(crate) fn after_white(bytes: &[u8]) -> &[u8]
 
 /// The letters that come first, and what is left.
 pub fn split_letters(bytes: &[u8]) -> (&[u8], &[u8])
-    ensures letters { result.0.now ≡ leading is_ascii_letter bytes.now }
-    ensures left { result.1.now ≡ after is_ascii_letter bytes.now }
+    ensures letters { result.0.now ≡ take_while is_ascii_alphabetic bytes.now }
+    ensures left { result.1.now ≡ drop_while is_ascii_alphabetic bytes.now }
     ensures shorter { length result.1.now ≤ length bytes.now }
 {
     bytes.split_at(letters_len(bytes))
@@ -117,8 +104,8 @@ pub fn split_letters(bytes: &[u8]) -> (&[u8], &[u8])
 
 /// The name of an attribute, and what is left.
 pub(crate) fn split_name(bytes: &[u8]) -> (&[u8], &[u8])
-    ensures name { result.0.now ≡ leading is_inner bytes.now }
-    ensures left { result.1.now ≡ after is_inner bytes.now }
+    ensures name { result.0.now ≡ take_while is_inner bytes.now }
+    ensures left { result.1.now ≡ drop_while is_inner bytes.now }
     ensures shorter { length result.1.now ≤ length bytes.now }
 {
     bytes.split_at(name_len(bytes))

@@ -1,26 +1,27 @@
 //! The values of attributes, and the escapes in them.
 
 ghost use Rattle.std.specs.Prelude.{◌≡◌, ◌-◌, ◌^◌, min, ◌<◌, ◌≤◌, true, length, MatchOption, IfOk, IfSome};
-ghost use Rattle.std.specs.List.{prefix_len, list_all};
-ghost use Rattle.pap_reader.specs.Bytes.{is_digit, leading, after};
+ghost use Rattle.std.specs.List.{prefix_len, list_all, take_while};
+ghost use Rattle.pap_reader.specs.Bytes.{drop_while};
+ghost use Rattle.std.specs.Char.{is_ascii_digit};
 ghost use Rattle.pap_reader.specs.Values.{is_hex, hex_digit, decimal, hexadecimal, in_range, by_decimal, by_hexadecimal, byte_numbered, byte_named, is_quote, Quoted, IsByte, NoByte, NoValue};
 ghost use Rattle.pap_reader.specs.Views.{is_code, FoundEscape, NoFoundEscape};
 
-use crate::bytes::{after_byte, is_ascii_letter, is_digit, split};
+use crate::bytes::{after_byte, split};
 use std::alloc::{AllocError, Global};
 
 /// Whether the byte may stand in an escape's word.
 fn is_code(b: u8) -> bool
     ensures { result ≡ is_code b }
 {
-    is_ascii_letter(b) || is_digit(b) || b == b'#'
+    b.is_ascii_alphabetic() || b.is_ascii_digit() || b == b'#'
 }
 
 /// Whether the byte is a hexadecimal digit, in either case.
 fn is_hex(b: u8) -> bool
     ensures { result ≡ is_hex b }
 {
-    is_digit(b) || (b >= b'a' && b <= b'f') || (b >= b'A' && b <= b'F')
+    b.is_ascii_digit() || (b >= b'a' && b <= b'f') || (b >= b'A' && b <= b'F')
 }
 
 /// The value of a hexadecimal digit.
@@ -65,9 +66,9 @@ fn hexadecimal(digits: &[u8]) -> u32
 }
 
 fn are_decimal(digits: &[u8]) -> bool
-    ensures { result ≡ list_all is_digit digits.now }
+    ensures { result ≡ list_all is_ascii_digit digits.now }
 {
-    digits.iter().all(|b| is_digit(*b))
+    digits.iter().all(|b| b.is_ascii_digit())
 }
 
 fn are_hexadecimal(digits: &[u8]) -> bool
@@ -146,8 +147,8 @@ fn word_len(bytes: &[u8]) -> usize
 
 /// The word of an escape, and what is left.
 fn split_word(bytes: &[u8]) -> (&[u8], &[u8])
-    ensures word { result.0.now ≡ leading is_code bytes.now }
-    ensures left { result.1.now ≡ after is_code bytes.now }
+    ensures word { result.0.now ≡ take_while is_code bytes.now }
+    ensures left { result.1.now ≡ drop_while is_code bytes.now }
     ensures shorter { length result.1.now ≤ length bytes.now }
 {
     bytes.split_at(word_len(bytes))

@@ -6,7 +6,9 @@ use Rattle.std.proofs.lemmas.List.{length-drop}
 use Rattle.std.proofs.lemmas.Bool.{both_ways, cases_Bool, or_cases, eqb-true, eq-eqb, false≢true}
 use Rattle.pap_tree.specs.White.{is_white}
 use Rattle.pap_reader.specs.declared.tags.Form.{Form}
-use Rattle.pap_reader.specs.Bytes.{is_ascii_letter, is_first, begins_with, after, same_text}
+use Rattle.pap_reader.specs.Bytes.{is_first, begins_with, drop_while}
+use Rattle.std.specs.Char.{is_ascii_alphabetic}
+use Rattle.std.specs.Str.{bytes_eq}
 use Rattle.pap_reader.specs.Values.{Quoted, closing_quote, byte, IsByte, NoByte, is_quote}
 use Rattle.pap_reader.specs.Tags.{Attribute, Tag, Front, IsFrontOf, IsAttribute, Ending, IsTag, opening, closing}
 use Rattle.pap_reader.specs.Skipped.{Past, here, NoPast}
@@ -47,19 +49,19 @@ past_other : (q b : ℕ) (bytes next rest : List ℕ) → (b ≡ q → ⊥) → 
 past_other q b bytes next rest ne e p =
     past_later (q ∷ []) bytes next rest b e (λ left f. ne (head_of b q next left (sym e ∙ f))) p
 
-after_code : (b : ℕ) (bs : List ℕ) → is_code b ≡ true → after is_code (b ∷ bs) ≡ after is_code bs
+after_code : (b : ℕ) (bs : List ℕ) → is_code b ≡ true → drop_while is_code (b ∷ bs) ≡ drop_while is_code bs
 after_code b bs e =
     let next : suc (prefix_len is_code bs) ≡ 1 + prefix_len is_code bs = omega arith in
     ap (λ c. drop (cond c (1 + prefix_len is_code bs) 0) (b ∷ bs)) e
     ∙ subst (λ n. drop n (b ∷ bs) ≡ drop (prefix_len is_code bs) bs) next refl
 
-after_other : (b : ℕ) (bs : List ℕ) → is_code b ≡ false → after is_code (b ∷ bs) ≡ b ∷ bs
+after_other : (b : ℕ) (bs : List ℕ) → is_code b ≡ false → drop_while is_code (b ∷ bs) ≡ b ∷ bs
 after_other b bs e = ap (λ c. drop (cond c (1 + prefix_len is_code bs) 0) (b ∷ bs)) e
 
 no_cons : (b : ℕ) (x : List ℕ) → [] ≡ b ∷ x → ⊥
 no_cons b x e = absurd cc
 
-past_word : (q : ℕ) (inner tail rest : List ℕ) → is_quote q ≡ true → after is_code inner ≡ 59 ∷ tail
+past_word : (q : ℕ) (inner tail rest : List ℕ) → is_quote q ≡ true → drop_while is_code inner ≡ 59 ∷ tail
     → Past (q ∷ []) tail rest → Past (q ∷ []) inner rest
 past_word q [] tail rest h e p = absurd (no_cons 59 tail e)
 past_word q (b ∷ inner) tail rest h e p = elim (cases_Bool (is_code b)) [
@@ -100,7 +102,7 @@ slash_no_front : (bytes : List ℕ) → Front (47 ∷ bytes) → ⊥
 slash_no_front bytes f = false≢true f.apart
 
 pub going_start : {text rest : List ℕ} {t : Tag} (name : List ℕ) → IsTag text t rest
-    → Going name (after is_ascii_letter (drop 1 text)) t.attributes (after is_ascii_letter (drop 1 text))
+    → Going name (drop_while is_ascii_alphabetic (drop 1 text)) t.attributes (drop_while is_ascii_alphabetic (drop 1 text))
 going_start name (opening {bytes} {rest} {f} {attributes} b e) = record {
   attributes = attributes;
   same = refl;
@@ -116,9 +118,9 @@ going_start name (closing {bytes} b e) = record {
 
 no_close : (left : List ℕ) (f : Form) (rest : List ℕ) → Front left → ClosesAs left f rest → ⊥
 no_close left f rest front (inl e) =
-    both_ways (begins_with is_first (after is_white left)) (ap (begins_with is_first) e.1) front.named
+    both_ways (begins_with is_first (drop_while is_white left)) (ap (begins_with is_first) e.1) front.named
 no_close left f rest front (inr e) =
-    both_ways (begins_with is_first (after is_white left)) (ap (begins_with is_first) e.1) front.named
+    both_ways (begins_with is_first (drop_while is_white left)) (ap (begins_with is_first) e.1) front.named
 
 -- the first attribute, where what is left begins as one
 first_of_rest : (left : List ℕ) (attributes : List Attribute) → IsRest left attributes → Front left
@@ -139,19 +141,19 @@ first_past left name text quote f attributes rest k front =
     (subst (λ z. Past (k.first.front.quote ∷ []) z k.next) (s.1 ∙ sym front.3)
     (quoted_past k.first.front.quotes k.first.quoted))
 
-other_value : (name : List ℕ) (a : Attribute) (others : List Attribute) → same_text a.name name ≡ false
+other_value : (name : List ℕ) (a : Attribute) (others : List Attribute) → bytes_eq a.name name ≡ false
     → value_of name (a ∷ others) ≡ value_of name others
 other_value name a others e = ap (λ b. cond b (Some a.value) (value_of name others)) e
 
 pub going_more : (name first : List ℕ) (all : List Attribute) (left other text next : List ℕ) (quote : ℕ)
     → Going name first all left
-    → IsFrontOf left other quote text → same_text other name ≡ false → Past (quote ∷ []) text next
+    → IsFrontOf left other quote text → bytes_eq other name ≡ false → Past (quote ∷ []) text next
     → Going name first all next
 going_more name first all left other text next quote g front differs past =
     let k = first_of_rest left g.attributes g.rest front.0 in
     let a = k.2 in
     let same : a.next ≡ next = same_past (first_past left other text quote k.0 g.attributes k.1 a front) next past in
-    let named : same_text a.a.name name ≡ false = ap (λ n. same_text n name) (a.first.name ∙ sym front.1) ∙ differs in
+    let named : bytes_eq a.a.name name ≡ false = ap (λ n. bytes_eq n name) (a.first.name ∙ sym front.1) ∙ differs in
     record {
       attributes = a.left;
       same = sym (other_value name a.a a.left named) ∙ sym (ap (value_of name) a.is) ∙ g.same;
@@ -161,7 +163,7 @@ going_more name first all left other text next quote g front differs past =
 
 pub going_found : (name first : List ℕ) (all : List Attribute) (left other text : List ℕ) (quote : ℕ)
     → Going name first all left
-    → IsFrontOf left other quote text → same_text other name ≡ true → IsValueAt name first quote text
+    → IsFrontOf left other quote text → bytes_eq other name ≡ true → IsValueAt name first quote text
 going_found name first all left other text quote g front same = g.lifts quote text (values.here front same)
 
 none_left : (left : List ℕ) (attributes : List Attribute) → IsRest left attributes → (Front left → ⊥) → attributes

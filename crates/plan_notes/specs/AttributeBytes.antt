@@ -1,15 +1,17 @@
 -- Where the bytes of an attribute's value are written.
 use Rattle.std.specs.Prelude.{◌≡◌, ℕ, zero, suc, ◌+◌, true, false, List, length, drop}
-use Rattle.pap_reader.specs.Bytes.{is_ascii_letter, after, same_text}
+use Rattle.pap_reader.specs.Bytes.{drop_while}
+use Rattle.std.specs.Char.{is_ascii_alphabetic}
+use Rattle.std.specs.Str.{bytes_eq}
 use Rattle.pap_reader.specs.Tags.{Attribute, IsFrontOf, IsAttribute}
 use Rattle.pap_reader.specs.Values.{IsByte, NoByte}
 
 -- Of the attributes from a place on, the first of this name has its value there, behind this quote.
 pub data IsValueAt : List ℕ → List ℕ → ℕ → List ℕ → Type 0 where
   here : {name other bytes text : List ℕ} {quote : ℕ}
-      → IsFrontOf bytes other quote text → same_text other name ≡ true → IsValueAt name bytes quote text
+      → IsFrontOf bytes other quote text → bytes_eq other name ≡ true → IsValueAt name bytes quote text
   later : {name bytes next text : List ℕ} {quote : ℕ} (a : Attribute)
-      → IsAttribute bytes a next → same_text a.name name ≡ false → IsValueAt name next quote text
+      → IsAttribute bytes a next → bytes_eq a.name name ≡ false → IsValueAt name next quote text
       → IsValueAt name bytes quote text
 
 -- what is written behind so many bytes of a value with this quote; behind the last where there are fewer
@@ -23,7 +25,7 @@ pub data IsBehind : ℕ → List ℕ → ℕ → List ℕ → Type 0 where
 pub record IsAttributeByte (file : List ℕ) (tag : ℕ) (name : List ℕ) (number at : ℕ) : Type 0 where
   pub quote : ℕ
   pub text : List ℕ
-  pub value : IsValueAt name (after is_ascii_letter (drop 1 (drop tag file))) quote text
+  pub value : IsValueAt name (drop_while is_ascii_alphabetic (drop 1 (drop tag file))) quote text
   pub left : List ℕ
   pub behind : IsBehind quote text number left
   pub is : at + length left ≡ length file

@@ -1,6 +1,7 @@
 -- The name of the tag with which a text begins.
 use Rattle.std.specs.Prelude.{ℕ, ◌==◌, if◌then◌else◌, List, [], ◌∷◌}
-use Rattle.pap_reader.specs.Bytes.{is_ascii_letter, leading}
+use Rattle.std.specs.Char.{is_ascii_alphabetic}
+use Rattle.std.specs.List.{take_while}
 
 -- what stands behind this byte, if it comes first
 abbrev pub behind_byte : ℕ → List ℕ → List ℕ
@@ -10,4 +11,4 @@ behind_byte b (c ∷ cs) = if c == b then cs else c ∷ cs
 -- the letters behind `<` or `</`; none where no `<` comes first
 abbrev pub name_at : List ℕ → List ℕ
 name_at [] = []
-name_at (c ∷ cs) = if c == 60 then leading is_ascii_letter (behind_byte 47 cs) else []
+name_at (c ∷ cs) = if c == 60 then take_while is_ascii_alphabetic (behind_byte 47 cs) else []

@@ -1,6 +1,7 @@
 //! Where the bytes of an attribute's value are written.
 ghost use Rattle.std.specs.Prelude.{◌≡◌, ◌≤◌, ℕ, List, length, drop, IfSome, MatchOption};
-ghost use Rattle.pap_reader.specs.Bytes.{is_ascii_letter, after};
+ghost use Rattle.pap_reader.specs.Bytes.{drop_while};
+ghost use Rattle.std.specs.Char.{is_ascii_alphabetic};
 ghost use Rattle.pap_reader.specs.Tags.{Tag, IsTag};
 ghost use Rattle.pap_reader.specs.Attributes.{value_of};
 ghost use Rattle.plan_notes.specs.AttributeBytes.{IsValueAt, IsBehind, IsAttributeByte};
@@ -25,7 +26,7 @@ pub fn attribute_byte(file: &[u8], tag: usize, name: &[u8], number: usize) -> Op
 fn front_of<'a>(text: &'a [u8], name: &[u8]) -> Option<ValueFront<'a>>
     ensures value { (t : Tag) (rest : List ℕ) → IsTag text.entry.now t rest
         → MatchOption result (value_of name.now t.attributes ≡ None)
-        (λ front. IsValueAt name.now (after is_ascii_letter (drop 1 text.entry.now))
+        (λ front. IsValueAt name.now (drop_while is_ascii_alphabetic (drop 1 text.entry.now))
         front.quote front.text.now) }
     ensures within { IfSome result (λ front. length front.text.now ≤ length text.entry.now) }
 {

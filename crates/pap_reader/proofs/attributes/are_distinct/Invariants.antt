@@ -3,7 +3,7 @@ use Rattle.std.specs.Ordering.{nat_cmp}
 use Rattle.std.specs.Cmp.Lexicographic.{slice_cmp}
 use Rattle.std.specs.List.{list_any}
 use Rattle.std.specs.BTreeSet.{contains}
-use Rattle.pap_reader.specs.Bytes.{same_text}
+use Rattle.std.specs.Str.{bytes_eq}
 use Rattle.pap_reader.specs.Attributes.{are_different}
 use Rattle.pap_reader.proofs.AttributeNames.{names}
 use Rattle.pap_reader.proofs.attributes.are_distinct.Given as goal
@@ -12,5 +12,5 @@ use Rattle.pap_reader.proofs.attributes.are_distinct.Given as goal
 abbrev pub invariant-loop-attribute : goal.invariant-loop-attribute
 invariant-loop-attribute l = record {
   different : are_different (names (take l.attribute-index l.attributes)) ≡ true;
-  seen : (q : Bor (List ℕ)) → contains (λ x y. slice_cmp nat_cmp x.now y.now) l.seen q ≡ list_any (same_text q.now) (names (take l.attribute-index l.attributes));
+  seen : (q : Bor (List ℕ)) → contains (λ x y. slice_cmp nat_cmp x.now y.now) l.seen q ≡ list_any (bytes_eq q.now) (names (take l.attribute-index l.attributes));
 }
