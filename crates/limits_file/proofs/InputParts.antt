@@ -5,8 +5,7 @@ use Rattle.toml.specs.Data.{Data, Members, get_member}
 use Rattle.scaled_decimal.specs.Decimals.{Decimal}
 use Rattle.limits_file.specs.declared.limits.InputLimit.{InputLimit}
 use Rattle.limits_file.specs.Limits.{HasSoundBounds}
-use Rattle.limits_file.specs.Inputs.{IsBound, IsBoundAt, GivesNoLimit}
-use Rattle.limits_file.specs.InputViews.{HasNoBoundAt, HasPlaces, HasNoPlaces}
+use Rattle.limits_file.specs.Inputs.{IsBound, IsBoundAt, GivesNoLimit, HasNoBoundAt, HasPlaces, HasNoPlaces}
 use Rattle.limits_file.proofs.InputLemmas.{bound_at_once, same_limit, same_places}
 
 pub no_value : (key : List ℕ) (entry : Members) → get_member key entry ≡ None → HasNoBoundAt key entry

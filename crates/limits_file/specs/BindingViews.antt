@@ -10,6 +10,7 @@ use Rattle.limits_file.specs.Bindings.{binding_form, IsCarryOf}
 abbrev pub is_whole : Members → Bool
 is_whole entry = list_all (has_key entry) (binding_form.needed entry)
 
+-- the entry has each key that it needs, and they say this together
 pub record GivesCarry (entry : Members) (carry : Carry) : Type 0 where
   pub carry_of : IsCarryOf entry carry
   pub whole : is_whole entry ≡ true

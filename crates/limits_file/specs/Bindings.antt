@@ -16,6 +16,7 @@ abbrev pub is_count : Members → Bool
 is_count entry =
     option_map_or (λ kind. bytes_eq kind (codes "count")) (text_at (codes "kind") entry) false
 
+-- the words that `kind` may be
 abbrev pub is_kind : List ℕ → Bool
 is_kind text =
     bytes_eq text (codes "sum") || bytes_eq text (codes "last") || bytes_eq text (codes "count")
@@ -27,6 +28,7 @@ suits_binding counts key (string text) =
     || (bytes_eq key (codes "output") && (is_name text && not counts))
 suits_binding counts key value = false
 
+-- an entry of `[bind]`: a `kind`, and an `output` unless it counts runs
 abbrev pub binding_form : Form
 binding_form = record {
   suits = λ entry. suits_binding (is_count entry);

@@ -10,6 +10,7 @@ pub record Form : Type 0 where
   pub suits : Members → List ℕ → Data → Bool
   pub needed : Members → List (List ℕ)
 
+-- the key stands in the entry
 abbrev pub has_key : Members → List ℕ → Bool
 has_key entry key = is_some (get_member key entry)
 

@@ -12,6 +12,7 @@ use Rattle.limits_file.specs.Limits.{HasSoundBounds}
 use Rattle.limits_file.specs.Faults.{Fault, bad_key, bad_bound}
 use Rattle.limits_file.specs.Entries.{Form, entry_of, failing_key}
 
+-- the keys of the two bounds
 abbrev pub is_bound_key : List ℕ → Bool
 is_bound_key key = bytes_eq key (codes "low") || bytes_eq key (codes "high")
 
@@ -21,6 +22,7 @@ suits_input key (integer z) = is_bound_key key || bytes_eq key (codes "places")
 suits_input key (string text) = is_bound_key key
 suits_input key value = false
 
+-- an entry of `[input]`: two bounds and `places`
 abbrev pub input_form : Form
 input_form = record {
   suits = λ entry. suits_input;
@@ -33,19 +35,33 @@ IsBound (integer z) bound = bound ≡ decimal z 0
 IsBound (string text) bound = Spells text bound × IsKept bound
 IsBound value bound = ⊥
 
+-- the key of an entry has a value that is this bound
 pub record IsBoundAt (key : List ℕ) (entry : Members) (bound : Decimal) : Type 0 where
   pub value : Data
   pub stands : get_member key entry ≡ Some value
   pub is : IsBound value bound
+
+-- the key is missing, or its value is no bound
+abbrev pub HasNoBoundAt : List ℕ → Members → Type 0
+HasNoBoundAt key entry = (bound : Decimal) → IsBoundAt key entry bound → ⊥
+
+-- the value of `places` is this whole number
+abbrev pub HasPlaces : Members → ℕ → Type 0
+HasPlaces entry places = get_member (codes "places") entry ≡ Some (integer (pos places))
+
+-- the value of `places` is no whole number from 0 to 255
+abbrev pub HasNoPlaces : Members → Type 0
+HasNoPlaces entry = (places : ℕ) → places ≤ 255 → HasPlaces entry places → ⊥
 
 -- the limit that an entry of this name gives, by the rule for bounds
 pub record IsLimitOf (name : List ℕ) (entry : Members) (limit : InputLimit) : Type 0 where
   pub named : limit.name ≡ name
   pub low : IsBoundAt (codes "low") entry limit.low
   pub high : IsBoundAt (codes "high") entry limit.high
-  pub places : get_member (codes "places") entry ≡ Some (integer (pos limit.places))
+  pub places : HasPlaces entry limit.places
   pub sound : HasSoundBounds limit
 
+-- no limit of this name is given by the entry
 abbrev pub GivesNoLimit : List ℕ → Members → Type 0
 GivesNoLimit name entry = (limit : InputLimit) → IsLimitOf name entry limit → ⊥
 

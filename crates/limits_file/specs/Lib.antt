@@ -7,5 +7,4 @@ pub mod Inputs
 pub mod Bindings
 pub mod RangeFiles
 pub mod AnswerViews
-pub mod InputViews
 pub mod BindingViews

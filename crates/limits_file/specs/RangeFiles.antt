@@ -16,12 +16,14 @@ use Rattle.limits_file.specs.Walks.{TableSays}
 use Rattle.limits_file.specs.Inputs.{InputSays}
 use Rattle.limits_file.specs.Bindings.{BindingSays}
 
+-- limits of inputs and nothing else, and what inputs carry over and nothing else
 abbrev pub with_inputs : List InputLimit → Limits
 with_inputs inputs = record { inputs = inputs; bindings = [] }
 
 abbrev pub with_bindings : List Binding → Limits
 with_bindings bindings = record { inputs = []; bindings = bindings }
 
+-- what several parts give, one part after the other
 abbrev pub joined : List Limits → Limits
 joined parts = record {
   inputs = flat_map (λ part. part.inputs) parts;
@@ -64,6 +66,7 @@ pub record HasOneAnswer (bytes : List ℕ) : Type 0 where
 abbrev pub NamesAscend : List (List ℕ) → Type 0
 NamesAscend = IsStrictlySortedBy (slice_cmp nat_cmp)
 
+-- the limits and the bindings, each by the names of their inputs
 pub record AreInOrder (limits : Limits) : Type 0 where
   pub inputs : NamesAscend (map (λ limit. limit.name) limits.inputs)
   pub bindings : NamesAscend (map (λ binding. binding.input) limits.bindings)
