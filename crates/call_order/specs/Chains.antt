@@ -23,6 +23,7 @@ IsChain g i (j ∷ rest) = Executes g i j × IsChain g j rest
 abbrev pub Reaches : Graph → ℕ → ℕ → Type 0
 Reaches g i j = (between : List ℕ) × IsChain g i (between ++ j ∷ [])
 
+-- a chain leads from the method to itself
 abbrev pub ReachesItself : Graph → ℕ → Type 0
 ReachesItself g i = Reaches g i i
 

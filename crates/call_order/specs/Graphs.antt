@@ -19,6 +19,7 @@ pub record Content : Type 0 where
   pub statements : ℕ
   pub methods : List ℕ
 
+-- what a list of statements comes to in short
 abbrev pub content_of : List Routine → Body → Content
 content_of ms b = record { statements = written b; methods = executed ms b }
 
@@ -30,5 +31,6 @@ Graph = List Content
 abbrev pub graph_within : List Routine → List Routine → Graph
 graph_within all ms = map (λ m. content_of all m.body) ms
 
+-- what each of the methods has, where all of them may be executed
 abbrev pub graph_of : List Routine → Graph
 graph_of ms = graph_within ms ms

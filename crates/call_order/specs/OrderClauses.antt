@@ -7,6 +7,7 @@ use Rattle.call_order.specs.declared.fault.OrderFault.TheVariants.{Cycle, Chain,
 use Rattle.call_order.specs.Orders.{IsOrdered}
 use Rattle.call_order.specs.Faults.{HasOrderFault}
 
+-- an order of the plan's methods, or the reason for which there is none
 abbrev pub OrderAnswer : Flowchart → Result (Vec ℕ Global) OrderFault → Type 0
 OrderAnswer f (Ok order) = IsOrdered f order.items
 OrderAnswer f (Err (Cycle name)) = HasOrderFault f (Cycle name)

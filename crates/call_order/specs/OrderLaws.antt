@@ -8,12 +8,15 @@ use Rattle.call_order.specs.declared.fault.OrderFault.{OrderFault}
 use Rattle.call_order.specs.Orders.{IsOrdered}
 use Rattle.call_order.specs.Faults.{HasOrderFault}
 
+-- some list of numbers is an order of the plan's methods
 abbrev pub HasOrder : Flowchart → Type 0
 HasOrder f = (order : List ℕ) × IsOrdered f order
 
+-- there is a reason for which the plan is refused
 abbrev pub HasFault : Flowchart → Type 0
 HasFault f = (fault : OrderFault) × HasOrderFault f fault
 
+-- each plan has an order or a fault; none has both, and none has two faults
 pub record HaveOneAnswer : Type 0 where
   pub some : (f : Flowchart) → HasOrder f ⊎ HasFault f
   pub never_both : (f : Flowchart) → HasOrder f → HasFault f → ⊥

@@ -10,11 +10,13 @@ use Rattle.expr_tokens.specs.declared.token.Token.{Token}
 use Rattle.expr_tokens.specs.declared.token.Token.TheVariants as tokens
 use Rattle.expr_tokens.specs.declared.token.Placed.{Placed}
 
+-- how a keyword is written
 abbrev pub keyword_text : Keyword → List ℕ
 keyword_text keywords.New = codes "new"
 keyword_text keywords.BigDecimal = codes "BigDecimal"
 keyword_text keywords.RoundingMode = codes "RoundingMode"
 
+-- the sign that one of the program stands for
 abbrev pub sign_of : Sign → pure.Sign
 sign_of signs.Equals = pure.Equals
 sign_of signs.Bang = pure.Bang
@@ -30,6 +32,7 @@ sign_of signs.CloseItem = pure.CloseItem
 sign_of signs.OpenTable = pure.OpenTable
 sign_of signs.CloseTable = pure.CloseTable
 
+-- the token that one of the program stands for
 abbrev pub token_of : Token → pure.Token
 token_of (tokens.Int n) = pure.Literal (pure.int n)
 token_of (tokens.Long n) = pure.Literal (pure.long n)
@@ -42,6 +45,7 @@ token_of (tokens.Operator o) = pure.Operator o
 token_of (tokens.Mark s) = pure.Mark (sign_of s)
 token_of tokens.Alien = pure.Alien
 
+-- such a token with its place
 abbrev pub spot_of : Placed → Spot
 spot_of p = record { token = token_of p.token; at = p.at }
 

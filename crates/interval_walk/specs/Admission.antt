@@ -33,6 +33,7 @@ pub record HasLimit (limits : Limits) (d : Declaration) : Type 0 where
   pub sound : HasSoundBounds limit
   pub suits : SuitsLimit d.kind limit
 
+-- each input of the plan has such a limit
 abbrev pub HaveLimits : Flowchart → Limits → Type 0
 HaveLimits f limits = All (HasLimit limits) f.inputs
 
@@ -43,6 +44,7 @@ pub record FitsAsFactor (limit : InputLimit) (v : Decimal) : Type 0 where
   pub same : value_order equal v ≡ Equal
   pub fits : Fits limit equal
 
+-- a value that a limit admits for an input of a kind
 abbrev pub FitsAs : Kind → InputLimit → Decimal → Type 0
 FitsAs declares.Factor limit v = FitsAsFactor limit v
 FitsAs _ limit v = Fits limit v
@@ -64,5 +66,6 @@ AllAdmitted limits [] [] = ⊤
 AllAdmitted limits (d ∷ ds) (v ∷ vs) = IsAdmittedFor limits d v × AllAdmitted limits ds vs
 AllAdmitted limits _ _ = ⊥
 
+-- the limits admit these values as the plan's inputs
 abbrev pub AreAdmitted : Flowchart → Limits → List Decimal → Type 0
 AreAdmitted f limits inputs = AllAdmitted limits f.inputs inputs

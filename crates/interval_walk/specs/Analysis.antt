@@ -39,12 +39,14 @@ input_range limits d = record {
 abbrev pub first_range : Declaration → NamedRange
 first_range d = record { name = d.name; range = single (first_value d) }
 
+-- the ranges of the variables before the first statement
 abbrev pub start_ranges : Flowchart → Limits → Ranges
 start_ranges f limits =
     map (input_range limits) f.inputs ++ map first_range (f.outputs ++ f.internals)
 
 -- ---- the end
 
+-- the numerator of an output at the most places is within its limit
 abbrev pub is_small : ℤ → Bool
 is_small n = nat_le (unsigned_abs n) output_limit
 

@@ -26,6 +26,7 @@ pub record Sides : Type 0 where
   pub left_range : Interval
   pub right_range : Interval
 
+-- the sides of a comparison, from its operands and their ranges
 abbrev pub sides : Term → Term → Interval → Interval → Sides
 sides a b x y = record { left = a; right = b; left_range = x; right_range = y }
 
@@ -39,6 +40,7 @@ signs_where op k = record {
   plus = holds_of op (int_cmp (pos 1) k);
 }
 
+-- the signs that aren't of the set
 abbrev pub others : SignSet → SignSet
 others s = record { minus = not s.minus; zero = not s.zero; plus = not s.plus }
 
@@ -76,6 +78,7 @@ branch_of whole allowed s env =
     (narrowed whole allowed s.left s.right_range env)
     else None
 
+-- the branch of the allowed signs, and that of the others
 abbrev pub branches_of : Bool → SignSet → Sides → Ranges → Branches
 branches_of whole allowed s env = record {
   holds = branch_of whole allowed s env;
@@ -100,9 +103,11 @@ sides_of a b (Err e) r = None
 
 -- ---- connectives
 
+-- the branches of a test's opposite
 abbrev pub opposite : Branches → Branches
 opposite br = record { holds = br.fails; fails = br.holds }
 
+-- no value leads to either
 abbrev pub no_branch : Branches
 no_branch = record { holds = None; fails = None }
 

@@ -17,6 +17,7 @@ pub data WalkFault : Type 0 where
   -- an output may be beyond its bound
   output_fails : List ℕ → WalkFault
 
+-- what comes after an answer; after a refusal, that refusal
 abbrev pub and_then : {A B E : Type 0} → Result A E → (A → Result B E) → Result B E
 and_then (Ok a) go = go a
 and_then (Err e) go = Err e

@@ -39,6 +39,7 @@ read_range _ a = unless (nat_lt most_places a.s_hi) Scale (Ok a)
 abbrev pub name_range : Scope → List ℕ → Ranges → Option Interval
 name_range scope x env = option_or (range_named env x) (option_map single (constant_in scope x))
 
+-- the range of a literal or a name
 abbrev pub leaf_interval : Scope → Leaf → Ranges → Option Interval
 leaf_interval scope (whole i) env = Some (single (whole_decimal i))
 leaf_interval scope (long i) env = Some (single (whole_decimal i))
@@ -52,6 +53,7 @@ abbrev pub read_leaf : NodeKind → Option Interval → Answer
 read_leaf k (Some a) = read_range k a
 read_leaf k None = Err Wide
 
+-- the same, where it is a range of its kind
 abbrev pub leaf_range : Scope → Leaf → Ranges → Answer
 leaf_range scope l env = read_leaf (leaf_kind scope l) (leaf_interval scope l env)
 
@@ -60,6 +62,7 @@ abbrev pub read_item : Answer → Answer
 read_item (Ok a) = read_range Big a
 read_item (Err cause) = Err cause
 
+-- the range of an item that an index may choose
 abbrev pub item_range : List Decimal → Interval → Answer
 item_range items index = read_item (item_row items index)
 
@@ -93,6 +96,7 @@ abbrev pub shown_range : Option Decimal → Interval → Answer
 shown_range (Some d) a = exact_quotient_row (numerator_of d) a
 shown_range None a = Err Divisor
 
+-- a method of one argument
 abbrev pub method_range : Call → Option Decimal → Interval → Interval → Answer
 method_range calls.Add shown a b = sum_row a b
 method_range calls.Subtract shown a b = difference_row a b

@@ -9,9 +9,11 @@ pub record NamedRange : Type 0 where
   pub name : List ℕ
   pub range : Interval
 
+-- what each variable's range is
 abbrev pub Ranges : Type 0
 Ranges = List NamedRange
 
+-- the names of the variables, in their order
 abbrev pub names_in : Ranges → List (List ℕ)
 names_in rs = map (λ v. v.name) rs
 
@@ -19,6 +21,7 @@ names_in rs = map (λ v. v.name) rs
 abbrev pub single : Decimal → Interval
 single d = interval (numerator_of d) (numerator_of d) (scale_of d) (scale_of d)
 
+-- the range of the first variable of a name
 abbrev pub range_named : Ranges → List ℕ → Option Interval
 range_named [] x = None
 range_named (v ∷ vs) x = if bytes_eq v.name x then Some v.range else range_named vs x

@@ -26,6 +26,7 @@ use Rattle.interval_walk.specs.Shapes.{HasShape}
 
 -- ---- the numbers of a plan
 
+-- at most 30 places
 abbrev pub HasFewPlaces : Decimal → Type 0
 HasFewPlaces d = scale_of d ≤ most_places
 
@@ -37,6 +38,7 @@ HoldsLeaf (point d) = HasFewPlaces d
 HoldsLeaf (text d) = HasFewPlaces d
 HoldsLeaf _ = ⊤
 
+-- the same of a declared literal
 abbrev pub HoldsLiteral : DeclaredLiteral → Type 0
 HoldsLiteral (number l) = HoldsLeaf l
 HoldsLiteral (big d) = HasFewPlaces d
@@ -53,9 +55,11 @@ pub record AreShaped (scope : Scope) (rs : Ranges) : Type 0 where
   pub names : names_in rs ≡ names_of scope.variables
   pub shapes : All (λ v. HasShape (name_kind scope v.name) v.range) rs
 
+-- such ranges, where there are some
 abbrev pub IsShapedIf : Scope → Option Ranges → Type 0
 IsShapedIf scope o = IfSome o (AreShaped scope)
 
+-- such ranges in each branch that can be reached
 pub record AreBranchesShaped (scope : Scope) (br : Branches) : Type 0 where
   pub holds : IsShapedIf scope br.holds
   pub fails : IsShapedIf scope br.fails
@@ -68,6 +72,7 @@ pub record IsReadWhole (scope : Scope) (l : Leaf) (rs : Ranges) : Type 0 where
 
 -- ---- the law
 
+-- What is read in the walk of this plan is never refused.
 pub record ReadingRefusesNothing (f : Flowchart) : Type 0 where
   -- the walk begins with such ranges
   pub start : (limits : Limits) → HaveLimits f limits
@@ -87,6 +92,7 @@ pub record ReadingRefusesNothing (f : Flowchart) : Type 0 where
   pub item : (x : List ℕ) (index r : Interval) → item_row (table_in (scope_of f) x) index ≡ Ok r
       → item_range (table_in (scope_of f) x) index ≡ Ok r
 
+-- This holds of each well-typed plan within its limits whose numbers are those of their types.
 abbrev pub NothingIsRefusedAtReading : Type 0
 NothingIsRefusedAtReading =
     (f : Flowchart) → IsWellTyped f → IsWithinCounts f → HoldsNumbers f → ReadingRefusesNothing f

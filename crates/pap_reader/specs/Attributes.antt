@@ -22,6 +22,7 @@ pub record Need : Type 0 where
   pub name : List ℕ
   pub form : ValueForm
 
+-- the need of a name and a form
 abbrev pub need : List ℕ → ValueForm → Need
 need name form = record { name = name; form = form }
 
@@ -50,6 +51,7 @@ type_word kinds.Big = codes "BigDecimal"
 type_word kinds.Factor = codes "double"
 type_word kinds.Table = codes "BigDecimal[]"
 
+-- each type once
 abbrev pub all_types : List Kind
 all_types = kinds.Int ∷ kinds.Long ∷ kinds.Big ∷ kinds.Factor ∷ kinds.Table ∷ []
 
@@ -57,6 +59,7 @@ all_types = kinds.Int ∷ kinds.Long ∷ kinds.Big ∷ kinds.Factor ∷ kinds.Ta
 abbrev pub kind_of : List ℕ → Option Kind
 kind_of w = find (λ k. bytes_eq (type_word k) w) all_types
 
+-- the place of a type in that list
 abbrev pub kind_number : Kind → ℕ
 kind_number kinds.Int = 0
 kind_number kinds.Long = 1
@@ -64,10 +67,12 @@ kind_number kinds.Big = 2
 kind_number kinds.Factor = 3
 kind_number kinds.Table = 4
 
+-- the type is known, and one of these
 abbrev pub is_kind : List Kind → Option Kind → Bool
 is_kind ks None = false
 is_kind ks (Some k) = list_any (λ l. kind_number k == kind_number l) ks
 
+-- the value has the form
 abbrev pub has_form : ValueForm → List ℕ → Bool
 has_form any_text v = true
 has_form a_name v = is_name v
@@ -78,6 +83,7 @@ abbrev pub value_of : List ℕ → List Attribute → Option (List ℕ)
 value_of name [] = None
 value_of name (a ∷ attributes) = if bytes_eq a.name name then Some a.value else value_of name attributes
 
+-- the value is there, in this form
 abbrev pub is_met_by : ValueForm → Option (List ℕ) → Bool
 is_met_by form None = false
 is_met_by form (Some v) = has_form form v
@@ -99,6 +105,7 @@ are_distinct attributes = are_different (map (λ a. a.name) attributes)
 abbrev pub longest_value : ℕ
 longest_value = 8192
 
+-- No value is longer.
 abbrev pub are_short : List Attribute → Bool
 are_short attributes = list_all (λ a. nat_le a.written longest_value) attributes
 
@@ -107,6 +114,7 @@ abbrev pub is_right : Element → List Attribute → Bool
 is_right e attributes =
     are_distinct attributes && are_short attributes && list_all (is_met attributes) (needs e)
 
+-- The tag that begins an element has to have this; one that ends it has nothing.
 abbrev pub mark_is_right : Mark → Bool
 mark_is_right (begins e attributes) = is_right e attributes
 mark_is_right (ends e) = true

@@ -11,6 +11,7 @@ is_first b = is_ascii_alphabetic b || b == 95
 abbrev pub is_inner : ℕ → Bool
 is_inner b = is_first b || is_ascii_digit b || b == 45 || b == 46 || b == 58
 
+-- the first byte is of the kind
 abbrev pub begins_with : (ℕ → Bool) → List ℕ → Bool
 begins_with p [] = false
 begins_with p (b ∷ bs) = p b

@@ -32,6 +32,7 @@ is_counted which.Statements Execute = true
 is_counted which.Statements If = true
 is_counted _ _ = false
 
+-- whether the shape begins an element that counts
 abbrev pub counts : Which → Shape → Bool
 counts w (opens e) = is_counted w e
 counts w _ = false

@@ -32,6 +32,7 @@ tag_name elements.If = codes "IF"
 tag_name elements.Then = codes "THEN"
 tag_name elements.Else = codes "ELSE"
 
+-- each element once
 abbrev pub all_elements : List Element
 all_elements =
     elements.Pap ∷ elements.Interface ∷ elements.Variables ∷ elements.Inputs ∷ elements.Outputs ∷ elements.Internals
@@ -57,9 +58,11 @@ marks_by forms.Start (Some e) attributes = begins e attributes ∷ []
 marks_by forms.Empty (Some e) attributes = begins e attributes ∷ ends e ∷ []
 marks_by forms.End (Some e) attributes = ends e ∷ []
 
+-- what a tag begins and ends
 abbrev pub marks_of : Tag → List Mark
 marks_of t = marks_by t.form (element_of t.name) t.attributes
 
+-- what tags begin and end, in their order
 abbrev pub marks : List PlacedTag → List Mark
 marks [] = []
 marks (t ∷ ts) = marks_of t.tag ++ marks ts
@@ -70,5 +73,6 @@ shape (begins e attributes) = opens e
 shape (ends e) = closes e
 shape alien = foreign
 
+-- the same, attributes aside
 abbrev pub shapes : List PlacedTag → List Shape
 shapes ts = map shape (marks ts)

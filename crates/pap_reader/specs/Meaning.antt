@@ -29,6 +29,7 @@ pub record Piece : Type 0 where
   pub yes : Option RawBody
   pub no : Option RawBody
 
+-- what no elements say
 abbrev pub nothing : Piece
 nothing = record {
   inputs = [];
@@ -42,10 +43,12 @@ nothing = record {
   no = None;
 }
 
+-- the second, where there is one
 abbrev pub later : Option RawBody → Option RawBody → Option RawBody
 later a None = a
 later a (Some b) = Some b
 
+-- what the elements of the one say, and those of the other after them
 abbrev pub both : Piece → Piece → Piece
 both p q = record {
   inputs = p.inputs ++ q.inputs;
@@ -59,6 +62,7 @@ both p q = record {
   no = later p.no q.no;
 }
 
+-- what stands where there is none: an empty text, no statements, the type `int`
 abbrev pub or_empty : Option (List ℕ) → List ℕ
 or_empty None = []
 or_empty (Some v) = v
@@ -83,6 +87,7 @@ declared value attributes = record {
   value = value_of value attributes;
 }
 
+-- a method, named by its attribute
 abbrev pub routine : List Attribute → RawBody → RawRoutine
 routine attributes body = record { name = text_of (codes "name") attributes; body = body }
 

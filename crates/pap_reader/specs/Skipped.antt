@@ -8,6 +8,7 @@ pub data Past : List ℕ → List ℕ → List ℕ → Type 0 where
   later : {mark bytes rest : List ℕ} {b : ℕ}
       → ((left : List ℕ) → b ∷ bytes ≡ mark ++ left → ⊥) → Past mark bytes rest → Past mark (b ∷ bytes) rest
 
+-- The mark stands nowhere in the bytes.
 abbrev pub NoPast : List ℕ → List ℕ → Type 0
 NoPast mark bytes = (rest : List ℕ) → Past mark bytes rest → ⊥
 
@@ -16,11 +17,13 @@ pub data IsPassed : List ℕ → List ℕ → Type 0 where
   white : {b : ℕ} {rest : List ℕ} → is_white b ≡ true → IsPassed (b ∷ rest) rest
   comment : {bytes rest : List ℕ} → Past (codes "-->") bytes rest → IsPassed (codes "<!--" ++ bytes) rest
 
+-- There is neither white space nor a whole comment here.
 abbrev pub NotPassed : List ℕ → Type 0
 NotPassed bytes = (rest : List ℕ) → IsPassed bytes rest → ⊥
 
 -- ---- before the tokens
 
+-- the byte order mark of UTF-8
 abbrev pub byte_order_mark : List ℕ
 byte_order_mark = 239 ∷ 187 ∷ 191 ∷ []
 

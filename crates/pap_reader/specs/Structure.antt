@@ -18,6 +18,7 @@ pub data Nodes : List Shape → List Element → Type 0 where
       → Nodes inside children → fits (Some e) children ≡ true → Nodes rest kinds
       → Nodes (opens e ∷ (inside ++ (closes e ∷ rest))) (e ∷ kinds)
 
+-- the shape begins an INTERNALS
 abbrev pub opens_internals : Shape → Bool
 opens_internals (opens e) = same Internals e
 opens_internals _ = false

@@ -21,12 +21,14 @@ pub record Part : Type 0 where
 abbrev pub part : List Element → Times → Part
 part elements times = record { elements = elements; times = times; after = [] }
 
+-- the content of INTERFACE, and of VARIABLES
 abbrev pub group : List Part
 group =
     part (Inputs ∷ []) at_most_once
     ∷ part (Outputs ∷ []) once_or_more
     ∷ part (Internals ∷ []) at_most_once ∷ []
 
+-- the content of what holds statements
 abbrev pub statements : List Part
 statements = part (Eval ∷ Execute ∷ If ∷ []) any_number ∷ []
 
@@ -83,6 +85,7 @@ number If = 16
 number Then = 17
 number Else = 18
 
+-- the two elements are the same
 abbrev pub same : Element → Element → Bool
 same a b = number a == number b
 
@@ -94,12 +97,14 @@ has elements e = list_any (same e) elements
 abbrev pub stands : Part → List Element → Bool
 stands p children = list_any (has children) p.elements
 
+-- whether the part may stand more than once
 abbrev pub may_repeat : Times → Bool
 may_repeat once = false
 may_repeat at_most_once = false
 may_repeat once_or_more = true
 may_repeat any_number = true
 
+-- whether the part has to stand there
 abbrev pub is_needed : Times → Bool
 is_needed once = true
 is_needed at_most_once = false

@@ -17,6 +17,7 @@ pub record Attribute : Type 0 where
   pub written : ℕ
   pub value : List ℕ
 
+-- a tag: whether it begins an element, ends it or is empty, its name, and its attributes in their order
 pub record Tag : Type 0 where
   pub form : Form
   pub name : List ℕ
@@ -63,11 +64,13 @@ pub data IsTag : List ℕ → Tag → List ℕ → Type 0 where
       → begins_with is_ascii_alphabetic bytes ≡ true → drop_while is_white (drop_while is_ascii_alphabetic bytes) ≡ 62 ∷ rest
       → IsTag (60 ∷ 47 ∷ bytes) (record { form = forms.End; name = take_while is_ascii_alphabetic bytes; attributes = [] }) rest
 
+-- No tag begins here.
 abbrev pub NoTag : List ℕ → Type 0
 NoTag bytes = (t : Tag) (rest : List ℕ) → IsTag bytes t rest → ⊥
 
 -- ---- as the code has them
 
+-- the attribute, and the tag, that those of the program stand for
 abbrev pub attribute_of : WrittenAttribute → Attribute
 attribute_of a = record { name = a.name.now; written = a.written; value = a.value.items }
 

@@ -41,9 +41,11 @@ pub record ElementTree : Type 0 where
 
 -- ---- the tree of what was read
 
+-- a text that may be missing
 abbrev pub items_of : Option (Vec ℕ Global) → Option (List ℕ)
 items_of v = option_map (λ t. t.items) v
 
+-- what a declaration of the program stands for
 abbrev pub raw_declaration_of : RawDeclared → RawDeclaration
 raw_declaration_of d = record { name = d.name; kind = d.kind; value = items_of d.value }
 
@@ -58,13 +60,16 @@ abbrev mutual
   raw_body_of_row end_of-RawStmt = done
   raw_body_of_row (more_of-RawStmt s rest) = raw_stmt_then s (raw_body_of_row rest)
 
+-- what a list of statements of the program stands for
 abbrev pub raw_body_of : List RawStmt → RawBody
 raw_body_of [] = done
 raw_body_of (s ∷ ss) = raw_stmt_then s (raw_body_of ss)
 
+-- what a method of the program stands for
 abbrev pub raw_routine_of : RawMethod → RawRoutine
 raw_routine_of m = record { name = m.name; body = raw_body_of m.body.items }
 
+-- what the elements of the program stand for
 abbrev pub tree_of : Elements → ElementTree
 tree_of x = record {
   inputs = map raw_declaration_of x.inputs.items;

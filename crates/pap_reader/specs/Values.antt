@@ -67,6 +67,7 @@ pub record Plain (q : ℕ) (bytes : List ℕ) (c : ℕ) (rest : List ℕ) : Type
 abbrev pub IsByte : ℕ → List ℕ → ℕ → List ℕ → Type 0
 IsByte q bytes c rest = Plain q bytes c rest ⊎ Escape bytes c rest
 
+-- No byte of a value can be read here.
 abbrev pub NoByte : ℕ → List ℕ → Type 0
 NoByte q bytes = (c : ℕ) (rest : List ℕ) → IsByte q bytes c rest → ⊥
 
@@ -76,6 +77,7 @@ pub data Quoted : ℕ → List ℕ → List ℕ → List ℕ → Type 0 where
   byte : {q c : ℕ} {bytes next value rest : List ℕ}
       → IsByte q bytes c next → Quoted q next value rest → Quoted q bytes (c ∷ value) rest
 
+-- No value with this quote can be read here.
 abbrev pub NoValue : ℕ → List ℕ → Type 0
 NoValue q bytes = (value rest : List ℕ) → Quoted q bytes value rest → ⊥
 

@@ -30,6 +30,7 @@ pub record Declaration : Type 0 where
   pub kind : Kind
   pub value : Option DeclaredLiteral
 
+-- what a declaration of the program stands for
 abbrev pub declaration_of : Declared → Declaration
 declaration_of d = record {
   name = d.name;

@@ -30,6 +30,7 @@ pub record IsAccepted (l : Line) (bytes : List ℕ) (x : Meaning) : Type 0 where
   pub text : Text l (plain spots) x
   pub read : IsRead l (plain spots)
 
+-- the tokens of the bytes are refused as a text of the line, for this cause and at this byte
 pub record IsWrong (l : Line) (bytes : List ℕ) (c : Cause) (at : ℕ) : Type 0 where
   pub spots : List Spot
   pub tokens : Tokens 0 bytes spots

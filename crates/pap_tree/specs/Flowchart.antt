@@ -38,6 +38,7 @@ pub record Routine : Type 0 where
   pub name : List ℕ
   pub body : Body
 
+-- what a method of the program stands for
 abbrev pub routine_of : Method → Routine
 routine_of m = record { name = m.name; body = body_of m.body.items }
 
@@ -50,6 +51,7 @@ pub record Flowchart : Type 0 where
   pub main : Body
   pub methods : List Routine
 
+-- what a plan of the program stands for
 abbrev pub flowchart_of : PlanText → Flowchart
 flowchart_of p = record {
   inputs = map declaration_of p.inputs.items;

@@ -6,6 +6,7 @@ use Rattle.pap_tree.specs.Grammar.{Item, Is, Opens, Scale, Part, Guard, Line, Me
 use Rattle.pap_tree.specs.Texts.{Text, forbids}
 
 mutual
+  -- The tokens are a front of the line: so many levels are open, and this item comes next, or none is left.
   pub data Front : Line → List Token → ℕ → Option Item → Type 0 where
     by : {l : Line} {ts : List Token} {n : ℕ} {i : Option Item} {x : Meaning} (way : List Item)
         → Way l way x → Fronts 0 way ts n i → Front l ts n i
@@ -25,5 +26,6 @@ mutual
     past : {k : ℕ} {g : Guard} {l : Line} {x : Meaning} {more : List Item} {a ts : List Token} {n : ℕ} {i : Option Item}
         → forbids g a ≡ false → Text l a x → Fronts k more ts n i → Fronts k (Part g l x ∷ more) (a ++ ts) n i
 
+-- The tokens are a front of the line.
 abbrev pub IsFront : Line → List Token → Type 0
 IsFront l ts = (n : ℕ) × (i : Option Item) × Front l ts n i

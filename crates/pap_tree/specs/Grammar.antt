@@ -18,6 +18,7 @@ use Rattle.pap_tree.specs.Words.{level_of_operator, call_word, known_word, mode_
 use Rattle.pap_tree.specs.Tokens as tokens
 use Rattle.pap_tree.specs.Tokens.{Sign, Number, Token, Literal, Quoted, Word, Operator, Mark, Question, Colon, Dot, Comma, Open, Close}
 
+-- the form of a literal: that of an `int`, that of a `long`, or one with a point
 pub data Form : Type 0 where
   an_int : Form
   a_long : Form
@@ -58,6 +59,7 @@ pub data Guard : Type 0 where
   no_number : Guard
   no_point : Guard
 
+-- what stands at a place of a way
 pub data Item : Type 0 where
   -- this token
   Is : Token → Item
@@ -68,6 +70,8 @@ pub data Item : Type 0 where
   -- a text of a line that stands for this
   Part : Guard → Line → Meaning → Item
 
+-- items that ways often have: an expression of a level, a word, a sign, a sign that opens a level, a rounding mode,
+-- a literal of a form, and a decimal
 abbrev pub at : ℕ → Term → Item
 at n x = Part free (Level n) (tree x)
 
@@ -89,6 +93,7 @@ signed f l = Part free (Signed f) (literal l)
 abbrev pub a_big : Decimal → Item
 a_big d = Part free Big (declared (big d))
 
+-- of a literal its form, what it is in an expression, and what it is there with a - before it
 abbrev pub form_of : Number → Form
 form_of (tokens.int n) = an_int
 form_of (tokens.long n) = a_long
@@ -104,6 +109,7 @@ negative_of (tokens.int n) = whole (neg_ℤ (pos n))
 negative_of (tokens.long n) = long (neg_ℤ (pos n))
 negative_of (tokens.point d) = point (negated d)
 
+-- the value of a constant of `BigDecimal`
 abbrev pub known_value : Known → Decimal
 known_value knowns.Zero = decimal (pos 0) 0
 known_value knowns.One = decimal (pos 1) 0
@@ -114,6 +120,7 @@ pub data Plain : Unary → List ℕ → Type 0 where
   negate : Plain Negate (codes "negate")
   abs : Plain Abs (codes "abs")
 
+-- The ways through each line: the items, one after the other, and what a text of the line by this way stands for.
 pub data Way : Line → List Item → Meaning → Type 0 where
   -- expr, and each line of it is also the next one
   choose : (c a b : Term) → Way (Level 0) (at 1 c ∷ opens Question ∷ at 0 a ∷ sign Colon ∷ at 0 b ∷ []) (tree (choice c a b))

@@ -24,9 +24,11 @@ abbrev pub OpensTooMany : Line → List Token → Token → Type 0
 OpensTooMany l before t =
     (n : ℕ) × (i : Option Item) × Front l (before ++ (t ∷ [])) n i × (most_levels < n)
 
+-- the token is one too many, or opens a level too many, where the line has limits
 abbrev pub IsDeep : Line → List Token → Token → Type 0
 IsDeep l before t = IsTrue (has_limits l) × (IsOneTooMany before ⊎ OpensTooMany l before t)
 
+-- The token stops the reading: it is beyond a limit, or no text of the line begins so.
 abbrev pub Stops : Line → List Token → Token → Type 0
 Stops l before t = IsDeep l before t ⊎ (IsFront l (before ++ (t ∷ [])) → ⊥)
 
@@ -44,6 +46,7 @@ pub data IsGreat : Line → List Token → Token → Type 0 where
   great_scale : {l : Line} {before : List Token} (n : ℕ) (p : Scaling)
       → most_places < n → WantsScale l before p → IsGreat l before (Literal (int n))
 
+-- `new BigDecimal (`
 abbrev pub new_big_decimal : List Token
 new_big_decimal = Word (codes "new") ∷ Word (codes "BigDecimal") ∷ Mark Open ∷ []
 
@@ -76,6 +79,7 @@ pub data Cause : Type 0 where
   number : Cause
   deep : Cause
 
+-- the causes by number: that of the greater number is tried before the others
 abbrev pub rank : Cause → ℕ
 rank syntax = 1
 rank unsupported = 2
@@ -83,6 +87,7 @@ rank binary_fraction = 3
 rank number = 4
 rank deep = 5
 
+-- The cause fits the token; that the text is no text of the line fits each token that stops the reading.
 abbrev pub Earns : Line → List Token → Token → Cause → Type 0
 Earns l before t syntax = ⊤
 Earns l before t unsupported = IsForeign l before t

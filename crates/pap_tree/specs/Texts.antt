@@ -4,6 +4,7 @@ use Rattle.pap_tree.specs.declared.expression.Binary.TheVariants.{Sub}
 use Rattle.pap_tree.specs.Tokens.{Token, Literal, Operator, int, point}
 use Rattle.pap_tree.specs.Grammar.{Item, Is, Opens, Scale, Part, Guard, free, no_number, no_point, Line, Meaning, Way, Scaling}
 
+-- a literal comes first
 abbrev pub begins_number : List Token → Bool
 begins_number (Literal n ∷ ts) = true
 begins_number _ = false
@@ -14,6 +15,7 @@ begins_point (Literal (point d) ∷ ts) = true
 begins_point (Operator Sub ∷ Literal (point d) ∷ ts) = true
 begins_point _ = false
 
+-- whether a part may not begin so
 abbrev pub forbids : Guard → List Token → Bool
 forbids free ts = false
 forbids no_number ts = begins_number ts
@@ -24,6 +26,7 @@ mutual
   pub data Text : Line → List Token → Meaning → Type 0 where
     by : {l : Line} {ts : List Token} {x : Meaning} (way : List Item) → Way l way x → Texts way ts → Text l ts x
 
+  -- The tokens are texts of these items, one after the other.
   pub data Texts : List Item → List Token → Type 0 where
     done : Texts [] []
     is : {t : Token} {more : List Item} {ts : List Token} → Texts more ts → Texts (Is t ∷ more) (t ∷ ts)

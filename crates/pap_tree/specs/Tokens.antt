@@ -26,6 +26,7 @@ pub data Sign : Type 0 where
   OpenTable : Sign
   CloseTable : Sign
 
+-- how a sign is written
 abbrev pub sign_text : Sign → List ℕ
 sign_text Equals = codes "="
 sign_text Bang = codes "!"
@@ -47,6 +48,7 @@ pub data Number : Type 0 where
   long : ℕ → Number
   point : Decimal → Number
 
+-- a token of the text of an expression
 pub data Token : Type 0 where
   Literal : Number → Token
   -- a number in quotation marks
@@ -60,6 +62,7 @@ pub data Token : Type 0 where
   -- a byte at which no token begins
   Alien : Token
 
+-- the greatest `int`, and the greatest `long`
 abbrev pub greatest_int : ℕ
 greatest_int = 2147483647
 
@@ -135,6 +138,7 @@ pub record Spot : Type 0 where
   pub token : Token
   pub at : ℕ
 
+-- the tokens without their places
 abbrev pub plain : List Spot → List Token
 plain ts = map (λ t. t.token) ts
 

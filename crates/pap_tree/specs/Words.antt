@@ -9,6 +9,7 @@ use Rattle.pap_tree.specs.declared.expression.Binary.TheVariants as binaries
 use Rattle.pap_tree.specs.declared.expression.Call.{Call}
 use Rattle.pap_tree.specs.declared.expression.Call.TheVariants as calls
 
+-- how an operator is written
 abbrev pub operator_text : Binary → List ℕ
 operator_text binaries.Mul = codes "*"
 operator_text binaries.Div = codes "/"
@@ -40,6 +41,7 @@ level_of_operator binaries.Mul = 6
 level_of_operator binaries.Div = 6
 level_of_operator binaries.Rem = 6
 
+-- the name of a method of one argument
 abbrev pub call_word : Call → List ℕ
 call_word calls.Add = codes "add"
 call_word calls.Subtract = codes "subtract"
@@ -49,11 +51,13 @@ call_word calls.CompareTo = codes "compareTo"
 call_word calls.Min = codes "min"
 call_word calls.Max = codes "max"
 
+-- the name of a constant of `BigDecimal`
 abbrev pub known_word : Known → List ℕ
 known_word knowns.Zero = codes "ZERO"
 known_word knowns.One = codes "ONE"
 known_word knowns.Ten = codes "TEN"
 
+-- the name of a rounding mode
 abbrev pub mode_word : Mode → List ℕ
 mode_word modes.Down = codes "DOWN"
 mode_word modes.Up = codes "UP"

@@ -6,6 +6,7 @@ use Rattle.pap_tree.specs.Term.{Term, leaf, item, one, two, choice}
 use Rattle.pap_tree.specs.Flowchart.{Body, done, eval, branch, execute, Routine}
 use Rattle.pap_types.specs.Routines.{body_named}
 
+-- that of an expression
 abbrev pub term_bound : Term → ℕ
 term_bound (leaf l) = 1
 term_bound (item x e) = term_bound e + 1

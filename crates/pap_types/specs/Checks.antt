@@ -19,15 +19,18 @@ use Rattle.pap_types.specs.Routines.{body_named}
 use Rattle.pap_tree.specs.Names.{main_name}
 use Rattle.pap_types.specs.Kinds.{leaf_kind, kind_of, is_table, is_int, is_truth, takes_one, takes_two, are_parts, has_few_places, suits}
 
+-- one thing that is tried of a plan, and the fault where it doesn't pass
 pub record Check : Type 0 where
   pub passes : Bool
   pub fault : TypeFault
 
+-- the check of a test and a fault
 abbrev pub check : Bool → TypeFault → Check
 check passes fault = record { passes = passes; fault = fault }
 
 -- ---- declarations: a new name, and a literal of its type
 
+-- the name is among these
 abbrev pub has_name : List (List ℕ) → List ℕ → Bool
 has_name names x = list_any (bytes_eq x) names
 
@@ -52,6 +55,7 @@ declaration_checks before (d ∷ ds) =
 
 -- ---- names of methods, beside that of MAIN
 
+-- the checks of methods that follow names which are taken
 abbrev pub method_checks : List (List ℕ) → List Routine → List Check
 method_checks before [] = []
 method_checks before (m ∷ ms) =
@@ -59,6 +63,7 @@ method_checks before (m ∷ ms) =
 
 -- ---- nodes, in the order of their numbers
 
+-- the place of a node: its method, its statement and its number there
 abbrev pub place : List ℕ → ℕ → ℕ → Place
 place name stmt node = record { method = name; stmt = stmt; node = node }
 
@@ -67,9 +72,11 @@ module _ (scope : Scope) (at_node : ℕ → Place) where
   abbrev pub known_check : List ℕ → ℕ → Check
   known_check x at = check (is_some (declaration_in scope x)) (faults.Unknown x (at_node at))
 
+  -- the operands of the node suit its operation
   abbrev pub kind_check : Bool → ℕ → Check
   kind_check passes at = check passes (faults.Kind (at_node at))
 
+  -- a name is declared; a literal needs no check
   abbrev pub leaf_checks : Leaf → ℕ → List Check
   leaf_checks (named x) at = known_check x at ∷ []
   leaf_checks _ at = []
@@ -116,6 +123,7 @@ module _ (scope : Scope) (methods : List Routine) (name : List ℕ) where
   test_checks stmt t =
       node_checks scope (place name stmt) t 0 ++ (check (is_truth (kind_of scope t)) (faults.Kind (place name stmt (last_node t))) ∷ [])
 
+  -- the checks of statements that are numbered from `at`
   abbrev pub body_checks : ℕ → Body → List Check
   body_checks at done = []
   body_checks at (eval x e rest) = eval_checks at x e ++ body_checks (at + 1) rest
@@ -125,12 +133,14 @@ module _ (scope : Scope) (methods : List Routine) (name : List ℕ) where
   body_checks at (execute m rest) =
       check (is_some (body_named methods m)) (faults.NoMethod (place name at 0)) ∷ body_checks (at + 1) rest
 
+-- the checks of methods, one after the other
 abbrev pub routine_checks : Scope → List Routine → List Routine → List Check
 routine_checks scope all [] = []
 routine_checks scope all (m ∷ ms) = body_checks scope all m.name 0 m.body ++ routine_checks scope all ms
 
 -- ---- the whole: declarations, names of methods, MAIN, the methods
 
+-- the checks of a plan
 abbrev pub checks_of : Flowchart → List Check
 checks_of f =
     declaration_checks [] (f.inputs ++ (f.outputs ++ (f.internals ++ f.constants)))

@@ -41,6 +41,7 @@ methods_nesting (m ∷ ms) = max (nesting m.body) (methods_nesting ms)
 
 -- ---- the plan
 
+-- There is no more of anything in a plan than its limit.
 pub record IsWithinCounts (f : Flowchart) : Type 0 where
   pub inputs : length f.inputs ≤ most_inputs
   pub outputs : length f.outputs ≤ most_outputs

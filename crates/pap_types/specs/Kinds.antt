@@ -17,6 +17,7 @@ use Rattle.pap_types.specs.declared.kinds.NodeKind.{NodeKind}
 use Rattle.pap_types.specs.declared.kinds.NodeKind.TheVariants.{Int, Long, Big, Truth, Fraction, Factor, Table}
 use Rattle.pap_types.specs.Scopes.{Scope, declared_as, declaration_in, factor_places}
 
+-- the kinds of whole numbers, and each other kind by itself
 abbrev pub is_whole : NodeKind → Bool
 is_whole Int = true
 is_whole Long = true
@@ -52,6 +53,7 @@ abbrev pub wider : NodeKind → NodeKind → NodeKind
 wider j Long = Long
 wider j _ = j
 
+-- the kind of a name that is declared with a type
 abbrev pub declared_kind : DeclaredKind → NodeKind
 declared_kind declares.Int = Int
 declared_kind declares.Long = Long
@@ -63,6 +65,7 @@ declared_kind declares.Table = Table
 abbrev pub name_kind : Scope → List ℕ → NodeKind
 name_kind scope x = option_map_or (λ d. declared_kind d.kind) (declaration_in scope x) Int
 
+-- the kind of a literal, or that of a name
 abbrev pub leaf_kind : Scope → Leaf → NodeKind
 leaf_kind scope (whole i) = Int
 leaf_kind scope (long i) = Long
@@ -77,6 +80,7 @@ kind_of_one (unary Minus) k = k
 kind_of_one (unary Not) k = Truth
 kind_of_one _ k = Big
 
+-- arithmetic is of whole numbers, and all else is a truth
 abbrev pub kind_of_operator : Binary → NodeKind → NodeKind → NodeKind
 kind_of_operator binaries.Mul j k = wider j k
 kind_of_operator binaries.Div j k = wider j k
@@ -85,6 +89,7 @@ kind_of_operator binaries.Plus j k = wider j k
 kind_of_operator binaries.Sub j k = wider j k
 kind_of_operator _ j k = Truth
 
+-- compareTo gives an `int`, each other method a decimal
 abbrev pub kind_of_two : Two → NodeKind → NodeKind → NodeKind
 kind_of_two (operator o) j k = kind_of_operator o j k
 kind_of_two (method calls.CompareTo) j k = Int
@@ -113,9 +118,11 @@ abbrev pub is_plain_number : ℤ → Bool
 is_plain_number (pos n) = nat_lt 0 n && ((10 ^ most_places) % n == 0)
 is_plain_number (negsuc n) = false
 
+-- the same of a decimal, which has no places
 abbrev pub is_plain_divisor : Decimal → Bool
 is_plain_divisor d = (scale_of d == 0) && is_plain_number (numerator_of d)
 
+-- the decimal of a declared literal, where it is one
 abbrev pub literal_big : DeclaredLiteral → Option Decimal
 literal_big (declared_big d) = Some d
 literal_big _ = None
@@ -124,6 +131,7 @@ literal_big _ = None
 abbrev pub written_decimal : Declaration → Option Decimal
 written_decimal d = option_and_then literal_big d.value
 
+-- the decimal of an `int` literal
 abbrev pub int_literal : Term → Option Decimal
 int_literal (leaf (whole i)) = Some (decimal i 0)
 int_literal _ = None
@@ -136,6 +144,7 @@ shown_divisor scope (one value_of e) = int_literal e
 shown_divisor scope (one new_big e) = int_literal e
 shown_divisor scope _ = None
 
+-- the text shows a divisor, and it is a plain one
 abbrev pub shows_plain_divisor : Scope → Term → Bool
 shows_plain_divisor scope d = option_map_or is_plain_divisor (shown_divisor scope d) false
 
@@ -159,6 +168,7 @@ abbrev pub are_comparable : Term → NodeKind → Term → NodeKind → Bool
 are_comparable e j f k =
     (is_whole j && is_whole k) || (is_factor j && is_factor_literal f) || (is_factor_literal e && is_factor k)
 
+-- which operands an operator takes: e and f of the kinds j and k
 abbrev pub takes_operator : Binary → Term → NodeKind → Term → NodeKind → Bool
 takes_operator binaries.And e j f k = is_truth j && is_truth k
 takes_operator binaries.Or e j f k = is_truth j && is_truth k
@@ -169,6 +179,7 @@ takes_operator binaries.Plus e j f k = is_whole j && is_whole k
 takes_operator binaries.Sub e j f k = is_whole j && is_whole k
 takes_operator _ e j f k = are_comparable e j f k
 
+-- which operands an operation of two takes; divide(d) takes only a plain divisor that the text shows
 abbrev pub takes_two : Scope → Two → Term → NodeKind → Term → NodeKind → Bool
 takes_two scope (operator o) e j f k = takes_operator o e j f k
 takes_two scope (method calls.DivideExact) e j f k = is_big j && (is_big k && shows_plain_divisor scope f)

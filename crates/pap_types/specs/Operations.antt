@@ -14,6 +14,7 @@ use Rattle.pap_tree.specs.declared.expression.Call.{Call}
 use Rattle.pap_tree.specs.declared.expression.Call.TheVariants as calls
 use Rattle.pap_tree.specs.Term.{point, Term, leaf, One, unary, value_of, value_of_scaled, new_big, set_scale, Two, operator, method, divide}
 
+-- the value is 0, at any scale
 abbrev pub is_zero : Decimal → Bool
 is_zero a = int_eq (numerator_of a) (pos 0)
 
@@ -27,6 +28,7 @@ holds_of binaries.Same o = not (is_lt o || is_gt o)
 holds_of binaries.Differs o = is_lt o || is_gt o
 holds_of _ o = false
 
+-- whether a comparison holds of two decimals, as a truth
 abbrev pub compared : Binary → Decimal → Decimal → Option Decimal
 compared op a b = Some (truth (holds_of op (value_order a b)))
 
@@ -45,6 +47,7 @@ of_operator binaries.And a b = Some b
 of_operator binaries.Or a b = Some b
 of_operator o a b = compared o a b
 
+-- a method of one argument, of the value before the point and that in the brackets
 abbrev pub of_method : Call → Decimal → Decimal → Option Decimal
 of_method calls.Add a b = Some (sum a b)
 of_method calls.Subtract a b = Some (difference a b)
@@ -54,6 +57,7 @@ of_method calls.CompareTo a b = Some (whole_decimal (comparison a b))
 of_method calls.Min a b = Some (lesser a b)
 of_method calls.Max a b = Some (greater a b)
 
+-- an operation on the values of its two operands
 abbrev pub of_two : Two → Decimal → Decimal → Option Decimal
 of_two (operator o) a b = of_operator o a b
 of_two (method m) a b = of_method m a b

@@ -20,6 +20,7 @@ abbrev pub declared_as : List Declaration → List ℕ → Option Declaration
 declared_as [] x = None
 declared_as (d ∷ ds) x = if bytes_eq x d.name then Some d else declared_as ds x
 
+-- the names of declarations, in their order
 abbrev pub names_of : List Declaration → List (List ℕ)
 names_of ds = map (λ d. d.name) ds
 
@@ -35,6 +36,7 @@ declaration_in scope x = option_or (declared_as scope.variables x) (declared_as 
 abbrev pub factor_places : ℕ
 factor_places = 3
 
+-- a decimal with three places, which has no more
 abbrev pub at_factor_scale : Decimal → Decimal
 at_factor_scale d = decimal (numerator_at factor_places d) factor_places
 
@@ -64,11 +66,13 @@ literal_decimal (number l) = leaf_decimal l
 literal_decimal (big d) = d
 literal_decimal (table ds) = zero
 
+-- the items of a declared table; another literal has none
 abbrev pub literal_table : DeclaredLiteral → List Decimal
 literal_table (number l) = []
 literal_table (big d) = []
 literal_table (table ds) = ds
 
+-- the same where a literal is written; where none is, zero and no items
 abbrev pub declared_decimal : Option DeclaredLiteral → Decimal
 declared_decimal None = zero
 declared_decimal (Some l) = literal_decimal l
@@ -90,6 +94,7 @@ abbrev pub items_of : Option Declaration → List Decimal
 items_of None = []
 items_of (Some d) = declared_table d.value
 
+-- the items of the table of a name
 abbrev pub table_in : Scope → List ℕ → List Decimal
 table_in scope x = items_of (declaration_in scope x)
 
@@ -97,5 +102,6 @@ table_in scope x = items_of (declaration_in scope x)
 abbrev pub variables_of : Flowchart → List Declaration
 variables_of f = f.inputs ++ (f.outputs ++ f.internals)
 
+-- what the expressions of a plan are read in
 abbrev pub scope_of : Flowchart → Scope
 scope_of f = record { variables = variables_of f; constants = f.constants }

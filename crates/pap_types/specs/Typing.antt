@@ -14,6 +14,7 @@ use Rattle.pap_types.specs.Checks.{is_of_type}
 -- ---- expressions
 
 module _ (scope : Scope) where
+  -- a name is declared
   abbrev pub IsDeclaredLeaf : Leaf → Type 0
   IsDeclaredLeaf (named x) = IsTrue (is_some (declaration_in scope x))
   IsDeclaredLeaf _ = ⊤
@@ -52,6 +53,7 @@ pub record IsMethod (methods : List Routine) (m : List ℕ) : Type 0 where
   pub named : body_named methods m ≡ Some body
 
 module _ (scope : Scope) (methods : List Routine) where
+  -- each expression of the statements is typed, each target suits its value, and each method is there
   abbrev pub IsTypedBody : Body → Type 0
   IsTypedBody done = ⊤
   IsTypedBody (eval x e rest) = IsTypedTerm scope e × TargetSuits scope x e × IsTypedBody rest
@@ -73,6 +75,7 @@ HasItsType d = IsTrue (option_map_or (is_of_type d.kind) d.value true)
 abbrev pub AreDistinct : List (List ℕ) → Type 0
 AreDistinct names = AllPairs (λ x y. x ≢ y) names
 
+-- Names are distinct, declared literals are of their types, and the statements of MAIN and of the methods are typed.
 pub record HasTypes (f : Flowchart) : Type 0 where
   pub names : AreDistinct (names_of (declarations_of f))
   pub literals : All HasItsType (declarations_of f)

@@ -10,14 +10,16 @@ use Rattle.pap_types.specs.Scopes.{Scope, constant_in, table_in}
 use Rattle.scaled_decimal.specs.WholeNumbers.{item_at}
 use Rattle.pap_types.specs.Operations.{is_zero, of_one, of_two}
 
--- an environment: what each variable stands for
+-- a variable and its value
 pub record Entry : Type 0 where
   pub name : List ℕ
   pub value : Decimal
 
+-- an environment: what each variable stands for
 abbrev pub Env : Type 0
 Env = List Entry
 
+-- the value of the first variable of a name
 abbrev pub look : Env → List ℕ → Option Decimal
 look [] x = None
 look (v ∷ vs) x = if bytes_eq v.name x then Some v.value else look vs x
@@ -39,6 +41,7 @@ module _ (scope : Scope) where
   abbrev pub named_value : List ℕ → Env → Option Decimal
   named_value x env = option_or (look env x) (constant_in scope x)
 
+  -- the value of a literal, of a constant of `BigDecimal`, or of a name
   abbrev pub leaf_value : Leaf → Env → Option Decimal
   leaf_value (whole i) env = Some (decimal i 0)
   leaf_value (long i) env = Some (decimal i 0)

@@ -6,6 +6,7 @@ use Rattle.pap_tree.specs.Expressions.{IsWrong}
 use Rattle.pap_expr.specs.declared.fault.ExprFault.{ExprFault}
 use Rattle.pap_expr.specs.declared.fault.ExprFault.TheVariants as faults
 
+-- the text is refused as a text of the line for this cause, at this byte; want of memory is free
 abbrev pub IsExprFault : Line → List ℕ → ExprFault → Type 0
 IsExprFault l text (faults.Syntax at) = IsWrong l text syntax at
 IsExprFault l text (faults.Unsupported at) = IsWrong l text unsupported at

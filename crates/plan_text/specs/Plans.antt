@@ -17,11 +17,13 @@ IsValue None None = ⊤
 IsValue (Some text) (Some l) = IsAccepted Constant text (declared l)
 IsValue _ _ = ⊥
 
+-- the declaration that is written, its literal read
 pub record IsDeclaration (raw : RawDeclaration) (d : Declaration) : Type 0 where
   pub name : d.name ≡ raw.name
   pub kind : d.kind ≡ raw.kind
   pub value : IsValue raw.value d.value
 
+-- such declarations, one by one
 abbrev pub AreDeclarations : List RawDeclaration → List Declaration → Type 0
 AreDeclarations [] [] = ⊤
 AreDeclarations (raw ∷ raws) (d ∷ ds) = IsDeclaration raw d × AreDeclarations raws ds
@@ -36,6 +38,7 @@ IsBody (branch text a b rest) (tree.branch t first second more) =
 IsBody (execute m rest) (tree.execute name more) = (name ≡ m) × IsBody rest more
 IsBody _ _ = ⊥
 
+-- such methods, one by one
 abbrev pub AreRoutines : List RawRoutine → List Routine → Type 0
 AreRoutines [] [] = ⊤
 AreRoutines (raw ∷ raws) (m ∷ ms) = (m.name ≡ raw.name) × IsBody raw.body m.body × AreRoutines raws ms

@@ -18,6 +18,7 @@ pub record Site : Type 0 where
   pub text : List ℕ
   pub spot : Spot
 
+-- the site of a line, a text and a spot
 abbrev pub site : Line → List ℕ → Spot → Site
 site line text spot = record { line = line; text = text; spot = spot }
 
@@ -25,12 +26,14 @@ site line text spot = record { line = line; text = text; spot = spot }
 abbrev pub literal_sites : RawDeclaration → List Site
 literal_sites d = option_map_or (λ text. site Constant text (Declared d.name) ∷ []) d.value []
 
+-- those of declarations, in their order
 abbrev pub declared_sites : List RawDeclaration → List Site
 declared_sites [] = []
 declared_sites (d ∷ ds) = literal_sites d ++ declared_sites ds
 
 -- the expressions of a method's statements, which are numbered in the order of the text
 module _ (method : List ℕ) where
+  -- those of statements that are numbered from `at`
   abbrev pub body_sites : ℕ → RawBody → List Site
   body_sites at done = []
   body_sites at (eval text rest) = site Assignment text (Statement method at) ∷ body_sites (at + 1) rest
@@ -40,6 +43,7 @@ module _ (method : List ℕ) where
       ++ (body_sites (at + 1 + raw_written a) b ++ body_sites (at + 1 + raw_written a + raw_written b) rest))
   body_sites at (execute m rest) = body_sites (at + 1) rest
 
+-- those of methods, in their order
 abbrev pub routine_sites : List RawRoutine → List Site
 routine_sites [] = []
 routine_sites (m ∷ ms) = body_sites m.name 0 m.body ++ routine_sites ms

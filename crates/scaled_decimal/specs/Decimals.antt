@@ -10,6 +10,7 @@ use Rattle.scaled_decimal.specs.declared.rounding.Mode.{Mode}
 abbrev pub Decimal : Type 0
 Decimal = ℤ × ℕ
 
+-- the decimal of a numerator and a scale, and these two parts of a decimal
 abbrev pub decimal : ℤ → ℕ → Decimal
 decimal n s = (n, s)
 
@@ -19,6 +20,7 @@ numerator_of d = d.0
 abbrev pub scale_of : Decimal → ℕ
 scale_of d = d.1
 
+-- 10^k
 abbrev pub ten_to : ℕ → ℤ
 ten_to k = pos (10 ^ k)
 
@@ -26,6 +28,7 @@ ten_to k = pos (10 ^ k)
 abbrev pub numerator_at : ℕ → Decimal → ℤ
 numerator_at s d = numerator_of d *ℤ ten_to (s - scale_of d)
 
+-- the greater of the scales of two decimals
 abbrev pub greater_scale : Decimal → Decimal → ℕ
 greater_scale a b = max (scale_of a) (scale_of b)
 

@@ -3,6 +3,7 @@ use Rattle.std.specs.Prelude.{◌≡◌, ◌≤◌, ℤ, pos, ◌*ℤ◌, ◌≤
 use Rattle.scaled_decimal.specs.Decimals.{Decimal, numerator_of, scale_of, ten_to}
 use Rattle.scaled_decimal.specs.Limits.{most_places}
 
+-- n is some whole number times d
 abbrev pub Divides : ℤ → ℤ → Type 0
 Divides d n = (c : ℤ) × (c *ℤ d ≡ n)
 

@@ -9,6 +9,7 @@ limit = 10 ^ 37
 abbrev pub most_places : ℕ
 most_places = 30
 
+-- a numerator of at most this magnitude
 abbrev pub IsWithinLimit : ℤ → Type 0
 IsWithinLimit n = unsigned_abs n ≤ limit
 

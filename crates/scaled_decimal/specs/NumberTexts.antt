@@ -21,6 +21,7 @@ pub record IsNumber (text : List ℕ) (negative : Bool) (whole places : List ℕ
   pub whole_digits : AllDigits 10 whole
   pub place_digits : AllDigits 10 places
 
+-- the whole number of this magnitude, with a - or without
 abbrev pub signed : Bool → ℕ → ℤ
 signed true n = neg_ℤ (pos n)
 signed false n = pos n
@@ -29,6 +30,7 @@ signed false n = pos n
 abbrev pub spelled : Bool → List ℕ → List ℕ → Decimal
 spelled negative whole places = decimal (signed negative (digits_value 10 (whole ++ places))) (length places)
 
+-- the text has the form of a number, and d is the decimal that its digits spell
 pub record Spells (text : List ℕ) (d : Decimal) : Type 0 where
   pub negative : Bool
   pub whole : List ℕ
@@ -36,6 +38,7 @@ pub record Spells (text : List ℕ) (d : Decimal) : Type 0 where
   pub form : IsNumber text negative whole places
   pub value : d ≡ spelled negative whole places
 
+-- the text spells no decimal
 abbrev pub SpellsNone : List ℕ → Type 0
 SpellsNone text = (d : Decimal) → Spells text d → ⊥
 

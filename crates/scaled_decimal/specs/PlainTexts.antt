@@ -17,6 +17,7 @@ abbrev pub last_digits : ℕ → ℕ → List ℕ
 last_digits zero n = []
 last_digits (suc k) n = digit_byte (n / 10 ^ k % 10) ∷ last_digits k n
 
+-- a - where the decimal is below 0, the whole part in digits, and a point with the places, where there are any
 abbrev pub plain_text : Decimal → List ℕ
 plain_text d =
     let n = unsigned_abs (numerator_of d) in

@@ -19,12 +19,15 @@ pub record IsOfBits (bits : ℕ) (n : ℤ) : Type 0 where
 abbrev pub is_of_bits : ℕ → ℤ → Bool
 is_of_bits bits n = int_le (neg_ℤ (pos (2 ^ (bits - 1)))) n && int_lt n (pos (2 ^ (bits - 1)))
 
+-- a + b
 abbrev pub whole_sum : ℤ → ℤ → ℤ
 whole_sum a b = a +ℤ b
 
+-- a - b
 abbrev pub whole_difference : ℤ → ℤ → ℤ
 whole_difference a b = a -ℤ b
 
+-- a * b
 abbrev pub whole_product : ℤ → ℤ → ℤ
 whole_product a b = a *ℤ b
 
@@ -36,6 +39,7 @@ whole_quotient a b = int_div a b
 abbrev pub whole_remainder : ℤ → ℤ → ℤ
 whole_remainder a b = int_rem a b
 
+-- -a
 abbrev pub whole_opposite : ℤ → ℤ
 whole_opposite a = neg_ℤ a
 
