@@ -1,13 +1,15 @@
 -- Each stack of open elements can be closed: what is missing is added, and all is closed.
-use Rattle.std.proofs.Common.{◌≡◌, ◌+◌, ◌≤◌, Bool, true, false, ◌||◌, inl, inr, Option, Some, None, List, [], ◌∷◌, ◌++◌, refl, sym, ap, subst, ◌∙◌, append_assoc, arith}
+use Rattle.std.proofs.Common.{◌≡◌, ◌+◌, ◌≤◌, Bool, true, false, ◌||◌, inl, inr, Option, Some, None, List, [], ◌∷◌, ◌++◌, cond, refl, sym, ap, subst, ◌∙◌, append_assoc, arith}
 use Rattle.std.specs.List.{list_any}
+use Rattle.std.specs.Prelude.{count_by}
 use Rattle.std.proofs.lemmas.Bool.{and_parts, and_from, cases_Bool}
 use Rattle.std.proofs.lemmas.List.{append-nil}
+use Rattle.std.proofs.lemmas.List.Sums.{sum_by-append, sum_by-cons}
 use Rattle.std.proofs.lemmas.List.Folds.{list_any-append}
 use Rattle.pap_reader.specs.declared.element.Element.{Element}
 use Rattle.pap_reader.specs.declared.element.Element.TheVariants.{Pap, Interface, Variables, Outputs, Output, Methods, Main, If, Then}
 use Rattle.pap_reader.specs.Table.{same, is_complete, all_stand, fits}
-use Rattle.pap_reader.specs.Structure.{Shape, opens, closes, Nodes, none, node, count, opens_internals, IsDocument, BeginsDocument}
+use Rattle.pap_reader.specs.Structure.{Shape, opens, closes, Nodes, none, node, opens_internals, IsDocument, BeginsDocument}
 use Rattle.pap_reader.specs.NestingDecisions.{Open, fresh, enters, start}
 use Rattle.pap_reader.proofs.Structures.{Spelled, whole, within, adds, closed, nodes-append, more_stand, goes}
 
@@ -15,7 +17,7 @@ use Rattle.pap_reader.proofs.Structures.{Spelled, whole, within, adds, closed, n
 pub record Least (kinds : List Element) : Type 0 where
   pub shapes : List Shape
   pub nodes : Nodes shapes kinds
-  pub plain : count opens_internals shapes ≡ 0
+  pub plain : count_by opens_internals shapes ≡ 0
 
 -- an element with the least content
 abbrev output : List Shape
@@ -147,12 +149,11 @@ filled (Some e) children = record { kinds = []; stand = refl; complete = refl; l
 
 -- ---- the whole stack
 
-pub count-append : (a b : List Shape) → count opens_internals (a ++ b) ≡ count opens_internals a + count opens_internals b
-count-append [] b = omega arith
-count-append (s ∷ a) b = let h = count-append a b in elim (cases_Bool (opens_internals s)) [
-  | inl t ↦ rw (t, h) (omega arith)
-  | inr t ↦ rw (t, h) refl
-]
+pub count_by-append : {A : Type 0} (p : A → Bool) (a b : List A) → count_by p (a ++ b) ≡ count_by p a + count_by p b
+count_by-append p a b = sum_by-append (λ s. cond (p s) 1 0) a b
+
+pub count_by-cons : {A : Type 0} (p : A → Bool) (s : A) (ss : List A) → count_by p (s ∷ ss) ≡ cond (p s) 1 0 + count_by p ss
+count_by-cons p s ss = sum_by-cons (λ s. cond (p s) 1 0) s ss
 
 -- what makes a whole text of the shapes that a stack has read
 pub record Finished (ss : List Shape) : Type 0 where
@@ -160,7 +161,7 @@ pub record Finished (ss : List Shape) : Type 0 where
   pub kinds : List Element
   pub nodes : Nodes (ss ++ more) kinds
   pub root : fits None kinds ≡ true
-  pub plain : count opens_internals more ≡ 0
+  pub plain : count_by opens_internals more ≡ 0
 
 last_fits : (kinds more : List Element) → all_stand None [] kinds ≡ true → all_stand None kinds more ≡ true → is_complete None (kinds ++ more) ≡ true → fits None (kinds ++ more) ≡ true
 last_fits kinds more a b c = and_from (all_stand None [] (kinds ++ more)) (is_complete None (kinds ++ more)) (more_stand None kinds more a b) c
@@ -185,7 +186,7 @@ finish (u ∷ us) o ss h =
       kinds = g.kinds;
       nodes = subst (λ x. Nodes x g.kinds) (append_assoc (ss ++ f.least.shapes) (closes i.0 ∷ []) g.more ∙ append_assoc ss f.least.shapes (closes i.0 ∷ g.more)) g.nodes;
       root = g.root;
-      plain = count-append f.least.shapes (closes i.0 ∷ g.more) ∙ (let a = f.least.plain in let b = g.plain in omega arith);
+      plain = count_by-append opens_internals f.least.shapes (closes i.0 ∷ g.more) ∙ (let a = f.least.plain in let b = g.plain in omega arith);
     }
 
 -- ---- what is read, and fronts
@@ -193,7 +194,7 @@ finish (u ∷ us) o ss h =
 pub record Reached (before : List Shape) (os : List Open) : Type 0 where
   pub read : enters start before ≡ Some os
   pub spelled : Spelled os before
-  pub once : count opens_internals before ≤ 1
+  pub once : count_by opens_internals before ≤ 1
 
 no_empty : {os : List Open} {ss : List Shape} → Spelled os ss → os ≡ [] → ⊥
 no_empty (whole n a) e = absurd cc
@@ -202,12 +203,12 @@ no_empty (within e h m n a) f = absurd cc
 no_stack : {ss : List Shape} → Spelled [] ss → ⊥
 no_stack h = no_empty h refl
 
-pub is_front : (before : List Shape) (os : List Open) → Spelled os before → count opens_internals before ≤ 1 → BeginsDocument before
+pub is_front : (before : List Shape) (os : List Open) → Spelled os before → count_by opens_internals before ≤ 1 → BeginsDocument before
 is_front before [] h le = absurd (no_stack h)
 is_front before (o ∷ os) h le =
     let f = finish os o before h in
     let p = f.plain in
-    (f.more, record { kinds = f.kinds; nodes = f.nodes; root = f.root; once = rw (count-append before f.more) (omega arith) })
+    (f.more, record { kinds = f.kinds; nodes = f.nodes; root = f.root; once = rw (count_by-append opens_internals before f.more) (omega arith) })
 
 -- a whole text is one that the stack reads, and ends
 pub document_read : (ss : List Shape) (d : IsDocument ss) → enters start ss ≡ Some (record { inside = None; children = d.kinds } ∷ [])

@@ -1,15 +1,15 @@
 -- A shape is entered exactly where it makes a front with the shapes before it.
-use Rattle.std.proofs.Common.{◌≡◌, ◌+◌, ◌≤◌, Bool, true, false, ◌&&◌, ◌||◌, inl, inr, Option, Some, None, List, [], ◌∷◌, ◌++◌, refl, sym, ap, subst, ◌∙◌, append_assoc, arith}
-use Rattle.std.specs.Prelude.{if◌then◌else◌, option_and_then}
+use Rattle.std.proofs.Common.{◌≡◌, ℕ, ◌+◌, ◌≤◌, Bool, true, false, ◌&&◌, ◌||◌, inl, inr, Option, Some, None, List, [], ◌∷◌, ◌++◌, cond, refl, sym, ap, subst, ◌∙◌, append_assoc, arith}
+use Rattle.std.specs.Prelude.{if◌then◌else◌, option_and_then, count_by}
 use Rattle.std.specs.List.{list_any}
 use Rattle.std.proofs.lemmas.Bool.{and_parts, and_from, cases_Bool}
 use Rattle.std.proofs.lemmas.List.{append-nil}
 use Rattle.pap_reader.specs.declared.element.Element.{Element}
 use Rattle.pap_reader.specs.Table.{all_stand, is_complete}
-use Rattle.pap_reader.specs.Structure.{Shape, none, count, opens_internals, IsDocument, BeginsDocument}
+use Rattle.pap_reader.specs.Structure.{Shape, none, opens_internals, IsDocument, BeginsDocument}
 use Rattle.pap_reader.specs.NestingDecisions.{Open, enter, enters, is_second, step, steps, start, is_ended}
 use Rattle.pap_reader.proofs.Structures.{Spelled, whole, enter_spelled}
-use Rattle.pap_reader.proofs.Completion.{count-append, Reached, document_read}
+use Rattle.pap_reader.proofs.Completion.{count_by-append, count_by-cons, Reached, document_read}
 
 is_some : {A : Type 0} (a b : A) → Some a ≡ Some b → a ≡ b
 is_some a b e = cc
@@ -46,18 +46,18 @@ one_enters (Some x) r e = e
 
 -- ---- counts
 
-pub count_none : {A : Type 0} (p : A → Bool) (ss : List A) → list_any p ss ≡ false → count p ss ≡ 0
+pub count_none : {A : Type 0} (p : A → Bool) (ss : List A) → list_any p ss ≡ false → count_by p ss ≡ 0
 count_none p [] e = refl
 count_none p (s ∷ ss) e = elim (cases_Bool (p s)) [
   | inl t ↦ let h : true ≡ false = sym (ap (λ b. b || list_any p ss) t) ∙ e in absurd cc
-  | inr t ↦ rw t (count_none p ss (sym (ap (λ b. b || list_any p ss) t) ∙ e))
+  | inr t ↦ omega (arith, count_by-cons p s ss, ap {B = ℕ} (λ b. cond b 1 0) t, count_none p ss (sym (ap (λ b. b || list_any p ss) t) ∙ e))
 ]
 
-pub count_some : {A : Type 0} (p : A → Bool) (ss : List A) → list_any p ss ≡ true → 1 ≤ count p ss
+pub count_some : {A : Type 0} (p : A → Bool) (ss : List A) → list_any p ss ≡ true → 1 ≤ count_by p ss
 count_some p [] e = absurd cc
 count_some p (s ∷ ss) e = elim (cases_Bool (p s)) [
-  | inl t ↦ rw t (omega arith)
-  | inr t ↦ rw t (count_some p ss (sym (ap (λ b. b || list_any p ss) t) ∙ e))
+  | inl t ↦ omega (arith, count_by-cons p s ss, ap {B = ℕ} (λ b. cond b 1 0) t)
+  | inr t ↦ omega (arith, count_by-cons p s ss, ap {B = ℕ} (λ b. cond b 1 0) t, count_some p ss (sym (ap (λ b. b || list_any p ss) t) ∙ e))
 ]
 
 -- ---- one step
@@ -66,12 +66,15 @@ not_both : (a b : Bool) → (a && b) ≡ false → a ≡ true → b ≡ false
 not_both true b e h = e
 not_both false b e h = absurd cc
 
-still_once : (before : List Shape) (s : Shape) → count opens_internals before ≤ 1 → is_second before s ≡ false → count opens_internals (before ++ (s ∷ [])) ≤ 1
+one_more : (before : List Shape) (s : Shape) → count_by opens_internals (before ++ (s ∷ [])) ≡ count_by opens_internals before + cond (opens_internals s) 1 0
+one_more before s = count_by-append opens_internals before (s ∷ []) ∙ omega (arith, count_by-cons opens_internals s [])
+
+still_once : (before : List Shape) (s : Shape) → count_by opens_internals before ≤ 1 → is_second before s ≡ false → count_by opens_internals (before ++ (s ∷ [])) ≤ 1
 still_once before s le e = elim (cases_Bool (opens_internals s)) [
   | inl t ↦
       let zero_before = count_none opens_internals before (not_both (opens_internals s) (list_any opens_internals before) e t) in
-      rw (count-append before (s ∷ []), t) (omega arith)
-  | inr t ↦ rw (count-append before (s ∷ []), t) (omega arith)
+      omega (arith, le, zero_before, one_more before s, ap {B = ℕ} (λ b. cond b 1 0) t)
+  | inr t ↦ omega (arith, le, one_more before s, ap {B = ℕ} (λ b. cond b 1 0) t)
 ]
 
 pub step_reached : (before : List Shape) (os os' : List Open) (s : Shape) → Reached before os → step before os s ≡ Some os' → Reached (before ++ (s ∷ [])) os'
@@ -99,8 +102,8 @@ step_refused before os s h e (m, d) =
       | inl t ↦
           let p = and_parts (opens_internals s) (list_any opens_internals before) t in
           let some = count_some opens_internals before p.1 in
-          let two : count opens_internals (before ++ (s ∷ [])) ≡ count opens_internals before + 1 = count-append before (s ∷ []) ∙ rw p.0 (omega arith) in
-          let sum = count-append (before ++ (s ∷ [])) m in
+          let two : count_by opens_internals (before ++ (s ∷ [])) ≡ count_by opens_internals before + 1 = omega (arith, one_more before s, ap {B = ℕ} (λ b. cond b 1 0) p.0) in
+          let sum = count_by-append opens_internals (before ++ (s ∷ [])) m in
           let once = d.once in
           absurd (omega arith)
       | inr t ↦ no_some first.0 (sym e ∙ ap (λ b. if b then None else enter os s) t ∙ goes)
@@ -141,7 +144,7 @@ abbrev root_of : List Open → List Element
 root_of [] = []
 root_of (o ∷ os) = o.children
 
-ended_spelled : (os : List Open) (ss : List Shape) → Spelled os ss → is_ended os ≡ true → count opens_internals ss ≤ 1 → IsDocument ss
+ended_spelled : (os : List Open) (ss : List Shape) → Spelled os ss → is_ended os ≡ true → count_by opens_internals ss ≤ 1 → IsDocument ss
 ended_spelled (o ∷ []) ss (whole {kinds} n a) e le = record { kinds = kinds; nodes = n; root = and_from (all_stand None [] kinds) (is_complete None kinds) a e; once = le }
 ended_spelled (o ∷ u ∷ us) ss h e le = absurd cc
 ended_spelled [] ss h e le = absurd cc

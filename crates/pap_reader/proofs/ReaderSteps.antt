@@ -1,6 +1,6 @@
 -- What the reader's steps are, from what its calls say.
 use Rattle.std.proofs.Common.{◌≡◌, ℕ, ◌+◌, ◌≤◌, Bool, true, false, ◌&&◌, ◌||◌, inl, inr, Option, Some, None, is_some, Err, List, [], ◌∷◌, ◌++◌, length, reverse, refl, sym, ap, subst, ◌∙◌, append_assoc, arith}
-use Rattle.std.specs.Prelude.{if◌then◌else◌, nat_lt, MatchOption}
+use Rattle.std.specs.Prelude.{if◌then◌else◌, nat_lt, MatchOption, count_by}
 use Rattle.std.specs.List.{list_any}
 use Rattle.std.proofs.lemmas.Bool.{and_parts, cases_Bool, ltb-false}
 use Rattle.std.proofs.lemmas.List.{reverse-append}
@@ -14,7 +14,7 @@ use Rattle.pap_reader.specs.declared.reader.OpenElement.{OpenElement}
 use Rattle.pap_reader.specs.declared.elements.Elements.{Elements}
 use Rattle.pap_reader.specs.declared.attributes.TagValue.{TagValue}
 use Rattle.pap_reader.specs.Table.{may_stand, is_complete}
-use Rattle.pap_reader.specs.Structure.{Shape, opens, closes, count, opens_internals}
+use Rattle.pap_reader.specs.Structure.{Shape, opens, closes, opens_internals}
 use Rattle.pap_reader.specs.NestingDecisions.{Open, fresh, with_child, is_inside, enter, is_second, step, start, is_ended}
 use Rattle.pap_reader.specs.Tags.{Attribute}
 use Rattle.pap_reader.specs.Marks.{begins, ends}
@@ -26,6 +26,7 @@ use Rattle.pap_reader.specs.Views.{HasFlags, Tallies, IsSmall, IsMore, one_if, I
 use Rattle.pap_reader.specs.ReaderViews.{one_verdict, ShowsPlan, IsValueIn, ShowsOpen, Closed, ShowsAll, total}
 use Rattle.pap_reader.proofs.Pieces.{both-nothing, later-assoc}
 use Rattle.pap_reader.proofs.Structures.{same_is}
+use Rattle.pap_reader.proofs.Completion.{count_by-append, count_by-cons}
 use Rattle.pap_reader.specs.declared.element.Children.{Children}
 
 pub none_is : {A : Type 0} (o : Option A) → is_some o ≡ false → o ≡ None
@@ -38,12 +39,8 @@ some_is (Some x) e = (x, refl)
 
 -- ---- counts
 
-count-one : (p : Shape → Bool) (ss : List Shape) (s : Shape) → count p (ss ++ (s ∷ [])) ≡ count p ss + one_if (p s)
-count-one p [] s = elim (cases_Bool (p s)) [ inl t ↦ rw t refl | inr t ↦ rw t refl ]
-count-one p (u ∷ ss) s = let h = count-one p ss s in elim (cases_Bool (p u)) [
-  | inl t ↦ rw (t, h) (omega arith)
-  | inr t ↦ rw (t, h) refl
-]
+count-one : (p : Shape → Bool) (ss : List Shape) (s : Shape) → count_by p (ss ++ (s ∷ [])) ≡ count_by p ss + one_if (p s)
+count-one p ss s = count_by-append p ss (s ∷ []) ∙ omega (arith, count_by-cons p s [])
 
 pub depth-one : (d : ℕ) (ss : List Shape) (s : Shape) → depth_from d (ss ++ (s ∷ [])) ≡ deeper (depth_from d ss) s
 depth-one d [] s = refl
@@ -73,7 +70,7 @@ tallies_open c d ss e t f h =
       depth = m.depth ∙ ap (λ n. deeper n (opens e)) t.depth ∙ sym (depth-one 0 ss (opens e));
     }
 
-pub closes_count : (w : Which) (ss : List Shape) (e : Element) → count (counts w) (ss ++ (closes e ∷ [])) ≡ count (counts w) ss
+pub closes_count : (w : Which) (ss : List Shape) (e : Element) → count_by (counts w) (ss ++ (closes e ∷ [])) ≡ count_by (counts w) ss
 closes_count w ss e = count-one (counts w) ss (closes e) ∙ omega arith
 
 pub tallies_close : (c d : Counts) (ss : List Shape) (e : Element) → Tallies c ss → d ≡ record c { depth = deeper c.depth (closes e) } → Tallies d (ss ++ (closes e ∷ []))

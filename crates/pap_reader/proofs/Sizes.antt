@@ -1,12 +1,12 @@
 -- How much nested marks say, by the elements that count.
-use Rattle.std.proofs.Common.{◌≡◌, ℕ, ◌+◌, ◌≤◌, Bool, true, false, cond, suc, inl, inr, Option, Some, None, List, [], ◌∷◌, ◌++◌, length, map, refl, ap, ◌∙◌, arith}
-use Rattle.std.proofs.lemmas.Bool.{cases_Bool}
+use Rattle.std.proofs.Common.{◌≡◌, ℕ, ◌+◌, ◌≤◌, Option, Some, None, List, [], ◌∷◌, ◌++◌, length, map, refl, ap, ◌∙◌, arith}
+use Rattle.std.specs.Prelude.{count_by}
 use Rattle.std.proofs.lemmas.List.{length-append}
 use Rattle.pap_reader.specs.declared.element.Element.{Element}
 use Rattle.pap_reader.specs.declared.element.Element.TheVariants as elements
 use Rattle.pap_reader.specs.declared.fault.Which.{Which}
 use Rattle.pap_reader.specs.declared.fault.Which.TheVariants as which
-use Rattle.pap_reader.specs.Structure.{closes, count}
+use Rattle.pap_reader.specs.Structure.{opens, closes}
 use Rattle.pap_reader.specs.Tags.{Attribute}
 use Rattle.pap_reader.specs.Marks.{Mark, begins, ends, shape}
 use Rattle.pap_reader.specs.Trees.{RawBody, done, eval, branch, execute, RawRoutine}
@@ -14,18 +14,8 @@ use Rattle.pap_reader.specs.Meaning.{join, Piece, nothing, both, later, or_done,
 use Rattle.pap_reader.specs.Limits.{counts, is_counted}
 use Rattle.pap_reader.specs.TreeLimits.{raw_written, methods_written}
 use Rattle.pap_reader.specs.Views.{one_if}
+use Rattle.pap_reader.proofs.Completion.{count_by-append, count_by-cons}
 use Rattle.pap_reader.proofs.Exact.{map-append}
-
-count_append : {A : Type 0} (p : A → Bool) (a b : List A) → count p (a ++ b) ≡ count p a + count p b
-count_append p [] b = omega arith
-count_append p (s ∷ a) b = let h = count_append p a b in elim (cases_Bool (p s)) [
-  | inl t ↦ rw (t, h) (omega arith)
-  | inr t ↦ rw (t, h) refl
-]
-
-one_more : (b : Bool) (n : ℕ) → cond b (suc n) n ≡ one_if b + n
-one_more true n = omega arith
-one_more false n = omega arith
 
 -- a size of pieces that no more than the counted elements add to
 pub record Measures (w : Which) (size : Piece → ℕ) : Type 0 where
@@ -34,13 +24,13 @@ pub record Measures (w : Which) (size : Piece → ℕ) : Type 0 where
   pub of_element : (e : Element) (attributes : List Attribute) (p : Piece) → size (says e attributes p) ≤ size p + one_if (is_counted w e)
 
 count_node : (w : Which) (e : Element) (attributes : List Attribute) (inside rest : List Mark)
-    → count (counts w) (map shape (begins e attributes ∷ (inside ++ (ends e ∷ rest)))) ≡ one_if (is_counted w e) + (count (counts w) (map shape inside) + count (counts w) (map shape rest))
+    → count_by (counts w) (map shape (begins e attributes ∷ (inside ++ (ends e ∷ rest)))) ≡ one_if (is_counted w e) + (count_by (counts w) (map shape inside) + count_by (counts w) (map shape rest))
 count_node w e attributes inside rest =
-    one_more (is_counted w e) (count (counts w) (map shape (inside ++ (ends e ∷ rest))))
-    ∙ ap (λ ss. one_if (is_counted w e) + count (counts w) ss) (map-append inside (ends e ∷ rest))
-    ∙ ap (λ n. one_if (is_counted w e) + n) (count_append (counts w) (map shape inside) (closes e ∷ map shape rest))
+    count_by-cons (counts w) (opens e) (map shape (inside ++ (ends e ∷ rest)))
+    ∙ ap (λ ss. one_if (is_counted w e) + count_by (counts w) ss) (map-append inside (ends e ∷ rest))
+    ∙ ap (λ n. one_if (is_counted w e) + n) (count_by-append (counts w) (map shape inside) (closes e ∷ map shape rest))
 
-pub measured : (w : Which) (size : Piece → ℕ) → Measures w size → {ms : List Mark} {p : Piece} → Says ms p → size p ≤ count (counts w) (map shape ms)
+pub measured : (w : Which) (size : Piece → ℕ) → Measures w size → {ms : List Mark} {p : Piece} → Says ms p → size p ≤ count_by (counts w) (map shape ms)
 measured w size h none = let e = h.at_nothing in omega arith
 measured w size h (node {inside} {rest} {p} {q} e attributes i r) =
     let a = measured w size h i in

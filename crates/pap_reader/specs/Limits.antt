@@ -1,11 +1,11 @@
 -- How much there may be of what (docs/PROFILE.md, "Limits").
-use Rattle.std.specs.Prelude.{◌≡◌, ◌≤◌, ◌<◌, ◌⊎◌, ℕ, suc, ◌-◌, Bool, true, false, List, [], ◌∷◌, ◌++◌}
+use Rattle.std.specs.Prelude.{◌≡◌, ◌≤◌, ◌<◌, ◌⊎◌, ℕ, suc, ◌-◌, Bool, true, false, List, [], ◌∷◌, ◌++◌, count_by}
 use Rattle.pap_tree.specs.Limits.{most_inputs, most_outputs, most_internals, most_constants, most_methods, most_statements, most_nesting}
 use Rattle.pap_reader.specs.declared.element.Element.{Element}
 use Rattle.pap_reader.specs.declared.element.Element.TheVariants.{Input, Output, Internal, Constant, Method, Eval, Execute, If}
 use Rattle.pap_reader.specs.declared.fault.Which.{Which}
 use Rattle.pap_reader.specs.declared.fault.Which.TheVariants as which
-use Rattle.pap_reader.specs.Structure.{Shape, opens, closes, count}
+use Rattle.pap_reader.specs.Structure.{Shape, opens, closes}
 use Rattle.pap_reader.specs.Tokens.{PlacedTag}
 use Rattle.pap_reader.specs.Marks.{shapes}
 
@@ -51,7 +51,7 @@ depth_from d (s ∷ ss) = depth_from (deeper d s) ss
 abbrev pub amount : Which → List Shape → ℕ
 amount which.Bytes ss = 0
 amount which.Depth ss = depth_from 0 ss
-amount w ss = count (counts w) ss
+amount w ss = count_by (counts w) ss
 
 -- Each amount is within its limit, after each of the tags.
 abbrev pub IsWithin : List PlacedTag → Type 0

@@ -1,5 +1,5 @@
 -- Which elements are nested as the table of elements says, their attributes aside.
-use Rattle.std.specs.Prelude.{◌≡◌, ℕ, suc, ◌≤◌, cond, Bool, true, false, Some, None, List, [], ◌∷◌, ◌++◌}
+use Rattle.std.specs.Prelude.{◌≡◌, ◌≤◌, Bool, true, false, Some, None, List, [], ◌∷◌, ◌++◌, count_by}
 use Rattle.pap_reader.specs.declared.element.Element.{Element}
 use Rattle.pap_reader.specs.declared.element.Element.TheVariants.{Internals}
 use Rattle.pap_reader.specs.Table.{fits, same}
@@ -23,17 +23,12 @@ abbrev pub opens_internals : Shape → Bool
 opens_internals (opens e) = same Internals e
 opens_internals _ = false
 
--- how many of the shapes pass a test
-abbrev pub count : {A : Type 0} → (A → Bool) → List A → ℕ
-count p [] = 0
-count p (s ∷ ss) = cond (p s) (suc (count p ss)) (count p ss)
-
 -- the shapes of a whole text, which has at most one INTERNALS
 pub record IsDocument (ss : List Shape) : Type 0 where
   pub kinds : List Element
   pub nodes : Nodes ss kinds
   pub root : fits None kinds ≡ true
-  pub once : count opens_internals ss ≤ 1
+  pub once : count_by opens_internals ss ≤ 1
 
 -- A front of a whole text: some shapes after it make one.
 abbrev pub BeginsDocument : List Shape → Type 0
