@@ -10,7 +10,8 @@ use Rattle.pap_reader.specs.declared.tags.Form.TheVariants as forms
 use Rattle.pap_reader.specs.Tags.{Attribute, Tag, Front, IsAttribute, Ending, start, empty, more, IsTag, closing, NoTag}
 use Rattle.pap_reader.specs.Bytes.{is_first, is_inner, begins_with, drop_while}
 use Rattle.std.specs.Char.{is_ascii_alphabetic}
-use Rattle.pap_reader.specs.Values.{byte_named, Escape, Plain, Quoted, closing_quote, byte, is_quote, IsByte, NoValue}
+use Rattle.pap_reader.specs.Values.{Escape, Plain, Quoted, closing_quote, byte, is_quote, IsByte, NoValue}
+use Rattle.pap_reader.specs.EscapeDecisions.{byte_named}
 use Rattle.pap_reader.specs.Views.{is_code, NoAttribute, NoEnding}
 use Rattle.pap_reader.specs.Skipped.{Past, here, later, IsPassed, white, comment, byte_order_mark, IsAfterMark, IsAfterDeclaration}
 use Rattle.pap_reader.proofs.Escapes.{found, escaped}

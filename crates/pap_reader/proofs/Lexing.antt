@@ -6,9 +6,10 @@ use Rattle.pap_tree.specs.White.{is_white}
 use Rattle.pap_reader.specs.declared.tags.Form.{Form}
 use Rattle.pap_reader.specs.declared.tags.Form.TheVariants as forms
 use Rattle.pap_reader.specs.Tags.{Attribute, Front, IsAttribute, Ending, start, empty, more}
-use Rattle.pap_reader.specs.Values.{byte_named, Escape, Plain, Quoted, closing_quote, byte, is_quote, IsByte, NoByte}
+use Rattle.pap_reader.specs.Values.{Escape, Plain, Quoted, closing_quote, byte, is_quote, IsByte, NoByte}
 use Rattle.pap_reader.specs.Bytes.{is_first, is_inner, begins_with, drop_while}
 use Rattle.std.specs.List.{take_while}
+use Rattle.pap_reader.specs.EscapeDecisions.{byte_named}
 use Rattle.pap_reader.specs.Views.{is_code, FoundEscape, NoFoundEscape, Closing}
 use Rattle.pap_reader.proofs.Escapes.{found, escaped}
 

@@ -1,60 +1,30 @@
 -- The values of attributes (docs/PROFILE.md, "Attributes"). Each relation is between the bytes at a place, what is read
 -- there, and the bytes that are left.
-use Rattle.std.specs.Prelude.{◌≡◌, ℕ, ◌+◌, ◌-◌, ◌*◌, ◌⊎◌, Bool, false, ◌&&◌, ◌||◌, ◌==◌, nat_le, Option, Some, None, List, [], ◌∷◌, ◌++◌, codes, if◌then◌else◌}
-use Rattle.std.specs.List.{list_all, fold}
-use Rattle.std.specs.Char.{is_ascii_digit}
-use Rattle.std.specs.Str.{bytes_eq}
+use Rattle.std.specs.Prelude.{◌≡◌, ℕ, ◌≤◌, ◌⊎◌, Bool, false, ◌||◌, ◌==◌, List, [], ◌∷◌, ◌++◌, codes}
+use Rattle.std.specs.Str.Parse.{IsNumeral, digits_value}
 
-abbrev pub is_hex : ℕ → Bool
-is_hex b = is_ascii_digit b || (nat_le 97 b && nat_le b 102) || (nat_le 65 b && nat_le b 70)
+-- digits of a radix, one at least, that write a code from 1 to 127
+pub record WritesCode (radix : ℕ) (digits : List ℕ) (code : ℕ) : Type 0 where
+  pub numeral : IsNumeral radix digits
+  pub value : code ≡ digits_value radix digits
+  pub least : 1 ≤ code
+  pub most : code ≤ 127
 
-abbrev pub hex_digit : ℕ → ℕ
-hex_digit b = if nat_le 97 b then b - 87 else (if nat_le 65 b then b - 55 else b - 48)
-
-abbrev pub decimal : List ℕ → ℕ
-decimal ds = fold (λ v b. v * 10 + (b - 48)) 0 ds
-
-abbrev pub hexadecimal : List ℕ → ℕ
-hexadecimal ds = fold (λ v b. v * 16 + hex_digit b) 0 ds
-
--- the codes that a byte may be written by
-abbrev pub in_range : ℕ → Option ℕ
-in_range n = if nat_le 1 n && nat_le n 127 then Some n else None
-
--- one or more digits
-abbrev pub are_digits : (ℕ → Bool) → List ℕ → Bool
-are_digits p [] = false
-are_digits p (b ∷ bs) = list_all p (b ∷ bs)
-
-abbrev pub by_decimal : List ℕ → Option ℕ
-by_decimal ds = if are_digits is_ascii_digit ds then in_range (decimal ds) else None
-
-abbrev pub by_hexadecimal : List ℕ → Option ℕ
-by_hexadecimal ds = if are_digits is_hex ds then in_range (hexadecimal ds) else None
-
--- after the `#`: digits, or `x` and hexadecimal digits
-abbrev pub byte_numbered : List ℕ → Option ℕ
-byte_numbered [] = None
-byte_numbered (b ∷ ds) = if b == 120 then by_hexadecimal ds else by_decimal (b ∷ ds)
-
-abbrev pub after_hash : List ℕ → Option ℕ
-after_hash [] = None
-after_hash (b ∷ ds) = if b == 35 then byte_numbered ds else None
-
--- the byte that an escape's word stands for
-abbrev pub byte_named : List ℕ → Option ℕ
-byte_named w =
-    if bytes_eq w (codes "lt") then Some 60 else
-    (if bytes_eq w (codes "gt") then Some 62 else
-    (if bytes_eq w (codes "amp") then Some 38 else
-    (if bytes_eq w (codes "quot") then Some 34 else
-    (if bytes_eq w (codes "apos") then Some 39 else after_hash w))))
+-- The word stands for the byte: one of five names, or `#` and its code in decimal digits, or `#x` and hexadecimal ones.
+pub data StandsFor : List ℕ → ℕ → Type 0 where
+  less_than : StandsFor (codes "lt") 60
+  greater_than : StandsFor (codes "gt") 62
+  ampersand : StandsFor (codes "amp") 38
+  quotation_mark : StandsFor (codes "quot") 34
+  apostrophe : StandsFor (codes "apos") 39
+  decimal : {digits : List ℕ} {code : ℕ} → WritesCode 10 digits code → StandsFor (codes "#" ++ digits) code
+  hexadecimal : {digits : List ℕ} {code : ℕ} → WritesCode 16 digits code → StandsFor (codes "#x" ++ digits) code
 
 -- `&`, a word that stands for the byte c, and `;`
 pub record Escape (bytes : List ℕ) (c : ℕ) (rest : List ℕ) : Type 0 where
   pub word : List ℕ
   pub is : bytes ≡ 38 ∷ (word ++ (59 ∷ rest))
-  pub byte : byte_named word ≡ Some c
+  pub byte : StandsFor word c
 
 -- a byte that stands for itself in a value with the quote q: neither the quote, nor `<`, nor `&`
 pub record Plain (q : ℕ) (bytes : List ℕ) (c : ℕ) (rest : List ℕ) : Type 0 where

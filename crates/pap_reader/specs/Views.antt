@@ -15,7 +15,8 @@ use Rattle.pap_reader.specs.Structure.{Shape, opens}
 use Rattle.pap_reader.specs.Bytes.{drop_while}
 use Rattle.std.specs.Char.{is_ascii_alphabetic, is_ascii_digit}
 use Rattle.std.specs.List.{take_while}
-use Rattle.pap_reader.specs.Values.{byte_named, is_quote}
+use Rattle.pap_reader.specs.Values.{is_quote}
+use Rattle.pap_reader.specs.EscapeDecisions.{byte_named}
 use Rattle.pap_reader.specs.Tags.{Attribute, IsAttribute, Ending}
 use Rattle.pap_reader.specs.Skipped.{IsPassed}
 use Rattle.pap_reader.specs.Attributes.{value_of, is_met_by, a_name, a_type}

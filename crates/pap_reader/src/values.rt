@@ -1,10 +1,10 @@
 //! The values of attributes, and the escapes in them.
 
-ghost use Rattle.std.specs.Prelude.{◌≡◌, ◌-◌, ◌^◌, min, ◌<◌, ◌≤◌, true, length, MatchOption, IfOk, IfSome};
-ghost use Rattle.std.specs.List.{prefix_len, list_all, take_while};
+ghost use Rattle.std.specs.Prelude.{◌≡◌, ◌<◌, ◌≤◌, true, length, MatchOption, IfOk, IfSome};
+ghost use Rattle.std.specs.List.{prefix_len, take_while};
 ghost use Rattle.pap_reader.specs.Bytes.{drop_while};
-ghost use Rattle.std.specs.Char.{is_ascii_digit};
-ghost use Rattle.pap_reader.specs.Values.{is_hex, hex_digit, decimal, hexadecimal, in_range, by_decimal, by_hexadecimal, byte_numbered, byte_named, is_quote, Quoted, IsByte, NoByte, NoValue};
+ghost use Rattle.pap_reader.specs.Values.{is_quote, Quoted, IsByte, NoByte, NoValue};
+ghost use Rattle.pap_reader.specs.EscapeDecisions.{code_of, byte_numbered, byte_named};
 ghost use Rattle.pap_reader.specs.Views.{is_code, FoundEscape, NoFoundEscape};
 
 use crate::bytes::{after_byte, split};
@@ -17,95 +17,20 @@ fn is_code(b: u8) -> bool
     b.is_ascii_alphabetic() || b.is_ascii_digit() || b == b'#'
 }
 
-/// Whether the byte is a hexadecimal digit, in either case.
-fn is_hex(b: u8) -> bool
-    ensures { result ≡ is_hex b }
+/// The code that digits of a radix write. `None` where one of them is no digit, and where the code isn't from 1 to 127.
+fn code_of(digits: &[u8], radix: u32) -> Option<u8>
+    requires low { 2 ≤ radix }
+    requires high { radix ≤ 16 }
+    ensures { result ≡ code_of radix digits.now }
 {
-    b.is_ascii_digit() || (b >= b'a' && b <= b'f') || (b >= b'A' && b <= b'F')
-}
-
-/// The value of a hexadecimal digit.
-fn hex_digit(b: u8) -> u8
-    ensures { result ≡ hex_digit b }
-{
-    if b >= b'a' {
-        b - 87
-    } else if b >= b'A' {
-        b - 55
-    } else {
-        b.saturating_sub(b'0')
-    }
-}
-
-/// The value of decimal digits, or the greatest number where it is beyond that.
-#[tactic(auto, using(std::proofs::lemmas::List::Sums::fold_more))]
-fn decimal(digits: &[u8]) -> u32
-    ensures { result ≡ min (decimal digits.now) (2 ^ 32 - 1) }
-{
-    let mut value: u32 = 0;
+    let mut code = 0;
     for digit in digits {
-        value = value
-            .saturating_mul(10)
-            .saturating_add(digit.saturating_sub(b'0') as u32);
+        code = code * radix + char::from(*digit).to_digit(radix)?;
+        if code > 127 {
+            return None;
+        }
     }
-    value
-}
-
-/// The value of hexadecimal digits, or the greatest number where it is beyond that.
-#[tactic(auto, using(std::proofs::lemmas::List::Sums::fold_more))]
-fn hexadecimal(digits: &[u8]) -> u32
-    ensures { result ≡ min (hexadecimal digits.now) (2 ^ 32 - 1) }
-{
-    let mut value: u32 = 0;
-    for digit in digits {
-        value = value
-            .saturating_mul(16)
-            .saturating_add(hex_digit(*digit) as u32);
-    }
-    value
-}
-
-fn are_decimal(digits: &[u8]) -> bool
-    ensures { result ≡ list_all is_ascii_digit digits.now }
-{
-    digits.iter().all(|b| b.is_ascii_digit())
-}
-
-fn are_hexadecimal(digits: &[u8]) -> bool
-    ensures { result ≡ list_all is_hex digits.now }
-{
-    digits.iter().all(|b| is_hex(*b))
-}
-
-/// The byte of a code, if one may be written by it: a code from 1 to 127.
-fn in_range(code: u32) -> Option<u8>
-    ensures { result ≡ in_range code }
-{
-    if code >= 1 && code <= 127 {
-        Some(code as u8)
-    } else {
-        None
-    }
-}
-
-/// The byte of a code in decimal digits.
-fn by_decimal(digits: &[u8]) -> Option<u8>
-    ensures { result ≡ by_decimal digits.now }
-{
-    if digits.is_empty() || !are_decimal(digits) {
-        return None;
-    }
-    in_range(decimal(digits))
-}
-
-/// The byte of a code in hexadecimal digits.
-fn by_hexadecimal(digits: &[u8]) -> Option<u8>
-    ensures { result ≡ by_hexadecimal digits.now }
-{
-    if digits.is_empty() || !are_hexadecimal(digits) {
-        return None;
-    }
-    in_range(hexadecimal(digits))
+    if code == 0 { None } else { Some(code as u8) }
 }
 
 /// The byte of a number, after its `#`.
@@ -113,8 +38,8 @@ fn byte_numbered(word: &[u8]) -> Option<u8>
     ensures { result ≡ byte_numbered word.now }
 {
     match split(word) {
-        Some((b'x', digits)) => by_hexadecimal(digits),
-        _ => by_decimal(word),
+        Some((b'x', digits)) => code_of(digits, 16),
+        _ => code_of(word, 10),
     }
 }
 
