@@ -12,12 +12,14 @@ use Rattle.pap_reader.specs.Tokens.{PlacedTag}
 use Rattle.pap_reader.specs.Marks.{Mark, begins, ends, marks_by, marks_of, marks, shape, shapes, element_of}
 use Rattle.pap_reader.specs.Trees.{RawBody, done, eval, branch, execute, RawRoutine}
 use Rattle.pap_reader.specs.Meaning.{join, Piece, both, later, or_done, routine, says, Says, none, node}
-use Rattle.pap_reader.specs.Limits.{deeper, depth_from, IsWithin}
+use Rattle.pap_reader.specs.Limits.{IsWithin}
+use Rattle.pap_reader.specs.CountDecisions.{deeper, depth_from}
 use Rattle.pap_reader.specs.TreeLimits.{raw_nesting, methods_nesting}
 use Rattle.pap_reader.proofs.Completion.{document_read}
 use Rattle.pap_reader.proofs.Fronts.{enters_then, enters_front, no_some}
 use Rattle.pap_reader.proofs.Exact.{map-append, shapes-append}
 use Rattle.pap_reader.proofs.ReaderSteps.{depth-one}
+use Rattle.pap_reader.proofs.OpenIfs.{tallied}
 use Rattle.pap_reader.specs.declared.tags.Form.{Form}
 use Rattle.pap_reader.specs.declared.tags.Form.TheVariants as forms
 
@@ -222,7 +224,9 @@ cut (t ∷ ts) (s ∷ a) b e = elim (one_or_two t.tag) [
 pub bounded : (ts : List PlacedTag) → IsDocument (shapes ts) → IsWithin ts → IsBounded 0 (shapes ts)
 bounded ts d h a b e =
     let c = cut ts a b e in
-    let le = h c.us c.vs which.Depth c.whole in
+    let parts : shapes ts ≡ shapes c.us ++ shapes c.vs = ap shapes c.whole ∙ shapes-append c.us c.vs in
+    let first = enters_front (shapes c.us) (shapes c.vs) start _ (ap (enters start) (sym parts) ∙ document_read (shapes ts) d) in
+    let le : depth_from 0 (shapes c.us) ≤ 32 = subst (λ n. n ≤ 32) (sym (tallied (shapes c.us) first.0 first.1 which.Depth)) (h c.us c.vs which.Depth c.whole) in
     elim c.place [
       | inl i ↦ subst (λ z. depth_from 0 z ≤ 32) (sym i) le
       | inr i ↦

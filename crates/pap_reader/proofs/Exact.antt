@@ -15,11 +15,13 @@ use Rattle.pap_reader.specs.Tokens.{PlacedTag}
 use Rattle.pap_reader.specs.Marks.{Mark, marks_of, marks, shape, shapes}
 use Rattle.pap_reader.specs.Attributes.{mark_is_right}
 use Rattle.pap_reader.specs.Limits.{amount, most, tested, IsWithin, IsFirstOver}
+use Rattle.pap_reader.specs.CountDecisions.{tally}
 use Rattle.pap_reader.specs.VerdictDecisions.{IsFew, Work, builds, begun, built, first_over, within, entered, verdict}
 use Rattle.pap_reader.specs.Elements.{HasTree}
 use Rattle.pap_reader.specs.Faults.{Earns, IsClean}
 use Rattle.pap_reader.proofs.Completion.{Reached, is_front}
 use Rattle.pap_reader.proofs.Fronts.{steps_reached, steps_refused, ended_document, reached_start}
+use Rattle.pap_reader.proofs.OpenIfs.{tallied}
 use Rattle.pap_reader.proofs.Pieces.{says_some, said_whole, builds-append, saying}
 
 -- ---- lists of tags
@@ -62,24 +64,24 @@ snoc_cut (v ∷ a) (u ∷ b) c t e =
 -- the first of the amounts that is beyond its limit
 abbrev pub IsOver : List Shape → List Which → Which → Type 0
 IsOver ss [] w = ⊥
-IsOver ss (v ∷ vs) w = ((v ≡ w) × (most v < amount v ss)) ⊎ ((most v < amount v ss → ⊥) × IsOver ss vs w)
+IsOver ss (v ∷ vs) w = ((v ≡ w) × (most v < tally v ss)) ⊎ ((most v < tally v ss → ⊥) × IsOver ss vs w)
 
 abbrev Tested : List Shape → List Which → Option Which → Type 0
 Tested ss ws None = IsFew ss ws
 Tested ss ws (Some w) = IsOver ss ws w
 
-tested_more : (ss : List Shape) (v : Which) (vs : List Which) (o : Option Which) → amount v ss ≤ most v → Tested ss vs o → Tested ss (v ∷ vs) o
+tested_more : (ss : List Shape) (v : Which) (vs : List Which) (o : Option Which) → tally v ss ≤ most v → Tested ss vs o → Tested ss (v ∷ vs) o
 tested_more ss v vs None le h = (le, h)
 tested_more ss v vs (Some w) le h = inr ((λ k. omega arith), h)
 
 first_tested : (ss : List Shape) (ws : List Which) → Tested ss ws (first_over ss ws)
 first_tested ss [] = tt
-first_tested ss (w ∷ ws) = elim (cases_Bool (nat_lt (most w) (amount w ss))) [
-  | inl t ↦ subst (λ b. Tested ss (w ∷ ws) (if b then Some w else first_over ss ws)) (sym t) (inl (refl, ltb-true (most w) (amount w ss) t))
-  | inr t ↦ subst (λ b. Tested ss (w ∷ ws) (if b then Some w else first_over ss ws)) (sym t) (tested_more ss w ws (first_over ss ws) (let h = ltb-false (most w) (amount w ss) t in omega arith) (first_tested ss ws))
+first_tested ss (w ∷ ws) = elim (cases_Bool (nat_lt (most w) (tally w ss))) [
+  | inl t ↦ subst (λ b. Tested ss (w ∷ ws) (if b then Some w else first_over ss ws)) (sym t) (inl (refl, ltb-true (most w) (tally w ss) t))
+  | inr t ↦ subst (λ b. Tested ss (w ∷ ws) (if b then Some w else first_over ss ws)) (sym t) (tested_more ss w ws (first_over ss ws) (let h = ltb-false (most w) (tally w ss) t in omega arith) (first_tested ss ws))
 ]
 
-few_all : (ss : List Shape) → IsFew ss tested → (w : Which) → amount w ss ≤ most w
+few_all : (ss : List Shape) → IsFew ss tested → (w : Which) → tally w ss ≤ most w
 few_all ss h which.Bytes = omega arith
 few_all ss h which.Inputs = h.0
 few_all ss h which.Outputs = h.1.0
@@ -92,7 +94,7 @@ few_all ss h which.Depth = h.1.1.1.1.1.1.0
 few_start : IsFew [] tested
 few_start = (omega arith, (omega arith, (omega arith, (omega arith, (omega arith, (omega arith, (omega arith, tt)))))))
 
-over_some : (ss : List Shape) (ws : List Which) (w : Which) → IsOver ss ws w → (v : Which) × (most v < amount v ss)
+over_some : (ss : List Shape) (ws : List Which) (w : Which) → IsOver ss ws w → (v : Which) × (most v < tally v ss)
 over_some ss [] w h = absurd h
 over_some ss (v ∷ vs) w (inl h) = (v, h.1)
 over_some ss (v ∷ vs) w (inr h) = over_some ss vs w h.1
@@ -107,25 +109,31 @@ pub record Held (before : List PlacedTag) (os : List Open) (ws : List Work) : Ty
   pub few : IsWithin before
   pub clean : IsClean before
 
-over_first : (before : List PlacedTag) (t : PlacedTag) (ws : List Which) (w : Which) → IsOver (shapes before ++ map shape (marks_of t.tag)) ws w → IsFirstOver before t ws w
-over_first before t [] w h = h
-over_first before t (v ∷ vs) w (inl h) = inl (h.0, subst (λ ss. most v < amount v ss) (sym (shapes-one before t)) h.1)
-over_first before t (v ∷ vs) w (inr h) = inr ((λ k. h.0 (subst (λ ss. most v < amount v ss) (shapes-one before t) k)), over_first before t vs w h.1)
+-- what is counted after a tag is the amount
+abbrev AreCounted : List PlacedTag → PlacedTag → Type 0
+AreCounted before t = (w : Which) → tally w (shapes (before ++ (t ∷ []))) ≡ amount w (shapes (before ++ (t ∷ [])))
+
+over_first : (before : List PlacedTag) (t : PlacedTag) → AreCounted before t → (ws : List Which) (w : Which) → IsOver (shapes before ++ map shape (marks_of t.tag)) ws w → IsFirstOver before t ws w
+over_first before t same [] w h = h
+over_first before t same (v ∷ vs) w (inl h) =
+    inl (h.0, subst (λ n. most v < n) (same v) (subst (λ ss. most v < tally v ss) (sym (shapes-one before t)) h.1))
+over_first before t same (v ∷ vs) w (inr h) =
+    inr ((λ k. h.0 (subst (λ ss. most v < tally v ss) (shapes-one before t) (subst (λ n. most v < n) (sym (same v)) k))), over_first before t same vs w h.1)
 
 both_ways : (b : Bool) → b ≡ true → b ≡ false → ⊥
 both_ways b e f = absurd cc
 
-no_over : (before : List PlacedTag) (t : PlacedTag) (ws : List Which) (w : Which) → IsFew (shapes (before ++ (t ∷ []))) ws → IsFirstOver before t ws w → ⊥
-no_over before t [] w h k = k
-no_over before t (v ∷ vs) w h (inl k) = let a = h.0 in let b = k.1 in absurd (omega arith)
-no_over before t (v ∷ vs) w h (inr k) = no_over before t vs w h.1 k.1
+no_over : (before : List PlacedTag) (t : PlacedTag) → AreCounted before t → (ws : List Which) (w : Which) → IsFew (shapes (before ++ (t ∷ []))) ws → IsFirstOver before t ws w → ⊥
+no_over before t same [] w h k = k
+no_over before t same (v ∷ vs) w h (inl k) = absurd (omega (arith, h.0, k.1, same v))
+no_over before t same (v ∷ vs) w h (inr k) = no_over before t same vs w h.1 k.1
 
 none_cut : (a b : List PlacedTag) → [] ≡ a ++ b → a ≡ []
 none_cut [] b e = refl
 none_cut (t ∷ a) b e = absurd cc
 
 few_nothing : (w : Which) → amount w [] ≤ most w
-few_nothing w = few_all [] few_start w
+few_nothing w = subst (λ n. n ≤ most w) (tallied [] start refl w) (few_all [] few_start w)
 
 few_none : IsWithin []
 few_none a b w e = subst (λ x. amount w (shapes x) ≤ most w) (sym (none_cut a b e)) (few_nothing w)
@@ -148,7 +156,7 @@ judged_within before t os None r h f = (r, h, subst (λ ss. IsFew ss tested) (sy
 judged_within before t os (Some w) r h f = (
   (λ m. m (is_front (shapes (before ++ (t ∷ []))) os r.spelled r.once)),
   (λ g. both_ways (list_all mark_is_right (marks_of t.tag)) h g),
-  over_first before t tested w f,
+  over_first before t (tallied (shapes (before ++ (t ∷ []))) os r.read) tested w f,
 )
 
 judged_right : (before : List PlacedTag) (t : PlacedTag) (os : List Open) (b : Bool)
@@ -178,12 +186,12 @@ earns_not : (before : List PlacedTag) (t : PlacedTag) (os : List Open) (f : Read
 earns_not before t os (faults.Text at) h e = e
 earns_not before t os (faults.Element at) h e = e.1 (is_front (shapes (before ++ (t ∷ []))) os h.0.spelled h.0.once)
 earns_not before t os (faults.Attribute at) h e = both_ways (list_all mark_is_right (marks_of t.tag)) h.1 e.2
-earns_not before t os (faults.Many w) h e = no_over before t tested w h.2 e.2
+earns_not before t os (faults.Many w) h e = no_over before t (tallied (shapes (before ++ (t ∷ []))) os h.0.read) tested w h.2 e.2
 earns_not before t os faults.Memory h e = e
 
-within_more : (before : List PlacedTag) (t : PlacedTag) → IsWithin before → IsFew (shapes (before ++ (t ∷ []))) tested → IsWithin (before ++ (t ∷ []))
-within_more before t h k a b w e = elim (snoc_cut before a b t e) [
-  | inl f ↦ subst (λ x. amount w (shapes x) ≤ most w) (sym f) (few_all (shapes (before ++ (t ∷ []))) k w)
+within_more : (before : List PlacedTag) (t : PlacedTag) → AreCounted before t → IsWithin before → IsFew (shapes (before ++ (t ∷ []))) tested → IsWithin (before ++ (t ∷ []))
+within_more before t same h k a b w e = elim (snoc_cut before a b t e) [
+  | inl f ↦ subst (λ x. amount w (shapes x) ≤ most w) (sym f) (subst (λ n. n ≤ most w) (same w) (few_all (shapes (before ++ (t ∷ []))) k w))
   | inr f ↦ h a f.0 w f.1
 ]
 
@@ -213,7 +221,7 @@ held_more before t os os' ws h j = record {
   reached = j.0;
   works = ap (λ x. builds x (marks_of t.tag)) h.works ∙ sym (builds-append (marks before) (marks_of t.tag) begun) ∙ ap (builds begun) (sym (marks-one before t));
   right = ap (list_all mark_is_right) (marks-one before t) ∙ list_all-append mark_is_right (marks before) (marks_of t.tag) ∙ and_from (list_all mark_is_right (marks before)) (list_all mark_is_right (marks_of t.tag)) h.right j.1;
-  few = within_more before t h.few j.2;
+  few = within_more before t (tallied (shapes (before ++ (t ∷ []))) os' j.0.read) h.few j.2;
   clean = clean_more before t h.clean (λ f. earns_not before t os' f j);
 }
 

@@ -18,7 +18,8 @@ use Rattle.pap_reader.specs.Structure.{Shape, opens, closes, opens_internals}
 use Rattle.pap_reader.specs.NestingDecisions.{Open, fresh, with_child, is_inside, enter, is_second, step, start, is_ended}
 use Rattle.pap_reader.specs.Tags.{Attribute}
 use Rattle.pap_reader.specs.Marks.{begins, ends}
-use Rattle.pap_reader.specs.Limits.{counts, is_counted, amount, most, tested, deeper, depth_from}
+use Rattle.pap_reader.specs.Limits.{counts, is_counted, most, tested}
+use Rattle.pap_reader.specs.CountDecisions.{deeper, depth_from, tally}
 use Rattle.pap_reader.specs.VerdictDecisions.{IsFew, built, begun, Work, build, first_over, within, entered}
 use Rattle.pap_reader.specs.Trees.{RawBody, raw_body_of, tree_of}
 use Rattle.pap_reader.specs.Meaning.{later, Piece, nothing, both, outside, adds, or_done, piece_tree}
@@ -114,9 +115,9 @@ no_none w e = absurd cc
 -- no amount is over
 few_tested : (ss : List Shape) (ws : List Which) → first_over ss ws ≡ None → IsFew ss ws
 few_tested ss [] e = tt
-few_tested ss (w ∷ ws) e = elim (cases_Bool (nat_lt (most w) (amount w ss))) [
+few_tested ss (w ∷ ws) e = elim (cases_Bool (nat_lt (most w) (tally w ss))) [
   | inl t ↦ absurd (no_none w (sym (ap (λ b. if b then Some w else first_over ss ws) t) ∙ e))
-  | inr t ↦ ((let h = ltb-false (most w) (amount w ss) t in omega arith), few_tested ss ws (sym (ap (λ b. if b then Some w else first_over ss ws) t) ∙ e))
+  | inr t ↦ ((let h = ltb-false (most w) (tally w ss) t in omega arith), few_tested ss ws (sym (ap (λ b. if b then Some w else first_over ss ws) t) ∙ e))
 ]
 
 pub few_open : (ss : List Shape) → first_over ss tested ≡ None → IsFew ss tested

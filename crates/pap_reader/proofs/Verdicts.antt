@@ -17,7 +17,8 @@ use Rattle.pap_reader.specs.NestingDecisions.{Open, with_child, is_second, step,
 use Rattle.pap_reader.specs.Tags.{Attribute, Tag}
 use Rattle.pap_reader.specs.Marks.{Mark, begins, ends, alien, element_of, marks_by, marks_of, shape}
 use Rattle.pap_reader.specs.Attributes.{mark_is_right, is_right}
-use Rattle.pap_reader.specs.Limits.{amount, most, tested, deeper, depth_from}
+use Rattle.pap_reader.specs.Limits.{most, tested}
+use Rattle.pap_reader.specs.CountDecisions.{deeper, depth_from, tally}
 use Rattle.pap_reader.specs.VerdictDecisions.{IsFew, Work, build, builds, first_over, within, entered, verdict_on}
 use Rattle.pap_reader.specs.ReaderViews.{Stands, Refuses, one_verdict, Took, Judges}
 use Rattle.pap_reader.proofs.Structures.{same_refl}
@@ -27,8 +28,8 @@ use Rattle.pap_reader.proofs.ReaderSteps.{step_opens, closes_count, depth-one, f
 
 no_over : (ss : List Shape) (ws : List Which) → IsFew ss ws → first_over ss ws ≡ None
 no_over ss [] f = refl
-no_over ss (w ∷ ws) f = elim (cases_Bool (nat_lt (most w) (amount w ss))) [
-  | inl t ↦ let h = ltb-true (most w) (amount w ss) t in let g = f.0 in absurd (omega arith)
+no_over ss (w ∷ ws) f = elim (cases_Bool (nat_lt (most w) (tally w ss))) [
+  | inl t ↦ let h = ltb-true (most w) (tally w ss) t in let g = f.0 in absurd (omega arith)
   | inr t ↦ ap (λ b. if b then Some w else first_over ss ws) t ∙ no_over ss ws f.1
 ]
 
@@ -110,7 +111,7 @@ deeper_other : (d : ℕ) (e : Element) → is_complete (Some e) [] ≡ true → 
 deeper_other d elements.If f = absurd cc
 deeper_other d e f = refl
 
-same_amount : (ss : List Shape) (e : Element) → is_complete (Some e) [] ≡ true → (w : Which) → amount w (ss ++ (closes e ∷ [])) ≡ amount w ss
+same_amount : (ss : List Shape) (e : Element) → is_complete (Some e) [] ≡ true → (w : Which) → tally w (ss ++ (closes e ∷ [])) ≡ tally w ss
 same_amount ss e f which.Bytes = refl
 same_amount ss e f which.Depth = depth-one 0 ss (closes e) ∙ deeper_other (depth_from 0 ss) e f
 same_amount ss e f which.Inputs = closes_count which.Inputs ss e
@@ -120,9 +121,9 @@ same_amount ss e f which.Constants = closes_count which.Constants ss e
 same_amount ss e f which.Methods = closes_count which.Methods ss e
 same_amount ss e f which.Statements = closes_count which.Statements ss e
 
-same_over : (a b : List Shape) (ws : List Which) → ((w : Which) → amount w a ≡ amount w b) → first_over a ws ≡ first_over b ws
+same_over : (a b : List Shape) (ws : List Which) → ((w : Which) → tally w a ≡ tally w b) → first_over a ws ≡ first_over b ws
 same_over a b [] h = refl
-same_over a b (w ∷ ws) h = ap (λ n. if nat_lt (most w) n then Some w else first_over a ws) (h w) ∙ ap (λ o. if nat_lt (most w) (amount w b) then Some w else o) (same_over a b ws h)
+same_over a b (w ∷ ws) h = ap (λ n. if nat_lt (most w) n then Some w else first_over a ws) (h w) ∙ ap (λ o. if nat_lt (most w) (tally w b) then Some w else o) (same_over a b ws h)
 
 pair_over : (before : List Shape) (e : Element) → is_complete (Some e) [] ≡ true → first_over (before ++ (opens e ∷ closes e ∷ [])) tested ≡ first_over (before ++ (opens e ∷ [])) tested
 pair_over before e f =

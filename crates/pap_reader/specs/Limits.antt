@@ -1,5 +1,5 @@
 -- How much there may be of what (docs/PROFILE.md, "Limits").
-use Rattle.std.specs.Prelude.{◌≡◌, ◌≤◌, ◌<◌, ◌⊎◌, ℕ, suc, ◌-◌, Bool, true, false, List, [], ◌∷◌, ◌++◌, count_by}
+use Rattle.std.specs.Prelude.{◌≡◌, ◌≤◌, ◌<◌, ◌⊎◌, ℕ, ◌-◌, Bool, true, false, List, [], ◌∷◌, ◌++◌, count_by}
 use Rattle.pap_tree.specs.Limits.{most_inputs, most_outputs, most_internals, most_constants, most_methods, most_statements, most_nesting}
 use Rattle.pap_reader.specs.declared.element.Element.{Element}
 use Rattle.pap_reader.specs.declared.element.Element.TheVariants.{Input, Output, Internal, Constant, Method, Eval, Execute, If}
@@ -37,20 +37,19 @@ abbrev pub counts : Which → Shape → Bool
 counts w (opens e) = is_counted w e
 counts w _ = false
 
--- how many IFs are open after one shape more
-abbrev pub deeper : ℕ → Shape → ℕ
-deeper d (opens If) = suc d
-deeper d (closes If) = d - 1
-deeper d _ = d
+-- whether the shape begins an IF, and whether it ends one
+abbrev pub begins_if : Shape → Bool
+begins_if (opens If) = true
+begins_if _ = false
 
-abbrev pub depth_from : ℕ → List Shape → ℕ
-depth_from d [] = d
-depth_from d (s ∷ ss) = depth_from (deeper d s) ss
+abbrev pub ends_if : Shape → Bool
+ends_if (closes If) = true
+ends_if _ = false
 
--- how much there is of it after these shapes: the elements that count, and the open IFs
+-- how much there is of it after these shapes: the elements that count, and the IFs that began less those that ended
 abbrev pub amount : Which → List Shape → ℕ
 amount which.Bytes ss = 0
-amount which.Depth ss = depth_from 0 ss
+amount which.Depth ss = count_by begins_if ss - count_by ends_if ss
 amount w ss = count_by (counts w) ss
 
 -- Each amount is within its limit, after each of the tags.

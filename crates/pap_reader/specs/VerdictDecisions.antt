@@ -12,7 +12,8 @@ use Rattle.pap_reader.specs.Marks.{Mark, begins, ends, marks_of, shape}
 use Rattle.pap_reader.specs.Attributes.{mark_is_right}
 use Rattle.pap_reader.specs.Trees.{ElementTree}
 use Rattle.pap_reader.specs.Meaning.{Piece, nothing, both, says, piece_tree}
-use Rattle.pap_reader.specs.Limits.{amount, most, tested}
+use Rattle.pap_reader.specs.Limits.{most, tested}
+use Rattle.pap_reader.specs.CountDecisions.{tally}
 
 -- an open element's attributes, and what its content says so far
 pub record Work : Type 0 where
@@ -38,15 +39,15 @@ abbrev pub built : List Work → ElementTree
 built [] = piece_tree nothing
 built (w ∷ ws) = piece_tree w.piece
 
--- the amounts are within their limits
+-- the counts are within their limits
 abbrev pub IsFew : List Shape → List Which → Type 0
 IsFew ss [] = Unit {0}
-IsFew ss (w ∷ ws) = (amount w ss ≤ most w) × IsFew ss ws
+IsFew ss (w ∷ ws) = (tally w ss ≤ most w) × IsFew ss ws
 
--- the first amount that is beyond its limit
+-- the first count that is beyond its limit
 abbrev pub first_over : List Shape → List Which → Option Which
 first_over ss [] = None
-first_over ss (w ∷ ws) = if nat_lt (most w) (amount w ss) then Some w else first_over ss ws
+first_over ss (w ∷ ws) = if nat_lt (most w) (tally w ss) then Some w else first_over ss ws
 
 abbrev pub within : Option Which → List Open → Result (List Open) ReadFault
 within (Some w) os = Err (faults.Many w)

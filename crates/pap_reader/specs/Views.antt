@@ -22,7 +22,8 @@ use Rattle.pap_reader.specs.Skipped.{IsPassed}
 use Rattle.pap_reader.specs.Attributes.{value_of, is_met_by, a_name, a_type}
 use Rattle.pap_reader.specs.Trees.{raw_declaration_of}
 use Rattle.pap_reader.specs.Meaning.{declared, text_of}
-use Rattle.pap_reader.specs.Limits.{amount, is_counted, deeper}
+use Rattle.pap_reader.specs.Limits.{is_counted}
+use Rattle.pap_reader.specs.CountDecisions.{deeper, tally}
 
 -- ---- what does not stand at a place
 
@@ -120,13 +121,13 @@ AddsChild old new e =
 
 -- the counts are those of the shapes
 pub record Tallies (c : Counts) (ss : List Shape) : Type 0 where
-  pub inputs : c.inputs ≡ amount which.Inputs ss
-  pub outputs : c.outputs ≡ amount which.Outputs ss
-  pub internals : c.internals ≡ amount which.Internals ss
-  pub constants : c.constants ≡ amount which.Constants ss
-  pub methods : c.methods ≡ amount which.Methods ss
-  pub statements : c.statements ≡ amount which.Statements ss
-  pub depth : c.depth ≡ amount which.Depth ss
+  pub inputs : c.inputs ≡ tally which.Inputs ss
+  pub outputs : c.outputs ≡ tally which.Outputs ss
+  pub internals : c.internals ≡ tally which.Internals ss
+  pub constants : c.constants ≡ tally which.Constants ss
+  pub methods : c.methods ≡ tally which.Methods ss
+  pub statements : c.statements ≡ tally which.Statements ss
+  pub depth : c.depth ≡ tally which.Depth ss
 
 -- one more fits
 pub record IsSmall (c : Counts) : Type 0 where

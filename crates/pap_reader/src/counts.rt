@@ -1,7 +1,8 @@
 //! How much there is of what there may not be too much of.
 
 ghost use Rattle.std.specs.Prelude.{◌≡◌, ◌-◌, ◌<◌, List, []};
-ghost use Rattle.pap_reader.specs.Limits.{tested, deeper};
+ghost use Rattle.pap_reader.specs.Limits.{tested};
+ghost use Rattle.pap_reader.specs.CountDecisions.{deeper};
 ghost use Rattle.pap_reader.specs.VerdictDecisions.{first_over};
 ghost use Rattle.pap_reader.specs.Structure.{Shape, closes};
 ghost use Rattle.pap_reader.specs.Views.{Tallies, IsMore, IsSmall};
