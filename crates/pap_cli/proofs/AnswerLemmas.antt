@@ -1,15 +1,13 @@
 -- Every two texts have one answer of `once`, with values as those of words are; what `check` prints of a plan holds.
 use Rattle.std.proofs.Common.{◌≡◌, ℕ, List, [], ◌∷◌, ◌++◌, refl, sym, ap, ◌∙◌, subst, arith}
-use Rattle.std.specs.Prelude.{Some, option_map, All, Result, Ok, Err, codes, fold}
-use Rattle.std.specs.declared.cmp.Ordering.{Ordering}
-use Rattle.std.specs.declared.cmp.Ordering.TheVariants.{Less, Equal, Greater}
-use Rattle.std.proofs.lemmas.List.Elements.{All-nil, All-cons, All-head, All-tail}
+use Rattle.std.specs.Prelude.{Some, option_map, All, Result, Ok, Err, codes}
+use Rattle.std.specs.List.{AllZip}
+use Rattle.std.proofs.lemmas.List.Elements.{All-nil, All-cons}
+use Rattle.std.proofs.lemmas.List.Sorted.{All-permutation}
 use Rattle.scaled_decimal.specs.Decimals.{Decimal}
 use Rattle.pap_tree.specs.Flowchart.{Flowchart}
 use Rattle.limits_file.specs.declared.slots.Slot.{Slot}
 use Rattle.payroll_records.specs.declared.values.NamedValue.{NamedValue}
-use Rattle.payroll_records.specs.NamedValues.{name_cmp, with_value}
-use Rattle.rising_lists.specs.Keyed.{put_by}
 use Rattle.carry_bindings.specs.declared.filling.Filled.{Filled}
 use Rattle.carry_bindings.specs.declared.filling.Filled.TheVariants.{Inputs, State}
 use Rattle.carry_bindings.specs.declared.filling.Blocked.TheVariants as blocked
@@ -19,7 +17,7 @@ use Rattle.pap_plan.specs.declared.refusal.PlanRefusal.{PlanRefusal}
 use Rattle.pap_plan.specs.Acceptance.{Meaning, Answers, IsAccepted}
 use Rattle.pap_plan.specs.Inputs.{AreSlots}
 use Rattle.pap_plan.proofs.Laws as plans
-use Rattle.payroll_records.specs.ValueWords.{Give, AreValueWords}
+use Rattle.payroll_records.specs.ValueWords.{AreValueWords, IsValueWord}
 use Rattle.pay_run.specs.Accepted.{Accepted}
 use Rattle.pay_run.specs.Runs.{IsKeptValue}
 use Rattle.pay_run.proofs.Laws.{filled_safe, filled_slots}
@@ -98,24 +96,11 @@ printed_holds plan limits more steps answer h read = by h.verdict h.accepted h.i
 
 -- ---- the values of words are kept
 
-given_kept : (words : List (List ℕ)) (given : List NamedValue) → Give words given → All IsKeptValue given
+given_kept : (words : List (List ℕ)) (given : List NamedValue) → AllZip IsValueWord words given → All IsKeptValue given
 given_kept [] [] h = All-nil IsKeptValue
 given_kept [] (v ∷ vs) h = absurd h
 given_kept (w ∷ words) [] h = absurd h
 given_kept (w ∷ words) (v ∷ vs) h = All-cons IsKeptValue v vs h.0.kept (given_kept words vs h.1)
 
-put_kept : (v : NamedValue) (xs : List NamedValue) → IsKeptValue v → All IsKeptValue xs → All IsKeptValue (with_value v xs)
-put_kept v [] k h = All-cons IsKeptValue v [] k (All-nil IsKeptValue)
-put_kept v (x ∷ xs) k h = by (name_cmp v.name x.name) (put_kept v xs k (All-tail IsKeptValue x xs h))
-  where
-    by : (o : Ordering) → All IsKeptValue (with_value v xs) → All IsKeptValue (put_by o v x xs (with_value v xs))
-    by Less more = All-cons IsKeptValue v (x ∷ xs) k h
-    by Equal more = All-cons IsKeptValue v xs k (All-tail IsKeptValue x xs h)
-    by Greater more = All-cons IsKeptValue x (with_value v xs) (All-head IsKeptValue x xs h) more
-
-sorted_kept : (given acc : List NamedValue) → All IsKeptValue given → All IsKeptValue acc → All IsKeptValue (fold (λ sorted v. with_value v sorted) acc given)
-sorted_kept [] acc h k = k
-sorted_kept (v ∷ vs) acc h k = sorted_kept vs (with_value v acc) (All-tail IsKeptValue v vs h) (put_kept v acc (All-head IsKeptValue v vs h) k)
-
 pub words_kept : (words : List (List ℕ)) (values : List NamedValue) → AreValueWords words values → All IsKeptValue values
-words_kept words values h = subst (All IsKeptValue) (sym h.sorted) (sorted_kept h.given [] (given_kept words h.given h.give) (All-nil IsKeptValue))
+words_kept words values h = All-permutation IsKeptValue h.given values h.same (given_kept words h.given h.give)

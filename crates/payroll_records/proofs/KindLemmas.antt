@@ -68,6 +68,10 @@ rising_once (x ∷ xs) (y ∷ ys) h k same =
     let rest : xs ≡ ys = rising_once xs ys h.1 k.1 (tails_same x y xs ys h.0 k.0 first same) in
     cc
 
+pub members_once : (xs ys : List NamedValue) → IsRising name_cmp name_of xs → IsRising name_cmp name_of ys → ((v : NamedValue) → Contains xs v → Contains ys v) → ((v : NamedValue) → Contains ys v → Contains xs v) → xs ≡ ys
+unfolding SameMembers
+members_once xs ys h k there back = rising_once xs ys h k (λ v. (there v, back v))
+
 pub same_record : (r s : Record) → r.employee ≡ s.employee → r.day ≡ s.day → r.values ≡ s.values → r ≡ s
 same_record r s e d v =
     ap (λ (x : Text). make x r.day r.values) e ∙ ap (λ (x : Day). make s.employee x r.values) d ∙ ap (λ (x : List NamedValue). make s.employee s.day x) v

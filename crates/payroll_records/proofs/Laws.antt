@@ -6,5 +6,5 @@ pub use Rattle.payroll_records.proofs.SomeLemmas.{table_some}
 pub use Rattle.payroll_records.proofs.DecidedLemmas.{Decided, both, by_iff, true_decided, eq_decided, text_decided, month_decided, day_spelled_decided, day_decided}
 pub use Rattle.payroll_records.proofs.SpellingLemmas.{same_day, month_numbers, day_numbers, months_once, days_once, whens_once, when_written}
 pub use Rattle.payroll_records.proofs.KindLemmas.{same_record}
-pub use Rattle.payroll_records.proofs.ValueWordLemmas.{cut_before, value_once, value_word_decided, give_more, values_once, AreSoFar, inserted, no_value, twice, too_many}
+pub use Rattle.payroll_records.proofs.ValueWordLemmas.{cut_before, value_once, value_word_decided, given_apart, value_count, values_once, no_words, one_more, none_of_differ, inserted, no_value, twice, too_many}
 pub use Rattle.payroll_records.proofs.ValueLemmas.{at_place, place_within}

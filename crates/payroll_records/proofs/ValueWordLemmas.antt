@@ -1,28 +1,36 @@
 -- Words NAME=VALUE and the values that they give.
-use Rattle.std.proofs.Common.{◌≡◌, ◌≢◌, ◌==◌, ℕ, zero, suc, ◌+◌, ◌<◌, ◌≤◌, Bool, true, false, cond, List, [], ◌∷◌, ◌++◌, length, take, drop, get_or, refl, sym, ap, ◌∙◌, subst, arith, add-one, length-append, inl, inr}
-use Rattle.std.specs.Prelude.{Option, Some, None, IsTrue, IsSome, IsNone, fold, if◌then◌else◌, ◌&&◌, nat_lt, position}
-use Rattle.std.specs.List.{AllPairs, list_all, before_first, position_or_len}
+use Rattle.std.proofs.Common.{◌≡◌, ◌≢◌, ◌==◌, ℕ, suc, ◌+◌, ◌<◌, Bool, true, false, cond, List, [], ◌∷◌, ◌++◌, length, map, take, drop, get_or, refl, sym, ap, ◌∙◌, subst, arith, add-one, length-append, inl, inr}
+use Rattle.std.specs.Prelude.{Option, Some, None, IsTrue, IsSome, IsNone, if◌then◌else◌, ◌&&◌, nat_lt, position}
+use Rattle.std.specs.Bool.{one_answer}
+use Rattle.std.specs.List.{All, AllByRecursion, AllPairs, AllZip, IsDistinct, list_all, before_first, position_or_len}
+use Rattle.std.specs.List.Sorted.{IsPermutation}
 use Rattle.std.specs.Ordering.{is_eq}
+use Rattle.std.specs.Str.{bytes_eq}
 use Rattle.std.specs.declared.cmp.Ordering.{Ordering}
 use Rattle.std.specs.declared.cmp.Ordering.TheVariants.{Less, Equal, Greater}
 use Rattle.std.proofs.Math.Seq.{get_or-append_seam, take-append_seam, drop-append-add, drop-cons}
 use Rattle.std.proofs.lemmas.Bool.{false≢true, eqb-true, lt-ltb}
-use Rattle.std.proofs.lemmas.Cmp.{nat_list_cmp_total}
-use Rattle.std.proofs.lemmas.List.{get_or_append_left, take-append-drop}
-use Rattle.std.proofs.lemmas.List.Quantifiers.{all_pairs_push, position-Some}
-use Rattle.std.proofs.lemmas.List.Sums.{fold-append}
+use Rattle.std.proofs.lemmas.Cmp.{nat_list_cmp_total, tied_back}
+use Rattle.std.proofs.lemmas.List.{get_or-map, get_or_append_left, length-map, take-append-drop}
+use Rattle.std.proofs.lemmas.List.Elements.{All-contains, Contains-get_or}
+use Rattle.std.proofs.lemmas.List.Quantifiers.{position-Some}
+use Rattle.std.proofs.lemmas.List.Sorted.{Contains-permutation, IsPermutation-cons, IsPermutation-map, IsPermutation-middle, IsPermutation-push_more, IsPermutation-refl, IsPermutation-sym, IsPermutation-trans, length_permutation}
+use Rattle.std.proofs.lemmas.Map.Keys.{IsDistinct-IsPermutation, IsDistinct-cons, IsDistinct-from_apart}
+use Rattle.std.proofs.lemmas.Map.Made.{AllPairs-from_IsDistinct}
 use Rattle.std.proofs.lemmas.Map.Text.{is_eq-slice_cmp}
 use Rattle.std.proofs.lemmas.Slice.Eq.{bytes_eq-Decides}
-use Rattle.rising_lists.specs.Keyed.{put_by}
-use Rattle.rising_lists.proofs.Laws.{at_key_put}
+use Rattle.std.proofs.lemmas.Slice.Zip.{AllZip-long, all_zipped_more}
+use Rattle.rising_lists.specs.Keyed.{AreAbove, IsRising, put_by}
+use Rattle.rising_lists.proofs.Laws.{contains_of_in, found_in, in_found, in_of_contains, none_some, put_rising, text_same}
 use Rattle.scaled_decimal.specs.Decimals.{Decimal}
 use Rattle.scaled_decimal.specs.Limits.{IsKept}
 use Rattle.scaled_decimal.specs.NumberTexts.{Spells}
 use Rattle.scaled_decimal.proofs.Laws.{number_once}
 use Rattle.pap_tree.specs.Names.{is_word, is_name}
 use Rattle.payroll_records.proofs.DecidedLemmas.{Decided, true_decided, number_decided}
+use Rattle.payroll_records.proofs.KindLemmas.{members_once}
 use Rattle.payroll_records.specs.NamedValues.{name_cmp, name_of, value_at, with_value}
-use Rattle.payroll_records.specs.ValueWords.{IsValueWord, Give, in_order, AreValueWords}
+use Rattle.payroll_records.specs.ValueWords.{IsValueWord, AreValueWords}
 use Rattle.payroll_records.specs.declared.values.NamedValue.{NamedValue}
 
 -- ---- one word
@@ -148,15 +156,61 @@ value_word_decided word = by (position is_equals word) refl
       ]
     ]
 
+-- ---- values in order
+
+-- the names of some values
+abbrev names_in : List NamedValue → List (List ℕ)
+names_in values = map name_of values
+
+bytes_flip : (a b : List ℕ) → bytes_eq a b ≡ bytes_eq b a
+bytes_flip a b = one_answer (bytes_eq a b) (bytes_eq b a) (bytes_eq-Decides a b)
+    (λ e. sym ((bytes_eq-Decides b a).0 e), λ e. (bytes_eq-Decides b a).1 (sym e))
+
+less_apart : (a b : List ℕ) → name_cmp a b ≡ Less → bytes_eq a b ≡ false
+less_apart a b less = sym (is_eq-slice_cmp a b) ∙ ap is_eq less
+
+above_apart : (name : List ℕ) (values : List NamedValue) → AreAbove name_cmp name_of name values → AllByRecursion (λ n. bytes_eq name n ≡ false) (names_in values)
+above_apart name [] h = tt
+above_apart name (v ∷ values) h = (less_apart name v.name h.0, above_apart name values h.1)
+
+rising_distinct : (values : List NamedValue) → IsRising name_cmp name_of values → IsDistinct bytes_eq (names_in values)
+rising_distinct [] h = IsDistinct-from_apart bytes_eq [] (λ i j d less within. absurd (omega (arith, within)))
+rising_distinct (v ∷ values) h = IsDistinct-cons bytes_eq v.name (names_in values) (above_apart v.name values h.0) (rising_distinct values h.1)
+
+-- values whose names rise once they are in order have different names
+given_distinct : (given values : List NamedValue) → IsPermutation given values → IsRising name_cmp name_of values → IsDistinct bytes_eq (names_in given)
+given_distinct given values same rising =
+    IsDistinct-IsPermutation bytes_eq bytes_flip (names_in values) (names_in given)
+    (IsPermutation-map name_of values given (IsPermutation-sym given values same)) (rising_distinct values rising)
+
+pub given_apart : (words : List (List ℕ)) (values : List NamedValue) (h : AreValueWords words values) → AllPairs (λ v w. v.name ≢ w.name) h.given
+given_apart words values h i j d less within same =
+    let at = AllPairs-from_IsDistinct bytes_eq-Decides (names_in h.given) (given_distinct h.given values h.same h.are.rising) i j d.name less (omega (arith, within, length-map h.given name_of)) in
+    at (get_or-map name_of h.given i d d.name (omega (arith, less, within)) ∙ same ∙ sym (get_or-map name_of h.given j d d.name within))
+
+not_here : (t : Bool) (v : NamedValue) (o : Option NamedValue) → (if t then Some v else o) ≡ None → (t ≡ false) × (o ≡ None)
+not_here true v o e = cc
+not_here false v o e = (refl, e)
+
+-- a value under a new name is one more
+put_permutes : (v : NamedValue) (xs : List NamedValue) → value_at xs v.name ≡ None → IsPermutation (v ∷ xs) (with_value v xs)
+put_permutes v [] new = IsPermutation-refl (v ∷ [])
+put_permutes v (x ∷ xs) new =
+    let n = not_here (is_eq (name_cmp x.name v.name)) x (value_at xs v.name) new in
+    by (name_cmp v.name x.name) refl n.0 (put_permutes v xs n.1)
+  where
+    by : (o : Ordering) → name_cmp v.name x.name ≡ o → is_eq (name_cmp x.name v.name) ≡ false → IsPermutation (v ∷ xs) (with_value v xs) →
+        IsPermutation (v ∷ (x ∷ xs)) (put_by o v x xs (with_value v xs))
+    by Less e apart more = IsPermutation-refl (v ∷ (x ∷ xs))
+    by Equal e apart more = absurd (false≢true (sym apart ∙ ap is_eq (tied_back nat_list_cmp_total v.name x.name e)))
+    by Greater e apart more =
+        IsPermutation-trans (v ∷ (x ∷ xs)) (x ∷ (v ∷ xs)) (x ∷ with_value v xs)
+        (IsPermutation-sym (x ∷ (v ∷ xs)) (v ∷ (x ∷ xs)) (IsPermutation-middle (x ∷ []) v xs))
+        (IsPermutation-cons x (v ∷ xs) (with_value v xs) more)
+
 -- ---- many words
 
-pub give_more : (words : List (List ℕ)) (given : List NamedValue) (word : List ℕ) (v : NamedValue) → Give words given → IsValueWord word v → Give (words ++ word ∷ []) (given ++ v ∷ [])
-give_more [] [] word v h k = (k, tt)
-give_more [] (g ∷ given) word v h k = absurd h
-give_more (w ∷ words) [] word v h k = absurd h
-give_more (w ∷ words) (g ∷ given) word v h k = (h.0, give_more words given word v h.1 k)
-
-give_once : (words : List (List ℕ)) (a b : List NamedValue) → Give words a → Give words b → a ≡ b
+give_once : (words : List (List ℕ)) (a b : List NamedValue) → AllZip IsValueWord words a → AllZip IsValueWord words b → a ≡ b
 give_once [] [] [] h k = refl
 give_once [] [] (y ∷ b) h k = absurd k
 give_once [] (x ∷ a) b h k = absurd h
@@ -170,10 +224,10 @@ record Parted (before : List (List ℕ)) (word : List ℕ) (given : List NamedVa
   pub here : NamedValue
   pub later : List NamedValue
   pub whole : given ≡ first ++ (here ∷ later)
-  pub before_it : Give before first
+  pub before_it : AllZip IsValueWord before first
   pub is : IsValueWord word here
 
-give_parts : (before : List (List ℕ)) (word : List ℕ) (after : List (List ℕ)) (given : List NamedValue) → Give (before ++ (word ∷ after)) given → Parted before word given
+give_parts : (before : List (List ℕ)) (word : List ℕ) (after : List (List ℕ)) (given : List NamedValue) → AllZip IsValueWord (before ++ (word ∷ after)) given → Parted before word given
 give_parts [] word after [] h = absurd h
 give_parts [] word after (v ∷ vs) h = record { first = []; here = v; later = vs; whole = refl; before_it = tt; is = h.0 }
 give_parts (w ∷ before) word after [] h = absurd h
@@ -181,90 +235,44 @@ give_parts (w ∷ before) word after (v ∷ vs) h =
     let p = give_parts before word after vs h.1 in
     record { first = v ∷ p.first; here = p.here; later = p.later; whole = ap (λ z. v ∷ z) p.whole; before_it = (h.0, p.before_it); is = p.is }
 
--- ---- values in order
+-- each word gives one value
+pub value_count : (words : List (List ℕ)) (values : List NamedValue) → AreValueWords words values → length values ≡ length words
+value_count words values h = length_permutation h.given values h.same ∙ AllZip-long IsValueWord words h.given h.give
 
-Differ : List NamedValue → List ℕ → Type 0
-Differ g x = (k : ℕ) (d : NamedValue) → k < length g → (get_or g k d).name ≢ x
+-- a name that has no value is none of those that the words give, and the other way round
+differ_of_none : (words : List (List ℕ)) (values : List NamedValue) (name : List ℕ) (h : AreValueWords words values) → value_at values name ≡ None → All (λ v. v.name ≢ name) h.given
+differ_of_none words values name h none k d within same =
+    let v = get_or h.given k d in
+    let there = Contains-permutation h.given values v h.same (Contains-get_or h.given k d within) in
+    let found = in_found name_cmp nat_list_cmp_total name_of values v h.are.rising (in_of_contains values v there) in
+    none_some v (sym none ∙ ap (value_at values) (sym same) ∙ found)
 
-abbrev step : List NamedValue → NamedValue → List NamedValue
-step sorted v = with_value v sorted
-
-at_put : (v : NamedValue) (xs : List NamedValue) (x : List ℕ) → value_at (with_value v xs) x ≡ (if is_eq (name_cmp v.name x) then Some v else value_at xs x)
-at_put v xs x = at_key_put name_cmp nat_list_cmp_total name_of v xs x
-
-not_here : (t : Bool) (v : NamedValue) (o : Option NamedValue) → (if t then Some v else o) ≡ None → (t ≡ false) × (o ≡ None)
-not_here true v o e = cc
-not_here false v o e = (refl, e)
-
-is_self : (a : List ℕ) → is_eq (name_cmp a a) ≡ true
-is_self a = is_eq-slice_cmp a a ∙ (bytes_eq-Decides a a).1 refl
-
-apart : (a b : List ℕ) → is_eq (name_cmp a b) ≡ false → a ≢ b
-apart a b h e = false≢true (sym h ∙ ap (λ z. is_eq (name_cmp a z)) (sym e) ∙ is_self a)
-
-unequal : (a b : List ℕ) → a ≢ b → is_eq (name_cmp a b) ≡ false
-unequal a b ne = elim (is_eq (name_cmp a b)) as (λ t. is_eq (name_cmp a b) ≡ t → t ≡ false) [
-  | true ↦ λ e. absurd (ne ((bytes_eq-Decides a b).0 (sym (is_eq-slice_cmp a b) ∙ e)))
-  | false ↦ λ e. refl
-] refl
-
--- a name that isn't there is none of those that were put
-absent : (g acc : List NamedValue) (x : List ℕ) → value_at (fold step acc g) x ≡ None → (value_at acc x ≡ None) × Differ g x
-unfolding Differ
-absent [] acc x h = (h, λ k d lt. absurd (omega arith))
-absent (v ∷ g) acc x h =
-    let r = absent g (with_value v acc) x h in
-    let n = not_here (is_eq (name_cmp v.name x)) v (value_at acc x) (sym (at_put v acc x) ∙ r.0) in
-    (n.1, at n.0 r.1)
+pub none_of_differ : (words : List (List ℕ)) (values : List NamedValue) (name : List ℕ) (h : AreValueWords words values) → All (λ v. v.name ≢ name) h.given → value_at values name ≡ None
+none_of_differ words values name h differ = by (value_at values name) refl
   where
-    at : is_eq (name_cmp v.name x) ≡ false → Differ g x → Differ (v ∷ g) x
-    at e m zero d lt = apart v.name x e
-    at e m (suc k) d lt = m k d (omega arith)
-
--- where all names differ from one, it isn't there
-present : (g acc : List NamedValue) (x : List ℕ) → value_at acc x ≡ None → Differ g x → value_at (fold step acc g) x ≡ None
-unfolding Differ
-present [] acc x h m = h
-present (v ∷ g) acc x h m =
-    present g (with_value v acc) x
-    (at_put v acc x ∙ ap (λ t. if t then Some v else value_at acc x) (unequal v.name x (m 0 v (omega arith))) ∙ h)
-    (λ k d lt. m (suc k) d (omega arith))
-
--- one more value
-length_by : (o : Ordering) (y x : NamedValue) (xs rest : List NamedValue) → is_eq o ≡ false → length rest ≡ length xs + 1 → length (put_by o y x xs rest) ≡ length (x ∷ xs) + 1
-length_by Less y x xs rest e h = omega arith
-length_by Equal y x xs rest e h = cc
-length_by Greater y x xs rest e h = omega arith
-
-turned : (a b : List ℕ) → is_eq (name_cmp a b) ≡ false → is_eq (name_cmp b a) ≡ false
-turned a b h = unequal b a (λ e. apart a b h (sym e))
-
-length_put : (v : NamedValue) (xs : List NamedValue) → value_at xs v.name ≡ None → length (with_value v xs) ≡ length xs + 1
-length_put v [] h = refl
-length_put v (x ∷ xs) h =
-    let n = not_here (is_eq (name_cmp x.name v.name)) x (value_at xs v.name) h in
-    length_by (name_cmp v.name x.name) v x xs (with_value v xs) (turned x.name v.name n.0) (length_put v xs n.1)
+    by : (o : Option NamedValue) → value_at values name ≡ o → o ≡ None
+    by None e = refl
+    by (Some v) e =
+        let found = found_in name_cmp name_of values name v e in
+        let there = Contains-permutation values h.given v (IsPermutation-sym h.given values h.same) (contains_of_in values v found.0) in
+        absurd (All-contains (λ w. w.name ≢ name) h.given v differ there (text_same v.name name found.1))
 
 -- ---- the values of words, word by word
 
-pub record AreSoFar (words : List (List ℕ)) (values : List NamedValue) : Type 0 where
-  pub are : AreValueWords words values
-  pub count : length values ≡ length words
+pub no_words : AreValueWords [] []
+no_words = record { given = []; give = tt; same = IsPermutation-refl []; are = record { rising = tt; few = omega arith } }
 
-one_more : (words : List (List ℕ)) (values : List NamedValue) (word : List ℕ) (v : NamedValue) → AreSoFar words values → IsValueWord word v → value_at values v.name ≡ None → length values < 256 → AreSoFar (words ++ word ∷ []) (with_value v values)
-unfolding Differ
+pub one_more : (words : List (List ℕ)) (values : List NamedValue) (word : List ℕ) (v : NamedValue) → AreValueWords words values → IsValueWord word v → value_at values v.name ≡ None → length values < 256 → AreValueWords (words ++ word ∷ []) (with_value v values)
 one_more words values word v h is new small =
-    let given = h.are.given in
-    let differ = (absent given [] v.name (subst (λ s. value_at s v.name ≡ None) h.are.sorted new)).1 in
+    let put = put_permutes v values new in
     record {
+      given = h.given ++ v ∷ [];
+      give = all_zipped_more IsValueWord words h.given word v h.give is;
+      same = IsPermutation-push_more h.given values (with_value v values) v h.same put;
       are = record {
-        given = given ++ v ∷ [];
-        give = give_more words given word v h.are.give is;
-        distinct = all_pairs_push (λ a b. a.name ≢ b.name) given v h.are.distinct differ;
-        few = omega (arith, h.count, length-append words (word ∷ []));
-        sorted = ap (λ s. with_value v s) h.are.sorted ∙ sym (fold-append step [] given (v ∷ []));
+        rising = put_rising name_cmp nat_list_cmp_total name_of v values h.are.rising;
+        few = omega (arith, small, length_permutation (v ∷ values) (with_value v values) put);
       };
-      count = length_put v values new ∙ omega (arith, h.count, length-append words (word ∷ []));
     }
 
 none_from : (o : Option NamedValue) → (IsSome o → ⊥) → o ≡ None
@@ -272,17 +280,16 @@ none_from None h = refl
 none_from (Some x) h = absurd (h refl)
 
 -- a value that was inserted
-pub inserted : (words : List (List ℕ)) (values after : List NamedValue) (word : List ℕ) (v : NamedValue) → AreSoFar words values → IsValueWord word v → after ≡ with_value v values →
-    (IsSome (value_at values v.name) → ⊥) → (IsNone (value_at values v.name) × (length values ≡ 256) → ⊥) → length values ≤ 256 → AreSoFar (words ++ word ∷ []) after
-inserted words values after word v h is e not_twice not_full few =
+pub inserted : (words : List (List ℕ)) (values after : List NamedValue) (word : List ℕ) (v : NamedValue) → AreValueWords words values → IsValueWord word v → after ≡ with_value v values →
+    (IsSome (value_at values v.name) → ⊥) → (IsNone (value_at values v.name) × (length values ≡ 256) → ⊥) → AreValueWords (words ++ word ∷ []) after
+inserted words values after word v h is e not_twice not_full =
     let new = none_from (value_at values v.name) not_twice in
     let apart : length values ≢ 256 = λ full. not_full (subst (λ (o : Option NamedValue). IsNone o) (sym new) refl, full) in
-    subst (λ l. AreSoFar (words ++ word ∷ []) l) (sym e) (one_more words values word v h is new (omega arith))
+    subst (λ l. AreValueWords (words ++ word ∷ []) l) (sym e) (one_more words values word v h is new (omega (arith, apart, h.are.few)))
 
 -- ---- why words give no values
 
-differ_before : (given first later : List NamedValue) (v : NamedValue) → given ≡ first ++ (v ∷ later) → AllPairs (λ a b. a.name ≢ b.name) given → Differ first v.name
-unfolding Differ
+differ_before : (given first later : List NamedValue) (v : NamedValue) → given ≡ first ++ (v ∷ later) → AllPairs (λ a b. a.name ≢ b.name) given → All (λ w. w.name ≢ v.name) first
 differ_before given first later v whole distinct k d lt e =
     let within : length first < length given = omega (arith, ap length whole, length-append first (v ∷ later)) in
     distinct k (length first) d lt within
@@ -294,22 +301,25 @@ pub no_value : (before after : List (List ℕ)) (word : List ℕ) → ((v : Name
 no_value before after word none values h = let p = give_parts before word after h.given h.give in none p.here p.is
 
 -- a name that stands twice
-pub twice : (before after : List (List ℕ)) (word : List ℕ) (sorted : List NamedValue) (v : NamedValue) → AreSoFar before sorted → IsValueWord word v → IsSome (value_at sorted v.name) → (values : List NamedValue) → ¬ (AreValueWords (before ++ (word ∷ after)) values)
+pub twice : (before after : List (List ℕ)) (word : List ℕ) (sorted : List NamedValue) (v : NamedValue) → AreValueWords before sorted → IsValueWord word v → IsSome (value_at sorted v.name) → (values : List NamedValue) → ¬ (AreValueWords (before ++ (word ∷ after)) values)
 twice before after word sorted v h is there values k =
     let p = give_parts before word after k.given k.give in
     let same : p.here ≡ v = value_once word p.here v p.is is in
-    let firsts : p.first ≡ h.are.given = give_once before p.first h.are.given p.before_it h.are.give in
-    let differ = differ_before k.given p.first p.later p.here p.whole k.distinct in
-    let moved = subst (λ g. Differ g p.here.name) firsts differ in
-    let none = present h.are.given [] v.name refl (subst (λ (w : NamedValue). Differ h.are.given w.name) same moved) in
-    let found = subst (λ l. IsSome (value_at l v.name)) h.are.sorted there in
-    let nothing = subst (λ (o : Option NamedValue). IsSome o) none found in
+    let firsts : p.first ≡ h.given = give_once before p.first h.given p.before_it h.give in
+    let differ = differ_before k.given p.first p.later p.here p.whole (given_apart (before ++ (word ∷ after)) values k) in
+    let moved = subst (λ g. All (λ w. w.name ≢ p.here.name) g) firsts differ in
+    let none = none_of_differ before sorted v.name h (subst (λ (w : NamedValue). All (λ u. u.name ≢ w.name) h.given) same moved) in
+    let nothing = subst (λ (o : Option NamedValue). IsSome o) none there in
     cc nothing
 
 -- one word too many
-pub too_many : (before after : List (List ℕ)) (word : List ℕ) (sorted : List NamedValue) → AreSoFar before sorted → length sorted ≡ 256 → (values : List NamedValue) → ¬ (AreValueWords (before ++ (word ∷ after)) values)
-too_many before after word sorted h full values k = omega (arith, h.count, k.few, length-append before (word ∷ after))
+pub too_many : (before after : List (List ℕ)) (word : List ℕ) (sorted : List NamedValue) → AreValueWords before sorted → length sorted ≡ 256 → (values : List NamedValue) → ¬ (AreValueWords (before ++ (word ∷ after)) values)
+too_many before after word sorted h full values k =
+    omega (arith, value_count before sorted h, value_count (before ++ (word ∷ after)) values k, k.are.few, length-append before (word ∷ after))
 
 -- words give one list of values at most
 pub values_once : (words : List (List ℕ)) (a b : List NamedValue) → AreValueWords words a → AreValueWords words b → a ≡ b
-values_once words a b h k = h.sorted ∙ ap in_order (give_once words h.given k.given h.give k.give) ∙ sym k.sorted
+values_once words a b h k =
+    let same : h.given ≡ k.given = give_once words h.given k.given h.give k.give in
+    let there = IsPermutation-trans a h.given b (IsPermutation-sym h.given a h.same) (subst (λ g. IsPermutation g b) (sym same) k.same) in
+    members_once a b h.are.rising k.are.rising (λ v. Contains-permutation a b v there) (λ v. Contains-permutation b a v (IsPermutation-sym a b there))

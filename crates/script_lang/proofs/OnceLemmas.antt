@@ -12,7 +12,7 @@ use Rattle.payroll_records.specs.declared.day.Day.{Day}
 use Rattle.payroll_records.specs.declared.record.Record.{Record}
 use Rattle.payroll_records.specs.declared.when.When.{When}
 use Rattle.payroll_records.specs.declared.when.When.TheVariants as when
-use Rattle.payroll_records.proofs.Laws.{months_once, days_once, whens_once, same_record, values_once}
+use Rattle.payroll_records.proofs.Laws.{months_once, days_once, whens_once, same_record, value_count, values_once}
 use Rattle.script_lang.specs.Commands as asked
 use Rattle.script_lang.specs.Commands.{Asked}
 use Rattle.script_lang.specs.Fields.{Field, IsGood, fault_of, time_field}
@@ -148,7 +148,7 @@ run_good : (command : Text) (words : List Text) (r : Record) (verb : Verb) → t
 run_good command words r verb is take good h = (
   r.employee ∷ h.month_word ∷ h.day_word ∷ h.value_words,
   h.words_are ∙ ap (λ c. c ∷ r.employee ∷ h.month_word ∷ h.day_word ∷ h.value_words) (sym is),
-  take _ (le-leb _ _ h.values_are.few),
+  take _ (le-leb _ _ (omega (arith, h.values_are.are.few, value_count h.value_words r.values h.values_are))),
   good _ (h.employee_is, ((r.day.year, r.day.month, h.month_is), ((r.day.year, r.day.month, r.day.day, h.day_is, h.month_is), words_good h.value_words r.values h.values_are))),
 )
 

@@ -1,16 +1,16 @@
 -- Value words as fields.
-use Rattle.std.proofs.Common.{◌≡◌, ◌≢◌, ℕ, zero, suc, ◌+◌, ◌<◌, ◌≤◌, List, [], ◌∷◌, ◌++◌, length, take, drop, get_or, refl, sym, ap, ◌∙◌, subst, arith, append_assoc, length-append, add-one}
-use Rattle.std.specs.Prelude.{IsSome, IsNone}
-use Rattle.std.specs.List.{AllByRecursion, AllPairs}
+use Rattle.std.proofs.Common.{◌≡◌, ◌≢◌, ℕ, zero, suc, ◌+◌, ◌<◌, ◌≤◌, List, [], ◌∷◌, ◌++◌, length, take, drop, get_or, sym, ap, ◌∙◌, subst, arith, append_assoc, length-append, add-one}
+use Rattle.std.specs.Prelude.{Option, IsSome, IsNone}
+use Rattle.std.specs.List.{All, AllByRecursion, AllPairs, AllZip}
 use Rattle.std.proofs.Math.Seq.{get_or-append_seam, drop-cons}
 use Rattle.std.proofs.lemmas.List.{append-nil, get_or_append_left, get_or_default, length-map, length-take-le, map-append, take_more, take-append-drop}
-use Rattle.std.proofs.lemmas.List.Quantifiers.{all_pairs_push}
+use Rattle.std.proofs.lemmas.Slice.Zip.{all_zipped_more}
 use denote.Ref.{Bor}
 use Rattle.payroll_records.specs.NamedValues.{value_at, with_value}
 use Rattle.payroll_records.specs.Tables.{Text}
-use Rattle.payroll_records.specs.ValueWords.{IsValueWord, Give, AreValueWords, in_order}
+use Rattle.payroll_records.specs.ValueWords.{IsValueWord, AreValueWords}
 use Rattle.payroll_records.specs.declared.values.NamedValue.{NamedValue}
-use Rattle.payroll_records.proofs.Laws.{AreSoFar, cut_before, give_more, inserted, twice}
+use Rattle.payroll_records.proofs.Laws.{cut_before, given_apart, inserted, no_words, none_of_differ, one_more, value_count}
 use Rattle.script_lang.specs.Fields.{IsGood, value, new_name, name_in, value_fields}
 use Rattle.script_lang.specs.Lines.{IsFirstFault}
 use Rattle.script_lang.specs.Views.{texts}
@@ -28,8 +28,8 @@ abbrev Apart : NamedValue → NamedValue → Type 0
 Apart v w = v.name ≢ w.name
 
 -- no word before has the name of a word, where no value before has its value's name
-pub names_apart : (before : List Text) (given : List NamedValue) (word : Text) (v : NamedValue) → Give before given → IsValueWord word v →
-    ((k : ℕ) (d : NamedValue) → k < length given → (get_or given k d).name ≢ v.name) → AllByRecursion (λ other. name_in other ≢ name_in word) before
+pub names_apart : (before : List Text) (given : List NamedValue) (word : Text) (v : NamedValue) → AllZip IsValueWord before given → IsValueWord word v →
+    All (λ w. w.name ≢ v.name) given → AllByRecursion (λ other. name_in other ≢ name_in word) before
 names_apart [] [] word v h is differ = tt
 names_apart [] (x ∷ xs) word v h is differ = absurd h
 names_apart (w ∷ ws) [] word v h is differ = absurd h
@@ -38,8 +38,8 @@ names_apart (w ∷ ws) (x ∷ xs) word v h is differ = (
   names_apart ws xs word v h.1 is (λ k d l. differ (suc k) d (omega arith)),
 )
 
-pub names_differ : (before : List Text) (given : List NamedValue) (word : Text) (v : NamedValue) → Give before given → IsValueWord word v →
-    AllByRecursion (λ other. name_in other ≢ name_in word) before → (k : ℕ) (d : NamedValue) → k < length given → (get_or given k d).name ≢ v.name
+pub names_differ : (before : List Text) (given : List NamedValue) (word : Text) (v : NamedValue) → AllZip IsValueWord before given → IsValueWord word v →
+    AllByRecursion (λ other. name_in other ≢ name_in word) before → All (λ w. w.name ≢ v.name) given
 names_differ [] [] word v h is apart k d l e = omega (arith, l)
 names_differ [] (x ∷ xs) word v h is apart k d l e = absurd h
 names_differ (w ∷ ws) [] word v h is apart k d l e = absurd h
@@ -47,43 +47,40 @@ names_differ (w ∷ ws) (x ∷ xs) word v h is apart zero d l e = apart.0 (cut_b
 names_differ (w ∷ ws) (x ∷ xs) word v h is apart (suc k) d l e = names_differ ws xs word v h.1 is apart.1 k d (omega arith) e
 
 -- a value differs from those before it
-differ_before : (gb g : List NamedValue) (v : NamedValue) → AllPairs Apart (gb ++ (v ∷ g)) → (k : ℕ) (d : NamedValue) → k < length gb → (get_or gb k d).name ≢ v.name
+differ_before : (gb g : List NamedValue) (v : NamedValue) → AllPairs Apart (gb ++ (v ∷ g)) → All (λ w. w.name ≢ v.name) gb
 differ_before gb g v distinct k d l e =
     distinct k (length gb) d l (omega (arith, length-append gb (v ∷ g)))
     (ap (λ x. x.name) (get_or_append_left gb (v ∷ g) d k l) ∙ e ∙ ap (λ x. x.name) (sym (get_or-append_seam gb v g d)))
 
 -- words that give values of different names are good
-pub values_good : (before ws : List Text) (gb g : List NamedValue) → Give before gb → Give ws g → AllPairs Apart (gb ++ g) → AllByRecursion IsGood (value_fields before ws)
+pub values_good : (before ws : List Text) (gb g : List NamedValue) → AllZip IsValueWord before gb → AllZip IsValueWord ws g → AllPairs Apart (gb ++ g) → AllByRecursion IsGood (value_fields before ws)
 values_good before [] gb g h k distinct = tt
 values_good before (w ∷ ws) gb [] h k distinct = absurd k
 values_good before (w ∷ ws) gb (v ∷ g) h k distinct = (
   (v, k.0),
   (
     names_apart before gb w v h k.0 (differ_before gb g v distinct),
-    values_good (before ++ (w ∷ [])) ws (gb ++ (v ∷ [])) g (give_more before gb w v h k.0) k.1 (subst (AllPairs Apart) (sym (append_assoc gb (v ∷ []) g)) distinct),
+    values_good (before ++ (w ∷ [])) ws (gb ++ (v ∷ [])) g (all_zipped_more IsValueWord before gb w v h k.0) k.1 (subst (AllPairs Apart) (sym (append_assoc gb (v ∷ []) g)) distinct),
   ),
 )
 
+pub words_good : (ws : List Text) (values : List NamedValue) → AreValueWords ws values → AllByRecursion IsGood (value_fields [] ws)
+words_good ws values h = values_good [] ws [] h.given tt h.give (given_apart ws values h)
+
 -- and good words give values of different names
-pub values_given : (before ws : List Text) (gb : List NamedValue) → Give before gb → AllPairs Apart gb → AllByRecursion IsGood (value_fields before ws) →
-    (g : List NamedValue) × Give ws g × AllPairs Apart (gb ++ g)
-values_given before [] gb h distinct good = ([], tt, subst (AllPairs Apart) (sym (append-nil gb)) distinct)
-values_given before (w ∷ ws) gb h distinct good =
+values_given : (before ws : List Text) (sorted : List NamedValue) → AreValueWords before sorted → length before + length ws ≤ 256 → AllByRecursion IsGood (value_fields before ws) →
+    (values : List NamedValue) × AreValueWords (before ++ ws) values
+values_given before [] sorted h few good = (sorted, subst (λ words. AreValueWords words sorted) (sym (append-nil before)) h)
+values_given before (w ∷ ws) sorted h few good =
     let v = good.0.0 in
     let is = good.0.1 in
-    let more = values_given (before ++ (w ∷ [])) ws (gb ++ (v ∷ [])) (give_more before gb w v h is) (all_pairs_push Apart gb v distinct (names_differ before gb w v h is good.1.0)) good.1.1 in
-    (v ∷ more.0, (is, more.1), subst (AllPairs Apart) (append_assoc gb (v ∷ []) more.0) more.2)
-
-no_pairs : AllPairs Apart []
-no_pairs i j d l within = absurd (omega (arith, within))
-
-pub words_good : (ws : List Text) (values : List NamedValue) → AreValueWords ws values → AllByRecursion IsGood (value_fields [] ws)
-words_good ws values h = values_good [] ws [] h.given tt h.give h.distinct
+    let new = none_of_differ before sorted v.name h (names_differ before h.given w v h.give is good.1.0) in
+    let longer = one_more before sorted w v h is new (omega (arith, few, value_count before sorted h)) in
+    let more = values_given (before ++ (w ∷ [])) ws (with_value v sorted) longer (omega (arith, few, length-append before (w ∷ []))) good.1.1 in
+    (more.0, subst (λ words. AreValueWords words more.0) (append_assoc before (w ∷ []) ws) more.1)
 
 pub good_words : (ws : List Text) → length ws ≤ 256 → AllByRecursion IsGood (value_fields [] ws) → (values : List NamedValue) × AreValueWords ws values
-good_words ws few good =
-    let g = values_given [] ws [] tt no_pairs good in
-    (in_order g.0, record { given = g.0; give = g.1; distinct = g.2; few = few; sorted = refl })
+good_words ws few good = values_given [] ws [] no_words (omega (arith, few)) good
 
 -- ---- word by word
 
@@ -99,7 +96,7 @@ texts_parts words i w is lt =
     ∙ ap (λ x. texts (take i words) ++ (x.now ∷ texts (drop (suc i) words))) (sym is)
     ∙ ap (λ n. texts (take i words) ++ (w.now ∷ texts (drop n words))) (sym (add-one i))
 
-module _ (words before after : List Text) (word : Text) (sorted : List NamedValue) (parts : words ≡ before ++ (word ∷ after)) (h : AreSoFar before sorted) where
+module _ (words before after : List Text) (word : Text) (sorted : List NamedValue) (parts : words ≡ before ++ (word ∷ after)) (h : AreValueWords before sorted) where
   fields_parts : value_fields [] words ≡ value_fields [] before ++ value_fields before (word ∷ after)
   fields_parts = ap (value_fields []) parts ∙ fields_append [] before (word ∷ after)
 
@@ -107,28 +104,21 @@ module _ (words before after : List Text) (word : Text) (sorted : List NamedValu
   pub no_value_word : (number : ℕ) → number ≡ length before + 5 → ((v : NamedValue) → ¬ (IsValueWord word v)) → IsFirstFault (value_fields [] words) (fault.Value number)
   no_value_word number counted none =
       subst (λ fs. IsFirstFault fs (fault.Value number)) (sym fields_parts)
-      (first_behind (value_fields [] before) _ _ (words_good before sorted h.are)
+      (first_behind (value_fields [] before) _ _ (words_good before sorted h)
       (first_here (value (length before + 5) word) _ _ (λ g. none g.0 g.1) (ap (λ n. fault.Value n) counted)))
 
   -- a word with the name of an earlier one
-  pub name_again : (v : NamedValue) → IsValueWord word v → IsSome (value_at sorted v.name) → length before < 256 → IsFirstFault (value_fields [] words) (fault.Twice v.name)
-  name_again v is there few =
+  pub name_again : (v : NamedValue) → IsValueWord word v → IsSome (value_at sorted v.name) → IsFirstFault (value_fields [] words) (fault.Twice v.name)
+  name_again v is there =
       subst (λ fs. IsFirstFault fs (fault.Twice v.name)) (sym fields_parts)
-      (first_behind (value_fields [] before) _ _ (words_good before sorted h.are)
+      (first_behind (value_fields [] before) _ _ (words_good before sorted h)
       (first_later (value (length before + 5) word) _ _ (v, is)
       (first_here (new_name before word) _ _ again (ap (λ n. fault.Twice n) (sym (cut_before word v is))))))
     where
       again : AllByRecursion (λ other. name_in other ≢ name_in word) before → ⊥
       again apart =
-          let given = h.are.given in
-          twice before [] word sorted v h is there (in_order (given ++ (v ∷ [])))
-          (record {
-            given = given ++ (v ∷ []);
-            give = give_more before given word v h.are.give is;
-            distinct = all_pairs_push Apart given v h.are.distinct (names_differ before given word v h.are.give is apart);
-            few = omega (arith, few, length-append before (word ∷ []));
-            sorted = refl;
-          })
+          let none = none_of_differ before sorted v.name h (names_differ before h.given word v h.give is apart) in
+          cc (subst (λ (o : Option NamedValue). IsSome o) none there)
 
 -- ---- the word at a place
 
@@ -137,10 +127,10 @@ texts_taken words i l = length-map (take i words) (λ (x : Bor Text). x.now) ∙
 
 -- there is room for the value of the word at a place
 pub not_full_at : (words : List (Bor Text)) (i : ℕ) (sorted : List NamedValue) → i < length words →
-    AreSoFar (texts (take i words)) sorted → length words ≤ 256 → length sorted ≢ 256
-not_full_at words i sorted within h few full = omega (arith, h.count, texts_taken words i within, few, full)
+    AreValueWords (texts (take i words)) sorted → length words ≤ 256 → length sorted ≢ 256
+not_full_at words i sorted within h few full = omega (arith, value_count (texts (take i words)) sorted h, texts_taken words i within, few, full)
 
-module _ (words : List (Bor Text)) (i : ℕ) (d : Bor Text) (sorted : List NamedValue) (within : i < length words) (h : AreSoFar (texts (take i words)) sorted) where
+module _ (words : List (Bor Text)) (i : ℕ) (d : Bor Text) (sorted : List NamedValue) (within : i < length words) (h : AreValueWords (texts (take i words)) sorted) where
   word_at : Bor Text
   word_at = get_or words i d
 
@@ -154,15 +144,15 @@ module _ (words : List (Bor Text)) (i : ℕ) (d : Bor Text) (sorted : List Named
       no_value_word (texts words) (texts (take i words)) (texts (drop (i + 1) words)) (get_or words i d).now sorted (texts_parts words i (get_or words i d) is_at within) h
       number (counted ∙ ap (λ n. n + 5) (sym (texts_taken words i within))) none
 
-  pub name_again_at : (v : NamedValue) → length words ≤ 256 → IsValueWord (get_or words i d).now v → IsSome (value_at sorted v.name) → IsFirstFault (value_fields [] (texts words)) (fault.Twice v.name)
+  pub name_again_at : (v : NamedValue) → IsValueWord (get_or words i d).now v → IsSome (value_at sorted v.name) → IsFirstFault (value_fields [] (texts words)) (fault.Twice v.name)
   unfolding word_at
-  name_again_at v few is there =
+  name_again_at v is there =
       name_again (texts words) (texts (take i words)) (texts (drop (i + 1) words)) (get_or words i d).now sorted (texts_parts words i (get_or words i d) is_at within) h
-      v is there (omega (arith, texts_taken words i within))
+      v is there
 
   pub value_at_place : (v : NamedValue) (after : List NamedValue) → IsValueWord (get_or words i d).now v → after ≡ with_value v sorted → (IsSome (value_at sorted v.name) → ⊥) →
-      (IsNone (value_at sorted v.name) × (length sorted ≡ 256) → ⊥) → length sorted ≤ 256 → AreSoFar (texts (take (i + 1) words)) after
+      (IsNone (value_at sorted v.name) × (length sorted ≡ 256) → ⊥) → AreValueWords (texts (take (i + 1) words)) after
   unfolding word_at
-  value_at_place v after is put new room few =
-      subst (λ w. AreSoFar w after) (sym (texts_more words i (get_or words i d) is_at within))
-      (inserted (texts (take i words)) sorted after (get_or words i d).now v h is put new room few)
+  value_at_place v after is put new room =
+      subst (λ w. AreValueWords w after) (sym (texts_more words i (get_or words i d) is_at within))
+      (inserted (texts (take i words)) sorted after (get_or words i d).now v h is put new room)

@@ -1,21 +1,19 @@
 -- The runs that lines and tables give have texts.
 use Rattle.std.proofs.Common.{◌≡◌, ℕ, zero, suc, ◌+◌, ◌<◌, ◌≤◌, List, [], ◌∷◌, ◌++◌, length, refl, sym, subst, arith}
-use Rattle.std.specs.Prelude.{IsTrue, fold}
-use Rattle.std.specs.List.{AllByRecursion, Contains}
+use Rattle.std.specs.Prelude.{IsTrue}
+use Rattle.std.specs.List.{All, AllByRecursion, AllZip, Contains}
 use Rattle.std.specs.declared.cmp.Ordering.{Ordering}
 use Rattle.std.specs.declared.cmp.Ordering.TheVariants.{Less, Equal, Greater}
-use Rattle.std.proofs.lemmas.Cmp.{nat_list_cmp_total}
-use Rattle.rising_lists.specs.Keyed.{put, put_by, IsRising}
-use Rattle.rising_lists.proofs.Laws.{put_rising}
+use Rattle.std.proofs.lemmas.List.Elements.{All-cons, All-nil, recursion_from_All}
+use Rattle.std.proofs.lemmas.List.Sorted.{All-permutation}
+use Rattle.rising_lists.specs.Keyed.{put, put_by}
 use Rattle.pap_tree.specs.Names.{is_name}
 use Rattle.payroll_records.specs.Employees.{is_employee}
-use Rattle.payroll_records.specs.NamedValues.{name_cmp, name_of, with_value}
 use Rattle.payroll_records.specs.Tables.{AreRecordsOf, IsRecordOf, IsTable, Supplies, Text, name_at}
-use Rattle.payroll_records.specs.ValueWords.{AreValueWords, Give}
+use Rattle.payroll_records.specs.ValueWords.{AreValueWords, IsValueWord}
 use Rattle.payroll_records.specs.declared.record.Record.{Record}
 use Rattle.payroll_records.specs.declared.values.NamedValue.{NamedValue}
 use Rattle.saved_items.specs.SavedBooks.{IsRun, IsValue}
-use Rattle.book_edits.proofs.Laws.{all_put}
 
 -- ---- a list with an element put
 
@@ -31,51 +29,21 @@ module _ {K X : Type 0} (cmp : K → K → Ordering) (key : X → K) where
 
 -- ---- value words
 
-given_count : (words : List Text) (given : List NamedValue) → Give words given → length given ≡ length words
-given_count [] [] h = refl
-given_count [] (v ∷ given) h = absurd h
-given_count (word ∷ words) [] h = absurd h
-given_count (word ∷ words) (v ∷ given) h = omega (arith, given_count words given h.1)
-
-given_values : (words : List Text) (given : List NamedValue) → Give words given → AllByRecursion IsValue given
-given_values [] [] h = tt
+given_values : (words : List Text) (given : List NamedValue) → AllZip IsValueWord words given → All IsValue given
+given_values [] [] h = All-nil IsValue
 given_values [] (v ∷ given) h = absurd h
 given_values (word ∷ words) [] h = absurd h
 given_values (word ∷ words) (v ∷ given) h =
-    (record { named = h.0.named; kept = h.0.kept }, given_values words given h.1)
-
-abbrev step : List NamedValue → NamedValue → List NamedValue
-step sorted v = with_value v sorted
-
-sorted_rise : (given sorted : List NamedValue) → IsRising name_cmp name_of sorted
-    → IsRising name_cmp name_of (fold step sorted given)
-sorted_rise [] sorted h = h
-sorted_rise (v ∷ given) sorted h =
-    sorted_rise given (with_value v sorted) (put_rising name_cmp nat_list_cmp_total name_of v sorted h)
-
-sorted_values : (given sorted : List NamedValue) → AllByRecursion IsValue sorted → AllByRecursion IsValue given
-    → AllByRecursion IsValue (fold step sorted given)
-sorted_values [] sorted h k = h
-sorted_values (v ∷ given) sorted h k =
-    sorted_values given (with_value v sorted) (all_put name_cmp name_of IsValue v sorted k.0 h) k.1
-
-sorted_count : (given sorted : List NamedValue) → length (fold step sorted given) ≤ length sorted + length given
-sorted_count [] sorted = omega arith
-sorted_count (v ∷ given) sorted =
-    omega (arith, sorted_count given (with_value v sorted), put_most name_cmp name_of v sorted)
+    All-cons IsValue v given (record { named = h.0.named; kept = h.0.kept }) (given_values words given h.1)
 
 -- a run with the values of words
 pub words_run : (words : List Text) (r : Record) → IsTrue (is_employee r.employee) → AreValueWords words r.values
     → IsRun r
 words_run words r employee h = record {
   employee = employee;
-  values = record {
-    rising = subst (IsRising name_cmp name_of) (sym h.sorted) (sorted_rise h.given [] tt);
-    few = subst (λ (vs : List NamedValue). length vs ≤ 256) (sym h.sorted)
-        (omega (arith, sorted_count h.given [], given_count words h.given h.give, h.few));
-  };
-  each = subst (AllByRecursion IsValue) (sym h.sorted)
-      (sorted_values h.given [] tt (given_values words h.given h.give));
+  values = h.are;
+  each = recursion_from_All IsValue r.values
+      (All-permutation IsValue h.given r.values h.same (given_values words h.given h.give));
 }
 
 -- ---- tables

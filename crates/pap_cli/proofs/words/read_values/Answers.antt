@@ -1,8 +1,8 @@
-use Rattle.std.proofs.Common.{◌+◌, sym, ap, ◌∙◌, subst, take, drop, string_bytes, length, arith}
+use Rattle.std.proofs.Common.{◌+◌, sym, ap, ◌∙◌, subst, take, drop, string_bytes}
 use Rattle.std.specs.Prelude.{Err}
 use Rattle.payroll_records.specs.declared.values.NamedValue.{NamedValue}
 use Rattle.payroll_records.specs.ValueWords.{IsValueWord, AreValueWords}
-use Rattle.payroll_records.proofs.Laws.{AreSoFar, inserted, no_value, twice, too_many}
+use Rattle.payroll_records.proofs.Laws.{inserted, no_value, twice, too_many}
 use Rattle.pap_cli.specs.Words.{texts}
 use Rattle.pap_cli.proofs.WordLemmas.{texts_more, texts_parts}
 use Rattle.pap_cli.proofs.words.read_values.Goals as goal
@@ -38,5 +38,5 @@ loop-word-preserved c =
     let words = c.args.words.now in
     let is = subst (λ b. IsValueWord b c.in-Some.value) c.as_bytes.ensures.value c.in-Some.ensures.read in
     let next = inserted (texts (take i words)) c.loop-word.values c.insert.new.self (string_bytes c.word-item.result) c.in-Some.value c.loop-word.invariant is c.in-Ok.ensures.ok
-    (λ some. cc (c.in-Ok.ensures.twice.1 some)) (λ full. cc (c.in-Ok.ensures.full.1 full)) (omega (arith, ap length c.values.view_is, c.values.invariant.are.few)) in
-    subst (λ w. AreSoFar w c.insert.new.self) (sym (texts_more words i c.word-item.result c.word-item.is c.loop-word-test.true)) next
+    (λ some. cc (c.in-Ok.ensures.twice.1 some)) (λ full. cc (c.in-Ok.ensures.full.1 full)) in
+    subst (λ w. AreValueWords w c.insert.new.self) (sym (texts_more words i c.word-item.result c.word-item.is c.loop-word-test.true)) next

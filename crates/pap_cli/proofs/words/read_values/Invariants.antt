@@ -1,7 +1,7 @@
 use Rattle.std.proofs.Common.{take}
 use Rattle.pap_cli.specs.Words.{texts}
-use Rattle.payroll_records.proofs.Laws.{AreSoFar}
+use Rattle.payroll_records.specs.ValueWords.{AreValueWords}
 use Rattle.pap_cli.proofs.words.read_values.Given as goal
 
 abbrev pub invariant-loop-word : goal.invariant-loop-word
-invariant-loop-word l = AreSoFar (texts (take l.word-index l.words)) l.values
+invariant-loop-word l = AreValueWords (texts (take l.word-index l.words)) l.values

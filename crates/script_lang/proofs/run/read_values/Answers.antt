@@ -1,4 +1,4 @@
-use Rattle.std.proofs.Common.{◌∙◌, ap, arith, length}
+use Rattle.std.proofs.Common.{◌∙◌, ap, arith}
 use Rattle.std.specs.Prelude.{Err}
 use Rattle.script_lang.proofs.ValueLemmas.{no_value_at, name_again_at, not_full_at, value_at_place}
 use Rattle.script_lang.proofs.run.read_values.Goals as goal
@@ -12,7 +12,7 @@ pub returns-in-Err-Twice-clause-err : goal.returns-in-Err-Twice-clause-err
 returns-in-Err-Twice-clause-err c =
     let l = c.loop-word in
     let there = c.insert.ensures.twice.0 (c.in-Err-Twice.is ∙ ap (λ f. Err f) c.in-Err-Twice.field-0-is) in
-    name_again_at c.args.words.now l.word-index _ l.values c.loop-word-test.true l.invariant.read c.in-Some.value c.requires c.in-Some.ensures.read there
+    name_again_at c.args.words.now l.word-index _ l.values c.loop-word-test.true l.invariant.read c.in-Some.value c.in-Some.ensures.read there
 
 pub loop-word-preserved : goal.loop-word-preserved
 loop-word-preserved c =
@@ -20,7 +20,7 @@ loop-word-preserved c =
     record {
       read =
           value_at_place c.args.words.now l.word-index _ l.values c.loop-word-test.true l.invariant.read c.in-Some.value c.insert.new.self c.in-Some.ensures.read c.in-Ok.ensures.ok
-          (λ some. cc (c.in-Ok.ensures.twice.1 some)) (λ full. cc (c.in-Ok.ensures.full.1 full)) (omega (arith, ap length c.values.view_is, c.values.invariant.are.few));
+          (λ some. cc (c.in-Ok.ensures.twice.1 some)) (λ full. cc (c.in-Ok.ensures.full.1 full));
       counted = omega (arith, l.invariant.counted);
     }
 

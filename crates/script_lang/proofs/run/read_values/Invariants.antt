@@ -1,10 +1,10 @@
 use Rattle.std.proofs.Common.{◌≡◌, ◌+◌, take}
-use Rattle.payroll_records.proofs.Laws.{AreSoFar}
+use Rattle.payroll_records.specs.ValueWords.{AreValueWords}
 use Rattle.script_lang.specs.Views.{texts}
 use Rattle.script_lang.proofs.run.read_values.Given as goal
 
 abbrev pub invariant-loop-word : goal.invariant-loop-word
 invariant-loop-word l = record {
-  read : AreSoFar (texts (take l.word-index l.words)) l.values;
+  read : AreValueWords (texts (take l.word-index l.words)) l.values;
   counted : l.number ≡ l.word-index + 5;
 }
