@@ -1,4 +1,3 @@
-pub mod Laws
 mod PutLemmas
 mod FoldLemmas
 mod OrderLemmas
@@ -9,4 +8,3 @@ mod MergeLemmas
 mod NextLemmas
 mod ErrLemmas
 mod LoadLemmas
-mod TableLemmas

@@ -8,6 +8,7 @@ use Rattle.std.specs.declared.alloc.AllocError.{AllocError}
 use Rattle.rising_lists.specs.Keyed.{IsRising}
 use Rattle.payroll_records.specs.declared.record.Record.{Record}
 use Rattle.payroll_records.specs.Orders.{day_cmp}
+use Rattle.payroll_records.specs.Tables.{HaveOwnKeys}
 use Rattle.plan_calendar.specs.Picking.{Entry, pick}
 use Rattle.book_year.specs.Accepted.{Accepted}
 use Rattle.book_year.specs.declared.outcome.Work.{Work}
@@ -23,7 +24,7 @@ use Rattle.book_edits.specs.Kept.{AreSameYears, AreYears, HasRuns, IsYearsEdit, 
 use Rattle.book_edits.specs.Refusals.{CountsEdit, most_records}
 use Rattle.book_edits.specs.Views.{AreKeptYears, IsListEdit, list_cost}
 use Rattle.book_edits.proofs.Laws.{kept_in_order, map_rising, quiet_years, rising_map, year_total}
-use Rattle.book_loads.specs.Loads.{AreDistinct, CanLoad, IsFree, IsLoadRefused}
+use Rattle.book_loads.specs.Loads.{CanLoad, IsFree, IsLoadRefused}
 use Rattle.book_loads.specs.declared.drafts.Drafted.{Drafted}
 use Rattle.book_loads.specs.declared.groups.Group.{Group}
 use Rattle.book_loads.specs.Groups.{AreGroups, group_year, group_years, put_years}
@@ -127,7 +128,7 @@ kept_of plans ys h = record { rising = h.rising; each = h.each; some = h.some }
 pub in_order : (plans : List (Entry Accepted)) (ys : Years) → AreYears plans ys → AreInOrder (years_of ys)
 in_order plans ys h = kept_in_order plans ys.list.items (kept_of plans ys h)
 
-pub load_edit : (plans : List (Entry Accepted)) (old new : Years) (items : List Record) (work : Work) → AreYears plans old → AreDistinct items → CanLoad (years_of old) items →
+pub load_edit : (plans : List (Entry Accepted)) (old new : Years) (items : List Record) (work : Work) → AreYears plans old → HaveOwnKeys items → CanLoad (years_of old) items →
     IsListEdit plans old.list.items new.list.items (loaded items (runs_in old.list.items)) work → new.count ≡ old.count + length items → IsYearsEdit plans old new (loaded items (years_of old)) work
 load_edit plans old new items work h distinct can edit count =
     let more = count_loaded items (years_of old) (in_order plans old h) can.free (distinct_apart items distinct) in
@@ -196,7 +197,7 @@ pub record IsRestored (plans : List (Entry Accepted)) (items : List Record) (new
 pub none_kept : (plans : List (Entry Accepted)) (list : List Year) → list ≡ [] → AreKeptYears plans list
 none_kept plans list none = subst (AreKeptYears plans) (sym none) (record { rising = tt; each = tt; some = tt })
 
-pub restored : (plans : List (Entry Accepted)) (old : List Year) (new : Years) (items : List Record) (work : Work) → old ≡ [] → AreDistinct items → length items ≤ most_records →
+pub restored : (plans : List (Entry Accepted)) (old : List Year) (new : Years) (items : List Record) (work : Work) → old ≡ [] → HaveOwnKeys items → length items ≤ most_records →
     IsListEdit plans old new.list.items (loaded items (runs_in old)) work → new.count ≡ length items →
     IsRestored plans items new work
 restored plans old new items work none distinct few h count =

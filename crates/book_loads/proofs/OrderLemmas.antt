@@ -1,25 +1,24 @@
 -- Runs put one after another: where their keys differ their order doesn't matter, and each is one run more.
-use Rattle.std.proofs.Common.{◌≡◌, ℕ, ◌+◌, ◌<◌, List, [], ◌∷◌, length, Bool, true, false, ◌||◌, if◌then◌else◌, Option, Some, None, IsNone, refl, sym, ap, subst, ◌∙◌, arith}
-use Rattle.std.specs.List.{AllByRecursion, list_any}
+use Rattle.std.proofs.Common.{◌≡◌, ◌≢◌, ℕ, ◌+◌, ◌<◌, List, [], ◌∷◌, length, true, false, if◌then◌else◌, Option, Some, None, IsNone, refl, sym, ap, subst, ◌∙◌, arith}
+use Rattle.std.specs.List.{AllByRecursion}
 use Rattle.std.specs.List.Sorted.{IsPermutation}
 use Rattle.std.specs.declared.cmp.Ordering.{Ordering}
 use Rattle.std.specs.declared.cmp.Ordering.TheVariants.{Less, Equal, Greater}
-use Rattle.std.specs.Ordering.{is_eq, nat_cmp, ordering_then}
-use Rattle.std.specs.Cmp.Lexicographic.{nat_list_cmp_total, slice_cmp}
+use Rattle.std.specs.Ordering.{is_eq}
 use Rattle.std.proofs.lemmas.Bool.{false≢true}
-use Rattle.std.proofs.lemmas.Cmp.{tied_back, tied_itself}
+use Rattle.std.proofs.lemmas.Cmp.{tied_back}
 use Rattle.rising_lists.specs.Keyed.{at_key, put, IsRising}
 use Rattle.rising_lists.proofs.Laws.{at_key_put, put_rising}
 use Rattle.payroll_records.specs.declared.record.Record.{Record}
-use Rattle.payroll_records.specs.Orders.{day_cmp, key_cmp}
-use Rattle.payroll_records.specs.Tables.{HasKeyOf, key_of}
-use Rattle.payroll_records.proofs.Laws.{day_total, key_total}
+use Rattle.payroll_records.specs.Orders.{day_cmp}
+use Rattle.payroll_records.specs.Tables.{HaveOwnKeys, key_of}
+use Rattle.payroll_records.proofs.Laws.{day_same, day_total, own_parts}
 use Rattle.book_year.specs.declared.year.YearKey.{YearKey}
 use Rattle.book_year.specs.Records.{put_run, record_day}
 use Rattle.book_year.proofs.Laws.{rising_put}
 use Rattle.book_edits.specs.Books.{YearRuns, AreInOrder, added, loaded, run_at, run_count, runs_key, runs_of, runs_or_none, with_runs, year_cmp, year_of}
 use Rattle.book_edits.proofs.Laws.{all_put, put_some, sum_put, length_put, year_total, year_same}
-use Rattle.book_loads.specs.Loads.{AreDistinct, IsFree}
+use Rattle.book_loads.specs.Loads.{IsFree}
 use Rattle.book_loads.proofs.PutLemmas.{put_comm, put_over}
 use Rattle.book_loads.proofs.FoldLemmas.{folded, folded_permutation, AreApart}
 
@@ -62,17 +61,17 @@ runs_put_other y ys k apart =
 -- ---- runs with different keys
 
 abbrev pub HaveTwoKeys : Record → Record → Type 0
-HaveTwoKeys r s = key_cmp (key_of r) (key_of s) ≡ Equal → ⊥
+HaveTwoKeys r s = key_of r ≢ key_of s
 
 two_keys_back : (r s : Record) → HaveTwoKeys r s → HaveTwoKeys s r
-two_keys_back r s apart e = apart (tied_back key_total (key_of s) (key_of r) e)
+two_keys_back r s apart e = apart (sym e)
 
 -- in one year they have different days
 two_days : (r s : Record) → HaveTwoKeys r s → year_at r ≡ year_at s → day_cmp r.day s.day ≡ Equal → ⊥
 two_days r s apart same day =
     let one : r.employee ≡ s.employee = ap (λ (k : YearKey). k.employee) same in
-    let tie : slice_cmp nat_cmp r.employee s.employee ≡ Equal = ap (λ t. slice_cmp nat_cmp r.employee t) (sym one) ∙ tied_itself nat_list_cmp_total r.employee in
-    apart (λ i. ordering_then (tie i) (day i))
+    let days : r.day ≡ s.day = day_same r.day s.day day in
+    apart (λ i. record { employee = one i; day = days i })
 
 in_one_year : (r s : Record) (ys : List YearRuns) → year_cmp (year_at s) (year_at r) ≡ Equal → year_cmp (year_at r) (year_at s) ≡ Equal →
     added r (added s ys) ≡ put_year (year_holding (year_at r) (put_run r (put_run s (runs_of ys (year_at s))))) ys
@@ -118,21 +117,11 @@ loaded_folded : (rs : List Record) (ys : List YearRuns) → loaded rs ys ≡ fol
 loaded_folded [] ys = refl
 loaded_folded (r ∷ rs) ys = loaded_folded rs (added r ys)
 
-any_more : (b : Bool) (c : Bool) → c ≡ true → (b || c) ≡ true
-any_more true c h = refl
-any_more false c h = h
-
-not_among : (r : Record) (rs : List Record) → (HasKeyOf rs r → ⊥) → AllByRecursion (HaveTwoKeys r) rs
-not_among r [] h = tt
-not_among r (s ∷ rs) h =
-    let others = list_any (λ t. is_eq (key_cmp (key_of r) (key_of t))) rs in
-    (λ e. h (ap (λ o. is_eq o || others) e), not_among r rs (λ m. h (any_more (is_eq (key_cmp (key_of r) (key_of s))) others m)))
-
-pub distinct_apart : (rs : List Record) → AreDistinct rs → AreApart HaveTwoKeys rs
+pub distinct_apart : (rs : List Record) → HaveOwnKeys rs → AreApart HaveTwoKeys rs
 distinct_apart [] h = tt
-distinct_apart (r ∷ rs) h = (not_among r rs h.0, distinct_apart rs h.1)
+distinct_apart (r ∷ rs) h = let parts = own_parts r rs h in (parts.0, distinct_apart rs parts.1)
 
-pub loaded_permutation : (rs ss : List Record) → AreDistinct rs → IsPermutation rs ss → (ys : List YearRuns) → loaded ss ys ≡ loaded rs ys
+pub loaded_permutation : (rs ss : List Record) → HaveOwnKeys rs → IsPermutation rs ss → (ys : List YearRuns) → loaded ss ys ≡ loaded rs ys
 loaded_permutation rs ss d p ys =
     loaded_folded ss ys ∙ folded_permutation HaveTwoKeys two_keys_back added added_comm ys rs ss (distinct_apart rs d) p ∙ sym (loaded_folded rs ys)
 

@@ -1,17 +1,12 @@
 -- What a load promises.
-use Rattle.std.specs.Prelude.{ℕ, ◌≡◌, ◌+◌, ◌<◌, ◌≤◌, List, [], ◌∷◌, IsSome, IsNone, length, slice_index_or, ⊤}
+use Rattle.std.specs.Prelude.{ℕ, ◌≡◌, ◌+◌, ◌<◌, ◌≤◌, List, IsSome, IsNone, length, slice_index_or}
 use Rattle.std.specs.List.{AllByRecursion}
 use Rattle.payroll_records.specs.declared.record.Record.{Record}
-use Rattle.payroll_records.specs.Tables.{HasKeyOf, IsTable, key_of}
+use Rattle.payroll_records.specs.Tables.{key_of}
 use Rattle.book_edits.specs.declared.refusal.EditRefusal.{EditRefusal}
 use Rattle.book_edits.specs.declared.refusal.EditRefusal.TheVariants as refusal
 use Rattle.book_edits.specs.Books.{YearRuns, run_at, run_count}
 use Rattle.book_edits.specs.Refusals.{most_records}
-
--- no two of the records have one key
-abbrev pub AreDistinct : List Record → Type 0
-AreDistinct [] = ⊤
-AreDistinct (r ∷ rs) = (HasKeyOf rs r → ⊥) × AreDistinct rs
 
 abbrev pub IsFree : List YearRuns → Record → Type 0
 IsFree years r = IsNone (run_at years (key_of r))
@@ -38,10 +33,3 @@ IsLoadRefused years items (refusal.Present k) =
 IsLoadRefused years items refusal.Records = IsOver years items
 IsLoadRefused years items (refusal.Memory e) = CanLoad years items
 IsLoadRefused years items _ = ⊥
-
--- ---- a law
-
--- no two records of a table have one key
-abbrev pub TablesAreDistinct : Type 0
-TablesAreDistinct =
-    (bytes : List ℕ) (records : List Record) → IsTable bytes records → AreDistinct records

@@ -2,8 +2,8 @@
 ghost use Rattle.std.specs.Prelude.{◌≡◌, ◌++◌, List, [], ◌∷◌, length, IfOk, IfErr, OnOk};
 ghost use Rattle.rising_lists.specs.Keyed.{IsRising};
 ghost use Rattle.rising_lists.specs.Places.{Finds, Misses};
+ghost use Rattle.payroll_records.specs.Tables.{HaveOwnKeys};
 ghost use Rattle.book_edits.specs.Books.{YearRuns, loaded, year_cmp};
-ghost use Rattle.book_loads.specs.Loads.{AreDistinct};
 ghost use Rattle.book_loads.specs.Groups.{AreGroups, IsPutGroup, group_key};
 
 use book_edits::year_of;
@@ -20,7 +20,7 @@ pub(crate) struct Group {
 
 /// The runs in groups, one for each year, in order of employee and year.
 pub(crate) fn grouped(alloc: Global, mut items: Vec<Record>) -> Result<Vec<Group>, AllocError>
-    requires { AreDistinct items.items }
+    requires { HaveOwnKeys items.items }
     ensures { IfOk result (λ groups. AreGroups items.items groups.items) }
 {
     sort(&mut items);
@@ -29,7 +29,7 @@ pub(crate) fn grouped(alloc: Global, mut items: Vec<Record>) -> Result<Vec<Group
 
 /// Puts the runs in order of their keys.
 fn sort(items: &mut Vec<Record>)
-    requires { AreDistinct items.old.items }
+    requires { HaveOwnKeys items.old.items }
     ensures same { (years : List YearRuns)
         → loaded items.new.items years ≡ loaded items.old.items years }
     ensures len { length items.new.items ≡ length items.old.items }

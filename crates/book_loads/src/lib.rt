@@ -11,4 +11,4 @@ mod merge;
 mod records;
 mod refused;
 
-pub use loads::{RestoredYears, load, load_laws, restore};
+pub use loads::{RestoredYears, load, restore};

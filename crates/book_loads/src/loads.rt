@@ -7,8 +7,9 @@ ghost use Rattle.book_edits.specs.Kept.{AreSameYears, AreYears, IsYearsEdit, edi
 ghost use Rattle.book_edits.specs.Kept.{edit_jobs, runs_in, years_of};
 ghost use Rattle.book_edits.specs.Refusals.{CountsEdit};
 ghost use Rattle.payroll_records.specs.Limits.{most_records};
+ghost use Rattle.payroll_records.specs.Tables.{HaveOwnKeys};
 ghost use Rattle.book_edits.specs.Views.{AreKeptYears, IsListEdit, list_cost};
-ghost use Rattle.book_loads.specs.Loads.{AreDistinct, CanLoad, IsLoadRefused, TablesAreDistinct};
+ghost use Rattle.book_loads.specs.Loads.{CanLoad, IsLoadRefused};
 
 use crate::drafts::draft_all;
 use crate::groups::grouped;
@@ -39,7 +40,7 @@ pub fn load<L: Ledger>(
     steps: &mut Steps<L>,
 ) -> Result<Work, EditRefusal>
     requires years { AreYears (plans_in plans.now) years.old }
-    requires distinct { AreDistinct items.items }
+    requires distinct { HaveOwnKeys items.items }
     ensures ok { IfOk result
         (IsYearsEdit (plans_in plans.now) years.old years.new
         (loaded items.items (years_of years.old))) }
@@ -64,7 +65,7 @@ pub fn restore<L: Ledger>(
     items: Vec<Record>,
     steps: &mut Steps<L>,
 ) -> Result<RestoredYears, AllocError>
-    requires distinct { AreDistinct items.items }
+    requires distinct { HaveOwnKeys items.items }
     requires few { length items.items ≤ most_records }
     ensures kept { IfOk result (λ restored. AreYears (plans_in plans.now) restored.years) }
     ensures years { IfOk result (λ restored. years_of restored.years ≡ loaded items.items []) }
@@ -88,7 +89,7 @@ fn load_runs<L: Ledger>(
     steps: &mut Steps<L>,
 ) -> Result<Work, AllocError>
     requires kept { AreKeptYears (plans_in plans.now) list.old.items }
-    requires distinct { AreDistinct items.items }
+    requires distinct { HaveOwnKeys items.items }
     requires few { length items.items ≤ most_records }
     ensures ok { IfOk result (IsListEdit (plans_in plans.now) list.old.items list.new.items
         (loaded items.items (runs_in list.old.items))) }
@@ -105,8 +106,3 @@ fn load_runs<L: Ledger>(
     *list = merged(alloc, olds, done.drafts, room);
     Ok(done.work)
 }
-
-/// A law of the definitions: the records of a table have different keys.
-pub fn load_laws()
-    ensures { TablesAreDistinct }
-{}

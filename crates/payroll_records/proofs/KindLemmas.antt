@@ -9,12 +9,13 @@ use Rattle.std.proofs.lemmas.Cmp.{tied_itself}
 use Rattle.rising_lists.specs.Keyed.{AreAbove, IsRising}
 use Rattle.rising_lists.proofs.Laws.{above_all}
 use Rattle.payroll_records.specs.NamedValues.{name_cmp, name_of}
-use Rattle.payroll_records.specs.Tables.{Text, IsWide, HasEmployee, HasMonth, HasDay, IsReadable, cell_of, field_of, IsRecordOf, HasKeyOf, WrongWidth, WrongEmployee, WrongMonth, WrongDay, WrongValue, Repeats, name_at}
+use Rattle.payroll_records.specs.Tables.{Text, IsWide, HasEmployee, HasMonth, HasDay, IsReadable, cell_of, field_of, IsRecordOf, key_of, WrongWidth, WrongEmployee, WrongMonth, WrongDay, WrongValue, Repeats, name_at}
 use Rattle.payroll_records.specs.declared.day.Day.{Day}
 use Rattle.payroll_records.specs.declared.record.Record.{Record}
 use Rattle.payroll_records.specs.declared.table.TableFault.{TableFault}
 use Rattle.payroll_records.specs.declared.table.TableFault.TheVariants as whole
 use Rattle.payroll_records.specs.declared.values.NamedValue.{NamedValue}
+use Rattle.payroll_records.proofs.KeyLemmas.{HasKey}
 use Rattle.payroll_records.proofs.SpellingLemmas.{days_once}
 
 -- values with rising names are known by what they contain
@@ -96,11 +97,11 @@ pub data Kind : Type 0 where
   repeat : Kind
 
 abbrev pub FaultOf : Kind → List Text → List Record → List Text → Type 0
-FaultOf width names before row = WrongWidth names before row
-FaultOf employee names before row = WrongEmployee names before row
-FaultOf month names before row = WrongMonth names before row
-FaultOf day names before row = WrongDay names before row
-FaultOf (value name) names before row = WrongValue name names before row
+FaultOf width names before row = WrongWidth names row
+FaultOf employee names before row = WrongEmployee names row
+FaultOf month names before row = WrongMonth names row
+FaultOf day names before row = WrongDay names row
+FaultOf (value name) names before row = WrongValue name names row
 FaultOf repeat names before row = Repeats names before row
 
 abbrev pub fault_of : ℕ → Kind → TableFault
@@ -115,13 +116,13 @@ month_of_day : (row : List Text) → HasDay row → HasMonth row
 month_of_day row h = (h.0, h.1, h.3.1)
 
 -- a row that gives a record of a new key has no fault
-pub no_fault : (k : Kind) (names : List Text) (before : List Record) (row : List Text) (r : Record) → FaultOf k names before row → IsRecordOf names row r → (HasKeyOf before r → ⊥) → ⊥
+pub no_fault : (k : Kind) (names : List Text) (before : List Record) (row : List Text) (r : Record) → FaultOf k names before row → IsRecordOf names row r → (HasKey before (key_of r) → ⊥) → ⊥
 no_fault width names before row r h is new = h is.wide
 no_fault employee names before row r h is new = h.1 is.has_employee
 no_fault month names before row r h is new = h.2 (month_of_day row (_, _, _, is.day))
 no_fault day names before row r h is new = h.3 (_, _, _, is.day)
 no_fault (value name) names before row r h is new = h.broken (is.readable h.column h.within)
-no_fault repeat names before row r h is new = new (subst (HasKeyOf before) (record_once names row h.of_row r h.is_record is) h.repeated)
+no_fault repeat names before row r h is new = new (subst (λ (s : Record). HasKey before (key_of s)) (record_once names row h.of_row r h.is_record is) h.repeated)
 
 -- what is tried of a row, and the first of it that fails
 Passes : List Text → List Text → ℕ → Type 0
@@ -192,8 +193,8 @@ not_below names row before k l h g less =
     (stops names row k before h).here (omega (arith, rank_least l)) ((stops names row l before g).before (rank k) less)
 
 -- the leftmost broken cell is one
-value_once : (names row : List Text) (before : List Record) (m n : Text) → WrongValue m names before row → WrongValue n names before row → m ≡ n
-value_once names row before m n h g = elim (cases_lt h.column g.column) [
+value_once : (names row : List Text) (m n : Text) → WrongValue m names row → WrongValue n names row → m ≡ n
+value_once names row m n h g = elim (cases_lt h.column g.column) [
   | inl left ↦ absurd (h.broken (g.earlier h.column left))
   | inr not_less ↦ elim (cases_lt g.column h.column) [
     | inl right ↦ absurd (g.broken (h.earlier g.column right))
@@ -216,6 +217,6 @@ kind_once names row before k l h g = elim (cases_lt (rank k) (rank l)) [
   by employee employee h g e = refl
   by month month h g e = refl
   by day day h g e = refl
-  by (value m) (value n) h g e = ap value (value_once names row before m n h g)
+  by (value m) (value n) h g e = ap value (value_once names row m n h g)
   by repeat repeat h g e = refl
   by k l h g e = absurd (omega (arith, e))

@@ -1,6 +1,8 @@
--- What other crates may cite: the orders of days and of keys are total; a table's text has one answer, and no other; days
+-- What other crates may cite: the orders of days and of keys are total, and what ties is
+-- the same; records with keys of their own; a table's text has one answer, and no other; days
 -- and numbers are known by their texts; what words NAME=VALUE give; what stands at the place of a name.
 pub use Rattle.payroll_records.proofs.OrderLemmas.{day_total, key_total}
+pub use Rattle.payroll_records.proofs.KeyLemmas.{day_same, key_same, own_none, own_more, own_parts, own_rising}
 pub use Rattle.payroll_records.proofs.OnceLemmas.{table_once}
 pub use Rattle.payroll_records.proofs.SomeLemmas.{table_some}
 pub use Rattle.payroll_records.proofs.DecidedLemmas.{Decided, both, by_iff, true_decided, eq_decided, text_decided, month_decided, day_spelled_decided, day_decided}

@@ -12,5 +12,6 @@ pub mod KindLemmas
 pub mod OnceLemmas
 pub mod SomeLemmas
 pub mod OrderLemmas
+pub mod KeyLemmas
 pub mod ValueLemmas
 pub mod ValueWordLemmas

@@ -1,23 +1,25 @@
 -- A table's text has one answer at most.
 use Rattle.std.proofs.Common.{◌≡◌, ℕ, ◌+◌, ◌≤◌, List, [], ◌∷◌, ◌++◌, length, Result, Ok, Err, refl, sym, ap, ◌∙◌, subst, arith, ◌⊎◌, inl, inr, append_assoc}
+use Rattle.std.specs.List.{AllZip}
 use Rattle.std.proofs.lemmas.List.{append-nil}
 use Rattle.payroll_records.specs.CsvRows.{csv_rows}
 use Rattle.payroll_records.specs.Limits.{longest_table}
-use Rattle.payroll_records.specs.Tables.{Text, IsHeader, IsNoHeader, IsRecordOf, HasKeyOf, AreRecordsOf, IsTable, IsFirstFault, BreaksAt, TableSays}
+use Rattle.payroll_records.specs.Tables.{Text, IsHeader, IsNoHeader, IsRecordOf, HaveOwnKeys, IsTable, IsFirstFault, BreaksAt, TableSays, key_of}
 use Rattle.payroll_records.specs.declared.record.Record.{Record}
 use Rattle.payroll_records.specs.declared.table.TableFault.{TableFault}
 use Rattle.payroll_records.specs.declared.table.TableFault.TheVariants as whole
+use Rattle.payroll_records.proofs.KeyLemmas.{HasKey, own_new}
 use Rattle.payroll_records.proofs.KindLemmas.{Kind, width, employee, month, day, value, repeat, FaultOf, fault_of, no_fault, kind_once, record_once}
 
-records_once : (names : List Text) (before : List Record) (rows : List (List Text)) (rs ss : List Record) → AreRecordsOf names before rows rs → AreRecordsOf names before rows ss → rs ≡ ss
-records_once names before [] [] [] h g = refl
-records_once names before [] [] (s ∷ ss) h g = absurd g
-records_once names before [] (r ∷ rs) ss h g = absurd h
-records_once names before (row ∷ rows) [] ss h g = absurd h
-records_once names before (row ∷ rows) (r ∷ rs) [] h g = absurd g
-records_once names before (row ∷ rows) (r ∷ rs) (s ∷ ss) h g =
+records_once : (names : List Text) (rows : List (List Text)) (rs ss : List Record) → AllZip (IsRecordOf names) rows rs → AllZip (IsRecordOf names) rows ss → rs ≡ ss
+records_once names [] [] [] h g = refl
+records_once names [] [] (s ∷ ss) h g = absurd g
+records_once names [] (r ∷ rs) ss h g = absurd h
+records_once names (row ∷ rows) [] ss h g = absurd h
+records_once names (row ∷ rows) (r ∷ rs) [] h g = absurd g
+records_once names (row ∷ rows) (r ∷ rs) (s ∷ ss) h g =
     let first : r ≡ s = record_once names row r s h.0 g.0 in
-    let rest : rs ≡ ss = records_once names (before ++ (r ∷ [])) rows rs ss h.2 (subst (λ (x : Record). AreRecordsOf names (before ++ (x ∷ [])) rows ss) (sym first) g.2) in
+    let rest : rs ≡ ss = records_once names rows rs ss h.1 g.1 in
     cc
 
 -- the row of this number is the first with a fault, and has this one; row by row
@@ -25,34 +27,34 @@ abbrev FaultFrom : Kind → List Text → List Record → List (List Text) → �
 FaultFrom k names before [] n = ⊥
 FaultFrom k names before (row ∷ rows) n =
     ((n ≡ 1) × FaultOf k names before row)
-    ⊎ ((r : Record) × (m : ℕ) × (n ≡ m + 1) × IsRecordOf names row r × (HasKeyOf before r → ⊥) × FaultFrom k names (before ++ (r ∷ [])) rows m)
+    ⊎ ((r : Record) × (m : ℕ) × (n ≡ m + 1) × IsRecordOf names row r × (HasKey before (key_of r) → ⊥) × FaultFrom k names (before ++ (r ∷ [])) rows m)
 
 from_first : (k : Kind) (names : List Text) (before : List Record) (done : List (List Text)) (records : List Record) (row : List Text) (after : List (List Text)) →
-    AreRecordsOf names before done records → FaultOf k names (before ++ records) row → FaultFrom k names before (done ++ (row ∷ after)) (length done + 1)
-from_first k names before [] [] row after h f = inl (refl, subst (λ (rs : List Record). FaultOf k names rs row) (append-nil before) f)
-from_first k names before [] (r ∷ rs) row after h f = absurd h
-from_first k names before (x ∷ xs) [] row after h f = absurd h
-from_first k names before (x ∷ xs) (r ∷ rs) row after h f =
+    AllZip (IsRecordOf names) done records → HaveOwnKeys (before ++ records) → FaultOf k names (before ++ records) row → FaultFrom k names before (done ++ (row ∷ after)) (length done + 1)
+from_first k names before [] [] row after h own f = inl (refl, subst (λ (rs : List Record). FaultOf k names rs row) (append-nil before) f)
+from_first k names before [] (r ∷ rs) row after h own f = absurd h
+from_first k names before (x ∷ xs) [] row after h own f = absurd h
+from_first k names before (x ∷ xs) (r ∷ rs) row after h own f =
     inr (
       r,
       length xs + 1,
       omega arith,
       h.0,
-      h.1,
-      from_first k names (before ++ (r ∷ [])) xs rs row after h.2 (subst (λ (qs : List Record). FaultOf k names qs row) (sym (append_assoc before (r ∷ []) rs)) f),
+      own_new before r rs own,
+      from_first k names (before ++ (r ∷ [])) xs rs row after h.1 (subst HaveOwnKeys (sym (append_assoc before (r ∷ []) rs)) own) (subst (λ (qs : List Record). FaultOf k names qs row) (sym (append_assoc before (r ∷ []) rs)) f),
     )
 
 fault_from : (k : Kind) (names : List Text) (rows : List (List Text)) (n : ℕ) → IsFirstFault names rows n (FaultOf k) → FaultFrom k names [] rows n
 fault_from k names rows n h =
-    rw (h.parts, h.counted) (from_first k names [] h.before h.records h.row h.after h.are_records h.faulty)
+    rw (h.parts, h.counted) (from_first k names [] h.before h.records h.row h.after h.are_records.each h.are_records.own_keys h.faulty)
 
-not_both : (k : Kind) (names : List Text) (before : List Record) (rows : List (List Text)) (rs : List Record) (n : ℕ) → AreRecordsOf names before rows rs → FaultFrom k names before rows n → ⊥
-not_both k names before [] rs n h f = f
-not_both k names before (row ∷ rows) [] n h f = absurd h
-not_both k names before (row ∷ rows) (r ∷ rs) n h (inl here) = no_fault k names before row r here.1 h.0 h.1
-not_both k names before (row ∷ rows) (r ∷ rs) n h (inr later) =
+not_both : (k : Kind) (names : List Text) (before : List Record) (rows : List (List Text)) (rs : List Record) (n : ℕ) → AllZip (IsRecordOf names) rows rs → HaveOwnKeys (before ++ rs) → FaultFrom k names before rows n → ⊥
+not_both k names before [] rs n h own f = f
+not_both k names before (row ∷ rows) [] n h own f = absurd h
+not_both k names before (row ∷ rows) (r ∷ rs) n h own (inl here) = no_fault k names before row r here.1 h.0 (own_new before r rs own)
+not_both k names before (row ∷ rows) (r ∷ rs) n h own (inr later) =
     let same : later.0 ≡ r = record_once names row later.0 r later.3 h.0 in
-    not_both k names (before ++ (r ∷ [])) rows rs later.1 h.2 (subst (λ (x : Record). FaultFrom k names (before ++ (x ∷ [])) rows later.1) same later.5)
+    not_both k names (before ++ (r ∷ [])) rows rs later.1 h.1 (subst HaveOwnKeys (sym (append_assoc before (r ∷ []) rs)) own) (subst (λ (x : Record). FaultFrom k names (before ++ (x ∷ [])) rows later.1) same later.5)
 
 faults_once : (k l : Kind) (names : List Text) (before : List Record) (rows : List (List Text)) (m n : ℕ) → FaultFrom k names before rows m → FaultFrom l names before rows n → (m ≡ n) × (k ≡ l)
 faults_once k l names before [] m n f g = absurd f
@@ -110,7 +112,7 @@ module _ (bytes : List ℕ) where
       let headers : g.header ≡ h.header = cc in
       let rows : g.rows ≡ h.rows = cc in
       let names : g.names ≡ h.names = same_names h.header h.names g.names h.is_header (subst (λ (r : List Text). IsHeader r g.names) headers g.is_header) in
-      not_both k h.names [] h.rows records n h.are_records
+      not_both k h.names [] h.rows records n h.are_records.each h.are_records.own_keys
       (subst (λ (rs : List (List Text)). FaultFrom k h.names [] rs n) rows (subst (λ (ns : List Text). FaultFrom k ns [] g.rows n) names (fault_from k g.names g.rows n g.first)))
 
   tables_once : (rs ss : List Record) → IsTable bytes rs → IsTable bytes ss → rs ≡ ss
@@ -120,8 +122,8 @@ module _ (bytes : List ℕ) where
       let headers : g.header ≡ h.header = cc in
       let rows : g.rows ≡ h.rows = cc in
       let names : g.names ≡ h.names = same_names h.header h.names g.names h.is_header (subst (λ (r : List Text). IsHeader r g.names) headers g.is_header) in
-      records_once h.names [] h.rows rs ss h.are_records
-      (subst (λ (xs : List (List Text)). AreRecordsOf h.names [] xs ss) rows (subst (λ (ns : List Text). AreRecordsOf ns [] g.rows ss) names g.are_records))
+      records_once h.names h.rows rs ss h.are_records.each
+      (subst (λ (xs : List (List Text)). AllZip (IsRecordOf h.names) xs ss) rows (subst (λ (ns : List Text). AllZip (IsRecordOf ns) g.rows ss) names g.are_records.each))
 
   whys_once : (f g : TableFault) → Why bytes f → Why bytes g → f ≡ g
   whys_once f g (too_long l) (too_long m) = refl

@@ -1,10 +1,10 @@
 -- A table's text has an answer: its records or its first fault.
 use Rattle.std.proofs.Common.{◌≡◌, ◌≢◌, ℕ, zero, suc, ◌+◌, ◌<◌, ◌≤◌, List, [], ◌∷◌, ◌++◌, length, get_or, Option, Some, None, Result, Ok, Err, codes, refl, sym, ap, ◌∙◌, subst, arith, ◌⊎◌, inl, inr, add-one, below_more, append_assoc}
 use Rattle.std.specs.Prelude.{IsTrue}
-use Rattle.std.specs.List.{AllByRecursion, AllPairs, insert, list_any}
+use Rattle.std.specs.List.{AllByRecursion, AllPairs, insert}
 use Rattle.std.specs.declared.cmp.Ordering.{Ordering}
 use Rattle.std.specs.declared.cmp.Ordering.TheVariants.{Less, Equal, Greater}
-use Rattle.std.specs.Ordering.{is_eq, ordering_reverse}
+use Rattle.std.specs.Ordering.{ordering_reverse}
 use Rattle.std.specs.Cmp.Lexicographic.{nat_list_cmp_total}
 use Rattle.std.proofs.lemmas.Bool.{cases_lt}
 use Rattle.std.proofs.lemmas.List.{append-nil, get_or_default}
@@ -15,9 +15,8 @@ use Rattle.pap_tree.specs.Names.{is_name}
 use Rattle.payroll_records.specs.CsvRows.{csv_rows}
 use Rattle.payroll_records.specs.Employees.{is_employee}
 use Rattle.payroll_records.specs.NamedValues.{name_cmp}
-use Rattle.payroll_records.specs.Orders.{key_cmp}
 use Rattle.payroll_records.specs.Limits.{longest_table, most_values}
-use Rattle.payroll_records.specs.Tables.{Text, name_at, field_of, cell_of, IsHeader, IsReadable, IsWide, HasEmployee, HasDay, IsRecordOf, HasKeyOf, key_of, AreRecordsOf, IsFirstFault, BreaksAt, TableSays}
+use Rattle.payroll_records.specs.Tables.{Text, name_at, field_of, cell_of, IsHeader, IsReadable, IsWide, HasEmployee, HasDay, IsRecordOf, key_of, AreRecordsOf, IsFirstFault, BreaksAt, TableSays}
 use Rattle.payroll_records.specs.TableViews.{AreColumns, IsColumnOf, column_name}
 use Rattle.payroll_records.specs.CellViews.{AreValuesOf}
 use Rattle.payroll_records.specs.declared.header.Column.{Column}
@@ -29,6 +28,7 @@ use Rattle.payroll_records.proofs.TableLemmas.{records_more}
 use Rattle.payroll_records.proofs.ColumnLemmas.{column_added, at_name}
 use Rattle.payroll_records.proofs.CellLemmas.{no_values, value_passed, value_added, values_supplied, supplied_values}
 use Rattle.payroll_records.proofs.DecidedLemmas.{Decided, both, eq_decided, le_decided, true_decided, text_decided, month_decided, day_decided, readable_decided, number_decided}
+use Rattle.payroll_records.proofs.KeyLemmas.{HasKey, key_decided, own_none}
 use Rattle.payroll_records.proofs.KindLemmas.{Kind, width, employee, month, day, value, repeat, FaultOf, fault_of}
 use Rattle.scaled_decimal.proofs.Laws.{number_once}
 
@@ -230,7 +230,7 @@ module _ (names : List Text) (columns : List Column) (are : AreColumns names col
 
   -- a row gives a record of a new key, or has a fault
   RowSays : List Record → Type 0
-  RowSays before = ((r : Record) × IsRecordOf names row r × (HasKeyOf before r → ⊥)) ⊎ ((k : Kind) × FaultOf k names before row)
+  RowSays before = ((r : Record) × IsRecordOf names row r × (HasKey before (key_of r) → ⊥)) ⊎ ((k : Kind) × FaultOf k names before row)
 
   row_says : (before : List Record) → RowSays before
   unfolding RowSays CellsOrBroken
@@ -246,7 +246,7 @@ module _ (names : List Text) (columns : List Column) (are : AreColumns names col
             | inr k ↦ inr (value (name_at names k.0), record { wide = wide; employee = has_employee; day = has_day; column = k.0; within = k.1; named = refl; earlier = k.2; broken = k.3 })
             | inl readable ↦
                 let r = record_of wide has_employee has_day readable in
-                elim (true_decided (list_any (λ s. is_eq (key_cmp (key_of r.0) (key_of s))) before)) [
+                elim (key_decided before (key_of r.0)) [
                   | inl again ↦ inr (repeat, record { of_row = r.0; is_record = r.1; repeated = again })
                   | inr new ↦ inl (r.0, r.1, new)
                 ]
@@ -258,17 +258,17 @@ module _ (names : List Text) (columns : List Column) (are : AreColumns names col
 
 -- the rows give their records, or a first one has a fault
 RowsSay : List Text → List (List Text) → Type 0
-RowsSay names rows = ((records : List Record) × AreRecordsOf names [] rows records) ⊎ ((n : ℕ) × (k : Kind) × IsFirstFault names rows n (FaultOf k))
+RowsSay names rows = ((records : List Record) × AreRecordsOf names rows records) ⊎ ((n : ℕ) × (k : Kind) × IsFirstFault names rows n (FaultOf k))
 
 rows_say : (names : List Text) (columns : List Column) → AreColumns names columns → length names ≤ most_values → (done : List (List Text)) (records : List Record) (rest : List (List Text)) →
-    AreRecordsOf names [] done records → RowsSay names (done ++ rest)
+    AreRecordsOf names done records → RowsSay names (done ++ rest)
 unfolding RowsSay RowSays
-rows_say names columns are few done records [] h = inl (records, subst (λ (rows : List (List Text)). AreRecordsOf names [] rows records) (sym (append-nil done)) h)
+rows_say names columns are few done records [] h = inl (records, subst (λ (rows : List (List Text)). AreRecordsOf names rows records) (sym (append-nil done)) h)
 rows_say names columns are few done records (row ∷ rest) h =
-    by (row_says names columns are few row records) (λ r is new. rows_say names columns are few (done ++ (row ∷ [])) (records ++ (r ∷ [])) rest (records_more names [] done records row r h is new))
+    by (row_says names columns are few row records) (λ r is new. rows_say names columns are few (done ++ (row ∷ [])) (records ++ (r ∷ [])) rest (records_more names done records row r h is new))
   where
     by : RowSays names columns are few row records →
-        ((r : Record) → IsRecordOf names row r → (HasKeyOf records r → ⊥) → RowsSay names ((done ++ (row ∷ [])) ++ rest)) →
+        ((r : Record) → IsRecordOf names row r → (HasKey records (key_of r) → ⊥) → RowsSay names ((done ++ (row ∷ [])) ++ rest)) →
         RowsSay names (done ++ (row ∷ rest))
     by (inl r) more = subst (RowsSay names) (append_assoc done (row ∷ []) rest) (more r.0 r.1 r.2)
     by (inr f) more = inr (length done + 1, f.0, record { before = done; row = row; after = rest; parts = refl; counted = refl; records = records; are_records = h; faulty = f.1 })
@@ -291,7 +291,7 @@ short_some bytes short (header ∷ rows) e = by (header_or_not header)
   where
     by : HeaderOrNot header → Answered bytes
     by (no_header none) = (Err whole.Header, (short, rw e none))
-    by (header_of names is columns are) = elim (rows_say names columns are is.few [] [] rows tt) [
+    by (header_of names is columns are) = elim (rows_say names columns are is.few [] [] rows (record { each = tt; own_keys = own_none })) [
       | inl all ↦ (Ok all.0, record { short = short; header = header; names = names; rows = rows; read = e; is_header = is; are_records = all.1 })
       | inr f ↦ (Err (fault_of f.0 f.1), fault_says bytes f.0 f.1 (record { short = short; header = header; names = names; rows = rows; read = e; is_header = is; first = f.2 }))
     ]

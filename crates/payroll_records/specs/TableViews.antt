@@ -3,7 +3,7 @@ use Rattle.std.specs.Prelude.{◌≡◌, ℕ, ◌<◌, ◌≤◌, List, [], ◌�
 use Rattle.std.specs.List.{AllByRecursion}
 use Rattle.rising_lists.specs.Keyed.{at_key, IsRising}
 use Rattle.payroll_records.specs.NamedValues.{name_cmp}
-use Rattle.payroll_records.specs.Tables.{Text, name_at, WrongWidth, WrongEmployee, WrongMonth, WrongDay, WrongValue, Repeats, IsFirstFault, field_of, cell_of, IsReadable}
+use Rattle.payroll_records.specs.Tables.{ByItself, Text, name_at, WrongWidth, WrongEmployee, WrongMonth, WrongDay, WrongValue, Repeats, IsFirstFault, field_of, cell_of, IsReadable}
 use Rattle.payroll_records.specs.declared.header.Column.{Column}
 use Rattle.payroll_records.specs.declared.row.RowFault.{RowFault}
 use Rattle.payroll_records.specs.declared.row.RowFault.TheVariants as fault
@@ -29,11 +29,11 @@ pub record AreColumns (names : List Text) (columns : List Column) : Type 0 where
 
 -- what is wrong with one row
 abbrev pub IsRowFault : List Text → List Text → RowFault → Type 0
-IsRowFault names row fault.Width = WrongWidth names [] row
-IsRowFault names row fault.Employee = WrongEmployee names [] row
-IsRowFault names row fault.Month = WrongMonth names [] row
-IsRowFault names row fault.Day = WrongDay names [] row
-IsRowFault names row (fault.Value name) = WrongValue name names [] row
+IsRowFault names row fault.Width = WrongWidth names row
+IsRowFault names row fault.Employee = WrongEmployee names row
+IsRowFault names row fault.Month = WrongMonth names row
+IsRowFault names row fault.Day = WrongDay names row
+IsRowFault names row (fault.Value name) = WrongValue name names row
 IsRowFault names row (fault.Memory e) = ⊤
 
 -- the fault of a row in a table
@@ -49,11 +49,11 @@ fault_at row (fault.Memory e) = whole.Memory e
 abbrev pub BreaksIn : List Text → List (List Text) → TableFault → Type 0
 BreaksIn names rows whole.TableLong = ⊥
 BreaksIn names rows whole.Header = ⊥
-BreaksIn names rows (whole.Width n) = IsFirstFault names rows n WrongWidth
-BreaksIn names rows (whole.Employee n) = IsFirstFault names rows n WrongEmployee
-BreaksIn names rows (whole.Month n) = IsFirstFault names rows n WrongMonth
-BreaksIn names rows (whole.Day n) = IsFirstFault names rows n WrongDay
-BreaksIn names rows (whole.Value n name) = IsFirstFault names rows n (WrongValue name)
+BreaksIn names rows (whole.Width n) = IsFirstFault names rows n (ByItself WrongWidth)
+BreaksIn names rows (whole.Employee n) = IsFirstFault names rows n (ByItself WrongEmployee)
+BreaksIn names rows (whole.Month n) = IsFirstFault names rows n (ByItself WrongMonth)
+BreaksIn names rows (whole.Day n) = IsFirstFault names rows n (ByItself WrongDay)
+BreaksIn names rows (whole.Value n name) = IsFirstFault names rows n (ByItself (WrongValue name))
 BreaksIn names rows (whole.Repeat n) = IsFirstFault names rows n Repeats
 BreaksIn names rows (whole.Memory e) = ⊤
 

@@ -1,7 +1,6 @@
 -- Tables of pay runs (docs/PROFILE.md, "Tables"): the records of a CSV text, or what is wrong with it first.
 use Rattle.std.specs.Prelude.{◌≡◌, ◌≢◌, ◌↔◌, ◌⊎◌, ℕ, ◌+◌, ◌<◌, ◌≤◌, List, [], ◌∷◌, ◌++◌, length, slice_index_or, codes, IsTrue, Result, Ok, Err, ⊤}
-use Rattle.std.specs.List.{AllByRecursion, AllPairs, Contains, list_any}
-use Rattle.std.specs.Ordering.{is_eq}
+use Rattle.std.specs.List.{AllByRecursion, AllPairs, AllZip, Any, Contains}
 use Rattle.scaled_decimal.specs.Decimals.{Decimal}
 use Rattle.scaled_decimal.specs.Limits.{IsKept}
 use Rattle.scaled_decimal.specs.NumberTexts.{Spells}
@@ -11,7 +10,6 @@ use Rattle.payroll_records.specs.Days.{IsDayText, IsMonthText, IsMonthSpelled}
 use Rattle.payroll_records.specs.Employees.{is_employee}
 use Rattle.payroll_records.specs.Limits.{most_values, longest_table}
 use Rattle.payroll_records.specs.NamedValues.{AreValues}
-use Rattle.payroll_records.specs.Orders.{key_cmp}
 use Rattle.payroll_records.specs.declared.record.Key.{Key}
 use Rattle.payroll_records.specs.declared.record.Record.{Record}
 use Rattle.payroll_records.specs.declared.table.TableFault.{TableFault}
@@ -83,18 +81,14 @@ pub record IsRecordOf (names row : List Text) (r : Record) : Type 0 where
 abbrev pub key_of : Record → Key
 key_of r = record { employee = r.employee; day = r.day }
 
--- one of the records is of the same employee and day
-abbrev pub HasKeyOf : List Record → Record → Type 0
-HasKeyOf records r = IsTrue (list_any (λ s. is_eq (key_cmp (key_of r) (key_of s))) records)
+-- no two of the records are of one employee and day
+abbrev pub HaveOwnKeys : List Record → Type 0
+HaveOwnKeys records = AllPairs (λ r s. key_of r ≢ key_of s) records
 
--- each row in turn gives its record, and no earlier record has its key
-abbrev pub AreRecordsOf : List Text → List Record → List (List Text) → List Record → Type 0
-AreRecordsOf names before [] [] = ⊤
-AreRecordsOf names before [] (r ∷ rs) = ⊥
-AreRecordsOf names before (row ∷ rows) [] = ⊥
-AreRecordsOf names before (row ∷ rows) (r ∷ rs) =
-    IsRecordOf names row r × (HasKeyOf before r → ⊥)
-    × AreRecordsOf names (before ++ (r ∷ [])) rows rs
+-- each row gives its record, and no two of them have one key
+pub record AreRecordsOf (names : List Text) (rows : List (List Text)) (records : List Record) : Type 0 where
+  pub each : AllZip (IsRecordOf names) rows records
+  pub own_keys : HaveOwnKeys records
 
 -- the records of a table
 pub record IsTable (bytes : List ℕ) (records : List Record) : Type 0 where
@@ -104,24 +98,23 @@ pub record IsTable (bytes : List ℕ) (records : List Record) : Type 0 where
   pub rows : List (List Text)
   pub read : csv_rows bytes ≡ header ∷ rows
   pub is_header : IsHeader header names
-  pub are_records : AreRecordsOf names [] rows records
+  pub are_records : AreRecordsOf names rows records
 
--- what is wrong with a row, where no earlier fault is
-abbrev pub WrongWidth : List Text → List Record → List Text → Type 0
-WrongWidth names before row = IsWide names row → ⊥
+-- what is wrong with a row by itself, where no earlier fault is
+abbrev pub WrongWidth : List Text → List Text → Type 0
+WrongWidth names row = IsWide names row → ⊥
 
-abbrev pub WrongEmployee : List Text → List Record → List Text → Type 0
-WrongEmployee names before row = IsWide names row × (HasEmployee row → ⊥)
+abbrev pub WrongEmployee : List Text → List Text → Type 0
+WrongEmployee names row = IsWide names row × (HasEmployee row → ⊥)
 
-abbrev pub WrongMonth : List Text → List Record → List Text → Type 0
-WrongMonth names before row = IsWide names row × HasEmployee row × (HasMonth row → ⊥)
+abbrev pub WrongMonth : List Text → List Text → Type 0
+WrongMonth names row = IsWide names row × HasEmployee row × (HasMonth row → ⊥)
 
-abbrev pub WrongDay : List Text → List Record → List Text → Type 0
-WrongDay names before row = IsWide names row × HasEmployee row × HasMonth row × (HasDay row → ⊥)
+abbrev pub WrongDay : List Text → List Text → Type 0
+WrongDay names row = IsWide names row × HasEmployee row × HasMonth row × (HasDay row → ⊥)
 
 -- the leftmost cell of values that isn't readable
-pub record WrongValue (name : Text) (names : List Text) (before : List Record)
-    (row : List Text) : Type 0 where
+pub record WrongValue (name : Text) (names row : List Text) : Type 0 where
   pub wide : IsWide names row
   pub employee : HasEmployee row
   pub day : HasDay row
@@ -131,10 +124,15 @@ pub record WrongValue (name : Text) (names : List Text) (before : List Record)
   pub earlier : (i : ℕ) → i < column → IsReadable (cell_of row i)
   pub broken : IsReadable (cell_of row column) → ⊥
 
+-- an earlier record is of the same employee and day
 pub record Repeats (names : List Text) (before : List Record) (row : List Text) : Type 0 where
   pub of_row : Record
   pub is_record : IsRecordOf names row of_row
-  pub repeated : HasKeyOf before of_row
+  pub repeated : Any (λ s. key_of s ≡ key_of of_row) before
+
+-- a fault of the row by itself, whatever the rows before it give
+abbrev pub ByItself : (List Text → List Text → Type 0) → List Text → List Record → List Text → Type 0
+ByItself Fault names before row = Fault names row
 
 -- the row of this number, counted from 1, is the first with a fault, and has this one
 pub record IsFirstFault (names : List Text) (rows : List (List Text)) (number : ℕ)
@@ -145,7 +143,7 @@ pub record IsFirstFault (names : List Text) (rows : List (List Text)) (number : 
   pub parts : rows ≡ before ++ (row ∷ after)
   pub counted : number ≡ length before + 1
   pub records : List Record
-  pub are_records : AreRecordsOf names [] before records
+  pub are_records : AreRecordsOf names before records
   pub faulty : Fault names records row
 
 -- the same of a table's text, its rows counted after the header
@@ -168,11 +166,11 @@ IsNoHeader (row ∷ rows) = (names : List Text) → IsHeader row names → ⊥
 abbrev pub IsTableFault : List ℕ → TableFault → Type 0
 IsTableFault bytes fault.TableLong = longest_table < length bytes
 IsTableFault bytes fault.Header = (length bytes ≤ longest_table) × IsNoHeader (csv_rows bytes)
-IsTableFault bytes (fault.Width row) = BreaksAt bytes row WrongWidth
-IsTableFault bytes (fault.Employee row) = BreaksAt bytes row WrongEmployee
-IsTableFault bytes (fault.Month row) = BreaksAt bytes row WrongMonth
-IsTableFault bytes (fault.Day row) = BreaksAt bytes row WrongDay
-IsTableFault bytes (fault.Value row name) = BreaksAt bytes row (WrongValue name)
+IsTableFault bytes (fault.Width row) = BreaksAt bytes row (ByItself WrongWidth)
+IsTableFault bytes (fault.Employee row) = BreaksAt bytes row (ByItself WrongEmployee)
+IsTableFault bytes (fault.Month row) = BreaksAt bytes row (ByItself WrongMonth)
+IsTableFault bytes (fault.Day row) = BreaksAt bytes row (ByItself WrongDay)
+IsTableFault bytes (fault.Value row name) = BreaksAt bytes row (ByItself (WrongValue name))
 IsTableFault bytes (fault.Repeat row) = BreaksAt bytes row Repeats
 IsTableFault bytes (fault.Memory error) = ⊥
 

@@ -91,7 +91,7 @@ fn read_records<R: Read>(
     requires columns { AreColumns header.now.names.items header.now.columns.items }
     requires few { length header.now.names.items ≤ most_values }
     ensures { let rows = rows_left R.remaining reader.old in MatchResult result
-        (λ records. AreRecordsOf header.now.names.items [] rows records.items)
+        (λ records. AreRecordsOf header.now.names.items rows records.items)
         (BreaksIn header.now.names.items rows) }
 {
     let mut records = Vec::new(alloc);

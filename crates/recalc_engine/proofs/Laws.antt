@@ -6,7 +6,7 @@ pub use Rattle.recalc_engine.proofs.BookLemmas.{book_rows_counted, book_rows_ris
 -- The outputs of each of its runs have different names.
 pub use Rattle.recalc_engine.proofs.OutputLemmas.{book_rows_named}
 -- A book is the book of its runs, plans and last work, and its runs have different keys, which rise.
-pub use Rattle.recalc_engine.proofs.ListedLemmas.{parts_make, runs_distinct, runs_rise, rising_distinct}
+pub use Rattle.recalc_engine.proofs.ListedLemmas.{parts_make, runs_distinct, runs_rise}
 -- Years in order are those of their runs, put one after another; an element put behind all others of a rising list.
 pub use Rattle.recalc_engine.proofs.ListedLemmas.{AllBelow, front_below, put_end, years_listed}
 -- A book has nothing to run against itself; a plan with the texts that stand at its day changes nothing; jobs are done.

@@ -1,19 +1,18 @@
 -- A book is the book of its runs, put one after another.
-use Rattle.std.proofs.Common.{◌≡◌, ◌<◌, List, [], ◌∷◌, ◌++◌, length, map, Option, Some, None, IsTrue, ◌||◌, if◌then◌else◌, refl, sym, ap, subst, ◌∙◌, arith}
-use Rattle.std.specs.List.{AllByRecursion, flat_map, list_any}
+use Rattle.std.proofs.Common.{◌≡◌, ◌<◌, List, [], ◌∷◌, ◌++◌, length, map, Option, Some, None, if◌then◌else◌, refl, sym, ap, subst, ◌∙◌, arith}
+use Rattle.std.specs.List.{AllByRecursion, flat_map}
 use Rattle.std.specs.declared.cmp.Ordering.{Ordering}
 use Rattle.std.specs.declared.cmp.Ordering.TheVariants.{Less, Equal, Greater}
 use Rattle.std.specs.Ordering.{is_eq, ordering_reverse}
 use Rattle.std.specs.Cmp.{IsTotalOrder}
-use Rattle.std.proofs.lemmas.Bool.{false≢true}
 use Rattle.std.proofs.lemmas.Cmp.{tied_itself}
 use Rattle.std.proofs.lemmas.List.{append-nil, append_assoc, map-append}
 use Rattle.rising_lists.specs.Keyed.{at_key, put, put_by, AreAbove, IsRising}
 use Rattle.payroll_records.specs.declared.record.Record.{Record}
 use Rattle.payroll_records.specs.declared.record.Key.{Key}
 use Rattle.payroll_records.specs.Orders.{day_cmp, key_cmp}
-use Rattle.payroll_records.specs.Tables.{HasKeyOf, key_of}
-use Rattle.payroll_records.proofs.Laws.{day_total}
+use Rattle.payroll_records.specs.Tables.{key_of}
+use Rattle.payroll_records.proofs.Laws.{day_total, own_rising}
 use Rattle.plan_calendar.specs.Picking.{Entry, pick}
 use Rattle.carry_bindings.specs.declared.carried.Earlier.{Earlier}
 use Rattle.book_year.specs.Accepted.{Accepted}
@@ -24,7 +23,6 @@ use Rattle.book_year.specs.Years.{IsOwn}
 use Rattle.book_year.proofs.Laws.{row_of_day}
 use Rattle.book_edits.specs.Books.{YearRuns, added, loaded, runs_key, runs_of, runs_or_none, with_runs, year_cmp, year_of}
 use Rattle.book_edits.proofs.Laws.{map_rising, rising_map, year_total}
-use Rattle.book_loads.specs.Loads.{AreDistinct}
 use Rattle.recalc_engine.specs.BookLaws.{BooksAreTheirParts, HasOwnRuns, IsBook, RunsAreDistinct, row_key, runs_listed}
 use Rattle.recalc_engine.specs.Contents.{Contents}
 use Rattle.recalc_engine.specs.MonthRows.{keyed_row, keyed_rows, month_rows}
@@ -184,14 +182,5 @@ runs_rise book h =
     rising_map key_cmp (λ (k : Key). k) key_of (runs_listed book)
     (subst (IsRising key_cmp (λ (k : Key). k)) keys rise)
 
-not_above : (r : Record) (rs : List Record) → AreAbove key_cmp key_of (key_of r) rs → HasKeyOf rs r → ⊥
-not_above r [] above h = false≢true h
-not_above r (s ∷ rs) above h =
-    not_above r rs above.1 (subst (λ o. IsTrue (is_eq o || list_any (λ t. is_eq (key_cmp (key_of r) (key_of t))) rs)) above.0 h)
-
-pub rising_distinct : (rs : List Record) → IsRising key_cmp key_of rs → AreDistinct rs
-rising_distinct [] h = tt
-rising_distinct (r ∷ rs) h = (not_above r rs h.0, rising_distinct rs h.1)
-
 pub runs_distinct : RunsAreDistinct
-runs_distinct book h = rising_distinct (runs_listed book) (runs_rise book h)
+runs_distinct book h = own_rising (runs_listed book) (runs_rise book h)

@@ -1,24 +1,23 @@
 -- An edit of the runs changes the run at its key alone.
-use Rattle.std.proofs.Common.{◌≡◌, ◌<◌, List, [], ◌∷◌, length, Option, Some, None, Bool, true, false, IsTrue, ◌||◌, if◌then◌else◌, refl, sym, ap, subst, ◌∙◌, arith}
+use Rattle.std.proofs.Common.{◌≡◌, ◌≢◌, ◌<◌, List, [], ◌∷◌, length, Option, Some, None, Bool, true, false, if◌then◌else◌, refl, sym, ap, subst, ◌∙◌, arith}
+use Rattle.std.specs.List.{AllByRecursion}
 use Rattle.std.specs.declared.cmp.Ordering.{Ordering}
 use Rattle.std.specs.declared.cmp.Ordering.TheVariants.{Less, Equal, Greater}
 use Rattle.std.specs.Ordering.{is_eq, nat_cmp, ordering_then}
 use Rattle.std.specs.Cmp.Lexicographic.{slice_cmp}
-use Rattle.std.proofs.lemmas.Cmp.{tied_back}
 use Rattle.rising_lists.specs.Keyed.{at_key, IsRising}
-use Rattle.rising_lists.proofs.Laws.{at_key_put, at_key_without}
+use Rattle.rising_lists.proofs.Laws.{all_in, at_key_put, at_key_without, found_in}
 use Rattle.payroll_records.specs.declared.day.Day.{Day}
 use Rattle.payroll_records.specs.declared.record.Key.{Key}
 use Rattle.payroll_records.specs.declared.record.Record.{Record}
 use Rattle.payroll_records.specs.Orders.{day_cmp, key_cmp}
-use Rattle.payroll_records.specs.Tables.{HasKeyOf, key_of}
-use Rattle.payroll_records.proofs.Laws.{day_total, key_total}
+use Rattle.payroll_records.specs.Tables.{HaveOwnKeys, key_of}
+use Rattle.payroll_records.proofs.Laws.{day_total, key_same, own_parts}
 use Rattle.plan_calendar.specs.Picking.{or_else}
 use Rattle.book_year.specs.declared.year.YearKey.{YearKey}
 use Rattle.book_year.specs.Records.{put_run, record_day, without_run}
 use Rattle.book_edits.specs.Books.{AreInOrder, YearRuns, added, changed, loaded, run_at, runs_key, runs_of, runs_or_none, with_runs, withdrawn, year_cmp, year_of}
 use Rattle.book_edits.proofs.Laws.{put_some, runs_rising, year_same, year_total}
-use Rattle.book_loads.specs.Loads.{AreDistinct}
 use Rattle.recalc_engine.specs.RunMaps.{RunsAreMapped, on_day, with_none, with_run}
 use Rattle.recalc_engine.proofs.BookLemmas.{not_tied}
 
@@ -143,35 +142,26 @@ module _ (ys : List YearRuns) (from : Day) (r : Record) (k : Key) (order : AreIn
 -- ---- many runs
 
 -- a key that ties with a record's is no other's
-not_listed : (r : Record) (k : Key) (rs : List Record) → key_cmp (key_of r) k ≡ Equal → (HasKeyOf rs r → ⊥) →
+not_listed : (r : Record) (k : Key) (rs : List Record) → key_cmp (key_of r) k ≡ Equal → AllByRecursion (λ s. key_of r ≢ key_of s) rs →
     at_key key_cmp key_of rs k ≡ None
-not_listed r k [] e fresh = refl
-not_listed r k (s ∷ rs) e fresh = (elim (key_cmp (key_of s) k) as (λ o. key_cmp (key_of s) k ≡ o → (if is_eq o then Some s else at_key key_cmp key_of rs k) ≡ None) [
-  | Less ↦ λ f. not_listed r k rs e (λ h. fresh (or_more (is_eq (key_cmp (key_of r) (key_of s))) _ h))
-  | Equal ↦ λ f. absurd (fresh (or_this (is_eq (key_cmp (key_of r) (key_of s))) _ (tie s f)))
-  | Greater ↦ λ f. not_listed r k rs e (λ h. fresh (or_more (is_eq (key_cmp (key_of r) (key_of s))) _ h))
-]) refl
+not_listed r k rs e apart = by (at_key key_cmp key_of rs k) refl
   where
-    or_more : (a b : Bool) → IsTrue b → IsTrue (a || b)
-    or_more true b h = refl
-    or_more false b h = h
+    by : (o : Option Record) → at_key key_cmp key_of rs k ≡ o → o ≡ None
+    by None f = refl
+    by (Some s) f =
+        let found = found_in key_cmp key_of rs k s f in
+        absurd (all_in (λ t. key_of r ≢ key_of t) rs s apart found.0 (key_same (key_of r) k e ∙ sym (key_same (key_of s) k found.1)))
 
-    or_this : (a b : Bool) → a ≡ true → IsTrue (a || b)
-    or_this true b h = refl
-    or_this false b h = cc
-
-    tie : (s : Record) → key_cmp (key_of s) k ≡ Equal → is_eq (key_cmp (key_of r) (key_of s)) ≡ true
-    tie s f = ap is_eq (key_total.congr (key_of r) k (key_of s) e ∙ tied_back key_total (key_of s) k f)
-
-load_maps : (ys : List YearRuns) (rs : List Record) (k : Key) → AreDistinct rs →
+load_maps : (ys : List YearRuns) (rs : List Record) (k : Key) → HaveOwnKeys rs →
     run_at (loaded rs ys) k ≡ or_else (at_key key_cmp key_of rs k) (run_at ys k)
 load_maps ys [] k distinct = refl
 load_maps ys (r ∷ rs) k distinct =
-    load_maps (added r ys) rs k distinct.1 ∙ ap (or_else (at_key key_cmp key_of rs k)) (add_maps ys r k)
+    let parts = own_parts r rs distinct in
+    load_maps (added r ys) rs k parts.1 ∙ ap (or_else (at_key key_cmp key_of rs k)) (add_maps ys r k)
     ∙ (elim (key_cmp (key_of r) k) as (λ o. key_cmp (key_of r) k ≡ o →
     or_else (at_key key_cmp key_of rs k) (if is_eq o then Some r else run_at ys k) ≡ or_else (if is_eq o then Some r else at_key key_cmp key_of rs k) (run_at ys k)) [
       | Less ↦ λ e. refl
-      | Equal ↦ λ e. ap (λ o. or_else o (Some r)) (not_listed r k rs e distinct.0)
+      | Equal ↦ λ e. ap (λ o. or_else o (Some r)) (not_listed r k rs e parts.0)
       | Greater ↦ λ e. refl
     ]) refl
 

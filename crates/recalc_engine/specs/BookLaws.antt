@@ -6,6 +6,7 @@ use Rattle.rising_lists.specs.Keyed.{at_key, IsRising}
 use Rattle.payroll_records.specs.declared.record.Key.{Key}
 use Rattle.payroll_records.specs.declared.record.Record.{Record}
 use Rattle.payroll_records.specs.Orders.{key_cmp}
+use Rattle.payroll_records.specs.Tables.{HaveOwnKeys}
 use Rattle.plan_calendar.specs.Picking.{AreEntries, Entry, day_of, entry_at, plan_of}
 use Rattle.pap_plan.specs.Acceptance.{IsAccepted}
 use Rattle.pap_plan.specs.AcceptanceLaws.{RunsToItsEnd}
@@ -17,7 +18,6 @@ use Rattle.book_year.specs.Rows.{Job, Row}
 use Rattle.book_year.specs.Years.{IsOwn}
 use Rattle.book_edits.specs.Books.{AreInOrder, YearRuns, run_count, year_of}
 use Rattle.book_edits.specs.Refusals.{most_records}
-use Rattle.book_loads.specs.Loads.{AreDistinct}
 use Rattle.recalc_engine.specs.Contents.{Contents, book_of, jobs_between, row_at}
 use Rattle.recalc_engine.specs.EditAnswers.{edited_book, put}
 use Rattle.recalc_engine.specs.Jobs.{job_of_key}
@@ -82,7 +82,7 @@ BooksAreTheirParts =
 
 -- no two runs of a book have one key
 abbrev pub RunsAreDistinct : Type 0
-RunsAreDistinct = (book : Contents) → IsBook book → AreDistinct (runs_listed book)
+RunsAreDistinct = (book : Contents) → IsBook book → HaveOwnKeys (runs_listed book)
 
 -- ---- laws: plans and jobs
 

@@ -6,10 +6,9 @@ use Rattle.payroll_records.specs.declared.day.Day.{Day}
 use Rattle.payroll_records.specs.declared.record.Key.{Key}
 use Rattle.payroll_records.specs.declared.record.Record.{Record}
 use Rattle.payroll_records.specs.Orders.{key_cmp}
-use Rattle.payroll_records.specs.Tables.{key_of}
+use Rattle.payroll_records.specs.Tables.{HaveOwnKeys, key_of}
 use Rattle.plan_calendar.specs.Picking.{or_else}
 use Rattle.book_edits.specs.Books.{AreInOrder, YearRuns, added, changed, loaded, run_at, withdrawn}
-use Rattle.book_loads.specs.Loads.{AreDistinct}
 
 -- the run at each key, with a run put at its own
 abbrev pub with_run : Record → (Key → Option Record) → Key → Option Record
@@ -32,5 +31,5 @@ pub record RunsAreMapped : Type 0 where
   pub change : (years : List YearRuns) (from : Day) (r : Record) (k : Key) → AreInOrder years →
       from.year ≡ r.day.year →
       run_at (changed from r years) k ≡ with_run r (with_none (on_day r from) (run_at years)) k
-  pub load : (years : List YearRuns) (rs : List Record) (k : Key) → AreDistinct rs →
+  pub load : (years : List YearRuns) (rs : List Record) (k : Key) → HaveOwnKeys rs →
       run_at (loaded rs years) k ≡ or_else (at_key key_cmp key_of rs k) (run_at years k)

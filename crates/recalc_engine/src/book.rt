@@ -1,12 +1,12 @@
 //! The book.
 ghost use Rattle.std.specs.Prelude.{◌≡◌, ◌≤◌, [], length, IfOk, OnErr, IfSome, IfNone, option_map};
 ghost use Rattle.std.specs.Option.{option_copied};
+ghost use Rattle.payroll_records.specs.Tables.{HaveOwnKeys};
 ghost use Rattle.book_year.specs.Accepted.{accepted, plans_in};
 ghost use Rattle.book_edits.specs.Books.{in_month, run_at};
 ghost use Rattle.book_year.specs.Jobs.{Counts};
 ghost use Rattle.book_edits.specs.Kept.{AreYears, years_of};
 ghost use Rattle.book_edits.specs.Refusals.{CountsEdit, most_records};
-ghost use Rattle.book_loads.specs.Loads.{AreDistinct};
 ghost use Rattle.recalc_engine.specs.BookLaws.{ArePlans, BooksAreTheirParts, HaveKeptValues, IsBook, JobsAreDone};
 ghost use Rattle.recalc_engine.specs.BookLaws.{JobsAreSafe, NewJobsAreByKey, RowsAreCounted, RowsAreRuns, RowsRise};
 ghost use Rattle.recalc_engine.specs.BookLaws.{RunsAreDistinct, SameTextsChangeNothing};
@@ -92,7 +92,7 @@ impl Book {
         last: Work,
         steps: &mut Steps<L>,
     ) -> Result<RestoredBook, AllocError>
-        requires distinct { AreDistinct runs.items }
+        requires distinct { HaveOwnKeys runs.items }
         requires few { length runs.items ≤ most_records }
         ensures ok { IfOk result
             (λ restored. restored.book ≡ book_of runs.items (plans_in plans) last) }
@@ -239,7 +239,7 @@ impl Book {
         items: Vec<Record>,
         steps: &mut Steps<L>,
     ) -> Result<Work, EditRefusal>
-        requires { AreDistinct items.items }
+        requires { HaveOwnKeys items.items }
         ensures answers { IsEdited self.old (load items.items) self.new result }
         ensures err { OnErr result (self.new ≡ self.old) }
         ensures counted { CountsEdit result steps.old steps.new

@@ -8,7 +8,7 @@ use Rattle.payroll_records.specs.declared.table.TableFault.{TableFault}
 use Rattle.payroll_records.specs.declared.table.TableFault.TheVariants as tables
 use Rattle.payroll_records.specs.CsvRows.{csv_rows}
 use Rattle.payroll_records.specs.Limits.{longest_table}
-use Rattle.payroll_records.specs.Tables.{TableSays, IsTable, BreaksAt, IsNoHeader, WrongWidth}
+use Rattle.payroll_records.specs.Tables.{TableSays, IsTable, BreaksAt, ByItself, IsNoHeader, WrongWidth}
 use Rattle.payroll_records.specs.Tables.{WrongEmployee, WrongMonth, WrongDay, WrongValue, Repeats}
 use Rattle.script_lang.specs.Commands as asked
 use Rattle.pap_plan.specs.declared.refusal.PlanRefusal.{PlanRefusal}
@@ -32,15 +32,15 @@ module _ (n : ℕ) (more : longest_table < n) where
   table_front bytes (Err tables.Header) h =
       subst (λ b. (length b ≤ longest_table) × IsNoHeader (csv_rows b)) (whole longest_table n bytes more h.0) h
   table_front bytes (Err (tables.Width row)) h =
-      subst (λ b. BreaksAt b row WrongWidth) (whole longest_table n bytes more h.short) h
+      subst (λ b. BreaksAt b row (ByItself WrongWidth)) (whole longest_table n bytes more h.short) h
   table_front bytes (Err (tables.Employee row)) h =
-      subst (λ b. BreaksAt b row WrongEmployee) (whole longest_table n bytes more h.short) h
+      subst (λ b. BreaksAt b row (ByItself WrongEmployee)) (whole longest_table n bytes more h.short) h
   table_front bytes (Err (tables.Month row)) h =
-      subst (λ b. BreaksAt b row WrongMonth) (whole longest_table n bytes more h.short) h
+      subst (λ b. BreaksAt b row (ByItself WrongMonth)) (whole longest_table n bytes more h.short) h
   table_front bytes (Err (tables.Day row)) h =
-      subst (λ b. BreaksAt b row WrongDay) (whole longest_table n bytes more h.short) h
+      subst (λ b. BreaksAt b row (ByItself WrongDay)) (whole longest_table n bytes more h.short) h
   table_front bytes (Err (tables.Value row name)) h =
-      subst (λ b. BreaksAt b row (WrongValue name)) (whole longest_table n bytes more h.short) h
+      subst (λ b. BreaksAt b row (ByItself (WrongValue name))) (whole longest_table n bytes more h.short) h
   table_front bytes (Err (tables.Repeat row)) h =
       subst (λ b. BreaksAt b row Repeats) (whole longest_table n bytes more h.short) h
   table_front bytes (Err (tables.Memory e)) h = absurd h

@@ -1,5 +1,5 @@
 -- The runs that lines and tables give have texts.
-use Rattle.std.proofs.Common.{◌≡◌, ℕ, zero, suc, ◌+◌, ◌<◌, ◌≤◌, List, [], ◌∷◌, ◌++◌, length, refl, sym, subst, arith}
+use Rattle.std.proofs.Common.{ℕ, zero, suc, ◌+◌, ◌<◌, ◌≤◌, List, [], ◌∷◌, length, refl, sym, subst, arith}
 use Rattle.std.specs.Prelude.{IsTrue}
 use Rattle.std.specs.List.{All, AllByRecursion, AllZip, Contains}
 use Rattle.std.specs.declared.cmp.Ordering.{Ordering}
@@ -9,7 +9,7 @@ use Rattle.std.proofs.lemmas.List.Sorted.{All-permutation}
 use Rattle.rising_lists.specs.Keyed.{put, put_by}
 use Rattle.pap_tree.specs.Names.{is_name}
 use Rattle.payroll_records.specs.Employees.{is_employee}
-use Rattle.payroll_records.specs.Tables.{AreRecordsOf, IsRecordOf, IsTable, Supplies, Text, name_at}
+use Rattle.payroll_records.specs.Tables.{IsRecordOf, IsTable, Supplies, Text, name_at}
 use Rattle.payroll_records.specs.ValueWords.{AreValueWords, IsValueWord}
 use Rattle.payroll_records.specs.declared.record.Record.{Record}
 use Rattle.payroll_records.specs.declared.values.NamedValue.{NamedValue}
@@ -76,13 +76,12 @@ module _ (names : List Text) (named : AllByRecursion (λ n. IsTrue (is_name n)) 
     each = contained_all IsValue r.values (λ v c. supplied row v ((h.values v).0 c));
   }
 
-  rows_runs : (before : List Record) (rows : List (List Text)) (rs : List Record) → AreRecordsOf names before rows rs
-      → AllByRecursion IsRun rs
-  rows_runs before [] [] h = tt
-  rows_runs before [] (r ∷ rs) h = absurd h
-  rows_runs before (row ∷ rows) [] h = absurd h
-  rows_runs before (row ∷ rows) (r ∷ rs) h = (row_run row r h.0, rows_runs (before ++ (r ∷ [])) rows rs h.2)
+  rows_runs : (rows : List (List Text)) (rs : List Record) → AllZip (IsRecordOf names) rows rs → AllByRecursion IsRun rs
+  rows_runs [] [] h = tt
+  rows_runs [] (r ∷ rs) h = absurd h
+  rows_runs (row ∷ rows) [] h = absurd h
+  rows_runs (row ∷ rows) (r ∷ rs) h = (row_run row r h.0, rows_runs rows rs h.1)
 
 -- the runs of a table
 pub table_runs : (bytes : List ℕ) (rs : List Record) → IsTable bytes rs → AllByRecursion IsRun rs
-table_runs bytes rs h = rows_runs h.names h.is_header.named [] h.rows rs h.are_records
+table_runs bytes rs h = rows_runs h.names h.is_header.named h.rows rs h.are_records.each

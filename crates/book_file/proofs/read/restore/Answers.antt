@@ -2,13 +2,13 @@ use Rattle.std.proofs.Common.{map, subst}
 use Rattle.std.proofs.lemmas.Result.{err_from_is_err_and}
 use Rattle.saved_items.specs.Views.{plan_in, saved_in}
 use Rattle.book_year.specs.Accepted.{plans_in}
-use Rattle.recalc_engine.proofs.Laws.{rising_distinct}
+use Rattle.payroll_records.proofs.Laws.{own_rising}
 use Rattle.book_file.specs.Views.{AreEntriesOf}
 use Rattle.book_file.proofs.ReadLemmas.{counts_made}
 use Rattle.book_file.proofs.read.restore.Goals as goal
 
 pub restore-requires-clause-distinct : goal.restore-requires-clause-distinct
-restore-requires-clause-distinct g c = rising_distinct c.args.items.records.items c.requires.records.rising
+restore-requires-clause-distinct g c = own_rising c.args.items.records.items c.requires.records.rising
 
 pub returns-in_err-restore-clause-counted : goal.returns-in_err-restore-clause-counted
 returns-in_err-restore-clause-counted g c =

@@ -1,6 +1,18 @@
-use Rattle.std.proofs.Common.{◌≡◌, rules, ◌+◌, ◌++◌, ◌∷◌, [], length, vec_len, arith, ap, length-append}
-use Rattle.payroll_records.proofs.TableLemmas.{row_broken, row_repeated, row_added}
+use Rattle.std.proofs.Common.{◌≡◌, refl, rules, ◌+◌, ◌++◌, ◌∷◌, [], length, vec_len, arith, ap, length-append}
+use Rattle.payroll_records.proofs.TableLemmas.{none_read, row_broken, row_repeated, row_added}
 use Rattle.payroll_records.proofs.table.read_records.Goals as goal
+
+pub rows-init : goal.rows-init
+rows-init g c =
+    let none : c.new-records.result.items ≡ [] = search rules in
+    record {
+      reader = c.requires.reader;
+      done = [];
+      parts = refl;
+      are_records = none_read c.args.header.now.names.items c.new-records.result.items none;
+      counted = search rules;
+      known = search rules;
+    }
 
 pub returns-in-Err : goal.returns-in-Err
 returns-in-Err g c =

@@ -1,5 +1,4 @@
 use Rattle.std.proofs.Common.{inl, refl}
-use Rattle.book_loads.proofs.Laws.{table_is_distinct}
 use Rattle.recalc_engine.specs.EditAnswers as edits
 use Rattle.plan_answers.proofs.Laws.{on_err_any}
 use Rattle.script_steps.specs.LineTexts.{ok_line}
@@ -8,7 +7,7 @@ use Rattle.script_steps.proofs.TableLemmas.{table_made, table_lost, table_refuse
 use Rattle.script_steps.proofs.load.load_table.Goals as goal
 
 pub load-made-requires : goal.load-made-requires
-load-made-requires g c = table_is_distinct c.args.table.now c.in-Ok.runs.items c.in-Ok.ensures.ok
+load-made-requires g c = c.in-Ok.ensures.ok.are_records.own_keys
 
 pub returns-in-Ok-clause-made : goal.returns-in-Ok-clause-made
 returns-in-Ok-clause-made g c =
