@@ -1,5 +1,6 @@
 mod PutLemmas
 mod FoldLemmas
+mod PresentLemmas
 mod OrderLemmas
 mod GroupLemmas
 mod RecordLemmas

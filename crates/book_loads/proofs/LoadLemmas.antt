@@ -1,7 +1,5 @@
 -- What a load leaves, and its refusals.
-use Rattle.std.proofs.Common.{◌≡◌, ℕ, ◌+◌, ◌<◌, ◌≤◌, List, [], ◌∷◌, length, get_or, Result, Ok, Err, refl, sym, ap, subst, ◌∙◌, arith, add-one, inl, inr}
-use Rattle.std.proofs.lemmas.Bool.{cases_lt}
-use Rattle.std.proofs.lemmas.List.{get_or_default}
+use Rattle.std.proofs.Common.{◌≡◌, ℕ, ◌+◌, ◌≤◌, List, [], ◌∷◌, length, Result, Ok, Err, refl, sym, ap, subst, ◌∙◌, arith}
 use Rattle.std.specs.Prelude.{IfErr, IfOk, OnErr}
 use Rattle.std.specs.List.{AllByRecursion}
 use Rattle.std.specs.declared.alloc.AllocError.{AllocError}
@@ -24,7 +22,7 @@ use Rattle.book_edits.specs.Kept.{AreSameYears, AreYears, HasRuns, IsYearsEdit, 
 use Rattle.book_edits.specs.Refusals.{CountsEdit, most_records}
 use Rattle.book_edits.specs.Views.{AreKeptYears, IsListEdit, list_cost}
 use Rattle.book_edits.proofs.Laws.{kept_in_order, map_rising, quiet_years, rising_map, year_total}
-use Rattle.book_loads.specs.Loads.{CanLoad, IsFree, IsLoadRefused}
+use Rattle.book_loads.specs.Loads.{CanLoad, IsLoadRefused}
 use Rattle.book_loads.specs.declared.drafts.Drafted.{Drafted}
 use Rattle.book_loads.specs.declared.groups.Group.{Group}
 use Rattle.book_loads.specs.Groups.{AreGroups, group_year, group_years, put_years}
@@ -32,21 +30,8 @@ use Rattle.book_loads.specs.Drafts.{AreDrafted, draft_year, groups_cost, groups_
 use Rattle.book_loads.specs.Merges.{AreMergeable, CanMerge, IsKeptYear, merged_runs}
 use Rattle.book_loads.proofs.DraftLemmas.{jobs_puts}
 use Rattle.book_loads.proofs.OrderLemmas.{count_loaded, distinct_apart}
+use Rattle.book_loads.proofs.PresentLemmas.{IsFree, free_each}
 use Rattle.book_loads.proofs.PutLemmas.{puts_rising}
-
--- what holds below each index holds of each element
-pub all_from_index : {X : Type 0} (P : X → Type 0) (xs : List X) → ((i : ℕ) (d : X) → i < length xs → P (get_or xs i d)) → AllByRecursion P xs
-all_from_index P [] each = tt
-all_from_index P (x ∷ xs) each = (each 0 x (omega arith), all_from_index P xs (λ i d lt. subst (λ t. P (get_or (x ∷ xs) t d)) (add-one i) (each (i + 1) d (omega arith))))
-
--- what holds below an index and of the element there holds below the next one
-pub below_more : {X : Type 0} (P : X → Type 0) (xs : List X) (i : ℕ) (x : X) → i < length xs → x ≡ get_or xs i x → P x → ((j : ℕ) (d : X) → j < i → P (get_or xs j d)) → (j : ℕ) (d : X) → j < i + 1 → P (get_or xs j d)
-below_more P xs i x within is here below j d lt = elim (cases_lt j i) [
-  | inl l ↦ below j d l
-  | inr g ↦
-      let same : i ≡ j = omega arith in
-      subst (λ n. P (get_or xs n d)) same (subst P (is ∙ get_or_default xs i x d within) here)
-]
 
 module _ (plans : List (Entry Accepted)) (list : List Year) (kept : AreKeptYears plans list) (items : List Record) (groups : List Group) (are : AreGroups items groups) where
   old_rise : IsRising year_cmp runs_key (runs_in list)
@@ -131,7 +116,7 @@ in_order plans ys h = kept_in_order plans ys.list.items (kept_of plans ys h)
 pub load_edit : (plans : List (Entry Accepted)) (old new : Years) (items : List Record) (work : Work) → AreYears plans old → HaveOwnKeys items → CanLoad (years_of old) items →
     IsListEdit plans old.list.items new.list.items (loaded items (runs_in old.list.items)) work → new.count ≡ old.count + length items → IsYearsEdit plans old new (loaded items (years_of old)) work
 load_edit plans old new items work h distinct can edit count =
-    let more = count_loaded items (years_of old) (in_order plans old h) can.free (distinct_apart items distinct) in
+    let more = count_loaded items (years_of old) (in_order plans old h) (free_each (years_of old) items can.free) (distinct_apart items distinct) in
     record {
       kept = record {
         rising = edit.kept.rising;

@@ -18,7 +18,7 @@ use Rattle.book_year.specs.Records.{put_run, record_day}
 use Rattle.book_year.proofs.Laws.{rising_put}
 use Rattle.book_edits.specs.Books.{YearRuns, AreInOrder, added, loaded, run_at, run_count, runs_key, runs_of, runs_or_none, with_runs, year_cmp, year_of}
 use Rattle.book_edits.proofs.Laws.{all_put, put_some, sum_put, length_put, year_total, year_same}
-use Rattle.book_loads.specs.Loads.{IsFree}
+use Rattle.book_loads.proofs.PresentLemmas.{IsFree}
 use Rattle.book_loads.proofs.PutLemmas.{put_comm, put_over}
 use Rattle.book_loads.proofs.FoldLemmas.{folded, folded_permutation, AreApart}
 

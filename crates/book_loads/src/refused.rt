@@ -1,10 +1,9 @@
 //! What stands against a load.
-ghost use Rattle.std.specs.Prelude.{◌≡◌, ◌≤◌, IfOk, IfErr};
+ghost use Rattle.std.specs.Prelude.{◌≡◌, ◌≤◌, IfOk, IfErr, None};
 ghost use Rattle.book_edits.specs.Books.{AreInOrder, run_count};
 ghost use Rattle.book_edits.specs.Kept.{years_of};
 ghost use Rattle.payroll_records.specs.Limits.{most_records};
-ghost use Rattle.std.specs.List.{AllByRecursion};
-ghost use Rattle.book_loads.specs.Loads.{CanLoad, IsFree, IsLoadRefused};
+ghost use Rattle.book_loads.specs.Loads.{CanLoad, IsLoadRefused, first_present};
 
 use book_edits::{EditRefusal, Years};
 use payroll_records::{MOST_RECORDS, Record};
@@ -27,7 +26,7 @@ pub(crate) fn refused(years: &Years, items: &[Record]) -> Result<(), EditRefusal
 /// Refuses the first record at whose key a run stands.
 fn present(years: &Years, items: &[Record]) -> Result<(), EditRefusal>
     requires { AreInOrder (years_of years.now) }
-    ensures ok { IfOk result (λ _. AllByRecursion (IsFree (years_of years.now)) items.now) }
+    ensures ok { IfOk result (λ _. first_present (years_of years.now) items.now ≡ None) }
     ensures err { IfErr result (IsLoadRefused (years_of years.now) items.now) }
 {
     for item in items {

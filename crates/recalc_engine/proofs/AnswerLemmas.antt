@@ -1,9 +1,9 @@
 -- An edit has one answer.
-use Rattle.std.proofs.Common.{◌≡◌, ℕ, zero, suc, ◌+◌, ◌<◌, ◌⊎◌, inl, inr, List, [], ◌∷◌, get_or, length, Option, Some, None, Result, Ok, Err, IsSome, IsNone, is_some, true, false, Bool, if◌then◌else◌, refl, sym, ap, subst, ◌∙◌, arith, rules}
-use Rattle.std.specs.List.{AllByRecursion}
+use Rattle.std.proofs.Common.{◌≡◌, ℕ, ◌+◌, inl, inr, List, length, Option, Some, None, Result, Ok, Err, IsSome, IsNone, is_some, true, false, Bool, if◌then◌else◌, refl, sym, ap, subst, ◌∙◌, arith, rules}
 use Rattle.std.proofs.Math.Bridge.{le_prop}
 use Rattle.std.proofs.Math.Dec.{T_prop}
 use Rattle.std.proofs.lemmas.Bool.{cases_lt}
+use Rattle.rising_lists.proofs.Laws.{none_some, some_same}
 use Rattle.payroll_records.specs.declared.day.Day.{Day}
 use Rattle.payroll_records.specs.declared.month.Month.{Month}
 use Rattle.payroll_records.specs.declared.record.Key.{Key}
@@ -18,10 +18,10 @@ use Rattle.book_edits.specs.declared.in_month.InMonth.{InMonth}
 use Rattle.book_edits.specs.declared.in_month.InMonth.TheVariants.{Empty, One, Several}
 use Rattle.book_edits.specs.declared.refusal.EditRefusal.{EditRefusal}
 use Rattle.book_edits.specs.declared.refusal.EditRefusal.TheVariants as refusal
-use Rattle.book_edits.specs.Books.{YearRuns, run_at, run_count, source_of, withdrawal}
+use Rattle.book_edits.specs.Books.{run_at, run_count, source_of, withdrawal}
 use Rattle.book_edits.specs.Refusals.{CanAdd, HasMostRecords, IsMonthOf, IsOne, most_records}
 use Rattle.book_edits.specs.Replans.{HasMostPlans, most_plans}
-use Rattle.book_loads.specs.Loads.{CanLoad, IsFirstPresent, IsFree, IsOver}
+use Rattle.book_loads.specs.Loads.{CanLoad, IsOver, first_present}
 use Rattle.recalc_engine.specs.Contents.{Contents}
 use Rattle.recalc_engine.specs.EditAnswers.{add, change, withdraw, load, put, drop, EditAnswers, EditsHaveOneAnswer, HasOneAnswer, edited_book}
 
@@ -237,93 +237,14 @@ withdraw_once book e w = by (withdrawal book.years e w) refl
 
 -- ---- many runs loaded
 
--- the first record at whose key a run stands
-record IsTaken (years : List YearRuns) (items : List Record) : Type 0 where
-  place : ℕ
-  first : IsFirstPresent years items place
-  key : Key
-  is : (d : Record) → key ≡ key_of (get_or items place d)
-
-taken_first : (years : List YearRuns) (r : Record) (rs : List Record) → IsSome (run_at years (key_of r)) →
-    IsTaken years (r ∷ rs)
-taken_first years r rs there = record {
-  place = 0;
-  first = record { within = omega arith; present = λ d. there; earlier = λ j d lt. absurd (omega (arith, lt)) };
-  key = key_of r;
-  is = λ d. refl;
-}
-
-taken_later : (years : List YearRuns) (r : Record) (rs : List Record) → IsFree years r → IsTaken years rs →
-    IsTaken years (r ∷ rs)
-taken_later years r rs free taken = record {
-  place = suc taken.place;
-  first =
-      record { within = omega (arith, taken.first.within); present = λ d. taken.first.present d; earlier = earlier };
-  key = taken.key;
-  is = taken.is;
-}
-  where
-    earlier : (j : ℕ) (d : Record) → j < suc taken.place → IsFree years (get_or (r ∷ rs) j d)
-    earlier zero d lt = free
-    earlier (suc j) d lt = taken.first.earlier j d (omega (arith, lt))
-
-taken_or_free : (years : List YearRuns) (items : List Record) →
-    IsTaken years items ⊎ AllByRecursion (IsFree years) items
-taken_or_free years [] = inr tt
-taken_or_free years (r ∷ rs) = by (run_at years (key_of r)) refl (taken_or_free years rs)
-  where
-    by : (o : Option Record) → run_at years (key_of r) ≡ o → IsTaken years rs ⊎ AllByRecursion (IsFree years) rs →
-        IsTaken years (r ∷ rs) ⊎ AllByRecursion (IsFree years) (r ∷ rs)
-    by None e (inl taken) = inl (taken_later years r rs (subst IsNone (sym e) refl) taken)
-    by None e (inr free) = inr (subst IsNone (sym e) refl, free)
-    by (Some s) e more = inl (taken_first years r rs (subst IsSome (sym e) refl))
-
-free_at : (years : List YearRuns) (items : List Record) (i : ℕ) (d : Record) → i < length items →
-    AllByRecursion (IsFree years) items → IsFree years (get_or items i d)
-free_at years [] i d lt free = absurd (omega (arith, lt))
-free_at years (r ∷ rs) zero d lt free = free.0
-free_at years (r ∷ rs) (suc i) d lt free = free_at years rs i d (omega (arith, lt)) free.1
-
--- some record is in a list that has a place
-some_record : (items : List Record) (i : ℕ) → i < length items → Record
-some_record [] i lt = absurd (omega (arith, lt))
-some_record (r ∷ rs) i lt = r
-
-not_free : (years : List YearRuns) (items : List Record) (i : ℕ) → IsFirstPresent years items i →
-    AllByRecursion (IsFree years) items → ⊥
-not_free years items i first free =
-    let d = some_record items i first.within in
-    none_or_some (run_at years (key_of (get_or items i d))) (free_at years items i d first.within free)
-    (first.present d)
-
-not_before : (years : List YearRuns) (items : List Record) (i j : ℕ) → IsFirstPresent years items i →
-    IsFirstPresent years items j → i < j → ⊥
-not_before years items i j first second lt =
-    let d = some_record items i first.within in
-    none_or_some (run_at years (key_of (get_or items i d))) (second.earlier i d lt) (first.present d)
-
-one_place : (years : List YearRuns) (items : List Record) (i j : ℕ) → IsFirstPresent years items i →
-    IsFirstPresent years items j → i ≡ j
-one_place years items i j first second = elim (cases_lt i j) [
-  | inl lt ↦ absurd (not_before years items i j first second lt)
-  | inr ge ↦ elim (cases_lt j i) [
-    | inl lt ↦ absurd (not_before years items j i second first lt)
-    | inr le ↦ omega arith
-  ]
-]
-
 module _ (book : Contents) (items : List Record) where
-  load_taken : IsTaken book.years items → HasOneAnswer book (load items)
-  load_taken taken =
-      record { answer = Err (refusal.Present taken.key); says = (taken.place, taken.first, taken.is); alone = by }
+  load_taken : (k : Key) → first_present book.years items ≡ Some k → HasOneAnswer book (load items)
+  load_taken k first = record { answer = Err (refusal.Present k); says = first; alone = by }
     where
-      by : (other : Answer) → EditAnswers book (load items) other → other ≡ Err (refusal.Present taken.key)
-      by (Ok next) h = absurd (not_free book.years items taken.place taken.first h.0.free)
-      by (Err (refusal.Present k)) h =
-          let same = one_place book.years items h.0 taken.place h.1 taken.first in
-          let d = some_record items h.0 h.1.within in
-          ap (λ t. Err (refusal.Present t)) (h.2 d ∙ ap (λ i. key_of (get_or items i d)) same ∙ sym (taken.is d))
-      by (Err refusal.Records) h = absurd (not_free book.years items taken.place taken.first h.free)
+      by : (other : Answer) → EditAnswers book (load items) other → other ≡ Err (refusal.Present k)
+      by (Ok next) h = absurd (none_some k (sym h.0.free ∙ first))
+      by (Err (refusal.Present l)) h = ap (λ t. Err (refusal.Present t)) (some_same l k (sym h ∙ first))
+      by (Err refusal.Records) h = absurd (none_some k (sym h.free ∙ first))
       by (Err (refusal.Memory x)) h = absurd h
       by (Err (refusal.Absent e w)) h = absurd h
       by (Err (refusal.Several e m)) h = absurd h
@@ -335,7 +256,7 @@ module _ (book : Contents) (items : List Record) where
     where
       by : (other : Answer) → EditAnswers book (load items) other → other ≡ Err refusal.Records
       by (Ok next) h = absurd (omega (arith, h.0.room, over.over))
-      by (Err (refusal.Present k)) h = absurd (not_free book.years items h.0 h.1 over.free)
+      by (Err (refusal.Present k)) h = absurd (none_some k (sym over.free ∙ h))
       by (Err refusal.Records) h = refl
       by (Err (refusal.Memory x)) h = absurd h
       by (Err (refusal.Absent e w)) h = absurd h
@@ -348,7 +269,7 @@ module _ (book : Contents) (items : List Record) where
     where
       by : (other : Answer) → EditAnswers book (load items) other → other ≡ Ok (edited_book (load items) book)
       by (Ok next) h = ap (λ t. Ok t) h.1
-      by (Err (refusal.Present k)) h = absurd (not_free book.years items h.0 h.1 can.free)
+      by (Err (refusal.Present k)) h = absurd (none_some k (sym can.free ∙ h))
       by (Err refusal.Records) h = absurd (omega (arith, can.room, h.over))
       by (Err (refusal.Memory x)) h = absurd h
       by (Err (refusal.Absent e w)) h = absurd h
@@ -356,14 +277,18 @@ module _ (book : Contents) (items : List Record) where
       by (Err refusal.Plans) h = absurd h
       by (Err (refusal.NoPlanThere d)) h = absurd h
 
-  load_free : AllByRecursion (IsFree book.years) items → HasOneAnswer book (load items)
+  load_free : first_present book.years items ≡ None → HasOneAnswer book (load items)
   load_free free = elim (cases_lt most_records (run_count book.years + length items)) [
     | inl over ↦ load_over (record { free = free; over = over })
     | inr not_over ↦ load_made (record { free = free; room = omega arith })
   ]
 
   load_once : HasOneAnswer book (load items)
-  load_once = elim (taken_or_free book.years items) [ inl taken ↦ load_taken taken | inr free ↦ load_free free ]
+  load_once = by (first_present book.years items) refl
+    where
+      by : (o : Option Key) → first_present book.years items ≡ o → HasOneAnswer book (load items)
+      by (Some k) e = load_taken k e
+      by None e = load_free e
 
 -- ---- plans
 

@@ -1,14 +1,25 @@
-use Rattle.std.proofs.Common.{arith, rules}
+use Rattle.std.proofs.Common.{◌≡◌, Some, None, true, false, sym, ap, ◌∙◌, subst, arith, rules}
+use Rattle.std.proofs.lemmas.List.{take_all}
 use Rattle.book_edits.specs.Kept.{years_of}
-use Rattle.book_loads.specs.Loads.{IsFree}
-use Rattle.book_loads.proofs.LoadLemmas.{all_from_index, below_more}
+use Rattle.book_loads.specs.Loads.{first_present}
+use Rattle.book_loads.proofs.PresentLemmas.{none_here, present_here, stands}
 use Rattle.book_loads.proofs.refused.present.Goals as goal
 
 pub returns-clause-ok : goal.returns-clause-ok
-returns-clause-ok c = all_from_index (IsFree (years_of c.args.years.now)) c.args.items.now (λ i d lt. c.loop-item.invariant i d (omega arith))
+returns-clause-ok c =
+    let years = years_of c.args.years.now in
+    let items = c.args.items.now in
+    subst (λ rs. first_present years rs ≡ None) (take_all c.loop-item.item-index items (omega arith)) c.loop-item.invariant
+
+pub returns-then-is_some-clause-err : goal.returns-then-is_some-clause-err
+returns-then-is_some-clause-err c =
+    let years = years_of c.args.years.now in
+    let there : stands years c.item-item.result ≡ true = search rules in
+    present_here years c.args.items.now c.loop-item.item-index c.item-item.result (omega arith) c.item-item.is c.loop-item.invariant there
+    ∙ ap (λ k. Some k) (sym c.key-key.ensures)
 
 pub loop-item-preserved : goal.loop-item-preserved
 loop-item-preserved c =
     let years = years_of c.args.years.now in
-    let free : IsFree years c.item-item.result = search rules in
-    below_more (IsFree years) c.args.items.now c.loop-item.item-index c.item-item.result (omega arith) c.item-item.is free c.loop-item.invariant
+    let free : stands years c.item-item.result ≡ false = search rules in
+    none_here years c.args.items.now c.loop-item.item-index c.item-item.result (omega arith) c.item-item.is c.loop-item.invariant free
