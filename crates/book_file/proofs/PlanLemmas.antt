@@ -8,7 +8,7 @@ use Rattle.pap_plan.specs.declared.refusal.PlanRefusal.{PlanRefusal}
 use Rattle.pap_plan.specs.Acceptance.{Answers, IsAccepted, Meaning}
 use Rattle.pap_plan.proofs.Laws as plans
 use Rattle.book_year.specs.Accepted.{Accepted}
-use Rattle.recalc_engine.specs.BookLaws.{ArePlans, IsPlan}
+use Rattle.recalc_engine.specs.BookLaws.{AreAcceptedPlans, IsAcceptedPlan}
 use Rattle.book_file.specs.BookSays.{IsAcceptable, IsFirstRefused, IsUnacceptable}
 use Rattle.book_file.specs.BookTexts.{saved_entry}
 use Rattle.book_file.specs.Views.{AreEntriesOf}
@@ -98,18 +98,18 @@ one_refused ps x y f g =
 abbrev both : Accepted → List ℕ × List ℕ
 both a = (a.plan, a.limits)
 
-accepted_same : (a b : Accepted) → IsPlan a → IsPlan b → a.plan ≡ b.plan → a.limits ≡ b.limits → a ≡ b
+accepted_same : (a b : Accepted) → IsAcceptedPlan a → IsAcceptedPlan b → a.plan ≡ b.plan → a.limits ≡ b.limits → a ≡ b
 accepted_same a b h k p l =
     let moved : IsAccepted b.plan b.limits a.meaning = subst (λ (t : List ℕ × List ℕ). IsAccepted t.0 t.1 a.meaning) (λ i. (p i, l i)) h in
     let same : a.meaning ≡ b.meaning = one_meaning b.plan b.limits a.meaning b.meaning moved k in
     λ i. record { plan = p i; limits = l i; meaning = same i }
 
-entry_same : (e f : Entry Accepted) → IsPlan (plan_of e) → IsPlan (plan_of f) → saved_entry e ≡ saved_entry f → e ≡ f
+entry_same : (e f : Entry Accepted) → IsAcceptedPlan (plan_of e) → IsAcceptedPlan (plan_of f) → saved_entry e ≡ saved_entry f → e ≡ f
 entry_same e f h k same =
     let a = accepted_same e.1 f.1 h k (ap (λ t. t.plan) same) (ap (λ t. t.limits) same) in
     λ i. ((same i).day, a i)
 
-pub entries_same : (es fs : List (Entry Accepted)) → ArePlans es → ArePlans fs → map saved_entry es ≡ map saved_entry fs → es ≡ fs
+pub entries_same : (es fs : List (Entry Accepted)) → AreAcceptedPlans es → AreAcceptedPlans fs → map saved_entry es ≡ map saved_entry fs → es ≡ fs
 entries_same [] [] h k same = refl
 entries_same [] (f ∷ fs) h k same = absurd (cc same)
 entries_same (e ∷ es) [] h k same = absurd (cc same)
@@ -125,6 +125,6 @@ entries_for (p ∷ ps) h =
     let e : Entry Accepted = (p.day, record { plan = p.plan; limits = p.limits; meaning = h.0.0 }) in
     (e ∷ more.0, record { plans = (h.0.1, more.1.plans); texts = ap (λ t. p ∷ t) more.1.texts })
 
-pub all_acceptable : (es : List (Entry Accepted)) → ArePlans es → AllByRecursion IsAcceptable (map saved_entry es)
+pub all_acceptable : (es : List (Entry Accepted)) → AreAcceptedPlans es → AllByRecursion IsAcceptable (map saved_entry es)
 all_acceptable [] h = tt
 all_acceptable (e ∷ es) h = (((plan_of e).meaning, h.0), all_acceptable es h.1)

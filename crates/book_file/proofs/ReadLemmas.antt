@@ -12,7 +12,7 @@ use Rattle.payroll_records.specs.Orders.{day_cmp}
 use Rattle.payroll_records.proofs.Laws.{day_total}
 use Rattle.plan_calendar.specs.Picking.{Entry, day_of, plan_of, with_entry}
 use Rattle.saved_items.specs.Fronts.{Front, nothing, titled, worked, planning, running, IsFront, plans_in as front_plans}
-use Rattle.saved_items.specs.SavedBooks.{IsText, Saved, SavedPlan, ArePlans as AreSavedPlans}
+use Rattle.saved_items.specs.SavedBooks.{IsText, Saved, SavedPlan, ArePlans}
 use Rattle.saved_items.specs.SavedBooks as saved
 use Rattle.saved_items.specs.Texts.{Stop, StopsAt}
 use Rattle.saved_items.specs.Views.{plan_in}
@@ -24,7 +24,7 @@ use Rattle.book_year.specs.Accepted.{Accepted, accepted, accepted_entry, plans_i
 use Rattle.book_year.specs.Jobs.{Counts}
 use Rattle.book_edits.proofs.Laws.{map_put}
 use Rattle.recalc_engine.specs.declared.book.RestoredBook.{RestoredBook}
-use Rattle.recalc_engine.specs.BookLaws.{ArePlans, IsPlan}
+use Rattle.recalc_engine.specs.BookLaws.{AreAcceptedPlans, IsAcceptedPlan}
 use Rattle.recalc_engine.specs.Contents.{Contents, whole_cost}
 use Rattle.recalc_engine.proofs.Laws.{front_below, put_end}
 use Rattle.book_file.specs.BookSays.{BookSays, BreaksAtItem, IsAcceptable}
@@ -63,7 +63,7 @@ below_entries : (es : List (Entry Accepted)) (d : Day) → AllByRecursion (λ p.
 below_entries [] d h = tt
 below_entries (e ∷ es) d h = (h.0, below_entries es d h.1)
 
-all_more : (es : List (Entry Accepted)) (e : Entry Accepted) → ArePlans es → IsPlan (plan_of e) → ArePlans (es ++ e ∷ [])
+all_more : (es : List (Entry Accepted)) (e : Entry Accepted) → AreAcceptedPlans es → IsAcceptedPlan (plan_of e) → AreAcceptedPlans (es ++ e ∷ [])
 all_more [] e h k = (k, tt)
 all_more (f ∷ es) e h k = (h.0, all_more es e h.1 k)
 
@@ -123,7 +123,7 @@ module _ (items : List PlanItem) (i : ℕ) (item : PlanItem) (within : i < lengt
       ∙ map-append plan_in (take i items) (get_or items i item ∷ [])
       ∙ ap (λ t. before ++ plan_in t ∷ []) (sym is)
 
-  pub item_accepted : (es new : List (Entry Seen)) (seen : Seen) → AreSavedPlans (map plan_in items) → AreEntriesOf before (plans_in es) →
+  pub item_accepted : (es new : List (Entry Seen)) (seen : Seen) → ArePlans (map plan_in items) → AreEntriesOf before (plans_in es) →
       IsPlanOf (plan_in item) seen → new ≡ with_entry (item.day, seen) es → AreEntriesOf (map plan_in (take (i + 1) items)) (plans_in new)
   item_accepted es new seen h are of e =
       let next : suc i ≡ i + 1 = omega arith in
@@ -137,7 +137,7 @@ module _ (items : List PlanItem) (i : ℕ) (item : PlanItem) (within : i < lengt
 
 -- ---- the plans of a front are at most 64, and their days rise
 
-front_plans_are : (f : Front) → IsFront f → AreSavedPlans (front_plans f)
+front_plans_are : (f : Front) → IsFront f → ArePlans (front_plans f)
 front_plans_are nothing h = record { rising = tt; few = omega arith }
 front_plans_are titled h = record { rising = tt; few = omega arith }
 front_plans_are (worked runs steps) h = record { rising = tt; few = omega arith }

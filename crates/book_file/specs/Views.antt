@@ -7,7 +7,7 @@ use Rattle.pap_plan.specs.Plans.{Seen}
 use Rattle.book_year.specs.Accepted.{Accepted}
 use Rattle.book_year.specs.declared.outcome.Work.{Work}
 use Rattle.recalc_engine.specs.declared.book.RestoredBook.{RestoredBook}
-use Rattle.recalc_engine.specs.BookLaws.{ArePlans}
+use Rattle.recalc_engine.specs.BookLaws.{AreAcceptedPlans}
 use Rattle.recalc_engine.specs.Contents.{Contents, book_of, whole_cost}
 use Rattle.book_file.specs.BookSays.{IsFirstRefused, IsUnacceptable}
 use Rattle.book_file.specs.BookTexts.{saved_entry}
@@ -28,7 +28,7 @@ IsNoPlan p _ = ⊥
 
 -- entries with the days and the texts of these plans, all accepted
 pub record AreEntriesOf (ps : List SavedPlan) (es : List (Entry Accepted)) : Type 0 where
-  pub plans : ArePlans es
+  pub plans : AreAcceptedPlans es
   pub texts : map saved_entry es ≡ ps
 
 -- the fault is the day of the first plan whose texts are refused; want of memory is free

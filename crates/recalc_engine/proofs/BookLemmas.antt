@@ -31,7 +31,7 @@ use Rattle.book_edits.specs.Books.{YearRuns, run_count, runs_key, runs_of, runs_
 use Rattle.book_edits.specs.declared.years.Years.{Years}
 use Rattle.book_edits.specs.Kept.{AreYears, runs_in, years_of}
 use Rattle.book_edits.proofs.Laws.{at_key_map, kept_in_order, plans_length, plans_rise, year_same}
-use Rattle.recalc_engine.specs.BookLaws.{ArePlans, HasOwnRuns, IsBook, IsPlan, RowsAreCounted, RowsAreRuns, RowsRise, row_key}
+use Rattle.recalc_engine.specs.BookLaws.{AreAcceptedPlans, HasOwnRuns, IsBook, IsAcceptedPlan, RowsAreCounted, RowsAreRuns, RowsRise, row_key}
 use Rattle.recalc_engine.specs.MonthRows.{KeyedRow, keyed_row, keyed_rows}
 use Rattle.recalc_engine.proofs.RowLemmas.{next, row_day}
 
@@ -240,7 +240,7 @@ own_kept plans [] each = tt
 own_kept plans (y ∷ ys) each = (each.0.own, own_kept plans ys each.1)
 
 pub whole_book : (es plans : List (Entry Seen)) (ys : Years) (last : Work) → AreYears (plans_in plans) ys →
-    AreEntries plans → es ≡ plans → ArePlans (plans_in es) →
+    AreEntries plans → es ≡ plans → AreAcceptedPlans (plans_in es) →
     IsBook (record { years = years_of ys; plans = plans_in plans; last = last })
 whole_book es plans ys last kept are same accepted = record {
   order =
@@ -249,21 +249,21 @@ whole_book es plans ys last kept are same accepted = record {
   own = own_kept (plans_in plans) ys.list.items kept.each;
   few = omega (arith, kept.count, kept.few);
   entries = record { rising = plans_rise plans are.rising; few = omega (arith, plans_length plans, are.few) };
-  plans = subst (λ t. ArePlans (plans_in t)) same accepted;
+  plans = subst (λ t. AreAcceptedPlans (plans_in t)) same accepted;
 }
 
 pub each_plan : (es : List (Entry Seen)) →
-    ((k : ℕ) (d : Entry Seen) → k < length es → IsPlan (accepted (get_or es k d).1)) → ArePlans (plans_in es)
+    ((k : ℕ) (d : Entry Seen) → k < length es → IsAcceptedPlan (accepted (get_or es k d).1)) → AreAcceptedPlans (plans_in es)
 each_plan [] h = tt
 each_plan (e ∷ es) h = (h 0 e (omega arith), each_plan es (λ k d lt. h (suc k) d (omega (arith, lt))))
 
 pub one_plan : (es : List (Entry Seen)) (i : ℕ) (e : Entry Seen) → i < length es → e ≡ get_or es i e →
-    IsPlan (accepted e.1) → ((k : ℕ) (d : Entry Seen) → k < i → IsPlan (accepted (get_or es k d).1)) →
-    (k : ℕ) (d : Entry Seen) → k < i + 1 → IsPlan (accepted (get_or es k d).1)
+    IsAcceptedPlan (accepted e.1) → ((k : ℕ) (d : Entry Seen) → k < i → IsAcceptedPlan (accepted (get_or es k d).1)) →
+    (k : ℕ) (d : Entry Seen) → k < i + 1 → IsAcceptedPlan (accepted (get_or es k d).1)
 one_plan es i e within is plan below k d lt = elim (cases_lt k i) [
   | inl l ↦ below k d l
   | inr g ↦
       let same : i ≡ k = omega arith in
-      subst (λ n. IsPlan (accepted (get_or es n d).1)) same
-      (subst (λ (t : Entry Seen). IsPlan (accepted t.1)) (is ∙ get_or_default es i e d within) plan)
+      subst (λ n. IsAcceptedPlan (accepted (get_or es n d).1)) same
+      (subst (λ (t : Entry Seen). IsAcceptedPlan (accepted t.1)) (is ∙ get_or_default es i e d within) plan)
 ]

@@ -28,7 +28,7 @@ use Rattle.book_year.specs.Kept.{IsBounded}
 use Rattle.book_year.specs.Rows.{Planned, outputs_in, row_filled, row_of, rows}
 use Rattle.book_year.specs.Years.{IsYear}
 use Rattle.book_edits.specs.Books.{YearRuns}
-use Rattle.recalc_engine.specs.BookLaws.{ArePlans, HasPlan, IsBook, IsPlan}
+use Rattle.recalc_engine.specs.BookLaws.{AreAcceptedPlans, HasPlan, IsBook, IsAcceptedPlan}
 use Rattle.recalc_engine.specs.Contents.{Contents}
 use Rattle.recalc_engine.specs.MonthRows.{keyed_row, keyed_rows, month_rows}
 use Rattle.recalc_engine.specs.MonthViews.{kept_rows, rows_kept, rows_kept_in}
@@ -93,7 +93,7 @@ names_append [] more = refl
 names_append (d ∷ ds) more = ap (λ l. d.name ∷ l) (names_append ds more)
 
 -- the outputs that a plan declares have different names
-outputs_differ : (p : Accepted) → IsPlan p → AreDistinct (names_of p.meaning.flowchart.outputs)
+outputs_differ : (p : Accepted) → IsAcceptedPlan p → AreDistinct (names_of p.meaning.flowchart.outputs)
 outputs_differ p h =
     let f = p.meaning.flowchart in
     let all = (has_types f h.bound.suited.named.file.ordered.typed.typed).names in
@@ -106,7 +106,7 @@ no_names i j d l m = absurd (nothing j m)
     nothing : (j : ℕ) → j < 0 → ⊥
     nothing j m = omega arith
 
-run_named : (p : Accepted) (inputs : List Decimal) → IsPlan p → HaveNames (run_outputs p inputs)
+run_named : (p : Accepted) (inputs : List Decimal) → IsAcceptedPlan p → HaveNames (run_outputs p inputs)
 unfolding run_outputs
 run_named p inputs h = by (outputs_of p.meaning.flowchart inputs)
   where
@@ -116,7 +116,7 @@ run_named p inputs h = by (outputs_of p.meaning.flowchart inputs)
 
 -- ---- each row
 
-filled_named : (e : Entry Accepted) (d : Day) (f : Filled) → IsPlan (plan_of e) →
+filled_named : (e : Entry Accepted) (d : Day) (f : Filled) → IsAcceptedPlan (plan_of e) →
     AreNamed (outputs_in (row_filled e d f).state)
 filled_named e d (filling.Inputs inputs) h = run_named (plan_of e) inputs h
 filled_named e d (filling.State why) h = tt
@@ -137,14 +137,14 @@ all_named : (planned : Planned) → ((d : Day) → HasPlan (planned d)) → (yea
 all_named planned h [] = tt
 all_named planned h (y ∷ ys) = all_both HasNames (keyed_rows planned y) (flat_map (keyed_rows planned) ys) (rows_named y.key planned h [] y.runs) (all_named planned h ys)
 
-pub picked_plan : (plans : List (Entry Accepted)) (d : Day) → AreEntries plans → ArePlans plans → HasPlan (pick plans d)
+pub picked_plan : (plans : List (Entry Accepted)) (d : Day) → AreEntries plans → AreAcceptedPlans plans → HasPlan (pick plans d)
 picked_plan plans d entries all = by (pick plans d) (pick_latest plans d entries.rising)
   where
     by : (o : Option (Entry Accepted)) → IsLatest plans (λ a. serves a d) o → HasPlan o
     by None h = tt
     by (Some e) h =
         let place = h.0 in
-        subst (λ x. IsPlan (plan_of x)) place.2 (All-from_recursion (λ (x : Entry Accepted). IsPlan (plan_of x)) plans all place.0 e place.1)
+        subst (λ x. IsAcceptedPlan (plan_of x)) place.2 (All-from_recursion (λ (x : Entry Accepted). IsAcceptedPlan (plan_of x)) plans all place.0 e place.1)
 
 -- the outputs of each run of a book have different names
 pub book_rows_named : (book : Contents) → IsBook book → AllByRecursion HasNames (month_rows book)

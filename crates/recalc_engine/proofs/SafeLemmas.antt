@@ -34,7 +34,7 @@ use Rattle.book_year.specs.Records.{record_day}
 use Rattle.book_year.specs.Rows.{Job, Planned, Row, outputs_in, row_filled, row_of, rows, year_rows}
 use Rattle.book_year.proofs.Laws.{own_few}
 use Rattle.book_edits.specs.Books.{YearRuns, runs_key, runs_or_none, year_cmp, year_of}
-use Rattle.recalc_engine.specs.BookLaws.{HasKeptValues, HasOwnRuns, HasPlan, IsPlan, IsSafeJob, JobsAreSafe}
+use Rattle.recalc_engine.specs.BookLaws.{HasKeptValues, HasOwnRuns, HasPlan, IsAcceptedPlan, IsSafeJob, JobsAreSafe}
 use Rattle.recalc_engine.proofs.JobLemmas.{admits_filled, all_at_key}
 use Rattle.recalc_engine.proofs.OutputLemmas.{all_both, picked_plan}
 use Rattle.recalc_engine.proofs.RowLemmas.{next, row_day}
@@ -61,7 +61,7 @@ named_bounded (d ∷ ds) ranges [] h = tt
 named_bounded (d ∷ ds) [] (v ∷ vs) h = absurd h
 named_bounded (d ∷ ds) (r ∷ ranges) (v ∷ vs) h = (h.0.bound, named_bounded ds ranges vs h.1)
 
-module _ (p : Accepted) (plan : IsPlan p) (values : List NamedValue) (earlier : List Earlier) (inputs : List Decimal)
+module _ (p : Accepted) (plan : IsAcceptedPlan p) (values : List NamedValue) (earlier : List Earlier) (inputs : List Decimal)
     (is : filled p values earlier ≡ filling.Inputs inputs) (safe : IsSafeFor p.meaning.flowchart inputs) where
   filled_runs : RunsToItsEnd p.meaning inputs
   filled_runs =
@@ -91,7 +91,7 @@ record IsSound (row : Row) : Type 0 where
 abbrev KeepBound : List Earlier → Type 0
 KeepBound earlier = AllByRecursion (λ (e : Earlier). AreBounded e.outputs) earlier
 
-module _ (e : Entry Accepted) (d : Day) (plan : IsPlan (plan_of e)) (values : List NamedValue)
+module _ (e : Entry Accepted) (d : Day) (plan : IsAcceptedPlan (plan_of e)) (values : List NamedValue)
     (kept : All IsKeptValue values) (earlier : List Earlier) (few : length earlier ≤ most_runs)
     (bounded : KeepBound earlier) where
   filled_sound : (f : Filled) → filled (plan_of e) values earlier ≡ f → IsSound (row_filled e d f)

@@ -30,7 +30,7 @@ use Rattle.book_year.proofs.Laws.{day_same, year_quiet}
 use Rattle.book_edits.specs.Books.{AreInOrder, YearRuns, runs_key, runs_of, runs_or_none, year_cmp, year_of}
 use Rattle.book_edits.specs.Kept.{jobs_in}
 use Rattle.book_edits.proofs.Laws.{IsQuiet, at_key_tied, found_each, jobs_quiet, year_total}
-use Rattle.recalc_engine.specs.BookLaws.{ArePlans, HasTexts, IsBook, IsDoneBy, IsPlan, JobsAreDone, SameTextsChangeNothing}
+use Rattle.recalc_engine.specs.BookLaws.{AreAcceptedPlans, HasTexts, IsBook, IsDoneBy, IsAcceptedPlan, JobsAreDone, SameTextsChangeNothing}
 use Rattle.recalc_engine.specs.Contents.{Contents, jobs_between, row_at}
 use Rattle.recalc_engine.proofs.RowLemmas.{run_on}
 
@@ -65,17 +65,17 @@ same_meaning m n e = cc e
 make_plan : List ℕ → List ℕ → Meaning → Accepted
 make_plan plan limits m = record { plan = plan; limits = limits; meaning = m }
 
-one_meaning : (p q : Accepted) → IsPlan p → IsPlan q → p.plan ≡ q.plan → p.limits ≡ q.limits → p ≡ q
+one_meaning : (p q : Accepted) → IsAcceptedPlan p → IsAcceptedPlan q → p.plan ≡ q.plan → p.limits ≡ q.limits → p ≡ q
 one_meaning p q hp hq plan limits =
     let hq' : IsAccepted p.plan p.limits q.meaning = subst (λ t. IsAccepted p.plan t q.meaning) (sym limits) (subst (λ t. IsAccepted t q.limits q.meaning) (sym plan) hq) in
     let m = same_meaning p.meaning q.meaning (one p.plan p.limits (Ok p.meaning) (Ok q.meaning) hp hq') in
     λ i. record { plan = plan i; limits = limits i; meaning = m i }
 
-plan_at : (es : List (Entry Accepted)) (d : Day) (e : Entry Accepted) → ArePlans es → entry_at es d ≡ Some e →
-    IsPlan (plan_of e)
+plan_at : (es : List (Entry Accepted)) (d : Day) (e : Entry Accepted) → AreAcceptedPlans es → entry_at es d ≡ Some e →
+    IsAcceptedPlan (plan_of e)
 plan_at [] d e all h = cc
-plan_at (x ∷ es) d e all h = (elim (is_eq (day_cmp (day_of x) d)) as (λ b. (if b then Some x else entry_at es d) ≡ Some e → IsPlan (plan_of e)) [
-  | true ↦ λ g. subst (λ t. IsPlan (plan_of t)) (one_entry x e g) all.0
+plan_at (x ∷ es) d e all h = (elim (is_eq (day_cmp (day_of x) d)) as (λ b. (if b then Some x else entry_at es d) ≡ Some e → IsAcceptedPlan (plan_of e)) [
+  | true ↦ λ g. subst (λ t. IsAcceptedPlan (plan_of t)) (one_entry x e g) all.0
   | false ↦ λ g. plan_at es d e all.1 g
 ]) h
   where
@@ -83,7 +83,7 @@ plan_at (x ∷ es) d e all h = (elim (is_eq (day_cmp (day_of x) d)) as (λ b. (i
     one_entry x y e = cc e
 
 -- the plans stay as they are
-plans_stay : (book : Contents) (e : Entry Accepted) → IsBook book → IsPlan (plan_of e) →
+plans_stay : (book : Contents) (e : Entry Accepted) → IsBook book → IsAcceptedPlan (plan_of e) →
     HasTexts (entry_at book.plans (day_of e)) (plan_of e) → with_entry e book.plans ≡ book.plans
 plans_stay book e is plan texts = by (entry_at book.plans (day_of e)) refl texts
   where

@@ -24,17 +24,17 @@ use Rattle.recalc_engine.specs.Jobs.{job_of_key}
 use Rattle.recalc_engine.specs.MonthRows.{KeyedRow, keyed_row, month_rows}
 
 -- the plan's texts are accepted, with what it means
-abbrev pub IsPlan : Accepted → Type 0
-IsPlan p = IsAccepted p.plan p.limits p.meaning
+abbrev pub IsAcceptedPlan : Accepted → Type 0
+IsAcceptedPlan p = IsAccepted p.plan p.limits p.meaning
 
 -- so it is of each plan of a calendar
-abbrev pub ArePlans : List (Entry Accepted) → Type 0
-ArePlans es = AllByRecursion (λ (e : Entry Accepted). IsPlan (plan_of e)) es
+abbrev pub AreAcceptedPlans : List (Entry Accepted) → Type 0
+AreAcceptedPlans es = AllByRecursion (λ (e : Entry Accepted). IsAcceptedPlan (plan_of e)) es
 
 -- the plan of a day, if there is one, is accepted
 abbrev pub HasPlan : Option (Entry Accepted) → Type 0
 HasPlan None = ⊤
-HasPlan (Some e) = IsPlan (plan_of e)
+HasPlan (Some e) = IsAcceptedPlan (plan_of e)
 
 -- each run of the year is its employee's, in its calendar year
 abbrev pub HasOwnRuns : YearRuns → Type 0
@@ -46,7 +46,7 @@ pub record IsBook (book : Contents) : Type 0 where
   pub own : AllByRecursion HasOwnRuns book.years
   pub few : run_count book.years ≤ most_records
   pub entries : AreEntries book.plans
-  pub plans : ArePlans book.plans
+  pub plans : AreAcceptedPlans book.plans
 
 -- ---- laws: the rows of a book
 
@@ -103,7 +103,7 @@ pub record PutsTheSame (book : Contents) (e : Entry Accepted) : Type 0 where
 -- so it is of each plan put in place of one with its texts
 abbrev pub SameTextsChangeNothing : Type 0
 SameTextsChangeNothing =
-    (book : Contents) (e : Entry Accepted) → IsBook book → IsPlan (plan_of e)
+    (book : Contents) (e : Entry Accepted) → IsBook book → IsAcceptedPlan (plan_of e)
     → HasTexts (entry_at book.plans (day_of e)) (plan_of e) → PutsTheSame book e
 
 -- the job of a key in the new book, where it isn't the job of that key in the old one
@@ -136,7 +136,7 @@ HaveKeptValues book = AllByRecursion HasKeptValues (runs_listed book)
 
 -- the plan of the job is accepted, and its run on the job's inputs gets to its end: so it has outputs
 pub record IsSafeJob (j : Job) : Type 0 where
-  pub plan : IsPlan j.plan
+  pub plan : IsAcceptedPlan j.plan
   pub runs : RunsToItsEnd j.plan.meaning j.inputs
 
 -- so is each job of a book whose values are kept

@@ -7,7 +7,7 @@ ghost use Rattle.book_edits.specs.Books.{in_month, run_at};
 ghost use Rattle.book_year.specs.Jobs.{Counts};
 ghost use Rattle.book_edits.specs.Kept.{AreYears, years_of};
 ghost use Rattle.book_edits.specs.Refusals.{CountsEdit, most_records};
-ghost use Rattle.recalc_engine.specs.BookLaws.{ArePlans, BooksAreTheirParts, HaveKeptValues, IsBook, JobsAreDone};
+ghost use Rattle.recalc_engine.specs.BookLaws.{AreAcceptedPlans, BooksAreTheirParts, HaveKeptValues, IsBook, JobsAreDone};
 ghost use Rattle.recalc_engine.specs.BookLaws.{JobsAreSafe, NewJobsAreByKey, RowsAreCounted, RowsAreRuns, RowsRise};
 ghost use Rattle.recalc_engine.specs.BookLaws.{RunsAreDistinct, SameTextsChangeNothing};
 ghost use Rattle.recalc_engine.specs.Contents.{book_of, cost_between, row_at, whole_cost, whole_work};
@@ -286,7 +286,7 @@ impl Book {
 
 /// The texts of each plan were accepted, as its type says.
 fn each_is_accepted(entries: &[(Day, Plan)])
-    ensures { ArePlans (plans_in entries.now) }
+    ensures { AreAcceptedPlans (plans_in entries.now) }
 {
     for entry in entries {
         let _ = entry.1.bound();

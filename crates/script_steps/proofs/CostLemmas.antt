@@ -23,12 +23,12 @@ use Rattle.book_year.specs.Rows.{Job, Planned, earlier_of, row_filled, row_of, r
 use Rattle.book_year.proofs.Laws.{total_append}
 use Rattle.book_edits.specs.Books.{YearRuns, run_count, runs_of}
 use Rattle.book_edits.specs.Kept.{jobs_in}
-use Rattle.recalc_engine.specs.BookLaws.{HasPlan, IsPlan}
+use Rattle.recalc_engine.specs.BookLaws.{HasPlan, IsAcceptedPlan}
 use Rattle.recalc_engine.specs.Contents.{Contents, jobs_between}
 
 -- ---- a run of an accepted plan
 
-run_cheap : (p : Accepted) (inputs : List Decimal) → IsPlan p → run_cost p inputs ≤ most_steps
+run_cheap : (p : Accepted) (inputs : List Decimal) → IsAcceptedPlan p → run_cost p inputs ≤ most_steps
 run_cheap p inputs h =
     let f = p.meaning.flowchart in
     let ordered = h.bound.suited.named.file.ordered in
@@ -56,7 +56,7 @@ cheap_both m n count xs ys e h k = record {
   cheap = omega (arith, e, total_append xs ys, h.cheap, k.cheap);
 }
 
-cheap_one : (j : Job) → IsPlan j.plan → AreCheap 1 (j ∷ [])
+cheap_one : (j : Job) → IsAcceptedPlan j.plan → AreCheap 1 (j ∷ [])
 cheap_one j h = record {
   few = omega arith;
   cheap = omega (arith, sum_by-cons job_cost j [], run_cheap j.plan j.inputs h);
@@ -65,7 +65,7 @@ cheap_one j h = record {
 -- the plan of a job, where there is one, is accepted
 abbrev HasJobPlan : Option Job → Type 0
 HasJobPlan None = Unit {0}
-HasJobPlan (Some j) = IsPlan j.plan
+HasJobPlan (Some j) = IsAcceptedPlan j.plan
 
 new_cheap : (old new : Option Job) → HasJobPlan new → AreCheap 1 (new_job old new)
 new_cheap old None h = no_jobs
@@ -75,7 +75,7 @@ new_cheap (Some i) (Some j) h = elim (same_job i j) as (λ b. AreCheap 1 (if b t
   | false ↦ cheap_one j h
 ]
 
-filled_plan : (e : Entry Accepted) (d : Day) (f : Filled) → IsPlan (plan_of e) → HasJobPlan (row_filled e d f).job
+filled_plan : (e : Entry Accepted) (d : Day) (f : Filled) → IsAcceptedPlan (plan_of e) → HasJobPlan (row_filled e d f).job
 filled_plan e d (filling.Inputs inputs) h = h
 filled_plan e d (filling.State why) h = tt
 

@@ -17,7 +17,7 @@ use Rattle.book_year.specs.Accepted.{Accepted}
 use Rattle.pap_plan.specs.declared.refusal.PlanRefusal.{PlanRefusal}
 use Rattle.pap_plan.specs.Acceptance.{Answers, Meaning}
 use Rattle.book_edits.specs.declared.refusal.EditRefusal.{EditRefusal}
-use Rattle.recalc_engine.specs.BookLaws.{HasKeptValues, HaveKeptValues, IsPlan, runs_listed}
+use Rattle.recalc_engine.specs.BookLaws.{HasKeptValues, HaveKeptValues, IsAcceptedPlan, runs_listed}
 use Rattle.recalc_engine.specs.Contents.{Contents}
 use Rattle.recalc_engine.specs.EditAnswers as edits
 use Rattle.recalc_engine.specs.EditAnswers.{Edit, EditAnswers}
@@ -75,13 +75,13 @@ module _ (from : Standing) (sound : IsSound from.book) where
       → Keeping (IsReadStep Step files file)
   read_keeps Step keeps files file to answer h = keeps h.bytes to answer h.is
 
-  put_keeps : (e : Entry Accepted) → IsPlan (plan_of e) → Keeping (IsPut from e)
+  put_keeps : (e : Entry Accepted) → IsAcceptedPlan (plan_of e) → Keeping (IsPut from e)
   put_keeps e h = edit_keeps (bound_text e) (edits.put e) h
 
-  tried_keeps : (e : Entry Accepted) → IsPlan (plan_of e) → Keeping (IsTrialStep from e)
+  tried_keeps : (e : Entry Accepted) → IsAcceptedPlan (plan_of e) → Keeping (IsTrialStep from e)
   tried_keeps e h to answer k = same to k.is.0
 
-  plan_keeps : (Use : PlanUse) → ((e : Entry Accepted) → IsPlan (plan_of e) → Keeping (Use from e)) → (files : FileMap)
+  plan_keeps : (Use : PlanUse) → ((e : Entry Accepted) → IsAcceptedPlan (plan_of e) → Keeping (Use from e)) → (files : FileMap)
       (day : Day) (plan limits : List ℕ) → Keeping (IsPlanStep Use files from day plan limits)
   plan_keeps Use keeps files day plan limits to answer h = by h.is.verdict h.is.says h.is.is
     where

@@ -19,7 +19,7 @@ use Rattle.book_edits.specs.Replans.{HasMostPlans}
 use Rattle.book_edits.proofs.Laws.{all_put, all_without, length_put, map_rising, sum_put}
 use Rattle.book_file.specs.BookTexts.{IsTextOf, saved_entry}
 use Rattle.book_file.specs.Saving.{SaveSays}
-use Rattle.recalc_engine.specs.BookLaws.{ArePlans, HasOwnRuns, HasPlan, IsBook, IsPlan}
+use Rattle.recalc_engine.specs.BookLaws.{AreAcceptedPlans, HasOwnRuns, HasPlan, IsBook, IsAcceptedPlan}
 use Rattle.recalc_engine.specs.Contents.{Contents}
 use Rattle.recalc_engine.specs.EditAnswers.{CanEdit, Edit, add, change, drop, edited_book, load, put, withdraw, with_edit}
 use Rattle.recalc_engine.proofs.Laws.{picked_plan, runs_rise}
@@ -33,7 +33,7 @@ pub record IsSound (book : Contents) : Type 0 where
   pub years : AreSoundYears book.years
   pub few : run_count book.years ≤ 50000
   pub entries : AreEntries book.plans
-  pub plans : ArePlans book.plans
+  pub plans : AreAcceptedPlans book.plans
   pub work : IsWork book.last.runs book.last.steps
 
 -- ---- it is one, and one is it
@@ -109,7 +109,7 @@ opened_sound text book h = record {
 
 -- ---- plans
 
-all_plans : (plans : List (Entry Accepted)) → AreEntries plans → ArePlans plans → (d : Day) → HasPlan (pick plans d)
+all_plans : (plans : List (Entry Accepted)) → AreEntries plans → AreAcceptedPlans plans → (d : Day) → HasPlan (pick plans d)
 all_plans plans entries all d = picked_plan plans d entries all
 
 ones : {X : Type 0} (xs : List X) → length xs ≡ sum_by (λ x. 1) xs
@@ -143,7 +143,7 @@ drop_entries d plans h = record {
 }
 
 abbrev HasPlanText : Entry Accepted → Type 0
-HasPlanText e = IsPlan (plan_of e)
+HasPlanText e = IsAcceptedPlan (plan_of e)
 
 -- ---- edits
 
@@ -153,7 +153,7 @@ IsSoundEdit (add r) = IsRun r
 IsSoundEdit (change r) = IsRun r
 IsSoundEdit (withdraw e w) = ⊤
 IsSoundEdit (load rs) = AllByRecursion IsRun rs
-IsSoundEdit (put e) = IsPlan (plan_of e)
+IsSoundEdit (put e) = IsAcceptedPlan (plan_of e)
 IsSoundEdit (drop d) = ⊤
 
 -- the runs and the plans of a book
@@ -161,7 +161,7 @@ record AreSoundParts (book : Contents) : Type 0 where
   years : AreSoundYears book.years
   few : run_count book.years ≤ 50000
   entries : AreEntries book.plans
-  plans : ArePlans book.plans
+  plans : AreAcceptedPlans book.plans
 
 with_parts : (book : Contents) (e : Edit) → IsSound book → IsSoundEdit e → CanEdit book e → AreSoundParts (with_edit e book)
 with_parts book (add r) h s can = record {

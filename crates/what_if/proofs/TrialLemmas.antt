@@ -12,7 +12,7 @@ use Rattle.book_year.specs.Jobs.{Counts, total_cost, work_of}
 use Rattle.book_year.specs.Rows.{Planned}
 use Rattle.book_edits.specs.declared.years.Years.{Years}
 use Rattle.book_edits.specs.Kept.{jobs_in, years_of}
-use Rattle.recalc_engine.specs.BookLaws.{HasPlan, IsBook, IsPlan}
+use Rattle.recalc_engine.specs.BookLaws.{HasPlan, IsBook, IsAcceptedPlan}
 use Rattle.recalc_engine.specs.Contents.{Contents}
 use Rattle.recalc_engine.specs.MonthRows.{month_rows}
 use Rattle.recalc_engine.proofs.Laws.{picked_plan}
@@ -44,7 +44,7 @@ module _ (book : Contents) (e : Entry Accepted) (is : IsBook book) (plans : List
   pub old_planned : ArePlanned p
   old_planned d = subst HasPlan (sym (ap (λ t. t d) old_is)) (picked_plan book.plans d is.entries is.plans)
 
-  pub new_planned : IsPlan (plan_of e) → ArePlanned q
+  pub new_planned : IsAcceptedPlan (plan_of e) → ArePlanned q
   new_planned plan d = subst HasPlan (sym (new d ∙ ap (λ t. picked_after t (day_of e) (Some e) d) plans_are))
       (elim (moves book.plans (day_of e) d) as (λ b. HasPlan (if b then Some e else pick book.plans d)) [
         | true ↦ plan
