@@ -106,14 +106,14 @@ impl Book {
         Ok(RestoredBook { book, work })
     }
 
-    /// A law, with nothing to run: each book is as `IsBook` says.
+    /// A law: it looks at each plan and changes nothing. Each book is as `IsBook` says.
     pub fn law(&self)
         ensures { IsBook self.now }
     {
         each_is_accepted(self.plans.entries());
     }
 
-    /// A law, with nothing to run: the rows of each book are as `AreBookRows` says.
+    /// A law: it looks at each plan and changes nothing. The rows of each book are as `AreBookRows` says.
     pub fn rows_law(&self)
         ensures { AreBookRows (month_rows self.now) }
     {
@@ -121,7 +121,7 @@ impl Book {
         self.law();
     }
 
-    /// A law, with nothing to run: the values of each book's runs are as `HaveKeptValues` says.
+    /// A law: it looks at each value and changes nothing. The values of each book's runs are as `HaveKeptValues` says.
     pub fn values_law(&self)
         ensures { HaveKeptValues self.now }
     {

@@ -45,7 +45,7 @@ fn is_written(alloc: Global, text: &[u8], run: &Record) -> Result<bool, AllocErr
     Ok(written.as_slice() == text)
 }
 
-/// A law, with nothing to run: each record has a text.
+/// A law: it looks at each value and changes nothing. Each record has a text.
 pub fn run_law(run: &Record)
     ensures { IsRun run.now }
 {
