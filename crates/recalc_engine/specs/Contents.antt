@@ -17,10 +17,6 @@ pub record Contents : Type 0 where
   pub plans : List (Entry Accepted)
   pub last : Work
 
--- the runs of an employee's year, computed anew
-abbrev pub rows_in : Contents → YearRuns → List Row
-rows_in book y = year_rows (pick book.plans) y.runs
-
 -- the run of a key, computed anew
 abbrev pub row_at : Contents → Key → Option Row
 row_at book k =
