@@ -1,3 +1,4 @@
 pub mod AmountLemmas
 pub mod NameLemmas
+pub mod OutputLemmas
 pub mod Laws

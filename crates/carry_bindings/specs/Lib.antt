@@ -3,3 +3,4 @@ pub mod Filling
 pub mod Conditions
 pub mod Limits
 pub mod Views
+pub mod OutputViews

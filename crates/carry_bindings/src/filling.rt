@@ -5,16 +5,21 @@ ghost use Rattle.carry_bindings.specs.Conditions.{AreBounded, KeepsFactorLimit};
 ghost use Rattle.carry_bindings.specs.Limits.{most_runs};
 ghost use Rattle.carry_bindings.specs.Filling.{admits, filled_by, first_of, given, has_carry, input_of, inputs, missing};
 ghost use Rattle.carry_bindings.specs.Filling.{outside, value_of, waits};
+ghost use Rattle.carry_bindings.specs.OutputViews.{AreAlike};
 ghost use Rattle.carry_bindings.specs.Views.{places_of};
 ghost use Rattle.payroll_records.specs.NamedValues.{place_at};
 
 use crate::carried::{Earlier, carried};
 use crate::names::{places, unknown};
+use crate::outputs::alike;
 use limits_file::{InputLimit, Items, Slot, Spec};
 use pap_tree::{Kind, Name};
 use payroll_records::{Day, Record, Values};
 use scaled_decimal::Dec;
 use std::alloc::{AllocError, Global};
+
+/// So many searches of a run's outputs take about as long as one comparison of all their names.
+const FEW_SEARCHES: usize = 4;
 
 /// Why a run has no inputs.
 #[derive(Debug, Drop)]
@@ -86,6 +91,12 @@ fn has_carry(slots: &[Slot]) -> bool
     slots.iter().any(|s| s.carry.is_some())
 }
 
+/// Whether so many inputs carry that comparing the names of the earlier runs' outputs takes less than searching each run for
+/// each of these inputs.
+fn many_carry(slots: &[Slot]) -> bool {
+    slots.iter().filter(|s| s.carry.is_some()).count() > FEW_SEARCHES
+}
+
 /// The record's value of an input, which stands at a place of its values, or else the input's default.
 fn given(values: &Values, place: Option<usize>, slot: &Slot) -> Option<Dec>
     requires { place ≡ place_at values.now slot.now.name }
@@ -98,14 +109,21 @@ fn given(values: &Values, place: Option<usize>, slot: &Slot) -> Option<Dec>
 }
 
 /// The value of an input: what it carries, or else what is given.
-fn value_of(values: &Values, place: Option<usize>, earlier: &[Earlier], slot: &Slot) -> Option<Dec>
+fn value_of(
+    values: &Values,
+    place: Option<usize>,
+    earlier: &[Earlier],
+    alike: &[bool],
+    slot: &Slot,
+) -> Option<Dec>
     requires place { place ≡ place_at values.now slot.now.name }
     requires few { length earlier.now ≤ most_runs }
     requires bounded { AllByRecursion (λ e. AreBounded e.outputs) earlier.now }
+    requires alike { AreAlike alike.now earlier.now }
     ensures { result ≡ value_of values.now earlier.now slot.now }
 {
     match &slot.carry {
-        Some(carry) => Some(carried(carry, earlier)),
+        Some(carry) => Some(carried(carry, earlier, alike)),
         None => given(values, place, slot),
     }
 }
@@ -162,9 +180,14 @@ fn inputs(
     ensures { let state = outside slots.now values.now earlier.now in
         IfOk result (λ f. f ≡ first_of None None None state (inputs slots.now values.now earlier.now)) }
 {
+    let alike = if many_carry(slots) {
+        alike(alloc, earlier)?
+    } else {
+        Vec::new(alloc)
+    };
     let mut inputs = Vec::with_capacity(alloc, slots.len())?;
     for (at, slot) in slots.iter().enumerate() {
-        let Some(value) = value_of(values, places[at], earlier, slot) else {
+        let Some(value) = value_of(values, places[at], earlier, alike.as_slice(), slot) else {
             continue;
         };
         if !admits(&slot.limit, value) {

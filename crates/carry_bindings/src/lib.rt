@@ -4,6 +4,7 @@
 mod carried;
 mod filling;
 mod names;
+mod outputs;
 
 pub use carried::Earlier;
 pub use filling::{Blocked, Filled, fill};
