@@ -5,7 +5,7 @@ ghost use Rattle.book_year.specs.Rows.{Planned, earlier_of, outputs_in, read_of,
 
 use crate::chain::Old;
 use crate::outcome::{Outcome, State};
-use carry_bindings::{Blocked, Earlier};
+use carry_bindings::Earlier;
 use limits_file::Items;
 use payroll_records::{Day, NamedValue};
 use scaled_decimal::Dec;
@@ -119,19 +119,7 @@ fn copy_of_state(alloc: Global, state: &State) -> Result<State, AllocError>
 {
     match state {
         State::NoPlan => Ok(State::NoPlan),
-        State::Blocked(why) => Ok(State::Blocked(copy_of_cause(why))),
+        State::Blocked(why) => Ok(State::Blocked(*why)),
         State::Done(outputs) => Ok(State::Done(copy_of(alloc, outputs)?)),
-    }
-}
-
-/// The same cause again.
-fn copy_of_cause(why: &Blocked) -> Blocked
-    ensures { result ≡ why.now }
-{
-    match why {
-        Blocked::Waits(day) => Blocked::Waits(*day),
-        Blocked::Unknown(name) => Blocked::Unknown(*name),
-        Blocked::Missing(name) => Blocked::Missing(*name),
-        Blocked::Range(name) => Blocked::Range(*name),
     }
 }

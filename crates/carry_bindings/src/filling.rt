@@ -22,7 +22,7 @@ use std::alloc::{AllocError, Global};
 const FEW_SEARCHES: usize = 4;
 
 /// Why a run has no inputs.
-#[derive(Debug, Drop)]
+#[derive(Clone, Copy, Debug)]
 pub enum Blocked {
     /// An input carries, and the earlier run of this day isn't ok.
     Waits(Day),
