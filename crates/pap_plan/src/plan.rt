@@ -99,11 +99,17 @@ impl Plan {
         same_bytes(&self.plan, &other.plan) && same_bytes(&self.limits, &other.limits)
     }
 
+    /// A law, with nothing to run: the plan's two texts are accepted, and mean what it means.
+    pub fn law(&self)
+        ensures { IsAccepted self.now.plan self.now.limits (meaning self.now) }
+    {
+        let _ = &self.verdict;
+    }
+
     /// The most steps that a run takes, at most 1,000,000,000.
     pub fn bound(&self) -> u64
         ensures bound { result ≡ bound_of (flowchart self.now) }
         ensures most { result ≤ most_steps }
-        ensures accepted { IsAccepted self.now.plan self.now.limits (meaning self.now) }
     {
         self.verdict.bound
     }

@@ -26,8 +26,7 @@ pub fn filled(
     ensures { IfOk result (Fills (accepted plan.now)
         (filled (accepted plan.now) item.now.values earlier.now)) }
 {
-    // The texts of a plan were accepted.
-    let _ = plan.bound();
+    plan.law();
     match fill(alloc, plan.spec(), item, earlier)? {
         Filled::Inputs(inputs) => {
             each_is_kept(inputs.as_slice());

@@ -36,8 +36,7 @@ pub fn run<L: Ledger>(
     ensures counted { IfOk result (λ f. steps.new ≡ steps.old + f.cost) }
     ensures memory { OnErr result (steps.new ≡ steps.old) }
 {
-    // No run takes more steps than its bound.
-    let _ = plan.bound();
+    plan.law();
     let declared = plan.text().plan().outputs.as_slice();
     let mut machine = plan.machine(alloc)?;
     let mut values = vec![in alloc; Dec::new(0, 0); declared.len()]?;
