@@ -289,7 +289,7 @@ fn each_is_accepted(entries: &[(Day, Plan)])
     ensures { AreAcceptedPlans (plans_in entries.now) }
 {
     for entry in entries {
-        let _ = entry.1.bound();
+        entry.1.law();
     }
 }
 

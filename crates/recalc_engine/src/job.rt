@@ -52,7 +52,7 @@ pub(crate) fn job_of<'a>(plan: &'a Plan, inputs: &'a [Dec]) -> Job<'a>
     ensures inputs { result.inputs.now ≡ inputs.now }
     ensures admitted { AdmitsWhatItFills (accepted plan.now) inputs.now }
 {
-    let _ = plan.bound();
+    plan.law();
     let _ = plan.spec();
     each_is_kept(inputs);
     Job { plan, inputs }

@@ -42,7 +42,7 @@ pub fn try_plan<L: Ledger>(
         return Err(TryRefusal::Plans);
     }
     b.law();
-    let _ = p.bound();
+    p.law();
     let picks = Picks::edited(b.plans(), day, Some((day, &p)));
     let trial = try_years(alloc, &picks, b.years(), steps)?;
     Ok(trial)

@@ -7,4 +7,4 @@ returns c = each_plan c.args.entries.now (λ k d lt. c.loop-entry.invariant k d 
 
 pub loop-entry-preserved : goal.loop-entry-preserved
 loop-entry-preserved c =
-    one_plan c.args.entries.now c.loop-entry.entry-index c.entry-item.result (omega arith) c.entry-item.is c.bound.ensures.accepted c.loop-entry.invariant
+    one_plan c.args.entries.now c.loop-entry.entry-index c.entry-item.result (omega arith) c.entry-item.is c.law.ensures c.loop-entry.invariant

@@ -3,4 +3,4 @@ use Rattle.recalc_engine.proofs.JobLemmas.{admits_filled}
 use Rattle.recalc_engine.proofs.job.job_of.Goals as goal
 
 pub returns-clause-admitted : goal.returns-clause-admitted
-returns-clause-admitted c = admits_filled (accepted c.args.plan.now) c.spec.result.now.slots c.args.inputs.now c.bound.ensures.accepted c.spec.ensures c.each_is_kept.ensures
+returns-clause-admitted c = admits_filled (accepted c.args.plan.now) c.spec.result.now.slots c.args.inputs.now c.law.ensures c.spec.ensures c.each_is_kept.ensures

@@ -29,7 +29,7 @@ try_years-requires-clause-after g c =
     let e : Entry Accepted = (c.args.day, accepted c.args.p) in
     let picks = c.edited-picks.result in
     new_planned c.args.b.now e c.law.ensures (plans_in c.plans-2.result.now) c.plans-2.ensures (before picks)
-    (after picks) c.edited-picks.ensures.before c.edited-picks.ensures.after c.bound.ensures.accepted
+    (after picks) c.edited-picks.ensures.before c.edited-picks.ensures.after c.law-2.ensures
 
 pub returns-in_err-trial-clause-counted : goal.returns-in_err-trial-clause-counted
 returns-in_err-trial-clause-counted g c =
