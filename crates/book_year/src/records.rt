@@ -85,11 +85,12 @@ pub(crate) fn runs_without(
     }
 }
 
-/// Puts a record at its day, among references.
+/// Puts a record at its day, among references. After a refusal they are as before.
 pub fn put_reference<'a>(runs: &mut Vec<&'a Record>, item: &'a Record) -> Result<(), AllocError>
     requires { IsRising day_cmp record_day (records_of runs.old.items) }
-    ensures { OnOk result
+    ensures ok { OnOk result
         (ReferTo (put_run item.now (records_of runs.old.items)) runs.new.items) }
+    ensures err { OnErr result (runs.new.items ≡ runs.old.items) }
 {
     match place_reference(runs.as_slice(), item.day) {
         Ok(at) => {

@@ -13,7 +13,7 @@ put_reference-requires c =
 pub loop-item-preserved : goal.loop-item-preserved
 loop-item-preserved c =
     let item = c.item-item.result in
-    c.in_ok-put_reference.ensures
+    c.in_ok-put_reference.ensures.ok
     ∙ ap (put_run item) c.loop-item.invariant
     ∙ ap (λ t. put_run t (put_runs (take c.loop-item.item-index c.args.items.now) c.args.records.now)) c.item-item.is
     ∙ puts_next c.args.items.now c.loop-item.item-index item c.args.records.now c.loop-item-test.true

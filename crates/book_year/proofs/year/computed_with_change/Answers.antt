@@ -21,7 +21,7 @@ recalculate_rest-requires-clause-front g c =
     let new = put_run item (without_run from rs) in
     let n = c.min-kept.result in
     let runs : records_of c.as_slice.result.now ≡ new =
-    ap records_of c.as_slice.ensures.value ∙ c.in_ok-put_reference.ensures ∙ ap (put_run item) (c.in_ok-runs.ensures ∙ ap (without_run from) c.as_slice-records.ensures.value) in
+    ap records_of c.as_slice.ensures.value ∙ c.in_ok-put_reference.ensures.ok ∙ ap (put_run item) (c.in_ok-runs.ensures ∙ ap (without_run from) c.as_slice-records.ensures.value) in
     let first : AreBefore from rs c.runs_before.result = subst (λ t. AreBefore from t c.runs_before.result) c.as_slice-records.ensures.value c.runs_before.ensures in
     let second : AreBefore item.day rs c.runs_before-2.result = subst (λ t. AreBefore item.day t c.runs_before-2.result) c.as_slice-records.ensures.value c.runs_before-2.ensures in
     let picks : Picks = record { plans = c.args.plans; edit = None } in
@@ -34,7 +34,7 @@ recalculate_rest-requires-clause-few g c =
     let left = without_run c.args.from rs in
     let item = c.args.item.now in
     let runs : records_of c.as_slice.result.now ≡ put_run item left =
-    ap records_of c.as_slice.ensures.value ∙ c.in_ok-put_reference.ensures ∙ ap (put_run item) (c.in_ok-runs.ensures ∙ ap (without_run c.args.from) c.as_slice-records.ensures.value) in
+    ap records_of c.as_slice.ensures.value ∙ c.in_ok-put_reference.ensures.ok ∙ ap (put_run item) (c.in_ok-runs.ensures ∙ ap (without_run c.args.from) c.as_slice-records.ensures.value) in
     let rising = rising_without c.args.from rs c.requires.year.kept.rising in
     let own = all_without (IsOwn year.key) c.args.from rs c.requires.year.own in
     let few = own_few year.key (put_run item left) (rising_put item left rising) (all_put (IsOwn year.key) item left c.requires.own own) in
@@ -45,7 +45,7 @@ returns-clause-done g c =
     let left = without_run c.args.from c.args.year.now.records.items in
     let item = c.args.item.now in
     let runs : records_of c.as_slice.result.now ≡ put_run item left =
-    ap records_of c.as_slice.ensures.value ∙ c.in_ok-put_reference.ensures ∙ ap (put_run item) (c.in_ok-runs.ensures ∙ ap (without_run c.args.from) c.as_slice-records.ensures.value) in
+    ap records_of c.as_slice.ensures.value ∙ c.in_ok-put_reference.ensures.ok ∙ ap (put_run item) (c.in_ok-runs.ensures ∙ ap (without_run c.args.from) c.as_slice-records.ensures.value) in
     computed_done (plans_in c.args.plans.now) c.args.year.now c.old_of.result.records.now c.as_slice.result.now (put_run item left) c.recalculate_rest.result c.old_of.ensures.records runs c.old_of.result.outcomes.now c.old_of.ensures.outcomes c.recalculate_rest.ensures.done
 
 pub returns-clause-counted : goal.returns-clause-counted
@@ -53,5 +53,5 @@ returns-clause-counted g c =
     let left = without_run c.args.from c.args.year.now.records.items in
     let item = c.args.item.now in
     let runs : records_of c.as_slice.result.now ≡ put_run item left =
-    ap records_of c.as_slice.ensures.value ∙ c.in_ok-put_reference.ensures ∙ ap (put_run item) (c.in_ok-runs.ensures ∙ ap (without_run c.args.from) c.as_slice-records.ensures.value) in
+    ap records_of c.as_slice.ensures.value ∙ c.in_ok-put_reference.ensures.ok ∙ ap (put_run item) (c.in_ok-runs.ensures ∙ ap (without_run c.args.from) c.as_slice-records.ensures.value) in
     computed_counted (plans_in c.args.plans.now) c.args.year.now c.old_of.result.records.now c.as_slice.result.now (put_run item left) c.recalculate_rest.result c.old_of.ensures.records runs c.args.steps.now c.recalculate_rest.new.steps c.recalculate_rest.ensures.counted
