@@ -2,6 +2,7 @@
 use Rattle.std.proofs.Common.{◌≡◌, ℕ, ◌+◌, ◌*◌, ◌<◌, ◌≤◌, List, [], ◌∷◌, ◌++◌, length, get_or, take, drop, Some, None, refl, sym, ap, ◌∙◌, arith, append_assoc, Result, Err}
 use Rattle.std.specs.List.{AllByRecursion}
 use Rattle.std.proofs.lemmas.List.{append-nil, length-append, take_more, map-append, take-append-drop}
+use Rattle.std.proofs.lemmas.List.Concat.{flat_map-append}
 use Rattle.rising_lists.specs.Keyed.{IsRising}
 use Rattle.payroll_records.specs.declared.day.Day.{Day}
 use Rattle.payroll_records.specs.declared.record.Record.{Record}
@@ -53,8 +54,7 @@ year_redone p q y done r kept is e = rw e (record {
 -- ---- the years computed so far
 
 jobs_in_append : (p q : Planned) (old xs ys : List YearRuns) → jobs_in p q old (xs ++ ys) ≡ jobs_in p q old xs ++ jobs_in p q old ys
-jobs_in_append p q old [] ys = refl
-jobs_in_append p q old (x ∷ xs) ys = ap (λ t. year_jobs p q (runs_of old x.key) x.runs ++ t) (jobs_in_append p q old xs ys) ∙ sym (append_assoc (year_jobs p q (runs_of old x.key) x.runs) (jobs_in p q old xs) (jobs_in p q old ys))
+jobs_in_append p q old xs ys = flat_map-append (λ (y : YearRuns). year_jobs p q (runs_of old y.key) y.runs) xs ys
 
 -- the new jobs of the first years
 abbrev pub jobs_to : Planned → Planned → List Year → ℕ → List Job

@@ -1,5 +1,5 @@
 -- What is kept of all employees' runs, and what an edit of them promises.
-use Rattle.std.specs.Prelude.{ℕ, ◌≡◌, ◌<◌, ◌≤◌, List, [], ◌∷◌, ◌++◌, length, map}
+use Rattle.std.specs.Prelude.{ℕ, ◌≡◌, ◌<◌, ◌≤◌, List, length, map, flat_map}
 use Rattle.std.specs.List.{AllByRecursion}
 use Rattle.rising_lists.specs.Keyed.{IsRising}
 use Rattle.plan_calendar.specs.Picking.{Entry, pick}
@@ -42,9 +42,8 @@ pub record AreYears (plans : List (Entry Accepted)) (ys : Years) : Type 0 where
 
 -- the jobs of these years that aren't the jobs of their runs in the old ones
 abbrev pub jobs_in : Planned → Planned → List YearRuns → List YearRuns → List Job
-jobs_in before after old [] = []
-jobs_in before after old (y ∷ ys) =
-    year_jobs before after (runs_of old y.key) y.runs ++ jobs_in before after old ys
+jobs_in before after old years =
+    flat_map (λ y. year_jobs before after (runs_of old y.key) y.runs) years
 
 -- those of an edit of the runs where this is the calendar, and their cost
 abbrev pub edit_jobs : List (Entry Accepted) → List YearRuns → List YearRuns → List Job

@@ -1,5 +1,6 @@
 -- What the years computed anew beside those that are kept promise.
-use Rattle.std.specs.Prelude.{◌≡◌, ◌≤◌, ◌*◌, List, [], ◌∷◌, Option, Some, None, Vec, ⊤}
+use Rattle.std.specs.Prelude.{◌≡◌, ◌≤◌, ◌*◌, List, [], ◌∷◌, Option, Some, None, Vec}
+use Rattle.std.specs.List.{AllZip}
 use Rattle.std.specs.declared.alloc.Global.{Global}
 use Rattle.pap_types.specs.Limits.{most_steps}
 use Rattle.plan_calendar.specs.Picking.{Entry, pick}
@@ -36,11 +37,7 @@ YearKept planned y = AreKept planned y.records.items y.outcomes.items
 
 -- so it is of each year with its new outcomes
 abbrev pub AllRedone : Planned → List Year → List New → Type 0
-AllRedone planned [] [] = ⊤
-AllRedone planned [] (new ∷ news) = ⊥
-AllRedone planned (y ∷ ys) [] = ⊥
-AllRedone planned (y ∷ ys) (new ∷ news) =
-    YearKept planned (with_new y new) × AllRedone planned ys news
+AllRedone planned years news = AllZip (λ y new. YearKept planned (with_new y new)) years news
 
 -- a year computed anew, and the work of its new jobs
 pub record IsYearRedone (before after : Planned) (y : Year) (redone : RedoneYear) : Type 0 where

@@ -4,14 +4,14 @@ use Rattle.std.specs.Prelude.{Option, Some, None, nat_eq}
 use Rattle.std.specs.Cmp.{unsigned_Decides}
 use Rattle.std.specs.Ordering.{nat_cmp, ordering_then}
 use Rattle.std.proofs.lemmas.Cmp.{tied_itself}
-use Rattle.std.specs.Option.{option_map}
+use Rattle.std.specs.Option.{option_map, option_or}
 use Rattle.std.specs.Borrow.{Bor}
 use Rattle.std.specs.Str.{bytes_eq}
 use Rattle.std.proofs.lemmas.Bool.{false≢true}
 use Rattle.std.proofs.lemmas.Slice.Eq.{bytes_eq-Decides}
 use Rattle.payroll_records.specs.declared.day.Day.{Day}
 use Rattle.payroll_records.proofs.Laws.{day_total}
-use Rattle.plan_calendar.specs.Picking.{Entry, day_of, last_where, or_else, pick, pick_before, plan_of, serves, serves_before}
+use Rattle.plan_calendar.specs.Picking.{Entry, day_of, last_where, pick, pick_before, plan_of, serves, serves_before}
 use Rattle.plan_calendar.specs.Edits.{moves, picked_after}
 use Rattle.plan_calendar.specs.Views.{picked_entry as entry_lent}
 use Rattle.plan_calendar.proofs.Laws.{pick_same}
@@ -82,9 +82,9 @@ unmoved plans day left d same = elim (moves plans day d) as (λ b. moves plans d
 -- ---- a calendar of plans without their code
 
 module _ {X Y : Type 0} (f : X → Y) where
-  or_else_map : (a b : Option X) → or_else (option_map f a) (option_map f b) ≡ option_map f (or_else a b)
-  or_else_map None b = refl
-  or_else_map (Some x) b = refl
+  option_or-map : (a b : Option X) → option_or (option_map f a) (option_map f b) ≡ option_map f (option_or a b)
+  option_or-map None b = refl
+  option_or-map (Some x) b = refl
 
   one_map : (b : Bool) (x : X) → (if b then Some (f x) else None) ≡ option_map f (if b then Some x else None)
   one_map true x = refl
@@ -93,10 +93,10 @@ module _ {X Y : Type 0} (f : X → Y) where
   pub last_map : (p : X → Bool) (q : Y → Bool) → ((x : X) → q (f x) ≡ p x) → (xs : List X) → last_where q (map f xs) ≡ option_map f (last_where p xs)
   last_map p q same [] = refl
   last_map p q same (x ∷ xs) =
-      ap (λ b. or_else (last_where q (map f xs)) (if b then Some (f x) else None)) (same x)
-      ∙ ap (λ o. or_else o (if p x then Some (f x) else None)) (last_map p q same xs)
-      ∙ ap (or_else (option_map f (last_where p xs))) (one_map (p x) x)
-      ∙ or_else_map (last_where p xs) (if p x then Some x else None)
+      ap (λ b. option_or (last_where q (map f xs)) (if b then Some (f x) else None)) (same x)
+      ∙ ap (λ o. option_or o (if p x then Some (f x) else None)) (last_map p q same xs)
+      ∙ ap (option_or (option_map f (last_where p xs))) (one_map (p x) x)
+      ∙ option_or-map (last_where p xs) (if p x then Some x else None)
 
 -- the plan of a day is picked alike
 pub pick_in : (es : List (Entry Seen)) (d : Day) → pick (plans_in es) d ≡ option_map accepted_entry (pick es d)

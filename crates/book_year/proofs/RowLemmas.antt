@@ -1,6 +1,7 @@
 -- Laws of a year's runs.
 use Rattle.std.proofs.Common.{◌≡◌, ◌+◌, ◌≤◌, List, [], ◌∷◌, ◌++◌, map, Option, Some, None, refl, sym, ap, ◌∙◌, append_assoc, arith}
 use Rattle.std.proofs.lemmas.List.{append-nil}
+use Rattle.std.proofs.lemmas.List.Concat.{flat_map-append}
 use Rattle.std.proofs.lemmas.List.Sums.{sum_by-append}
 use Rattle.payroll_records.specs.declared.day.Day.{Day}
 use Rattle.payroll_records.specs.declared.record.Record.{Record}
@@ -27,8 +28,7 @@ pub rows_more : (planned : Planned) (xs : List Record) (r : Record) →
 rows_more planned xs r = rows_append planned [] xs (r ∷ [])
 
 pub new_jobs_append : (old : Day → Option Job) (xs ys : List Row) → new_jobs old (xs ++ ys) ≡ new_jobs old xs ++ new_jobs old ys
-new_jobs_append old [] ys = refl
-new_jobs_append old (x ∷ xs) ys = ap (λ t. new_job (old x.day) x.job ++ t) (new_jobs_append old xs ys) ∙ sym (append_assoc (new_job (old x.day) x.job) (new_jobs old xs) (new_jobs old ys))
+new_jobs_append old xs ys = flat_map-append (λ (row : Row). new_job (old row.day) row.job) xs ys
 
 pub total_append : (xs ys : List Job) → total_cost (xs ++ ys) ≡ total_cost xs + total_cost ys
 total_append xs ys = sum_by-append job_cost xs ys

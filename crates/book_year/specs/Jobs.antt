@@ -1,5 +1,5 @@
 -- Which runs an edit has to run, and their cost.
-use Rattle.std.specs.Prelude.{ℕ, ◌≡◌, ◌+◌, ◌≤◌, List, [], ◌∷◌, ◌++◌, Option, Some, None, option_and_then, Bool, ◌&&◌, if◌then◌else◌, nat_eq, sum_by, length, Result, Ok, Err}
+use Rattle.std.specs.Prelude.{ℕ, ◌≡◌, ◌+◌, ◌≤◌, List, [], ◌∷◌, flat_map, Option, Some, None, option_and_then, Bool, ◌&&◌, if◌then◌else◌, nat_eq, sum_by, length, Result, Ok, Err}
 use Rattle.std.specs.Ordering.{int_eq}
 use Rattle.std.specs.Str.{bytes_eq}
 use Rattle.std.specs.Cmp.Lexicographic.{pointwise}
@@ -39,8 +39,7 @@ job_at rows d = option_and_then (λ row. row.job) (at_key day_cmp (λ row. row.d
 
 -- the jobs of these runs that aren't the old job of their day
 abbrev pub new_jobs : (Day → Option Job) → List Row → List Job
-new_jobs old [] = []
-new_jobs old (row ∷ more) = new_job (old row.day) row.job ++ new_jobs old more
+new_jobs old rows = flat_map (λ row. new_job (old row.day) row.job) rows
 
 abbrev pub job_cost : Job → ℕ
 job_cost j = run_cost j.plan j.inputs

@@ -1,6 +1,6 @@
 -- The inputs of an accepted plan, in declared order.
-use Rattle.std.specs.Prelude.{◌≡◌, ℕ, List, [], ◌∷◌, Option, Some, ⊤}
-use Rattle.std.specs.List.{find}
+use Rattle.std.specs.Prelude.{◌≡◌, ℕ, List, Option, Some}
+use Rattle.std.specs.List.{AllZip, find}
 use Rattle.std.specs.Option.{option_map}
 use Rattle.std.specs.Str.{bytes_eq}
 use Rattle.pap_tree.specs.Declarations.{Declaration}
@@ -23,6 +23,4 @@ pub record IsSlot (l : Limits) (d : Declaration) (s : Slot) : Type 0 where
   pub carry : s.carry ≡ carry_named l d.name
 
 abbrev pub AreSlots : Limits → List Declaration → List Slot → Type 0
-AreSlots l [] [] = ⊤
-AreSlots l (d ∷ ds) (s ∷ ss) = IsSlot l d s × AreSlots l ds ss
-AreSlots l _ _ = ⊥
+AreSlots l declarations slots = AllZip (IsSlot l) declarations slots

@@ -1,6 +1,7 @@
 -- The last of the entries up to a day, where it is of that day's year, is the entry that is picked.
 use Rattle.std.proofs.Common.{◌≡◌, ℕ, zero, suc, ◌+◌, ◌<◌, ◌≤◌, ◌-◌, List, [], ◌∷◌, length, take, get_or, slice_get, Bool, true, false, ◌&&◌, ◌==◌, Option, Some, None, if◌then◌else◌, refl, sym, ap, ◌∙◌, subst, arith, inl, inr}
 use Rattle.std.specs.declared.cmp.Ordering.TheVariants.{Less, Equal, Greater}
+use Rattle.std.specs.Option.{option_or}
 use Rattle.std.specs.Ordering.{is_lt}
 use Rattle.std.proofs.lemmas.Bool.{cases_lt}
 use Rattle.std.proofs.lemmas.Bool.Decides.{nat_tests}
@@ -11,7 +12,7 @@ use Rattle.rising_lists.proofs.Laws.{rising_far}
 use Rattle.payroll_records.specs.declared.day.Day.{Day}
 use Rattle.payroll_records.specs.Orders.{day_cmp}
 use Rattle.payroll_records.proofs.Laws.{day_total}
-use Rattle.plan_calendar.specs.Picking.{Entry, day_of, last_where, or_else, pick, pick_before}
+use Rattle.plan_calendar.specs.Picking.{Entry, day_of, last_where, pick, pick_before}
 use Rattle.plan_calendar.specs.Views.{last_of_year}
 use Rattle.plan_calendar.proofs.DayLemmas.{greater_back, not_after}
 
@@ -33,9 +34,9 @@ and_false : (a b : Bool) → b ≡ false → (a && b) ≡ false
 and_false true b e = e
 and_false false b e = refl
 
-or_else_first : {X : Type 0} (o t : Option X) → (o ≡ None → t ≡ None) → or_else o t ≡ o
-or_else_first None t h = h refl
-or_else_first (Some x) t h = refl
+option_or-first : {X : Type 0} (o t : Option X) → (o ≡ None → t ≡ None) → option_or o t ≡ o
+option_or-first None t h = h refl
+option_or-first (Some x) t h = refl
 
 not_here : {X : Type 0} (t : Bool) (x : X) → (if t then Some x else None) ≡ None → t ≡ false
 not_here true x e = cc
@@ -67,7 +68,7 @@ module _ {P : Type 0} (by : Day → Bool) (year : ℕ) (near : (a : Day) → by 
   none_passes : (es : List (Entry P)) → Parts by es 0 → last_where passes es ≡ None
   none_passes [] h = refl
   none_passes (x ∷ xs) h =
-      ap (λ o. or_else o (if passes x then Some x else None)) (none_passes xs (tail_none by x xs h))
+      ap (λ o. option_or o (if passes x then Some x else None)) (none_passes xs (tail_none by x xs h))
       ∙ ap (λ t. if t then Some x else None)
       (and_false ((day_of x).year == year) (by (day_of x)) (h.after 0 x (omega arith) (omega arith)))
 
@@ -95,13 +96,13 @@ module _ {P : Type 0} (by : Day → Bool) (year : ℕ) (near : (a : Day) → by 
   picked (x ∷ xs) zero r h = sym (none_passes (x ∷ xs) h)
   picked (x ∷ xs) (suc zero) r h =
       here_passes x (h.before 0 x (omega arith) (omega arith))
-      ∙ sym (ap (λ o. or_else o (if passes x then Some x else None)) (none_passes xs (tail_parts by x xs 0 h)))
+      ∙ sym (ap (λ o. option_or o (if passes x then Some x else None)) (none_passes xs (tail_parts by x xs 0 h)))
   picked (x ∷ []) (suc (suc e)) r h = here_passes x (h.before 0 x (omega arith) (omega arith))
   picked (x ∷ (y ∷ ys)) (suc (suc e)) r h =
       let rest = tail_parts by x (y ∷ ys) (suc e) h in
       let same = picked (y ∷ ys) (suc e) r.1 rest in
       same
-      ∙ sym (or_else_first (last_where passes (y ∷ ys)) (if passes x then Some x else None) (λ none.
+      ∙ sym (option_or-first (last_where passes (y ∷ ys)) (if passes x then Some x else None) (λ none.
       ap (λ t. if t && by (day_of x) then Some x else None) (older (day_of x) y ys e r.0 rest (same ∙ none))))
 
 -- ---- the places that a search gives

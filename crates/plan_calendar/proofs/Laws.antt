@@ -1,6 +1,7 @@
 -- The plan of a day: it is the latest that serves, and what an edit of the calendar does to it.
 use Rattle.std.proofs.Common.{◌≡◌, suc, List, [], ◌∷◌, Bool, true, false, if◌then◌else◌, Option, Some, None, IsSome, refl, sym, ap, ◌∙◌, arith, ◌&&◌}
 use Rattle.std.specs.List.{Contains, AllByRecursion}
+use Rattle.std.specs.Option.{option_or}
 use Rattle.std.specs.declared.cmp.Ordering.TheVariants.{Less, Equal, Greater}
 use Rattle.std.specs.Ordering.{is_eq, is_gt}
 use Rattle.std.proofs.lemmas.Bool.{false≢true}
@@ -10,7 +11,7 @@ use Rattle.rising_lists.proofs.Laws.{above_all, above_more, above_same, at_key_a
 use Rattle.payroll_records.specs.declared.day.Day.{Day}
 use Rattle.payroll_records.specs.Orders.{day_cmp}
 use Rattle.payroll_records.proofs.Laws.{day_total}
-use Rattle.plan_calendar.specs.Picking.{Entry, day_of, entry_at, with_entry, without_day, pick, pick_before, serves, serves_before, or_else, last_where, IsLatest}
+use Rattle.plan_calendar.specs.Picking.{Entry, day_of, entry_at, with_entry, without_day, pick, pick_before, serves, serves_before, last_where, IsLatest}
 use Rattle.plan_calendar.specs.Edits.{is_by, moves, picked_after}
 use Rattle.plan_calendar.proofs.DayLemmas.{and_both, greater_back, less_back, serves_through, serves_neither, less_serves, tie_serves, tie_before, above_before}
 
@@ -29,12 +30,12 @@ module _ {P : Type 0} where
   ] refl b
 
   by_tail : (e : Entry P) (day d : Day) (o p : Option (Entry P)) → p ≡ o → serves day d ≡ true →
-      is_by (or_else o (if serves (day_of e) d then Some e else None)) day ≡ true →
-      or_else p (if serves (day_of e) day then Some e else None) ≡ or_else o (if serves (day_of e) d then Some e else None)
+      is_by (option_or o (if serves (day_of e) d then Some e else None)) day ≡ true →
+      option_or p (if serves (day_of e) day then Some e else None) ≡ option_or o (if serves (day_of e) d then Some e else None)
   by_tail e day d None p same s b = rw (same, head_same e day d s b)
   by_tail e day d (Some x) p same s b = rw same
 
-  tail_by : (o t : Option (Entry P)) (day : Day) → is_by (or_else o t) day ≡ true → is_by o day ≡ true
+  tail_by : (o t : Option (Entry P)) (day : Day) → is_by (option_or o t) day ≡ true → is_by o day ≡ true
   tail_by None t day b = refl
   tail_by (Some x) t day b = b
 
@@ -53,7 +54,7 @@ module _ {P : Type 0} where
   picked_head : (k d : Day) (x : Entry P) → day_cmp k (day_of x) ≡ Less → PickedAbove k d (if serves (day_of x) d then Some x else None)
   picked_head k d x l = elim (serves (day_of x) d) as (λ b. serves (day_of x) d ≡ b → PickedAbove k d (if b then Some x else None)) [ true ↦ λ e. (l, e) | false ↦ λ e. tt ] refl
 
-  picked_or : (k d : Day) (o t : Option (Entry P)) → PickedAbove k d o → PickedAbove k d t → PickedAbove k d (or_else o t)
+  picked_or : (k d : Day) (o t : Option (Entry P)) → PickedAbove k d o → PickedAbove k d t → PickedAbove k d (option_or o t)
   picked_or k d None t h g = g
   picked_or k d (Some a) t h g = h
 
@@ -67,12 +68,12 @@ module _ {P : Type 0} where
 
   -- a plan that is put
   less_case : (y : Entry P) (d : Day) (o : Option (Entry P)) → PickedAbove (day_of y) d o →
-      or_else o (if serves (day_of y) d then Some y else None) ≡ (if serves (day_of y) d && is_by o (day_of y) then Some y else o)
+      option_or o (if serves (day_of y) d then Some y else None) ≡ (if serves (day_of y) d && is_by o (day_of y) then Some y else o)
   less_case y d None h = elim (serves (day_of y) d) as (λ b. (if b then Some y else None) ≡ (if b && true then Some y else None)) [ true ↦ refl | false ↦ refl ]
   less_case y d (Some a) h = elim (serves (day_of y) d) as (λ b. Some a ≡ (if b && is_by (Some a) (day_of y) then Some y else Some a)) [ true ↦ rw (not_by (day_of y) a h.0) | false ↦ refl ]
 
   equal_case : (x y : Entry P) (d : Day) (o : Option (Entry P)) → day_cmp (day_of y) (day_of x) ≡ Equal → PickedAbove (day_of y) d o →
-      or_else o (if serves (day_of y) d then Some y else None) ≡ (if serves (day_of y) d && is_by (or_else o (if serves (day_of x) d then Some x else None)) (day_of y) then Some y else or_else o (if serves (day_of x) d then Some x else None))
+      option_or o (if serves (day_of y) d then Some y else None) ≡ (if serves (day_of y) d && is_by (option_or o (if serves (day_of x) d then Some x else None)) (day_of y) then Some y else option_or o (if serves (day_of x) d then Some x else None))
   equal_case x y d None e h =
       let back = tied_back day_total (day_of y) (day_of x) e in
       rw (sym (tie_serves (day_of y) (day_of x) d e)) (elim (serves (day_of y) d) as (λ b. (if b then Some y else None) ≡ (if b && is_by (if b then Some x else None) (day_of y) then Some y else (if b then Some x else None))) [ true ↦ rw back | false ↦ refl ])
@@ -82,9 +83,9 @@ module _ {P : Type 0} where
   by_head x y d l = elim (serves (day_of x) d) as (λ b. is_by (if b then Some x else None) (day_of y) ≡ true) [ true ↦ rw l | false ↦ refl ]
 
   greater_case : (y : Entry P) (d : Day) (o t : Option (Entry P)) → is_by t (day_of y) ≡ true →
-      or_else (if serves (day_of y) d && is_by o (day_of y) then Some y else o) t ≡ (if serves (day_of y) d && is_by (or_else o t) (day_of y) then Some y else or_else o t)
-  greater_case y d None t h = elim (serves (day_of y) d) as (λ b. or_else (if b && true then Some y else None) t ≡ (if b && is_by t (day_of y) then Some y else t)) [ true ↦ rw h | false ↦ refl ]
-  greater_case y d (Some a) t h = elim (serves (day_of y) d && is_by (Some a) (day_of y)) as (λ b. or_else (if b then Some y else Some a) t ≡ (if b then Some y else Some a)) [ true ↦ refl | false ↦ refl ]
+      option_or (if serves (day_of y) d && is_by o (day_of y) then Some y else o) t ≡ (if serves (day_of y) d && is_by (option_or o t) (day_of y) then Some y else option_or o t)
+  greater_case y d None t h = elim (serves (day_of y) d) as (λ b. option_or (if b && true then Some y else None) t ≡ (if b && is_by t (day_of y) then Some y else t)) [ true ↦ rw h | false ↦ refl ]
+  greater_case y d (Some a) t h = elim (serves (day_of y) d && is_by (Some a) (day_of y)) as (λ b. option_or (if b then Some y else Some a) t ≡ (if b then Some y else Some a)) [ true ↦ refl | false ↦ refl ]
 
   pub pick_put : (es : List (Entry P)) (y : Entry P) (d : Day) → IsRising day_cmp day_of es → pick (with_entry y es) d ≡ picked_after es (day_of y) (Some y) d
   pick_put [] y d h = elim (serves (day_of y) d) as (λ b. (if b then Some y else None) ≡ (if b && true then Some y else None)) [ true ↦ refl | false ↦ refl ]
@@ -100,21 +101,21 @@ module _ {P : Type 0} where
   none_before k (x ∷ xs) h = rw (none_before k xs h.1, above_before (day_of x) k h.0)
 
   drop_equal : (x : Entry P) (day d : Day) (o b : Option (Entry P)) → day_cmp (day_of x) day ≡ Equal → PickedAbove day d o → b ≡ None →
-      o ≡ (if serves day d && is_by (or_else o (if serves (day_of x) d then Some x else None)) day then or_else b (if serves_before (day_of x) day then Some x else None) else or_else o (if serves (day_of x) d then Some x else None))
+      o ≡ (if serves day d && is_by (option_or o (if serves (day_of x) d then Some x else None)) day then option_or b (if serves_before (day_of x) day then Some x else None) else option_or o (if serves (day_of x) d then Some x else None))
   drop_equal x day d None b e h none = rw (none, tie_before (day_of x) day e, tie_serves (day_of x) day d e) (elim (serves day d) as (λ s. ◌≡◌ {A = Option (Entry P)} None (if s && is_by (if s then Some x else None) day then None else (if s then Some x else None))) [ true ↦ rw e | false ↦ refl ])
-  drop_equal x day d (Some a) b e h none = elim (serves day d) as (λ s. Some a ≡ (if s && is_by (Some a) day then or_else b (if serves_before (day_of x) day then Some x else None) else Some a)) [ true ↦ rw (not_by day a h.0) | false ↦ refl ]
+  drop_equal x day d (Some a) b e h none = elim (serves day d) as (λ s. Some a ≡ (if s && is_by (Some a) day then option_or b (if serves_before (day_of x) day then Some x else None) else Some a)) [ true ↦ rw (not_by day a h.0) | false ↦ refl ]
 
   drop_less : (x : Entry P) (day d : Day) (o b : Option (Entry P)) → day_cmp (day_of x) day ≡ Less →
-      or_else (if serves day d && is_by o day then b else o) (if serves (day_of x) d then Some x else None) ≡ (if serves day d && is_by (or_else o (if serves (day_of x) d then Some x else None)) day then or_else b (if serves_before (day_of x) day then Some x else None) else or_else o (if serves (day_of x) d then Some x else None))
-  drop_less x day d None b e = elim (serves day d) as (λ s. serves day d ≡ s → or_else (if s && true then b else None) (if serves (day_of x) d then Some x else None) ≡ (if s && is_by (if serves (day_of x) d then Some x else None) day then or_else b (if serves_before (day_of x) day then Some x else None) else (if serves (day_of x) d then Some x else None))) [
-    | true ↦ λ s. rw (by_day x day d e) (ap (λ t. or_else b (if t then Some x else None)) (less_serves (day_of x) day d e s))
+      option_or (if serves day d && is_by o day then b else o) (if serves (day_of x) d then Some x else None) ≡ (if serves day d && is_by (option_or o (if serves (day_of x) d then Some x else None)) day then option_or b (if serves_before (day_of x) day then Some x else None) else option_or o (if serves (day_of x) d then Some x else None))
+  drop_less x day d None b e = elim (serves day d) as (λ s. serves day d ≡ s → option_or (if s && true then b else None) (if serves (day_of x) d then Some x else None) ≡ (if s && is_by (if serves (day_of x) d then Some x else None) day then option_or b (if serves_before (day_of x) day then Some x else None) else (if serves (day_of x) d then Some x else None))) [
+    | true ↦ λ s. rw (by_day x day d e) (ap (λ t. option_or b (if t then Some x else None)) (less_serves (day_of x) day d e s))
     | false ↦ λ s. refl
   ] refl
     where
       by_day : (x : Entry P) (day d : Day) → day_cmp (day_of x) day ≡ Less → is_by (if serves (day_of x) d then Some x else None) day ≡ true
       by_day x day d l = elim (serves (day_of x) d) as (λ b. is_by (if b then Some x else None) day ≡ true) [ true ↦ rw l | false ↦ refl ]
-  drop_less x day d (Some a) b e = elim (serves day d && is_by (Some a) day) as (λ s. (serves day d && is_by (Some a) day) ≡ s → or_else (if s then b else Some a) (if serves (day_of x) d then Some x else None) ≡ (if s then or_else b (if serves_before (day_of x) day then Some x else None) else Some a)) [
-    | true ↦ λ s. ap (λ t. or_else b (if t then Some x else None)) (less_serves (day_of x) day d e (and_both (serves day d) (is_by (Some a) day) s).0)
+  drop_less x day d (Some a) b e = elim (serves day d && is_by (Some a) day) as (λ s. (serves day d && is_by (Some a) day) ≡ s → option_or (if s then b else Some a) (if serves (day_of x) d then Some x else None) ≡ (if s then option_or b (if serves_before (day_of x) day then Some x else None) else Some a)) [
+    | true ↦ λ s. ap (λ t. option_or b (if t then Some x else None)) (less_serves (day_of x) day d e (and_both (serves day d) (is_by (Some a) day) s).0)
     | false ↦ λ s. refl
   ] refl
 
@@ -144,7 +145,7 @@ module _ {P : Type 0} where
   contained_more e es a there = (suc there.0, omega (arith, there.1), there.2)
 
   latest_more : (test : Day → Bool) (e : Entry P) (es : List (Entry P)) (o : Option (Entry P)) → IsLatest es test o → AreAbove day_cmp day_of (day_of e) es →
-      IsLatest (e ∷ es) test (or_else o (if test (day_of e) then Some e else None))
+      IsLatest (e ∷ es) test (option_or o (if test (day_of e) then Some e else None))
   latest_more test e es None h above = elim (test (day_of e)) as (λ b. test (day_of e) ≡ b → IsLatest (e ∷ es) test (if b then Some e else None)) [
     | true ↦ λ t. ((0, omega arith, refl), t, (λ _. rw (tied_itself day_total (day_of e)), none_passes test e es h))
     | false ↦ λ t. (t, h)

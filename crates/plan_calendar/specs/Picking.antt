@@ -1,6 +1,7 @@
 -- The plan of a day: plans hold from their day on, within its calendar year.
 use Rattle.std.specs.Prelude.{◌≡◌, List, [], ◌∷◌, Option, Some, None, ◌≤◌, length, Bool, true, false, not, ◌&&◌, ◌==◌, if◌then◌else◌}
 use Rattle.std.specs.List.{Contains, AllByRecursion}
+use Rattle.std.specs.Option.{option_or}
 use Rattle.std.specs.Ordering.{is_lt, is_gt}
 use Rattle.rising_lists.specs.Keyed.{at_key, put, without, IsRising}
 use Rattle.payroll_records.specs.declared.day.Day.{Day}
@@ -40,15 +41,10 @@ serves a d = (a.year == d.year) && not (is_gt (day_cmp a d))
 abbrev pub serves_before : Day → Day → Bool
 serves_before a d = (a.year == d.year) && is_lt (day_cmp a d)
 
--- the first, or else the second
-abbrev pub or_else : {X : Type 0} → Option X → Option X → Option X
-or_else None b = b
-or_else (Some x) b = Some x
-
 -- the last element that passes the test
 abbrev pub last_where : {X : Type 0} → (X → Bool) → List X → Option X
 last_where p [] = None
-last_where p (x ∷ xs) = or_else (last_where p xs) (if p x then Some x else None)
+last_where p (x ∷ xs) = option_or (last_where p xs) (if p x then Some x else None)
 
 -- the entry with the latest day that isn't after the given one, among those of its year
 abbrev pub pick : {P : Type 0} → List (Entry P) → Day → Option (Entry P)
