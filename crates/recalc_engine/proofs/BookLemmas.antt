@@ -1,6 +1,7 @@
 -- The rows of a book rise by employee and day, one for each run.
 use Rattle.std.proofs.Common.{◌≡◌, ℕ, ◌+◌, ◌<◌, List, [], ◌∷◌, ◌++◌, map, length, Option, Some, None, option_map, true, false, if◌then◌else◌, refl, ap, subst, ◌∙◌, arith, get_or, suc, inl, inr}
 use Rattle.std.specs.List.{AllByRecursion, flat_map}
+use Rattle.std.specs.Option.{option_or}
 use Rattle.std.specs.declared.cmp.Ordering.{Ordering}
 use Rattle.std.specs.declared.cmp.Ordering.TheVariants.{Less, Equal, Greater}
 use Rattle.std.specs.Ordering.{is_eq, nat_cmp, ordering_then}
@@ -16,7 +17,7 @@ use Rattle.payroll_records.specs.declared.record.Key.{Key}
 use Rattle.payroll_records.specs.declared.record.Record.{Record}
 use Rattle.payroll_records.specs.Orders.{day_cmp, key_cmp}
 use Rattle.payroll_records.proofs.Laws.{key_total}
-use Rattle.plan_calendar.specs.Picking.{AreEntries, Entry, or_else, pick}
+use Rattle.plan_calendar.specs.Picking.{AreEntries, Entry, pick}
 use Rattle.carry_bindings.specs.declared.carried.Earlier.{Earlier}
 use Rattle.pap_plan.specs.Plans.{Seen}
 use Rattle.book_year.specs.Accepted.{Accepted, accepted, plans_in}
@@ -48,9 +49,9 @@ module _ {K X : Type 0} (cmp : K → K → Ordering) (key : X → K) where
   rising_both (x ∷ xs) ys h g all = (above_both (key x) xs ys h.0 all.0, rising_both xs ys h.1 g all.1)
 
   at_key_both : (xs ys : List X) (k : K) →
-      at_key cmp key (xs ++ ys) k ≡ or_else (at_key cmp key xs k) (at_key cmp key ys k)
+      at_key cmp key (xs ++ ys) k ≡ option_or (at_key cmp key xs k) (at_key cmp key ys k)
   at_key_both [] ys k = refl
-  at_key_both (x ∷ xs) ys k = elim (is_eq (cmp (key x) k)) as (λ b. (if b then Some x else at_key cmp key (xs ++ ys) k) ≡ or_else (if b then Some x else at_key cmp key xs k) (at_key cmp key ys k)) [
+  at_key_both (x ∷ xs) ys k = elim (is_eq (cmp (key x) k)) as (λ b. (if b then Some x else at_key cmp key (xs ++ ys) k) ≡ option_or (if b then Some x else at_key cmp key xs k) (at_key cmp key ys k)) [
     | true ↦ refl
     | false ↦ at_key_both xs ys k
   ]
@@ -189,7 +190,7 @@ module _ (planned : Planned) where
   abbrev row_on : List Record → Key → Option KeyedRow
   row_on rs k = option_map (keyed_row (year_of k)) (at_key day_cmp row_day (year_rows planned rs) k.day)
 
-  or_none : {X : Type 0} (o : Option X) → or_else o None ≡ o
+  or_none : {X : Type 0} (o : Option X) → option_or o None ≡ o
   or_none None = refl
   or_none (Some x) = refl
 
@@ -201,15 +202,15 @@ module _ (planned : Planned) where
   found_of y k = at_key key_cmp row_key (keyed_rows planned y) k
 
   in_other : (y : YearRuns) (ys : List YearRuns) (k : Key) → AllByRecursion (IsOwn y.key) y.runs →
-      is_eq (year_cmp y.key (year_of k)) ≡ false → or_else (found_of y k) (found_in ys k) ≡ found_in ys k
+      is_eq (year_cmp y.key (year_of k)) ≡ false → option_or (found_of y k) (found_in ys k) ≡ found_in ys k
   in_other y ys k own e =
-      ap (λ o. or_else o (found_in ys k))
+      ap (λ o. option_or o (found_in ys k))
       (none_tied key_cmp row_key (keyed_rows planned y) k (untied y.key k (keyed_rows planned y) e (rows_in y.key planned [] y.runs own)))
 
   in_this : (y : YearRuns) (ys : List YearRuns) (k : Key) → AreAbove year_cmp runs_key y.key ys →
-      AllByRecursion HasOwnRuns ys → y.key ≡ year_of k → or_else (found_of y k) (found_in ys k) ≡ row_on y.runs k
+      AllByRecursion HasOwnRuns ys → y.key ≡ year_of k → option_or (found_of y k) (found_in ys k) ≡ row_on y.runs k
   in_this y ys k above own e =
-      ap (or_else (found_of y k)) (no_later k ys (subst (λ t. AreAbove year_cmp runs_key t ys) e above) own)
+      ap (option_or (found_of y k)) (no_later k ys (subst (λ t. AreAbove year_cmp runs_key t ys) e above) own)
       ∙ or_none (found_of y k) ∙ year_at y.key k (year_rows planned y.runs) e
 
   all_at : (ys : List YearRuns) (k : Key) → IsRising year_cmp runs_key ys → AllByRecursion HasOwnRuns ys →
@@ -217,7 +218,7 @@ module _ (planned : Planned) where
   all_at [] k rising own = refl
   all_at (y ∷ ys) k rising own =
       at_key_both key_cmp row_key (keyed_rows planned y) (flat_map (keyed_rows planned) ys) k
-      ∙ (elim (year_cmp y.key (year_of k)) as (λ o. year_cmp y.key (year_of k) ≡ o → or_else (found_of y k) (found_in ys k) ≡ row_on (runs_or_none (if is_eq o then Some y else at_key year_cmp runs_key ys (year_of k))) k) [
+      ∙ (elim (year_cmp y.key (year_of k)) as (λ o. year_cmp y.key (year_of k) ≡ o → option_or (found_of y k) (found_in ys k) ≡ row_on (runs_or_none (if is_eq o then Some y else at_key year_cmp runs_key ys (year_of k))) k) [
         | Less ↦ λ e. in_other y ys k own.0 (ap is_eq e) ∙ all_at ys k rising.1 own.1
         | Equal ↦ λ e. in_this y ys k rising.0 own.1 (year_same y.key (year_of k) e)
         | Greater ↦ λ e. in_other y ys k own.0 (ap is_eq e) ∙ all_at ys k rising.1 own.1

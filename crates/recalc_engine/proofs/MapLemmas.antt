@@ -13,7 +13,7 @@ use Rattle.payroll_records.specs.declared.record.Record.{Record}
 use Rattle.payroll_records.specs.Orders.{day_cmp, key_cmp}
 use Rattle.payroll_records.specs.Tables.{HaveOwnKeys, key_of}
 use Rattle.payroll_records.proofs.Laws.{day_total, key_same, own_parts}
-use Rattle.plan_calendar.specs.Picking.{or_else}
+use Rattle.std.specs.Option.{option_or}
 use Rattle.book_year.specs.declared.year.YearKey.{YearKey}
 use Rattle.book_year.specs.Records.{put_run, record_day, without_run}
 use Rattle.book_edits.specs.Books.{AreInOrder, YearRuns, added, changed, loaded, run_at, runs_key, runs_of, runs_or_none, with_runs, withdrawn, year_cmp, year_of}
@@ -153,15 +153,15 @@ not_listed r k rs e apart = by (at_key key_cmp key_of rs k) refl
         absurd (all_in (λ t. key_of r ≢ key_of t) rs s apart found.0 (key_same (key_of r) k e ∙ sym (key_same (key_of s) k found.1)))
 
 load_maps : (ys : List YearRuns) (rs : List Record) (k : Key) → HaveOwnKeys rs →
-    run_at (loaded rs ys) k ≡ or_else (at_key key_cmp key_of rs k) (run_at ys k)
+    run_at (loaded rs ys) k ≡ option_or (at_key key_cmp key_of rs k) (run_at ys k)
 load_maps ys [] k distinct = refl
 load_maps ys (r ∷ rs) k distinct =
     let parts = own_parts r rs distinct in
-    load_maps (added r ys) rs k parts.1 ∙ ap (or_else (at_key key_cmp key_of rs k)) (add_maps ys r k)
+    load_maps (added r ys) rs k parts.1 ∙ ap (option_or (at_key key_cmp key_of rs k)) (add_maps ys r k)
     ∙ (elim (key_cmp (key_of r) k) as (λ o. key_cmp (key_of r) k ≡ o →
-    or_else (at_key key_cmp key_of rs k) (if is_eq o then Some r else run_at ys k) ≡ or_else (if is_eq o then Some r else at_key key_cmp key_of rs k) (run_at ys k)) [
+    option_or (at_key key_cmp key_of rs k) (if is_eq o then Some r else run_at ys k) ≡ option_or (if is_eq o then Some r else at_key key_cmp key_of rs k) (run_at ys k)) [
       | Less ↦ λ e. refl
-      | Equal ↦ λ e. ap (λ o. or_else o (Some r)) (not_listed r k rs e parts.0)
+      | Equal ↦ λ e. ap (λ o. option_or o (Some r)) (not_listed r k rs e parts.0)
       | Greater ↦ λ e. refl
     ]) refl
 

@@ -7,7 +7,7 @@ use Rattle.payroll_records.specs.declared.record.Key.{Key}
 use Rattle.payroll_records.specs.declared.record.Record.{Record}
 use Rattle.payroll_records.specs.Orders.{key_cmp}
 use Rattle.payroll_records.specs.Tables.{HaveOwnKeys, key_of}
-use Rattle.plan_calendar.specs.Picking.{or_else}
+use Rattle.std.specs.Option.{option_or}
 use Rattle.book_edits.specs.Books.{AreInOrder, YearRuns, added, changed, loaded, run_at, withdrawn}
 
 -- the run at each key, with a run put at its own
@@ -32,4 +32,4 @@ pub record RunsAreMapped : Type 0 where
       from.year ≡ r.day.year →
       run_at (changed from r years) k ≡ with_run r (with_none (on_day r from) (run_at years)) k
   pub load : (years : List YearRuns) (rs : List Record) (k : Key) → HaveOwnKeys rs →
-      run_at (loaded rs years) k ≡ or_else (at_key key_cmp key_of rs k) (run_at years k)
+      run_at (loaded rs years) k ≡ option_or (at_key key_cmp key_of rs k) (run_at years k)
