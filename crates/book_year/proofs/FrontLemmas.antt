@@ -23,7 +23,7 @@ use Rattle.book_year.specs.Rows.{Planned, Row, rows, year_rows, earlier_of, outp
 use Rattle.book_year.specs.Jobs.{new_jobs, total_cost}
 use Rattle.book_year.specs.Kept.{AreKept, IsBounded, IsOld, kept}
 use Rattle.book_year.specs.Picks.{before, after, after_by}
-use Rattle.book_year.specs.ChainClauses.{IsFront, old_jobs}
+use Rattle.book_year.specs.ChainClauses.{KeepsFront, old_jobs}
 use Rattle.book_year.proofs.RowLemmas.{rows_append, row_of_day}
 use Rattle.book_year.proofs.OldLemmas.{next, rows_length}
 use Rattle.book_year.proofs.QuietLemmas.{IsFound, own_rows, none_new, rows_agree}
@@ -68,7 +68,7 @@ pub plans_stay : (p : Picks) (rs : List Record) → p.edit ≡ None → AllByRec
 plans_stay p rs is = all_each (KeepsPlan p) rs (λ r. ap (λ o. after_by (plans_in p.plans.now) o r.day) is)
 
 pub front_is : (p : Picks) (old : Old) (items : List (Bor Record)) (rs new : List Record) (n : ℕ) → old.records.now ≡ rs → records_of items ≡ new → n ≤ length rs → take n new ≡ take n rs →
-    AllByRecursion (KeepsPlan p) (take n rs) → IsFront p old items n
+    AllByRecursion (KeepsPlan p) (take n rs) → KeepsFront p old items n
 front_is p old items rs new n was now within same plans = record {
   within = subst (λ t. n ≤ length t) (sym was) within;
   records = ap (take n) now ∙ same ∙ ap (take n) (sym was);
@@ -125,7 +125,7 @@ bounded_read : (xs : List Row) → AllByRecursion IsBounded (map kept xs) → Al
 bounded_read [] h = tt
 bounded_read (x ∷ xs) h = (h.0, bounded_read xs h.1)
 
-pub walk_front : (p : Picks) (old : Old) (items : List (Bor Record)) (n : ℕ) (earlier : List Earlier) (began now : ℕ) → IsOld (before p) old → IsFront p old items n →
+pub walk_front : (p : Picks) (old : Old) (items : List (Bor Record)) (n : ℕ) (earlier : List Earlier) (began now : ℕ) → IsOld (before p) old → KeepsFront p old items n →
     earlier ≡ map earlier_of (take n (year_rows (before p) old.records.now)) → now ≡ began → IsWalk (after p) (old_jobs p old) (take n (records_of items)) (take n old.outcomes.now) earlier 0 0 began now
 walk_front p old items n earlier began now is front are same =
     let rs = old.records.now in

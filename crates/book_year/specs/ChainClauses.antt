@@ -71,7 +71,7 @@ abbrev pub CountsRun : {E : Type 0} → Result Ran E → ℕ → ℕ → Type 0
 CountsRun r before now = MatchResult r (λ ran. now ≡ before + ran.work.steps) (λ _. now ≡ before)
 
 -- the first runs, so many, are as they were, and so are their plans
-pub record IsFront (picks : Picks) (old : Old) (items : List (Bor Record)) (count : ℕ) : Type 0 where
+pub record KeepsFront (picks : Picks) (old : Old) (items : List (Bor Record)) (count : ℕ) : Type 0 where
   pub within : count ≤ length old.records.now
   pub records : take count (records_of items) ≡ take count old.records.now
   pub plans : AllByRecursion (λ r. after picks r.day ≡ before picks r.day) (take count old.records.now)

@@ -14,7 +14,7 @@ ghost use Rattle.book_year.specs.Jobs.{same_inputs, new_job, Counts};
 ghost use Rattle.book_year.specs.Kept.{IsOld};
 ghost use Rattle.book_year.specs.Picks.{before, after, KnowsSame, ArePicks, picked_entry};
 ghost use Rattle.book_year.specs.ChainClauses.{old_parts, outcome_job, IsOldJob, KeepsOutputs, IsRan, CountsRun};
-ghost use Rattle.book_year.specs.ChainClauses.{old_jobs, chain_cost, IsChain, IsChainRest, IsFront};
+ghost use Rattle.book_year.specs.ChainClauses.{old_jobs, chain_cost, IsChain, IsChainRest, KeepsFront};
 
 use crate::done::{Done, copied, copy_of, front};
 use crate::outcome::{Outcome, State, Work};
@@ -80,7 +80,7 @@ pub fn recalculate<L: Ledger>(
 ) -> Result<Recalculated, AllocError>
     requires picks { ArePicks picks.now }
     requires old { IsOld (before picks.now) old }
-    requires front { IsFront picks.now old records.now kept }
+    requires front { KeepsFront picks.now old records.now kept }
     requires few { length records.now ≤ most_runs }
     ensures done { IfOk result (IsChain picks.now old.entry records.now) }
     ensures counted { Counts result steps.old steps.new
@@ -107,7 +107,7 @@ pub(crate) fn recalculate_rest<L: Ledger>(
 ) -> Result<Rest, AllocError>
     requires picks { ArePicks picks.now }
     requires old { IsOld (before picks.now) old }
-    requires front { IsFront picks.now old records.now kept }
+    requires front { KeepsFront picks.now old records.now kept }
     requires few { length records.now ≤ most_runs }
     ensures kept { IfOk result (λ rest. rest.kept ≡ kept) }
     ensures done { IfOk result (IsChainRest picks.now old.entry records.now) }
