@@ -24,7 +24,7 @@ pub struct Finished {
     pub cost: u64,
 }
 
-/// Runs a plan on inputs that it admits. All memory is taken before the run.
+/// Runs a plan on inputs that it admits. Where memory runs out nothing is counted.
 pub fn run<L: Ledger>(
     alloc: Global,
     plan: &Plan,
