@@ -34,7 +34,7 @@ module _ (from : Standing) (e : Entry Accepted) (bound : List ℕ) (says : bound
 
   reply_made : (verdict : Result Trial TryRefusal) (answer : Answer) → IfOk verdict (λ t. t ≡ trial_of from.book e)
       → IfOk verdict (λ _. CanEdit from.book (edits.put e)) → IfErr verdict (IsTryRefused from.book e)
-      → CountsTry verdict total before now → IsTrialReply bound verdict answer
+      → CountsTry verdict before now total → IsTrialReply bound verdict answer
       → IsMade (IsTrialStep from e) from before now answer
   reply_made (Ok t) answer ok can barred counts is =
       let told = is ∙ ap (λ x. accepted (bound ++ trial_text x) x.work.steps) ok
@@ -55,7 +55,7 @@ module _ (from : Standing) (e : Entry Accepted) (bound : List ℕ) (says : bound
 
   -- where memory ran out at the trial or after it
   lost : (verdict : Result Trial TryRefusal) → IfOk verdict (λ _. CanEdit from.book (edits.put e))
-      → IfErr verdict (IsTryRefused from.book e) → CountsTry verdict total before now
+      → IfErr verdict (IsTryRefused from.book e) → CountsTry verdict before now total
       → IsWant (IsTrialStep from e) before now
   lost (Ok t) can barred counts = inr (record {
     to = from;
@@ -77,7 +77,7 @@ module _ (from : Standing) (e : Entry Accepted) (bound : List ℕ) (says : bound
 module _ (from : Standing) (filings : Filings) (made : Work) (book : Contents) (same : standing filings made book ≡ from)
     (e : Entry Accepted) (before now : ℕ) (verdict : Result Trial TryRefusal) (reply : Result LineReply AllocError)
     (can : IfOk verdict (λ _. CanEdit book (edits.put e))) (barred : IfErr verdict (IsTryRefused book e))
-    (counts : CountsTry verdict (trial_of book e).work.steps before now) where
+    (counts : CountsTry verdict before now (trial_of book e).work.steps) where
   pub trial_made : (bound : List ℕ) → bound ≡ bound_text e → IfOk verdict (λ t. t ≡ trial_of book e)
       → IfOk reply (λ r. IsTrialReply bound verdict (reply_of r))
       → IfOk reply (λ r. IsMade (IsTrialStep from e) from before now (reply_of r))

@@ -24,7 +24,7 @@ use Rattle.recalc_engine.specs.MonthRows.{KeyedRow, keyed_row, keyed_rows, month
 use Rattle.recalc_engine.specs.MonthViews.{kept_row, kept_rows}
 use Rattle.what_if.specs.declared.trial.TrialRow.{TrialRow}
 use Rattle.what_if.specs.declared.trial.TrialRow.TheVariants.{Changed}
-use Rattle.what_if.specs.Changes.{changes, outputs_of, run_changes, same_state, shown_state, value_rows}
+use Rattle.what_if.specs.Changes.{changes, state_outputs, run_changes, same_state, shown_state, value_rows}
 use Rattle.what_if.specs.TrialLaws.{IsUnnamed, UnnamedRunsStay, row_state}
 use Rattle.what_if.specs.Trials.{book_with}
 use Rattle.what_if.specs.YearViews.{year_changes}
@@ -59,7 +59,7 @@ changes_by_year p q (y ∷ ys) =
 
 -- the rows of a run whose state changes
 abbrev pub changed_rows : Key → State → State → List TrialRow
-changed_rows k b a = Changed k (shown_state b) (shown_state a) ∷ value_rows k (outputs_of b) (outputs_of a)
+changed_rows k b a = Changed k (shown_state b) (shown_state a) ∷ value_rows k (state_outputs b) (state_outputs a)
 
 stays : (k : Key) (s : State) → run_changes k s s ≡ []
 stays k s = ap (λ t. if t then [] else changed_rows k s s) (state_own s)

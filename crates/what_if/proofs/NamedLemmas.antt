@@ -26,7 +26,7 @@ use Rattle.recalc_engine.specs.MonthRows.{KeyedRow, month_rows}
 use Rattle.recalc_engine.proofs.Laws.{book_rows_rise}
 use Rattle.what_if.specs.declared.trial.TrialRow.{TrialRow}
 use Rattle.what_if.specs.declared.trial.TrialRow.TheVariants.{Changed, Value}
-use Rattle.what_if.specs.Changes.{changes, in_order, outputs_of, run_changes, same_amount, same_state, shown_state, value_row, value_rows}
+use Rattle.what_if.specs.Changes.{changes, in_order, state_outputs, run_changes, same_amount, same_state, shown_state, value_row, value_rows}
 use Rattle.what_if.specs.TrialLaws.{NamedRunsChange, RowsTellBoth, TellsBoth, TellsValue, UntoldValuesStay, outputs_at, row_state, run_of, state_of}
 use Rattle.what_if.specs.Trials.{book_with}
 use Rattle.what_if.proofs.ChangeLemmas.{HaveKeys, all_keys, changed_rows, head_key, state_at, tail_keys}
@@ -147,7 +147,7 @@ named_change book e is = each_row book e is (λ row. state_of new (run_of row) �
         by true t = tt
         by false t = (
           changed t,
-          all_value_rows (λ row. state_of new (run_of row) ≢ state_of book (run_of row)) k (outputs_of b) (outputs_of a)
+          all_value_rows (λ row. state_of new (run_of row) ≢ state_of book (run_of row)) k (state_outputs b) (state_outputs a)
               (λ name differs. changed t),
         )
 
@@ -166,18 +166,18 @@ rows_tell book e is = each_row book e is (TellsBoth book new) one
         shown : TellsBoth book new (Changed k (shown_state b) (shown_state a))
         shown = (ap (option_map shown_state) was, ap (option_map shown_state) is)
 
-        amount : (name : List ℕ) → same_amount (named name (outputs_of b)) (named name (outputs_of a)) ≡ false →
-            TellsBoth book new (Value k name (named name (outputs_of b)) (named name (outputs_of a)))
+        amount : (name : List ℕ) → same_amount (named name (state_outputs b)) (named name (state_outputs a)) ≡ false →
+            TellsBoth book new (Value k name (named name (state_outputs b)) (named name (state_outputs a)))
         amount name differs = (
-          sym (ap (λ o. named name (option_map_or outputs_of o [])) was),
-          sym (ap (λ o. named name (option_map_or outputs_of o [])) is),
-          amounts_differ (named name (outputs_of b)) (named name (outputs_of a)) differs,
+          sym (ap (λ o. named name (option_map_or state_outputs o [])) was),
+          sym (ap (λ o. named name (option_map_or state_outputs o [])) is),
+          amounts_differ (named name (state_outputs b)) (named name (state_outputs a)) differs,
         )
 
         by : (t : Bool) → same_state b a ≡ t →
             AllByRecursion (TellsBoth book new) (if t then [] else changed_rows k b a)
         by true t = tt
-        by false t = (shown, all_value_rows (TellsBoth book new) k (outputs_of b) (outputs_of a) amount)
+        by false t = (shown, all_value_rows (TellsBoth book new) k (state_outputs b) (state_outputs a) amount)
 
 -- ---- an output of which no row tells stays
 
@@ -255,20 +255,20 @@ module _ (k : Key) (name : List ℕ) where
           (found_in name_cmp row_name (value_rows k was is) name row there).0 (refl, refl))
 
   untold_run : (b a : State) → AllByRecursion IsUntold (run_changes k b a) →
-      named name (outputs_of a) ≡ named name (outputs_of b)
+      named name (state_outputs a) ≡ named name (state_outputs b)
   untold_run b a h = by (same_state b a) refl h
     where
       by : (t : Bool) → same_state b a ≡ t → AllByRecursion IsUntold (if t then [] else changed_rows k b a) →
-          named name (outputs_of a) ≡ named name (outputs_of b)
-      by true t g = sym (ap (λ s. named name (outputs_of s)) (state_one b a t))
-      by false t g = untold_amount (outputs_of b) (outputs_of a) g.1
+          named name (state_outputs a) ≡ named name (state_outputs b)
+      by true t g = sym (ap (λ s. named name (state_outputs s)) (state_one b a t))
+      by false t g = untold_amount (state_outputs b) (state_outputs a) g.1
 
 pub untold_stay : UntoldValuesStay
 untold_stay book e k name h =
     by (pair_at (IsUntold k name) (month_rows book) (month_rows (book_with book e)) k (keys_stay book e) h)
   where
     shown : Option State → Option Decimal
-    shown o = named name (option_map_or outputs_of o [])
+    shown o = named name (option_map_or state_outputs o [])
 
     by : Paired (IsUntold k name) (month_rows book) (month_rows (book_with book e)) k →
         named name (outputs_at (book_with book e) k) ≡ named name (outputs_at book k)

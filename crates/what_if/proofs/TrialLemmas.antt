@@ -68,5 +68,5 @@ module _ (book : Contents) (e : Entry Accepted) (is : IsBook book) (plans : List
 -- where memory ran out within the computing
 pub counts_try : {T E : Type 0} (r : Result Trial TryRefusal) (e : TryRefusal) (a : AllocError) (s : Result T E)
     (f : E) (before now total : ℕ) →
-    r ≡ Err e → e ≡ trying.Memory a → s ≡ Err f → Counts s before now total → CountsTry r total before now
+    r ≡ Err e → e ≡ trying.Memory a → s ≡ Err f → Counts s before now total → CountsTry r before now total
 counts_try r e a s f before now total is memory was counts = rw (is, memory) (rw was at counts)

@@ -26,12 +26,12 @@ use Rattle.recalc_engine.specs.MonthViews.{rows_kept_in}
 use Rattle.recalc_engine.specs.RowLaws.{AreNamed, HasNames, HaveNames}
 use Rattle.recalc_engine.proofs.Laws.{no_names, rows_named, year_kept_by}
 use Rattle.what_if.specs.declared.trial.TrialRow.{TrialRow}
-use Rattle.what_if.specs.Changes.{changes, outputs_of}
+use Rattle.what_if.specs.Changes.{changes, state_outputs}
 use Rattle.what_if.specs.YearViews.{ArePlanned, HasOutcomes, IsNamed, year_changes}
 
 -- ---- the outputs of a year's runs have different names
 
-named_of : (s : State) → AreNamed (outputs_in s) → HaveNames (outputs_of s)
+named_of : (s : State) → AreNamed (outputs_in s) → HaveNames (state_outputs s)
 named_of state.NoPlan h = no_names
 named_of (state.Blocked b) h = no_names
 named_of (state.Done vs) h = h

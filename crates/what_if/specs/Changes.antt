@@ -58,9 +58,9 @@ shown_state (state.Blocked b) = shown_cause b
 shown_state (state.Done vs) = shown.Done
 
 -- the outputs of a state, none where it has none
-abbrev pub outputs_of : State → List NamedValue
-outputs_of (state.Done vs) = vs
-outputs_of _ = []
+abbrev pub state_outputs : State → List NamedValue
+state_outputs (state.Done vs) = vs
+state_outputs _ = []
 
 -- ---- the rows
 
@@ -92,7 +92,7 @@ abbrev pub run_changes : Key → State → State → List TrialRow
 run_changes k before after =
     if same_state before after then []
     else Changed k (shown_state before) (shown_state after)
-    ∷ value_rows k (outputs_of before) (outputs_of after)
+    ∷ value_rows k (state_outputs before) (state_outputs after)
 
 -- the rows of all runs, one after another, where the second list has the runs of the first
 abbrev pub changes : List KeyedRow → List KeyedRow → List TrialRow

@@ -15,7 +15,7 @@ use Rattle.recalc_engine.specs.Contents.{Contents}
 use Rattle.recalc_engine.specs.MonthRows.{KeyedRow, month_rows}
 use Rattle.what_if.specs.declared.trial.TrialRow.{TrialRow}
 use Rattle.what_if.specs.declared.trial.TrialRow.TheVariants.{Changed, Value}
-use Rattle.what_if.specs.Changes.{outputs_of, same_state, shown_state}
+use Rattle.what_if.specs.Changes.{state_outputs, same_state, shown_state}
 use Rattle.what_if.specs.Trials.{book_with, trial_of}
 
 -- two states are told the same exactly where they are
@@ -57,7 +57,7 @@ NamedRunsChange =
 
 -- the outputs of a key's run, none where it has none
 abbrev pub outputs_at : Contents → Key → List NamedValue
-outputs_at book k = option_map_or outputs_of (state_of book k) []
+outputs_at book k = option_map_or state_outputs (state_of book k) []
 
 -- what the row tells is so before and after: the state of its run, or the value of an output, which differs
 abbrev pub TellsBoth : Contents → Contents → TrialRow → Type 0

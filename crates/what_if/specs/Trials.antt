@@ -29,6 +29,6 @@ IsTryRefused book e (trying.Memory error) = CanEdit book (put e)
 
 -- a counter rose by exactly the steps of the work, by at most those where memory ran out, and by none after a refusal
 abbrev pub CountsTry : Result Trial TryRefusal → ℕ → ℕ → ℕ → Type 0
-CountsTry (Ok trial) total before now = now ≡ before + total
-CountsTry (Err trying.Plans) total before now = now ≡ before
-CountsTry (Err (trying.Memory error)) total before now = (before ≤ now) × (now ≤ before + total)
+CountsTry (Ok trial) before now total = now ≡ before + total
+CountsTry (Err trying.Plans) before now total = now ≡ before
+CountsTry (Err (trying.Memory error)) before now total = (before ≤ now) × (now ≤ before + total)

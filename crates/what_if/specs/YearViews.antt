@@ -15,11 +15,11 @@ use Rattle.recalc_engine.specs.MonthRows.{keyed_rows}
 use Rattle.recalc_engine.specs.RowLaws.{HaveNames}
 use Rattle.what_if.specs.declared.trial.Trial.{Trial}
 use Rattle.what_if.specs.declared.trial.TrialRow.{TrialRow}
-use Rattle.what_if.specs.Changes.{changes, outputs_of}
+use Rattle.what_if.specs.Changes.{changes, state_outputs}
 
 -- the outputs have different names
 abbrev pub IsNamed : Outcome → Type 0
-IsNamed o = HaveNames (outputs_of o.state)
+IsNamed o = HaveNames (state_outputs o.state)
 
 -- an outcome for each record
 pub record AreOutcomesOf (records : List Record) (outcomes : List Outcome) : Type 0 where

@@ -3,11 +3,11 @@ ghost use Rattle.std.specs.Prelude.{◌≡◌, ◌++◌, OnOk};
 ghost use Rattle.recalc_engine.specs.MonthViews.{kept_rows, rows_kept_in};
 ghost use Rattle.recalc_engine.specs.RowLaws.{HaveNames};
 ghost use Rattle.book_edits.specs.RedoneClauses.{with_new};
-ghost use Rattle.what_if.specs.Changes.{changes, outputs_of, run_changes, value_rows};
+ghost use Rattle.what_if.specs.Changes.{changes, state_outputs, run_changes, value_rows};
 ghost use Rattle.what_if.specs.YearViews.{AreOutcomesOf, HasOutcomes};
 
 use crate::sides::{Sides, ordered, push_sides};
-use crate::states::{outputs_of, same_state, shown};
+use crate::states::{same_state, shown, state_outputs};
 use crate::trial::{TrialRow, push_changed};
 use book_edits::RedoneYear;
 use book_year::{Outcome, Year};
@@ -62,8 +62,8 @@ fn push_run(
     before: &State,
     after: &State,
 ) -> Result<(), AllocError>
-    requires before { HaveNames (outputs_of before.now) }
-    requires after { HaveNames (outputs_of after.now) }
+    requires before { HaveNames (state_outputs before.now) }
+    requires after { HaveNames (state_outputs after.now) }
     ensures { OnOk result
         (rows.new.items ≡ rows.old.items ++ run_changes key.now before.now after.now) }
 {
@@ -71,7 +71,7 @@ fn push_run(
         return Ok(());
     }
     push_changed(rows, key, shown(before), shown(after))?;
-    push_values(rows, key, outputs_of(before), outputs_of(after))
+    push_values(rows, key, state_outputs(before), state_outputs(after))
 }
 
 /// Appends the rows of a run's outputs, in order of their names.

@@ -1,7 +1,7 @@
 //! The states of a run in two books.
 ghost use Rattle.std.specs.Prelude.{◌≡◌};
 ghost use Rattle.std.specs.Cmp.Lexicographic.{pointwise};
-ghost use Rattle.what_if.specs.Changes.{outputs_of, same_amount, same_cause, same_output, same_state};
+ghost use Rattle.what_if.specs.Changes.{state_outputs, same_amount, same_cause, same_output, same_state};
 ghost use Rattle.what_if.specs.Changes.{shown_cause, shown_state};
 
 use crate::trial::Shown;
@@ -83,8 +83,8 @@ fn shown_cause(cause: &Blocked) -> Shown
 }
 
 /// The outputs of a state, none where it has none.
-pub(crate) fn outputs_of(state: &State) -> &[NamedValue]
-    ensures { result.now ≡ outputs_of state.now }
+pub(crate) fn state_outputs(state: &State) -> &[NamedValue]
+    ensures { result.now ≡ state_outputs state.now }
 {
     match state {
         State::Done(outputs) => outputs.as_slice(),

@@ -35,8 +35,8 @@ pub fn try_plan<L: Ledger>(
     ensures ok { IfOk result (λ trial. trial ≡ trial_of b.now (day, accepted p)) }
     ensures can { IfOk result (λ _. CanEdit b.now (put (day, accepted p))) }
     ensures refused { IfErr result (IsTryRefused b.now (day, accepted p)) }
-    ensures counted { CountsTry result (trial_of b.now (day, accepted p)).work.steps
-        steps.old steps.new }
+    ensures counted { CountsTry result steps.old steps.new
+        (trial_of b.now (day, accepted p)).work.steps }
 {
     if is_full(b.plans().entries(), day) {
         return Err(TryRefusal::Plans);
