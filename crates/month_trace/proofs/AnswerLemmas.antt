@@ -17,16 +17,16 @@ use Rattle.recalc_engine.specs.Jobs.{job_of_key}
 use Rattle.recalc_engine.proofs.Laws.{jobs_done, jobs_safe}
 use Rattle.month_trace.specs.declared.refusal.TraceRefusal.TheVariants as refusal
 use Rattle.month_trace.specs.declared.step.TraceStep.{TraceStep}
-use Rattle.month_trace.specs.BookTraces.{job_trace, key_of, key_said, run_meant, run_said, trace_said}
+use Rattle.month_trace.specs.BookTraces.{job_trace, key_meant, key_said, run_meant, run_said, trace_said}
 use Rattle.month_trace.specs.TraceLaws.{IsDoneWith, TracesEndInReports, outputs_behind}
 use Rattle.month_trace.proofs.OutputLemmas.{tells_outputs}
 use Rattle.month_trace.proofs.ThereLemmas.{one_trace}
 
-key_of-one : (e : List ℕ) (w : When) (k : Key) → key_of e w (One k) ≡ Ok k
-key_of-one e (when.Day d) k = refl
-key_of-one e (when.Month m) k = refl
+key_meant-one : (e : List ℕ) (w : When) (k : Key) → key_meant e w (One k) ≡ Ok k
+key_meant-one e (when.Day d) k = refl
+key_meant-one e (when.Month m) k = refl
 
-module _ (book : Contents) (e : List ℕ) (w : When) (k : Key) (is : Ok k ≡ key_of e w (run_meant book e w)) where
+module _ (book : Contents) (e : List ℕ) (w : When) (k : Key) (is : Ok k ≡ key_meant e w (run_meant book e w)) where
   pub of_key : trace_said book e w ≡ run_said book k
   of_key = ap (key_said book) (sym is)
 
@@ -58,7 +58,7 @@ traces_end book e w k j is kept meant job =
     record {
       steps = trace.steps;
       told =
-          of_job book e w k (sym (ap (key_of e w) meant ∙ key_of-one e w k)) j (sym job)
+          of_job book e w k (sym (ap (key_meant e w) meant ∙ key_meant-one e w k)) j (sym job)
           ∙ ap (λ o. ok_or o (refusal.NotDone k)) trace.are;
       done =
           done_with j reported (sym (outputs_are j.plan j.inputs (outputs_behind f trace.steps) outputs))

@@ -20,10 +20,10 @@ abbrev pub run_meant : Contents → List ℕ → When → InMonth
 run_meant book e w = withdrawal book.years e w
 
 -- its key, or why no run is meant
-abbrev pub key_of : List ℕ → When → InMonth → Result Key TraceRefusal
-key_of e w (One k) = Ok k
-key_of e (when.Month m) Several = Err (refusal.Several e m)
-key_of e w _ = Err (refusal.Absent e w)
+abbrev pub key_meant : List ℕ → When → InMonth → Result Key TraceRefusal
+key_meant e w (One k) = Ok k
+key_meant e (when.Month m) Several = Err (refusal.Several e m)
+key_meant e w _ = Err (refusal.Absent e w)
 
 -- the trace of a job
 abbrev pub job_trace : Job → Trace
@@ -39,7 +39,7 @@ key_said book (Err why) = Err why
 
 -- what a book answers: the steps of the run that is meant, or why there are none
 abbrev pub trace_said : Contents → List ℕ → When → Result (List TraceStep) TraceRefusal
-trace_said book e w = key_said book (key_of e w (run_meant book e w))
+trace_said book e w = key_said book (key_meant e w (run_meant book e w))
 
 -- why a call tells no trace: as the book answers; memory may run out only where this has steps
 abbrev pub IsTraceRefused : Contents → List ℕ → When → TraceRefusal → Type 0

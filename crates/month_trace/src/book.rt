@@ -1,6 +1,6 @@
 //! The trace of a run of a book.
 ghost use Rattle.std.specs.Prelude.{◌≡◌, Ok, IfOk, IfErr};
-ghost use Rattle.month_trace.specs.BookTraces.{IsTraceRefused, key_of, run_meant, trace_said};
+ghost use Rattle.month_trace.specs.BookTraces.{IsTraceRefused, key_meant, run_meant, trace_said};
 
 use crate::refusal::TraceRefusal;
 use crate::run::trace_run;
@@ -29,7 +29,7 @@ pub fn trace(
 
 /// The key of the run that is meant: that of the day, or the only one of the month.
 fn run_meant(b: &Book, employee: Employee, when: When) -> Result<Key, TraceRefusal>
-    ensures { result ≡ key_of employee when (run_meant b.now employee when) }
+    ensures { result ≡ key_meant employee when (run_meant b.now employee when) }
 {
     match when {
         When::Day(day) => {
@@ -45,7 +45,7 @@ fn run_meant(b: &Book, employee: Employee, when: When) -> Result<Key, TraceRefus
 
 /// The key of the only run that an employee has in a month, or why there is none.
 fn only_key(found: InMonth, employee: Employee, month: Month) -> Result<Key, TraceRefusal>
-    ensures { result ≡ key_of employee (When.Month month) found }
+    ensures { result ≡ key_meant employee (When.Month month) found }
 {
     match found {
         InMonth::Empty => Err(TraceRefusal::Absent {
