@@ -91,8 +91,8 @@ fn has_carry(slots: &[Slot]) -> bool
     slots.iter().any(|s| s.carry.is_some())
 }
 
-/// Whether so many inputs carry that comparing the names of the earlier runs' outputs takes less than searching each run for
-/// each of these inputs.
+/// Whether so many inputs carry that comparing the names of the earlier runs' outputs takes less than searching each run
+/// for each of these inputs.
 fn many_carry(slots: &[Slot]) -> bool {
     slots.iter().filter(|s| s.carry.is_some()).count() > FEW_SEARCHES
 }

@@ -13,8 +13,8 @@ use payroll_records::NamedValue;
 use scaled_decimal::Dec;
 use std::alloc::{AllocError, Global};
 
-/// Of each earlier run, whether its outputs are known to have the names of those of the run before, in the same order: then
-/// each stands where it stood there, and isn't searched for.
+/// Of each earlier run, whether its outputs are known to have the names of those of the run before, in the same order:
+/// then each stands where it stood there, and isn't searched for.
 pub(crate) fn alike(alloc: Global, earlier: &[Earlier]) -> Result<Vec<bool>, AllocError>
     ensures { IfOk result (λ marks. AreAlike marks.items earlier.now) }
 {
@@ -59,8 +59,8 @@ pub(crate) fn is_marked(marks: &[bool], at: usize) -> bool
     at < marks.len() && marks[at]
 }
 
-/// Where an output stands in an earlier run, where the run is ok and has it: where it stood in the run before, if both are
-/// alike.
+/// Where an output stands in an earlier run, where the run is ok and has it: where it stood in the run before, if both
+/// are alike.
 pub(crate) fn place_in(
     name: &Name,
     e: &Earlier,
