@@ -10,10 +10,11 @@ use Rattle.script_steps.specs.declared.stop.LineStop.TheVariants.{File, Write, M
 use Rattle.script_run.specs.RunViews.{IsDelivered}
 
 -- where that memory ran out nothing of the answer is kept
-pub cut_lost : {told : Option FileMap} {old new : Option (List ℕ)} {before now : ℕ} {from : Standing} {line : List ℕ} →
-    IsCutShort told old new before now from line → IsPart told None None before now from line
-cut_lost cut = record {
-  to = cut.to;
+pub cut_lost : {told : Option FileMap} {old new : Option
+    (List ℕ)} {before now : ℕ} {from to : Standing} {line : List ℕ} →
+    IsCutShort told old new before now from to line → IsPart told None None before now from line
+cut_lost {to = to} cut = record {
+  to = to;
   answer = cut.answer;
   front = [];
   rest = (cut.answer).text;
@@ -43,18 +44,21 @@ answer_lost {before = before} {now = now} {to = to} answered =
     }
 
 -- another stop
-pub stop_kept : (told : Option FileMap) (old new : Option (List ℕ)) (before now : ℕ) (from : Standing) (line : List ℕ)
+pub stop_kept : (told : Option FileMap) (old new : Option
+    (List ℕ)) (before now : ℕ) (from to : Standing) (line : List ℕ)
     (failed : Option (List ℕ)) (stop : LineStop) → stop ≢ Write →
-    IsBroken told old new before now from line failed stop → IsBroken told None None before now from line failed stop
-stop_kept told old new before now from line failed File other broken = record {
+    IsBroken told old new before now from to line failed stop →
+    IsBroken told None None before now from to line failed stop
+stop_kept told old new before now from to line failed File other broken = record {
+  unchanged = broken.unchanged;
   unbegun = record { nothing = tt; uncounted = broken.unbegun.uncounted };
   name = broken.name;
   names = broken.names;
   in_order = broken.in_order;
   failed_there = broken.failed_there;
 }
-stop_kept told old new before now from line failed Write other broken = absurd (other refl)
-stop_kept told old new before now from line failed Memory other broken = elim broken [
+stop_kept told old new before now from to line failed Write other broken = absurd (other refl)
+stop_kept told old new before now from to line failed Memory other broken = elim broken [
   | inl nothing ↦ inl (record { nothing = tt; uncounted = nothing.uncounted })
   | inr part ↦ inr (record {
     to = part.to;
@@ -91,9 +95,10 @@ delivered {bytes = bytes} {refused = refused} was is none same answered put =
     }
 
 -- the same stop
-pub broken_as : {T : Type 0} (told : Option FileMap) (before now : ℕ) (from : Standing) (line : List ℕ)
+pub broken_as : {T : Type 0} (told : Option FileMap) (before now : ℕ) (from to : Standing) (line : List ℕ)
     (failed : Option (List ℕ)) {found stop : LineStop} → ◌≡◌ {A = Result T LineStop} (Err found) (Err stop) →
-    IsBroken told None None before now from line failed found → IsBroken told None None before now from line failed stop
-broken_as told before now from line failed {found = found} {stop = stop} is broken =
+    IsBroken told None None before now from to line failed found →
+    IsBroken told None None before now from to line failed stop
+broken_as told before now from to line failed {found = found} {stop = stop} is broken =
     let same : found ≡ stop = cc in
-    subst (λ v. IsBroken told None None before now from line failed v) same broken
+    subst (λ v. IsBroken told None None before now from to line failed v) same broken

@@ -71,7 +71,8 @@ kept_more (Some few) (Some more) answer refusals keeps kept = keeps ∙ ap (λ v
 
 -- what a stop leaves at a line
 pub record BreaksLine (old new : OutsideShown) (from : Standing) (line : List ℕ) (stop : LineStop) : Type 0 where
-  pub is : IsBroken old.files old.written new.written old.steps new.steps from line new.failed stop
+  pub to : Standing
+  pub is : IsBroken old.files old.written new.written old.steps new.steps from to line new.failed stop
 
 pub broken_same : {old new : OutsideShown} {from : Standing} {said line : List ℕ} → SaysSame said line →
     (stop : LineStop) →
@@ -83,16 +84,17 @@ broken_same {said = said} (inr long) File broken =
 broken_same {from = from} {said = said} {line = line} same Write broken =
     let cut = broken.is in
     record {
+      to = broken.to;
       is = record {
-        to = cut.to;
         answer = cut.answer;
         part = cut.part;
         later = cut.later;
         within = cut.within;
-        is = λ files e. step_same files from cut.to said line cut.answer same (cut.is files e);
+        is = λ files e. step_same files from broken.to said line cut.answer same (cut.is files e);
       };
     }
 broken_same {from = from} {said = said} {line = line} same Memory broken = record {
+  to = broken.to;
   is = elim (broken.is) [
     | inl nothing ↦ inl nothing
     | inr part ↦ inr (record {
@@ -362,12 +364,12 @@ leaves_part {before = before} {old = old} {new = new} {bytes = bytes} {script = 
       tells = tt;
     }
 
-leaves_write : {most : ℕ} {before old new : OutsideShown} {bytes script taken rest line : List ℕ} {was : Reading} →
-    IsAtLine most script taken (ended_lines bytes) line →
-    IsCutShort old.files old.written new.written old.steps new.steps was.script line → Stands before old bytes was →
+leaves_write : {most : ℕ} {before old new : OutsideShown} {bytes script taken rest line : List ℕ} {was : Reading}
+    {to : Standing} → IsAtLine most script taken (ended_lines bytes) line →
+    IsCutShort old.files old.written new.written old.steps new.steps was.script to line → Stands before old bytes was →
     Leaves most before new script taken rest (Err stops.Write)
 leaves_write {before = before} {old = old} {new = new} {bytes = bytes} {script = script} {line =
-    line} place cut stands =
+    line} {to = to} place cut stands =
     let rose : before.steps ≤ old.steps = stands.counted in
     let later : old.steps ≤ new.steps = cut.later in
     let within : new.steps ≤ old.steps + (cut.answer).steps = cut.within in
@@ -382,7 +384,7 @@ leaves_write {before = before} {old = old} {new = new} {bytes = bytes} {script =
       front = λ files e whole transcript.
           front_part stands.out (cut.answer).text (take count (cut.answer).text) (drop count (cut.answer).text)
           (new.steps - before.steps) _ (sym (take-append-drop count (cut.answer).text)) less
-          (front_next files (ended_lines bytes) place.later line script _ cut.to cut.answer place.lines
+          (front_next files (ended_lines bytes) place.later line script _ to cut.answer place.lines
           (stands.answered files e) (cut.is files (stands.same ∙ e)) whole transcript);
       tells = record {
         before = ended_lines bytes;
@@ -391,7 +393,7 @@ leaves_write {before = before} {old = old} {new = new} {bytes = bytes} {script =
         cut = λ files e. record {
           session = _;
           answered = answered_of files (ended_lines bytes) _ (stands.answered files e);
-          to = cut.to;
+          to = to;
           answer = cut.answer;
           step = cut.is files (stands.same ∙ e);
           count = count;
@@ -468,6 +470,7 @@ answered_lost {old = old} {new = new} {to = to} delivered =
     let answered = delivered.answered in
     let counted : new.steps ≡ old.steps + (answered.answer).steps = answered.counted in
     record {
+      to = to;
       is = inr (record {
         to = to;
         answer = answered.answer;

@@ -29,7 +29,7 @@ pub(crate) fn deliver<F: Files, W: Sink, L: Ledger>(
         steps.old steps.new script.old script.new kept.old kept.new line.now (is_some wrong)) }
     ensures broken { ForErr result (λ stop. IsBroken (F.told files.old)
         (told_by kept.old (W.written sink.old)) (told_by kept.new (W.written sink.new))
-        steps.old steps.new script.old line.now (F.failed files.new) stop) }
+        steps.old steps.new script.old script.new line.now (F.failed files.new) stop) }
     ensures mode { is_some kept.new ≡ is_some kept.old }
     ensures same { F.told files.new ≡ F.told files.old }
     ensures file { Caused LineStop.File (F.faults files.old) (F.faults files.new) result }
@@ -55,7 +55,7 @@ fn keep_answer<F: Files, L: Ledger>(
         steps.old steps.new script.old script.new (Some refusals.old) (Some refusals.new)
         line.now (is_some wrong)) }
     ensures broken { ForErr result (λ stop. IsBroken (F.told files.old) None None
-        steps.old steps.new script.old line.now (F.failed files.new) stop) }
+        steps.old steps.new script.old script.new line.now (F.failed files.new) stop) }
     ensures same { F.told files.new ≡ F.told files.old }
     ensures file { Caused LineStop.File (F.faults files.old) (F.faults files.new) result }
     ensures never { result ≢ Err LineStop.Write }

@@ -104,12 +104,11 @@ module _ (told : Option FileMap) (old new : Option (List ℕ)) (before now : ℕ
     -- the answer wasn't written whole
     pub cut : (to : Standing) (answer : Answer) (failed : Option (List ℕ)) (stop : LineStop)
         → IsMade (ToldDoes told from (Ok what)) to before now answer → IsFrontWritten old new answer.text stop
-        → IsBroken told old new before now from line failed stop
+        → IsBroken told old new before now from to line failed stop
     cut to answer failed stops.File m u = absurd u
     cut to answer failed stops.Write m u =
         let is = m.counted in
         record {
-          to = to;
           answer = answer;
           part = u;
           later = omega (arith, is);
@@ -131,10 +130,12 @@ module _ (told : Option FileMap) (old new : Option (List ℕ)) (before now : ℕ
         })
 
     -- nothing was written
-    pub unmade : (failed : Option (List ℕ)) (stop : LineStop) → new ≡ old
+    pub unmade : (to : Standing) (failed : Option (List ℕ)) (stop : LineStop) → new ≡ old
+        → (stop ≡ stops.File → to ≡ from)
         → IsUnmade told (ToldDoes told from (Ok what)) what before now failed stop
-        → IsBroken told old new before now from line failed stop
-    unmade failed stops.File same u = record {
+        → IsBroken told old new before now from to line failed stop
+    unmade to failed stops.File same left u = record {
+      unchanged = left refl;
       unbegun = record {
         nothing = subst (λ n. Appends old n []) (sym same) (Appends-nothing old);
         uncounted =
@@ -145,10 +146,10 @@ module _ (told : Option FileMap) (old new : Option (List ℕ)) (before now : ℕ
       in_order = u.in_order;
       failed_there = u.failed_there;
     }
-    unmade failed stops.Write same u = absurd u
-    unmade failed stops.Memory same (inl still) =
+    unmade to failed stops.Write same left u = absurd u
+    unmade to failed stops.Memory same left (inl still) =
         inl (record { nothing = subst (λ n. Appends old n []) (sym same) (Appends-nothing old); uncounted = still })
-    unmade failed stops.Memory same (inr l) = inr (record {
+    unmade to failed stops.Memory same left (inr l) = inr (record {
       to = l.to;
       answer = l.answer;
       front = [];
@@ -199,12 +200,11 @@ module _ (told : Option FileMap) (old new : Option (List ℕ)) (before now : ℕ
 
   pub fault_broken : (why : LineFault) (failed : Option (List ℕ)) (stop : LineStop) → now ≡ before
       → IsLineFaultOrMemory line why → IsRefusalUnwritten old new why stop
-      → IsBroken told old new before now from line failed stop
+      → IsBroken told old new before now from from line failed stop
   fault_broken why failed stops.File still h u = absurd u
   fault_broken why failed stops.Write still h u =
       let is = none why u.answer h u.is still in
       record {
-        to = from;
         answer = u.answer;
         part = u.cut;
         later = omega (arith, is);
@@ -226,7 +226,7 @@ module _ (told : Option FileMap) (old new : Option (List ℕ)) (before now : ℕ
       answer (is_some wrong) made) w
 
   pub made_broken : ForErr result (IsFrontWritten old new answer.text) → (line : List ℕ) → IsLine line what
-      → ForErr result (λ stop. IsBroken told old new before now from line failed stop)
+      → ForErr result (λ stop. IsBroken told old new before now from to line failed stop)
   made_broken u line says = λ stop e. cut told old new before now from line what says to answer failed stop made
       (u stop e)
 
@@ -237,21 +237,21 @@ report_made told from steps =
     made_still (ToldDoes told from (Ok asked.report)) from steps (report_answer from) (λ files e. (refl, refl)) refl
 
 -- the sink isn't touched where no reply was made
-pub unmade_broken : (told : Option FileMap) (old : Option (List ℕ)) (before now : ℕ) (from : Standing)
-    (failed : Option (List ℕ)) (what : Asked) (stop : LineStop)
+pub unmade_broken : (told : Option FileMap) (old : Option (List ℕ)) (before now : ℕ) (from to : Standing)
+    (failed : Option (List ℕ)) (what : Asked) (stop : LineStop) → (stop ≡ stops.File → to ≡ from)
     → IsUnmade told (ToldDoes told from (Ok what)) what before now failed stop → (result : Result (Option (String Global)) LineStop)
     → result ≡ Err stop → (line : List ℕ) → IsLine line what
-    → ForErr result (λ stop. IsBroken told old old before now from line failed stop)
-unmade_broken told old before now from failed what stop u result is line says =
-    for_err (λ s. IsBroken told old old before now from line failed s) result stop is
-    (unmade told old old before now from line what says failed stop refl u)
+    → ForErr result (λ stop. IsBroken told old old before now from to line failed stop)
+unmade_broken told old before now from to failed what stop left u result is line says =
+    for_err (λ s. IsBroken told old old before now from to line failed s) result stop is
+    (unmade told old old before now from line what says to failed stop refl left u)
 
 -- out of memory before anything was done
 pub want_broken : (told : Option FileMap) (old : Option (List ℕ)) (steps : ℕ) (from : Standing) (line : List ℕ)
     (failed : Option (List ℕ)) (result : Result (Option (String Global)) LineStop) → result ≡ Err stops.Memory
-    → ForErr result (λ stop. IsBroken told old old steps steps from line failed stop)
+    → ForErr result (λ stop. IsBroken told old old steps steps from from line failed stop)
 want_broken told old steps from line failed result is =
-    for_err (λ s. IsBroken told old old steps steps from line failed s) result stops.Memory is
+    for_err (λ s. IsBroken told old old steps steps from from line failed s) result stops.Memory is
     (inl (record { nothing = Appends-nothing old; uncounted = refl }))
 
 -- a line that is refused
@@ -265,7 +265,7 @@ faults_answered told old new steps from line why result h =
 pub faults_broken : (told : Option FileMap) (old new : Option (List ℕ)) (steps : ℕ) (from : Standing) (line : List ℕ)
     (failed : Option (List ℕ)) (why : LineFault) (result : Result (Option (String Global)) LineStop) → IsLineFaultOrMemory line why
     → ForErr result (IsRefusalUnwritten old new why)
-    → ForErr result (λ stop. IsBroken told old new steps steps from line failed stop)
+    → ForErr result (λ stop. IsBroken told old new steps steps from from line failed stop)
 faults_broken told old new steps from line failed why result h u =
     λ stop e. fault_broken told old new steps steps from line why failed stop refl h (u stop e)
 

@@ -43,7 +43,7 @@ pub(crate) fn answer_command<F: Files, W: Sink, L: Ledger>(
     ensures broken { (line : List ℕ) → IsLine line (asked_of command)
         → ForErr result (λ stop. IsBroken (F.told files.old)
         (W.written sink.old) (W.written sink.new) steps.old steps.new
-        script.old line (F.failed files.new) stop) }
+        script.old script.new line (F.failed files.new) stop) }
     ensures same { F.told files.new ≡ F.told files.old }
     ensures file { Caused LineStop.File (F.faults files.old) (F.faults files.new) result }
     ensures write { Caused LineStop.Write (W.faults sink.old) (W.faults sink.new) result }
@@ -73,6 +73,7 @@ fn make_reply<F: Files, L: Ledger>(
     ensures unmade { ForErr result (IsUnmade (F.told files.old)
         (ToldDoes (F.told files.old) script.old (Ok (asked_of command)))
         (asked_of command) steps.old steps.new (F.failed files.new)) }
+    ensures unchanged { result ≡ Err LineStop.File → script.new ≡ script.old }
     ensures same { F.told files.new ≡ F.told files.old }
     ensures file { Caused LineStop.File (F.faults files.old) (F.faults files.new) result }
     ensures kept { result ≢ Err LineStop.File → F.failed files.new ≡ F.failed files.old }

@@ -39,6 +39,7 @@ pub(crate) fn open<F: Files, L: Ledger>(
     ensures unmade { ForErr result (IsUnmade (F.told files.old)
         (ToldDoes (F.told files.old) script.old (Ok (asked.opening file.now)))
         (asked.opening file.now) steps.old steps.new (F.failed files.new)) }
+    ensures unchanged { result ≡ Err LineStop.File → script.new ≡ script.old }
     ensures same { F.told files.new ≡ F.told files.old }
     ensures file { Caused LineStop.File (F.faults files.old) (F.faults files.new) result }
     ensures kept { result ≢ Err LineStop.File → F.failed files.new ≡ F.failed files.old }

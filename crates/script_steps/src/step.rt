@@ -19,9 +19,10 @@ use std::alloc::Global;
 use std::sync::ledger::Ledger;
 use steps::Steps;
 
-/// Answers a line of a script, which stands without its line end. `Ok` has what is wrong with the line, in plain words, where the
-/// answer is a refusal. The counter rises by the steps of the answer: of an accepted edit, `try` or `open`. After a stop the
-/// script isn't to be gone on with.
+/// Answers a line of a script, which stands without its line end. `Ok` has what is wrong with the line, in plain words,
+/// where the answer is a refusal. The counter rises by the steps of the answer: of an accepted edit, `try` or `open`. Where
+/// a file could not be read the script is as it was, and where the sink failed it is what the line makes of it. After
+/// memory ran out it isn't to be gone on with.
 pub fn answer_line<F: Files, W: Sink, L: Ledger>(
     alloc: Global,
     script: &mut Script,
@@ -35,7 +36,7 @@ pub fn answer_line<F: Files, W: Sink, L: Ledger>(
         script.old script.new line.now (is_some wrong)) }
     ensures broken { ForErr result (λ stop. IsBroken (F.told files.old)
         (W.written sink.old) (W.written sink.new) steps.old steps.new
-        script.old line.now (F.failed files.new) stop) }
+        script.old script.new line.now (F.failed files.new) stop) }
     ensures same { F.told files.new ≡ F.told files.old }
     ensures file { Caused LineStop.File (F.faults files.old) (F.faults files.new) result }
     ensures write { Caused LineStop.Write (W.faults sink.old) (W.faults sink.new) result }

@@ -9,23 +9,23 @@ use Rattle.script_run.proofs.deliver.keep_answer.Goals as goal
 pub returns-in-Err-Write-clause-broken : goal.returns-in-Err-Write-clause-broken
 returns-in-Err-Write-clause-broken g c = λ stop is.
     broken_as (g.F.Files.told c.args.files.now) c.args.steps.now c.answer_line.new.steps c.args.script.now
-    c.args.line.now (g.F.Files.failed c.answer_line.new.files) is
+    c.answer_line.new.script c.args.line.now (g.F.Files.failed c.answer_line.new.files) is
     (inr (cut_lost (c.in-Err-Write.ensures.broken Write (ap (λ v. Err v) c.in-Err-Write.field-0-is))))
 
 pub returns-in-Err-File-clause-broken : goal.returns-in-Err-File-clause-broken
 returns-in-Err-File-clause-broken g c = λ stop is.
     broken_as (g.F.Files.told c.args.files.now) c.args.steps.now c.answer_line.new.steps c.args.script.now
-    c.args.line.now (g.F.Files.failed c.answer_line.new.files) is
+    c.answer_line.new.script c.args.line.now (g.F.Files.failed c.answer_line.new.files) is
     (stop_kept (g.F.Files.told c.args.files.now) _ _ c.args.steps.now c.answer_line.new.steps c.args.script.now
-    c.args.line.now (g.F.Files.failed c.answer_line.new.files) File (λ e. cc)
+    c.answer_line.new.script c.args.line.now (g.F.Files.failed c.answer_line.new.files) File (λ e. cc)
     (c.in-Err-File.ensures.broken File (ap (λ v. Err v) c.in-Err-File.field-0-is)))
 
 pub returns-clause-broken : goal.returns-clause-broken
 returns-clause-broken g c = λ stop is.
     broken_as (g.F.Files.told c.args.files.now) c.args.steps.now c.answer_line.new.steps c.args.script.now
-    c.args.line.now (g.F.Files.failed c.answer_line.new.files) is
+    c.answer_line.new.script c.args.line.now (g.F.Files.failed c.answer_line.new.files) is
     (stop_kept (g.F.Files.told c.args.files.now) _ _ c.args.steps.now c.answer_line.new.steps c.args.script.now
-    c.args.line.now (g.F.Files.failed c.answer_line.new.files) Memory (λ e. cc)
+    c.answer_line.new.script c.args.line.now (g.F.Files.failed c.answer_line.new.files) Memory (λ e. cc)
     (c.in-Err-Memory.ensures.broken Memory (ap (λ v. Err v) c.in-Err-Memory.field-0-is)))
 
 pub returns-in_err-put_refusal-in-Ok-clause-broken : goal.returns-in_err-put_refusal-in-Ok-clause-broken
@@ -33,7 +33,7 @@ returns-in_err-put_refusal-in-Ok-clause-broken g c = λ stop is.
     let p = err_from_is_err_and c.from_residual.result c.from_residual.ensures.1 in
     let memory : Memory ≡ stop = cc (p.1, p.2) in
     broken_as {T = Bool} (g.F.Files.told c.args.files.now) c.args.steps.now c.answer_line.new.steps c.args.script.now
-    c.args.line.now (g.F.Files.failed c.answer_line.new.files) (err_same {T = Bool} memory)
+    c.answer_line.new.script c.args.line.now (g.F.Files.failed c.answer_line.new.files) (err_same {T = Bool} memory)
     (inr (answer_lost c.in-Ok.ensures.answered))
 
 pub returns-in-Ok-clause-delivered : goal.returns-in-Ok-clause-delivered

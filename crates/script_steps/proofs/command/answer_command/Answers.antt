@@ -40,8 +40,9 @@ returns-in_err-reply-in_default-clause-broken g c = λ line says.
     let stop = c.in_err-reply-in_default.field-0.0 in
     let p = err_from_is_err_and c.from_residual.result c.from_residual.ensures.1 in
     unmade_broken (g.F.Files.told c.args.files.now) (g.W.Sink.written c.args.sink.now) c.args.steps.now
-    c.make_reply.new.steps c.args.script.now (g.F.Files.failed c.make_reply.new.files) (asked_of c.args.command)
-    stop (c.in_err-reply-in_default.ensures.unmade stop refl) c.from_residual.result
+    c.make_reply.new.steps c.args.script.now c.make_reply.new.script (g.F.Files.failed c.make_reply.new.files)
+    (asked_of c.args.command) stop (λ e. c.in_err-reply-in_default.ensures.unchanged (ap (λ s. Err s) e))
+    (c.in_err-reply-in_default.ensures.unmade stop refl) c.from_residual.result
     (p.1 ∙ ap (λ s. Err s) p.2) line says
 
 pub returns-in_err-reply-in_default-clause-write : goal.returns-in_err-reply-in_default-clause-write

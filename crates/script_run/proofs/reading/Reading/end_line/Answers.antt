@@ -17,7 +17,7 @@ returns-in_err-wrong-clause-err g c = λ stop is.
     breaks_line same c.deliver.ensures.same (λ line holds.
     broken_same (says_ended reading.line.items c.ended-line.result.now line reading.long holds.front holds.long said)
     c.in_err-wrong.field-0.0
-    (record { is = c.in_err-wrong.ensures.broken c.in_err-wrong.field-0.0 refl }))
+    (record { to = c.deliver.new.script; is = c.in_err-wrong.ensures.broken c.in_err-wrong.field-0.0 refl }))
 
 pub returns-in_err-note-clause-err : goal.returns-in_err-note-clause-err
 returns-in_err-note-clause-err g c = λ stop is.

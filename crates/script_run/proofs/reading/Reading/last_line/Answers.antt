@@ -24,7 +24,7 @@ returns-in_err-wrong-clause-closes g c =
     (closes_broken c.deliver.ensures.same (λ line holds.
     kept_some most_line kept.items line holds.front some) stop
     (λ line holds. broken_same (says_kept kept.items c.deref.result.now line c.deref.ensures.value holds.front) stop
-    (record { is = c.in_err-wrong.ensures.broken stop refl })))
+    (record { to = c.deliver.new.script; is = c.in_err-wrong.ensures.broken stop refl })))
 
 pub returns-clause-closes : goal.returns-clause-closes
 returns-clause-closes g c =
