@@ -6,21 +6,18 @@ use Rattle.std.proofs.lemmas.List.Elements.{All-nil, All-cons}
 use Rattle.std.proofs.lemmas.List.Sorted.{All-permutation}
 use Rattle.scaled_decimal.specs.Decimals.{Decimal}
 use Rattle.pap_tree.specs.Flowchart.{Flowchart}
-use Rattle.limits_file.specs.declared.slots.Slot.{Slot}
 use Rattle.payroll_records.specs.declared.values.NamedValue.{NamedValue}
 use Rattle.carry_bindings.specs.declared.filling.Filled.{Filled}
 use Rattle.carry_bindings.specs.declared.filling.Filled.TheVariants.{Inputs, State}
 use Rattle.carry_bindings.specs.declared.filling.Blocked.TheVariants as blocked
-use Rattle.carry_bindings.specs.Filling.{filled_by}
 use Rattle.pap_types.specs.Meaning.{outputs_in, cost_of}
 use Rattle.pap_plan.specs.declared.refusal.PlanRefusal.{PlanRefusal}
 use Rattle.pap_plan.specs.Acceptance.{Meaning, Answers, IsAccepted}
-use Rattle.pap_plan.specs.Inputs.{AreSlots}
 use Rattle.pap_plan.proofs.Laws as plans
 use Rattle.payroll_records.specs.ValueWords.{AreValueWords, IsValueWord}
 use Rattle.pay_run.specs.Accepted.{Accepted}
-use Rattle.pay_run.specs.Runs.{IsKeptValue}
-use Rattle.pay_run.proofs.Laws.{filled_safe, filled_slots}
+use Rattle.pay_run.specs.Runs.{IsKeptValue, filled}
+use Rattle.pay_run.proofs.Laws.{filled_safe}
 use Rattle.plan_answers.specs.Answers.{Answer, IsChecked, refusal}
 use Rattle.plan_answers.specs.Laws.{HasOneAnswer}
 use Rattle.plan_answers.specs.Lines.{range_lines}
@@ -46,28 +43,27 @@ one_run f (State (blocked.Waits day)) a b h k = absurd h
 one_once : (values : List NamedValue) (plan limits : List ℕ) (a b : Answer) → OnceAnswers values plan limits a → OnceAnswers values plan limits b → a ≡ b
 one_once values plan limits a b h k =
     let same = plans.one plan limits h.verdict k.verdict h.accepted k.accepted in
-    by k.verdict (subst (λ v. IsOnce values plan v a) same h.is) k.is
+    by k.verdict (subst (λ v. IsOnce values plan limits v a) same h.is) k.is
   where
-    by : (v : Result Meaning PlanRefusal) → IsOnce values plan v a → IsOnce values plan v b → a ≡ b
+    by : (v : Result Meaning PlanRefusal) → IsOnce values plan limits v a → IsOnce values plan limits v b → a ≡ b
     by (Err r) p q = one_refusal plan r a b p q
-    by (Ok m) p q =
-        let slots = plans.one_slots m.limits m.flowchart.inputs p.slots q.slots p.inputs q.inputs in
-        one_run m.flowchart (filled_by q.slots values []) a b (subst (λ s. IsRunOn m.flowchart (filled_by s values []) a) slots p.ran) q.ran
+    by (Ok m) h k =
+        let p : Accepted = record { plan = plan; limits = limits; meaning = m } in
+        one_run m.flowchart (filled p values []) a b h k
 
 -- a run on what is filled: it is safe on inputs, and without earlier runs it waits for none
-some_run : (values : List NamedValue) (plan limits : List ℕ) (m : Meaning) (slots : List Slot) → All IsKeptValue values → IsAccepted plan limits m → AreSlots m.limits m.flowchart.inputs slots → (a : Answer) × IsRunOn m.flowchart (filled_by slots values []) a
-some_run values plan limits m slots kept h are = by (filled_by slots values []) refl
+some_run : (values : List NamedValue) (p : Accepted) → All IsKeptValue values → IsAccepted p.plan p.limits p.meaning → (a : Answer) × IsRunOn p.meaning.flowchart (filled p values []) a
+some_run values p kept h = by (filled p values []) refl
   where
-    by : (x : Filled) → filled_by slots values [] ≡ x → (a : Answer) × IsRunOn m.flowchart x a
+    by : (x : Filled) → filled p values [] ≡ x → (a : Answer) × IsRunOn p.meaning.flowchart x a
     by (Inputs vs) e =
-        let p : Accepted = record { plan = plan; limits = limits; meaning = m } in
-        let safe = filled_safe p values [] vs h kept (omega arith) tt (sym (filled_slots p slots values [] are) ∙ e) in
-        let outs = outputs_in m.flowchart safe.ends in
-        (finished m.flowchart outs (cost_of m.flowchart vs), (outs, ap (option_map (outputs_in m.flowchart)) safe.defined, refl))
+        let safe = filled_safe p values [] vs h kept (omega arith) tt e in
+        let outs = outputs_in p.meaning.flowchart safe.ends in
+        (finished p.meaning.flowchart outs (cost_of p.meaning.flowchart vs), (outs, ap (option_map (outputs_in p.meaning.flowchart)) safe.defined, refl))
     by (State (blocked.Unknown name)) e = (refusal (codes "state unknown " ++ name), refl)
     by (State (blocked.Missing name)) e = (refusal (codes "state missing " ++ name), refl)
     by (State (blocked.Range name)) e = (refusal (codes "state range " ++ name), refl)
-    by (State (blocked.Waits day)) e = absurd (never_waits slots values day e)
+    by (State (blocked.Waits day)) e = absurd (never_waits p values day e)
 
 some_once : (values : List NamedValue) → All IsKeptValue values → (plan limits : List ℕ) → (a : Answer) × OnceAnswers values plan limits a
 some_once values kept plan limits = let v = plans.some plan limits in by v.0 v.1
@@ -75,9 +71,8 @@ some_once values kept plan limits = let v = plans.some plan limits in by v.0 v.1
     by : (v : Result Meaning PlanRefusal) → Answers plan limits v → (a : Answer) × OnceAnswers values plan limits a
     by (Err r) h = let w = some_refusal plan limits r h in (w.0, record { verdict = Err r; accepted = h; is = w.1 })
     by (Ok m) h =
-        let are = plans.some_slots m.limits m.flowchart.inputs h.bound.suited.suited in
-        let ran = some_run values plan limits m are.0 kept h are.1 in
-        (ran.0, record { verdict = Ok m; accepted = h; is = record { slots = are.0; inputs = are.1; ran = ran.1 } })
+        let ran = some_run values (record { plan = plan; limits = limits; meaning = m }) kept h in
+        (ran.0, record { verdict = Ok m; accepted = h; is = ran.1 })
 
 pub once_answers : (values : List NamedValue) → All IsKeptValue values → (plan limits : List ℕ) → HasOneAnswer (OnceAnswers values plan limits)
 once_answers values kept plan limits = record { some = some_once values kept plan limits; one = one_once values plan limits }

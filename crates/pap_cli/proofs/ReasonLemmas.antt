@@ -1,28 +1,28 @@
 -- Whether the answer on two texts is a refusal, and where the words of its reason begin.
-use Rattle.std.proofs.Common.{◌≡◌, ◌≢◌, ◌<◌, ◌≤◌, ℕ, Bool, true, false, List, [], ◌∷◌, length, get_or, refl, sym, ap, ◌∙◌, subst, inl, inr, arith}
+use Rattle.std.proofs.Common.{◌≡◌, ◌≢◌, ◌<◌, ◌≤◌, ℕ, Bool, true, false, List, [], ◌∷◌, length, get_or, refl, sym, ap, subst, inl, inr, arith}
 use Rattle.std.specs.Prelude.{Ok, Err, Vec, Option, Some, None, IfSome}
 use Rattle.std.specs.declared.alloc.Global.{Global}
 use Rattle.scaled_decimal.specs.Decimals.{Decimal}
 use Rattle.pap_tree.specs.Flowchart.{Flowchart}
 use Rattle.payroll_records.specs.declared.values.NamedValue.{NamedValue}
-use Rattle.carry_bindings.specs.declared.filling.Filled.{Filled}
 use Rattle.carry_bindings.specs.declared.filling.Filled.TheVariants.{Inputs, State}
 use Rattle.carry_bindings.specs.declared.filling.Blocked.{Blocked}
 use Rattle.carry_bindings.specs.declared.filling.Blocked.TheVariants as blocked
-use Rattle.carry_bindings.specs.Filling.{filled_by}
 use Rattle.pap_plan.specs.declared.refusal.PlanRefusal.{PlanRefusal}
 use Rattle.pap_plan.specs.declared.refusal.PlanRefusal.TheVariants as refusals
 use Rattle.pap_plan.specs.Acceptance.{Meaning, IsRefused as IsRefusedPlan, IsRefusedOrMemory}
 use Rattle.pap_plan.specs.AcceptanceClauses.{IsAcceptedAs}
-use Rattle.pap_plan.specs.Plans.{Seen, meaning}
+use Rattle.pap_plan.specs.Plans.{Seen, flowchart, meaning}
 use Rattle.pap_plan.proofs.Laws as plans
+use Rattle.pay_run.specs.Accepted.{accepted}
+use Rattle.pay_run.specs.Runs.{filled}
 use Rattle.pap_cli.specs.declared.words.Command.{Command}
 use Rattle.pap_cli.specs.declared.words.Command.TheVariants.{Check, Once}
 use Rattle.pap_cli.specs.Words.{Form, check, once, HasForm}
 use Rattle.pap_cli.specs.WordViews.{form_by, IsOnFiles}
 use Rattle.plan_answers.specs.Answers.{Answer, IsRefusal, IsChecked, CheckAnswers}
-use Rattle.pap_cli.specs.RunAnswers.{IsRunOn, IsRunOnce, IsOnce, OnceAnswers}
-use Rattle.pap_cli.specs.AnswerViews.{answers_of, IsFilledFrom, MarksRefusals}
+use Rattle.pap_cli.specs.RunAnswers.{IsRunOn, IsOnce, OnceAnswers}
+use Rattle.pap_cli.specs.AnswerViews.{answers_of, IsRunWith, MarksRefusals}
 use Rattle.plain_words.specs.Places.{PlanFiles}
 use Rattle.plain_words.specs.Refusals.{TellsPlan}
 use Rattle.pap_cli.specs.Reasons.{bytes_of, SaysRefused, SaysRefusedOn, files_on, TellsReason}
@@ -44,19 +44,13 @@ told_blocked f (blocked.Missing name) a h = refused_by h
 told_blocked f (blocked.Range name) a h = refused_by h
 told_blocked f (blocked.Waits day) a h = absurd h
 
--- what is filled is determined
-filled_as : (values : List NamedValue) (m : Meaning) (x : Filled) (a : Answer) → IsFilledFrom values m x → IsRunOnce values m a → IsRunOn m.flowchart x a
-filled_as values m x a h k =
-    let slots = plans.one_slots m.limits m.flowchart.inputs k.slots h.slots k.inputs h.inputs in
-    subst (λ y. IsRunOn m.flowchart y a) (ap (λ s. filled_by s values []) slots ∙ sym h.is) k.ran
-
 -- filled inputs are no refusal
-pub told_inputs : (values : List NamedValue) (m : Meaning) (vs : List Decimal) → IsFilledFrom values m (Inputs vs) → MarksRefusals (IsRunOnce values m) false
-told_inputs values m vs h a k = told_run m.flowchart vs a (filled_as values m (Inputs vs) a h k)
+pub told_inputs : (values : List NamedValue) (p : Seen) (vs : List Decimal) → filled (accepted p) values [] ≡ Inputs vs → MarksRefusals (IsRunWith values p) false
+told_inputs values p vs is a h = told_run (flowchart p) vs a (subst (λ x. IsRunOn (flowchart p) x a) is h)
 
 -- a run without inputs is one
-pub told_state : (values : List NamedValue) (m : Meaning) (b : Blocked) → IsFilledFrom values m (State b) → MarksRefusals (IsRunOnce values m) true
-told_state values m b h a k = told_blocked m.flowchart b a (filled_as values m (State b) a h k)
+pub told_state : (values : List NamedValue) (p : Seen) (b : Blocked) → filled (accepted p) values [] ≡ State b → MarksRefusals (IsRunWith values p) true
+told_state values p b is a h = told_blocked (flowchart p) b a (subst (λ x. IsRunOn (flowchart p) x a) is h)
 
 -- ---- two texts
 
@@ -73,10 +67,11 @@ told_accepted plan limits p h a k =
     told_checked plan (meaning p) a (subst (λ v. IsChecked plan v a) same k.is)
 
 -- nor of `once` but where the run is one
-pub told_once : (values : List NamedValue) (plan limits : List ℕ) (p : Seen) (told : Bool) → IsAcceptedAs plan limits p → MarksRefusals (IsRunOnce values (meaning p)) told → MarksRefusals (OnceAnswers values plan limits) told
+pub told_once : (values : List NamedValue) (plan limits : List ℕ) (p : Seen) (told : Bool) → IsAcceptedAs plan limits p → MarksRefusals (IsRunWith values p) told → MarksRefusals (OnceAnswers values plan limits) told
 told_once values plan limits p told h t a k =
     let same = plans.one plan limits k.verdict (Ok (meaning p)) k.accepted h.accepted in
-    t a (subst (λ v. IsOnce values plan v a) same k.is)
+    let is = subst (λ v. IsOnce values plan limits v a) same k.is in
+    t a (subst (λ l. IsOnce values p.plan l (Ok (meaning p)) a) (sym h.limits_bytes) (subst (λ b. IsOnce values b limits (Ok (meaning p)) a) (sym h.plan_bytes) is))
 
 -- a refusal that isn't want of memory
 pub refused_is : (plan limits : List ℕ) (r : PlanRefusal) → r ≢ refusals.Memory → IsRefusedOrMemory plan limits r → IsRefusedPlan plan limits r
@@ -98,7 +93,7 @@ told_refused Check plan limits r h a k =
     told_refusal plan r a (subst (λ v. IsChecked plan v a) same k.is)
 told_refused (Once values) plan limits r h a k =
     let same = plans.one plan limits k.verdict (Err r) k.accepted h in
-    told_refusal plan r a (subst (λ v. IsOnce values plan v a) same k.is)
+    told_refusal plan r a (subst (λ v. IsOnce values plan limits v a) same k.is)
 
 -- ---- two files
 
@@ -164,14 +159,13 @@ if_some_map (Some a) P Q f h = f a h
 
 -- the words of a run without inputs
 pub tells_state : (values : List NamedValue) (plan limits bytes ranges : List ℕ) (p : Seen) (words : List ℕ) → IsAcceptedAs bytes ranges p
-    → TellsFilled values (meaning p) (files_on plan limits bytes ranges) words → TellsOn (Once values) (files_on plan limits bytes ranges) words
+    → TellsFilled values (accepted p) (files_on plan limits bytes ranges) words → TellsOn (Once values) (files_on plan limits bytes ranges) words
 tells_state values plan limits bytes ranges p words h t = inr (record {
   meaning = meaning p;
   accepted = h.accepted;
-  slots = t.filled.slots;
-  inputs = t.filled.inputs;
   state = t.state;
-  blocked = t.filled.is;
+  blocked = subst (λ l. filled (record { plan = bytes; limits = l; meaning = meaning p }) values [] ≡ State t.state) h.limits_bytes
+      (subst (λ b. filled (record { plan = b; limits = p.limits; meaning = meaning p }) values [] ≡ State t.state) h.plan_bytes t.blocked);
   line = t.line;
   begins = t.begins;
 })

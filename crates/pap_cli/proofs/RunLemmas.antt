@@ -1,6 +1,6 @@
 -- The run of `once` on filled inputs, and what was counted where memory ran out.
 use Rattle.std.proofs.Common.{◌≡◌, ◌≢◌, ℕ, ◌+◌, Bool, true, false, List, [], ◌++◌, refl, sym, ap, subst, ◌∙◌, inl, inr}
-use Rattle.std.specs.Prelude.{Option, Some, None, All, Ok, Err, option_map, if◌then◌else◌}
+use Rattle.std.specs.Prelude.{Option, Some, None, Ok, Err, option_map, if◌then◌else◌}
 use Rattle.scaled_decimal.specs.Decimals.{Decimal}
 use Rattle.limits_file.specs.declared.slots.Slot.{Slot}
 use Rattle.payroll_records.specs.declared.day.Day.{Day}
@@ -10,26 +10,24 @@ use Rattle.carry_bindings.specs.declared.filling.Filled.{Filled}
 use Rattle.carry_bindings.specs.declared.filling.Filled.TheVariants.{Inputs, State}
 use Rattle.carry_bindings.specs.declared.filling.Blocked.{Blocked}
 use Rattle.carry_bindings.specs.declared.filling.Blocked.TheVariants as blocked
-use Rattle.carry_bindings.specs.Filling.{first_of, filled_by, has_carry, waits, unknown, missing, outside, inputs}
+use Rattle.carry_bindings.specs.Filling.{first_of, has_carry, waits, unknown, missing, outside, inputs}
 use Rattle.pap_plan.specs.declared.refusal.PlanRefusal.{PlanRefusal}
-use Rattle.pap_plan.specs.Acceptance.{Meaning, Answers, IsRefusedOrMemory}
+use Rattle.pap_plan.specs.Acceptance.{IsRefusedOrMemory}
 use Rattle.pap_plan.specs.AcceptanceClauses.{IsAcceptedAs}
-use Rattle.pap_plan.specs.Bindings.{HasSuitedLimit}
 use Rattle.pap_plan.specs.Plans.{Seen, flowchart, meaning}
-use Rattle.pap_plan.proofs.Laws.{some_slots}
 use Rattle.pap_tree.specs.Flowchart.{Flowchart}
 use Rattle.pap_types.specs.Meaning.{cost_of}
 use Rattle.pay_run.specs.Accepted.{Accepted, accepted}
-use Rattle.pay_run.specs.Runs.{filled}
+use Rattle.pay_run.specs.Runs.{slots_of, filled}
 use Rattle.pay_run.specs.RunClauses.{HasRun}
 use Rattle.pay_run.specs.declared.outputs.Finished.{Finished}
-use Rattle.pay_run.proofs.Laws.{filled_slots, outputs_are, cost_is}
+use Rattle.pay_run.proofs.Laws.{outputs_are, cost_is}
 use Rattle.plan_answers.specs.Answers.{Answer, IsRefusal}
 use Rattle.plan_answers.proofs.Laws.{refused_is}
-use Rattle.pap_cli.specs.AnswerViews.{IsFilledFrom}
+use Rattle.pap_cli.specs.AnswerViews.{IsRunWith}
 use Rattle.pap_cli.specs.RunLines.{value_lines, steps_line}
 use Rattle.pap_cli.specs.RunViews.{named_lines}
-use Rattle.pap_cli.specs.RunAnswers.{IsRunOn, IsRunOnce, OnceAnswers, finished}
+use Rattle.pap_cli.specs.RunAnswers.{IsRunOn, IsOnce, OnceAnswers, finished}
 use Rattle.pap_cli.specs.FileClauses.{IsCounted}
 use Rattle.pap_cli.proofs.LineLemmas.{lines_named}
 
@@ -40,15 +38,6 @@ counted_map P Q began steps f (inl e) = inl e
 counted_map P Q began steps f (inr u) = inr (record { answer = u.answer; is = f u.answer u.is; cost = u.cost })
 
 -- ---- a run
-
--- the slots of a plan, and what they are filled with
-pub filled_from : (values : List NamedValue) (p : Accepted) (given : List NamedValue) (f : Filled) → All (HasSuitedLimit p.meaning.limits) p.meaning.flowchart.inputs → given ≡ values → f ≡ filled p given [] → IsFilledFrom values p.meaning f
-filled_from values p given f suited same is =
-    let slots = some_slots p.meaning.limits p.meaning.flowchart.inputs suited in
-    record { slots = slots.0; inputs = slots.1; is = is ∙ ap (λ v. filled p v []) same ∙ sym (filled_slots p slots.0 values [] slots.1) }
-
-pub ran : (values : List NamedValue) (m : Meaning) (f : Filled) (a : Answer) → IsFilledFrom values m f → IsRunOn m.flowchart f a → IsRunOnce values m a
-ran values m f a h k = record { slots = h.slots; inputs = h.inputs; ran = subst (λ x. IsRunOn m.flowchart x a) h.is k }
 
 -- without earlier runs none is waited for
 waits_none : (slots : List Slot) → waits slots [] ≡ None
@@ -62,17 +51,17 @@ not_waiting None None None (Some x) e day n h = cc h
 not_waiting None None None None e day n h = cc h
 
 -- a run without earlier ones waits for none
-pub never_waits : (slots : List Slot) (values : List NamedValue) (day : Day) → filled_by slots values [] ≢ State (blocked.Waits day)
-never_waits slots values day = not_waiting (waits slots []) (unknown slots values) (missing slots values []) (outside slots values []) (inputs slots values []) day (waits_none slots)
+pub never_waits : (p : Accepted) (values : List NamedValue) (day : Day) → filled p values [] ≢ State (blocked.Waits day)
+unfolding filled
+never_waits p values day =
+    let slots = slots_of p in
+    not_waiting (waits slots []) (unknown slots values) (missing slots values []) (outside slots values []) (inputs slots values []) day (waits_none slots)
 
--- so it is no cause that nothing is filled
-pub not_waits : (values : List NamedValue) (m : Meaning) (f : Filled) (b : Blocked) (day : Day) → IsFilledFrom values m f → f ≡ State b → b ≢ blocked.Waits day
-not_waits values m f b day h is e = never_waits h.slots values day (sym h.is ∙ is ∙ ap State e)
+-- what a record of these values is filled with
+pub filled_from : (values : List NamedValue) (p : Accepted) (given : List NamedValue) (f other : Filled) → given ≡ values → other ≡ f → other ≡ filled p given [] → filled p values [] ≡ f
+filled_from values p given f other same found are = ap (λ v. filled p v []) (sym same) ∙ sym are ∙ found
 
 -- ---- the answer of `once`
-
-pub once_of_run : (values : List NamedValue) (plan limits : List ℕ) (m : Meaning) (a : Answer) → Answers plan limits (Ok m) → IsRunOnce values m a → OnceAnswers values plan limits a
-once_of_run values plan limits m a accepted h = record { verdict = Ok m; accepted = accepted; is = h }
 
 -- the run was counted
 pub counted_run : (p : Seen) (inputs : List Decimal) (f : Finished) (began steps : ℕ) → HasRun (accepted p) inputs f → steps ≡ began + f.cost → IsCounted (IsRunOn (flowchart p) (Inputs inputs)) began steps
@@ -114,5 +103,9 @@ state_steps f (blocked.Range name) a h = ap (λ (x : Answer). x.steps) h
 pub once_refused : (values : List NamedValue) (plan limits : List ℕ) (r : PlanRefusal) (a : Answer) → IsRefusedOrMemory plan limits r → IsRefusal plan r a → OnceAnswers values plan limits a
 once_refused values plan limits r a h k = record { verdict = Err r; accepted = refused_is plan limits r a h k; is = k }
 
-pub once_accepted : (values : List NamedValue) (plan limits : List ℕ) (p : Seen) (a : Answer) → IsAcceptedAs plan limits p → IsRunOnce values (meaning p) a → OnceAnswers values plan limits a
-once_accepted values plan limits p a h k = once_of_run values plan limits (meaning p) a h.accepted k
+pub once_accepted : (values : List NamedValue) (plan limits : List ℕ) (p : Seen) (a : Answer) → IsAcceptedAs plan limits p → IsRunWith values p a → OnceAnswers values plan limits a
+once_accepted values plan limits p a h k = record {
+  verdict = Ok (meaning p);
+  accepted = h.accepted;
+  is = subst (λ l. IsOnce values plan l (Ok (meaning p)) a) h.limits_bytes (subst (λ t. IsOnce values t p.limits (Ok (meaning p)) a) h.plan_bytes k);
+}

@@ -1,13 +1,11 @@
 -- On which bytes an answer is a refusal, so that it has a reason, and where the reason's words begin.
 use Rattle.std.specs.Prelude.{◌≡◌, ◌⊎◌, ℕ, List, [], ◌∷◌, Bool, false, Vec, map}
 use Rattle.std.specs.declared.alloc.Global.{Global}
-use Rattle.limits_file.specs.declared.slots.Slot.{Slot}
 use Rattle.payroll_records.specs.declared.values.NamedValue.{NamedValue}
 use Rattle.carry_bindings.specs.declared.filling.Blocked.{Blocked}
 use Rattle.carry_bindings.specs.declared.filling.Filled.TheVariants.{State}
-use Rattle.carry_bindings.specs.Filling.{filled_by}
 use Rattle.pap_plan.specs.Acceptance.{Meaning, IsAccepted}
-use Rattle.pap_plan.specs.Inputs.{AreSlots}
+use Rattle.pay_run.specs.Runs.{filled}
 use Rattle.plain_words.specs.Lines.{IsOneLine}
 use Rattle.plain_words.specs.Places.{PlanFiles}
 use Rattle.plain_words.specs.Refusals.{TellsPlan}
@@ -46,10 +44,9 @@ files_on plan limits bytes ranges = record {
 pub record TellsState (values : List NamedValue) (files : PlanFiles) (words : List ℕ) : Type 0 where
   pub meaning : Meaning
   pub accepted : IsAccepted files.plan.bytes files.ranges.bytes meaning
-  pub slots : List Slot
-  pub inputs : AreSlots meaning.limits meaning.flowchart.inputs slots
   pub state : Blocked
-  pub blocked : State state ≡ filled_by slots values []
+  pub blocked : filled (record { plan = files.plan.bytes; limits = files.ranges.bytes; meaning = meaning }) values []
+      ≡ State state
   pub line : IsOneLine words
   pub begins : SaysState files state words
 

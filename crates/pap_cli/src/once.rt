@@ -1,9 +1,9 @@
 //! The answer of `once`.
-ghost use Rattle.std.specs.Prelude.{◌≡◌, ◌≢◌, All, ◌+◌, ◌++◌, IfOk, OnOk, OnErr};
-ghost use Rattle.pap_plan.specs.Bindings.{HasSuitedLimit};
-ghost use Rattle.pap_plan.specs.Plans.{Admits, flowchart, meaning};
+ghost use Rattle.std.specs.Prelude.{◌≡◌, ◌≢◌, ◌+◌, ◌++◌, IfOk, OnOk, OnErr};
+ghost use Rattle.pap_plan.specs.Plans.{Admits, flowchart};
 ghost use Rattle.pap_cli.specs.RunViews.{named_lines};
-ghost use Rattle.pap_cli.specs.RunAnswers.{OnceAnswers, IsRunOnce, IsRunOn};
+ghost use Rattle.pap_cli.specs.RunAnswers.{OnceAnswers, IsRunOn};
+ghost use Rattle.pap_cli.specs.AnswerViews.{IsRunWith};
 ghost use Rattle.plan_answers.specs.ReplyViews.{reply_of};
 ghost use Rattle.pap_cli.specs.FileClauses.{IsCounted};
 ghost use Rattle.carry_bindings.specs.declared.filling.Filled.TheVariants.{Inputs, State};
@@ -48,11 +48,10 @@ fn run_reply<L: Ledger>(
     values: Values,
     steps: &mut Steps<L>,
 ) -> Result<Reply, AllocError>
-    requires { All (HasSuitedLimit plan.now.ranges) (flowchart plan.now).inputs }
-    ensures answer { IfOk result (λ reply. IsRunOnce values (meaning plan.now) (reply_of reply)) }
+    ensures answer { IfOk result (λ reply. IsRunWith values plan.now (reply_of reply)) }
     ensures counted { IfOk result (λ reply. steps.new ≡ steps.old + reply.steps) }
     ensures memory { OnErr result
-        (IsCounted (IsRunOnce values (meaning plan.now)) steps.old steps.new) }
+        (IsCounted (IsRunWith values plan.now) steps.old steps.new) }
 {
     let record = record_of(values);
     match filled(alloc, plan, &record, &[])? {

@@ -1,9 +1,7 @@
 //! The reason of a refusal, in plain words.
-ghost use Rattle.std.specs.Prelude.{◌≡◌, All, IfOk, IfSome, None, is_some, string_bytes};
-ghost use Rattle.pap_plan.specs.Bindings.{HasSuitedLimit};
-ghost use Rattle.pap_plan.specs.Plans.{flowchart, meaning};
-ghost use Rattle.pap_cli.specs.RunAnswers.{IsRunOnce};
-ghost use Rattle.pap_cli.specs.AnswerViews.{answers_of, MarksRefusals};
+ghost use Rattle.std.specs.Prelude.{◌≡◌, IfOk, IfSome, None, is_some, string_bytes};
+ghost use Rattle.pay_run.specs.Accepted.{accepted};
+ghost use Rattle.pap_cli.specs.AnswerViews.{answers_of, IsRunWith, MarksRefusals};
 ghost use Rattle.pap_cli.specs.Words.{texts, Form, HasForm, IsBad};
 ghost use Rattle.plain_words.specs.Places.{files_of};
 ghost use Rattle.pap_cli.specs.Reasons.{bytes_of, SaysRefusedOn, TellsReason};
@@ -92,17 +90,16 @@ fn state_reason(
     alloc: Global,
     plan: TextFile<'_>,
     limits: TextFile<'_>,
-    accepted: &Plan,
+    judged: &Plan,
     values: Values,
 ) -> Result<Option<String>, AllocError>
-    requires { All (HasSuitedLimit accepted.now.ranges) (flowchart accepted.now).inputs }
     ensures refused { IfOk result
-        (λ reason. MarksRefusals (IsRunOnce values (meaning accepted.now)) (is_some reason)) }
+        (λ reason. MarksRefusals (IsRunWith values judged.now) (is_some reason)) }
     ensures place { IfOk result (λ reason. IfSome reason (λ r. TellsFilled values
-        (meaning accepted.now) (files_of plan.entry limits.entry) (string_bytes r))) }
+        (accepted judged.now) (files_of plan.entry limits.entry) (string_bytes r))) }
 {
     let record = record_of(values);
-    let inputs = filled(alloc, accepted, &record, &[])?;
+    let inputs = filled(alloc, judged, &record, &[])?;
     match &inputs {
         Filled::Inputs(_) => Ok(None),
         Filled::State(state) => Ok(Some(state_words(alloc, plan, limits, state)?)),

@@ -1,7 +1,7 @@
 use Rattle.std.proofs.Common.{◌≡◌, ◌+◌, refl, inl, arith}
-use Rattle.pap_plan.specs.Plans.{meaning}
 use Rattle.plan_answers.specs.Answers.{IsRefusal}
-use Rattle.pap_cli.specs.RunAnswers.{IsRunOnce, OnceAnswers}
+use Rattle.pap_cli.specs.AnswerViews.{IsRunWith}
+use Rattle.pap_cli.specs.RunAnswers.{OnceAnswers}
 use Rattle.plan_answers.specs.ReplyViews.{reply_of}
 use Rattle.pap_cli.specs.FileClauses.{IsCounted}
 use Rattle.pap_cli.proofs.RunLemmas.{counted_map, once_accepted, once_refused}
@@ -19,12 +19,12 @@ returns g c = record {
 
 pub returns-in-Ok-clause-answer : goal.returns-in-Ok-clause-answer
 returns-in-Ok-clause-answer g c =
-    if_ok_map c.run_reply.result (λ reply. IsRunOnce c.args.values (meaning c.in-Ok.plan) (reply_of reply)) (λ reply. OnceAnswers c.args.values c.args.plan.now c.args.limits.now (reply_of reply))
+    if_ok_map c.run_reply.result (λ reply. IsRunWith c.args.values c.in-Ok.plan (reply_of reply)) (λ reply. OnceAnswers c.args.values c.args.plan.now c.args.limits.now (reply_of reply))
     (λ reply h. once_accepted c.args.values c.args.plan.now c.args.limits.now c.in-Ok.plan (reply_of reply) c.in-Ok.ensures.accepted h) c.run_reply.ensures.answer
 
 pub returns-in-Ok-clause-memory : goal.returns-in-Ok-clause-memory
 returns-in-Ok-clause-memory g c =
-    let IsRun = IsRunOnce c.args.values (meaning c.in-Ok.plan) in
+    let IsRun = IsRunWith c.args.values c.in-Ok.plan in
     let IsAnswer = OnceAnswers c.args.values c.args.plan.now c.args.limits.now in
     on_err_map c.run_reply.result (IsCounted IsRun c.args.steps.now c.run_reply.new.steps) (IsCounted IsAnswer c.args.steps.now c.run_reply.new.steps)
     (counted_map IsRun IsAnswer c.args.steps.now c.run_reply.new.steps (λ a h. once_accepted c.args.values c.args.plan.now c.args.limits.now c.in-Ok.plan a c.in-Ok.ensures.accepted h)) c.run_reply.ensures.memory
