@@ -3,12 +3,16 @@ use Rattle.std.proofs.Common.{◌≡◌, ℕ, List, ◌++◌, refl, sym, ap, ◌
 use Rattle.std.specs.Prelude.{Result, Ok, Err, codes}
 use Rattle.pap_tree.specs.Flowchart.{Flowchart}
 use Rattle.interval_analysis.specs.declared.fault.RangeFault.TheVariants as walks
-use Rattle.plan_text.proofs.Laws.{one_plan}
+use Rattle.plan_text.specs.declared.fault.PlanFault.TheVariants as texts
+use Rattle.plan_text.specs.Plans.{IsPlan}
+use Rattle.plan_text.proofs.Laws.{one_plan, never_both}
 use Rattle.pap_plan.specs.declared.refusal.PlanRefusal.{PlanRefusal}
 use Rattle.pap_plan.specs.declared.refusal.PlanRefusal.TheVariants as refusals
-use Rattle.pap_plan.specs.Acceptance.{Meaning, Answers, IsRefused}
+use Rattle.pap_plan.specs.Acceptance.{Meaning, Answers, IsRefused, IsRefusedOrMemory}
+use Rattle.pap_plan.specs.AcceptanceClauses.{IsUnread}
 use Rattle.pap_plan.proofs.Laws as plans
 use Rattle.plan_answers.specs.Refusals.{read_detail, expr_detail, type_detail, order_detail, limits_detail, node_detail, HasDetail}
+use Rattle.plan_answers.specs.Refusals.{HasItsPlan}
 use Rattle.plan_answers.specs.Answers.{Answer, refusal, IsRefusal, acceptance, IsChecked, CheckAnswers}
 use Rattle.plan_answers.specs.Laws.{HasOneAnswer}
 
@@ -43,6 +47,20 @@ some_detail plan limits (refusals.Range (walks.At place cause)) (f, (l, bound, w
 some_detail plan limits (refusals.Range (walks.Output name)) h = (codes "plan Output " ++ name, refl)
 some_detail plan limits (refusals.Range (walks.Memory e)) (f, (l, bound, walked)) = absurd walked
 some_detail plan limits refusals.Memory h = absurd h
+
+-- the refusal of two texts is one of their plan
+pub its_plan : (plan limits : List ℕ) (r : PlanRefusal) → IsRefusedOrMemory plan limits r → HasItsPlan plan r
+its_plan plan limits (refusals.Range (walks.At place cause)) (f, (l, bound, walked)) =
+    (f, bound.suited.named.file.ordered.typed.text)
+its_plan plan limits _ h = tt
+
+-- a plan is read again, but for want of memory
+pub read_again : (plan : List ℕ) (f : Flowchart) (r : PlanRefusal) → IsPlan plan f → IsUnread plan r
+    → r ≡ refusals.Memory
+read_again plan f (refusals.Read fault) is h = absurd (never_both plan f (texts.Read fault) is h)
+read_again plan f (refusals.Expr spot fault) is h = absurd (never_both plan f (texts.Expr spot fault) is h)
+read_again plan f refusals.Memory is h = refl
+read_again plan f _ is h = absurd h
 
 pub one_refusal : (plan : List ℕ) (r : PlanRefusal) (a b : Answer) → IsRefusal plan r a → IsRefusal plan r b → a ≡ b
 one_refusal plan r a b h k = h.is ∙ ap refusal (one_detail plan r h.detail k.detail h.has k.has) ∙ sym k.is

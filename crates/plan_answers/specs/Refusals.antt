@@ -1,5 +1,5 @@
 -- How a refusal is written: its group, its name and its details, with one space between.
-use Rattle.std.specs.Prelude.{◌≡◌, ℕ, if◌then◌else◌, List, [], ◌++◌, codes, Option, Some}
+use Rattle.std.specs.Prelude.{◌≡◌, ℕ, if◌then◌else◌, List, [], ◌++◌, codes, Option, Some, ⊤}
 use Rattle.std.specs.Option.{option_and_then, option_map_or}
 use Rattle.std.specs.Fmt.{decimal as number}
 use Rattle.std.specs.Str.{bytes_eq}
@@ -140,3 +140,8 @@ HasDetail plan (refusals.Range (walks.At place cause)) detail =
 HasDetail plan (refusals.Range (walks.Output name)) detail = detail ≡ codes "plan Output " ++ name
 HasDetail plan (refusals.Range (walks.Memory e)) detail = ⊥
 HasDetail plan refusals.Memory detail = ⊥
+
+-- a refusal that names a node is one of this plan: the plan's text is read
+abbrev pub HasItsPlan : List ℕ → PlanRefusal → Type 0
+HasItsPlan plan (refusals.Range (walks.At place cause)) = (f : Flowchart) × IsPlan plan f
+HasItsPlan plan _ = ⊤

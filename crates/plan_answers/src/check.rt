@@ -4,6 +4,7 @@ ghost use Rattle.interval_analysis.specs.Answers.{named_range};
 ghost use Rattle.pap_types.specs.Meaning.{bound_of};
 ghost use Rattle.pap_plan.specs.Plans.{flowchart, meaning};
 ghost use Rattle.plan_answers.specs.Lines.{bound_line, range_line, range_lines};
+ghost use Rattle.plan_answers.specs.Refusals.{HasItsPlan};
 ghost use Rattle.plan_answers.specs.Answers.{acceptance, IsRefusal, CheckAnswers};
 ghost use Rattle.plan_answers.specs.ReplyViews.{reply_of};
 
@@ -25,8 +26,9 @@ pub fn check_reply(alloc: Global, plan: &[u8], limits: &[u8]) -> Result<Reply, A
     }
 }
 
-/// The refusal of a plan and its range file.
+/// The refusal of this plan and its range file. Where it names a node, the plan's text is read.
 pub fn refused(alloc: Global, plan: &[u8], fault: &PlanRefusal) -> Result<Reply, AllocError>
+    requires { HasItsPlan plan.now fault.now }
     ensures { IfOk result (λ reply. IsRefusal plan.now fault.now (reply_of reply)) }
 {
     let detail = refusal_detail(alloc, plan, fault)?;

@@ -2,7 +2,7 @@
 ghost use Rattle.std.specs.Prelude.{◌≡◌, IfOk};
 ghost use Rattle.pap_tree.specs.Flowchart.{flowchart_of};
 ghost use Rattle.plan_answers.specs.Refusals.{which_word, read_detail, expr_detail, type_detail, order_detail, limits_detail};
-ghost use Rattle.plan_answers.specs.Refusals.{cause_word, node_detail, HasDetail};
+ghost use Rattle.plan_answers.specs.Refusals.{cause_word, node_detail, HasDetail, HasItsPlan};
 
 use crate::places::spelling_at;
 use call_order::OrderFault;
@@ -16,12 +16,13 @@ use pap_tree::{Place, PlanText};
 use pap_types::TypeFault;
 use std::alloc::{AllocError, Global};
 
-/// The group, the name and the details of a refusal. The spelling of a node is read from the plan's text.
+/// The group, the name and the details of a refusal of this plan. The spelling of a node is read from the plan's text.
 pub(crate) fn refusal_detail(
     alloc: Global,
     plan: &[u8],
     refusal: &PlanRefusal,
 ) -> Result<Vec<u8>, AllocError>
+    requires { HasItsPlan plan.now refusal.now }
     ensures { IfOk result (λ detail. HasDetail plan.now refusal.now detail.items) }
 {
     match refusal {
@@ -39,8 +40,8 @@ pub(crate) fn refusal_detail(
         PlanRefusal::Bind { name } => Ok(format!(in alloc; "plan Bind {name}")?.into_bytes()),
         PlanRefusal::Range(RangeFault::At { place, cause }) => match read_plan(alloc, plan) {
             Ok(text) => node_detail(alloc, &text, place, *cause),
-            // The plan was read before, so that this is want of memory.
-            Err(_) => Err(AllocError),
+            Err(PlanRefusal::Memory) => Err(AllocError),
+            Err(_) => unreachable!(),
         },
         PlanRefusal::Range(RangeFault::Output { name }) => {
             Ok(format!(in alloc; "plan Output {name}")?.into_bytes())

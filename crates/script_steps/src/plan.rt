@@ -3,6 +3,7 @@ ghost use Rattle.std.specs.Prelude.{◌≡◌, ◌≢◌, ℕ, List, IfOk, OnErr
 ghost use Rattle.std.specs.Result.{ForErr};
 ghost use Rattle.outside.specs.Causes.{Caused};
 ghost use Rattle.plan_answers.specs.Answers.{IsRefusal};
+ghost use Rattle.plan_answers.specs.Refusals.{HasItsPlan};
 ghost use Rattle.script_steps.specs.Replies.{reply_of};
 ghost use Rattle.script_lang.specs.Commands as asked;
 ghost use Rattle.script_steps.specs.LineSteps.{IsPut, IsTextsStep, IsTrialStep};
@@ -136,6 +137,7 @@ fn refused_plan(
     limits: TextFile<'_>,
     fault: &PlanRefusal,
 ) -> Result<LineReply, AllocError>
+    requires { HasItsPlan plan.bytes.now fault.now }
     ensures { IfOk result (λ reply. IsRefusal plan.entry.bytes.now fault.now (reply_of reply)) }
 {
     let Reply { text, steps, .. } = plan_answers::refused(alloc, plan.bytes, fault)?;

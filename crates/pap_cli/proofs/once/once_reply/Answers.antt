@@ -5,8 +5,11 @@ use Rattle.pap_cli.specs.RunAnswers.{OnceAnswers}
 use Rattle.plan_answers.specs.ReplyViews.{reply_of}
 use Rattle.pap_cli.specs.FileClauses.{IsCounted}
 use Rattle.pap_cli.proofs.RunLemmas.{counted_map, once_accepted, once_refused}
-use Rattle.plan_answers.proofs.Laws.{if_ok_map, on_err_any, on_err_map, refusal_steps}
+use Rattle.plan_answers.proofs.Laws.{if_ok_map, its_plan, on_err_any, on_err_map, refusal_steps}
 use Rattle.pap_cli.proofs.once.once_reply.Goals as goal
+
+pub refused-requires : goal.refused-requires
+refused-requires g c = its_plan c.args.plan.now c.args.limits.now c.in-Err.fault c.in-Err.ensures.refused
 
 pub returns : goal.returns
 returns g c = record {

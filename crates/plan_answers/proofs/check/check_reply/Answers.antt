@@ -2,8 +2,12 @@ use Rattle.std.proofs.Common.{◌≡◌}
 use Rattle.pap_plan.specs.Plans.{meaning}
 use Rattle.plan_answers.specs.Answers.{acceptance, IsRefusal, CheckAnswers}
 use Rattle.plan_answers.specs.ReplyViews.{reply_of}
+use Rattle.plan_answers.proofs.AnswerLemmas.{its_plan}
 use Rattle.plan_answers.proofs.ReplyLemmas.{if_ok_map, check_accepted, check_refused}
 use Rattle.plan_answers.proofs.check.check_reply.Goals as goal
+
+pub refused-requires : goal.refused-requires
+refused-requires c = its_plan c.args.plan.now c.args.limits.now c.in-Err.fault c.in-Err.ensures.refused
 
 pub returns-in-Err : goal.returns-in-Err
 returns-in-Err c =
