@@ -1,6 +1,7 @@
 //! What is said of a plan, with a range file or without one.
 ghost use Rattle.std.specs.Prelude.{◌≡◌, IfOk, IsTrue, option_map, is_none, string_bytes};
 ghost use Rattle.plain_words.specs.Places.{named_text, files_of};
+ghost use Rattle.plan_answers.specs.Refusals.{HasItsPlan};
 ghost use Rattle.flowchart_page.specs.Verdicts.{lacks_limit, file_or_none, IsJudged};
 ghost use Rattle.flowchart_page.specs.Findings.{IsFound};
 ghost use Rattle.flowchart_page.specs.Pages.{IsRefusalLine, Says};
@@ -85,6 +86,7 @@ fn reason_of(
     ranges: TextFile<'_>,
     refusal: PlanRefusal,
 ) -> Result<Reason, AllocError>
+    requires { HasItsPlan plan.bytes.now refusal }
     ensures refusal { IfOk result (λ reason. reason.refusal ≡ refusal) }
     ensures says { IfOk result (λ reason. SaysRefusal (files_of plan.entry ranges.entry) refusal
         (string_bytes reason.words)) }
@@ -102,6 +104,7 @@ fn reason_of(
 
 /// The line that is written of a refusal, without its end.
 fn refusal_line(alloc: Global, plan: &[u8], refusal: &PlanRefusal) -> Result<String, AllocError>
+    requires { HasItsPlan plan.now refusal.now }
     ensures { IfOk result (λ line. IsRefusalLine plan.now refusal.now (string_bytes line)) }
 {
     let reply = refused(alloc, plan, refusal)?;
