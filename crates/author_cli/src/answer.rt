@@ -7,6 +7,7 @@ ghost use Rattle.author_cli.specs.Words.{chart, chart_within, ranges};
 ghost use Rattle.author_cli.specs.WordViews.{form_of};
 ghost use Rattle.author_cli.specs.Answers.{IsChart, IsUnread, IsRanges};
 ghost use Rattle.author_cli.specs.AnswerViews.{answer_of, Makes};
+ghost use Rattle.author_cli.specs.Outside.{outside_of};
 ghost use Rattle.author_cli.specs.CallClauses.{Leaves};
 
 use crate::stop::Stop;
@@ -36,21 +37,8 @@ pub(crate) fn write_answer<F: Files, W: Sink>(
     sink: &mut W,
 ) -> Result<Option<String>, Stop>
     ensures leaves { Leaves (form_of request.entry)
-        (record {
-          files = F.told files.old;
-          failed = F.failed files.old;
-          file_faults = F.faults files.old;
-          written = W.written sink.old;
-          sink_faults = W.faults sink.old;
-        })
-        (record {
-          files = F.told files.new;
-          failed = F.failed files.new;
-          file_faults = F.faults files.new;
-          written = W.written sink.new;
-          sink_faults = W.faults sink.new;
-        })
-        result }
+        (outside_of F.Files W.Sink files.old sink.old)
+        (outside_of F.Files W.Sink files.new sink.new) result }
     ensures same { F.told files.new ≡ F.told files.old }
     ensures file { Caused Stop.File (F.faults files.old) (F.faults files.new) result }
     ensures write { Caused Stop.Write (W.faults sink.old) (W.faults sink.new) result }

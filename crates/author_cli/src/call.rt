@@ -2,7 +2,7 @@
 ghost use Rattle.std.specs.Prelude.{◌≡◌, Err, IsErrOf};
 ghost use Rattle.outside.specs.Causes.{Rose};
 ghost use Rattle.author_cli.specs.Words.{texts, Form, HasForm, IsBad};
-ghost use Rattle.author_cli.specs.Outside.{IsUntouched};
+ghost use Rattle.author_cli.specs.Outside.{IsUntouched, outside_of};
 ghost use Rattle.author_cli.specs.CallClauses.{Carries};
 ghost use Rattle.author_cli.specs.Laws.{HaveOneForm};
 ghost use Rattle.author_cli.specs.DraftLaws.{WidestSuit};
@@ -44,21 +44,8 @@ pub fn pap_author<F: Files, W: Sink>(
     // and no outside call fails, what is written is the page or the range file, or the refusal in its place, and the
     // words of `Ok` say why the plan is refused, where it is.
     ensures carries { (form : Form) → HasForm (texts words.now) form → Carries form
-        (record {
-          files = F.told files.old;
-          failed = F.failed files.old;
-          file_faults = F.faults files.old;
-          written = W.written sink.old;
-          sink_faults = W.faults sink.old;
-        })
-        (record {
-          files = F.told files.new;
-          failed = F.failed files.new;
-          file_faults = F.faults files.new;
-          written = W.written sink.new;
-          sink_faults = W.faults sink.new;
-        })
-        result }
+        (outside_of F.Files W.Sink files.old sink.old)
+        (outside_of F.Files W.Sink files.new sink.new) result }
 {
     match read_words(words) {
         Some(request) => write_answer(alloc, request, files, sink),
