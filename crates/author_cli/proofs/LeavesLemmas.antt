@@ -2,7 +2,7 @@
 use Rattle.std.proofs.Common.{◌≡◌, ℕ, List, ◌++◌, refl, sym, ap, subst, arith}
 use Rattle.std.specs.Prelude.{Option, Some, None, Ok, Err, IsErrOf}
 use Rattle.outside.specs.Causes.{Rose, Still}
-use Rattle.outside.specs.Told.{Appends, AppendsPrefix}
+use Rattle.outside.specs.Told.{Appends, AppendsShort}
 use Rattle.outside.specs.declared.traits.FileAnswer.{FileAnswer}
 use Rattle.outside.specs.declared.traits.FileAnswer.TheVariants as files
 use Rattle.author_cli.specs.declared.answer.Answer.{Answer as Made}
@@ -39,7 +39,7 @@ leaves_whole form before after made made_so appended =
 -- the sink failed
 pub leaves_cut : (form : Form) (before after : Outside) (made : Made)
     → Makes form before.files before.failed after.failed (Ok made)
-    → AppendsPrefix before.written after.written made.text.items → Leaves form before after (Err stops.Write)
+    → AppendsShort before.written after.written made.text.items → Leaves form before after (Err stops.Write)
 leaves_cut form before after made made_so part =
     record { answer = answer_of made; written = part; answers = made_so.0; kept = made_so.1 }
 

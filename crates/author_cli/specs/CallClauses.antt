@@ -3,7 +3,7 @@ use Rattle.std.specs.Prelude.{◌≡◌, ◌≢◌, ℕ, List, ◌++◌, Option,
 use Rattle.std.specs.Option.{ForSome}
 use Rattle.std.specs.declared.alloc.Global.{Global}
 use Rattle.outside.specs.Causes.{Still}
-use Rattle.outside.specs.Told.{FileMap, Appends, AppendsPrefix}
+use Rattle.outside.specs.Told.{FileMap, Appends, AppendsShort}
 use Rattle.plan_answers.specs.Fronts.{IsMissing}
 use Rattle.author_cli.specs.declared.stop.Stop.TheVariants as stops
 use Rattle.author_cli.specs.Words.{Form, chart, chart_within, ranges}
@@ -29,7 +29,7 @@ pub record IsWholeAnswer (form : Form) (before after : Outside) (words : Option 
 -- a front of the answer was written, and not the whole
 pub record IsCutShort (form : Form) (before after : Outside) : Type 0 where
   pub answer : Answer
-  pub written : AppendsPrefix before.written after.written answer.text
+  pub written : AppendsShort before.written after.written answer.text
   pub answers : ForSome before.files (λ files. Answers form files answer)
   pub kept : after.failed ≡ before.failed
 

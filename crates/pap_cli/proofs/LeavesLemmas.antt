@@ -2,7 +2,7 @@
 use Rattle.std.proofs.Common.{◌≡◌, ℕ, ◌+◌, ◌≤◌, Bool, List, [], ◌++◌, take, refl, sym, ap, ◌∙◌, subst, arith, inl, inr}
 use Rattle.std.specs.Prelude.{Option, Some, Result, Err}
 use Rattle.outside.specs.Causes.{Rose}
-use Rattle.outside.specs.Told.{FileMap, Appends, AppendsPrefix}
+use Rattle.outside.specs.Told.{FileMap, Appends, AppendsShort}
 use Rattle.outside.proofs.Laws.{Appends-nothing}
 use Rattle.outside.specs.declared.traits.FileAnswer.{FileAnswer}
 use Rattle.outside.specs.declared.traits.FileAnswer.TheVariants as files
@@ -57,7 +57,7 @@ module _ (Answers : Answering) (plan limits : List ℕ) (told told' : Option Fil
     }
 
     -- the sink failed
-    pub leaves_cut : AppendsPrefix first written reply.text.items → Left WriteFault
+    pub leaves_cut : AppendsShort first written reply.text.items → Left WriteFault
     leaves_cut part = record {
       out = take part.count reply.text.items;
       appended = part.appended;

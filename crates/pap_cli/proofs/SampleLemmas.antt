@@ -2,7 +2,7 @@
 use Rattle.std.proofs.Common.{◌≡◌, ℕ, ◌+◌, ◌≤◌, ◌<◌, Bool, List, [], ◌++◌, length, take, refl, sym, ap, ◌∙◌, subst, arith}
 use Rattle.std.specs.Prelude.{Option, Some, Result, Err}
 use Rattle.outside.specs.Causes.{Rose}
-use Rattle.outside.specs.Told.{Appends, AppendsPrefix}
+use Rattle.outside.specs.Told.{Appends, AppendsShort}
 use Rattle.outside.proofs.Laws.{Appends-nothing}
 use Rattle.plan_answers.specs.Answers.{Answer}
 use Rattle.script_run.specs.RefusedLines.{tells_one}
@@ -61,7 +61,7 @@ module _ (employees began steps : ℕ) (first written : Option (List ℕ)) (ende
       }
 
   -- the sink failed
-  pub leaves_cut : AppendsPrefix first written text → LeavesOnSample employees (output first began) (output written steps) WriteFault
+  pub leaves_cut : AppendsShort first written text → LeavesOnSample employees (output first began) (output written steps) WriteFault
   leaves_cut part =
       let cost : steps ≡ began + (is.session).steps = is.cost in
       record {

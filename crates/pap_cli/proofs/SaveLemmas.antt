@@ -3,7 +3,7 @@ use Rattle.std.proofs.Common.{◌≡◌, ◌≢◌, ℕ, ◌-◌, ◌≤◌, Boo
 use Rattle.std.specs.Prelude.{Option, Some, None, Result, Ok, Err, codes}
 use Rattle.std.specs.Option.{ForSome}
 use Rattle.outside.specs.Causes.{Rose}
-use Rattle.outside.specs.Told.{FileMap, Appends, AppendsPrefix}
+use Rattle.outside.specs.Told.{FileMap, Appends, AppendsShort}
 use Rattle.outside.proofs.Laws.{Appends-nothing}
 use Rattle.plan_answers.specs.Answers.{Answer, refusal}
 use Rattle.plan_answers.specs.ReplyViews.{reply_of}
@@ -95,7 +95,7 @@ module _ (before after : Outside) (ended : Unwritten) (reply : Reply)
   }
 
   -- the sink failed
-  pub leaves_cut : AppendsPrefix before.written after.written reply.text.items → LeavesOnSave before after WriteFault
+  pub leaves_cut : AppendsShort before.written after.written reply.text.items → LeavesOnSave before after WriteFault
   unfolding saved_with
   leaves_cut part = record {
     result = Ok (tells_one ended.refused_lines);

@@ -2,9 +2,8 @@
 use Rattle.std.proofs.Common.{◌≡◌, ℕ, List, ◌++◌, take, drop, sym, ap, ◌∙◌, append_assoc}
 use Rattle.std.specs.Prelude.{Option}
 use Rattle.std.proofs.lemmas.List.{take-append-drop}
-use Rattle.outside.specs.Told.{Appends, AppendsPrefix}
+use Rattle.outside.specs.Told.{Appends, AppendsFront, AppendsShort}
 use Rattle.outside.proofs.Laws.{Appends-then}
-use Rattle.report_csv.specs.Fronts.{AppendsFront}
 
 -- a part of the whole was appended, and the other is to come
 pub record IsUnderway (old now : Option (List ℕ)) (whole rest : List ℕ) : Type 0 where
@@ -43,7 +42,7 @@ front_then o m n whole piece rest h f =
       appended = Appends-then o m n h.done f.front h.appended f.appended;
     }
 
-pub prefix_front : (m n : Option (List ℕ)) (piece : List ℕ) → AppendsPrefix m n piece → AppendsFront m n piece
+pub prefix_front : (m n : Option (List ℕ)) (piece : List ℕ) → AppendsShort m n piece → AppendsFront m n piece
 prefix_front m n piece p =
     record { front = take p.count piece; rest = drop p.count piece; parts = sym (take-append-drop p.count piece); appended = p.appended }
 

@@ -2,5 +2,4 @@ pub mod Reports
 pub mod ReportTexts
 pub mod TableParts
 pub mod ReportLaws
-pub mod Fronts
 pub mod Views

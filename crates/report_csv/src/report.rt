@@ -1,10 +1,9 @@
 //! The whole report.
 ghost use Rattle.std.specs.Prelude.{◌≡◌, ◌++◌, OnErr, OnOk};
 ghost use Rattle.outside.specs.Causes.{Caused};
-ghost use Rattle.outside.specs.Told.{Appends};
+ghost use Rattle.outside.specs.Told.{Appends, AppendsFront};
 ghost use Rattle.report_csv.specs.ReportLaws.{ReportsAreJoined, ReportsAreTheirYears, ReportsOfPartsAreJoined};
 ghost use Rattle.report_csv.specs.ReportTexts.{months_text, report_text};
-ghost use Rattle.report_csv.specs.Fronts.{AppendsFront};
 ghost use Rattle.report_csv.specs.declared.report.ReportFault.TheVariants.{Memory, Write};
 
 use crate::rows::Rows;

@@ -16,10 +16,7 @@ pub cut_lost : {told : Option FileMap} {old new : Option
 cut_lost {to = to} cut = record {
   to = to;
   answer = cut.answer;
-  front = [];
-  rest = (cut.answer).text;
-  parts = refl;
-  appended = tt;
+  part = record { front = []; rest = (cut.answer).text; parts = refl; appended = tt };
   later = cut.later;
   within = cut.within;
   is = cut.is;
@@ -34,10 +31,7 @@ answer_lost {before = before} {now = now} {to = to} answered =
     record {
       to = to;
       answer = answered.answer;
-      front = [];
-      rest = (answered.answer).text;
-      parts = refl;
-      appended = tt;
+      part = record { front = []; rest = (answered.answer).text; parts = refl; appended = tt };
       later = omega arith;
       within = omega arith;
       is = answered.is;
@@ -63,10 +57,7 @@ stop_kept told old new before now from to line failed Memory other broken = elim
   | inr part ↦ inr (record {
     to = part.to;
     answer = part.answer;
-    front = part.front;
-    rest = part.rest;
-    parts = part.parts;
-    appended = tt;
+    part = record { front = part.part.front; rest = part.part.rest; parts = part.part.parts; appended = tt };
     later = part.later;
     within = part.within;
     is = part.is;

@@ -100,10 +100,7 @@ broken_same {from = from} {said = said} {line = line} same Memory broken = recor
     | inr part ↦ inr (record {
       to = part.to;
       answer = part.answer;
-      front = part.front;
-      rest = part.rest;
-      parts = part.parts;
-      appended = part.appended;
+      part = part.part;
       later = part.later;
       within = part.within;
       is = λ files e. step_same files from part.to said line part.answer same (part.is files e);
@@ -352,13 +349,15 @@ leaves_part {before = before} {old = old} {new = new} {bytes = bytes} {script = 
     let later : old.steps ≤ new.steps = part.later in
     let within : new.steps ≤ old.steps + (part.answer).steps = part.within in
     let less : new.steps - before.steps ≤ (old.steps - before.steps) + (part.answer).steps = omega arith in
+    let front = (part.part).front in
     record {
-      out = stands.out ++ part.front;
-      appended = Appends-then before.written old.written new.written stands.out part.front stands.appended
-          part.appended;
+      out = stands.out ++ front;
+      appended = Appends-then before.written old.written new.written stands.out front stands.appended
+          (part.part).appended;
       counted = omega arith;
       front = λ files e whole transcript.
-          front_part stands.out (part.answer).text part.front part.rest (new.steps - before.steps) _ part.parts less
+          front_part stands.out (part.answer).text front (part.part).rest (new.steps - before.steps) _
+          (part.part).parts less
           (front_next files (ended_lines bytes) place.later line script _ part.to part.answer place.lines
           (stands.answered files e) (part.is files (stands.same ∙ e)) whole transcript);
       tells = tt;
@@ -474,10 +473,12 @@ answered_lost {old = old} {new = new} {to = to} delivered =
       is = inr (record {
         to = to;
         answer = answered.answer;
-        front = (answered.answer).text;
-        rest = [];
-        parts = sym (append-nil (answered.answer).text);
-        appended = answered.appended;
+        part = record {
+          front = (answered.answer).text;
+          rest = [];
+          parts = sym (append-nil (answered.answer).text);
+          appended = answered.appended;
+        };
         later = omega arith;
         within = omega arith;
         is = answered.is;

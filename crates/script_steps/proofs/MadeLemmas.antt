@@ -120,10 +120,7 @@ module _ (told : Option FileMap) (old new : Option (List ℕ)) (before now : ℕ
         inr (record {
           to = to;
           answer = answer;
-          front = u.front;
-          rest = u.rest;
-          parts = u.parts;
-          appended = u.appended;
+          part = u;
           later = omega (arith, is);
           within = omega (arith, is);
           is = step_of to answer m.is;
@@ -152,10 +149,12 @@ module _ (told : Option FileMap) (old new : Option (List ℕ)) (before now : ℕ
     unmade to failed stops.Memory same left (inr l) = inr (record {
       to = l.to;
       answer = l.answer;
-      front = [];
-      rest = l.answer.text;
-      parts = refl;
-      appended = subst (λ n. Appends old n []) (sym same) (Appends-nothing old);
+      part = record {
+        front = [];
+        rest = l.answer.text;
+        parts = refl;
+        appended = subst (λ n. Appends old n []) (sym same) (Appends-nothing old);
+      };
       later = l.later;
       within = l.within;
       is = step_of l.to l.answer l.is;

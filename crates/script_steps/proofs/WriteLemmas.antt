@@ -5,10 +5,9 @@ use Rattle.std.specs.Prelude.{Option, Result}
 use Rattle.std.specs.Result.{ForErr}
 use Rattle.std.proofs.Math.Seq.{take-append_seam, take-append-add}
 use Rattle.outside.specs.Causes.{Caused}
-use Rattle.outside.specs.Told.{Appends, AppendsPrefix}
+use Rattle.outside.specs.Told.{Appends, AppendsFront, AppendsShort}
 use Rattle.outside.proofs.Laws.{Appends-then}
 use Rattle.script_lang.specs.declared.fault.LineFault.{LineFault}
-use Rattle.report_csv.specs.Fronts.{AppendsFront}
 use Rattle.plan_answers.specs.Answers.{Answer}
 use Rattle.script_steps.specs.declared.stop.LineStop.{LineStop}
 use Rattle.script_steps.specs.declared.stop.LineStop.TheVariants as stops
@@ -26,7 +25,7 @@ first_front old new first rest f = record {
 
 -- and not the whole where there is a second part
 pub first_prefix : (old new : Option (List ℕ)) (first rest : List ℕ) → 0 < length rest → AppendsFront old new first
-    → AppendsPrefix old new (first ++ rest)
+    → AppendsShort old new (first ++ rest)
 first_prefix old new first rest some f =
     let size : length first ≡ length f.front + length f.rest = ap length f.parts ∙ length-append f.front f.rest in
     let whole = length-append first rest in
@@ -42,7 +41,7 @@ first_prefix old new first rest some f =
 
 -- a part of the second, after the first
 pub second_prefix : (old mid new : Option (List ℕ)) (first rest : List ℕ) → Appends old mid first
-    → AppendsPrefix mid new rest → AppendsPrefix old new (first ++ rest)
+    → AppendsShort mid new rest → AppendsShort old new (first ++ rest)
 second_prefix old mid new first rest a p =
     let whole = length-append first rest in
     let less = p.within in

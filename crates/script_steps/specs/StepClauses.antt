@@ -1,7 +1,7 @@
 -- What answering a line did to the script, the sink and the counter.
-use Rattle.std.specs.Prelude.{◌≡◌, ◌⊎◌, ℕ, ◌+◌, ◌≤◌, List, [], ◌++◌, Bool, Option, Some}
+use Rattle.std.specs.Prelude.{◌≡◌, ◌⊎◌, ℕ, ◌+◌, ◌≤◌, List, [], Bool, Option, Some}
 use Rattle.std.specs.Option.{ForSome}
-use Rattle.outside.specs.Told.{FileMap, Appends, AppendsPrefix}
+use Rattle.outside.specs.Told.{FileMap, Appends, AppendsFront, AppendsShort}
 use Rattle.script_steps.specs.declared.stop.LineStop.{LineStop}
 use Rattle.script_steps.specs.declared.stop.LineStop.TheVariants as stops
 use Rattle.script_steps.specs.LineSteps.{IsNextFile}
@@ -28,10 +28,7 @@ pub record IsPart
     (from : Standing) (line : List ℕ) : Type 0 where
   pub to : Standing
   pub answer : Answer
-  pub front : List ℕ
-  pub rest : List ℕ
-  pub parts : answer.text ≡ front ++ rest
-  pub appended : Appends old new front
+  pub part : AppendsFront old new answer.text
   pub later : before ≤ now
   pub within : now ≤ before + answer.steps
   pub is : ForSome told (λ files. IsStep files from line to answer)
@@ -42,7 +39,7 @@ pub record IsCutShort
     (told : Option FileMap) (old new : Option (List ℕ)) (before now : ℕ)
     (from to : Standing) (line : List ℕ) : Type 0 where
   pub answer : Answer
-  pub part : AppendsPrefix old new answer.text
+  pub part : AppendsShort old new answer.text
   pub later : before ≤ now
   pub within : now ≤ before + answer.steps
   pub is : ForSome told (λ files. IsStep files from line to answer)

@@ -1,7 +1,7 @@
 -- What the function of a kind of line leaves, before its answer is written.
 use Rattle.std.specs.Prelude.{◌≡◌, ◌⊎◌, ℕ, ◌+◌, ◌≤◌, List, [], ◌++◌, Bool, Option, Some, Result, Ok, Err}
 use Rattle.std.specs.Option.{ForSome}
-use Rattle.outside.specs.Told.{FileMap, Appends, AppendsPrefix}
+use Rattle.outside.specs.Told.{FileMap, Appends, AppendsFront, AppendsShort}
 use Rattle.script_lang.specs.Commands.{Asked}
 use Rattle.script_lang.specs.declared.fault.LineFault.{LineFault}
 use Rattle.script_lang.specs.declared.fault.LineFault.TheVariants as lines
@@ -21,7 +21,6 @@ use Rattle.book_file.specs.declared.refusal.BookFault.TheVariants as books
 use Rattle.what_if.specs.declared.trial.Trial.{Trial}
 use Rattle.what_if.specs.declared.trial.TryRefusal.{TryRefusal}
 use Rattle.what_if.specs.declared.trial.TryRefusal.TheVariants as trying
-use Rattle.report_csv.specs.Fronts.{AppendsFront}
 use Rattle.plan_answers.specs.Answers.{Answer, refusal}
 use Rattle.script_steps.specs.declared.stop.LineStop.{LineStop}
 use Rattle.script_steps.specs.declared.stop.LineStop.TheVariants as stops
@@ -116,7 +115,7 @@ pub record IsWritten (old new : Option (List ℕ)) (text : List ℕ) (mark refus
 -- a front of the text, which is not the whole where the sink failed
 abbrev pub IsFrontWritten : Option (List ℕ) → Option (List ℕ) → List ℕ → LineStop → Type 0
 IsFrontWritten old new text stops.File = ⊥
-IsFrontWritten old new text stops.Write = AppendsPrefix old new text
+IsFrontWritten old new text stops.Write = AppendsShort old new text
 IsFrontWritten old new text stops.Memory = AppendsFront old new text
 
 -- the same of the refusal of a line; out of memory nothing is written of it
@@ -128,7 +127,7 @@ pub record IsRefusalWritten (old new : Option (List ℕ)) (why : LineFault) (ref
 pub record IsRefusalCut (old new : Option (List ℕ)) (why : LineFault) : Type 0 where
   pub answer : Answer
   pub is : IsLineRefusal why answer
-  pub cut : AppendsPrefix old new answer.text
+  pub cut : AppendsShort old new answer.text
 
 abbrev pub IsRefusalUnwritten : Option (List ℕ) → Option (List ℕ) → LineFault → LineStop → Type 0
 IsRefusalUnwritten old new why stops.File = ⊥

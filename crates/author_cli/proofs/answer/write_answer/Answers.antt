@@ -1,5 +1,5 @@
 use Rattle.std.proofs.Common.{◌≡◌, subst}
-use Rattle.outside.specs.Told.{AppendsPrefix}
+use Rattle.outside.specs.Told.{AppendsShort}
 use Rattle.author_cli.specs.AnswerViews.{answer_of}
 use Rattle.author_cli.proofs.answer.write_answer.Goals as goal
 
@@ -13,7 +13,7 @@ returns-clause-leaves g c =
     let after = g.W.Sink.written c.put_all.new.sink in
     record {
       answer = answer_of made;
-      written = subst (λ t. AppendsPrefix before after t) same c.in-Err.ensures.err;
+      written = subst (λ t. AppendsShort before after t) same c.in-Err.ensures.err;
       answers = c.in_ok-text.ensures.made.0;
       kept = c.in_ok-text.ensures.made.1;
     }

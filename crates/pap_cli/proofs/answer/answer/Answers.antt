@@ -1,7 +1,7 @@
 use Rattle.std.proofs.Common.{◌∙◌, ap, subst}
 use Rattle.std.specs.Prelude.{Err}
 use Rattle.std.proofs.lemmas.Result.{err_from_is_err_and}
-use Rattle.outside.specs.Told.{Appends, AppendsPrefix}
+use Rattle.outside.specs.Told.{Appends, AppendsShort}
 use Rattle.plan_answers.specs.ReplyViews.{reply_of}
 use Rattle.pap_cli.specs.AnswerViews.{answers_of}
 use Rattle.pap_cli.specs.FileClauses.{IsCounted}
@@ -44,4 +44,4 @@ returns-clause-leaves g c =
     let text = c.deref-3.ensures.value in
     leaves_cut (answers_of cmd) c.args.request.plan.now c.args.request.limits.now (g.F.Files.told c.args.files.now) (g.F.Files.told c.read_both.new.files) (g.F.Files.failed c.args.files.now) (g.F.Files.failed c.read_both.new.files) (g.W.Sink.written c.args.sink.now) (g.W.Sink.written c.put_all.new.sink) c.args.steps.now c.reply_on_bytes.new.steps reply
     (λ files e. answers_both cmd c.args.request.plan.now c.args.request.limits.now c.in_ok-plan_bytes.plan_bytes.items c.in_ok-plan_bytes.limits_bytes.items files (reply_of reply) (c.in_ok-plan_bytes.ensures.read files e) both)
-    c.in_ok-reply.ensures.counted c.in_ok-plan_bytes.ensures.kept (subst (λ t. AppendsPrefix (g.W.Sink.written c.args.sink.now) (g.W.Sink.written c.put_all.new.sink) t) text c.in-Err.ensures.err)
+    c.in_ok-reply.ensures.counted c.in_ok-plan_bytes.ensures.kept (subst (λ t. AppendsShort (g.W.Sink.written c.args.sink.now) (g.W.Sink.written c.put_all.new.sink) t) text c.in-Err.ensures.err)

@@ -1,7 +1,7 @@
 use Rattle.std.proofs.Common.{◌∙◌, Bool, ap, sym, subst, refl}
 use Rattle.std.specs.Prelude.{Err}
 use Rattle.std.proofs.lemmas.Result.{err_from_is_err_and}
-use Rattle.outside.specs.Told.{Appends, AppendsPrefix}
+use Rattle.outside.specs.Told.{Appends, AppendsShort}
 use Rattle.script_run.specs.RefusedLines.{tells_one}
 use Rattle.pap_cli.specs.Statuses.{status_of}
 use Rattle.pap_cli.specs.Outside.{objects, outside_of}
@@ -39,7 +39,7 @@ returns-in-Err-clause-leaves g c =
     (subst (λ (r : Bool). IsSave r (was_filed ended.script) ended.refusals.items ended.script.book (written_of reply))
     c.any-refused.ensures c.in_ok-reply.ensures)
     (c.in_ok-ended.ensures.kept (λ e. cc))
-    (subst (λ t. AppendsPrefix before.written after.written t) c.deref.ensures.value c.in-Err.ensures.err)
+    (subst (λ t. AppendsShort before.written after.written t) c.deref.ensures.value c.in-Err.ensures.err)
 
 pub returns-in_err-ended-clause-leaves : goal.returns-in_err-ended-clause-leaves
 returns-in_err-ended-clause-leaves g c =
