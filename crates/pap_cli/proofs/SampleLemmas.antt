@@ -6,7 +6,7 @@ use Rattle.outside.specs.Told.{Appends, AppendsShort}
 use Rattle.outside.proofs.Laws.{Appends-nothing}
 use Rattle.plan_answers.specs.Answers.{Answer}
 use Rattle.script_run.specs.RefusedLines.{tells_one}
-use Rattle.script_run.specs.RunClauses.{IsFinished, IsSpentWithin as IsRunWithin}
+use Rattle.script_run.specs.RunClauses.{IsFinished, IsSpentWithin}
 use Rattle.script_run.specs.Samples.{sample_lines, script_of}
 use Rattle.script_run.specs.SampleFiles.{sample_files}
 use Rattle.script_run.specs.Transcripts.{Session, IsTranscript}
@@ -19,7 +19,7 @@ use Rattle.script_run.specs.declared.stop.Stop.TheVariants as stops
 use Rattle.pap_cli.specs.Statuses.{done_status, status_of}
 use Rattle.pap_cli.specs.Outside.{Outside, output, output_of}
 use Rattle.pap_cli.specs.SampleAnswers.{IsSampled, summary_text}
-use Rattle.pap_cli.specs.SampleClauses.{IsSpentWithin, LeavesOnSample, HeadlineOnSample}
+use Rattle.pap_cli.specs.SampleClauses.{IsSpentOnSample, LeavesOnSample, HeadlineOnSample}
 use Rattle.pap_cli.proofs.StatusLemmas.{appended_told, is_done, no_file, no_memory, no_write, not_bad, not_long, not_read}
 use Rattle.pap_cli.proofs.StatusLemmas.{rose_and_still}
 
@@ -33,7 +33,7 @@ sampled : (employees : ℕ) (session : Session) → IsTranscript sample_files (s
 sampled employees session is = record { session = session; is = is; text = refl; refused = refl; cost = refl }
 
 -- what was counted where memory ran out
-pub spent_within : (employees began steps : ℕ) → IsRunWithin sample_files (script_of (sample_lines employees)) began steps → IsSpentWithin employees began steps
+pub spent_within : (employees began steps : ℕ) → IsSpentWithin sample_files (script_of (sample_lines employees)) began steps → IsSpentOnSample employees began steps
 spent_within employees began steps h = record { answer = answer_of employees h.session; is = sampled employees h.session h.is; within = h.within }
 
 -- ---- a sample that was run to its end
@@ -79,7 +79,7 @@ module _ (employees began steps : ℕ) (first written : Option (List ℕ)) (ende
       }
 
 -- memory ran out before anything was written
-pub leaves_memory : (employees began steps : ℕ) (first : Option (List ℕ)) → began ≤ steps → IsSpentWithin employees began steps →
+pub leaves_memory : (employees began steps : ℕ) (first : Option (List ℕ)) → began ≤ steps → IsSpentOnSample employees began steps →
     LeavesOnSample employees (output first began) (output first steps) NoMemory
 leaves_memory employees began steps first later spent = record {
   out = [];
@@ -96,7 +96,7 @@ leaves_memory employees began steps first later spent = record {
 }
 
 -- at a stop
-pub leaves_stop : (employees began steps : ℕ) (first : Option (List ℕ)) → IsRunWithin sample_files (script_of (sample_lines employees)) began steps → (r : Result Bool Stop) → r ≡ Err stops.Memory →
+pub leaves_stop : (employees began steps : ℕ) (first : Option (List ℕ)) → IsSpentWithin sample_files (script_of (sample_lines employees)) began steps → (r : Result Bool Stop) → r ≡ Err stops.Memory →
     LeavesOnSample employees (output first began) (output first steps) (status_of r)
 leaves_stop employees began steps first h r is =
     subst (λ x. LeavesOnSample employees (output first began) (output first steps) (status_of x)) (sym is)

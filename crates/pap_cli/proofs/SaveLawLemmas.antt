@@ -12,7 +12,7 @@ use Rattle.plan_answers.specs.Lines.{refusal_line}
 use Rattle.script_steps.specs.Steps.{AreThere}
 use Rattle.script_run.specs.Transcripts.{lines_of}
 use Rattle.script_run.proofs.Laws as script
-use Rattle.pap_cli.specs.SaveAnswers.{Written, refused_with, IsVerdict, IsBookWritten, IsSave, IsSaveOf, was_filed, IsSaved}
+use Rattle.pap_cli.specs.SaveAnswers.{Written, refused_with, IsVerdict, IsBookWritten, IsSave, IsSaveOf, was_filed, SaveAnswers}
 use Rattle.pap_cli.specs.Laws.{ScriptsHaveOneSave}
 
 -- ---- no two
@@ -39,7 +39,7 @@ same_answer a b w s =
     let second : record { text = b.text; refused = b.refused; steps = a.steps } ≡ b = ap (λ n. record { text = b.text; refused = b.refused; steps = n }) s in
     first ∙ second
 
-same_saved : BooksAreSavedOneWay → (files : FileMap) (text : List ℕ) (a b : Answer) → IsSaved files text a → IsSaved files text b → a ≡ b
+same_saved : BooksAreSavedOneWay → (files : FileMap) (text : List ℕ) (a b : Answer) → SaveAnswers files text a → SaveAnswers files text b → a ≡ b
 same_saved one files text a b h k =
     let same = script.one files text h.session k.session h.is k.is in
     let session = k.session in
@@ -59,7 +59,7 @@ some_save some true filed refusals book = (refused_with refusals, refl)
 some_save some false true refusals book = (refused_with (refusal_line (codes "book Filed")), refl)
 some_save some false false refusals book = let said = some book in some_verdict book said.0 said.1
 
-some_saved : BooksAreSaved → (files : FileMap) (text : List ℕ) → All (λ line. AreThere files line) (lines_of text) → (a : Answer) × IsSaved files text a
+some_saved : BooksAreSaved → (files : FileMap) (text : List ℕ) → All (λ line. AreThere files line) (lines_of text) → (a : Answer) × SaveAnswers files text a
 some_saved some files text there =
     let has = script.some files text in
     let session = has.session in

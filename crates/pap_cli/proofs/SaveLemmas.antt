@@ -24,7 +24,7 @@ use Rattle.pap_cli.specs.Outside.{Outside}
 use Rattle.recalc_engine.specs.Contents.{Contents}
 use Rattle.book_file.specs.Saving.{SaveSays}
 use Rattle.book_file.specs.declared.refusal.SaveRefusal.TheVariants as unsaved
-use Rattle.pap_cli.specs.SaveAnswers.{Written, IsBookWritten, IsSave, IsSaved, was_filed}
+use Rattle.pap_cli.specs.SaveAnswers.{Written, IsBookWritten, IsSave, SaveAnswers, was_filed}
 use Rattle.pap_cli.specs.SaveClauses.{unwritten, IsSaveEnd, SaveEnds, LeavesOnSave, IsSavedWhole, HeadlineOnSave}
 use Rattle.pap_cli.specs.SaveViews.{written_of}
 use Rattle.pap_cli.proofs.StatusLemmas.{appended_told, no_write, rose_and_still, written_whole}
@@ -46,7 +46,7 @@ same_save ended session reply p q r h =
 -- what was counted of it
 pub record IsSavedWith (files : FileMap) (script : List ℕ) (reply : Reply) (spent : ℕ) : Type 0 where
   pub answer : Answer
-  pub is : IsSaved files script answer
+  pub is : SaveAnswers files script answer
   pub text : reply.text.items ≡ answer.text
   pub refused : reply.refused ≡ answer.refused
   pub cost : spent ≡ answer.steps

@@ -8,12 +8,12 @@ use Rattle.script_lang.specs.Lines.{IsLine}
 use Rattle.script_steps.specs.GoingOn.{AreSameFor}
 use Rattle.script_steps.specs.LineTexts.{ok_line}
 use Rattle.script_run.specs.Transcripts.{Session, IsTranscript, lines_of}
-use Rattle.pap_cli.specs.SaveAnswers.{IsSaved}
+use Rattle.pap_cli.specs.SaveAnswers.{SaveAnswers}
 
 -- `save` has answered the script with the text of a book; later this text is a file's, and this line opens the file
 pub record IsTakenUp (files later : FileMap) (script opening : List ℕ) : Type 0 where
   pub answer : Answer
-  pub saved : IsSaved files script answer
+  pub saved : SaveAnswers files script answer
   pub accepted : answer.refused ≡ false
   pub file : List ℕ
   pub there : later file ≡ Some answer.text
@@ -55,5 +55,5 @@ abbrev pub SavedScriptsAreSaved : Type 0
 SavedScriptsAreSaved =
     (files later : FileMap) (script opening long short : List ℕ) (answer other : Answer)
     → AreLongAndShort files later script opening long short
-    → IsSaved files long answer → IsSaved later short other
+    → SaveAnswers files long answer → SaveAnswers later short other
     → (other.text ≡ answer.text) × (other.refused ≡ answer.refused)

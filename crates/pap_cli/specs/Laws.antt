@@ -12,7 +12,7 @@ use Rattle.script_steps.specs.Promises.{NeverFailsWithin}
 use Rattle.script_steps.specs.Steps.{AreThere}
 use Rattle.script_run.specs.Transcripts.{lines_of}
 use Rattle.pap_cli.specs.RunAnswers.{OnceAnswers}
-use Rattle.pap_cli.specs.SaveAnswers.{IsSaved}
+use Rattle.pap_cli.specs.SaveAnswers.{SaveAnswers}
 
 -- words have at most one form
 abbrev pub HaveOneForm : Type 0
@@ -39,4 +39,4 @@ PrintedAcceptanceHolds =
 abbrev pub ScriptsHaveOneSave : Type 0
 ScriptsHaveOneSave =
     (files : FileMap) (script : List ℕ) → All (λ line. AreThere files line) (lines_of script)
-    → HasOneAnswer (IsSaved files script)
+    → HasOneAnswer (SaveAnswers files script)

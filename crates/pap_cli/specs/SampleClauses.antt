@@ -12,7 +12,7 @@ use Rattle.pap_cli.specs.FileClauses.{IsWhole, IsCutShort}
 use Rattle.pap_cli.specs.SampleAnswers.{IsSampled}
 
 -- where memory ran out, at most the steps of the sample were counted
-pub record IsSpentWithin (employees began steps : ℕ) : Type 0 where
+pub record IsSpentOnSample (employees began steps : ℕ) : Type 0 where
   pub answer : Answer
   pub is : IsSampled employees answer
   pub within : steps ≤ began + answer.steps
@@ -25,7 +25,7 @@ pub record LeavesOnSample (employees : ℕ) (before after : Output) (status : St
   pub whole : IsDone status → IsWhole (IsSampled employees) out (after.steps - before.steps) status
   pub cut : status ≡ statuses.WriteFault → IsCutShort (IsSampled employees) out (after.steps - before.steps)
   pub memory : status ≡ statuses.NoMemory → out ≡ []
-  pub memory_counted : status ≡ statuses.NoMemory → IsSpentWithin employees before.steps after.steps
+  pub memory_counted : status ≡ statuses.NoMemory → IsSpentOnSample employees before.steps after.steps
   pub words_are_good : status ≢ statuses.BadWords
   pub reads_no_file : status ≢ statuses.FileFault
   pub reads_no_script : status ≢ statuses.ReadFault

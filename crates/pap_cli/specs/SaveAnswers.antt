@@ -43,7 +43,7 @@ abbrev pub IsSaveOf : Session → Written → Type 0
 IsSaveOf session written = IsSave session.refused (was_filed session.standing) session.refusals session.standing.book written
 
 -- the answer of `save` to a script, where each file that its lines name is there
-pub record IsSaved (files : FileMap) (script : List ℕ) (answer : Answer) : Type 0 where
+pub record SaveAnswers (files : FileMap) (script : List ℕ) (answer : Answer) : Type 0 where
   pub session : Session
   pub is : IsTranscript files script session
   pub there : All (λ line. AreThere files line) (lines_of script)

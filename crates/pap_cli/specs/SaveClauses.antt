@@ -13,7 +13,7 @@ use Rattle.pap_cli.specs.declared.status.Status.TheVariants as statuses
 use Rattle.pap_cli.specs.Statuses.{done_status, status_of, IsDone}
 use Rattle.pap_cli.specs.Outside.{Outside}
 use Rattle.pap_cli.specs.FileClauses.{IsWhole, IsCutShort}
-use Rattle.pap_cli.specs.SaveAnswers.{IsSaved}
+use Rattle.pap_cli.specs.SaveAnswers.{SaveAnswers}
 
 -- what is shown of a run that writes nothing: the files and the counter
 abbrev pub unwritten : Outside → OutsideShown
@@ -23,9 +23,9 @@ unwritten o = shown o.files o.failed None o.steps
 pub record IsSaveEnd (before after : Outside) (out : List ℕ) (status : Status) : Type 0 where
   pub ended : IsDone status ⊎ (status ≡ statuses.WriteFault)
   pub whole : IsDone status → ForSome before.left (λ script. ForSome before.files (λ files.
-      IsWhole (IsSaved files script) out (after.steps - before.steps) status))
+      IsWhole (SaveAnswers files script) out (after.steps - before.steps) status))
   pub cut : status ≡ statuses.WriteFault → ForSome before.left (λ script. ForSome before.files (λ files.
-      IsCutShort (IsSaved files script) out (after.steps - before.steps)))
+      IsCutShort (SaveAnswers files script) out (after.steps - before.steps)))
 
 -- the script's run stopped, never at the sink: nothing was written
 pub record IsSaveStop (out : List ℕ) (status : Status) (stop : Stop) : Type 0 where
@@ -53,7 +53,7 @@ pub record IsSavedWhole
     (files : FileMap) (script written : List ℕ) (before after : Outside)
     (status : Status) : Type 0 where
   pub answer : Answer
-  pub is : IsSaved files script answer
+  pub is : SaveAnswers files script answer
   pub text : after.written ≡ Some (written ++ answer.text)
   pub end : after.left ≡ Some []
   pub cost : after.steps ≡ before.steps + answer.steps

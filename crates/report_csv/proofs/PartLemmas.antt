@@ -18,7 +18,7 @@ use Rattle.book_edits.specs.Books.{YearRuns, added, loaded, runs_key, runs_of, r
 use Rattle.book_edits.specs.Books.{year_cmp, year_of}
 use Rattle.book_edits.proofs.Laws.{all_put, put_some, year_total}
 use Rattle.report_csv.specs.TableParts as parts
-use Rattle.report_csv.specs.TableParts.{AreBefore, AreParts, ComesBefore, IsDivided}
+use Rattle.report_csv.specs.TableParts.{AllComeBefore, AreParts, ComesBefore, IsDivided}
 
 -- ---- two lists, of which one has the place of a key
 
@@ -130,7 +130,7 @@ each_added P r ys p h =
     subst (AllByRecursion (λ y. P y.key.employee)) (sym (added_is r ys))
     (all_put year_cmp runs_key (λ y. P y.key.employee) (year_put r ys) ys p h)
 
-divided_years : {rs first rest : List Record} → IsDivided rs first rest → AreBefore first rest →
+divided_years : {rs first rest : List Record} → IsDivided rs first rest → AllComeBefore first rest →
     (xs ys : List YearRuns) →
     AllByRecursion (λ y. IsAhead y.key.employee rest) xs → AllByRecursion (λ y. IsBehind y.key.employee first) ys →
     loaded rs (xs ++ ys) ≡ loaded first xs ++ loaded rest ys

@@ -1,10 +1,10 @@
 -- What the default writer of `csv` writes of fields that need no quotes.
 use Rattle.std.proofs.Common.{◌≡◌, ℕ, ◌<◌, List, [], ◌∷◌, ◌++◌, length, map, ap, sym, subst, arith}
 use Rattle.std.specs.Borrow.{Bor}
-use Rattle.std.specs.List.{AllByRecursion}
+use Rattle.std.specs.List.{AllByRecursion, join_with_byte}
 use Rattle.std.proofs.lemmas.List.{append-nil, length-map}
 use Rattle.csv.specs.Writing.{default_writer, row_text, fields_text, field_text, is_blank}
-use Rattle.report_csv.specs.Reports.{joined, row_line}
+use Rattle.report_csv.specs.Reports.{comma, row_line}
 use Rattle.report_csv.specs.Views.{IsPlain}
 use Rattle.report_csv.proofs.PlainLemmas.{unquoted}
 
@@ -12,7 +12,7 @@ field_plain : (f : List ℕ) → IsPlain f → field_text default_writer f ≡ f
 field_plain f h = rw (unquoted f h)
 
 -- the fields after the first, each with its comma
-rest_plain : (f : List ℕ) (rest : List (List ℕ)) → AllByRecursion IsPlain rest → f ++ fields_text default_writer rest ≡ joined (f ∷ rest)
+rest_plain : (f : List ℕ) (rest : List (List ℕ)) → AllByRecursion IsPlain rest → f ++ fields_text default_writer rest ≡ join_with_byte comma (f ∷ rest)
 unfolding fields_text
 rest_plain f [] h = append-nil f
 rest_plain f (g ∷ rest) h = ap (λ t. f ++ (44 ∷ t)) (rw (field_plain g h.0) (rest_plain g rest h.1))

@@ -1,5 +1,6 @@
 -- The report: a row for each output of a run that is ok, and one row for any other run.
 use Rattle.std.specs.Prelude.{ℕ, List, [], ◌∷◌, ◌++◌, Option, Some, None, map, codes}
+use Rattle.std.specs.List.{flat_map, join_with_byte}
 use Rattle.scaled_decimal.specs.PlainTexts.{plain_text}
 use Rattle.payroll_records.specs.declared.day.Day.{Day}
 use Rattle.payroll_records.specs.declared.record.Key.{Key}
@@ -19,19 +20,9 @@ comma = 44
 abbrev pub line_feed : ℕ
 line_feed = 10
 
--- fields with commas between
-abbrev pub joined : List Text → Text
-joined [] = []
-joined (f ∷ []) = f
-joined (f ∷ (g ∷ rest)) = f ++ comma ∷ joined (g ∷ rest)
-
--- a row: its fields, and a line feed
+-- a row: its fields with commas between, and a line feed
 abbrev pub row_line : List Text → Text
-row_line fields = joined fields ++ line_feed ∷ []
-
-abbrev pub rows_text : List (List Text) → Text
-rows_text [] = []
-rows_text (fields ∷ more) = row_line fields ++ rows_text more
+row_line fields = join_with_byte comma fields ++ line_feed ∷ []
 
 -- the first row
 abbrev pub header : List Text
@@ -71,4 +62,4 @@ state_rows front (state.Blocked why) = blocked_fields front why ∷ []
 state_rows front (state.Done outputs) = map (output_fields front) outputs
 
 abbrev pub run_text : Key → Option Day → State → Text
-run_text k plan s = rows_text (state_rows (run_front k plan) s)
+run_text k plan s = flat_map row_line (state_rows (run_front k plan) s)

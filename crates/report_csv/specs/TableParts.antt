@@ -19,13 +19,13 @@ abbrev pub ComesBefore : List ℕ → List ℕ → Type 0
 ComesBefore a b = slice_cmp nat_cmp a b ≡ Less
 
 -- each employee of the first records comes before each of the rest
-abbrev pub AreBefore : List Record → List Record → Type 0
-AreBefore first rest =
+abbrev pub AllComeBefore : List Record → List Record → Type 0
+AllComeBefore first rest =
     AllByRecursion (λ r. AllByRecursion (λ s. ComesBefore r.employee s.employee) rest) first
 
 -- the parts of a table: the employees of a part come before those of all parts behind it
 pub data AreParts : List Record → List (List Record) → Type 0 where
   none : AreParts [] []
   one_more : {table first rest : List Record} {parts : List (List Record)}
-      → IsDivided table first rest → AreBefore first rest → AreParts rest parts
+      → IsDivided table first rest → AllComeBefore first rest → AreParts rest parts
       → AreParts table (first ∷ parts)

@@ -1,7 +1,8 @@
 //! The rows of a run.
 ghost use Rattle.std.specs.Prelude.{◌≡◌, ◌++◌, IfOk, map};
+ghost use Rattle.std.specs.List.{flat_map};
 ghost use Rattle.report_csv.specs.Reports.{blocked_fields, header, output_fields, row_line};
-ghost use Rattle.report_csv.specs.Reports.{rows_text, run_text, state_rows};
+ghost use Rattle.report_csv.specs.Reports.{run_text, state_rows};
 
 use crate::front::Front;
 use crate::rows::Rows;
@@ -42,7 +43,8 @@ pub(crate) fn with_run(
 
 /// The rows with those of a run, which begin with `front`.
 fn with_state(alloc: Global, rows: Rows, front: &Front, state: &State) -> Result<Rows, AllocError>
-    ensures { IfOk result (λ more. more ≡ rows ++ rows_text (state_rows front.now state.now)) }
+    ensures { IfOk result
+        (λ more. more ≡ rows ++ flat_map row_line (state_rows front.now state.now)) }
 {
     match state {
         State::NoPlan => front.row(rows, b"noplan", b"", b""),
@@ -74,7 +76,7 @@ fn with_outputs(
     outputs: &[NamedValue],
 ) -> Result<Rows, AllocError>
     ensures { IfOk result
-        (λ more. more ≡ rows ++ rows_text (map (output_fields front.now) outputs.now)) }
+        (λ more. more ≡ rows ++ flat_map row_line (map (output_fields front.now) outputs.now)) }
 {
     let mut rows = rows;
     for output in outputs {

@@ -15,7 +15,7 @@ use Rattle.script_steps.specs.declared.stop.LineStop.TheVariants.{File, Write, M
 use Rattle.script_steps.proofs.Laws as step
 use Rattle.script_run.specs.Transcripts.{Session, refusal_of, lines_of, ended_lines, IsSession, IsTranscript}
 use Rattle.script_run.specs.Stops.{stop_of}
-use Rattle.script_run.specs.RunClauses.{OutsideShown, shown, told_by, IsFrontOf, IsAtLine, Leaves, EndsAt, AreKept, refused_by}
+use Rattle.script_run.specs.RunClauses.{OutsideShown, shown, told_by, IsFrontOf, IsAtLine, Leaves, EndsAt, KeepsRefusals, refused_by}
 use Rattle.script_run.specs.RunViews.{Follow, opening, with_answer, open_line, Holds, IsSameSoFar, IsAtStart, Keeps, IsDelivered, Stands, GoesOn, Breaks, Closes, ClosesAt}
 use Rattle.script_run.specs.declared.stop.Stop.TheVariants as stops
 use Rattle.script_run.specs.declared.reading.Reading.{Reading}
@@ -63,7 +63,7 @@ delivered_same same delivered = record {
 
 -- the refusals with one more answer
 kept_more : (was is : Option (Vec ℕ Global)) (answer : Answer) (refusals : List ℕ) → Keeps was is answer →
-    AreKept was refusals → AreKept is (refusals ++ refusal_of answer)
+    KeepsRefusals was refusals → KeepsRefusals is (refusals ++ refusal_of answer)
 kept_more None None answer refusals keeps kept = tt
 kept_more None (Some more) answer refusals keeps kept = absurd keeps
 kept_more (Some few) None answer refusals keeps kept = absurd keeps
@@ -151,7 +151,7 @@ push_on {old = old} {was = was} {is = is} b other held same = record {
     appended = stands.appended;
     counted = stands.counted;
     held = subst (λ v. Holds is v) (sym (open_line-other bytes b other)) (held (open_line bytes) stands.held);
-    kept = subst (λ v. AreKept v stands.refusals) (sym same.refusals) stands.kept;
+    kept = subst (λ v. KeepsRefusals v stands.refusals) (sym same.refusals) stands.kept;
     told = subst (λ v. IsToldOf stands.lines stands.refused_lines v) (sym same.refused_lines) stands.told;
     answered = λ files e.
         subst (λ v. Follow files opening v (record {
@@ -647,7 +647,7 @@ leaves_whole {before = before} {now = now} {script = script} out appended counte
 -- what they have left
 ends_whole : {told : Option FileMap} {script : List ℕ} (session : Session) (kept : Option (Vec ℕ Global))
     (refused : RefusedLines) → ForSome told (λ files. Follow files opening (lines_of script) session) →
-    AreKept kept session.refusals → IsToldOf session.lines session.refused_lines refused →
+    KeepsRefusals kept session.refusals → IsToldOf session.lines session.refused_lines refused →
     ForSome told (λ files. EndsAt files script session.standing kept refused)
 ends_whole {script = script} session kept refused answered are tells = λ files e. record {
   session = session;

@@ -44,9 +44,9 @@ abbrev pub unless_kept : Option (Vec ℕ Global) → OutsideShown → OutsideSho
 unless_kept kept s = shown s.files s.failed (told_by kept s.written) s.steps
 
 -- where refusals are kept, they are these
-abbrev pub AreKept : Option (Vec ℕ Global) → List ℕ → Type 0
-AreKept None refusals = ⊤
-AreKept (Some kept) refusals = kept.items ≡ refusals
+abbrev pub KeepsRefusals : Option (Vec ℕ Global) → List ℕ → Type 0
+KeepsRefusals None refusals = ⊤
+KeepsRefusals (Some kept) refusals = kept.items ≡ refusals
 
 -- how far a run came: the script, what was taken of it and what is left, and what was written and
 -- counted since it began
@@ -190,7 +190,7 @@ pub record EndsAt (files : FileMap) (script : List ℕ) (standing : Standing)
   pub session : Session
   pub is : IsTranscript files script session
   pub left : session.standing ≡ standing
-  pub refusals : AreKept kept session.refusals
+  pub refusals : KeepsRefusals kept session.refusals
   pub told_is : IsToldOf session.lines session.refused_lines told
 
 -- it is told which lines of the script were refused

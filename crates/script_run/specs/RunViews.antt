@@ -12,7 +12,7 @@ use Rattle.outside.specs.Told.{FileMap}
 use Rattle.script_run.specs.Limits.{most_line, most_script}
 use Rattle.script_run.specs.Stops.{stop_of}
 use Rattle.script_run.specs.Transcripts.{Session, ended_lines, refusal_of}
-use Rattle.script_run.specs.RunClauses.{OutsideShown, Leaves, EndsAt, AreKept}
+use Rattle.script_run.specs.RunClauses.{OutsideShown, Leaves, EndsAt, KeepsRefusals}
 use Rattle.script_run.specs.declared.stop.Stop.{Stop}
 use Rattle.script_run.specs.declared.reading.Reading.{Reading}
 use Rattle.script_run.specs.RefusedLines.{IsToldOf, noted, tells_one}
@@ -98,7 +98,7 @@ pub record Stands (before now : OutsideShown) (bytes : List ℕ) (reading : Read
   pub appended : Appends before.written now.written out
   pub counted : before.steps ≤ now.steps
   pub held : Holds reading (open_line bytes)
-  pub kept : AreKept reading.refusals refusals
+  pub kept : KeepsRefusals reading.refusals refusals
   pub told : IsToldOf lines refused_lines reading.refused_lines
   pub answered : ForSome before.files (λ files. Follow files opening (ended_lines bytes)
       (record {
@@ -153,7 +153,7 @@ pub record IsAtStart (reading : Reading) : Type 0 where
   pub line : reading.line.items ≡ []
   pub long : reading.long ≡ false
   pub script : reading.script ≡ start
-  pub refusals : AreKept reading.refusals []
+  pub refusals : KeepsRefusals reading.refusals []
   pub refused_lines : IsToldOf 0 [] reading.refused_lines
 
 -- of a run over a source, at its end

@@ -5,7 +5,7 @@ ghost use Rattle.std.specs.Result.{ForErr};
 ghost use Rattle.std.specs.Str.Lines.{strip_carriage_return};
 ghost use Rattle.outside.specs.Causes.{Caused};
 ghost use Rattle.script_steps.specs.Steps.{start};
-ghost use Rattle.script_run.specs.RunClauses.{AreKept, refused_by, shown_by, unless_kept};
+ghost use Rattle.script_run.specs.RunClauses.{KeepsRefusals, refused_by, shown_by, unless_kept};
 ghost use Rattle.script_run.specs.RunViews.{Holds, IsSameSoFar, IsAtStart};
 ghost use Rattle.script_run.specs.RunViews.{GoesOn, Breaks, Closes, ClosesAt};
 
@@ -36,7 +36,7 @@ pub(crate) struct Reading {
 impl Reading {
     /// Before the first byte of a script whose refusals are put to these, or else whose answers are written.
     pub(crate) fn new(alloc: Global, refusals: Option<Vec<u8>>) -> Reading
-        requires { AreKept refusals [] }
+        requires { KeepsRefusals refusals [] }
         ensures start { IsAtStart result }
         ensures kept { result.refusals ≡ refusals }
     {

@@ -5,7 +5,7 @@ ghost use Rattle.std.specs.Result.{ForErr};
 ghost use Rattle.outside.specs.Causes.{Caused, HasCause};
 ghost use Rattle.outside.specs.Told.{ReadConsumes};
 ghost use Rattle.script_run.specs.Limits.{most_script, most_turn};
-ghost use Rattle.script_run.specs.RunClauses.{RunMeets, AreKept, EndsAt, EndsUnwritten, TellsRefused};
+ghost use Rattle.script_run.specs.RunClauses.{RunMeets, KeepsRefusals, EndsAt, EndsUnwritten, TellsRefused};
 ghost use Rattle.script_run.specs.RunClauses.{refused_by, shown, shown_by, unless_kept};
 ghost use Rattle.script_run.specs.RunViews.{IsAtStart, TakesAll};
 
@@ -116,7 +116,7 @@ pub(crate) fn run_to_end<F: Files, R: Source, W: Sink, L: Ledger>(
     sink: &mut W,
     steps: &mut Steps<L>,
 ) -> Result<EndedWithRefusals, Stop>
-    requires { AreKept refusals [] }
+    requires { KeepsRefusals refusals [] }
     ensures script { ForSome (R.left source.old) (λ script. RunMeets
         (unless_kept refusals (shown_by F.Files W.Sink files.old sink.old steps.old))
         (unless_kept refusals (shown_by F.Files W.Sink files.new sink.new steps.new))

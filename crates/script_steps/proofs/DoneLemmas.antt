@@ -18,7 +18,7 @@ use Rattle.correction_ledger.specs.declared.ledger.OwedRefusal.TheVariants as ow
 use Rattle.correction_ledger.specs.Filings.{Filings, IsFiling, IsFileRefused, IsOwedRefused, entry_with}
 use Rattle.plan_answers.specs.Answers.{Answer, refusal}
 use Rattle.script_steps.specs.LineTexts.{file_detail, owed_detail, filed_text}
-use Rattle.script_steps.specs.Standings.{Standing, accepted}
+use Rattle.script_steps.specs.Standings.{Standing, answered}
 use Rattle.script_steps.specs.FilingSteps.{IsFileStep, IsUnfiled, IsOwedAnswer, OwedSays, owed_answer}
 use Rattle.script_steps.specs.StepViews.{IsFileRefusal, IsOwedRefusal}
 use Rattle.script_steps.proofs.EditLemmas.{standing}
@@ -47,7 +47,7 @@ module _ (from : Standing) (month : Month) (book : Contents) (old : Filings) (ma
     (same : standing old made book ≡ from) where
   pub file_made : (new : Filings) (count : ℕ) (entries : List Entry) (answer : Answer) →
       IsFiling (month_rows book) month old new count → entries ≡ drop (length old.entries) new.entries →
-      answer ≡ accepted (filed_text entries count) 0 → IsFileStep from month (standing new made book) answer
+      answer ≡ answered (filed_text entries count) 0 → IsFileStep from month (standing new made book) answer
   file_made new count entries answer h is_rest is =
       let appended = is_rest ∙ ap (drop (length old.entries)) h.entries
       ∙ drop_at old.entries (map (entry_with month) h.dues) (length old.entries) refl in
@@ -57,7 +57,7 @@ module _ (from : Standing) (month : Month) (book : Contents) (old : Filings) (ma
         count = count;
         filing = h;
         left = refl;
-        told = is ∙ ap (λ es. accepted (filed_text es count) 0) appended;
+        told = is ∙ ap (λ es. answered (filed_text es count) 0) appended;
       }))
 
   unfiled : (why : FileRefusal) (answer : Answer) → IsFileRefused (month_rows book) month old why →

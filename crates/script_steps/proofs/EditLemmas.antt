@@ -14,7 +14,7 @@ use Rattle.script_steps.specs.declared.reply.LineReply.{LineReply}
 use Rattle.script_steps.specs.Replies.{reply_of}
 use Rattle.plan_answers.proofs.Laws.{if_ok_map, on_err_any}
 use Rattle.script_steps.specs.LineTexts.{edit_detail}
-use Rattle.script_steps.specs.Standings.{Standing, accepted, after_edit, more_work}
+use Rattle.script_steps.specs.Standings.{Standing, answered, after_edit, more_work}
 use Rattle.script_steps.specs.LineSteps.{IsEditStep}
 use Rattle.script_steps.specs.StepViews.{IsMade, IsLost, IsEditReply}
 
@@ -30,8 +30,8 @@ module _ (text : List ℕ) (from : Standing) (e : Edit) (book : Contents) where
   steps_are work h = sym (ap (λ (w : Work). w.steps) h.1 ∙ ap (λ (b : Contents). b.last.steps) h.0.1)
 
   made_step : (work : Work) → IsEdited from.book e book (Ok work)
-      → IsEditStep text from e (after_edit from book) (accepted text work.steps)
-  made_step work h = record { verdict = Ok book; says = h.0; is = (refl, ap (λ (w : Work). accepted text w.steps) h.1) }
+      → IsEditStep text from e (after_edit from book) (answered text work.steps)
+  made_step work h = record { verdict = Ok book; says = h.0; is = (refl, ap (λ (w : Work). answered text w.steps) h.1) }
 
 -- what is left of an edit, with the work of all edits
 module _ (text : List ℕ) (from : Standing) (e : Edit) (book : Contents) (total : Work) (before now : ℕ) where
@@ -106,14 +106,14 @@ module _ (text : List ℕ) (from : Standing) (e : Edit) (book : Contents) (befor
       let is = counts ∙ ap (λ n. before + n) (steps_are text from e book work h) in
       record {
         to = after_edit from book;
-        answer = accepted text work.steps;
+        answer = answered text work.steps;
         is = made_step text from e book work h;
         later = omega (arith, is);
         within = omega (arith, is);
       }
   made_lost (Err (refusals.Memory x)) h counts = record {
     to = after_edit from (edited_book e from.book);
-    answer = accepted text (cost_between from.book (edited_book e from.book));
+    answer = answered text (cost_between from.book (edited_book e from.book));
     is = record { verdict = Ok (edited_book e from.book); says = h.0; is = (refl, refl) };
     later = counts.0;
     within = counts.1;

@@ -22,7 +22,7 @@ use Rattle.correction_ledger.specs.Owed.{IsOwed}
 use Rattle.correction_ledger.proofs.Laws.{one}
 use Rattle.plan_answers.specs.Answers.{Answer, refusal}
 use Rattle.script_steps.specs.LineTexts.{file_detail, filed_text}
-use Rattle.script_steps.specs.Standings.{Standing, accepted}
+use Rattle.script_steps.specs.Standings.{Standing, answered}
 use Rattle.script_steps.specs.FilingSteps.{IsFiled, IsUnfiled, IsFileStep, OwedSays, owed_answer, IsOwedStep}
 use Rattle.script_steps.proofs.KindLemmas.{Has, Same}
 
@@ -171,7 +171,7 @@ module _ (from : Standing) (month : Month) where
                   let size = length-append old (map (entry_with month) dues) in
                   let mapped = length-map dues (entry_with month) in (
                     with_filings from filings,
-                    accepted (filed_text (map (entry_with month) dues) (length dues)) 0,
+                    answered (filed_text (map (entry_with month) dues) (length dues)) 0,
                     inl (record {
                       filings = filings;
                       count = length dues;
@@ -197,7 +197,7 @@ module _ (from : Standing) (month : Month) where
       let filings = filings_same h.filings k.filings entries (h.filing.last ∙ sym k.filing.last) in
       let count = h.filing.counted ∙ ap length dues ∙ sym k.filing.counted in (
         h.left ∙ ap (with_filings from) filings ∙ sym k.left,
-        h.told ∙ ap₂ (λ ds n. accepted (filed_text (map (entry_with month) ds) n) 0) dues count ∙ sym k.told,
+        h.told ∙ ap₂ (λ ds n. answered (filed_text (map (entry_with month) ds) n) 0) dues count ∙ sym k.told,
       )
 
   later_not : (since : Month) → IsLater month from.filings.last → from.filings.last ≡ Some since →

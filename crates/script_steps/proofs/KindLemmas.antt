@@ -20,7 +20,7 @@ use Rattle.recalc_engine.proofs.Laws.{one_answer}
 use Rattle.plan_answers.specs.Answers.{Answer, refusal}
 use Rattle.plan_answers.proofs.Laws.{one_refusal, some_refusal}
 use Rattle.script_steps.specs.LineTexts.{ok_line, table_detail, edit_detail}
-use Rattle.script_steps.specs.Standings.{Standing, Doing, Stays, accepted, after_edit}
+use Rattle.script_steps.specs.Standings.{Standing, Doing, Stays, answered, after_edit}
 use Rattle.script_steps.specs.LineSteps.{IsEditAnswered, IsEditStep, IsLoaded, IsTableStep, IsReadStep, IsPut, IsTrialStep}
 use Rattle.script_steps.specs.LineSteps.{IsUsed, IsTextsStep, IsPlanStep, PlanUse, bound_text, trial_answer}
 
@@ -47,7 +47,7 @@ edit_some text from e = let o = one_answer from.book e in by o.answer o.says
     by : (v : Result Contents EditRefusal) → EditAnswers from.book e v → Has (IsEditStep text from e)
     by (Ok book) h = (
       after_edit from book,
-      accepted text book.last.steps,
+      answered text book.last.steps,
       record { verdict = Ok book; says = h; is = (refl, refl) },
     )
     by (Err why) h = (from, refusal (edit_detail why), record { verdict = Err why; says = h; is = (refl, refl) })

@@ -22,7 +22,7 @@ use Rattle.plan_answers.proofs.Laws.{if_ok_map}
 use Rattle.script_steps.specs.LineTexts.{book_detail, ok_line}
 use Rattle.script_steps.specs.OpenSteps.{IsEmpty, IsFresh, IsOpenStep, IsOpened, OpenRefusal, OpenSays, open_detail}
 use Rattle.script_steps.specs.OpenSteps.{not_empty, filed, faulty}
-use Rattle.script_steps.specs.Standings.{Standing, accepted, with_book}
+use Rattle.script_steps.specs.Standings.{Standing, answered, with_book}
 use Rattle.script_steps.specs.StepViews.{IsBookRefusal, IsMade, IsWant}
 use Rattle.script_steps.proofs.KindLemmas.{Has, Same, stays_one}
 use Rattle.script_steps.proofs.MadeLemmas.{made_still}
@@ -103,7 +103,7 @@ open_some from text = let v = says_some from text in by v.0 v.1
     by : (v : Result Contents OpenRefusal) → OpenSays from text v → Has (IsOpenStep from text)
     by (Ok book) h = (
       with_book from book,
-      accepted ok_line (whole_cost book),
+      answered ok_line (whole_cost book),
       record { verdict = Ok book; says = h; is = (refl, refl) },
     )
     by (Err why) h = (from, refusal (open_detail why), record { verdict = Err why; says = h; is = (refl, refl) })
@@ -174,10 +174,10 @@ module _ (from : Standing) (text : List ℕ) (fresh : IsFresh from) (before now 
 
   -- the book is opened
   pub book_made : (book : Contents) (work : Work) (a : Answer) → BookSays text (Ok book) → work ≡ whole_work book
-      → now ≡ before + whole_cost book → a ≡ accepted ok_line work.steps
+      → now ≡ before + whole_cost book → a ≡ answered ok_line work.steps
       → IsMade (IsOpenStep from text) (with_book from book) before now a
   book_made book work a h all counts is =
-      let told : a ≡ accepted ok_line (whole_cost book) = is ∙ ap (λ (w : Work). accepted ok_line w.steps) all in
+      let told : a ≡ answered ok_line (whole_cost book) = is ∙ ap (λ (w : Work). answered ok_line w.steps) all in
       let steps : a.steps ≡ whole_cost book = ap (λ (x : Answer). x.steps) told in
       record {
         is = record { verdict = Ok book; says = (fresh, h); is = (refl, told) };
@@ -188,7 +188,7 @@ module _ (from : Standing) (text : List ℕ) (fresh : IsFresh from) (before now 
       → IsWant (IsOpenStep from text) before now
   book_lost book h counts = inr (record {
     to = with_book from book;
-    answer = accepted ok_line (whole_cost book);
+    answer = answered ok_line (whole_cost book);
     is = record { verdict = Ok book; says = (fresh, h); is = (refl, refl) };
     later = omega (arith, counts);
     within = omega (arith, counts);
@@ -202,7 +202,7 @@ module _ (from : Standing) (text : List ℕ) (fresh : IsFresh from) (before now 
           → IsWant (IsOpenStep from text) before now
       by (Ok book) h within = inr (record {
         to = with_book from book;
-        answer = accepted ok_line (whole_cost book);
+        answer = answered ok_line (whole_cost book);
         is = record { verdict = Ok book; says = (fresh, h); is = (refl, refl) };
         later = counts.0;
         within = within;

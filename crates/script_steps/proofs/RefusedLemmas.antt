@@ -30,7 +30,7 @@ use Rattle.plan_answers.specs.Answers.{Answer, refusal}
 use Rattle.plan_answers.specs.Lines.{bound_line}
 use Rattle.plan_answers.proofs.Laws.{refusal_steps}
 use Rattle.script_steps.specs.LineTexts.{ok_line, line_detail, table_detail, edit_detail, owed_detail}
-use Rattle.script_steps.specs.Standings.{Standing, Doing, Stays, accepted, silence}
+use Rattle.script_steps.specs.Standings.{Standing, Doing, Stays, answered, silence}
 use Rattle.script_steps.specs.TraceSteps.{told_trace}
 use Rattle.script_steps.specs.FilingSteps.{IsFileStep, IsOwedStep, owed_answer}
 use Rattle.script_steps.specs.OpenSteps.{IsOpenStep, IsOpened, OpenRefusal, open_detail}
@@ -66,7 +66,7 @@ module _ (from : Standing) where
   edit_still text e to answer h = by h.verdict h.is
     where
       by : (v : Result Contents EditRefusal) → IsEditAnswered text from v to answer → Still from to answer
-      by (Ok book) is = λ refused. absurd (plain (accepted text book.last.steps) answer is.1 refl refused)
+      by (Ok book) is = λ refused. absurd (plain (answered text book.last.steps) answer is.1 refl refused)
       by (Err why) is = stays_still (refusal (edit_detail why)) refl to answer is
 
   table_still : (bytes : List ℕ) → Stilled from (IsTableStep from bytes)
@@ -80,7 +80,7 @@ module _ (from : Standing) where
   open_still bytes to answer h = by h.verdict h.is
     where
       by : (v : Result Contents OpenRefusal) → IsOpened from v to answer → Still from to answer
-      by (Ok book) is = λ refused. absurd (plain (accepted ok_line (whole_cost book)) answer is.1 refl refused)
+      by (Ok book) is = λ refused. absurd (plain (answered ok_line (whole_cost book)) answer is.1 refl refused)
       by (Err why) is = stays_still (refusal (open_detail why)) refl to answer is
 
   read_still : (Step : List ℕ → Doing) → ((bytes : List ℕ) → Stilled from (Step bytes)) → (files : FileMap)

@@ -9,13 +9,13 @@ use Rattle.month_trace.specs.declared.refusal.TraceRefusal.TheVariants as traces
 use Rattle.month_trace.specs.declared.step.TraceStep.{TraceStep}
 use Rattle.plan_answers.specs.Answers.{Answer}
 use Rattle.script_steps.specs.LineTexts.{trace_text}
-use Rattle.script_steps.specs.Standings.{accepted}
+use Rattle.script_steps.specs.Standings.{answered}
 use Rattle.script_steps.specs.StepViews.{IsTraceRefusal}
 use Rattle.script_steps.specs.TraceSteps.{told_trace, trace_answer}
 
 module _ (book : Contents) (e : List ℕ) (w : When) where
   pub told : (steps : List TraceStep) (answer : Answer) → trace_said book e w ≡ Ok steps
-      → answer ≡ accepted (trace_text steps) 0 → answer ≡ trace_answer book e w
+      → answer ≡ answered (trace_text steps) 0 → answer ≡ trace_answer book e w
   told steps answer h is = is ∙ ap told_trace (sym h)
 
   pub refused : (why : TraceRefusal) (answer : Answer) → IsTraceRefused book e w why → IsTraceRefusal why answer

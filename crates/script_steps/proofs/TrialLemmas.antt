@@ -20,7 +20,7 @@ use Rattle.script_steps.specs.Replies.{reply_of}
 use Rattle.plan_answers.proofs.Laws.{if_ok_map, on_err_any}
 use Rattle.script_steps.specs.LineSteps.{IsTrialStep, bound_text, trial_answer}
 use Rattle.script_steps.specs.LineTexts.{edit_detail, trial_text}
-use Rattle.script_steps.specs.Standings.{Standing, accepted}
+use Rattle.script_steps.specs.Standings.{Standing, answered}
 use Rattle.script_steps.specs.StepViews.{IsMade, IsTrialReply, IsWant}
 use Rattle.script_steps.proofs.EditLemmas.{standing}
 
@@ -37,8 +37,8 @@ module _ (from : Standing) (e : Entry Accepted) (bound : List ℕ) (says : bound
       → CountsTry verdict before now total → IsTrialReply bound verdict answer
       → IsMade (IsTrialStep from e) from before now answer
   reply_made (Ok t) answer ok can barred counts is =
-      let told = is ∙ ap (λ x. accepted (bound ++ trial_text x) x.work.steps) ok
-      ∙ ap (λ b. accepted (b ++ trial_text (trial_of from.book e)) total) says in
+      let told = is ∙ ap (λ x. answered (bound ++ trial_text x) x.work.steps) ok
+      ∙ ap (λ b. answered (b ++ trial_text (trial_of from.book e)) total) says in
       record {
         is = record { verdict = Ok (edited_book (edits.put e) from.book); says = (can, refl); is = (refl, told) };
         counted = counts ∙ ap (λ n. before + n) (sym (ap (λ (a : Answer). a.steps) told));

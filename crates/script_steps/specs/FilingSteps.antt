@@ -10,7 +10,7 @@ use Rattle.correction_ledger.specs.declared.ledger.OwedRefusal.TheVariants as ow
 use Rattle.correction_ledger.specs.Filings.{Filings, IsFiling, IsFileRefused, IsOwedNow, IsOwedRefused, entry_with}
 use Rattle.plan_answers.specs.Answers.{Answer, refusal}
 use Rattle.script_steps.specs.LineTexts.{file_detail, filed_text, owed_detail, owed_text}
-use Rattle.script_steps.specs.Standings.{Standing, accepted}
+use Rattle.script_steps.specs.Standings.{Standing, answered}
 
 -- ---- file MONTH
 
@@ -20,7 +20,7 @@ pub record IsFiled (from : Standing) (month : Month) (to : Standing) (answer : A
   pub count : ℕ
   pub filing : IsFiling (month_rows from.book) month from.filings filings count
   pub left : to ≡ record { book = from.book; filings = filings; made = from.made }
-  pub told : answer ≡ accepted (filed_text (map (entry_with month) filing.dues) count) 0
+  pub told : answer ≡ answered (filed_text (map (entry_with month) filing.dues) count) 0
 
 -- why the month isn't filed, which is never want of memory
 abbrev pub IsUnfiled : List KeyedRow → Month → Filings → FileRefusal → Type 0
@@ -47,7 +47,7 @@ OwedSays rows now (Err why) = IsOwedRefused rows now why
 
 -- what is answered to it
 abbrev pub owed_answer : Result (List Due) OwedRefusal → Answer
-owed_answer (Ok dues) = accepted (owed_text dues) 0
+owed_answer (Ok dues) = answered (owed_text dues) 0
 owed_answer (Err why) = refusal (owed_detail why)
 
 -- what is owed is told, or the refusal

@@ -13,7 +13,7 @@ use Rattle.recalc_engine.specs.Jobs.{job_of_key}
 use Rattle.book_file.specs.BookTexts.{saved_of}
 use Rattle.book_file.specs.Saving.{SaveSays}
 use Rattle.script_steps.specs.LineTexts.{ok_line}
-use Rattle.script_steps.specs.Standings.{accepted}
+use Rattle.script_steps.specs.Standings.{answered}
 use Rattle.script_steps.specs.Steps.{Standing, Answer, IsStep, Names, start}
 
 -- ---- several lines
@@ -50,7 +50,7 @@ pub record IsCut
 
 -- the book is opened, all its jobs are run
 abbrev pub opened : Contents → Answer
-opened book = accepted ok_line (whole_cost book)
+opened book = answered ok_line (whole_cost book)
 
 -- the book is as every book is, and what is saved of it has a text
 pub record IsSavable (book : Contents) : Type 0 where

@@ -22,7 +22,7 @@ use Rattle.report_csv.specs.ReportTexts.{report_text}
 use Rattle.plan_answers.specs.Answers.{Answer, refusal, IsRefusal}
 use Rattle.plan_answers.specs.Lines.{bound_line}
 use Rattle.script_steps.specs.LineTexts.{ok_line, end_line, work_line, line_detail, table_detail, edit_detail, trial_text}
-use Rattle.script_steps.specs.Standings.{Standing, Doing, Stays, accepted, after_edit, silence}
+use Rattle.script_steps.specs.Standings.{Standing, Doing, Stays, answered, after_edit, silence}
 use Rattle.script_steps.specs.TraceSteps.{trace_answer}
 use Rattle.script_steps.specs.FilingSteps.{IsFileStep, IsOwedStep}
 use Rattle.script_steps.specs.OpenSteps.{IsOpenStep}
@@ -32,7 +32,7 @@ use Rattle.script_steps.specs.OpenSteps.{IsOpenStep}
 -- the edit is made, and this text is answered, with the steps of the edit's work; or it is refused, and nothing changes
 abbrev pub IsEditAnswered : List ℕ → Standing → Result Contents EditRefusal → Standing → Answer → Type 0
 IsEditAnswered text from (Ok book) to answer =
-    (to ≡ after_edit from book) × (answer ≡ accepted text book.last.steps)
+    (to ≡ after_edit from book) × (answer ≡ answered text book.last.steps)
 IsEditAnswered text from (Err why) to answer = Stays from to (refusal (edit_detail why)) answer
 
 pub record IsEditStep (text : List ℕ) (from : Standing) (e : Edit) (to : Standing) (answer : Answer) : Type 0 where
@@ -102,7 +102,7 @@ IsPut from e to answer = IsEditStep (bound_text e) from (edits.put e) to answer
 -- `try`: what putting it would change is answered, behind its bound, or that it can't be put
 abbrev pub trial_answer : Contents → Entry Accepted → Result Contents EditRefusal → Answer
 trial_answer book e (Ok next) =
-    accepted (bound_text e ++ trial_text (trial_of book e)) (trial_of book e).work.steps
+    answered (bound_text e ++ trial_text (trial_of book e)) (trial_of book e).work.steps
 trial_answer book e (Err why) = refusal (edit_detail why)
 
 -- and nothing changes
@@ -115,11 +115,11 @@ pub record IsTrialStep (from : Standing) (e : Entry Accepted) (to : Standing) (a
 
 -- the report, and a last line
 abbrev pub report_answer : Standing → Answer
-report_answer from = accepted (report_text from.book ++ end_line) 0
+report_answer from = answered (report_text from.book ++ end_line) 0
 
 -- the work of the last edit that was accepted
 abbrev pub work_answer : Standing → Answer
-work_answer from = accepted (work_line from.book.last) 0
+work_answer from = answered (work_line from.book.last) 0
 
 -- what a line that says this does: a line that is refused changes nothing
 abbrev pub Does : FileMap → Standing → Result Asked LineFault → Standing → Answer → Type 0

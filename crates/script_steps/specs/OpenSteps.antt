@@ -6,7 +6,7 @@ use Rattle.book_file.specs.BookSays.{BookSays}
 use Rattle.book_file.specs.declared.refusal.BookFault.{BookFault}
 use Rattle.plan_answers.specs.Answers.{Answer, refusal}
 use Rattle.script_steps.specs.LineTexts.{book_detail, ok_line}
-use Rattle.script_steps.specs.Standings.{Standing, Stays, accepted, with_book}
+use Rattle.script_steps.specs.Standings.{Standing, Stays, answered, with_book}
 
 -- the book has no run and no plan
 pub record IsEmpty (book : Contents) : Type 0 where
@@ -41,7 +41,7 @@ open_detail (faulty why) = book_detail why
 
 -- the book is there, all its jobs were run, and the work of all edits is as before; or nothing changes
 abbrev pub IsOpened : Standing → Result Contents OpenRefusal → Standing → Answer → Type 0
-IsOpened from (Ok book) to answer = (to ≡ with_book from book) × (answer ≡ accepted ok_line (whole_cost book))
+IsOpened from (Ok book) to answer = (to ≡ with_book from book) × (answer ≡ answered ok_line (whole_cost book))
 IsOpened from (Err why) to answer = Stays from to (refusal (open_detail why)) answer
 
 -- the text is opened

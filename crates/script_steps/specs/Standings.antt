@@ -42,8 +42,8 @@ start = record {
 }
 
 -- an answer that is no refusal: its text, and the steps that it counts
-abbrev pub accepted : List ℕ → ℕ → Answer
-accepted text steps = record { text = text; refused = false; steps = steps }
+abbrev pub answered : List ℕ → ℕ → Answer
+answered text steps = record { text = text; refused = false; steps = steps }
 
 -- what a line leaves and answers
 abbrev pub Doing : Type 1
@@ -55,4 +55,4 @@ Stays from to said answer = (to ≡ from) × (answer ≡ said)
 
 -- nothing is written
 abbrev pub silence : Answer
-silence = accepted [] 0
+silence = answered [] 0

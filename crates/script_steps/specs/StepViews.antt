@@ -27,7 +27,7 @@ use Rattle.script_steps.specs.declared.stop.LineStop.TheVariants as stops
 use Rattle.script_steps.specs.LineSteps.{Does, IsFileOf, IsNextFile}
 use Rattle.script_steps.specs.LineTexts.{line_detail, table_detail, edit_detail, trace_detail, file_detail, owed_detail}
 use Rattle.script_steps.specs.LineTexts.{book_detail, trial_text}
-use Rattle.script_steps.specs.Standings.{Standing, Doing, accepted, more_work}
+use Rattle.script_steps.specs.Standings.{Standing, Doing, answered, more_work}
 
 -- the line has left this and has this answer, whose steps were counted
 pub record IsMade (Step : Doing) (to : Standing) (before now : ℕ) (answer : Answer) : Type 0 where
@@ -96,13 +96,13 @@ IsBookRefusal why answer = answer ≡ refusal (book_detail why)
 
 -- what is answered to a trial, behind the line of the plan's bound
 abbrev pub IsTrialReply : List ℕ → Result Trial TryRefusal → Answer → Type 0
-IsTrialReply bound (Ok trial) answer = answer ≡ accepted (bound ++ trial_text trial) trial.work.steps
+IsTrialReply bound (Ok trial) answer = answer ≡ answered (bound ++ trial_text trial) trial.work.steps
 IsTrialReply bound (Err trying.Plans) answer = IsEditRefusal edits.Plans answer
 IsTrialReply bound (Err (trying.Memory e)) answer = ⊥
 
 -- what is answered to an edit that the book has made or refused, and what its work makes of the work of all edits
 abbrev pub IsEditReply : List ℕ → Result Work EditRefusal → Work → Work → Answer → Type 0
-IsEditReply text (Ok work) before now answer = (answer ≡ accepted text work.steps) × (now ≡ more_work before work)
+IsEditReply text (Ok work) before now answer = (answer ≡ answered text work.steps) × (now ≡ more_work before work)
 IsEditReply text (Err why) before now answer = IsEditRefusal why answer × (now ≡ before)
 
 -- ---- what was written

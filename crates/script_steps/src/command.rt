@@ -6,7 +6,7 @@ ghost use Rattle.script_steps.specs.Replies.{reply_of};
 ghost use Rattle.script_lang.specs.Commands.{asked_of};
 ghost use Rattle.script_lang.specs.Lines.{IsLine};
 ghost use Rattle.script_steps.specs.LineTexts.{work_line};
-ghost use Rattle.script_steps.specs.Standings.{accepted};
+ghost use Rattle.script_steps.specs.Standings.{answered};
 ghost use Rattle.script_steps.specs.StepClauses.{IsAnswered, IsBroken};
 ghost use Rattle.script_steps.specs.StepViews.{IsMade, IsUnmade, ToldDoes};
 
@@ -15,7 +15,7 @@ use crate::filings::{file, owed};
 use crate::load::load;
 use crate::open::open;
 use crate::plan::{plan, trial};
-use crate::reply::{LineReply, accepted, write_reply};
+use crate::reply::{LineReply, answered, write_reply};
 use crate::report::report;
 use crate::script::Script;
 use crate::stop::LineStop;
@@ -79,7 +79,7 @@ fn make_reply<F: Files, L: Ledger>(
     ensures kept { result ≢ Err LineStop.File → F.failed files.new ≡ F.failed files.old }
 {
     match command {
-        Command::Nothing => Ok(accepted(Vec::new(alloc), 0)),
+        Command::Nothing => Ok(answered(Vec::new(alloc), 0)),
         Command::Plan {
             day,
             plan: file,
@@ -108,9 +108,9 @@ fn make_reply<F: Files, L: Ledger>(
 
 /// The line `work`: the runs and the steps of the last edit that was accepted.
 fn work(alloc: Global, book: &Book) -> Result<LineReply, AllocError>
-    ensures { IfOk result (λ reply. reply_of reply ≡ accepted (work_line book.now.last) 0) }
+    ensures { IfOk result (λ reply. reply_of reply ≡ answered (work_line book.now.last) 0) }
 {
     let Work { runs, steps } = book.last_work();
     let line = format!(in alloc; "work {runs} {steps}\n")?;
-    Ok(accepted(line.into_bytes(), 0))
+    Ok(answered(line.into_bytes(), 0))
 }

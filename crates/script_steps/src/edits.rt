@@ -8,7 +8,7 @@ ghost use Rattle.script_steps.specs.Standings.{more_work};
 ghost use Rattle.script_steps.specs.StepViews.{IsEditReply, IsLost, IsMade};
 
 use crate::refusals::edit_refusal;
-use crate::reply::{LineReply, accepted};
+use crate::reply::{LineReply, answered};
 use crate::script::Script;
 use payroll_records::{Day, Employee, Record, When};
 use recalc_engine::{EditRefusal, Work};
@@ -33,7 +33,7 @@ pub(crate) fn edit_reply(
     match made {
         Ok(work) => {
             *total = more_work(*total, work);
-            Ok(accepted(Vec::from_slice(alloc, text)?, work.steps))
+            Ok(answered(Vec::from_slice(alloc, text)?, work.steps))
         }
         Err(EditRefusal::Memory(error)) => Err(error),
         Err(why) => edit_refusal(alloc, &why),

@@ -5,7 +5,7 @@ ghost use Rattle.script_steps.specs.FilingSteps.{IsFileStep, IsOwedAnswer};
 ghost use Rattle.script_steps.specs.LineTexts.{due_line, filed_text, owed_line, owed_text};
 
 use crate::refusals::{file_refusal, owed_refusal};
-use crate::reply::{LineReply, accepted};
+use crate::reply::{LineReply, answered};
 use crate::script::Script;
 use correction_ledger::{Due, Entry, FileRefusal, OwedRefusal};
 use payroll_records::Month;
@@ -24,7 +24,7 @@ pub(crate) fn file(
     match script.ledger.file(&script.book, month) {
         Ok(count) => {
             let text = filed_text(alloc, &script.ledger.entries()[before..], count)?;
-            Ok(accepted(text, 0))
+            Ok(answered(text, 0))
         }
         Err(FileRefusal::Memory(error)) => Err(error),
         Err(why) => file_refusal(alloc, &why),
@@ -61,7 +61,7 @@ pub(crate) fn owed(alloc: Global, script: &Script) -> Result<LineReply, AllocErr
     ensures { IfOk result (λ reply. IsOwedAnswer script.now (reply_of reply)) }
 {
     match script.ledger.owed(alloc, &script.book) {
-        Ok(dues) => Ok(accepted(owed_text(alloc, dues.as_slice())?, 0)),
+        Ok(dues) => Ok(answered(owed_text(alloc, dues.as_slice())?, 0)),
         Err(OwedRefusal::Memory(error)) => Err(error),
         Err(why) => owed_refusal(alloc, &why),
     }

@@ -10,7 +10,7 @@ ghost use Rattle.script_steps.specs.StepViews.{IsMade, IsUnmade, IsWant, ToldDoe
 
 use crate::edits::OK;
 use crate::refusals::book_refusal;
-use crate::reply::{LineReply, accepted, refused};
+use crate::reply::{LineReply, answered, refused};
 use crate::script::Script;
 use crate::stop::LineStop;
 use book_file::{BookFault, MOST_BOOK_TEXT, read_book};
@@ -85,7 +85,7 @@ fn open_fresh<L: Ledger>(
     match read_book(alloc, text, steps) {
         Ok(restored) => {
             script.book = restored.book;
-            Ok(accepted(Vec::from_slice(alloc, OK)?, restored.work.steps))
+            Ok(answered(Vec::from_slice(alloc, OK)?, restored.work.steps))
         }
         Err(BookFault::Memory(error)) => Err(error),
         Err(fault) => book_refusal(alloc, &fault),

@@ -4,7 +4,7 @@ ghost use Rattle.std.specs.Result.{ForErr};
 ghost use Rattle.outside.specs.Causes.{Caused};
 ghost use Rattle.plan_answers.specs.Answers.{refusal};
 ghost use Rattle.script_steps.specs.Replies.{reply_of};
-ghost use Rattle.script_steps.specs.Standings.{accepted};
+ghost use Rattle.script_steps.specs.Standings.{answered};
 ghost use Rattle.script_steps.specs.StepViews.{IsFrontWritten, IsWritten};
 
 use crate::stop::LineStop;
@@ -24,8 +24,8 @@ pub(crate) struct LineReply {
 }
 
 /// An answer that is no refusal.
-pub(crate) fn accepted(text: Vec<u8>, steps: u64) -> LineReply
-    ensures { reply_of result ≡ accepted text.items steps }
+pub(crate) fn answered(text: Vec<u8>, steps: u64) -> LineReply
+    ensures { reply_of result ≡ answered text.items steps }
 {
     LineReply {
         text,

@@ -5,7 +5,7 @@ ghost use Rattle.script_steps.specs.LineTexts.{step_line, trace_text};
 ghost use Rattle.script_steps.specs.TraceSteps.{trace_answer};
 
 use crate::refusals::trace_refusal;
-use crate::reply::{LineReply, accepted};
+use crate::reply::{LineReply, answered};
 use month_trace::{TraceRefusal, TraceStep};
 use payroll_records::{Employee, When};
 use recalc_engine::Book;
@@ -21,7 +21,7 @@ pub(crate) fn trace(
     ensures { IfOk result (λ reply. reply_of reply ≡ trace_answer book.now employee when) }
 {
     match month_trace::trace(alloc, book, employee, when) {
-        Ok(steps) => Ok(accepted(trace_text(alloc, steps.as_slice())?, 0)),
+        Ok(steps) => Ok(answered(trace_text(alloc, steps.as_slice())?, 0)),
         Err(TraceRefusal::Memory(error)) => Err(error),
         Err(why) => trace_refusal(alloc, &why),
     }

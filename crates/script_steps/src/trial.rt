@@ -6,7 +6,7 @@ ghost use Rattle.script_steps.specs.LineTexts.{amount_word, shown_word, trial_li
 ghost use Rattle.script_steps.specs.StepViews.{IsTrialReply};
 
 use crate::refusals::edit_refusal;
-use crate::reply::{LineReply, accepted};
+use crate::reply::{LineReply, answered};
 use recalc_engine::{EditRefusal, Work};
 use scaled_decimal::Dec;
 use std::alloc::{AllocError, Global};
@@ -21,7 +21,7 @@ pub(crate) fn trial_reply(
     ensures { IfOk result (λ reply. IsTrialReply (string_bytes bound) trial (reply_of reply)) }
 {
     match trial {
-        Ok(trial) => Ok(accepted(trial_text(alloc, bound, &trial)?, trial.work.steps)),
+        Ok(trial) => Ok(answered(trial_text(alloc, bound, &trial)?, trial.work.steps)),
         Err(TryRefusal::Plans) => edit_refusal(alloc, &EditRefusal::Plans),
         Err(TryRefusal::Memory(error)) => Err(error),
     }

@@ -4,7 +4,7 @@ use Rattle.std.proofs.lemmas.List.{take_rest}
 use Rattle.script_steps.specs.Replies.{reply_of}
 use Rattle.plan_answers.proofs.Laws.{if_ok_map}
 use Rattle.script_steps.specs.FilingSteps.{IsFileStep}
-use Rattle.script_steps.specs.Standings.{accepted}
+use Rattle.script_steps.specs.Standings.{answered}
 use Rattle.script_steps.proofs.DoneLemmas.{file_made, file_refused}
 use Rattle.script_steps.proofs.EditLemmas.{standing}
 use Rattle.script_steps.proofs.filings.file.Goals as goal
@@ -22,12 +22,12 @@ returns c =
       | in-Ok+in_ok-text-in-Ok w ↦
           subst (λ r. IfOk r (λ reply. IsFileStep from month (standing new made book) (reply_of reply))) (sym
           w.result-is)
-          (file_made from month book old made c.script.view_is new w.in-Ok.count _ (reply_of w.accepted.result)
+          (file_made from month book old made c.script.view_is new w.in-Ok.count _ (reply_of w.answered.result)
           w.in-Ok.ensures.ok
           (take_rest w.entries.result.now (length c.entries-before.result.now)
           ∙ ap (drop (length c.entries-before.result.now)) w.entries.ensures
           ∙ ap (λ b. drop (length b) new.entries) c.entries-before.ensures)
-          (w.accepted.ensures ∙ ap (λ t. accepted t 0) w.in_ok-text-in-Ok.ensures))
+          (w.answered.ensures ∙ ap (λ t. answered t 0) w.in_ok-text-in-Ok.ensures))
       | in-Err-Memory w ↦ subst (λ r. IfOk r (λ reply. IsFileStep from month (standing new made book) (reply_of
           reply)))
           (sym w.result-is) tt

@@ -2,7 +2,7 @@ use Rattle.std.proofs.Common.{◌∙◌, sym, ap, subst}
 use Rattle.script_steps.specs.Replies.{reply_of}
 use Rattle.plan_answers.proofs.Laws.{on_err_any}
 use Rattle.script_steps.specs.OpenSteps.{IsOpenStep}
-use Rattle.script_steps.specs.Standings.{Standing, accepted, with_book}
+use Rattle.script_steps.specs.Standings.{Standing, answered, with_book}
 use Rattle.script_steps.specs.StepViews.{IsMade}
 use Rattle.script_steps.proofs.OpenLemmas.{book_lost, book_made, fault_made, read_lost}
 use Rattle.script_steps.proofs.open.open_fresh.Goals as goal
@@ -19,10 +19,10 @@ returns-in_ok-from_slice-in-Ok-clause-made g c =
     let book = c.in-Ok.restored.book in
     let work = c.in-Ok.restored.work in
     subst (λ (s : Standing). IsMade (IsOpenStep c.args.script.now text) (with_book s book) c.args.steps.now
-    c.read_book.new.steps (reply_of c.accepted.result)) (sym c.script.view_is)
+    c.read_book.new.steps (reply_of c.answered.result)) (sym c.script.view_is)
     (book_made c.args.script.now text c.requires c.args.steps.now c.read_book.new.steps book work
-    (reply_of c.accepted.result) c.in-Ok.ensures.read c.in-Ok.ensures.work c.in-Ok.ensures.counted
-    (c.accepted.ensures ∙ ap (λ t. accepted t work.steps) c.in_ok-from_slice-in-Ok.ensures.items))
+    (reply_of c.answered.result) c.in-Ok.ensures.read c.in-Ok.ensures.work c.in-Ok.ensures.counted
+    (c.answered.ensures ∙ ap (λ t. answered t work.steps) c.in_ok-from_slice-in-Ok.ensures.items))
 
 pub returns-in-Err-Memory-clause-lost : goal.returns-in-Err-Memory-clause-lost
 returns-in-Err-Memory-clause-lost g c =

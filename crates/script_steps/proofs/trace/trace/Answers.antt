@@ -2,15 +2,15 @@ use Rattle.std.proofs.Common.{◌∙◌, ap}
 use Rattle.script_steps.specs.Replies.{reply_of}
 use Rattle.plan_answers.proofs.Laws.{if_ok_map}
 use Rattle.script_steps.specs.LineTexts.{trace_text}
-use Rattle.script_steps.specs.Standings.{accepted}
+use Rattle.script_steps.specs.Standings.{answered}
 use Rattle.script_steps.proofs.TraceLemmas.{refused, told}
 use Rattle.script_steps.proofs.trace.trace.Goals as goal
 
 pub returns-in_ok-trace_text-in-Ok : goal.returns-in_ok-trace_text-in-Ok
 returns-in_ok-trace_text-in-Ok c =
-    told c.args.book.now c.args.employee c.args.when c.in-Ok.steps.items (reply_of c.accepted.result) c.in-Ok.ensures.ok
-    (c.accepted.ensures
-    ∙ ap (λ t. accepted t 0) (c.in_ok-trace_text-in-Ok.ensures ∙ ap trace_text c.as_slice.ensures.value))
+    told c.args.book.now c.args.employee c.args.when c.in-Ok.steps.items (reply_of c.answered.result) c.in-Ok.ensures.ok
+    (c.answered.ensures
+    ∙ ap (λ t. answered t 0) (c.in_ok-trace_text-in-Ok.ensures ∙ ap trace_text c.as_slice.ensures.value))
 
 pub returns-in-Err : goal.returns-in-Err
 returns-in-Err c =
