@@ -1,8 +1,8 @@
 -- Which lines are told to be refused, with one more line.
-use Rattle.std.proofs.Common.{◌≡◌, List, [], ◌∷◌, ◌++◌, ℕ, ◌+◌, Bool, true, false, ◌||◌, length, refl, sym, ap, ◌∙◌, subst, arith, length-append}
+use Rattle.std.proofs.Common.{◌≡◌, List, [], ◌∷◌, ◌++◌, ℕ, ◌+◌, ◌-◌, ◌^◌, Bool, true, false, ◌||◌, length, refl, sym, ap, ◌∙◌, subst, arith, length-append}
 use Rattle.std.specs.Prelude.{min, nat_lt}
 use Rattle.std.proofs.lemmas.List.{append-nil}
-use Rattle.script_run.specs.RefusedLines.{IsToldOf, greatest_number, noted, tells_one, told_number}
+use Rattle.script_run.specs.RefusedLines.{IsToldOf, noted, tells_one, told_number}
 use Rattle.script_run.specs.declared.refused_lines.RefusedLines.{RefusedLines}
 use Rattle.script_run.proofs.KeepingLaws.{above, below}
 
@@ -17,7 +17,7 @@ or_false false = refl
 -- before the first line
 pub tells_none : {answered : ℕ} {told : RefusedLines} → IsToldOf answered [] told → tells_one told ≡ false
 tells_none {told = told} tells =
-    let none : told.count ≡ min 0 greatest_number = tells.count_is in
+    let none : told.count ≡ min 0 (2 ^ 64 - 1) = tells.count_is in
     below 0 told.count (omega (arith, none))
 
 -- a line was refused where one was before, or this one is
@@ -25,7 +25,7 @@ pub tells_noted : {before now : ℕ} {was is : RefusedLines} (lines : List ℕ) 
     IsToldOf before lines was → IsToldOf now (noted lines number refused) is →
     tells_one is ≡ (tells_one was || refused)
 tells_noted {was = was} {is = is} lines number true first after =
-    let counted : is.count ≡ min (length (lines ++ number ∷ [])) greatest_number = after.count_is in
+    let counted : is.count ≡ min (length (lines ++ number ∷ [])) (2 ^ 64 - 1) = after.count_is in
     let more : length (lines ++ number ∷ []) ≡ length lines + 1 = length-append lines (number ∷ []) in
     above 0 is.count (omega (arith, counted, more)) ∙ sym (or_true (tells_one was))
 tells_noted {was = was} {is = is} lines number false first after =

@@ -14,7 +14,7 @@ use Rattle.script_run.specs.Limits.{most_script, most_turn}
 use Rattle.script_run.specs.Transcripts.{Session, ended_lines, lines_of, AreAnswered}
 use Rattle.script_run.specs.Stops.{stop_of}
 use Rattle.script_run.specs.RunClauses.{OutsideShown, shown, told_by, IsExactly, Leaves, RunMeets, EndsAt, refused_by}
-use Rattle.script_run.specs.RunViews.{IsAtStart, Stands, GoesOn, Breaks, Closes, ClosesAt, Stood, TakesAll, run_result}
+use Rattle.script_run.specs.RunViews.{IsAtStart, Stands, GoesOn, Breaks, Closes, ClosesAt, TakesAll, run_result}
 use Rattle.script_run.specs.declared.stop.Stop.{Stop}
 use Rattle.script_run.specs.declared.stop.Stop.TheVariants as stops
 use Rattle.script_run.specs.declared.reading.Reading.{Reading}
@@ -41,6 +41,14 @@ split_told first (Some rest) taken script e c = record {
 
 end_told : (now : Option (List ℕ)) (rest : List ℕ) → now ≡ Some rest → IsAtEnd now → rest ≡ []
 end_told now rest e at_end = subst IsAtEnd e at_end
+
+-- of a run over a source, between two turns
+pub record Stood (before now : OutsideShown) (left left_now : Option (List ℕ)) (count : ℕ)
+    (reading : Reading) : Type 0 where
+  pub bytes : List ℕ
+  pub consumed : Consumes left left_now bytes
+  pub counted : length bytes ≡ count
+  pub stands : Stands before now bytes reading
 
 -- before the first turn
 pub stood_first : (before : OutsideShown) (left : Option (List ℕ)) (reading : Reading) → IsAtStart reading →

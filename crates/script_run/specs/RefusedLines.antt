@@ -1,16 +1,13 @@
 -- Which lines of a script were refused, as they are told.
-use Rattle.std.specs.Prelude.{◌≡◌, ℕ, ◌+◌, nat_lt, Bool, if◌then◌else◌, List, [], ◌∷◌, ◌++◌, length, map, take, min, Option, None, Some, String}
+use Rattle.std.specs.Prelude.{◌≡◌, ℕ, ◌+◌, ◌-◌, ◌^◌, nat_lt, Bool, if◌then◌else◌, List, [], ◌∷◌, ◌++◌, length, map, take, min, Option, None, Some, String}
 use Rattle.std.specs.declared.alloc.Global.{Global}
 use Rattle.script_run.specs.Limits.{most_told}
 use Rattle.script_run.specs.declared.refused_lines.RefusedLine.{RefusedLine}
 use Rattle.script_run.specs.declared.refused_lines.RefusedLines.{RefusedLines}
 
 -- a number stands still at the greatest of 64 bits
-abbrev pub greatest_number : ℕ
-greatest_number = 18446744073709551615
-
 abbrev pub told_number : ℕ → ℕ
-told_number n = min n greatest_number
+told_number n = min n (2 ^ 64 - 1)
 
 -- so many lines were answered, and those with these numbers were refused: it is told how many there are, and of the
 -- first 20 refused ones which they are

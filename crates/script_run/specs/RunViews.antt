@@ -140,14 +140,6 @@ pub record ClosesAt (old : OutsideShown) (was : Reading) (standing : Standing)
   pub on : (before : OutsideShown) (script : List ℕ) → Stands before old script was
       → ForSome before.files (λ files. EndsAt files script standing kept told)
 
--- of a run over a source, between two turns
-pub record Stood (before now : OutsideShown) (left left_now : Option (List ℕ)) (count : ℕ)
-    (reading : Reading) : Type 0 where
-  pub bytes : List ℕ
-  pub consumed : Consumes left left_now bytes
-  pub counted : length bytes ≡ count
-  pub stands : Stands before now bytes reading
-
 -- nothing of a script was read yet
 pub record IsAtStart (reading : Reading) : Type 0 where
   pub line : reading.line.items ≡ []

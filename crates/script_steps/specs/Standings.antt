@@ -1,5 +1,5 @@
 -- What the lines of a script leave, and what a line answers.
-use Rattle.std.specs.Prelude.{◌≡◌, ℕ, ◌+◌, List, [], false, None, min}
+use Rattle.std.specs.Prelude.{◌≡◌, ℕ, ◌+◌, ◌-◌, ◌^◌, List, [], false, None, min}
 use Rattle.book_year.specs.declared.outcome.Work.{Work}
 use Rattle.recalc_engine.specs.Contents.{Contents}
 use Rattle.correction_ledger.specs.Filings.{Filings}
@@ -12,13 +12,10 @@ pub record Standing : Type 0 where
   pub made : Work
 
 -- work and more work: a total stands still at the greatest number of 64 bits
-abbrev pub last_total : ℕ
-last_total = 18446744073709551615
-
 abbrev pub more_work : Work → Work → Work
 more_work made work = record {
-  runs = min (made.runs + work.runs) last_total;
-  steps = min (made.steps + work.steps) last_total;
+  runs = min (made.runs + work.runs) (2 ^ 64 - 1);
+  steps = min (made.steps + work.steps) (2 ^ 64 - 1);
 }
 
 -- an edit was accepted, and has left this book
