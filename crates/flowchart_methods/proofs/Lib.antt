@@ -2,3 +2,4 @@ pub mod Laws
 pub mod EscapeLemmas
 pub mod TurnLemmas
 pub mod ChapterLemmas
+pub mod CommentLemmas

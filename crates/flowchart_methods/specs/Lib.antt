@@ -1,5 +1,6 @@
 pub mod Escapes
 pub mod Turns
+pub mod Comments
 pub mod Sites
 pub mod Captions
 pub mod Chapters

@@ -1,17 +1,32 @@
 //! The comments of the plan's file.
+ghost use Rattle.std.specs.Prelude.{◌≡◌, ◌++◌, OnOk};
+ghost use Rattle.flowchart_methods.specs.Comments.{comments_text, paragraph, is_tag, paragraphs, count_before, last_paragraph};
+
 use crate::page::Page;
-use plan_notes::{Element, Notes};
+use plan_notes::{Element, Mark, Notes};
 use std::alloc::AllocError;
 
 /// Appends comments, with a space between two of them.
-pub fn write_comments(page: &mut Page, comments: &[String]) -> Result<(), AllocError> {
+pub fn write_comments(page: &mut Page, comments: &[String]) -> Result<(), AllocError>
+    ensures { OnOk result (page.new ≡ page.old ++ comments_text comments.now) }
+{
     for (i, comment) in comments.iter().enumerate() {
-        if i > 0 {
-            page.own(" ")?;
-        }
-        page.text(comment.as_bytes())?;
+        let space = if i > 0 { " " } else { "" };
+        page.element(space, comment.as_bytes(), "")?;
     }
     Ok(())
+}
+
+/// Appends comments as a paragraph, where there are some.
+pub(crate) fn write_paragraph(page: &mut Page, comments: &[String]) -> Result<(), AllocError>
+    ensures { OnOk result (page.new ≡ page.old ++ paragraph comments.now) }
+{
+    if comments.is_empty() {
+        return Ok(());
+    }
+    page.own("<p class=\"com\">")?;
+    write_comments(page, comments)?;
+    page.own("</p>\n")
 }
 
 /// Appends the comments before the start tags or before the end tags of an element, a paragraph for each tag that has some.
@@ -20,31 +35,35 @@ pub fn write_paragraphs(
     notes: &Notes,
     element: Element,
     is_end: bool,
-) -> Result<(), AllocError> {
+) -> Result<(), AllocError>
+    ensures { OnOk result (page.new ≡ page.old ++ paragraphs notes.now element is_end) }
+{
     for mark in &notes.marks {
-        let comments = notes.before(mark);
-        if mark.element == element && mark.is_end == is_end && !comments.is_empty() {
-            write_paragraph(page, comments)?;
+        if is_tag(mark, element, is_end) {
+            write_paragraph(page, notes.before(mark))?;
         }
     }
     Ok(())
 }
 
-/// Appends the comments behind the last tag.
-pub fn write_last_paragraph(page: &mut Page, notes: &Notes) -> Result<(), AllocError> {
-    let behind = match notes.marks.last() {
-        Some(mark) => mark.last,
-        None => 0,
-    };
-    match notes.comments.get(behind..) {
-        Some(comments) if !comments.is_empty() => write_paragraph(page, comments),
-        _ => Ok(()),
-    }
+/// Whether a tag is a start tag of an element, or an end tag.
+fn is_tag(mark: &Mark, element: Element, is_end: bool) -> bool
+    ensures { result ≡ is_tag element is_end mark.now }
+{
+    mark.element == element && mark.is_end == is_end
 }
 
-/// Appends a paragraph of comments.
-fn write_paragraph(page: &mut Page, comments: &[String]) -> Result<(), AllocError> {
-    page.own("<p class=\"com\">")?;
-    write_comments(page, comments)?;
-    page.own("</p>\n")
+/// Appends the comments behind the last tag.
+pub fn write_last_paragraph(page: &mut Page, notes: &Notes) -> Result<(), AllocError>
+    ensures { OnOk result (page.new ≡ page.old ++ last_paragraph notes.now) }
+{
+    let comments = notes.comments.get(count_before(&notes.marks)..);
+    write_paragraph(page, comments.unwrap_or(&[]))
+}
+
+/// How many comments stand before the last of some tags.
+fn count_before(marks: &[Mark]) -> usize
+    ensures { result ≡ count_before marks.now }
+{
+    marks.last().map_or(0, |mark| mark.last)
 }

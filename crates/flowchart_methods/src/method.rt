@@ -8,7 +8,7 @@ ghost use Rattle.flowchart_methods.specs.Chapters.{chapter_captions};
 
 use crate::callers::Callers;
 use crate::chapter::Chapter;
-use crate::comments::write_comments;
+use crate::comments::write_paragraph;
 use crate::figure::write_drawing;
 use crate::page::Page;
 use crate::site::Site;
@@ -124,20 +124,10 @@ fn heading(alloc: Global, name: &Name) -> Result<String, AllocError>
 fn figure_start(alloc: Global, comments: &[String], callers: &[Name]) -> Result<Page, AllocError> {
     let mut page = Page::new(alloc);
     page.own("\n")?;
-    write_method_comments(&mut page, comments)?;
+    write_paragraph(&mut page, comments)?;
     write_callers(&mut page, callers)?;
     page.own("<div class=\"fig\">")?;
     Ok(page)
-}
-
-/// Appends the comments of a method, where it has some.
-fn write_method_comments(page: &mut Page, comments: &[String]) -> Result<(), AllocError> {
-    if comments.is_empty() {
-        return Ok(());
-    }
-    page.own("<p class=\"com\">")?;
-    write_comments(page, comments)?;
-    page.own("</p>\n")
 }
 
 /// Appends what executes a method, where something does.
