@@ -1,5 +1,5 @@
 -- What is said of a plan, from its parts.
-use Rattle.std.proofs.Common.{◌≡◌, ℕ, Bool, Result, Ok, Err, String, string_bytes, List, [], ◌∷◌, ◌++◌, refl, sym, ap, ◌∙◌, append_assoc}
+use Rattle.std.proofs.Common.{◌≡◌, ℕ, Bool, true, false, not, Result, Ok, Err, String, string_bytes, List, [], ◌∷◌, ◌++◌, codes, refl, sym, ap, ◌∙◌, append_assoc}
 use Rattle.std.specs.Prelude.{OnOk, IfOk}
 use Rattle.std.specs.declared.alloc.Global.{Global}
 use Rattle.std.proofs.lemmas.List.{append-nil}
@@ -8,7 +8,8 @@ use Rattle.plan_answers.specs.Answers.{Answer, IsRefusal}
 use Rattle.plan_notes.specs.Lines.{line_text}
 use Rattle.flowchart_methods.specs.Turns.{AddsInTurn}
 use Rattle.flowchart_methods.proofs.Laws.{adds_none, adds_before, adds_behind, adds_then}
-use Rattle.flowchart_page.specs.Pages.{byte_text, is_code_behind, words_from, IsRefusalLine}
+use Rattle.flowchart_methods.specs.Escapes.{escaped}
+use Rattle.flowchart_page.specs.Pages.{shown_parts, IsRefusalLine}
 
 pub on_ok : {A E : Type 0} (r : Result A E) (P Q : Type 0) → OnOk r P → (P → Q) → OnOk r Q
 on_ok (Ok v) P Q h f = f h
@@ -48,14 +49,49 @@ reason_in words line first last end a b c d e worded lined linked ended =
     (adds_behind (line ∷ []) end b d e ended
     (adds_then (line ∷ []) [] b c d (adds_part line first last b c lined) linked))
 
--- ---- words, byte by byte
+-- ---- words, part by part
 
-pub words_more : (old whole page new words : List ℕ) (is_code : Bool) (byte : ℕ) → new ≡ page ++ byte_text is_code byte
-    → page ++ words_from is_code (byte ∷ words) ≡ old ++ whole
-    → new ++ words_from (is_code_behind is_code byte) words ≡ old ++ whole
-words_more old whole page new words is_code byte written so_far =
-    let rest = words_from (is_code_behind is_code byte) words in
-    ap (λ z. z ++ rest) written ∙ append_assoc page (byte_text is_code byte) rest ∙ so_far
+-- whether the part behind these is code
+abbrev pub is_code_behind : Bool → List (List ℕ) → Bool
+is_code_behind is_code [] = is_code
+is_code_behind is_code (part ∷ parts) = is_code_behind (not is_code) parts
+
+shown-append : (is_code : Bool) (parts others : List (List ℕ))
+    → shown_parts is_code (parts ++ others)
+    ≡ shown_parts is_code parts ++ shown_parts (is_code_behind is_code parts) others
+shown-append is_code [] others = refl
+shown-append false (part ∷ parts) others =
+    ap (λ z. escaped part ++ z) (shown-append true parts others)
+    ∙ sym (append_assoc (escaped part) (shown_parts true parts)
+    (shown_parts (is_code_behind true parts) others))
+shown-append true (part ∷ parts) others =
+    let rest = shown_parts (is_code_behind false parts) others in
+    ap (λ z. codes "<code>" ++ (escaped part ++ (codes "</code>" ++ z))) (shown-append false parts others)
+    ∙ ap (λ z. codes "<code>" ++ (escaped part ++ z))
+    (sym (append_assoc (codes "</code>") (shown_parts false parts) rest))
+    ∙ ap (λ z. codes "<code>" ++ z)
+    (sym (append_assoc (escaped part) (codes "</code>" ++ shown_parts false parts) rest))
+    ∙ sym (append_assoc (codes "<code>") (escaped part ++ (codes "</code>" ++ shown_parts false parts)) rest)
+
+behind-append : (is_code : Bool) (parts others : List (List ℕ))
+    → is_code_behind is_code (parts ++ others) ≡ is_code_behind (is_code_behind is_code parts) others
+behind-append is_code [] others = refl
+behind-append is_code (part ∷ parts) others = behind-append (not is_code) parts others
+
+-- one part more
+pub words_more : (old page new : List ℕ) (parts : List (List ℕ)) (part : List ℕ) (is_code : Bool)
+    → page ≡ old ++ shown_parts false parts → is_code ≡ is_code_behind false parts
+    → new ≡ page ++ shown_parts is_code (part ∷ []) → new ≡ old ++ shown_parts false (parts ++ part ∷ [])
+words_more old page new parts part is_code so_far code written =
+    written
+    ∙ ap (λ z. z ++ shown_parts is_code (part ∷ [])) so_far
+    ∙ append_assoc old (shown_parts false parts) (shown_parts is_code (part ∷ []))
+    ∙ ap (λ b. old ++ (shown_parts false parts ++ shown_parts b (part ∷ []))) code
+    ∙ ap (λ z. old ++ z) (sym (shown-append false parts (part ∷ [])))
+
+pub code_more : (parts : List (List ℕ)) (part : List ℕ) (is_code : Bool) → is_code ≡ is_code_behind false parts
+    → not is_code ≡ is_code_behind false (parts ++ part ∷ [])
+code_more parts part is_code code = ap not code ∙ sym (behind-append false parts (part ∷ []))
 
 -- ---- the line
 

@@ -1,6 +1,7 @@
 -- What a page says of its plan.
-use Rattle.std.specs.Prelude.{◌≡◌, ◌⊎◌, ℕ, Bool, false, not, ◌==◌, if◌then◌else◌, List, [], ◌∷◌, ◌++◌, codes, Option, Some, None}
+use Rattle.std.specs.Prelude.{◌≡◌, ◌⊎◌, ℕ, Bool, true, false, ◌==◌, List, [], ◌∷◌, ◌++◌, codes, Option, Some, None}
 use Rattle.std.specs.Fmt.{decimal}
+use Rattle.std.specs.List.{slice_split}
 use Rattle.pap_reader.specs.declared.fault.ReadFault.{ReadFault}
 use Rattle.pap_reader.specs.Trees.{ElementTree}
 use Rattle.pap_reader.specs.Elements.{IsElements, IsFault}
@@ -8,7 +9,7 @@ use Rattle.pap_types.specs.Meaning.{bound_of}
 use Rattle.pap_plan.specs.declared.refusal.PlanRefusal.{PlanRefusal}
 use Rattle.plan_answers.specs.Answers.{Answer, IsRefusal}
 use Rattle.plan_notes.specs.Lines.{line_text}
-use Rattle.flowchart_methods.specs.Escapes.{escaped_byte, escaped}
+use Rattle.flowchart_methods.specs.Escapes.{escaped}
 use Rattle.flowchart_methods.specs.Turns.{StandInTurn}
 use Rattle.flowchart_methods.specs.Captions.{AreCaptions, methods_of}
 use Rattle.flowchart_page.specs.Findings.{Finding, accepted, in_order, refused, IsFound, marked}
@@ -39,26 +40,16 @@ in_order_text = codes "<b>In order</b>, as far as it can be said without a range
 abbrev pub refused_text : List ℕ
 refused_text = codes "<b>Refused.</b> "
 
--- the tag at a backquote: it begins code, or ends it
-abbrev pub code_tag : Bool → List ℕ
-code_tag is_code = if is_code then codes "</code>" else codes "<code>"
+-- parts of words in a page, in turn plain and code
+abbrev pub shown_parts : Bool → List (List ℕ) → List ℕ
+shown_parts is_code [] = []
+shown_parts false (part ∷ parts) = escaped part ++ shown_parts true parts
+shown_parts true (part ∷ parts) =
+    codes "<code>" ++ (escaped part ++ (codes "</code>" ++ shown_parts false parts))
 
--- a byte of words in a page
-abbrev pub byte_text : Bool → ℕ → List ℕ
-byte_text is_code byte = if byte == 0x60 then code_tag is_code else escaped_byte byte
-
--- whether code goes on behind a byte
-abbrev pub is_code_behind : Bool → ℕ → Bool
-is_code_behind is_code byte = if byte == 0x60 then not is_code else is_code
-
--- words in a page, where the first are code or not: a backquote begins code or ends it, and no code goes on behind them
-abbrev pub words_from : Bool → List ℕ → List ℕ
-words_from is_code [] = if is_code then codes "</code>" else []
-words_from is_code (byte ∷ words) =
-    byte_text is_code byte ++ words_from (is_code_behind is_code byte) words
-
+-- words in a page: what stands between two backquotes is code
 abbrev pub shown_words : List ℕ → List ℕ
-shown_words words = words_from false words
+shown_words words = shown_parts false (slice_split (λ byte. byte == 0x60) words)
 
 -- the line that `check` writes of a refusal, without its end
 pub record IsRefusalLine (plan : List ℕ) (r : PlanRefusal) (line : List ℕ) : Type 0 where

@@ -2,7 +2,7 @@
 ghost use Rattle.std.specs.Prelude.{◌≡◌, ◌∷◌, ◌++◌, [], IfOk, OnOk, string_bytes};
 ghost use Rattle.flowchart_methods.specs.Turns.{AddsInTurn};
 ghost use Rattle.flowchart_methods.specs.Escapes.{escaped};
-ghost use Rattle.flowchart_page.specs.Pages.{code_tag, byte_text, is_code_behind, words_from, shown_words};
+ghost use Rattle.flowchart_page.specs.Pages.{shown_parts, shown_words};
 ghost use Rattle.flowchart_page.specs.VerdictViews.{said_of, sentence_of, behind_sentence};
 
 use crate::style::STYLE;
@@ -119,45 +119,22 @@ fn write_words(page: &mut Page, words: &str) -> Result<(), AllocError>
     ensures { OnOk result (page.new ≡ page.old ++ shown_words words.now) }
 {
     let mut is_code = false;
-    for byte in words.as_bytes() {
-        write_word_byte(page, *byte, is_code)?;
-        is_code = is_code_behind(is_code, *byte);
-    }
-    end_words(page, is_code)
-}
-
-/// Ends plain words: no code goes on behind them.
-fn end_words(page: &mut Page, is_code: bool) -> Result<(), AllocError>
-    ensures { OnOk result (page.new ≡ page.old ++ words_from is_code []) }
-{
-    if is_code {
-        return page.own("</code>");
+    for part in words.as_bytes().split(|byte| *byte == b'`') {
+        write_part(page, part, is_code)?;
+        is_code = !is_code;
     }
     Ok(())
 }
 
-/// Whether code goes on behind a byte of plain words.
-fn is_code_behind(is_code: bool, byte: u8) -> bool
-    ensures { result ≡ is_code_behind is_code byte }
+/// Appends a part of plain words, as code or not.
+fn write_part(page: &mut Page, part: &[u8], is_code: bool) -> Result<(), AllocError>
+    ensures { OnOk result (page.new ≡ page.old ++ shown_parts is_code (part.now ∷ [])) }
 {
-    if byte == b'`' { !is_code } else { is_code }
-}
-
-/// Appends a byte of plain words: a backquote begins code or ends it.
-fn write_word_byte(page: &mut Page, byte: u8, is_code: bool) -> Result<(), AllocError>
-    ensures { OnOk result (page.new ≡ page.old ++ byte_text is_code byte) }
-{
-    if byte == b'`' {
-        return page.own(code_tag(is_code));
+    if is_code {
+        page.element("<code>", part, "</code>")
+    } else {
+        page.text(part)
     }
-    page.text(&[byte])
-}
-
-/// The tag at a backquote.
-fn code_tag(is_code: bool) -> &'static str
-    ensures { result.now ≡ code_tag is_code }
-{
-    if is_code { "</code>" } else { "<code>" }
 }
 
 /// Appends the link to what a refusal names.

@@ -1,7 +1,11 @@
-use Rattle.std.proofs.Common.{◌≡◌, ◌++◌, drop}
-use Rattle.flowchart_page.specs.Pages.{words_from, shown_words}
+use Rattle.std.proofs.Common.{◌≡◌, ◌++◌, false, map}
+use Rattle.flowchart_page.specs.Pages.{shown_parts}
+use Rattle.flowchart_page.proofs.HeaderLemmas.{is_code_behind}
 use Rattle.flowchart_page.proofs.header.write_words.Given as goal
 
-abbrev pub invariant-loop-byte : goal.invariant-loop-byte
-invariant-loop-byte l =
-    l.page ++ words_from l.is_code (drop l.byte-index l.words) ≡ l.initial.page ++ shown_words l.words
+-- the parts so far are written
+abbrev pub invariant-loop-part : goal.invariant-loop-part
+invariant-loop-part l = record {
+  page : l.page ≡ l.initial.page ++ shown_parts false (map (λ part. part.now) l.yielded);
+  code : l.is_code ≡ is_code_behind false (map (λ part. part.now) l.yielded);
+}
