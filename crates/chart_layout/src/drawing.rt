@@ -62,16 +62,19 @@ pub struct Head {
 /// A symbol or a word. `x` is the left edge, of a comment and a word the place of the text.
 #[derive(Clone, Copy)]
 pub enum Row<'a> {
+    /// The symbol with which the method begins.
     Start {
         x: Px,
         y: Px,
         width: Px,
     },
+    /// The symbol with which it ends.
     End {
         x: Px,
         y: Px,
         width: Px,
     },
+    /// EVALs in a row.
     Box {
         x: Px,
         y: Px,
@@ -79,21 +82,25 @@ pub enum Row<'a> {
         height: Px,
         row: &'a [Statement],
     },
+    /// The test of an IF.
     Test {
         x: Px,
         y: Px,
         test: &'a Statement,
     },
+    /// An EXECUTE.
     Call {
         x: Px,
         y: Px,
         call: &'a Call,
     },
+    /// Comments of the file.
     Note {
         x: Px,
         y: Px,
         note: &'a Note,
     },
+    /// The word at a way of a test.
     Word {
         x: Px,
         y: Px,

@@ -1,5 +1,5 @@
 //! What a body is drawn as.
-ghost use Rattle.std.specs.Prelude.{◌≡◌, [], IsTrue};
+ghost use Rattle.std.specs.Prelude.{◌≡◌, ◌↔◌, [], IsTrue};
 ghost use Rattle.chart_layout.specs.Drawn.{body_statements, figures_statements};
 
 use crate::choice::Choice;
@@ -40,6 +40,8 @@ pub(crate) enum End {
 }
 
 impl Body {
+    ghost use Rattle.chart_layout.specs.declared.figure.Body.{out-Body};
+
     pub(crate) fn new(figures: Vec<Figure>) -> Body
         ensures { body_statements result ≡ figures_statements figures.items }
     {
@@ -58,8 +60,10 @@ impl Body {
         }
     }
 
+    /// Whether nothing stands in it, no comment either.
     pub fn is_empty(&self) -> bool
-        ensures { IsTrue result → body_statements self.now ≡ [] }
+        ensures figures { IsTrue result ↔ ((out-Body self.now).figures.items ≡ []) }
+        ensures statements { IsTrue result → body_statements self.now ≡ [] }
     {
         self.figures.is_empty()
     }

@@ -27,10 +27,12 @@ impl Note {
         Ok(())
     }
 
+    /// The height of its lines.
     pub fn height(&self) -> Px {
         NOTE_LINE.times(self.lines.len())
     }
 
+    /// How much room it takes beside the spine.
     pub(crate) fn width(&self) -> Px {
         let mut longest = 0;
         for line in &self.lines {

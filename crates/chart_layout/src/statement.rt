@@ -115,6 +115,7 @@ impl Call {
         }
     }
 
+    /// The width of its box, which has the method's name and the place side by side.
     pub fn width(&self) -> Px {
         self.width
     }

@@ -7,10 +7,13 @@ use pap_tree::Name;
 /// What a refusal names of the plan.
 #[derive(Clone, Copy, PartialEq)]
 pub enum Site {
+    /// A statement, by its number in its method.
     Statement { method: Name, number: u32 },
+    /// A method as a whole.
     Method(Name),
+    /// A declared name, by its row in the table.
     Declared(Name),
-    /// Nothing that is drawn.
+    /// Nothing that the page shows.
     Nowhere,
 }
 
