@@ -5,6 +5,7 @@ ghost use Rattle.pap_tree.specs.Term.{term_of};
 ghost use Rattle.pap_reader.specs.Trees.{raw_body_of};
 ghost use Rattle.chart_layout.specs.Drawn.{drawn_statement, arm_statements, body_statements, choice_statements, figures_statements};
 ghost use Rattle.chart_layout.specs.Statements.{expression, execution, statements_of, statements_in, is_number, after, next_drawn, spelled, IsSpelledAs, AreDrawn, Adds};
+ghost use Rattle.chart_layout.specs.Counts.{count_of};
 
 use crate::choice::{Arm, Choice};
 use crate::figure::{Body, Figure, row_height};
@@ -30,28 +31,29 @@ pub struct MethodText {
     pub count: u32,
 }
 
-/// The statements of a method, in the order of the file, with numbers from 0. The walk stands behind its start tag, and goes
-/// behind its end tag. `refused` is the number of the statement for which the plan is refused.
+/// The statements of a method, in the order of the file, with numbers from 0. The walk stands behind its start tag: the comments
+/// before each tag come from there. `refused` is the number of the statement for which the plan is refused.
 pub fn read_method(
     alloc: Global,
     name: Name,
     statements: &[RawStmt],
-    walk: &mut Walk<'_>,
+    walk: Walk<'_>,
     refused: Option<u32>,
 ) -> Result<MethodText, AllocError>
     ensures name { IfOk result (λ method. method.name ≡ name) }
     ensures statements { IfOk result (λ method.
         AreDrawn refused 0 (statements_of (raw_body_of statements.now)) (body_statements method.body)) }
+    ensures count { IfOk result (λ method. method.count
+        ≡ count_of (statements_of (raw_body_of statements.now))) }
 {
     let mut builder = Builder {
         alloc,
         method: name,
-        walk: *walk,
+        walk,
         numbering: Numbering { next: 0, refused },
     };
     let mut figures = Vec::new(alloc);
     builder.body(statements, 0, &mut figures)?;
-    *walk = builder.walk;
     Ok(MethodText {
         name,
         body: Body::new(figures),

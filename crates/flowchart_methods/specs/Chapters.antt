@@ -1,8 +1,12 @@
 -- The methods as the page has them.
-use Rattle.std.specs.Prelude.{◌≡◌, ℕ, Option, List}
+use Rattle.std.specs.Prelude.{◌≡◌, ℕ, zero, suc, ◌+◌, Option, List, [], ◌∷◌, String, ⊤}
+use Rattle.std.specs.declared.alloc.Global.{Global}
+use Rattle.pap_reader.specs.declared.element.Element.TheVariants.{Main, Method}
 use Rattle.pap_reader.specs.Trees.{RawBody}
 use Rattle.chart_layout.specs.Drawn.{body_statements}
 use Rattle.chart_layout.specs.Statements.{statements_of, AreDrawn}
+use Rattle.plan_notes.specs.declared.notes.Notes.{Notes}
+use Rattle.plan_notes.specs.StartTags.{comments_before}
 use Rattle.flowchart_methods.specs.declared.chapter.Chapter.{Chapter}
 use Rattle.flowchart_methods.specs.Captions.{method_captions}
 
@@ -13,3 +17,14 @@ chapter_captions c = method_captions c.text.name (body_statements c.text.body)
 abbrev pub IsChapter : Option ℕ → List ℕ → RawBody → Chapter → Type 0
 IsChapter refused name body c =
     (c.text.name ≡ name) × AreDrawn refused 0 (statements_of body) (body_statements c.text.body)
+
+-- the comments before the start tag of the numbered method, where MAIN is the first
+abbrev pub method_comments : Notes → ℕ → List (String Global)
+method_comments notes zero = comments_before notes Main 0
+method_comments notes (suc number) = comments_before notes Method number
+
+-- each of these chapters, from the numbered one on, has the comments before the start tag of its method
+abbrev pub AreCommented : Notes → ℕ → List Chapter → Type 0
+AreCommented notes number [] = ⊤
+AreCommented notes number (c ∷ cs) =
+    (c.comments.now ≡ method_comments notes number) × AreCommented notes (number + 1) cs

@@ -1,10 +1,12 @@
 //! The methods of a plan as a page has them.
-ghost use Rattle.std.specs.Prelude.{IfOk};
+ghost use Rattle.std.specs.Prelude.{◌≡◌, map, IfOk};
 ghost use Rattle.std.specs.List.{flat_map};
 ghost use Rattle.pap_reader.specs.Trees.{raw_body_of, tree_of};
+ghost use Rattle.chart_layout.specs.Statements.{statements_of};
+ghost use Rattle.chart_layout.specs.Counts.{count_of};
 ghost use Rattle.flowchart_methods.specs.Sites.{named_statement, number_in};
 ghost use Rattle.flowchart_methods.specs.Captions.{methods_of, AreCaptions};
-ghost use Rattle.flowchart_methods.specs.Chapters.{chapter_captions, IsChapter};
+ghost use Rattle.flowchart_methods.specs.Chapters.{chapter_captions, IsChapter, AreCommented};
 
 use crate::site::Site;
 use chart_layout::{MethodText, read_method};
@@ -29,36 +31,43 @@ pub fn read_chapters<'a>(
     notes: &'a Notes,
     site: &Site,
 ) -> Result<Vec<Chapter<'a>>, AllocError>
-    ensures { IfOk result (λ chapters.
+    ensures captions { IfOk result (λ chapters.
         AreCaptions (named_statement site.now) (methods_of (tree_of elements.now))
         (flat_map chapter_captions chapters.items)) }
+    // The comments before its start tag, and how many statements it has.
+    ensures comments { IfOk result (λ chapters. AreCommented notes.now 0 chapters.items) }
+    ensures counts { IfOk result (λ chapters. map (λ c. c.text.count) chapters.items
+        ≡ map (λ m. count_of (statements_of m.body)) (methods_of (tree_of elements.now))) }
 {
     let mut chapters = Vec::new(alloc);
     let main = Name::main();
-    let mut walk = notes.walk();
-    let comments = walk.skip_to(Element::Main);
-    let first = read_chapter(alloc, main, &elements.main, comments, &mut walk, site)?;
+    let mut to_main = notes.walk();
+    let comments = to_main.skip_to(Element::Main);
+    let first = read_chapter(alloc, main, &elements.main, comments, to_main, site)?;
     chapters.push(first)?;
     let mut walk = notes.walk();
     for method in &elements.methods {
         let comments = walk.skip_to(Element::Method);
-        let next = read_chapter(alloc, method.name, &method.body, comments, &mut walk, site)?;
+        let next = read_chapter(alloc, method.name, &method.body, comments, walk, site)?;
         chapters.push(next)?;
     }
     Ok(chapters)
 }
 
-/// A method with the comments before it. The walk stands behind its start tag, and goes behind its end tag.
+/// A method with the comments before it. The walk stands behind its start tag.
 fn read_chapter<'a>(
     alloc: Global,
     name: Name,
     body: &[RawStmt],
     comments: &'a [String],
-    walk: &mut Walk<'_>,
+    walk: Walk<'_>,
     site: &Site,
 ) -> Result<Chapter<'a>, AllocError>
-    ensures { IfOk result (IsChapter (number_in (named_statement site.now) name) name
+    ensures chapter { IfOk result (IsChapter (number_in (named_statement site.now) name) name
         (raw_body_of body.now)) }
+    ensures comments { IfOk result (λ chapter. chapter.comments.now ≡ comments.now) }
+    ensures count { IfOk result (λ chapter. chapter.text.count
+        ≡ count_of (statements_of (raw_body_of body.now))) }
 {
     let refused = site.statement_in(&name);
     let text = read_method(alloc, name, body, walk, refused)?;

@@ -1,3 +1,4 @@
+pub mod Laws
 pub mod KeptLemmas
 pub mod EdgeLemmas
 pub mod Spaces

@@ -85,13 +85,18 @@ get_behind (suc n) [] = refl
 get_behind (suc n) (m ∷ ms) = get_behind n ms
 
 -- the numbered start is the first behind so many
+pub found_start : (starts : Starts) (number : ℕ) (ms : List Mark)
+    → find (is_start starts) (behind_starts starts number ms) ≡ slice_get (filter (is_start starts) ms) number
+found_start starts number ms =
+    find_first (is_start starts) (behind_starts starts number ms)
+    ∙ ap (λ xs. slice_get xs 0) (filter_behind_all starts number ms)
+    ∙ get_behind number (filter (is_start starts) ms)
+
+-- and its byte
 pub found_at : (starts : Starts) (number : ℕ) (ms : List Mark)
     → option_map (λ (m : Mark). m.at) (find (is_start starts) (behind_starts starts number ms))
     ≡ start_byte starts number ms
-found_at starts number ms =
-    ap (option_map (λ (m : Mark). m.at)) (find_first (is_start starts) (behind_starts starts number ms)
-    ∙ ap (λ xs. slice_get xs 0) (filter_behind_all starts number ms)
-    ∙ get_behind number (filter (is_start starts) ms))
+found_at starts number ms = ap (option_map (λ (m : Mark). m.at)) (found_start starts number ms)
 
 -- ---- none that passes
 

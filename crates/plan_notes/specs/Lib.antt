@@ -1,6 +1,7 @@
 pub mod Edges
 pub mod Marks
 pub mod Walks
+pub mod StartTags
 pub mod Contents
 pub mod Notes
 pub mod AttributeBytes

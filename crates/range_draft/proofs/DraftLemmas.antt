@@ -24,6 +24,7 @@ use Rattle.plan_notes.specs.declared.tag.Starts.TheVariants.{Of}
 use Rattle.plan_notes.specs.declared.notes.Notes.{Notes}
 use Rattle.plan_notes.specs.declared.notes.Walk.{Walk}
 use Rattle.plan_notes.specs.Walks.{notes_of, marks_left, is_start, behind_start, behind_starts, comments_of}
+use Rattle.plan_notes.proofs.Laws.{comments_found}
 use Rattle.range_draft.specs.Bounds.{least, greatest, advice}
 use Rattle.range_draft.specs.Draft.{head, table, shown_char, front, comment_line, comment_lines, longest_comment, input_comments, entry_of, declares, none, again, entry, IsDraft}
 use Rattle.range_draft.specs.DraftViews.{texts_of}
@@ -324,9 +325,7 @@ names_more old new name inputs input is known updates q =
 found_comments : (notes : Notes) (walk : Walk) (i : ℕ) → marks_left walk ≡ behind_starts (Of Input) i notes.marks.items
     → notes_of walk ≡ notes
     → texts_of (comments_of (notes_of walk) (find (is_start (Of Input)) (marks_left walk))) ≡ input_comments notes i
-found_comments notes walk i left same =
-    ap (λ n. texts_of (comments_of n (find (is_start (Of Input)) (marks_left walk)))) same
-    ∙ ap (λ marks. texts_of (comments_of notes (find (is_start (Of Input)) marks))) left
+found_comments notes walk i left same = ap texts_of (comments_found notes walk Input i same left)
 
 module _ (inputs : List RawDeclared) (notes : Notes) (i : ℕ) (walk after : Walk) (names more : Names)
     (name : Bor (List ℕ)) (input : RawDeclared) (text : List ℕ) (so_far : IsDrafted inputs notes i walk names text) (some : i < length inputs)

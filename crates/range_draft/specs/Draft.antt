@@ -1,14 +1,13 @@
 -- The text of a range file to begin with.
-use Rattle.std.specs.Prelude.{◌≡◌, ℕ, zero, suc, ◌-◌, Bool, true, false, not, ◌&&◌, ◌==◌, nat_lt, nat_le, if◌then◌else◌, List, [], ◌∷◌, ◌++◌, length, map, find, codes, encode_utf8, string_bytes}
+use Rattle.std.specs.Prelude.{◌≡◌, ℕ, zero, suc, ◌-◌, Bool, true, false, not, ◌&&◌, ◌==◌, nat_lt, nat_le, if◌then◌else◌, List, [], ◌∷◌, ◌++◌, length, map, codes, encode_utf8, string_bytes}
 use Rattle.std.specs.List.{list_any}
 use Rattle.std.specs.Str.{bytes_eq, chars}
 use Rattle.std.specs.Fmt.{decimal}
 use Rattle.pap_tree.specs.declared.declaration.Kind.{Kind}
 use Rattle.pap_reader.specs.declared.element.Element.TheVariants.{Input}
 use Rattle.pap_reader.specs.Trees.{RawDeclaration}
-use Rattle.plan_notes.specs.declared.tag.Starts.TheVariants.{Of}
 use Rattle.plan_notes.specs.declared.notes.Notes.{Notes}
-use Rattle.plan_notes.specs.Walks.{is_start, behind_starts, comments_of}
+use Rattle.plan_notes.specs.StartTags.{comments_before}
 use Rattle.range_draft.specs.Bounds.{least, greatest, most_places, advice}
 
 -- what stands first
@@ -63,9 +62,7 @@ longest_comment = 200
 
 -- the comments that stand before the tag of the numbered input, counted from 0
 abbrev pub input_comments : Notes → ℕ → List (List ℕ)
-input_comments notes number =
-    map (λ comment. string_bytes comment)
-    (comments_of notes (find (is_start (Of Input)) (behind_starts (Of Input) number notes.marks.items)))
+input_comments notes number = map (λ comment. string_bytes comment) (comments_before notes Input number)
 
 -- ---- entries
 
