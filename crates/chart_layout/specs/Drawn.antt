@@ -4,7 +4,7 @@ use Rattle.std.specs.List.{flat_map}
 use Rattle.chart_layout.specs.declared.statement.Statement.{Statement}
 use Rattle.chart_layout.specs.declared.statement.Call.{Call as Execute}
 use Rattle.chart_layout.specs.declared.figure.Figure.{Figure}
-use Rattle.chart_layout.specs.declared.figure.Body.{Body}
+use Rattle.chart_layout.specs.declared.figure.Body.{Body, out-Body}
 use Rattle.chart_layout.specs.declared.choice.Arm.{Arm, out-Arm}
 use Rattle.chart_layout.specs.declared.choice.Choice.{Choice as AnIf, out-Choice}
 use Rattle.chart_layout.specs.declared.choice.Shape.{Shape}
@@ -74,6 +74,10 @@ body_statements = fold-Body (List Drawn) (List Drawn) (List Drawn) (List Drawn) 
 
 abbrev pub figures_statements : List Figure → List Drawn
 figures_statements figures = joined (map figure_statements figures)
+
+-- nothing stands in the body, no comment either
+abbrev pub IsBlank : Body → Type 0
+IsBlank b = (out-Body b).figures.items ≡ []
 
 -- ---- of a drawing
 

@@ -1,6 +1,6 @@
 //! What a body is drawn as.
 ghost use Rattle.std.specs.Prelude.{◌≡◌, ◌↔◌, [], IsTrue};
-ghost use Rattle.chart_layout.specs.Drawn.{body_statements, figures_statements};
+ghost use Rattle.chart_layout.specs.Drawn.{body_statements, figures_statements, IsBlank};
 
 use crate::choice::Choice;
 use crate::measures::{LEAST_SYMBOL, STATEMENT_GAP, TEXT_DROP};
@@ -40,8 +40,6 @@ pub(crate) enum End {
 }
 
 impl Body {
-    ghost use Rattle.chart_layout.specs.declared.figure.Body.{out-Body};
-
     pub(crate) fn new(figures: Vec<Figure>) -> Body
         ensures { body_statements result ≡ figures_statements figures.items }
     {
@@ -62,7 +60,7 @@ impl Body {
 
     /// Whether nothing stands in it, no comment either.
     pub fn is_empty(&self) -> bool
-        ensures figures { IsTrue result ↔ ((out-Body self.now).figures.items ≡ []) }
+        ensures blank { IsTrue result ↔ IsBlank self.now }
         ensures statements { IsTrue result → body_statements self.now ≡ [] }
     {
         self.figures.is_empty()
