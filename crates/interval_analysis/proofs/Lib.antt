@@ -1,3 +1,4 @@
+pub mod ApartLemmas
 pub mod BoundLemmas
 pub mod ChangeLemmas
 pub mod ComparisonLemmas

@@ -129,11 +129,11 @@ turned w a b can =
 -- ---- the second side
 
 -- after a variable's range was replaced another has the new one, where both are one, or its own
-data IsNewOrOld (rs : List Interval) (m n : ℕ) (a : Interval) : Type 0 where
+pub data IsNewOrOld (rs : List Interval) (m n : ℕ) (a : Interval) : Type 0 where
   new : m ≡ n → slice_get (set rs m a) n ≡ Some a → IsNewOrOld rs m n a
   old : slice_get (set rs m a) n ≡ slice_get rs n → IsNewOrOld rs m n a
 
-new_or_old : (rs : List Interval) (m n : ℕ) (a : Interval) → IsNewOrOld rs m n a
+pub new_or_old : (rs : List Interval) (m n : ℕ) (a : Interval) → IsNewOrOld rs m n a
 new_or_old [] m n a = old refl
 new_or_old (r ∷ rs) zero zero a = new refl refl
 new_or_old (r ∷ rs) zero (suc n) a = old refl

@@ -1,9 +1,9 @@
 -- What private contracts say of the sides of a comparison, whose variables have numbers.
-use Rattle.std.specs.Prelude.{◌≡◌, ℕ, if◌then◌else◌, Bool, List, Option, Some, None, slice_get, slice_set}
+use Rattle.std.specs.Prelude.{◌≡◌, ◌≢◌, ℕ, if◌then◌else◌, Bool, List, Option, Some, None, slice_get, slice_set}
 use Rattle.std.specs.Bool.{OnTrue}
 use Rattle.std.specs.Option.{option_map, option_and_then}
 use Rattle.interval_num.specs.declared.sign_set.SignSet.{SignSet}
-use Rattle.interval_num.specs.Intervals.{Interval, IsWhole}
+use Rattle.interval_num.specs.Intervals.{Interval, IsKeptInterval, IsWhole}
 use Rattle.interval_num.specs.Alignment.{Align}
 use Rattle.interval_num.specs.Refinement.{refined}
 use Rattle.interval_num.specs.Signs.{signs_of}
@@ -47,6 +47,13 @@ pub record CanCompare (s : Sides) (rs : List Interval) : Type 0 where
   pub ranges : CanRefine s.whole s.left.range s.right.range
   pub left : HasRange s.left rs
   pub right : HasRange s.right rs
+
+-- sides of one greatest scale that aren't one variable
+pub record AreApart (s : Sides) : Type 0 where
+  pub left : IsKeptInterval s.left.range
+  pub right : IsKeptInterval s.right.range
+  pub scale : s.left.range.s_hi ≡ s.right.range.s_hi
+  pub variables : s.left.variable ≢ s.right.variable
 
 -- ---- the branches of a comparison, by the numbers of the variables
 

@@ -1,5 +1,6 @@
 //! What a comparison leaves of the ranges of its sides.
-ghost use Rattle.std.specs.Prelude.{◌≡◌, ◌<◌, ◌&&◌, Some, IfOk, OnOk, List, length, slice_get};
+ghost use Rattle.std.specs.Prelude.{◌≡◌, ◌<◌, ◌&&◌, Some, is_some, IfOk, OnOk, List, length, slice_get};
+ghost use Rattle.std.specs.Bool.{OnTrue};
 ghost use Rattle.std.specs.Option.{option_map};
 ghost use Rattle.interval_num.specs.Intervals.{Interval};
 ghost use Rattle.interval_num.specs.Signs.{signs_of};
@@ -7,7 +8,7 @@ ghost use Rattle.pap_types.specs.Kinds.{is_whole};
 ghost use Rattle.pap_types.specs.Operations.{holds_of};
 ghost use Rattle.interval_walk.specs.Branches.{signs_where, others, exchanged, can_have};
 ghost use Rattle.interval_analysis.specs.Changes.{after_both, after_change, changed, ranges_left};
-ghost use Rattle.interval_analysis.specs.ComparisonViews.{CanCompare, CanNarrow, against, branch_by, branches_by, narrowed, sides_of, ways_in};
+ghost use Rattle.interval_analysis.specs.ComparisonViews.{AreApart, CanCompare, CanNarrow, against, branch_by, branches_by, narrowed, sides_of, ways_in};
 
 use crate::branches::{Branches, Change, Narrowed};
 use crate::expressions::{Operands, Ranged};
@@ -200,6 +201,27 @@ pub(crate) fn branch_of(
         return None;
     };
     Some(Narrowed { left, right })
+}
+
+/// Whether a branch can be reached: there is an allowed sign, and something is left of both sides' ranges. Where the sides are
+/// apart an allowed sign always leaves something of both.
+pub(crate) fn can_lead(sides: &Sides, between: SignSet, allowed: SignSet, ranges: &[Abs]) -> bool
+    requires can { CanCompare sides.now ranges.now }
+    requires between { between ≡ signs_of sides.now.left.range sides.now.right.range }
+    ensures { result ≡ is_some (branch_by sides.now allowed ranges.now) }
+{
+    if are_apart(sides) {
+        return can_have(allowed, between);
+    }
+    branch_of(sides, between, allowed, ranges).is_some()
+}
+
+/// Whether the sides have one greatest scale, and aren't one variable.
+fn are_apart(sides: &Sides) -> bool
+    ensures { OnTrue result (AreApart sides.now) }
+{
+    sides.left.range.s_hi() == sides.right.range.s_hi()
+        && sides.left.variable != sides.right.variable
 }
 
 /// The change of a side, if it is a variable, after an earlier one; None where nothing is left of its range.

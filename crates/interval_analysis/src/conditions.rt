@@ -11,7 +11,9 @@ ghost use Rattle.interval_analysis.specs.ComparisonViews.{CanCompare};
 ghost use Rattle.interval_analysis.specs.Connectives.{FollowAnswer, BehindAnswer, ComparisonFollowed, IsFollowedBy, IsRole, behind_both, connected, directions_of};
 
 use crate::branches::{Branches, Connective, opposite, turned, unchanged_if};
-use crate::comparisons::{Compared, Sides, are_whole, branch_of, branches_of, others, signs_where};
+use crate::comparisons::{
+    Compared, Sides, are_whole, branch_of, branches_of, can_lead, others, signs_where,
+};
 use crate::expressions::{Operands, Stop, Walk};
 use crate::nodes::{literal, own};
 use crate::operations::comparison_range;
@@ -405,7 +407,7 @@ fn follow_compared(
     let next = *next;
     let directions = directions_of(connective, *allowed);
     let between = signs(sides.left.range, sides.right.range);
-    let can_leave = branch_of(sides, between, directions.outward, &variables.ranges).is_some();
+    let can_leave = can_lead(sides, between, directions.outward, &variables.ranges);
     let onward = branch_of(sides, between, directions.onward, &variables.ranges);
     match onward {
         None => Ok(Followed {

@@ -34,7 +34,7 @@ impl Variables {
         }
     }
 
-    /// Gives a variable a new range. There is no variable of a number past the last one.
+    /// Gives a variable a new range, if that is another. There is no variable of a number past the last one.
     pub fn put(&mut self, number: usize, range: Abs) -> Result<(), AllocError>
         requires { AreKept self.old.ranges.items }
         ensures value { OnOk result
@@ -43,7 +43,7 @@ impl Variables {
         ensures kept { AreKept self.new.ranges.items }
     {
         is_kept(range);
-        if number < self.ranges.len() {
+        if number < self.ranges.len() && self.ranges[number] != range {
             self.notes.push(Change {
                 number,
                 range: self.ranges[number],

@@ -20,6 +20,9 @@ use Rattle.interval_num.proofs.OrderLemmas as orders
 use Rattle.interval_num.proofs.QuotientLemmas as quotients
 use Rattle.interval_num.proofs.RefinementLemmas as refinements
 use Rattle.interval_num.proofs.WholeLemmas as wholes
+-- between intervals of one greatest scale: a sign that is allowed, and that they may have, leaves some of the first; the signs
+-- of the second against the first
+pub use Rattle.interval_num.proofs.PairLemmas.{refined_some, signs_back}
 
 pub sum_sound : (a b r : Interval) → sum_row a b ≡ Ok r → SumIsSound a b r
 sum_sound = exact.sum_sound

@@ -10,6 +10,7 @@ pub mod Laws
 pub mod LevelLemmas
 pub mod MachineLemmas
 pub mod OrderLemmas
+pub mod PairLemmas
 pub mod QuotientLemmas
 pub mod RefinementLemmas
 pub mod SteadyLemmas

@@ -36,7 +36,7 @@ pub record Compared (v e : Interval) (allowed : SignSet) (x y : Decimal) : Type 
   has : HasOrder allowed order
   ranks : Ranks order (numerator_at v.s_hi x *ℤ ten_to e.s_hi) (numerator_at e.s_hi y *ℤ ten_to v.s_hi)
 
-compared : (v e : Interval) (allowed : SignSet) (x y : Decimal) → Contains v x → Contains e y → HasSign allowed x y → Compared v e allowed x y
+pub compared : (v e : Interval) (allowed : SignSet) (x y : Decimal) → Contains v x → Contains e y → HasSign allowed x y → Compared v e allowed x y
 compared v e allowed x y hx hy sign =
     let q = v.s_hi + e.s_hi in
     let ep : q - v.s_hi ≡ e.s_hi = omega arith in
@@ -74,7 +74,7 @@ on_true : (whole : Bool) (P : Type 0) → OnTrue whole P → whole ≡ true → 
 on_true true P h e = h
 on_true false P h e = absurd (cc)
 
-both_true : (s t : Bool) → (s && t) ≡ true → (s ≡ true) × (t ≡ true)
+pub both_true : (s t : Bool) → (s && t) ≡ true → (s ≡ true) × (t ≡ true)
 both_true true t e = (refl, e)
 both_true false t e = absurd (cc)
 

@@ -8,6 +8,6 @@ pub returns-in_ok-push-clause-noted : goal.returns-in_ok-push-clause-noted
 returns-in_ok-push-clause-noted c =
     let was = c.args.self.now in
     let n = c.args.number in
-    let r = c.index.result.now in
+    let r = c.index-then-ne.result.now in
     noted_put was (record { ranges = with_item was.ranges n c.args.range; notes = c.push.new.self; places = was.places }) n c.args.range r
-    (slice_get_read was.ranges.items (length was.ranges.items) n r refl (omega (arith, c.if-number-len.true)) c.index.ensures) refl c.in_ok-push.ensures.items
+    (slice_get_read was.ranges.items (length was.ranges.items) n r refl (omega (arith, c.if-number-len.true)) c.index-then-ne.ensures) refl c.in_ok-push.ensures.items
