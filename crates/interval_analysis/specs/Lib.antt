@@ -6,6 +6,7 @@ pub mod Connectives
 pub mod ExpressionViews
 pub mod Meetings
 pub mod Notes
+pub mod NumberViews
 pub mod OperationViews
 pub mod OutlineViews
 pub mod OutputViews

@@ -127,7 +127,7 @@ impl Walk<'_> {
         ensures { RangeAnswer self.now (leaf (named name.now)) at ranges.now result }
     {
         let typed = self.plan.typed();
-        let variable = typed.variable(name);
+        let variable = self.plan.variable(name);
         let kind = kind_named(typed, name, variable);
         match self.value_of_name(name, variable, ranges) {
             Some(range) => named(variable, read(kind, range), kind, at),

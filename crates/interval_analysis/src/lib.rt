@@ -12,6 +12,7 @@ mod joins;
 mod lists;
 mod names;
 mod nodes;
+mod numbers;
 mod operations;
 mod outlines;
 mod outputs;

@@ -1,17 +1,18 @@
-//! A plan with the ranges of its tables' items, computed once before the walk.
+//! A plan with the ranges of its tables' items and the numbers of its variables, computed once before the walk.
 ghost use Rattle.std.specs.Prelude.{◌≡◌, ◌++◌, IfOk, OnOk};
-ghost use Rattle.pap_types.specs.Scopes.{table_in};
-ghost use Rattle.interval_analysis.specs.PlanViews.{scope_in};
+ghost use Rattle.pap_types.specs.Scopes.{number_of, table_in};
+ghost use Rattle.interval_analysis.specs.PlanViews.{scope_in, variables_in};
 ghost use Rattle.interval_analysis.specs.StartViews.{declarations};
 ghost use Rattle.interval_analysis.specs.TableViews.{tables_of};
 
+use crate::numbers::VariableNumbers;
 use interval_num::ItemRanges;
 use pap_tree::{Declared, Name};
 use pap_types::{Typed, items_of};
 use std::alloc::{AllocError, Global};
 use std::marker::Model;
 
-/// A plan with the ranges of its tables' items. Contracts see the plan.
+/// A plan with the ranges of its tables' items and the numbers of its variables. Contracts see the plan.
 #[derive(Drop)]
 pub(crate) struct TabledPlan<'a> {
     typed: &'a Typed,
@@ -21,6 +22,7 @@ pub(crate) struct TabledPlan<'a> {
     constants: Vec<ItemRanges>,
     /// That of a name that isn't declared.
     none: ItemRanges,
+    numbers: VariableNumbers,
 }
 
 impl<'a> Model for TabledPlan<'a> {
@@ -28,7 +30,7 @@ impl<'a> Model for TabledPlan<'a> {
     ghost use Rattle.pap_tree.specs.contracts.plan.Stmt as statement;
     ghost use Rattle.pap_tree.specs.contracts.expression.Expr as expression;
     ghost use Rattle.std.specs.Coded.{codes};
-    ghost use Rattle.interval_analysis.specs.TableViews.{AreTables};
+    ghost use Rattle.interval_analysis.specs.TableViews.{IsTabled};
 
     ghost Value = { PlanText };
 
@@ -36,7 +38,8 @@ impl<'a> Model for TabledPlan<'a> {
 
     ghost view = { λ p. p.typed.now };
 
-    ghost invariant = { λ p. AreTables p.typed.now p.variables.items p.constants.items p.none };
+    ghost invariant = { λ p.
+        IsTabled p.typed.now p.variables.items p.constants.items p.none p.numbers };
 }
 
 impl<'a> TabledPlan<'a> {
@@ -52,11 +55,13 @@ impl<'a> TabledPlan<'a> {
         let mut constants = Vec::new(alloc);
         push_tables(alloc, &mut constants, text.constants.as_slice())?;
         let none = ItemRanges::of(alloc, &[])?;
+        let numbers = VariableNumbers::of(alloc, typed)?;
         Ok(TabledPlan {
             typed,
             variables,
             constants,
             none,
+            numbers,
         })
     }
 
@@ -65,6 +70,13 @@ impl<'a> TabledPlan<'a> {
         ensures { result.now ≡ self.now }
     {
         self.typed
+    }
+
+    /// The number of a variable.
+    pub fn variable(&self, name: &Name) -> Option<usize>
+        ensures { result ≡ number_of (variables_in self.now) name.now }
+    {
+        self.numbers.number_of(self.typed, name)
     }
 
     /// The items of a table; a name that is none has no items.
