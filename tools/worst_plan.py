@@ -48,7 +48,7 @@ def test(number):
 
 def worst(calls):
     def assignment(number):
-        names = (f"A{(37 * number + 4 * at) % INTERNALS}&gt;=A{(37 * number + 4 * at + 1) % INTERNALS}" for at in range(JOINED))
+        names = (f"A{(37 * number + 4 * at) % INTERNALS}&gt;A{(37 * number + 4 * at + 1) % INTERNALS}" for at in range(JOINED))
         return f'<EVAL exec="Y={"&amp;&amp;".join(names)}?1:0"/>\n'
 
     return front(calls) + method(0, "".join(map(assignment, range(ASSIGNMENTS)))) + BACK
