@@ -46,7 +46,6 @@ def jobs():
 def furnish(room, name, proved):
     """Makes a room for a crate: links to its files and to those of the crates below it, with their libraries. Its own is there too, if an
     earlier call proved it: where nothing below it changed either, it is taken as it is."""
-    shutil.rmtree(room, ignore_errors=True)
     os.makedirs(room)
     os.link("HANDLES", f"{room}/HANDLES")
     with open(f"{room}/crates.txt", "w") as listed:
@@ -105,6 +104,7 @@ def begin(pool, waiting, longest, stands_on, proved, idle):
 
 def main():
     os.makedirs("build/proofs", exist_ok=True)
+    shutil.rmtree("build/rooms", ignore_errors=True)
     stands_on = crates()
     names = below(sys.argv[2] if sys.argv[2:] else "papcalc", stands_on, [])
     longest = chains(names, stands_on)
