@@ -12,9 +12,8 @@ use Rattle.std.proofs.lemmas.List.Elements.{All-from_recursion}
 use Rattle.rising_lists.specs.Keyed.{at_key, put, put_by, without, IsRising}
 use Rattle.rising_lists.specs.Places.{Finds, Misses}
 use Rattle.rising_lists.proofs.Laws.{first_tie, put_rising, second_tie, text_same, without_rising}
-use Rattle.payroll_records.specs.declared.record.Key.{Key}
 use Rattle.payroll_records.specs.declared.record.Record.{Record}
-use Rattle.payroll_records.specs.Orders.{day_cmp, key_cmp}
+use Rattle.payroll_records.specs.Orders.{day_cmp}
 use Rattle.plan_calendar.specs.Picking.{Entry, pick}
 use Rattle.book_year.specs.Accepted.{Accepted}
 use Rattle.book_year.specs.declared.outcome.Work.{Work}
@@ -25,7 +24,7 @@ use Rattle.book_year.specs.Records.{record_day}
 use Rattle.book_year.specs.Rows.{Planned}
 use Rattle.book_year.specs.YearClauses.{IsYearEdit, IsSameYear}
 use Rattle.book_year.specs.Years.{IsYear, year_jobs}
-use Rattle.book_year.proofs.Laws.{day_same, year_quiet}
+use Rattle.book_year.proofs.Laws.{year_quiet}
 use Rattle.book_edits.specs.Books.{YearRuns, AreInOrder, runs_key, runs_of, runs_or_none, with_runs, year_cmp}
 use Rattle.book_edits.specs.Kept.{HasRuns, jobs_in, kept_key, runs_in, runs_in_year}
 use Rattle.book_edits.specs.Views.{AreKeptYears, IsListEdit, IsSameList}
@@ -46,13 +45,6 @@ year_same a b e =
     let employee = text_same a.employee b.employee (first_tie employees (nat_cmp a.year b.year) e) in
     let year : a.year ≡ b.year = same_number a.year b.year (second_tie employees (nat_cmp a.year b.year) e) in
     λ i. record { employee = employee i; year = year i }
-
-pub key_same : (a b : Key) → key_cmp a b ≡ Equal → a ≡ b
-key_same a b e =
-    let employees = slice_cmp nat_cmp a.employee b.employee in
-    let employee = text_same a.employee b.employee (first_tie employees (day_cmp a.day b.day) e) in
-    let day = day_same a.day b.day (second_tie employees (day_cmp a.day b.day) e) in
-    λ i. record { employee = employee i; day = day i }
 
 -- ---- the new jobs of an edit
 

@@ -10,9 +10,8 @@ use Rattle.rising_lists.proofs.Laws.{at_tail}
 use Rattle.payroll_records.specs.declared.day.Day.{Day}
 use Rattle.payroll_records.specs.declared.record.Record.{Record}
 use Rattle.payroll_records.specs.Orders.{day_cmp}
-use Rattle.payroll_records.proofs.Laws.{day_total}
+use Rattle.payroll_records.proofs.Laws.{day_total, day_same}
 use Rattle.book_year.specs.Records.{AreBefore, record_day, put_run, without_run}
-use Rattle.book_year.proofs.DayLemmas.{day_same}
 
 abbrev pub IsBefore : Day → Record → Type 0
 IsBefore d r = day_cmp r.day d ≡ Less

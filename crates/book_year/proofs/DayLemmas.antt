@@ -1,40 +1,16 @@
--- Days that tie are one day, and a year has at most 366 of them.
-use mathlib.Core.HLevel.{is_prop→PathP}
-use native.Mathlib.Bridge.{le_prop}
-use Rattle.std.proofs.Math.Dec.{T_prop}
+-- A year has at most 366 days.
 use Rattle.std.proofs.Common.{◌≡◌, ℕ, zero, suc, ◌+◌, ◌<◌, ◌≤◌, ◌-◌, List, [], ◌∷◌, length, Bool, true, false, refl, sym, ap, ◌∙◌, arith, pos}
 use Rattle.std.specs.Prelude.{if◌then◌else◌, ◌==◌, ◌||◌}
 use Rattle.std.specs.List.{AllByRecursion}
-use Rattle.std.specs.declared.cmp.Ordering.TheVariants.{Less, Equal}
+use Rattle.std.specs.declared.cmp.Ordering.TheVariants.{Less}
 use Rattle.std.proofs.lemmas.Bool.Decides.{nat_tests}
 use Rattle.std.proofs.lemmas.Int.{ints}
 use Rattle.payroll_records.specs.declared.day.Day.{Day}
 use Rattle.payroll_records.specs.declared.record.Record.{Record}
 use Rattle.rising_lists.specs.Keyed.{AreAbove, IsRising}
-use Rattle.payroll_records.specs.Days.{IsDay}
 use Rattle.payroll_records.specs.Orders.{day_cmp}
 use Rattle.book_year.specs.Records.{record_day}
 use Rattle.jiff.specs.Words.{is_leap_year}
-
-IsDay-prop : (y m d : ℕ) → IsProp (IsDay y m d)
-IsDay-prop y m d = hlevel (le_prop, T_prop)
-
-year_tie : (a b : Day) → day_cmp a b ≡ Equal → a.year ≡ b.year
-year_tie a b e = grind (arith, nat_tests)
-
-month_tie : (a b : Day) → day_cmp a b ≡ Equal → a.month ≡ b.month
-month_tie a b e = grind (arith, nat_tests)
-
-day_tie : (a b : Day) → day_cmp a b ≡ Equal → a.day ≡ b.day
-day_tie a b e = grind (arith, nat_tests)
-
--- days that tie are one day
-pub day_same : (a b : Day) → day_cmp a b ≡ Equal → a ≡ b
-day_same a b e =
-    let y = year_tie a b e in
-    let m = month_tie a b e in
-    let d = day_tie a b e in
-    λ i. record { year = y i; month = m i; day = d i; exists = is_prop→PathP (λ i. IsDay (y i) (m i) (d i)) (λ i. IsDay-prop (y i) (m i) (d i)) a.exists b.exists i }
 
 -- the most days of a month, and those of the months before one; they count from a month 0 of 31 days
 abbrev month_days : ℕ → ℕ

@@ -3,8 +3,7 @@
 pub use Rattle.book_year.proofs.RowLemmas.{rows_append, rows_more, new_jobs_append, total_append, total_front, row_of_day}
 -- One row for each record.
 pub use Rattle.book_year.proofs.OldLemmas.{rows_length}
--- Days that tie are one day; a year has at most 366 runs.
-pub use Rattle.book_year.proofs.DayLemmas.{day_same}
+-- A year has at most 366 runs.
 pub use Rattle.book_year.proofs.YearLemmas.{own_few}
 -- An edit of a year's records keeps their order and what holds of each.
 pub use Rattle.book_year.proofs.RecordLemmas.{rising_put, rising_without, all_put, all_without}

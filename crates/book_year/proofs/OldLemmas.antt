@@ -12,7 +12,7 @@ use Rattle.payroll_records.specs.declared.day.Day.{Day}
 use Rattle.payroll_records.specs.declared.record.Record.{Record}
 use Rattle.payroll_records.specs.declared.values.NamedValue.{NamedValue}
 use Rattle.payroll_records.specs.Orders.{day_cmp}
-use Rattle.payroll_records.proofs.Laws.{day_total}
+use Rattle.payroll_records.proofs.Laws.{day_total, day_same}
 use Rattle.plan_calendar.specs.Picking.{Entry, plan_of}
 use Rattle.carry_bindings.specs.Conditions.{AreBounded}
 use Rattle.carry_bindings.specs.declared.carried.Earlier.{Earlier}
@@ -30,7 +30,6 @@ use Rattle.book_year.specs.Jobs.{job_at}
 use Rattle.book_year.specs.Kept.{AreKept, IsBounded, kept}
 use Rattle.book_year.specs.ChainClauses.{outcome_job, outcome_parts, old_parts, IsOldJob}
 use Rattle.book_year.proofs.RowLemmas.{row_of_day}
-use Rattle.book_year.proofs.DayLemmas.{day_same}
 
 abbrev pub row_day : Row → Day
 row_day row = row.day

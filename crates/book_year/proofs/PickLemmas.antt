@@ -10,7 +10,7 @@ use Rattle.std.specs.Str.{bytes_eq}
 use Rattle.std.proofs.lemmas.Bool.{false≢true}
 use Rattle.std.proofs.lemmas.Slice.Eq.{bytes_eq-Decides}
 use Rattle.payroll_records.specs.declared.day.Day.{Day}
-use Rattle.payroll_records.proofs.Laws.{day_total}
+use Rattle.payroll_records.proofs.Laws.{day_total, day_same}
 use Rattle.plan_calendar.specs.Picking.{Entry, day_of, last_where, pick, pick_before, plan_of, serves, serves_before}
 use Rattle.plan_calendar.specs.Edits.{moves, picked_after}
 use Rattle.plan_calendar.specs.Views.{picked_entry as entry_lent}
@@ -21,7 +21,6 @@ use Rattle.book_year.specs.Accepted.{Accepted, accepted_entry, plans_in}
 use Rattle.book_year.specs.declared.picks.Edit.{Edit}
 use Rattle.book_year.specs.Jobs.{has_texts}
 use Rattle.book_year.specs.Picks.{IsEdit, KnowsSame, entry_of, after_by, lent_entry}
-use Rattle.book_year.proofs.DayLemmas.{day_same}
 
 and_both : (a b : Bool) → (a && b) ≡ true → (a ≡ true) × (b ≡ true)
 and_both true b e = (refl, e)

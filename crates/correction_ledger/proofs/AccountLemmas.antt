@@ -11,8 +11,7 @@ use Rattle.payroll_records.specs.declared.day.Day.{Day}
 use Rattle.payroll_records.specs.declared.month.Month.{Month}
 use Rattle.payroll_records.specs.Orders.{key_cmp}
 use Rattle.payroll_records.specs.NamedValues.{name_cmp}
-use Rattle.payroll_records.proofs.Laws.{key_total}
-use Rattle.book_edits.proofs.Laws.{key_same}
+use Rattle.payroll_records.proofs.Laws.{key_total, key_same}
 use Rattle.correction_ledger.specs.Months.{is_up_to, month_cmp}
 use Rattle.correction_ledger.specs.Accounts.{Account, account_cmp}
 

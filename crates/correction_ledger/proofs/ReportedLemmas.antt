@@ -14,11 +14,10 @@ use Rattle.payroll_records.specs.declared.record.Key.{Key}
 use Rattle.payroll_records.specs.declared.values.NamedValue.{NamedValue}
 use Rattle.payroll_records.specs.NamedValues.{name_cmp}
 use Rattle.payroll_records.specs.Orders.{key_cmp}
-use Rattle.payroll_records.proofs.Laws.{key_total}
+use Rattle.payroll_records.proofs.Laws.{key_total, key_same}
 use Rattle.carry_bindings.specs.Carrying.{named, zero_amount}
 use Rattle.carry_bindings.specs.Conditions.{AreBounded}
 use Rattle.book_year.specs.Rows.{outputs_in}
-use Rattle.book_edits.proofs.Laws.{key_same}
 use Rattle.recalc_engine.specs.BookLaws.{row_key}
 use Rattle.recalc_engine.specs.MonthRows.{KeyedRow}
 use Rattle.correction_ledger.specs.declared.due.Due.{Due}

@@ -9,11 +9,11 @@ use Rattle.rising_lists.proofs.Laws.{at_tail, gap_tail, gap_first}
 use Rattle.payroll_records.specs.declared.day.Day.{Day}
 use Rattle.payroll_records.specs.declared.record.Record.{Record}
 use Rattle.payroll_records.specs.Orders.{day_cmp}
-use Rattle.payroll_records.proofs.Laws.{day_total}
+use Rattle.payroll_records.proofs.Laws.{day_total, day_same}
 use Rattle.carry_bindings.specs.declared.carried.Earlier.{Earlier}
 use Rattle.book_year.specs.Records.{record_day}
 use Rattle.book_year.specs.Rows.{Planned, Row, row_of, rows, earlier_of}
-use Rattle.book_year.proofs.Laws.{row_of_day, day_same}
+use Rattle.book_year.proofs.Laws.{row_of_day}
 
 abbrev pub row_day : Row → Day
 row_day row = row.day

@@ -12,7 +12,7 @@ use Rattle.rising_lists.proofs.Laws.{above_more, at_key_above}
 use Rattle.payroll_records.specs.declared.day.Day.{Day}
 use Rattle.payroll_records.specs.declared.record.Record.{Record}
 use Rattle.payroll_records.specs.Orders.{day_cmp}
-use Rattle.payroll_records.proofs.Laws.{day_total}
+use Rattle.payroll_records.proofs.Laws.{day_total, day_same}
 use Rattle.plan_calendar.specs.Picking.{Entry, day_of, entry_at, pick, plan_of, with_entry}
 use Rattle.carry_bindings.specs.declared.carried.Earlier.{Earlier}
 use Rattle.carry_bindings.specs.declared.filling.Filled.{Filled}
@@ -26,7 +26,7 @@ use Rattle.book_year.specs.declared.outcome.State.TheVariants as state
 use Rattle.book_year.specs.Jobs.{work_of}
 use Rattle.book_year.specs.Records.{record_day}
 use Rattle.book_year.specs.Rows.{Job, Row, row_filled, row_of}
-use Rattle.book_year.proofs.Laws.{day_same, year_quiet}
+use Rattle.book_year.proofs.Laws.{year_quiet}
 use Rattle.book_edits.specs.Books.{AreInOrder, YearRuns, runs_key, runs_of, runs_or_none, year_cmp, year_of}
 use Rattle.book_edits.specs.Kept.{jobs_in}
 use Rattle.book_edits.proofs.Laws.{IsQuiet, at_key_tied, found_each, jobs_quiet, year_total}

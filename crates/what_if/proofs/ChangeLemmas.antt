@@ -18,7 +18,7 @@ use Rattle.book_year.specs.declared.year.YearKey.{YearKey}
 use Rattle.book_year.specs.Rows.{Planned, earlier_of, row_of, rows, year_rows}
 use Rattle.book_year.proofs.Laws.{row_of_day, rows_length}
 use Rattle.book_edits.specs.Books.{YearRuns}
-use Rattle.book_edits.proofs.Laws.{key_same}
+use Rattle.payroll_records.proofs.Laws.{key_same}
 use Rattle.recalc_engine.specs.BookLaws.{row_key}
 use Rattle.recalc_engine.specs.MonthRows.{KeyedRow, keyed_row, keyed_rows, month_rows}
 use Rattle.recalc_engine.specs.MonthViews.{kept_row, kept_rows}

@@ -13,13 +13,13 @@ use Rattle.payroll_records.specs.declared.record.Key.{Key}
 use Rattle.payroll_records.specs.declared.values.NamedValue.{NamedValue}
 use Rattle.payroll_records.specs.NamedValues.{name_cmp, name_of}
 use Rattle.payroll_records.specs.Orders.{key_cmp}
-use Rattle.payroll_records.proofs.Laws.{key_total}
+use Rattle.payroll_records.proofs.Laws.{key_total, key_same}
 use Rattle.plan_calendar.specs.Picking.{Entry, pick, with_entry}
 use Rattle.carry_bindings.specs.Carrying.{named}
 use Rattle.book_year.specs.Accepted.{Accepted}
 use Rattle.book_year.specs.declared.outcome.State.{State}
 use Rattle.book_year.proofs.Laws.{decimal_decides}
-use Rattle.book_edits.proofs.Laws.{found_each, key_same, map_rising, rising_map}
+use Rattle.book_edits.proofs.Laws.{found_each, map_rising, rising_map}
 use Rattle.recalc_engine.specs.BookLaws.{IsBook, row_key}
 use Rattle.recalc_engine.specs.Contents.{Contents}
 use Rattle.recalc_engine.specs.MonthRows.{KeyedRow, month_rows}

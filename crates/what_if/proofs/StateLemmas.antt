@@ -11,13 +11,13 @@ use Rattle.rising_lists.proofs.Laws.{tied}
 use Rattle.payroll_records.specs.declared.day.Day.{Day}
 use Rattle.payroll_records.specs.declared.values.NamedValue.{NamedValue}
 use Rattle.payroll_records.specs.Orders.{day_cmp}
-use Rattle.payroll_records.proofs.Laws.{day_total}
+use Rattle.payroll_records.proofs.Laws.{day_total, day_same}
 use Rattle.carry_bindings.specs.declared.filling.Blocked.{Blocked}
 use Rattle.carry_bindings.specs.declared.filling.Blocked.TheVariants as blocked
 use Rattle.book_year.specs.declared.outcome.State.{State}
 use Rattle.book_year.specs.declared.outcome.State.TheVariants as state
 use Rattle.book_year.specs.Jobs.{same_decimal}
-use Rattle.book_year.proofs.Laws.{day_same, decimal_decides}
+use Rattle.book_year.proofs.Laws.{decimal_decides}
 use Rattle.what_if.specs.TrialLaws.{SameStatesAreOne}
 use Rattle.what_if.specs.Changes.{same_cause, same_output, same_state}
 
