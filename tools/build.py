@@ -76,7 +76,7 @@ def prove(name, proved, jobs, patience):
     began, room, to = time.time(), f"build/rooms/{name}", f"crates/{name}/out/rlib"
     furnish(room, name, proved)
     with open(f"build/proofs/{name}", "w") as log:
-        words = ["nice", "-n", str(patience), sys.executable, RT, "lib", "--jobs", str(jobs)]
+        words = ["nice", "-n", str(patience), sys.executable, RT, "--statements", "lib", "--jobs", str(jobs)]
         done = subprocess.run(words, cwd=f"{room}/crates/{name}", stdin=subprocess.DEVNULL, stdout=log, stderr=log)
     if done.returncode == 0:
         shutil.rmtree(to, ignore_errors=True)
