@@ -129,7 +129,7 @@ impl Dec {
     }
 
     /// The greater of the two scales.
-    pub(crate) fn greater_scale(self, b: Dec) -> u8
+    fn greater_scale(self, b: Dec) -> u8
         ensures value { result ≡ greater_scale self b }
         ensures kept { result ≤ most_places }
     {
