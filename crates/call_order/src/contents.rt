@@ -98,6 +98,7 @@ fn collect_one(contents: &mut Contents, t: &Typed, statement: &Stmt) -> Result<(
             collect(contents, t, yes)?;
             collect(contents, t, no)
         }
+        // No well-typed plan executes a method that isn't there.
         Stmt::Execute { method } => match t.method(method) {
             Some(number) => contents.add(number as u32),
             None => Ok(()),

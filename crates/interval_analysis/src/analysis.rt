@@ -54,6 +54,7 @@ pub fn analyse(
         → RunHolds (flowchart_of t.now) (map named_range v.outputs.items) inputs
         × (cost_of (flowchart_of t.now) inputs ≤ v.bound)) }
 {
+    // For the proof: the plan is well typed, and its nodes and statements are counted.
     let _well_typed = t.plan();
     let weights = weights_of(alloc, t, order)?;
     let outputs = walked_outputs(alloc, t, &weights, limits)?;

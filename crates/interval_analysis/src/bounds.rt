@@ -69,7 +69,7 @@ fn stmt_bound(plan: &Typed, stmt: &Stmt, bounds: &[u64]) -> u64
     }
 }
 
-/// The bound of a method by its name.
+/// The bound of a method by its name. No well-typed plan executes one that isn't there.
 fn bound_at(plan: &Typed, name: &Name, bounds: &[u64]) -> u64
     requires { length bounds.now ≡ length (flowchart_of plan.now).methods }
     ensures { result ≡ bound_at (flowchart_of plan.now) bounds.now name.now }

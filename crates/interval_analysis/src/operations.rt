@@ -48,6 +48,7 @@ fn read_whole(fits: bool, range: Abs) -> Result<Abs, RangeCause>
 fn read_decimal(range: Abs) -> Result<Abs, RangeCause>
     ensures { result ≡ read_range NodeKind.Big range }
 {
+    // For the proof: no scale of a kept range is above 30.
     let _places = range.s_hi();
     Ok(range)
 }

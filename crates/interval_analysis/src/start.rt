@@ -64,7 +64,8 @@ fn push_begun(ranges: &mut Vec<Abs>, variables: &[Declared]) -> Result<(), Alloc
     Ok(())
 }
 
-/// The range of an input at its limit.
+/// The range of an input at its limit. There is one for each input (`HasLimit`): without it the range would be that of
+/// the first value.
 fn input_range(input: &Declared, limits: &Limits) -> Abs
     requires limit { HasLimit limits.now (declaration_of input.now) }
     requires typed { HasItsType (declaration_of input.now) }

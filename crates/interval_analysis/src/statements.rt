@@ -118,7 +118,8 @@ impl Walk<'_> {
         }
     }
 
-    /// Gives a variable a range, as one of its kind keeps it.
+    /// Gives a variable a range, as one of its kind keeps it. In a well-typed plan each target is a
+    /// declared variable, so that the cases without a number or a declaration don't come.
     fn put(&self, target: &Name, range: Abs, variables: &mut Variables) -> Result<(), AllocError>
         requires walk { CanPut self.now.plan.now target.now range }
         requires held { AreHeld self.now.plan.now variables.old }
@@ -401,6 +402,7 @@ fn method_body<'a>(plan: &'a Typed, name: &Name) -> Option<&'a [Stmt]>
         ≡ body_named (methods_in plan.now) name.now }
     ensures walk { IfSome result (λ body. IsMethodBody plan.now (body_of body.now)) }
 {
+    // For the proof: a method's body is well typed, and its nodes and statements are counted.
     let _counted = plan.plan();
     match plan.method(name) {
         Some(number) => match method_at(plan, number) {

@@ -164,14 +164,14 @@ impl Variables {
     }
 }
 
-/// Each range is as `IsKeptInterval` says.
+/// Each range is as `IsKeptInterval` says. Does nothing at run time: reading an end tells the proof that it is kept.
 pub(crate) fn is_kept(range: Abs)
     ensures { IsKeptInterval range }
 {
     let _low = range.lo();
 }
 
-/// So is each of these.
+/// So is each of these. Does nothing at run time.
 fn are_kept(ranges: &[Abs])
     ensures { AreKept ranges.now }
 {

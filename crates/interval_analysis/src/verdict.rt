@@ -6,7 +6,9 @@ use pap_tree::Name;
 /// An output with the range in which its values lie.
 #[derive(Clone, Copy)]
 pub struct OutputRange {
+    /// The output's name.
     pub name: Name,
+    /// The range of its values behind MAIN.
     pub range: Abs,
 }
 

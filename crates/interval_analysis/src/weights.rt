@@ -1,4 +1,6 @@
 //! How long lists of statements are to walk, by which the longer one of an IF is told. Sums stop at the greatest number of 64 bits.
+//!
+//! No function here has a contract: any weights give the same answer, and only choose which list is walked first.
 
 use pap_tree::{Name, Stmt};
 use pap_types::Typed;

@@ -7,15 +7,20 @@ ghost use Rattle.interval_num.specs.Intervals.{interval, IsKeptInterval};
 use scaled_decimal::Dec;
 use std::marker::Model;
 
-/// An interval of decimals: its ends as numerators at its greatest scale, and its least and greatest scale.
+/// An interval of decimals. `Abs` is short for abstract value; it is no absolute value, though `abs_abs` is the interval
+/// of those. It has its ends as numerators at its greatest scale, and its least and greatest scale.
 ///
 /// The ends are at most 10^37 in magnitude and the scales are 0 to 30. It contains the decimals of these scales whose
 /// values lie from the low to the high end.
 #[derive(Clone, Copy, Debug, PartialEq, Eq)]
 pub struct Abs {
+    /// The low end, a numerator at scale `s_hi`.
     lo: i128,
+    /// The high end, a numerator at scale `s_hi`, no less than the low one.
     hi: i128,
+    /// The least scale, 0 to 30.
     s_lo: u8,
+    /// The greatest scale, from the least one to 30.
     s_hi: u8,
 }
 

@@ -16,6 +16,7 @@ use std::marker::Model;
 /// The items of a table with their ranges. Contracts see the items.
 #[derive(Drop)]
 pub struct ItemRanges {
+    /// The items in the order of their indices.
     items: Vec<Dec>,
     /// From the items' own ranges up to one range of all.
     levels: Vec<Level>,

@@ -54,5 +54,6 @@ impl fmt::Display for FileFault {
 pub struct FailedFile {
     /// The name that the call asked for.
     pub name: String,
+    /// Why the system didn't read it.
     pub fault: FileFault,
 }

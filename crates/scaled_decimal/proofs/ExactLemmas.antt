@@ -48,7 +48,7 @@ exact n c m d s k t e h same =
     ∙ sym (powers n t (s + k - t) (s + k) (omega arith)))
 
 -- a numerator that holds the quotient at a lesser scale shows a zero at the end of the other
-zero_at_end : (n m m' : ℤ) (d : ℕ) (s t t' : ℕ) → 0 < d → t' < t → (m *ℤ pos d) *ℤ ten_to s ≡ n *ℤ ten_to t → (m' *ℤ pos d) *ℤ ten_to s ≡ n *ℤ ten_to t' → Divides (pos 10) m
+pub zero_at_end : (n m m' : ℤ) (d : ℕ) (s t t' : ℕ) → 0 < d → t' < t → (m *ℤ pos d) *ℤ ten_to s ≡ n *ℤ ten_to t → (m' *ℤ pos d) *ℤ ten_to s ≡ n *ℤ ten_to t' → Divides (pos 10) m
 zero_at_end n m m' d s t t' some less e e' =
     let v = ten_to (t - t') in
     let grown : ((m' *ℤ v) *ℤ pos d) *ℤ ten_to s ≡ (m *ℤ pos d) *ℤ ten_to s =

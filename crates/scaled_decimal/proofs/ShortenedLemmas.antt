@@ -5,11 +5,11 @@ use Rattle.std.proofs.lemmas.Int.{ints, quot-rem}
 use Rattle.std.proofs.lemmas.Bool.Decides.{nat_tests}
 use Rattle.std.proofs.lemmas.Bool.{cases_lt}
 use Rattle.scaled_decimal.specs.Decimals.{Decimal, decimal, numerator_of, scale_of, ten_to}
-use Rattle.scaled_decimal.specs.Shortening.{IsShortened}
+use Rattle.scaled_decimal.specs.Shortening.{IsShortened, HasValueOf, IsShortest}
 use Rattle.scaled_decimal.specs.ExactQuotients.{Divides}
 use Rattle.scaled_decimal.specs.ShortenedDecimals.{without_zeros, shortened}
 use Rattle.scaled_decimal.specs.laws.IntegerLemmas.{times_cancel}
-use Rattle.scaled_decimal.proofs.ExactLemmas.{powers, rem_from_divides, divides_from_rem}
+use Rattle.scaled_decimal.proofs.ExactLemmas.{powers, rem_from_divides, divides_from_rem, zero_at_end}
 use Rattle.scaled_decimal.proofs.PowerLemmas.{ten_some}
 
 zero_from_test : (z : ℤ) → int_eq z (pos 0) ≡ true → z ≡ pos 0
@@ -116,3 +116,45 @@ shortened_only least a d f =
     times_cancel (numerator_of d) (numerator_of e) (10 ^ rest) (ten_some rest) (
     ap (λ s. numerator_of d *ℤ ten_to (scale_of a - s)) (sym scales) ∙ sym f.same ∙ g.same) in
     ap₂ decimal numbers scales
+
+-- ---- at the least scale
+
+times_one : (n m : ℤ) (s t : ℕ) → m *ℤ ten_to s ≡ n *ℤ ten_to t → (m *ℤ pos 1) *ℤ ten_to s ≡ n *ℤ ten_to t
+times_one n m s t e = let same : m *ℤ pos 1 ≡ m = omega (arith, ints) in rw same e
+
+-- what ends with no zero has the fewest places
+fewest : (least : ℕ) (a d : Decimal) → IsShortened a least d → HasValueOf a d → (q : Decimal) → least ≤ scale_of q → HasValueOf a q → scale_of d ≤ scale_of q
+fewest least a d f same q low other = elim (cases_lt (scale_of q) (scale_of d)) [
+  | inl less ↦ absurd (
+      let end = f.short (zero_at_end (numerator_of a) (numerator_of d) (numerator_of q) 1 (scale_of a) (scale_of d) (scale_of q) (omega arith) less
+      (times_one (numerator_of a) (numerator_of d) (scale_of a) (scale_of d) same)
+      (times_one (numerator_of a) (numerator_of q) (scale_of a) (scale_of q) other)) in
+      omega arith)
+  | inr le ↦ le
+]
+
+shortest_of : (least : ℕ) (a d : Decimal) → IsShortened a least d → IsShortest a least d
+shortest_of least a d f =
+    let same : HasValueOf a d =
+    sym (ap (λ n. n *ℤ ten_to (scale_of d)) f.same ∙ powers (numerator_of d) (scale_of a - scale_of d) (scale_of d) (scale_of a) (omega (arith, f.high))) in
+    record { scale = f.low; same = same; fewest = fewest least a d f same }
+
+shortest_once : (least : ℕ) (a d e : Decimal) → IsShortest a least d → IsShortest a least e → d ≡ e
+shortest_once least a d e f g =
+    let below = f.fewest e g.scale g.same in
+    let above = g.fewest d f.scale f.same in
+    let scales : scale_of d ≡ scale_of e = omega arith in
+    let numbers : numerator_of d ≡ numerator_of e =
+    times_cancel (numerator_of d) (numerator_of e) (10 ^ scale_of a) (ten_some (scale_of a)) (
+    f.same ∙ ap (λ s. numerator_of a *ℤ ten_to s) scales ∙ sym g.same) in
+    ap₂ decimal numbers scales
+
+-- the function gives the shortest
+pub shortest_is : (least : ℕ) (a : Decimal) → least ≤ scale_of a → IsShortest a least (shortened least a)
+shortest_is least a h = shortest_of least a (shortened least a) (shortened_is least a h)
+
+pub shortest_only : (least : ℕ) (a q : Decimal) → least ≤ scale_of a → IsShortest a least q → q ≡ shortened least a
+shortest_only least a q h f = shortest_once least a q (shortened least a) f (shortest_is least a h)
+
+pub kept_if_short : (least : ℕ) (a : Decimal) → scale_of a < least → shortened least a ≡ a
+kept_if_short least a h = let few : nat_lt (scale_of a) least ≡ true = grind (arith, nat_tests) in rw few refl

@@ -6,6 +6,7 @@ ghost use Rattle.scaled_decimal.specs.Limits.{IsWithinLimit, most_places};
 ghost use Rattle.scaled_decimal.specs.WorkingNumbers.{ComparisonFits};
 
 use crate::decimal::Dec;
+use crate::limits::MOST_POWER;
 use crate::powers::power_of_ten;
 use std::cmp::Ordering;
 
@@ -28,7 +29,7 @@ impl Dec {
         requires { ComparisonFits self b }
         ensures { result ≡ comparison self b }
     {
-        match self.aligned_cmp(b) {
+        match self.compare(b) {
             Ordering::Less => -1,
             Ordering::Equal => 0,
             Ordering::Greater => 1,
@@ -40,7 +41,7 @@ impl Dec {
         requires { ComparisonFits self b }
         ensures { result ≡ lesser self b }
     {
-        match self.aligned_cmp(b) {
+        match self.compare(b) {
             Ordering::Greater => b,
             Ordering::Less | Ordering::Equal => self,
         }
@@ -51,18 +52,10 @@ impl Dec {
         requires { ComparisonFits self b }
         ensures { result ≡ greater self b }
     {
-        match self.aligned_cmp(b) {
+        match self.compare(b) {
             Ordering::Less => b,
             Ordering::Equal | Ordering::Greater => self,
         }
-    }
-
-    fn aligned_cmp(self, b: Dec) -> Ordering
-        requires { ComparisonFits self b }
-        ensures { result ≡ value_order self b }
-    {
-        let scale = self.greater_scale(b);
-        self.numerator_at(scale).cmp(&b.numerator_at(scale))
     }
 }
 
@@ -86,5 +79,5 @@ fn fits_longer(n: i128, places: u8) -> bool
     requires places { places ≤ most_places }
     ensures { IsTrue result ↔ IsWithinLimit (n *ℤ ten_to places) }
 {
-    n.unsigned_abs() <= power_of_ten(37 - places).unsigned_abs()
+    n.unsigned_abs() <= power_of_ten(MOST_POWER - places).unsigned_abs()
 }

@@ -13,7 +13,9 @@ use std::marker::Model;
 /// `==` compares numerator and scale, as `equals` of `BigDecimal` does: 2.0 isn't 2.00. `compare` goes by value.
 #[derive(Clone, Copy, Debug, PartialEq, Eq)]
 pub struct Dec {
+    /// At most 10^37 in magnitude.
     numerator: i128,
+    /// How many digits stand after the point, 0 to 30.
     scale: u8,
 }
 
@@ -129,7 +131,7 @@ impl Dec {
     }
 
     /// The greater of the two scales.
-    pub(crate) fn greater_scale(self, b: Dec) -> u8
+    fn greater_scale(self, b: Dec) -> u8
         ensures value { result ≡ greater_scale self b }
         ensures kept { result ≤ most_places }
     {

@@ -4,7 +4,7 @@ ghost use Rattle.scaled_decimal.specs.Decimals.{scale_of};
 ghost use Rattle.scaled_decimal.specs.ExactQuotients.{Divides, IsPlainDivisor, IsExactQuotient};
 ghost use Rattle.scaled_decimal.specs.WorkingNumbers.{IsDivisorPlaces, ExactQuotientFits};
 ghost use Rattle.scaled_decimal.specs.Shortening.{IsShortened};
-ghost use Rattle.scaled_decimal.specs.ShortenedDecimals.{shortened, exact_quotient};
+ghost use Rattle.scaled_decimal.specs.ShortenedDecimals.{shortened, exact_quotient, EachPlainDivisorHasOneQuotient, EachValueIsShortenedInOneWay};
 ghost use Rattle.scaled_decimal.specs.Limits.{most_places};
 
 use crate::decimal::Dec;
@@ -65,3 +65,13 @@ fn divides(d: i128, n: i128) -> bool
 {
     n % d == 0
 }
+
+/// A law, with nothing to run: by a plain divisor each decimal has one exact quotient, which is the function's value.
+pub fn each_plain_divisor_has_one_quotient()
+    ensures { EachPlainDivisorHasOneQuotient }
+{}
+
+/// A law, with nothing to run: each decimal of enough places is shortened to the one of its value with the fewest.
+pub fn each_value_is_shortened_in_one_way()
+    ensures { EachValueIsShortenedInOneWay }
+{}

@@ -16,8 +16,11 @@ mod whole_numbers;
 mod writing;
 
 pub use decimal::Dec;
-pub use exact::{divisor_places, is_plain_divisor};
-pub use limits::{LIMIT, MOST_PLACES};
+pub use exact::{
+    divisor_places, each_plain_divisor_has_one_quotient, each_value_is_shortened_in_one_way,
+    is_plain_divisor,
+};
+pub use limits::{LIMIT, MOST_PLACES, MOST_POWER};
 pub use powers::power_of_ten;
 pub use reading::{NumFault, read_dec};
 pub use rounding::{Mode, each_quotient_has_one_rounding, round_div};

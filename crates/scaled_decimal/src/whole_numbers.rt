@@ -7,7 +7,7 @@ pub fn is_int(n: i128) -> bool
     ensures value { result ≡ is_of_bits int_bits n }
     ensures held { IsTrue result ↔ IsOfBits int_bits n }
 {
-    -2_147_483_648 <= n && n < 2_147_483_648
+    i32::try_from(n).is_ok()
 }
 
 /// Whether a `long` holds the number.
@@ -15,5 +15,5 @@ pub fn is_long(n: i128) -> bool
     ensures value { result ≡ is_of_bits long_bits n }
     ensures held { IsTrue result ↔ IsOfBits long_bits n }
 {
-    -9_223_372_036_854_775_808 <= n && n < 9_223_372_036_854_775_808
+    i64::try_from(n).is_ok()
 }

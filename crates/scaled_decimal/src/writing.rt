@@ -2,7 +2,7 @@
 ghost use Rattle.std.specs.Prelude.{◌≡◌, ◌+◌, ◌/◌, ◌^◌, ◌<◌, ◌≤◌, List, [], ◌∷◌, ◌++◌, length, OnOk, OnErr};
 ghost use Rattle.scaled_decimal.specs.NumberTexts.{sign_text, point_text};
 ghost use Rattle.scaled_decimal.specs.PlainTexts.{EachPlainTextSpellsItsDecimal, plain_text, whole_text, last_digits};
-ghost use Rattle.scaled_decimal.specs.Limits.{most_places};
+ghost use Rattle.scaled_decimal.specs.Limits.{most_places, longest_places, longest_text};
 
 use crate::decimal::Dec;
 use std::alloc::{AllocError, Global};
@@ -60,12 +60,13 @@ struct BackText {
 
 impl Model for BackText {
     ghost use Rattle.std.specs.Prelude.{◌≤◌, List, ℕ, drop};
+    ghost use Rattle.scaled_decimal.specs.Limits.{longest_text};
 
     ghost Value = { List ℕ };
 
     ghost view = { λ t. drop t.start t.bytes };
 
-    ghost invariant = { λ t. t.start ≤ 71 };
+    ghost invariant = { λ t. t.start ≤ longest_text };
 }
 
 impl BackText {
@@ -85,7 +86,7 @@ impl BackText {
     }
 
     fn put(&mut self, byte: u8)
-        requires { length self.old < 71 }
+        requires { length self.old < longest_text }
         ensures { self.new ≡ byte ∷ self.old }
     {
         self.start -= 1;
@@ -94,7 +95,7 @@ impl BackText {
 
     /// Puts the sign of a number in front.
     fn put_sign(&mut self, negative: bool)
-        requires { length self.old < 71 }
+        requires { length self.old < longest_text }
         ensures { self.new ≡ sign_text negative ++ self.old }
     {
         if negative {
@@ -104,9 +105,9 @@ impl BackText {
 
     /// Puts the digits of a whole number in front.
     fn put_whole(&mut self, n: u128)
-        requires { length self.old ≤ 31 }
+        requires { length self.old ≤ longest_places }
         ensures text { self.new ≡ whole_text n ++ self.old }
-        ensures room { length self.new < 71 }
+        ensures room { length self.new < longest_text }
     {
         if n == 0 {
             self.put(b'0');
@@ -125,7 +126,7 @@ impl BackText {
         requires places { places ≤ most_places }
         ensures text { self.new ≡ point_text (last_digits places n) }
         ensures whole { result ≡ n / 10 ^ places }
-        ensures room { length self.new ≤ 31 }
+        ensures room { length self.new ≤ longest_places }
     {
         if places == 0 {
             return n;
