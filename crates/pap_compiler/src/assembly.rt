@@ -9,7 +9,7 @@ ghost use Rattle.pap_compiler.specs.CodeDecisions.{first_method, code_of, compil
 ghost use Rattle.pap_compiler.specs.Correct.{IsCodeOf};
 ghost use Rattle.pap_compiler.specs.EmitViews.{HasRoom};
 ghost use Rattle.pap_compiler.specs.NameViews.{IsMade, plan_in};
-ghost use Rattle.pap_compiler.specs.PlanViews.{methods_in, IsLayout, tables_in};
+ghost use Rattle.pap_compiler.specs.PlanViews.{methods_code_in, IsLayout, tables_in};
 
 use crate::depths::depth;
 use crate::emit::put;
@@ -122,7 +122,7 @@ fn emit_methods(code: &mut Vec<Instr>, names: &Names, methods: &[Method]) -> Res
     requires made { IsMade names.now }
     requires room { HasRoom code.old.items (methods_length (map routine_of methods.now)) }
     ensures { OnOk result (code.new.items ≡ code.old.items
-        ++ methods_in names.now (length code.old.items) (map routine_of methods.now)) }
+        ++ methods_code_in names.now (length code.old.items) (map routine_of methods.now)) }
 {
     for m in methods {
         emit_body(code, names, &m.body)?;
