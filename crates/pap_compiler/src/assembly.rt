@@ -28,7 +28,7 @@ use std::alloc::{AllocError, Global};
 /// Each method's code stands once, and an EXECUTE is a call. On every list of inputs that is safe for the plan, the code
 /// is safe, leaves the plan's outputs in its slots, and runs as many instructions as the plan has steps. It has room for
 /// as many open calls as the longest chain that MAIN begins has methods, and for as many values on the stack as an
-/// expression has at most. Refuses only want of memory.
+/// expression has at most. Fails only where memory runs out.
 pub fn compile(alloc: Global, t: &Typed, order: &[u32]) -> Result<Code, AllocError>
     requires ordered { IsOrdered (flowchart_of t.now) order.now }
     ensures means { IfOk result (IsCodeOf (flowchart_of t.now)) }

@@ -19,7 +19,7 @@ pub(crate) struct Names<'a> {
 }
 
 impl Names<'_> {
-    /// The slot of a variable.
+    /// The slot of a variable; 0 for a name that is none, which a well-typed plan assigns to nowhere.
     #[tactic(auto, using(crate::proofs::NumberLemmas::number_within))]
     pub fn slot(&self, name: &Name) -> u32
         requires { IsMade self.now }
@@ -43,14 +43,14 @@ impl Names<'_> {
         }
     }
 
-    /// The value of a constant.
+    /// The value of a constant; zero for an unknown name, which a well-typed plan has nowhere.
     fn constant(&self, name: &Name) -> Dec
         ensures { result ≡ unwrap_or (constant_in (scope_of_names self.now) name.now) zero }
     {
         self.typed.constant_value(name).unwrap_or(Dec::new(0, 0))
     }
 
-    /// The number of a table.
+    /// The number of a table; 0 for an unknown name, which a well-typed plan has nowhere.
     #[tactic(auto, using(crate::proofs::NumberLemmas::number_within))]
     pub fn table(&self, name: &Name) -> u32
         requires { IsMade self.now }
@@ -74,7 +74,7 @@ impl Names<'_> {
         plan.inputs.len() + plan.outputs.len() + plan.internals.len()
     }
 
-    /// The first instruction of a method.
+    /// The first instruction of a method; 0 for an unknown name, which a well-typed plan executes nowhere.
     #[tactic(auto, using(crate::proofs::NumberLemmas::length_entries))]
     pub fn entry(&self, name: &Name) -> u32
         requires { IsMade self.now }
@@ -86,7 +86,8 @@ impl Names<'_> {
         }
     }
 
-    /// The number of the divisor that the text of a `divide(d)` shows.
+    /// The number of the divisor that the text of a `divide(d)` shows; 0 where it shows none, which is so nowhere in a
+    /// well-typed plan.
     pub fn shown_number(&self, divisor: &Expr) -> i128
         ensures { result ≡ shown_number (scope_of_names self.now) (term_of divisor.now) }
     {

@@ -36,7 +36,9 @@ pub enum Literal {
 /// A declared variable or constant.
 #[derive(Drop)]
 pub struct Declared {
+    /// Its name.
     pub name: Name,
+    /// Its type.
     pub kind: Kind,
     /// The value that it begins with, where one is written.
     pub value: Option<Literal>,

@@ -45,8 +45,11 @@ pub enum Expr {
 /// A constant of `BigDecimal`: 0, 1 or 10 with scale 0.
 #[derive(Clone, Copy, Debug, PartialEq, Eq)]
 pub enum Known {
+    /// `ZERO`
     Zero,
+    /// `ONE`
     One,
+    /// `TEN`
     Ten,
 }
 
@@ -79,30 +82,49 @@ pub enum Unary {
 /// An operator between two operands.
 #[derive(Clone, Copy, Debug, PartialEq, Eq)]
 pub enum Binary {
+    /// `*`
     Mul,
+    /// `/`
     Div,
+    /// `%`
     Rem,
+    /// `+`
     Plus,
+    /// `-`
     Sub,
+    /// `<`
     Less,
+    /// `<=`
     LessEq,
+    /// `>`
     More,
+    /// `>=`
     MoreEq,
+    /// `==`
     Same,
+    /// `!=`
     Differs,
+    /// `&&`
     And,
+    /// `||`
     Or,
 }
 
 /// A method of a decimal with one argument.
 #[derive(Clone, Copy, Debug, PartialEq, Eq)]
 pub enum Call {
+    /// `add`
     Add,
+    /// `subtract`
     Subtract,
+    /// `multiply`
     Multiply,
     /// `divide` without a scale.
     DivideExact,
+    /// `compareTo`
     CompareTo,
+    /// `min`
     Min,
+    /// `max`
     Max,
 }
