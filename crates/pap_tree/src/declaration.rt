@@ -4,7 +4,7 @@ use crate::Name;
 use scaled_decimal::Dec;
 
 /// The type of a declared name.
-#[derive(Clone, Copy, Debug, PartialEq, Eq)]
+#[derive(Clone, Copy, PartialEq, Eq)]
 pub enum Kind {
     /// `int`: a whole number of 32 bits.
     Int,

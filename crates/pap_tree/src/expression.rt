@@ -43,7 +43,7 @@ pub enum Expr {
 }
 
 /// A constant of `BigDecimal`: 0, 1 or 10 with scale 0.
-#[derive(Clone, Copy, Debug, PartialEq, Eq)]
+#[derive(Clone, Copy)]
 pub enum Known {
     /// `ZERO`
     Zero,
@@ -67,7 +67,7 @@ impl Known {
 }
 
 /// An operation on one operand.
-#[derive(Clone, Copy, Debug, PartialEq, Eq)]
+#[derive(Clone, Copy)]
 pub enum Unary {
     /// Prefix `-` on a whole number.
     Minus,
@@ -80,7 +80,7 @@ pub enum Unary {
 }
 
 /// An operator between two operands.
-#[derive(Clone, Copy, Debug, PartialEq, Eq)]
+#[derive(Clone, Copy)]
 pub enum Binary {
     /// `*`
     Mul,
@@ -111,7 +111,7 @@ pub enum Binary {
 }
 
 /// A method of a decimal with one argument.
-#[derive(Clone, Copy, Debug, PartialEq, Eq)]
+#[derive(Clone, Copy)]
 pub enum Call {
     /// `add`
     Add,
