@@ -20,9 +20,11 @@ pub enum Token {
     Beyond,
     /// A name: also a word that the language has only behind a point, as `add`.
     Name(Name),
+    /// A word of the language.
     Keyword(Keyword),
     /// An operator between two operands. A `-` before its operand is one of them too.
     Operator(Binary),
+    /// Another sign.
     Mark(Sign),
     /// A byte at which no token begins.
     Alien,
@@ -73,7 +75,9 @@ pub enum Sign {
 /// A token and the place of its first byte in the text.
 #[derive(Clone, Copy)]
 pub struct Placed {
+    /// The token.
     pub token: Token,
+    /// The place of its first byte, counted from the text's beginning.
     pub at: usize,
     pub ghost in_range: { IsTrue (is_in_range token) },
 }

@@ -47,7 +47,8 @@ use Rattle.interval_analysis.specs.declared.shapes.Two.{Two}
 use Rattle.interval_analysis.specs.declared.shapes.Two.TheVariants as twos
 use Rattle.interval_analysis.specs.ShapeViews.{TakesOne, TakesTwo, one_meant, two_meant}
 use Rattle.interval_analysis.specs.declared.expressions.Walk.{Walk}
-use Rattle.interval_analysis.specs.PlanViews.{IsSized, scope_in, variable_in, variables_in, ranges_in}
+use Rattle.pap_types.specs.ScopeViews.{scope_in, variables_in}
+use Rattle.interval_analysis.specs.PlanViews.{IsSized, variable_in, ranges_in}
 use Rattle.interval_analysis.specs.ComparisonViews.{CanCompare, HasRange, Ways, branches_by, sides_of}
 use Rattle.interval_analysis.proofs.NameLemmas as names
 use Rattle.interval_analysis.proofs.NameLemmas.{named_by}

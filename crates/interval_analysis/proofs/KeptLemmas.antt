@@ -28,7 +28,8 @@ use Rattle.interval_walk.specs.NodeRanges.{leaf_range}
 use Rattle.interval_walk.specs.Ranged.{ranged}
 use Rattle.interval_walk.proofs.Laws.{leaf_shape, passed_node}
 use Rattle.interval_walk.specs.Walked.{range_kept_as, assigned_range}
-use Rattle.interval_analysis.specs.PlanViews.{IsSized, kind_at, scope_in, variables_in, ranges_in}
+use Rattle.pap_types.specs.ScopeViews.{scope_in, variables_in}
+use Rattle.interval_analysis.specs.PlanViews.{IsSized, kind_at, ranges_in}
 use Rattle.interval_analysis.proofs.NameLemmas.{number_in, put_by, put_none}
 use Rattle.interval_analysis.specs.StatementViews.{FitsFactor, CanKeep, CanPut}
 

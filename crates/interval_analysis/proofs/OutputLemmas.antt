@@ -14,7 +14,8 @@ use Rattle.interval_num.specs.Intervals.{Interval}
 use Rattle.interval_walk.specs.Ranges.{NamedRange}
 use Rattle.interval_walk.specs.Failures.{output_fails}
 use Rattle.interval_walk.specs.Analysis.{is_bounded, output_ranges, unless_unbounded}
-use Rattle.interval_analysis.specs.PlanViews.{IsSized, variables_in, with_names, ranges_in}
+use Rattle.pap_types.specs.ScopeViews.{variables_in}
+use Rattle.interval_analysis.specs.PlanViews.{IsSized, with_names, ranges_in}
 use Rattle.interval_analysis.specs.OutputViews.{output_names}
 
 -- the output at a place

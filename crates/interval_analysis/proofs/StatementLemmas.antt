@@ -16,8 +16,10 @@ use Rattle.interval_walk.specs.Ranged.{ranged, tested}
 use Rattle.interval_analysis.specs.declared.expressions.Walk.{Walk}
 use Rattle.interval_analysis.specs.declared.fault.RangeFault.{RangeFault}
 use Rattle.interval_analysis.specs.declared.fault.RangeFault.TheVariants as faults
-use Rattle.interval_analysis.specs.PlanViews.{IsSized, ranges_after, scope_in, variables_in, with_names, ranges_in, branches_in}
-use Rattle.interval_analysis.specs.StatementViews.{through_if, through_fork, if_of, end_of, fault_of}
+use Rattle.pap_types.specs.ScopeViews.{scope_in, variables_in}
+use Rattle.interval_analysis.specs.PlanViews.{IsSized, ranges_after, with_names, ranges_in, branches_in}
+use Rattle.pap_tree.specs.TreeViews.{if_of}
+use Rattle.interval_analysis.specs.StatementViews.{through_if, through_fork, end_of, fault_of}
 use Rattle.pap_tree.specs.declared.expression.Expr.{Expr}
 use Rattle.interval_analysis.specs.declared.branches.Branches.{Branches}
 use Rattle.interval_analysis.specs.declared.expressions.Stop.{Stop}

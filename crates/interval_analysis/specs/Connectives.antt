@@ -23,8 +23,10 @@ use Rattle.interval_analysis.specs.declared.conditions.Role.{Role}
 use Rattle.interval_analysis.specs.declared.conditions.Role.TheVariants.{Same, Compared, Other}
 use Rattle.interval_analysis.specs.declared.expressions.Stop.{Stop}
 use Rattle.interval_analysis.specs.declared.expressions.Walk.{Walk}
-use Rattle.interval_analysis.specs.PlanViews.{scope_in, ranges_in}
-use Rattle.interval_analysis.specs.ExpressionViews.{StopsAs, two_of}
+use Rattle.pap_types.specs.ScopeViews.{scope_in}
+use Rattle.interval_analysis.specs.PlanViews.{ranges_in}
+use Rattle.pap_tree.specs.TreeViews.{two_of}
+use Rattle.interval_analysis.specs.ExpressionViews.{StopsAs}
 use Rattle.interval_analysis.specs.ComparisonViews.{branch_by}
 use Rattle.interval_analysis.specs.TestViews.{Comparison, comparison_in, tested_in}
 

@@ -1,7 +1,6 @@
 -- What private contracts say of the walk of expressions.
 use Rattle.std.specs.Prelude.{◌≡◌, ℕ, ◌+◌, ◌<◌, ◌^◌, List, Option, Some, None, Result, Ok, Err, ⊤}
-use Rattle.pap_tree.specs.declared.expression.Expr.{Expr}
-use Rattle.pap_tree.specs.Term.{Term, term_of, One, one, Two, two, choice}
+use Rattle.pap_tree.specs.Term.{Term, One, one, Two, two}
 use Rattle.pap_tree.specs.Numbering.{nodes}
 use Rattle.pap_tree.specs.Scales.{KeepsScales}
 use Rattle.interval_num.specs.declared.cause.RangeCause.TheVariants.{Wide}
@@ -22,18 +21,8 @@ use Rattle.interval_analysis.specs.declared.expressions.Ranged.{Ranged}
 use Rattle.interval_analysis.specs.declared.expressions.Stop.{Stop}
 use Rattle.interval_analysis.specs.declared.expressions.Stop.TheVariants.{At, Memory}
 use Rattle.interval_analysis.specs.declared.expressions.Walk.{Walk}
-use Rattle.interval_analysis.specs.PlanViews.{scope_in, variable_in, ranges_in}
-
--- ---- the terms of operations on expressions
-
-abbrev pub one_of : One → Expr → Term
-one_of op e = one op (term_of e)
-
-abbrev pub two_of : Two → Expr → Expr → Term
-two_of op e f = two op (term_of e) (term_of f)
-
-abbrev pub choice_of : Expr → Expr → Expr → Term
-choice_of c e f = choice (term_of c) (term_of e) (term_of f)
+use Rattle.pap_types.specs.ScopeViews.{scope_in}
+use Rattle.interval_analysis.specs.PlanViews.{variable_in, ranges_in}
 
 -- ---- what may be walked
 

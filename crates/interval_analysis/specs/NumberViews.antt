@@ -5,7 +5,7 @@ use Rattle.pap_tree.specs.declared.plan.PlanText.{PlanText}
 use Rattle.pap_types.specs.Scopes.{number_of}
 use Rattle.interval_analysis.specs.declared.numbers.Numbered.{Numbered}
 use Rattle.interval_analysis.specs.declared.numbers.VariableNumbers.{VariableNumbers}
-use Rattle.interval_analysis.specs.PlanViews.{variables_in}
+use Rattle.pap_types.specs.ScopeViews.{variables_in}
 
 -- a name with the number of the variable that it names
 abbrev pub HasItsNumber : PlanText → Numbered → Type 0

@@ -6,7 +6,7 @@ use Rattle.pap_tree.specs.Numbering.{nodes}
 use Rattle.pap_types.specs.Kinds.{kind_of}
 use Rattle.interval_analysis.specs.declared.outlines.Outline.{Outline}
 use Rattle.interval_analysis.specs.declared.outlines.Outlines.{Outlines}
-use Rattle.interval_analysis.specs.PlanViews.{scope_in}
+use Rattle.pap_types.specs.ScopeViews.{scope_in}
 
 pub record IsOutline (p : PlanText) (t : Term) (at : ℕ) (o : Outline) : Type 0 where
   pub kind : o.kind ≡ kind_of (scope_in p) t

@@ -3,26 +3,19 @@ use Rattle.std.specs.Prelude.{◌≡◌, ℕ, List, [], ◌∷◌, length, Optio
 use Rattle.std.proofs.Common.{Vec, Global}
 use Rattle.std.specs.Option.{option_map_or}
 use Rattle.pap_tree.specs.declared.plan.PlanText.{PlanText}
-use Rattle.pap_tree.specs.Flowchart.{flowchart_of}
 use Rattle.pap_tree.specs.Term.{Term, leaf, named}
 use Rattle.interval_num.specs.Intervals.{Interval}
 use Rattle.pap_types.specs.declared.kinds.NodeKind.{NodeKind}
 use Rattle.pap_types.specs.declared.kinds.NodeKind.TheVariants.{Int}
 use Rattle.pap_types.specs.Kinds.{declared_kind}
-use Rattle.pap_types.specs.Scopes.{Scope, scope_of, variables_of, names_of, number_of}
+use Rattle.pap_types.specs.Scopes.{Scope, number_of}
 use Rattle.interval_walk.specs.NodeRanges.{name_range}
 use Rattle.interval_walk.specs.Ranges.{Ranges}
 use Rattle.interval_walk.specs.Branches as meant
+use Rattle.pap_types.specs.ScopeViews.{scope_in, variables_in}
 use Rattle.interval_analysis.specs.declared.branches.Branches.{Branches}
 use Rattle.interval_analysis.specs.declared.branches.Change.{Change}
 use Rattle.interval_analysis.specs.Changes.{changed}
-
-abbrev pub scope_in : PlanText → Scope
-scope_in p = scope_of (flowchart_of p)
-
--- the names of the variables in the order of their numbers
-abbrev pub variables_in : PlanText → List (List ℕ)
-variables_in p = names_of (variables_of (flowchart_of p))
 
 -- the number of the variable that an expression names
 abbrev pub variable_in : PlanText → Term → Option ℕ

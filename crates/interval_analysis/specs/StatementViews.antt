@@ -7,7 +7,7 @@ use Rattle.pap_tree.specs.declared.expression.Expr.{Expr}
 use Rattle.pap_tree.specs.declared.plan.Stmt.{Stmt}
 use Rattle.pap_tree.specs.Term.{term_of}
 use Rattle.pap_tree.specs.Declarations.{Declaration}
-use Rattle.pap_tree.specs.Flowchart.{Body, branch, done, body_of, Routine, flowchart_of}
+use Rattle.pap_tree.specs.Flowchart.{Body, body_of}
 use Rattle.pap_tree.specs.Statements.{written}
 use Rattle.interval_num.specs.declared.cause.RangeCause.{RangeCause}
 use Rattle.interval_num.specs.declared.cause.RangeCause.TheVariants.{Wide}
@@ -23,6 +23,7 @@ use Rattle.interval_walk.specs.Failures.{WalkFault, node_fails, and_then, at_nod
 use Rattle.interval_walk.specs.Branches.{Branches, either_way}
 use Rattle.interval_walk.specs.Ranged.{ranged}
 use Rattle.interval_walk.specs.Walked.{RangeCalls, walked, range_calls_of, assigned_range, joined}
+use Rattle.pap_tree.specs.TreeViews.{methods_in, if_of}
 use Rattle.interval_analysis.specs.declared.expressions.Stop.{Stop}
 use Rattle.interval_analysis.specs.declared.expressions.Stop.TheVariants as stops
 use Rattle.interval_analysis.specs.declared.expressions.Walk.{Walk}
@@ -30,14 +31,8 @@ use Rattle.interval_analysis.specs.declared.statements.Fork.{Fork}
 use Rattle.interval_analysis.specs.declared.statements.Spot.{Spot}
 use Rattle.interval_analysis.specs.declared.fault.RangeFault.{RangeFault}
 use Rattle.interval_analysis.specs.declared.fault.RangeFault.TheVariants as faults
-use Rattle.interval_analysis.specs.PlanViews.{scope_in, ranges_in}
-
-abbrev pub methods_in : PlanText → List Routine
-methods_in p = (flowchart_of p).methods
-
--- the statements of an IF
-abbrev pub if_of : Expr → List Stmt → List Stmt → Body
-if_of t ys ns = branch (term_of t) (body_of ys) (body_of ns) done
+use Rattle.pap_types.specs.ScopeViews.{scope_in}
+use Rattle.interval_analysis.specs.PlanViews.{ranges_in}
 
 -- ---- the definition, for the plan of a walk, from ranges by number
 

@@ -24,7 +24,8 @@ use Rattle.interval_analysis.specs.declared.conditions.Tested.{Tested}
 use Rattle.interval_analysis.specs.declared.expressions.Operands.{Operands}
 use Rattle.interval_analysis.specs.declared.expressions.Stop.{Stop}
 use Rattle.interval_analysis.specs.declared.expressions.Walk.{Walk}
-use Rattle.interval_analysis.specs.PlanViews.{scope_in, ranges_in, branches_in}
+use Rattle.pap_types.specs.ScopeViews.{scope_in}
+use Rattle.interval_analysis.specs.PlanViews.{ranges_in, branches_in}
 use Rattle.interval_analysis.specs.ComparisonViews.{CanCompare, CanRefine, Ways, sides_of, branches_by}
 use Rattle.interval_analysis.specs.ExpressionViews.{StopsAs}
 

@@ -3,7 +3,8 @@ ghost use Rattle.std.specs.Prelude.{◌≡◌, ◌+◌, ◌<◌, ◌^◌, MatchO
 ghost use Rattle.pap_tree.specs.Term.{term_of, unary, operator};
 ghost use Rattle.interval_num.specs.declared.cause.RangeCause.TheVariants.{Wide};
 ghost use Rattle.interval_analysis.specs.VariableViews.{AreHeld, GoesOn, IsLeft};
-ghost use Rattle.interval_analysis.specs.ExpressionViews.{CanWalk, one_of, two_of};
+ghost use Rattle.pap_tree.specs.TreeViews.{one_of, two_of};
+ghost use Rattle.interval_analysis.specs.ExpressionViews.{CanWalk};
 ghost use Rattle.interval_analysis.specs.TestViews.{ComparedAnswer, ComparesAs, ComparisonAnswer, HaveShapes, IsInner, IsPlainComparison, OrderAnswer, TestAnswer, comparison_of, order_compared, sides_compared};
 ghost use Rattle.interval_analysis.specs.Changes.{AreKept};
 ghost use Rattle.interval_analysis.specs.Notes.{IsNoted};

@@ -2,10 +2,12 @@
 ghost use Rattle.std.specs.Prelude.{◌≡◌, ◌<◌, OnOk};
 ghost use Rattle.pap_tree.specs.Term.{term_of, leaf, named};
 ghost use Rattle.pap_types.specs.Scopes.{number_of};
-ghost use Rattle.interval_analysis.specs.PlanViews.{IsSized, variables_in, name_range_in, ranges_after, branches_in};
+ghost use Rattle.pap_types.specs.ScopeViews.{variables_in};
+ghost use Rattle.interval_analysis.specs.PlanViews.{IsSized, name_range_in, ranges_after, branches_in};
 ghost use Rattle.interval_analysis.specs.ShapeViews.{leaf_of};
 ghost use Rattle.interval_analysis.specs.VariableViews.{AreHeld, GoesOn, IsLeft};
-ghost use Rattle.interval_analysis.specs.ExpressionViews.{CanWalk, CanWalkTwo, CanWalkParts, RangeAnswer, OperandsAnswer, PartAnswer, PartsAnswer, choice_of};
+ghost use Rattle.pap_tree.specs.TreeViews.{choice_of};
+ghost use Rattle.interval_analysis.specs.ExpressionViews.{CanWalk, CanWalkTwo, CanWalkParts, RangeAnswer, OperandsAnswer, PartAnswer, PartsAnswer};
 
 use crate::branches::{Branches, Change};
 use crate::conditions::Tested;

@@ -8,7 +8,8 @@ ghost use Rattle.interval_walk.specs.Walked.{range_kept_as};
 ghost use Rattle.interval_analysis.specs.Changes.{changed};
 ghost use Rattle.interval_analysis.specs.PlanViews.{ranges_in, branches_in};
 ghost use Rattle.interval_analysis.specs.VariableViews.{AreHeld, GoesOn};
-ghost use Rattle.interval_analysis.specs.StatementViews.{CanWalkBody, CanWalkLists, CanAssign, CanPut, CanKeep, IsMethodBody, Passes, EnvAnswer, through_body, through_if, through_fork, through_first, through_second, through_both, if_of, evaluated, executed, assigned_in, methods_in, fault_of};
+ghost use Rattle.pap_tree.specs.TreeViews.{if_of, methods_in};
+ghost use Rattle.interval_analysis.specs.StatementViews.{CanWalkBody, CanWalkLists, CanAssign, CanPut, CanKeep, IsMethodBody, Passes, EnvAnswer, through_body, through_if, through_fork, through_first, through_second, through_both, evaluated, executed, assigned_in, fault_of};
 
 use crate::RangeFault;
 use crate::branches::{Branches, Change};

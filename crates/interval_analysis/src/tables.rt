@@ -1,7 +1,7 @@
 //! A plan with the ranges of its tables' items and the numbers of its variables, computed once before the walk.
 ghost use Rattle.std.specs.Prelude.{◌≡◌, ◌++◌, IfOk, OnOk};
 ghost use Rattle.pap_types.specs.Scopes.{number_of, table_in};
-ghost use Rattle.interval_analysis.specs.PlanViews.{scope_in, variables_in};
+ghost use Rattle.pap_types.specs.ScopeViews.{scope_in, variables_in};
 ghost use Rattle.interval_analysis.specs.StartViews.{declarations};
 ghost use Rattle.interval_analysis.specs.TableViews.{tables_of};
 

@@ -11,6 +11,7 @@ use std::cmp::Ordering;
 /// The range of an input.
 #[derive(Clone, Copy)]
 pub struct InputLimit {
+    /// The input.
     pub name: Name,
     /// The least value.
     pub low: Dec,
@@ -34,14 +35,18 @@ pub enum Carry {
 /// An input that takes its value from earlier runs.
 #[derive(Clone, Copy)]
 pub struct Binding {
+    /// The input.
     pub input: Name,
+    /// What it carries over.
     pub carry: Carry,
 }
 
 /// What a range file says. Both lists are in byte order of the inputs' names.
 #[derive(Drop)]
 pub struct Limits {
+    /// The ranges of the inputs.
     pub inputs: Items<InputLimit>,
+    /// What inputs carry over from earlier runs.
     pub bindings: Items<Binding>,
 }
 

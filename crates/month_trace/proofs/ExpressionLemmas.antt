@@ -24,7 +24,8 @@ use Rattle.pap_types.proofs.Laws.{has_types}
 use Rattle.interval_walk.specs.Soundness.{AreVariables}
 use Rattle.interval_walk.proofs.Laws.{sound_scope, shown_plain, shown_value}
 use Rattle.month_trace.specs.OperationViews.{CanTakeOne, CanOperate, IsPlainFor, CanCall, CanDivide}
-use Rattle.month_trace.specs.ValueViews.{scope_in, with_names, values_in, value_in, HasValues, CanEvaluate}
+use Rattle.pap_types.specs.ScopeViews.{scope_in}
+use Rattle.month_trace.specs.ValueViews.{with_names, values_in, value_in, HasValues, CanEvaluate}
 use Rattle.month_trace.proofs.NameLemmas.{same_either_way}
 use Rattle.month_trace.proofs.OperationLemmas.{some_first, some_step, some_if, some_else}
 

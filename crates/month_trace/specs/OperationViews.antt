@@ -4,25 +4,13 @@ use Rattle.scaled_decimal.specs.declared.rounding.Mode.{Mode}
 use Rattle.scaled_decimal.specs.Decimals.{Decimal, numerator_of}
 use Rattle.scaled_decimal.specs.ExactQuotients.{IsPlainDivisor}
 use Rattle.scaled_decimal.specs.WorkingNumbers.{QuotientFits}
-use Rattle.pap_tree.specs.declared.expression.Expr.{Expr}
 use Rattle.pap_tree.specs.declared.expression.Binary.{Binary}
 use Rattle.pap_tree.specs.declared.expression.Call.{Call}
 use Rattle.pap_tree.specs.declared.expression.Call.TheVariants as calls
-use Rattle.pap_tree.specs.Term.{Term, term_of, One, one, Two, two, choice, divide}
+use Rattle.pap_tree.specs.Term.{One, one, divide}
 use Rattle.pap_types.specs.declared.kinds.NodeKind.{NodeKind}
 use Rattle.pap_types.specs.Operations.{of_operator, of_two}
 use Rattle.pap_types.specs.Safety.{OneFits, OperatorFits, MethodFits}
-
--- ---- the terms of operations on expressions
-
-abbrev pub one_of : One → Expr → Term
-one_of op e = one op (term_of e)
-
-abbrev pub two_of : Two → Expr → Expr → Term
-two_of op e f = two op (term_of e) (term_of f)
-
-abbrev pub choice_of : Expr → Expr → Expr → Term
-choice_of c e f = choice (term_of c) (term_of e) (term_of f)
 
 -- ---- what may be computed
 

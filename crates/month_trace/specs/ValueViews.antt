@@ -10,16 +10,9 @@ use Rattle.pap_types.specs.Checks.{IsWellTyped}
 use Rattle.pap_types.specs.Kinds.{has_few_places}
 use Rattle.pap_types.specs.Meaning.{start}
 use Rattle.pap_types.specs.Safety.{IsSafe}
-use Rattle.pap_types.specs.Scopes.{Scope, scope_of, variables_of, names_of}
 use Rattle.pap_types.specs.Typing.{IsTypedTerm, TargetSuits}
 use Rattle.pap_types.specs.Values.{Env, value, named_value}
-
-abbrev pub scope_in : PlanText → Scope
-scope_in p = scope_of (flowchart_of p)
-
--- the names of the variables in the order of their numbers
-abbrev pub variables_in : PlanText → List (List ℕ)
-variables_in p = names_of (variables_of (flowchart_of p))
+use Rattle.pap_types.specs.ScopeViews.{scope_in, variables_in}
 
 -- values by number, each with its name
 abbrev pub with_names : List (List ℕ) → List Decimal → Env

@@ -4,25 +4,17 @@ use Rattle.std.specs.Option.{option_map}
 use Rattle.std.specs.declared.alloc.AllocError.{AllocError}
 use Rattle.scaled_decimal.specs.Decimals.{Decimal}
 use Rattle.pap_tree.specs.declared.plan.PlanText.{PlanText}
-use Rattle.pap_tree.specs.declared.expression.Expr.{Expr}
-use Rattle.pap_tree.specs.declared.plan.Stmt.{Stmt}
-use Rattle.pap_tree.specs.Term.{term_of}
-use Rattle.pap_tree.specs.Flowchart.{Body, done, branch, body_of, Routine, flowchart_of}
+use Rattle.pap_tree.specs.Flowchart.{Body}
 use Rattle.pap_tree.specs.Statements.{written}
 use Rattle.pap_types.specs.Runs.{Calls, after, IsSafeBody, calls_of}
 use Rattle.pap_types.specs.Typing.{IsTypedBody}
 use Rattle.pap_types.specs.Values.{Env}
+use Rattle.pap_tree.specs.TreeViews.{methods_in}
 use Rattle.month_trace.specs.declared.step.TraceStep.{TraceStep}
 use Rattle.month_trace.specs.declared.statements.Spot.{Spot}
 use Rattle.month_trace.specs.Traces.{Trace, traced, traces_of}
-use Rattle.month_trace.specs.ValueViews.{scope_in, values_in, HasValues}
-
-abbrev pub methods_in : PlanText → List Routine
-methods_in p = (flowchart_of p).methods
-
--- the statements of an IF
-abbrev pub if_of : Expr → List Stmt → List Stmt → Body
-if_of t ys ns = branch (term_of t) (body_of ys) (body_of ns) done
+use Rattle.pap_types.specs.ScopeViews.{scope_in}
+use Rattle.month_trace.specs.ValueViews.{values_in, HasValues}
 
 -- ---- the definitions, for a plan, from values by number
 

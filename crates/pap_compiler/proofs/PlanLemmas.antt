@@ -18,7 +18,7 @@ use Rattle.pap_compiler.specs.CodeDecisions.{term_length, body_length, methods_l
 use Rattle.pap_compiler.specs.Heights.{body_height, methods_height}
 use Rattle.pap_compiler.specs.EmitViews.{IsAppended}
 use Rattle.pap_compiler.specs.StatementViews.{code_in}
-use Rattle.pap_compiler.specs.PlanViews.{methods_in}
+use Rattle.pap_compiler.specs.PlanViews.{methods_code_in}
 
 term_small : (t : Term) → term_length t ≤ 2 * nodes t
 term_small (leaf l) = omega arith
@@ -63,7 +63,7 @@ split_at ms k m is lt =
 module _ (n : Names) where
   -- some methods are left: with their code, what was appended is the whole
   pub record ArePartly (ms : List Method) (k : ℕ) (old now : List Instr) : Type 0 where
-    pub whole : now ++ methods_in n (length now) (map routine_of (drop k ms)) ≡ old ++ methods_in n (length old) (map routine_of ms)
+    pub whole : now ++ methods_code_in n (length now) (map routine_of (drop k ms)) ≡ old ++ methods_code_in n (length old) (map routine_of ms)
     pub place : length now + methods_length (map routine_of (drop k ms)) ≡ length old + methods_length (map routine_of ms)
 
   pub one_method : (ms : List Method) (k : ℕ) (m : Method) (old now mid new : List Instr) → m ≡ get_or ms k m → k < length ms → ArePartly ms k old now → IsAppended now (code_in n (length now) (body_of m.body.items)) (body_length (body_of m.body.items)) mid → IsAppended mid (i.Return ∷ []) 1 new → ArePartly ms (k + 1) old new
@@ -75,8 +75,8 @@ module _ (n : Names) where
       let place : length new ≡ length now + body_length b + 1 = omega (arith, h1.place, h2.place) in
       let all : new ≡ (now ++ code) ++ i.Return ∷ [] = h2.code ∙ ap (λ c. c ++ i.Return ∷ []) h1.code in
       let p = length now + body_length b + 1 in
-      let first : new ++ methods_in n (length new) rest ≡ now ++ (code ++ i.Return ∷ methods_in n p rest) = ap (λ q. new ++ methods_in n q rest) place ∙ ap (λ c. c ++ methods_in n p rest) all ∙ simp append_assoc in
-      let whole : new ++ methods_in n (length new) rest ≡ old ++ methods_in n (length old) (map routine_of ms) = first ∙ ap (λ l. now ++ methods_in n (length now) l) (sym left) ∙ h.whole in
+      let first : new ++ methods_code_in n (length new) rest ≡ now ++ (code ++ i.Return ∷ methods_code_in n p rest) = ap (λ q. new ++ methods_code_in n q rest) place ∙ ap (λ c. c ++ methods_code_in n p rest) all ∙ simp append_assoc in
+      let whole : new ++ methods_code_in n (length new) rest ≡ old ++ methods_code_in n (length old) (map routine_of ms) = first ∙ ap (λ l. now ++ methods_code_in n (length now) l) (sym left) ∙ h.whole in
       record {
         whole = whole;
         place = omega (arith, place, h.place, ap methods_length left);

@@ -9,16 +9,16 @@ use Rattle.pap_machine.specs.declared.code.Instr.{Instr}
 use Rattle.pap_machine.specs.declared.code.Instr.TheVariants as i
 use Rattle.pap_compiler.specs.declared.names.Names.{Names}
 use Rattle.pap_compiler.specs.CodeDecisions.{term_length, term_code, body_length, assigned_code, slot, entry, first_method}
-use Rattle.pap_compiler.specs.NameViews.{plan_in, scope_in}
+use Rattle.pap_compiler.specs.NameViews.{plan_in, scope_of_names}
 use Rattle.pap_compiler.specs.EmitViews.{IsAppended}
 use Rattle.pap_compiler.specs.StatementViews.{code_in, IsLedOn}
 use Rattle.pap_compiler.proofs.SizeLemmas.{length_then}
 
 module _ (n : Names) where
-  pub eval_whole : (x : List ℕ) (e : Term) (old c1 new : List Instr) → IsAppended old (assigned_code (name_kind (scope_in n) x) e (term_code (scope_in n) (length old) e)) (term_length e) c1 → IsAppended c1 (i.Store (slot (scope_in n) x) ∷ []) 1 new → IsLedOn n (eval x e) old new
+  pub eval_whole : (x : List ℕ) (e : Term) (old c1 new : List Instr) → IsAppended old (assigned_code (name_kind (scope_of_names n) x) e (term_code (scope_of_names n) (length old) e)) (term_length e) c1 → IsAppended c1 (i.Store (slot (scope_of_names n) x) ∷ []) 1 new → IsLedOn n (eval x e) old new
   eval_whole x e old c1 new h1 h2 =
-      let code = assigned_code (name_kind (scope_in n) x) e (term_code (scope_in n) (length old) e) in
-      let store = i.Store (slot (scope_in n) x) in
+      let code = assigned_code (name_kind (scope_of_names n) x) e (term_code (scope_of_names n) (length old) e) in
+      let store = i.Store (slot (scope_of_names n) x) in
       let place : length new ≡ length old + term_length e + 1 = omega (arith, h1.place, h2.place) in
       let all : new ≡ (old ++ code) ++ store ∷ [] = h2.code ∙ ap (λ c. c ++ store ∷ []) h1.code in
       record {
@@ -33,7 +33,7 @@ module _ (n : Names) where
   }
 
   pub if_whole : (t : Term) (a b : Body) (old new : List Instr) →
-      IsAppended old (term_code (scope_in n) (length old) t ++ i.JumpFalse (length old + term_length t + 1 + body_length a + 1) ∷ (code_in n (length old + term_length t + 1) a ++ i.Jump (length old + term_length t + 1 + body_length a + 1 + body_length b) ∷ code_in n (length old + term_length t + 1 + body_length a + 1) b)) (term_length t + 1 + body_length a + 1 + body_length b) new → IsLedOn n (branch t a b) old new
+      IsAppended old (term_code (scope_of_names n) (length old) t ++ i.JumpFalse (length old + term_length t + 1 + body_length a + 1) ∷ (code_in n (length old + term_length t + 1) a ++ i.Jump (length old + term_length t + 1 + body_length a + 1 + body_length b) ∷ code_in n (length old + term_length t + 1 + body_length a + 1) b)) (term_length t + 1 + body_length a + 1 + body_length b) new → IsLedOn n (branch t a b) old new
   if_whole t a b old new h =
       let r = length old + term_length t + 1 + body_length a + 1 + body_length b in
       let place : length new ≡ r = omega (arith, h.place) in

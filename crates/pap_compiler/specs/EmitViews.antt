@@ -7,7 +7,7 @@ use Rattle.pap_types.specs.Scopes.{Scope}
 use Rattle.pap_machine.specs.declared.code.Instr.{Instr}
 use Rattle.pap_machine.specs.declared.code.Instr.TheVariants as i
 use Rattle.pap_compiler.specs.declared.names.Names.{Names}
-use Rattle.pap_compiler.specs.NameViews.{scope_in}
+use Rattle.pap_compiler.specs.NameViews.{scope_of_names}
 use Rattle.pap_compiler.specs.CodeDecisions.{term_length, term_code}
 
 -- so many instructions stand behind the old ones
@@ -21,12 +21,12 @@ HasRoom old count = length old + count < 2 ^ 32
 
 -- the code of an expression was appended
 abbrev pub HasTerm : Names → Term → List Instr → List Instr → Type 0
-HasTerm n e old new = IsAppended old (term_code (scope_in n) (length old) e) (term_length e) new
+HasTerm n e old new = IsAppended old (term_code (scope_of_names n) (length old) e) (term_length e) new
 
 -- that of an operand, and an instruction
 abbrev pub HasOne : Names → Term → Instr → List Instr → List Instr → Type 0
 HasOne n e last old new =
-    IsAppended old (term_code (scope_in n) (length old) e ++ last ∷ []) (term_length e + 1) new
+    IsAppended old (term_code (scope_of_names n) (length old) e ++ last ∷ []) (term_length e + 1) new
 
 -- how many instructions two operands and one behind or between them have
 abbrev pub two_length : Term → Term → ℕ
@@ -48,10 +48,10 @@ skip_code scope op at e f =
 
 -- the code of two operands was appended, with an instruction behind them, or with what skips the right one
 abbrev pub HasTwo : Names → Term → Term → Instr → List Instr → List Instr → Type 0
-HasTwo n e f last old new = IsAppended old (two_code (scope_in n) (length old) e f last) (two_length e f) new
+HasTwo n e f last old new = IsAppended old (two_code (scope_of_names n) (length old) e f last) (two_length e f) new
 
 abbrev pub HasJoined : Names → Binary → Term → Term → List Instr → List Instr → Type 0
-HasJoined n op e f old new = IsAppended old (skip_code (scope_in n) op (length old) e f) (two_length e f) new
+HasJoined n op e f old new = IsAppended old (skip_code (scope_of_names n) op (length old) e f) (two_length e f) new
 
 -- whether an instruction stands behind the operands of an operator
 abbrev pub HasInstr : Binary → Option Instr → Type 0

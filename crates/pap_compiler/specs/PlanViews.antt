@@ -8,11 +8,11 @@ use Rattle.pap_compiler.specs.declared.names.Names.{Names}
 use Rattle.pap_compiler.specs.declared.assembly.Layout.{Layout}
 use Rattle.pap_compiler.specs.CodeDecisions.{body_length, methods_code, entries_from}
 use Rattle.pap_compiler.specs.Heights.{body_height, methods_height}
-use Rattle.pap_compiler.specs.NameViews.{scope_in, entry_in}
+use Rattle.pap_compiler.specs.NameViews.{scope_of_names, entry_in}
 
 -- the code of methods in a plan
-abbrev pub methods_in : Names → ℕ → List Routine → List Instr
-methods_in n = methods_code (scope_in n) (entry_in n)
+abbrev pub methods_code_in : Names → ℕ → List Routine → List Instr
+methods_code_in n = methods_code (scope_of_names n) (entry_in n)
 
 -- the methods stand behind MAIN and the end
 pub record IsLayout (main : Body) (ms : List Routine) (l : Layout) : Type 0 where

@@ -9,7 +9,7 @@ ghost use Rattle.pap_compiler.specs.CodeDecisions.{first_method, code_of, compil
 ghost use Rattle.pap_compiler.specs.Correct.{IsCodeOf};
 ghost use Rattle.pap_compiler.specs.EmitViews.{HasRoom};
 ghost use Rattle.pap_compiler.specs.NameViews.{IsMade, plan_in};
-ghost use Rattle.pap_compiler.specs.PlanViews.{methods_in, IsLayout, tables_in};
+ghost use Rattle.pap_compiler.specs.PlanViews.{methods_code_in, IsLayout, tables_in};
 
 use crate::depths::depth;
 use crate::emit::put;
@@ -28,7 +28,7 @@ use std::alloc::{AllocError, Global};
 /// Each method's code stands once, and an EXECUTE is a call. On every list of inputs that is safe for the plan, the code
 /// is safe, leaves the plan's outputs in its slots, and runs as many instructions as the plan has steps. It has room for
 /// as many open calls as the longest chain that MAIN begins has methods, and for as many values on the stack as an
-/// expression has at most. Refuses only want of memory.
+/// expression has at most. Fails only where memory runs out.
 pub fn compile(alloc: Global, t: &Typed, order: &[u32]) -> Result<Code, AllocError>
     requires ordered { IsOrdered (flowchart_of t.now) order.now }
     ensures means { IfOk result (IsCodeOf (flowchart_of t.now)) }
@@ -122,7 +122,7 @@ fn emit_methods(code: &mut Vec<Instr>, names: &Names, methods: &[Method]) -> Res
     requires made { IsMade names.now }
     requires room { HasRoom code.old.items (methods_length (map routine_of methods.now)) }
     ensures { OnOk result (code.new.items ≡ code.old.items
-        ++ methods_in names.now (length code.old.items) (map routine_of methods.now)) }
+        ++ methods_code_in names.now (length code.old.items) (map routine_of methods.now)) }
 {
     for m in methods {
         emit_body(code, names, &m.body)?;

@@ -61,7 +61,7 @@ fn branches_depth(t: &Typed, depths: &[u32], yes: &[Stmt], no: &[Stmt]) -> u32
     body_depth(t, depths, yes).max(body_depth(t, depths, no))
 }
 
-/// That of a method.
+/// That of a method; 0 where there is none of that name, which a well-typed plan executes nowhere.
 fn method_depth(t: &Typed, depths: &[u32], method: &Name) -> u32
     requires { AreSmall depths.now }
     ensures exact { result ≡ depth_at (flowchart_of t.now) depths.now method.now }

@@ -2,7 +2,7 @@
 ghost use Rattle.std.specs.Prelude.{◌≡◌, ◌<◌, ◌+◌, ◌^◌, ◌∷◌, [], OnOk, length, slice_set};
 ghost use Rattle.pap_tree.specs.Term.{term_of, unary, value_of, one, two, choice, operator};
 ghost use Rattle.pap_compiler.specs.CodeDecisions.{term_length, instr_of_one, instr_of_method};
-ghost use Rattle.pap_compiler.specs.NameViews.{IsMade, scope_in};
+ghost use Rattle.pap_compiler.specs.NameViews.{IsMade, scope_of_names};
 ghost use Rattle.pap_compiler.specs.EmitViews.{IsAppended, HasRoom, HasTerm, HasOne, HasTwo};
 ghost use Rattle.pap_compiler.specs.EmitViews.{HasJoined, HasInstr, two_length, skip_to};
 
@@ -207,7 +207,7 @@ fn instr_of_operator(op: Binary) -> Option<Instr>
 
 /// The instruction of a method with one argument; that of `divide` has the divisor's own number.
 fn instr_of_call(names: &Names, method: Call, argument: &Expr) -> Instr
-    ensures { result ≡ instr_of_method (scope_in names.now) method (term_of argument.now) }
+    ensures { result ≡ instr_of_method (scope_of_names names.now) method (term_of argument.now) }
 {
     match method {
         Call::Add => Instr::Add,

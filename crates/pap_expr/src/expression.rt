@@ -24,7 +24,7 @@ use expr_tokens::{Placed, Sign, Token, read_tokens};
 use pap_tree::{Expr, MOST_TOKENS, Name};
 use std::alloc::Global;
 
-/// The expression of a test.
+/// The expression of a test. It is never read to an assignment: the fault for that case is made up.
 pub fn parse_expr(alloc: Global, text: &[u8]) -> Result<Expr, ExprFault>
     ensures tree { IfOk result (λ e. IsAccepted (Level 0) text.now (tree (term_of e))) }
     ensures fault { IfErr result (IsFaultOf (Level 0) text.now) }
@@ -38,7 +38,7 @@ pub fn parse_expr(alloc: Global, text: &[u8]) -> Result<Expr, ExprFault>
     Ok(expr)
 }
 
-/// The target and the expression of an assignment.
+/// The target and the expression of an assignment. They are never read to a test: the fault for that case is made up.
 pub fn parse_assign(alloc: Global, text: &[u8]) -> Result<(Name, Expr), ExprFault>
     ensures tree { IfOk result
         (λ r. IsAccepted grammar.Assignment text.now (assignment r.0 (term_of r.1))) }
@@ -57,7 +57,9 @@ pub fn parse_assign(alloc: Global, text: &[u8]) -> Result<(Name, Expr), ExprFaul
 /// What a text is read as.
 #[derive(Clone, Copy)]
 pub(crate) enum Kind {
+    /// The expression of a test.
     Test,
+    /// An assignment.
     Assignment,
 }
 
@@ -128,6 +130,7 @@ fn target_of(found: &Placed) -> Option<Name>
     }
 }
 
+/// The name itself. A function of its own, so that the proof learns that the word is a name.
 fn some_name(name: Name) -> Option<Name>
     ensures some { result ≡ Some name }
     ensures named { IsTrue (is_name name) }

@@ -6,8 +6,8 @@ use std::alloc::{AllocError, AllocFailed};
 use thiserror::Error;
 
 /// Why a text is refused, and the byte where the token begins that stops its reading: the text's length where the text
-/// ends too early. The causes are tried from the last to the first. Their texts are for a plan's author, and say what is wrong
-/// without the place.
+/// ends too early. `Deep` is tried first, then up to `Syntax`; `Memory` may come at any point. Their texts are for a
+/// plan's author, and say what is wrong without the place.
 #[derive(Clone, Copy, Debug, PartialEq, Eq, Error)]
 pub enum ExprFault {
     /// The token isn't allowed there.
@@ -26,6 +26,7 @@ pub enum ExprFault {
     #[error("the text has more than 1000 words, numbers and signs, or more than 64 open brackets \
         and signs")]
     Deep { at: usize },
+    /// Memory ran out.
     #[error("out of memory")]
     Memory,
 }

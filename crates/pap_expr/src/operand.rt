@@ -156,7 +156,7 @@ fn class(keyword: Keyword, found: &Placed) -> Result<State, ExprFault>
     }
 }
 
-/// A name, which is a variable or a table.
+/// A name, which is a variable or a table. A function of its own, so that the proof learns that the word is a name.
 fn named(name: Name) -> State
     ensures state { result ≡ AfterName name }
     ensures named { IsTrue (is_name name) }

@@ -31,7 +31,8 @@ pub(crate) fn refused(found: &Placed) -> ExprFault
     }
 }
 
-/// The fault of a name that Java has behind a point and the profile doesn't.
+/// The fault of a name that Java has behind a point and the profile doesn't. The word is given so that the proof learns
+/// that it is a name.
 pub(crate) fn foreign(word: Name, found: &Placed) -> ExprFault
     ensures unsupported { refusal_of result ≡ refusal unsupported found.now.at }
     ensures named { IsTrue (is_name word) }
@@ -51,7 +52,7 @@ pub(crate) fn keyword(found: &Placed) -> Option<Keyword>
     }
 }
 
-/// A name is none.
+/// A name is none. A function of its own, so that the proof learns that the word is a name.
 fn no_keyword(word: Name) -> Option<Keyword>
     ensures named { IsTrue (is_name word) }
     ensures none { result ≡ None }

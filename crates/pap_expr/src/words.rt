@@ -13,22 +13,29 @@ use scaled_decimal::Mode;
 pub(crate) enum Method {
     /// A method of one argument.
     Applied(Call),
+    /// `negate()`
     Negate,
+    /// `abs()`
     Abs,
+    /// `setScale` of a scale and a rounding mode.
     SetScale,
 }
 
 /// What follows `BigDecimal` and a point.
 #[derive(Clone, Copy)]
 pub(crate) enum Static {
+    /// A constant.
     Known(Known),
+    /// `valueOf`
     ValueOf,
 }
 
 /// The class that a rounding mode's word is taken from.
 #[derive(Clone, Copy)]
 pub(crate) enum Holder {
+    /// `BigDecimal`, whose constants begin with `ROUND_`.
     BigDecimal,
+    /// `RoundingMode`
     RoundingMode,
 }
 

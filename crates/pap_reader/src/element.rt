@@ -15,17 +15,27 @@ pub enum Element {
     Interface,
     /// Another name of the group.
     Variables,
+    /// The declarations of inputs.
     Inputs,
+    /// The declarations of outputs.
     Outputs,
+    /// The declarations of internal names.
     Internals,
+    /// The declarations of constants.
     Constants,
+    /// The declaration of an input.
     Input,
+    /// The declaration of an output.
     Output,
+    /// The declaration of an internal name.
     Internal,
+    /// The declaration of a constant.
     Constant,
+    /// The group of methods.
     Methods,
     /// The method that a run begins with.
     Main,
+    /// Another method.
     Method,
     /// An assignment.
     Eval,
@@ -33,7 +43,9 @@ pub enum Element {
     Execute,
     /// A test with its branches.
     If,
+    /// The statements of an IF where its test holds.
     Then,
+    /// Those where it doesn't hold.
     Else,
 }
 

@@ -9,6 +9,7 @@ use std::alloc::Global;
 /// A declared name.
 #[derive(Drop)]
 pub struct RawDeclared {
+    /// The text of the attribute `name`.
     pub name: Name,
     /// `int`, `long`, `BigDecimal` or `double` of an INPUT and an INTERNAL; the first three of an OUTPUT; these or
     /// `BigDecimal[]` of a CONSTANT.
@@ -40,7 +41,9 @@ pub enum RawStmt {
 /// A method other than MAIN.
 #[derive(Drop)]
 pub struct RawMethod {
+    /// The text of the attribute `name`.
     pub name: Name,
+    /// Its statements.
     pub body: Vec<RawStmt>,
 }
 
@@ -48,12 +51,17 @@ pub struct RawMethod {
 /// constants, 256 methods and 20,000 statements, with at most 32 IFs in one another.
 #[derive(Drop)]
 pub struct Elements {
+    /// Its INPUTs.
     pub inputs: Vec<RawDeclared>,
+    /// Its OUTPUTs.
     pub outputs: Vec<RawDeclared>,
+    /// Its INTERNALs.
     pub internals: Vec<RawDeclared>,
+    /// Its CONSTANTs.
     pub constants: Vec<RawDeclared>,
     /// The statements of MAIN.
     pub main: Vec<RawStmt>,
+    /// Its METHODs.
     pub methods: Vec<RawMethod>,
 }
 

@@ -43,8 +43,8 @@ impl fmt::Display for Which {
     }
 }
 
-/// Why a text is not read. Its texts are for a plan's author, and say what is wrong without the place. This is that of the
-/// token's first byte, counted from the beginning of the file; at the end of the text it is the number of its bytes.
+/// Why a text is not read. Its texts are for a plan's author, and say what is wrong without the place. `at` is the
+/// token's first byte, counted from the file's beginning; at the end of the text it is the number of its bytes.
 #[derive(Clone, Copy, Debug, PartialEq, Eq, Error)]
 pub enum ReadFault {
     /// No token begins there.

@@ -26,6 +26,7 @@ pub enum Form {
 /// An attribute of a tag.
 #[derive(Drop)]
 pub struct Attribute<'a> {
+    /// What stands before the `=`.
     pub name: &'a [u8],
     /// How many bytes stand between the quotes.
     pub written: usize,
@@ -36,8 +37,11 @@ pub struct Attribute<'a> {
 /// A tag.
 #[derive(Drop)]
 pub struct Tag<'a> {
+    /// How it is written.
     pub form: Form,
+    /// The letters that it begins with.
     pub name: &'a [u8],
+    /// Its attributes, in the order of the text.
     pub attributes: Vec<Attribute<'a>>,
 }
 

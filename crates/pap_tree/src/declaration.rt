@@ -4,7 +4,7 @@ use crate::Name;
 use scaled_decimal::Dec;
 
 /// The type of a declared name.
-#[derive(Clone, Copy, Debug, PartialEq, Eq)]
+#[derive(Clone, Copy, PartialEq, Eq)]
 pub enum Kind {
     /// `int`: a whole number of 32 bits.
     Int,
@@ -36,7 +36,9 @@ pub enum Literal {
 /// A declared variable or constant.
 #[derive(Drop)]
 pub struct Declared {
+    /// Its name.
     pub name: Name,
+    /// Its type.
     pub kind: Kind,
     /// The value that it begins with, where one is written.
     pub value: Option<Literal>,

@@ -43,10 +43,13 @@ pub enum Expr {
 }
 
 /// A constant of `BigDecimal`: 0, 1 or 10 with scale 0.
-#[derive(Clone, Copy, Debug, PartialEq, Eq)]
+#[derive(Clone, Copy)]
 pub enum Known {
+    /// `ZERO`
     Zero,
+    /// `ONE`
     One,
+    /// `TEN`
     Ten,
 }
 
@@ -64,7 +67,7 @@ impl Known {
 }
 
 /// An operation on one operand.
-#[derive(Clone, Copy, Debug, PartialEq, Eq)]
+#[derive(Clone, Copy)]
 pub enum Unary {
     /// Prefix `-` on a whole number.
     Minus,
@@ -77,32 +80,51 @@ pub enum Unary {
 }
 
 /// An operator between two operands.
-#[derive(Clone, Copy, Debug, PartialEq, Eq)]
+#[derive(Clone, Copy)]
 pub enum Binary {
+    /// `*`
     Mul,
+    /// `/`
     Div,
+    /// `%`
     Rem,
+    /// `+`
     Plus,
+    /// `-`
     Sub,
+    /// `<`
     Less,
+    /// `<=`
     LessEq,
+    /// `>`
     More,
+    /// `>=`
     MoreEq,
+    /// `==`
     Same,
+    /// `!=`
     Differs,
+    /// `&&`
     And,
+    /// `||`
     Or,
 }
 
 /// A method of a decimal with one argument.
-#[derive(Clone, Copy, Debug, PartialEq, Eq)]
+#[derive(Clone, Copy)]
 pub enum Call {
+    /// `add`
     Add,
+    /// `subtract`
     Subtract,
+    /// `multiply`
     Multiply,
     /// `divide` without a scale.
     DivideExact,
+    /// `compareTo`
     CompareTo,
+    /// `min`
     Min,
+    /// `max`
     Max,
 }

@@ -25,17 +25,25 @@ pub enum Stmt {
 /// A method other than MAIN.
 #[derive(Drop)]
 pub struct Method {
+    /// Its name.
     pub name: Name,
+    /// Its statements.
     pub body: Vec<Stmt>,
 }
 
 /// A plan as it is written: its declarations and methods in the order of the text.
 #[derive(Drop)]
 pub struct PlanText {
+    /// The variables that a run is given.
     pub inputs: Vec<Declared>,
+    /// The variables that a run answers.
     pub outputs: Vec<Declared>,
+    /// The other variables.
     pub internals: Vec<Declared>,
+    /// The constants.
     pub constants: Vec<Declared>,
+    /// The statements of MAIN.
     pub main: Vec<Stmt>,
+    /// The methods other than MAIN.
     pub methods: Vec<Method>,
 }

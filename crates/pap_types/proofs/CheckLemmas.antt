@@ -14,7 +14,7 @@ use Rattle.pap_types.specs.declared.nodes.Operands.{Operands}
 use Rattle.pap_types.specs.declared.nodes.Statement.{Statement}
 use Rattle.pap_types.specs.Kinds.{kind_of}
 use Rattle.pap_types.specs.Checks.{Check, check, first_fault, place}
-use Rattle.pap_types.specs.CheckViews.{NodesAnswer, PairAnswer, OwnAnswer, checks_in, checks_of_two, scope_in}
+use Rattle.pap_types.specs.CheckViews.{NodesAnswer, PairAnswer, OwnAnswer, checks_in, checks_of_two, scope_of_statement}
 
 passes_on : (c : Check) (a b : List Check) → (first_fault a ≡ None → first_fault (a ++ b) ≡ first_fault b) → (passes : Bool) → (if passes then first_fault a else Some c.fault) ≡ None → (if passes then first_fault (a ++ b) else Some c.fault) ≡ first_fault b
 passes_on c a b more true e = more e
@@ -37,12 +37,12 @@ front (c ∷ a) b f h = fails_on c a b f (front a b f) c.passes h
 own_as : (s : Statement) (passes wanted : Bool) (n m : ℕ) (kind : NodeKind) (r : Result Checked TypeFault) → passes ≡ wanted → n ≡ m → OwnAnswer s passes kind n r → OwnAnswer s wanted kind m r
 own_as s passes wanted n m kind r p e own = subst (λ w. OwnAnswer s w kind m r) p (subst (λ k. OwnAnswer s passes kind k r) e own)
 
-answered : (s : Statement) (t : Term) (at m : ℕ) (operands : List Check) (wanted : Bool) (kind : NodeKind) (r : Result Checked TypeFault) → checks_in s t at ≡ operands ++ (check wanted (Kind (place s.method s.number m)) ∷ []) → first_fault operands ≡ None → kind ≡ kind_of (scope_in s) t → m + 1 ≡ at + nodes t → OwnAnswer s wanted kind m r → NodesAnswer s t at r
+answered : (s : Statement) (t : Term) (at m : ℕ) (operands : List Check) (wanted : Bool) (kind : NodeKind) (r : Result Checked TypeFault) → checks_in s t at ≡ operands ++ (check wanted (Kind (place s.method s.number m)) ∷ []) → first_fault operands ≡ None → kind ≡ kind_of (scope_of_statement s) t → m + 1 ≡ at + nodes t → OwnAnswer s wanted kind m r → NodesAnswer s t at r
 answered s t at m operands wanted kind (Ok c) whole passed is next (own, of, number) = (rw whole (past operands _ passed ∙ own), of ∙ is, number ∙ next)
 answered s t at m operands wanted kind (Err f) whole passed is next own = rw whole (past operands _ passed ∙ own)
 
 -- an expression whose operands pass is answered by its own node
-pub own_answer : (s : Statement) (t : Term) (at n m : ℕ) (operands : List Check) (passes wanted : Bool) (kind : NodeKind) (r : Result Checked TypeFault) → checks_in s t at ≡ operands ++ (check wanted (Kind (place s.method s.number m)) ∷ []) → first_fault operands ≡ None → passes ≡ wanted → n ≡ m → kind ≡ kind_of (scope_in s) t → m + 1 ≡ at + nodes t → OwnAnswer s passes kind n r → NodesAnswer s t at r
+pub own_answer : (s : Statement) (t : Term) (at n m : ℕ) (operands : List Check) (passes wanted : Bool) (kind : NodeKind) (r : Result Checked TypeFault) → checks_in s t at ≡ operands ++ (check wanted (Kind (place s.method s.number m)) ∷ []) → first_fault operands ≡ None → passes ≡ wanted → n ≡ m → kind ≡ kind_of (scope_of_statement s) t → m + 1 ≡ at + nodes t → OwnAnswer s passes kind n r → NodesAnswer s t at r
 own_answer s t at n m operands passes wanted kind r whole passed p e is next own = answered s t at m operands wanted kind r whole passed is next (own_as s passes wanted n m kind r p e own)
 
 -- an early fault is the first of a longer list's

@@ -15,7 +15,7 @@ use Rattle.pap_types.specs.declared.nodes.Statement.{Statement}
 use Rattle.pap_types.specs.Scopes.{declared_as}
 use Rattle.pap_types.specs.Kinds.{kind_of, suits}
 use Rattle.pap_types.specs.Checks.{Check, check, first_fault, last_node, target_kind}
-use Rattle.pap_types.specs.CheckViews.{scope_in, checks_in}
+use Rattle.pap_types.specs.CheckViews.{scope_of_statement, checks_in}
 use Rattle.pap_types.specs.StatementViews.{IsVerdict, place_in, eval_checks_in}
 use Rattle.pap_types.proofs.CheckLemmas.{past, front}
 
@@ -45,24 +45,24 @@ target_by : (x : List ℕ) (last : Place) (rest : Option TypeFault) (k : Kind) (
 target_by x last rest k (Some d) other e = refl
 target_by x last rest k None other e = absurd (none-some k e)
 
-module _ (s : Statement) (x : List ℕ) (e : Term) (k : Kind) (is : target_kind (scope_in s) x ≡ Some k) where
+module _ (s : Statement) (x : List ℕ) (e : Term) (k : Kind) (is : target_kind (scope_of_statement s) x ≡ Some k) where
   -- the checks that are left where the target is a variable
   abbrev left : List Check
-  left = checks_in s e 0 ++ (check (suits k e (kind_of (scope_in s) e)) (faults.Kind (place_in s (last_node e))) ∷ [])
+  left = checks_in s e 0 ++ (check (suits k e (kind_of (scope_of_statement s) e)) (faults.Kind (place_in s (last_node e))) ∷ [])
 
   eval_left : first_fault (eval_checks_in s x e) ≡ first_fault left
   eval_left =
-      target_by x (place_in s (last_node e)) (first_fault (checks_in s e 0 ++ (check (option_map_or (λ k. suits k e (kind_of (scope_in s) e)) (target_kind (scope_in s) x) false) (faults.Kind (place_in s (last_node e))) ∷ []))) k (declared_as (scope_in s).variables x) (declared_as (scope_in s).constants x) is
-      ∙ ap (λ found. first_fault (checks_in s e 0 ++ (check (option_map_or (λ k. suits k e (kind_of (scope_in s) e)) found false) (faults.Kind (place_in s (last_node e))) ∷ []))) is
+      target_by x (place_in s (last_node e)) (first_fault (checks_in s e 0 ++ (check (option_map_or (λ k. suits k e (kind_of (scope_of_statement s) e)) (target_kind (scope_of_statement s) x) false) (faults.Kind (place_in s (last_node e))) ∷ []))) k (declared_as (scope_of_statement s).variables x) (declared_as (scope_of_statement s).constants x) is
+      ∙ ap (λ found. first_fault (checks_in s e 0 ++ (check (option_map_or (λ k. suits k e (kind_of (scope_of_statement s) e)) found false) (faults.Kind (place_in s (last_node e))) ∷ []))) is
 
   pub eval_early : (r : Result (Unit {0}) TypeFault) (f : TypeFault) → first_fault (checks_in s e 0) ≡ Some f → IsErrAnd r (λ y. y ≡ f) → IsVerdict (eval_checks_in s x e) r
   eval_early (Ok u) f found is = absurd is
   eval_early (Err g) f found is = eval_left ∙ front (checks_in s e 0) _ f found ∙ ap (λ h. Some h) (sym is)
 
-  pub eval_passes : first_fault (checks_in s e 0) ≡ None → suits k e (kind_of (scope_in s) e) ≡ true → first_fault (eval_checks_in s x e) ≡ None
+  pub eval_passes : first_fault (checks_in s e 0) ≡ None → suits k e (kind_of (scope_of_statement s) e) ≡ true → first_fault (eval_checks_in s x e) ≡ None
   eval_passes passed fits = eval_left ∙ last_passes (checks_in s e 0) _ _ passed fits
 
-  pub eval_fails : (f : TypeFault) → first_fault (checks_in s e 0) ≡ None → suits k e (kind_of (scope_in s) e) ≡ false → faults.Kind (place_in s (last_node e)) ≡ f → first_fault (eval_checks_in s x e) ≡ Some f
+  pub eval_fails : (f : TypeFault) → first_fault (checks_in s e 0) ≡ None → suits k e (kind_of (scope_of_statement s) e) ≡ false → faults.Kind (place_in s (last_node e)) ≡ f → first_fault (eval_checks_in s x e) ≡ Some f
   eval_fails f passed misfits at = eval_left ∙ last_fails (checks_in s e 0) _ _ f passed misfits at
 
 -- the place of a whole, whose number is before the next

@@ -14,20 +14,20 @@ use Rattle.pap_types.specs.ScopeViews.{IsNumbered}
 use Rattle.pap_types.specs.Kinds.{kind_of}
 use Rattle.pap_types.specs.Checks.{Check, check, first_fault, node_checks, place}
 
-abbrev pub scope_in : Statement → Scope
-scope_in s = scope_of (flowchart_of s.scope.plan.now)
+abbrev pub scope_of_statement : Statement → Scope
+scope_of_statement s = scope_of (flowchart_of s.scope.plan.now)
 
 abbrev pub HasNumbers : Statement → Type 0
 HasNumbers s = IsNumbered s.scope.plan.now s.scope.names.now
 
 -- the checks of an expression in a statement
 abbrev pub checks_in : Statement → Term → ℕ → List Check
-checks_in s t at = node_checks (scope_in s) (place s.method s.number) t at
+checks_in s t at = node_checks (scope_of_statement s) (place s.method s.number) t at
 
 -- an expression whose nodes are numbered from `at` passes its checks, and has this kind; or its first fault
 abbrev pub NodesAnswer : Statement → Term → ℕ → Result Checked TypeFault → Type 0
 NodesAnswer s t at (Ok c) =
-    (first_fault (checks_in s t at) ≡ None) × (c.kind ≡ kind_of (scope_in s) t) × (c.next ≡ at + nodes t)
+    (first_fault (checks_in s t at) ≡ None) × (c.kind ≡ kind_of (scope_of_statement s) t) × (c.next ≡ at + nodes t)
 NodesAnswer s t at (Err f) = first_fault (checks_in s t at) ≡ Some f
 
 -- the checks of two operands, the second of which is numbered behind the first
@@ -37,8 +37,8 @@ checks_of_two s a b at = checks_in s a at ++ checks_in s b (at + nodes a)
 abbrev pub PairAnswer : Statement → Term → Term → ℕ → Result Operands TypeFault → Type 0
 PairAnswer s a b at (Ok both) =
     (first_fault (checks_of_two s a b at) ≡ None)
-    × (both.first.kind ≡ kind_of (scope_in s) a)
-    × (both.second.kind ≡ kind_of (scope_in s) b)
+    × (both.first.kind ≡ kind_of (scope_of_statement s) a)
+    × (both.second.kind ≡ kind_of (scope_of_statement s) b)
     × (both.second.next ≡ at + nodes a + nodes b)
 PairAnswer s a b at (Err f) = first_fault (checks_of_two s a b at) ≡ Some f
 

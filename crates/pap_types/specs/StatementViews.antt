@@ -12,7 +12,7 @@ use Rattle.pap_types.specs.declared.statements.Checking.{Checking}
 use Rattle.pap_types.specs.Scopes.{Scope, scope_of, declaration_in}
 use Rattle.pap_types.specs.ScopeViews.{IsNumbered}
 use Rattle.pap_types.specs.Checks.{Check, check, first_fault, place, target_kind, eval_checks, test_checks, body_checks}
-use Rattle.pap_types.specs.CheckViews.{scope_in}
+use Rattle.pap_types.specs.CheckViews.{scope_of_statement}
 
 -- the checks pass, or this is the fault of the first that doesn't
 abbrev pub IsVerdict : List Check → Result (Unit {0}) TypeFault → Type 0
@@ -40,10 +40,10 @@ abbrev pub place_in : Statement → ℕ → Place
 place_in s node = place s.method s.number node
 
 abbrev pub eval_checks_in : Statement → List ℕ → Term → List Check
-eval_checks_in s x e = eval_checks (scope_in s) (flowchart_of s.scope.plan.now).methods s.method s.number x e
+eval_checks_in s x e = eval_checks (scope_of_statement s) (flowchart_of s.scope.plan.now).methods s.method s.number x e
 
 abbrev pub test_checks_in : Statement → Term → List Check
-test_checks_in s t = test_checks (scope_in s) (flowchart_of s.scope.plan.now).methods s.method s.number t
+test_checks_in s t = test_checks (scope_of_statement s) (flowchart_of s.scope.plan.now).methods s.method s.number t
 
 -- ---- lists of statements
 

@@ -20,8 +20,8 @@ pub(crate) struct Numbered {
 }
 
 /// Names, each once, numbered from 0 in the order in which they were inserted. They are looked up by the order of their
-/// bytes, so no choice of names makes a look-up slow; a new name moves the numbers of those behind it. Contracts see the list of
-/// the names by number.
+/// bytes, so no choice of names makes a look-up slow; a new name moves the entries behind it; their numbers stay.
+/// Contracts see the list of the names by number.
 #[derive(Drop)]
 pub(crate) struct DeclaredNames {
     names: Vec<Name>,

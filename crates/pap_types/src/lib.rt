@@ -1,4 +1,4 @@
-//! When a plan is well formed, and what a run of it means.
+//! When a plan is well typed, and what a run of it means.
 #![tactic(auto)]
 
 mod declarations;

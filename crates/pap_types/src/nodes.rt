@@ -4,7 +4,7 @@ ghost use Rattle.pap_tree.specs.Term.{Term, term_of, leaf, named, item, one, two
 ghost use Rattle.pap_tree.specs.Numbering.{nodes};
 ghost use Rattle.pap_types.specs.Kinds.{takes_two};
 ghost use Rattle.pap_types.specs.Checks.{place};
-ghost use Rattle.pap_types.specs.CheckViews.{HasNumbers, NodesAnswer, PairAnswer, OwnAnswer, scope_in};
+ghost use Rattle.pap_types.specs.CheckViews.{HasNumbers, NodesAnswer, PairAnswer, OwnAnswer, scope_of_statement};
 
 use crate::TypeFault;
 use crate::kinds::{
@@ -268,8 +268,8 @@ impl Statement<'_> {
     /// Whether a method takes its receiver and its argument.
     fn takes_call(&self, call: Call, receiver: NodeKind, argument: &Expr, kind: NodeKind) -> bool
         requires numbered { HasNumbers self.now }
-        ensures { (e : Term) → result
-            ≡ takes_two (scope_in self.now) (method call) e receiver (term_of argument.now) kind }
+        ensures { (e : Term) → result ≡ takes_two (scope_of_statement self.now)
+            (method call) e receiver (term_of argument.now) kind }
     {
         let are_big = receiver.are_big(kind);
         match call {

@@ -5,7 +5,7 @@ ghost use Rattle.pap_tree.specs.Flowchart.{done, stmt_then, body_of, routine_of,
 ghost use Rattle.pap_tree.specs.Statements.{written};
 ghost use Rattle.pap_types.specs.Checks.{last_node};
 ghost use Rattle.pap_types.specs.Counts.{IsSmallTerm, AreSmallTerms, methods_written, IsWithinCounts};
-ghost use Rattle.pap_types.specs.CheckViews.{HasNumbers, scope_in};
+ghost use Rattle.pap_types.specs.CheckViews.{HasNumbers, scope_of_statement};
 ghost use Rattle.pap_types.specs.ScopeViews.{IsNumbered};
 ghost use Rattle.pap_types.specs.PlanViews.{statement_checks, method_checks_in, other_checks_in};
 ghost use Rattle.pap_types.specs.StatementViews.{IsVerdict, TargetAnswer, IsWrongTarget, place_in, eval_checks_in, test_checks_in, AreNumbered, statement_of, BodyAnswer, BranchesAnswer};
@@ -55,7 +55,7 @@ impl Statement<'_> {
     fn target_kind(&self, target: &Name, value: &Expr) -> Result<Kind, TypeFault>
         requires numbered { HasNumbers self.now }
         requires small { IsSmallTerm (term_of value.now) }
-        ensures { TargetAnswer (scope_in self.now) target.now
+        ensures { TargetAnswer (scope_of_statement self.now) target.now
             (place_in self.now (last_node (term_of value.now))) result }
     {
         match self.scope.variable(target) {
@@ -67,7 +67,7 @@ impl Statement<'_> {
     /// What is wrong with a target that is no variable.
     fn wrong_target(&self, target: &Name, place: Place) -> TypeFault
         requires numbered { HasNumbers self.now }
-        ensures { IsWrongTarget (scope_in self.now) target.now place result }
+        ensures { IsWrongTarget (scope_of_statement self.now) target.now place result }
     {
         match self.scope.constant(target) {
             Some(_) => TypeFault::ConstantWritten { place },

@@ -4,20 +4,20 @@ use Rattle.pap_tree.specs.Term.{term_of}
 use Rattle.pap_machine.specs.declared.code.Instr.TheVariants as i
 use Rattle.pap_compiler.specs.CodeDecisions.{term_length, term_code}
 use Rattle.pap_compiler.specs.EmitViews.{IsAppended}
-use Rattle.pap_compiler.specs.NameViews.{scope_in}
+use Rattle.pap_compiler.specs.NameViews.{scope_of_names}
 use Rattle.pap_compiler.proofs.EmitLemmas.{joined_whole, jumps_whole, length_patched}
 use Rattle.pap_compiler.proofs.emit.+emit.Goals as goal
 
 pub emit_joined-returns : goal.emit_joined-returns
 emit_joined-returns t c =
-    let scope = scope_in c.args.names.now in
+    let scope = scope_of_names c.args.names.now in
     joined_whole scope c.args.op (term_of c.args.left.now) (term_of c.args.right.now) c.args.code.now.items c.emit_term.new.code.items c.put.new.code.items c.emit_term-2.new.code.items c.patch.new.code.items c.place-skip.result c.place-end.result c.skip_to.result
     c.in_ok-emit_term.ensures c.in_ok-put.ensures c.in_ok-emit_term-2.ensures c.place-skip.ensures c.place-end.ensures
     (subst (λ j. c.patch.new.code.items ≡ slice_set c.emit_term-2.new.code.items c.place-skip.result j) c.skip_to-2.ensures c.patch.ensures)
 
 pub emit_choice-returns : goal.emit_choice-returns
 emit_choice-returns t c =
-    let scope = scope_in c.args.names.now in
+    let scope = scope_of_names c.args.names.now in
     let old = c.args.code.now.items in
     let test = term_of c.args.test.now in
     let first = term_of c.args.first.now in

@@ -5,7 +5,7 @@ use Rattle.pap_tree.proofs.Laws.{branch_is}
 use Rattle.pap_machine.specs.declared.code.Instr.TheVariants as i
 use Rattle.pap_compiler.specs.CodeDecisions.{term_length, term_code, body_length}
 use Rattle.pap_compiler.specs.EmitViews.{IsAppended}
-use Rattle.pap_compiler.specs.NameViews.{scope_in}
+use Rattle.pap_compiler.specs.NameViews.{scope_of_names}
 use Rattle.pap_compiler.specs.StatementViews.{code_in}
 use Rattle.pap_compiler.proofs.EmitLemmas.{jumps_whole, length_patched}
 use Rattle.pap_compiler.proofs.SizeLemmas.{size_at}
@@ -15,7 +15,7 @@ use Rattle.pap_compiler.proofs.statements.+emit_body.Goals as goal
 pub emit_if-returns : goal.emit_if-returns
 emit_if-returns t c =
     let n = c.args.names.now in
-    let scope = scope_in n in
+    let scope = scope_of_names n in
     let old = c.args.code.now.items in
     let test = term_of c.args.test.now in
     let yes = body_of c.args.yes.now in

@@ -3,8 +3,10 @@ use Rattle.pap_tree.specs.Flowchart.{body_of, stmt_then, done}
 use Rattle.pap_tree.specs.Statements.{written}
 use Rattle.pap_tree.proofs.Laws.{stmt_at, branch_is}
 use Rattle.pap_types.specs.Routines.{body_named}
-use Rattle.interval_analysis.specs.PlanViews.{scope_in, ranges_in, branches_in}
-use Rattle.interval_analysis.specs.StatementViews.{joined_lists, first_spot, CanWalkBody, FaultOf, Passes, through_body, through_fork, through_if, if_of, walked_in, met_in, executed, methods_in}
+use Rattle.pap_types.specs.ScopeViews.{scope_in}
+use Rattle.interval_analysis.specs.PlanViews.{ranges_in, branches_in}
+use Rattle.pap_tree.specs.TreeViews.{if_of, methods_in}
+use Rattle.interval_analysis.specs.StatementViews.{joined_lists, first_spot, CanWalkBody, FaultOf, Passes, through_body, through_fork, through_if, walked_in, met_in, executed}
 use Rattle.interval_analysis.specs.declared.statements.Fork.{Fork}
 use Rattle.interval_analysis.specs.Changes.{changed}
 use Rattle.interval_analysis.specs.Meetings.{MeetsAnswer}

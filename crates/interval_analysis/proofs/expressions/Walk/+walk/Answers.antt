@@ -4,7 +4,8 @@ use Rattle.std.specs.Int.{w32}
 use Rattle.pap_tree.specs.Numbering.{nodes}
 use Rattle.pap_tree.specs.Term.{term_of, item, one, two, operator}
 use Rattle.pap_types.specs.Kinds.{kind_of_two}
-use Rattle.interval_analysis.specs.PlanViews.{scope_in, ranges_after, branches_in}
+use Rattle.pap_types.specs.ScopeViews.{scope_in}
+use Rattle.interval_analysis.specs.PlanViews.{ranges_after, branches_in}
 use Rattle.interval_analysis.specs.ShapeViews.{TakesTwo, one_meant, two_meant}
 use Rattle.interval_analysis.specs.ExpressionViews.{CanWalk, IsPartRanged, RangeAnswer, StopsAs, TwoAnswer, part_ranged}
 use Rattle.interval_analysis.specs.TestViews.{ComparesAs, TestAnswer, comparison, comparison_of, order_compared}

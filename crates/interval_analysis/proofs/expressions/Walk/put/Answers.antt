@@ -4,7 +4,7 @@ use Rattle.std.specs.Option.{option_map_or}
 use Rattle.pap_tree.specs.Declarations.{declaration_of}
 use Rattle.pap_types.specs.Scopes.{number_of}
 use Rattle.interval_walk.specs.Walked.{range_kept_as}
-use Rattle.interval_analysis.specs.PlanViews.{scope_in, variables_in}
+use Rattle.pap_types.specs.ScopeViews.{scope_in, variables_in}
 use Rattle.interval_analysis.specs.StatementViews.{CanPut}
 use Rattle.interval_analysis.proofs.KeptLemmas.{declared_at, put_done, put_nothing}
 use Rattle.interval_analysis.proofs.VariableLemmas.{goes_noted, goes_none}
