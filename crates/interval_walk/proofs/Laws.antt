@@ -16,7 +16,11 @@ pub use Rattle.interval_walk.proofs.ScopeLemmas.{shown_plain, shown_value}
 pub use Rattle.interval_walk.proofs.NameLemmas.{BranchesNamed, put_names, tested_named, joined_named, walked_named, calls_named}
 -- what has the shape of its kind is read as it is, and the walk keeps the shapes of the variables' ranges
 pub use Rattle.interval_walk.proofs.ReadSound.{read_passes, reading_free}
-pub use Rattle.interval_walk.proofs.ShapedWalk.{refined_inside, tested_shaped, walked_shaped}
+pub use Rattle.interval_walk.proofs.KeptWalk.{refined_inside}
+pub use Rattle.interval_walk.proofs.ShapedWalk.{tested_shaped, walked_shaped}
+-- no range gets empty; so nothing is refused where it is read, at whatever place, and behind each test the walk goes on
+pub use Rattle.interval_walk.proofs.FilledWalk.{filled_after, none_empty}
+pub use Rattle.interval_walk.proofs.ReadWalk.{reads_all}
 -- ---- values
 -- where the walk passes, every admitted input is safe
 pub use Rattle.interval_walk.proofs.PlanSound.{analysis_sound}

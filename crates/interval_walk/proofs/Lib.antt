@@ -13,7 +13,10 @@ pub mod BranchSound
 pub mod EnvLemmas
 pub mod NodeSound
 pub mod ScopeLemmas
+pub mod KeptWalk
 pub mod ShapedWalk
+pub mod FilledWalk
+pub mod ReadWalk
 pub mod ReadSound
 pub mod AdmissionLemmas
 pub mod Laws

@@ -3,6 +3,7 @@ use Rattle.std.proofs.Common.{◌≡◌, ℕ, zero, suc, ◌+◌, List, [], ◌�
 use Rattle.std.specs.Prelude.{is_some}
 use Rattle.std.specs.Option.{option_map, option_and_then}
 use Rattle.std.specs.Str.{bytes_eq}
+use Rattle.std.proofs.lemmas.Slice.Eq.{bytes_eq-Decides}
 use Rattle.scaled_decimal.specs.Decimals.{Decimal}
 use Rattle.pap_tree.specs.declared.expression.Unary.TheVariants.{Not}
 use Rattle.pap_tree.specs.declared.expression.Binary.{Binary}
@@ -18,7 +19,8 @@ use Rattle.interval_num.specs.Intervals.{Interval}
 use Rattle.interval_num.specs.Rows.{join_row}
 use Rattle.interval_num.specs.Signs.{signs_of}
 use Rattle.interval_num.specs.Refinement.{refined}
-use Rattle.pap_types.specs.Scopes.{Scope}
+use Rattle.pap_tree.specs.Declarations.{Declaration}
+use Rattle.pap_types.specs.Scopes.{Scope, declared_as, names_of}
 use Rattle.pap_types.specs.Kinds.{int_literal}
 use Rattle.pap_types.specs.Routines.{body_named}
 use Rattle.pap_types.specs.Checks.{place, last_node}
@@ -29,6 +31,56 @@ use Rattle.interval_walk.specs.Branches.{Branches, Sides, sides, narrowed_name, 
 use Rattle.interval_walk.specs.Ranged.{ranged, compare_sides, tested, are_whole}
 use Rattle.interval_walk.specs.Walked.{assigned_range, joined, RangeCalls, walked, with_body, range_calls_of}
 use Rattle.interval_walk.proofs.NodeShapes.{stepped}
+
+-- ---- names in ranges of the variables
+
+turned : (a b : List ℕ) → bytes_eq a b ≡ bytes_eq b a
+turned a b = by_test (bytes_eq a b) (bytes_eq b a) refl refl
+  where
+    by_test : (t u : Bool) → bytes_eq a b ≡ t → bytes_eq b a ≡ u → t ≡ u
+    by_test true true e f = refl
+    by_test false false e f = refl
+    by_test true false e f = let k : bytes_eq b a ≡ true = (bytes_eq-Decides b a).1 (sym ((bytes_eq-Decides a b).0 e)) in sym e ∙ e ∙ sym k ∙ f
+    by_test false true e f = let k : bytes_eq a b ≡ true = (bytes_eq-Decides a b).1 (sym ((bytes_eq-Decides b a).0 f)) in sym e ∙ k
+
+-- what stands at a name: a range where it is a variable, and none where it isn't
+pub at_name : (rs : Ranges) (vs : List Declaration) (x : List ℕ) → names_in rs ≡ names_of vs → is_some (range_named rs x) ≡ is_some (declared_as vs x)
+at_name [] [] x e = refl
+at_name [] (v ∷ vs) x e = absurd (cc)
+at_name (r ∷ rs) [] x e = absurd (cc)
+at_name (r ∷ rs) (v ∷ vs) x e =
+    let first : r.name ≡ v.name = cc in
+    let rest : names_in rs ≡ names_of vs = cc in
+    let same : bytes_eq r.name x ≡ bytes_eq x v.name = ap (λ n. bytes_eq n x) first ∙ turned v.name x in
+    by_test (bytes_eq r.name x) (bytes_eq x v.name) same (at_name rs vs x rest)
+  where
+    by_test : (t u : Bool) → t ≡ u → is_some (range_named rs x) ≡ is_some (declared_as vs x) → is_some (if t then Some r.range else range_named rs x) ≡ is_some (if u then Some v else declared_as vs x)
+    by_test true true f later = refl
+    by_test false false f later = later
+    by_test true false f later = absurd (cc)
+    by_test false true f later = absurd (cc)
+
+-- what has no range has none where others stand under the same names
+pub no_range : (rs ss : Ranges) (x : List ℕ) → names_in rs ≡ names_in ss → range_named ss x ≡ None → range_named rs x ≡ None
+no_range [] ss x n e = refl
+no_range (r ∷ rs) [] x n e = absurd (cc)
+no_range (r ∷ rs) (s ∷ ss) x n e =
+    let first : r.name ≡ s.name = cc in
+    let rest : names_in rs ≡ names_in ss = cc in
+    by_test (bytes_eq r.name x) (bytes_eq s.name x) (ap (λ n. bytes_eq n x) first) e (no_range rs ss x rest)
+  where
+    by_test : (t u : Bool) → t ≡ u → (if u then Some s.range else range_named ss x) ≡ None → (range_named ss x ≡ None → range_named rs x ≡ None) → (if t then Some r.range else range_named rs x) ≡ None
+    by_test t true f g later = absurd (cc)
+    by_test true false f g later = absurd (cc)
+    by_test false false f g later = later g
+
+-- nor has what isn't declared among the variables
+pub undeclared : (rs : Ranges) (vs : List Declaration) (x : List ℕ) → names_in rs ≡ names_of vs → declared_as vs x ≡ None → range_named rs x ≡ None
+undeclared rs vs x n e = by_range (range_named rs x) (at_name rs vs x n ∙ ap is_some e)
+  where
+    by_range : (o : Option Interval) → is_some o ≡ false → o ≡ None
+    by_range None f = refl
+    by_range (Some a) f = absurd (cc)
 
 -- ---- refinement
 

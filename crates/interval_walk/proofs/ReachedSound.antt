@@ -15,11 +15,11 @@ use Rattle.interval_walk.proofs.PlanLemmas.{sound_scope}
 use Rattle.interval_walk.proofs.TermSound.{test_sound}
 
 -- each variable at the low end of its range
-lows : Ranges → Env
+pub lows : Ranges → Env
 lows [] = []
 lows (v ∷ vs) = record { name = v.name; value = decimal v.range.lo v.range.s_hi } ∷ lows vs
 
-lows_inside : (rs : Ranges) → All (λ v. IsFilled v.range) rs → AreWithin rs (lows rs)
+pub lows_inside : (rs : Ranges) → All (λ v. IsFilled v.range) rs → AreWithin rs (lows rs)
 unfolding lows
 lows_inside [] h = tt
 lows_inside (v ∷ vs) h =

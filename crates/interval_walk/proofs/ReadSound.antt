@@ -1,5 +1,5 @@
 -- Where the numbers of a plan are those of its types, nothing is refused where it is read.
-use Rattle.std.proofs.Common.{◌≡◌, ◌≢◌, ℕ, zero, suc, ◌-◌, ◌^◌, ◌<◌, ◌≤◌, max, ℤ, pos, ◌*ℤ◌, neg_ℤ, int_le, int_lt, nat_lt, List, [], ◌∷◌, ◌++◌, map, length, drop, Bool, true, false, if◌then◌else◌, Option, Some, None, Ok, refl, sym, ap, ◌∙◌, subst, arith}
+use Rattle.std.proofs.Common.{◌≡◌, ◌≢◌, ℕ, suc, ◌-◌, ◌^◌, ◌<◌, ◌≤◌, max, ℤ, pos, ◌*ℤ◌, neg_ℤ, int_le, int_lt, nat_lt, List, [], ◌∷◌, ◌++◌, map, length, drop, true, false, Option, Some, None, Ok, refl, sym, ap, ◌∙◌, subst, arith}
 use Rattle.std.specs.Prelude.{◌==◌, All, IfSome, is_some, fold, slice_range, slice_index_or, unsigned_abs}
 use Rattle.std.specs.List.{list_any}
 use Rattle.std.specs.Option.{option_or, option_map_or}
@@ -19,7 +19,7 @@ use Rattle.pap_tree.specs.declared.expression.Known.TheVariants as knowns
 use Rattle.pap_tree.specs.Grammar.{known_value}
 use Rattle.pap_tree.specs.Term.{Leaf, whole, long, point, text, known, named}
 use Rattle.pap_tree.specs.Declarations.{Declaration, DeclaredLiteral, number, big, table}
-use Rattle.pap_tree.specs.Flowchart.{Body, Routine}
+use Rattle.pap_tree.specs.Flowchart.{Body, Flowchart}
 use Rattle.interval_num.specs.declared.cause.RangeCause.TheVariants.{Wide, Index}
 use Rattle.interval_num.specs.Intervals.{Interval, interval, IsWholeOfBits}
 use Rattle.interval_num.specs.Alignment.{is_beyond, hull}
@@ -31,25 +31,24 @@ use Rattle.pap_types.specs.declared.kinds.NodeKind.{NodeKind}
 use Rattle.pap_types.specs.declared.kinds.NodeKind.TheVariants.{Int, Long, Big, Truth, Fraction, Factor, Table}
 use Rattle.pap_types.specs.Scopes.{Scope, scope_of, variables_of, declared_as, declaration_in, names_of, first_value, items_of, declared_table, declared_decimal, kept_as, table_in}
 use Rattle.pap_types.specs.Kinds.{declared_kind, name_kind, leaf_kind}
-use Rattle.pap_types.specs.Routines.{body_named}
 use Rattle.pap_types.specs.Checks.{is_of_type}
-use Rattle.pap_types.specs.Typing.{HasItsType, AreDistinct, declarations_of, IsDeclaredLeaf, IsTypedBody}
-use Rattle.pap_types.specs.Counts.{AreSmallTerms}
+use Rattle.pap_types.specs.Typing.{HasItsType, AreDistinct, declarations_of, IsDeclaredLeaf, IsTypedBody, HasTypes}
+use Rattle.pap_types.specs.Counts.{AreSmallTerms, IsWithinCounts}
 use Rattle.pap_types.specs.Limits.{longest_chain}
 use Rattle.pap_types.proofs.Laws.{has_types}
 use Rattle.interval_walk.specs.Ranges.{Ranges, names_in, range_named, single}
 use Rattle.interval_walk.specs.NodeRanges.{is_whole_of, read_range, read_leaf, leaf_interval, read_item, item_range}
-use Rattle.interval_walk.specs.Walked.{with_body, walked, range_calls_of}
+use Rattle.interval_walk.specs.Walked.{walked, range_calls_of}
 use Rattle.interval_walk.specs.Admission.{IsWholeLimit, SuitsLimit, HasLimit}
-use Rattle.interval_walk.specs.Analysis.{limit_range, input_range, first_range, range_calls_in}
+use Rattle.interval_walk.specs.Analysis.{limit_range, input_range, first_range}
 use Rattle.interval_walk.specs.Shapes.{HasShape}
 use Rattle.interval_walk.specs.Reading.{HasFewPlaces, HoldsLeaf, HoldsLiteral, AreShaped, IsShapedIf, IsReadWhole, NothingIsRefusedAtReading}
 use Rattle.interval_walk.proofs.RowShapes.{unless_ok, ok_is, longer_bits, bits_shape}
 use Rattle.interval_walk.proofs.PlanLemmas.{other_name, all_declared, all_after, variables_first, pairs_tail, pairs_head, sound_scope}
 use Rattle.interval_walk.proofs.ScopeLemmas.{IsSoundScope}
-use Rattle.interval_walk.proofs.WalkSound.{found_method}
-use Rattle.interval_walk.proofs.NameLemmas.{StayNamed, tested_named, walked_named, calls_named}
-use Rattle.interval_walk.proofs.ShapedWalk.{IsShaped, AllShaped, ShapedIf, found_shape, tested_shaped, walked_shaped}
+use Rattle.interval_walk.proofs.NameLemmas.{StayNamed, tested_named, at_name}
+use Rattle.interval_walk.proofs.KeptWalk.{KeptIf}
+use Rattle.interval_walk.proofs.ShapedWalk.{IsShaped, AllShaped, found_shape, tested_shaped, walked_shaped}
 
 -- ---- what has the shape of its kind is read as it is
 
@@ -199,7 +198,7 @@ all_before P (v ∷ vs) cs h = All-cons P v vs (All-head P v (vs ++ cs) h) (all_
 
 -- ---- the start
 
-start_names : (limits : Limits) (ds es : List Declaration) → names_in (map (input_range limits) ds ++ map first_range es) ≡ names_of (ds ++ es)
+pub start_names : (limits : Limits) (ds es : List Declaration) → names_in (map (input_range limits) ds ++ map first_range es) ≡ names_of (ds ++ es)
 start_names limits [] [] = refl
 start_names limits [] (e ∷ es) = ap (λ ns. e.name ∷ ns) (start_names limits [] es)
 start_names limits (d ∷ ds) es = ap (λ ns. d.name ∷ ns) (start_names limits ds es)
@@ -221,34 +220,6 @@ module _ (scope : Scope) where
       let kind = kind_found d.name d (All-head (FoundIn scope.variables) d (ds ++ es) f) in
       let here = subst (λ k. HasShape k (input_range limits d).range) (sym kind) (input_shape limits d (All-head (HasLimit limits) d ds l)) in
       All-cons (IsShaped scope) (input_range limits d) _ here (start_shaped limits ds es (All-tail (FoundIn scope.variables) d (ds ++ es) f) (All-tail (HasLimit limits) d ds l) h)
-
--- ---- names in ranges of the variables
-
-turned : (a b : List ℕ) → bytes_eq a b ≡ bytes_eq b a
-turned a b = by_test (bytes_eq a b) (bytes_eq b a) refl refl
-  where
-    by_test : (t u : Bool) → bytes_eq a b ≡ t → bytes_eq b a ≡ u → t ≡ u
-    by_test true true e f = refl
-    by_test false false e f = refl
-    by_test true false e f = let k : bytes_eq b a ≡ true = (bytes_eq-Decides b a).1 (sym ((bytes_eq-Decides a b).0 e)) in sym e ∙ e ∙ sym k ∙ f
-    by_test false true e f = let k : bytes_eq a b ≡ true = (bytes_eq-Decides a b).1 (sym ((bytes_eq-Decides b a).0 f)) in sym e ∙ k
-
--- what stands at a name: a range where it is a variable, and none where it isn't
-at_name : (rs : Ranges) (vs : List Declaration) (x : List ℕ) → names_in rs ≡ names_of vs → is_some (range_named rs x) ≡ is_some (declared_as vs x)
-at_name [] [] x e = refl
-at_name [] (v ∷ vs) x e = absurd (cc)
-at_name (r ∷ rs) [] x e = absurd (cc)
-at_name (r ∷ rs) (v ∷ vs) x e =
-    let first : r.name ≡ v.name = cc in
-    let rest : names_in rs ≡ names_of vs = cc in
-    let same : bytes_eq r.name x ≡ bytes_eq x v.name = ap (λ n. bytes_eq n x) first ∙ turned v.name x in
-    by_test (bytes_eq r.name x) (bytes_eq x v.name) same (at_name rs vs x rest)
-  where
-    by_test : (t u : Bool) → t ≡ u → is_some (range_named rs x) ≡ is_some (declared_as vs x) → is_some (if t then Some r.range else range_named rs x) ≡ is_some (if u then Some v else declared_as vs x)
-    by_test true true f later = refl
-    by_test false false f later = later
-    by_test true false f later = absurd (cc)
-    by_test false true f later = absurd (cc)
 
 -- ---- leaves
 
@@ -315,16 +286,7 @@ item_read items index r few e = ap read_item e ∙ read_passes Big r (record { p
 
 -- ---- the whole
 
-calls_shaped : (scope : Scope) (ms : List Routine) → All (λ m. IsTypedBody scope ms m.body) ms → All (λ m. AreSmallTerms m.body) ms → (n : ℕ) (m : List ℕ) (rs z : Ranges) → AllShaped scope rs → range_calls_of scope ms n m rs ≡ Ok z → AllShaped scope z
-unfolding range_calls_of
-calls_shaped scope ms typed small zero m rs z h e = absurd (cc)
-calls_shaped scope ms typed small (suc n) m rs z h e = by_body (body_named ms m) refl e (calls_shaped scope ms typed small n)
-  where
-    by_body : (o : Option Body) → body_named ms m ≡ o → with_body m o (λ b. walked scope (range_calls_of scope ms n) m 0 b rs) ≡ Ok z → ((m : List ℕ) (rs z : Ranges) → AllShaped scope rs → range_calls_of scope ms n m rs ≡ Ok z → AllShaped scope z) → AllShaped scope z
-    by_body None f g hc = absurd (cc)
-    by_body (Some b) f g hc = walked_shaped scope ms (range_calls_of scope ms n) m (calls_named scope ms n) hc b 0 rs z (found_method (IsTypedBody scope ms) ms typed m b f) (found_method AreSmallTerms ms small m b f) h g
-
-if_shaped : (scope : Scope) (rs : Ranges) (o : Option Ranges) → names_in rs ≡ names_of scope.variables → StayNamed rs o → ShapedIf scope o → IsShapedIf scope o
+if_shaped : (scope : Scope) (rs : Ranges) (o : Option Ranges) → names_in rs ≡ names_of scope.variables → StayNamed rs o → KeptIf (IsShaped scope) o → IsShapedIf scope o
 if_shaped scope rs None n k h = tt
 if_shaped scope rs (Some s) n k h = record { names = k s refl ∙ n; shapes = h s refl }
 
@@ -344,6 +306,12 @@ in_either scope hv hc x d e = by_variable (declared_as scope.variables x) refl e
     by_variable (Some c) f g = let same : c ≡ d = cc in subst IsHeld same (all_declared IsHeld scope.variables hv x c f)
     by_variable None f g = all_declared IsHeld scope.constants hc x d g
 
+-- the walk of statements keeps the names and the shapes
+pub shaped_after : (f : Flowchart) → HasTypes f → IsWithinCounts f → (n : ℕ) (name : List ℕ) (b : Body) (at : ℕ) (rs ends : Ranges) → IsTypedBody (scope_of f) f.methods b → AreSmallTerms b → AreShaped (scope_of f) rs → walked (scope_of f) (range_calls_of (scope_of f) f.methods n) name at b rs ≡ Ok ends → AreShaped (scope_of f) ends
+shaped_after f types counts n name b at rs ends tb sb shaped e =
+    let k = walked_shaped (scope_of f) f.methods types.methods counts.terms n name b at rs ends tb sb (record { named = shaped.names; ranges = shaped.shapes }) e in
+    record { names = k.named; shapes = k.ranges }
+
 pub reading_free : NothingIsRefusedAtReading
 reading_free f typed counts numbers =
     let types = has_types f typed in
@@ -360,10 +328,7 @@ reading_free f typed counts numbers =
           let n = tested_named scope t at rs br e in
           let h = tested_shaped scope t at rs br shaped.shapes e in
           record { holds = if_shaped scope rs br.holds shaped.names n.holds h.holds; fails = if_shaped scope rs br.fails shaped.names n.fails h.fails });
-      walk = λ b name at rs ends tb sb shaped e. record {
-        names = walked_named scope (range_calls_in f) name (calls_named scope f.methods longest_chain) b at rs ends e ∙ shaped.names;
-        shapes = walked_shaped scope f.methods (range_calls_in f) name (calls_named scope f.methods longest_chain) (calls_shaped scope f.methods types.methods counts.terms longest_chain) b at rs ends tb sb shaped.shapes e;
-      };
+      walk = λ b name at rs ends tb sb shaped e. shaped_after f types counts longest_chain name b at rs ends tb sb shaped e;
       leaf = λ l rs d h shaped. leaf_read scope (sound_scope f types) (λ x c e. all_declared IsHeld f.constants hc x c e) rs shaped l d h;
       item = λ x index r e. item_read (table_in scope x) index r (table_few (declaration_in scope x) (λ d g. in_either scope hv hc x d g)) e;
     }

@@ -8,4 +8,5 @@ pub mod Ranges
 pub mod Reading
 pub mod Shapes
 pub mod Soundness
+pub mod WalkReading
 pub mod Walked

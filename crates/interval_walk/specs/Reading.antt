@@ -1,12 +1,12 @@
--- Where the numbers of a plan are those of its types, as in each plan that was read from a text, nothing is refused where
--- it is read: the ranges of the variables keep the shapes of their kinds.
+-- Where the numbers of a plan are those of its types, nothing is refused where it is read: the ranges of the variables keep
+-- the shapes of their kinds.
 use Rattle.std.specs.Prelude.{◌≡◌, ℕ, ◌≤◌, List, Option, Some, Ok, All, IfSome, ⊤}
 use Rattle.scaled_decimal.specs.Decimals.{Decimal, scale_of}
 use Rattle.scaled_decimal.specs.Limits.{most_places}
 use Rattle.scaled_decimal.specs.WholeNumbers.{int_bits, long_bits, IsOfBits}
-use Rattle.pap_tree.specs.Term.{Leaf, whole, long, point, text, Term}
+use Rattle.pap_tree.specs.Term.{Leaf, whole, long, point, text, Term, leaf, item, one, two, choice}
 use Rattle.pap_tree.specs.Declarations.{DeclaredLiteral, number, big, table}
-use Rattle.pap_tree.specs.Flowchart.{Flowchart, Body}
+use Rattle.pap_tree.specs.Flowchart.{Body, done, eval, branch, execute, Flowchart}
 use Rattle.limits_file.specs.declared.limits.Limits.{Limits}
 use Rattle.interval_num.specs.Intervals.{Interval}
 use Rattle.interval_num.specs.Rows.{item_row}
@@ -47,6 +47,27 @@ HoldsLiteral (table ds) = All HasFewPlaces ds
 -- each declared literal is so
 abbrev pub HoldsNumbers : Flowchart → Type 0
 HoldsNumbers f = All (λ d. IfSome d.value HoldsLiteral) (declarations_of f)
+
+-- and each literal of an expression
+abbrev pub HoldsTerm : Term → Type 0
+HoldsTerm (leaf l) = HoldsLeaf l
+HoldsTerm (item x e) = HoldsTerm e
+HoldsTerm (one op e) = HoldsTerm e
+HoldsTerm (two op e f) = HoldsTerm e × HoldsTerm f
+HoldsTerm (choice c e f) = HoldsTerm c × HoldsTerm e × HoldsTerm f
+
+-- of each expression of a list of statements
+abbrev pub HoldsBody : Body → Type 0
+HoldsBody done = ⊤
+HoldsBody (eval x e rest) = HoldsTerm e × HoldsBody rest
+HoldsBody (branch t a b rest) = HoldsTerm t × HoldsBody a × HoldsBody b × HoldsBody rest
+HoldsBody (execute m rest) = HoldsBody rest
+
+-- each literal of a plan is a number of its type, as in each plan that was read from a text
+pub record HoldsPlan (f : Flowchart) : Type 0 where
+  pub declared : HoldsNumbers f
+  pub main : HoldsBody f.main
+  pub methods : All (λ m. HoldsBody m.body) f.methods
 
 -- ---- the ranges of its variables
 

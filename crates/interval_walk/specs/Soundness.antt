@@ -1,25 +1,26 @@
 -- What the walk promises of the values that a run meets.
-use Rattle.std.specs.Prelude.{◌≡◌, ℕ, ◌≤◌, ◌≤ℤ◌, ◌||◌, IsTrue, is_some, All, true, false, List, [], ◌∷◌, Option, Some, None, Ok, ⊤}
+use Rattle.std.specs.Prelude.{◌≡◌, ℕ, ◌≤◌, ◌≤ℤ◌, ◌||◌, IsTrue, is_some, All, IfSome, true, false, List, [], ◌∷◌, Option, Some, None, Ok, ⊤}
 use Rattle.scaled_decimal.specs.Decimals.{Decimal}
 use Rattle.pap_tree.specs.Term.{Term}
-use Rattle.pap_tree.specs.Flowchart.{Flowchart}
+use Rattle.pap_tree.specs.Flowchart.{Flowchart, Body}
 use Rattle.pap_tree.specs.Scales.{KeepsScales}
 use Rattle.limits_file.specs.declared.limits.Limits.{Limits}
 use Rattle.limits_file.specs.Limits.{IsWithinBound}
 use Rattle.pap_types.specs.Checks.{IsWellTyped}
-use Rattle.pap_types.specs.Counts.{IsWithinCounts}
+use Rattle.pap_types.specs.Counts.{AreSmallTerms, IsWithinCounts}
 use Rattle.pap_types.specs.Meaning.{IsSafeFor, outputs_in}
 use Rattle.interval_walk.specs.Admission.{HaveLimits, AreAdmitted}
-use Rattle.interval_walk.specs.Analysis.{analysed}
+use Rattle.interval_walk.specs.Analysis.{start_ranges, range_calls_in, analysed}
 use Rattle.interval_num.specs.Intervals.{Interval, Contains}
 use Rattle.pap_types.specs.Scopes.{Scope, declared_as, scope_of}
 use Rattle.pap_types.specs.Kinds.{kind_of}
-use Rattle.pap_types.specs.Typing.{IsTypedTerm}
+use Rattle.pap_types.specs.Typing.{IsTypedTerm, IsTypedBody}
 use Rattle.pap_types.specs.Operations.{is_zero}
 use Rattle.pap_types.specs.Values.{Env, look, value}
 use Rattle.pap_types.specs.Safety.{IsSafe}
 use Rattle.interval_walk.specs.Ranges.{Ranges, range_named}
 use Rattle.interval_walk.specs.Ranged.{ranged, tested}
+use Rattle.interval_walk.specs.Walked.{walked}
 use Rattle.interval_walk.specs.Shapes.{HasShape}
 use Rattle.interval_walk.specs.Branches.{Branches}
 
@@ -100,6 +101,29 @@ SomeBranchIsReached =
     → IsTypedTerm (scope_of f) t → KeepsScales t → AreFilled (scope_of f) rs
     → tested (scope_of f) t at rs ≡ Ok br
     → IsTrue (is_some br.holds || is_some br.fails)
+
+-- such ranges in each branch that can be reached
+pub record AreBranchesFilled (scope : Scope) (br : Branches) : Type 0 where
+  pub holds : IfSome br.holds (AreFilled scope)
+  pub fails : IfSome br.fails (AreFilled scope)
+
+-- no range of a variable gets empty in the walk of this plan
+pub record StaysFilled (f : Flowchart) : Type 0 where
+  -- the walk begins with such ranges
+  pub start : (limits : Limits) → HaveLimits f limits
+      → AreFilled (scope_of f) (start_ranges f limits)
+  -- a test leaves such ranges in each branch that can be reached
+  pub test : (t : Term) (at : ℕ) (rs : Ranges) (br : Branches) → AreFilled (scope_of f) rs
+      → tested (scope_of f) t at rs ≡ Ok br → AreBranchesFilled (scope_of f) br
+  -- and so does each list of statements
+  pub walk : (b : Body) (name : List ℕ) (at : ℕ) (rs ends : Ranges)
+      → IsTypedBody (scope_of f) f.methods b → AreSmallTerms b
+      → AreFilled (scope_of f) rs → walked (scope_of f) (range_calls_in f) name at b rs ≡ Ok ends
+      → AreFilled (scope_of f) ends
+
+-- this holds of each well-typed plan within its limits
+abbrev pub NoRangeGetsEmpty : Type 0
+NoRangeGetsEmpty = (f : Flowchart) → IsWellTyped f → IsWithinCounts f → StaysFilled f
 
 -- the range of an expression that the walk passes has the shape of its kind, whatever the ranges of the variables
 abbrev pub RangesHaveShape : Type 0

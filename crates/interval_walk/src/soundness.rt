@@ -1,7 +1,8 @@
 //! The laws of the walk. The functions do nothing; their contracts are the laws.
 
 ghost use Rattle.interval_walk.specs.Reading.{NothingIsRefusedAtReading};
-ghost use Rattle.interval_walk.specs.Soundness.{AnalysisIsSound, RangesHaveShape, SomeBranchIsReached};
+ghost use Rattle.interval_walk.specs.Soundness.{AnalysisIsSound, RangesHaveShape, SomeBranchIsReached, NoRangeGetsEmpty};
+ghost use Rattle.interval_walk.specs.WalkReading.{WalksReadAll};
 
 /// Where the walk of a well-typed plan passes, each list of inputs that its limits admit is safe, and each output lies in its
 /// range and within the bound of outputs.
@@ -23,4 +24,16 @@ pub fn some_branch_is_reached()
 /// ranges of the shapes of their kinds and keeps them, and in such ranges each name, each literal and each item has its range.
 pub fn reading_refuses_nothing()
     ensures { NothingIsRefusedAtReading }
+{}
+
+/// In the walk of a well-typed plan no range of a variable gets empty: it begins with ranges that aren't, and each test and
+/// each list of statements leaves such ranges.
+pub fn no_range_gets_empty()
+    ensures { NoRangeGetsEmpty }
+{}
+
+/// Where the literals of a well-typed plan are numbers of their types and its inputs have limits, its walk refuses nothing
+/// where it is read, at whatever place it comes, and behind each test that it passes it goes on.
+pub fn walks_read_all()
+    ensures { WalksReadAll }
 {}

@@ -18,11 +18,12 @@ use Rattle.interval_walk.specs.Analysis.{input_range, first_range, start_ranges,
 use Rattle.interval_walk.specs.Failures.{output_fails}
 use Rattle.interval_walk.specs.Ranges.{NamedRange, Ranges, names_in}
 use Rattle.interval_walk.specs.Walked.{walked}
-use Rattle.interval_walk.proofs.Laws.{analysis_sound, stepped, walked_named, calls_named}
+use Rattle.interval_walk.proofs.Laws.{analysis_sound, reads_all, stepped, walked_named, calls_named}
 use Rattle.pap_plan.specs.Acceptance.{Meaning, IsAccepted}
-use Rattle.pap_plan.specs.AcceptanceLaws.{AcceptedPlansNeverFail, BoundsAreSmall, RangesAreNamed}
+use Rattle.pap_plan.specs.AcceptanceLaws.{AcceptedPlansNeverFail, BoundsAreSmall, RangesAreNamed, JudgedPlansAreRead}
 use Rattle.pap_plan.proofs.CountLemmas.{counted}
-use Rattle.pap_plan.proofs.MeaningLemmas.{accepted_limits}
+use Rattle.pap_plan.proofs.HeldLemmas.{plan_held}
+use Rattle.pap_plan.proofs.MeaningLemmas.{judged_limits, accepted_limits}
 
 pub never_fail : AcceptedPlansNeverFail
 never_fail plan limits m h inputs k =
@@ -45,6 +46,12 @@ pub small_bounds : BoundsAreSmall
 small_bounds plan limits m h =
     let ordered = h.bound.suited.named.file.ordered in
     bound_small m.flowchart ordered.ordered.0 (counted plan m.flowchart ordered.typed.text) ordered.ordered.1
+
+-- the walk that judges a plan's ranges refuses nothing where it is read
+pub judged_read : JudgedPlansAreRead
+judged_read plan limits f l h =
+    let typed = h.suited.named.file.ordered.typed in
+    reads_all f l typed.typed (counted plan f typed.text) (plan_held plan f typed.text) (judged_limits plan limits f l h)
 
 -- ---- the names of the ranges
 

@@ -3,6 +3,7 @@ mod AcceptedLaws
 mod AnswerLaws
 mod BindingLemmas
 mod CountLemmas
+mod HeldLemmas
 pub mod Laws
 mod LimitLemmas
 mod LiteralLemmas
@@ -10,3 +11,4 @@ mod MeaningLemmas
 mod RunLemmas
 mod SlotLemmas
 mod SuitedLemmas
+mod TextLemmas

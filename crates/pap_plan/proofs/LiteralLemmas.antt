@@ -1,5 +1,5 @@
 -- The decimal of a declared literal is kept.
-use Rattle.std.proofs.Common.{◌≡◌, ℕ, zero, suc, ◌+◌, ◌-◌, ◌*◌, ◌^◌, ◌<◌, ◌≤◌, ℤ, pos, negsuc, ◌*ℤ◌, neg_ℤ, unsigned_abs, List, [], ◌∷◌, ◌++◌, length, Option, Some, None, ap, subst, arith}
+use Rattle.std.proofs.Common.{◌≡◌, ℕ, zero, suc, ◌-◌, ◌*◌, ◌^◌, ◌<◌, ◌≤◌, ℤ, pos, negsuc, ◌*ℤ◌, neg_ℤ, unsigned_abs, List, [], ◌∷◌, Option, Some, None, ap, subst, arith}
 use Rattle.std.specs.Prelude.{⊤}
 use Rattle.std.specs.List.{All}
 use Rattle.std.specs.Option.{option_map}
@@ -12,16 +12,15 @@ use Rattle.scaled_decimal.proofs.Laws.{ten_some}
 use Rattle.pap_tree.specs.declared.expression.Known.{Known}
 use Rattle.pap_tree.specs.declared.expression.Known.TheVariants as knowns
 use Rattle.pap_tree.specs.Tokens as tokens
-use Rattle.pap_tree.specs.Tokens.{Number, Token, Literal, Quoted, Spot, plain, Tokens, IsFirst}
+use Rattle.pap_tree.specs.Tokens.{Number, Token, Literal, Quoted, IsFirst}
 use Rattle.pap_tree.specs.Grammar as grammar
-use Rattle.pap_tree.specs.Grammar.{Item, Is, Opens, Scale, Part, Line, Constant, Meaning, literal, declared, Way, leaf_of, negative_of, known_value}
-use Rattle.pap_tree.specs.Texts as texts
-use Rattle.pap_tree.specs.Texts.{Text, Texts}
+use Rattle.pap_tree.specs.Grammar.{Item, Line, Constant, Meaning, literal, declared, Way, leaf_of, negative_of, known_value}
 use Rattle.pap_tree.specs.Expressions.{IsAccepted}
 use Rattle.pap_tree.specs.Declarations.{Declaration, DeclaredLiteral}
 use Rattle.pap_types.specs.Scopes.{leaf_decimal, literal_decimal}
 use Rattle.pap_reader.specs.Trees.{RawDeclaration}
 use Rattle.plan_text.specs.Plans.{IsValue, AreDeclarations}
+use Rattle.pap_plan.proofs.TextLemmas.{AllItems, accepted_meant}
 
 abbrev IsKeptMeaning : Meaning → Type 0
 IsKeptMeaning (literal l) = IsKept (leaf_decimal l)
@@ -32,25 +31,6 @@ abbrev IsKeptToken : Token → Type 0
 IsKeptToken (Literal n) = IsKept (leaf_decimal (leaf_of n))
 IsKeptToken (Quoted d) = IsKept d
 IsKeptToken t = ⊤
-
-abbrev AllTokens : List Token → Type 0
-AllTokens [] = ⊤
-AllTokens (t ∷ ts) = IsKeptToken t × AllTokens ts
-
-first_tokens : (a b : List Token) → AllTokens (a ++ b) → AllTokens a
-first_tokens [] b h = tt
-first_tokens (t ∷ a) b h = (h.0, first_tokens a b h.1)
-
-last_tokens : (a b : List Token) → AllTokens (a ++ b) → AllTokens b
-last_tokens [] b h = h
-last_tokens (t ∷ a) b h = last_tokens a b h.1
-
-abbrev AllKept : List Item → Type 0
-AllKept [] = ⊤
-AllKept (Is t ∷ more) = IsKeptToken t × AllKept more
-AllKept (Part g l x ∷ more) = IsKeptMeaning x × AllKept more
-AllKept (Opens t ∷ more) = AllKept more
-AllKept (Scale p s ∷ more) = AllKept more
 
 -- ---- numbers
 
@@ -89,30 +69,19 @@ shortened_kept d e least h k =
 
 -- ---- texts
 
-way_kept : {l : Line} {way : List Item} {x : Meaning} → Way l way x → AllKept way → IsKeptMeaning x
-way_kept (grammar.without_sign f n e) h = h.0
-way_kept (grammar.with_sign f n e) h = negative_kept n h.0
-way_kept (grammar.big_constant d) h = h.0
-way_kept (grammar.number_constant f l) h = h.0
-way_kept (grammar.table_constant ds) h = record { numerator = omega arith; scale = omega arith }
-way_kept (grammar.big_known k) h = known_kept k
-way_kept (grammar.big_of_int i) h = h.1.1.1.0
-way_kept (grammar.big_of_scaled i s le) h = record { numerator = h.1.1.1.0.numerator; scale = le }
-way_kept (grammar.big_of_point d e is) h = shortened_kept d e 1 is h.1.1.1.0
-way_kept (grammar.big_new i) h = h.1.1.0
-way_kept (grammar.big_new_text d) h = h.1.1.0
-way_kept w h = tt
-
-mutual
-  kept : {l : Line} {ts : List Token} {x : Meaning} → Text l ts x → AllTokens ts → IsKeptMeaning x
-  kept (texts.by way w h) p = way_kept w (all_kept h p)
-
-  all_kept : {way : List Item} {ts : List Token} → Texts way ts → AllTokens ts → AllKept way
-  all_kept texts.done p = tt
-  all_kept (texts.is h) p = (p.0, all_kept h p.1)
-  all_kept (texts.opens h) p = all_kept h p.1
-  all_kept (texts.scale h) p = all_kept h p.1
-  all_kept (texts.part {a} {ts} e t h) p = (kept t (first_tokens a ts p), all_kept h (last_tokens a ts p))
+way_kept : (l : Line) (way : List Item) (x : Meaning) → Way l way x → AllItems IsKeptMeaning IsKeptToken way → IsKeptMeaning x
+way_kept line way meant (grammar.without_sign f n e) h = h.0
+way_kept line way meant (grammar.with_sign f n e) h = negative_kept n h.0
+way_kept line way meant (grammar.big_constant d) h = h.0
+way_kept line way meant (grammar.number_constant f l) h = h.0
+way_kept line way meant (grammar.table_constant ds) h = record { numerator = omega arith; scale = omega arith }
+way_kept line way meant (grammar.big_known k) h = known_kept k
+way_kept line way meant (grammar.big_of_int i) h = h.1.1.1.0
+way_kept line way meant (grammar.big_of_scaled i s le) h = record { numerator = h.1.1.1.0.numerator; scale = le }
+way_kept line way meant (grammar.big_of_point d e is) h = shortened_kept d e 1 is h.1.1.1.0
+way_kept line way meant (grammar.big_new i) h = h.1.1.0
+way_kept line way meant (grammar.big_new_text d) h = h.1.1.0
+way_kept line way meant w h = tt
 
 first_kept : (text rest : List ℕ) (t : Token) → IsFirst text rest t → IsKeptToken t
 first_kept text rest (Literal (tokens.int n)) h = let most = h.0.1 in record { numerator = omega arith; scale = omega arith }
@@ -121,13 +90,8 @@ first_kept text rest (Literal (tokens.point d)) h = h.0.1
 first_kept text rest (Quoted d) h = h.0.1
 first_kept text rest t h = tt
 
-spots_kept : (at : ℕ) (bytes : List ℕ) (ts : List Spot) → Tokens at bytes ts → AllTokens (plain ts)
-spots_kept at bytes [] h = tt
-spots_kept at bytes (t ∷ ts) (white, text, rest, a, b, first, c, more) =
-    (first_kept text rest t.token first, spots_kept (at + length white + length text) rest ts more)
-
 literal_kept : (bytes : List ℕ) (l : DeclaredLiteral) → IsAccepted Constant bytes (declared l) → IsKept (literal_decimal l)
-literal_kept bytes l h = kept h.text (spots_kept 0 bytes h.spots h.tokens)
+literal_kept bytes l h = accepted_meant IsKeptMeaning IsKeptToken way_kept first_kept Constant bytes (declared l) h
 
 -- ---- declarations
 

@@ -6,13 +6,14 @@ use Rattle.std.proofs.lemmas.List.Elements.{All-head, All-tail}
 use Rattle.scaled_decimal.specs.Decimals.{Decimal}
 use Rattle.pap_tree.specs.declared.declaration.Kind.{Kind}
 use Rattle.pap_tree.specs.Declarations.{Declaration}
+use Rattle.pap_tree.specs.Flowchart.{Flowchart}
 use Rattle.limits_file.specs.declared.limits.InputLimit.{InputLimit}
 use Rattle.limits_file.specs.declared.limits.Limits.{Limits}
 use Rattle.limits_file.specs.declared.limits.Carry.{Carry}
 use Rattle.limits_file.specs.declared.slots.Slot.{Slot}
 use Rattle.pap_types.specs.Scopes.{literal_decimal}
 use Rattle.interval_walk.specs.Admission.{HaveLimits}
-use Rattle.pap_plan.specs.Acceptance.{Meaning, IsAccepted}
+use Rattle.pap_plan.specs.Acceptance.{Meaning, HasBindings, IsAccepted}
 use Rattle.pap_plan.specs.Bindings.{HasSuitedLimit}
 use Rattle.pap_plan.specs.Inputs.{carry_named, IsSlot, AreSlots}
 use Rattle.pap_plan.proofs.AcceptLemmas.{have_limits}
@@ -20,10 +21,13 @@ use Rattle.pap_plan.proofs.LimitLemmas.{file_sound}
 use Rattle.pap_plan.proofs.LiteralLemmas.{HasKeptValue, values_kept}
 
 -- each input has a limit, with sound bounds, that suits its type
+pub judged_limits : (plan limits : List ℕ) (f : Flowchart) (l : Limits) → HasBindings plan limits f l → HaveLimits f l
+judged_limits plan limits f l h =
+    let s = h.suited in
+    have_limits f l (record { names = s.named.matching; suited = s.suited; bound = h.bound }) (file_sound limits l s.named.file.file)
+
 pub accepted_limits : (plan limits : List ℕ) (m : Meaning) → IsAccepted plan limits m → HaveLimits m.flowchart m.limits
-accepted_limits plan limits m h =
-    let s = h.bound.suited in
-    have_limits m.flowchart m.limits (record { names = s.named.matching; suited = s.suited; bound = h.bound.bound }) (file_sound limits m.limits s.named.file.file)
+accepted_limits plan limits m h = judged_limits plan limits m.flowchart m.limits h.bound
 
 -- the decimal of each input's default is kept
 pub accepted_defaults : (plan limits : List ℕ) (m : Meaning) → IsAccepted plan limits m → All HasKeptValue m.flowchart.inputs

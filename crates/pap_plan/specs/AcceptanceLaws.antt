@@ -1,14 +1,17 @@
 -- What holds of acceptance.
 use Rattle.std.specs.Prelude.{◌≡◌, ℕ, ◌≤◌, List, Some, Result}
 use Rattle.scaled_decimal.specs.Decimals.{Decimal}
+use Rattle.pap_tree.specs.Flowchart.{Flowchart}
+use Rattle.limits_file.specs.declared.limits.Limits.{Limits}
 use Rattle.pap_types.specs.Scopes.{names_of}
 use Rattle.pap_types.specs.Limits.{most_steps}
 use Rattle.pap_types.specs.Meaning.{IsSafeFor, outputs_of, cost_of, bound_of}
 use Rattle.interval_walk.specs.Admission.{AreAdmitted}
 use Rattle.interval_walk.specs.Ranges.{names_in}
 use Rattle.interval_walk.specs.Soundness.{AreOutputs}
+use Rattle.interval_walk.specs.WalkReading.{ReadsPlan}
 use Rattle.pap_plan.specs.declared.refusal.PlanRefusal.{PlanRefusal}
-use Rattle.pap_plan.specs.Acceptance.{Meaning, IsAccepted, Answers}
+use Rattle.pap_plan.specs.Acceptance.{Meaning, HasBindings, IsAccepted, Answers}
 
 -- every two texts have an answer
 abbrev pub HaveAnAnswer : Type 0
@@ -45,3 +48,11 @@ BoundsAreSmall =
 abbrev pub RangesAreNamed : Type 0
 RangesAreNamed =
     (plan limits : List ℕ) (m : Meaning) → IsAccepted plan limits m → names_in m.outputs ≡ names_of m.flowchart.outputs
+
+-- ---- what is judged
+
+-- Where the ranges of a plan are judged, its walk refuses nothing where it is read, and behind each test that it passes it
+-- goes on.
+abbrev pub JudgedPlansAreRead : Type 0
+JudgedPlansAreRead =
+    (plan limits : List ℕ) (f : Flowchart) (l : Limits) → HasBindings plan limits f l → ReadsPlan f l

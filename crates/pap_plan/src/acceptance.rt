@@ -4,12 +4,13 @@ ghost use Rattle.pap_tree.specs.Flowchart.{flowchart_of};
 ghost use Rattle.call_order.specs.Orders.{IsOrdered};
 ghost use Rattle.plan_text.specs.Plans.{IsPlan};
 ghost use Rattle.pap_types.specs.Counts.{IsWithinCounts};
+ghost use Rattle.interval_walk.specs.Reading.{HoldsPlan};
 ghost use Rattle.pap_plan.specs.Acceptance.{IsTypedPlan, IsRefusedOrMemory};
 ghost use Rattle.std.specs.List.{All};
 ghost use Rattle.limits_file.specs.Limits.{HasSoundBounds};
 ghost use Rattle.pap_plan.specs.AcceptanceClauses.{IsAcceptedAs, IsUnread, IsUntyped, AreMatched, IsUnmatched};
 ghost use Rattle.pap_plan.specs.JudgedViews.{IsJudged, IsMisjudged, HasVerdict, HasNoVerdict};
-ghost use Rattle.pap_plan.specs.AcceptanceLaws.{HaveAnAnswer, HaveOneAnswer, AcceptedPlansNeverFail, BoundsAreSmall, RangesAreNamed};
+ghost use Rattle.pap_plan.specs.AcceptanceLaws.{HaveAnAnswer, HaveOneAnswer, AcceptedPlansNeverFail, BoundsAreSmall, JudgedPlansAreRead, RangesAreNamed};
 
 use crate::PlanRefusal;
 use crate::bindings::{first_unsuited, unbound_input, unmatched_name};
@@ -23,11 +24,12 @@ use pap_tree::PlanText;
 use pap_types::{Typed, check_types};
 use std::alloc::{AllocError, Global};
 
-/// The plan of a file's bytes as it is written, within the counts that `check_types` asks for. It is refused by its elements,
-/// or by its first expression that isn't one.
+/// The plan of a file's bytes as it is written, within the counts that `check_types` asks for, each of its literals a number
+/// of its type. It is refused by its elements, or by its first expression that isn't one.
 pub fn read_plan(alloc: Global, plan: &[u8]) -> Result<PlanText, PlanRefusal>
     ensures read { IfOk result (λ p. IsPlan plan.now (flowchart_of p)) }
     ensures counted { IfOk result (λ p. IsWithinCounts (flowchart_of p)) }
+    ensures held { IfOk result (λ p. HoldsPlan (flowchart_of p)) }
     ensures refused { IfErr result (IsUnread plan.now) }
 {
     Ok(plan_text::read_plan(alloc, plan)?)
@@ -144,11 +146,13 @@ fn match_limits(plan: &PlanText, ranges: &Limits) -> Result<(), PlanRefusal>
 
 /// Every two texts are accepted, with one meaning, or refused for one reason, and never both. What is accepted never fails in
 /// the middle of a run, whatever admitted inputs it gets: each run ends within the bound, which is at most 1,000,000,000 steps,
-/// and its outputs lie in the ranges that stand under their names.
+/// and its outputs lie in the ranges that stand under their names. The walk that judges a plan's ranges refuses nothing where
+/// it is read.
 pub fn acceptance_laws()
     ensures some { HaveAnAnswer }
     ensures one { HaveOneAnswer }
     ensures runs { AcceptedPlansNeverFail }
     ensures bound { BoundsAreSmall }
     ensures ranges { RangesAreNamed }
+    ensures read { JudgedPlansAreRead }
 {}

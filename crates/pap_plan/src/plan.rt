@@ -103,6 +103,7 @@ impl Plan {
     pub fn law(&self)
         ensures { IsAccepted self.now.plan self.now.limits (meaning self.now) }
     {
+        // For the proof: a field that is read shows what the plan keeps.
         let _ = &self.verdict;
     }
 

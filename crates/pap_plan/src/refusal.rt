@@ -14,8 +14,8 @@ use plan_text::{PlanFault, Spot};
 use std::alloc::{AllocError, AllocFailed};
 use thiserror::Error;
 
-/// Why two texts are refused, in the order in which it is tried. Its texts are for a plan's author, and say
-/// what is wrong without the place.
+/// Why two texts are refused, in the order in which it is tried; `Memory` may come at any stage. Its texts are for a plan's
+/// author, and say what is wrong without the place.
 #[derive(Debug, Drop, Error)]
 pub enum PlanRefusal {
     /// The elements of the plan.

@@ -1,5 +1,5 @@
 use Rattle.pap_plan.proofs.AnswerLaws.{some, one}
-use Rattle.pap_plan.proofs.AcceptedLaws.{never_fail, small_bounds, ranges_named}
+use Rattle.pap_plan.proofs.AcceptedLaws.{never_fail, small_bounds, ranges_named, judged_read}
 use Rattle.pap_plan.proofs.acceptance.acceptance_laws.Goals as goal
 
 pub returns-clause-some : goal.returns-clause-some
@@ -16,3 +16,6 @@ returns-clause-bound c = small_bounds
 
 pub returns-clause-ranges : goal.returns-clause-ranges
 returns-clause-ranges c = ranges_named
+
+pub returns-clause-read : goal.returns-clause-read
+returns-clause-read c = judged_read
