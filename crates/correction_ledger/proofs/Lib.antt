@@ -1,3 +1,4 @@
+mod AnswerLemmas
 mod DifferenceLemmas
 mod FileLemmas
 mod BalanceLemmas

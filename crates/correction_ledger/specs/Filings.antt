@@ -1,5 +1,5 @@
 -- A ledger, what filing a month does to it, and why it is refused.
-use Rattle.std.specs.Prelude.{◌≡◌, ◌≢◌, ◌+◌, ◌<◌, ◌≤◌, ℕ, List, ◌++◌, Option, Some, None, length, map, IfSome}
+use Rattle.std.specs.Prelude.{◌≡◌, ◌≢◌, ◌+◌, ◌<◌, ◌≤◌, ℕ, List, ◌++◌, Option, Some, None, Result, Ok, Err, length, map, IfSome}
 use Rattle.std.specs.declared.cmp.Ordering.TheVariants.{Less}
 use Rattle.payroll_records.specs.declared.month.Month.{Month}
 use Rattle.recalc_engine.specs.MonthRows.{KeyedRow}
@@ -59,6 +59,12 @@ IsFileRefused rows month old (file.Open key) =
 IsFileRefused rows month old file.Entries = HasTooMany rows month old
 IsFileRefused rows month old (file.Memory error) = IsClosed rows month old.last
 
+-- what filing a month answers: the filings with it and the number of new entries, or why it isn't filed, which is never want of memory
+abbrev pub FilingSays : List KeyedRow → Month → Filings → Result (Filings × ℕ) FileRefusal → Type 0
+FilingSays rows month old (Ok made) = IsFiling rows month old made.0 made.1
+FilingSays rows month old (Err (file.Memory error)) = ⊥
+FilingSays rows month old (Err why) = IsFileRefused rows month old why
+
 -- these are owed up to the last filed month, and all runs up to it are ok
 pub record IsOwedNow (rows : List KeyedRow) (now : Filings) (dues : List Due) : Type 0 where
   pub month : Month
@@ -73,3 +79,9 @@ IsOwedRefused rows now (owed.Open key) =
     (month : Month) × (now.last ≡ Some month) × (first_open month rows ≡ Some key)
 IsOwedRefused rows now (owed.Memory error) =
     (month : Month) × (now.last ≡ Some month) × (first_open month rows ≡ None)
+
+-- what is answered to the question what is owed: that, or why it isn't known, which is never want of memory
+abbrev pub OwedSays : List KeyedRow → Filings → Result (List Due) OwedRefusal → Type 0
+OwedSays rows now (Ok dues) = IsOwedNow rows now dues
+OwedSays rows now (Err (owed.Memory error)) = ⊥
+OwedSays rows now (Err why) = IsOwedRefused rows now why

@@ -1,12 +1,14 @@
--- The laws of what is owed.
-use Rattle.std.specs.Prelude.{◌≡◌, List, [], ◌++◌, IsTrue, map}
+-- The laws of what is owed and of what is filed.
+use Rattle.std.specs.Prelude.{◌≡◌, ℕ, List, [], ◌++◌, IsTrue, Result, map}
 use Rattle.std.specs.declared.cmp.Ordering.TheVariants.{Equal}
 use Rattle.scaled_decimal.specs.Decimals.{sum, value_order}
 use Rattle.payroll_records.specs.declared.month.Month.{Month}
 use Rattle.recalc_engine.specs.MonthRows.{KeyedRow}
 use Rattle.correction_ledger.specs.declared.due.Due.{Due}
 use Rattle.correction_ledger.specs.declared.due.Entry.{Entry}
-use Rattle.correction_ledger.specs.Filings.{entry_with}
+use Rattle.correction_ledger.specs.declared.ledger.FileRefusal.{FileRefusal}
+use Rattle.correction_ledger.specs.declared.ledger.OwedRefusal.{OwedRefusal}
+use Rattle.correction_ledger.specs.Filings.{Filings, FilingSays, OwedSays, entry_with}
 use Rattle.correction_ledger.specs.Months.{is_up_to}
 use Rattle.correction_ledger.specs.Owed.{IsOwed, filed, reported}
 use Rattle.correction_ledger.specs.Accounts.{Account, amount_at}
@@ -35,3 +37,23 @@ FilingSettles =
     (rows : List KeyedRow) (entries : List Entry) (month : Month) (dues : List Due)
     → IsOwed rows entries month dues
     → IsOwed rows (entries ++ map (entry_with month) dues) month []
+
+-- ---- answers
+
+-- there is exactly one answer
+pub record HasOneAnswer (A : Type 0) (Says : A → Type 0) : Type 0 where
+  pub answer : A
+  pub says : Says answer
+  pub alone : (other : A) → Says other → other ≡ answer
+
+-- filing a month has one answer, whatever the book's rows and the filings are
+abbrev pub FilingsHaveOneAnswer : Type 0
+FilingsHaveOneAnswer =
+    (rows : List KeyedRow) (month : Month) (old : Filings)
+    → HasOneAnswer (Result (Filings × ℕ) FileRefusal) (FilingSays rows month old)
+
+-- and so has the question what is owed
+abbrev pub OwedHasOneAnswer : Type 0
+OwedHasOneAnswer =
+    (rows : List KeyedRow) (now : Filings)
+    → HasOneAnswer (Result (List Due) OwedRefusal) (OwedSays rows now)

@@ -4,13 +4,14 @@ use pap_tree::Name;
 use payroll_records::{Key, Month};
 use scaled_decimal::Dec;
 
-/// An amount that is owed for an output of a run: what the book reports of it, less what was filed of it.
+/// An amount of an output of a run: in public answers what is owed, which may be negative.
 #[derive(Clone, Copy, Debug)]
 pub struct Due {
     /// The run.
     pub key: Key,
     /// The output.
     pub name: Name,
+    /// What is owed has the greater scale of the two amounts that it is the difference of.
     pub amount: Dec,
 }
 

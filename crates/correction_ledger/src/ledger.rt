@@ -5,6 +5,7 @@ ghost use Rattle.correction_ledger.specs.Admission.{IsAdmitRefused};
 ghost use Rattle.correction_ledger.specs.Filings.{IsClosed, IsFiling, IsFileRefused};
 ghost use Rattle.correction_ledger.specs.Filings.{IsOwedNow, IsOwedRefused};
 ghost use Rattle.correction_ledger.specs.OwedLaws.{FilingSettles, OwedIsOne, OwedSettles};
+ghost use Rattle.correction_ledger.specs.OwedLaws.{FilingsHaveOneAnswer, OwedHasOneAnswer};
 
 use crate::balances::Balances;
 use crate::due::{Due, Entry};
@@ -114,14 +115,14 @@ impl Ledger {
 
     /// Files a month: appends what is owed up to it, and answers how many entries that were. After a refusal the ledger is as
     /// before.
-    pub fn file(&mut self, b: &Book, month: Month) -> Result<u64, FileRefusal>
-        ensures ok { IfOk result (IsFiling (month_rows b.now) month self.old self.new) }
+    pub fn file(&mut self, book: &Book, month: Month) -> Result<u64, FileRefusal>
+        ensures ok { IfOk result (IsFiling (month_rows book.now) month self.old self.new) }
         ensures err { OnErr result (self.new ≡ self.old) }
-        ensures refused { IfErr result (IsFileRefused (month_rows b.now) month self.old) }
+        ensures refused { IfErr result (IsFileRefused (month_rows book.now) month self.old) }
     {
-        admit(b, month, self.last)?;
+        admit(book, month, self.last)?;
         let alloc = *self.entries.allocator();
-        let reported = reported(alloc, b, month)?;
+        let reported = reported(alloc, book, month)?;
         let dues = owed(
             alloc,
             Balances::of(reported.as_slice(), self.sums.as_slice()),
@@ -141,17 +142,17 @@ impl Ledger {
     }
 
     /// What is owed up to the last filed month, in order of key and name.
-    pub fn owed(&self, alloc: Global, b: &Book) -> Result<Vec<Due>, OwedRefusal>
-        ensures ok { IfOk result (λ dues. IsOwedNow (month_rows b.now) self.now dues.items) }
-        ensures refused { IfErr result (IsOwedRefused (month_rows b.now) self.now) }
+    pub fn owed(&self, alloc: Global, book: &Book) -> Result<Vec<Due>, OwedRefusal>
+        ensures ok { IfOk result (λ dues. IsOwedNow (month_rows book.now) self.now dues.items) }
+        ensures refused { IfErr result (IsOwedRefused (month_rows book.now) self.now) }
     {
         let Some(last) = self.last else {
             return Err(OwedRefusal::NothingFiled);
         };
-        if let Some(key) = first_open(b, last) {
+        if let Some(key) = first_open(book, last) {
             return Err(OwedRefusal::Open { key });
         }
-        let reported = reported(alloc, b, last)?;
+        let reported = reported(alloc, book, last)?;
         let dues = owed(
             alloc,
             Balances::of(reported.as_slice(), self.sums.as_slice()),
@@ -161,25 +162,27 @@ impl Ledger {
 }
 
 /// Nothing but the number of entries stands against filing a month, or why it isn't filed.
-fn admit(b: &Book, month: Month, last: Option<Month>) -> Result<(), FileRefusal>
-    ensures ok { OnOk result (IsClosed (month_rows b.now) month last) }
-    ensures refused { IfErr result (IsAdmitRefused (month_rows b.now) month last) }
+fn admit(book: &Book, month: Month, last: Option<Month>) -> Result<(), FileRefusal>
+    ensures ok { OnOk result (IsClosed (month_rows book.now) month last) }
+    ensures refused { IfErr result (IsAdmitRefused (month_rows book.now) month last) }
 {
     if let Some(last) = last {
         if month <= last {
             return Err(FileRefusal::Early { last });
         }
     }
-    match first_open(b, month) {
+    match first_open(book, month) {
         Some(key) => Err(FileRefusal::Open { key }),
         None => Ok(()),
     }
 }
 
 /// The laws of what is owed: it is one list; with it filed, what was filed is what the book reports; so right after a
-/// filing nothing is owed.
+/// filing nothing is owed. Filing a month has one answer, and so has the question what is owed.
 pub fn owed_laws()
     ensures one { OwedIsOne }
     ensures settles { OwedSettles }
     ensures nothing { FilingSettles }
+    ensures filing { FilingsHaveOneAnswer }
+    ensures owed { OwedHasOneAnswer }
 {}

@@ -30,10 +30,10 @@ fn is_open(row: &MonthRow, month: Month) -> bool
 }
 
 /// The first run up to the month that isn't ok.
-pub(crate) fn first_open(b: &Book, month: Month) -> Option<Key>
-    ensures { result ≡ first_open month (month_rows b.now) }
+pub(crate) fn first_open(book: &Book, month: Month) -> Option<Key>
+    ensures { result ≡ first_open month (month_rows book.now) }
 {
-    for row in b.months() {
+    for row in book.months() {
         if is_open(&row, month) {
             return Some(row.key);
         }
@@ -52,13 +52,13 @@ fn outputs_by<'a>(row: &MonthRow<'a>, month: Month) -> &'a [NamedValue]
 }
 
 /// What the book reports of each output up to the month, in order of key and name.
-pub(crate) fn reported(alloc: Global, b: &Book, month: Month) -> Result<Vec<Due>, AllocError>
-    ensures { IfOk result (λ dues. AreReported (month_rows b.now) month dues.items) }
+pub(crate) fn reported(alloc: Global, book: &Book, month: Month) -> Result<Vec<Due>, AllocError>
+    ensures { IfOk result (λ dues. AreReported (month_rows book.now) month dues.items) }
 {
-    b.rows_law();
+    book.rows_law();
     let mut dues = Vec::new(alloc);
     let mut of_run = Vec::new(alloc);
-    for row in b.months() {
+    for row in book.months() {
         list_outputs(&mut of_run, &row.key, outputs_by(&row, month))?;
         dues.append(&mut of_run)?;
     }

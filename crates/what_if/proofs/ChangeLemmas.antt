@@ -1,16 +1,12 @@
 -- What differs between the runs of two books: list after list, and nothing of a run that stays.
-use Rattle.std.proofs.Common.{◌≡◌, ℕ, zero, ◌+◌, ◌<◌, suc, List, [], ◌∷◌, ◌++◌, append_assoc, length, map, take, get_or, Bool, true, false, if◌then◌else◌, Option, Some, option_map, refl, sym, ap, ap₂, subst, ◌∙◌, arith}
+use Rattle.std.proofs.Common.{◌≡◌, ℕ, zero, ◌+◌, ◌<◌, suc, List, [], ◌∷◌, ◌++◌, append_assoc, length, map, take, get_or, if◌then◌else◌, Option, option_map, refl, sym, ap, ap₂, ◌∙◌, arith}
 use Rattle.std.specs.List.{flat_map}
-use Rattle.std.specs.declared.cmp.Ordering.{Ordering}
-use Rattle.std.specs.declared.cmp.Ordering.TheVariants.{Less, Equal, Greater}
-use Rattle.std.specs.Ordering.{is_eq}
 use Rattle.std.proofs.lemmas.List.{append-nil, length-map, take_more}
 use Rattle.rising_lists.specs.Keyed.{at_key}
 use Rattle.payroll_records.specs.declared.record.Key.{Key}
 use Rattle.payroll_records.specs.declared.record.Record.{Record}
 use Rattle.payroll_records.specs.Orders.{key_cmp}
 use Rattle.payroll_records.specs.Tables.{key_of}
-use Rattle.plan_calendar.specs.Picking.{pick, with_entry}
 use Rattle.carry_bindings.specs.declared.carried.Earlier.{Earlier}
 use Rattle.book_year.specs.declared.outcome.Outcome.{Outcome}
 use Rattle.book_year.specs.declared.outcome.State.{State}
@@ -18,17 +14,14 @@ use Rattle.book_year.specs.declared.year.YearKey.{YearKey}
 use Rattle.book_year.specs.Rows.{Planned, earlier_of, row_of, rows, year_rows}
 use Rattle.book_year.proofs.Laws.{row_of_day, rows_length}
 use Rattle.book_edits.specs.Books.{YearRuns}
-use Rattle.payroll_records.proofs.Laws.{key_same}
 use Rattle.recalc_engine.specs.BookLaws.{row_key}
-use Rattle.recalc_engine.specs.MonthRows.{KeyedRow, keyed_row, keyed_rows, month_rows}
+use Rattle.recalc_engine.specs.MonthRows.{KeyedRow, keyed_row, keyed_rows}
 use Rattle.recalc_engine.specs.MonthViews.{kept_row, kept_rows}
 use Rattle.what_if.specs.declared.trial.TrialRow.{TrialRow}
 use Rattle.what_if.specs.declared.trial.TrialRow.TheVariants.{Changed}
-use Rattle.what_if.specs.Changes.{changes, state_outputs, run_changes, same_state, shown_state, value_rows}
-use Rattle.what_if.specs.TrialLaws.{IsUnnamed, UnnamedRunsStay, row_state}
-use Rattle.what_if.specs.Trials.{book_with}
-use Rattle.what_if.specs.YearViews.{year_changes}
-use Rattle.what_if.proofs.StateLemmas.{state_one, state_own}
+use Rattle.what_if.specs.Changes.{row_state, state_outputs, run_changes, shown_state, value_rows}
+use Rattle.what_if.specs.YearViews.{changes, year_changes}
+use Rattle.what_if.proofs.StateLemmas.{state_own}
 
 -- ---- one list after another
 
@@ -117,23 +110,10 @@ runs_more rs bs ns i r b a e f l r_is b_is a_is =
     (λ j. changes (kept_rows (rs_step j) (bs_step j)) (kept_rows (rs_step j) (ns_step j)))
     ∙ changes_more (take i rs) (take i bs) (take i ns) r b a (take_long i rs bs e) (take_long i rs ns f)
 
--- ---- a run that no row names
+-- ---- the runs of two lists
 
 abbrev pub state_at : List KeyedRow → Key → Option State
 state_at rows k = option_map row_state (at_key key_cmp row_key rows k)
-
-unnamed_front : (front more : List TrialRow) (k : Key) → IsUnnamed (front ++ more) k →
-    IsUnnamed front k × IsUnnamed more k
-unnamed_front [] more k h = (tt, h)
-unnamed_front (r ∷ front) more k h = let rest = unnamed_front front more k h.1 in ((h.0, rest.0), rest.1)
-
--- a run without a row of its own has one state
-unnamed_run : (k : Key) (b a : State) → IsUnnamed (run_changes k b a) k → a ≡ b
-unnamed_run k b a h = by (same_state b a) refl h
-  where
-    by : (t : Bool) → same_state b a ≡ t → IsUnnamed (if t then [] else changed_rows k b a) k → a ≡ b
-    by true e g = sym (state_one b a e)
-    by false e g = absurd (g.0 refl)
 
 -- the runs of two lists are the same
 abbrev pub HaveKeys : List KeyedRow → List KeyedRow → Type 0
@@ -144,40 +124,6 @@ head_key a b ns bs e = cc e
 
 pub tail_keys : (a b : Key) (ns bs : List Key) → a ∷ ns ≡ b ∷ bs → ns ≡ bs
 tail_keys a b ns bs e = cc e
-
-unnamed_at : (bs ns : List KeyedRow) (k : Key) → HaveKeys bs ns → IsUnnamed (changes bs ns) k →
-    state_at ns k ≡ state_at bs k
-unnamed_at [] [] k e h = refl
-unnamed_at [] (a ∷ ns) k e h = absurd (omega (arith, ap length e))
-unnamed_at (b ∷ bs) [] k e h = absurd (omega (arith, ap length e))
-unnamed_at (b ∷ bs) (a ∷ ns) k e h = by (unnamed_at bs ns k) (key_cmp b.key k) refl
-  where
-    same : b.key ≡ a.key
-    same = head_key b.key a.key (map row_key bs) (map row_key ns) e
-
-    parts : IsUnnamed (run_changes b.key b.state a.state) k × IsUnnamed (changes bs ns) k
-    parts = unnamed_front (run_changes b.key b.state a.state) (changes bs ns) k h
-
-    More : Type 0
-    More = HaveKeys bs ns → IsUnnamed (changes bs ns) k → state_at ns k ≡ state_at bs k
-
-    rest : More → state_at ns k ≡ state_at bs k
-    rest more = more (tail_keys b.key a.key (map row_key bs) (map row_key ns) e) parts.1
-
-    first : Ordering → KeyedRow → List KeyedRow → Option State
-    first o row more = option_map row_state (if is_eq o then Some row else at_key key_cmp row_key more k)
-
-    by : More → (o : Ordering) → key_cmp b.key k ≡ o → state_at (a ∷ ns) k ≡ state_at (b ∷ bs) k
-    by more Less t = ap (λ o. first o a ns) (ap (λ x. key_cmp x k) (sym same) ∙ t) ∙ rest more
-        ∙ sym (ap (λ o. first o b bs) t)
-    by more Equal t =
-        let key : b.key ≡ k = key_same b.key k t in
-        let one : a.state ≡ b.state = unnamed_run b.key b.state a.state
-        (subst (IsUnnamed (run_changes b.key b.state a.state)) (sym key) parts.0) in
-        ap (λ o. first o a ns) (ap (λ x. key_cmp x k) (sym same) ∙ t) ∙ ap (λ s. Some s) one
-        ∙ sym (ap (λ o. first o b bs) t)
-    by more Greater t = ap (λ o. first o a ns) (ap (λ x. key_cmp x k) (sym same) ∙ t) ∙ rest more
-        ∙ sym (ap (λ o. first o b bs) t)
 
 abbrev next : Planned → List Earlier → Record → List Earlier
 next planned earlier r = earlier ++ earlier_of (row_of (planned r.day) earlier r) ∷ []
@@ -199,7 +145,3 @@ all_keys p q (y ∷ ys) =
     keys_append (keyed_rows p y) (flat_map (keyed_rows p) ys)
     ∙ ap₂ (λ a b. a ++ b) (year_keys y.key p q [] [] y.runs) (all_keys p q ys)
     ∙ sym (keys_append (keyed_rows q y) (flat_map (keyed_rows q) ys))
-
-pub unnamed_stay : UnnamedRunsStay
-unnamed_stay book e k h = unnamed_at (month_rows book) (month_rows (book_with book e)) k
-    (all_keys (pick book.plans) (pick (with_entry e book.plans)) book.years) h

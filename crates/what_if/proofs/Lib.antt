@@ -1,5 +1,6 @@
 mod ChangeLemmas
 mod FullLemmas
+mod KeyLemmas
 pub mod Laws
 mod NamedLemmas
 mod OrderLemmas

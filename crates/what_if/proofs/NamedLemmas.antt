@@ -1,35 +1,29 @@
 -- What the rows of a trial tell is so in both books, and a run or an output of which they tell nothing stays.
-use Rattle.std.proofs.Common.{◌≡◌, ◌≢◌, ℕ, ◌⊎◌, inl, inr, List, [], ◌∷◌, ◌++◌, map, length, Bool, true, false, if◌then◌else◌, Option, Some, None, option_map, refl, sym, ap, subst, ◌∙◌, arith}
-use Rattle.std.specs.List.{AllByRecursion, cons_option, filter_map}
+use Rattle.std.proofs.Common.{◌≡◌, ◌≢◌, ℕ, inl, inr, List, [], ◌∷◌, ◌++◌, map, Bool, true, false, if◌then◌else◌, Option, Some, None, option_map, refl, sym, ap, subst, ◌∙◌}
+use Rattle.std.specs.List.{AllByRecursion, cons_option, filter_map, flat_map}
 use Rattle.std.specs.Option.{option_map_or}
-use Rattle.std.specs.declared.cmp.Ordering.{Ordering}
-use Rattle.std.specs.declared.cmp.Ordering.TheVariants.{Less, Equal, Greater}
-use Rattle.std.specs.Ordering.{is_eq}
 use Rattle.std.proofs.lemmas.Bool.{false≢true}
 use Rattle.scaled_decimal.specs.Decimals.{Decimal}
-use Rattle.rising_lists.specs.Keyed.{at_key, IsRising}
-use Rattle.rising_lists.proofs.Laws.{all_in, found_in}
+use Rattle.rising_lists.specs.Keyed.{at_key}
+use Rattle.rising_lists.proofs.Laws.{all_in, found_in, none_some, some_same}
 use Rattle.payroll_records.specs.declared.record.Key.{Key}
 use Rattle.payroll_records.specs.declared.values.NamedValue.{NamedValue}
 use Rattle.payroll_records.specs.NamedValues.{name_cmp, name_of}
 use Rattle.payroll_records.specs.Orders.{key_cmp}
-use Rattle.payroll_records.proofs.Laws.{key_total, key_same}
-use Rattle.plan_calendar.specs.Picking.{Entry, pick, with_entry}
+use Rattle.payroll_records.proofs.Laws.{key_same}
 use Rattle.carry_bindings.specs.Carrying.{named}
-use Rattle.book_year.specs.Accepted.{Accepted}
 use Rattle.book_year.specs.declared.outcome.State.{State}
 use Rattle.book_year.proofs.Laws.{decimal_decides}
-use Rattle.book_edits.proofs.Laws.{found_each, map_rising, rising_map}
-use Rattle.recalc_engine.specs.BookLaws.{IsBook, row_key}
+use Rattle.recalc_engine.specs.BookLaws.{row_key}
 use Rattle.recalc_engine.specs.Contents.{Contents}
 use Rattle.recalc_engine.specs.MonthRows.{KeyedRow, month_rows}
-use Rattle.recalc_engine.proofs.Laws.{book_rows_rise}
 use Rattle.what_if.specs.declared.trial.TrialRow.{TrialRow}
 use Rattle.what_if.specs.declared.trial.TrialRow.TheVariants.{Changed, Value}
-use Rattle.what_if.specs.Changes.{changes, in_order, state_outputs, run_changes, same_amount, same_state, shown_state, value_row, value_rows}
-use Rattle.what_if.specs.TrialLaws.{NamedRunsChange, RowsTellBoth, TellsBoth, TellsValue, UntoldValuesStay, outputs_at, row_state, run_of, state_of}
+use Rattle.what_if.specs.Changes.{changes_at, changes_between, in_order, row_state, run_changes, same_amount, same_state, shown_state, state_of, state_outputs, value_row, value_rows}
+use Rattle.what_if.specs.TrialLaws.{IsUnnamed, NamedRunsChange, RowsTellBoth, TellsBoth, TellsValue, UnnamedRunsStay, UntoldValuesStay, outputs_at, run_of}
 use Rattle.what_if.specs.Trials.{book_with}
-use Rattle.what_if.proofs.ChangeLemmas.{HaveKeys, all_keys, changed_rows, head_key, state_at, tail_keys}
+use Rattle.what_if.proofs.ChangeLemmas.{changed_rows}
+use Rattle.what_if.proofs.KeyLemmas.{IsInBothOrNone, in_both_or_none}
 use Rattle.what_if.proofs.StateLemmas.{state_one, state_own}
 use Rattle.what_if.proofs.ValueLemmas.{row_name, rows_at}
 
@@ -77,57 +71,58 @@ module _ (P : TrialRow → Type 0) where
     all_value_rows : AllByRecursion P (value_rows k before after)
     all_value_rows = all_values (in_order (map name_of (before ++ after)))
 
--- ---- the rows of two lists of the same runs
+-- ---- what holds of the rows of two books
 
-module _ (P : TrialRow → Type 0) (old new : Contents) (one : (k : Key) (b a : State) → state_of old k ≡ Some b →
-    state_of new k ≡ Some a → AllByRecursion P (run_changes k b a)) where
-  all_changes : (bs ns : List KeyedRow) → HaveKeys bs ns →
-      AllByRecursion (λ row. state_of old (row_key row) ≡ Some (row_state row)) bs →
-      AllByRecursion (λ row. state_of new (row_key row) ≡ Some (row_state row)) ns → AllByRecursion P (changes bs ns)
-  all_changes [] ns e f g = tt
-  all_changes (b ∷ bs) [] e f g = tt
-  all_changes (b ∷ bs) (a ∷ ns) e f g =
-      let same = head_key b.key a.key (map row_key bs) (map row_key ns) e in
-      let more = tail_keys b.key a.key (map row_key bs) (map row_key ns) e in
-      all_both P (run_changes b.key b.state a.state) (changes bs ns)
-      (one b.key b.state a.state f.0 (ap (state_of new) same ∙ g.0)) (all_changes bs ns more f.1 g.1)
+module _ (P : TrialRow → Type 0) (old new : Contents) where
+  module _ (one : (k : Key) (b a : State) → state_of old k ≡ Some b → state_of new k ≡ Some a →
+      AllByRecursion P (run_changes k b a)) where
+    all_at : (k : Key) → AllByRecursion P (changes_at old new k)
+    all_at k = by (state_of old k) (state_of new k) refl refl
+      where
+        by : (b a : Option State) → state_of old k ≡ b → state_of new k ≡ a →
+            AllByRecursion P (option_map_or (λ before. option_map_or (run_changes k before) a []) b [])
+        by None a f g = tt
+        by (Some b) None f g = tt
+        by (Some b) (Some a) f g = one k b a f g
 
--- each run of a list with rising keys stands at its key
-states_found : (rows : List KeyedRow) → IsRising key_cmp row_key rows →
-    AllByRecursion (λ row. state_at rows (row_key row) ≡ Some (row_state row)) rows
-states_found rows rising = lift rows (found_each key_cmp key_total row_key rows rising)
-  where
-    lift : (some : List KeyedRow) → AllByRecursion (λ row. at_key key_cmp row_key rows (row_key row) ≡ Some row) some →
-        AllByRecursion (λ row. state_at rows (row_key row) ≡ Some (row_state row)) some
-    lift [] h = tt
-    lift (row ∷ some) h = (ap (option_map row_state) h.0, lift some h.1)
+    all_rows : (rows : List KeyedRow) → AllByRecursion P (flat_map (λ row. changes_at old new (row_key row)) rows)
+    all_rows [] = tt
+    all_rows (row ∷ rows) =
+        all_both P (changes_at old new row.key) (flat_map (λ r. changes_at old new (row_key r)) rows)
+        (all_at row.key) (all_rows rows)
 
-same_keys_rise : (bs ns : List KeyedRow) → HaveKeys bs ns → IsRising key_cmp row_key bs → IsRising key_cmp row_key ns
-same_keys_rise bs ns e rising =
-    rising_map key_cmp (λ (k : Key). k) row_key ns
-    (subst (IsRising key_cmp (λ (k : Key). k)) e (map_rising key_cmp (λ (k : Key). k) row_key bs rising))
+  -- so of the rows of each run
+  each_part : (rows : List KeyedRow) → AllByRecursion P (flat_map (λ row. changes_at old new (row_key row)) rows) →
+      AllByRecursion (λ row. AllByRecursion P (changes_at old new (row_key row))) rows
+  each_part [] h = tt
+  each_part (row ∷ rows) h =
+      let parts = all_parts P (changes_at old new row.key) (flat_map (λ r. changes_at old new (row_key r)) rows) h in
+      (parts.0, each_part rows parts.1)
 
-module _ (book : Contents) (e : Entry Accepted) where
-  keys_stay : HaveKeys (month_rows book) (month_rows (book_with book e))
-  keys_stay = all_keys (pick book.plans) (pick (with_entry e book.plans)) book.years
+  -- and of those of a run that is in both books
+  of_run : AllByRecursion P (changes_between old new) → (k : Key) (b a : State) → state_of old k ≡ Some b →
+      state_of new k ≡ Some a → AllByRecursion P (run_changes k b a)
+  of_run h k b a was is = by (at_key key_cmp row_key (month_rows old) k) refl
+    where
+      rows_at_key : AllByRecursion P (changes_at old new k) → AllByRecursion P (run_changes k b a)
+      rows_at_key g = subst (λ o. AllByRecursion P (option_map_or (run_changes k b) o [])) is
+          (subst (λ o. AllByRecursion P (option_map_or (λ x. option_map_or (run_changes k x) (state_of new k) []) o []))
+          was g)
 
-  module _ (is : IsBook book) (P : TrialRow → Type 0) (one : (k : Key) (b a : State) → state_of book k ≡ Some b →
-      state_of (book_with book e) k ≡ Some a → AllByRecursion P (run_changes k b a)) where
-    each_row : AllByRecursion P (changes (month_rows book) (month_rows (book_with book e)))
-    each_row =
-        let bs = month_rows book in
-        let ns = month_rows (book_with book e) in
-        let rise = book_rows_rise book is in
-        all_changes P book (book_with book e) one bs ns keys_stay (states_found bs rise)
-        (states_found ns (same_keys_rise bs ns keys_stay rise))
+      by : (o : Option KeyedRow) → at_key key_cmp row_key (month_rows old) k ≡ o →
+          AllByRecursion P (run_changes k b a)
+      by None e = absurd (none_some b (sym (ap (option_map row_state) e) ∙ was))
+      by (Some row) e =
+          let found = found_in key_cmp row_key (month_rows old) k row e in
+          rows_at_key (subst (λ x. AllByRecursion P (changes_at old new x)) (key_same row.key k found.1)
+          (all_in (λ r. AllByRecursion P (changes_at old new (row_key r))) (month_rows old) row
+          (each_part (month_rows old) h) found.0))
 
 -- ---- a run that a row names changes
 
-some_states : (b a : State) → ◌≡◌ {A = Option State} (Some a) (Some b) → a ≡ b
-some_states b a e = cc e
-
 pub named_change : NamedRunsChange
-named_change book e is = each_row book e is (λ row. state_of new (run_of row) ≢ state_of book (run_of row)) one
+named_change book e =
+    all_rows (λ row. state_of new (run_of row) ≢ state_of book (run_of row)) book new one (month_rows book)
   where
     new : Contents
     new = book_with book e
@@ -138,7 +133,7 @@ named_change book e is = each_row book e is (λ row. state_of new (run_of row) �
       where
         changed : same_state b a ≡ false → state_of new k ≢ state_of book k
         changed t same =
-            let equal : a ≡ b = some_states b a (sym is ∙ same ∙ was) in
+            let equal : a ≡ b = some_same a b (sym is ∙ same ∙ was) in
             false≢true (sym t ∙ ap (same_state b) equal ∙ state_own b)
 
         by : (t : Bool) → same_state b a ≡ t →
@@ -154,7 +149,7 @@ named_change book e is = each_row book e is (λ row. state_of new (run_of row) �
 -- ---- what a row tells is so in both books
 
 pub rows_tell : RowsTellBoth
-rows_tell book e is = each_row book e is (TellsBoth book new) one
+rows_tell book e = all_rows (TellsBoth book new) book new one (month_rows book)
   where
     new : Contents
     new = book_with book e
@@ -179,60 +174,26 @@ rows_tell book e is = each_row book e is (TellsBoth book new) one
         by true t = tt
         by false t = (shown, all_value_rows (TellsBoth book new) k (state_outputs b) (state_outputs a) amount)
 
+-- ---- a run that no row names stays
+
+-- a run without a row of its own has one state
+unnamed_run : (k : Key) (b a : State) → AllByRecursion (λ row. run_of row ≡ k → ⊥) (run_changes k b a) → a ≡ b
+unnamed_run k b a h = by (same_state b a) refl h
+  where
+    by : (t : Bool) → same_state b a ≡ t → IsUnnamed (if t then [] else changed_rows k b a) k → a ≡ b
+    by true e g = sym (state_one b a e)
+    by false e g = absurd (g.0 refl)
+
+pub unnamed_stay : UnnamedRunsStay
+unnamed_stay book e k h = by (in_both_or_none book e k)
+  where
+    by : IsInBothOrNone book (book_with book e) k → state_of (book_with book e) k ≡ state_of book k
+    by (inl none) = none.1 ∙ sym none.0
+    by (inr run) =
+        let rows = of_run (λ row. run_of row ≡ k → ⊥) book (book_with book e) h k run.was run.is run.before run.after in
+        run.after ∙ ap (λ s. Some s) (unnamed_run k run.was run.is rows) ∙ sym run.before
+
 -- ---- an output of which no row tells stays
-
--- a run of two lists, with its rows
-record IsPair (P : TrialRow → Type 0) (bs ns : List KeyedRow) (k : Key) : Type 0 where
-  was : State
-  is : State
-  before : state_at bs k ≡ Some was
-  after : state_at ns k ≡ Some is
-  rows : AllByRecursion P (run_changes k was is)
-
-module _ (P : TrialRow → Type 0) where
-  abbrev Paired : List KeyedRow → List KeyedRow → Key → Type 0
-  Paired bs ns k = ((state_at bs k ≡ None) × (state_at ns k ≡ None)) ⊎ IsPair P bs ns k
-
-  abbrev first : Ordering → KeyedRow → List KeyedRow → Key → Option State
-  first o row more k = option_map row_state (if is_eq o then Some row else at_key key_cmp row_key more k)
-
-  further : (bs ns cs ms : List KeyedRow) (k : Key) → state_at cs k ≡ state_at bs k → state_at ms k ≡ state_at ns k →
-      Paired bs ns k → Paired cs ms k
-  further bs ns cs ms k f g (inl none) = inl (f ∙ none.0, g ∙ none.1)
-  further bs ns cs ms k f g (inr p) =
-      inr (record { was = p.was; is = p.is; before = f ∙ p.before; after = g ∙ p.after; rows = p.rows })
-
-  pair_at : (bs ns : List KeyedRow) (k : Key) → HaveKeys bs ns → AllByRecursion P (changes bs ns) → Paired bs ns k
-  pair_at [] [] k e h = inl (refl, refl)
-  pair_at [] (a ∷ ns) k e h = absurd (omega (arith, ap length e))
-  pair_at (b ∷ bs) [] k e h = absurd (omega (arith, ap length e))
-  pair_at (b ∷ bs) (a ∷ ns) k e h = by (pair_at bs ns k more parts.1) (key_cmp b.key k) refl
-    where
-      same : b.key ≡ a.key
-      same = head_key b.key a.key (map row_key bs) (map row_key ns) e
-
-      more : HaveKeys bs ns
-      more = tail_keys b.key a.key (map row_key bs) (map row_key ns) e
-
-      parts : AllByRecursion P (run_changes b.key b.state a.state) × AllByRecursion P (changes bs ns)
-      parts = all_parts P (run_changes b.key b.state a.state) (changes bs ns) h
-
-      left : (o : Ordering) → key_cmp b.key k ≡ o → state_at (b ∷ bs) k ≡ first o b bs k
-      left o t = ap (λ p. first p b bs k) t
-
-      right : (o : Ordering) → key_cmp b.key k ≡ o → state_at (a ∷ ns) k ≡ first o a ns k
-      right o t = ap (λ p. first p a ns k) (ap (λ x. key_cmp x k) (sym same) ∙ t)
-
-      by : Paired bs ns k → (o : Ordering) → key_cmp b.key k ≡ o → Paired (b ∷ bs) (a ∷ ns) k
-      by rest Less t = further bs ns (b ∷ bs) (a ∷ ns) k (left Less t) (right Less t) rest
-      by rest Equal t = inr (record {
-        was = b.state;
-        is = a.state;
-        before = left Equal t;
-        after = right Equal t;
-        rows = subst (λ x. AllByRecursion P (run_changes x b.state a.state)) (key_same b.key k t) parts.0;
-      })
-      by rest Greater t = further bs ns (b ∷ bs) (a ∷ ns) k (left Greater t) (right Greater t) rest
 
 module _ (k : Key) (name : List ℕ) where
   abbrev IsUntold : TrialRow → Type 0
@@ -264,13 +225,14 @@ module _ (k : Key) (name : List ℕ) where
       by false t g = untold_amount (state_outputs b) (state_outputs a) g.1
 
 pub untold_stay : UntoldValuesStay
-untold_stay book e k name h =
-    by (pair_at (IsUntold k name) (month_rows book) (month_rows (book_with book e)) k (keys_stay book e) h)
+untold_stay book e k name h = by (in_both_or_none book e k)
   where
     shown : Option State → Option Decimal
     shown o = named name (option_map_or state_outputs o [])
 
-    by : Paired (IsUntold k name) (month_rows book) (month_rows (book_with book e)) k →
+    by : IsInBothOrNone book (book_with book e) k →
         named name (outputs_at (book_with book e) k) ≡ named name (outputs_at book k)
     by (inl none) = ap shown none.1 ∙ sym (ap shown none.0)
-    by (inr p) = ap shown p.after ∙ untold_run k name p.was p.is p.rows ∙ sym (ap shown p.before)
+    by (inr run) =
+        let rows = of_run (IsUntold k name) book (book_with book e) h k run.was run.is run.before run.after in
+        ap shown run.after ∙ untold_run k name run.was run.is rows ∙ sym (ap shown run.before)

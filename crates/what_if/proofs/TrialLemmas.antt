@@ -14,15 +14,15 @@ use Rattle.book_edits.specs.declared.years.Years.{Years}
 use Rattle.book_edits.specs.Kept.{jobs_in, years_of}
 use Rattle.recalc_engine.specs.BookLaws.{HasPlan, IsBook, IsAcceptedPlan}
 use Rattle.recalc_engine.specs.Contents.{Contents}
-use Rattle.recalc_engine.specs.MonthRows.{month_rows}
 use Rattle.recalc_engine.proofs.Laws.{picked_plan}
 use Rattle.what_if.specs.declared.trial.Trial.{Trial}
 use Rattle.what_if.specs.declared.trial.TryRefusal.{TryRefusal}
 use Rattle.what_if.specs.declared.trial.TryRefusal.TheVariants as trying
-use Rattle.what_if.specs.Changes.{changes}
+use Rattle.what_if.specs.Changes.{changes_between}
 use Rattle.what_if.specs.Trials.{CountsTry, book_with, trial_of}
 use Rattle.what_if.specs.YearViews.{ArePlanned, IsTried, year_changes}
 use Rattle.what_if.proofs.ChangeLemmas.{changes_by_year}
+use Rattle.what_if.proofs.KeyLemmas.{by_key}
 
 module _ (book : Contents) (e : Entry Accepted) (is : IsBook book) (plans : List (Entry Accepted))
     (plans_are : plans ≡ book.plans) (p q : Planned) (old : (d : Day) → p d ≡ pick plans d) (new : (d : Day) →
@@ -52,9 +52,10 @@ module _ (book : Contents) (e : Entry Accepted) (is : IsBook book) (plans : List
       ])
 
   module _ (years : Years) (years_are : years_of years ≡ book.years) where
-    rows_are : flat_map (year_changes p q) (years_of years) ≡ changes (month_rows book) (month_rows (book_with book e))
+    rows_are : flat_map (year_changes p q) (years_of years) ≡ changes_between book (book_with book e)
     rows_are = (λ i. flat_map (year_changes (old_is i) (new_is i)) (years_are i))
         ∙ sym (changes_by_year (pick book.plans) (pick wanted) book.years)
+        ∙ sym (by_key book e is)
 
     work_is : work_of (jobs_in p q (years_of years) (years_of years)) ≡ (book_with book e).last
     work_is = λ i. work_of (jobs_in (old_is i) (new_is i) (years_are i) (years_are i))

@@ -26,8 +26,8 @@ use Rattle.recalc_engine.specs.MonthViews.{rows_kept_in}
 use Rattle.recalc_engine.specs.RowLaws.{AreNamed, HasNames, HaveNames}
 use Rattle.recalc_engine.proofs.Laws.{no_names, rows_named, year_kept_by}
 use Rattle.what_if.specs.declared.trial.TrialRow.{TrialRow}
-use Rattle.what_if.specs.Changes.{changes, state_outputs}
-use Rattle.what_if.specs.YearViews.{ArePlanned, HasOutcomes, IsNamed, year_changes}
+use Rattle.what_if.specs.Changes.{state_outputs}
+use Rattle.what_if.specs.YearViews.{ArePlanned, HasOutcomes, IsNamed, changes, year_changes}
 
 -- ---- the outputs of a year's runs have different names
 

@@ -1,22 +1,25 @@
--- What differs between the states of the runs of two books that have the same runs.
-use Rattle.std.specs.Prelude.{ℕ, List, [], ◌∷◌, ◌++◌, Option, Some, None, Bool, true, false, ◌&&◌, if◌then◌else◌, map}
-use Rattle.std.specs.List.{filter_map}
+-- What differs between two books: run by run, its state in the one and in the other.
+use Rattle.std.specs.Prelude.{ℕ, List, [], ◌∷◌, ◌++◌, Option, Some, None, Bool, true, false, ◌&&◌, if◌then◌else◌, map, option_map}
+use Rattle.std.specs.List.{filter_map, flat_map}
+use Rattle.std.specs.Option.{option_map_or}
 use Rattle.std.specs.Ordering.{is_eq}
 use Rattle.std.specs.Str.{bytes_eq}
 use Rattle.std.specs.Cmp.Lexicographic.{pointwise}
 use Rattle.scaled_decimal.specs.Decimals.{Decimal}
-use Rattle.rising_lists.specs.Keyed.{put}
+use Rattle.rising_lists.specs.Keyed.{at_key, put}
 use Rattle.payroll_records.specs.declared.record.Key.{Key}
 use Rattle.payroll_records.specs.declared.values.NamedValue.{NamedValue}
 use Rattle.payroll_records.specs.NamedValues.{name_cmp, name_of}
-use Rattle.payroll_records.specs.Orders.{day_cmp}
+use Rattle.payroll_records.specs.Orders.{day_cmp, key_cmp}
 use Rattle.carry_bindings.specs.Carrying.{named}
 use Rattle.carry_bindings.specs.declared.filling.Blocked.{Blocked}
 use Rattle.carry_bindings.specs.declared.filling.Blocked.TheVariants as blocked
 use Rattle.book_year.specs.declared.outcome.State.{State}
 use Rattle.book_year.specs.declared.outcome.State.TheVariants as state
 use Rattle.book_year.specs.Jobs.{same_decimal}
-use Rattle.recalc_engine.specs.MonthRows.{KeyedRow}
+use Rattle.recalc_engine.specs.BookLaws.{row_key}
+use Rattle.recalc_engine.specs.Contents.{Contents}
+use Rattle.recalc_engine.specs.MonthRows.{KeyedRow, month_rows}
 use Rattle.what_if.specs.declared.trial.Shown.{Shown}
 use Rattle.what_if.specs.declared.trial.Shown.TheVariants as shown
 use Rattle.what_if.specs.declared.trial.TrialRow.{TrialRow}
@@ -94,8 +97,21 @@ run_changes k before after =
     else Changed k (shown_state before) (shown_state after)
     ∷ value_rows k (state_outputs before) (state_outputs after)
 
--- the rows of all runs, one after another, where the second list has the runs of the first
-abbrev pub changes : List KeyedRow → List KeyedRow → List TrialRow
-changes [] after = []
-changes (b ∷ before) [] = []
-changes (b ∷ before) (a ∷ after) = run_changes b.key b.state a.state ++ changes before after
+-- ---- of a book
+
+-- the state of the run at a key
+abbrev pub row_state : KeyedRow → State
+row_state row = row.state
+
+abbrev pub state_of : Contents → Key → Option State
+state_of book k = option_map row_state (at_key key_cmp row_key (month_rows book) k)
+
+-- the rows of the run at a key, by its states in the two books
+abbrev pub changes_at : Contents → Contents → Key → List TrialRow
+changes_at old new k =
+    option_map_or (λ before. option_map_or (run_changes k before) (state_of new k) [])
+    (state_of old k) []
+
+-- the rows of all runs of a book, in order of employee and day
+abbrev pub changes_between : Contents → Contents → List TrialRow
+changes_between old new = flat_map (λ row. changes_at old new (row_key row)) (month_rows old)

@@ -1,21 +1,17 @@
 -- What follows from a trial.
-use Rattle.std.specs.Prelude.{◌≡◌, ◌≢◌, ◌↔◌, ℕ, List, [], Option, Some, IsTrue, option_map}
+use Rattle.std.specs.Prelude.{◌≡◌, ◌≢◌, ◌↔◌, ℕ, List, [], Some, IsTrue, option_map}
 use Rattle.std.specs.List.{AllByRecursion}
 use Rattle.std.specs.Option.{option_map_or}
-use Rattle.rising_lists.specs.Keyed.{at_key}
 use Rattle.payroll_records.specs.declared.record.Key.{Key}
 use Rattle.payroll_records.specs.declared.values.NamedValue.{NamedValue}
-use Rattle.payroll_records.specs.Orders.{key_cmp}
 use Rattle.plan_calendar.specs.Picking.{Entry}
 use Rattle.carry_bindings.specs.Carrying.{named}
 use Rattle.book_year.specs.Accepted.{Accepted}
 use Rattle.book_year.specs.declared.outcome.State.{State}
-use Rattle.recalc_engine.specs.BookLaws.{IsBook, row_key}
 use Rattle.recalc_engine.specs.Contents.{Contents}
-use Rattle.recalc_engine.specs.MonthRows.{KeyedRow, month_rows}
 use Rattle.what_if.specs.declared.trial.TrialRow.{TrialRow}
 use Rattle.what_if.specs.declared.trial.TrialRow.TheVariants.{Changed, Value}
-use Rattle.what_if.specs.Changes.{state_outputs, same_state, shown_state}
+use Rattle.what_if.specs.Changes.{state_of, state_outputs, same_state, shown_state}
 use Rattle.what_if.specs.Trials.{book_with, trial_of}
 
 -- two states are told the same exactly where they are
@@ -31,13 +27,6 @@ run_of (Value k name before after) = k
 abbrev pub IsUnnamed : List TrialRow → Key → Type 0
 IsUnnamed rows k = AllByRecursion (λ row. run_of row ≡ k → ⊥) rows
 
--- the state of a key's run among a book's rows
-abbrev pub row_state : KeyedRow → State
-row_state row = row.state
-
-abbrev pub state_of : Contents → Key → Option State
-state_of book k = option_map row_state (at_key key_cmp row_key (month_rows book) k)
-
 -- ---- runs
 
 -- a run that no row of the trial names has the same state once the plan is put
@@ -49,7 +38,7 @@ UnnamedRunsStay =
 -- a run that a row of the trial names has another state once the plan is put
 abbrev pub NamedRunsChange : Type 0
 NamedRunsChange =
-    (book : Contents) (e : Entry Accepted) → IsBook book
+    (book : Contents) (e : Entry Accepted)
     → AllByRecursion
     (λ row. state_of (book_with book e) (run_of row) ≢ state_of book (run_of row)) (trial_of book e).rows
 
@@ -69,7 +58,7 @@ TellsBoth old new (Value k name before after) =
 -- so it is of each row of a trial
 abbrev pub RowsTellBoth : Type 0
 RowsTellBoth =
-    (book : Contents) (e : Entry Accepted) → IsBook book
+    (book : Contents) (e : Entry Accepted)
     → AllByRecursion (TellsBoth book (book_with book e)) (trial_of book e).rows
 
 -- the row tells the value of this output of this run

@@ -5,20 +5,19 @@ use Rattle.book_year.specs.Accepted.{Accepted}
 use Rattle.book_edits.specs.Replans.{HasMostPlans}
 use Rattle.recalc_engine.specs.Contents.{Contents}
 use Rattle.recalc_engine.specs.EditAnswers.{CanEdit, edited_book, put}
-use Rattle.recalc_engine.specs.MonthRows.{month_rows}
 use Rattle.what_if.specs.declared.trial.Trial.{Trial}
 use Rattle.what_if.specs.declared.trial.TryRefusal.{TryRefusal}
 use Rattle.what_if.specs.declared.trial.TryRefusal.TheVariants as trying
-use Rattle.what_if.specs.Changes.{changes}
+use Rattle.what_if.specs.Changes.{changes_between}
 
 -- the book with the plan put at its day
 abbrev pub book_with : Contents → Entry Accepted → Contents
 book_with book e = edited_book (put e) book
 
--- what differs between the runs of the book and those of the book with the plan, and the work of putting it
+-- what differs between the book and the book with the plan, run by run, and the work of putting it
 abbrev pub trial_of : Contents → Entry Accepted → Trial
 trial_of book e = record {
-  rows = changes (month_rows book) (month_rows (book_with book e));
+  rows = changes_between book (book_with book e);
   work = (book_with book e).last;
 }
 

@@ -1,5 +1,5 @@
--- What a year's runs came to, and what a trial of all years gives.
-use Rattle.std.specs.Prelude.{◌≡◌, List, length}
+-- What a year's runs came to, and what a trial of all years gives, two lists of the same runs side by side.
+use Rattle.std.specs.Prelude.{◌≡◌, List, [], ◌∷◌, ◌++◌, length}
 use Rattle.std.specs.List.{AllByRecursion, flat_map}
 use Rattle.payroll_records.specs.declared.day.Day.{Day}
 use Rattle.payroll_records.specs.declared.record.Record.{Record}
@@ -11,11 +11,11 @@ use Rattle.book_edits.specs.declared.years.Years.{Years}
 use Rattle.book_edits.specs.Books.{YearRuns}
 use Rattle.book_edits.specs.Kept.{jobs_in, years_of}
 use Rattle.recalc_engine.specs.BookLaws.{HasPlan}
-use Rattle.recalc_engine.specs.MonthRows.{keyed_rows}
+use Rattle.recalc_engine.specs.MonthRows.{KeyedRow, keyed_rows}
 use Rattle.recalc_engine.specs.RowLaws.{HaveNames}
 use Rattle.what_if.specs.declared.trial.Trial.{Trial}
 use Rattle.what_if.specs.declared.trial.TrialRow.{TrialRow}
-use Rattle.what_if.specs.Changes.{changes, state_outputs}
+use Rattle.what_if.specs.Changes.{run_changes, state_outputs}
 
 -- the outputs have different names
 abbrev pub IsNamed : Outcome → Type 0
@@ -32,6 +32,12 @@ HasOutcomes y = AreOutcomesOf y.records.items y.outcomes.items
 -- the plan of each day, if there is one, is accepted
 abbrev pub ArePlanned : Planned → Type 0
 ArePlanned planned = (d : Day) → HasPlan (planned d)
+
+-- the rows of all runs, one after another, where the second list has the runs of the first
+abbrev pub changes : List KeyedRow → List KeyedRow → List TrialRow
+changes [] after = []
+changes (b ∷ before) [] = []
+changes (b ∷ before) (a ∷ after) = run_changes b.key b.state a.state ++ changes before after
 
 -- what differs between a year's runs where its days have the one plan or the other
 abbrev pub year_changes : Planned → Planned → YearRuns → List TrialRow

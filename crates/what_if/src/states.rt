@@ -71,6 +71,7 @@ pub(crate) fn shown(state: &State) -> Shown
     }
 }
 
+/// A cause without its day or name.
 fn shown_cause(cause: &Blocked) -> Shown
     ensures { result ≡ shown_cause cause.now }
 {

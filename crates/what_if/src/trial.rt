@@ -51,6 +51,7 @@ pub enum TrialRow {
 pub struct Trial {
     /// In order of key. The row of a run comes before those of its values, which stand in order of their names' bytes.
     pub rows: Items<TrialRow>,
+    /// How many runs would run, and the steps that they would take.
     pub work: Work,
 }
 

@@ -27,24 +27,24 @@ use steps::Steps;
 /// some of them.
 pub fn try_plan<L: Ledger>(
     alloc: Global,
-    b: &Book,
+    book: &Book,
     day: Day,
-    p: Plan,
+    plan: Plan,
     steps: &mut Steps<L>,
 ) -> Result<Trial, TryRefusal>
-    ensures ok { IfOk result (λ trial. trial ≡ trial_of b.now (day, accepted p)) }
-    ensures can { IfOk result (λ _. CanEdit b.now (put (day, accepted p))) }
-    ensures refused { IfErr result (IsTryRefused b.now (day, accepted p)) }
+    ensures ok { IfOk result (λ trial. trial ≡ trial_of book.now (day, accepted plan)) }
+    ensures can { IfOk result (λ _. CanEdit book.now (put (day, accepted plan))) }
+    ensures refused { IfErr result (IsTryRefused book.now (day, accepted plan)) }
     ensures counted { CountsTry result steps.old steps.new
-        (trial_of b.now (day, accepted p)).work.steps }
+        (trial_of book.now (day, accepted plan)).work.steps }
 {
-    if is_full(b.plans().entries(), day) {
+    if is_full(book.plans().entries(), day) {
         return Err(TryRefusal::Plans);
     }
-    b.law();
-    p.law();
-    let picks = Picks::edited(b.plans(), day, Some((day, &p)));
-    let trial = try_years(alloc, &picks, b.years(), steps)?;
+    book.law();
+    plan.law();
+    let picks = Picks::edited(book.plans(), day, Some((day, &plan)));
+    let trial = try_years(alloc, &picks, book.years(), steps)?;
     Ok(trial)
 }
 

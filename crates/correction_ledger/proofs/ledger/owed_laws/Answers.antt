@@ -1,3 +1,4 @@
+use Rattle.correction_ledger.proofs.AnswerLemmas.{filing_answers, owed_answers}
 use Rattle.correction_ledger.proofs.OwedLemmas.{filing_settles, owed_settles}
 use Rattle.correction_ledger.proofs.SomeLemmas.{owed_one}
 use Rattle.correction_ledger.proofs.ledger.owed_laws.Goals as goal
@@ -10,3 +11,9 @@ returns-clause-settles c rows entries month dues p h t = owed_settles rows entri
 
 pub returns-clause-nothing : goal.returns-clause-nothing
 returns-clause-nothing c = filing_settles
+
+pub returns-clause-filing : goal.returns-clause-filing
+returns-clause-filing c = filing_answers
+
+pub returns-clause-owed : goal.returns-clause-owed
+returns-clause-owed c = owed_answers

@@ -1,5 +1,4 @@
-use Rattle.what_if.proofs.ChangeLemmas.{unnamed_stay}
-use Rattle.what_if.proofs.NamedLemmas.{named_change, rows_tell, untold_stay}
+use Rattle.what_if.proofs.NamedLemmas.{named_change, rows_tell, unnamed_stay, untold_stay}
 use Rattle.what_if.proofs.StateLemmas.{states_one}
 use Rattle.what_if.proofs.trials.trial_laws.Goals as goal
 

@@ -27,8 +27,8 @@ returns-then-len-gt-MOST_ENTRIES-clause-refused c =
     let dues : c.in_ok-dues.dues.items ≡ owed_list reps sums = c.in_ok-dues.ensures ∙ ap (filter_map owed_of) (c.of.ensures ∙ ap₂ balances_of c.as_slice.ensures.value c.as_slice-2.ensures.value) in
     let size = ap length dues in
     let many : most_entries < length entries + length (owed_list reps sums) = omega arith in
-    subst (λ old. HasTooMany (month_rows c.args.b.now) c.args.month old) c.self.view_is
-    (is_full (month_rows c.args.b.now) c.args.month entries reps sums c.self.inside.last c.in_ok-reported.ensures c.self.invariant c.in_ok-admit.ensures.ok many)
+    subst (λ old. HasTooMany (month_rows c.args.book.now) c.args.month old) c.self.view_is
+    (is_full (month_rows c.args.book.now) c.args.month entries reps sums c.self.inside.last c.in_ok-reported.ensures c.self.invariant c.in_ok-admit.ensures.ok many)
 
 pub invariant_of-self-2 : goal.invariant_of-self-2
 invariant_of-self-2 c =
@@ -40,7 +40,7 @@ invariant_of-self-2 c =
     let filed : c.append.new.self.items ≡ filed_with c.args.month entries (owed_list reps sums) = c.in_ok-append.ensures.items ∙ ap (λ l. entries ++ l) (c.in_ok-entries.ensures ∙ ap (map (entry_with c.args.month)) (c.as_slice-5.ensures.value ∙ dues)) in
     let size = ap length dues in
     let few : length entries + length (owed_list reps sums) ≤ most_entries = omega arith in
-    rw (filed, settled) (is_kept (month_rows c.args.b.now) c.args.month entries reps sums c.self.inside.last c.in_ok-reported.ensures c.self.invariant c.in_ok-admit.ensures.ok few)
+    rw (filed, settled) (is_kept (month_rows c.args.book.now) c.args.month entries reps sums c.self.inside.last c.in_ok-reported.ensures c.self.invariant c.in_ok-admit.ensures.ok few)
 
 pub returns-clause-ok : goal.returns-clause-ok
 returns-clause-ok c =
@@ -52,5 +52,5 @@ returns-clause-ok c =
     let size = ap length dues in
     let few : length entries + length (owed_list reps sums) ≤ most_entries = omega arith in
     let count : c.len-3.result ≡ length (owed_list reps sums) = omega arith in
-    let filing = is_filing (month_rows c.args.b.now) c.args.month entries reps sums c.self.inside.last c.in_ok-reported.ensures c.self.invariant c.in_ok-admit.ensures.ok few in
-    rw (filed, count) (subst (λ old. IsFiling (month_rows c.args.b.now) c.args.month old (record { entries = filed_with c.args.month entries (owed_list reps sums); last = Some c.args.month }) (length (owed_list reps sums))) c.self.view_is filing)
+    let filing = is_filing (month_rows c.args.book.now) c.args.month entries reps sums c.self.inside.last c.in_ok-reported.ensures c.self.invariant c.in_ok-admit.ensures.ok few in
+    rw (filed, count) (subst (λ old. IsFiling (month_rows c.args.book.now) c.args.month old (record { entries = filed_with c.args.month entries (owed_list reps sums); last = Some c.args.month }) (length (owed_list reps sums))) c.self.view_is filing)

@@ -34,7 +34,7 @@ returns-in_err-dues-clause-refused c =
 
 pub returns-clause-ok : goal.returns-clause-ok
 returns-clause-ok c =
-    let rows = month_rows c.args.b.now in
+    let rows = month_rows c.args.book.now in
     let reps = c.in_ok-reported.reported.items in
     let sums = c.self.inside.sums.items in
     let entries = c.self.inside.entries.items in
