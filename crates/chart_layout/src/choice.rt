@@ -41,6 +41,7 @@ pub(crate) enum Shape {
 }
 
 impl Choice {
+    /// How its branches come together.
     pub(crate) fn shape(&self) -> Shape
         ensures { HasShape self.now result }
     {
@@ -87,6 +88,7 @@ impl Choice {
 }
 
 impl Arm {
+    /// How much room its test, its comments and its branch take, where that has this end.
     fn width(&self, end: End) -> Px {
         let note = match &self.note {
             Some(note) => note.width(),

@@ -40,6 +40,7 @@ pub(crate) enum End {
 }
 
 impl Body {
+    /// A body of these figures.
     pub(crate) fn new(figures: Vec<Figure>) -> Body
         ensures { body_statements result ≡ figures_statements figures.items }
     {

@@ -50,6 +50,7 @@ fn end_width(name: &Name) -> Px {
     terminator_width(if *name == Name::main() { 3 } else { 6 })
 }
 
+/// The width of the symbol of a word with which a method begins or ends.
 fn terminator_width(chars: usize) -> Px {
     let word = Px::of_tenths(tenths(chars, WORD_CHAR));
     (word + TERMINATOR_SIDE + TERMINATOR_SIDE).max(LEAST_TERMINATOR)
@@ -89,6 +90,7 @@ struct Fork {
 }
 
 impl Fork {
+    /// The spine of its body.
     fn spine(&self) -> Px {
         self.x + SPINE
     }

@@ -1,6 +1,6 @@
 //! The drawing of a method as a flowchart, in numbers: its symbols, lines and words with their places.
 //!
-//! Everything stands below everything else: at each height there is one symbol, and beside it only vertical lines. The line
+//! Symbols stand one below another: at each height there is one symbol, and beside it only vertical lines. The line
 //! of a body (its spine) runs at its left. After a test `no` goes straight down the spine, `yes` one step to the right and
 //! back. So an ELSE takes no width, and a chain of ELSEs with one IF each goes down the page.
 #![tactic(auto)]

@@ -45,9 +45,10 @@ pub(crate) const SYMBOL_STEP: u32 = 40;
 /// The greatest height of a box of several statements.
 pub(crate) const HIGHEST_BOX: Px = Px(900);
 
-/// The room of a body that stands in no THEN, and the least room of a body.
+/// The room of a body that stands in no THEN.
 pub(crate) const WIDEST_ROOM: Px = Px(640);
 
+/// The least room of a body.
 pub(crate) const LEAST_ROOM: Px = Px(340);
 
 // ---- characters, in tenths of a px
@@ -98,9 +99,10 @@ pub(crate) const PLACE_GAP: Px = Px(14);
 /// How far a part reaches from its top to the end of its last symbol.
 pub(crate) const LONGEST_PART: Px = Px(1070);
 
-/// How far above a symbol a part may end, and above comments.
+/// How far above a symbol a part may end.
 pub(crate) const CUT_GAP: Px = Px(8);
 
+/// How far above comments.
 pub(crate) const NOTE_CUT_GAP: Px = Px(2);
 
 // ---- the ways of a test
@@ -108,26 +110,29 @@ pub(crate) const NOTE_CUT_GAP: Px = Px(2);
 /// How far a branch goes down before its first figure.
 pub(crate) const BRANCH_DROP: Px = Px(8);
 
-/// How far a word stands from its line, and below its test.
+/// How far a word stands from its line.
 pub(crate) const WORD_SIDE: Px = Px(6);
 
+/// How far it stands below its test.
 pub(crate) const WORD_DROP: Px = Px(16);
 
 /// How far a test's line goes down where nothing stands on either way.
 pub(crate) const EITHER_DROP: Px = Px(26);
 
-/// How far a branch goes down behind its last figure, and one of no figure.
+/// How far a branch goes down behind its last figure.
 pub(crate) const JOIN_GAP: Px = Px(12);
 
+/// How far one of no figure goes down.
 pub(crate) const EMPTY_JOIN_GAP: Px = Px(14);
 
-/// How far a rail is from what it passes, and the room that it takes.
+/// How far a rail is from what it passes.
 pub(crate) const RAIL_GAP: Px = Px(18);
 
+/// The room that it takes.
 pub(crate) const RAIL_ROOM: Px = Px(20);
 
-/// How far a spine goes on below a branch that met a rail, and below an ELSE before its rail comes
-/// back.
+/// How far a spine goes on below a branch that met a rail.
 pub(crate) const BELOW_RAIL: Px = Px(2);
 
+/// How far it goes on below an ELSE before its rail comes back.
 pub(crate) const RAIL_JOIN_GAP: Px = Px(14);

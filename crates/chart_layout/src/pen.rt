@@ -23,6 +23,7 @@ struct Rail {
 }
 
 impl<'a> Pen<'a> {
+    /// A pen that has drawn nothing.
     pub(crate) fn new(alloc: Global) -> Pen<'a>
         ensures { drawing_statements result.parts.items ≡ [] }
     {

@@ -34,10 +34,13 @@ pub struct Statement {
 /// An EXECUTE.
 #[derive(Clone, Copy)]
 pub struct Call {
+    /// Its number in its method.
     pub number: u32,
+    /// It is the one for which the plan is refused.
     pub is_refused: bool,
     /// The method that is executed.
     pub method: Name,
+    /// The width of its box.
     width: Px,
 }
 
@@ -102,6 +105,7 @@ impl Statement {
 }
 
 impl Call {
+    /// An EXECUTE of a method.
     pub(crate) fn new(site: Site, method: Name) -> Call
         ensures { drawn_call result ≡ drawn site.number site.is_refused method }
     {

@@ -39,6 +39,7 @@ pub(crate) fn work_out(line: &str) -> Option<Answer> {
     }
 }
 
+/// The decimal of a text.
 fn read(text: &str) -> Option<Dec> {
     read_dec(text.as_bytes()).ok()
 }
@@ -54,6 +55,7 @@ fn of_two(name: &str, a: Dec, b: Dec) -> Option<Answer> {
     }
 }
 
+/// An operation of two decimals that have to be comparable.
 fn of_comparable(name: &str, a: Dec, b: Dec) -> Option<Answer> {
     if !operations::are_comparable(a, b) {
         return None;
@@ -66,6 +68,7 @@ fn of_comparable(name: &str, a: Dec, b: Dec) -> Option<Answer> {
     }
 }
 
+/// An order as -1, 0 or 1.
 fn number_of(order: Ordering) -> i128 {
     match order {
         Ordering::Less => -1,
@@ -74,11 +77,13 @@ fn number_of(order: Ordering) -> i128 {
     }
 }
 
+/// A decimal divided by a whole number, with all its places.
 fn divided_exactly(divisor: &str, text: &str) -> Option<Answer> {
     let divisor = divisor.parse::<i128>().ok()?;
     Some(Answer::Decimal(operations::exact_quotient(read(text)?, divisor)?))
 }
 
+/// The quotient of two whole numbers, rounded to a whole number by a mode.
 fn rounded(mode: &str, dividend: &str, divisor: &str) -> Option<Answer> {
     let mode = mode_of(mode)?;
     let n = read(dividend)?;
@@ -89,11 +94,13 @@ fn rounded(mode: &str, dividend: &str, divisor: &str) -> Option<Answer> {
     Some(Answer::Whole(round_div(n.numerator(), d.numerator(), mode)))
 }
 
+/// A decimal at a scale, rounded by a mode.
 fn rescaled(mode: &str, scale: &str, text: &str) -> Option<Answer> {
     let scale = scale.parse::<u8>().ok()?;
     Some(Answer::Decimal(operations::rescaled(read(text)?, scale, mode_of(mode)?)?))
 }
 
+/// The quotient of two decimals at a scale, rounded by a mode.
 fn divided(mode: &str, scale: &str, dividend: &str, divisor: &str) -> Option<Answer> {
     let scale = scale.parse::<u8>().ok()?;
     let quotient = operations::quotient(read(dividend)?, read(divisor)?, scale, mode_of(mode)?)?;

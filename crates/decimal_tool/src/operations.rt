@@ -129,6 +129,7 @@ fn lengthened(n: i128, places: u8) -> Option<i128>
     }
 }
 
+/// Whether a numerator is within the limit.
 fn is_within_limit(n: i128) -> bool
     ensures { IsTrue result ↔ IsWithinLimit n }
 {

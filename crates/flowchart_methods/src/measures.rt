@@ -14,17 +14,19 @@ pub(crate) const MARK_SIDE: Px = Px(6);
 /// How far the two lines of an EXECUTE are from its sides.
 pub(crate) const CALL_LINE: Px = Px(7);
 
-/// How far below the top of an EXECUTE the letters of its method stand, and those of its place.
+/// How far below the top of an EXECUTE the letters of its method stand.
 pub(crate) const CALL_BASE: Px = Px(21);
 
+/// How far below it those of its place stand.
 pub(crate) const CALL_PLACE_BASE: Px = Px(20);
 
 /// How far below the top of the symbol with which a method begins or ends its letters stand.
 pub(crate) const TERMINATOR_BASE: Px = Px(20);
 
-/// How far the bracket beside comments is from the spine at the right, and their text.
+/// How far the right end of the bracket beside comments is from the spine.
 pub(crate) const BRACKET: Px = Px(16);
 
+/// How far their text is from it.
 pub(crate) const NOTE_TEXT: Px = Px(18);
 
 /// How far below the top of a line of comments its letters stand.

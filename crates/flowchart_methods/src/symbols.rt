@@ -41,6 +41,7 @@ pub(crate) fn write_end(
     write_terminator(page, "t", x, y, width, word)
 }
 
+/// Appends the symbol of a class with which a method begins or ends, with its word.
 #[tactic(auto, using(crate::proofs::TurnLemmas::adds_html))]
 fn write_terminator(
     page: &mut Page,

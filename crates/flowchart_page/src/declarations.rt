@@ -274,6 +274,7 @@ fn literal_text(alloc: Global, literal: &Literal) -> Result<String, AllocError> 
     }
 }
 
+/// The word of a type in the file.
 fn kind_word(kind: Kind) -> &'static str {
     match kind {
         Kind::Int => "int",

@@ -36,6 +36,7 @@ fn limit_of(alloc: Global, limits: &Limits, name: &Name) -> Result<String, Alloc
     }
 }
 
+/// A limit, as `0 to 12.5, 1 place`.
 fn limit_text(alloc: Global, limit: &InputLimit) -> Result<String, AllocError> {
     let low = limit.low;
     let high = limit.high;
@@ -46,6 +47,7 @@ fn limit_text(alloc: Global, limit: &InputLimit) -> Result<String, AllocError> {
     }
 }
 
+/// What an input carries over, as `; last LSTLZZ`.
 fn binding_text(alloc: Global, binding: &Binding) -> Result<String, AllocError> {
     match binding.carry {
         Carry::Sum(output) => format!(in alloc; "; sum of {output} so far"),

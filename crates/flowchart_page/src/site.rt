@@ -76,6 +76,7 @@ fn named_by(refusal: &PlanRefusal) -> Site
     }
 }
 
+/// What the spot of a refused text names.
 fn named_by_spot(spot: &Spot) -> Site
     ensures { result ≡ named_by_spot spot.now }
 {
@@ -88,6 +89,7 @@ fn named_by_spot(spot: &Spot) -> Site
     }
 }
 
+/// What a fault of names and types names.
 fn named_by_types(fault: &TypeFault) -> Site
     ensures { result ≡ named_by_types fault.now }
 {

@@ -8,11 +8,14 @@ use std::env;
 use std::io::{self, ErrorKind};
 use std::process::ExitCode;
 
+/// What is said where the words ask for nothing.
 const USAGE: &str =
     "usage: pap_author chart PLAN | pap_author chart PLAN LIMITS | pap_author ranges PLAN";
 
+/// The answer to `--version`.
 const VERSION: &str = "pap_author 0.1.0";
 
+/// The answer to `--help`.
 const HELP: &str = "pap_author draws a wage tax flowchart as a page, and begins its range file
 
 usage:
@@ -89,6 +92,7 @@ fn end(
     ExitCode::from(exit_number(ended))
 }
 
+/// Answers `--help` and `--version` by itself, and leaves all else to the top call.
 fn main(rt: HostRuntime) -> ExitCode {
     let words = match words_of(&rt) {
         Ok(words) => words,

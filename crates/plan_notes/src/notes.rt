@@ -1,11 +1,11 @@
-//! The comments that are found, and a walk along the tags.
+//! The tags and comments that are found, and a walk along the tags.
 ghost use Rattle.std.specs.Prelude.{◌≡◌, ◌+◌, drop, slice_get, find, option_map};
 ghost use Rattle.plan_notes.specs.Walks.{notes_of, marks_left, is_start, start_byte, behind_start, behind_starts, comments_at, comments_of, begins_with};
 
 use crate::tag::{Mark, Starts};
 use pap_reader::Element;
 
-/// The comments of a plan's file, and what its root says of itself.
+/// The tags and comments of a plan's file, and what its root says of itself.
 #[derive(Drop)]
 pub struct Notes {
     /// The tags in the order of the file.
@@ -20,7 +20,7 @@ pub struct Notes {
 }
 
 impl Notes {
-    /// The comments before a tag. None where the tag's numbers are beyond these comments.
+    /// The comments before a tag. Empty where the tag's numbers are beyond these comments.
     pub fn before(&self, mark: &Mark) -> &[String]
         ensures { result.now ≡ comments_at self.now.comments.items mark.now }
     {
@@ -47,8 +47,8 @@ pub struct Walk<'a> {
 }
 
 impl<'a> Walk<'a> {
-    /// The comments before the next start tag of an element; the walk goes on behind it. None where there is no such tag,
-    /// and the walk stays.
+    /// The comments before the next start tag of an element; the walk goes on behind it. Empty where there is no such
+    /// tag, and the walk stays.
     pub fn skip_to(&mut self, element: Element) -> &'a [String]
         ensures comments { result.now ≡ comments_of (notes_of self.old)
             (find (is_start (Starts.Of element)) (marks_left self.old)) }
@@ -106,7 +106,7 @@ impl<'a> Walk<'a> {
         }
     }
 
-    /// The comments before the next tag; the walk goes on behind it.
+    /// The comments before the next tag; the walk goes on behind it. Empty at the end.
     pub fn next_tag(&mut self) -> &'a [String]
         ensures comments { result.now ≡ comments_of (notes_of self.old)
             (slice_get (marks_left self.old) 0) }

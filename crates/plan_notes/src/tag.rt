@@ -6,14 +6,17 @@ ghost use Rattle.plan_notes.specs.Walks.{is_start};
 
 use pap_reader::{Element, split_letters};
 
-/// A tag, with the byte at which it begins and the numbers of the comments between the tag before and it: from the first on,
-/// before the last. An empty tag counts as a start tag and an end tag.
+/// A tag, with the comments between the tag before and it. An empty tag counts as a start tag and an end tag.
 #[derive(Clone, Copy, Debug)]
 pub struct Mark {
     pub element: Element,
+    /// It is an end tag, else a start tag.
     pub is_end: bool,
+    /// The byte at which it begins.
     pub at: usize,
+    /// The number of its first comment, counted from 0 in the whole file.
     pub first: usize,
+    /// One more than the number of its last comment; `first` where it has none.
     pub last: usize,
 }
 
