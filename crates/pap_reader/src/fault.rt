@@ -3,6 +3,11 @@
 ghost use Rattle.std.specs.Prelude.{◌≡◌};
 ghost use Rattle.pap_reader.specs.declared.fault.ReadFault.TheVariants.{Memory};
 
+use crate::text::LONGEST_PLAN;
+use pap_tree::{
+    MOST_CONSTANTS, MOST_INPUTS, MOST_INTERNALS, MOST_METHODS, MOST_NESTING, MOST_OUTPUTS,
+    MOST_STATEMENTS,
+};
 use std::alloc::{AllocError, AllocFailed};
 use std::fmt;
 use thiserror::Error;
@@ -30,16 +35,17 @@ pub enum Which {
 
 impl fmt::Display for Which {
     fn fmt<W: fmt::Write>(&self, f: &mut fmt::Formatter<W>) -> fmt::Result {
-        f.pad(match self {
-            Which::Bytes => "1048576 bytes",
-            Which::Inputs => "256 INPUTs",
-            Which::Outputs => "256 OUTPUTs",
-            Which::Internals => "1024 INTERNALs",
-            Which::Constants => "512 CONSTANTs",
-            Which::Methods => "256 METHODs beside MAIN",
-            Which::Statements => "20000 EVALs, EXECUTEs and IFs",
-            Which::Depth => "32 IFs in one another",
-        })
+        let (most, what) = match self {
+            Which::Bytes => (LONGEST_PLAN as u32, "bytes"),
+            Which::Inputs => (MOST_INPUTS, "INPUTs"),
+            Which::Outputs => (MOST_OUTPUTS, "OUTPUTs"),
+            Which::Internals => (MOST_INTERNALS, "INTERNALs"),
+            Which::Constants => (MOST_CONSTANTS, "CONSTANTs"),
+            Which::Methods => (MOST_METHODS, "METHODs beside MAIN"),
+            Which::Statements => (MOST_STATEMENTS, "EVALs, EXECUTEs and IFs"),
+            Which::Depth => (MOST_NESTING, "IFs in one another"),
+        };
+        write!(f, "{most} {what}")
     }
 }
 
