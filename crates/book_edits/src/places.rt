@@ -29,7 +29,7 @@ pub fn place_year(years: &[Year], key: &YearKey) -> Result<usize, usize>
     years.binary_search_by_key(key, |y| y.key)
 }
 
-/// The runs of a year that fall in a month of it.
+/// What is found of a year's runs in a month of it: none, the key of the only one, or several.
 pub(crate) fn only_one(records: &[Record], month: u8) -> InMonth
     ensures { result ≡ only_one (filter (λ r. is_in_month month r.day) records.now) }
 {

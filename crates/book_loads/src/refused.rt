@@ -8,7 +8,7 @@ ghost use Rattle.book_loads.specs.Loads.{CanLoad, IsLoadRefused, first_present};
 use book_edits::{EditRefusal, Years};
 use payroll_records::{MOST_RECORDS, Record};
 
-/// Whether a run stands at the key of one of the records, or there is no room for all of them.
+/// Refuses a load: the first record at whose key a run stands, else too many runs.
 pub(crate) fn refused(years: &Years, items: &[Record]) -> Result<(), EditRefusal>
     requires order { AreInOrder (years_of years.now) }
     requires count { years.now.count ≡ run_count (years_of years.now) }

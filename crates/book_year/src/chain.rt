@@ -57,7 +57,7 @@ pub struct Recalculated {
     pub work: Work,
 }
 
-/// What a year's runs came to behind the first ones, so many, whose outcomes stay; and the work that
+/// What a year's runs came to behind the first `kept` ones, whose outcomes stay; and the work that
 /// they took.
 #[derive(Drop)]
 pub(crate) struct Rest {

@@ -37,7 +37,7 @@ impl Done {
     }
 }
 
-/// What later runs read of the first runs of a year, so many.
+/// What later runs read of the first `count` runs of a year.
 pub(crate) fn front(alloc: Global, old: Old, count: usize) -> Result<Vec<Earlier>, AllocError>
     requires within { count ≤ length old.records.now }
     requires each { length old.outcomes.now ≡ length old.records.now }
@@ -53,7 +53,7 @@ pub(crate) fn front(alloc: Global, old: Old, count: usize) -> Result<Vec<Earlier
     Ok(earlier)
 }
 
-/// The first outcomes, so many, again.
+/// The first `count` outcomes again.
 pub(crate) fn copied(
     alloc: Global,
     outcomes: &[Outcome],

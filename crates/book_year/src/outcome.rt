@@ -23,12 +23,15 @@ pub struct Outcome {
     pub plan: Option<Day>,
     /// The run's inputs in declared order, where it has them.
     pub inputs: Option<Items<Dec>>,
+    /// The run's state.
     pub state: State,
 }
 
 /// How many runs an edit runs, and the steps that they take.
 #[derive(Clone, Copy, Debug, PartialEq, Eq)]
 pub struct Work {
+    /// How many runs.
     pub runs: u64,
+    /// The steps that they take.
     pub steps: u64,
 }

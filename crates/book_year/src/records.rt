@@ -85,7 +85,7 @@ pub(crate) fn runs_without(
     }
 }
 
-/// Puts a record at its day, among references. After a refusal they are as before.
+/// Puts a record at its day, among references. Without memory they are as before.
 pub fn put_reference<'a>(runs: &mut Vec<&'a Record>, item: &'a Record) -> Result<(), AllocError>
     requires { IsRising day_cmp record_day (records_of runs.old.items) }
     ensures ok { OnOk result
@@ -101,7 +101,7 @@ pub fn put_reference<'a>(runs: &mut Vec<&'a Record>, item: &'a Record) -> Result
     }
 }
 
-/// Puts a record at its day. After a refusal the records are as before.
+/// Puts a record at its day. Without memory the records are as before.
 pub(crate) fn put_record(records: &mut Vec<Record>, item: Record) -> Result<(), AllocError>
     requires { IsRising day_cmp record_day records.old.items }
     ensures ok { OnOk result (records.new.items ≡ put_run item records.old.items) }

@@ -74,7 +74,7 @@ impl Year {
         recalculate(alloc, picks, old_of(self), kept, runs.as_slice(), steps)
     }
 
-    /// Puts a run at its day, in place of the one that stood there. After a refusal the year is as before.
+    /// Puts a run at its day, in place of the one that stood there. Without memory the year is as before.
     pub fn put<L: Ledger>(
         &mut self,
         alloc: Global,
@@ -98,7 +98,7 @@ impl Year {
         Ok(rest.work)
     }
 
-    /// Takes the run of a day away and puts another one. After a refusal the year is as before.
+    /// Takes the run of a day away and puts another one. Without memory the year is as before.
     pub fn change<L: Ledger>(
         &mut self,
         alloc: Global,
@@ -125,7 +125,7 @@ impl Year {
         Ok(rest.work)
     }
 
-    /// Takes the run of a day away. After a refusal the year is as before.
+    /// Takes the run of a day away. Without memory the year is as before.
     pub fn take<L: Ledger>(
         &mut self,
         alloc: Global,
@@ -163,7 +163,7 @@ fn unmoved(picks: &Picks, records: &[Record]) -> usize
     }
 }
 
-/// Puts new outcomes behind the first ones, so many, where there is room for them.
+/// Puts new outcomes behind the first `kept` ones, where there is room for them.
 fn put_rest(outcomes: &mut Vec<Outcome>, kept: usize, mut new: Vec<Outcome>)
     requires { vec_len outcomes.old + vec_len new ≤ vec_capacity outcomes.old }
     ensures { outcomes.new.items ≡ take kept outcomes.old.items ++ new.items }

@@ -172,6 +172,7 @@ fn run_method(
     Ok(())
 }
 
+/// The method of a number.
 fn method_at(plan: &Typed, number: usize) -> Option<&Method>
     ensures { option_map (λ m. routine_of m.now) result ≡ slice_get (methods_in plan.now) number }
 {

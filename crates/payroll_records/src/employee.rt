@@ -72,18 +72,21 @@ impl fmt::Display for Employee {
     }
 }
 
+/// Whether a byte is a letter, a digit, `_`, `-` or `.`.
 fn is_employee_byte(byte: u8) -> bool
     ensures { result ≡ is_employee_byte byte }
 {
     is_word(byte) || byte == b'-' || byte == b'.'
 }
 
+/// Whether all bytes of a text are such.
 fn has_employee_bytes(text: &[u8]) -> bool
     ensures { result ≡ list_all is_employee_byte text.now }
 {
     text.iter().all(|b| is_employee_byte(*b))
 }
 
+/// Whether a text has the form of an employee.
 fn is_employee(text: &[u8]) -> bool
     ensures { result ≡ is_employee text.now }
 {

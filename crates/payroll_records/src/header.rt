@@ -72,6 +72,7 @@ pub(crate) fn field(row: &ByteRecord, place: usize) -> &[u8]
     }
 }
 
+/// Whether a row begins with the words `employee`, `month` and `day`.
 fn begins_header(row: &ByteRecord) -> bool
     ensures { IsTrue result ↔ BeginsHeader (fields_of row.now) }
 {

@@ -91,12 +91,14 @@ fn first_broken(row: &ByteRecord, count: usize) -> Option<usize>
     None
 }
 
+/// Whether a cell of values is empty or spells a number.
 fn is_readable(cell: &[u8]) -> bool
     ensures { IsTrue result ↔ IsReadable cell.now }
 {
     cell.is_empty() || read_number(cell).is_some()
 }
 
+/// The number that a cell spells.
 fn read_number(cell: &[u8]) -> Option<Dec>
     ensures { (d : Decimal) → (result ≡ Some d) ↔ IsNumberText cell.now d }
 {
@@ -120,6 +122,7 @@ fn filled_cells(row: &ByteRecord, count: usize) -> usize
     filled
 }
 
+/// Whether a cell is not empty.
 fn is_filled(cell: &[u8]) -> bool
     ensures { result ≡ is_filled cell.now }
 {

@@ -66,7 +66,7 @@ impl Values {
         }
     }
 
-    /// No values, with room for so many.
+    /// No values, with room for `count`.
     pub fn with_room(alloc: Global, count: usize) -> Result<Values, AllocError>
         ensures { IfOk result (λ values. values ≡ []) }
     {

@@ -144,6 +144,7 @@ fn place<P>(entries: &[(Day, P)], day: Day) -> Result<usize, usize>
     entries.binary_search_by_key(&day, |e| e.0)
 }
 
+/// The entry that serves a day: the last one up to it, if that is of the day's year.
 fn pick<P>(entries: &[(Day, P)], day: Day) -> Option<(Day, &P)>
     requires { AreEntries entries.now }
     ensures { option_map picked_entry result ≡ pick entries.now day }
@@ -155,6 +156,7 @@ fn pick<P>(entries: &[(Day, P)], day: Day) -> Option<(Day, &P)>
     last_of_year(&entries[..end], day.year)
 }
 
+/// The entry that would serve a day if none stood at the day itself.
 fn pick_before<P>(entries: &[(Day, P)], day: Day) -> Option<(Day, &P)>
     requires { AreEntries entries.now }
     ensures { option_map picked_entry result ≡ pick_before entries.now day }

@@ -11,9 +11,11 @@ use std::marker::Model;
 /// A run of a book.
 #[derive(Clone, Copy)]
 pub struct MonthRow<'a> {
+    /// The employee and the day of the run.
     pub key: Key,
     /// The day from which the run's plan holds, where it has a plan.
     pub plan: Option<Day>,
+    /// The run's state.
     pub state: &'a State,
 }
 

@@ -46,6 +46,7 @@ pub(crate) fn next_item<'a>(
     }
 }
 
+/// The title, which stands first.
 fn next_title<'a>(alloc: Global, rest: &'a [u8]) -> Result<Option<(Item<'a>, &'a [u8])>, AllocError>
     ensures { IfOk result (Reads (Fits nothing) rest.now) }
 {
@@ -58,6 +59,7 @@ fn next_title<'a>(alloc: Global, rest: &'a [u8]) -> Result<Option<(Item<'a>, &'a
     Ok(Some((Item::Title, line.rest)))
 }
 
+/// The last work, behind the title.
 fn next_work<'a>(alloc: Global, rest: &'a [u8]) -> Result<Option<(Item<'a>, &'a [u8])>, AllocError>
     ensures { IfOk result (Reads (Fits titled) rest.now) }
 {
@@ -71,6 +73,7 @@ fn next_work<'a>(alloc: Global, rest: &'a [u8]) -> Result<Option<(Item<'a>, &'a 
     Ok(Some((Item::Work { runs, steps }, line.rest)))
 }
 
+/// The line before the plans, behind the last work.
 fn next_plan_count<'a>(
     alloc: Global,
     rest: &'a [u8],
@@ -175,7 +178,7 @@ fn plan_texts<'a>(line: PlanLine, rest: &'a [u8]) -> Option<(PlanItem<'a>, &'a [
     ))
 }
 
-/// The first so many bytes, and the others.
+/// The first `count` bytes, and the others.
 fn front_of(bytes: &[u8], count: u64) -> Option<(&[u8], &[u8])>
     ensures { MatchOption result (length bytes.now < count)
         (λ p. (length p.0.now ≡ count) × (bytes.now ≡ p.0.now ++ p.1.now)) }

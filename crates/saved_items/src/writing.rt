@@ -146,6 +146,7 @@ pub(crate) fn push_number(out: &mut Vec<u8>, number: u64) -> Result<(), AllocErr
     write_dec(*out.allocator(), Dec::new(number as i128, 0), out)
 }
 
+/// A text as it is.
 fn push(out: &mut Vec<u8>, text: &[u8]) -> Result<(), AllocError>
     ensures { OnOk result (out.new.items ≡ out.old.items ++ text.now) }
 {
