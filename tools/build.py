@@ -1,7 +1,7 @@
 #!/usr/bin/env python3
 """Proves the libraries that a program stands on, several side by side: build.py [JOBS [PROGRAM]], from the top of the repository.
 
-A crate begins once those that it stands on are proved, first the one with the longest chain of lines above it, in a room of its own,
+A crate begins once those that it stands on are proved, first the one with the longest chain of functions above it, in a room of its own,
 build/rooms/NAME: `rt` has a crate and all below it to itself while it works there, so in one checkout it would prove one after the other.
 There are twice as many jobs as processors, since a check also has parts that one job does alone; the head of the longest chain has as many
 as a crate may, and where processors are short a crate goes before others by the length of its chain. The proved library then goes to
@@ -9,6 +9,7 @@ crates/NAME/out, where `rt run` finds it. A line for each that is done says how 
 build/proofs/NAME; where one fails, its end is shown."""
 import glob
 import os
+import re
 import shutil
 import subprocess
 import sys
@@ -19,6 +20,7 @@ RT = os.path.abspath(f"{os.path.dirname(__file__)}/rt.py")
 GIGABYTES_A_JOB = 2
 MOST_JOBS_A_CRATE = 4
 MOST_PATIENCE = 19
+CHECK_BEGINS = 10
 
 
 def crates():
@@ -56,18 +58,18 @@ def furnish(room, name, proved):
                 shutil.copytree(f"crates/{crate}/{part}", f"{room}/crates/{crate}/{part}", copy_function=os.link)
 
 
-def lines(name):
-    """How many lines a crate's sources, definitions and proofs have."""
-    files = [file for part in ("src", "specs", "proofs") for file in glob.glob(f"crates/{name}/{part}/**", recursive=True)]
-    return sum(len(open(file).readlines()) for file in files if os.path.isfile(file))
+def work(name):
+    """What a crate's check takes, in functions: those that its sources have, and some for what each check begins with."""
+    sources = glob.glob(f"crates/{name}/src/**/*.rt", recursive=True)
+    return CHECK_BEGINS + sum(len(re.findall(r"\bfn \w", open(file).read())) for file in sources)
 
 
 def chains(names, stands_on):
-    """How many lines the crates of these have that stand one on another from each on, its own with them; of crates listed lowest first."""
-    longest = {name: lines(name) for name in names}
+    """What the crates of these take that stand one on another from each on, its own with them; of crates listed lowest first."""
+    longest = {name: work(name) for name in names}
     for name in reversed(names):
         for lower in stands_on[name]:
-            longest[lower] = max(longest[lower], longest[name] + lines(lower))
+            longest[lower] = max(longest[lower], longest[name] + work(lower))
     return longest
 
 
