@@ -39,7 +39,7 @@ def read_table(path, inputs, outputs):
         with open(path, encoding="utf-8-sig", newline="") as text:
             reader = csv.DictReader(text, restval="")
             rows, columns = list(reader), reader.fieldnames or []
-    except (OSError, UnicodeDecodeError) as fault:
+    except (OSError, UnicodeDecodeError, csv.Error) as fault:
         give_up(f"{path}: {fault}")
     for place, name in enumerate(columns):
         if name not in inputs and name not in outputs:
