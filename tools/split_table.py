@@ -59,7 +59,7 @@ def split(table, folder, most_runs=MOST_RUNS):
         sys.exit(f"split_table: {most_runs} is no number of runs from 1 to {MOST_RUNS}")
     parts = parts_of(table, int(most_runs))
     os.makedirs(folder, exist_ok=True)
-    for old in glob.glob(glob.escape(folder) + "/part-[0-9]*.csv*"):
+    for old in [name for end in ("", ".answers") for name in glob.glob(f"{glob.escape(folder)}/part-[0-9]*.csv{end}")]:
         os.remove(old)
     names = [f"{folder}/part-{number + 1:04d}.csv" for number in range(max(parts.values(), default=-1) + 1)]
     files = [open(name, "w", encoding="utf-8", newline="") for name in names]
