@@ -39,7 +39,7 @@ def read_table(path, inputs, outputs):
         with open(path, encoding="utf-8-sig", newline="") as text:
             reader = csv.DictReader(text, restval="")
             rows, columns = list(reader), reader.fieldnames or []
-    except (OSError, UnicodeDecodeError) as fault:
+    except (OSError, UnicodeDecodeError, csv.Error) as fault:
         give_up(f"{path}: {fault}")
     for place, name in enumerate(columns):
         if name not in inputs and name not in outputs:
@@ -103,10 +103,7 @@ def difference(number, row, name, report):
 def put_by(payroll, number, name):
     """The line that shows the trace of a row, and its last statement that put the output."""
     line = f"trace {employee(number)} {DAY}"
-    try:
-        sets = [step for step in payroll.ask(*line.split(" ")) if step.startswith("set ") and step.split(" ")[2] == name]
-    except Refused:
-        return line
+    sets = [step for step in payroll.ask(*line.split(" ")) if step.startswith("set ") and step.split(" ")[2] == name]
     return f"{line}: {sets[-1] if sets else 'no statement puts it'}"
 
 
@@ -117,7 +114,9 @@ def compare(payroll, rows, expected):
     found = [(number, name, said) for number, row in enumerate(rows, 1) for name in expected
              if (said := difference(number, row, name, report))]
     for number, name, said in found[:MOST_SHOWN]:
-        print(said, f"    {put_by(payroll, number, name)}", sep="\n")
+        print(said)
+        if (employee(number), DAY, name) in report:
+            print(f"    {put_by(payroll, number, name)}")
     if found[MOST_SHOWN:]:
         print(f".. and {len(found) - MOST_SHOWN} more")
     print(f"{len(rows)} runs, {compared} amounts, {len(found)} different")

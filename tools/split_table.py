@@ -3,8 +3,8 @@
 
 `split` writes the tables FOLDER/part-0001.csv, .. of at most RUNS runs each (50,000 where none is said), and prints their names; parts of
 an earlier split in that folder, and their answers, are taken away. All runs of an employee stand in one part, and the employees are taken
-in order of their bytes. `join` takes what `papcalc run` answered
-to the scripts of these tables, in the same order, and prints their reports as one report: that of all runs."""
+in order of their bytes. `join` takes what `papcalc run` answered to the scripts of these tables, in the same order, and prints their reports
+as one report: that of all runs."""
 import csv
 import glob
 import os
@@ -19,7 +19,7 @@ def rows_of(table):
     try:
         with open(table, encoding="utf-8-sig", newline="") as text:
             yield from (row for row in csv.reader(text) if row)
-    except (OSError, UnicodeDecodeError) as fault:
+    except (OSError, UnicodeDecodeError, csv.Error) as fault:
         sys.exit(f"split_table: {table}: {fault}")
 
 
@@ -59,7 +59,7 @@ def split(table, folder, most_runs=MOST_RUNS):
         sys.exit(f"split_table: {most_runs} is no number of runs from 1 to {MOST_RUNS}")
     parts = parts_of(table, int(most_runs))
     os.makedirs(folder, exist_ok=True)
-    for old in glob.glob(glob.escape(folder) + "/part-[0-9]*.csv*"):
+    for old in [name for end in ("", ".answers") for name in glob.glob(f"{glob.escape(folder)}/part-[0-9]*.csv{end}")]:
         os.remove(old)
     names = [f"{folder}/part-{number + 1:04d}.csv" for number in range(max(parts.values(), default=-1) + 1)]
     files = [open(name, "w", encoding="utf-8", newline="") for name in names]
@@ -72,26 +72,38 @@ def split(table, folder, most_runs=MOST_RUNS):
         writers[parts[row[0]]].writerow(row)
     for file in files:
         file.close()
-    print(*names, sep="\n")
+    for name in names:
+        print(name)
 
 
 def join(*answers):
     sys.stdout.write(HEADER)
     for name in answers:
-        with open(name, encoding="ascii", newline="\n") as lines:
-            refused = next((line for line in iter(lines.readline, HEADER) if line.startswith("refused ") or not line), None)
-            if refused is not None:
-                sys.exit(f"split_table: {name} has no report: {refused.strip() or 'it ends before one'}")
-            for line in iter(lines.readline, "end\n"):
-                if not line:
-                    sys.exit(f"split_table: the report in {name} isn't whole")
-                sys.stdout.write(line)
+        try:
+            write_rows(name)
+        except UnicodeDecodeError as fault:
+            sys.exit(f"split_table: {name}: {fault}")
+
+
+def write_rows(name):
+    """Writes the rows of the report that stands in a file of answers."""
+    with open(name, encoding="ascii", newline="\n") as lines:
+        refused = next((line for line in iter(lines.readline, HEADER) if line.startswith("refused ") or not line), None)
+        if refused is not None:
+            sys.exit(f"split_table: {name} has no report: {refused.strip() or 'it ends before one'}")
+        for line in iter(lines.readline, "end\n"):
+            if not line:
+                sys.exit(f"split_table: the report in {name} isn't whole")
+            sys.stdout.write(line)
 
 
 if __name__ == "__main__":
-    if sys.argv[1:2] == ["split"] and len(sys.argv) in (4, 5):
-        split(*sys.argv[2:])
-    elif sys.argv[1:2] == ["join"] and sys.argv[2:]:
-        join(*sys.argv[2:])
-    else:
-        sys.exit(__doc__)
+    try:
+        if sys.argv[1:2] == ["split"] and len(sys.argv) in (4, 5):
+            split(*sys.argv[2:])
+        elif sys.argv[1:2] == ["join"] and sys.argv[2:]:
+            join(*sys.argv[2:])
+        else:
+            sys.exit(__doc__)
+    except OSError as fault:
+        sys.exit(f"split_table: {fault}")
