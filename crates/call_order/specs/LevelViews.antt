@@ -76,7 +76,8 @@ IsAhead n i k t = (n < t) ⊎ ((t ≡ n) × (i ≤ k))
 -- the methods that are passed, once each
 pub record IsPartly (ls : List (Option ℕ)) (n i : ℕ) (order : List ℕ) : Type 0 where
   pub known : All (λ k. k < length ls) order
-  pub done : (k t : ℕ) → k < length ls → level_at ls k ≡ Some t → 0 < t → IsPassed n i k t → count_by (λ j. j == k) order ≡ 1
+  pub done : (k t : ℕ) → k < length ls → level_at ls k ≡ Some t → 0 < t → IsPassed n i k t
+      → count_by (λ j. j == k) order ≡ 1
   pub rest : (k t : ℕ) → k < length ls → level_at ls k ≡ Some t → IsAhead n i k t → count_by (λ j. j == k) order ≡ 0
   pub low : (q : ℕ) → q < length order → IsPlaced n (level_at ls (slice_index order q))
   pub sorted : AreByLevel ls order

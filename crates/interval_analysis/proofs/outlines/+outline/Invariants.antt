@@ -10,4 +10,5 @@ abbrev pub decreases-outlines_of : goal.decreases-outlines_of
 decreases-outlines_of l = 3 * (nodes (term_of l.left.now) + nodes (term_of l.right.now)) + 1
 
 abbrev pub decreases-outline_of_choice : goal.decreases-outline_of_choice
-decreases-outline_of_choice l = 3 * (nodes (term_of l.test.now) + nodes (term_of l.first.now) + nodes (term_of l.second.now)) + 2
+decreases-outline_of_choice l =
+    3 * (nodes (term_of l.test.now) + nodes (term_of l.first.now) + nodes (term_of l.second.now)) + 2
