@@ -12,7 +12,7 @@ use Rattle.call_order.specs.Expanded.{expanded_in}
 use Rattle.call_order.specs.Orders.{HasNone}
 use Rattle.call_order.specs.Faults.{IsFirst, IsFirstMethod, HasOrderFault, last_count}
 use Rattle.call_order.specs.OrderLaws.{HasOrder, HasFault}
-use Rattle.call_order.proofs.OrderLemmas.{is_order}
+use Rattle.call_order.proofs.OrderLemmas.{all_placed, is_order}
 use Rattle.call_order.proofs.WholeLemmas.{graph_known, length_graph}
 use Rattle.call_order.proofs.Decides.{first_or_none, begins_or_not, levels_found, cycle_or_not, order_found}
 
@@ -77,7 +77,7 @@ module _ (f : Flowchart) where
             | inl long ↦ inr (TooLong (min (expanded_in f) last_count), record { acyclic = acyclic; chains = chains; long = long; counted = refl })
             | inr short ↦ (let outside = λ (i : ℕ) (lt : i < length g). subst (λ n. i < n) (length_graph ms) lt in
                 let levels = levels_found g (λ i lt. chains i (outside i lt)) in
-                let order = order_found levels.0 levels.2 (λ i lt. (levels.1.each i (subst (λ n. i < n) levels.1.all lt)).few) in
+                let order = order_found levels.0 (all_placed g levels.0 levels.1 levels.2) in
                 inl (order.0, record { acyclic = acyclic; chains = chains; short = short; ordered = is_order g levels.0 levels.1 levels.2 order.0 known order.1 }))
           ]
         ]

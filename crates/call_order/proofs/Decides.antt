@@ -1,6 +1,6 @@
 -- Every plan is decided: whether a method is in a cycle, whether it begins a long chain, and the order.
-use Rattle.std.proofs.Common.{◌≡◌, ℕ, zero, suc, ◌+◌, ◌<◌, ◌≤◌, ◌⊎◌, inl, inr, Bool, true, false, List, [], ◌∷◌, ◌++◌, length, get_or, set, ap, ◌∙◌, refl, sym, subst, arith, add-one, length-append}
-use Rattle.std.specs.Prelude.{Contains, slice_index, MatchBool, replicate}
+use Rattle.std.proofs.Common.{◌≡◌, ◌≢◌, ℕ, zero, suc, ◌+◌, ◌<◌, ◌≤◌, ◌⊎◌, inl, inr, Bool, true, false, Option, Some, None, List, [], ◌∷◌, ◌++◌, length, get_or, set, ap, ◌∙◌, refl, sym, subst, arith, add-one, length-append}
+use Rattle.std.specs.Prelude.{Contains, MatchBool, replicate}
 use Rattle.std.proofs.lemmas.Bool.{cases_lt, cases_eq}
 use Rattle.std.proofs.lemmas.List.{length-set, length-replicate}
 use Rattle.std.proofs.Math.Seq.{get_or-append_seam}
@@ -8,13 +8,13 @@ use Rattle.std.proofs.Math.ListN.{get_or-append}
 use Rattle.std.proofs.lemmas.List.Elements.{All-nil}
 use Rattle.call_order.specs.Graphs.{Graph}
 use Rattle.call_order.specs.Chains.{IsChain, BeginsMore, ReachesItself, content_at}
-use Rattle.call_order.specs.LevelViews.{AllKnown, IsLevel, AreLevels, AreAllPlaced, IsPartly, IsByLevel}
+use Rattle.call_order.specs.LevelViews.{AllKnown, level_at, IsLongest, IsLevel, AreLevels, HaveLevels, AreAllPlaced, IsPartly, IsByLevel}
 use Rattle.call_order.specs.MarkViews.{AreMarked, IsMarking, is_marked, left}
 use Rattle.call_order.specs.Orders.{HasNone}
 use Rattle.call_order.specs.Faults.{IsFirst}
 use Rattle.call_order.proofs.ChainLemmas.{begins-more}
 use Rattle.call_order.proofs.MarkLemmas.{marked_cases, marking_more, marking_none, marking_done, marked_now, already, left_less, itself, executes_next, known_next, unmarked_all}
-use Rattle.call_order.proofs.OrderLemmas.{pushed, passed, partly_all, level_next}
+use Rattle.call_order.proofs.OrderLemmas.{same_level, pushed, passed, partly_all, level_next}
 
 -- ---- the first that there is
 
@@ -30,20 +30,28 @@ first_or_none P (suc n) d =
     ]
 
 -- a list of what there is at each number
-table : (Q : ℕ → ℕ → Type 0) (n : ℕ) → ((i : ℕ) → i < n → (t : ℕ) × Q i t) → (ls : List ℕ) × (length ls ≡ n) × ((i : ℕ) → i < n → Q i (slice_index ls i))
+table : (Q : ℕ → Option ℕ → Type 0) (n : ℕ) → ((i : ℕ) → i < n → (t : ℕ) × Q i (Some t)) → (ls : List (Option ℕ)) × (length ls ≡ n) × ((i : ℕ) → i < n → Q i (level_at ls i))
 table Q zero f = ([], refl, λ i lt. absurd (omega arith))
 table Q (suc n) f =
     let r = table Q n (λ i lt. f i (omega arith)) in
     let t = f n (omega arith) in
-    let long : length (r.0 ++ t.0 ∷ []) ≡ suc n = omega (arith, length-append r.0 (t.0 ∷ []), r.1) in (
-      r.0 ++ t.0 ∷ [],
+    let long : length (r.0 ++ Some t.0 ∷ []) ≡ suc n = omega (arith, length-append r.0 (Some t.0 ∷ []), r.1) in (
+      r.0 ++ Some t.0 ∷ [],
       long,
       λ i lt. elim (cases_lt i n) [
-        | inl b ↦ subst (Q i) (sym (get_or-append r.0 (t.0 ∷ []) 0 i (omega (arith, r.1)))) (r.2 i b)
+        | inl b ↦ subst (Q i) (sym (get_or-append r.0 (Some t.0 ∷ []) None i (omega (arith, r.1)))) (r.2 i b)
         | inr a ↦ let e : i ≡ n = omega arith in
-            subst (λ x. Q x (slice_index (r.0 ++ t.0 ∷ []) x)) (sym e) (subst (Q n) (sym (ap (λ x. get_or (r.0 ++ t.0 ∷ []) x 0) (sym r.1) ∙ get_or-append_seam r.0 t.0 [] 0)) t.1)
+            subst (λ x. Q x (level_at (r.0 ++ Some t.0 ∷ []) x)) (sym e) (subst (Q n) (sym (ap (λ x. get_or (r.0 ++ Some t.0 ∷ []) x None) (sym r.1) ∙ get_or-append_seam r.0 (Some t.0) [] None)) t.1)
       ],
     )
+
+some_level : (t : ℕ) → Some t ≢ None
+some_level t e = cc
+
+-- a level is the one, or another or none
+level_or_not : (level : Option ℕ) (n : ℕ) → (level ≡ Some n) ⊎ (level ≢ Some n)
+level_or_not None n = inr (λ e. cc)
+level_or_not (Some t) n = elim (cases_eq t n) [ inl e ↦ inl (ap Some e) | inr ne ↦ inr (λ e. ne (same_level e)) ]
 
 module _ (g : Graph) where
   -- ---- chains
@@ -77,27 +85,25 @@ module _ (g : Graph) where
 
   -- ---- levels
 
-  level_found : (n i : ℕ) → n ≤ 64 → (BeginsMore g n i → ⊥) → (t : ℕ) × (0 < t) × IsLevel g 64 i t
+  level_found : (n i : ℕ) → n ≤ 64 → (BeginsMore g n i → ⊥) → (t : ℕ) × IsLongest g 64 i t
   level_found zero i le nb = absurd (nb ([], tt, omega arith))
   level_found (suc n) i le nb =
       elim (begins_or_not n i) [
         | inl b ↦ (
           suc n,
-          omega arith,
           record {
-            long = λ e. absurd (omega arith);
-            begins = λ p. (b.0, b.1, omega (arith, b.2));
-            ends = λ p rest h. elim (cases_lt (length rest) (suc n)) [ inl lt ↦ lt | inr more ↦ absurd (nb (rest, h, omega arith)) ];
+            begins = (b.0, b.1, omega (arith, b.2));
+            ends = λ rest h. elim (cases_lt (length rest) (suc n)) [ inl lt ↦ lt | inr more ↦ absurd (nb (rest, h, omega arith)) ];
             few = le;
           },
         )
         | inr none ↦ level_found n i (omega arith) none
       ]
 
-  pub levels_found : ((i : ℕ) → i < length g → BeginsMore g 64 i → ⊥) → (ls : List ℕ) × AreLevels g 64 ls × AreAllPlaced ls
+  pub levels_found : ((i : ℕ) → i < length g → BeginsMore g 64 i → ⊥) → (ls : List (Option ℕ)) × AreLevels g 64 ls × HaveLevels ls
   levels_found none =
-      let Q : ℕ → ℕ → Type 0 = λ i t. (0 < t) × IsLevel g 64 i t in
-      let r = table Q (length g) (λ i lt. let l = level_found 64 i (omega arith) (none i lt) in (l.0, (l.1, l.2))) in
+      let Q : ℕ → Option ℕ → Type 0 = λ i level. (level ≢ None) × IsLevel g 64 i level in
+      let r = table Q (length g) (λ i lt. let l = level_found 64 i (omega arith) (none i lt) in (l.0, (some_level l.0, l.1))) in
       (r.0, record { all = r.1; each = λ i lt. (r.2 i lt).1 }, λ i lt. (r.2 i (omega (arith, r.1))).0)
 
   -- ---- cycles
@@ -147,31 +153,31 @@ module _ (g : Graph) where
 
 -- ---- the order
 
-module _ (ls : List ℕ) where
+module _ (ls : List (Option ℕ)) where
   level_all : (n i : ℕ) (o : List ℕ) → i ≤ length ls → IsPartly ls n 0 o → (o' : List ℕ) × IsPartly ls n i o'
   level_all n zero o le h = (o, h)
   level_all n (suc i) o le h =
       let r = level_all n i o (omega arith) h in
-      elim (cases_eq (slice_index ls i) n) [
+      elim (level_or_not (level_at ls i) n) [
         | inl e ↦ (r.0 ++ i ∷ [], subst (λ x. IsPartly ls n x (r.0 ++ i ∷ [])) (add-one i) (pushed ls n i r.0 (r.0 ++ i ∷ []) r.1 (omega arith) e refl))
         | inr ne ↦ (r.0, subst (λ x. IsPartly ls n x r.0) (add-one i) (passed ls n i r.0 r.0 r.1 ne refl))
       ]
 
-  levels_all : (n : ℕ) → AreAllPlaced ls → (o : List ℕ) × IsPartly ls (n + 1) 0 o
-  levels_all zero placed = (
+  levels_all : (n : ℕ) → (o : List ℕ) × IsPartly ls (n + 1) 0 o
+  levels_all zero = (
     [],
     record {
       known = All-nil (λ k. k < length ls);
-      done = λ k kl p d. absurd (elim d [ inl x ↦ omega (arith, x, p) | inr x ↦ omega (arith, x.1) ]);
-      rest = λ k kl d. refl;
+      done = λ k t kl is p d. absurd (elim d [ inl x ↦ omega (arith, x, p) | inr x ↦ omega (arith, x.1) ]);
+      rest = λ k t kl is d. refl;
       low = λ q ql. absurd (omega arith);
       sorted = λ p q pq ql. absurd (omega arith);
     },
   )
-  levels_all (suc n) placed =
-      let r = levels_all n placed in
+  levels_all (suc n) =
+      let r = levels_all n in
       let s = level_all (n + 1) (length ls) r.0 (omega arith) r.1 in
       (s.0, subst (λ x. IsPartly ls x 0 s.0) (omega arith) (level_next ls (n + 1) (length ls) s.0 (omega arith) s.1))
 
-  pub order_found : AreAllPlaced ls → ((i : ℕ) → i < length ls → slice_index ls i ≤ 64) → (o : List ℕ) × IsByLevel ls o
-  order_found placed low = let r = levels_all 64 placed in (r.0, partly_all ls 65 r.0 placed (λ k kl. let h = low k kl in omega (arith, h)) r.1)
+  pub order_found : AreAllPlaced ls → (o : List ℕ) × IsByLevel ls o
+  order_found placed = let r = levels_all 64 in (r.0, partly_all ls 65 r.0 placed (omega arith) r.1)

@@ -1,5 +1,5 @@
 -- What is found of a plan's methods, and what follows.
-use Rattle.std.proofs.Common.{◌≡◌, ℕ, ◌<◌, ◌≤◌, List, length, ap, ◌∙◌, refl, sym, subst, arith}
+use Rattle.std.proofs.Common.{◌≡◌, ℕ, ◌<◌, ◌≤◌, Option, None, List, length, ap, ◌∙◌, refl, sym, subst, arith}
 use Rattle.std.specs.Prelude.{All, slice_index, min}
 use Rattle.std.proofs.lemmas.List.Elements.{All-weaker}
 use Rattle.pap_tree.specs.Flowchart.{Flowchart}
@@ -7,7 +7,7 @@ use Rattle.call_order.specs.Graphs.{Graph, Content, content_of, graph_of, execut
 use Rattle.call_order.specs.Expanded.{expanded_of, expanded_in}
 use Rattle.call_order.specs.Orders.{IsOrdered}
 use Rattle.call_order.specs.Faults.{IsFirst, last_count, IsTooLong}
-use Rattle.call_order.specs.LevelViews.{AreLevels, AreAllPlaced, IsByLevel}
+use Rattle.call_order.specs.LevelViews.{level_at, AreLevels, HaveLevels, IsByLevel}
 use Rattle.call_order.specs.LengthViews.{length_of, length_with, AreLengths}
 use Rattle.call_order.specs.OrderViews.{IsLongFault, IsSorted}
 use Rattle.call_order.proofs.OrderLemmas.{is_order, counted_there, not_long, not_cyclic, first_chain}
@@ -15,20 +15,20 @@ use Rattle.call_order.proofs.LengthLemmas.{min_sum}
 use Rattle.call_order.proofs.WholeLemmas.{known, body_known, length_graph, expanded_sum, expanded_is}
 
 module _ (f : Flowchart) where
-  pub long_fault : (g : Graph) (ls : List ℕ) (i : ℕ) → g ≡ graph_of f.methods → AreLevels g 64 ls → IsFirst (λ k. slice_index ls k ≡ 0) (length ls) i → IsLongFault f g i
+  pub long_fault : (g : Graph) (ls : List (Option ℕ)) (i : ℕ) → g ≡ graph_of f.methods → AreLevels g 64 ls → IsFirst (λ k. level_at ls k ≡ None) (length ls) i → IsLongFault f g i
   long_fault g ls i e levels first = record { graph = e; long = first_chain g ls i levels first }
 
   below : (i : ℕ) → i < length f.methods → i < length (graph_of f.methods)
   below i lt = subst (λ n. i < n) (sym (length_graph f.methods)) lt
 
-  pub sorted : (g : Graph) (ls order : List ℕ) → g ≡ graph_of f.methods → AreLevels g 64 ls → AreAllPlaced ls → IsByLevel ls order → IsSorted f order
-  sorted g ls order e levels placed by =
+  pub sorted : (g : Graph) (ls : List (Option ℕ)) (order : List ℕ) → g ≡ graph_of f.methods → AreLevels g 64 ls → HaveLevels ls → IsByLevel ls order → IsSorted f order
+  sorted g ls order e levels have by =
       let here = subst (λ x. AreLevels x 64 ls) e levels in
       let h = graph_of f.methods in
       record {
-        acyclic = λ i lt. not_cyclic h ls here placed i (below i lt);
-        chains = λ i lt. not_long h ls here placed i (below i lt);
-        ordered = is_order h ls here placed order (known f.methods h refl) by;
+        acyclic = λ i lt. not_cyclic h ls here have i (below i lt);
+        chains = λ i lt. not_long h ls here have i (below i lt);
+        ordered = is_order h ls here have order (known f.methods h refl) by;
       }
 
   module _ (order counts : List ℕ) (s : IsSorted f order) (lengths : AreLengths (graph_of f.methods) order counts) where

@@ -1,13 +1,12 @@
 //! The order of a plan's methods.
-ghost use Rattle.std.specs.Prelude.{◌≡◌, ℕ, ◌+◌, ◌<◌, ◌≤◌, ◌^◌, Err, IfOk, OnOk, MatchOption, length, min, slice_index};
+ghost use Rattle.std.specs.Prelude.{◌≡◌, ℕ, ◌+◌, ◌<◌, ◌≤◌, ◌^◌, Err, IfOk, OnOk, MatchOption, None, length, min};
 ghost use Rattle.pap_tree.specs.Flowchart.{flowchart_of};
 ghost use Rattle.pap_tree.specs.Limits.{most_methods};
-ghost use Rattle.pap_types.specs.Limits.{longest_chain};
 ghost use Rattle.call_order.specs.Graphs.{graph_of};
 ghost use Rattle.call_order.specs.Expanded.{expanded_in};
 ghost use Rattle.call_order.specs.Faults.{IsFirst, last_count};
 ghost use Rattle.call_order.specs.OrderClauses.{OrderAnswer};
-ghost use Rattle.call_order.specs.LevelViews.{AreAllPlaced, IsPartly, IsByLevel};
+ghost use Rattle.call_order.specs.LevelViews.{level_at, HaveLevels, AreAllPlaced, IsPartly, IsByLevel};
 ghost use Rattle.call_order.specs.OrderViews.{IsSorted, ChainsAnswer, IsLongFault};
 
 use crate::OrderFault;
@@ -65,11 +64,11 @@ fn count_of(alloc: Global, t: &Typed, graph: &[Contents], order: &[u32]) -> Resu
 }
 
 /// The first method without a level.
-fn first_long(levels: &[u32]) -> Option<usize>
-    ensures { MatchOption result (AreAllPlaced levels.now)
-        (λ i. IsFirst (λ k. slice_index levels.now k ≡ 0) (length levels.now) i) }
+fn first_long(levels: &[Option<u32>]) -> Option<usize>
+    ensures { MatchOption result (HaveLevels levels.now)
+        (λ i. IsFirst (λ k. level_at levels.now k ≡ None) (length levels.now) i) }
 {
-    levels.iter().position(|level| *level == 0)
+    levels.iter().position(|level| level.is_none())
 }
 
 /// Why there is no order, where a method begins a chain of more than 64, the first of which is given.
@@ -90,10 +89,9 @@ fn refusal(alloc: Global, t: &Typed, graph: &[Contents], first: usize) -> OrderF
 }
 
 /// The methods by level.
-fn by_level(alloc: Global, levels: &[u32]) -> Result<Vec<u32>, AllocError>
+fn by_level(alloc: Global, levels: &[Option<u32>]) -> Result<Vec<u32>, AllocError>
     requires few { length levels.now < 2 ^ 32 }
     requires placed { AreAllPlaced levels.now }
-    requires low { (i : ℕ) → i < length levels.now → slice_index levels.now i ≤ longest_chain }
     ensures { IfOk result (λ order. IsByLevel levels.now order.items) }
 {
     let mut order = Vec::new(alloc);
@@ -104,13 +102,13 @@ fn by_level(alloc: Global, levels: &[u32]) -> Result<Vec<u32>, AllocError>
 }
 
 /// Appends the methods of a level.
-fn push_level(order: &mut Vec<u32>, levels: &[u32], level: u32) -> Result<(), AllocError>
+fn push_level(order: &mut Vec<u32>, levels: &[Option<u32>], level: u32) -> Result<(), AllocError>
     requires few { length levels.now < 2 ^ 32 }
     requires before { IsPartly levels.now level 0 order.old.items }
     ensures { OnOk result (IsPartly levels.now (level + 1) 0 order.new.items) }
 {
     for i in 0..levels.len() {
-        if levels[i] == level {
+        if levels[i] == Some(level) {
             order.push(i as u32)?;
         }
     }

@@ -1,6 +1,6 @@
 //! The kinds and the numbers of nodes of parts that aren't walked.
 ghost use Rattle.std.specs.Prelude.{◌≡◌, ◌+◌, ◌<◌, ◌^◌};
-ghost use Rattle.pap_tree.specs.Term.{term_of};
+ghost use Rattle.pap_tree.specs.Term.{term_of, choice};
 ghost use Rattle.pap_tree.specs.Numbering.{nodes};
 ghost use Rattle.interval_analysis.specs.OutlineViews.{IsOutline, AreOutlines};
 
@@ -60,12 +60,21 @@ pub(crate) fn outline_of(plan: &Typed, e: &Expr, at: u32) -> Outline
             let both = outlines_of(plan, left, right, at);
             outlined(NodeKind::Big, both.second.next)
         }
-        Expr::Choose(test, first, second) => {
-            let tested = outline_of(plan, test, at);
-            let both = outlines_of(plan, first, second, tested.next);
-            outlined(both.first.kind.wider(both.second.kind), both.second.next)
-        }
+        Expr::Choose(test, first, second) => outline_of_choice(plan, test, first, second, at),
     }
+}
+
+/// The outline of a conditional.
+#[cycle(outline)]
+fn outline_of_choice(plan: &Typed, test: &Expr, first: &Expr, second: &Expr, at: u32) -> Outline
+    requires { at + nodes (choice (term_of test.now) (term_of first.now) (term_of second.now))
+        < 2 ^ 32 }
+    ensures { IsOutline plan.now
+        (choice (term_of test.now) (term_of first.now) (term_of second.now)) at result }
+{
+    let tested = outline_of(plan, test, at);
+    let both = outlines_of(plan, first, second, tested.next);
+    outlined(both.first.kind.wider(both.second.kind), both.second.next)
 }
 
 /// The outlines of two operands.

@@ -9,6 +9,7 @@ use Rattle.scaled_decimal.specs.laws.IntegerLemmas.{times_assoc}
 use Rattle.scaled_decimal.specs.Decimals.{ten_to}
 use Rattle.scaled_decimal.specs.Limits.{IsWithinLimit}
 use Rattle.interval_num.specs.Alignment.{is_beyond}
+use Rattle.interval_num.specs.Rows.{most_power}
 
 pub ten_some : (k : ℕ) → 0 < 10 ^ k
 ten_some k = one-le-pow k 10 (omega arith)
@@ -16,7 +17,7 @@ ten_some k = one-le-pow k 10 (omega arith)
 pub ten_add : (i j m : ℕ) → i + j ≡ m → ten_to i *ℤ ten_to j ≡ ten_to m
 ten_add i j m e = ap pos (sym (pow-add 10 i j)) ∙ ap (λ x. pos (10 ^ x)) e
 
-pub power_kept : (k : ℕ) → k ≤ 37 → IsWithinLimit (ten_to k)
+pub power_kept : (k : ℕ) → k ≤ most_power → IsWithinLimit (ten_to k)
 power_kept k h = pow-le-pow_right {n = 10} (omega arith) h
 
 -- a number that two powers multiply

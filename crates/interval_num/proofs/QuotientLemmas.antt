@@ -42,7 +42,7 @@ pub record CanDivide (s : ℕ) (x y : Decimal) : Type 0 where
   pub dividend : IsWithinLimit (numerator_of x *ℤ ten_to (s + scale_of y - scale_of x))
   pub divisor : IsWithinLimit (numerator_of y *ℤ ten_to (scale_of x - (s + scale_of y)))
 
-moved : (i j : ℕ) → j - i ≤ 37 → i ≤ 30 → unsigned_abs (pos j -ℤ pos i) ≤ 37
+moved : (i j : ℕ) → j - i ≤ most_power → i ≤ most_places → unsigned_abs (pos j -ℤ pos i) ≤ most_power
 moved i j p q = omega (arith, ints)
 
 -- a rounded quotient is within the limit

@@ -4,7 +4,7 @@ ghost use Rattle.scaled_decimal.specs.Decimals.{ten_to};
 ghost use Rattle.scaled_decimal.specs.Limits.{IsWithinLimit, most_places};
 ghost use Rattle.interval_num.specs.Intervals.{Interval, interval, HasKeptEnds};
 ghost use Rattle.interval_num.specs.Alignment.{is_beyond, ends_beyond, kept, at_scale, greater_scale, aligned, most, has_zero};
-ghost use Rattle.interval_num.specs.Rows.{Answer};
+ghost use Rattle.interval_num.specs.Rows.{Answer, most_power};
 ghost use Rattle.interval_num.specs.Views.{with_pair};
 
 use crate::cause::RangeCause;
@@ -109,7 +109,7 @@ pub(crate) fn times(a: Abs, factor: i128, s_hi: u8) -> Abs
 
 /// Whether the greatest numerator, lengthened by so many places, is beyond the limit of kept decimals.
 pub(crate) fn lengthened_is_beyond(a: Abs, places: u8) -> bool
-    requires { places ≤ 37 }
+    requires { places ≤ most_power }
     ensures { result ≡ is_beyond (most a *ℤ ten_to places) }
 {
     product_is_beyond(most(a), power_of_ten(places))

@@ -13,10 +13,7 @@ use crate::alignment::{ends_beyond_times, has_zero, lengthened_is_beyond, times}
 use crate::cause::RangeCause;
 use crate::hull::hull;
 use crate::interval::Abs;
-use scaled_decimal::{Dec, MOST_PLACES, Mode};
-
-/// The greatest power of ten within 10^37.
-const MOST_POWER: u8 = 37;
+use scaled_decimal::{Dec, MOST_PLACES, MOST_POWER, Mode};
 
 /// The interval of the quotients rounded to scale `s`, which is at most 30.
 ///

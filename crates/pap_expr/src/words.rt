@@ -59,18 +59,29 @@ pub(crate) fn method_of(word: Name) -> Option<Method>
         (λ m. method_of word ≡ Some (method_view m)) }
     ensures named { IsTrue (is_name word) }
 {
-    match word.bytes() {
-        b"add" => Some(Method::Applied(Call::Add)),
-        b"subtract" => Some(Method::Applied(Call::Subtract)),
-        b"multiply" => Some(Method::Applied(Call::Multiply)),
-        b"divide" => Some(Method::Applied(Call::DivideExact)),
-        b"compareTo" => Some(Method::Applied(Call::CompareTo)),
-        b"min" => Some(Method::Applied(Call::Min)),
-        b"max" => Some(Method::Applied(Call::Max)),
-        b"negate" => Some(Method::Negate),
-        b"abs" => Some(Method::Abs),
-        b"setScale" => Some(Method::SetScale),
-        _ => None,
+    let word = word.bytes();
+    if word == b"add".as_slice() {
+        Some(Method::Applied(Call::Add))
+    } else if word == b"subtract".as_slice() {
+        Some(Method::Applied(Call::Subtract))
+    } else if word == b"multiply".as_slice() {
+        Some(Method::Applied(Call::Multiply))
+    } else if word == b"divide".as_slice() {
+        Some(Method::Applied(Call::DivideExact))
+    } else if word == b"compareTo".as_slice() {
+        Some(Method::Applied(Call::CompareTo))
+    } else if word == b"min".as_slice() {
+        Some(Method::Applied(Call::Min))
+    } else if word == b"max".as_slice() {
+        Some(Method::Applied(Call::Max))
+    } else if word == b"negate".as_slice() {
+        Some(Method::Negate)
+    } else if word == b"abs".as_slice() {
+        Some(Method::Abs)
+    } else if word == b"setScale".as_slice() {
+        Some(Method::SetScale)
+    } else {
+        None
     }
 }
 

@@ -1,8 +1,7 @@
-use Rattle.std.proofs.Common.{◌≡◌, ap, length, subst, arith}
-use Rattle.std.specs.Prelude.{slice_index}
+use Rattle.std.proofs.Common.{◌≡◌, None, ap, length, subst, arith}
 use Rattle.pap_tree.specs.Flowchart.{flowchart_of}
 use Rattle.call_order.specs.Faults.{IsFirst}
-use Rattle.call_order.specs.LevelViews.{AreAllPlaced, IsByLevel}
+use Rattle.call_order.specs.LevelViews.{level_at, HaveLevels, IsByLevel}
 use Rattle.call_order.proofs.WholeLemmas.{known}
 use Rattle.call_order.proofs.FoundLemmas.{long_fault, sorted}
 use Rattle.call_order.proofs.order.by_chains.Goals as goal
@@ -12,7 +11,7 @@ levels_of-requires c = known (flowchart_of c.args.t.now).methods c.args.graph.no
 
 pub refusal-requires : goal.refusal-requires
 refusal-requires c =
-    let first = subst (λ l. IsFirst (λ k. slice_index l k ≡ 0) (length l) c.in-Some.first) c.deref.ensures.value c.in-Some.ensures in
+    let first = subst (λ l. IsFirst (λ k. level_at l k ≡ None) (length l) c.in-Some.first) c.deref.ensures.value c.in-Some.ensures in
     long_fault (flowchart_of c.args.t.now) _ _ _ c.requires.graph c.in_ok-levels.ensures first
 
 pub by_level-requires-clause-few : goal.by_level-requires-clause-few
@@ -22,6 +21,6 @@ by_level-requires-clause-few c =
 
 pub returns : goal.returns
 returns c =
-    let placed = subst AreAllPlaced c.deref.ensures.value c.in_default.ensures in
+    let placed = subst HaveLevels c.deref.ensures.value c.in_default.ensures in
     let by = subst (λ l. IsByLevel l c.in_ok-by_level.field-0.items) c.deref-2.ensures.value c.in_ok-by_level.ensures in
     sorted (flowchart_of c.args.t.now) _ _ _ c.requires.graph c.in_ok-levels.ensures placed by
