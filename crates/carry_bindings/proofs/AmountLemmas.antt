@@ -1,28 +1,18 @@
--- Sums of bounded amounts, and amounts that a limit for a `double` admits, are within the limits of decimals.
-use Rattle.std.proofs.Common.{◌≡◌, ℕ, zero, suc, ◌+◌, ◌-◌, ◌*◌, ◌^◌, ◌<◌, ◌≤◌, ℤ, pos, negsuc, ◌+ℤ◌, ◌*ℤ◌, ◌≤ℤ◌, ◌<ℤ◌, unsigned_abs, Bool, true, false, not, ◌&&◌, List, [], ◌∷◌, length, get_or, drop, add-one, Option, Some, None, refl, sym, ap, ◌∙◌, arith, subst, cond}
-use Rattle.std.specs.Prelude.{option_map, option_and_then, nat_le}
+-- Sums of bounded amounts are within the limits of decimals.
+use Rattle.std.proofs.Common.{◌≡◌, ℕ, zero, suc, ◌+◌, ◌-◌, ◌*◌, ◌^◌, ◌<◌, ◌≤◌, ℤ, pos, negsuc, ◌+ℤ◌, ◌*ℤ◌, unsigned_abs, Bool, true, false, List, [], ◌∷◌, length, get_or, drop, add-one, Option, Some, None, sym, ap, ◌∙◌, arith, subst, cond}
+use Rattle.std.specs.Prelude.{option_map, option_and_then}
 use Rattle.std.specs.List.{AllByRecursion, find, cons_option}
 use Rattle.std.specs.Str.{bytes_eq}
-use Rattle.std.specs.Ordering.{int_cmp, is_gt, MatchOrdering}
-use Rattle.std.specs.declared.cmp.Ordering.{Ordering}
-use Rattle.std.specs.declared.cmp.Ordering.TheVariants.{Less, Equal, Greater}
-use Rattle.std.specs.Cmp.{int_ranks}
-use Rattle.std.proofs.lemmas.Bool.{false≢true}
-use Rattle.std.proofs.lemmas.Bool.Decides.{nat_tests}
 use Rattle.std.proofs.lemmas.Int.{ints}
 use Rattle.std.proofs.Math.Seq.{drop-cons}
 use borrow.Author.Differences.{sum_is_lem}
-use Rattle.scaled_decimal.specs.Decimals.{Decimal, decimal, numerator_at, numerator_of, scale_of, greater_scale, sum, ten_to, value_order}
-use Rattle.scaled_decimal.specs.Limits.{IsWithinLimit, limit as most}
+use Rattle.scaled_decimal.specs.Decimals.{Decimal, numerator_at, numerator_of, scale_of, greater_scale, sum, ten_to}
 use Rattle.scaled_decimal.specs.WorkingNumbers.{SumFits}
-use Rattle.scaled_decimal.proofs.Laws.{times_assoc, ten_add, ten_some, le_times, aligned_order}
-use Rattle.limits_file.specs.declared.limits.InputLimit.{InputLimit}
-use Rattle.pap_tree.specs.Scales.{is_kept_at}
-use Rattle.limits_file.specs.Limits.{IsFactorLimit, IsWithinBound}
+use Rattle.scaled_decimal.proofs.Laws.{times_assoc, ten_add, ten_some}
+use Rattle.limits_file.specs.Limits.{IsWithinBound}
 use Rattle.payroll_records.specs.declared.values.NamedValue.{NamedValue}
 use Rattle.carry_bindings.specs.Carrying.{amount_of, amounts, named}
 use Rattle.carry_bindings.specs.Conditions.{AreBounded}
-use Rattle.carry_bindings.specs.Filling.{admits}
 use Rattle.carry_bindings.specs.declared.carried.Earlier.{Earlier}
 
 abs_times : (x : ℤ) (k : ℕ) → unsigned_abs (x *ℤ pos k) ≡ unsigned_abs x * k
@@ -37,7 +27,7 @@ pub abs_grows : (x : ℤ) (k : ℕ) → unsigned_abs x ≤ unsigned_abs (x *ℤ 
 abs_grows x k = rw (abs_times x (10 ^ k)) (grows (unsigned_abs x) (10 ^ k) (ten_some k))
 
 -- the numerator at more places
-longer : (s m : ℕ) (d : Decimal) → scale_of d ≤ s → s ≤ m → numerator_at s d *ℤ ten_to (m - s) ≡ numerator_at m d
+pub longer : (s m : ℕ) (d : Decimal) → scale_of d ≤ s → s ≤ m → numerator_at s d *ℤ ten_to (m - s) ≡ numerator_at m d
 longer s m d l k =
     times_assoc (numerator_of d) (ten_to (s - scale_of d)) (ten_to (m - s))
     ∙ ap (λ x. numerator_of d *ℤ x) (ten_add (s - scale_of d) (m - s) (m - scale_of d) (omega arith))
@@ -109,59 +99,6 @@ run_at (x ∷ xs) (suc i) e h l is = run_at xs i e h.1 (omega arith) is
 pub amount_bounded : (name : List ℕ) (es : List Earlier) (i : ℕ) (e : Earlier) (d : Decimal) → AllByRecursion (λ e. AreBounded e.outputs) es → i < length es → e ≡ get_or es i e →
     amount_of name e ≡ Some d → IsWithinBound d
 amount_bounded name es i e d h l is a = amount_by name e.outputs d (run_at es i e h l is) a
-
--- a value that a limit for a `double` admits
-at_most : (x y : ℤ) → not (is_gt (int_cmp x y)) ≡ true → x ≤ℤ y
-at_most x y h = by (int_cmp x y) (int_ranks x y) h
-  where
-    by : (o : Ordering) → MatchOrdering o (x <ℤ y) (x ≡ y) (y <ℤ x) → not (is_gt o) ≡ true → x ≤ℤ y
-    by Less m t = omega (arith, ints)
-    by Equal m t = omega (arith, ints)
-    by Greater m t = absurd (false≢true t)
-
-order_at : (a b : Decimal) → scale_of a ≤ 3 → scale_of b ≤ 3 → not (is_gt (value_order a b)) ≡ true → numerator_at 3 a ≤ℤ numerator_at 3 b
-order_at a b l k h =
-    let s = greater_scale a b in
-    let le = at_most (numerator_at s a) (numerator_at s b) (ap (λ o. not (is_gt o)) (aligned_order a b) ∙ h) in
-    let more = le_times (numerator_at s a) (numerator_at s b) (10 ^ (3 - s)) le in
-    subst (λ (x : ℤ). x ≤ℤ numerator_at 3 b) (longer s 3 a (omega arith) (omega arith))
-    (subst (λ (y : ℤ). (numerator_at s a *ℤ ten_to (3 - s)) ≤ℤ y) (longer s 3 b (omega arith) (omega arith)) more)
-
-and_parts : (a b c : Bool) → (a && b && c) ≡ true → (a ≡ true) × (b ≡ true) × (c ≡ true)
-and_parts true true true e = (refl, refl, refl)
-and_parts true true false e = absurd (false≢true e)
-and_parts true false c e = absurd (false≢true e)
-and_parts false b c e = absurd (false≢true e)
-
-few_places : (s p : ℕ) → nat_le s p ≡ true → s ≤ p
-few_places s p e = grind (arith, nat_tests)
-
--- what the test of a bound says
-kept_at : (d : Decimal) → is_kept_at 3 d ≡ true → (scale_of d ≤ 3) × IsWithinLimit (numerator_at 3 d)
-kept_at d e = by (nat_le (scale_of d) 3) (nat_le (unsigned_abs (numerator_at 3 d)) most) refl refl e
-  where
-    by : (a b : Bool) → nat_le (scale_of d) 3 ≡ a → nat_le (unsigned_abs (numerator_at 3 d)) most ≡ b → (a && b) ≡ true → (scale_of d ≤ 3) × IsWithinLimit (numerator_at 3 d)
-    by true true p q e = (few_places (scale_of d) 3 p, few_places (unsigned_abs (numerator_at 3 d)) most q)
-    by true false p q e = absurd (false≢true e)
-    by false b p q e = absurd (false≢true e)
-
-pub double_fits : (limit : InputLimit) (v : Decimal) → IsFactorLimit limit → admits limit v ≡ true → SumFits v (decimal (pos 0) 3)
-double_fits limit v h e =
-    let parts = and_parts _ _ _ e in
-    let places = few_places (scale_of v) limit.places parts.0 in
-    let few : scale_of v ≤ 3 = omega (arith, h.places) in
-    let top : greater_scale v (decimal (pos 0) 3) ≡ 3 = omega arith in
-    let least = kept_at limit.low h.low in
-    let greatest = kept_at limit.high h.high in
-    let above = order_at limit.low v least.0 few parts.1 in
-    let below = order_at v limit.high few greatest.0 parts.2 in
-    let low = least.1 in
-    let high = greatest.1 in
-    record {
-      left = rw top (omega (arith, ints));
-      right = rw top (omega (arith, ints));
-      result = rw top (omega (arith, ints));
-    }
 
 pub partial_more : (count : ℕ) (d : Decimal) → IsPartial count d → IsPartial (count + 1) d
 partial_more count d h = record { places = h.places; bounded = omega (arith, h.bounded) }

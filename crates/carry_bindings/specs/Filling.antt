@@ -1,15 +1,15 @@
 -- The inputs of a run, or what it waits for or lacks: the first answer that applies (docs/PROFILE.md, "The inputs of a run").
-use Rattle.std.specs.Prelude.{ℕ, List, Option, Some, None, Bool, true, not, ◌&&◌, nat_le, if◌then◌else◌, is_some, is_none, option_map, pos}
+use Rattle.std.specs.Prelude.{◌↔◌, IsTrue, ℕ, List, Option, Some, None, Bool, true, not, ◌&&◌, nat_le, if◌then◌else◌, is_some, is_none, option_map}
 use Rattle.std.specs.Option.{option_or, option_map_or}
 use Rattle.std.specs.List.{find, filter_map, list_any}
 use Rattle.std.specs.Ordering.{is_gt}
 use Rattle.std.specs.Str.{bytes_eq}
-use Rattle.scaled_decimal.specs.Decimals.{Decimal, decimal, scale_of, sum, value_order}
-use Rattle.pap_tree.specs.declared.declaration.Kind.{Kind}
-use Rattle.pap_tree.specs.declared.declaration.Kind.TheVariants as kind
+use Rattle.scaled_decimal.specs.Decimals.{Decimal, scale_of, value_order}
+use Rattle.pap_types.specs.Scopes.{kept_as}
 use Rattle.limits_file.specs.declared.limits.InputLimit.{InputLimit}
 use Rattle.limits_file.specs.declared.slots.Slot.{Slot}
 use Rattle.limits_file.specs.declared.limits.Carry.{Carry}
+use Rattle.limits_file.specs.Limits.{Fits}
 use Rattle.payroll_records.specs.declared.day.Day.{Day}
 use Rattle.payroll_records.specs.declared.values.NamedValue.{NamedValue}
 use Rattle.payroll_records.specs.NamedValues.{value_at}
@@ -54,30 +54,22 @@ abbrev pub missing : List Slot → List NamedValue → List Earlier → Option (
 missing slots values earlier =
     option_map (λ s. s.name) (find (λ s. is_none (value_of values earlier s)) slots)
 
--- the limit admits the value: it has no more places than the limit, and lies from low to high
-abbrev pub admits : InputLimit → Decimal → Bool
-admits limit v =
-    nat_le (scale_of v) limit.places
-    && not (is_gt (value_order limit.low v)) && not (is_gt (value_order v limit.high))
+-- whether a value fits a limit: `Fits` of limits_file, as a test (`FitsIsTold`)
+abbrev pub fits : InputLimit → Decimal → Bool
+fits limit value =
+    nat_le (scale_of value) limit.places
+    && not (is_gt (value_order limit.low value)) && not (is_gt (value_order value limit.high))
 
--- 4. the first declared input whose value its limit doesn't admit
+-- 4. the first declared input whose value doesn't fit its limit
 abbrev pub outside : List Slot → List NamedValue → List Earlier → Option (List ℕ)
 outside slots values earlier =
     option_map (λ s. s.name)
-    (find (λ s. not (option_map_or (admits s.limit) (value_of values earlier s) true)) slots)
+    (find (λ s. not (option_map_or (fits s.limit) (value_of values earlier s) true)) slots)
 
--- a `double` is brought to three places by adding 0.000
-abbrev pub input_of : Kind → Decimal → Decimal
-input_of kind.Factor v = sum v (decimal (pos 0) 3)
-input_of kind.Int v = v
-input_of kind.Long v = v
-input_of kind.Big v = v
-input_of kind.Table v = v
-
--- 5. the values in declared order
+-- 5. the values in declared order, each as a variable of its input's type keeps it
 abbrev pub inputs : List Slot → List NamedValue → List Earlier → List Decimal
 inputs slots values earlier =
-    filter_map (λ s. option_map (input_of s.kind) (value_of values earlier s)) slots
+    filter_map (λ s. option_map (kept_as s.kind) (value_of values earlier s)) slots
 
 abbrev pub first_of :
     Option Day → Option (List ℕ) → Option (List ℕ) → Option (List ℕ) → List Decimal → Filled
@@ -93,3 +85,8 @@ filled_by slots values earlier =
     first_of (waits slots earlier) (unknown slots values) (missing slots values earlier)
     (outside slots values earlier)
     (inputs slots values earlier)
+
+-- ---- a law: `fits` is true exactly where the value fits the limit
+
+abbrev pub FitsIsTold : Type 0
+FitsIsTold = (limit : InputLimit) (value : Decimal) → IsTrue (fits limit value) ↔ Fits limit value

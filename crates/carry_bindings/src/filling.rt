@@ -1,19 +1,22 @@
 //! The inputs of a run.
-ghost use Rattle.std.specs.Prelude.{◌≡◌, ◌≤◌, IfOk, None, length, true};
+ghost use Rattle.std.specs.Prelude.{◌≡◌, ◌≤◌, IfOk, None, length};
 ghost use Rattle.std.specs.List.{AllByRecursion};
 ghost use Rattle.carry_bindings.specs.Conditions.{AreBounded, KeepsFactorLimit};
 ghost use Rattle.carry_bindings.specs.Limits.{most_runs};
-ghost use Rattle.carry_bindings.specs.Filling.{admits, filled_by, first_of, given, has_carry, input_of, inputs, missing};
-ghost use Rattle.carry_bindings.specs.Filling.{outside, value_of, waits};
+ghost use Rattle.carry_bindings.specs.Filling.{FitsIsTold, filled_by, first_of, given, has_carry, inputs, missing, outside};
+ghost use Rattle.carry_bindings.specs.Filling.{value_of, waits};
 ghost use Rattle.carry_bindings.specs.OutputViews.{AreAlike};
 ghost use Rattle.carry_bindings.specs.Views.{places_of};
+ghost use Rattle.limits_file.specs.Limits.{Fits};
+ghost use Rattle.pap_types.specs.Scopes.{kept_as};
 ghost use Rattle.payroll_records.specs.NamedValues.{place_at};
 
 use crate::carried::{Earlier, carried};
 use crate::names::{places, unknown};
 use crate::outputs::alike;
-use limits_file::{InputLimit, Items, Slot, Spec};
+use limits_file::{Items, Slot, Spec};
 use pap_tree::{Kind, Name};
+use pap_types::at_factor_scale;
 use payroll_records::{Day, Record, Values};
 use scaled_decimal::Dec;
 use std::alloc::{AllocError, Global};
@@ -30,7 +33,7 @@ pub enum Blocked {
     Unknown(Name),
     /// The input of this name has no value.
     Missing(Name),
-    /// The value of this input is outside its range.
+    /// The value of this input doesn't fit its range.
     Range(Name),
 }
 
@@ -146,26 +149,19 @@ fn missing(
     None
 }
 
-/// Whether a range admits a value.
-fn admits(limit: &InputLimit, value: Dec) -> bool
-    ensures { result ≡ admits limit.now value }
-{
-    limit.fits(value)
-}
-
-/// The value as the run takes it.
-fn input_of(slot: &Slot, value: Dec) -> Dec
+/// The value as a variable of the input's type keeps it.
+fn kept_as(slot: &Slot, value: Dec) -> Dec
     requires suits { KeepsFactorLimit slot.now }
-    requires admitted { admits slot.now.limit value ≡ true }
-    ensures { result ≡ input_of slot.now.kind value }
+    requires fits { Fits slot.now.limit value }
+    ensures { result ≡ kept_as slot.now.kind value }
 {
     match slot.kind {
-        Kind::Factor => value.add(Dec::new(0, 3)),
+        Kind::Factor => at_factor_scale(value),
         _ => value,
     }
 }
 
-/// The inputs in declared order, or the first whose value its range doesn't admit.
+/// The inputs in declared order, or the first whose value doesn't fit its range.
 fn inputs(
     alloc: Global,
     slots: &[Slot],
@@ -190,10 +186,15 @@ fn inputs(
         let Some(value) = value_of(values, places[at], earlier, alike.as_slice(), slot) else {
             continue;
         };
-        if !admits(&slot.limit, value) {
+        if !slot.limit.fits(value) {
             return Ok(Filled::State(Blocked::Range(slot.name)));
         }
-        inputs.push(input_of(slot, value))?;
+        inputs.push(kept_as(slot, value))?;
     }
     Ok(Filled::Inputs(Items::from_vec(inputs)))
 }
+
+/// A law, with nothing to run: the definitions' test is true exactly where a value fits its range.
+pub fn fill_laws()
+    ensures { FitsIsTold }
+{}

@@ -1,12 +1,12 @@
 -- Inputs that are filled from kept values, after earlier runs whose outputs keep their bound, are kept.
-use Rattle.std.proofs.Common.{◌≡◌, ℕ, ◌+◌, ◌-◌, ◌≤◌, max, List, [], ◌∷◌, length, Bool, true, false, not, refl, sym, ap, ◌∙◌, subst, arith}
-use Rattle.std.specs.Prelude.{Option, Some, None, option_map, All, pos, ◌+ℤ◌, if◌then◌else◌, fold}
+use Rattle.std.proofs.Common.{◌≡◌, ℕ, ◌+◌, ◌-◌, ◌≤◌, List, [], ◌∷◌, length, Bool, true, false, not, refl, sym, ◌∙◌, subst, arith}
+use Rattle.std.specs.Prelude.{Option, Some, None, option_map, All, if◌then◌else◌, fold}
 use Rattle.std.specs.List.{AllByRecursion, cons_option}
 use Rattle.std.specs.Option.{option_or, option_map_or}
 use Rattle.std.specs.Ordering.{is_eq}
 use Rattle.std.proofs.lemmas.Int.{ints}
 use Rattle.std.proofs.lemmas.List.Elements.{All-nil, All-cons, All-head, All-tail}
-use Rattle.scaled_decimal.specs.Decimals.{Decimal, decimal, scale_of, numerator_of, numerator_at, sum}
+use Rattle.scaled_decimal.specs.Decimals.{Decimal, scale_of, numerator_of, sum}
 use Rattle.scaled_decimal.specs.Limits.{IsKept}
 use Rattle.pap_tree.specs.declared.declaration.Kind.{Kind}
 use Rattle.pap_tree.specs.declared.declaration.Kind.TheVariants as kinds
@@ -21,11 +21,11 @@ use Rattle.payroll_records.specs.declared.values.NamedValue.{NamedValue}
 use Rattle.payroll_records.specs.NamedValues.{name_cmp, value_at}
 use Rattle.carry_bindings.specs.Carrying.{amount_of, amounts, zero_amount, carried}
 use Rattle.carry_bindings.specs.Conditions.{AreBounded}
-use Rattle.carry_bindings.specs.Filling.{value_by, given, value_of, admits, outside, inputs, input_of, missing, unknown, waits}
+use Rattle.carry_bindings.specs.Filling.{value_by, given, value_of, fits, outside, inputs, missing, unknown, waits}
 use Rattle.carry_bindings.specs.declared.carried.Earlier.{Earlier}
 use Rattle.carry_bindings.specs.declared.filling.Filled.TheVariants as filling
-use Rattle.carry_bindings.proofs.Laws.{IsPartial, sum_partial, abs_grows, amount_by}
-use Rattle.pap_types.specs.Scopes.{at_factor_scale}
+use Rattle.carry_bindings.proofs.Laws.{IsPartial, sum_partial, abs_grows, amount_by, told}
+use Rattle.pap_types.specs.Scopes.{kept_as}
 use Rattle.pap_types.specs.Meaning.{IsSafeFor}
 use Rattle.interval_walk.specs.Admission.{SuitsLimit, HasLimit}
 use Rattle.interval_walk.proofs.Laws.{factor_admitted}
@@ -34,7 +34,7 @@ use Rattle.pap_plan.specs.Inputs.{IsSlot, AreSlots}
 use Rattle.pay_run.specs.Accepted.{Accepted}
 use Rattle.pap_plan.proofs.Laws.{HasKeptValue, accepted_limits, accepted_defaults, accepted_safe, some_slots}
 use Rattle.pay_run.specs.Runs.{IsKeptValue, filled}
-use Rattle.pay_run.proofs.AdmissionLemmas.{fits, not_false, none_at, first_inputs, filled_admitted}
+use Rattle.pay_run.proofs.AdmissionLemmas.{not_false, slot_limit, none_at, first_inputs, filled_admitted}
 use Rattle.pay_run.proofs.RunLemmas.{filled_slots}
 
 -- ---- carried values
@@ -88,29 +88,13 @@ either_kept None p h k d e = k d e
 
 -- ---- inputs
 
-no_more : (s : ℕ) (v : Decimal) → s ≡ 3 → decimal (numerator_at s v +ℤ numerator_at s (decimal (pos 0) 3)) s ≡ at_factor_scale v
-no_more s v e = subst (λ t. decimal (numerator_at t v +ℤ numerator_at t (decimal (pos 0) 3)) t ≡ at_factor_scale v) (sym e) (ap (λ n. decimal n 3) (omega (arith, ints)))
-
-double_kept : (limit : InputLimit) (v : Decimal) → HasSoundBounds limit → SuitsLimit kinds.Factor limit → Fits limit v → IsKept (sum v (decimal (pos 0) 3))
-double_kept limit v sound suits fit =
-    let few : scale_of v ≤ 3 = omega (arith, fit.places, suits.places) in
-    subst IsKept (sym (no_more (max (scale_of v) 3) v (omega arith))) (factor_admitted limit v sound suits fit).kept
-
-input_kept : (kind : Kind) (limit : InputLimit) (v : Decimal) → HasSoundBounds limit → SuitsLimit kind limit → Fits limit v → IsKept v → IsKept (input_of kind v)
-input_kept kinds.Factor limit v sound suits fit k = double_kept limit v sound suits fit
+input_kept : (kind : Kind) (limit : InputLimit) (v : Decimal) → HasSoundBounds limit → SuitsLimit kind limit →
+    Fits limit v → IsKept v → IsKept (kept_as kind v)
+input_kept kinds.Factor limit v sound suits fit k = (factor_admitted limit v sound suits fit).kept
 input_kept kinds.Int limit v sound suits fit k = k
 input_kept kinds.Long limit v sound suits fit k = k
 input_kept kinds.Big limit v sound suits fit k = k
 input_kept kinds.Table limit v sound suits fit k = k
-
-some_same : (x y : InputLimit) → ◌≡◌ {A = Option InputLimit} (Some x) (Some y) → x ≡ y
-some_same x y e = cc
-
--- the limit of a slot is that of the declaration
-slot_limit : (l : Limits) (d : Declaration) (s : Slot) → HasLimit l d → IsSlot l d s → HasSoundBounds s.limit × SuitsLimit s.kind s.limit
-slot_limit l d s h is =
-    let same : h.limit ≡ s.limit = some_same h.limit s.limit (sym h.is ∙ is.limit) in
-    (subst HasSoundBounds same h.sound, subst (λ k. SuitsLimit k s.limit) (sym is.kind) (subst (λ x. SuitsLimit d.kind x) same h.suits))
 
 module _ (l : Limits) (values : List NamedValue) (kept : All IsKeptValue values) (earlier : List Earlier) (few : length earlier ≤ 366) (bounded : AllByRecursion (λ (e : Earlier). AreBounded e.outputs) earlier) where
   carried_kept : (c : Carry) → IsKept (carried c earlier)
@@ -132,16 +116,19 @@ module _ (l : Limits) (values : List NamedValue) (kept : All IsKeptValue values)
   inputs_kept [] (s ∷ slots) hl hd h o = absurd h
   inputs_kept (d ∷ ds) [] hl hd h o = absurd h
   inputs_kept (d ∷ ds) (s ∷ slots) hl hd h o =
-      let o' = none_at (not (option_map_or (admits s.limit) (value_of values earlier s) true)) s _ o in
+      let o' = none_at (not (option_map_or (fits s.limit) (value_of values earlier s) true)) s _ o in
       let limit = slot_limit l d s (All-head (HasLimit l) d ds hl) h.0 in
       let rest = inputs_kept ds slots (All-tail (HasLimit l) d ds hl) (All-tail HasKeptValue d ds hd) h.1 o'.1 in
       by limit.0 limit.1 rest (value_of values earlier s) (value_kept d s h.0 (All-head HasKeptValue d ds hd)) o'.0
     where
       by : HasSoundBounds s.limit → SuitsLimit s.kind s.limit → All IsKept (inputs slots values earlier) → (x : Option Decimal) → ((v : Decimal) → x ≡ Some v → IsKept v)
-          → not (option_map_or (admits s.limit) x true) ≡ false → All IsKept (cons_option (option_map (input_of s.kind) x) (inputs slots values earlier))
+          → not (option_map_or (fits s.limit) x true) ≡ false
+          → All IsKept (cons_option (option_map (kept_as s.kind) x) (inputs slots values earlier))
       by sound suits rest None k t = rest
       by sound suits rest (Some v) k t =
-          All-cons IsKept (input_of s.kind v) (inputs slots values earlier) (input_kept s.kind s.limit v sound suits (fits s.limit v (not_false (admits s.limit v) t)) (k v refl)) rest
+          let fit = (told s.limit v).0 (not_false (fits s.limit v) t) in
+          let first = input_kept s.kind s.limit v sound suits fit (k v refl) in
+          All-cons IsKept (kept_as s.kind v) (inputs slots values earlier) first rest
 
 -- ---- so a run on them is safe
 
@@ -150,10 +137,11 @@ pub filled_safe : (p : Accepted) (values : List NamedValue) (earlier : List Earl
 filled_safe p values earlier vs accepted kept few bounded e =
     let l = p.meaning.limits in
     let ds = p.meaning.flowchart.inputs in
-    let suited = accepted.bound.suited.suited in
-    let slots = some_slots l ds suited in
+    let slots = some_slots l ds accepted.bound.suited.suited in
     let by_slots = filled_slots p slots.0 values earlier slots.1 ∙ e in
     let parts = first_inputs (waits slots.0 earlier) (unknown slots.0 values) (missing slots.0 values earlier) (outside slots.0 values earlier) (inputs slots.0 values earlier) vs by_slots in
-    let all = inputs_kept l values kept earlier few bounded ds slots.0 (accepted_limits p.plan p.limits p.meaning accepted) (accepted_defaults p.plan p.limits p.meaning accepted) slots.1 parts.1 in
+    let limits = accepted_limits p.plan p.limits p.meaning accepted in
+    let defaults = accepted_defaults p.plan p.limits p.meaning accepted in
+    let all = inputs_kept l values kept earlier few bounded ds slots.0 limits defaults slots.1 parts.1 in
     accepted_safe p.plan p.limits p.meaning accepted vs
-    (filled_admitted l ds slots.0 values earlier vs suited slots.1 (subst (λ t. All IsKept t) parts.2 all) by_slots)
+    (filled_admitted l ds slots.0 values earlier vs limits slots.1 (subst (λ t. All IsKept t) parts.2 all) by_slots)

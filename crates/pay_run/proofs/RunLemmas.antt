@@ -13,6 +13,7 @@ use Rattle.limits_file.specs.declared.slots.Slot.{Slot}
 use Rattle.limits_file.specs.Limits.{IsWithinBound}
 use Rattle.pap_types.specs.Meaning.{outputs_of, cost_of}
 use Rattle.pap_types.specs.Limits.{most_steps}
+use Rattle.interval_walk.specs.Admission.{HaveLimits}
 use Rattle.interval_walk.specs.Ranges.{Ranges}
 use Rattle.interval_walk.specs.Soundness.{AreOutputs}
 use Rattle.payroll_records.specs.declared.values.NamedValue.{NamedValue}
@@ -23,6 +24,7 @@ use Rattle.carry_bindings.specs.Conditions.{KeepsFactorLimit}
 use Rattle.carry_bindings.specs.Filling.{filled_by}
 use Rattle.pap_plan.specs.Acceptance.{Meaning, IsAccepted}
 use Rattle.pap_plan.specs.Inputs.{IsSlot, AreSlots}
+use Rattle.pap_plan.proofs.Laws.{accepted_limits}
 use Rattle.pay_run.specs.Accepted.{Accepted}
 use Rattle.pay_run.specs.declared.outputs.Finished.{Finished}
 use Rattle.pay_run.specs.Runs.{slot_of, slot_with, filled, named_values, run_outputs, run_cost}
@@ -49,15 +51,19 @@ unfolding filled
 filled_slots p slots values earlier are = ap (λ s. filled_by s values earlier) (sym (are_slots p.meaning.limits p.meaning.flowchart.inputs slots are))
 
 module _ (p : Accepted) (accepted : IsAccepted p.plan p.limits p.meaning) (slots : List Slot) (are : AreSlots p.meaning.limits p.meaning.flowchart.inputs slots) where
+  limited : HaveLimits p.meaning.flowchart p.meaning.limits
+  limited = accepted_limits p.plan p.limits p.meaning accepted
+
   pub doubles : AllByRecursion KeepsFactorLimit slots
-  doubles = suits_kinds p.meaning.limits p.meaning.flowchart.inputs slots accepted.bound.suited.suited are
+  doubles = suits_kinds p.meaning.limits p.meaning.flowchart.inputs slots limited are
 
   -- kept inputs that are filled are admitted
   pub fills_inputs : (values : List NamedValue) (earlier : List Earlier) (inputs : List Decimal) → filling.Inputs inputs ≡ filled_by slots values earlier → All IsKept inputs →
       Fills p (filled p values earlier) (filling.Inputs inputs)
   fills_inputs values earlier inputs e kept = record {
     are = e ∙ filled_slots p slots values earlier are;
-    admitted = filled_admitted p.meaning.limits p.meaning.flowchart.inputs slots values earlier inputs accepted.bound.suited.suited are kept (sym e);
+    admitted =
+        filled_admitted p.meaning.limits p.meaning.flowchart.inputs slots values earlier inputs limited are kept (sym e);
   }
 
   pub fills_none : (values : List NamedValue) (earlier : List Earlier) (f : Filled) → f ≡ filled_by slots values earlier → AdmitsFilled p f → Fills p (filled p values earlier) f

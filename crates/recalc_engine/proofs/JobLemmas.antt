@@ -24,6 +24,7 @@ use Rattle.carry_bindings.specs.declared.filling.Filled.TheVariants as filling
 use Rattle.pap_plan.specs.Acceptance.{IsAccepted}
 use Rattle.pap_plan.specs.Inputs.{AreSlots}
 use Rattle.pap_plan.specs.Plans.{Seen}
+use Rattle.pap_plan.proofs.Laws.{accepted_limits}
 use Rattle.pay_run.proofs.Laws.{are_slots, filled_admitted}
 use Rattle.pay_run.specs.Runs.{filled}
 use Rattle.book_year.specs.Accepted.{Accepted, accepted, accepted_entry, plans_in}
@@ -220,7 +221,8 @@ pub admits_filled : (p : Accepted) (slots : List Slot) (inputs : List Decimal) �
 unfolding filled
 admits_filled p slots inputs accepted are all values earlier h =
     let by_slots : filled_by slots values earlier ≡ filling.Inputs inputs = ap (λ s. filled_by s values earlier) (sym (are_slots p.meaning.limits p.meaning.flowchart.inputs slots are)) ∙ h in
-    filled_admitted p.meaning.limits p.meaning.flowchart.inputs slots values earlier inputs accepted.bound.suited.suited are all by_slots
+    let limits = accepted_limits p.plan p.limits p.meaning accepted in
+    filled_admitted p.meaning.limits p.meaning.flowchart.inputs slots values earlier inputs limits are all by_slots
 
 -- ---- the plan of a day, which the calendar gives with its code
 
