@@ -11,7 +11,7 @@ use Rattle.pap_plan.specs.declared.refusal.PlanRefusal.TheVariants as refusals
 use Rattle.pap_plan.specs.Acceptance.{IsRefused}
 use Rattle.plain_words.specs.Lines.{shown_text}
 use Rattle.plain_words.specs.Positions.{line_number, column_number, position_text}
-use Rattle.plain_words.specs.Places.{NamedText, PlanFiles, PlanPlace, in_plan, in_ranges, BeginsAt}
+use Rattle.plain_words.specs.Places.{NamedText, PlanFiles, PlanPlace, in_plan, in_ranges, IsReason, BeginsAt}
 use Rattle.plain_words.specs.Refusals.{IsPlaceOfFault, IsPlaceOfLimits, IsPlaceOf, BeginsAtRefusal}
 use Rattle.plan_answers.proofs.Laws.{whole}
 
@@ -69,11 +69,11 @@ moved plan (refusals.Order fault) a b h = h
 moved plan (refusals.Range fault) a b h = h
 moved plan refusals.Memory a b h = h
 
--- the words begin with the place behind these bytes
+-- the words begin with the place behind these bytes, and go on with a reason
 abbrev IsBehind : (name words before : List ℕ) → Type 0
 IsBehind name words before =
-    (text : List ℕ) × (words ≡ shown_text
-    ((name ++ (codes ":" ++ position_text (line_number before) (column_number before))) ++ (codes ": " ++ text)))
+    (text : List ℕ) × (IsReason text × (words ≡ shown_text
+    ((name ++ (codes ":" ++ position_text (line_number before) (column_number before))) ++ (codes ": " ++ text))))
 
 pub begins_ranges : (m : ℕ) (plan limits : NamedText) (r : PlanRefusal) (words : List ℕ)
     → BeginsAtRefusal (both plan (front m limits)) r words → BeginsAtRefusal (both plan limits) r words

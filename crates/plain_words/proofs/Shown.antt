@@ -1,5 +1,5 @@
 -- What is shown of texts that stand one behind another, and of what helps.
-use Rattle.std.proofs.Common.{◌≡◌, ℕ, List, ◌++◌, refl, sym, ap, ◌∙◌, append_assoc}
+use Rattle.std.proofs.Common.{◌≡◌, ◌≢◌, ℕ, List, [], ◌∷◌, ◌++◌, refl, sym, ap, ◌∙◌, append_assoc}
 use Rattle.std.specs.Prelude.{Option, None, Some, IfSome, Result, Ok, Err, IfOk, map, codes, encode_utf8_all}
 use Rattle.std.specs.Char.{encode_utf8}
 use Rattle.std.specs.Str.{IsUtf8, chars}
@@ -24,7 +24,7 @@ use Rattle.pap_plan.specs.declared.refusal.PlanRefusal.TheVariants as refusals
 use Rattle.carry_bindings.specs.declared.filling.Blocked.{Blocked}
 use Rattle.plain_words.specs.declared.found.Found.{Found}
 use Rattle.plain_words.specs.Lines.{shown_char, shown_text, EndsWith}
-use Rattle.plain_words.specs.Places.{PlanFiles, words_at}
+use Rattle.plain_words.specs.Places.{PlanFiles, words_at, IsReason}
 use Rattle.plain_words.specs.Helps.{read_help, expression_help, type_help, order_help, limits_help, cause_help}
 use Rattle.plain_words.specs.Helps.{range_help, help_of}
 use Rattle.plain_words.specs.Refusals.{IsPlaceOf, BeginsAtRefusal}
@@ -130,14 +130,27 @@ ends_with_help r found words helps ends = by (help_of r) helps (help_shown r)
     by (Some h) is shown =
         (ends.0, ends.1 ∙ ap (λ x. ends.0 ++ shown_text (codes "; " ++ x)) is ∙ ap (λ x. ends.0 ++ x) shown)
 
-pub begins_at_refusal : (files : PlanFiles) (r : PlanRefusal) (found : Found) (text words : List ℕ)
-    → IsPlaceOf files.plan.bytes r (place_of found) → HelpsAs (help_of r) found
-    → words ≡ words_at files (place_of found) text
+-- what is wrong, with what is quoted of it, and what helps are a reason
+a_reason : (wrong quote help : List ℕ) → wrong ≢ [] → IsReason (wrong ++ (quote ++ (codes "; " ++ help)))
+a_reason wrong quote help some = record {
+  wrong = wrong ++ quote;
+  help = help;
+  some = some_front wrong some;
+  is = sym (append_assoc wrong quote (codes "; " ++ help));
+}
+  where
+    some_front : (front : List ℕ) → front ≢ [] → front ++ quote ≢ []
+    some_front [] none = absurd (none refl)
+    some_front (c ∷ front) some = λ same. cc
+
+pub begins_at_refusal : (files : PlanFiles) (r : PlanRefusal) (found : Found) (wrong quote words : List ℕ)
+    → IsPlaceOf files.plan.bytes r (place_of found) → HelpsAs (help_of r) found → wrong ≢ []
+    → words ≡ words_at files (place_of found) (wrong ++ (quote ++ (codes "; " ++ help_text found)))
     → EndsWith (shown_text (codes "; " ++ help_text found)) words → BeginsAtRefusal files r words
-begins_at_refusal files r found text words is helps says ends = record {
+begins_at_refusal files r found wrong quote words is helps some says ends = record {
   place = place_of found;
   is = is;
-  begins = (text, says);
+  begins = (_, (a_reason wrong quote (help_text found) some, says));
   helps = ends_with_help r found words helps ends;
 }
 

@@ -1,5 +1,5 @@
 -- Places in the files of a plan, as the words of a refusal name them.
-use Rattle.std.specs.Prelude.{ℕ, List, Option, Some, None, ◌≡◌, ◌++◌, codes}
+use Rattle.std.specs.Prelude.{ℕ, List, [], Option, Some, None, ◌≡◌, ◌≢◌, ◌++◌, codes}
 use Rattle.plain_words.specs.declared.place.TextFile.{TextFile}
 use Rattle.plain_words.specs.Lines.{shown_text}
 use Rattle.plain_words.specs.Positions.{line_of, column_of, position_text}
@@ -40,6 +40,13 @@ place_in_words files (in_ranges at) = place_text files.ranges at
 abbrev pub words_at : PlanFiles → PlanPlace → List ℕ → List ℕ
 words_at files place text = shown_text (place_in_words files place ++ (codes ": " ++ text))
 
--- the words begin with this place, a colon and a space
+-- the text of a reason: what is wrong, which isn't empty, and behind a semicolon and a space what helps
+pub record IsReason (text : List ℕ) : Type 0 where
+  pub wrong : List ℕ
+  pub help : List ℕ
+  pub some : wrong ≢ []
+  pub is : text ≡ wrong ++ (codes "; " ++ help)
+
+-- the words begin with this place, a colon and a space, and go on with a reason
 abbrev pub BeginsAt : PlanFiles → PlanPlace → List ℕ → Type 0
-BeginsAt files place words = (text : List ℕ) × (words ≡ words_at files place text)
+BeginsAt files place words = (text : List ℕ) × (IsReason text × (words ≡ words_at files place text))

@@ -67,14 +67,16 @@ IsPlaceOf plan (refusals.Bind name) place = IsInRanges place
 IsPlaceOf plan refusals.Memory place = ⊥
 IsPlaceOf plan _ place = IsInPlan place
 
--- the words begin with the place of this refusal, and end with what helps where the refusal alone decides that
+-- the words begin with the place of this refusal, go on with a reason, and end with what helps where the refusal alone
+-- decides that
 pub record BeginsAtRefusal (files : PlanFiles) (refusal : PlanRefusal) (words : List ℕ) : Type 0 where
   pub place : PlanPlace
   pub is : IsPlaceOf files.plan.bytes refusal place
   pub begins : BeginsAt files place words
   pub helps : IfSome (help_of refusal) (λ help. EndsWith (codes "; " ++ help) words)
 
--- what is said of a refused plan: one line, that begins with the place of the refusal in the file in which it stands
+-- what is said of a refused plan: one line, that begins with the place of the refusal in the file in which it stands, and goes
+-- on with a reason
 pub record TellsPlan (files : PlanFiles) (words : List ℕ) : Type 0 where
   pub refusal : PlanRefusal
   pub refused : IsRefused files.plan.bytes files.ranges.bytes refusal

@@ -1,5 +1,5 @@
 //! What is wrong with a plan or its range file.
-ghost use Rattle.std.specs.Prelude.{IfOk};
+ghost use Rattle.std.specs.Prelude.{◌≢◌, IfOk, []};
 ghost use Rattle.std.specs.String.{string_bytes};
 ghost use Rattle.plain_words.specs.Lines.{IsOneLine};
 ghost use Rattle.plain_words.specs.Places.{files_of};
@@ -35,8 +35,19 @@ pub fn plan_words(
 {
     let mut quote = String::new(alloc);
     let found = find_refusal(plan, limits, refusal, &mut quote)?;
-    let wrong = refusal.to_string(alloc)?;
+    let wrong = wrong_text(alloc, refusal)?;
     reason_line(alloc, plan, limits, found, &wrong, &quote)
+}
+
+/// What is wrong, as the refusal displays it. It is never empty, whatever that is.
+fn wrong_text(alloc: Global, refusal: &PlanRefusal) -> Result<String, AllocError>
+    ensures { IfOk result (λ wrong. string_bytes wrong ≢ []) }
+{
+    let wrong = refusal.to_string(alloc)?;
+    if wrong.is_empty() {
+        return String::from_str(alloc, "the plan is refused");
+    }
+    Ok(wrong)
 }
 
 /// Where a plan or its range file is refused, and what helps; what stands there is appended.
