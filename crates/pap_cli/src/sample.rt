@@ -51,7 +51,7 @@ fn summary(alloc: Global, employees: u32, script: &Script) -> Result<String, All
     let counts = book_lines(alloc, employees, script.book())?;
     let work = work_lines(alloc, script.made())?;
     let tax = tax_sum(script.book());
-    Ok(format!(in alloc; "{counts}{work}LST {tax}\n")?)
+    format!(in alloc; "{counts}{work}LST {tax}\n")
 }
 
 /// How many lines the script has, and how many runs the book.
@@ -61,7 +61,7 @@ fn book_lines(alloc: Global, employees: u32, book: &Book) -> Result<String, Allo
 {
     let lines = sample_line_count(employees);
     let records = run_count(book);
-    Ok(format!(in alloc; "lines {lines}\nrecords {records}\n")?)
+    format!(in alloc; "lines {lines}\nrecords {records}\n")
 }
 
 /// What all edits had to run.
@@ -69,7 +69,7 @@ fn work_lines(alloc: Global, made: Work) -> Result<String, AllocError>
     ensures { IfOk result (λ text. string_bytes text ≡ work_lines made) }
 {
     let (runs, steps) = (made.runs, made.steps);
-    Ok(format!(in alloc; "runs {runs}\nsteps {steps}\n")?)
+    format!(in alloc; "runs {runs}\nsteps {steps}\n")
 }
 
 /// The number of a book's runs.

@@ -8,7 +8,8 @@ use Rattle.outside.specs.Memory.{file_named}
 use Rattle.script_steps.specs.Steps.{Standing, AreThere}
 use Rattle.script_run.specs.Limits.{most_script}
 use Rattle.script_run.specs.Transcripts.{lines_of}
-use Rattle.script_run.specs.RunClauses.{OutsideShown, RunMeets, EndsAt, EndsUnwritten, TellsRefused, IsFinished, IsSpentWithin}
+use Rattle.script_steps.specs.Shown.{OutsideShown}
+use Rattle.script_run.specs.RunClauses.{RunMeets, EndsAt, EndsUnwritten, TellsRefused, IsFinished, IsSpentWithin}
 use Rattle.script_run.specs.RefusedLines.{IsToldOf, tells_one}
 use Rattle.script_run.specs.declared.turns.Ended.{Ended}
 use Rattle.script_run.specs.declared.refused_lines.RefusedLines.{RefusedLines}

@@ -7,7 +7,7 @@ ghost use Rattle.script_run.specs.Samples.{sample_lines, numbers, script_of};
 ghost use Rattle.script_run.specs.Limits.{most_script, most_employees};
 ghost use Rattle.script_run.specs.Transcripts.{lines_of};
 ghost use Rattle.script_run.specs.RunClauses.{IsFinished, IsSpentWithin};
-ghost use Rattle.script_run.specs.SampleFiles.{named_texts, plan_text, limits_text, sample_files};
+ghost use Rattle.script_run.specs.SampleFiles.{named_texts, sample_plan, sample_limits, sample_files};
 ghost use Rattle.outside.specs.Memory.{named_files};
 
 use crate::memory::run_in_memory;
@@ -20,7 +20,7 @@ use steps::Steps;
 pub const MOST_EMPLOYEES: u32 = 200;
 
 /// The flowchart of a sample: the tax is 14 % of the pay above 100,000, and KUM the tax of the year so far.
-pub const SAMPLE_PLAN: &[u8] = br#"<PAP><INTERFACE>
+pub(crate) const SAMPLE_PLAN: &[u8] = br#"<PAP><INTERFACE>
 <INPUTS><INPUT name="RE4" type="BigDecimal"/><INPUT name="SUMV" type="BigDecimal"/></INPUTS>
 <OUTPUTS type="STANDARD"><OUTPUT name="LST" type="BigDecimal"/><OUTPUT name="KUM" type="BigDecimal"/></OUTPUTS>
 </INTERFACE>
@@ -39,7 +39,7 @@ pub const SAMPLE_PLAN: &[u8] = br#"<PAP><INTERFACE>
 "#;
 
 /// The range file of a sample: the pay is at most 10,000,000,000, and SUMV is the sum of the year's earlier LST.
-pub const SAMPLE_LIMITS: &[u8] = br#"[input.RE4]
+pub(crate) const SAMPLE_LIMITS: &[u8] = br#"[input.RE4]
 low = 0
 high = "10000000000"
 places = 0
@@ -52,12 +52,12 @@ kind = "sum"
 output = "LST"
 "#;
 
-/// A month of the year, in two digits.
-fn month_words(alloc: Global, month: u32) -> Result<String, AllocError>
+/// A month of 2025, as a line names it.
+fn month_text(alloc: Global, month: u32) -> Result<String, AllocError>
     ensures { IfOk result (λ text. string_bytes text ≡ month_text month) }
 {
     let (tens, ones) = (month / 10, month % 10);
-    Ok(format!(in alloc; "2025-{tens}{ones}")?)
+    format!(in alloc; "2025-{tens}{ones}")
 }
 
 /// The pay of an employee in a month.
@@ -75,16 +75,16 @@ fn record_line(alloc: Global, employee: u32, month: u32) -> Result<String, Alloc
     requires months { month ≤ 12 }
     ensures { IfOk result (λ line. string_bytes line ≡ add_line employee month ++ 10 ∷ []) }
 {
-    let words = month_words(alloc, month)?;
+    let month_words = month_text(alloc, month)?;
     let value = pay_of(employee, month);
-    Ok(format!(in alloc; "add E{employee} {words} {words}-28 RE4={value}\n")?)
+    format!(in alloc; "add E{employee} {month_words} {month_words}-28 RE4={value}\n")
 }
 
 /// The correction of an employee's March, as a line.
 fn correction_line(alloc: Global, employee: u32) -> Result<String, AllocError>
     ensures { IfOk result (λ line. string_bytes line ≡ change_line employee ++ 10 ∷ []) }
 {
-    Ok(format!(in alloc; "change E{employee} 2025-03 2025-03-28 RE4=50000\n")?)
+    format!(in alloc; "change E{employee} 2025-03 2025-03-28 RE4=50000\n")
 }
 
 /// Appends an employee's twelve records.
@@ -125,7 +125,7 @@ fn push_corrections(alloc: Global, script: &mut String, employees: u32) -> Resul
 
 /// The script of a sample of so many employees: a plan, each employee's records of a year, a correction of each one's
 /// March, and a report.
-pub fn sample_script(alloc: Global, employees: u32) -> Result<String, AllocError>
+pub(crate) fn sample_script(alloc: Global, employees: u32) -> Result<String, AllocError>
     requires employees { employees ≤ most_employees }
     ensures text { IfOk result (λ script.
         string_bytes script ≡ script_of (sample_lines employees)) }
@@ -151,7 +151,7 @@ pub fn sample_line_count(employees: u32) -> u32
 /// The flowchart of a sample, with its name.
 fn plan_file(alloc: Global) -> Result<(String, Vec<u8>), AllocError>
     ensures name { IfOk result (λ file. string_bytes file.0 ≡ codes "p2.xml") }
-    ensures text { IfOk result (λ file. file.1.items ≡ plan_text) }
+    ensures text { IfOk result (λ file. file.1.items ≡ sample_plan) }
 {
     Ok((
         String::from_str(alloc, "p2.xml")?,
@@ -162,7 +162,7 @@ fn plan_file(alloc: Global) -> Result<(String, Vec<u8>), AllocError>
 /// The range file of a sample, with its name.
 fn limits_file(alloc: Global) -> Result<(String, Vec<u8>), AllocError>
     ensures name { IfOk result (λ file. string_bytes file.0 ≡ codes "l2.toml") }
-    ensures text { IfOk result (λ file. file.1.items ≡ limits_text) }
+    ensures text { IfOk result (λ file. file.1.items ≡ sample_limits) }
 {
     Ok((
         String::from_str(alloc, "l2.toml")?,

@@ -1,7 +1,7 @@
 -- What was traced, filed and owed, as the step of a line: texts of many lines, and the standing that is left.
 use Rattle.std.proofs.Common.{◌≡◌, ℕ, ◌+◌, ◌<◌, List, [], ◌∷◌, ◌++◌, length, take, drop, map, get_or, refl, sym, ap}
 use Rattle.std.proofs.Common.{◌∙◌, subst, inl, inr, append_assoc}
-use Rattle.std.specs.Prelude.{Result, Err}
+use Rattle.std.specs.Prelude.{Result, Ok, Err, IfOk, OnErr}
 use Rattle.std.specs.List.{flat_map}
 use Rattle.std.proofs.lemmas.Grind.{flat_map-append}
 use Rattle.std.proofs.lemmas.List.{append-nil, take_more, drop_at}
@@ -18,7 +18,7 @@ use Rattle.correction_ledger.specs.declared.ledger.OwedRefusal.TheVariants as ow
 use Rattle.correction_ledger.specs.Filings.{Filings, IsFiling, IsFileRefused, IsOwedRefused, entry_with}
 use Rattle.plan_answers.specs.Answers.{Answer, refusal}
 use Rattle.script_steps.specs.LineTexts.{file_detail, owed_detail, filed_text}
-use Rattle.script_steps.specs.Standings.{Standing, answered}
+use Rattle.script_steps.specs.Standings.{Standing, StaysOrSteps, answered}
 use Rattle.script_steps.specs.FilingSteps.{IsFileStep, IsUnfiled, IsOwedAnswer, OwedSays, owed_answer}
 use Rattle.script_steps.specs.StepViews.{IsFileRefusal, IsOwedRefusal}
 use Rattle.script_steps.proofs.EditLemmas.{standing}
@@ -74,6 +74,18 @@ module _ (from : Standing) (month : Month) (book : Contents) (old : Filings) (ma
       let u = unfiled why answer h is in
       subst (λ s. IsFileStep s month (standing new made book) answer) same
       (inr (record { why = why; says = u.0; left = ap (λ f. standing f made book) stays; told = u.1 }))
+
+  -- what is left, whether it is answered or not
+  pub file_left : (new : Filings) (said : Result ℕ FileRefusal) → IfOk said (IsFiling (month_rows book) month old new) →
+      OnErr said (new ≡ old) → StaysOrSteps (IsFileStep from month) from (standing new made book)
+  file_left new (Ok count) h stays =
+      let answer : Answer = answered (filed_text (map (entry_with month) h.dues) count) 0 in
+      inr (
+        answer,
+        subst (λ s. IsFileStep s month (standing new made book) answer) same
+            (inl (record { filings = new; count = count; filing = h; left = refl; told = refl })),
+      )
+  file_left new (Err why) h stays = inl (ap (λ f. standing f made book) stays ∙ same)
 
 -- ---- what is owed
 

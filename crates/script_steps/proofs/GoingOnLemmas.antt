@@ -24,7 +24,7 @@ use Rattle.script_lang.specs.Lines.{LineSays}
 use Rattle.script_lang.specs.declared.fault.LineFault.{LineFault}
 use Rattle.plan_answers.specs.Answers.{Answer, refusal}
 use Rattle.script_steps.specs.LineTexts.{ok_line, line_detail, table_detail}
-use Rattle.script_steps.specs.Standings.{Standing, Doing, Stays, more_work, silence, start, with_book}
+use Rattle.script_steps.specs.Standings.{Standing, Doing, Stays, more_work, silence, first_standing, with_book}
 use Rattle.script_steps.specs.LineSteps.{Does, IsEditAnswered, IsEditStep, IsFileOf, IsLoaded, IsPlanStep, IsPut, IsReadStep}
 use Rattle.script_steps.specs.LineSteps.{IsTableStep, IsTextsStep, IsTrialStep, IsUsed, PlanUse, bound_text}
 use Rattle.script_steps.specs.LineSteps.{report_answer, work_answer}
@@ -364,17 +364,17 @@ never_filed (Some m) h e = cc
 
 -- where no month was filed, what was filed is as it was before the first line
 pub not_filed : (files : FileMap) (lines : List (List ℕ)) (answers : List Answer) (left : Standing)
-    → AreSteps files start lines left answers → left.filings.last ≡ None → start.filings ≡ left.filings
-not_filed files lines answers left h none = by (steps_going files lines answers start.made start left h).2
+    → AreSteps files first_standing lines left answers → left.filings.last ≡ None → first_standing.filings ≡ left.filings
+not_filed files lines answers left h none = by (steps_going files lines answers first_standing.made first_standing left h).2
   where
-    by : Keeps start left → start.filings ≡ left.filings
+    by : Keeps first_standing left → first_standing.filings ≡ left.filings
     by (inl e) = sym e
     by (inr some) = absurd (never_filed left.filings.last some none)
 
 -- the line opens the book that was saved
 pub cut_opens : (files later : FileMap) (before : List (List ℕ)) (earlier : List Answer) (opening : List ℕ)
     → (cut : IsCut files later before earlier opening)
-    → IsStep later start opening (with_book start cut.left.book) (opened cut.left.book)
+    → IsStep later first_standing opening (with_book first_standing cut.left.book) (opened cut.left.book)
 cut_opens files later before earlier opening cut = record {
   said = Ok (asked.opening cut.file);
   says = cut.opens;
@@ -396,30 +396,30 @@ module _ (files later : FileMap) (before after : List (List ℕ)) (earlier furth
     (cut : IsCut files later before earlier opening) (same : AllByRecursion (AreSameFor files later) after) where
   -- the standing behind the line that opens the book
   abbrev there : Standing
-  there = with_book start cut.left.book
+  there = with_book first_standing cut.left.book
 
-  unfiled : start.filings ≡ cut.left.filings
+  unfiled : first_standing.filings ≡ cut.left.filings
   unfiled = not_filed files before earlier cut.left cut.answered cut.unfiled
 
-  opens : IsStep later start opening there (opened cut.left.book)
+  opens : IsStep later first_standing opening there (opened cut.left.book)
   opens = cut_opens files later before earlier opening cut
 
-  forth : HaveAnswers files start (before ++ after) (earlier ++ further)
-      → HaveAnswers later start (opening ∷ after) (opened cut.left.book ∷ further)
+  forth : HaveAnswers files first_standing (before ++ after) (earlier ++ further)
+      → HaveAnswers later first_standing (opening ∷ after) (opened cut.left.book ∷ further)
   forth h =
-      let rest = behind files before after earlier further start cut.left cut.answered h in
+      let rest = behind files before after earlier further first_standing cut.left cut.answered h in
       let here = follow files cut.left there after further refl (sym unfiled) rest in
       let g = follow_files files later there after further same here in
       (g.0, (there, opens, g.1))
 
-  back : HaveAnswers later start (opening ∷ after) (opened cut.left.book ∷ further)
-      → HaveAnswers files start (before ++ after) (earlier ++ further)
+  back : HaveAnswers later first_standing (opening ∷ after) (opened cut.left.book ∷ further)
+      → HaveAnswers files first_standing (before ++ after) (earlier ++ further)
   back (to, (next, is, rest)) =
-      let one = steps.one later start opening next there (opened cut.left.book) (opened cut.left.book) is opens in
+      let one = steps.one later first_standing opening next there (opened cut.left.book) (opened cut.left.book) is opens in
       let here : HaveAnswers later there after further =
       subst (λ s. HaveAnswers later s after further) one.1 (to, rest) in
       let g = follow_files later files there after further (same_back files later after same) here in
-      and_behind files before after earlier further start cut.left cut.answered
+      and_behind files before after earlier further first_standing cut.left cut.answered
       (follow files there cut.left after further refl unfiled g)
 
 pub go_on : CutScriptsGoOn

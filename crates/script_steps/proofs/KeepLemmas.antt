@@ -28,7 +28,7 @@ use Rattle.script_lang.specs.Lines.{LineSays}
 use Rattle.script_lang.specs.declared.fault.LineFault.{LineFault}
 use Rattle.plan_answers.specs.Answers.{Answer}
 use Rattle.script_steps.specs.LineTexts.{ok_line}
-use Rattle.script_steps.specs.Standings.{Doing, Standing, start}
+use Rattle.script_steps.specs.Standings.{Doing, Standing, first_standing}
 use Rattle.script_steps.specs.LineSteps.{Does, IsEditAnswered, IsEditStep, IsLoaded, IsPlanStep, IsPut, IsReadStep, IsTableStep}
 use Rattle.script_steps.specs.LineSteps.{IsTrialStep, IsUsed, PlanUse, bound_text}
 use Rattle.script_steps.specs.FilingSteps.{IsFileStep}
@@ -134,7 +134,7 @@ steps_keep files (line ∷ lines) [] from to sound h = absurd h
 steps_keep files (line ∷ lines) (answer ∷ answers) from to sound (next, is, rest) =
     steps_keep files lines answers next to (does_keeps from sound files line is.said is.says next answer is.does) rest
 
-first_sound : IsSound start.book
+first_sound : IsSound first_standing.book
 first_sound = record {
   years = record { order = record { rising = tt; days = tt; some = tt }; runs = tt };
   few = omega arith;
@@ -144,7 +144,7 @@ first_sound = record {
 }
 
 pub make_books : ScriptsMakeBooks
-make_books files lines answers to h = savable to.book (steps_keep files lines answers start to first_sound h)
+make_books files lines answers to h = savable to.book (steps_keep files lines answers first_standing to first_sound h)
 
 -- ---- the jobs of such a book
 

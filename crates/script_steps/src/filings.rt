@@ -1,7 +1,8 @@
 //! The lines `file` and `owed`.
-ghost use Rattle.std.specs.Prelude.{◌≡◌, IfOk, string_bytes};
+ghost use Rattle.std.specs.Prelude.{◌≡◌, IfOk, OnErr, string_bytes};
 ghost use Rattle.script_steps.specs.Replies.{reply_of};
 ghost use Rattle.script_steps.specs.FilingSteps.{IsFileStep, IsOwedAnswer};
+ghost use Rattle.script_steps.specs.Standings.{StaysOrSteps};
 ghost use Rattle.script_steps.specs.LineTexts.{due_line, filed_text, owed_line, owed_text};
 
 use crate::refusals::{file_refusal, owed_refusal};
@@ -17,8 +18,10 @@ pub(crate) fn file(
     script: &mut Script,
     month: Month,
 ) -> Result<LineReply, AllocError>
-    ensures { IfOk result
+    ensures made { IfOk result
         (λ reply. IsFileStep script.old month script.new (reply_of reply)) }
+    ensures left { OnErr result
+        (StaysOrSteps (IsFileStep script.old month) script.old script.new) }
 {
     let before = script.ledger.entries().len();
     match script.ledger.file(&script.book, month) {

@@ -2,7 +2,8 @@ use Rattle.std.proofs.Common.{◌≡◌, ◌∙◌}
 use Rattle.std.specs.Prelude.{codes, string_bytes}
 use Rattle.std.proofs.lemmas.Result.{IfOk-weaker}
 use Rattle.scaled_decimal.specs.PlainTexts.{plain_text}
-use Rattle.script_steps.specs.LineTexts.{due_line, text_of_day}
+use Rattle.saved_items.specs.SavedBooks.{day_word}
+use Rattle.script_steps.specs.LineTexts.{due_line}
 use Rattle.script_steps.proofs.DoneLemmas.{ended_due}
 use Rattle.script_steps.proofs.filings.due_line.Goals as goal
 
@@ -10,5 +11,5 @@ pub returns : goal.returns
 returns c =
     let d = c.args.entry.now.due in
     IfOk-weaker c.format.result _ (λ line. string_bytes line ≡ due_line c.args.entry.now)
-    (λ line e. e ∙ ended_due (codes "due ") d.key.employee (text_of_day d.key.day) d.name (plain_text d.amount))
+    (λ line e. e ∙ ended_due (codes "due ") d.key.employee (day_word d.key.day) d.name (plain_text d.amount))
     c.format.ensures.ok

@@ -2,14 +2,15 @@ use Rattle.std.proofs.Common.{◌≡◌, ◌∙◌, ◌++◌, sym, ap, ap₂}
 use Rattle.std.specs.Prelude.{codes, string_bytes}
 use Rattle.std.proofs.lemmas.Result.{IfOk-weaker}
 use Rattle.plan_answers.specs.Lines.{line as ended, spaced}
-use Rattle.script_steps.specs.LineTexts.{text_of_day, trial_line}
+use Rattle.saved_items.specs.SavedBooks.{day_word}
+use Rattle.script_steps.specs.LineTexts.{trial_line}
 use Rattle.script_steps.proofs.DoneLemmas.{ended_due, ended_value}
 use Rattle.script_steps.proofs.trial.trial_line.Goals as goal
 
 pub returns-in-Changed : goal.returns-in-Changed
 returns-in-Changed c =
     let s = c.in-Changed in
-    let day = text_of_day s.key.day in
+    let day = day_word s.key.day in
     IfOk-weaker c.format.result _ (λ line. string_bytes line ≡ trial_line c.args.row.now)
     (λ line e. e
     ∙ ended_due (codes "changed ") s.key.employee day c.shown_word-old.result.now c.shown_word-new.result.now
@@ -21,7 +22,7 @@ returns-in-Changed c =
 pub returns-in_ok-new-in-Value : goal.returns-in_ok-new-in-Value
 returns-in_ok-new-in-Value c =
     let s = c.in-Value in
-    let day = text_of_day s.key.day in
+    let day = day_word s.key.day in
     IfOk-weaker c.format-in-Value.result _ (λ line. string_bytes line ≡ trial_line c.args.row.now)
     (λ line e. e
     ∙ ended_value (codes "value ") s.key.employee day s.name (string_bytes c.in_ok-old-in-Value.old)
