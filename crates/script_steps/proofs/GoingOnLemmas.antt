@@ -14,10 +14,12 @@ use Rattle.pap_plan.specs.Acceptance.{Answers, Meaning}
 use Rattle.book_edits.specs.declared.refusal.EditRefusal.{EditRefusal}
 use Rattle.book_year.specs.Accepted.{Accepted}
 use Rattle.book_year.specs.declared.outcome.Work.{Work}
-use Rattle.correction_ledger.specs.Filings.{Filings}
+use Rattle.correction_ledger.specs.declared.ledger.FileRefusal.{FileRefusal}
+use Rattle.correction_ledger.specs.Filings.{Filings, FilingSays}
 use Rattle.recalc_engine.specs.Contents.{Contents}
 use Rattle.recalc_engine.specs.EditAnswers as edits
 use Rattle.recalc_engine.specs.EditAnswers.{Edit}
+use Rattle.recalc_engine.specs.MonthRows.{month_rows}
 use Rattle.script_lang.specs.Commands as asked
 use Rattle.script_lang.specs.Commands.{Asked}
 use Rattle.script_lang.specs.Lines.{LineSays}
@@ -28,7 +30,7 @@ use Rattle.script_steps.specs.Standings.{Standing, Doing, Stays, more_work, sile
 use Rattle.script_steps.specs.LineSteps.{Does, IsEditAnswered, IsEditStep, IsFileOf, IsLoaded, IsPlanStep, IsPut, IsReadStep}
 use Rattle.script_steps.specs.LineSteps.{IsTableStep, IsTextsStep, IsTrialStep, IsUsed, PlanUse, bound_text}
 use Rattle.script_steps.specs.LineSteps.{report_answer, work_answer}
-use Rattle.script_steps.specs.FilingSteps.{IsFileStep, IsOwedStep}
+use Rattle.script_steps.specs.FilingSteps.{IsFileAnswered, IsFileStep, IsOwedStep}
 use Rattle.script_steps.specs.OpenSteps.{IsFresh, IsOpenStep, IsOpened, OpenRefusal, OpenSays, not_empty, filed, faulty}
 use Rattle.script_steps.specs.Steps.{IsStep}
 use Rattle.script_steps.specs.TraceSteps.{trace_answer}
@@ -170,22 +172,20 @@ module _ (Use : PlanUse) (use_going : (e : Entry Accepted) → Going (λ from. U
       )
 
 file_going : (month : Month) → Going (λ from. IsFileStep from month)
-file_going month made from to answer (inl h) = (
-  made,
-  inl (record {
-    filings = h.filings;
-    count = h.count;
-    filing = h.filing;
-    left = ap (with_made made) h.left;
-    told = h.told;
-  }),
-  inr (subst (λ (s : Standing). IsSome s.filings.last) (sym h.left) (subst (λ o. IsSome o) (sym h.filing.last) refl)),
-)
-file_going month made from to answer (inr h) = (
-  made,
-  inr (record { why = h.why; says = h.says; left = ap (with_made made) h.left; told = h.told }),
-  inl (filings_of h.left),
-)
+file_going month made from to answer h = by h.verdict h.says h.is
+  where
+    by : (v : Result (Filings × ℕ) FileRefusal) → FilingSays (month_rows from.book) month from.filings v
+        → IsFileAnswered from v to answer → Goes (λ from. IsFileStep from month) made from to answer
+    by (Ok new) says is = (
+      made,
+      record { verdict = Ok new; says = says; is = (ap (with_made made) is.0, is.1) },
+      inr (subst (λ (s : Standing). IsSome s.filings.last) (sym is.0) (subst (λ o. IsSome o) (sym says.last) refl)),
+    )
+    by (Err why) says is = (
+      made,
+      record { verdict = Err why; says = says; is = (ap (with_made made) is.0, is.1) },
+      inl (filings_of is.0),
+    )
 
 owed_going : Going IsOwedStep
 owed_going made from to answer h = (

@@ -22,7 +22,6 @@ use Rattle.script_steps.specs.LineSteps.{Does, IsFileOf, report_answer, IsNextFi
 use Rattle.script_steps.specs.LineTexts.{line_detail}
 use Rattle.script_steps.specs.Standings.{Standing, Doing, StaysOrSteps}
 use Rattle.script_steps.specs.Shown.{OutsideShown}
-use Rattle.script_steps.specs.Steps.{IsStep}
 use Rattle.script_steps.specs.Stops.{stop_of}
 use Rattle.script_steps.specs.StepClauses.{ToldStep, IsAnswered, IsBroken}
 use Rattle.script_steps.specs.StepViews.{IsMade, IsLost, IsWant, ToldDoes, IsUnmade, IsLineRefusal, IsWritten}

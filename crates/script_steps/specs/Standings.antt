@@ -30,6 +30,10 @@ after_edit from book = record {
 abbrev pub with_book : Standing → Contents → Standing
 with_book from book = record { book = book; filings = from.filings; made = from.made }
 
+-- a month was filed, and has left these filings
+abbrev pub after_filing : Standing → Filings → Standing
+after_filing from filings = record { book = from.book; filings = filings; made = from.made }
+
 -- before the first line
 abbrev pub first_standing : Standing
 first_standing = record {
