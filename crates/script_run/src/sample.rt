@@ -2,7 +2,7 @@
 ghost use Rattle.std.specs.Prelude.{◌≡◌, ◌≤◌, ◌+◌, ◌*◌, ◌∷◌, [], ◌++◌, length, map};
 ghost use Rattle.std.specs.Prelude.{OnOk, OnErr, IfOk, string_bytes, codes};
 ghost use Rattle.std.specs.List.{flat_map};
-ghost use Rattle.script_run.specs.Samples.{month_text, add_line, change_line, year_lines};
+ghost use Rattle.script_run.specs.Samples.{add_line, change_line, year_lines};
 ghost use Rattle.script_run.specs.Samples.{sample_lines, numbers, script_of};
 ghost use Rattle.script_run.specs.Limits.{most_script, most_employees};
 ghost use Rattle.script_run.specs.Transcripts.{lines_of};
@@ -12,6 +12,7 @@ ghost use Rattle.outside.specs.Memory.{named_files};
 
 use crate::memory::run_in_memory;
 use crate::turns::Ended;
+use payroll_records::Month;
 use std::alloc::{AllocError, Global};
 use std::sync::ledger::Ledger;
 use steps::Steps;
@@ -52,73 +53,68 @@ kind = "sum"
 output = "LST"
 "#;
 
-/// A month of 2025, as a line names it.
-fn month_text(alloc: Global, month: u32) -> Result<String, AllocError>
-    ensures { IfOk result (λ text. string_bytes text ≡ month_text month) }
-{
-    let (tens, ones) = (month / 10, month % 10);
-    format!(in alloc; "2025-{tens}{ones}")
-}
-
 /// The pay of an employee in a month.
-fn pay_of(employee: u32, month: u32) -> u32
+fn pay_of(employee: u32, month: u8) -> u32
     requires employees { employee ≤ most_employees }
     requires months { month ≤ 12 }
     ensures { result ≡ 100000 + 1000 * employee * month }
 {
-    100_000 + 1000 * employee * month
+    100_000 + 1000 * employee * u32::from(month)
 }
 
-/// The record of an employee for a month, as a line.
-fn record_line(alloc: Global, employee: u32, month: u32) -> Result<String, AllocError>
+/// Appends the record of an employee for a month of 2025, as a line.
+fn write_record(script: &mut String, employee: u32, month: u8) -> Result<(), AllocError>
     requires employees { employee ≤ most_employees }
-    requires months { month ≤ 12 }
-    ensures { IfOk result (λ line. string_bytes line ≡ add_line employee month ++ 10 ∷ []) }
+    requires first { 1 ≤ month }
+    requires last { month ≤ 12 }
+    ensures { OnOk result (string_bytes script.new
+        ≡ string_bytes script.old ++ (add_line employee month ++ 10 ∷ [])) }
 {
-    let month_words = month_text(alloc, month)?;
     let value = pay_of(employee, month);
-    format!(in alloc; "add E{employee} {month_words} {month_words}-28 RE4={value}\n")
+    let month = Month::new(2025, month).unwrap();
+    write!(script, "add E{employee} {month} {month}-28 RE4={value}\n")
 }
 
-/// The correction of an employee's March, as a line.
-fn correction_line(alloc: Global, employee: u32) -> Result<String, AllocError>
-    ensures { IfOk result (λ line. string_bytes line ≡ change_line employee ++ 10 ∷ []) }
+/// Appends the correction of an employee's March, as a line.
+fn write_correction(script: &mut String, employee: u32) -> Result<(), AllocError>
+    ensures { OnOk result (string_bytes script.new
+        ≡ string_bytes script.old ++ (change_line employee ++ 10 ∷ [])) }
 {
-    format!(in alloc; "change E{employee} 2025-03 2025-03-28 RE4=50000\n")
+    write!(script, "change E{employee} 2025-03 2025-03-28 RE4=50000\n")
 }
 
 /// Appends an employee's twelve records.
-fn push_year(alloc: Global, script: &mut String, employee: u32) -> Result<(), AllocError>
+fn write_year(script: &mut String, employee: u32) -> Result<(), AllocError>
     requires employees { employee ≤ most_employees }
     ensures { OnOk result (string_bytes script.new
         ≡ string_bytes script.old ++ script_of (year_lines employee)) }
 {
     for month in 1..=12 {
-        script.push_str(&record_line(alloc, employee, month)?)?;
+        write_record(script, employee, month)?;
     }
     Ok(())
 }
 
 /// Appends the records of so many employees.
-fn push_years(alloc: Global, script: &mut String, employees: u32) -> Result<(), AllocError>
+fn write_years(script: &mut String, employees: u32) -> Result<(), AllocError>
     requires employees { employees ≤ most_employees }
     ensures { OnOk result (string_bytes script.new
         ≡ string_bytes script.old ++ script_of (flat_map year_lines (numbers employees))) }
 {
     for employee in 1..=employees {
-        push_year(alloc, script, employee)?;
+        write_year(script, employee)?;
     }
     Ok(())
 }
 
 /// Appends the corrections of so many employees.
-fn push_corrections(alloc: Global, script: &mut String, employees: u32) -> Result<(), AllocError>
+fn write_corrections(script: &mut String, employees: u32) -> Result<(), AllocError>
     requires employees { employees ≤ most_employees }
     ensures { OnOk result (string_bytes script.new
         ≡ string_bytes script.old ++ script_of (map change_line (numbers employees))) }
 {
     for employee in 1..=employees {
-        script.push_str(&correction_line(alloc, employee)?)?;
+        write_correction(script, employee)?;
     }
     Ok(())
 }
@@ -134,8 +130,8 @@ pub(crate) fn sample_script(alloc: Global, employees: u32) -> Result<String, All
     ensures short { IfOk result (λ script. length (string_bytes script) ≤ most_script) }
 {
     let mut script = String::from_str(alloc, "plan 2025-01-01 p2.xml l2.toml\n")?;
-    push_years(alloc, &mut script, employees)?;
-    push_corrections(alloc, &mut script, employees)?;
+    write_years(&mut script, employees)?;
+    write_corrections(&mut script, employees)?;
     script.push_str("report\n")?;
     Ok(script)
 }
