@@ -5,8 +5,7 @@ use Rattle.outside.specs.Causes.{Rose, Still}
 use Rattle.outside.specs.Told.{Appends}
 use Rattle.script_run.specs.declared.stop.Stop.{Stop}
 use Rattle.script_run.specs.declared.stop.Stop.TheVariants as stops
-use Rattle.pap_cli.specs.declared.status.Status.{Status}
-use Rattle.pap_cli.specs.declared.status.Status.TheVariants.{Done, Refused, BadWords, FileFault, ReadFault, WriteFault, NoMemory, ScriptLong}
+use Rattle.pap_cli.specs.declared.status.Status.TheVariants.{FileFault, ReadFault, WriteFault}
 use Rattle.pap_cli.specs.Statuses.{done_status, status_of, IsDone}
 
 -- ---- what was written whole
