@@ -14,10 +14,10 @@ use Rattle.book_file.specs.declared.refusal.SaveRefusal.{SaveRefusal}
 use Rattle.book_file.specs.declared.refusal.SaveRefusal.TheVariants as unsaved
 use Rattle.script_steps.specs.GoingOn.{AreSameFor, IsCut, opened}
 use Rattle.script_steps.specs.Standings.{with_book}
-use Rattle.script_steps.specs.Steps.{Standing, AreThere, start}
+use Rattle.script_steps.specs.Steps.{Standing, AreThere, first_standing}
 use Rattle.script_steps.proofs.Laws.{GoAlike, cut_opens, go_alike, not_filed, steps_over}
 use Rattle.script_run.specs.RunViews.{Follow, with_answer}
-use Rattle.script_run.specs.RunViews.{opening as beginning}
+use Rattle.script_run.specs.RunViews.{empty_session as beginning}
 use Rattle.script_run.specs.Transcripts.{IsHalted, Session, lines_of}
 use Rattle.script_run.proofs.Laws.{FollowToHalt, FollowToHalt-one, FollowToHalt-rest, HasAnswered, HasSteps}
 use Rattle.script_run.proofs.Laws.{any_refused, has_answered, has_steps, no_refusals, one, refusals, texts, totals_of_session}
@@ -120,7 +120,7 @@ module _ (files later : FileMap) (script opening : List ℕ) (up : IsTakenUp fil
     opens = up.opens;
   }
 
-  unfiled : start.filings ≡ left.filings
+  unfiled : first_standing.filings ≡ left.filings
   unfiled = not_filed files (lines_of script) first_steps.answers left first_steps.steps book_text.unfiled
 
   -- no answer was a refusal
@@ -131,12 +131,12 @@ module _ (files later : FileMap) (script opening : List ℕ) (up : IsTakenUp fil
 
   -- behind the line that opens the book
   abbrev begun : Session
-  begun = with_answer beginning (opened left.book) (with_book start left.book)
+  begun = with_answer beginning (opened left.book) (with_book first_standing left.book)
 
   opening_answered : Follow later beginning (opening ∷ []) begun
   unfolding cut
   opening_answered = (
-    with_book start left.book,
+    with_book first_standing left.book,
     opened left.book,
     cut_opens files later (lines_of script) first_steps.answers opening cut,
     refl,
@@ -148,13 +148,13 @@ module _ (files later : FileMap) (script opening : List ℕ) (up : IsTakenUp fil
     answered_there = has_steps files saved_session long.before whole long.answered
 
     -- the same lines from the book that was opened, over the files of then
-    gone_on : GoAlike files (with_book start left.book) long.before whole.standing answered_there.answers
-    gone_on = go_alike files left (with_book start left.book) whole.standing long.before answered_there.answers
+    gone_on : GoAlike files (with_book first_standing left.book) long.before whole.standing answered_there.answers
+    gone_on = go_alike files left (with_book first_standing left.book) whole.standing long.before answered_there.answers
         (record { book = refl; filings = sym unfiled }) answered_there.steps
 
     answered_later : HasAnswered later begun long.before gone_on.left answered_there.answers
     answered_later = has_answered later begun long.before gone_on.left answered_there.answers
-        (steps_over files later long.before answered_there.answers (with_book start left.book) gone_on.left
+        (steps_over files later long.before answered_there.answers (with_book first_standing left.book) gone_on.left
         (all_front (AreSameFor files later) long.before long.after (subst (AllByRecursion (AreSameFor files later)) long.parts same))
         gone_on.steps)
 

@@ -1,5 +1,5 @@
 -- What a call leaves on two files, and the headline from what each status says.
-use Rattle.std.proofs.Common.{◌≡◌, ℕ, ◌+◌, ◌≤◌, Bool, List, [], ◌++◌, take, refl, sym, ap, ◌∙◌, subst, arith, inl, inr}
+use Rattle.std.proofs.Common.{◌≡◌, ◌≢◌, ℕ, ◌+◌, ◌≤◌, Bool, true, false, List, [], ◌++◌, take, refl, sym, ap, ◌∙◌, subst, arith, inl, inr}
 use Rattle.std.specs.Prelude.{Option, Some, Result, Err}
 use Rattle.outside.specs.Causes.{Rose}
 use Rattle.outside.specs.Told.{FileMap, Appends, AppendsShort}
@@ -8,11 +8,11 @@ use Rattle.outside.specs.declared.traits.FileAnswer.{FileAnswer}
 use Rattle.outside.specs.declared.traits.FileAnswer.TheVariants as files
 use Rattle.plan_answers.specs.declared.reply.Reply.{Reply}
 use Rattle.pap_cli.specs.declared.status.Status.{Status}
-use Rattle.pap_cli.specs.declared.status.Status.TheVariants.{FileFault, WriteFault, NoMemory}
+use Rattle.pap_cli.specs.declared.status.Status.TheVariants.{Done, Refused, BadWords, FileFault, ReadFault, WriteFault, NoMemory, ScriptLong}
 use Rattle.script_run.specs.declared.stop.Stop.{Stop}
 use Rattle.script_run.specs.declared.stop.Stop.TheVariants as stops
 use Rattle.script_run.specs.Stops.{stop_of_file}
-use Rattle.script_run.specs.RunClauses.{shown}
+use Rattle.script_steps.specs.Shown.{OutsideShown, shown}
 use Rattle.pap_cli.specs.declared.words.Command.{Command}
 use Rattle.pap_cli.specs.declared.words.Command.TheVariants.{Check, Once}
 use Rattle.pap_cli.specs.Statuses.{done_status, status_of}
@@ -21,7 +21,7 @@ use Rattle.pap_cli.specs.RunAnswers.{OnceAnswers}
 use Rattle.plan_answers.specs.ReplyViews.{reply_of}
 use Rattle.pap_cli.specs.AnswerViews.{answers_of}
 use Rattle.pap_cli.specs.Outside.{Outside, shown_of}
-use Rattle.pap_cli.specs.FileClauses.{Answering, AnswersFiles, IsCounted, LeavesOnFiles, HeadlineOnFiles}
+use Rattle.pap_cli.specs.FileClauses.{Answering, AnswersFiles, EndsOnFiles, EndsWhole, IsCounted, LeavesOnFiles, HeadlineOnFiles}
 use Rattle.plan_answers.specs.Fronts.{AreFronts, IsMissing}
 use Rattle.pap_cli.specs.CallClauses.{Leaves, Headline, Carries}
 use Rattle.pap_cli.specs.Words.{Form, check, once, run, sample, save}
@@ -30,8 +30,34 @@ use Rattle.pap_cli.proofs.SampleLemmas.{sample_none}
 use Rattle.pap_cli.proofs.SaveLemmas.{save_none}
 use Rattle.pap_cli.specs.WordViews.{form_by}
 use Rattle.pap_cli.proofs.FrontLemmas.{answers_both}
-use Rattle.pap_cli.proofs.StatusLemmas.{appended_told, is_done, no_file, no_memory, no_write, not_bad, not_long, not_read}
+use Rattle.pap_cli.proofs.StatusLemmas.{appended_told}
 use Rattle.pap_cli.proofs.StatusLemmas.{rose_and_still}
+
+-- an answer that was written whole
+ends_whole : (Answers : Answering) (plan limits : List ℕ) (before after : OutsideShown) (out : List ℕ) (refused : Bool) →
+    EndsWhole (AnswersFiles Answers plan limits) before after out (done_status refused) →
+    EndsOnFiles Answers plan limits before after out (done_status refused)
+ends_whole Answers plan limits before after out true h = h
+ends_whole Answers plan limits before after out false h = h
+
+-- where no call failed and memory was there, it was
+whole_end : (Answers : Answering) (plan limits : List ℕ) (before after : OutsideShown) (out : List ℕ) (status : Status) →
+    EndsOnFiles Answers plan limits before after out status → status ≢ FileFault → status ≢ WriteFault → status ≢ NoMemory →
+    EndsWhole (AnswersFiles Answers plan limits) before after out status
+whole_end Answers plan limits before after out Done h f w m = h
+whole_end Answers plan limits before after out Refused h f w m = h
+whole_end Answers plan limits before after out BadWords h f w m = absurd h
+whole_end Answers plan limits before after out FileFault h f w m = absurd (f refl)
+whole_end Answers plan limits before after out ReadFault h f w m = absurd h
+whole_end Answers plan limits before after out WriteFault h f w m = absurd (w refl)
+whole_end Answers plan limits before after out NoMemory h f w m = absurd (m refl)
+whole_end Answers plan limits before after out ScriptLong h f w m = absurd h
+
+-- no script is read
+pub reads_no_script : {Answers : Answering} {plan limits : List ℕ} {before after : OutsideShown} {status : Status} →
+    LeavesOnFiles Answers plan limits before after status → status ≢ ReadFault
+reads_no_script {Answers = Answers} {plan = plan} {limits = limits} {before = before} {after = after} h e =
+    subst (λ s. EndsOnFiles Answers plan limits before after h.out s) e h.ends
 
 module _ (Answers : Answering) (plan limits : List ℕ) (told told' : Option FileMap) (failed failed' : Option (List ℕ)) (first written : Option (List ℕ)) (began steps : ℕ) where
   abbrev pub Left : Status → Type 0
@@ -45,15 +71,15 @@ module _ (Answers : Answering) (plan limits : List ℕ) (told told' : Option Fil
       out = reply.text.items;
       appended = appended;
       counted = omega arith;
-      whole = λ done files e. record { answer = reply_of reply; is = is files e; text = refl; cost = omega arith; ended = refl };
-      cut = λ e. absurd (no_write reply.refused e);
-      file = λ e. absurd (no_file reply.refused e);
+      ends = ends_whole Answers plan limits (shown told failed first began) (shown told' failed' written steps)
+          reply.text.items reply.refused (λ files e. record {
+            answer = reply_of reply;
+            is = is files e;
+            text = refl;
+            cost = omega arith;
+            ended = refl;
+          });
       kept = λ e. kept;
-      memory = λ e. absurd (no_memory reply.refused e);
-      memory_counted = λ e. absurd (no_memory reply.refused e);
-      words_are_good = not_bad reply.refused;
-      reads_no_script = not_read reply.refused;
-      takes_no_script = not_long reply.refused;
     }
 
     -- the sink failed
@@ -62,15 +88,15 @@ module _ (Answers : Answering) (plan limits : List ℕ) (told told' : Option Fil
       out = take part.count reply.text.items;
       appended = part.appended;
       counted = omega arith;
-      whole = λ done. absurd done;
-      cut = λ e files t. record { answer = reply_of reply; is = is files t; count = part.count; within = part.within; text = refl; cost = omega arith };
-      file = λ e. cc;
+      ends = λ files t. record {
+        answer = reply_of reply;
+        is = is files t;
+        count = part.count;
+        within = part.within;
+        text = refl;
+        cost = omega arith;
+      };
       kept = λ e. kept;
-      memory = λ e. cc;
-      memory_counted = λ e. cc;
-      words_are_good = λ e. cc;
-      reads_no_script = λ e. cc;
-      takes_no_script = λ e. cc;
     }
 
 -- memory ran out before anything was written
@@ -81,15 +107,8 @@ leaves_memory Answers plan limits told told' failed failed' first began steps ke
   out = [];
   appended = Appends-nothing first;
   counted = more;
-  whole = λ done. absurd done;
-  cut = λ e. cc;
-  file = λ e. cc;
+  ends = (refl, counted);
   kept = λ e. kept;
-  memory = λ e. refl;
-  memory_counted = λ e. counted;
-  words_are_good = λ e. cc;
-  reads_no_script = λ e. cc;
-  takes_no_script = λ e. cc;
 }
 
 -- a file could not be read
@@ -99,15 +118,8 @@ leaves_file Answers plan limits told told' failed failed' first began missing = 
   out = [];
   appended = Appends-nothing first;
   counted = omega arith;
-  whole = λ done. absurd done;
-  cut = λ e. cc;
-  file = λ e. (refl, refl, missing);
+  ends = (refl, refl, missing);
   kept = λ e. absurd (e refl);
-  memory = λ e. cc;
-  memory_counted = λ e. cc;
-  words_are_good = λ e. cc;
-  reads_no_script = λ e. cc;
-  takes_no_script = λ e. cc;
 }
 
 -- what the files answered, at the exit of the call
@@ -133,8 +145,9 @@ leaves_form (Once values) plan limits before after status h = h
 headline_on : (Answers : Answering) (plan limits : List ℕ) (before after : Outside) (status : Status) → LeavesOnFiles Answers plan limits (shown_of before) (shown_of after) status →
     (status ≡ FileFault → Rose before.file_faults after.file_faults) → (status ≡ WriteFault → Rose before.sink_faults after.sink_faults) → HeadlineOnFiles Answers plan limits before after status
 headline_on Answers plan limits before after status h file write files told written said memory still_files still_sink =
-    let done = is_done status h.words_are_good (λ e. rose_and_still before.file_faults after.file_faults (file e) still_files) h.reads_no_script (λ e. rose_and_still before.sink_faults after.sink_faults (write e) still_sink) memory h.takes_no_script in
-    let whole = h.whole done files told in
+    let whole = whole_end Answers plan limits (shown_of before) (shown_of after) h.out status h.ends
+    (λ e. rose_and_still before.file_faults after.file_faults (file e) still_files)
+    (λ e. rose_and_still before.sink_faults after.sink_faults (write e) still_sink) memory files told in
     record {
       answer = whole.answer;
       answers = whole.is;

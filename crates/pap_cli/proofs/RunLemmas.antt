@@ -75,10 +75,11 @@ answer_of : List ℕ → Bool → ℕ → Answer
 answer_of text refused steps = record { text = text; refused = refused; steps = steps }
 
 -- the answer of a run, from its parts
-pub finished_reply : (p : Seen) (inputs : List Decimal) (f : Finished) (text start lines line : List ℕ) → HasRun (accepted p) inputs f → start ≡ [] → lines ≡ start ++ named_lines f.outputs → line ≡ steps_line f.cost → text ≡ lines ++ line →
+pub finished_reply : (p : Seen) (inputs : List Decimal) (f : Finished) (text start lines : List ℕ) → HasRun (accepted p) inputs f
+    → start ≡ [] → lines ≡ start ++ named_lines f.outputs → text ≡ lines ++ steps_line f.cost →
     IsRunOn (flowchart p) (Inputs inputs) (record { text = text; refused = false; steps = f.cost })
 unfolding answer_of
-finished_reply p inputs f text start lines line has none wrote last whole =
+finished_reply p inputs f text start lines has none wrote whole =
     (has.defined.values, has.defined.are, all)
   where
     cost : f.cost ≡ cost_of (flowchart p) inputs
@@ -88,7 +89,7 @@ finished_reply p inputs f text start lines line has none wrote last whole =
     values = ap (λ l. named_lines l) (has.outputs ∙ sym (outputs_are (accepted p) inputs has.defined.values has.defined.are)) ∙ lines_named (flowchart p).outputs has.defined.values
 
     parts : text ≡ value_lines (flowchart p).outputs has.defined.values ++ steps_line f.cost
-    parts = whole ∙ ap (λ l. l ++ line) (wrote ∙ ap (λ s. s ++ named_lines f.outputs) none ∙ values) ∙ ap (λ l. value_lines (flowchart p).outputs has.defined.values ++ l) last
+    parts = whole ∙ ap (λ l. l ++ steps_line f.cost) (wrote ∙ ap (λ s. s ++ named_lines f.outputs) none ∙ values)
 
     all : answer_of text false f.cost ≡ finished (flowchart p) has.defined.values (cost_of (flowchart p) inputs)
     all = ap (λ t. answer_of t false f.cost) parts ∙ ap (λ n. answer_of (value_lines (flowchart p).outputs has.defined.values ++ steps_line n) false n) cost

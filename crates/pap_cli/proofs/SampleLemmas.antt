@@ -1,5 +1,5 @@
 -- What the call leaves that runs a sample, and the headline from what each status says.
-use Rattle.std.proofs.Common.{◌≡◌, ℕ, ◌+◌, ◌≤◌, ◌<◌, Bool, List, [], ◌++◌, length, take, refl, sym, ap, ◌∙◌, subst, arith}
+use Rattle.std.proofs.Common.{◌≡◌, ◌≢◌, ℕ, ◌+◌, ◌-◌, ◌≤◌, ◌<◌, Bool, true, false, List, [], ◌++◌, length, take, refl, sym, ap, ◌∙◌, subst, arith}
 use Rattle.std.specs.Prelude.{Option, Some, Result, Err}
 use Rattle.outside.specs.Causes.{Rose}
 use Rattle.outside.specs.Told.{Appends, AppendsShort}
@@ -13,15 +13,15 @@ use Rattle.script_run.specs.Transcripts.{Session, IsTranscript}
 use Rattle.script_run.specs.declared.turns.Ended.{Ended}
 use Rattle.script_run.proofs.Laws.{some}
 use Rattle.pap_cli.specs.declared.status.Status.{Status}
-use Rattle.pap_cli.specs.declared.status.Status.TheVariants.{WriteFault, NoMemory}
+use Rattle.pap_cli.specs.declared.status.Status.TheVariants.{Done, Refused, BadWords, FileFault, ReadFault, WriteFault, NoMemory, ScriptLong}
 use Rattle.script_run.specs.declared.stop.Stop.{Stop}
 use Rattle.script_run.specs.declared.stop.Stop.TheVariants as stops
 use Rattle.pap_cli.specs.Statuses.{done_status, status_of}
-use Rattle.pap_cli.specs.Outside.{Outside, output, output_of}
+use Rattle.pap_cli.specs.Outside.{Outside, Output, output, output_of}
 use Rattle.pap_cli.specs.SampleAnswers.{IsSampled, summary_text}
-use Rattle.pap_cli.specs.SampleClauses.{IsSpentOnSample, LeavesOnSample, HeadlineOnSample}
-use Rattle.pap_cli.proofs.StatusLemmas.{appended_told, is_done, no_file, no_memory, no_write, not_bad, not_long, not_read}
-use Rattle.pap_cli.proofs.StatusLemmas.{rose_and_still}
+use Rattle.pap_cli.specs.SampleClauses.{EndsOnSample, IsSpentOnSample, LeavesOnSample, HeadlineOnSample}
+use Rattle.pap_cli.specs.FileClauses.{IsWrittenWhole}
+use Rattle.pap_cli.proofs.StatusLemmas.{appended_told, rose_and_still}
 
 -- ---- the answer
 
@@ -35,6 +35,39 @@ sampled employees session is = record { session = session; is = is; text = refl;
 -- what was counted where memory ran out
 pub spent_within : (employees began steps : ℕ) → IsSpentWithin sample_files (script_of (sample_lines employees)) began steps → IsSpentOnSample employees began steps
 spent_within employees began steps h = record { answer = answer_of employees h.session; is = sampled employees h.session h.is; within = h.within }
+
+-- ---- by the status
+
+-- an answer that was written whole
+ends_whole : (employees : ℕ) (before after : Output) (out : List ℕ) (refused : Bool) →
+    IsWrittenWhole (IsSampled employees) out (after.steps - before.steps) (done_status refused) →
+    EndsOnSample employees before after out (done_status refused)
+ends_whole employees before after out true h = h
+ends_whole employees before after out false h = h
+
+-- where the sink didn't fail and memory was there, it was
+whole_end : (employees : ℕ) (before after : Output) (out : List ℕ) (status : Status) →
+    EndsOnSample employees before after out status → status ≢ WriteFault → status ≢ NoMemory →
+    IsWrittenWhole (IsSampled employees) out (after.steps - before.steps) status
+whole_end employees before after out Done h w m = h
+whole_end employees before after out Refused h w m = h
+whole_end employees before after out BadWords h w m = absurd h
+whole_end employees before after out FileFault h w m = absurd h
+whole_end employees before after out ReadFault h w m = absurd h
+whole_end employees before after out WriteFault h w m = absurd (w refl)
+whole_end employees before after out NoMemory h w m = absurd (m refl)
+whole_end employees before after out ScriptLong h w m = absurd h
+
+-- no file is read, and no script
+pub reads_no_file : {employees : ℕ} {before after : Output} {status : Status} →
+    LeavesOnSample employees before after status → status ≢ FileFault
+reads_no_file {employees = employees} {before = before} {after = after} h e =
+    subst (λ s. EndsOnSample employees before after h.out s) e h.ends
+
+pub samples_no_script : {employees : ℕ} {before after : Output} {status : Status} →
+    LeavesOnSample employees before after status → status ≢ ReadFault
+samples_no_script {employees = employees} {before = before} {after = after} h e =
+    subst (λ s. EndsOnSample employees before after h.out s) e h.ends
 
 -- ---- a sample that was run to its end
 
@@ -50,14 +83,8 @@ module _ (employees began steps : ℕ) (first written : Option (List ℕ)) (ende
         out = text;
         appended = appended;
         counted = omega arith;
-        whole = λ done. record { answer = answer_of employees is.session; is = sampled employees is.session is.is; text = whole_text; cost = omega arith; ended = ap (λ r. done_status r) is.mark };
-        cut = λ e. absurd (no_write (tells_one ended.refused_lines) e);
-        memory = λ e. absurd (no_memory (tells_one ended.refused_lines) e);
-        memory_counted = λ e. absurd (no_memory (tells_one ended.refused_lines) e);
-        words_are_good = not_bad (tells_one ended.refused_lines);
-        reads_no_file = no_file (tells_one ended.refused_lines);
-        reads_no_script = not_read (tells_one ended.refused_lines);
-        takes_no_script = not_long (tells_one ended.refused_lines);
+        ends = ends_whole employees (output first began) (output written steps) text (tells_one ended.refused_lines)
+            (record { answer = answer_of employees is.session; is = sampled employees is.session is.is; text = whole_text; cost = omega arith; ended = ap (λ r. done_status r) is.mark });
       }
 
   -- the sink failed
@@ -68,14 +95,7 @@ module _ (employees began steps : ℕ) (first written : Option (List ℕ)) (ende
         out = take part.count text;
         appended = part.appended;
         counted = omega arith;
-        whole = λ done. absurd done;
-        cut = λ e. record { answer = answer_of employees is.session; is = sampled employees is.session is.is; count = part.count; within = subst (λ v. part.count < length v) whole_text part.within; text = ap (λ v. take part.count v) whole_text; cost = omega arith };
-        memory = λ e. cc;
-        memory_counted = λ e. cc;
-        words_are_good = λ e. cc;
-        reads_no_file = λ e. cc;
-        reads_no_script = λ e. cc;
-        takes_no_script = λ e. cc;
+        ends = record { answer = answer_of employees is.session; is = sampled employees is.session is.is; count = part.count; within = subst (λ v. part.count < length v) whole_text part.within; text = ap (λ v. take part.count v) whole_text; cost = omega arith };
       }
 
 -- memory ran out before anything was written
@@ -85,14 +105,7 @@ leaves_memory employees began steps first later spent = record {
   out = [];
   appended = Appends-nothing first;
   counted = later;
-  whole = λ done. absurd done;
-  cut = λ e. cc;
-  memory = λ e. refl;
-  memory_counted = λ e. spent;
-  words_are_good = λ e. cc;
-  reads_no_file = λ e. cc;
-  reads_no_script = λ e. cc;
-  takes_no_script = λ e. cc;
+  ends = (refl, spent);
 }
 
 -- at a stop
@@ -120,8 +133,8 @@ sample_none employees o =
 pub headline_sample : (employees : ℕ) (before after : Outside) (status : Status) → LeavesOnSample employees (output_of before) (output_of after) status →
     (status ≡ WriteFault → Rose before.sink_faults after.sink_faults) → HeadlineOnSample employees before after status
 headline_sample employees before after status h write written said memory still_sink =
-    let done = is_done status h.words_are_good h.reads_no_file h.reads_no_script (λ e. rose_and_still before.sink_faults after.sink_faults (write e) still_sink) memory h.takes_no_script in
-    let whole = h.whole done in
+    let whole = whole_end employees (output_of before) (output_of after) h.out status h.ends
+    (λ e. rose_and_still before.sink_faults after.sink_faults (write e) still_sink) memory in
     record {
       answer = whole.answer;
       is = whole.is;

@@ -11,7 +11,8 @@ use Rattle.plan_answers.specs.declared.reply.Reply.{Reply}
 use Rattle.script_steps.specs.Steps.{Standing}
 use Rattle.script_run.specs.Limits.{most_script}
 use Rattle.script_run.specs.RefusedLines.{tells_one}
-use Rattle.script_run.specs.RunClauses.{OutsideShown, RunMeets, EndsUnwritten}
+use Rattle.script_steps.specs.Shown.{OutsideShown}
+use Rattle.script_run.specs.RunClauses.{RunMeets, EndsUnwritten}
 use Rattle.script_run.specs.Transcripts.{Session}
 use Rattle.script_run.specs.declared.turns.Unwritten.{Unwritten}
 use Rattle.script_run.specs.declared.stop.Stop.{Stop}

@@ -5,8 +5,7 @@ use Rattle.outside.specs.Causes.{Rose, Still}
 use Rattle.outside.specs.Told.{Appends}
 use Rattle.script_run.specs.declared.stop.Stop.{Stop}
 use Rattle.script_run.specs.declared.stop.Stop.TheVariants as stops
-use Rattle.pap_cli.specs.declared.status.Status.{Status}
-use Rattle.pap_cli.specs.declared.status.Status.TheVariants.{Done, Refused, BadWords, FileFault, ReadFault, WriteFault, NoMemory, ScriptLong}
+use Rattle.pap_cli.specs.declared.status.Status.TheVariants.{FileFault, ReadFault, WriteFault}
 use Rattle.pap_cli.specs.Statuses.{done_status, status_of, IsDone}
 
 -- ---- what was written whole
@@ -15,41 +14,9 @@ pub no_write : (r : Bool) → done_status r ≢ WriteFault
 no_write true e = cc
 no_write false e = cc
 
-pub no_file : (r : Bool) → done_status r ≢ FileFault
-no_file true e = cc
-no_file false e = cc
-
-pub no_memory : (r : Bool) → done_status r ≢ NoMemory
-no_memory true e = cc
-no_memory false e = cc
-
-pub not_bad : (r : Bool) → done_status r ≢ BadWords
-not_bad true e = cc
-not_bad false e = cc
-
-pub not_read : (r : Bool) → done_status r ≢ ReadFault
-not_read true e = cc
-not_read false e = cc
-
-pub not_long : (r : Bool) → done_status r ≢ ScriptLong
-not_long true e = cc
-not_long false e = cc
-
 pub written_whole : (r : Bool) → IsDone (done_status r)
 written_whole true = tt
 written_whole false = tt
-
--- where it is no other status
-pub is_done : (status : Status) → status ≢ BadWords → status ≢ FileFault → status ≢ ReadFault → status ≢ WriteFault
-    → status ≢ NoMemory → status ≢ ScriptLong → IsDone status
-is_done Done b f r w m l = tt
-is_done Refused b f r w m l = tt
-is_done BadWords b f r w m l = b refl
-is_done FileFault b f r w m l = f refl
-is_done ReadFault b f r w m l = r refl
-is_done WriteFault b f r w m l = w refl
-is_done NoMemory b f r w m l = m refl
-is_done ScriptLong b f r w m l = l refl
 
 -- ---- the stop of a fault
 

@@ -1,6 +1,9 @@
 -- What a call leaves, by the form of its words: a form more is a case more.
 use Rattle.std.specs.Prelude.{◌≡◌, ◌≢◌, ℕ, List}
 use Rattle.outside.specs.Causes.{Rose}
+use Rattle.outside.specs.declared.traits.Files.{Ghosts as FilesTell}
+use Rattle.outside.specs.declared.traits.Sink.{Ghosts as SinkTells}
+use Rattle.outside.specs.declared.traits.Source.{Ghosts as SourceTells}
 use Rattle.pap_cli.specs.declared.status.Status.{Status}
 use Rattle.pap_cli.specs.declared.status.Status.TheVariants.{BadWords, FileFault, NoMemory, ReadFault, WriteFault}
 use Rattle.pap_cli.specs.Statuses.{IsDone}
@@ -8,7 +11,7 @@ use Rattle.pap_cli.specs.Words.{Form, check, once, run, sample, save, HasForm, I
 use Rattle.pap_cli.specs.WordViews.{ReadsScript}
 use Rattle.plan_answers.specs.Answers.{CheckAnswers}
 use Rattle.pap_cli.specs.RunAnswers.{OnceAnswers}
-use Rattle.pap_cli.specs.Outside.{Objects, Outside, shown_of, output_of}
+use Rattle.pap_cli.specs.Outside.{Objects, Outside, outside_of, shown_of, output_of}
 use Rattle.pap_cli.specs.FileClauses.{LeavesOnFiles, HeadlineOnFiles}
 use Rattle.pap_cli.specs.ScriptClauses.{LeavesOnScript, HeadlineOnScript}
 use Rattle.pap_cli.specs.SampleClauses.{LeavesOnSample, HeadlineOnSample}
@@ -55,6 +58,20 @@ Headline save before after status = HeadlineOnSave before after status
 pub record Carries (form : Form) (before after : Outside) (status : Status) : Type 0 where
   pub leaves : Leaves form before after status
   pub headline : Headline form before after status
+
+-- all that a call meets: words without a form are told, and nothing is called; what the words don't ask for stays, and
+-- the files are only read; a fault is told only where its object's count rose; and, by the form that the words have, what
+-- each status says of the text, the counter, the source and the failed name, and the headline
+pub record CallMeets
+    {F R W : Type 0} (of_files : FilesTell F) (of_source : SourceTells R) (of_sink : SinkTells W)
+    (words : List (List ℕ)) (before after : Objects F R W) (status : Status) : Type 0 where
+  pub bad_words : TellsBadWords words status
+  pub touches : TouchesOnly words before after
+  pub files_same : of_files.told after.files ≡ of_files.told before.files
+  pub caused : IsCaused
+      (outside_of of_files of_source of_sink before) (outside_of of_files of_source of_sink after) status
+  pub carries : (form : Form) → HasForm words form → Carries form
+      (outside_of of_files of_source of_sink before) (outside_of of_files of_source of_sink after) status
 
 -- the words ask for a script to be carried out, by `run` or by `save`, and it was answered to its end
 pub record AnswersScript (words : List (List ℕ)) (status : Status) : Type 0 where

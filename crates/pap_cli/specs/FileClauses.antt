@@ -3,10 +3,10 @@ use Rattle.std.specs.Prelude.{◌≡◌, ◌≢◌, ◌⊎◌, ℕ, ◌+◌, ◌
 use Rattle.std.specs.Option.{ForSome}
 use Rattle.outside.specs.Causes.{Still}
 use Rattle.outside.specs.Told.{FileMap, Appends}
-use Rattle.script_run.specs.RunClauses.{OutsideShown}
+use Rattle.script_steps.specs.Shown.{OutsideShown}
 use Rattle.pap_cli.specs.declared.status.Status.{Status}
 use Rattle.pap_cli.specs.declared.status.Status.TheVariants as statuses
-use Rattle.pap_cli.specs.Statuses.{done_status, IsDone}
+use Rattle.pap_cli.specs.Statuses.{done_status}
 use Rattle.plan_answers.specs.Answers.{Answer}
 use Rattle.plan_answers.specs.Fronts.{IsMissing}
 use Rattle.pap_cli.specs.Outside.{Outside}
@@ -24,7 +24,7 @@ pub record AnswersFiles (Answers : Answering) (plan limits : List ℕ) (files : 
   pub answers : Answers plan_bytes limits_bytes answer
 
 -- the defined text was written, the counter rose by the run's steps, and the status says whether it is a refusal
-pub record IsWhole (IsAnswer : Answer → Type 0) (out : List ℕ) (spent : ℕ) (status : Status) : Type 0 where
+pub record IsWrittenWhole (IsAnswer : Answer → Type 0) (out : List ℕ) (spent : ℕ) (status : Status) : Type 0 where
   pub answer : Answer
   pub is : IsAnswer answer
   pub text : out ≡ answer.text
@@ -32,7 +32,7 @@ pub record IsWhole (IsAnswer : Answer → Type 0) (out : List ℕ) (spent : ℕ)
   pub ended : status ≡ done_status answer.refused
 
 -- a front of the defined text was written, and not the whole; the counter rose by the run's steps
-pub record IsCutShort (IsAnswer : Answer → Type 0) (out : List ℕ) (spent : ℕ) : Type 0 where
+pub record IsWrittenShort (IsAnswer : Answer → Type 0) (out : List ℕ) (spent : ℕ) : Type 0 where
   pub answer : Answer
   pub is : IsAnswer answer
   pub count : ℕ
@@ -50,24 +50,37 @@ pub record IsRunCounted (IsAnswer : Answer → Type 0) (began steps : ℕ) : Typ
 abbrev pub IsCounted : (Answer → Type 0) → ℕ → ℕ → Type 0
 IsCounted IsAnswer began steps = (steps ≡ began) ⊎ IsRunCounted IsAnswer began steps
 
--- what the call leaves, by its status; of the text where the files tell what they hold, of the rest always
-pub record LeavesOnFiles (Answers : Answering) (plan limits : List ℕ) (before after : OutsideShown) (status : Status) : Type 0 where
+-- the answer on the files was written whole, where they tell what they hold
+abbrev pub EndsWhole : (FileMap → Answer → Type 0) → OutsideShown → OutsideShown → List ℕ → Status → Type 0
+EndsWhole IsAnswer before after out status =
+    ForSome before.files (λ files. IsWrittenWhole (IsAnswer files) out (after.steps - before.steps) status)
+
+-- how the call ended, by its status: what was written of the answer, and what was counted
+abbrev pub EndsOnFiles :
+    Answering → List ℕ → List ℕ → OutsideShown → OutsideShown → List ℕ → Status → Type 0
+EndsOnFiles Answers plan limits before after out statuses.Done =
+    EndsWhole (AnswersFiles Answers plan limits) before after out statuses.Done
+EndsOnFiles Answers plan limits before after out statuses.Refused =
+    EndsWhole (AnswersFiles Answers plan limits) before after out statuses.Refused
+EndsOnFiles Answers plan limits before after out statuses.BadWords = ⊥
+EndsOnFiles Answers plan limits before after out statuses.FileFault =
+    (out ≡ []) × (after.steps ≡ before.steps) × IsMissing before.files plan limits after.failed
+EndsOnFiles Answers plan limits before after out statuses.ReadFault = ⊥
+EndsOnFiles Answers plan limits before after out statuses.WriteFault = ForSome before.files (λ files.
+    IsWrittenShort (AnswersFiles Answers plan limits files) out (after.steps - before.steps))
+EndsOnFiles Answers plan limits before after out statuses.NoMemory = (out ≡ []) × ForSome before.files (λ files.
+    IsCounted (AnswersFiles Answers plan limits files) before.steps after.steps)
+EndsOnFiles Answers plan limits before after out statuses.ScriptLong = ⊥
+
+-- what the call leaves
+pub record LeavesOnFiles
+    (Answers : Answering) (plan limits : List ℕ) (before after : OutsideShown)
+    (status : Status) : Type 0 where
   pub out : List ℕ
   pub appended : Appends before.written after.written out
   pub counted : before.steps ≤ after.steps
-  pub whole : IsDone status → ForSome before.files (λ files.
-      IsWhole (AnswersFiles Answers plan limits files) out (after.steps - before.steps) status)
-  pub cut : status ≡ statuses.WriteFault → ForSome before.files (λ files.
-      IsCutShort (AnswersFiles Answers plan limits files) out (after.steps - before.steps))
-  pub file : status ≡ statuses.FileFault →
-      (out ≡ []) × (after.steps ≡ before.steps) × IsMissing before.files plan limits after.failed
+  pub ends : EndsOnFiles Answers plan limits before after out status
   pub kept : status ≢ statuses.FileFault → after.failed ≡ before.failed
-  pub memory : status ≡ statuses.NoMemory → out ≡ []
-  pub memory_counted : status ≡ statuses.NoMemory → ForSome before.files (λ files.
-      IsCounted (AnswersFiles Answers plan limits files) before.steps after.steps)
-  pub words_are_good : status ≢ statuses.BadWords
-  pub reads_no_script : status ≢ statuses.ReadFault
-  pub takes_no_script : status ≢ statuses.ScriptLong
 
 -- both files are there, the answer on them was written whole, the counter rose by its steps, and the status says whether it
 -- is a refusal

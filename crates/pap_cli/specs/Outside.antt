@@ -4,7 +4,7 @@ use Rattle.outside.specs.Told.{FileMap}
 use Rattle.outside.specs.declared.traits.Files.{Ghosts as FilesTell}
 use Rattle.outside.specs.declared.traits.Sink.{Ghosts as SinkTells}
 use Rattle.outside.specs.declared.traits.Source.{Ghosts as SourceTells}
-use Rattle.script_run.specs.RunClauses.{OutsideShown, shown}
+use Rattle.script_steps.specs.Shown.{OutsideShown, shown}
 
 -- the files, the source and the sink with their counts of faults, and the counter of steps; what an object holds is there
 -- where it tells it

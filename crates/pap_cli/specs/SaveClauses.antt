@@ -5,14 +5,15 @@ use Rattle.outside.specs.Causes.{Still}
 use Rattle.outside.specs.Told.{FileMap, Appends}
 use Rattle.plan_answers.specs.Answers.{Answer}
 use Rattle.script_run.specs.Limits.{most_script}
-use Rattle.script_run.specs.RunClauses.{OutsideShown, shown, RunMeets}
+use Rattle.script_steps.specs.Shown.{OutsideShown, shown}
+use Rattle.script_run.specs.RunClauses.{RunMeets}
 use Rattle.script_run.specs.declared.stop.Stop.{Stop}
 use Rattle.script_run.specs.declared.stop.Stop.TheVariants as stops
 use Rattle.pap_cli.specs.declared.status.Status.{Status}
 use Rattle.pap_cli.specs.declared.status.Status.TheVariants as statuses
 use Rattle.pap_cli.specs.Statuses.{done_status, status_of, IsDone}
 use Rattle.pap_cli.specs.Outside.{Outside}
-use Rattle.pap_cli.specs.FileClauses.{IsWhole, IsCutShort}
+use Rattle.pap_cli.specs.FileClauses.{IsWrittenWhole, IsWrittenShort}
 use Rattle.pap_cli.specs.SaveAnswers.{SaveAnswers}
 
 -- what is shown of a run that writes nothing: the files and the counter
@@ -23,9 +24,9 @@ unwritten o = shown o.files o.failed None o.steps
 pub record IsSaveEnd (before after : Outside) (out : List ℕ) (status : Status) : Type 0 where
   pub ended : IsDone status ⊎ (status ≡ statuses.WriteFault)
   pub whole : IsDone status → ForSome before.left (λ script. ForSome before.files (λ files.
-      IsWhole (SaveAnswers files script) out (after.steps - before.steps) status))
+      IsWrittenWhole (SaveAnswers files script) out (after.steps - before.steps) status))
   pub cut : status ≡ statuses.WriteFault → ForSome before.left (λ script. ForSome before.files (λ files.
-      IsCutShort (SaveAnswers files script) out (after.steps - before.steps)))
+      IsWrittenShort (SaveAnswers files script) out (after.steps - before.steps)))
 
 -- the script's run stopped, never at the sink: nothing was written
 pub record IsSaveStop (out : List ℕ) (status : Status) (stop : Stop) : Type 0 where

@@ -1,10 +1,9 @@
 //! The top call.
 ghost use Rattle.std.specs.Prelude.{◌≡◌, IfOk, OnErr};
 ghost use Rattle.std.specs.Option.{ForSome};
-ghost use Rattle.pap_cli.specs.Words.{texts, Form, HasForm};
-ghost use Rattle.pap_cli.specs.Outside.{objects, outside_of};
-ghost use Rattle.pap_cli.specs.CallClauses.{AnswersScript, Carries, IsCaused};
-ghost use Rattle.pap_cli.specs.CallClauses.{TellsBadWords, TouchesOnly};
+ghost use Rattle.pap_cli.specs.Words.{texts};
+ghost use Rattle.pap_cli.specs.Outside.{objects};
+ghost use Rattle.pap_cli.specs.CallClauses.{AnswersScript, CallMeets};
 ghost use Rattle.pap_cli.specs.Statuses.{status_of};
 ghost use Rattle.script_run.specs.RunClauses.{TellsRefused, refused_by};
 ghost use Rattle.plan_answers.specs.Laws.{CheckHasOneAnswer};
@@ -65,29 +64,9 @@ pub fn papcalc<F: Files, R: Source, W: Sink, L: Ledger>(
     sink: &mut W,
     steps: &mut Steps<L>,
 ) -> Status
-    // The words have no form: nothing is called.
-    ensures bad_words { TellsBadWords (texts words.now) result }
-
-    // What the words don't ask for stays: the source but under `run` and `save`, all files under a
-    // sample, and the counter under `check`. The files are only read.
-    ensures touches { TouchesOnly (texts words.now)
+    ensures meets { CallMeets F.Files R.Source W.Sink (texts words.now)
         (objects files.old source.old sink.old steps.old)
-        (objects files.new source.new sink.new steps.new) }
-    ensures files_same { F.told files.new ≡ F.told files.old }
-
-    // A fault only where the object's count rose.
-    ensures caused { IsCaused
-        (outside_of F.Files R.Source W.Sink (objects files.old source.old sink.old steps.old))
-        (outside_of F.Files R.Source W.Sink (objects files.new source.new sink.new steps.new))
-        result }
-
-    // By the form of the words: what each status says of the text, of the counter, of the source
-    // and of the failed name (`leaves`), and the headline: while memory is there and no outside
-    // call fails, what is written is the defined answer or transcript.
-    ensures carries { (form : Form) → HasForm (texts words.now) form → Carries form
-        (outside_of F.Files R.Source W.Sink (objects files.old source.old sink.old steps.old))
-        (outside_of F.Files R.Source W.Sink (objects files.new source.new sink.new steps.new))
-        result }
+        (objects files.new source.new sink.new steps.new) result }
 {
     let mut untold = RefusedLines::new(alloc);
     papcalc_told(alloc, words, files, source, sink, &mut untold, steps)
@@ -104,29 +83,9 @@ pub fn papcalc_told<F: Files, R: Source, W: Sink, L: Ledger>(
     refused_lines: &mut RefusedLines,
     steps: &mut Steps<L>,
 ) -> Status
-    // The words have no form: nothing is called.
-    ensures bad_words { TellsBadWords (texts words.now) result }
-
-    // What the words don't ask for stays: the source but under `run` and `save`, all files under a
-    // sample, and the counter under `check`. The files are only read.
-    ensures touches { TouchesOnly (texts words.now)
+    ensures meets { CallMeets F.Files R.Source W.Sink (texts words.now)
         (objects files.old source.old sink.old steps.old)
-        (objects files.new source.new sink.new steps.new) }
-    ensures files_same { F.told files.new ≡ F.told files.old }
-
-    // A fault only where the object's count rose.
-    ensures caused { IsCaused
-        (outside_of F.Files R.Source W.Sink (objects files.old source.old sink.old steps.old))
-        (outside_of F.Files R.Source W.Sink (objects files.new source.new sink.new steps.new))
-        result }
-
-    // By the form of the words: what each status says of the text, of the counter, of the source
-    // and of the failed name (`leaves`), and the headline: while memory is there and no outside
-    // call fails, what is written is the defined answer or transcript.
-    ensures carries { (form : Form) → HasForm (texts words.now) form → Carries form
-        (outside_of F.Files R.Source W.Sink (objects files.old source.old sink.old steps.old))
-        (outside_of F.Files R.Source W.Sink (objects files.new source.new sink.new steps.new))
-        result }
+        (objects files.new source.new sink.new steps.new) result }
 
     // Of a script that was answered to its end it is told which of its lines were refused, and of nothing else.
     ensures refused_lines { AnswersScript (texts words.now) result

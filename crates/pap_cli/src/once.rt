@@ -1,5 +1,5 @@
 //! The answer of `once`.
-ghost use Rattle.std.specs.Prelude.{◌≡◌, ◌≢◌, ◌+◌, ◌++◌, IfOk, OnOk, OnErr};
+ghost use Rattle.std.specs.Prelude.{◌≡◌, ◌≢◌, ◌+◌, ◌++◌, IfOk, OnOk, OnErr, string_bytes};
 ghost use Rattle.pap_plan.specs.Plans.{Admits, flowchart};
 ghost use Rattle.pap_cli.specs.RunViews.{named_lines};
 ghost use Rattle.pap_cli.specs.RunAnswers.{OnceAnswers, IsRunOn};
@@ -102,26 +102,25 @@ fn finished<L: Ledger>(
 {
     let ran = run(alloc, plan, inputs, steps)?;
     let cost = ran.cost;
-    let mut text = Vec::new(alloc);
-    write_values(alloc, ran.outputs.as_slice(), &mut text)?;
-    let line = format!(in alloc; "steps {cost}\n")?;
-    text.extend_from_slice(line.as_bytes())?;
+    let mut text = String::new(alloc);
+    write_values(&mut text, ran.outputs.as_slice())?;
+    write!(text, "steps {cost}\n")?;
     Ok(Reply {
-        text,
+        text: text.into_bytes(),
         refused: false,
         steps: cost,
     })
 }
 
 /// Appends a line for each output: its name and its value.
-fn write_values(alloc: Global, outputs: &[NamedValue], text: &mut Vec<u8>) -> Result<(), AllocError>
-    ensures { OnOk result (text.new.items ≡ text.old.items ++ named_lines outputs.now) }
+fn write_values(text: &mut String, outputs: &[NamedValue]) -> Result<(), AllocError>
+    ensures { OnOk result
+        (string_bytes text.new ≡ string_bytes text.old ++ named_lines outputs.now) }
 {
     for output in outputs {
         let name = output.name;
         let value = output.value;
-        let line = format!(in alloc; "{name} {value}\n")?;
-        text.extend_from_slice(line.as_bytes())?;
+        write!(text, "{name} {value}\n")?;
     }
     Ok(())
 }

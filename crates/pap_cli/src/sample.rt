@@ -1,5 +1,5 @@
 //! The answer of `sample`: what came of a generated script.
-ghost use Rattle.std.specs.Prelude.{◌≡◌, ◌≤◌, length, codes, IfOk, string_bytes};
+ghost use Rattle.std.specs.Prelude.{◌≡◌, ◌≤◌, ◌++◌, length, codes, IfOk, OnOk, string_bytes};
 ghost use Rattle.recalc_engine.specs.MonthRows.{month_rows};
 ghost use Rattle.outside.specs.Causes.{Caused};
 ghost use Rattle.carry_bindings.specs.Carrying.{named};
@@ -48,28 +48,31 @@ fn summary(alloc: Global, employees: u32, script: &Script) -> Result<String, All
     requires { employees ≤ most_employees }
     ensures { IfOk result (λ text. string_bytes text ≡ summary_text employees script.now) }
 {
-    let counts = book_lines(alloc, employees, script.book())?;
-    let work = work_lines(alloc, script.made())?;
+    let mut text = String::new(alloc);
+    write_book(&mut text, employees, script.book())?;
+    write_work(&mut text, script.made())?;
     let tax = tax_sum(script.book());
-    Ok(format!(in alloc; "{counts}{work}LST {tax}\n")?)
+    write!(text, "LST {tax}\n")?;
+    Ok(text)
 }
 
-/// How many lines the script has, and how many runs the book.
-fn book_lines(alloc: Global, employees: u32, book: &Book) -> Result<String, AllocError>
+/// Appends how many lines the script has, and how many runs the book.
+fn write_book(text: &mut String, employees: u32, book: &Book) -> Result<(), AllocError>
     requires { employees ≤ most_employees }
-    ensures { IfOk result (λ text. string_bytes text ≡ book_lines employees book.now) }
+    ensures { OnOk result
+        (string_bytes text.new ≡ string_bytes text.old ++ book_lines employees book.now) }
 {
     let lines = sample_line_count(employees);
     let records = run_count(book);
-    Ok(format!(in alloc; "lines {lines}\nrecords {records}\n")?)
+    write!(text, "lines {lines}\nrecords {records}\n")
 }
 
-/// What all edits had to run.
-fn work_lines(alloc: Global, made: Work) -> Result<String, AllocError>
-    ensures { IfOk result (λ text. string_bytes text ≡ work_lines made) }
+/// Appends what all edits had to run.
+fn write_work(text: &mut String, made: Work) -> Result<(), AllocError>
+    ensures { OnOk result (string_bytes text.new ≡ string_bytes text.old ++ work_lines made) }
 {
     let (runs, steps) = (made.runs, made.steps);
-    Ok(format!(in alloc; "runs {runs}\nsteps {steps}\n")?)
+    write!(text, "runs {runs}\nsteps {steps}\n")
 }
 
 /// The number of a book's runs.

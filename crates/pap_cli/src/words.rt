@@ -26,8 +26,11 @@ pub(crate) enum Request<'a> {
 /// An answer on the file of a plan and a range file.
 #[derive(Drop)]
 pub(crate) struct FileRequest<'a> {
+    /// The name of the plan's file.
     pub plan: &'a str,
+    /// The name of the range file.
     pub limits: &'a str,
+    /// What is asked of them.
     pub command: Command,
 }
 

@@ -9,7 +9,7 @@ use Rattle.script_steps.specs.GoingOn.{AreSteps, IsSavable}
 use Rattle.script_steps.specs.Steps.{Answer, Standing}
 use Rattle.script_steps.proofs.Laws.{make_books}
 use Rattle.script_run.specs.RefusedLines.{noted}
-use Rattle.script_run.specs.RunViews.{Follow, opening, with_answer}
+use Rattle.script_run.specs.RunViews.{Follow, empty_session, with_answer}
 use Rattle.script_run.specs.Transcripts.{AreAnswered, Session, refusal_of, refused_from, session_of}
 use Rattle.script_run.specs.TranscriptLaws.{ScriptsLeaveBooks}
 
@@ -140,7 +140,7 @@ has_answered files from (line ∷ lines) to (answer ∷ answers) (next, is, rest
 -- ---- from the first line on
 
 -- totals behind some answers are the session that these make
-of_answers : (session : Session) (answers : List Answer) → Goes opening session answers
+of_answers : (session : Session) (answers : List Answer) → Goes empty_session session answers
     → session ≡ session_of answers session.standing
 of_answers session answers h =
     let lines : session.lines ≡ length answers = h.lines ∙ zero-add (length answers) in
@@ -155,11 +155,11 @@ of_answers session answers h =
       standing = session.standing;
     }
 
--- lines that follow the opening are answered
-pub answered_of : (files : FileMap) (lines : List (List ℕ)) (session : Session) → Follow files opening lines session
+-- lines that follow the empty_session are answered
+pub answered_of : (files : FileMap) (lines : List (List ℕ)) (session : Session) → Follow files empty_session lines session
     → AreAnswered files lines session
 answered_of files lines session h =
-    let has = has_steps files opening lines session h in
+    let has = has_steps files empty_session lines session h in
     record {
       answers = has.answers;
       left = session.standing;
@@ -169,10 +169,10 @@ answered_of files lines session h =
 
 -- and the other way
 pub follow_of : (files : FileMap) (lines : List (List ℕ)) (session : Session) → AreAnswered files lines session
-    → Follow files opening lines session
+    → Follow files empty_session lines session
 follow_of files lines session h =
-    let has = has_answered files opening lines h.left h.answers h.each in
-    subst (λ (s : Session). Follow files opening lines s) (of_answers has.session h.answers has.goes
+    let has = has_answered files empty_session lines h.left h.answers h.each in
+    subst (λ (s : Session). Follow files empty_session lines s) (of_answers has.session h.answers has.goes
     ∙ ap (λ (left : Standing). session_of h.answers left) has.left ∙ sym h.is) has.is
 
 -- ---- a law

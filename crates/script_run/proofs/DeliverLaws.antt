@@ -3,47 +3,55 @@ use Rattle.std.proofs.Common.{◌≡◌, ◌≢◌, List, [], ◌++◌, ℕ, ◌
 use Rattle.std.specs.Prelude.{None, Some, Result, Err, Vec, if◌then◌else◌}
 use Rattle.std.specs.declared.alloc.Global.{Global}
 use Rattle.outside.specs.Told.{FileMap}
+use Rattle.script_steps.specs.Shown.{OutsideShown, shown}
 use Rattle.script_steps.specs.Steps.{Standing}
-use Rattle.script_steps.specs.StepClauses.{IsAnswered, IsPart, IsCutShort, IsBroken}
+use Rattle.script_steps.specs.StepClauses.{IsAnswered, IsOutOfMemory, IsUnfinished, IsBroken}
 use Rattle.script_steps.specs.declared.stop.LineStop.{LineStop}
 use Rattle.script_steps.specs.declared.stop.LineStop.TheVariants.{File, Write, Memory}
 use Rattle.script_run.specs.RunViews.{IsDelivered}
 
+-- of a sink that shows nothing
+abbrev pub unseen : OutsideShown → OutsideShown
+unseen s = shown s.files s.failed None s.steps
+
 -- where that memory ran out nothing of the answer is kept
-pub cut_lost : {told : Option FileMap} {old new : Option
-    (List ℕ)} {before now : ℕ} {from to : Standing} {line : List ℕ} →
-    IsCutShort told old new before now from to line → IsPart told None None before now from line
-cut_lost {to = to} cut = record {
-  to = to;
-  answer = cut.answer;
-  part = record { front = []; rest = (cut.answer).text; parts = refl; appended = tt };
-  later = cut.later;
-  within = cut.within;
-  is = cut.is;
-}
+pub cut_lost : (old new : OutsideShown) {from to : Standing} {line : List ℕ} →
+    IsUnfinished old new from to line → IsOutOfMemory (unseen old) (unseen new) from to line
+cut_lost old new {to = to} cut =
+    let counted : new.steps ≡ old.steps + (cut.answer).steps = cut.counted in
+    record {
+      left = inr (cut.answer, cut.is);
+      done = inr (record {
+        to = to;
+        answer = cut.answer;
+        part = record { front = []; rest = (cut.answer).text; parts = refl; appended = tt };
+        later = omega arith;
+        within = omega arith;
+        is = cut.is;
+      });
+    }
 
 -- so it is of the answer that couldn't be kept
-pub answer_lost : {told : Option FileMap} {old new : Option
-    (List ℕ)} {before now : ℕ} {from to : Standing} {line : List ℕ} {refused : Bool} →
-    IsAnswered told old new before now from to line refused → IsPart told None None before now from line
-answer_lost {before = before} {now = now} {to = to} answered =
-    let counted : now ≡ before + (answered.answer).steps = answered.counted in
+pub answer_lost : (old new : OutsideShown) {from to : Standing} {line : List ℕ} {refused : Bool} →
+    IsAnswered old new from to line refused → IsOutOfMemory (unseen old) (unseen new) from to line
+answer_lost old new {to = to} answered =
+    let counted : new.steps ≡ old.steps + (answered.answer).steps = answered.counted in
     record {
-      to = to;
-      answer = answered.answer;
-      part = record { front = []; rest = (answered.answer).text; parts = refl; appended = tt };
-      later = omega arith;
-      within = omega arith;
-      is = answered.is;
+      left = inr (answered.answer, answered.is);
+      done = inr (record {
+        to = to;
+        answer = answered.answer;
+        part = record { front = []; rest = (answered.answer).text; parts = refl; appended = tt };
+        later = omega arith;
+        within = omega arith;
+        is = answered.is;
+      });
     }
 
 -- another stop
-pub stop_kept : (told : Option FileMap) (old new : Option
-    (List ℕ)) (before now : ℕ) (from to : Standing) (line : List ℕ)
-    (failed : Option (List ℕ)) (stop : LineStop) → stop ≢ Write →
-    IsBroken told old new before now from to line failed stop →
-    IsBroken told None None before now from to line failed stop
-stop_kept told old new before now from to line failed File other broken = record {
+pub stop_kept : (old new : OutsideShown) (from to : Standing) (line : List ℕ) (stop : LineStop) → stop ≢ Write →
+    IsBroken old new from to line stop → IsBroken (unseen old) (unseen new) from to line stop
+stop_kept old new from to line File other broken = record {
   unchanged = broken.unchanged;
   unbegun = record { nothing = tt; uncounted = broken.unbegun.uncounted };
   name = broken.name;
@@ -51,26 +59,30 @@ stop_kept told old new before now from to line failed File other broken = record
   in_order = broken.in_order;
   failed_there = broken.failed_there;
 }
-stop_kept told old new before now from to line failed Write other broken = absurd (other refl)
-stop_kept told old new before now from to line failed Memory other broken = elim broken [
-  | inl nothing ↦ inl (record { nothing = tt; uncounted = nothing.uncounted })
-  | inr part ↦ inr (record {
-    to = part.to;
-    answer = part.answer;
-    part = record { front = part.part.front; rest = part.part.rest; parts = part.part.parts; appended = tt };
-    later = part.later;
-    within = part.within;
-    is = part.is;
-  })
-]
+stop_kept old new from to line Write other broken = absurd (other refl)
+stop_kept old new from to line Memory other broken = record {
+  left = broken.left;
+  done = elim (broken.done) [
+    | inl nothing ↦ inl (record { nothing = tt; uncounted = nothing.uncounted })
+    | inr part ↦ inr (record {
+      to = part.to;
+      answer = part.answer;
+      part = record { front = part.part.front; rest = part.part.rest; parts = part.part.parts; appended = tt };
+      later = part.later;
+      within = part.within;
+      is = part.is;
+    })
+  ];
+}
 
 -- the answer was put to the refusals where it is one
-pub delivered : {told : Option FileMap} {first bytes shown : List ℕ} {before now : ℕ} {from to : Standing} {line : List ℕ}
-    {refused : Bool} (was is : Vec ℕ Global) → first ≡ [] → shown ≡ bytes →
-    IsAnswered told (Some first) (Some bytes) before now from to line refused →
-    is.items ≡ was.items ++ (if refused then shown else []) →
-    IsDelivered told None None before now from to (Some was) (Some is) line refused
-delivered {bytes = bytes} {refused = refused} was is none same answered put =
+pub delivered : (told told' : Option FileMap) (failed failed' : Option (List ℕ)) (before now : ℕ)
+    {first bytes kept : List ℕ} {from to : Standing} {line : List ℕ} {refused : Bool} (was is : Vec ℕ Global) →
+    first ≡ [] → kept ≡ bytes →
+    IsAnswered (shown told failed (Some first) before) (shown told' failed' (Some bytes) now) from to line refused →
+    is.items ≡ was.items ++ (if refused then kept else []) →
+    IsDelivered (shown told failed None before) (shown told' failed' None now) from to (Some was) (Some is) line refused
+delivered told told' failed failed' before now {bytes = bytes} {refused = refused} was is none same answered put =
     let text = (answered.answer).text in
     let all : bytes ≡ text = answered.appended ∙ ap (λ v. v ++ text) none in
     record {
@@ -86,10 +98,9 @@ delivered {bytes = bytes} {refused = refused} was is none same answered put =
     }
 
 -- the same stop
-pub broken_as : {T : Type 0} (told : Option FileMap) (before now : ℕ) (from to : Standing) (line : List ℕ)
-    (failed : Option (List ℕ)) {found stop : LineStop} → ◌≡◌ {A = Result T LineStop} (Err found) (Err stop) →
-    IsBroken told None None before now from to line failed found →
-    IsBroken told None None before now from to line failed stop
-broken_as told before now from to line failed {found = found} {stop = stop} is broken =
+pub broken_as : {T : Type 0} (old new : OutsideShown) (from to : Standing) (line : List ℕ)
+    {found stop : LineStop} → ◌≡◌ {A = Result T LineStop} (Err found) (Err stop) →
+    IsBroken old new from to line found → IsBroken old new from to line stop
+broken_as old new from to line {found = found} {stop = stop} is broken =
     let same : found ≡ stop = cc in
-    subst (λ v. IsBroken told None None before now from to line failed v) same broken
+    subst (λ v. IsBroken old new from to line v) same broken

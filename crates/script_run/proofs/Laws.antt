@@ -7,10 +7,10 @@ use Rattle.outside.specs.Told.{FileMap}
 use Rattle.script_steps.specs.Steps.{Standing, Answer, AreThere, IsStep}
 use Rattle.script_steps.specs.StepLaws.{LacksAFile}
 use Rattle.script_steps.proofs.Laws as step
-use Rattle.script_run.specs.RunViews.{Follow, opening, with_answer}
+use Rattle.script_run.specs.RunViews.{Follow, empty_session, with_answer}
 use Rattle.script_run.specs.Transcripts.{Session, lines_of, IsHalted, IsSession}
 use Rattle.script_run.specs.TranscriptLaws.{ScriptsHaveATranscript, ScriptsHaveOneTranscript}
-use Rattle.script_run.specs.RunClauses.{IsFrontOf}
+use Rattle.script_run.specs.RunClauses.{IsFrontOfSession}
 -- The answers of a session, one after another; every script leaves a book that can be saved.
 pub use Rattle.script_run.proofs.AnswerLaws.{HasAnswered, HasSteps, any_refused, answered_of, follow_of, has_answered, has_steps}
 pub use Rattle.script_run.proofs.AnswerLaws.{leave_books, no_refusals, refusals, texts}
@@ -25,7 +25,7 @@ pub record FollowToHalt (files : FileMap) (from : Session) (lines : List (List �
 
 -- from the first line on that is a session
 pub session_of_totals : (files : FileMap) (lines : List (List ℕ)) (session : Session)
-    → FollowToHalt files opening lines session → IsSession files lines session
+    → FollowToHalt files empty_session lines session → IsSession files lines session
 session_of_totals files lines session h = record {
   before = h.before;
   after = h.after;
@@ -36,7 +36,7 @@ session_of_totals files lines session h = record {
 
 -- and the other way
 pub totals_of_session : (files : FileMap) (lines : List (List ℕ)) (session : Session)
-    → IsSession files lines session → FollowToHalt files opening lines session
+    → IsSession files lines session → FollowToHalt files empty_session lines session
 totals_of_session files lines session h = record {
   before = h.before;
   after = h.after;
@@ -68,7 +68,7 @@ Follow-next files from mid lines line standing answer before is =
 
 -- answers go onto the text, and steps onto the steps
 pub Follow-grows : (files : FileMap) (from to : Session) (lines : List (List ℕ)) →
-    Follow files from lines to → IsFrontOf to from.text from.steps
+    Follow files from lines to → IsFrontOfSession to from.text from.steps
 Follow-grows files from to [] same = record {
   later = [];
   text = ap (λ v. v.text) same
@@ -222,11 +222,11 @@ some_session files from (line ∷ lines) =
 -- every script has a transcript
 pub some : ScriptsHaveATranscript
 some files script =
-    let has = some_session files opening (lines_of script) in
+    let has = some_session files empty_session (lines_of script) in
     record { session = has.session; is = session_of_totals files (lines_of script) has.session has.is }
 
 -- and no other
 pub one : ScriptsHaveOneTranscript
 one files script session other a b =
-    FollowToHalt-one files opening session other (lines_of script) (totals_of_session files (lines_of script) session a)
+    FollowToHalt-one files empty_session session other (lines_of script) (totals_of_session files (lines_of script) session a)
     (totals_of_session files (lines_of script) other b)

@@ -1,5 +1,5 @@
 -- Over files that lack none of a script's, a run is stopped by memory alone.
-use Rattle.std.proofs.Common.{◌≡◌, List, [], ◌∷◌, ◌++◌, ℕ, ◌-◌, ◌≤◌, length, Option, refl, sym, ap, ◌∙◌, subst, arith, length-append}
+use Rattle.std.proofs.Common.{◌≡◌, List, [], ◌∷◌, ◌++◌, ℕ, ◌-◌, ◌≤◌, length, Option, sym, ap, ◌∙◌, subst, arith, length-append}
 use Rattle.std.specs.Prelude.{None, Some, IsSome, All, Vec, Result, Ok, Err, OnErr}
 use Rattle.std.specs.declared.alloc.Global.{Global}
 use Rattle.std.proofs.lemmas.List.Elements.{All-head, All-tail}
@@ -8,7 +8,8 @@ use Rattle.outside.specs.Memory.{file_named}
 use Rattle.script_steps.specs.Steps.{Standing, AreThere}
 use Rattle.script_run.specs.Limits.{most_script}
 use Rattle.script_run.specs.Transcripts.{lines_of}
-use Rattle.script_run.specs.RunClauses.{OutsideShown, RunMeets, EndsAt, EndsUnwritten, TellsRefused, IsFinished, IsSpentWithin}
+use Rattle.script_steps.specs.Shown.{OutsideShown}
+use Rattle.script_run.specs.RunClauses.{RunMeets, EndsAt, EndsUnwritten, TellsRefused, IsFinished, IsSpentWithin}
 use Rattle.script_run.specs.RefusedLines.{IsToldOf, tells_one}
 use Rattle.script_run.specs.declared.turns.Ended.{Ended}
 use Rattle.script_run.specs.declared.refused_lines.RefusedLines.{RefusedLines}

@@ -1,5 +1,5 @@
 -- How the script of a sample grows line by line.
-use Rattle.std.proofs.Common.{◌≡◌, ℕ, zero, suc, ◌+◌, ◌-◌, ◌≤◌, List, [], ◌∷◌, ◌++◌, map, refl, sym, ap, ◌∙◌, append_assoc, arith, Bool, true, false, ◌&&◌, ◌<◌, ◌^◌, ◌/◌, ◌%◌, ◌*◌, ◌==◌, length-append, subst}
+use Rattle.std.proofs.Common.{◌≡◌, ℕ, zero, suc, ◌+◌, ◌-◌, ◌≤◌, List, [], ◌∷◌, ◌++◌, map, refl, sym, ap, ap₂, ◌∙◌, append_assoc, arith, Bool, true, false, ◌&&◌, ◌<◌, ◌^◌, ◌/◌, ◌%◌, ◌*◌, ◌==◌, length-append, subst}
 use Rattle.std.specs.Prelude.{All, codes, if◌then◌else◌, length, nat_lt, slice_index, take}
 use Rattle.std.specs.Fmt.{decimal}
 use Rattle.std.specs.Str.Parse.{AllDigits}
@@ -13,12 +13,13 @@ use Rattle.std.proofs.lemmas.List.{append-nil, map-append, length-map}
 use Rattle.std.proofs.lemmas.List.Elements.{All-nil, All-cons, All-head, All-tail, All-append}
 use Rattle.std.proofs.lemmas.List.Splits.{slice_split_at}
 use Rattle.outside.specs.Told.{FileMap}
+use Rattle.payroll_records.specs.Days.{month_text, day_text}
 use Rattle.script_steps.specs.Steps.{AreThere}
 use Rattle.script_run.specs.Limits.{most_script}
 use Rattle.script_run.specs.Transcripts.{lines_of}
 use Rattle.script_run.proofs.LineLaws.{lines_after}
 use Rattle.std.proofs.lemmas.Grind.{flat_map-append}
-use Rattle.script_run.specs.Samples.{numbers, change_line, year_lines, sample_lines, script_of, month_text, add_line}
+use Rattle.script_run.specs.Samples.{numbers, change_line, year_lines, sample_lines, script_of, add_line}
 
 numbers_next : (n : ℕ) → 1 ≤ n → numbers n ≡ numbers (n - 1) ++ n ∷ []
 numbers_next zero some = absurd (omega arith)
@@ -79,6 +80,20 @@ sample_parts employees =
     (flat_map-append (λ line. line ++ 10 ∷ []) years (changes ++ codes "report" ∷ [])
     ∙ ap (λ v. script_of years ++ v) (flat_map-append (λ line. line ++ 10 ∷ []) changes (codes "report" ∷ [])))
 
+regrouped : (a b s c d e f g : List ℕ) →
+    a ++ (b ++ (s ++ (c ++ (s ++ (d ++ (e ++ (f ++ g))))))) ≡ (((((((a ++ b) ++ s) ++ c) ++ s) ++ d) ++ e) ++ f) ++ g
+regrouped a b s c d e f g = simp append_assoc
+
+-- the record of an employee, word by word
+pub record_words : (employee month : ℕ) (year number value : ℕ) → year ≡ 2025 → number ≡ month →
+    value ≡ 100000 + 1000 * employee * month →
+    codes "add E" ++ (decimal employee ++ (32 ∷ (month_text year number ++ (32 ∷ (month_text year number
+    ++ (codes "-28 RE4=" ++ (decimal value ++ 10 ∷ []))))))) ≡ add_line employee month ++ 10 ∷ []
+record_words employee month year number value y m v =
+    rw (y, m, v)
+    (regrouped (codes "add E") (decimal employee) (codes " ") (month_text 2025 month) (day_text 2025 month 28) (codes " RE4=")
+    (decimal (100000 + 1000 * employee * month)) (10 ∷ []))
+
 -- a byte that ends no line and is no CR
 abbrev is_inner : ℕ → Bool
 is_inner b = nat_lt 31 b
@@ -101,11 +116,13 @@ plain_digits (c ∷ cs) digits =
 plain_decimal : (n : ℕ) → n < 2 ^ 64 → is_plain (decimal n) ≡ true
 plain_decimal n fits = plain_digits (decimal n) (decimal_is_IsNumeral n fits).0.1
 
-plain_month : (month : ℕ) → month ≤ 12 → is_plain (month_text month) ≡ true
-plain_month month most =
-    both_plain (codes "2025-" ++ decimal (month / 10)) (decimal (month % 10))
-    (both_plain (codes "2025-") (decimal (month / 10)) refl (plain_decimal (month / 10) (omega arith)))
-    (plain_decimal (month % 10) (omega arith))
+plain_month : (month : ℕ) → is_plain (month_text 2025 month) ≡ true
+plain_month month =
+    ap₂ (λ a b. a && (b && true)) (inner_digit (48 + month / 10) (omega arith)) (inner_digit (48 + month % 10) (omega arith))
+
+plain_day : (month : ℕ) → is_plain (day_text 2025 month 28) ≡ true
+plain_day month =
+    ap₂ (λ a b. a && (b && true)) (inner_digit (48 + month / 10) (omega arith)) (inner_digit (48 + month % 10) (omega arith))
 
 product_small : (employee month : ℕ) → employee ≤ 200 → month ≤ 12 → 1000 * employee * month ≤ 2400000
 product_small employee month few most = grind arith
@@ -115,15 +132,14 @@ plain_add employee month few most =
     let value = 100000 + 1000 * employee * month in
     let small : 1000 * employee * month ≤ 2400000 = product_small employee month few most in
     let head = codes "add E" ++ decimal employee in
-    let to_month = (head ++ codes " ") ++ month_text month in
-    let to_day = ((to_month ++ codes " ") ++ month_text month) ++ codes "-28 RE4=" in
+    let to_month = (head ++ codes " ") ++ month_text 2025 month in
+    let to_day = ((to_month ++ codes " ") ++ day_text 2025 month 28) ++ codes " RE4=" in
     let plain_head = both_plain (codes "add E") (decimal employee) refl (plain_decimal employee (omega arith)) in
-    let plain_to_month = both_plain (head ++ codes " ") (month_text month) (both_plain head
-    (codes " ") plain_head refl)
-    (plain_month month most) in
-    let plain_to_day = both_plain ((to_month ++ codes " ") ++ month_text month) (codes "-28 RE4=")
-    (both_plain (to_month ++ codes " ") (month_text month) (both_plain to_month (codes " ") plain_to_month refl)
-    (plain_month month most)) refl in
+    let plain_to_month = both_plain (head ++ codes " ") (month_text 2025 month) (both_plain head
+    (codes " ") plain_head refl) (plain_month month) in
+    let plain_to_day = both_plain ((to_month ++ codes " ") ++ day_text 2025 month 28) (codes " RE4=")
+    (both_plain (to_month ++ codes " ") (day_text 2025 month 28) (both_plain to_month (codes " ") plain_to_month refl)
+    (plain_day month)) refl in
     both_plain to_day (decimal value) plain_to_day (plain_decimal value (omega arith))
 
 pub plain_change : (employee : ℕ) → employee ≤ 200 → is_plain (change_line employee) ≡ true
@@ -220,27 +236,20 @@ both_short a b m n k p q fits = omega (arith, length-append a b)
 short_number : (k n : ℕ) → 0 < k → n < 10 ^ k → n < 2 ^ 64 → length (decimal n) ≤ k
 short_number k n some fits small = length-decimal-le k n some fits small
 
-short_month : (month : ℕ) → month ≤ 12 → length (month_text month) ≤ 9
-short_month month most =
-    both_short (codes "2025-" ++ decimal (month / 10)) (decimal (month % 10)) 7 2 9
-    (both_short (codes "2025-") (decimal (month / 10)) 5 2 7 (omega arith) (short_number 2 (month / 10) (omega arith)
-    (omega arith) (omega arith)) (omega arith))
-    (short_number 2 (month % 10) (omega arith) (omega arith) (omega arith)) (omega arith)
-
 short_add : (employee month : ℕ) → employee ≤ 200 → month ≤ 12 → length (add_line employee month) ≤ 150
 short_add employee month few most =
     let value = 100000 + 1000 * employee * month in
     let small : 1000 * employee * month ≤ 2400000 = product_small employee month few most in
     let head = codes "add E" ++ decimal employee in
-    let to_month = (head ++ codes " ") ++ month_text month in
-    let to_day = ((to_month ++ codes " ") ++ month_text month) ++ codes "-28 RE4=" in
+    let to_month = (head ++ codes " ") ++ month_text 2025 month in
+    let to_day = ((to_month ++ codes " ") ++ day_text 2025 month 28) ++ codes " RE4=" in
     let short_head = both_short (codes "add E") (decimal employee) 5 3 8 (omega arith) (short_number 3 employee
     (omega arith) (omega arith) (omega arith)) (omega arith) in
-    let short_to_month = both_short (head ++ codes " ") (month_text month) 9 9 18 (both_short head
-    (codes " ") 8 1 9 short_head (omega arith) (omega arith)) (short_month month most) (omega arith) in
-    let short_to_day = both_short ((to_month ++ codes " ") ++ month_text month) (codes "-28 RE4=") 28 8 36
-    (both_short (to_month ++ codes " ") (month_text month) 19 9 28 (both_short to_month
-    (codes " ") 18 1 19 short_to_month (omega arith) (omega arith)) (short_month month most) (omega arith))
+    let short_to_month = both_short (head ++ codes " ") (month_text 2025 month) 9 7 16 (both_short head
+    (codes " ") 8 1 9 short_head (omega arith) (omega arith)) (omega arith) (omega arith) in
+    let short_to_day = both_short ((to_month ++ codes " ") ++ day_text 2025 month 28) (codes " RE4=") 27 5 36
+    (both_short (to_month ++ codes " ") (day_text 2025 month 28) 17 10 27 (both_short to_month
+    (codes " ") 16 1 17 short_to_month (omega arith) (omega arith)) (omega arith) (omega arith))
     (omega arith) (omega arith) in
     both_short to_day (decimal value) 36 7 150 short_to_day (short_number 7 value (omega arith) (omega arith)
     (omega arith)) (omega arith)

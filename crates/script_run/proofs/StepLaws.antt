@@ -9,14 +9,15 @@ use Rattle.outside.specs.Told.{FileMap, Appends}
 use Rattle.outside.proofs.Laws.{Appends-then, Appends-nothing}
 use Rattle.script_steps.specs.Steps.{Standing, Answer, Names, IsStep}
 use Rattle.script_steps.specs.LineSteps.{IsNextFile}
-use Rattle.script_steps.specs.StepClauses.{IsAnswered, IsUnbegun, IsPart, IsCutShort, IsBroken}
+use Rattle.script_steps.specs.StepClauses.{IsAnswered, IsUnbegun, IsPart, IsUnfinished, IsBroken}
 use Rattle.script_steps.specs.declared.stop.LineStop.{LineStop}
 use Rattle.script_steps.specs.declared.stop.LineStop.TheVariants.{File, Write, Memory}
 use Rattle.script_steps.proofs.Laws as step
 use Rattle.script_run.specs.Transcripts.{Session, refusal_of, lines_of, ended_lines, IsSession, IsTranscript}
 use Rattle.script_run.specs.Stops.{stop_of}
-use Rattle.script_run.specs.RunClauses.{OutsideShown, shown, told_by, IsFrontOf, IsAtLine, Leaves, EndsAt, KeepsRefusals, refused_by}
-use Rattle.script_run.specs.RunViews.{Follow, opening, with_answer, open_line, Holds, IsSameSoFar, IsAtStart, Keeps, IsDelivered, Stands, GoesOn, Breaks, Closes, ClosesAt}
+use Rattle.script_steps.specs.Shown.{OutsideShown, shown}
+use Rattle.script_run.specs.RunClauses.{told_by, IsFrontOfSession, IsAtLine, RunLeaves, EndsAt, KeepsRefusals, refused_by}
+use Rattle.script_run.specs.RunViews.{Follow, empty_session, with_answer, open_line, Holds, IsSameSoFar, IsAtStart, Keeps, IsDelivered, Stands, GoesOn, Breaks, Closes, ClosesAt}
 use Rattle.script_run.specs.declared.stop.Stop.TheVariants as stops
 use Rattle.script_run.specs.declared.reading.Reading.{Reading}
 use Rattle.script_run.specs.RefusedLines.{IsToldOf, Notes, noted, tells_one}
@@ -38,10 +39,8 @@ names_same : (said line name : List ℕ) → SaysSame said line → Names said n
 names_same said line name (inl same) names = subst (λ v. Names v name) same names
 names_same said line name (inr long) names = absurd (step.alone said name long.said_long names)
 
-pub answered_same : {told : Option FileMap} {old new : Option
-    (List ℕ)} {before now : ℕ} {from to : Standing} {said line : List ℕ} {refused : Bool} →
-    SaysSame said line → IsAnswered told old new before now from to said refused →
-    IsAnswered told old new before now from to line refused
+pub answered_same : {old new : OutsideShown} {from to : Standing} {said line : List ℕ} {refused : Bool} →
+    SaysSame said line → IsAnswered old new from to said refused → IsAnswered old new from to line refused
 answered_same {from = from} {to = to} {said = said} {line = line} same answered = record {
   answer = answered.answer;
   appended = answered.appended;
@@ -50,11 +49,9 @@ answered_same {from = from} {to = to} {said = said} {line = line} same answered 
   is = λ files e. step_same files from to said line answered.answer same (answered.is files e);
 }
 
-pub delivered_same : {told : Option FileMap} {old new : Option
-    (List ℕ)} {before now : ℕ} {from to : Standing} {was is : Option
-    (Vec ℕ Global)} {said line : List ℕ} {refused : Bool} →
-    SaysSame said line → IsDelivered told old new before now from to was is said refused →
-    IsDelivered told old new before now from to was is line refused
+pub delivered_same : {old new : OutsideShown} {from to : Standing} {was is : Option (Vec ℕ Global)}
+    {said line : List ℕ} {refused : Bool} →
+    SaysSame said line → IsDelivered old new from to was is said refused → IsDelivered old new from to was is line refused
 unfolding answered_same
 delivered_same same delivered = record {
   answered = answered_same same delivered.answered;
@@ -72,7 +69,7 @@ kept_more (Some few) (Some more) answer refusals keeps kept = keeps ∙ ap (λ v
 -- what a stop leaves at a line
 pub record BreaksLine (old new : OutsideShown) (from : Standing) (line : List ℕ) (stop : LineStop) : Type 0 where
   pub to : Standing
-  pub is : IsBroken old.files old.written new.written old.steps new.steps from to line new.failed stop
+  pub is : IsBroken old new from to line stop
 
 pub broken_same : {old new : OutsideShown} {from : Standing} {said line : List ℕ} → SaysSame said line →
     (stop : LineStop) →
@@ -88,24 +85,29 @@ broken_same {from = from} {said = said} {line = line} same Write broken =
       is = record {
         answer = cut.answer;
         part = cut.part;
-        later = cut.later;
-        within = cut.within;
+        counted = cut.counted;
         is = λ files e. step_same files from broken.to said line cut.answer same (cut.is files e);
       };
     }
 broken_same {from = from} {said = said} {line = line} same Memory broken = record {
   to = broken.to;
-  is = elim (broken.is) [
-    | inl nothing ↦ inl nothing
-    | inr part ↦ inr (record {
-      to = part.to;
-      answer = part.answer;
-      part = part.part;
-      later = part.later;
-      within = part.within;
-      is = λ files e. step_same files from part.to said line part.answer same (part.is files e);
-    })
-  ];
+  is = record {
+    left = elim ((broken.is).left) [
+      | inl still ↦ inl still
+      | inr step ↦ inr (step.0, λ files e. step_same files from broken.to said line step.0 same (step.1 files e))
+    ];
+    done = elim ((broken.is).done) [
+      | inl nothing ↦ inl nothing
+      | inr part ↦ inr (record {
+        to = part.to;
+        answer = part.answer;
+        part = part.part;
+        later = part.later;
+        within = part.within;
+        is = λ files e. step_same files from part.to said line part.answer same (part.is files e);
+      })
+    ];
+  };
 }
 
 session_same : {a a' e n : List ℕ} {b b' : Bool} {c c' l : ℕ} {d d' : Standing} → a ≡ a' → b ≡ b' → c ≡ c' → d ≡ d' →
@@ -154,7 +156,7 @@ push_on {old = old} {was = was} {is = is} b other held same = record {
     kept = subst (λ v. KeepsRefusals v stands.refusals) (sym same.refusals) stands.kept;
     told = subst (λ v. IsToldOf stands.lines stands.refused_lines v) (sym same.refused_lines) stands.told;
     answered = λ files e.
-        subst (λ v. Follow files opening v (record {
+        subst (λ v. Follow files empty_session v (record {
           text = stands.out;
           refused = tells_one is.refused_lines;
           refusals = stands.refusals;
@@ -163,7 +165,7 @@ push_on {old = old} {was = was} {is = is} b other held same = record {
           steps = old.steps - before.steps;
           standing = is.script;
         })) (sym (ended_lines-other bytes b other))
-        (subst (λ v. Follow files opening (ended_lines bytes) v) (session_same refl (ap (λ v. tells_one v) (sym same.refused_lines)) refl
+        (subst (λ v. Follow files empty_session (ended_lines bytes) v) (session_same refl (ap (λ v. tells_one v) (sym same.refused_lines)) refl
         (sym same.script)) (stands.answered files e));
   };
 }
@@ -192,7 +194,7 @@ breaks_told files failed w steps was is more stop same breaks =
 -- an LF, with the answer to its line
 pub line_on : {old new : OutsideShown} {was is : Reading} {refused : Bool} → new.files ≡ old.files →
     ((line : List ℕ) → Holds was line →
-    IsDelivered old.files old.written new.written old.steps new.steps was.script is.script was.refusals is.refusals
+    IsDelivered old new was.script is.script was.refusals is.refusals
     (strip_carriage_return line) refused) →
     Holds is [] → Notes was.refused_lines is.refused_lines refused → GoesOn old new was is (10 ∷ [])
 line_on {old = old} {new = new} {was = was} {is = is} {refused = refused} same_files answers held notes = record {
@@ -218,7 +220,7 @@ line_on {old = old} {new = new} {was = was} {is = is} {refused = refused} same_f
         told = told_more (stands.lines + 1) stands.refused_lines is.refused_lines refused (answered.answer).refused
             answered.marked told;
         answered = λ files e.
-            subst (λ v. Follow files opening v (record {
+            subst (λ v. Follow files empty_session v (record {
               text = stands.out ++ (answered.answer).text;
               refused = tells_one is.refused_lines;
               refusals = stands.refusals ++ refusal_of answered.answer;
@@ -227,10 +229,10 @@ line_on {old = old} {new = new} {was = was} {is = is} {refused = refused} same_f
               steps = new.steps - before.steps;
               standing = is.script;
             })) (sym (ended_lines-lf bytes))
-            (subst (λ v. Follow files opening (ended_lines bytes ++ strip_carriage_return
+            (subst (λ v. Follow files empty_session (ended_lines bytes ++ strip_carriage_return
             (open_line bytes) ∷ []) v) (session_same refl (ap (λ v. tells_one was.refused_lines || v)
             (sym answered.marked) ∙ sym mark) steps refl)
-            (Follow-next files opening _ (ended_lines bytes) (strip_carriage_return
+            (Follow-next files empty_session _ (ended_lines bytes) (strip_carriage_return
             (open_line bytes)) is.script answered.answer (stands.answered files e) (answered.is files (stands.same
             ∙ e))));
       };
@@ -238,12 +240,12 @@ line_on {old = old} {new = new} {was = was} {is = is} {refused = refused} same_f
 
 -- the session so far is a front of the transcript of a script that begins so
 pub front_so_far : (files : FileMap) (lines more : List (List ℕ)) (script : List ℕ) (session : Session) →
-    lines_of script ≡ lines ++ more → Follow files opening lines session →
-    (whole : Session) → IsTranscript files script whole → IsFrontOf whole session.text session.steps
+    lines_of script ≡ lines ++ more → Follow files empty_session lines session →
+    (whole : Session) → IsTranscript files script whole → IsFrontOfSession whole session.text session.steps
 front_so_far files lines more script session begins answered whole transcript =
     let totals = totals_of_session files (lines_of script) whole transcript in
-    let rest = FollowToHalt-rest files opening session whole lines more answered (subst
-    (λ v. FollowToHalt files opening v whole) begins totals) in
+    let rest = FollowToHalt-rest files empty_session session whole lines more answered (subst
+    (λ v. FollowToHalt files empty_session v whole) begins totals) in
     Follow-grows files session whole rest.before rest.answered
 
 -- the lines of a script that goes on after some bytes
@@ -253,7 +255,7 @@ begins_so bytes more rest = subst (λ v. Begins (ended_lines bytes) (lines_of v)
 
 -- where nothing was written or counted the run stands as it stood
 nothing_on : {before old new : OutsideShown} {bytes : List ℕ} {was : Reading} → new.files ≡ old.files →
-    IsUnbegun old.written new.written old.steps new.steps → Stands before old bytes was → Stands before new bytes was
+    IsUnbegun old new → Stands before old bytes was → Stands before new bytes was
 nothing_on {before = before} {old = old} {new = new} {bytes = bytes} {was = was} same nothing stands = record {
   out = stands.out;
   refusals = stands.refusals;
@@ -267,7 +269,7 @@ nothing_on {before = before} {old = old} {new = new} {bytes = bytes} {was = was}
   kept = stands.kept;
   told = stands.told;
   answered = λ files e.
-      subst (λ v. Follow files opening (ended_lines bytes) (record {
+      subst (λ v. Follow files empty_session (ended_lines bytes) (record {
         text = stands.out;
         refused = tells_one was.refused_lines;
         refusals = stands.refusals;
@@ -280,7 +282,7 @@ nothing_on {before = before} {old = old} {new = new} {bytes = bytes} {was = was}
 
 -- a front of a front
 front_part : {whole : Session} (out text front rest : List ℕ) (spent steps : ℕ) → text ≡ front ++ rest →
-    spent ≤ steps → IsFrontOf whole (out ++ text) steps → IsFrontOf whole (out ++ front) spent
+    spent ≤ steps → IsFrontOfSession whole (out ++ text) steps → IsFrontOfSession whole (out ++ front) spent
 front_part out text front rest spent steps parts less is = record {
   later = rest ++ is.later;
   text = is.text ∙ ap (λ v. (out ++ v) ++ is.later) parts ∙ ap (λ v. v ++ is.later) (sym
@@ -291,18 +293,18 @@ front_part out text front rest spent steps parts less is = record {
 -- with the answer to one more line
 front_next : (files : FileMap) (lines later : List (List ℕ)) (line script : List ℕ) (session : Session)
     (to : Standing) (answer : Answer) → lines_of script ≡ lines ++ line ∷ later →
-    Follow files opening lines session → IsStep files session.standing line to answer →
-    (whole : Session) → IsTranscript files script whole → IsFrontOf whole (session.text ++ answer.text)
+    Follow files empty_session lines session → IsStep files session.standing line to answer →
+    (whole : Session) → IsTranscript files script whole → IsFrontOfSession whole (session.text ++ answer.text)
     (session.steps + answer.steps)
 front_next files lines later line script session to answer begins answered is whole transcript =
     front_so_far files (lines ++ line ∷ []) later script (with_answer session answer to) (begins
     ∙ sym (append_assoc lines (line ∷ []) later))
-    (Follow-next files opening session lines line to answer answered is) whole transcript
+    (Follow-next files empty_session session lines line to answer answered is) whole transcript
 
 -- where a run stands it has left the answers so far
 pub leaves_so_far : {most : ℕ} {before now : OutsideShown} {bytes script taken rest : List ℕ} {reading : Reading} →
     Begins (ended_lines bytes) (lines_of script) → Stands before now bytes reading →
-    Leaves most before now script taken rest (Err stops.Memory)
+    RunLeaves most before now script taken rest (Err stops.Memory)
 leaves_so_far {bytes = bytes} {script = script} begins stands = record {
   out = stands.out;
   appended = stands.appended;
@@ -315,7 +317,7 @@ leaves_so_far {bytes = bytes} {script = script} begins stands = record {
 leaves_file : {most : ℕ} {before now : OutsideShown} {bytes script taken rest line : List ℕ} {reading : Reading} →
     IsAtLine most script taken (ended_lines bytes) line → (name : List ℕ) (names : Names line name) →
     ForSome before.files (λ files. IsNextFile files names.what name) → now.failed ≡ Some name →
-    Stands before now bytes reading → Leaves most before now script taken rest (Err stops.File)
+    Stands before now bytes reading → RunLeaves most before now script taken rest (Err stops.File)
 leaves_file {bytes = bytes} {script = script} {line = line} place name names in_order failed stands = record {
   out = stands.out;
   appended = stands.appended;
@@ -341,8 +343,8 @@ leaves_file {bytes = bytes} {script = script} {line = line} place name names in_
 
 leaves_part : {most : ℕ} {before old new : OutsideShown} {bytes script taken rest line : List ℕ} {was : Reading} →
     IsAtLine most script taken (ended_lines bytes) line →
-    IsPart old.files old.written new.written old.steps new.steps was.script line → Stands before old bytes was →
-    Leaves most before new script taken rest (Err stops.Memory)
+    IsPart old new was.script line → Stands before old bytes was →
+    RunLeaves most before new script taken rest (Err stops.Memory)
 leaves_part {before = before} {old = old} {new = new} {bytes = bytes} {script = script} {line =
     line} place part stands =
     let rose : before.steps ≤ old.steps = stands.counted in
@@ -365,15 +367,14 @@ leaves_part {before = before} {old = old} {new = new} {bytes = bytes} {script = 
 
 leaves_write : {most : ℕ} {before old new : OutsideShown} {bytes script taken rest line : List ℕ} {was : Reading}
     {to : Standing} → IsAtLine most script taken (ended_lines bytes) line →
-    IsCutShort old.files old.written new.written old.steps new.steps was.script to line → Stands before old bytes was →
-    Leaves most before new script taken rest (Err stops.Write)
+    IsUnfinished old new was.script to line → Stands before old bytes was →
+    RunLeaves most before new script taken rest (Err stops.Write)
 leaves_write {before = before} {old = old} {new = new} {bytes = bytes} {script = script} {line =
     line} {to = to} place cut stands =
     let rose : before.steps ≤ old.steps = stands.counted in
-    let later : old.steps ≤ new.steps = cut.later in
-    let within : new.steps ≤ old.steps + (cut.answer).steps = cut.within in
+    let counted : new.steps ≡ old.steps + (cut.answer).steps = cut.counted in
+    let cost : new.steps - before.steps ≡ (old.steps - before.steps) + (cut.answer).steps = omega arith in
     let less : new.steps - before.steps ≤ (old.steps - before.steps) + (cut.answer).steps = omega arith in
-    let least : old.steps - before.steps ≤ new.steps - before.steps = omega arith in
     let count = (cut.part).count in
     record {
       out = stands.out ++ take count (cut.answer).text;
@@ -398,8 +399,7 @@ leaves_write {before = before} {old = old} {new = new} {bytes = bytes} {script =
           count = count;
           within = (cut.part).within;
           text = refl;
-          least = least;
-          most = less;
+          cost = cost;
         };
       };
     }
@@ -408,13 +408,13 @@ leaves_write {before = before} {old = old} {new = new} {bytes = bytes} {script =
 leaves_broken : {most : ℕ} {before old new : OutsideShown} {bytes script taken rest line : List ℕ} {was : Reading} →
     new.files ≡ old.files → IsAtLine most script taken (ended_lines bytes) line →
     (stop : LineStop) → BreaksLine old new was.script line stop → Stands before old bytes was →
-    Leaves most before new script taken rest (Err (stop_of stop))
+    RunLeaves most before new script taken rest (Err (stop_of stop))
 leaves_broken same place File broken stands = leaves_file place (broken.is).name (broken.is).names
     (λ files e. (broken.is).in_order files (stands.same ∙ e)) (broken.is).failed_there
     (nothing_on same (broken.is).unbegun stands)
 leaves_broken same place Write broken stands = leaves_write place broken.is stands
 leaves_broken {line = line} same place Memory broken stands =
-    elim (broken.is) [
+    elim ((broken.is).done) [
       | inl nothing ↦ leaves_so_far (record { more = line ∷ place.later; is = place.lines })
           (nothing_on same nothing stands)
       | inr part ↦ leaves_part place part stands
@@ -463,26 +463,29 @@ breaks_memory {old = old} {was = was} more passed =
 
 -- a line was answered, and then memory ran out
 pub answered_lost : {old new : OutsideShown} {from to : Standing} {line : List ℕ} {was is : Option (Vec ℕ Global)} {refused : Bool} →
-    IsDelivered old.files old.written new.written old.steps new.steps from to was is line refused →
+    IsDelivered old new from to was is line refused →
     BreaksLine old new from line Memory
 answered_lost {old = old} {new = new} {to = to} delivered =
     let answered = delivered.answered in
     let counted : new.steps ≡ old.steps + (answered.answer).steps = answered.counted in
     record {
       to = to;
-      is = inr (record {
-        to = to;
-        answer = answered.answer;
-        part = record {
-          front = (answered.answer).text;
-          rest = [];
-          parts = sym (append-nil (answered.answer).text);
-          appended = answered.appended;
-        };
-        later = omega arith;
-        within = omega arith;
-        is = answered.is;
-      });
+      is = record {
+        left = inr (answered.answer, answered.is);
+        done = inr (record {
+          to = to;
+          answer = answered.answer;
+          part = record {
+            front = (answered.answer).text;
+            rest = [];
+            parts = sym (append-nil (answered.answer).text);
+            appended = answered.appended;
+          };
+          later = omega arith;
+          within = omega arith;
+          is = answered.is;
+        });
+      };
     }
 
 pub err_same : {T : Type 0} {a b : LineStop} → a ≡ b → ◌≡◌ {A = Result T LineStop} (Err a) (Err b)
@@ -530,7 +533,7 @@ place_ahead ahead fits place = record {
 -- further bytes were taken before the stop, and none of them was looked at
 pub leaves_ahead : {most n : ℕ} {before now : OutsideShown} {script taken rest : List ℕ} (ahead : List ℕ) →
     most + length ahead ≤ n → (stop : LineStop) →
-    Leaves most before now script taken (ahead ++ rest) (Err (stop_of stop)) → Leaves n before now script
+    RunLeaves most before now script taken (ahead ++ rest) (Err (stop_of stop)) → RunLeaves n before now script
     (taken ++ ahead) rest (Err (stop_of stop))
 leaves_ahead ahead fits File leaves = record {
   out = leaves.out;
@@ -599,23 +602,23 @@ breaks_within {new = new} {stop = stop} front more later piece is p q = record {
       let taken = ((bytes ++ front) ++ more) ++ later in
       let leaves = leaves_ahead later (longer front more later piece is) stop (q.on before (bytes ++ front)
       (later ++ rest) (p.on before bytes stands)) in
-      subst (λ v. Leaves (length piece) before new (v ++ rest) v rest (Err (stop_of stop)))
+      subst (λ v. RunLeaves (length piece) before new (v ++ rest) v rest (Err (stop_of stop)))
       (within_piece bytes front more later piece is)
-      (subst (λ v. Leaves (length piece) before new v taken rest (Err (stop_of stop))) (sym (append_assoc
+      (subst (λ v. RunLeaves (length piece) before new v taken rest (Err (stop_of stop))) (sym (append_assoc
       ((bytes ++ front) ++ more) later rest)) leaves);
 }
 
 -- lines that are all answered are a session
-whole_session : (files : FileMap) (lines : List (List ℕ)) (session : Session) → Follow files opening lines session →
+whole_session : (files : FileMap) (lines : List (List ℕ)) (session : Session) → Follow files empty_session lines session →
     IsSession files lines session
 whole_session files lines session answered =
-    session_of_totals files lines session (FollowToHalt-whole files opening session lines answered)
+    session_of_totals files lines session (FollowToHalt-whole files empty_session session lines answered)
 
 -- all lines of a script were answered
 leaves_whole : {before now : OutsideShown} {script : List ℕ} (out : List ℕ) → Appends before.written now.written out →
     before.steps ≤ now.steps → (standing : Standing) (refused : Bool) (refusals : List ℕ) (lines : ℕ)
     (refused_lines : List ℕ) →
-    ForSome before.files (λ files. Follow files opening (lines_of script) (record {
+    ForSome before.files (λ files. Follow files empty_session (lines_of script) (record {
       text = out;
       refused = refused;
       refusals = refusals;
@@ -624,7 +627,7 @@ leaves_whole : {before now : OutsideShown} {script : List ℕ} (out : List ℕ) 
       steps = now.steps - before.steps;
       standing = standing;
     })) →
-    Leaves 0 before now script script [] (Ok refused)
+    RunLeaves 0 before now script script [] (Ok refused)
 leaves_whole {before = before} {now = now} {script = script} out appended counted standing refused refusals lines refused_lines answered = record {
   out = out;
   appended = appended;
@@ -636,7 +639,7 @@ leaves_whole {before = before} {now = now} {script = script} out appended counte
     whole = λ files e. record {
       session = _;
       is = whole_session files (lines_of script) _ (answered files e);
-      there = Follow-there files opening _ (lines_of script) (answered files e);
+      there = Follow-there files empty_session _ (lines_of script) (answered files e);
       text = refl;
       cost = refl;
       mark = refl;
@@ -646,7 +649,7 @@ leaves_whole {before = before} {now = now} {script = script} out appended counte
 
 -- what they have left
 ends_whole : {told : Option FileMap} {script : List ℕ} (session : Session) (kept : Option (Vec ℕ Global))
-    (refused : RefusedLines) → ForSome told (λ files. Follow files opening (lines_of script) session) →
+    (refused : RefusedLines) → ForSome told (λ files. Follow files empty_session (lines_of script) session) →
     KeepsRefusals kept session.refusals → IsToldOf session.lines session.refused_lines refused →
     ForSome told (λ files. EndsAt files script session.standing kept refused)
 ends_whole {script = script} session kept refused answered are tells = λ files e. record {
@@ -675,7 +678,7 @@ one_last script some held =
 -- all lines of a script that ends with a line end were answered
 answered_none : {before old : OutsideShown} {script : List ℕ} {was : Reading} → lines_of script ≡ ended_lines script →
     (stands : Stands before old script was) →
-    ForSome before.files (λ files. Follow files opening (lines_of script)
+    ForSome before.files (λ files. Follow files empty_session (lines_of script)
     (record {
       text = stands.out;
       refused = tells_one was.refused_lines;
@@ -695,7 +698,7 @@ answered_none {before = before} {old = old} {was = was} all stands = λ files e.
       steps = old.steps - before.steps;
       standing = was.script;
     } in
-    subst (λ v. Follow files opening v so_far) (sym all) (stands.answered files e)
+    subst (λ v. Follow files empty_session v so_far) (sym all) (stands.answered files e)
 
 pub closes_none : {old : OutsideShown} {was : Reading} → ((line : List ℕ) → Holds was line → length line ≡ 0) →
     Closes old old was (Ok (tells_one was.refused_lines))
@@ -718,9 +721,9 @@ stays_none {was = was} none = record {
 answered_on : {before old : OutsideShown} (new : OutsideShown) {script : List ℕ} {was : Reading} {to : Standing}
     {refused : Bool} →
     lines_of script ≡ ended_lines script ++ open_line script ∷ [] →
-    (answered : IsAnswered old.files old.written new.written old.steps new.steps was.script to
+    (answered : IsAnswered old new was.script to
     (open_line script) refused) → (stands : Stands before old script was) →
-    ForSome before.files (λ files. Follow files opening (lines_of script)
+    ForSome before.files (λ files. Follow files empty_session (lines_of script)
     (record {
       text = stands.out ++ (answered.answer).text;
       refused = tells_one was.refused_lines || refused;
@@ -745,17 +748,17 @@ answered_on {before = before} {old = old} new {script = script} {was = was} {to 
       steps = new.steps - before.steps;
       standing = to;
     } in
-    subst (λ v. Follow files opening v at_last) (sym all)
-    (subst (λ v. Follow files opening (ended_lines script ++ line ∷ []) v) (session_same refl (ap
+    subst (λ v. Follow files empty_session v at_last) (sym all)
+    (subst (λ v. Follow files empty_session (ended_lines script ++ line ∷ []) v) (session_same refl (ap
     (λ v. tells_one was.refused_lines || v) (sym answered.marked)) steps refl)
-    (Follow-next files opening _ (ended_lines script) line to answered.answer (stands.answered files e)
+    (Follow-next files empty_session _ (ended_lines script) line to answered.answer (stands.answered files e)
     (answered.is files (stands.same ∙ e))))
 
 pub closes_on : {old new : OutsideShown} {was : Reading} {to : Standing} {kept : Option
     (Vec ℕ Global)} {refused : Bool} {told : RefusedLines} → ((line : List ℕ) →
     Holds was line → 0 < length line) →
     ((line : List ℕ) → Holds was line →
-    IsDelivered old.files old.written new.written old.steps new.steps was.script to was.refusals kept line refused) →
+    IsDelivered old new was.script to was.refusals kept line refused) →
     Notes was.refused_lines told refused → Closes old new was (Ok (tells_one told))
 closes_on {old = old} {new = new} {was = was} {to = to} {refused = refused} {told = told} some answers notes = record {
   on = λ before script stands.
@@ -764,7 +767,7 @@ closes_on {old = old} {new = new} {was = was} {to = to} {refused = refused} {tol
       let answered = (answers (open_line script) stands.held).answered in
       let rose : before.steps ≤ old.steps = stands.counted in
       let counted : new.steps ≡ old.steps + (answered.answer).steps = answered.counted in
-      subst (λ (v : Bool). Leaves 0 before new script script [] (Ok v)) (sym mark)
+      subst (λ (v : Bool). RunLeaves 0 before new script script [] (Ok v)) (sym mark)
       (leaves_whole (stands.out ++ (answered.answer).text)
       (Appends-then before.written old.written new.written stands.out
       (answered.answer).text stands.appended answered.appended) (omega arith)
@@ -777,7 +780,7 @@ pub stays_on : {old : OutsideShown} (new : OutsideShown) {was : Reading} {to : S
     (Vec ℕ Global)} {refused : Bool} {told : RefusedLines} → ((line : List ℕ) →
     Holds was line → 0 < length line) →
     ((line : List ℕ) → Holds was line →
-    IsDelivered old.files old.written new.written old.steps new.steps was.script to was.refusals kept line refused) →
+    IsDelivered old new was.script to was.refusals kept line refused) →
     Notes was.refused_lines told refused → ClosesAt old was to kept told
 stays_on new {was = was} {kept = kept} {refused = refused} {told = told} some answers notes = record {
   on = λ before script stands.

@@ -13,7 +13,8 @@ use Rattle.script_steps.specs.declared.stop.LineStop.{LineStop}
 use Rattle.script_run.specs.Limits.{most_script, most_turn}
 use Rattle.script_run.specs.Transcripts.{Session, ended_lines, lines_of, AreAnswered}
 use Rattle.script_run.specs.Stops.{stop_of}
-use Rattle.script_run.specs.RunClauses.{OutsideShown, shown, told_by, IsExactly, Leaves, RunMeets, EndsAt, refused_by}
+use Rattle.script_steps.specs.Shown.{OutsideShown, shown}
+use Rattle.script_run.specs.RunClauses.{told_by, IsExactly, RunLeaves, RunMeets, EndsAt, refused_by}
 use Rattle.script_run.specs.RunViews.{IsAtStart, Stands, GoesOn, Breaks, Closes, ClosesAt, TakesAll, run_result}
 use Rattle.script_run.specs.declared.stop.Stop.{Stop}
 use Rattle.script_run.specs.declared.stop.Stop.TheVariants as stops
@@ -176,11 +177,11 @@ meets_long {l0 = l0} {l = l} {l' = l'} piece size consumed stood full past scrip
 
 leaves_turn : {most : ℕ} {before now : OutsideShown} {script taken rest : List ℕ} → most ≤ most_turn →
     (stop : LineStop) →
-    Leaves most before now script taken rest (Err (stop_of stop)) → Leaves most_turn before now script taken rest (Err
+    RunLeaves most before now script taken rest (Err (stop_of stop)) → RunLeaves most_turn before now script taken rest (Err
     (stop_of stop))
 leaves_turn {most = most} {before = before} {now = now} {script = script} {taken = taken} {rest =
     rest} fits stop leaves =
-    subst (λ v. Leaves most_turn before now script v rest (Err (stop_of stop))) (append-nil taken) (leaves_ahead []
+    subst (λ v. RunLeaves most_turn before now script v rest (Err (stop_of stop))) (append-nil taken) (leaves_ahead []
     (omega arith) stop leaves)
 
 -- a stop within a turn's bytes
@@ -201,12 +202,12 @@ meets_break {before = before} {now = now} {l0 = l0} {l = l} {l' = l'} {stop =
       split = left.split;
       left_rest = left.left;
       within = λ not_long. omega (arith, length-append stood.bytes piece, stood.counted);
-      leaves = subst (λ v. Leaves most_turn before now v taken left.rest result) (sym left.split)
-          (subst (λ v. Leaves most_turn before now (taken ++ left.rest) taken left.rest v) (sym result_is) leaves);
+      leaves = subst (λ v. RunLeaves most_turn before now v taken left.rest result) (sym left.split)
+          (subst (λ v. RunLeaves most_turn before now (taken ++ left.rest) taken left.rest v) (sym result_is) leaves);
     }
 
 leaves_end : {before now : OutsideShown} {script : List ℕ} → (result : Result Bool LineStop) →
-    Leaves 0 before now script script [] (run_result result) → Leaves most_turn before now script script []
+    RunLeaves 0 before now script script [] (run_result result) → RunLeaves most_turn before now script script []
     (run_result result)
 leaves_end (Ok refused) leaves = record {
   out = leaves.out;
@@ -253,7 +254,7 @@ meets_end {before = before} {mid = mid} {now = now} {l0 = l0} {l' = l'} {reading
       split = sym (append-nil script);
       left_rest = taken.none_left;
       within = λ not_long. subst (λ v. length v ≤ most_script) taken.whole all.within;
-      leaves = subst (λ v. Leaves most_turn before now script script [] v) (sym result_is) (leaves_end line
+      leaves = subst (λ v. RunLeaves most_turn before now script script [] v) (sym result_is) (leaves_end line
           (closes.on before script stands));
     }
 

@@ -5,6 +5,7 @@ use Rattle.std.specs.Option.{ForSome}
 use Rattle.outside.specs.Told.{FileMap, Appends}
 use Rattle.outside.specs.declared.traits.Files.{Ghosts as FilesTell}
 use Rattle.outside.specs.declared.traits.Sink.{Ghosts as SinkTells}
+use Rattle.script_steps.specs.Shown.{OutsideShown, shown, shown_by}
 use Rattle.script_steps.specs.Steps.{Standing, Answer, Names, AreThere, IsStep}
 use Rattle.script_steps.specs.LineSteps.{IsNextFile}
 use Rattle.script_run.specs.Limits.{most_script, most_turn}
@@ -16,32 +17,17 @@ use Rattle.script_run.specs.RefusedLines.{IsToldOf, tells_one}
 use Rattle.script_run.specs.declared.refused_lines.RefusedLines.{RefusedLines}
 use Rattle.script_run.specs.declared.stop.Stop.TheVariants as stops
 
--- what the files tell, the name at which they failed last, what was written, and the counter of steps
-pub record OutsideShown : Type 0 where
-  pub files : Option FileMap
-  pub failed : Option (List ℕ)
-  pub written : Option (List ℕ)
-  pub steps : ℕ
-
-abbrev pub shown : Option FileMap → Option (List ℕ) → Option (List ℕ) → ℕ → OutsideShown
-shown files failed written steps = record {
-  files = files;
-  failed = failed;
-  written = written;
-  steps = steps;
-}
-
--- what files, a sink and a counter show
-abbrev pub shown_by : {F W : Type 0} → FilesTell F → SinkTells W → F → W → ℕ → OutsideShown
-shown_by of_files of_sink files sink steps =
-    shown (of_files.told files) (of_files.failed files) (of_sink.written sink) steps
-
 -- what is shown of a sink: nothing, where answers are kept and not written
 abbrev pub told_by : Option (Vec ℕ Global) → Option (List ℕ) → Option (List ℕ)
 told_by kept written = if is_some kept then None else written
 
 abbrev pub unless_kept : Option (Vec ℕ Global) → OutsideShown → OutsideShown
 unless_kept kept s = shown s.files s.failed (told_by kept s.written) s.steps
+
+-- what files, a sink beside what is kept, and a counter show
+abbrev pub shown_beside :
+    Option (Vec ℕ Global) → {F W : Type 0} → FilesTell F → SinkTells W → F → W → ℕ → OutsideShown
+shown_beside kept of_files of_sink files sink steps = unless_kept kept (shown_by of_files of_sink files sink steps)
 
 -- where refusals are kept, they are these
 abbrev pub KeepsRefusals : Option (Vec ℕ Global) → List ℕ → Type 0
@@ -58,7 +44,7 @@ pub record Course : Type 0 where
   pub spent : ℕ
 
 -- what was written is a front of this session's text, and at most its steps were counted
-pub record IsFrontOf (session : Session) (out : List ℕ) (spent : ℕ) : Type 0 where
+pub record IsFrontOfSession (session : Session) (out : List ℕ) (spent : ℕ) : Type 0 where
   pub later : List ℕ
   pub text : session.text ≡ out ++ later
   pub cost : spent ≤ session.steps
@@ -82,7 +68,8 @@ pub record IsWholeTranscript (files : FileMap) (script out : List ℕ) (spent : 
   pub cost : spent ≡ session.steps
   pub mark : refused ≡ session.refused
 
--- what was written are the answers to these lines and a front of the next one's, which isn't the whole
+-- what was written are the answers to these lines and a front of the next one's, which isn't the whole; exactly the
+-- steps of all these answers were counted
 pub record IsCutAt (files : FileMap) (before : List (List ℕ)) (line out : List ℕ)
     (spent : ℕ) : Type 0 where
   pub session : Session
@@ -93,8 +80,7 @@ pub record IsCutAt (files : FileMap) (before : List (List ℕ)) (line out : List
   pub count : ℕ
   pub within : count < length answer.text
   pub text : out ≡ session.text ++ take count answer.text
-  pub least : session.steps ≤ spent
-  pub most : spent ≤ session.steps + answer.steps
+  pub cost : spent ≡ session.steps + answer.steps
 
 -- the last byte is an LF
 pub record EndsWithLf (bytes : List ℕ) : Type 0 where
@@ -152,24 +138,24 @@ pub record IsEnd (told : Option FileMap) (course : Course) (refused : Bool) : Ty
       IsWholeTranscript files course.script course.out course.spent refused)
 
 -- what each result says; where a line stops the run, at most so many bytes were taken after its end
-abbrev pub Tells : ℕ → Option FileMap → Course → Option (List ℕ) → Result Bool Stop → Type 0
-Tells most told course failed (Ok refused) = IsEnd told course refused
-Tells most told course failed (Err stops.File) = IsFileStop most told course failed
-Tells most told course failed (Err stops.Read) = IsReadStop told course
-Tells most told course failed (Err stops.Write) = IsWriteStop most told course
-Tells most told course failed (Err stops.Memory) = ⊤
-Tells most told course failed (Err stops.Long) = IsLongStop told course
+abbrev pub RunSays : ℕ → Option FileMap → Course → Option (List ℕ) → Result Bool Stop → Type 0
+RunSays most told course failed (Ok refused) = IsEnd told course refused
+RunSays most told course failed (Err stops.File) = IsFileStop most told course failed
+RunSays most told course failed (Err stops.Read) = IsReadStop told course
+RunSays most told course failed (Err stops.Write) = IsWriteStop most told course
+RunSays most told course failed (Err stops.Memory) = ⊤
+RunSays most told course failed (Err stops.Long) = IsLongStop told course
 
 -- what a run wrote and counted that took this of a script and left the rest: always a front of the
 -- transcript, and what its result says
-pub record Leaves (most : ℕ) (before after : OutsideShown) (script taken rest : List ℕ)
+pub record RunLeaves (most : ℕ) (before after : OutsideShown) (script taken rest : List ℕ)
     (result : Result Bool Stop) : Type 0 where
   pub out : List ℕ
   pub appended : Appends before.written after.written out
   pub counted : before.steps ≤ after.steps
   pub front : ForSome before.files (λ files. (session : Session) → IsTranscript files script session
-      → IsFrontOf session out (after.steps - before.steps))
-  pub tells : Tells most before.files
+      → IsFrontOfSession session out (after.steps - before.steps))
+  pub tells : RunSays most before.files
       (record { script = script; taken = taken; rest = rest; out = out; spent = after.steps - before.steps })
       after.failed result
 
@@ -182,7 +168,7 @@ pub record RunMeets (before after : OutsideShown) (script : List ℕ) (left : Op
   pub split : script ≡ taken ++ rest
   pub left_rest : left ≡ Some rest
   pub within : result ≢ Err stops.Long → length taken ≤ most_script
-  pub leaves : Leaves most_turn before after script taken rest result
+  pub leaves : RunLeaves most_turn before after script taken rest result
 
 -- the lines of the script have left this at last, where refusals were kept they are these, and this is told of them
 pub record EndsAt (files : FileMap) (script : List ℕ) (standing : Standing)

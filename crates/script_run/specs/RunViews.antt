@@ -6,13 +6,14 @@ use Rattle.std.specs.List.{slice_split}
 use Rattle.std.specs.Io.KnownBytes.{IsAtEnd}
 use Rattle.outside.specs.Told.{Appends, Consumes}
 use Rattle.script_steps.specs.declared.stop.LineStop.{LineStop}
-use Rattle.script_steps.specs.Steps.{Standing, Answer, IsStep, start}
+use Rattle.script_steps.specs.Steps.{Standing, Answer, IsStep, first_standing}
 use Rattle.script_steps.specs.StepClauses.{IsAnswered}
 use Rattle.outside.specs.Told.{FileMap}
 use Rattle.script_run.specs.Limits.{most_line, most_script}
 use Rattle.script_run.specs.Stops.{stop_of}
 use Rattle.script_run.specs.Transcripts.{Session, ended_lines, refusal_of}
-use Rattle.script_run.specs.RunClauses.{OutsideShown, Leaves, EndsAt, KeepsRefusals}
+use Rattle.script_steps.specs.Shown.{OutsideShown}
+use Rattle.script_run.specs.RunClauses.{RunLeaves, EndsAt, KeepsRefusals}
 use Rattle.script_run.specs.declared.stop.Stop.{Stop}
 use Rattle.script_run.specs.declared.reading.Reading.{Reading}
 use Rattle.script_run.specs.RefusedLines.{IsToldOf, noted, tells_one}
@@ -21,15 +22,15 @@ use Rattle.script_run.specs.declared.refused_lines.RefusedLines.{RefusedLines}
 -- ---- the lines so far, as running totals
 
 -- before the first line
-abbrev pub opening : Session
-opening = record {
+abbrev pub empty_session : Session
+empty_session = record {
   text = [];
   refused = false;
   refusals = [];
   lines = 0;
   refused_lines = [];
   steps = 0;
-  standing = start;
+  standing = first_standing;
 }
 
 -- after one more line, which has this answer and leaves this standing
@@ -83,9 +84,9 @@ Keeps was is answer = ⊥
 
 -- the line was answered, and its answer was written or kept
 pub record IsDelivered
-    (told : Option FileMap) (old new : Option (List ℕ)) (before now : ℕ) (from to : Standing)
-    (was is : Option (Vec ℕ Global)) (line : List ℕ) (refused : Bool) : Type 0 where
-  pub answered : IsAnswered told old new before now from to line refused
+    (old new : OutsideShown) (from to : Standing) (was is : Option (Vec ℕ Global))
+    (line : List ℕ) (refused : Bool) : Type 0 where
+  pub answered : IsAnswered old new from to line refused
   pub kept : Keeps was is answered.answer
 
 -- of these bytes each line whose LF is among them was answered, and nothing else was written or kept
@@ -100,7 +101,7 @@ pub record Stands (before now : OutsideShown) (bytes : List ℕ) (reading : Read
   pub held : Holds reading (open_line bytes)
   pub kept : KeepsRefusals reading.refusals refusals
   pub told : IsToldOf lines refused_lines reading.refused_lines
-  pub answered : ForSome before.files (λ files. Follow files opening (ended_lines bytes)
+  pub answered : ForSome before.files (λ files. Follow files empty_session (ended_lines bytes)
       (record {
         text = out;
         refused = tells_one reading.refused_lines;
@@ -120,7 +121,7 @@ pub record GoesOn (old new : OutsideShown) (was is : Reading) (more : List ℕ) 
 pub record Breaks (old new : OutsideShown) (was : Reading) (more : List ℕ)
     (stop : LineStop) : Type 0 where
   pub on : (before : OutsideShown) (bytes rest : List ℕ) → Stands before old bytes was
-      → Leaves (length more) before new ((bytes ++ more) ++ rest) (bytes ++ more) rest (Err
+      → RunLeaves (length more) before new ((bytes ++ more) ++ rest) (bytes ++ more) rest (Err
       (stop_of stop))
 
 -- a line's result as the run's
@@ -132,7 +133,7 @@ run_result (Err stop) = Err (stop_of stop)
 pub record Closes (old new : OutsideShown) (was : Reading)
     (result : Result Bool LineStop) : Type 0 where
   pub on : (before : OutsideShown) (script : List ℕ) → Stands before old script was
-      → Leaves 0 before new script script [] (run_result result)
+      → RunLeaves 0 before new script script [] (run_result result)
 
 -- wherever the run stood over a whole script, what its lines have left
 pub record ClosesAt (old : OutsideShown) (was : Reading) (standing : Standing)
@@ -144,7 +145,7 @@ pub record ClosesAt (old : OutsideShown) (was : Reading) (standing : Standing)
 pub record IsAtStart (reading : Reading) : Type 0 where
   pub line : reading.line.items ≡ []
   pub long : reading.long ≡ false
-  pub script : reading.script ≡ start
+  pub script : reading.script ≡ first_standing
   pub refusals : KeepsRefusals reading.refusals []
   pub refused_lines : IsToldOf 0 [] reading.refused_lines
 

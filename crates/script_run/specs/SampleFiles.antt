@@ -5,8 +5,8 @@ use Rattle.outside.specs.Memory.{file_named}
 use Rattle.script_run.specs.Samples.{script_of}
 
 -- the tax is 14 % of the pay above 100,000, and KUM the tax of the year so far
-abbrev pub plan_text : List ℕ
-plan_text = script_of (
+abbrev pub sample_plan : List ℕ
+sample_plan = script_of (
     codes "<PAP><INTERFACE>"
     ∷ codes "<INPUTS><INPUT name=\"RE4\" type=\"BigDecimal\"/><INPUT name=\"SUMV\" type=\"BigDecimal\"/></INPUTS>"
     ∷ codes "<OUTPUTS type=\"STANDARD\"><OUTPUT name=\"LST\" type=\"BigDecimal\"/><OUTPUT name=\"KUM\" type=\"BigDecimal\"/></OUTPUTS>"
@@ -26,8 +26,8 @@ plan_text = script_of (
     ∷ [])
 
 -- the pay is at most 10,000,000,000; SUMV is the sum of the year's earlier LST
-abbrev pub limits_text : List ℕ
-limits_text = script_of (
+abbrev pub sample_limits : List ℕ
+sample_limits = script_of (
     codes "[input.RE4]"
     ∷ codes "low = 0"
     ∷ codes "high = \"10000000000\""
@@ -43,7 +43,7 @@ limits_text = script_of (
 
 -- their names and texts
 abbrev pub named_texts : List (List ℕ × List ℕ)
-named_texts = (codes "p2.xml", plan_text) ∷ (codes "l2.toml", limits_text) ∷ []
+named_texts = (codes "p2.xml", sample_plan) ∷ (codes "l2.toml", sample_limits) ∷ []
 
 abbrev pub sample_files : FileMap
 sample_files = file_named named_texts

@@ -1,23 +1,19 @@
 -- The script of a sample: a book of so many employees for a year, as a list of lines.
-use Rattle.std.specs.Prelude.{ℕ, zero, suc, ◌+◌, ◌*◌, ◌/◌, ◌%◌, List, [], ◌∷◌, ◌++◌, map, codes}
+use Rattle.std.specs.Prelude.{ℕ, zero, suc, ◌+◌, ◌*◌, List, [], ◌∷◌, ◌++◌, map, codes}
 use Rattle.std.specs.List.{flat_map}
 use Rattle.std.specs.Fmt.{decimal}
+use Rattle.payroll_records.specs.Days.{month_text, day_text}
 
 -- the numbers from 1 to n
 abbrev pub numbers : ℕ → List ℕ
 numbers zero = []
 numbers (suc n) = numbers n ++ suc n ∷ []
 
--- a month of the year, in two digits
-abbrev pub month_text : ℕ → List ℕ
-month_text month = codes "2025-" ++ decimal (month / 10) ++ decimal (month % 10)
-
--- the record of an employee for a month
+-- the record of an employee for a month of 2025, on its 28th day
 abbrev pub add_line : ℕ → ℕ → List ℕ
 add_line employee month =
-    codes "add E" ++ decimal employee ++ codes " " ++ month_text month ++ codes " " ++ month_text
-    month ++ codes "-28 RE4="
-    ++ decimal (100000 + 1000 * employee * month)
+    codes "add E" ++ decimal employee ++ codes " " ++ month_text 2025 month ++ codes " " ++ day_text 2025 month 28
+    ++ codes " RE4=" ++ decimal (100000 + 1000 * employee * month)
 
 -- the correction of an employee's March
 abbrev pub change_line : ℕ → List ℕ

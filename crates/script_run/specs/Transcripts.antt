@@ -4,7 +4,7 @@ use Rattle.std.specs.List.{enumerate_from, list_any, slice_split}
 use Rattle.std.specs.Str.Lines.{lines, strip_carriage_return}
 use Rattle.outside.specs.Told.{FileMap}
 use Rattle.script_steps.specs.GoingOn.{AreSteps}
-use Rattle.script_steps.specs.Steps.{Standing, start, Answer, AreThere}
+use Rattle.script_steps.specs.Steps.{Standing, first_standing, Answer, AreThere}
 
 -- the lines of a script: it is cut at each LF, a CR right before an LF is dropped, and a last line
 -- without LF counts where it isn't empty
@@ -57,7 +57,7 @@ session_of answers left = record {
 pub record AreAnswered (files : FileMap) (lines : List (List ℕ)) (session : Session) : Type 0 where
   pub answers : List Answer
   pub left : Standing
-  pub each : AreSteps files start lines left answers
+  pub each : AreSteps files first_standing lines left answers
   pub is : session ≡ session_of answers left
 
 -- no line is left, or the next one names a file that isn't there

@@ -3,7 +3,8 @@ ghost use Rattle.std.specs.Prelude.{◌≡◌, ◌≢◌, ◌++◌, [], if◌the
 ghost use Rattle.std.specs.Result.{ForErr};
 ghost use Rattle.outside.specs.Causes.{Caused};
 ghost use Rattle.script_steps.specs.StepClauses.{IsBroken};
-ghost use Rattle.script_run.specs.RunClauses.{told_by};
+ghost use Rattle.script_steps.specs.Shown.{shown};
+ghost use Rattle.script_run.specs.RunClauses.{shown_beside};
 ghost use Rattle.script_run.specs.RunViews.{IsDelivered};
 
 use crate::buffer::Buffer;
@@ -24,12 +25,14 @@ pub(crate) fn deliver<F: Files, W: Sink, L: Ledger>(
     sink: &mut W,
     steps: &mut Steps<L>,
 ) -> Result<Option<String>, LineStop>
-    ensures delivered { IfOk result (λ wrong. IsDelivered (F.told files.old)
-        (told_by kept.old (W.written sink.old)) (told_by kept.new (W.written sink.new))
-        steps.old steps.new script.old script.new kept.old kept.new line.now (is_some wrong)) }
-    ensures broken { ForErr result (λ stop. IsBroken (F.told files.old)
-        (told_by kept.old (W.written sink.old)) (told_by kept.new (W.written sink.new))
-        steps.old steps.new script.old script.new line.now (F.failed files.new) stop) }
+    ensures delivered { IfOk result (λ wrong. IsDelivered
+        (shown_beside kept.old F.Files W.Sink files.old sink.old steps.old)
+        (shown_beside kept.new F.Files W.Sink files.new sink.new steps.new)
+        script.old script.new kept.old kept.new line.now (is_some wrong)) }
+    ensures broken { ForErr result (λ stop. IsBroken
+        (shown_beside kept.old F.Files W.Sink files.old sink.old steps.old)
+        (shown_beside kept.new F.Files W.Sink files.new sink.new steps.new)
+        script.old script.new line.now stop) }
     ensures mode { is_some kept.new ≡ is_some kept.old }
     ensures same { F.told files.new ≡ F.told files.old }
     ensures file { Caused LineStop.File (F.faults files.old) (F.faults files.new) result }
@@ -51,11 +54,14 @@ fn keep_answer<F: Files, L: Ledger>(
     files: &mut F,
     steps: &mut Steps<L>,
 ) -> Result<Option<String>, LineStop>
-    ensures delivered { IfOk result (λ wrong. IsDelivered (F.told files.old) None None
-        steps.old steps.new script.old script.new (Some refusals.old) (Some refusals.new)
-        line.now (is_some wrong)) }
-    ensures broken { ForErr result (λ stop. IsBroken (F.told files.old) None None
-        steps.old steps.new script.old script.new line.now (F.failed files.new) stop) }
+    ensures delivered { IfOk result (λ wrong. IsDelivered
+        (shown (F.told files.old) (F.failed files.old) None steps.old)
+        (shown (F.told files.new) (F.failed files.new) None steps.new)
+        script.old script.new (Some refusals.old) (Some refusals.new) line.now (is_some wrong)) }
+    ensures broken { ForErr result (λ stop. IsBroken
+        (shown (F.told files.old) (F.failed files.old) None steps.old)
+        (shown (F.told files.new) (F.failed files.new) None steps.new)
+        script.old script.new line.now stop) }
     ensures same { F.told files.new ≡ F.told files.old }
     ensures file { Caused LineStop.File (F.faults files.old) (F.faults files.new) result }
     ensures never { result ≢ Err LineStop.Write }

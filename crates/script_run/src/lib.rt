@@ -11,11 +11,8 @@ mod stop;
 mod transcript;
 mod turns;
 
-pub use memory::run_in_memory;
-pub use refused_lines::{MOST_TOLD, RefusedLine, RefusedLines};
-pub use sample::{
-    MOST_EMPLOYEES, SAMPLE_LIMITS, SAMPLE_PLAN, run_sample, sample_line_count, sample_script,
-};
+pub use refused_lines::{RefusedLine, RefusedLines};
+pub use sample::{MOST_EMPLOYEES, run_sample, sample_line_count};
 pub use script_lang::MOST_LINE;
 pub use stop::Stop;
 pub use transcript::transcript_laws;
@@ -25,4 +22,4 @@ pub use turns::{Ended, Unwritten, run, run_unwritten};
 pub const MOST_SCRIPT: usize = 67_108_864;
 
 /// The most bytes that one turn takes.
-pub const MOST_TURN: usize = 65_536;
+pub(crate) const MOST_TURN: usize = 65_536;

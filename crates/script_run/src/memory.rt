@@ -16,7 +16,7 @@ use steps::Steps;
 
 /// Runs a script over files in memory, and writes its answers nowhere. Nothing can fail but memory, since
 /// each line names files that are there. The counter rises by the script's steps; where memory runs out, by at most these.
-pub fn run_in_memory<L: Ledger>(
+pub(crate) fn run_in_memory<L: Ledger>(
     alloc: Global,
     files: Vec<(String, Vec<u8>)>,
     script: Vec<u8>,

@@ -4,8 +4,8 @@ ghost use Rattle.std.specs.Prelude.{is_some};
 ghost use Rattle.std.specs.Result.{ForErr};
 ghost use Rattle.std.specs.Str.Lines.{strip_carriage_return};
 ghost use Rattle.outside.specs.Causes.{Caused};
-ghost use Rattle.script_steps.specs.Steps.{start};
-ghost use Rattle.script_run.specs.RunClauses.{KeepsRefusals, refused_by, shown_by, unless_kept};
+ghost use Rattle.script_steps.specs.Steps.{first_standing};
+ghost use Rattle.script_run.specs.RunClauses.{KeepsRefusals, refused_by, shown_beside};
 ghost use Rattle.script_run.specs.RunViews.{Holds, IsSameSoFar, IsAtStart};
 ghost use Rattle.script_run.specs.RunViews.{GoesOn, Breaks, Closes, ClosesAt};
 
@@ -72,12 +72,12 @@ impl Reading {
         steps: &mut Steps<L>,
     ) -> Result<(), LineStop>
         ensures ok { OnOk result (GoesOn
-            (unless_kept self.old.refusals (shown_by F.Files W.Sink files.old sink.old steps.old))
-            (unless_kept self.new.refusals (shown_by F.Files W.Sink files.new sink.new steps.new))
+            (shown_beside self.old.refusals F.Files W.Sink files.old sink.old steps.old)
+            (shown_beside self.new.refusals F.Files W.Sink files.new sink.new steps.new)
             self.old self.new (10 ∷ [])) }
         ensures err { ForErr result (λ stop. Breaks
-            (unless_kept self.old.refusals (shown_by F.Files W.Sink files.old sink.old steps.old))
-            (unless_kept self.new.refusals (shown_by F.Files W.Sink files.new sink.new steps.new))
+            (shown_beside self.old.refusals F.Files W.Sink files.old sink.old steps.old)
+            (shown_beside self.new.refusals F.Files W.Sink files.new sink.new steps.new)
             self.old (10 ∷ []) stop) }
         ensures mode { is_some self.new.refusals ≡ is_some self.old.refusals }
         ensures same { F.told files.new ≡ F.told files.old }
@@ -111,12 +111,12 @@ impl Reading {
         steps: &mut Steps<L>,
     ) -> Result<(), LineStop>
         ensures ok { OnOk result (GoesOn
-            (unless_kept self.old.refusals (shown_by F.Files W.Sink files.old sink.old steps.old))
-            (unless_kept self.new.refusals (shown_by F.Files W.Sink files.new sink.new steps.new))
+            (shown_beside self.old.refusals F.Files W.Sink files.old sink.old steps.old)
+            (shown_beside self.new.refusals F.Files W.Sink files.new sink.new steps.new)
             self.old self.new (byte ∷ [])) }
         ensures err { ForErr result (λ stop. Breaks
-            (unless_kept self.old.refusals (shown_by F.Files W.Sink files.old sink.old steps.old))
-            (unless_kept self.new.refusals (shown_by F.Files W.Sink files.new sink.new steps.new))
+            (shown_beside self.old.refusals F.Files W.Sink files.old sink.old steps.old)
+            (shown_beside self.new.refusals F.Files W.Sink files.new sink.new steps.new)
             self.old (byte ∷ []) stop) }
         ensures mode { is_some self.new.refusals ≡ is_some self.old.refusals }
         ensures same { F.told files.new ≡ F.told files.old }
@@ -141,12 +141,12 @@ impl Reading {
         steps: &mut Steps<L>,
     ) -> Result<(), LineStop>
         ensures ok { OnOk result (GoesOn
-            (unless_kept self.old.refusals (shown_by F.Files W.Sink files.old sink.old steps.old))
-            (unless_kept self.new.refusals (shown_by F.Files W.Sink files.new sink.new steps.new))
+            (shown_beside self.old.refusals F.Files W.Sink files.old sink.old steps.old)
+            (shown_beside self.new.refusals F.Files W.Sink files.new sink.new steps.new)
             self.old self.new piece.now) }
         ensures err { ForErr result (λ stop. Breaks
-            (unless_kept self.old.refusals (shown_by F.Files W.Sink files.old sink.old steps.old))
-            (unless_kept self.new.refusals (shown_by F.Files W.Sink files.new sink.new steps.new))
+            (shown_beside self.old.refusals F.Files W.Sink files.old sink.old steps.old)
+            (shown_beside self.new.refusals F.Files W.Sink files.new sink.new steps.new)
             self.old piece.now stop) }
         ensures mode { is_some self.new.refusals ≡ is_some self.old.refusals }
         ensures same { F.told files.new ≡ F.told files.old }
@@ -169,11 +169,11 @@ impl Reading {
         steps: &mut Steps<L>,
     ) -> Result<(), LineStop>
         ensures closes { Closes
-            (unless_kept self.old.refusals (shown_by F.Files W.Sink files.old sink.old steps.old))
-            (unless_kept self.new.refusals (shown_by F.Files W.Sink files.new sink.new steps.new))
+            (shown_beside self.old.refusals F.Files W.Sink files.old sink.old steps.old)
+            (shown_beside self.new.refusals F.Files W.Sink files.new sink.new steps.new)
             self.old (refused_by result (λ _. self.new.refused_lines)) }
         ensures standing { OnOk result (ClosesAt
-            (unless_kept self.old.refusals (shown_by F.Files W.Sink files.old sink.old steps.old))
+            (shown_beside self.old.refusals F.Files W.Sink files.old sink.old steps.old)
             self.old self.new.script self.new.refusals self.new.refused_lines) }
         ensures mode { is_some self.new.refusals ≡ is_some self.old.refusals }
         ensures same { F.told files.new ≡ F.told files.old }

@@ -5,7 +5,7 @@ ghost use Rattle.script_run.specs.RefusedLines.{IsToldOf, Notes, tells_one, with
 use std::alloc::{AllocError, Global};
 
 /// How many refused lines are told one by one.
-pub const MOST_TOLD: usize = 20;
+pub(crate) const MOST_TOLD: usize = 20;
 
 /// The refused lines of a script: how many there are, and the first of them.
 ///
@@ -16,7 +16,7 @@ pub struct RefusedLines {
     pub answered: u64,
     /// How many of them were refused.
     pub count: u64,
-    /// The first of these, at most [`MOST_TOLD`].
+    /// The first of these, at most 20.
     pub first: Vec<RefusedLine>,
 }
 

@@ -2,16 +2,17 @@
 ghost use Rattle.std.specs.Prelude.{◌≡◌, ◌≤◌, ◌+◌, ◌*◌, ◌∷◌, [], ◌++◌, length, map};
 ghost use Rattle.std.specs.Prelude.{OnOk, OnErr, IfOk, string_bytes, codes};
 ghost use Rattle.std.specs.List.{flat_map};
-ghost use Rattle.script_run.specs.Samples.{month_text, add_line, change_line, year_lines};
+ghost use Rattle.script_run.specs.Samples.{add_line, change_line, year_lines};
 ghost use Rattle.script_run.specs.Samples.{sample_lines, numbers, script_of};
 ghost use Rattle.script_run.specs.Limits.{most_script, most_employees};
 ghost use Rattle.script_run.specs.Transcripts.{lines_of};
 ghost use Rattle.script_run.specs.RunClauses.{IsFinished, IsSpentWithin};
-ghost use Rattle.script_run.specs.SampleFiles.{named_texts, plan_text, limits_text, sample_files};
+ghost use Rattle.script_run.specs.SampleFiles.{named_texts, sample_plan, sample_limits, sample_files};
 ghost use Rattle.outside.specs.Memory.{named_files};
 
 use crate::memory::run_in_memory;
 use crate::turns::Ended;
+use payroll_records::Month;
 use std::alloc::{AllocError, Global};
 use std::sync::ledger::Ledger;
 use steps::Steps;
@@ -20,7 +21,7 @@ use steps::Steps;
 pub const MOST_EMPLOYEES: u32 = 200;
 
 /// The flowchart of a sample: the tax is 14 % of the pay above 100,000, and KUM the tax of the year so far.
-pub const SAMPLE_PLAN: &[u8] = br#"<PAP><INTERFACE>
+pub(crate) const SAMPLE_PLAN: &[u8] = br#"<PAP><INTERFACE>
 <INPUTS><INPUT name="RE4" type="BigDecimal"/><INPUT name="SUMV" type="BigDecimal"/></INPUTS>
 <OUTPUTS type="STANDARD"><OUTPUT name="LST" type="BigDecimal"/><OUTPUT name="KUM" type="BigDecimal"/></OUTPUTS>
 </INTERFACE>
@@ -39,7 +40,7 @@ pub const SAMPLE_PLAN: &[u8] = br#"<PAP><INTERFACE>
 "#;
 
 /// The range file of a sample: the pay is at most 10,000,000,000, and SUMV is the sum of the year's earlier LST.
-pub const SAMPLE_LIMITS: &[u8] = br#"[input.RE4]
+pub(crate) const SAMPLE_LIMITS: &[u8] = br#"[input.RE4]
 low = 0
 high = "10000000000"
 places = 0
@@ -52,80 +53,75 @@ kind = "sum"
 output = "LST"
 "#;
 
-/// A month of the year, in two digits.
-fn month_words(alloc: Global, month: u32) -> Result<String, AllocError>
-    ensures { IfOk result (λ text. string_bytes text ≡ month_text month) }
-{
-    let (tens, ones) = (month / 10, month % 10);
-    Ok(format!(in alloc; "2025-{tens}{ones}")?)
-}
-
 /// The pay of an employee in a month.
-fn pay_of(employee: u32, month: u32) -> u32
+fn pay_of(employee: u32, month: u8) -> u32
     requires employees { employee ≤ most_employees }
     requires months { month ≤ 12 }
     ensures { result ≡ 100000 + 1000 * employee * month }
 {
-    100_000 + 1000 * employee * month
+    100_000 + 1000 * employee * u32::from(month)
 }
 
-/// The record of an employee for a month, as a line.
-fn record_line(alloc: Global, employee: u32, month: u32) -> Result<String, AllocError>
+/// Appends the record of an employee for a month of 2025, as a line.
+fn write_record(script: &mut String, employee: u32, month: u8) -> Result<(), AllocError>
     requires employees { employee ≤ most_employees }
-    requires months { month ≤ 12 }
-    ensures { IfOk result (λ line. string_bytes line ≡ add_line employee month ++ 10 ∷ []) }
+    requires first { 1 ≤ month }
+    requires last { month ≤ 12 }
+    ensures { OnOk result (string_bytes script.new
+        ≡ string_bytes script.old ++ (add_line employee month ++ 10 ∷ [])) }
 {
-    let words = month_words(alloc, month)?;
     let value = pay_of(employee, month);
-    Ok(format!(in alloc; "add E{employee} {words} {words}-28 RE4={value}\n")?)
+    let month = Month::new(2025, month).unwrap();
+    write!(script, "add E{employee} {month} {month}-28 RE4={value}\n")
 }
 
-/// The correction of an employee's March, as a line.
-fn correction_line(alloc: Global, employee: u32) -> Result<String, AllocError>
-    ensures { IfOk result (λ line. string_bytes line ≡ change_line employee ++ 10 ∷ []) }
+/// Appends the correction of an employee's March, as a line.
+fn write_correction(script: &mut String, employee: u32) -> Result<(), AllocError>
+    ensures { OnOk result (string_bytes script.new
+        ≡ string_bytes script.old ++ (change_line employee ++ 10 ∷ [])) }
 {
-    Ok(format!(in alloc; "change E{employee} 2025-03 2025-03-28 RE4=50000\n")?)
+    write!(script, "change E{employee} 2025-03 2025-03-28 RE4=50000\n")
 }
 
 /// Appends an employee's twelve records.
-fn push_year(alloc: Global, script: &mut String, employee: u32) -> Result<(), AllocError>
+fn write_year(script: &mut String, employee: u32) -> Result<(), AllocError>
     requires employees { employee ≤ most_employees }
     ensures { OnOk result (string_bytes script.new
         ≡ string_bytes script.old ++ script_of (year_lines employee)) }
 {
     for month in 1..=12 {
-        script.push_str(&record_line(alloc, employee, month)?)?;
+        write_record(script, employee, month)?;
     }
     Ok(())
 }
 
 /// Appends the records of so many employees.
-fn push_years(alloc: Global, script: &mut String, employees: u32) -> Result<(), AllocError>
+fn write_years(script: &mut String, employees: u32) -> Result<(), AllocError>
     requires employees { employees ≤ most_employees }
     ensures { OnOk result (string_bytes script.new
         ≡ string_bytes script.old ++ script_of (flat_map year_lines (numbers employees))) }
 {
     for employee in 1..=employees {
-        push_year(alloc, script, employee)?;
+        write_year(script, employee)?;
     }
     Ok(())
 }
 
 /// Appends the corrections of so many employees.
-fn push_corrections(alloc: Global, script: &mut String, employees: u32) -> Result<(), AllocError>
+fn write_corrections(script: &mut String, employees: u32) -> Result<(), AllocError>
     requires employees { employees ≤ most_employees }
     ensures { OnOk result (string_bytes script.new
         ≡ string_bytes script.old ++ script_of (map change_line (numbers employees))) }
 {
     for employee in 1..=employees {
-        script.push_str(&correction_line(alloc, employee)?)?;
+        write_correction(script, employee)?;
     }
     Ok(())
 }
 
 /// The script of a sample of so many employees: a plan, each employee's records of a year, a correction of each one's
 /// March, and a report.
-pub fn sample_script(alloc: Global, employees: u32) -> Result<String, AllocError>
+pub(crate) fn sample_script(alloc: Global, employees: u32) -> Result<String, AllocError>
     requires employees { employees ≤ most_employees }
     ensures text { IfOk result (λ script.
         string_bytes script ≡ script_of (sample_lines employees)) }
@@ -134,8 +130,8 @@ pub fn sample_script(alloc: Global, employees: u32) -> Result<String, AllocError
     ensures short { IfOk result (λ script. length (string_bytes script) ≤ most_script) }
 {
     let mut script = String::from_str(alloc, "plan 2025-01-01 p2.xml l2.toml\n")?;
-    push_years(alloc, &mut script, employees)?;
-    push_corrections(alloc, &mut script, employees)?;
+    write_years(&mut script, employees)?;
+    write_corrections(&mut script, employees)?;
     script.push_str("report\n")?;
     Ok(script)
 }
@@ -151,7 +147,7 @@ pub fn sample_line_count(employees: u32) -> u32
 /// The flowchart of a sample, with its name.
 fn plan_file(alloc: Global) -> Result<(String, Vec<u8>), AllocError>
     ensures name { IfOk result (λ file. string_bytes file.0 ≡ codes "p2.xml") }
-    ensures text { IfOk result (λ file. file.1.items ≡ plan_text) }
+    ensures text { IfOk result (λ file. file.1.items ≡ sample_plan) }
 {
     Ok((
         String::from_str(alloc, "p2.xml")?,
@@ -162,7 +158,7 @@ fn plan_file(alloc: Global) -> Result<(String, Vec<u8>), AllocError>
 /// The range file of a sample, with its name.
 fn limits_file(alloc: Global) -> Result<(String, Vec<u8>), AllocError>
     ensures name { IfOk result (λ file. string_bytes file.0 ≡ codes "l2.toml") }
-    ensures text { IfOk result (λ file. file.1.items ≡ limits_text) }
+    ensures text { IfOk result (λ file. file.1.items ≡ sample_limits) }
 {
     Ok((
         String::from_str(alloc, "l2.toml")?,

@@ -6,7 +6,8 @@ ghost use Rattle.outside.specs.Causes.{Caused, HasCause};
 ghost use Rattle.outside.specs.Told.{ReadConsumes};
 ghost use Rattle.script_run.specs.Limits.{most_script, most_turn};
 ghost use Rattle.script_run.specs.RunClauses.{RunMeets, KeepsRefusals, EndsAt, EndsUnwritten, TellsRefused};
-ghost use Rattle.script_run.specs.RunClauses.{refused_by, shown, shown_by, unless_kept};
+ghost use Rattle.script_steps.specs.Shown.{shown, shown_by};
+ghost use Rattle.script_run.specs.RunClauses.{refused_by, shown_beside};
 ghost use Rattle.script_run.specs.RunViews.{IsAtStart, TakesAll};
 
 use crate::reading::Reading;
@@ -38,10 +39,10 @@ fn next_turn<R: Source>(source: &mut R, buf: &mut [u8], taken: usize) -> Result<
 }
 
 /// So many bytes to take a turn's bytes into.
-fn room(alloc: Global, size: usize) -> Result<Vec<u8>, AllocError>
+fn turn_buffer(alloc: Global, size: usize) -> Result<Vec<u8>, AllocError>
     ensures { IfOk result (λ buf. length buf.items ≡ size) }
 {
-    Ok(vec![in alloc; 0; size]?)
+    vec![in alloc; 0; size]
 }
 
 /// Takes the script to its end, and answers each line that ends in a turn's bytes before it takes the next turn's.
@@ -57,12 +58,12 @@ fn take_turns<F: Files, R: Source, W: Sink, L: Ledger>(
     requires room { length buf.old ≡ most_turn }
     requires start { IsAtStart reading.old }
     ensures ok { OnOk result (TakesAll
-        (unless_kept reading.old.refusals (shown_by F.Files W.Sink files.old sink.old steps.old))
-        (unless_kept reading.new.refusals (shown_by F.Files W.Sink files.new sink.new steps.new))
+        (shown_beside reading.old.refusals F.Files W.Sink files.old sink.old steps.old)
+        (shown_beside reading.new.refusals F.Files W.Sink files.new sink.new steps.new)
         (R.left source.old) (R.left source.new) reading.new) }
     ensures err { ForErr result (λ stop. ForSome (R.left source.old) (λ script. RunMeets
-        (unless_kept reading.old.refusals (shown_by F.Files W.Sink files.old sink.old steps.old))
-        (unless_kept reading.new.refusals (shown_by F.Files W.Sink files.new sink.new steps.new))
+        (shown_beside reading.old.refusals F.Files W.Sink files.old sink.old steps.old)
+        (shown_beside reading.new.refusals F.Files W.Sink files.new sink.new steps.new)
         script (R.left source.new) (Err stop))) }
     ensures mode { is_some reading.new.refusals ≡ is_some reading.old.refusals }
     ensures same { F.told files.new ≡ F.told files.old }
@@ -118,8 +119,8 @@ pub(crate) fn run_to_end<F: Files, R: Source, W: Sink, L: Ledger>(
 ) -> Result<EndedWithRefusals, Stop>
     requires { KeepsRefusals refusals [] }
     ensures script { ForSome (R.left source.old) (λ script. RunMeets
-        (unless_kept refusals (shown_by F.Files W.Sink files.old sink.old steps.old))
-        (unless_kept refusals (shown_by F.Files W.Sink files.new sink.new steps.new))
+        (shown_beside refusals F.Files W.Sink files.old sink.old steps.old)
+        (shown_beside refusals F.Files W.Sink files.new sink.new steps.new)
         script (R.left source.new) (refused_by result (λ made. made.ended.refused_lines))) }
     ensures standing { IfOk result (λ made. ForSome (R.left source.old) (λ script.
         ForSome (F.told files.old) (λ files.
@@ -131,7 +132,7 @@ pub(crate) fn run_to_end<F: Files, R: Source, W: Sink, L: Ledger>(
     ensures read { Caused Stop.Read (R.faults source.old) (R.faults source.new) result }
     ensures write { Caused Stop.Write (W.faults sink.old) (W.faults sink.new) result }
 {
-    let mut buf = room(alloc, MOST_TURN)?;
+    let mut buf = turn_buffer(alloc, MOST_TURN)?;
     let mut reading = Reading::new(alloc, refusals);
     take_turns(alloc, &mut buf, &mut reading, files, source, sink, steps)?;
     reading.last_line(alloc, files, sink, steps)?;

@@ -1,10 +1,10 @@
 -- What was traced, filed and owed, as the step of a line: texts of many lines, and the standing that is left.
-use Rattle.std.proofs.Common.{◌≡◌, ℕ, ◌+◌, ◌<◌, List, [], ◌∷◌, ◌++◌, length, take, drop, map, get_or, refl, sym, ap}
+use Rattle.std.proofs.Common.{◌≡◌, ℕ, ◌+◌, ◌<◌, List, [], ◌∷◌, ◌++◌, length, take, get_or, refl, sym, ap}
 use Rattle.std.proofs.Common.{◌∙◌, subst, inl, inr, append_assoc}
-use Rattle.std.specs.Prelude.{Result, Err}
+use Rattle.std.specs.Prelude.{Result, Ok, Err, IfOk, OnErr}
 use Rattle.std.specs.List.{flat_map}
 use Rattle.std.proofs.lemmas.Grind.{flat_map-append}
-use Rattle.std.proofs.lemmas.List.{append-nil, take_more, drop_at}
+use Rattle.std.proofs.lemmas.List.{append-nil, take_more}
 use Rattle.payroll_records.specs.declared.month.Month.{Month}
 use Rattle.book_year.specs.declared.outcome.Work.{Work}
 use Rattle.recalc_engine.specs.Contents.{Contents}
@@ -15,18 +15,18 @@ use Rattle.correction_ledger.specs.declared.ledger.FileRefusal.{FileRefusal}
 use Rattle.correction_ledger.specs.declared.ledger.FileRefusal.TheVariants as file
 use Rattle.correction_ledger.specs.declared.ledger.OwedRefusal.{OwedRefusal}
 use Rattle.correction_ledger.specs.declared.ledger.OwedRefusal.TheVariants as owed
-use Rattle.correction_ledger.specs.Filings.{Filings, IsFiling, IsFileRefused, IsOwedRefused, entry_with}
+use Rattle.correction_ledger.specs.Filings.{Filings, FilingSays, IsFiling, IsFileRefused, IsOwedRefused, OwedSays}
 use Rattle.plan_answers.specs.Answers.{Answer, refusal}
 use Rattle.script_steps.specs.LineTexts.{file_detail, owed_detail, filed_text}
-use Rattle.script_steps.specs.Standings.{Standing, answered}
-use Rattle.script_steps.specs.FilingSteps.{IsFileStep, IsUnfiled, IsOwedAnswer, OwedSays, owed_answer}
+use Rattle.script_steps.specs.Standings.{Standing, StaysOrSteps, answered}
+use Rattle.script_steps.specs.FilingSteps.{IsFileStep, IsOwedAnswer, filed_answer, new_entries, owed_answer}
 use Rattle.script_steps.specs.StepViews.{IsFileRefusal, IsOwedRefusal}
 use Rattle.script_steps.proofs.EditLemmas.{standing}
 
 -- ---- lines, one after the other
 
 -- the line of one element more
-pub lines_more : {X : Type 0} (f : X → List ℕ) (xs : List X) (i : ℕ) (x : X) → x ≡ get_or xs i x → i < length xs →
+lines_more : {X : Type 0} (f : X → List ℕ) (xs : List X) (i : ℕ) (x : X) → x ≡ get_or xs i x → i < length xs →
     flat_map f (take (i + 1) xs) ≡ flat_map f (take i xs) ++ f x
 lines_more f xs i x is lt =
     ap (flat_map f) (take_more xs i x lt)
@@ -35,33 +35,31 @@ lines_more f xs i x is lt =
     ∙ ap (λ y. flat_map f (take i xs) ++ f y) (sym is)
 
 -- a text with it
-pub text_with : {X : Type 0} (f : X → List ℕ) (xs : List X) (i : ℕ) (x : X) (after before text : List ℕ) →
-    x ≡ get_or xs i x → i < length xs → after ≡ before ++ text → before ≡ flat_map f (take i xs) → text ≡ f x →
-    after ≡ flat_map f (take (i + 1) xs)
-text_with f xs i x after before text is lt e b t =
-    e ∙ ap (λ z. z ++ text) b ∙ ap (λ z. flat_map f (take i xs) ++ z) t ∙ sym (lines_more f xs i x is lt)
+pub text_with : {X : Type 0} (f : X → List ℕ) (xs : List X) (i : ℕ) (x : X) (first before after : List ℕ) →
+    x ≡ get_or xs i x → i < length xs → after ≡ before ++ f x → before ≡ first ++ flat_map f (take i xs) →
+    after ≡ first ++ flat_map f (take (i + 1) xs)
+text_with f xs i x first before after is lt e b =
+    e ∙ ap (λ z. z ++ f x) b ∙ append_assoc first (flat_map f (take i xs)) (f x)
+    ∙ ap (λ z. first ++ z) (sym (lines_more f xs i x is lt))
 
 -- ---- a filing
 
 module _ (from : Standing) (month : Month) (book : Contents) (old : Filings) (made : Work)
     (same : standing old made book ≡ from) where
   pub file_made : (new : Filings) (count : ℕ) (entries : List Entry) (answer : Answer) →
-      IsFiling (month_rows book) month old new count → entries ≡ drop (length old.entries) new.entries →
+      IsFiling (month_rows book) month old new count → entries ≡ new_entries old new →
       answer ≡ answered (filed_text entries count) 0 → IsFileStep from month (standing new made book) answer
-  file_made new count entries answer h is_rest is =
-      let appended = is_rest ∙ ap (drop (length old.entries)) h.entries
-      ∙ drop_at old.entries (map (entry_with month) h.dues) (length old.entries) refl in
+  file_made new count entries answer h rest is =
       subst (λ s. IsFileStep s month (standing new made book) answer) same
-      (inl (record {
-        filings = new;
-        count = count;
-        filing = h;
-        left = refl;
-        told = is ∙ ap (λ es. answered (filed_text es count) 0) appended;
-      }))
+      (record {
+        verdict = Ok (new, count);
+        says = h;
+        is = (refl, is ∙ ap (λ es. answered (filed_text es count) 0) rest);
+      })
 
   unfiled : (why : FileRefusal) (answer : Answer) → IsFileRefused (month_rows book) month old why →
-      IsFileRefusal why answer → IsUnfiled (month_rows book) month old why × (answer ≡ refusal (file_detail why))
+      IsFileRefusal why answer →
+      FilingSays (month_rows book) month old (Err why) × (answer ≡ refusal (file_detail why))
   unfiled (file.Memory e) answer h is = absurd is
   unfiled (file.Early since) answer h is = (h, is)
   unfiled (file.Open k) answer h is = (h, is)
@@ -73,7 +71,19 @@ module _ (from : Standing) (month : Month) (book : Contents) (old : Filings) (ma
   file_refused new why answer stays h is =
       let u = unfiled why answer h is in
       subst (λ s. IsFileStep s month (standing new made book) answer) same
-      (inr (record { why = why; says = u.0; left = ap (λ f. standing f made book) stays; told = u.1 }))
+      (record { verdict = Err why; says = u.0; is = (ap (λ f. standing f made book) stays, u.1) })
+
+  -- what is left, whether it is answered or not
+  pub file_left : (new : Filings) (said : Result ℕ FileRefusal) → IfOk said (IsFiling (month_rows book) month old new) →
+      OnErr said (new ≡ old) → StaysOrSteps (IsFileStep from month) from (standing new made book)
+  file_left new (Ok count) h stays =
+      let answer : Answer = filed_answer old (new, count) in
+      inr (
+        answer,
+        subst (λ s. IsFileStep s month (standing new made book) answer) same
+            (record { verdict = Ok (new, count); says = h; is = (refl, refl) }),
+      )
+  file_left new (Err why) h stays = inl (ap (λ f. standing f made book) stays ∙ same)
 
 -- ---- what is owed
 
@@ -97,24 +107,12 @@ module _ (from : Standing) (book : Contents) (now : Filings) (made : Work) (same
 
 -- ---- the line end behind the words of a line
 
-pub ended_pair : (p a b : List ℕ) → p ++ (a ++ (32 ∷ (b ++ (10 ∷ [])))) ≡ (p ++ (a ++ (32 ∷ b))) ++ (10 ∷ [])
-ended_pair p a b = simp append_assoc
-
 pub ended_due : (p a b c d : List ℕ) →
-    p ++ (a ++ (32 ∷ (b ++ (32 ∷ (c ++ (32 ∷ (d ++ (10 ∷ [])))))))) ≡
-    (p ++ (a ++ (32 ∷ (b ++ (32 ∷ (c ++ (32 ∷ d))))))) ++ (10 ∷ [])
+    p ++ (32 ∷ (a ++ (32 ∷ (b ++ (32 ∷ (c ++ (32 ∷ (d ++ (10 ∷ []))))))))) ≡
+    (p ++ (32 ∷ (a ++ (32 ∷ (b ++ (32 ∷ (c ++ (32 ∷ d)))))))) ++ (10 ∷ [])
 ended_due p a b c d = simp append_assoc
 
-pub ended_set : (p m n x v : List ℕ) →
-    p ++ (m ++ (58 ∷ (n ++ (32 ∷ (x ++ (32 ∷ (v ++ (10 ∷ [])))))))) ≡
-    (p ++ ((m ++ (58 ∷ n)) ++ (32 ∷ (x ++ (32 ∷ v))))) ++ (10 ∷ [])
-ended_set p m n x v = simp append_assoc
-
-pub ended_site : (p m n x : List ℕ) →
-    p ++ (m ++ (58 ∷ (n ++ (32 ∷ (x ++ (10 ∷ [])))))) ≡ (p ++ ((m ++ (58 ∷ n)) ++ (32 ∷ x))) ++ (10 ∷ [])
-ended_site p m n x = simp append_assoc
-
 pub ended_value : (p a b c d e : List ℕ) →
-    p ++ (a ++ (32 ∷ (b ++ (32 ∷ (c ++ (32 ∷ (d ++ (32 ∷ (e ++ (10 ∷ [])))))))))) ≡
-    (p ++ (a ++ (32 ∷ (b ++ (32 ∷ (c ++ (32 ∷ (d ++ (32 ∷ e))))))))) ++ (10 ∷ [])
+    p ++ (32 ∷ (a ++ (32 ∷ (b ++ (32 ∷ (c ++ (32 ∷ (d ++ (32 ∷ (e ++ (10 ∷ []))))))))))) ≡
+    (p ++ (32 ∷ (a ++ (32 ∷ (b ++ (32 ∷ (c ++ (32 ∷ (d ++ (32 ∷ e)))))))))) ++ (10 ∷ [])
 ended_value p a b c d e = simp append_assoc

@@ -1,5 +1,5 @@
 -- An edit that the book has made or refused, as the step of a line.
-use Rattle.std.proofs.Common.{◌≡◌, ℕ, ◌+◌, List, refl, sym, ap, ◌∙◌, subst, arith}
+use Rattle.std.proofs.Common.{◌≡◌, ℕ, ◌+◌, List, refl, sym, ap, ◌∙◌, subst, arith, inl, inr}
 use Rattle.std.specs.Prelude.{Result, Ok, Err, IfOk, OnErr}
 use Rattle.std.specs.declared.alloc.AllocError.{AllocError}
 use Rattle.book_year.specs.declared.outcome.Work.{Work}
@@ -14,9 +14,9 @@ use Rattle.script_steps.specs.declared.reply.LineReply.{LineReply}
 use Rattle.script_steps.specs.Replies.{reply_of}
 use Rattle.plan_answers.proofs.Laws.{if_ok_map, on_err_any}
 use Rattle.script_steps.specs.LineTexts.{edit_detail}
-use Rattle.script_steps.specs.Standings.{Standing, answered, after_edit, more_work}
+use Rattle.script_steps.specs.Standings.{Standing, StaysOrSteps, answered, after_edit, more_work}
 use Rattle.script_steps.specs.LineSteps.{IsEditStep}
-use Rattle.script_steps.specs.StepViews.{IsMade, IsLost, IsEditReply}
+use Rattle.script_steps.specs.StepViews.{IsMade, IsLost, IsEditReply, work_behind}
 
 -- a refusal that isn't want of memory
 refused_step : (text : List ℕ) (from : Standing) (e : Edit) (why : EditRefusal) (answer : Answer)
@@ -59,32 +59,43 @@ module _ (text : List ℕ) (from : Standing) (e : Edit) (book : Contents) (total
   -- the reply to an edit is its step's answer
   reply_made : (made : Result Work EditRefusal) (answer : Answer) → IsEdited from.book e book made
       → CountsEdit made before now (cost_between from.book (edited_book e from.book))
-      → IsEditReply text made from.made total answer
+      → total ≡ work_behind from.made made → IsEditReply text made answer
       → IsMade (IsEditStep text from e) left before now answer
-  reply_made (Ok work) answer h counts is = record {
-    is = subst (λ s. IsEditStep text from e s answer) (after_left work h.1 is.1)
-        (subst (λ a. IsEditStep text from e (after_edit from book) a) (sym is.0) (made_step text from e book work h));
+  reply_made (Ok work) answer h counts t is = record {
+    is = subst (λ s. IsEditStep text from e s answer) (after_left work h.1 t)
+        (subst (λ a. IsEditStep text from e (after_edit from book) a) (sym is) (made_step text from e book work h));
     counted = counts
-        ∙ ap (λ n. before + n) (steps_are text from e book work h ∙ sym (ap (λ (a : Answer). a.steps) is.0));
+        ∙ ap (λ n. before + n) (steps_are text from e book work h ∙ sym (ap (λ (a : Answer). a.steps) is));
   }
-  reply_made (Err (refusals.Memory x)) answer h counts is = absurd is.0
-  reply_made (Err (refusals.Present k)) answer h counts is =
-      refused_made (refusals.Present k) answer h.0 h.1 counts is.0 is.1
-  reply_made (Err (refusals.Absent f w)) answer h counts is =
-      refused_made (refusals.Absent f w) answer h.0 h.1 counts is.0 is.1
-  reply_made (Err (refusals.Several f m)) answer h counts is =
-      refused_made (refusals.Several f m) answer h.0 h.1 counts is.0 is.1
-  reply_made (Err refusals.Records) answer h counts is =
-      refused_made refusals.Records answer h.0 h.1 counts is.0 is.1
-  reply_made (Err refusals.Plans) answer h counts is = refused_made refusals.Plans answer h.0 h.1 counts is.0 is.1
-  reply_made (Err (refusals.NoPlanThere d)) answer h counts is =
-      refused_made (refusals.NoPlanThere d) answer h.0 h.1 counts is.0 is.1
+  reply_made (Err (refusals.Memory x)) answer h counts t is = absurd is
+  reply_made (Err (refusals.Present k)) answer h counts t is =
+      refused_made (refusals.Present k) answer h.0 h.1 counts is t
+  reply_made (Err (refusals.Absent f w)) answer h counts t is =
+      refused_made (refusals.Absent f w) answer h.0 h.1 counts is t
+  reply_made (Err (refusals.Several f m)) answer h counts t is =
+      refused_made (refusals.Several f m) answer h.0 h.1 counts is t
+  reply_made (Err refusals.Records) answer h counts t is =
+      refused_made refusals.Records answer h.0 h.1 counts is t
+  reply_made (Err refusals.Plans) answer h counts t is = refused_made refusals.Plans answer h.0 h.1 counts is t
+  reply_made (Err (refusals.NoPlanThere d)) answer h counts t is =
+      refused_made (refusals.NoPlanThere d) answer h.0 h.1 counts is t
 
   reply_all : (made : Result Work EditRefusal) (reply : Result LineReply AllocError) → IsEdited from.book e book made
       → CountsEdit made before now (cost_between from.book (edited_book e from.book))
-      → IfOk reply (λ r. IsEditReply text made from.made total (reply_of r))
+      → total ≡ work_behind from.made made → IfOk reply (λ r. IsEditReply text made (reply_of r))
       → IfOk reply (λ r. IsMade (IsEditStep text from e) left before now (reply_of r))
-  reply_all made reply h counts = if_ok_map reply _ _ (λ r is. reply_made made (reply_of r) h counts is)
+  reply_all made reply h counts t = if_ok_map reply _ _ (λ r is. reply_made made (reply_of r) h counts t is)
+
+  -- what is left, whether it is answered or not
+  left_so : (made : Result Work EditRefusal) → IsEdited from.book e book made → OnErr made (book ≡ from.book)
+      → total ≡ work_behind from.made made → StaysOrSteps (IsEditStep text from e) from left
+  left_so (Ok work) h stays t =
+      inr (
+        answered text work.steps,
+        subst (λ s. IsEditStep text from e s (answered text work.steps))
+            (after_left work h.1 t) (made_step text from e book work h),
+      )
+  left_so (Err why) h stays t = inl (sym (same_left stays t))
 
 -- an edit of which no answer was made
 module _ (text : List ℕ) (from : Standing) (e : Edit) (book : Contents) (before now : ℕ) where
@@ -134,14 +145,26 @@ module _ (text : List ℕ) (from : Standing) (e : Edit) (filings : Filings) (tot
     (same : standing filings total old ≡ from) (book : Contents) (before now : ℕ) (made : Result Work EditRefusal)
     (reply : Result LineReply AllocError) (h : IsEdited old e book made)
     (counts : CountsEdit made before now (cost_between old (edited_book e old))) where
-  pub edit_made : (after : Work) → IfOk reply (λ r. IsEditReply text made total after (reply_of r))
+  pub edit_made : (after : Work) → after ≡ work_behind total made → IfOk reply (λ r. IsEditReply text made (reply_of r))
       → IfOk reply (λ r. IsMade (IsEditStep text from e) (standing filings after book) before now (reply_of r))
-  edit_made after is =
+  edit_made after t is =
       let left = standing filings after book in
       subst (λ s. IfOk reply (λ r. IsMade (IsEditStep text s e) left before now (reply_of r))) same
-      (reply_all text (standing filings total old) e book after before now made reply h counts is)
+      (reply_all text (standing filings total old) e book after before now made reply h counts t is)
 
   pub edit_lost : OnErr reply (IsLost (IsEditStep text from e) before now)
   edit_lost =
       subst (λ s. OnErr reply (IsLost (IsEditStep text s e) before now)) same
       (on_err_any reply _ (made_lost text (standing filings total old) e book before now made h counts))
+
+-- what an edit of the book of a standing leaves, where its answer isn't made
+pub edit_left : (text : List ℕ) (from : Standing) (e : Edit) (filings : Filings) (total : Work) (old : Contents)
+    → standing filings total old ≡ from → (book : Contents) (made : Result Work EditRefusal)
+    (reply : Result LineReply AllocError) → IsEdited old e book made → OnErr made (book ≡ old)
+    → (after : Work) → after ≡ work_behind total made
+    → OnErr reply (StaysOrSteps (IsEditStep text from e) from (standing filings after book))
+edit_left text from e filings total old same book made reply h stays after t =
+    let left = standing filings after book in
+    on_err_any reply _
+    (subst (λ s. StaysOrSteps (IsEditStep text s e) s left) same
+    (left_so text (standing filings total old) e book after 0 0 made h stays t))

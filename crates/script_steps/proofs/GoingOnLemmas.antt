@@ -14,21 +14,23 @@ use Rattle.pap_plan.specs.Acceptance.{Answers, Meaning}
 use Rattle.book_edits.specs.declared.refusal.EditRefusal.{EditRefusal}
 use Rattle.book_year.specs.Accepted.{Accepted}
 use Rattle.book_year.specs.declared.outcome.Work.{Work}
-use Rattle.correction_ledger.specs.Filings.{Filings}
+use Rattle.correction_ledger.specs.declared.ledger.FileRefusal.{FileRefusal}
+use Rattle.correction_ledger.specs.Filings.{Filings, FilingSays}
 use Rattle.recalc_engine.specs.Contents.{Contents}
 use Rattle.recalc_engine.specs.EditAnswers as edits
 use Rattle.recalc_engine.specs.EditAnswers.{Edit}
+use Rattle.recalc_engine.specs.MonthRows.{month_rows}
 use Rattle.script_lang.specs.Commands as asked
 use Rattle.script_lang.specs.Commands.{Asked}
 use Rattle.script_lang.specs.Lines.{LineSays}
 use Rattle.script_lang.specs.declared.fault.LineFault.{LineFault}
 use Rattle.plan_answers.specs.Answers.{Answer, refusal}
 use Rattle.script_steps.specs.LineTexts.{ok_line, line_detail, table_detail}
-use Rattle.script_steps.specs.Standings.{Standing, Doing, Stays, more_work, silence, start, with_book}
+use Rattle.script_steps.specs.Standings.{Standing, Doing, Stays, more_work, silence, first_standing, with_book}
 use Rattle.script_steps.specs.LineSteps.{Does, IsEditAnswered, IsEditStep, IsFileOf, IsLoaded, IsPlanStep, IsPut, IsReadStep}
 use Rattle.script_steps.specs.LineSteps.{IsTableStep, IsTextsStep, IsTrialStep, IsUsed, PlanUse, bound_text}
 use Rattle.script_steps.specs.LineSteps.{report_answer, work_answer}
-use Rattle.script_steps.specs.FilingSteps.{IsFileStep, IsOwedStep}
+use Rattle.script_steps.specs.FilingSteps.{IsFileAnswered, IsFileStep, IsOwedStep}
 use Rattle.script_steps.specs.OpenSteps.{IsFresh, IsOpenStep, IsOpened, OpenRefusal, OpenSays, not_empty, filed, faulty}
 use Rattle.script_steps.specs.Steps.{IsStep}
 use Rattle.script_steps.specs.TraceSteps.{trace_answer}
@@ -170,22 +172,20 @@ module _ (Use : PlanUse) (use_going : (e : Entry Accepted) → Going (λ from. U
       )
 
 file_going : (month : Month) → Going (λ from. IsFileStep from month)
-file_going month made from to answer (inl h) = (
-  made,
-  inl (record {
-    filings = h.filings;
-    count = h.count;
-    filing = h.filing;
-    left = ap (with_made made) h.left;
-    told = h.told;
-  }),
-  inr (subst (λ (s : Standing). IsSome s.filings.last) (sym h.left) (subst (λ o. IsSome o) (sym h.filing.last) refl)),
-)
-file_going month made from to answer (inr h) = (
-  made,
-  inr (record { why = h.why; says = h.says; left = ap (with_made made) h.left; told = h.told }),
-  inl (filings_of h.left),
-)
+file_going month made from to answer h = by h.verdict h.says h.is
+  where
+    by : (v : Result (Filings × ℕ) FileRefusal) → FilingSays (month_rows from.book) month from.filings v
+        → IsFileAnswered from v to answer → Goes (λ from. IsFileStep from month) made from to answer
+    by (Ok new) says is = (
+      made,
+      record { verdict = Ok new; says = says; is = (ap (with_made made) is.0, is.1) },
+      inr (subst (λ (s : Standing). IsSome s.filings.last) (sym is.0) (subst (λ o. IsSome o) (sym says.last) refl)),
+    )
+    by (Err why) says is = (
+      made,
+      record { verdict = Err why; says = says; is = (ap (with_made made) is.0, is.1) },
+      inl (filings_of is.0),
+    )
 
 owed_going : Going IsOwedStep
 owed_going made from to answer h = (
@@ -364,17 +364,17 @@ never_filed (Some m) h e = cc
 
 -- where no month was filed, what was filed is as it was before the first line
 pub not_filed : (files : FileMap) (lines : List (List ℕ)) (answers : List Answer) (left : Standing)
-    → AreSteps files start lines left answers → left.filings.last ≡ None → start.filings ≡ left.filings
-not_filed files lines answers left h none = by (steps_going files lines answers start.made start left h).2
+    → AreSteps files first_standing lines left answers → left.filings.last ≡ None → first_standing.filings ≡ left.filings
+not_filed files lines answers left h none = by (steps_going files lines answers first_standing.made first_standing left h).2
   where
-    by : Keeps start left → start.filings ≡ left.filings
+    by : Keeps first_standing left → first_standing.filings ≡ left.filings
     by (inl e) = sym e
     by (inr some) = absurd (never_filed left.filings.last some none)
 
 -- the line opens the book that was saved
 pub cut_opens : (files later : FileMap) (before : List (List ℕ)) (earlier : List Answer) (opening : List ℕ)
     → (cut : IsCut files later before earlier opening)
-    → IsStep later start opening (with_book start cut.left.book) (opened cut.left.book)
+    → IsStep later first_standing opening (with_book first_standing cut.left.book) (opened cut.left.book)
 cut_opens files later before earlier opening cut = record {
   said = Ok (asked.opening cut.file);
   says = cut.opens;
@@ -396,30 +396,30 @@ module _ (files later : FileMap) (before after : List (List ℕ)) (earlier furth
     (cut : IsCut files later before earlier opening) (same : AllByRecursion (AreSameFor files later) after) where
   -- the standing behind the line that opens the book
   abbrev there : Standing
-  there = with_book start cut.left.book
+  there = with_book first_standing cut.left.book
 
-  unfiled : start.filings ≡ cut.left.filings
+  unfiled : first_standing.filings ≡ cut.left.filings
   unfiled = not_filed files before earlier cut.left cut.answered cut.unfiled
 
-  opens : IsStep later start opening there (opened cut.left.book)
+  opens : IsStep later first_standing opening there (opened cut.left.book)
   opens = cut_opens files later before earlier opening cut
 
-  forth : HaveAnswers files start (before ++ after) (earlier ++ further)
-      → HaveAnswers later start (opening ∷ after) (opened cut.left.book ∷ further)
+  forth : HaveAnswers files first_standing (before ++ after) (earlier ++ further)
+      → HaveAnswers later first_standing (opening ∷ after) (opened cut.left.book ∷ further)
   forth h =
-      let rest = behind files before after earlier further start cut.left cut.answered h in
+      let rest = behind files before after earlier further first_standing cut.left cut.answered h in
       let here = follow files cut.left there after further refl (sym unfiled) rest in
       let g = follow_files files later there after further same here in
       (g.0, (there, opens, g.1))
 
-  back : HaveAnswers later start (opening ∷ after) (opened cut.left.book ∷ further)
-      → HaveAnswers files start (before ++ after) (earlier ++ further)
+  back : HaveAnswers later first_standing (opening ∷ after) (opened cut.left.book ∷ further)
+      → HaveAnswers files first_standing (before ++ after) (earlier ++ further)
   back (to, (next, is, rest)) =
-      let one = steps.one later start opening next there (opened cut.left.book) (opened cut.left.book) is opens in
+      let one = steps.one later first_standing opening next there (opened cut.left.book) (opened cut.left.book) is opens in
       let here : HaveAnswers later there after further =
       subst (λ s. HaveAnswers later s after further) one.1 (to, rest) in
       let g = follow_files later files there after further (same_back files later after same) here in
-      and_behind files before after earlier further start cut.left cut.answered
+      and_behind files before after earlier further first_standing cut.left cut.answered
       (follow files there cut.left after further refl unfiled g)
 
 pub go_on : CutScriptsGoOn

@@ -1,5 +1,5 @@
 -- Each line of a script leaves a book that can be saved.
-use Rattle.std.proofs.Common.{◌≡◌, ℕ, List, [], ◌∷◌, sym, subst, arith, inl, inr}
+use Rattle.std.proofs.Common.{◌≡◌, ℕ, List, [], ◌∷◌, sym, subst, arith}
 use Rattle.std.specs.Prelude.{All, Result, Ok, Err}
 use Rattle.std.specs.List.{AllByRecursion}
 use Rattle.std.proofs.lemmas.List.Elements.{All-nil, All-cons}
@@ -17,6 +17,8 @@ use Rattle.book_year.specs.Accepted.{Accepted}
 use Rattle.pap_plan.specs.declared.refusal.PlanRefusal.{PlanRefusal}
 use Rattle.pap_plan.specs.Acceptance.{Answers, Meaning}
 use Rattle.book_edits.specs.declared.refusal.EditRefusal.{EditRefusal}
+use Rattle.correction_ledger.specs.declared.ledger.FileRefusal.{FileRefusal}
+use Rattle.correction_ledger.specs.Filings.{Filings}
 use Rattle.recalc_engine.specs.BookLaws.{HasKeptValues, HaveKeptValues, IsAcceptedPlan, runs_listed}
 use Rattle.recalc_engine.specs.Contents.{Contents}
 use Rattle.recalc_engine.specs.EditAnswers as edits
@@ -28,10 +30,10 @@ use Rattle.script_lang.specs.Lines.{LineSays}
 use Rattle.script_lang.specs.declared.fault.LineFault.{LineFault}
 use Rattle.plan_answers.specs.Answers.{Answer}
 use Rattle.script_steps.specs.LineTexts.{ok_line}
-use Rattle.script_steps.specs.Standings.{Doing, Standing, start}
+use Rattle.script_steps.specs.Standings.{Doing, Standing, first_standing}
 use Rattle.script_steps.specs.LineSteps.{Does, IsEditAnswered, IsEditStep, IsLoaded, IsPlanStep, IsPut, IsReadStep, IsTableStep}
 use Rattle.script_steps.specs.LineSteps.{IsTrialStep, IsUsed, PlanUse, bound_text}
-use Rattle.script_steps.specs.FilingSteps.{IsFileStep}
+use Rattle.script_steps.specs.FilingSteps.{IsFileAnswered, IsFileStep}
 use Rattle.script_steps.specs.OpenSteps.{IsOpenStep, IsOpened, OpenRefusal, OpenSays}
 use Rattle.script_steps.specs.GoingOn.{AreSteps, ScriptJobsAreSafe, ScriptsMakeBooks}
 use Rattle.script_steps.proofs.RunLemmas.{table_runs, words_run}
@@ -92,8 +94,11 @@ module _ (from : Standing) (sound : IsSound from.book) where
       by (Err why) says is = same to is.0
 
   file_keeps : (month : Month) → Keeping (IsFileStep from month)
-  file_keeps month to answer (inl h) = subst (λ (s : Standing). IsSound s.book) (sym h.left) sound
-  file_keeps month to answer (inr h) = same to h.left
+  file_keeps month to answer h = by h.verdict h.is
+    where
+      by : (v : Result (Filings × ℕ) FileRefusal) → IsFileAnswered from v to answer → IsSound to.book
+      by (Ok made) is = subst (λ (s : Standing). IsSound s.book) (sym is.0) sound
+      by (Err why) is = same to is.0
 
   -- ---- all lines
 
@@ -134,7 +139,7 @@ steps_keep files (line ∷ lines) [] from to sound h = absurd h
 steps_keep files (line ∷ lines) (answer ∷ answers) from to sound (next, is, rest) =
     steps_keep files lines answers next to (does_keeps from sound files line is.said is.says next answer is.does) rest
 
-first_sound : IsSound start.book
+first_sound : IsSound first_standing.book
 first_sound = record {
   years = record { order = record { rising = tt; days = tt; some = tt }; runs = tt };
   few = omega arith;
@@ -144,7 +149,7 @@ first_sound = record {
 }
 
 pub make_books : ScriptsMakeBooks
-make_books files lines answers to h = savable to.book (steps_keep files lines answers start to first_sound h)
+make_books files lines answers to h = savable to.book (steps_keep files lines answers first_standing to first_sound h)
 
 -- ---- the jobs of such a book
 

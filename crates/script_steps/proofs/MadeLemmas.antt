@@ -1,6 +1,6 @@
 -- What the functions of lines leave, said of the files and of what was written.
 use Rattle.std.proofs.Common.{◌≡◌, ◌⊎◌, ℕ, ◌+◌, List, [], Bool, refl, sym, ap, subst, arith, inl, inr}
-use Rattle.std.specs.Prelude.{Option, Some, is_some, Result, Ok, Err, IfOk, String}
+use Rattle.std.specs.Prelude.{Option, Some, is_some, Result, Ok, Err, IfOk, OnErr, String}
 use Rattle.std.specs.declared.alloc.Global.{Global}
 use Rattle.std.specs.Option.{ForSome}
 use Rattle.std.specs.Result.{ForErr}
@@ -15,15 +15,15 @@ use Rattle.script_lang.specs.Lines.{IsLine, LineSays, IsLineFaultOrMemory}
 use Rattle.script_lang.specs.declared.fault.LineFault.{LineFault}
 use Rattle.script_lang.specs.declared.fault.LineFault.TheVariants as faults
 use Rattle.plan_answers.specs.Answers.{Answer, refusal}
-use Rattle.plan_answers.proofs.Laws.{if_ok_map}
+use Rattle.plan_answers.proofs.Laws.{if_ok_map, on_err_any}
 use Rattle.script_steps.specs.declared.stop.LineStop.{LineStop}
 use Rattle.script_steps.specs.declared.stop.LineStop.TheVariants as stops
-use Rattle.script_steps.specs.LineSteps.{IsFileOf, report_answer, IsNextFile, IsNextOfPlan}
+use Rattle.script_steps.specs.LineSteps.{Does, IsFileOf, report_answer, IsNextFile, IsNextOfPlan}
 use Rattle.script_steps.specs.LineTexts.{line_detail}
-use Rattle.script_steps.specs.Standings.{Standing, Doing}
-use Rattle.script_steps.specs.Steps.{IsStep}
+use Rattle.script_steps.specs.Standings.{Standing, Doing, StaysOrSteps}
+use Rattle.script_steps.specs.Shown.{OutsideShown}
 use Rattle.script_steps.specs.Stops.{stop_of}
-use Rattle.script_steps.specs.StepClauses.{IsAnswered, IsBroken}
+use Rattle.script_steps.specs.StepClauses.{ToldStep, IsAnswered, IsBroken}
 use Rattle.script_steps.specs.StepViews.{IsMade, IsLost, IsWant, ToldDoes, IsUnmade, IsLineRefusal, IsWritten}
 use Rattle.script_steps.specs.StepViews.{IsFrontWritten, IsRefusalWritten, IsRefusalUnwritten}
 use Rattle.script_steps.specs.PlanViews.{IsUnjudged}
@@ -61,6 +61,20 @@ pub want_map : (P Q : Doing) (before now : ℕ) → ((to : Standing) (a : Answer
 want_map P Q before now f (inl e) = inl e
 want_map P Q before now f (inr l) = inr (lost_map P Q before now f l)
 
+pub stays_map : (P Q : Doing) (from to : Standing) → ((to : Standing) (a : Answer) → P to a → Q to a)
+    → StaysOrSteps P from to → StaysOrSteps Q from to
+stays_map P Q from to f (inl e) = inl e
+stays_map P Q from to f (inr s) = inr (s.0, f to s.0 s.1)
+
+-- what a step leaves is what the line leaves that asks for it
+pub told_left : {T E : Type 0} (told : Option FileMap) (from to : Standing) (what other : Asked) (P : Doing)
+    (r : Result T E) → what ≡ other
+    → ((to : Standing) (a : Answer) (files : FileMap) → P to a → Does files from (Ok what) to a)
+    → StaysOrSteps P from to → OnErr r (StaysOrSteps (ToldDoes told from (Ok other)) from to)
+told_left told from to what other P r same does left =
+    subst (λ w. OnErr r (StaysOrSteps (ToldDoes told from (Ok w)) from to)) same
+    (on_err_any r _ (stays_map P (ToldDoes told from (Ok what)) from to (λ to a h files e. does to a files h) left))
+
 -- ---- no reply was made
 
 module _ (told : Option FileMap) (Step : Doing) (what : Asked) (before now : ℕ) (failed : Option (List ℕ)) where
@@ -83,16 +97,16 @@ module _ (told : Option FileMap) (Step : Doing) (what : Asked) (before now : ℕ
 
 -- ---- what a line does that asks for this
 
-module _ (told : Option FileMap) (old new : Option (List ℕ)) (before now : ℕ) (from : Standing) (line : List ℕ) where
+module _ (old new : OutsideShown) (from : Standing) (line : List ℕ) where
   module _ (what : Asked) (says : IsLine line what) where
-    step_of : (to : Standing) (answer : Answer) → ToldDoes told from (Ok what) to answer → (files : FileMap)
-        → told ≡ Some files → IsStep files from line to answer
+    step_of : (to : Standing) (answer : Answer) → ToldDoes old.files from (Ok what) to answer
+        → ToldStep old.files from line to answer
     step_of to answer h files e = record { said = Ok what; says = says; does = h files e }
 
     pub answered : (to : Standing) (answer : Answer) (refused : Bool)
-        → IsMade (ToldDoes told from (Ok what)) to before now answer
-        → IsWritten old new answer.text answer.refused refused
-        → IsAnswered told old new before now from to line refused
+        → IsMade (ToldDoes old.files from (Ok what)) to old.steps new.steps answer
+        → IsWritten old.written new.written answer.text answer.refused refused
+        → IsAnswered old new from to line refused
     answered to answer refused m w = record {
       answer = answer;
       appended = w.appended;
@@ -102,63 +116,70 @@ module _ (told : Option FileMap) (old new : Option (List ℕ)) (before now : ℕ
     }
 
     -- the answer wasn't written whole
-    pub cut : (to : Standing) (answer : Answer) (failed : Option (List ℕ)) (stop : LineStop)
-        → IsMade (ToldDoes told from (Ok what)) to before now answer → IsFrontWritten old new answer.text stop
-        → IsBroken told old new before now from to line failed stop
-    cut to answer failed stops.File m u = absurd u
-    cut to answer failed stops.Write m u =
+    pub cut : (to : Standing) (answer : Answer) (stop : LineStop)
+        → IsMade (ToldDoes old.files from (Ok what)) to old.steps new.steps answer
+        → IsFrontWritten old.written new.written answer.text stop → IsBroken old new from to line stop
+    cut to answer stops.File m u = absurd u
+    cut to answer stops.Write m u = record {
+      answer = answer;
+      part = u;
+      counted = m.counted;
+      is = step_of to answer m.is;
+    }
+    cut to answer stops.Memory m u =
         let is = m.counted in
         record {
-          answer = answer;
-          part = u;
-          later = omega (arith, is);
-          within = omega (arith, is);
-          is = step_of to answer m.is;
+          left = inr (answer, step_of to answer m.is);
+          done = inr (record {
+            to = to;
+            answer = answer;
+            part = u;
+            later = omega (arith, is);
+            within = omega (arith, is);
+            is = step_of to answer m.is;
+          });
         }
-    cut to answer failed stops.Memory m u =
-        let is = m.counted in
-        inr (record {
-          to = to;
-          answer = answer;
-          part = u;
-          later = omega (arith, is);
-          within = omega (arith, is);
-          is = step_of to answer m.is;
-        })
 
     -- nothing was written
-    pub unmade : (to : Standing) (failed : Option (List ℕ)) (stop : LineStop) → new ≡ old
-        → (stop ≡ stops.File → to ≡ from)
-        → IsUnmade told (ToldDoes told from (Ok what)) what before now failed stop
-        → IsBroken told old new before now from to line failed stop
-    unmade to failed stops.File same left u = record {
-      unchanged = left refl;
+    pub unmade : (to : Standing) (stop : LineStop) → new.written ≡ old.written → (stop ≡ stops.File → to ≡ from)
+        → StaysOrSteps (ToldDoes old.files from (Ok what)) from to
+        → IsUnmade old.files (ToldDoes old.files from (Ok what)) what old.steps new.steps new.failed stop
+        → IsBroken old new from to line stop
+    unmade to stops.File same still left u = record {
+      unchanged = still refl;
       unbegun = record {
-        nothing = subst (λ n. Appends old n []) (sym same) (Appends-nothing old);
-        uncounted =
-            u.uncounted;
+        nothing = subst (λ n. Appends old.written n []) (sym same) (Appends-nothing old.written);
+        uncounted = u.uncounted;
       };
       name = u.name;
       names = record { what = what; is_line = says; is_file = u.is_file };
       in_order = u.in_order;
       failed_there = u.failed_there;
     }
-    unmade to failed stops.Write same left u = absurd u
-    unmade to failed stops.Memory same left (inl still) =
-        inl (record { nothing = subst (λ n. Appends old n []) (sym same) (Appends-nothing old); uncounted = still })
-    unmade to failed stops.Memory same left (inr l) = inr (record {
-      to = l.to;
-      answer = l.answer;
-      part = record {
-        front = [];
-        rest = l.answer.text;
-        parts = refl;
-        appended = subst (λ n. Appends old n []) (sym same) (Appends-nothing old);
-      };
-      later = l.later;
-      within = l.within;
-      is = step_of l.to l.answer l.is;
-    })
+    unmade to stops.Write same still left u = absurd u
+    unmade to stops.Memory same still left (inl uncounted) = record {
+      left = stays_map (ToldDoes old.files from (Ok what)) (ToldStep old.files from line) from to step_of left;
+      done = inl (record {
+        nothing = subst (λ n. Appends old.written n []) (sym same) (Appends-nothing old.written);
+        uncounted = uncounted;
+      });
+    }
+    unmade to stops.Memory same still left (inr l) = record {
+      left = stays_map (ToldDoes old.files from (Ok what)) (ToldStep old.files from line) from to step_of left;
+      done = inr (record {
+        to = l.to;
+        answer = l.answer;
+        part = record {
+          front = [];
+          rest = l.answer.text;
+          parts = refl;
+          appended = subst (λ n. Appends old.written n []) (sym same) (Appends-nothing old.written);
+        };
+        later = l.later;
+        within = l.within;
+        is = step_of l.to l.answer l.is;
+      });
+    }
 
   -- ---- a line that is refused
 
@@ -176,19 +197,19 @@ module _ (told : Option FileMap) (old new : Option (List ℕ)) (before now : ℕ
   says_refused (faults.Twice name) answer h is = (h, is)
 
   refused_step : (why : LineFault) (answer : Answer) → IsLineFaultOrMemory line why → IsLineRefusal why answer
-      → (files : FileMap) → told ≡ Some files → IsStep files from line from answer
+      → ToldStep old.files from line from answer
   refused_step why answer h is files e =
       let s = says_refused why answer h is in
       record { said = Err why; says = s.0; does = (refl, s.1) }
 
-  none : (why : LineFault) (answer : Answer) → IsLineFaultOrMemory line why → IsLineRefusal why answer → now ≡ before
-      → now ≡ before + answer.steps
+  none : (why : LineFault) (answer : Answer) → IsLineFaultOrMemory line why → IsLineRefusal why answer
+      → new.steps ≡ old.steps → new.steps ≡ old.steps + answer.steps
   none why answer h is still =
       let steps : answer.steps ≡ 0 = ap (λ (a : Answer). a.steps) (says_refused why answer h is).1 in
       omega (arith, steps, still)
 
-  pub fault_answered : (why : LineFault) (refused : Bool) → now ≡ before → IsLineFaultOrMemory line why
-      → IsRefusalWritten old new why refused → IsAnswered told old new before now from from line refused
+  pub fault_answered : (why : LineFault) (refused : Bool) → new.steps ≡ old.steps → IsLineFaultOrMemory line why
+      → IsRefusalWritten old.written new.written why refused → IsAnswered old new from from line refused
   fault_answered why refused still h w = record {
     answer = w.answer;
     appended = w.written.appended;
@@ -197,37 +218,35 @@ module _ (told : Option FileMap) (old new : Option (List ℕ)) (before now : ℕ
     is = refused_step why w.answer h w.is;
   }
 
-  pub fault_broken : (why : LineFault) (failed : Option (List ℕ)) (stop : LineStop) → now ≡ before
-      → IsLineFaultOrMemory line why → IsRefusalUnwritten old new why stop
-      → IsBroken told old new before now from from line failed stop
-  fault_broken why failed stops.File still h u = absurd u
-  fault_broken why failed stops.Write still h u =
-      let is = none why u.answer h u.is still in
-      record {
-        answer = u.answer;
-        part = u.cut;
-        later = omega (arith, is);
-        within = omega (arith, is);
-        is =
-            refused_step why u.answer h u.is;
-      }
-  fault_broken why failed stops.Memory still h u = inl (record { nothing = u; uncounted = still })
+  pub fault_broken : (why : LineFault) (stop : LineStop) → new.steps ≡ old.steps
+      → IsLineFaultOrMemory line why → IsRefusalUnwritten old.written new.written why stop
+      → IsBroken old new from from line stop
+  fault_broken why stops.File still h u = absurd u
+  fault_broken why stops.Write still h u = record {
+    answer = u.answer;
+    part = u.cut;
+    counted = none why u.answer h u.is still;
+    is = refused_step why u.answer h u.is;
+  }
+  fault_broken why stops.Memory still h u = record {
+    left = inl refl;
+    done = inl (record { nothing = u; uncounted = still });
+  }
 
 -- ---- what a command's function comes to
 
-module _ (told : Option FileMap) (old new : Option (List ℕ)) (before now : ℕ) (from to : Standing)
-    (failed : Option (List ℕ)) (what : Asked) (answer : Answer) (made : IsMade (ToldDoes told from (Ok what)) to
-    before now answer) (result : Result (Option (String Global)) LineStop) where
-  pub made_answered : IfOk result (λ wrong. IsWritten old new answer.text answer.refused (is_some wrong))
+module _ (old new : OutsideShown) (from to : Standing) (what : Asked) (answer : Answer)
+    (made : IsMade (ToldDoes old.files from (Ok what)) to old.steps new.steps answer)
+    (result : Result (Option (String Global)) LineStop) where
+  pub made_answered : IfOk result (λ wrong. IsWritten old.written new.written answer.text answer.refused (is_some wrong))
       → (line : List ℕ) → IsLine line what
-      → IfOk result (λ wrong. IsAnswered told old new before now from to line (is_some wrong))
-  made_answered w line says = if_ok_map result _ _ (λ wrong. answered told old new before now from line what says to
-      answer (is_some wrong) made) w
+      → IfOk result (λ wrong. IsAnswered old new from to line (is_some wrong))
+  made_answered w line says =
+      if_ok_map result _ _ (λ wrong. answered old new from line what says to answer (is_some wrong) made) w
 
-  pub made_broken : ForErr result (IsFrontWritten old new answer.text) → (line : List ℕ) → IsLine line what
-      → ForErr result (λ stop. IsBroken told old new before now from to line failed stop)
-  made_broken u line says = λ stop e. cut told old new before now from line what says to answer failed stop made
-      (u stop e)
+  pub made_broken : ForErr result (IsFrontWritten old.written new.written answer.text) → (line : List ℕ)
+      → IsLine line what → ForErr result (λ stop. IsBroken old new from to line stop)
+  made_broken u line says = λ stop e. cut old new from line what says to answer stop made (u stop e)
 
 -- the report leaves all as it is
 pub report_made : (told : Option FileMap) (from : Standing) (steps : ℕ)
@@ -236,37 +255,38 @@ report_made told from steps =
     made_still (ToldDoes told from (Ok asked.report)) from steps (report_answer from) (λ files e. (refl, refl)) refl
 
 -- the sink isn't touched where no reply was made
-pub unmade_broken : (told : Option FileMap) (old : Option (List ℕ)) (before now : ℕ) (from to : Standing)
-    (failed : Option (List ℕ)) (what : Asked) (stop : LineStop) → (stop ≡ stops.File → to ≡ from)
-    → IsUnmade told (ToldDoes told from (Ok what)) what before now failed stop → (result : Result (Option (String Global)) LineStop)
-    → result ≡ Err stop → (line : List ℕ) → IsLine line what
-    → ForErr result (λ stop. IsBroken told old old before now from to line failed stop)
-unmade_broken told old before now from to failed what stop left u result is line says =
-    for_err (λ s. IsBroken told old old before now from to line failed s) result stop is
-    (unmade told old old before now from line what says to failed stop refl left u)
+pub unmade_broken : (old new : OutsideShown) (from to : Standing) (what : Asked) (stop : LineStop)
+    → new.written ≡ old.written → (stop ≡ stops.File → to ≡ from)
+    → StaysOrSteps (ToldDoes old.files from (Ok what)) from to
+    → IsUnmade old.files (ToldDoes old.files from (Ok what)) what old.steps new.steps new.failed stop
+    → (result : Result (Option (String Global)) LineStop) → result ≡ Err stop → (line : List ℕ) → IsLine line what
+    → ForErr result (λ stop. IsBroken old new from to line stop)
+unmade_broken old new from to what stop same still left u result is line says =
+    for_err (λ s. IsBroken old new from to line s) result stop is
+    (unmade old new from line what says to stop same still left u)
 
 -- out of memory before anything was done
-pub want_broken : (told : Option FileMap) (old : Option (List ℕ)) (steps : ℕ) (from : Standing) (line : List ℕ)
-    (failed : Option (List ℕ)) (result : Result (Option (String Global)) LineStop) → result ≡ Err stops.Memory
-    → ForErr result (λ stop. IsBroken told old old steps steps from from line failed stop)
-want_broken told old steps from line failed result is =
-    for_err (λ s. IsBroken told old old steps steps from from line failed s) result stops.Memory is
-    (inl (record { nothing = Appends-nothing old; uncounted = refl }))
+pub want_broken : (old : OutsideShown) (from : Standing) (line : List ℕ)
+    (result : Result (Option (String Global)) LineStop) → result ≡ Err stops.Memory
+    → ForErr result (λ stop. IsBroken old old from from line stop)
+want_broken old from line result is =
+    for_err (λ s. IsBroken old old from from line s) result stops.Memory is
+    (record { left = inl refl; done = inl (record { nothing = Appends-nothing old.written; uncounted = refl }) })
 
 -- a line that is refused
-pub faults_answered : (told : Option FileMap) (old new : Option (List ℕ)) (steps : ℕ) (from : Standing)
-    (line : List ℕ) (why : LineFault) (result : Result (Option (String Global)) LineStop) → IsLineFaultOrMemory line why
-    → IfOk result (λ wrong. IsRefusalWritten old new why (is_some wrong))
-    → IfOk result (λ wrong. IsAnswered told old new steps steps from from line (is_some wrong))
-faults_answered told old new steps from line why result h =
-    if_ok_map result _ _ (λ wrong. fault_answered told old new steps steps from line why (is_some wrong) refl h)
+pub faults_answered : (old new : OutsideShown) (from : Standing) (line : List ℕ) (why : LineFault)
+    (result : Result (Option (String Global)) LineStop) → new.steps ≡ old.steps → IsLineFaultOrMemory line why
+    → IfOk result (λ wrong. IsRefusalWritten old.written new.written why (is_some wrong))
+    → IfOk result (λ wrong. IsAnswered old new from from line (is_some wrong))
+faults_answered old new from line why result still h =
+    if_ok_map result _ _ (λ wrong. fault_answered old new from line why (is_some wrong) still h)
 
-pub faults_broken : (told : Option FileMap) (old new : Option (List ℕ)) (steps : ℕ) (from : Standing) (line : List ℕ)
-    (failed : Option (List ℕ)) (why : LineFault) (result : Result (Option (String Global)) LineStop) → IsLineFaultOrMemory line why
-    → ForErr result (IsRefusalUnwritten old new why)
-    → ForErr result (λ stop. IsBroken told old new steps steps from from line failed stop)
-faults_broken told old new steps from line failed why result h u =
-    λ stop e. fault_broken told old new steps steps from line why failed stop refl h (u stop e)
+pub faults_broken : (old new : OutsideShown) (from : Standing) (line : List ℕ) (why : LineFault)
+    (result : Result (Option (String Global)) LineStop) → new.steps ≡ old.steps → IsLineFaultOrMemory line why
+    → ForErr result (IsRefusalUnwritten old.written new.written why)
+    → ForErr result (λ stop. IsBroken old new from from line stop)
+faults_broken old new from line why result still h u =
+    λ stop e. fault_broken old new from line why stop still h (u stop e)
 
 -- ---- a plan's files
 

@@ -22,7 +22,7 @@ use Rattle.plan_answers.proofs.Laws.{if_ok_map}
 use Rattle.script_steps.specs.LineTexts.{book_detail, ok_line}
 use Rattle.script_steps.specs.OpenSteps.{IsEmpty, IsFresh, IsOpenStep, IsOpened, OpenRefusal, OpenSays, open_detail}
 use Rattle.script_steps.specs.OpenSteps.{not_empty, filed, faulty}
-use Rattle.script_steps.specs.Standings.{Standing, answered, with_book}
+use Rattle.script_steps.specs.Standings.{Standing, StaysOrSteps, answered, with_book}
 use Rattle.script_steps.specs.StepViews.{IsBookRefusal, IsMade, IsWant}
 use Rattle.script_steps.proofs.KindLemmas.{Has, Same, stays_one}
 use Rattle.script_steps.proofs.MadeLemmas.{made_still}
@@ -193,6 +193,13 @@ module _ (from : Standing) (text : List ℕ) (fresh : IsFresh from) (before now 
     later = omega (arith, counts);
     within = omega (arith, counts);
   })
+
+  pub book_left : (book : Contents) → BookSays text (Ok book)
+      → StaysOrSteps (IsOpenStep from text) from (with_book from book)
+  book_left book h = inr (
+    answered ok_line (whole_cost book),
+    record { verdict = Ok book; says = (fresh, h); is = (refl, refl) },
+  )
 
   -- memory ran out, while it was read or after it
   pub read_lost : (why : BookFault) → CountsRead text (Err why) before now → IsWant (IsOpenStep from text) before now

@@ -14,11 +14,11 @@ use Rattle.script_steps.specs.declared.reply.LineReply.{LineReply}
 use Rattle.script_steps.specs.Replies.{reply_of}
 use Rattle.plan_answers.proofs.Laws.{if_ok_map, on_err_map, refused_is, refusal_steps}
 use Rattle.script_steps.specs.declared.plan.Judged.TheVariants.{Refused}
-use Rattle.script_steps.specs.Standings.{Standing}
+use Rattle.script_steps.specs.Standings.{Standing, StaysOrSteps}
 use Rattle.script_steps.specs.LineSteps.{IsEditStep, IsPut, IsTextsStep, IsTrialStep, PlanUse}
 use Rattle.script_steps.specs.PlanViews.{IsJudged}
 use Rattle.script_steps.specs.StepViews.{IsMade, IsLost, IsWant}
-use Rattle.script_steps.proofs.MadeLemmas.{made_map, made_still, lost_map, want_map}
+use Rattle.script_steps.proofs.MadeLemmas.{made_map, made_still, lost_map, stays_map, want_map}
 
 module _ (from : Standing) (day : Day) (plan limits : List ℕ) where
   -- the plan is refused, whatever is done with one that is accepted
@@ -66,6 +66,11 @@ module _ (from : Standing) (day : Day) (plan limits : List ℕ) where
       put_lost reply =
           on_err_map reply _ _
           (λ l. inr (lost_map Puts (IsTextsStep IsPut from day plan limits) before now put l))
+
+      pub put_left : (to : Standing) (reply : Result LineReply AllocError) → OnErr reply (StaysOrSteps Puts from to)
+          → OnErr reply (StaysOrSteps (IsTextsStep IsPut from day plan limits) from to)
+      put_left to reply =
+          on_err_map reply _ _ (stays_map Puts (IsTextsStep IsPut from day plan limits) from to put)
 
       -- the plan was tried, or not
       abbrev Tries : Standing → Answer → Type 0

@@ -1,5 +1,5 @@
 -- A line that is refused changes nothing and counts no step; a plan that is put holds.
-use Rattle.std.proofs.Common.{◌≡◌, false, true, ℕ, List, [], refl, sym, ap, ◌∙◌, subst, inl, inr}
+use Rattle.std.proofs.Common.{◌≡◌, false, true, ℕ, List, [], refl, sym, ap, ◌∙◌, subst}
 use Rattle.std.specs.Prelude.{Result, Ok, Err}
 use Rattle.std.proofs.lemmas.Bool.{false≢true}
 use Rattle.std.proofs.lemmas.List.{append-nil}
@@ -21,7 +21,9 @@ use Rattle.month_trace.specs.BookTraces.{trace_said}
 use Rattle.month_trace.specs.declared.refusal.TraceRefusal.{TraceRefusal}
 use Rattle.month_trace.specs.declared.step.TraceStep.{TraceStep}
 use Rattle.correction_ledger.specs.declared.due.Due.{Due}
+use Rattle.correction_ledger.specs.declared.ledger.FileRefusal.{FileRefusal}
 use Rattle.correction_ledger.specs.declared.ledger.OwedRefusal.{OwedRefusal}
+use Rattle.correction_ledger.specs.Filings.{Filings}
 use Rattle.script_lang.specs.Commands as asked
 use Rattle.script_lang.specs.Commands.{Asked}
 use Rattle.script_lang.specs.declared.fault.LineFault.{LineFault}
@@ -29,10 +31,10 @@ use Rattle.script_lang.proofs.Laws.{line_once}
 use Rattle.plan_answers.specs.Answers.{Answer, refusal}
 use Rattle.plan_answers.specs.Lines.{bound_line}
 use Rattle.plan_answers.proofs.Laws.{refusal_steps}
-use Rattle.script_steps.specs.LineTexts.{ok_line, line_detail, table_detail, edit_detail, owed_detail}
+use Rattle.script_steps.specs.LineTexts.{ok_line, line_detail, table_detail, edit_detail, file_detail, owed_detail}
 use Rattle.script_steps.specs.Standings.{Standing, Doing, Stays, answered, silence}
 use Rattle.script_steps.specs.TraceSteps.{told_trace}
-use Rattle.script_steps.specs.FilingSteps.{IsFileStep, IsOwedStep, owed_answer}
+use Rattle.script_steps.specs.FilingSteps.{IsFileAnswered, IsFileStep, IsOwedStep, filed_answer, owed_answer}
 use Rattle.script_steps.specs.OpenSteps.{IsOpenStep, IsOpened, OpenRefusal, open_detail}
 use Rattle.script_steps.specs.LineSteps.{Does, IsEditAnswered, IsEditStep, IsLoaded, IsPlanStep, IsPut, IsReadStep}
 use Rattle.script_steps.specs.LineSteps.{IsTableStep, IsTextsStep, IsTrialStep, IsUsed, PlanUse, bound_text, report_answer}
@@ -113,8 +115,11 @@ module _ (from : Standing) where
   trace_still (Err why) = stays_still (told_trace (Err why)) refl
 
   file_still : (month : Month) → Stilled from (IsFileStep from month)
-  file_still month to answer (inl h) = λ refused. absurd (plain _ answer h.told refl refused)
-  file_still month to answer (inr h) = λ refused. (h.left, ap (λ (a : Answer). a.steps) h.told)
+  file_still month to answer h = by h.verdict h.is
+    where
+      by : (v : Result (Filings × ℕ) FileRefusal) → IsFileAnswered from v to answer → Still from to answer
+      by (Ok made) is = λ refused. absurd (plain (filed_answer from.filings made) answer is.1 refl refused)
+      by (Err why) is = stays_still (refusal (file_detail why)) refl to answer is
 
   owed_still : Stilled from (IsOwedStep from)
   owed_still to answer h = by h.1.verdict h.1.told

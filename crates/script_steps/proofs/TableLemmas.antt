@@ -12,10 +12,10 @@ use Rattle.script_steps.specs.declared.reply.LineReply.{LineReply}
 use Rattle.script_steps.specs.Replies.{reply_of}
 use Rattle.plan_answers.proofs.Laws.{if_ok_map, on_err_map}
 use Rattle.script_steps.specs.LineTexts.{ok_line, table_detail}
-use Rattle.script_steps.specs.Standings.{Standing}
+use Rattle.script_steps.specs.Standings.{Standing, StaysOrSteps}
 use Rattle.script_steps.specs.LineSteps.{IsEditStep, IsTableStep}
 use Rattle.script_steps.specs.StepViews.{IsMade, IsLost, IsWant, IsTableRefusal}
-use Rattle.script_steps.proofs.MadeLemmas.{made_map, lost_map}
+use Rattle.script_steps.proofs.MadeLemmas.{made_map, lost_map, stays_map}
 
 module _ (from : Standing) (table : List ℕ) (before now : ℕ) where
   -- the runs of the table were added, or not
@@ -36,6 +36,13 @@ module _ (from : Standing) (table : List ℕ) (before now : ℕ) where
   table_lost records reply t =
       on_err_map reply _ _ (λ l. inr (lost_map (IsEditStep ok_line from (edits.load records)) (IsTableStep from table)
       before now (loaded records t) l))
+
+  pub table_left : (records : List Record) (to : Standing) (reply : Result LineReply AllocError) → IsTable table records
+      → OnErr reply (StaysOrSteps (IsEditStep ok_line from (edits.load records)) from to)
+      → OnErr reply (StaysOrSteps (IsTableStep from table) from to)
+  table_left records to reply t =
+      on_err_map reply _ _
+      (stays_map (IsEditStep ok_line from (edits.load records)) (IsTableStep from table) from to (loaded records t))
 
 -- a table that is refused
 refused_says : (table : List ℕ) (why : TableFault) (a : Answer) → IsTableFaultOrMemory table why → IsTableRefusal why a

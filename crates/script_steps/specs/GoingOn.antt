@@ -14,7 +14,7 @@ use Rattle.book_file.specs.BookTexts.{saved_of}
 use Rattle.book_file.specs.Saving.{SaveSays}
 use Rattle.script_steps.specs.LineTexts.{ok_line}
 use Rattle.script_steps.specs.Standings.{answered}
-use Rattle.script_steps.specs.Steps.{Standing, Answer, IsStep, Names, start}
+use Rattle.script_steps.specs.Steps.{Standing, Answer, IsStep, Names, first_standing}
 
 -- ---- several lines
 
@@ -40,7 +40,7 @@ AreSameFor files other line = (name : List ℕ) → Names line name → files na
 pub record IsCut
     (files later : FileMap) (before : List (List ℕ)) (earlier : List Answer) (opening : List ℕ) : Type 0 where
   pub left : Standing
-  pub answered : AreSteps files start before left earlier
+  pub answered : AreSteps files first_standing before left earlier
   pub unfiled : left.filings.last ≡ None
   pub text : List ℕ
   pub saved : SaveSays left.book (Ok text)
@@ -63,13 +63,13 @@ pub record IsSavable (book : Contents) : Type 0 where
 abbrev pub ScriptsMakeBooks : Type 0
 ScriptsMakeBooks =
     (files : FileMap) (lines : List (List ℕ)) (answers : List Answer) (to : Standing)
-    → AreSteps files start lines to answers → IsSavable to.book
+    → AreSteps files first_standing lines to answers → IsSavable to.book
 
 -- and each job of it is safe: its plan is accepted, and its run gets to its end
 abbrev pub ScriptJobsAreSafe : Type 0
 ScriptJobsAreSafe =
     (files : FileMap) (lines : List (List ℕ)) (answers : List Answer) (to : Standing)
-    → AreSteps files start lines to answers
+    → AreSteps files first_standing lines to answers
     → (k : Key) (j : Job) → job_of_key to.book k ≡ Some j → IsSafeJob j
 
 -- what lines answer follows from the book and from what was filed: not from the work of the edits before
@@ -93,5 +93,5 @@ CutScriptsGoOn =
     (files later : FileMap) (before after : List (List ℕ)) (earlier further : List Answer) (opening : List ℕ)
     → (cut : IsCut files later before earlier opening)
     → AllByRecursion (AreSameFor files later) after
-    → HaveAnswers files start (before ++ after) (earlier ++ further)
-    ↔ HaveAnswers later start (opening ∷ after) (opened cut.left.book ∷ further)
+    → HaveAnswers files first_standing (before ++ after) (earlier ++ further)
+    ↔ HaveAnswers later first_standing (opening ∷ after) (opened cut.left.book ∷ further)

@@ -1,3 +1,4 @@
+pub mod Shown
 pub mod Standings
 pub mod LineTexts
 pub mod TraceSteps

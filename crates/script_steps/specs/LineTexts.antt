@@ -4,11 +4,11 @@ use Rattle.std.specs.Fmt.{decimal as number}
 use Rattle.std.specs.List.{flat_map}
 use Rattle.scaled_decimal.specs.Decimals.{Decimal}
 use Rattle.scaled_decimal.specs.PlainTexts.{plain_text}
-use Rattle.payroll_records.specs.declared.day.Day.{Day}
 use Rattle.payroll_records.specs.declared.table.TableFault.{TableFault}
 use Rattle.payroll_records.specs.declared.table.TableFault.TheVariants as tables
-use Rattle.payroll_records.specs.Days.{day_text, month_text}
+use Rattle.payroll_records.specs.Days.{month_text}
 use Rattle.payroll_records.specs.Whens.{when_text}
+use Rattle.saved_items.specs.SavedBooks.{day_word}
 use Rattle.script_lang.specs.declared.fault.LineFault.{LineFault}
 use Rattle.script_lang.specs.declared.fault.LineFault.TheVariants as lines
 use Rattle.book_year.specs.declared.outcome.Work.{Work}
@@ -64,14 +64,10 @@ trace_text steps = flat_map step_line steps ++ end_line
 
 -- ---- filings
 
--- YYYY-MM-DD
-abbrev pub text_of_day : Day → List ℕ
-text_of_day d = day_text d.year d.month d.day
-
 -- EMP DAY NAME AMOUNT
 abbrev pub due_words : Due → List ℕ
 due_words d =
-    spaced d.key.employee (spaced (text_of_day d.key.day) (spaced d.name (plain_text d.amount)))
+    spaced d.key.employee (spaced (day_word d.key.day) (spaced d.name (plain_text d.amount)))
 
 -- due EMP DAY NAME AMOUNT
 abbrev pub due_line : Entry → List ℕ
@@ -108,9 +104,9 @@ amount_word (Some v) = plain_text v
 -- changed EMP DAY OLD NEW, value EMP DAY NAME OLD NEW
 abbrev pub trial_line : TrialRow → List ℕ
 trial_line (Changed k before after) =
-    line (codes "changed " ++ spaced k.employee (spaced (text_of_day k.day) (spaced (shown_word before) (shown_word after))))
+    line (codes "changed " ++ spaced k.employee (spaced (day_word k.day) (spaced (shown_word before) (shown_word after))))
 trial_line (Value k name before after) =
-    line (codes "value " ++ spaced k.employee (spaced (text_of_day k.day)
+    line (codes "value " ++ spaced k.employee (spaced (day_word k.day)
     (spaced name (spaced (amount_word before) (amount_word after)))))
 
 -- would RUNS STEPS: the work of putting the plan
@@ -149,37 +145,37 @@ table_detail (tables.Memory e) = []
 
 -- why an edit of the book is refused
 abbrev pub edit_detail : EditRefusal → List ℕ
-edit_detail (edits.Present k) = codes "edit Present " ++ spaced k.employee (text_of_day k.day)
+edit_detail (edits.Present k) = codes "edit Present " ++ spaced k.employee (day_word k.day)
 edit_detail (edits.Absent e w) = codes "edit Absent " ++ spaced e (when_text w)
 edit_detail (edits.Several e m) = codes "edit Several " ++ spaced e (month_text m.year m.month)
 edit_detail edits.Records = codes "edit Records"
 edit_detail edits.Plans = codes "edit Plans"
-edit_detail (edits.NoPlanThere d) = codes "edit NoPlanThere " ++ text_of_day d
+edit_detail (edits.NoPlanThere d) = codes "edit NoPlanThere " ++ day_word d
 edit_detail (edits.Memory e) = []
 
 -- why no trace is told
 abbrev pub trace_detail : TraceRefusal → List ℕ
 trace_detail (traces.Absent e w) = codes "trace Absent " ++ spaced e (when_text w)
 trace_detail (traces.Several e m) = codes "trace Several " ++ spaced e (month_text m.year m.month)
-trace_detail (traces.NotDone k) = codes "trace NotDone " ++ spaced k.employee (text_of_day k.day)
+trace_detail (traces.NotDone k) = codes "trace NotDone " ++ spaced k.employee (day_word k.day)
 trace_detail (traces.Memory e) = []
 
 -- why a month isn't filed
 abbrev pub file_detail : FileRefusal → List ℕ
 file_detail (filing.Early last) = codes "file Early " ++ month_text last.year last.month
-file_detail (filing.Open k) = codes "file Open " ++ spaced k.employee (text_of_day k.day)
+file_detail (filing.Open k) = codes "file Open " ++ spaced k.employee (day_word k.day)
 file_detail filing.Entries = codes "file Entries"
 file_detail (filing.Memory e) = []
 
 -- why it isn't known what is owed
 abbrev pub owed_detail : OwedRefusal → List ℕ
 owed_detail owed.NothingFiled = codes "file NothingFiled"
-owed_detail (owed.Open k) = codes "file Open " ++ spaced k.employee (text_of_day k.day)
+owed_detail (owed.Open k) = codes "file Open " ++ spaced k.employee (day_word k.day)
 owed_detail (owed.Memory e) = []
 
 -- why a text isn't that of a saved book
 abbrev pub book_detail : BookFault → List ℕ
 book_detail books.Long = codes "book Long"
 book_detail (books.Form item) = codes "book Form " ++ number item
-book_detail (books.Plan day) = codes "book Plan " ++ text_of_day day
+book_detail (books.Plan day) = codes "book Plan " ++ day_word day
 book_detail (books.Memory e) = []

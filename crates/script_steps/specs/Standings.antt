@@ -1,5 +1,5 @@
 -- What the lines of a script leave, and what a line answers.
-use Rattle.std.specs.Prelude.{◌≡◌, ℕ, ◌+◌, ◌-◌, ◌^◌, List, [], false, None, min}
+use Rattle.std.specs.Prelude.{◌≡◌, ◌⊎◌, ℕ, ◌+◌, ◌-◌, ◌^◌, List, [], false, None, min}
 use Rattle.book_year.specs.declared.outcome.Work.{Work}
 use Rattle.recalc_engine.specs.Contents.{Contents}
 use Rattle.correction_ledger.specs.Filings.{Filings}
@@ -30,9 +30,13 @@ after_edit from book = record {
 abbrev pub with_book : Standing → Contents → Standing
 with_book from book = record { book = book; filings = from.filings; made = from.made }
 
+-- a month was filed, and has left these filings
+abbrev pub after_filing : Standing → Filings → Standing
+after_filing from filings = record { book = from.book; filings = filings; made = from.made }
+
 -- before the first line
-abbrev pub start : Standing
-start = record {
+abbrev pub first_standing : Standing
+first_standing = record {
   book = record { years = []; plans = []; last = record { runs = 0; steps = 0 } };
   filings = record { entries = []; last = None };
   made = record { runs = 0; steps = 0 };
@@ -49,6 +53,10 @@ Doing = Standing → Answer → Type 0
 -- nothing changes, and this is answered
 abbrev pub Stays : Standing → Standing → Answer → Answer → Type 0
 Stays from to said answer = (to ≡ from) × (answer ≡ said)
+
+-- what is left is as it was, or what the line leaves
+abbrev pub StaysOrSteps : Doing → Standing → Standing → Type 0
+StaysOrSteps Step from to = (to ≡ from) ⊎ ((answer : Answer) × Step to answer)
 
 -- nothing is written
 abbrev pub silence : Answer

@@ -100,10 +100,15 @@ IsTrialReply bound (Ok trial) answer = answer ≡ answered (bound ++ trial_text 
 IsTrialReply bound (Err trying.Plans) answer = IsEditRefusal edits.Plans answer
 IsTrialReply bound (Err (trying.Memory e)) answer = ⊥
 
--- what is answered to an edit that the book has made or refused, and what its work makes of the work of all edits
-abbrev pub IsEditReply : List ℕ → Result Work EditRefusal → Work → Work → Answer → Type 0
-IsEditReply text (Ok work) before now answer = (answer ≡ answered text work.steps) × (now ≡ more_work before work)
-IsEditReply text (Err why) before now answer = IsEditRefusal why answer × (now ≡ before)
+-- what is answered to an edit that the book has made or refused
+abbrev pub IsEditReply : List ℕ → Result Work EditRefusal → Answer → Type 0
+IsEditReply text (Ok work) answer = answer ≡ answered text work.steps
+IsEditReply text (Err why) answer = IsEditRefusal why answer
+
+-- the work of all edits behind one that the book has made or refused
+abbrev pub work_behind : Work → Result Work EditRefusal → Work
+work_behind before (Ok work) = more_work before work
+work_behind before (Err why) = before
 
 -- ---- what was written
 

@@ -6,7 +6,7 @@ use Rattle.script_lang.specs.Lines.{IsLine, LineSays}
 use Rattle.script_lang.specs.declared.fault.LineFault.{LineFault}
 use Rattle.script_steps.specs.LineSteps.{Does, IsFileOf}
 pub use Rattle.plan_answers.specs.Answers.{Answer}
-pub use Rattle.script_steps.specs.Standings.{Standing, start, silence}
+pub use Rattle.script_steps.specs.Standings.{Standing, first_standing, silence}
 
 -- the line names this file
 pub record Names (line name : List ℕ) : Type 0 where

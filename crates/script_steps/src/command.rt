@@ -1,12 +1,13 @@
 //! What a line asks for, done and answered.
-ghost use Rattle.std.specs.Prelude.{◌≡◌, ◌≢◌, ℕ, List, IfOk, Ok, Err, is_some};
+ghost use Rattle.std.specs.Prelude.{◌≡◌, ◌≢◌, ℕ, List, IfOk, OnErr, Ok, Err, is_some};
 ghost use Rattle.std.specs.Result.{ForErr};
 ghost use Rattle.outside.specs.Causes.{Caused};
 ghost use Rattle.script_steps.specs.Replies.{reply_of};
 ghost use Rattle.script_lang.specs.Commands.{asked_of};
 ghost use Rattle.script_lang.specs.Lines.{IsLine};
 ghost use Rattle.script_steps.specs.LineTexts.{work_line};
-ghost use Rattle.script_steps.specs.Standings.{answered};
+ghost use Rattle.script_steps.specs.Standings.{StaysOrSteps, answered};
+ghost use Rattle.script_steps.specs.Shown.{shown_by};
 ghost use Rattle.script_steps.specs.StepClauses.{IsAnswered, IsBroken};
 ghost use Rattle.script_steps.specs.StepViews.{IsMade, IsUnmade, ToldDoes};
 
@@ -37,13 +38,15 @@ pub(crate) fn answer_command<F: Files, W: Sink, L: Ledger>(
     steps: &mut Steps<L>,
 ) -> Result<Option<String>, LineStop>
     ensures answered { (line : List ℕ) → IsLine line (asked_of command)
-        → IfOk result (λ wrong. IsAnswered (F.told files.old)
-        (W.written sink.old) (W.written sink.new) steps.old steps.new
+        → IfOk result (λ wrong. IsAnswered
+        (shown_by F.Files W.Sink files.old sink.old steps.old)
+        (shown_by F.Files W.Sink files.new sink.new steps.new)
         script.old script.new line (is_some wrong)) }
     ensures broken { (line : List ℕ) → IsLine line (asked_of command)
-        → ForErr result (λ stop. IsBroken (F.told files.old)
-        (W.written sink.old) (W.written sink.new) steps.old steps.new
-        script.old script.new line (F.failed files.new) stop) }
+        → ForErr result (λ stop. IsBroken
+        (shown_by F.Files W.Sink files.old sink.old steps.old)
+        (shown_by F.Files W.Sink files.new sink.new steps.new)
+        script.old script.new line stop) }
     ensures same { F.told files.new ≡ F.told files.old }
     ensures file { Caused LineStop.File (F.faults files.old) (F.faults files.new) result }
     ensures write { Caused LineStop.Write (W.faults sink.old) (W.faults sink.new) result }
@@ -73,6 +76,9 @@ fn make_reply<F: Files, L: Ledger>(
     ensures unmade { ForErr result (IsUnmade (F.told files.old)
         (ToldDoes (F.told files.old) script.old (Ok (asked_of command)))
         (asked_of command) steps.old steps.new (F.failed files.new)) }
+    ensures left { OnErr result (StaysOrSteps
+        (ToldDoes (F.told files.old) script.old (Ok (asked_of command)))
+        script.old script.new) }
     ensures unchanged { result ≡ Err LineStop.File → script.new ≡ script.old }
     ensures same { F.told files.new ≡ F.told files.old }
     ensures file { Caused LineStop.File (F.faults files.old) (F.faults files.new) result }

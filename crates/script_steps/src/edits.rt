@@ -4,8 +4,8 @@ ghost use Rattle.script_steps.specs.Replies.{reply_of};
 ghost use Rattle.recalc_engine.specs.EditAnswers.{add, change, drop, withdraw};
 ghost use Rattle.script_steps.specs.LineSteps.{IsEditStep};
 ghost use Rattle.script_steps.specs.LineTexts.{ok_line};
-ghost use Rattle.script_steps.specs.Standings.{more_work};
-ghost use Rattle.script_steps.specs.StepViews.{IsEditReply, IsLost, IsMade};
+ghost use Rattle.script_steps.specs.Standings.{StaysOrSteps, more_work};
+ghost use Rattle.script_steps.specs.StepViews.{IsEditReply, IsLost, IsMade, work_behind};
 
 use crate::refusals::edit_refusal;
 use crate::reply::{LineReply, answered};
@@ -27,8 +27,8 @@ pub(crate) fn edit_reply(
     text: &[u8],
     made: Result<Work, EditRefusal>,
 ) -> Result<LineReply, AllocError>
-    ensures { IfOk result
-        (λ reply. IsEditReply text.now made total.old total.new (reply_of reply)) }
+    ensures reply { IfOk result (λ reply. IsEditReply text.now made (reply_of reply)) }
+    ensures total { total.new ≡ work_behind total.old made }
 {
     match made {
         Ok(work) => {
@@ -61,6 +61,8 @@ pub(crate) fn add<L: Ledger>(
         script.new steps.old steps.new (reply_of reply)) }
     ensures lost { OnErr result
         (IsLost (IsEditStep ok_line script.old (add run)) steps.old steps.new) }
+    ensures left { OnErr result
+        (StaysOrSteps (IsEditStep ok_line script.old (add run)) script.old script.new) }
 {
     let made = script.book.add(run, steps);
     edit_reply(alloc, &mut script.made, OK, made)
@@ -77,6 +79,8 @@ pub(crate) fn change<L: Ledger>(
         script.new steps.old steps.new (reply_of reply)) }
     ensures lost { OnErr result
         (IsLost (IsEditStep ok_line script.old (change run)) steps.old steps.new) }
+    ensures left { OnErr result
+        (StaysOrSteps (IsEditStep ok_line script.old (change run)) script.old script.new) }
 {
     let made = script.book.change(run, steps);
     edit_reply(alloc, &mut script.made, OK, made)
@@ -95,6 +99,9 @@ pub(crate) fn withdraw<L: Ledger>(
         script.new steps.old steps.new (reply_of reply)) }
     ensures lost { OnErr result
         (IsLost (IsEditStep ok_line script.old (withdraw employee when)) steps.old steps.new) }
+    ensures left { OnErr result
+        (StaysOrSteps (IsEditStep ok_line script.old (withdraw employee when))
+        script.old script.new) }
 {
     let made = script.book.withdraw(employee, when, steps);
     edit_reply(alloc, &mut script.made, OK, made)
@@ -111,6 +118,8 @@ pub(crate) fn drop_plan<L: Ledger>(
         script.new steps.old steps.new (reply_of reply)) }
     ensures lost { OnErr result
         (IsLost (IsEditStep ok_line script.old (drop day)) steps.old steps.new) }
+    ensures left { OnErr result
+        (StaysOrSteps (IsEditStep ok_line script.old (drop day)) script.old script.new) }
 {
     let made = script.book.drop_plan(day, steps);
     edit_reply(alloc, &mut script.made, OK, made)

@@ -1,8 +1,10 @@
 //! The lines `file` and `owed`.
-ghost use Rattle.std.specs.Prelude.{◌≡◌, IfOk, string_bytes};
+ghost use Rattle.std.specs.Prelude.{◌≡◌, ◌++◌, IfOk, OnErr, OnOk, string_bytes};
 ghost use Rattle.script_steps.specs.Replies.{reply_of};
 ghost use Rattle.script_steps.specs.FilingSteps.{IsFileStep, IsOwedAnswer};
-ghost use Rattle.script_steps.specs.LineTexts.{due_line, filed_text, owed_line, owed_text};
+ghost use Rattle.script_steps.specs.Standings.{StaysOrSteps};
+ghost use Rattle.script_steps.specs.LineTexts.{due_words, filed_text, owed_text};
+ghost use Rattle.plan_answers.specs.Lines.{line, spaced};
 
 use crate::refusals::{file_refusal, owed_refusal};
 use crate::reply::{LineReply, answered};
@@ -17,8 +19,10 @@ pub(crate) fn file(
     script: &mut Script,
     month: Month,
 ) -> Result<LineReply, AllocError>
-    ensures { IfOk result
+    ensures made { IfOk result
         (λ reply. IsFileStep script.old month script.new (reply_of reply)) }
+    ensures left { OnErr result
+        (StaysOrSteps (IsFileStep script.old month) script.old script.new) }
 {
     let before = script.ledger.entries().len();
     match script.ledger.file(&script.book, month) {
@@ -35,25 +39,12 @@ pub(crate) fn file(
 fn filed_text(alloc: Global, entries: &[Entry], count: u64) -> Result<Vec<u8>, AllocError>
     ensures { IfOk result (λ text. text.items ≡ filed_text entries.now count) }
 {
-    let mut text = Vec::new(alloc);
+    let mut text = String::new(alloc);
     for entry in entries {
-        let line = due_line(alloc, entry)?;
-        text.extend_from_slice(line.as_bytes())?;
+        write_due(&mut text, "due", &entry.due)?;
     }
-    let line = format!(in alloc; "filed {count}\n")?;
-    text.extend_from_slice(line.as_bytes())?;
-    Ok(text)
-}
-
-/// The line of an entry that is filed.
-fn due_line(alloc: Global, entry: &Entry) -> Result<String, AllocError>
-    ensures { IfOk result (λ line. string_bytes line ≡ due_line entry.now) }
-{
-    let employee = entry.due.key.employee;
-    let day = entry.due.key.day;
-    let name = entry.due.name;
-    let amount = entry.due.amount;
-    format!(in alloc; "due {employee} {day} {name} {amount}\n")
+    write!(text, "filed {count}\n")?;
+    Ok(text.into_bytes())
 }
 
 /// The line `owed`.
@@ -71,22 +62,22 @@ pub(crate) fn owed(alloc: Global, script: &Script) -> Result<LineReply, AllocErr
 fn owed_text(alloc: Global, dues: &[Due]) -> Result<Vec<u8>, AllocError>
     ensures { IfOk result (λ text. text.items ≡ owed_text dues.now) }
 {
-    let mut text = Vec::new(alloc);
+    let mut text = String::new(alloc);
     for due in dues {
-        let line = owed_line(alloc, due)?;
-        text.extend_from_slice(line.as_bytes())?;
+        write_due(&mut text, "owed", due)?;
     }
-    text.extend_from_slice(b"end\n")?;
-    Ok(text)
+    text.push_str("end\n")?;
+    Ok(text.into_bytes())
 }
 
-/// The line of an amount that is owed.
-fn owed_line(alloc: Global, due: &Due) -> Result<String, AllocError>
-    ensures { IfOk result (λ line. string_bytes line ≡ owed_line due.now) }
+/// Appends the line of an amount, which begins with a word.
+fn write_due(text: &mut String, word: &str, due: &Due) -> Result<(), AllocError>
+    ensures { OnOk result (string_bytes text.new
+        ≡ string_bytes text.old ++ line (spaced word.now (due_words due.now))) }
 {
     let employee = due.key.employee;
     let day = due.key.day;
     let name = due.name;
     let amount = due.amount;
-    format!(in alloc; "owed {employee} {day} {name} {amount}\n")
+    write!(text, "{word} {employee} {day} {name} {amount}\n")
 }

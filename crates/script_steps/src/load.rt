@@ -5,6 +5,7 @@ ghost use Rattle.outside.specs.Causes.{Caused};
 ghost use Rattle.script_steps.specs.Replies.{reply_of};
 ghost use Rattle.script_lang.specs.Commands as asked;
 ghost use Rattle.script_steps.specs.LineSteps.{IsTableStep};
+ghost use Rattle.script_steps.specs.Standings.{StaysOrSteps};
 ghost use Rattle.script_steps.specs.StepViews.{IsMade, IsUnmade, IsWant, ToldDoes};
 
 use crate::edits::{OK, edit_reply};
@@ -32,6 +33,9 @@ pub(crate) fn load<F: Files, L: Ledger>(
     ensures unmade { ForErr result (IsUnmade (F.told files.old)
         (ToldDoes (F.told files.old) script.old (Ok (asked.load file.now)))
         (asked.load file.now) steps.old steps.new (F.failed files.new)) }
+    ensures left { OnErr result (StaysOrSteps
+        (ToldDoes (F.told files.old) script.old (Ok (asked.load file.now)))
+        script.old script.new) }
     ensures unchanged { result ≡ Err LineStop.File → script.new ≡ script.old }
     ensures same { F.told files.new ≡ F.told files.old }
     ensures file { Caused LineStop.File (F.faults files.old) (F.faults files.new) result }
@@ -53,6 +57,8 @@ fn load_table<L: Ledger>(
         script.new steps.old steps.new (reply_of reply)) }
     ensures lost { OnErr result
         (IsWant (IsTableStep script.old table.now) steps.old steps.new) }
+    ensures left { OnErr result
+        (StaysOrSteps (IsTableStep script.old table.now) script.old script.new) }
 {
     match read_table(alloc, table) {
         Ok(runs) => {

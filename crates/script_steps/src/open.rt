@@ -6,6 +6,7 @@ ghost use Rattle.plan_answers.specs.Answers.{refusal};
 ghost use Rattle.script_steps.specs.Replies.{reply_of};
 ghost use Rattle.script_lang.specs.Commands as asked;
 ghost use Rattle.script_steps.specs.OpenSteps.{IsEmpty, IsFresh, IsOpenStep};
+ghost use Rattle.script_steps.specs.Standings.{StaysOrSteps};
 ghost use Rattle.script_steps.specs.StepViews.{IsMade, IsUnmade, IsWant, ToldDoes};
 
 use crate::edits::OK;
@@ -20,9 +21,11 @@ use std::alloc::{AllocError, Global};
 use std::sync::ledger::Ledger;
 use steps::Steps;
 
+/// What is wrong with a line `open` where the book isn't empty, in plain words.
 const NOT_EMPTY: &str =
     "a saved book is opened in place of an empty one, and this one has runs or plans";
 
+/// What is wrong with it where a month was filed.
 const FILED: &str = "a saved book is opened before a month is filed, and one was filed";
 
 /// The line `open`, with its file's name.
@@ -39,6 +42,9 @@ pub(crate) fn open<F: Files, L: Ledger>(
     ensures unmade { ForErr result (IsUnmade (F.told files.old)
         (ToldDoes (F.told files.old) script.old (Ok (asked.opening file.now)))
         (asked.opening file.now) steps.old steps.new (F.failed files.new)) }
+    ensures left { OnErr result (StaysOrSteps
+        (ToldDoes (F.told files.old) script.old (Ok (asked.opening file.now)))
+        script.old script.new) }
     ensures unchanged { result ≡ Err LineStop.File → script.new ≡ script.old }
     ensures same { F.told files.new ≡ F.told files.old }
     ensures file { Caused LineStop.File (F.faults files.old) (F.faults files.new) result }
@@ -59,6 +65,8 @@ fn open_text<L: Ledger>(
         script.new steps.old steps.new (reply_of reply)) }
     ensures lost { OnErr result
         (IsWant (IsOpenStep script.old text.now) steps.old steps.new) }
+    ensures left { OnErr result
+        (StaysOrSteps (IsOpenStep script.old text.now) script.old script.new) }
 {
     if !is_empty(&script.book) {
         return unopened(alloc, b"book NotEmpty", NOT_EMPTY);
@@ -81,6 +89,8 @@ fn open_fresh<L: Ledger>(
         script.new steps.old steps.new (reply_of reply)) }
     ensures lost { OnErr result
         (IsWant (IsOpenStep script.old text.now) steps.old steps.new) }
+    ensures left { OnErr result
+        (StaysOrSteps (IsOpenStep script.old text.now) script.old script.new) }
 {
     match read_book(alloc, text, steps) {
         Ok(restored) => {

@@ -8,6 +8,7 @@ ghost use Rattle.script_steps.specs.Replies.{reply_of};
 ghost use Rattle.script_lang.specs.Commands as asked;
 ghost use Rattle.script_steps.specs.LineSteps.{IsPut, IsTextsStep, IsTrialStep};
 ghost use Rattle.script_steps.specs.PlanViews.{AreJudged, IsJudged, IsUnjudged};
+ghost use Rattle.script_steps.specs.Standings.{StaysOrSteps};
 ghost use Rattle.script_steps.specs.StepViews.{IsMade, IsUnmade, IsWant, ToldDoes};
 
 use crate::edits::edit_reply;
@@ -50,6 +51,9 @@ pub(crate) fn plan<F: Files, L: Ledger>(
     ensures unmade { ForErr result (IsUnmade (F.told files.old)
         (ToldDoes (F.told files.old) script.old (Ok (asked.plan day plan.now limits.now)))
         (asked.plan day plan.now limits.now) steps.old steps.new (F.failed files.new)) }
+    ensures left { OnErr result (StaysOrSteps
+        (ToldDoes (F.told files.old) script.old (Ok (asked.plan day plan.now limits.now)))
+        script.old script.new) }
     ensures unchanged { result ≡ Err LineStop.File → script.new ≡ script.old }
     ensures same { F.told files.new ≡ F.told files.old }
     ensures file { Caused LineStop.File (F.faults files.old) (F.faults files.new) result }
@@ -162,6 +166,8 @@ fn put<L: Ledger>(
         script.new steps.old steps.new (reply_of reply)) }
     ensures lost { (plan limits : List ℕ) → IsJudged plan limits judged → OnErr result
         (IsWant (IsTextsStep IsPut script.old day plan limits) steps.old steps.new) }
+    ensures left { (plan limits : List ℕ) → IsJudged plan limits judged → OnErr result
+        (StaysOrSteps (IsTextsStep IsPut script.old day plan limits) script.old script.new) }
 {
     match judged {
         Judged::Accepted { plan, line } => {

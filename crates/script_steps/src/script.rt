@@ -1,6 +1,6 @@
 //! What the lines of a script have made so far.
 ghost use Rattle.std.specs.Prelude.{◌≡◌};
-ghost use Rattle.script_steps.specs.Standings.{start};
+ghost use Rattle.script_steps.specs.Standings.{first_standing};
 
 use correction_ledger::Ledger;
 use recalc_engine::{Book, Work};
@@ -33,7 +33,7 @@ impl Model for Script {
 impl Script {
     /// Before the first line: a book without runs and without plans, of which nothing was filed.
     pub fn new(alloc: Global) -> Script
-        ensures { result ≡ start }
+        ensures { result ≡ first_standing }
     {
         Script {
             book: Book::new(alloc),

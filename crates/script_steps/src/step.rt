@@ -2,6 +2,7 @@
 ghost use Rattle.std.specs.Prelude.{◌≡◌, ◌≢◌, IfOk, Err, is_some};
 ghost use Rattle.std.specs.Result.{ForErr};
 ghost use Rattle.outside.specs.Causes.{Caused};
+ghost use Rattle.script_steps.specs.Shown.{shown_by};
 ghost use Rattle.script_steps.specs.StepClauses.{IsAnswered, IsBroken};
 ghost use Rattle.script_steps.specs.StepLaws.{LinesHaveAStep, LinesHaveOneStep, FilesAreTold};
 ghost use Rattle.script_steps.specs.StepLaws.{LongLinesAreOne, LongLinesNameNoFile};
@@ -21,8 +22,8 @@ use steps::Steps;
 
 /// Answers a line of a script, which stands without its line end. `Ok` has what is wrong with the line, in plain words,
 /// where the answer is a refusal. The counter rises by the steps of the answer: of an accepted edit, `try` or `open`. Where
-/// a file could not be read the script is as it was, and where the sink failed it is what the line makes of it. After
-/// memory ran out it isn't to be gone on with.
+/// a file could not be read the script is as it was, and where the sink failed it is what the line makes of it. Where
+/// memory ran out it is the one or the other.
 pub fn answer_line<F: Files, W: Sink, L: Ledger>(
     alloc: Global,
     script: &mut Script,
@@ -31,12 +32,14 @@ pub fn answer_line<F: Files, W: Sink, L: Ledger>(
     sink: &mut W,
     steps: &mut Steps<L>,
 ) -> Result<Option<String>, LineStop>
-    ensures answered { IfOk result (λ wrong. IsAnswered (F.told files.old)
-        (W.written sink.old) (W.written sink.new) steps.old steps.new
+    ensures answered { IfOk result (λ wrong. IsAnswered
+        (shown_by F.Files W.Sink files.old sink.old steps.old)
+        (shown_by F.Files W.Sink files.new sink.new steps.new)
         script.old script.new line.now (is_some wrong)) }
-    ensures broken { ForErr result (λ stop. IsBroken (F.told files.old)
-        (W.written sink.old) (W.written sink.new) steps.old steps.new
-        script.old script.new line.now (F.failed files.new) stop) }
+    ensures broken { ForErr result (λ stop. IsBroken
+        (shown_by F.Files W.Sink files.old sink.old steps.old)
+        (shown_by F.Files W.Sink files.new sink.new steps.new)
+        script.old script.new line.now stop) }
     ensures same { F.told files.new ≡ F.told files.old }
     ensures file { Caused LineStop.File (F.faults files.old) (F.faults files.new) result }
     ensures write { Caused LineStop.Write (W.faults sink.old) (W.faults sink.new) result }

@@ -1,5 +1,5 @@
 //! The line `trace`.
-ghost use Rattle.std.specs.Prelude.{◌≡◌, IfOk, string_bytes};
+ghost use Rattle.std.specs.Prelude.{◌≡◌, ◌++◌, IfOk, OnOk, string_bytes};
 ghost use Rattle.script_steps.specs.Replies.{reply_of};
 ghost use Rattle.script_steps.specs.LineTexts.{step_line, trace_text};
 ghost use Rattle.script_steps.specs.TraceSteps.{trace_answer};
@@ -31,18 +31,18 @@ pub(crate) fn trace(
 fn trace_text(alloc: Global, steps: &[TraceStep]) -> Result<Vec<u8>, AllocError>
     ensures { IfOk result (λ text. text.items ≡ trace_text steps.now) }
 {
-    let mut text = Vec::new(alloc);
+    let mut text = String::new(alloc);
     for step in steps {
-        let line = step_line(alloc, step)?;
-        text.extend_from_slice(line.as_bytes())?;
+        write_step(&mut text, step)?;
     }
-    text.extend_from_slice(b"end\n")?;
-    Ok(text)
+    text.push_str("end\n")?;
+    Ok(text.into_bytes())
 }
 
-/// The line of a step.
-fn step_line(alloc: Global, step: &TraceStep) -> Result<String, AllocError>
-    ensures { IfOk result (λ line. string_bytes line ≡ step_line step.now) }
+/// Appends the line of a step.
+fn write_step(text: &mut String, step: &TraceStep) -> Result<(), AllocError>
+    ensures { OnOk result
+        (string_bytes text.new ≡ string_bytes text.old ++ step_line step.now) }
 {
     match step {
         TraceStep::Set {
@@ -50,18 +50,18 @@ fn step_line(alloc: Global, step: &TraceStep) -> Result<String, AllocError>
             stmt,
             target,
             value,
-        } => format!(in alloc; "set {method}:{stmt} {target} {value}\n"),
+        } => write!(text, "set {method}:{stmt} {target} {value}\n"),
         TraceStep::Test { method, stmt, yes } => {
             if *yes {
-                format!(in alloc; "test {method}:{stmt} yes\n")
+                write!(text, "test {method}:{stmt} yes\n")
             } else {
-                format!(in alloc; "test {method}:{stmt} no\n")
+                write!(text, "test {method}:{stmt} no\n")
             }
         }
         TraceStep::Enter {
             method,
             stmt,
             callee,
-        } => format!(in alloc; "call {method}:{stmt} {callee}\n"),
+        } => write!(text, "call {method}:{stmt} {callee}\n"),
     }
 }

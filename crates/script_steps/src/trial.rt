@@ -2,7 +2,7 @@
 ghost use Rattle.std.specs.Prelude.{◌≡◌, ◌++◌, IfOk, OnOk, string_bytes};
 ghost use Rattle.std.specs.List.{flat_map};
 ghost use Rattle.script_steps.specs.Replies.{reply_of};
-ghost use Rattle.script_steps.specs.LineTexts.{amount_word, shown_word, trial_line, trial_text, would_line};
+ghost use Rattle.script_steps.specs.LineTexts.{amount_word, shown_word, trial_line, trial_text};
 ghost use Rattle.script_steps.specs.StepViews.{IsTrialReply};
 
 use crate::refusals::edit_refusal;
@@ -32,36 +32,28 @@ fn trial_text(alloc: Global, bound: String, trial: &Trial) -> Result<Vec<u8>, Al
     ensures { IfOk result
         (λ text. text.items ≡ string_bytes bound ++ trial_text trial.now) }
 {
-    let mut text = bound.into_bytes();
-    write_rows(alloc, trial.rows.as_slice(), &mut text)?;
-    let line = would_line(alloc, trial.work)?;
-    text.extend_from_slice(line.as_bytes())?;
-    Ok(text)
+    let mut text = bound;
+    write_rows(alloc, &mut text, trial.rows.as_slice())?;
+    let Work { runs, steps } = trial.work;
+    write!(text, "would {runs} {steps}\n")?;
+    Ok(text.into_bytes())
 }
 
 /// Appends a line for each row.
-fn write_rows(alloc: Global, rows: &[TrialRow], text: &mut Vec<u8>) -> Result<(), AllocError>
+fn write_rows(alloc: Global, text: &mut String, rows: &[TrialRow]) -> Result<(), AllocError>
     ensures { OnOk result
-        (text.new.items ≡ text.old.items ++ flat_map trial_line rows.now) }
+        (string_bytes text.new ≡ string_bytes text.old ++ flat_map trial_line rows.now) }
 {
     for row in rows {
-        let line = trial_line(alloc, row)?;
-        text.extend_from_slice(line.as_bytes())?;
+        write_row(alloc, text, row)?;
     }
     Ok(())
 }
 
-/// The line of the work of putting a plan.
-fn would_line(alloc: Global, work: Work) -> Result<String, AllocError>
-    ensures { IfOk result (λ line. string_bytes line ≡ would_line work) }
-{
-    let Work { runs, steps } = work;
-    format!(in alloc; "would {runs} {steps}\n")
-}
-
-/// The line of a row.
-fn trial_line(alloc: Global, row: &TrialRow) -> Result<String, AllocError>
-    ensures { IfOk result (λ line. string_bytes line ≡ trial_line row.now) }
+/// Appends the line of a row.
+fn write_row(alloc: Global, text: &mut String, row: &TrialRow) -> Result<(), AllocError>
+    ensures { OnOk result
+        (string_bytes text.new ≡ string_bytes text.old ++ trial_line row.now) }
 {
     match row {
         TrialRow::Changed { key, before, after } => {
@@ -69,7 +61,7 @@ fn trial_line(alloc: Global, row: &TrialRow) -> Result<String, AllocError>
             let day = key.day;
             let old = shown_word(*before);
             let new = shown_word(*after);
-            format!(in alloc; "changed {employee} {day} {old} {new}\n")
+            write!(text, "changed {employee} {day} {old} {new}\n")
         }
         TrialRow::Value {
             key,
@@ -81,7 +73,7 @@ fn trial_line(alloc: Global, row: &TrialRow) -> Result<String, AllocError>
             let day = key.day;
             let old = amount_word(alloc, *before)?;
             let new = amount_word(alloc, *after)?;
-            format!(in alloc; "value {employee} {day} {name} {old} {new}\n")
+            write!(text, "value {employee} {day} {name} {old} {new}\n")
         }
     }
 }

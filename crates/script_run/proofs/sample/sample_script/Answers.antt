@@ -13,10 +13,10 @@ script_is c =
     let employees = c.args.employees in
     joined (codes "plan 2025-01-01 p2.xml l2.toml\n") (script_of (flat_map year_lines (numbers employees))) (script_of
     (map change_line (numbers employees))) (codes "report\n")
-    (string_bytes c.push_years.new.script) (string_bytes c.push_corrections.new.script)
+    (string_bytes c.write_years.new.script) (string_bytes c.write_corrections.new.script)
     (string_bytes c.push_str.new.self)
-    (c.in_ok-push_years.ensures ∙ ap (λ v. v ++ script_of (flat_map year_lines
-    (numbers employees))) c.in_ok-script.ensures.ok) c.in_ok-push_corrections.ensures
+    (c.in_ok-write_years.ensures ∙ ap (λ v. v ++ script_of (flat_map year_lines
+    (numbers employees))) c.in_ok-script.ensures.ok) c.in_ok-write_corrections.ensures
     c.in_ok-push_str.ensures.bytes
     ∙ sym (sample_parts employees)
 

@@ -1,4 +1,5 @@
 use Rattle.std.proofs.Common.{◌++◌, ◌∙◌, refl, ap, subst}
+use Rattle.script_steps.specs.Shown.{shown_by}
 use Rattle.std.specs.Prelude.{Ok, Err, IfOk, is_some}
 use Rattle.std.specs.Result.{ForErr}
 use Rattle.std.proofs.lemmas.Result.{err_from_is_err_and}
@@ -17,20 +18,20 @@ use Rattle.script_steps.proofs.command.answer_command.Goals as goal
 
 pub returns-in-Report-clause-answered : goal.returns-in-Report-clause-answered
 returns-in-Report-clause-answered g c = λ line says.
-    let told = g.F.Files.told c.args.files.now in
-    made_answered told (g.W.Sink.written c.args.sink.now) (g.W.Sink.written c.report.new.sink) c.args.steps.now
-    c.args.steps.now c.args.script.now c.args.script.now (g.F.Files.failed c.args.files.now) asked.report
-    (report_answer c.args.script.now) (report_made told c.args.script.now c.args.steps.now) c.report.result
+    made_answered (shown_by g.F.Files g.W.Sink c.args.files.now c.args.sink.now c.args.steps.now)
+    (shown_by g.F.Files g.W.Sink c.args.files.now c.report.new.sink c.args.steps.now) c.args.script.now
+    c.args.script.now asked.report (report_answer c.args.script.now)
+    (report_made (g.F.Files.told c.args.files.now) c.args.script.now c.args.steps.now) c.report.result
     (subst (λ (s : Standing). IfOk c.report.result (λ wrong. IsWritten (g.W.Sink.written c.args.sink.now)
     (g.W.Sink.written c.report.new.sink) (report_answer s).text (report_answer s).refused (is_some wrong))) c.script.view_is
     c.report.ensures.ok) line (subst (λ k. IsLine line (asked_of k)) c.in-Report.is says)
 
 pub returns-in-Report-clause-broken : goal.returns-in-Report-clause-broken
 returns-in-Report-clause-broken g c = λ line says.
-    let told = g.F.Files.told c.args.files.now in
-    made_broken told (g.W.Sink.written c.args.sink.now) (g.W.Sink.written c.report.new.sink) c.args.steps.now
-    c.args.steps.now c.args.script.now c.args.script.now (g.F.Files.failed c.args.files.now) asked.report
-    (report_answer c.args.script.now) (report_made told c.args.script.now c.args.steps.now) c.report.result
+    made_broken (shown_by g.F.Files g.W.Sink c.args.files.now c.args.sink.now c.args.steps.now)
+    (shown_by g.F.Files g.W.Sink c.args.files.now c.report.new.sink c.args.steps.now) c.args.script.now
+    c.args.script.now asked.report (report_answer c.args.script.now)
+    (report_made (g.F.Files.told c.args.files.now) c.args.script.now c.args.steps.now) c.report.result
     (subst (λ (s : Standing). ForErr c.report.result (IsFrontWritten (g.W.Sink.written c.args.sink.now)
     (g.W.Sink.written c.report.new.sink) (report_answer s).text)) c.script.view_is c.report.ensures.err) line
     (subst (λ k. IsLine line (asked_of k)) c.in-Report.is says)
@@ -39,9 +40,10 @@ pub returns-in_err-reply-in_default-clause-broken : goal.returns-in_err-reply-in
 returns-in_err-reply-in_default-clause-broken g c = λ line says.
     let stop = c.in_err-reply-in_default.field-0.0 in
     let p = err_from_is_err_and c.from_residual.result c.from_residual.ensures.1 in
-    unmade_broken (g.F.Files.told c.args.files.now) (g.W.Sink.written c.args.sink.now) c.args.steps.now
-    c.make_reply.new.steps c.args.script.now c.make_reply.new.script (g.F.Files.failed c.make_reply.new.files)
-    (asked_of c.args.command) stop (λ e. c.in_err-reply-in_default.ensures.unchanged (ap (λ s. Err s) e))
+    unmade_broken (shown_by g.F.Files g.W.Sink c.args.files.now c.args.sink.now c.args.steps.now)
+    (shown_by g.F.Files g.W.Sink c.make_reply.new.files c.args.sink.now c.make_reply.new.steps) c.args.script.now
+    c.make_reply.new.script (asked_of c.args.command) stop refl
+    (λ e. c.in_err-reply-in_default.ensures.unchanged (ap (λ s. Err s) e)) c.in_err-reply-in_default.ensures.left
     (c.in_err-reply-in_default.ensures.unmade stop refl) c.from_residual.result
     (p.1 ∙ ap (λ s. Err s) p.2) line says
 
@@ -57,19 +59,17 @@ returns-in_err-reply-in_default-clause-write g c =
 
 pub returns-in_ok-reply-in_default-clause-answered : goal.returns-in_ok-reply-in_default-clause-answered
 returns-in_ok-reply-in_default-clause-answered g c = λ line says.
-    made_answered (g.F.Files.told c.args.files.now) (g.W.Sink.written c.args.sink.now)
-    (g.W.Sink.written c.write_reply.new.sink) c.args.steps.now c.make_reply.new.steps c.args.script.now
-    c.make_reply.new.script (g.F.Files.failed c.make_reply.new.files) (asked_of c.args.command)
-    (reply_of c.in_ok-reply-in_default.reply) c.in_ok-reply-in_default.ensures.made c.write_reply.result
-    c.write_reply.ensures.ok line says
+    made_answered (shown_by g.F.Files g.W.Sink c.args.files.now c.args.sink.now c.args.steps.now)
+    (shown_by g.F.Files g.W.Sink c.make_reply.new.files c.write_reply.new.sink c.make_reply.new.steps)
+    c.args.script.now c.make_reply.new.script (asked_of c.args.command) (reply_of c.in_ok-reply-in_default.reply)
+    c.in_ok-reply-in_default.ensures.made c.write_reply.result c.write_reply.ensures.ok line says
 
 pub returns-in_ok-reply-in_default-clause-broken : goal.returns-in_ok-reply-in_default-clause-broken
 returns-in_ok-reply-in_default-clause-broken g c = λ line says.
-    made_broken (g.F.Files.told c.args.files.now) (g.W.Sink.written c.args.sink.now)
-    (g.W.Sink.written c.write_reply.new.sink) c.args.steps.now c.make_reply.new.steps c.args.script.now
-    c.make_reply.new.script (g.F.Files.failed c.make_reply.new.files) (asked_of c.args.command)
-    (reply_of c.in_ok-reply-in_default.reply) c.in_ok-reply-in_default.ensures.made c.write_reply.result
-    c.write_reply.ensures.err line says
+    made_broken (shown_by g.F.Files g.W.Sink c.args.files.now c.args.sink.now c.args.steps.now)
+    (shown_by g.F.Files g.W.Sink c.make_reply.new.files c.write_reply.new.sink c.make_reply.new.steps)
+    c.args.script.now c.make_reply.new.script (asked_of c.args.command) (reply_of c.in_ok-reply-in_default.reply)
+    c.in_ok-reply-in_default.ensures.made c.write_reply.result c.write_reply.ensures.err line says
 
 pub returns-in-Report-clause-file : goal.returns-in-Report-clause-file
 returns-in-Report-clause-file g c =

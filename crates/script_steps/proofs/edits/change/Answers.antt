@@ -1,6 +1,6 @@
 use Rattle.recalc_engine.specs.EditAnswers as edits
 use Rattle.script_steps.specs.LineTexts.{ok_line}
-use Rattle.script_steps.proofs.EditLemmas.{edit_made, edit_lost}
+use Rattle.script_steps.proofs.EditLemmas.{edit_left, edit_made, edit_lost}
 use Rattle.script_steps.proofs.edits.change.Goals as goal
 
 pub returns-clause-made : goal.returns-clause-made
@@ -8,7 +8,8 @@ returns-clause-made g c =
     edit_made ok_line c.args.script.now (edits.change c.args.run) c.script.inside.ledger c.script.inside.made
     c.script.inside.book c.script.view_is
     c.change-made.new.self c.args.steps.now c.change-made.new.steps c.change-made.result c.edit_reply.result
-    c.change-made.ensures.answers c.change-made.ensures.counted c.edit_reply.new.total c.edit_reply.ensures
+    c.change-made.ensures.answers c.change-made.ensures.counted c.edit_reply.new.total
+    c.edit_reply.ensures.total c.edit_reply.ensures.reply
 
 pub returns-clause-lost : goal.returns-clause-lost
 returns-clause-lost g c =
@@ -16,3 +17,9 @@ returns-clause-lost g c =
     c.script.inside.book c.script.view_is
     c.change-made.new.self c.args.steps.now c.change-made.new.steps c.change-made.result c.edit_reply.result
     c.change-made.ensures.answers c.change-made.ensures.counted
+
+pub returns-clause-left : goal.returns-clause-left
+returns-clause-left g c =
+    edit_left ok_line c.args.script.now (edits.change c.args.run) c.script.inside.ledger c.script.inside.made
+    c.script.inside.book c.script.view_is c.change-made.new.self c.change-made.result c.edit_reply.result
+    c.change-made.ensures.answers c.change-made.ensures.err c.edit_reply.new.total c.edit_reply.ensures.total

@@ -1,6 +1,6 @@
 use Rattle.recalc_engine.specs.EditAnswers as edits
 use Rattle.script_steps.specs.LineTexts.{ok_line}
-use Rattle.script_steps.proofs.EditLemmas.{edit_made, edit_lost}
+use Rattle.script_steps.proofs.EditLemmas.{edit_left, edit_made, edit_lost}
 use Rattle.script_steps.proofs.edits.withdraw.Goals as goal
 
 pub returns-clause-made : goal.returns-clause-made
@@ -9,7 +9,8 @@ returns-clause-made g c =
     c.script.inside.made c.script.inside.book
     c.script.view_is c.withdraw-made.new.self c.args.steps.now c.withdraw-made.new.steps c.withdraw-made.result
     c.edit_reply.result
-    c.withdraw-made.ensures.answers c.withdraw-made.ensures.counted c.edit_reply.new.total c.edit_reply.ensures
+    c.withdraw-made.ensures.answers c.withdraw-made.ensures.counted c.edit_reply.new.total
+    c.edit_reply.ensures.total c.edit_reply.ensures.reply
 
 pub returns-clause-lost : goal.returns-clause-lost
 returns-clause-lost g c =
@@ -18,3 +19,9 @@ returns-clause-lost g c =
     c.script.view_is c.withdraw-made.new.self c.args.steps.now c.withdraw-made.new.steps c.withdraw-made.result
     c.edit_reply.result
     c.withdraw-made.ensures.answers c.withdraw-made.ensures.counted
+
+pub returns-clause-left : goal.returns-clause-left
+returns-clause-left g c =
+    edit_left ok_line c.args.script.now (edits.withdraw c.args.employee c.args.when) c.script.inside.ledger c.script.inside.made
+    c.script.inside.book c.script.view_is c.withdraw-made.new.self c.withdraw-made.result c.edit_reply.result
+    c.withdraw-made.ensures.answers c.withdraw-made.ensures.err c.edit_reply.new.total c.edit_reply.ensures.total

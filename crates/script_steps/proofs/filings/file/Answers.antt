@@ -1,17 +1,17 @@
 use Rattle.std.proofs.Common.{◌∙◌, sym, ap, subst, length, drop}
-use Rattle.std.specs.Prelude.{IfOk}
+use Rattle.std.specs.Prelude.{IfOk, Ok}
 use Rattle.std.proofs.lemmas.List.{take_rest}
 use Rattle.script_steps.specs.Replies.{reply_of}
-use Rattle.plan_answers.proofs.Laws.{if_ok_map}
+use Rattle.plan_answers.proofs.Laws.{if_ok_map, on_err_any}
 use Rattle.script_steps.specs.FilingSteps.{IsFileStep}
 use Rattle.script_steps.specs.Standings.{answered}
-use Rattle.script_steps.proofs.DoneLemmas.{file_made, file_refused}
+use Rattle.script_steps.proofs.DoneLemmas.{file_left, file_made, file_refused}
 use Rattle.script_steps.proofs.EditLemmas.{standing}
 use Rattle.script_steps.proofs.filings.file.Goals as goal
 use Rattle.script_steps.proofs.filings.file.Goals.{in-Ok+in_ok-text-in-Ok, in-Err-Memory, in-Err}
 
-pub returns : goal.returns
-returns c =
+pub returns-clause-made : goal.returns-clause-made
+returns-clause-made c =
     let from = c.args.script.now in
     let month = c.args.month in
     let book = c.script.inside.book in
@@ -39,3 +39,10 @@ returns c =
           w.in-Err.ensures.err w.in-Err.ensures.refused is)
           w.file_refusal.ensures)
     ]
+
+-- the month is filed, and its answer isn't made
+pub returns-in_err-text-in-Ok-clause-left : goal.returns-in_err-text-in-Ok-clause-left
+returns-in_err-text-in-Ok-clause-left c =
+    on_err_any c.from_residual.result _
+    (file_left c.args.script.now c.args.month c.script.inside.book c.script.inside.ledger c.script.inside.made
+    c.script.view_is c.file.new.self (Ok c.in-Ok.count) c.in-Ok.ensures.ok tt)

@@ -1,5 +1,6 @@
 use Rattle.std.proofs.Common.{◌∙◌, refl, sym, ap, subst}
 use Rattle.std.specs.Prelude.{Ok, Err}
+use Rattle.plan_answers.proofs.Laws.{on_err_any}
 use Rattle.std.proofs.lemmas.Result.{err_from_is_err_and}
 use Rattle.outside.specs.Told.{IsToldFront}
 use Rattle.script_lang.specs.Commands as asked
@@ -7,7 +8,7 @@ use Rattle.script_steps.specs.Replies.{reply_of}
 use Rattle.script_steps.specs.LineSteps.{IsTableStep}
 use Rattle.script_steps.specs.StepViews.{ToldDoes}
 use Rattle.script_steps.proofs.FileLemmas.{load_told}
-use Rattle.script_steps.proofs.MadeLemmas.{made_map, want_map, unread, wanting}
+use Rattle.script_steps.proofs.MadeLemmas.{made_map, stays_map, want_map, unread, wanting}
 use Rattle.script_steps.proofs.load.load.Goals as goal
 
 pub returns-in_err-table-clause-unmade : goal.returns-in_err-table-clause-unmade
@@ -50,3 +51,15 @@ returns-clause-made g c =
     made_map (IsTableStep c.args.script.now front) (ToldDoes told c.args.script.now (Ok what)) c.load_table.new.script
     c.args.steps.now c.load_table.new.steps (reply_of c.in_ok-load_table.field-0)
     (load_told told c.args.script.now c.args.file.now front read) c.in_ok-load_table.ensures.made
+
+pub returns-in_err-load_table-clause-left : goal.returns-in_err-load_table-clause-left
+returns-in_err-load_table-clause-left g c =
+    let what = asked.load c.args.file.now in
+    let told = g.F.Files.told c.args.files.now in
+    let front = c.deref.result.now in
+    let read = subst (λ b. IsToldFront told c.args.file.now 33554433 b) (sym c.deref.ensures.value)
+    c.in_ok-table.ensures.front in
+    on_err_any c.from_residual-in_err-load_table.result _
+    (stays_map (IsTableStep c.args.script.now front) (ToldDoes told c.args.script.now (Ok what)) c.args.script.now
+    c.load_table.new.script (load_told told c.args.script.now c.args.file.now front read)
+    c.in_err-load_table.ensures.left)

@@ -1,5 +1,6 @@
 use Rattle.std.proofs.Common.{◌∙◌, refl, sym, ap, subst}
 use Rattle.std.specs.Prelude.{Ok, Err}
+use Rattle.plan_answers.proofs.Laws.{on_err_any}
 use Rattle.std.proofs.lemmas.Result.{err_from_is_err_and}
 use Rattle.outside.specs.Told.{IsToldFront}
 use Rattle.script_lang.specs.Commands as asked
@@ -7,7 +8,7 @@ use Rattle.script_steps.specs.Replies.{reply_of}
 use Rattle.script_steps.specs.OpenSteps.{IsOpenStep}
 use Rattle.script_steps.specs.StepViews.{ToldDoes}
 use Rattle.script_steps.proofs.FileLemmas.{open_told}
-use Rattle.script_steps.proofs.MadeLemmas.{made_map, want_map, unread, wanting}
+use Rattle.script_steps.proofs.MadeLemmas.{made_map, stays_map, want_map, unread, wanting}
 use Rattle.script_steps.proofs.open.open.Goals as goal
 
 pub returns-in_err-text-clause-unmade : goal.returns-in_err-text-clause-unmade
@@ -46,3 +47,15 @@ returns-clause-made g c =
     made_map (IsOpenStep c.args.script.now front) (ToldDoes told c.args.script.now (Ok what)) c.open_text.new.script
     c.args.steps.now c.open_text.new.steps (reply_of c.in_ok-open_text.field-0)
     (open_told told c.args.script.now c.args.file.now front read) c.in_ok-open_text.ensures.made
+
+pub returns-in_err-open_text-clause-left : goal.returns-in_err-open_text-clause-left
+returns-in_err-open_text-clause-left g c =
+    let what = asked.opening c.args.file.now in
+    let told = g.F.Files.told c.args.files.now in
+    let front = c.deref.result.now in
+    let read = subst (λ b. IsToldFront told c.args.file.now 268435457 b) (sym c.deref.ensures.value)
+    c.in_ok-text.ensures.front in
+    on_err_any c.from_residual-in_err-open_text.result _
+    (stays_map (IsOpenStep c.args.script.now front) (ToldDoes told c.args.script.now (Ok what)) c.args.script.now
+    c.open_text.new.script (open_told told c.args.script.now c.args.file.now front read)
+    c.in_err-open_text.ensures.left)

@@ -2,9 +2,9 @@ use Rattle.std.proofs.Common.{◌∙◌, sym, ap, subst}
 use Rattle.script_steps.specs.Replies.{reply_of}
 use Rattle.plan_answers.proofs.Laws.{on_err_any}
 use Rattle.script_steps.specs.OpenSteps.{IsOpenStep}
-use Rattle.script_steps.specs.Standings.{Standing, answered, with_book}
+use Rattle.script_steps.specs.Standings.{Standing, StaysOrSteps, answered, with_book}
 use Rattle.script_steps.specs.StepViews.{IsMade}
-use Rattle.script_steps.proofs.OpenLemmas.{book_lost, book_made, fault_made, read_lost}
+use Rattle.script_steps.proofs.OpenLemmas.{book_left, book_lost, book_made, fault_made, read_lost}
 use Rattle.script_steps.proofs.open.open_fresh.Goals as goal
 
 pub returns-in_err-from_slice-in-Ok-clause-lost : goal.returns-in_err-from_slice-in-Ok-clause-lost
@@ -39,3 +39,12 @@ returns-in-Err-clause-lost g c =
     on_err_any c.book_refusal.result _
     (read_lost c.args.script.now c.args.text.now c.requires c.args.steps.now c.read_book.new.steps c.in-Err.fault
     c.in-Err.ensures.counted)
+
+pub returns-in_err-from_slice-in-Ok-clause-left : goal.returns-in_err-from_slice-in-Ok-clause-left
+returns-in_err-from_slice-in-Ok-clause-left g c =
+    let book = c.in-Ok.restored.book in
+    on_err_any c.from_residual.result _
+    (subst (λ (s : Standing). StaysOrSteps (IsOpenStep c.args.script.now c.args.text.now) c.args.script.now
+    (with_book s book)) (sym c.script.view_is)
+    (book_left c.args.script.now c.args.text.now c.requires c.args.steps.now c.read_book.new.steps book
+    c.in-Ok.ensures.read))

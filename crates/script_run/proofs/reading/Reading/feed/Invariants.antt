@@ -1,14 +1,14 @@
 use Rattle.std.proofs.Common.{◌≡◌, ◌≤◌, take}
 use Rattle.std.specs.Prelude.{is_some}
-use Rattle.script_run.specs.RunClauses.{shown_by, unless_kept}
+use Rattle.script_run.specs.RunClauses.{shown_beside}
 use Rattle.script_run.specs.RunViews.{GoesOn}
 use Rattle.script_run.proofs.reading.Reading.feed.Given as goal
 
 abbrev pub invariant-loop-byte : goal.invariant-loop-byte
 invariant-loop-byte g l = record {
   on : GoesOn
-      (unless_kept l.initial.self.refusals (shown_by g.F.Files g.W.Sink l.initial.files l.initial.sink l.initial.steps))
-      (unless_kept l.self.refusals (shown_by g.F.Files g.W.Sink l.files l.sink l.steps))
+      (shown_beside l.initial.self.refusals g.F.Files g.W.Sink l.initial.files l.initial.sink l.initial.steps)
+      (shown_beside l.self.refusals g.F.Files g.W.Sink l.files l.sink l.steps)
       l.initial.self l.self (take l.byte-index l.piece);
   mode : is_some l.self.refusals ≡ is_some l.initial.self.refusals;
   same : g.F.Files.told l.files ≡ g.F.Files.told l.initial.files;

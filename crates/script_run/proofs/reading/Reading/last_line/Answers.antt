@@ -3,7 +3,7 @@ use Rattle.std.specs.Prelude.{Err}
 use Rattle.std.proofs.lemmas.Result.{err_from_is_err_and}
 use Rattle.script_steps.specs.declared.stop.LineStop.TheVariants.{Memory}
 use Rattle.script_run.specs.Limits.{most_line}
-use Rattle.script_run.specs.RunClauses.{shown_by, unless_kept}
+use Rattle.script_run.specs.RunClauses.{shown_beside}
 use Rattle.script_run.proofs.KeepingLaws.{says_kept, kept_some, kept_none, not_empty, empty}
 use Rattle.script_run.proofs.StepLaws.{answered_lost, delivered_same, broken_same, closes_none, closes_on, closes_broken, closes_at, stays_none, stays_on}
 use Rattle.script_run.proofs.reading.Reading.last_line.Goals as goal
@@ -56,7 +56,7 @@ pub returns-clause-standing : goal.returns-clause-standing
 returns-clause-standing g c =
     let kept = c.args.self.now.line in
     let some = not_empty kept c.is_empty.result c.is_empty.ensures c.if-is_empty.false in
-    stays_on (unless_kept c.deliver.new.kept (shown_by g.F.Files g.W.Sink c.deliver.new.files c.deliver.new.sink c.deliver.new.steps))
+    stays_on (shown_beside c.deliver.new.kept g.F.Files g.W.Sink c.deliver.new.files c.deliver.new.sink c.deliver.new.steps)
     (λ line holds. kept_some most_line kept.items line holds.front some)
     (λ line holds. delivered_same
     (says_kept kept.items c.deref.result.now line c.deref.ensures.value holds.front)

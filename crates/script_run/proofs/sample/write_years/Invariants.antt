@@ -1,7 +1,7 @@
 use Rattle.std.proofs.Common.{◌≡◌, ◌≤◌, ◌+◌, ◌-◌, ◌++◌, string_bytes}
 use Rattle.std.specs.List.{flat_map}
 use Rattle.script_run.specs.Samples.{year_lines, numbers, script_of}
-use Rattle.script_run.proofs.sample.push_years.Given as goal
+use Rattle.script_run.proofs.sample.write_years.Given as goal
 
 abbrev pub invariant-loop-employee : goal.invariant-loop-employee
 invariant-loop-employee l = record {

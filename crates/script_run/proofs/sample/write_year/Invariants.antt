@@ -1,6 +1,6 @@
 use Rattle.std.proofs.Common.{◌≡◌, ◌≤◌, ◌+◌, ◌-◌, ◌++◌, map, string_bytes}
 use Rattle.script_run.specs.Samples.{add_line, numbers, script_of}
-use Rattle.script_run.proofs.sample.push_year.Given as goal
+use Rattle.script_run.proofs.sample.write_year.Given as goal
 
 abbrev pub invariant-loop-month : goal.invariant-loop-month
 invariant-loop-month l = record {

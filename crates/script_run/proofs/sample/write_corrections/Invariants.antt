@@ -1,6 +1,6 @@
 use Rattle.std.proofs.Common.{◌≡◌, ◌≤◌, ◌+◌, ◌-◌, ◌++◌, map, string_bytes}
 use Rattle.script_run.specs.Samples.{change_line, numbers, script_of}
-use Rattle.script_run.proofs.sample.push_corrections.Given as goal
+use Rattle.script_run.proofs.sample.write_corrections.Given as goal
 
 abbrev pub invariant-loop-employee : goal.invariant-loop-employee
 invariant-loop-employee l = record {
