@@ -73,7 +73,7 @@ check("an input that can't be read", (done.returncode, done.stdout) == (4, b""))
 check("a script of the greatest length", run(b"work\n" + b"\n" * 67_108_859) == (0, b"work 0 0\n"))
 check("a script of one byte more", run(b"work\n" + b"\n" * 67_108_860) == (7, b"work 0 0\n"))
 check("a line that is too long is answered once", run(b"#" * 65_537 + b"\nwork\n") == (1, b"refused line LineLong\nwork 0 0\n"))
-TOLD = "stdin:{}: the first word is no command: plan, drop, add, change, withdraw, load, report, work, trace, file, owed, open or try\n"
+TOLD = "stdin:{}: the first word is no command: plan, drop, add, change, withdraw, load, report, work, trace, file, owed, open or try; a script has no byte order mark before its first word\n"
 for word in ["run", "save"]:
     done = subprocess.run([program, word], input=b"# ab\n\n" + b"ab\nwork\n" * 30, capture_output=True, text=False, timeout=300)
     said = "".join(TOLD.format(3 + 2 * number) for number in range(20)) + "and 10 more\n"

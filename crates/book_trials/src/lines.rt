@@ -24,12 +24,12 @@ file 2025-01 => file
 owed => owed
 open saved.book => open
 try 2025-01-01 a.xml b.toml => try
-Report => the first word is no command: plan, drop, add, change, withdraw, load, report, work, trace, file, owed, open or try
-report now => the command takes other words: their number is wrong, or a file's name is not at most 255 visible ASCII characters
-add ? 2025-1 x y => the employee is not 1 to 32 letters, digits, `_`, `-` and `.`
+Report => the first word is no command: plan, drop, add, change, withdraw, load, report, work, trace, file, owed, open or try; a script has no byte order mark before its first word
+report now => the command takes other words: their number is wrong, or a file's name is not at most 255 visible ASCII characters; `papcalc --help` shows its form
+add ? 2025-1 x y => the employee is not 1 to 32 ASCII letters, digits, `_`, `-` and `.`
 add E1 2025-1 x y => the month is not of the form YYYY-MM, or not of the years 1900 to 2999
-add E1 2025-01 2025-02-01 y => the day is not of the form YYYY-MM-DD, not in the calendar, not of the years 1900 to 2999 or not in the month; withdraw and trace also take a month, as 2025-01
-add E1 2025-01 2025-01-31 N=1 N=x N=2 => word 6 is not of the form NAME=VALUE with a name and a number of at most 30 decimal places and at most 10^37 without its point
+add E1 2025-01 2025-02-01 y => the day is not of the form YYYY-MM-DD, not in the calendar, not of the years 1900 to 2999 or not in the month; for withdraw and trace it may also be a month, as 2025-01
+add E1 2025-01 2025-01-31 N=1 N=x N=2 => word 6 is not of the form NAME=VALUE with a name and a number of at most 30 decimal places and at most 10^37 without its point; a number has a point before decimal places and nothing between thousands, as 2500.55
 change E1 2025-01 2025-01-31 N=1 M=1 N=2 M=x => an earlier word gives N a value already
 1024 x ################################################################ => nothing
 1024 x ################################################################ ~ # => the line has more than 65536 bytes"#;

@@ -12,7 +12,7 @@ pub enum TraceRefusal {
     #[error("{employee} has no run in or on {when}")]
     Absent { employee: Employee, when: When },
     /// No day is given, and the month has more than one run.
-    #[error("{employee} has several runs in {month}")]
+    #[error("{employee} has several runs in {month}; name the day of one of them")]
     Several { employee: Employee, month: Month },
     /// The run has no plan, or no inputs.
     #[error("the run of {} on {} is not ok, so it has no trace; `report` says why", key.employee, key.day)]

@@ -22,8 +22,8 @@ const USAGE: &str =
     thousands, and each NAME stands once";
 
 const UNSAVED_BOOK: &str =
-    "papcalc: the book isn't saved: `refused book Filed` where a month was filed, or `refused book Long` where its text would have more \
-    than 268435456 bytes";
+    "papcalc: the book isn't saved: `refused book Filed` where a month was filed (save before the first `file`, and file again in the \
+    next script), or `refused book Long` where its text would have more than 268435456 bytes (split its runs by employee)";
 
 const UNSAVED_LINES: &str =
     "papcalc: the book isn't saved, since lines of the script are refused; their answers are written in its place";
@@ -150,7 +150,7 @@ fn explain_bad_value(rt: &HostRuntime, words: &[String]) {
     if let Some(word) = bad_value(values) {
         if let Ok(word) = one_line(rt.alloc(), word) {
             let _ = eprintln!(rt;
-                "papcalc: `{word}` is not of the form NAME=VALUE with a name and a number of at most 30 decimal places and at most 10^37 without its point"
+                "papcalc: `{word}` is not of the form NAME=VALUE with a name and a number of at most 30 decimal places and at most 10^37 without its point; a number has a point before decimal places and nothing between thousands, as 2500.55"
             );
         }
     }
@@ -231,7 +231,10 @@ fn main(rt: HostRuntime) -> ExitCode {
         Err(error) if error.kind() == ErrorKind::OutOfMemory => {
             return end(&rt, Status::NoMemory, &[], None);
         }
-        Err(_) => return end(&rt, Status::BadWords, &[], None),
+        Err(_) => {
+            let _ = eprintln!(rt; "papcalc: a word is not UTF-8");
+            return end(&rt, Status::BadWords, &[], None);
+        }
     };
     match own_answer(&words) {
         Some(text) => match println!(rt; "{text}") {

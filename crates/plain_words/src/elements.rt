@@ -21,14 +21,12 @@ pub(crate) fn find_element(
 ) -> Result<Found, AllocError>
     ensures { IfOk result (λ found. IsPlaceOfFault fault.now (place_of found)) }
 {
-    let (at, help) = match fault {
-        ReadFault::Text { at } => (*at, text_help(line_from(plan.bytes, *at))),
-        ReadFault::Element { at } => (*at, misplaced_help(line_from(plan.bytes, *at))),
+    let (at, help, also) = match fault {
+        ReadFault::Text { at } => (*at, text_help(line_from(plan.bytes, *at)), ""),
+        ReadFault::Element { at } => (*at, misplaced_help(line_from(plan.bytes, *at)), ""),
         ReadFault::Attribute { at } => {
-            (
-                *at,
-                needed_attributes(element_at(line_from(plan.bytes, *at))),
-            )
+            let element = element_at(line_from(plan.bytes, *at));
+            (*at, needed_attributes(element), name_form(element))
         }
         ReadFault::Many { which } => return find_excess(plan, *which, quote),
         ReadFault::Memory => return Err(AllocError),
@@ -38,7 +36,8 @@ pub(crate) fn find_element(
         quote.push_str(", at ")?;
         write_quoted(quote, line, 0)?;
     }
-    Ok(Found::in_plan(Some(at)).with_help(help))
+    let found = Found::in_plan(Some(at)).with_help(help);
+    Ok(Found { also, ..found })
 }
 
 /// What helps where no tag, comment or white space begins with a text.
@@ -75,7 +74,7 @@ fn element_at(text: &[u8]) -> Option<Element> {
 /// Where an element may stand.
 fn home_of(element: Option<Element>) -> &'static str {
     let Some(element) = element else {
-        return "there is no element of this name in the profile; a loop is written by methods and IFs";
+        return "there is no element of this name in the profile; for a loop write an EXECUTE for each turn, within IFs";
     };
     match element {
         Element::Pap => "PAP stands once, as the root of the file",
@@ -128,6 +127,23 @@ fn needed_attributes(element: Option<Element>) -> &'static str {
         Some(Element::Execute) => "it needs method, the name of a method",
         Some(Element::If) => "it needs expr, the text of a test",
         _ => "it needs none",
+    }
+}
+
+/// Which form a name has, where an element needs one.
+fn name_form(element: Option<Element>) -> &'static str {
+    match element {
+        Some(
+            Element::Input
+            | Element::Output
+            | Element::Internal
+            | Element::Constant
+            | Element::Method
+            | Element::Execute,
+        ) => {
+            "; a name is 1 to 32 ASCII letters, digits and _, with no digit first, and isn't new, BigDecimal or RoundingMode"
+        }
+        _ => "",
     }
 }
 

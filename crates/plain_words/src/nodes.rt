@@ -152,7 +152,7 @@ fn taken_kinds(node: &Expr) -> &'static str {
         Expr::Unary(op, _) => taken_by_unary(*op),
         Expr::Binary(op, _, _) => taken_by_operator(*op),
         Expr::Call(Call::DivideExact, _, _) => {
-            "divide with no scale takes a BigDecimal and a constant that divides a power of ten; else write the scale and the rounding mode, as in A.divide(B, 2, BigDecimal.ROUND_DOWN)"
+            "divide with no scale takes a BigDecimal and a CONSTANT, or BigDecimal.valueOf(n) of an int literal, that divides a power of ten; else write the scale and the rounding mode, as in A.divide(B, 2, BigDecimal.ROUND_DOWN)"
         }
         Expr::Call(..) | Expr::Divide(..) => {
             "it takes two values of BigDecimal; write BigDecimal.valueOf(..) round a whole number"
