@@ -5,3 +5,4 @@ pub mod ItemDecisions
 pub mod Views
 pub mod LineViews
 pub mod ItemViews
+pub mod NumberViews

@@ -1,5 +1,5 @@
 //! The words of items but for runs.
-ghost use Rattle.std.specs.Prelude.{◌≡◌, ◌≢◌, ◌^◌, ◌<◌, ℕ, [], ◌∷◌, IfOk, MatchBool, MatchOption};
+ghost use Rattle.std.specs.Prelude.{◌≡◌, ◌≢◌, ◌^◌, ◌<◌, ℕ, [], ◌∷◌, MatchBool, MatchOption};
 ghost use Rattle.scaled_decimal.specs.PlainTexts.{whole_text};
 ghost use Rattle.payroll_records.specs.declared.day.Day.{Day as Date};
 ghost use Rattle.saved_items.specs.LineViews.{texts};
@@ -8,7 +8,6 @@ ghost use Rattle.saved_items.specs.SavedBooks.{IsWork, plan_words, title_words, 
 use crate::lines::behind;
 use crate::numbers::read_number;
 use payroll_records::Day;
-use std::alloc::{AllocError, Global};
 
 /// Whether the words are the title.
 pub(crate) fn is_title(words: &[&[u8]]) -> bool
@@ -24,43 +23,31 @@ pub(crate) fn is_title(words: &[&[u8]]) -> bool
 }
 
 /// The last work: how many runs it ran, in how many steps.
-pub(crate) fn read_work(alloc: Global, words: &[&[u8]]) -> Result<Option<(u64, u64)>, AllocError>
-    ensures { IfOk result (λ work. MatchOption work
+pub(crate) fn read_work(words: &[&[u8]]) -> Option<(u64, u64)>
+    ensures { MatchOption result
         ((runs steps : ℕ) → IsWork runs steps → texts words.now ≢ work_words runs steps)
-        (λ w. IsWork w.0 w.1 × (texts words.now ≡ work_words w.0 w.1))) }
+        (λ w. IsWork w.0 w.1 × (texts words.now ≡ work_words w.0 w.1)) }
 {
-    let Some(rest) = behind(b"work", words) else {
-        return Ok(None);
-    };
+    let rest = behind(b"work", words)?;
     let [runs, steps] = rest else {
-        return Ok(None);
+        return None;
     };
-    let Some(runs) = read_number(alloc, runs)? else {
-        return Ok(None);
-    };
-    let Some(steps) = read_number(alloc, steps)? else {
-        return Ok(None);
-    };
-    Ok(Some((runs, steps)))
+    let runs = read_number(runs)?;
+    let steps = read_number(steps)?;
+    Some((runs, steps))
 }
 
 /// The number behind a first word.
-pub(crate) fn read_count(
-    alloc: Global,
-    first: &[u8],
-    words: &[&[u8]],
-) -> Result<Option<u64>, AllocError>
-    ensures { IfOk result (λ count. MatchOption count
+pub(crate) fn read_count(first: &[u8], words: &[&[u8]]) -> Option<u64>
+    ensures { MatchOption result
         ((n : ℕ) → n < 2 ^ 64 → texts words.now ≢ first.now ∷ whole_text n ∷ [])
-        (λ n. texts words.now ≡ first.now ∷ whole_text n ∷ [])) }
+        (λ n. texts words.now ≡ first.now ∷ whole_text n ∷ []) }
 {
-    let Some(rest) = behind(first, words) else {
-        return Ok(None);
-    };
+    let rest = behind(first, words)?;
     let [count] = rest else {
-        return Ok(None);
+        return None;
     };
-    read_number(alloc, count)
+    read_number(count)
 }
 
 /// What a plan's line says.
@@ -74,26 +61,20 @@ pub(crate) struct PlanLine {
 }
 
 /// The line of a plan.
-pub(crate) fn read_plan_line(alloc: Global, words: &[&[u8]]) -> Result<Option<PlanLine>, AllocError>
-    ensures { IfOk result (λ line. MatchOption line
+pub(crate) fn read_plan_line(words: &[&[u8]]) -> Option<PlanLine>
+    ensures { MatchOption result
         ((day : Date) (plan limits : ℕ) → plan < 2 ^ 64 → limits < 2 ^ 64
         → texts words.now ≢ plan_words day plan limits)
-        (λ l. texts words.now ≡ plan_words l.day l.plan l.limits)) }
+        (λ l. texts words.now ≡ plan_words l.day l.plan l.limits) }
 {
-    let Some(rest) = behind(b"plan", words) else {
-        return Ok(None);
-    };
+    let rest = behind(b"plan", words)?;
     let [day, plan, limits] = rest else {
-        return Ok(None);
+        return None;
     };
     let Some(day) = Day::read(day) else {
-        return Ok(None);
+        return None;
     };
-    let Some(plan) = read_number(alloc, plan)? else {
-        return Ok(None);
-    };
-    let Some(limits) = read_number(alloc, limits)? else {
-        return Ok(None);
-    };
-    Ok(Some(PlanLine { day, plan, limits }))
+    let plan = read_number(plan)?;
+    let limits = read_number(limits)?;
+    Some(PlanLine { day, plan, limits })
 }

@@ -66,7 +66,7 @@ fn next_work<'a>(alloc: Global, rest: &'a [u8]) -> Result<Option<(Item<'a>, &'a 
     let Some(line) = first_line(alloc, rest)? else {
         return Ok(None);
     };
-    let Some(work) = read_work(alloc, line.words.as_slice())? else {
+    let Some(work) = read_work(line.words.as_slice()) else {
         return Ok(None);
     };
     let (runs, steps) = work;
@@ -83,7 +83,7 @@ fn next_plan_count<'a>(
     let Some(line) = first_line(alloc, rest)? else {
         return Ok(None);
     };
-    let Some(count) = read_count(alloc, b"plans", line.words.as_slice())? else {
+    let Some(count) = read_count(b"plans", line.words.as_slice()) else {
         return Ok(None);
     };
     if count > MOST_PLANS {
@@ -103,7 +103,7 @@ fn next_run_count<'a>(
     let Some(line) = first_line(alloc, rest)? else {
         return Ok(None);
     };
-    let Some(count) = read_count(alloc, b"runs", line.words.as_slice())? else {
+    let Some(count) = read_count(b"runs", line.words.as_slice()) else {
         return Ok(None);
     };
     if count > MOST_RUNS {
@@ -126,7 +126,7 @@ fn next_plan<'a>(
     let Some(line) = first_line(alloc, rest)? else {
         return Ok(None);
     };
-    let Some(front) = read_plan_line(alloc, line.words.as_slice())? else {
+    let Some(front) = read_plan_line(line.words.as_slice()) else {
         return Ok(None);
     };
     let Some((plan, left)) = plan_texts(front, line.rest) else {

@@ -1,45 +1,25 @@
 //! Whole numbers in digits.
-ghost use Rattle.std.specs.Prelude.{◌≡◌, ◌≢◌, ◌^◌, ◌<◌, ℕ, Some, IfOk, MatchOption, pos};
-ghost use Rattle.scaled_decimal.specs.Decimals.{decimal};
+ghost use Rattle.std.specs.Prelude.{◌≡◌, ◌≢◌, ◌^◌, ◌<◌, ℕ, MatchBool, MatchOption};
 ghost use Rattle.scaled_decimal.specs.PlainTexts.{whole_text};
-
-use crate::writing::push_number;
-use scaled_decimal::{Dec, read_dec};
-use std::alloc::{AllocError, Global};
+ghost use Rattle.saved_items.specs.NumberViews.{BeginsNumber};
 
 /// The number of 64 bits that a word is the digits of, without leading zeros.
-pub(crate) fn read_number(alloc: Global, word: &[u8]) -> Result<Option<u64>, AllocError>
-    ensures { IfOk result (λ number. MatchOption number
-        ((n : ℕ) → n < 2 ^ 64 → word.now ≢ whole_text n) (λ n. word.now ≡ whole_text n)) }
+pub(crate) fn read_number(word: &[u8]) -> Option<u64>
+    ensures { MatchOption result
+        ((n : ℕ) → n < 2 ^ 64 → word.now ≢ whole_text n) (λ n. word.now ≡ whole_text n) }
 {
-    let Some(number) = number_of(word) else {
-        return Ok(None);
-    };
-    let mut written = Vec::new(alloc);
-    push_number(&mut written, number)?;
-    if written.as_slice() != word {
-        return Ok(None);
+    if !begins_number(word) {
+        return None;
     }
-    Ok(Some(number))
-}
-
-/// The number that a word spells, perhaps with leading zeros.
-fn number_of(word: &[u8]) -> Option<u64>
-    ensures { (n : ℕ) → n < 2 ^ 64 → word.now ≡ whole_text n → result ≡ Some n }
-{
-    match read_dec(word) {
-        Ok(number) => fitting(number),
+    match str::from_utf8(word) {
+        Ok(text) => text.parse().ok(),
         Err(_) => None,
     }
 }
 
-/// A whole number of 64 bits.
-fn fitting(number: Dec) -> Option<u64>
-    ensures { (n : ℕ) → n < 2 ^ 64 → number ≡ decimal (pos n) 0 → result ≡ Some n }
+/// Whether a word begins as a number: there is something, no plus, and no zero before more.
+fn begins_number(word: &[u8]) -> bool
+    ensures { MatchBool result (BeginsNumber word.now) (¬ (BeginsNumber word.now)) }
 {
-    let number = number.numerator();
-    if number < 0 || number > u64::MAX as i128 {
-        return None;
-    }
-    Some(number as u64)
+    !word.is_empty() && word[0] != b'+' && (word[0] != b'0' || word.len() == 1)
 }

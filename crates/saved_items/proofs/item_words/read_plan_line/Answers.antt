@@ -6,11 +6,11 @@ use Rattle.saved_items.proofs.item_words.read_plan_line.Goals as goal
 pub returns-in_default-read : goal.returns-in_default-read
 returns-in_default-read c = λ day plan limits p l e.
     false≢true (c.in_default-read.ensures.exact.1 (is_spelled _ day
-    (plan_day (texts c.args.words.now) c.in-Some.rest.now _ day plan limits c.in-Some.ensures
+    (plan_day (texts c.args.words.now) c.in_ok-rest.rest.now _ day plan limits c.in_ok-rest.ensures
     c.in-len3.len_at_least e)))
 
 pub returns : goal.returns
 returns c =
-    plan_line_is (texts c.args.words.now) c.in-Some.rest.now _ c.in-Some-read.day c.in-Some-2.plan c.in-Some-3.limits
-    c.in-Some.ensures c.in-len3.len_at_least c.in-len3.len_below c.in-Some-read.ensures.value
-    (rw c.in-Some-2.is at c.in_ok-plan.ensures) (rw c.in-Some-3.is at c.in_ok-limits.ensures)
+    plan_line_is (texts c.args.words.now) c.in_ok-rest.rest.now _ c.in-Some.day c.in_ok-plan.plan c.in_ok-limits.limits
+    c.in_ok-rest.ensures c.in-len3.len_at_least c.in-len3.len_below c.in-Some.ensures.value
+    c.in_ok-plan.ensures c.in_ok-limits.ensures

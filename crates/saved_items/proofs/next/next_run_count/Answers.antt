@@ -4,20 +4,20 @@ use Rattle.saved_items.specs.LineViews.{AreWordsOf, texts}
 use Rattle.saved_items.proofs.NextLemmas.{none_planned, many_planned, line_is}
 use Rattle.saved_items.proofs.next.next_run_count.Goals as goal
 
-pub returns-in_default-2 : goal.returns-in_default-2
-returns-in_default-2 c =
+pub returns-in_default-read_count : goal.returns-in_default-read_count
+returns-in_default-read_count c =
     let line = rw c.in-Some.is at c.in_ok-line.ensures in
     let split : AreWordsOf c.in-Some.line.text.now c.as_slice.result.now = rw c.as_slice.ensures.value line.words in
     none_planned c.args.rest.now c.in-Some.line.text.now c.in-Some.line.rest.now
-    (texts c.as_slice.result.now) line.is split (rw c.in_default-2.is at c.in_ok-count.ensures)
+    (texts c.as_slice.result.now) line.is split (rw c.in_default-read_count.is at c.read_count.ensures)
 
 pub returns-then-count-gt-MOST_RUNS : goal.returns-then-count-gt-MOST_RUNS
 returns-then-count-gt-MOST_RUNS c =
     let line = rw c.in-Some.is at c.in_ok-line.ensures in
     let split : AreWordsOf c.in-Some.line.text.now c.as_slice.result.now = rw c.as_slice.ensures.value line.words in
     many_planned c.args.rest.now c.in-Some.line.text.now c.in-Some.line.rest.now
-    (texts c.as_slice.result.now) line.is split c.in-Some-2.count
-    (rw c.in-Some-2.is at c.in_ok-count.ensures) c.if-count-gt-MOST_RUNS.true
+    (texts c.as_slice.result.now) line.is split c.in-Some-read_count.count
+    (rw c.in-Some-read_count.is at c.read_count.ensures) c.if-count-gt-MOST_RUNS.true
 
 pub returns : goal.returns
 returns c =
@@ -26,6 +26,6 @@ returns c =
     λ runs steps plans. (
       (refl, c.if-count-gt-MOST_RUNS.false),
       line_is c.args.rest.now c.in-Some.line.text.now c.in-Some.line.rest.now
-          (texts c.as_slice.result.now) line.is split (codes "runs" ∷ whole_text c.in-Some-2.count ∷ []) (omega arith)
-          (rw c.in-Some-2.is at c.in_ok-count.ensures),
+          (texts c.as_slice.result.now) line.is split (codes "runs" ∷ whole_text c.in-Some-read_count.count ∷ []) (omega arith)
+          (rw c.in-Some-read_count.is at c.read_count.ensures),
     )
