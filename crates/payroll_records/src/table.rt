@@ -26,7 +26,7 @@ pub enum TableFault {
     Header,
     #[error("row {row} has not as many fields as the header")]
     Width { row: u64 },
-    #[error("row {row}: the employee is not 1 to 32 letters, digits, `_`, `-` and `.`")]
+    #[error("row {row}: the employee is not 1 to 32 ASCII letters, digits, `_`, `-` and `.`")]
     Employee { row: u64 },
     #[error("row {row}: the month is not of the form YYYY-MM, or not of the years 1900 to 2999")]
     Month { row: u64 },
