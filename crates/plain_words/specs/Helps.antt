@@ -2,6 +2,8 @@
 use Rattle.std.specs.Prelude.{ℕ, List, ◌++◌, codes, Option, Some, None}
 use Rattle.pap_reader.specs.declared.fault.ReadFault.{ReadFault}
 use Rattle.pap_reader.specs.declared.fault.ReadFault.TheVariants as reads
+use Rattle.pap_reader.specs.declared.fault.Which.{Which}
+use Rattle.pap_reader.specs.declared.fault.Which.TheVariants as counted
 use Rattle.pap_expr.specs.declared.fault.ExprFault.{ExprFault}
 use Rattle.pap_expr.specs.declared.fault.ExprFault.TheVariants as expressions
 use Rattle.pap_types.specs.declared.fault.TypeFault.{TypeFault}
@@ -17,8 +19,15 @@ use Rattle.interval_analysis.specs.declared.fault.RangeFault.TheVariants as rang
 use Rattle.pap_plan.specs.declared.refusal.PlanRefusal.{PlanRefusal}
 use Rattle.pap_plan.specs.declared.refusal.PlanRefusal.TheVariants as refusals
 
+-- what helps where there is too much of something
+abbrev pub excess_help : Which → List ℕ
+excess_help counted.Bytes = codes "take out comments and what isn't used"
+excess_help counted.Statements = codes "take out what isn't used, and put what stands several times into a METHOD"
+excess_help counted.Depth = codes "put inner IFs into a METHOD"
+excess_help _ = codes "take out what isn't used"
+
 abbrev pub read_help : ReadFault → Option (List ℕ)
-read_help (reads.Many which) = Some (codes "split the flowchart, or join what can be joined")
+read_help (reads.Many which) = Some (excess_help which)
 read_help _ = None
 
 abbrev pub expression_help : ExprFault → Option (List ℕ)

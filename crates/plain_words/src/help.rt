@@ -1,7 +1,7 @@
 //! What helps against a refusal, where the refusal alone decides it.
 ghost use Rattle.std.specs.Prelude.{◌≡◌};
 ghost use Rattle.std.specs.Option.{option_copied};
-ghost use Rattle.plain_words.specs.Helps.{help_of, read_help, expression_help, type_help};
+ghost use Rattle.plain_words.specs.Helps.{help_of, read_help, excess_help, expression_help, type_help};
 ghost use Rattle.plain_words.specs.Helps.{order_help, limits_help, range_help, cause_help};
 
 use call_order::OrderFault;
@@ -10,7 +10,7 @@ use interval_num::RangeCause;
 use limits_file::LimitsFault;
 use pap_expr::ExprFault;
 use pap_plan::PlanRefusal;
-use pap_reader::ReadFault;
+use pap_reader::{ReadFault, Which};
 use pap_types::TypeFault;
 
 /// What helps against a refusal. `None` where the refusal alone doesn't decide it.
@@ -33,8 +33,22 @@ fn read_help(fault: &ReadFault) -> Option<&'static str>
     ensures { option_copied result ≡ read_help fault.now }
 {
     match fault {
-        ReadFault::Many { .. } => Some("split the flowchart, or join what can be joined"),
+        ReadFault::Many { which } => Some(excess_help(*which)),
         _ => None,
+    }
+}
+
+/// What helps where there is too much of something.
+fn excess_help(which: Which) -> &'static str
+    ensures { result.now ≡ excess_help which }
+{
+    match which {
+        Which::Bytes => "take out comments and what isn't used",
+        Which::Statements => {
+            "take out what isn't used, and put what stands several times into a METHOD"
+        }
+        Which::Depth => "put inner IFs into a METHOD",
+        _ => "take out what isn't used",
     }
 }
 
