@@ -7,6 +7,9 @@ use Rattle.std.proofs.lemmas.List.{map-append}
 use Rattle.std.proofs.lemmas.Str.{IsUtf8-append, chars-append, encodes-append}
 use Rattle.pap_reader.specs.declared.fault.ReadFault.{ReadFault}
 use Rattle.pap_reader.specs.declared.fault.ReadFault.TheVariants as reads
+use Rattle.pap_reader.specs.declared.fault.Which.{Which}
+use Rattle.pap_reader.specs.declared.fault.Which.TheVariants as counted
+use Rattle.plain_words.specs.Helps.{excess_help}
 use Rattle.pap_expr.specs.declared.fault.ExprFault.{ExprFault}
 use Rattle.pap_expr.specs.declared.fault.ExprFault.TheVariants as expressions
 use Rattle.pap_types.specs.declared.fault.TypeFault.{TypeFault}
@@ -61,9 +64,16 @@ shown_end place wrong quote end text p w q is =
 abbrev IsShown : List ℕ → Type 0
 IsShown help = shown_text (codes "; " ++ help) ≡ codes "; " ++ help
 
+excess_shown : (which : Which) → IsShown (excess_help which)
+unfolding chars encode_utf8
+excess_shown counted.Bytes = refl
+excess_shown counted.Statements = refl
+excess_shown counted.Depth = refl
+excess_shown _ = refl
+
 read_shown : (f : ReadFault) → IfSome (read_help f) IsShown
 unfolding chars encode_utf8
-read_shown (reads.Many which) = refl
+read_shown (reads.Many which) = excess_shown which
 read_shown _ = tt
 
 expression_shown : (f : ExprFault) → IfSome (expression_help f) IsShown
