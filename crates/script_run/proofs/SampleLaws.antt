@@ -91,8 +91,8 @@ pub record_words : (employee month : ℕ) (year number value : ℕ) → year ≡
     ++ (codes "-28 RE4=" ++ (decimal value ++ 10 ∷ []))))))) ≡ add_line employee month ++ 10 ∷ []
 record_words employee month year number value y m v =
     rw (y, m, v)
-    (regrouped (codes "add E") (decimal employee) (codes " ") (month_text 2025 month) (day_text 2025 month 28) (codes " RE4=")
-    (decimal (100000 + 1000 * employee * month)) (10 ∷ []))
+    (regrouped (codes "add E") (decimal employee) (codes " ") (month_text 2025 month) (day_text 2025 month 28)
+    (codes " RE4=") (decimal (100000 + 1000 * employee * month)) (10 ∷ []))
 
 -- a byte that ends no line and is no CR
 abbrev is_inner : ℕ → Bool
@@ -118,11 +118,13 @@ plain_decimal n fits = plain_digits (decimal n) (decimal_is_IsNumeral n fits).0.
 
 plain_month : (month : ℕ) → is_plain (month_text 2025 month) ≡ true
 plain_month month =
-    ap₂ (λ a b. a && (b && true)) (inner_digit (48 + month / 10) (omega arith)) (inner_digit (48 + month % 10) (omega arith))
+    ap₂ (λ a b. a && (b && true)) (inner_digit (48 + month / 10) (omega arith))
+    (inner_digit (48 + month % 10) (omega arith))
 
 plain_day : (month : ℕ) → is_plain (day_text 2025 month 28) ≡ true
 plain_day month =
-    ap₂ (λ a b. a && (b && true)) (inner_digit (48 + month / 10) (omega arith)) (inner_digit (48 + month % 10) (omega arith))
+    ap₂ (λ a b. a && (b && true)) (inner_digit (48 + month / 10) (omega arith))
+    (inner_digit (48 + month % 10) (omega arith))
 
 product_small : (employee month : ℕ) → employee ≤ 200 → month ≤ 12 → 1000 * employee * month ≤ 2400000
 product_small employee month few most = grind arith

@@ -364,8 +364,10 @@ never_filed (Some m) h e = cc
 
 -- where no month was filed, what was filed is as it was before the first line
 pub not_filed : (files : FileMap) (lines : List (List ℕ)) (answers : List Answer) (left : Standing)
-    → AreSteps files first_standing lines left answers → left.filings.last ≡ None → first_standing.filings ≡ left.filings
-not_filed files lines answers left h none = by (steps_going files lines answers first_standing.made first_standing left h).2
+    → AreSteps files first_standing lines left answers → left.filings.last ≡ None
+    → first_standing.filings ≡ left.filings
+not_filed files lines answers left h none =
+    by (steps_going files lines answers first_standing.made first_standing left h).2
   where
     by : Keeps first_standing left → first_standing.filings ≡ left.filings
     by (inl e) = sym e
@@ -415,7 +417,8 @@ module _ (files later : FileMap) (before after : List (List ℕ)) (earlier furth
   back : HaveAnswers later first_standing (opening ∷ after) (opened cut.left.book ∷ further)
       → HaveAnswers files first_standing (before ++ after) (earlier ++ further)
   back (to, (next, is, rest)) =
-      let one = steps.one later first_standing opening next there (opened cut.left.book) (opened cut.left.book) is opens in
+      let one = steps.one later first_standing opening next there (opened cut.left.book) (opened cut.left.book)
+      is opens in
       let here : HaveAnswers later there after further =
       subst (λ s. HaveAnswers later s after further) one.1 (to, rest) in
       let g = follow_files later files there after further (same_back files later after same) here in

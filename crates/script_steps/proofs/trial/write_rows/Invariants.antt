@@ -4,4 +4,5 @@ use Rattle.script_steps.specs.LineTexts.{trial_line}
 use Rattle.script_steps.proofs.trial.write_rows.Given as goal
 
 abbrev pub invariant-loop-row : goal.invariant-loop-row
-invariant-loop-row l = string_bytes l.text ≡ string_bytes l.initial.text ++ flat_map trial_line (take l.row-index l.rows)
+invariant-loop-row l =
+    string_bytes l.text ≡ string_bytes l.initial.text ++ flat_map trial_line (take l.row-index l.rows)
