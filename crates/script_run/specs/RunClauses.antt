@@ -13,6 +13,7 @@ use Rattle.script_run.specs.Transcripts.{Session, lines_of, ended_lines, AreAnsw
 use Rattle.script_run.specs.declared.turns.Ended.{Ended}
 use Rattle.script_run.specs.declared.turns.Unwritten.{Unwritten}
 use Rattle.script_run.specs.declared.stop.Stop.{Stop}
+use Rattle.script_run.specs.declared.stop.Stopped.{Stopped}
 use Rattle.script_run.specs.RefusedLines.{IsToldOf, tells_one}
 use Rattle.script_run.specs.declared.refused_lines.RefusedLines.{RefusedLines}
 use Rattle.script_run.specs.declared.stop.Stop.TheVariants as stops
@@ -34,14 +35,15 @@ abbrev pub KeepsRefusals : Option (Vec ℕ Global) → List ℕ → Type 0
 KeepsRefusals None refusals = ⊤
 KeepsRefusals (Some kept) refusals = kept.items ≡ refusals
 
--- how far a run came: the script, what was taken of it and what is left, and what was written and
--- counted since it began
+-- how far a run came: the script, what was taken of it and what is left, what was written and counted since it began, and
+-- what is told of refused lines
 pub record Course : Type 0 where
   pub script : List ℕ
   pub taken : List ℕ
   pub rest : List ℕ
   pub out : List ℕ
   pub spent : ℕ
+  pub told : RefusedLines
 
 -- what was written is a front of this session's text, and at most its steps were counted
 pub record IsFrontOfSession (session : Session) (out : List ℕ) (spent : ℕ) : Type 0 where
@@ -49,29 +51,29 @@ pub record IsFrontOfSession (session : Session) (out : List ℕ) (spent : ℕ) :
   pub text : session.text ≡ out ++ later
   pub cost : spent ≤ session.steps
 
--- what was written are the answers to exactly these lines, and exactly their steps were counted
-pub record IsExactly (files : FileMap) (lines : List (List ℕ)) (out : List ℕ)
-    (spent : ℕ) : Type 0 where
+-- what was written are the answers to exactly these lines, exactly their steps were counted, and it is told which of them
+-- were refused
+pub record IsExactly (files : FileMap) (lines : List (List ℕ)) (course : Course) : Type 0 where
   pub session : Session
   pub answered : AreAnswered files lines session
-  pub text : out ≡ session.text
-  pub cost : spent ≡ session.steps
+  pub text : course.out ≡ session.text
+  pub cost : course.spent ≡ session.steps
+  pub told_is : IsToldOf session.lines session.refused_lines course.told
 
--- what was written is the whole transcript, whose lines all name files that are there; exactly its
--- steps were counted, and this says whether an answer is a refusal
-pub record IsWholeTranscript (files : FileMap) (script out : List ℕ) (spent : ℕ)
-    (refused : Bool) : Type 0 where
+-- what was written is the whole transcript, whose lines all name files that are there; exactly its steps were counted, this
+-- says whether an answer is a refusal, and it is told which lines were refused
+pub record IsWholeTranscript (files : FileMap) (course : Course) (refused : Bool) : Type 0 where
   pub session : Session
-  pub is : IsTranscript files script session
-  pub there : All (λ line. AreThere files line) (lines_of script)
-  pub text : out ≡ session.text
-  pub cost : spent ≡ session.steps
+  pub is : IsTranscript files course.script session
+  pub there : All (λ line. AreThere files line) (lines_of course.script)
+  pub text : course.out ≡ session.text
+  pub cost : course.spent ≡ session.steps
   pub mark : refused ≡ session.refused
+  pub told_is : IsToldOf session.lines session.refused_lines course.told
 
 -- what was written are the answers to these lines and a front of the next one's, which isn't the whole; exactly the
--- steps of all these answers were counted
-pub record IsCutAt (files : FileMap) (before : List (List ℕ)) (line out : List ℕ)
-    (spent : ℕ) : Type 0 where
+-- steps of all these answers were counted, and it is told which of the lines before that one were refused
+pub record IsCutAt (files : FileMap) (before : List (List ℕ)) (line : List ℕ) (course : Course) : Type 0 where
   pub session : Session
   pub answered : AreAnswered files before session
   pub to : Standing
@@ -79,8 +81,9 @@ pub record IsCutAt (files : FileMap) (before : List (List ℕ)) (line out : List
   pub step : IsStep files session.standing line to answer
   pub count : ℕ
   pub within : count < length answer.text
-  pub text : out ≡ session.text ++ take count answer.text
-  pub cost : spent ≡ session.steps + answer.steps
+  pub text : course.out ≡ session.text ++ take count answer.text
+  pub cost : course.spent ≡ session.steps + answer.steps
+  pub told_is : IsToldOf session.lines session.refused_lines course.told
 
 -- the last byte is an LF
 pub record EndsWithLf (bytes : List ℕ) : Type 0 where
@@ -110,34 +113,33 @@ pub record IsFileStop (most : ℕ) (told : Option FileMap) (course : Course)
   pub names : Names line name
   pub in_order : ForSome told (λ files. IsNextFile files names.what name)
   pub failed_there : failed ≡ Some name
-  pub exact : ForSome told (λ files. IsExactly files before course.out course.spent)
+  pub exact : ForSome told (λ files. IsExactly files before course)
 
 -- the sink failed in the answer to a line
 pub record IsWriteStop (most : ℕ) (told : Option FileMap) (course : Course) : Type 0 where
   pub before : List (List ℕ)
   pub line : List ℕ
   pub place : IsAtLine most course.script course.taken before line
-  pub cut : ForSome told (λ files. IsCutAt files before line course.out course.spent)
+  pub cut : ForSome told (λ files. IsCutAt files before line course)
 
 -- the source failed: exactly the lines were answered whose LF was taken
 abbrev pub IsReadStop : Option FileMap → Course → Type 0
 IsReadStop told course =
-    ForSome told (λ files. IsExactly files (ended_lines course.taken) course.out course.spent)
+    ForSome told (λ files. IsExactly files (ended_lines course.taken) course)
 
 -- the script is too long: one byte past its limit was taken, and exactly the lines were answered
 -- whose LF is within it
 pub record IsLongStop (told : Option FileMap) (course : Course) : Type 0 where
   pub past : length course.taken ≡ most_script + 1
-  pub exact : ForSome told (λ files.
-      IsExactly files (ended_lines (take most_script course.taken)) course.out course.spent)
+  pub exact : ForSome told (λ files. IsExactly files (ended_lines (take most_script course.taken)) course)
 
 -- the script was read to its end and its transcript was written whole
 pub record IsEnd (told : Option FileMap) (course : Course) (refused : Bool) : Type 0 where
   pub read : course.rest ≡ []
-  pub whole : ForSome told (λ files.
-      IsWholeTranscript files course.script course.out course.spent refused)
+  pub whole : ForSome told (λ files. IsWholeTranscript files course refused)
 
--- what each result says; where a line stops the run, at most so many bytes were taken after its end
+-- what each result says; where a line stops the run, at most so many bytes were taken after its end; where memory ran out
+-- nothing is said, also not of what is told
 abbrev pub RunSays : ℕ → Option FileMap → Course → Option (List ℕ) → Result Bool Stop → Type 0
 RunSays most told course failed (Ok refused) = IsEnd told course refused
 RunSays most told course failed (Err stops.File) = IsFileStop most told course failed
@@ -146,28 +148,49 @@ RunSays most told course failed (Err stops.Write) = IsWriteStop most told course
 RunSays most told course failed (Err stops.Memory) = ⊤
 RunSays most told course failed (Err stops.Long) = IsLongStop told course
 
--- what a run wrote and counted that took this of a script and left the rest: always a front of the
--- transcript, and what its result says
+-- a run's result: what it tells of refused lines at its end, or where it stopped
+abbrev pub RunResult : Type 0
+RunResult = Result RefusedLines Stopped
+
+-- what it tells
+abbrev pub told_of : RunResult → RefusedLines
+told_of (Ok told) = told
+told_of (Err stopped) = stopped.refused_lines
+
+-- whether a line was refused, or why the run stopped
+abbrev pub ended_of : RunResult → Result Bool Stop
+ended_of (Ok told) = Ok (tells_one told)
+ended_of (Err stopped) = Err stopped.stop
+
+-- what a run wrote, counted and told that took this of a script and left the rest: always a front of the transcript, and
+-- what its result says
 pub record RunLeaves (most : ℕ) (before after : OutsideShown) (script taken rest : List ℕ)
-    (result : Result Bool Stop) : Type 0 where
+    (result : RunResult) : Type 0 where
   pub out : List ℕ
   pub appended : Appends before.written after.written out
   pub counted : before.steps ≤ after.steps
   pub front : ForSome before.files (λ files. (session : Session) → IsTranscript files script session
       → IsFrontOfSession session out (after.steps - before.steps))
   pub tells : RunSays most before.files
-      (record { script = script; taken = taken; rest = rest; out = out; spent = after.steps - before.steps })
-      after.failed result
+      (record {
+        script = script;
+        taken = taken;
+        rest = rest;
+        out = out;
+        spent = after.steps - before.steps;
+        told = told_of result;
+      })
+      after.failed (ended_of result)
 
 -- what a run leaves over a source that tells this script: what was taken is a front of it, within
 -- the limit of scripts
 pub record RunMeets (before after : OutsideShown) (script : List ℕ) (left : Option (List ℕ))
-    (result : Result Bool Stop) : Type 0 where
+    (result : RunResult) : Type 0 where
   pub taken : List ℕ
   pub rest : List ℕ
   pub split : script ≡ taken ++ rest
   pub left_rest : left ≡ Some rest
-  pub within : result ≢ Err stops.Long → length taken ≤ most_script
+  pub within : ended_of result ≢ Err stops.Long → length taken ≤ most_script
   pub leaves : RunLeaves most_turn before after script taken rest result
 
 -- the lines of the script have left this at last, where refusals were kept they are these, and this is told of them
@@ -179,16 +202,15 @@ pub record EndsAt (files : FileMap) (script : List ℕ) (standing : Standing)
   pub refusals : KeepsRefusals kept session.refusals
   pub told_is : IsToldOf session.lines session.refused_lines told
 
--- it is told which lines of the script were refused
-pub record TellsRefused (files : FileMap) (script : List ℕ) (told : RefusedLines) : Type 0 where
-  pub session : Session
-  pub is : IsTranscript files script session
-  pub told_is : IsToldOf session.lines session.refused_lines told
+-- a result by why the run stopped
+abbrev pub by_stop : {T : Type 0} → Result T Stopped → Result T Stop
+by_stop (Ok value) = Ok value
+by_stop (Err stopped) = Err stopped.stop
 
--- whether a line was refused, by what the value of a result tells; or its error
-abbrev pub refused_by : {T E : Type 0} → Result T E → (T → RefusedLines) → Result Bool E
-refused_by (Ok value) told_in = Ok (tells_one (told_in value))
-refused_by (Err error) told_in = Err error
+-- a run's result, where the value at its end has what is told
+abbrev pub run_result : {T : Type 0} → (T → RefusedLines) → Result T Stopped → RunResult
+run_result told_in (Ok value) = Ok (told_in value)
+run_result told_in (Err stopped) = Err stopped
 
 -- the lines of a script whose answers weren't written have made this at last
 pub record EndsUnwritten (files : FileMap) (script : List ℕ) (ended : Unwritten) : Type 0 where

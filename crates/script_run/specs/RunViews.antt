@@ -13,7 +13,7 @@ use Rattle.script_run.specs.Limits.{most_line, most_script}
 use Rattle.script_run.specs.Stops.{stop_of}
 use Rattle.script_run.specs.Transcripts.{Session, ended_lines, refusal_of}
 use Rattle.script_steps.specs.Shown.{OutsideShown}
-use Rattle.script_run.specs.RunClauses.{RunLeaves, EndsAt, KeepsRefusals}
+use Rattle.script_run.specs.RunClauses.{RunResult, RunLeaves, EndsAt, KeepsRefusals}
 use Rattle.script_run.specs.declared.stop.Stop.{Stop}
 use Rattle.script_run.specs.declared.reading.Reading.{Reading}
 use Rattle.script_run.specs.RefusedLines.{IsToldOf, noted, tells_one}
@@ -117,23 +117,31 @@ pub record GoesOn (old new : OutsideShown) (was is : Reading) (more : List ℕ) 
   pub on : (before : OutsideShown) (bytes : List ℕ) → Stands before old bytes was →
       Stands before new (bytes ++ more) is
 
+-- the run stopped, and this is told
+abbrev pub stopped_at : Stop → RefusedLines → RunResult
+stopped_at stop told = Err (record { stop = stop; refused_lines = told })
+
 -- wherever the run stood over some bytes, what a stop within these more leaves, whatever is left of the script
-pub record Breaks (old new : OutsideShown) (was : Reading) (more : List ℕ)
+pub record Breaks (old new : OutsideShown) (was : Reading) (told : RefusedLines) (more : List ℕ)
     (stop : LineStop) : Type 0 where
   pub on : (before : OutsideShown) (bytes rest : List ℕ) → Stands before old bytes was
-      → RunLeaves (length more) before new ((bytes ++ more) ++ rest) (bytes ++ more) rest (Err
-      (stop_of stop))
+      → RunLeaves (length more) before new ((bytes ++ more) ++ rest) (bytes ++ more) rest
+      (stopped_at (stop_of stop) told)
 
--- a line's result as the run's
-abbrev pub run_result : Result Bool LineStop → Result Bool Stop
-run_result (Ok refused) = Ok refused
-run_result (Err stop) = Err (stop_of stop)
+-- what reading to the end comes to, and this is told
+abbrev pub read_result : Result ⊤ Stop → RefusedLines → RunResult
+read_result (Ok _) told = Ok told
+read_result (Err stop) told = stopped_at stop told
+
+-- the last line's answer, and this is told
+abbrev pub last_result : Result ⊤ LineStop → RefusedLines → RunResult
+last_result (Ok _) told = Ok told
+last_result (Err stop) told = stopped_at (stop_of stop) told
 
 -- wherever the run stood over a whole script, what its end leaves
-pub record Closes (old new : OutsideShown) (was : Reading)
-    (result : Result Bool LineStop) : Type 0 where
+pub record Closes (old new : OutsideShown) (was : Reading) (result : RunResult) : Type 0 where
   pub on : (before : OutsideShown) (script : List ℕ) → Stands before old script was
-      → RunLeaves 0 before new script script [] (run_result result)
+      → RunLeaves 0 before new script script [] result
 
 -- wherever the run stood over a whole script, what its lines have left
 pub record ClosesAt (old : OutsideShown) (was : Reading) (standing : Standing)

@@ -14,7 +14,7 @@ mod turns;
 pub use refused_lines::{RefusedLine, RefusedLines};
 pub use sample::{MOST_EMPLOYEES, run_sample, sample_line_count};
 pub use script_lang::MOST_LINE;
-pub use stop::Stop;
+pub use stop::{Stop, Stopped};
 pub use transcript::transcript_laws;
 pub use turns::{Ended, Unwritten, run, run_unwritten};
 

@@ -36,10 +36,9 @@ pub(crate) fn run_in_memory<L: Ledger>(
     let mut sink = SureSink::new();
     match run_to_end(alloc, None, &mut files, &mut source, &mut sink, steps) {
         Ok(made) => Ok(made.ended),
-        Err(Stop::Memory) => Err(AllocError),
-        Err(Stop::File) => unreachable!(),
-        Err(Stop::Read) => unreachable!(),
-        Err(Stop::Write) => unreachable!(),
-        Err(Stop::Long) => unreachable!(),
+        Err(stopped) => match stopped.stop {
+            Stop::Memory => Err(AllocError),
+            Stop::File | Stop::Read | Stop::Write | Stop::Long => unreachable!(),
+        },
     }
 }

@@ -5,9 +5,9 @@ ghost use Rattle.std.specs.Result.{ForErr};
 ghost use Rattle.std.specs.Str.Lines.{strip_carriage_return};
 ghost use Rattle.outside.specs.Causes.{Caused};
 ghost use Rattle.script_steps.specs.Steps.{first_standing};
-ghost use Rattle.script_run.specs.RunClauses.{KeepsRefusals, refused_by, shown_beside};
+ghost use Rattle.script_run.specs.RunClauses.{KeepsRefusals, shown_beside};
 ghost use Rattle.script_run.specs.RunViews.{Holds, IsSameSoFar, IsAtStart};
-ghost use Rattle.script_run.specs.RunViews.{GoesOn, Breaks, Closes, ClosesAt};
+ghost use Rattle.script_run.specs.RunViews.{GoesOn, Breaks, Closes, ClosesAt, last_result};
 
 use crate::deliver::deliver;
 use crate::refused_lines::RefusedLines;
@@ -78,7 +78,7 @@ impl Reading {
         ensures err { ForErr result (λ stop. Breaks
             (shown_beside self.old.refusals F.Files W.Sink files.old sink.old steps.old)
             (shown_beside self.new.refusals F.Files W.Sink files.new sink.new steps.new)
-            self.old (10 ∷ []) stop) }
+            self.old self.new.refused_lines (10 ∷ []) stop) }
         ensures mode { is_some self.new.refusals ≡ is_some self.old.refusals }
         ensures same { F.told files.new ≡ F.told files.old }
         ensures kept { result ≢ Err LineStop.File → F.failed files.new ≡ F.failed files.old }
@@ -117,7 +117,7 @@ impl Reading {
         ensures err { ForErr result (λ stop. Breaks
             (shown_beside self.old.refusals F.Files W.Sink files.old sink.old steps.old)
             (shown_beside self.new.refusals F.Files W.Sink files.new sink.new steps.new)
-            self.old (byte ∷ []) stop) }
+            self.old self.new.refused_lines (byte ∷ []) stop) }
         ensures mode { is_some self.new.refusals ≡ is_some self.old.refusals }
         ensures same { F.told files.new ≡ F.told files.old }
         ensures kept { result ≢ Err LineStop.File → F.failed files.new ≡ F.failed files.old }
@@ -147,7 +147,7 @@ impl Reading {
         ensures err { ForErr result (λ stop. Breaks
             (shown_beside self.old.refusals F.Files W.Sink files.old sink.old steps.old)
             (shown_beside self.new.refusals F.Files W.Sink files.new sink.new steps.new)
-            self.old piece.now stop) }
+            self.old self.new.refused_lines piece.now stop) }
         ensures mode { is_some self.new.refusals ≡ is_some self.old.refusals }
         ensures same { F.told files.new ≡ F.told files.old }
         ensures kept { result ≢ Err LineStop.File → F.failed files.new ≡ F.failed files.old }
@@ -171,7 +171,7 @@ impl Reading {
         ensures closes { Closes
             (shown_beside self.old.refusals F.Files W.Sink files.old sink.old steps.old)
             (shown_beside self.new.refusals F.Files W.Sink files.new sink.new steps.new)
-            self.old (refused_by result (λ _. self.new.refused_lines)) }
+            self.old (last_result result self.new.refused_lines) }
         ensures standing { OnOk result (ClosesAt
             (shown_beside self.old.refusals F.Files W.Sink files.old sink.old steps.old)
             self.old self.new.script self.new.refusals self.new.refused_lines) }

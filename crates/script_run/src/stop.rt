@@ -3,6 +3,7 @@ ghost use Rattle.std.specs.Prelude.{◌≡◌};
 ghost use Rattle.script_run.specs.declared.stop.Stop.TheVariants.{Memory};
 ghost use Rattle.script_run.specs.Stops.{stop_of, stop_of_file};
 
+use crate::refused_lines::RefusedLines;
 use outside::FileAnswer;
 use script_steps::LineStop;
 use std::alloc::AllocError;
@@ -20,6 +21,16 @@ pub enum Stop {
     Memory,
     /// The script is too long.
     Long,
+}
+
+/// A run that stopped before its script was answered to the end.
+#[derive(Debug, Drop)]
+pub struct Stopped {
+    /// Why it stopped.
+    pub stop: Stop,
+    /// Which of the lines were refused that were answered before: of a stop at a line, those before it. Where memory ran out it
+    /// may be any of them.
+    pub refused_lines: RefusedLines,
 }
 
 impl From<LineStop> for Stop {

@@ -5,14 +5,14 @@ ghost use Rattle.std.specs.Result.{ForErr};
 ghost use Rattle.outside.specs.Causes.{Caused, HasCause};
 ghost use Rattle.outside.specs.Told.{ReadConsumes};
 ghost use Rattle.script_run.specs.Limits.{most_script, most_turn};
-ghost use Rattle.script_run.specs.RunClauses.{RunMeets, KeepsRefusals, EndsAt, EndsUnwritten, TellsRefused};
+ghost use Rattle.script_run.specs.RunClauses.{RunMeets, KeepsRefusals, EndsAt, EndsUnwritten};
 ghost use Rattle.script_steps.specs.Shown.{shown, shown_by};
-ghost use Rattle.script_run.specs.RunClauses.{refused_by, shown_beside};
-ghost use Rattle.script_run.specs.RunViews.{IsAtStart, TakesAll};
+ghost use Rattle.script_run.specs.RunClauses.{by_stop, run_result, shown_beside};
+ghost use Rattle.script_run.specs.RunViews.{IsAtStart, TakesAll, read_result, stopped_at};
 
 use crate::reading::Reading;
 use crate::refused_lines::RefusedLines;
-use crate::stop::Stop;
+use crate::stop::{Stop, Stopped};
 use crate::{MOST_SCRIPT, MOST_TURN};
 use outside::{Failed, Files, Sink, Source, SureSink};
 use script_steps::Script;
@@ -64,7 +64,7 @@ fn take_turns<F: Files, R: Source, W: Sink, L: Ledger>(
     ensures err { ForErr result (λ stop. ForSome (R.left source.old) (λ script. RunMeets
         (shown_beside reading.old.refusals F.Files W.Sink files.old sink.old steps.old)
         (shown_beside reading.new.refusals F.Files W.Sink files.new sink.new steps.new)
-        script (R.left source.new) (Err stop))) }
+        script (R.left source.new) (stopped_at stop reading.new.refused_lines))) }
     ensures mode { is_some reading.new.refusals ≡ is_some reading.old.refusals }
     ensures same { F.told files.new ≡ F.told files.old }
     ensures kept { result ≢ Err Stop.File → F.failed files.new ≡ F.failed files.old }
@@ -87,6 +87,36 @@ fn take_turns<F: Files, R: Source, W: Sink, L: Ledger>(
         }
         reading.feed(alloc, &buf[..count], files, sink, steps)?;
     }
+}
+
+/// Reads a script from its start to its end, and answers its lines. What they have made is in the reading, also where it stops.
+fn read_to_end<F: Files, R: Source, W: Sink, L: Ledger>(
+    alloc: Global,
+    reading: &mut Reading,
+    files: &mut F,
+    source: &mut R,
+    sink: &mut W,
+    steps: &mut Steps<L>,
+) -> Result<(), Stop>
+    requires start { IsAtStart reading.old }
+    ensures script { ForSome (R.left source.old) (λ script. RunMeets
+        (shown_beside reading.old.refusals F.Files W.Sink files.old sink.old steps.old)
+        (shown_beside reading.new.refusals F.Files W.Sink files.new sink.new steps.new)
+        script (R.left source.new) (read_result result reading.new.refused_lines)) }
+    ensures standing { OnOk result (ForSome (R.left source.old) (λ script.
+        ForSome (F.told files.old) (λ files.
+        EndsAt files script reading.new.script reading.new.refusals reading.new.refused_lines))) }
+    ensures mode { is_some reading.new.refusals ≡ is_some reading.old.refusals }
+    ensures same { F.told files.new ≡ F.told files.old }
+    ensures kept { result ≢ Err Stop.File → F.failed files.new ≡ F.failed files.old }
+    ensures file { Caused Stop.File (F.faults files.old) (F.faults files.new) result }
+    ensures read { Caused Stop.Read (R.faults source.old) (R.faults source.new) result }
+    ensures write { Caused Stop.Write (W.faults sink.old) (W.faults sink.new) result }
+{
+    let mut buf = turn_buffer(alloc, MOST_TURN)?;
+    take_turns(alloc, &mut buf, reading, files, source, sink, steps)?;
+    reading.last_line(alloc, files, sink, steps)?;
+    Ok(())
 }
 
 /// What a script has made that was read and answered to its end.
@@ -116,37 +146,41 @@ pub(crate) fn run_to_end<F: Files, R: Source, W: Sink, L: Ledger>(
     source: &mut R,
     sink: &mut W,
     steps: &mut Steps<L>,
-) -> Result<EndedWithRefusals, Stop>
+) -> Result<EndedWithRefusals, Stopped>
     requires { KeepsRefusals refusals [] }
     ensures script { ForSome (R.left source.old) (λ script. RunMeets
         (shown_beside refusals F.Files W.Sink files.old sink.old steps.old)
         (shown_beside refusals F.Files W.Sink files.new sink.new steps.new)
-        script (R.left source.new) (refused_by result (λ made. made.ended.refused_lines))) }
+        script (R.left source.new) (run_result (λ made. made.ended.refused_lines) result)) }
     ensures standing { IfOk result (λ made. ForSome (R.left source.old) (λ script.
         ForSome (F.told files.old) (λ files.
         EndsAt files script made.ended.script made.refusals made.ended.refused_lines))) }
     ensures mode { IfOk result (λ made. is_some made.refusals ≡ is_some refusals) }
     ensures same { F.told files.new ≡ F.told files.old }
-    ensures kept { result ≢ Err Stop.File → F.failed files.new ≡ F.failed files.old }
-    ensures file { Caused Stop.File (F.faults files.old) (F.faults files.new) result }
-    ensures read { Caused Stop.Read (R.faults source.old) (R.faults source.new) result }
-    ensures write { Caused Stop.Write (W.faults sink.old) (W.faults sink.new) result }
+    ensures kept { by_stop result ≢ Err Stop.File → F.failed files.new ≡ F.failed files.old }
+    ensures file { Caused Stop.File (F.faults files.old) (F.faults files.new) (by_stop result) }
+    ensures read { Caused Stop.Read (R.faults source.old) (R.faults source.new) (by_stop result) }
+    ensures write { Caused Stop.Write (W.faults sink.old) (W.faults sink.new) (by_stop result) }
 {
-    let mut buf = turn_buffer(alloc, MOST_TURN)?;
     let mut reading = Reading::new(alloc, refusals);
-    take_turns(alloc, &mut buf, &mut reading, files, source, sink, steps)?;
-    reading.last_line(alloc, files, sink, steps)?;
-    Ok(EndedWithRefusals {
-        ended: Ended {
+    match read_to_end(alloc, &mut reading, files, source, sink, steps) {
+        Ok(()) => Ok(EndedWithRefusals {
+            ended: Ended {
+                refused_lines: reading.refused_lines,
+                script: reading.script,
+            },
+            refusals: reading.refusals,
+        }),
+        Err(stop) => Err(Stopped {
+            stop,
             refused_lines: reading.refused_lines,
-            script: reading.script,
-        },
-        refusals: reading.refusals,
-    })
+        }),
+    }
 }
 
-/// Runs a script: takes it from the source turn by turn, and answers each line before bytes past its turn are taken.
-/// `Ok` tells which lines were refused. The counter rises by the steps of the answers: of accepted edits, `try` and `open`.
+/// Runs a script: takes it from the source turn by turn, and answers each line before bytes past its turn are taken. It is told
+/// which lines were refused, also where it stops. The counter rises by the steps of the answers: of accepted edits, `try` and
+/// `open`.
 ///
 /// A script has at most [`MOST_SCRIPT`] bytes. A line of more than [`MOST_LINE`](crate::MOST_LINE) bytes is
 /// answered once, and of its bytes no more than that many and one are kept.
@@ -156,18 +190,16 @@ pub fn run<F: Files, R: Source, W: Sink, L: Ledger>(
     source: &mut R,
     sink: &mut W,
     steps: &mut Steps<L>,
-) -> Result<RefusedLines, Stop>
+) -> Result<RefusedLines, Stopped>
     ensures script { ForSome (R.left source.old) (λ script. RunMeets
         (shown_by F.Files W.Sink files.old sink.old steps.old)
         (shown_by F.Files W.Sink files.new sink.new steps.new)
-        script (R.left source.new) (refused_by result (λ told. told))) }
-    ensures told { IfOk result (λ told. ForSome (R.left source.old) (λ script.
-        ForSome (F.told files.old) (λ files. TellsRefused files script told))) }
+        script (R.left source.new) result) }
     ensures same { F.told files.new ≡ F.told files.old }
-    ensures kept { result ≢ Err Stop.File → F.failed files.new ≡ F.failed files.old }
-    ensures file { Caused Stop.File (F.faults files.old) (F.faults files.new) result }
-    ensures read { Caused Stop.Read (R.faults source.old) (R.faults source.new) result }
-    ensures write { Caused Stop.Write (W.faults sink.old) (W.faults sink.new) result }
+    ensures kept { by_stop result ≢ Err Stop.File → F.failed files.new ≡ F.failed files.old }
+    ensures file { Caused Stop.File (F.faults files.old) (F.faults files.new) (by_stop result) }
+    ensures read { Caused Stop.Read (R.faults source.old) (R.faults source.new) (by_stop result) }
+    ensures write { Caused Stop.Write (W.faults sink.old) (W.faults sink.new) (by_stop result) }
 {
     let made = run_to_end(alloc, None, files, source, sink, steps)?;
     Ok(made.ended.refused_lines)
@@ -191,18 +223,18 @@ pub fn run_unwritten<F: Files, R: Source, L: Ledger>(
     files: &mut F,
     source: &mut R,
     steps: &mut Steps<L>,
-) -> Result<Unwritten, Stop>
+) -> Result<Unwritten, Stopped>
     ensures script { ForSome (R.left source.old) (λ script. RunMeets
         (shown (F.told files.old) (F.failed files.old) None steps.old)
         (shown (F.told files.new) (F.failed files.new) None steps.new)
-        script (R.left source.new) (refused_by result (λ ended. ended.refused_lines))) }
+        script (R.left source.new) (run_result (λ ended. ended.refused_lines) result)) }
     ensures standing { IfOk result (λ ended. ForSome (R.left source.old) (λ script.
         ForSome (F.told files.old) (λ files. EndsUnwritten files script ended))) }
     ensures same { F.told files.new ≡ F.told files.old }
-    ensures kept { result ≢ Err Stop.File → F.failed files.new ≡ F.failed files.old }
-    ensures file { Caused Stop.File (F.faults files.old) (F.faults files.new) result }
-    ensures read { Caused Stop.Read (R.faults source.old) (R.faults source.new) result }
-    ensures no_write { result ≢ Err Stop.Write }
+    ensures kept { by_stop result ≢ Err Stop.File → F.failed files.new ≡ F.failed files.old }
+    ensures file { Caused Stop.File (F.faults files.old) (F.faults files.new) (by_stop result) }
+    ensures read { Caused Stop.Read (R.faults source.old) (R.faults source.new) (by_stop result) }
+    ensures no_write { by_stop result ≢ Err Stop.Write }
 {
     let mut sink = SureSink::new();
     let kept = Some(Vec::new(alloc));
