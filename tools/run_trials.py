@@ -63,7 +63,7 @@ check("a file that isn't there", run(b"work\nload nofile\nwork\n") == (3, b"work
 check("a folder in place of a file", run(b"work\nload examples\nwork\n") == (3, b"work 0 0\n"))
 for name, why in [("nofile", "there is no such file"), ("examples/nofile/nofile", "there is no such file"), ("examples", "it is a folder")]:
     done = subprocess.run([program, "run"], input=f"load {name}\n".encode(), capture_output=True, timeout=300)
-    check(f"why {name} can't be read", done.stderr.decode() == f"papcalc: the file `{name}`: {why}\n")
+    check(f"why {name} can't be read", done.stderr.decode() == f"stdin:1: the file `{name}`: {why}; the script ends here\n")
 with open("/dev/full", "wb") as full:
     done = subprocess.run([program, "run"], input=b"work\n", stdout=full, stderr=subprocess.DEVNULL, timeout=300)
     check("a full output", done.returncode == 5)
@@ -78,6 +78,9 @@ for word in ["run", "save"]:
     done = subprocess.run([program, word], input=b"# ab\n\n" + b"ab\nwork\n" * 30, capture_output=True, text=False, timeout=300)
     said = "".join(TOLD.format(3 + 2 * number) for number in range(20)) + "and 10 more\n"
     check(f"the refused lines of {word} are told", done.returncode == 1 and done.stderr.decode().startswith(said))
+    done = subprocess.run([program, word], input=b"# ab\n\n" + b"ab\nwork\n" * 30 + b"load nofile\nab\n", capture_output=True, timeout=300)
+    said += "stdin:63: the file `nofile`: there is no such file; the script ends here\n"
+    check(f"the refused lines of {word} before a file that isn't there are told", done.returncode == 3 and done.stderr.decode() == said)
 with tempfile.TemporaryDirectory() as folder:
     TABLES = [
         ("employee;month;day;PAY\nanna;2026-01;2026-01-30;1\n", "semicolons"),

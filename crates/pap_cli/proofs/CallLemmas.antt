@@ -1,15 +1,12 @@
 -- What is so of a call whatever its words are, from what the part that it chose has left.
-use Rattle.std.proofs.Common.{◌≡◌, ◌≢◌, ◌∙◌, ℕ, Bool, true, false, List, sym, ap, subst}
-use Rattle.std.specs.Prelude.{Result, Ok, Err, IfOk, OnErr}
+use Rattle.std.proofs.Common.{◌≡◌, ◌≢◌, ◌∙◌, ℕ, Bool, true, false, List, sym, subst}
+use Rattle.std.specs.Prelude.{Result, Ok, Err}
 use Rattle.outside.specs.Causes.{Rose}
-use Rattle.script_run.specs.RefusedLines.{tells_one}
-use Rattle.script_run.specs.RunClauses.{refused_by}
-use Rattle.script_run.specs.declared.refused_lines.RefusedLines.{RefusedLines}
 use Rattle.script_run.specs.declared.stop.Stop.{Stop}
 use Rattle.script_run.specs.declared.stop.Stop.TheVariants as stops
 use Rattle.pap_cli.specs.CallClauses.{TellsBadWords, TouchesOnly, IsCaused}
 use Rattle.pap_cli.specs.Outside.{Objects, Outside}
-use Rattle.pap_cli.specs.Statuses.{IsDone, status_of}
+use Rattle.pap_cli.specs.Statuses.{status_of}
 use Rattle.pap_cli.specs.Words.{Form, check, sample, HasForm}
 use Rattle.pap_cli.specs.WordViews.{ReadsScript, form_by, form_on_files}
 use Rattle.pap_cli.specs.declared.status.Status.{Status}
@@ -17,7 +14,7 @@ use Rattle.pap_cli.specs.declared.status.Status.TheVariants.{BadWords}
 use Rattle.pap_cli.specs.declared.words.Command.{Command}
 use Rattle.pap_cli.specs.declared.words.Command.TheVariants.{Check, Once}
 use Rattle.pap_cli.specs.declared.words.FileRequest.{FileRequest}
-use Rattle.pap_cli.proofs.StatusLemmas.{file_stop, read_stop, write_stop, written_whole}
+use Rattle.pap_cli.proofs.StatusLemmas.{file_stop, read_stop, write_stop}
 use Rattle.pap_cli.proofs.WordLemmas.{one_form}
 
 -- ---- words
@@ -75,33 +72,3 @@ caused_by before after status r is file read write = record {
   read = λ e. read (read_stop r (sym is ∙ e));
   write = λ e. write (write_stop r (sym is ∙ e));
 }
-
--- ---- the refused lines of a run
-
--- whether a line was refused, or why the run stopped
-abbrev pub refused : Result RefusedLines Stop → Result Bool Stop
-refused r = refused_by r (λ told. told)
-
--- the same stop
-pub same_stop : (r : Result RefusedLines Stop) (stop : Stop) → refused r ≡ Err stop → r ≡ Err stop
-same_stop (Ok told) stop e = cc
-same_stop (Err found) stop e = let same : found ≡ stop = cc in ap (λ v. Err v) same
-
--- where its status says that it was answered to its end, the list has what is told of it
-pub run_told : {list : RefusedLines} (P : RefusedLines → Type 0) (r : Result RefusedLines Stop) (status : Status) →
-    status ≡ status_of (refused r) → IsDone status → IfOk r (λ told. list ≡ told) → IfOk r (λ told. P told) → P list
-run_told P (Ok told) status is done list_is h = subst P (sym list_is) h
-run_told P (Err stop) status is done list_is h = absurd (undone stop (subst IsDone is done))
-  where
-    undone : (stop : Stop) → IsDone (status_of (Err stop)) → ⊥
-    undone stops.File d = d
-    undone stops.Read d = d
-    undone stops.Write d = d
-    undone stops.Memory d = d
-    undone stops.Long d = d
-
--- and where it doesn't, the list is as it was
-pub run_untold : (P : Type 0) (r : Result RefusedLines Stop) (status : Status) → status ≡ status_of (refused r) →
-    ¬ (IsDone status) → OnErr r P → P
-run_untold P (Ok told) status is undone h = absurd (undone (subst IsDone (sym is) (written_whole (tells_one told))))
-run_untold P (Err stop) status is undone h = h

@@ -9,6 +9,7 @@ use Rattle.outside.specs.declared.traits.FileAnswer.TheVariants as files
 use Rattle.plan_answers.specs.declared.reply.Reply.{Reply}
 use Rattle.pap_cli.specs.declared.status.Status.{Status}
 use Rattle.pap_cli.specs.declared.status.Status.TheVariants.{Done, Refused, BadWords, FileFault, ReadFault, WriteFault, NoMemory, ScriptLong}
+use Rattle.script_run.specs.declared.refused_lines.RefusedLines.{RefusedLines}
 use Rattle.script_run.specs.declared.stop.Stop.{Stop}
 use Rattle.script_run.specs.declared.stop.Stop.TheVariants as stops
 use Rattle.script_run.specs.Stops.{stop_of_file}
@@ -136,11 +137,11 @@ leaves_answer Answers plan limits told told' failed failed' first began answer m
 -- ---- by form
 
 -- the same of all that the outside shows
-pub leaves_form : (c : Command) (plan limits : List ℕ) (before after : Outside) (status : Status) →
+pub leaves_form : (c : Command) (plan limits : List ℕ) (before after : Outside) (lines : RefusedLines) (status : Status) →
     LeavesOnFiles (answers_of c) plan limits (shown before.files before.failed before.written before.steps) (shown after.files after.failed after.written after.steps) status →
-    Leaves (form_by c plan limits) before after status
-leaves_form Check plan limits before after status h = h
-leaves_form (Once values) plan limits before after status h = h
+    Leaves (form_by c plan limits) before after lines status
+leaves_form Check plan limits before after lines status h = h
+leaves_form (Once values) plan limits before after lines status h = h
 
 headline_on : (Answers : Answering) (plan limits : List ℕ) (before after : Outside) (status : Status) → LeavesOnFiles Answers plan limits (shown_of before) (shown_of after) status →
     (status ≡ FileFault → Rose before.file_faults after.file_faults) → (status ≡ WriteFault → Rose before.sink_faults after.sink_faults) → HeadlineOnFiles Answers plan limits before after status
@@ -157,10 +158,11 @@ headline_on Answers plan limits before after status h file write files told writ
     }
 
 -- the headline of each form, from what each status says
-pub headline_form : (c : Command) (plan limits : List ℕ) (before after : Outside) (status : Status) → Leaves (form_by c plan limits) before after status →
+pub headline_form : (c : Command) (plan limits : List ℕ) (before after : Outside) (lines : RefusedLines) (status : Status) →
+    Leaves (form_by c plan limits) before after lines status →
     (status ≡ FileFault → Rose before.file_faults after.file_faults) → (status ≡ WriteFault → Rose before.sink_faults after.sink_faults) → Headline (form_by c plan limits) before after status
-headline_form Check plan limits before after status h file write = headline_on (answers_of Check) plan limits before after status h file write
-headline_form (Once values) plan limits before after status h file write = headline_on (answers_of (Once values)) plan limits before after status h file write
+headline_form Check plan limits before after lines status h file write = headline_on (answers_of Check) plan limits before after status h file write
+headline_form (Once values) plan limits before after lines status h file write = headline_on (answers_of (Once values)) plan limits before after status h file write
 
 -- ---- both files
 
@@ -182,12 +184,12 @@ leaves_want c plan limits front front' told told' failed failed' first began ste
     (leaves_memory (answers_of c) plan limits told told' failed failed' first began steps kept (more_counted (answers_of c front front') began steps counted) (λ files e. counted_both c plan limits front front' files began steps (read files e) counted))
 
 -- memory ran out before anything was touched
-leaves_none : (form : Form) (o : Outside) → Leaves form o o NoMemory
-leaves_none (check plan limits) o = leaves_form Check plan limits o o NoMemory (leaves_memory CheckAnswers plan limits o.files o.files o.failed o.failed o.written o.steps o.steps refl (omega arith) (λ files e. inl refl))
-leaves_none (once plan limits values) o = leaves_form (Once values) plan limits o o NoMemory (leaves_memory (OnceAnswers values) plan limits o.files o.files o.failed o.failed o.written o.steps o.steps refl (omega arith) (λ files e. inl refl))
-leaves_none run o = script_none o
-leaves_none (sample employees) o = sample_none employees o
-leaves_none save o = save_none o
+leaves_none : (form : Form) (o : Outside) (lines : RefusedLines) → Leaves form o o lines NoMemory
+leaves_none (check plan limits) o lines = leaves_form Check plan limits o o lines NoMemory (leaves_memory CheckAnswers plan limits o.files o.files o.failed o.failed o.written o.steps o.steps refl (omega arith) (λ files e. inl refl))
+leaves_none (once plan limits values) o lines = leaves_form (Once values) plan limits o o lines NoMemory (leaves_memory (OnceAnswers values) plan limits o.files o.files o.failed o.failed o.written o.steps o.steps refl (omega arith) (λ files e. inl refl))
+leaves_none run o lines = script_none o lines
+leaves_none (sample employees) o lines = sample_none employees o
+leaves_none save o lines = save_none o lines
 
 headline_none : (form : Form) (o : Outside) → Headline form o o NoMemory
 headline_none (check plan limits) o = λ files t written w memory. absurd (memory refl)
@@ -196,5 +198,5 @@ headline_none run o = λ files t script s written w short memory. absurd (memory
 headline_none (sample employees) o = λ written w memory. absurd (memory refl)
 headline_none save o = λ files t script s written w short memory. absurd (memory refl)
 
-pub carries_none : (form : Form) (o : Outside) → Carries form o o NoMemory
-carries_none form o = record { leaves = leaves_none form o; headline = headline_none form o }
+pub carries_none : (form : Form) (o : Outside) (lines : RefusedLines) → Carries form o o lines NoMemory
+carries_none form o lines = record { leaves = leaves_none form o lines; headline = headline_none form o }

@@ -12,10 +12,11 @@ use Rattle.script_steps.specs.Steps.{Standing}
 use Rattle.script_run.specs.Limits.{most_script}
 use Rattle.script_run.specs.RefusedLines.{tells_one}
 use Rattle.script_steps.specs.Shown.{OutsideShown}
-use Rattle.script_run.specs.RunClauses.{RunMeets, EndsUnwritten}
+use Rattle.script_run.specs.RunClauses.{RunMeets, RunResult, EndsUnwritten}
 use Rattle.script_run.specs.Transcripts.{Session}
 use Rattle.script_run.specs.declared.turns.Unwritten.{Unwritten}
-use Rattle.script_run.specs.declared.stop.Stop.{Stop}
+use Rattle.script_run.specs.declared.refused_lines.RefusedLines.{RefusedLines}
+use Rattle.script_run.specs.declared.stop.Stopped.{Stopped}
 use Rattle.script_run.specs.declared.stop.Stop.TheVariants as stops
 use Rattle.script_run.proofs.Laws.{one}
 use Rattle.pap_cli.specs.declared.status.Status.{Status}
@@ -53,7 +54,7 @@ pub record IsSavedWith (files : FileMap) (script : List ℕ) (reply : Reply) (sp
   pub cost : spent ≡ answer.steps
 
 pub saved_with : (before after : Outside) {script : List ℕ} (files : FileMap) (ended : Unwritten) (reply : Reply) →
-    RunMeets (unwritten before) (unwritten after) script after.left (Ok (tells_one ended.refused_lines)) → EndsUnwritten files script ended → before.files ≡ Some files →
+    RunMeets (unwritten before) (unwritten after) script after.left (Ok ended.refused_lines) → EndsUnwritten files script ended → before.files ≡ Some files →
     IsSave (tells_one ended.refused_lines) (was_filed ended.script) (ended.refusals).items (ended.script).book (written_of reply) → IsSavedWith files script reply (after.steps - before.steps)
 saved_with before after {script = script} files ended reply meets ends told save =
     let whole = meets.leaves.tells.whole files told in
@@ -74,14 +75,16 @@ saved_with before after {script = script} files ended reply meets ends told save
     }
 
 module _ (before after : Outside) (ended : Unwritten) (reply : Reply)
-    (meets : ForSome before.left (λ script. RunMeets (unwritten before) (unwritten after) script after.left (Ok (tells_one ended.refused_lines))))
+    (meets : ForSome before.left (λ script. RunMeets (unwritten before) (unwritten after) script after.left (Ok ended.refused_lines)))
     (ends : ForSome before.left (λ script. ForSome before.files (λ files. EndsUnwritten files script ended)))
     (save : IsSave (tells_one ended.refused_lines) (was_filed ended.script) (ended.refusals).items (ended.script).book (written_of reply))
     (kept : after.failed ≡ before.failed) where
   -- the answer was written whole
-  pub leaves_whole : Appends before.written after.written reply.text.items → LeavesOnSave before after (done_status reply.refused)
+  pub leaves_whole : Appends before.written after.written reply.text.items →
+      LeavesOnSave before after ended.refused_lines (done_status reply.refused)
   leaves_whole appended = record {
-    result = Ok (tells_one ended.refused_lines);
+    result = Ok ended.refused_lines;
+    told_is = refl;
     meets = meets;
     out = reply.text.items;
     appended = appended;
@@ -96,10 +99,12 @@ module _ (before after : Outside) (ended : Unwritten) (reply : Reply)
   }
 
   -- the sink failed
-  pub leaves_cut : AppendsShort before.written after.written reply.text.items → LeavesOnSave before after WriteFault
+  pub leaves_cut : AppendsShort before.written after.written reply.text.items →
+      LeavesOnSave before after ended.refused_lines WriteFault
   unfolding saved_with
   leaves_cut part = record {
-    result = Ok (tells_one ended.refused_lines);
+    result = Ok ended.refused_lines;
+    told_is = refl;
     meets = meets;
     out = take part.count reply.text.items;
     appended = part.appended;
@@ -135,8 +140,13 @@ long_book refused standing refusals book reply p q b says is =
 
 -- ---- a stop before the end
 
-no_more : {before after : OutsideShown} {script : List ℕ} {left : Option (List ℕ)} {refused : Bool} → RunMeets before after script left (Ok refused) → RunMeets before after script left (Err stops.Memory)
-no_more {refused = refused} meets = record {
+-- memory ran out, and this is told
+abbrev lost : RefusedLines → Stopped
+lost lines = record { stop = stops.Memory; refused_lines = lines }
+
+no_more : {before after : OutsideShown} {script : List ℕ} {left : Option (List ℕ)} {lines : RefusedLines} →
+    RunMeets before after script left (Ok lines) → RunMeets before after script left (Err (lost lines))
+no_more meets = record {
   taken = meets.taken;
   rest = meets.rest;
   split = meets.split;
@@ -151,10 +161,13 @@ no_more {refused = refused} meets = record {
   };
 }
 
-pub leaves_stop : (before after : Outside) (stop : Stop) → ForSome before.left (λ script. RunMeets (unwritten before) (unwritten after) script after.left (Err stop)) →
-    after.written ≡ before.written → (stop ≢ stops.File → after.failed ≡ before.failed) → stop ≢ stops.Write → LeavesOnSave before after (status_of (Err stop))
-leaves_stop before after stop meets same kept no_write = record {
-  result = Err stop;
+pub leaves_stop : (before after : Outside) (stopped : Stopped) →
+    ForSome before.left (λ script. RunMeets (unwritten before) (unwritten after) script after.left (Err stopped)) →
+    after.written ≡ before.written → (stopped.stop ≢ stops.File → after.failed ≡ before.failed) →
+    stopped.stop ≢ stops.Write → LeavesOnSave before after stopped.refused_lines (status_of (Err stopped.stop))
+leaves_stop before after stopped meets same kept no_write = record {
+  result = Err stopped;
+  told_is = refl;
   meets = meets;
   out = [];
   appended = subst (λ w. Appends before.written w []) (sym same) (Appends-nothing before.written);
@@ -163,16 +176,18 @@ leaves_stop before after stop meets same kept no_write = record {
 }
 
 -- memory ran out after the script was answered
-pub leaves_unsaid : (before after : Outside) (refused : Bool) → ForSome before.left (λ script. RunMeets (unwritten before) (unwritten after) script after.left (Ok refused)) →
-    after.written ≡ before.written → after.failed ≡ before.failed → LeavesOnSave before after (status_of (Err stops.Memory))
-leaves_unsaid before after refused meets same kept =
-    leaves_stop before after stops.Memory (λ script left. no_more (meets script left)) same (λ e. kept) (λ e. cc)
+pub leaves_unsaid : (before after : Outside) (lines : RefusedLines) →
+    ForSome before.left (λ script. RunMeets (unwritten before) (unwritten after) script after.left (Ok lines)) →
+    after.written ≡ before.written → after.failed ≡ before.failed → LeavesOnSave before after lines NoMemory
+leaves_unsaid before after lines meets same kept =
+    leaves_stop before after (lost lines) (λ script left. no_more (meets script left)) same (λ e. kept) (λ e. cc)
 
 -- memory ran out before anything was touched
-pub save_none : (o : Outside) → LeavesOnSave o o NoMemory
-save_none o =
+pub save_none : (o : Outside) (lines : RefusedLines) → LeavesOnSave o o lines NoMemory
+save_none o lines =
     record {
-      result = Err stops.Memory;
+      result = Err (lost lines);
+      told_is = refl;
       meets = λ script left. record {
         taken = [];
         rest = script;
@@ -195,14 +210,17 @@ save_none o =
 
 -- ---- the headline
 
-not_long : (before after : Outside) (script : List ℕ) → RunMeets (unwritten before) (unwritten after) script after.left (Err stops.Long) → length script ≤ most_script → ⊥
-not_long before after script meets short = omega (arith, meets.leaves.tells.past, ap (λ v. length v) meets.split, length-append meets.taken meets.rest)
+not_long : (before after : Outside) (script : List ℕ) (lines : RefusedLines) →
+    RunMeets (unwritten before) (unwritten after) script after.left (Err (record { stop = stops.Long; refused_lines = lines })) →
+    length script ≤ most_script → ⊥
+not_long before after script lines meets short = omega (arith, meets.leaves.tells.past, ap (λ v. length v) meets.split, length-append meets.taken meets.rest)
 
 -- the script was answered to its end
-at_end : (before after : Outside) (script written : List ℕ) (files : FileMap) (out : List ℕ) (status : Status) (refused : Bool) → RunMeets (unwritten before) (unwritten after) script after.left (Ok refused) →
+at_end : (before after : Outside) (script written : List ℕ) (files : FileMap) (out : List ℕ) (status : Status) (lines : RefusedLines) →
+    RunMeets (unwritten before) (unwritten after) script after.left (Ok lines) →
     IsSaveEnd before after out status → Appends before.written after.written out → (status ≡ WriteFault → ⊥) →
     before.files ≡ Some files → before.left ≡ Some script → before.written ≡ Some written → IsSavedWhole files script written before after status
-at_end before after script written files out status refused meets end appended no_fault told left said =
+at_end before after script written files out status lines meets end appended no_fault told left said =
     let whole = end.whole (elim (end.ended) [
       | inl done ↦ done
       | inr fault ↦ absurd (no_fault fault)
@@ -216,21 +234,29 @@ at_end before after script written files out status refused meets end appended n
       ended = whole.ended;
     }
 
-headline_by : (before after : Outside) (script written : List ℕ) (files : FileMap) (out : List ℕ) (status : Status) (r : Result Bool Stop) → RunMeets (unwritten before) (unwritten after) script after.left r →
+headline_by : (before after : Outside) (script written : List ℕ) (files : FileMap) (out : List ℕ) (status : Status) (r : RunResult) →
+    RunMeets (unwritten before) (unwritten after) script after.left r →
     SaveEnds before after out status r → Appends before.written after.written out →
     (status ≡ FileFault → ⊥) → (status ≡ ReadFault → ⊥) → (status ≡ WriteFault → ⊥) → (status ≡ NoMemory → ⊥) → length script ≤ most_script →
     before.files ≡ Some files → before.left ≡ Some script → before.written ≡ Some written → IsSavedWhole files script written before after status
-headline_by before after script written files out status (Ok refused) meets ends appended file read write memory short told left said = at_end before after script written files out status refused meets ends appended write told left said
-headline_by before after script written files out status (Err stops.File) meets ends appended file read write memory short told left said = absurd (file ends.ended)
-headline_by before after script written files out status (Err stops.Read) meets ends appended file read write memory short told left said = absurd (read ends.ended)
-headline_by before after script written files out status (Err stops.Write) meets ends appended file read write memory short told left said = absurd (write ends.ended)
-headline_by before after script written files out status (Err stops.Memory) meets ends appended file read write memory short told left said = absurd (memory ends.ended)
-headline_by before after script written files out status (Err stops.Long) meets ends appended file read write memory short told left said = absurd (not_long before after script meets short)
+headline_by before after script written files out status (Ok lines) meets ends appended file read write memory short told left said =
+    at_end before after script written files out status lines meets ends appended write told left said
+headline_by before after script written files out status (Err (record { stop = stops.File; refused_lines = lines })) meets ends appended file read write memory short told left said =
+    absurd (file ends.ended)
+headline_by before after script written files out status (Err (record { stop = stops.Read; refused_lines = lines })) meets ends appended file read write memory short told left said =
+    absurd (read ends.ended)
+headline_by before after script written files out status (Err (record { stop = stops.Write; refused_lines = lines })) meets ends appended file read write memory short told left said =
+    absurd (write ends.ended)
+headline_by before after script written files out status (Err (record { stop = stops.Memory; refused_lines = lines })) meets ends appended file read write memory short told left said =
+    absurd (memory ends.ended)
+headline_by before after script written files out status (Err (record { stop = stops.Long; refused_lines = lines })) meets ends appended file read write memory short told left said =
+    absurd (not_long before after script lines meets short)
 
-pub headline_save : (before after : Outside) (status : Status) → LeavesOnSave before after status →
+pub headline_save : (before after : Outside) (lines : RefusedLines) (status : Status) →
+    LeavesOnSave before after lines status →
     (status ≡ FileFault → Rose before.file_faults after.file_faults) → (status ≡ ReadFault → Rose before.source_faults after.source_faults) →
     (status ≡ WriteFault → Rose before.sink_faults after.sink_faults) → HeadlineOnSave before after status
-headline_save before after status leaves file read write files told script left written said short memory still_f still_r still_w =
+headline_save before after lines status leaves file read write files told script left written said short memory still_f still_r still_w =
     headline_by before after script written files leaves.out status leaves.result (leaves.meets script left) leaves.ends leaves.appended
     (λ e. rose_and_still before.file_faults after.file_faults (file e) still_f) (λ e. rose_and_still before.source_faults after.source_faults (read e) still_r)
     (λ e. rose_and_still before.sink_faults after.sink_faults (write e) still_w) memory short told left said

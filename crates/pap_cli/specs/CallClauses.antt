@@ -4,9 +4,9 @@ use Rattle.outside.specs.Causes.{Rose}
 use Rattle.outside.specs.declared.traits.Files.{Ghosts as FilesTell}
 use Rattle.outside.specs.declared.traits.Sink.{Ghosts as SinkTells}
 use Rattle.outside.specs.declared.traits.Source.{Ghosts as SourceTells}
+use Rattle.script_run.specs.declared.refused_lines.RefusedLines.{RefusedLines}
 use Rattle.pap_cli.specs.declared.status.Status.{Status}
 use Rattle.pap_cli.specs.declared.status.Status.TheVariants.{BadWords, FileFault, NoMemory, ReadFault, WriteFault}
-use Rattle.pap_cli.specs.Statuses.{IsDone}
 use Rattle.pap_cli.specs.Words.{Form, check, once, run, sample, save, HasForm, IsBad}
 use Rattle.pap_cli.specs.WordViews.{ReadsScript}
 use Rattle.plan_answers.specs.Answers.{CheckAnswers}
@@ -36,15 +36,15 @@ pub record IsCaused (before after : Outside) (status : Status) : Type 0 where
   pub read : status ≡ ReadFault → Rose before.source_faults after.source_faults
   pub write : status ≡ WriteFault → Rose before.sink_faults after.sink_faults
 
--- what each status says of the text, of the counter and of the failed name
-abbrev pub Leaves : Form → Outside → Outside → Status → Type 0
-Leaves (check plan limits) before after status =
+-- what each status says of the text, of the counter, of the failed name and of what is told of refused lines
+abbrev pub Leaves : Form → Outside → Outside → RefusedLines → Status → Type 0
+Leaves (check plan limits) before after told status =
     LeavesOnFiles CheckAnswers plan limits (shown_of before) (shown_of after) status
-Leaves (once plan limits values) before after status =
+Leaves (once plan limits values) before after told status =
     LeavesOnFiles (OnceAnswers values) plan limits (shown_of before) (shown_of after) status
-Leaves run before after status = LeavesOnScript before after status
-Leaves (sample employees) before after status = LeavesOnSample employees (output_of before) (output_of after) status
-Leaves save before after status = LeavesOnSave before after status
+Leaves run before after told status = LeavesOnScript before after told status
+Leaves (sample employees) before after told status = LeavesOnSample employees (output_of before) (output_of after) status
+Leaves save before after told status = LeavesOnSave before after told status
 
 -- while memory is there and no outside call fails, what is written is the defined answer, or the transcript
 abbrev pub Headline : Form → Outside → Outside → Status → Type 0
@@ -55,27 +55,33 @@ Headline (sample employees) before after status = HeadlineOnSample employees bef
 Headline save before after status = HeadlineOnSave before after status
 
 -- what the call leaves that carries out words of this form
-pub record Carries (form : Form) (before after : Outside) (status : Status) : Type 0 where
-  pub leaves : Leaves form before after status
+pub record Carries (form : Form) (before after : Outside) (told : RefusedLines) (status : Status) : Type 0 where
+  pub leaves : Leaves form before after told status
   pub headline : Headline form before after status
 
--- all that a call meets: words without a form are told, and nothing is called; what the words don't ask for stays, and
--- the files are only read; a fault is told only where its object's count rose; and, by the form that the words have, what
--- each status says of the text, the counter, the source and the failed name, and the headline
-pub record CallMeets
+-- all that a call meets which tells this of refused lines: words without a form are told, and nothing is called; what the
+-- words don't ask for stays, and the files are only read; a fault is told only where its object's count rose; and, by the
+-- form that the words have, what each status says of the text, the counter, the source, the failed name and the refused
+-- lines, and the headline
+pub record CallTells
     {F R W : Type 0} (of_files : FilesTell F) (of_source : SourceTells R) (of_sink : SinkTells W)
-    (words : List (List ℕ)) (before after : Objects F R W) (status : Status) : Type 0 where
+    (words : List (List ℕ)) (before after : Objects F R W) (told : RefusedLines) (status : Status) : Type 0 where
   pub bad_words : TellsBadWords words status
   pub touches : TouchesOnly words before after
   pub files_same : of_files.told after.files ≡ of_files.told before.files
   pub caused : IsCaused
       (outside_of of_files of_source of_sink before) (outside_of of_files of_source of_sink after) status
   pub carries : (form : Form) → HasForm words form → Carries form
-      (outside_of of_files of_source of_sink before) (outside_of of_files of_source of_sink after) status
+      (outside_of of_files of_source of_sink before) (outside_of of_files of_source of_sink after) told status
 
--- the words ask for a script to be carried out, by `run` or by `save`, and it was answered to its end
-pub record AnswersScript (words : List (List ℕ)) (status : Status) : Type 0 where
+-- the same, whatever would be told
+abbrev pub CallMeets : {F R W : Type 0} → FilesTell F → SourceTells R → SinkTells W
+    → List (List ℕ) → Objects F R W → Objects F R W → Status → Type 0
+CallMeets of_files of_source of_sink words before after status =
+    (told : RefusedLines) × CallTells of_files of_source of_sink words before after told status
+
+-- the words ask for a script to be carried out, by `run` or by `save`
+pub record AskForScript (words : List (List ℕ)) : Type 0 where
   pub form : Form
   pub has : HasForm words form
   pub reads : ReadsScript form
-  pub done : IsDone status

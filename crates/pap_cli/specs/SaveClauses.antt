@@ -1,4 +1,4 @@
--- What `save` leaves, by its status (docs/DEFINITIONS.md).
+-- What `save` leaves and tells, by its status (docs/DEFINITIONS.md).
 use Rattle.std.specs.Prelude.{◌≡◌, ◌≢◌, ◌⊎◌, ℕ, ◌+◌, ◌-◌, ◌≤◌, Bool, List, [], ◌++◌, length, Some, None, Result, Ok, Err}
 use Rattle.std.specs.Option.{ForSome}
 use Rattle.outside.specs.Causes.{Still}
@@ -6,7 +6,8 @@ use Rattle.outside.specs.Told.{FileMap, Appends}
 use Rattle.plan_answers.specs.Answers.{Answer}
 use Rattle.script_run.specs.Limits.{most_script}
 use Rattle.script_steps.specs.Shown.{OutsideShown, shown}
-use Rattle.script_run.specs.RunClauses.{RunMeets}
+use Rattle.script_run.specs.RunClauses.{RunMeets, RunResult, told_of}
+use Rattle.script_run.specs.declared.refused_lines.RefusedLines.{RefusedLines}
 use Rattle.script_run.specs.declared.stop.Stop.{Stop}
 use Rattle.script_run.specs.declared.stop.Stop.TheVariants as stops
 use Rattle.pap_cli.specs.declared.status.Status.{Status}
@@ -34,13 +35,15 @@ pub record IsSaveStop (out : List ℕ) (status : Status) (stop : Stop) : Type 0 
   pub ended : status ≡ status_of (Err stop)
   pub not_at_sink : stop ≢ stops.Write
 
-abbrev pub SaveEnds : Outside → Outside → List ℕ → Status → Result Bool Stop → Type 0
-SaveEnds before after out status (Ok refused) = IsSaveEnd before after out status
-SaveEnds before after out status (Err stop) = IsSaveStop out status stop
+abbrev pub SaveEnds : Outside → Outside → List ℕ → Status → RunResult → Type 0
+SaveEnds before after out status (Ok told) = IsSaveEnd before after out status
+SaveEnds before after out status (Err stopped) = IsSaveStop out status stopped.stop
 
--- what the call leaves: how the script's run ended, which wrote nothing, and what was written then
-pub record LeavesOnSave (before after : Outside) (status : Status) : Type 0 where
-  pub result : Result Bool Stop
+-- what the call leaves: how the script's run ended, which wrote nothing, what it told of refused lines, and what was written
+-- then
+pub record LeavesOnSave (before after : Outside) (told : RefusedLines) (status : Status) : Type 0 where
+  pub result : RunResult
+  pub told_is : told ≡ told_of result
   pub meets : ForSome before.left (λ script.
       RunMeets (unwritten before) (unwritten after) script after.left result)
   pub out : List ℕ

@@ -1,4 +1,4 @@
--- What `run` leaves, by its status (docs/DEFINITIONS.md).
+-- What `run` leaves and tells, by its status (docs/DEFINITIONS.md).
 use Rattle.std.specs.Prelude.{◌≡◌, ◌≢◌, ℕ, ◌+◌, ◌≤◌, Bool, List, [], ◌++◌, length, All, Some, Result}
 use Rattle.std.specs.Option.{ForSome}
 use Rattle.outside.specs.Causes.{Still}
@@ -6,17 +6,19 @@ use Rattle.outside.specs.Told.{FileMap}
 use Rattle.script_steps.specs.Steps.{AreThere}
 use Rattle.script_run.specs.Limits.{most_script}
 use Rattle.script_run.specs.Transcripts.{Session, lines_of, IsTranscript}
-use Rattle.script_run.specs.RunClauses.{RunMeets}
-use Rattle.script_run.specs.declared.stop.Stop.{Stop}
+use Rattle.script_run.specs.RunClauses.{RunMeets, RunResult, ended_of, told_of}
+use Rattle.script_run.specs.declared.refused_lines.RefusedLines.{RefusedLines}
 use Rattle.pap_cli.specs.declared.status.Status.{Status}
 use Rattle.pap_cli.specs.declared.status.Status.TheVariants as statuses
 use Rattle.pap_cli.specs.Statuses.{done_status, status_of}
 use Rattle.pap_cli.specs.Outside.{Outside, shown_of}
 
--- what a run leaves; of the text where the source tells the script and the files what they hold
-pub record LeavesOnScript (before after : Outside) (status : Status) : Type 0 where
-  pub result : Result Bool Stop
-  pub ended : status ≡ status_of result
+-- what a run leaves, and what it tells of refused lines; of the text where the source tells the script and the files what
+-- they hold
+pub record LeavesOnScript (before after : Outside) (told : RefusedLines) (status : Status) : Type 0 where
+  pub result : RunResult
+  pub ended : status ≡ status_of (ended_of result)
+  pub told_is : told ≡ told_of result
   pub meets : ForSome before.left (λ script.
       RunMeets (shown_of before) (shown_of after) script after.left result)
   pub kept : status ≢ statuses.FileFault → after.failed ≡ before.failed

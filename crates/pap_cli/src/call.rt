@@ -1,11 +1,10 @@
 //! The top call.
-ghost use Rattle.std.specs.Prelude.{◌≡◌, IfOk, OnErr};
-ghost use Rattle.std.specs.Option.{ForSome};
+ghost use Rattle.std.specs.Prelude.{◌≡◌};
 ghost use Rattle.pap_cli.specs.Words.{texts};
 ghost use Rattle.pap_cli.specs.Outside.{objects};
-ghost use Rattle.pap_cli.specs.CallClauses.{AnswersScript, CallMeets};
+ghost use Rattle.pap_cli.specs.CallClauses.{AskForScript, CallMeets, CallTells};
 ghost use Rattle.pap_cli.specs.Statuses.{status_of};
-ghost use Rattle.script_run.specs.RunClauses.{TellsRefused, refused_by};
+ghost use Rattle.script_run.specs.RunClauses.{ended_of, told_of};
 ghost use Rattle.plan_answers.specs.Laws.{CheckHasOneAnswer};
 ghost use Rattle.pap_cli.specs.Laws.{HaveOneForm, OnceHasOneAnswer};
 ghost use Rattle.pap_cli.specs.Laws.{PrintedAcceptanceHolds, WordsGiveKeptValues};
@@ -16,7 +15,7 @@ use crate::sample::sample;
 use crate::save::save;
 use crate::words::{Request, read_words};
 use outside::{Files, Sink, Source};
-use script_run::{RefusedLines, Stop, run};
+use script_run::{RefusedLines, Stop, Stopped, run};
 use std::alloc::Global;
 use std::sync::ledger::Ledger;
 use steps::Steps;
@@ -36,15 +35,21 @@ fn status(ended: Result<bool, Stop>) -> Status
     }
 }
 
-/// Puts into the list which lines of a script were refused, where it was answered to its end.
-/// `Ok` says whether one was.
-fn tell(ended: Result<RefusedLines, Stop>, refused_lines: &mut RefusedLines) -> Result<bool, Stop>
-    ensures refused { result ≡ refused_by ended (λ told. told) }
-    ensures told { IfOk ended (λ told. refused_lines.new ≡ told) }
-    ensures untold { OnErr ended (refused_lines.new ≡ refused_lines.old) }
+/// Puts into the list which lines of a script were refused, also where it stopped. `Ok` says whether one was.
+fn tell(ended: Result<RefusedLines, Stopped>, refused_lines: &mut RefusedLines) -> Result<bool, Stop>
+    ensures ended { result ≡ ended_of ended }
+    ensures told { refused_lines.new ≡ told_of ended }
 {
-    *refused_lines = ended?;
-    Ok(refused_lines.any())
+    match ended {
+        Ok(told) => {
+            *refused_lines = told;
+            Ok(refused_lines.any())
+        }
+        Err(stopped) => {
+            *refused_lines = stopped.refused_lines;
+            Err(stopped.stop)
+        }
+    }
 }
 
 /// Does all that the program does: carries out the words over the files, the source and the sink, and counts the steps of
@@ -72,8 +77,8 @@ pub fn papcalc<F: Files, R: Source, W: Sink, L: Ledger>(
     papcalc_told(alloc, words, files, source, sink, &mut untold, steps)
 }
 
-/// Does what [`papcalc`] does, and tells of a script that `run` or `save` answers to its end which of its lines were refused, and
-/// why. In every other case the list stays as it was.
+/// Does what [`papcalc`] does, and tells of the script that `run` or `save` carries out which of its lines were refused, and why,
+/// also where it stops before its end: then of the lines that were answered. Under all other words the list stays as it was.
 pub fn papcalc_told<F: Files, R: Source, W: Sink, L: Ledger>(
     alloc: Global,
     words: &[String],
@@ -83,16 +88,10 @@ pub fn papcalc_told<F: Files, R: Source, W: Sink, L: Ledger>(
     refused_lines: &mut RefusedLines,
     steps: &mut Steps<L>,
 ) -> Status
-    ensures meets { CallMeets F.Files R.Source W.Sink (texts words.now)
+    ensures meets { CallTells F.Files R.Source W.Sink (texts words.now)
         (objects files.old source.old sink.old steps.old)
-        (objects files.new source.new sink.new steps.new) result }
-
-    // Of a script that was answered to its end it is told which of its lines were refused, and of nothing else.
-    ensures refused_lines { AnswersScript (texts words.now) result
-        → ForSome (R.left source.old) (λ script. ForSome (F.told files.old)
-        (λ files. TellsRefused files script refused_lines.new)) }
-    ensures untold { ¬ (AnswersScript (texts words.now) result)
-        → refused_lines.new ≡ refused_lines.old }
+        (objects files.new source.new sink.new steps.new) refused_lines.new result }
+    ensures untold { ¬ (AskForScript (texts words.now)) → refused_lines.new ≡ refused_lines.old }
 {
     match read_words(alloc, words) {
         Ok(Some(Request::Files(request))) => status(answer(alloc, request, files, sink, steps)),

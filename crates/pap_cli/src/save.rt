@@ -1,8 +1,6 @@
 //! The answer of `save`: the last book of a script as a text.
-ghost use Rattle.std.specs.Prelude.{◌≡◌, IfOk, OnErr, Err};
-ghost use Rattle.std.specs.Option.{ForSome};
+ghost use Rattle.std.specs.Prelude.{◌≡◌, IfOk};
 ghost use Rattle.outside.specs.Causes.{Caused};
-ghost use Rattle.script_run.specs.RunClauses.{TellsRefused};
 ghost use Rattle.pap_cli.specs.GoingOn.{SavedScriptsAreSaved, SavedScriptsGoOn};
 ghost use Rattle.pap_cli.specs.Laws.{ScriptsHaveOneSave};
 ghost use Rattle.pap_cli.specs.Outside.{objects, outside_of};
@@ -21,7 +19,7 @@ use std::sync::ledger::Ledger;
 use steps::Steps;
 
 /// Runs the script that the source gives, writes none of its answers, and then writes the text of the last book, or why there
-/// is none. `Ok` says whether that is a refusal, and then it is told which lines were refused; else the list stays as it was.
+/// is none. `Ok` says whether that is a refusal. It is told which lines were refused, also where the script stops.
 pub(crate) fn save<F: Files, R: Source, W: Sink, L: Ledger>(
     alloc: Global,
     files: &mut F,
@@ -33,23 +31,24 @@ pub(crate) fn save<F: Files, R: Source, W: Sink, L: Ledger>(
     ensures leaves { LeavesOnSave
         (outside_of F.Files R.Source W.Sink (objects files.old source.old sink.old steps.old))
         (outside_of F.Files R.Source W.Sink (objects files.new source.new sink.new steps.new))
-        (status_of result) }
-    ensures told { IfOk result (λ refused. ForSome (R.left source.old) (λ script.
-        ForSome (F.told files.old) (λ files. TellsRefused files script refused_lines.new))) }
-    ensures untold { OnErr result (refused_lines.new ≡ refused_lines.old) }
+        refused_lines.new (status_of result) }
     ensures same { F.told files.new ≡ F.told files.old }
     ensures file { Caused Stop.File (F.faults files.old) (F.faults files.new) result }
     ensures read { Caused Stop.Read (R.faults source.old) (R.faults source.new) result }
     ensures write { Caused Stop.Write (W.faults sink.old) (W.faults sink.new) result }
 {
-    let ended = run_unwritten(alloc, files, source, steps)?;
+    let ended = match run_unwritten(alloc, files, source, steps) {
+        Ok(ended) => ended,
+        Err(stopped) => {
+            *refused_lines = stopped.refused_lines;
+            return Err(stopped.stop);
+        }
+    };
     let refused = ended.refused_lines.any();
+    *refused_lines = ended.refused_lines;
     let reply = saved(alloc, refused, ended.refusals, &ended.script)?;
     match put_all(sink, &reply.text) {
-        Ok(()) => {
-            *refused_lines = ended.refused_lines;
-            Ok(reply.refused)
-        }
+        Ok(()) => Ok(reply.refused),
         Err(_) => Err(Stop::Write),
     }
 }

@@ -78,7 +78,8 @@ lines of a script (DAY as 2026-01-31, MONTH as 2026-01, EMP a word for an employ
                                         `would RUNS STEPS`
   # ..                                  nothing: a comment
 An edit answers `ok`, and `plan` `accepted steps B`. A line that is refused answers `refused ..` and changes nothing; when the
-script has ended, standard error says of the first 20 such lines which they are and what is wrong.
+script has ended, standard error says of the first 20 such lines which they are and what is wrong. It ends before its last line
+where a line names a file that can't be read.
 
 It ends with 0 where all was written, 1 where something of that is a refusal, 2 where the words are none of these, 3 where a
 file can't be read, 4 where standard input can't be read, 5 where the output can't be written, 6 where memory runs out, 7
@@ -121,16 +122,12 @@ fn own_answer(words: &[String]) -> Option<&'static str> {
 }
 
 /// Says on standard error what is wrong. That this may fail changes nothing.
-fn explain(rt: &HostRuntime, status: Status, words: &[String], failed: Option<&FailedFile>) {
+fn explain(rt: &HostRuntime, status: Status, words: &[String]) {
     let _ = match status {
-        Status::Done | Status::Refused => Ok(()),
+        Status::Done | Status::Refused | Status::FileFault => Ok(()),
         Status::BadWords => {
             explain_bad_value(rt, words);
             eprintln!(rt; "{USAGE}")
-        }
-        Status::FileFault => {
-            explain_file_fault(rt, failed);
-            Ok(())
         }
         Status::ReadFault => eprintln!(rt; "papcalc: standard input can't be read"),
         Status::WriteFault => eprintln!(rt; "papcalc: standard output can't be written"),
@@ -156,13 +153,26 @@ fn explain_bad_value(rt: &HostRuntime, words: &[String]) {
     }
 }
 
-/// Says on standard error which file can't be read and why, in one line whatever its name is. That this may fail changes nothing.
-fn explain_file_fault(rt: &HostRuntime, failed: Option<&FailedFile>) {
-    if let Some(file) = failed
-        && let Ok(name) = one_line(rt.alloc(), &file.name)
-    {
-        let fault = file.fault;
-        let _ = eprintln!(rt; "papcalc: the file `{name}`: {fault}");
+/// Says on standard error which file can't be read and why, and which line of a script names it where one does, in one line
+/// whatever the file's name is. That this may fail changes nothing.
+fn explain_file_fault(rt: &HostRuntime, file: &FailedFile, line: Option<u64>) {
+    let Ok(name) = one_line(rt.alloc(), &file.name) else {
+        return;
+    };
+    let fault = file.fault;
+    let _ = match line {
+        Some(line) => {
+            eprintln!(rt; "stdin:{line}: the file `{name}`: {fault}; the script ends here")
+        }
+        None => eprintln!(rt; "papcalc: the file `{name}`: {fault}"),
+    };
+}
+
+/// The line of the script at which a file failed, where the words ask for a script: the one behind those that were answered.
+fn failed_line(words: &[String], refused_lines: &RefusedLines) -> Option<u64> {
+    match words {
+        [_] => Some(refused_lines.answered.saturating_add(1)),
+        _ => None,
     }
 }
 
@@ -174,13 +184,15 @@ fn explain_refusal(rt: &HostRuntime, words: &[String], given: &[Vec<u8>]) {
     }
 }
 
-/// Says on standard error which lines of a script are refused, and why, and of `save` that the book isn't saved. That this may
-/// fail changes nothing.
-fn explain_script(rt: &HostRuntime, word: &str, refused_lines: &RefusedLines) {
-    if let Ok(text) = refused_text(rt.alloc(), refused_lines) {
+/// Says on standard error which lines of a script are refused, and why, also where it stopped, unless memory ran out; and of
+/// `save` that the book isn't saved. That this may fail changes nothing.
+fn explain_script(rt: &HostRuntime, word: &str, status: Status, refused_lines: &RefusedLines) {
+    if status != Status::NoMemory
+        && let Ok(text) = refused_text(rt.alloc(), refused_lines)
+    {
         let _ = eprint!(rt; "{text}");
     }
-    if word == "save" {
+    if status == Status::Refused && word == "save" {
         let unsaved = if refused_lines.count == 0 {
             UNSAVED_BOOK
         } else {
@@ -191,13 +203,8 @@ fn explain_script(rt: &HostRuntime, word: &str, refused_lines: &RefusedLines) {
 }
 
 /// Ends the program: says what is wrong, and gives the status' number.
-fn end(
-    rt: &HostRuntime,
-    status: Status,
-    words: &[String],
-    failed: Option<&FailedFile>,
-) -> ExitCode {
-    explain(rt, status, words, failed);
+fn end(rt: &HostRuntime, status: Status, words: &[String]) -> ExitCode {
+    explain(rt, status, words);
     ExitCode::from(status.number())
 }
 
@@ -216,30 +223,34 @@ fn carried_out(rt: &HostRuntime, words: &[String]) -> ExitCode {
         &mut refused_lines,
         Blank::new(1),
     );
-    if status == Status::Refused {
-        match words {
-            [word] => explain_script(rt, word, &refused_lines),
-            words => explain_refusal(rt, words, files.fronts()),
-        }
+    match words {
+        [word] => explain_script(rt, word, status, &refused_lines),
+        words if status == Status::Refused => explain_refusal(rt, words, files.fronts()),
+        _ => {}
     }
-    end(rt, status, words, files.inner().failed_file())
+    if status == Status::FileFault
+        && let Some(file) = files.inner().failed_file()
+    {
+        explain_file_fault(rt, file, failed_line(words, &refused_lines));
+    }
+    end(rt, status, words)
 }
 
 fn main(rt: HostRuntime) -> ExitCode {
     let words = match words_of(&rt) {
         Ok(words) => words,
         Err(error) if error.kind() == ErrorKind::OutOfMemory => {
-            return end(&rt, Status::NoMemory, &[], None);
+            return end(&rt, Status::NoMemory, &[]);
         }
         Err(_) => {
             let _ = eprintln!(rt; "papcalc: a word is not UTF-8");
-            return end(&rt, Status::BadWords, &[], None);
+            return end(&rt, Status::BadWords, &[]);
         }
     };
     match own_answer(&words) {
         Some(text) => match println!(rt; "{text}") {
-            Ok(()) => end(&rt, Status::Done, &[], None),
-            Err(_) => end(&rt, Status::WriteFault, &[], None),
+            Ok(()) => end(&rt, Status::Done, &[]),
+            Err(_) => end(&rt, Status::WriteFault, &[]),
         },
         None => carried_out(&rt, &words),
     }

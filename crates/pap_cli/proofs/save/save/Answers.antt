@@ -17,13 +17,13 @@ returns-in-Ok-clause-leaves g c =
     (objects c.args.files.now c.args.source.now c.args.sink.now c.args.steps.now) in
     let after = outside_of g.F.Files g.R.Source g.W.Sink
     (objects c.run_unwritten.new.files c.run_unwritten.new.source c.put_all.new.sink c.run_unwritten.new.steps) in
-    let ended = c.in_ok-ended.ended in
+    let ended = c.in-Ok.ended in
     let reply = c.in_ok-reply.reply in
     leaves_whole before after ended reply
-    c.in_ok-ended.ensures.script c.in_ok-ended.ensures.standing
+    c.in-Ok.ensures.script c.in-Ok.ensures.standing
     (subst (λ (r : Bool). IsSave r (was_filed ended.script) ended.refusals.items ended.script.book (written_of reply))
     c.any-refused.ensures c.in_ok-reply.ensures)
-    (c.in_ok-ended.ensures.kept (λ e. cc))
+    (c.in-Ok.ensures.kept (λ e. cc))
     (subst (λ t. Appends before.written after.written t) c.deref.ensures.value c.in-Ok.ensures.ok)
 
 pub returns-in-Err-clause-leaves : goal.returns-in-Err-clause-leaves
@@ -32,13 +32,13 @@ returns-in-Err-clause-leaves g c =
     (objects c.args.files.now c.args.source.now c.args.sink.now c.args.steps.now) in
     let after = outside_of g.F.Files g.R.Source g.W.Sink
     (objects c.run_unwritten.new.files c.run_unwritten.new.source c.put_all.new.sink c.run_unwritten.new.steps) in
-    let ended = c.in_ok-ended.ended in
+    let ended = c.in-Ok.ended in
     let reply = c.in_ok-reply.reply in
     leaves_cut before after ended reply
-    c.in_ok-ended.ensures.script c.in_ok-ended.ensures.standing
+    c.in-Ok.ensures.script c.in-Ok.ensures.standing
     (subst (λ (r : Bool). IsSave r (was_filed ended.script) ended.refusals.items ended.script.book (written_of reply))
     c.any-refused.ensures c.in_ok-reply.ensures)
-    (c.in_ok-ended.ensures.kept (λ e. cc))
+    (c.in-Ok.ensures.kept (λ e. cc))
     (subst (λ t. AppendsShort before.written after.written t) c.deref.ensures.value c.in-Err.ensures.err)
 
 pub returns-in_err-ended-clause-leaves : goal.returns-in_err-ended-clause-leaves
@@ -60,12 +60,5 @@ returns-in_err-reply-clause-leaves g c =
     let after = outside_of g.F.Files g.R.Source g.W.Sink
     (objects c.run_unwritten.new.files c.run_unwritten.new.source c.args.sink.now c.run_unwritten.new.steps) in
     subst (λ r. LeavesOnSave before after (status_of r)) (sym (p.1 ∙ ap (λ v. Err v) p.2))
-    (leaves_unsaid before after (tells_one c.in_ok-ended.ended.refused_lines) c.in_ok-ended.ensures.script refl
-    (c.in_ok-ended.ensures.kept (λ e. cc)))
-
--- what the script's run told
-
-pub returns-in-Ok-clause-told : goal.returns-in-Ok-clause-told
-returns-in-Ok-clause-told g c = λ script left files told.
-    let ends = c.in_ok-ended.ensures.standing script left files told in
-    record { session = ends.session; is = ends.is; told_is = ends.told }
+    (leaves_unsaid before after (tells_one c.in-Ok.ended.refused_lines) c.in-Ok.ensures.script refl
+    (c.in-Ok.ensures.kept (λ e. cc)))
