@@ -52,7 +52,7 @@ refused-memory: build
 	python3 tools/refused_memory.py build/papcalc
 
 # The client in Java (needs a JDK) says the same as that in Python.
-client-java:
+client-java: build
 	python3 examples/clients/client.py build/papcalc > build/client-python
 	java examples/clients/Client.java build/papcalc > build/client-java
 	cmp build/client-python build/client-java

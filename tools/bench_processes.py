@@ -11,6 +11,8 @@ import tempfile
 import time
 
 EMPLOYEES = 4_166
+OUTPUTS = 5
+ROWS = EMPLOYEES * 12 * OUTPUTS
 PLAN = os.path.abspath("examples/payroll_tax")
 
 
@@ -24,16 +26,25 @@ def write_part(name, number):
                 table.write(f"E{number}-{employee},2026-{month:02d},2026-{month:02d}-28,2,{pay},{tax_class},{church_rate}\n")
 
 
+def write_script(part):
+    with open(f"{part}.script", "w") as script:
+        script.write(f"plan 2026-01-01 {PLAN}.xml {PLAN}.toml\nload {part}\nreport\n")
+
+
+def lines_in(name):
+    with open(name) as text:
+        return sum(1 for _ in text)
+
+
 def run_side_by_side(program, parts):
     began = time.time()
-    running = []
-    for part in parts:
-        with open("script", "w") as script:
-            script.write(f"plan 2026-01-01 {PLAN}.xml {PLAN}.toml\nload {part}\nreport\n")
-        running.append(subprocess.Popen([program, "run"], stdin=open("script"), stdout=open(f"{part}.answers", "w")))
+    running = [subprocess.Popen([program, "run"], stdin=open(f"{part}.script"), stdout=open(f"{part}.answers", "w")) for part in parts]
     if any([process.wait() for process in running]):
         sys.exit("bench_processes: a script was refused")
-    return time.time() - began
+    seconds = time.time() - began
+    if any(lines_in(f"{part}.answers") < ROWS for part in parts):
+        sys.exit("bench_processes: a report isn't whole")
+    return seconds
 
 
 def main():
@@ -43,6 +54,7 @@ def main():
         parts = [f"part-{number}.csv" for number in range(4)]
         for number, part in enumerate(parts):
             write_part(part, number)
+            write_script(part)
         print(f"load of the machine before: {os.getloadavg()[0]:.1f}, processors: {os.cpu_count()}")
         for count in (1, 2, 4):
             seconds = min(run_side_by_side(program, parts[:count]) for _ in range(3))

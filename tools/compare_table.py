@@ -8,6 +8,7 @@ flowchart, its range file or the table is refused, a column is neither an input 
 file or the program can't be used. With a fifth word, a row's number, the trace of that row is printed."""
 import csv
 import os
+import shutil
 import subprocess
 import sys
 import tempfile
@@ -75,16 +76,19 @@ def employee(number):
     return f"row-{number:05d}"
 
 
-def load(payroll, rows, inputs):
+def put(payroll, plan, limits, folder):
+    """Puts the flowchart, from copies whose names have the form that a line of a script asks for."""
+    payroll.ask("plan", DAY, shutil.copy(plan, f"{folder}/plan.xml"), shutil.copy(limits, f"{folder}/limits.toml"))
+
+
+def load(payroll, rows, inputs, folder):
     """Hands the runs over as a table."""
-    with tempfile.NamedTemporaryFile("w", suffix=".csv", newline="") as table:
+    name = f"{folder}/table.csv"
+    with open(name, "w", encoding="utf-8", newline="") as table:
         writer = csv.writer(table, lineterminator="\n")
         writer.writerow(["employee", "month", "day", *inputs])
         writer.writerows([employee(number), DAY[:7], DAY, *(row[name] for name in inputs)] for number, row in enumerate(rows, 1))
-        table.flush()
-        if " " in table.name:
-            give_up(f"the folder for temporary files has a blank in its name: set TMPDIR to another than {os.path.dirname(table.name)}")
-        payroll.ask("load", table.name)
+    payroll.ask("load", name)
 
 
 def difference(number, row, name, report):
@@ -132,10 +136,7 @@ def row_number(word, rows):
 
 def show(payroll, number):
     """Prints the trace of a row."""
-    try:
-        print(*payroll.ask("trace", employee(number), DAY), sep="\n")
-    except Refused as refused:
-        give_up(refused)
+    print(*payroll.ask("trace", employee(number), DAY), sep="\n")
     return 0
 
 
@@ -152,18 +153,21 @@ def main(program, plan, limits, table, word=None):
     outputs = outputs_of(program, plan, limits)
     rows, columns = read_table(table, inputs_of(limits), outputs)
     number = row_number(word, rows) if word else None
-    with Payroll(program) as payroll:
+    with tempfile.TemporaryDirectory() as folder, Payroll(program) as payroll:
+        if " " in folder or not folder.isascii():
+            give_up(f"the folder for temporary files has a blank or no ASCII name: set TMPDIR to another than {os.path.dirname(folder)}")
         try:
-            payroll.ask("plan", DAY, plan, limits)
-            load(payroll, rows, [name for name in columns if name not in outputs])
-        except Refused as refused:
-            give_up(refused)
-        if number:
-            return show(payroll, number)
-        return compare(payroll, rows, [name for name in columns if name in outputs])
+            put(payroll, plan, limits, folder)
+            load(payroll, rows, [name for name in columns if name not in outputs], folder)
+            if number:
+                return show(payroll, number)
+            return compare(payroll, rows, [name for name in columns if name in outputs])
+        except (Refused, EOFError, OSError) as fault:
+            give_up(fault)
 
 
 if __name__ == "__main__":
     if len(sys.argv) not in (5, 6):
-        sys.exit(__doc__)
+        print(__doc__, file=sys.stderr)
+        sys.exit(2)
     sys.exit(main(*sys.argv[1:]))

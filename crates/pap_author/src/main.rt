@@ -99,7 +99,10 @@ fn main(rt: HostRuntime) -> ExitCode {
         Err(error) if error.kind() == ErrorKind::OutOfMemory => {
             return end(&rt, &Err(Stop::Memory), None);
         }
-        Err(_) => return end(&rt, &Err(Stop::Words), None),
+        Err(_) => {
+            let _ = eprintln!(rt; "pap_author: a word is not UTF-8");
+            return end(&rt, &Err(Stop::Words), None);
+        }
     };
     if let Some(text) = own_answer(&words) {
         let ended = match println!(rt; "{text}") {
