@@ -24,7 +24,9 @@ pub(crate) struct Redone {
 /// New outcomes of a year, where its plans may change, and the work that they took.
 #[derive(Drop)]
 pub struct RedoneYear {
+    /// In order of day. `None` where no plan of the year may change: its outcomes stay.
     pub outcomes: Option<Vec<Outcome>>,
+    /// Of the runs whose job is new.
     pub work: Work,
 }
 

@@ -28,7 +28,9 @@ use steps::Steps;
 /// The years of some runs alone, and the work of running each of them that has inputs.
 #[derive(Drop)]
 pub struct RestoredYears {
+    /// The runs, by employee and year.
     pub years: Years,
+    /// How many runs these were, and their steps.
     pub work: Work,
 }
 

@@ -32,7 +32,9 @@ use steps::Steps;
 /// What is kept of a year before an edit: its records in order of day, and what each came to.
 #[derive(Clone, Copy)]
 pub struct Old<'a> {
+    /// In order of day.
     pub records: &'a [Record],
+    /// In the order of the records.
     pub outcomes: &'a [Outcome],
 }
 
@@ -53,7 +55,9 @@ pub(crate) struct Ran {
 /// A year's outcomes computed for an edit, and the work that it took.
 #[derive(Drop)]
 pub struct Recalculated {
+    /// In order of day.
     pub outcomes: Vec<Outcome>,
+    /// Of the runs whose job is new.
     pub work: Work,
 }
 

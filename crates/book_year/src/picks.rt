@@ -16,6 +16,7 @@ use plan_calendar::Calendar;
 /// A plan that is about to be put at a day, or taken away from it.
 #[derive(Clone, Copy)]
 pub struct Edit<'a> {
+    /// The day at which a plan is put, or from which it is taken away.
     pub day: Day,
     /// What the days that the edit decides get: the plan with the day from which it holds, or none.
     pub entry: Option<(Day, &'a Plan)>,
@@ -26,7 +27,9 @@ pub struct Edit<'a> {
 /// A calendar, and an edit of it that is about to be made.
 #[derive(Clone, Copy)]
 pub struct Picks<'a> {
+    /// The calendar as it stands.
     pub plans: &'a Calendar<Plan>,
+    /// The edit, where there is one.
     pub edit: Option<Edit<'a>>,
 }
 
@@ -35,6 +38,7 @@ pub struct Picks<'a> {
 pub struct Picked<'a> {
     /// The day from which it holds.
     pub day: Day,
+    /// The plan itself.
     pub plan: &'a Plan,
     /// Whether it has the texts of the plan that the day had before the edit.
     pub same: bool,

@@ -30,15 +30,20 @@ use steps::Steps;
 /// What an employee's year is known by. The runs of one employee in one calendar year are one chain.
 #[derive(Clone, Copy, Debug, PartialEq, Eq, PartialOrd, Ord)]
 pub struct YearKey {
+    /// Whose runs they are.
     pub employee: Employee,
+    /// The calendar year, from 1900 to 2999.
     pub year: u16,
 }
 
 /// An employee's calendar year: its records in order of day, and what each came to.
 #[derive(Drop)]
 pub struct Year {
+    /// The employee and the year.
     pub key: YearKey,
+    /// At most 366, one a day, in order of day.
     pub records: Vec<Record>,
+    /// In the order of the records.
     pub outcomes: Vec<Outcome>,
 }
 

@@ -15,6 +15,7 @@ use scaled_decimal::Dec;
 /// An earlier run of the employee in the calendar year, with its outputs where it is ok.
 #[derive(Drop)]
 pub struct Earlier {
+    /// The day of the run, in the calendar year.
     pub day: Day,
     /// The outputs in declared order. `None` where the run isn't ok.
     pub outputs: Option<Items<NamedValue>>,

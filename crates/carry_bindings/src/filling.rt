@@ -40,7 +40,9 @@ pub enum Blocked {
 /// The inputs of a run in declared order, or why it has none.
 #[derive(Drop)]
 pub enum Filled {
+    /// A value for each input, which the range file admits.
     Inputs(Items<Dec>),
+    /// Why there are none: the first reason that applies.
     State(Blocked),
 }
 

@@ -18,6 +18,8 @@ pub struct Due {
 /// An amount that was filed with a month.
 #[derive(Clone, Copy, Debug)]
 pub struct Entry {
+    /// The month with which it was filed.
     pub month: Month,
+    /// The amount, and what it is of.
     pub due: Due,
 }

@@ -18,6 +18,7 @@ use std::alloc::{AllocError, Global};
 /// A method with what stands beside its drawing.
 #[derive(Drop)]
 pub struct Chapter<'a> {
+    /// The method with its drawing's statements.
     pub text: MethodText,
     /// The comments before it in the file.
     pub comments: &'a [String],

@@ -26,6 +26,7 @@ use std::alloc::{AllocError, Global};
 /// A page, and why the plan is refused.
 #[derive(Drop)]
 pub struct Chart {
+    /// The page, as HTML in UTF-8.
     pub page: Vec<u8>,
     /// Why the plan is refused, in plain words in one line; `None` where it isn't.
     pub reason: Option<String>,

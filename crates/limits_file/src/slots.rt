@@ -7,6 +7,7 @@ use scaled_decimal::Dec;
 /// An input of an accepted plan.
 #[derive(Clone, Copy)]
 pub struct Slot {
+    /// Its name in the plan.
     pub name: Name,
     /// The type that the plan declares it with.
     pub kind: Kind,
@@ -21,5 +22,6 @@ pub struct Slot {
 /// The inputs of an accepted plan, in declared order.
 #[derive(Drop)]
 pub struct Spec {
+    /// The inputs, at most 256.
     pub slots: Items<Slot>,
 }

@@ -10,14 +10,18 @@ use std::fmt;
 /// A file as it was named, and the bytes that were read of it.
 #[derive(Clone, Copy)]
 pub struct TextFile<'a> {
+    /// Its name as the words or a line give it.
     pub name: &'a str,
+    /// What was read of it.
     pub bytes: &'a [u8],
 }
 
 /// A place in a text: line and column, each counted from 1. Columns count characters, not bytes.
 #[derive(Clone, Copy, Debug, PartialEq, Eq)]
 pub struct Position {
+    /// The line, counted from 1.
     pub line: usize,
+    /// The character in the line, counted from 1.
     pub column: usize,
 }
 

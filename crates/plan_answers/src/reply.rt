@@ -8,8 +8,11 @@ use std::alloc::{AllocError, Global};
 /// What is written on a command, whether it is a refusal, and the steps of the run.
 #[derive(Drop)]
 pub struct Reply {
+    /// Lines, each with its line feed.
     pub text: Vec<u8>,
+    /// Whether it is a refusal.
     pub refused: bool,
+    /// The steps of the run of `once`; 0 for all else.
     pub steps: u64,
 }
 

@@ -9,6 +9,7 @@ use pap_reader::{Element, split_letters};
 /// A tag, with the comments between the tag before and it. An empty tag counts as a start tag and an end tag.
 #[derive(Clone, Copy, Debug)]
 pub struct Mark {
+    /// Its element.
     pub element: Element,
     /// It is an end tag, else a start tag.
     pub is_end: bool,

@@ -43,7 +43,9 @@ pub struct Book {
 /// A book of which every run that has inputs was run, and the work of that.
 #[derive(Drop)]
 pub struct RestoredBook {
+    /// The book.
     pub book: Book,
+    /// How many runs were run, and their steps.
     pub work: Work,
 }
 

@@ -19,6 +19,7 @@ use scaled_decimal::Dec;
 /// What a run ran: its plan and its inputs.
 #[derive(Clone, Copy)]
 pub struct Job<'a> {
+    /// The plan of the run's day.
     pub plan: &'a Plan,
     /// In declared order. The plan admits them.
     pub inputs: &'a [Dec],
