@@ -9,12 +9,22 @@ use Rattle.script_steps.specs.Steps.{Standing, AreThere}
 use Rattle.script_run.specs.Limits.{most_script}
 use Rattle.script_run.specs.Transcripts.{lines_of}
 use Rattle.script_steps.specs.Shown.{OutsideShown}
-use Rattle.script_run.specs.RunClauses.{RunMeets, EndsAt, EndsUnwritten, TellsRefused, IsFinished, IsSpentWithin}
-use Rattle.script_run.specs.RefusedLines.{IsToldOf, tells_one}
+use Rattle.script_run.specs.RunClauses.{RunMeets, EndsAt, EndsUnwritten, IsFinished, IsSpentWithin}
+use Rattle.script_run.specs.RunViews.{stopped_at}
 use Rattle.script_run.specs.declared.turns.Ended.{Ended}
 use Rattle.script_run.specs.declared.refused_lines.RefusedLines.{RefusedLines}
+use Rattle.script_run.specs.declared.stop.Stop.{Stop}
 use Rattle.script_run.specs.declared.stop.Stop.TheVariants as stops
+use Rattle.script_run.specs.declared.stop.Stopped.{Stopped}
 use Rattle.script_run.proofs.Laws.{one, some}
+
+-- a run that stopped for this reason
+pub stopped_for : {before after : OutsideShown} {script : List ℕ} {left : Option (List ℕ)} (stopped : Stopped)
+    {stop : Stop} →
+    stopped.stop ≡ stop → RunMeets before after script left (Err stopped) →
+    RunMeets before after script left (stopped_at stop stopped.refused_lines)
+stopped_for {before = before} {after = after} {script = script} {left = left} stopped is meets =
+    subst (λ v. RunMeets before after script left (stopped_at v stopped.refused_lines)) is meets
 
 line_there : (files : FileMap) (before later : List (List ℕ)) (line : List ℕ) → All (λ v. AreThere files v)
     (before ++ line ∷ later) → AreThere files line
@@ -23,8 +33,8 @@ line_there files (first ∷ before) later line there =
     line_there files before later line (All-tail (λ v. AreThere files v) first (before ++ line ∷ later) there)
 
 -- a file that a line names isn't lacking
-pub no_file_stop : {before after : OutsideShown} {left : Option (List ℕ)} (files : FileMap) (script : List ℕ) →
-    RunMeets before after script left (Err stops.File) →
+pub no_file_stop : {before after : OutsideShown} {left : Option (List ℕ)} {lines : RefusedLines} (files : FileMap)
+    (script : List ℕ) → RunMeets before after script left (stopped_at stops.File lines) →
     All (λ line. AreThere files line) (lines_of script) → ((name : List ℕ) → after.failed ≡ Some name →
     files name ≡ None) → ⊥
 no_file_stop files script meets there lacks =
@@ -36,8 +46,8 @@ no_file_stop files script meets there lacks =
     cc
 
 -- a script within the limit isn't too long
-pub no_long_stop : {before after : OutsideShown} {left : Option (List ℕ)} (script : List ℕ) →
-    RunMeets before after script left (Err stops.Long) → length script ≤ most_script → ⊥
+pub no_long_stop : {before after : OutsideShown} {left : Option (List ℕ)} {lines : RefusedLines} (script : List ℕ) →
+    RunMeets before after script left (stopped_at stops.Long lines) → length script ≤ most_script → ⊥
 no_long_stop script meets short = omega (
   arith,
   meets.leaves.tells.past,
@@ -49,7 +59,7 @@ no_long_stop script meets short = omega (
 -- what a whole run leaves
 pub finished : {before after : OutsideShown} {left : Option (List ℕ)} (files : FileMap) (script : List ℕ)
     (ended : Ended) (kept : Option (Vec ℕ Global)) →
-    RunMeets before after script left (Ok (tells_one ended.refused_lines)) →
+    RunMeets before after script left (Ok ended.refused_lines) →
     EndsAt files script ended.script kept ended.refused_lines →
     before.files ≡ Some files → IsFinished files script before.steps after.steps ended
 finished {before = before} {after = after} files script ended kept meets ends told =
@@ -61,7 +71,7 @@ finished {before = before} {after = after} files script ended kept meets ends to
       session = whole.session;
       is = whole.is;
       mark = whole.mark;
-      told = subst (λ v. IsToldOf v.lines v.refused_lines ended.refused_lines) (sym same) ends.told_is;
+      told = whole.told_is;
       cost = omega arith;
       left = sym (ap (λ v. v.standing) same ∙ ends.left);
     }
@@ -69,7 +79,7 @@ finished {before = before} {after = after} files script ended kept meets ends to
 -- what a whole run has made whose refusals were kept
 pub ends_unwritten : {before after : OutsideShown} {left : Option (List ℕ)} (files : FileMap) (script : List ℕ)
     (lines : RefusedLines) (standing : Standing) (kept : Vec ℕ Global) →
-    RunMeets before after script left (Ok (tells_one lines)) → EndsAt files script standing (Some kept) lines →
+    RunMeets before after script left (Ok lines) → EndsAt files script standing (Some kept) lines →
     before.files ≡ Some files →
     EndsUnwritten files script (record { refused_lines = lines; refusals = kept; script = standing })
 ends_unwritten files script lines standing kept meets ends told =
@@ -84,15 +94,9 @@ ends_unwritten files script lines standing kept meets ends told =
       left = sym ends.left;
     }
 
--- what is told of its refused lines
-pub tells_refused : (files : FileMap) (script : List ℕ) (standing : Standing) (kept : Option (Vec ℕ Global))
-    (lines : RefusedLines) → EndsAt files script standing kept lines → TellsRefused files script lines
-tells_refused files script standing kept lines ends =
-    record { session = ends.session; is = ends.is; told_is = ends.told_is }
-
 -- what a run leaves that memory stopped
-pub spent_within : {before after : OutsideShown} {left : Option (List ℕ)} (files : FileMap) (script : List ℕ) →
-    RunMeets before after script left (Err stops.Memory) → before.files ≡ Some files →
+pub spent_within : {before after : OutsideShown} {left : Option (List ℕ)} {lines : RefusedLines} (files : FileMap)
+    (script : List ℕ) → RunMeets before after script left (stopped_at stops.Memory lines) → before.files ≡ Some files →
     IsSpentWithin files script before.steps after.steps
 spent_within {before = before} {after = after} files script meets told =
     let has = some files script in

@@ -1,6 +1,6 @@
 -- How a run goes on over a script's bytes, and what a stop leaves.
-use Rattle.std.proofs.Common.{◌≡◌, List, [], ◌∷◌, ◌++◌, ℕ, ◌+◌, ◌-◌, ◌≤◌, ◌<◌, ◌==◌, Bool, false, ◌||◌, length, take, drop, get_or, Option, refl, sym, ap, ◌∙◌, subst, append_assoc, arith, inl, inr, length-append}
-use Rattle.std.specs.Prelude.{Result, Ok, Err, Some, None, Vec}
+use Rattle.std.proofs.Common.{◌≡◌, ◌≢◌, List, [], ◌∷◌, ◌++◌, ℕ, ◌+◌, ◌-◌, ◌≤◌, ◌<◌, ◌==◌, Bool, false, ◌||◌, length, take, drop, get_or, Option, refl, sym, ap, ◌∙◌, subst, append_assoc, arith, inl, inr, length-append}
+use Rattle.std.specs.Prelude.{Result, Ok, Err, Some, None, Vec, ⊤}
 use Rattle.std.specs.declared.alloc.Global.{Global}
 use Rattle.std.specs.Option.{ForSome}
 use Rattle.std.specs.Str.Lines.{strip_carriage_return}
@@ -16,8 +16,9 @@ use Rattle.script_steps.proofs.Laws as step
 use Rattle.script_run.specs.Transcripts.{Session, refusal_of, lines_of, ended_lines, IsSession, IsTranscript}
 use Rattle.script_run.specs.Stops.{stop_of}
 use Rattle.script_steps.specs.Shown.{OutsideShown, shown}
-use Rattle.script_run.specs.RunClauses.{told_by, IsFrontOfSession, IsAtLine, RunLeaves, EndsAt, KeepsRefusals, refused_by}
-use Rattle.script_run.specs.RunViews.{Follow, empty_session, with_answer, open_line, Holds, IsSameSoFar, IsAtStart, Keeps, IsDelivered, Stands, GoesOn, Breaks, Closes, ClosesAt}
+use Rattle.script_run.specs.RunClauses.{told_by, IsFrontOfSession, IsAtLine, RunLeaves, EndsAt, KeepsRefusals}
+use Rattle.script_run.specs.RunViews.{Follow, empty_session, with_answer, open_line, Holds, IsSameSoFar, IsAtStart, Keeps}
+use Rattle.script_run.specs.RunViews.{IsDelivered, Stands, GoesOn, Breaks, Closes, ClosesAt, stopped_at, last_result}
 use Rattle.script_run.specs.declared.stop.Stop.TheVariants as stops
 use Rattle.script_run.specs.declared.reading.Reading.{Reading}
 use Rattle.script_run.specs.RefusedLines.{IsToldOf, Notes, noted, tells_one}
@@ -181,15 +182,15 @@ goes_told files failed w steps was is more same goes =
     subst (λ r. GoesOn (shown files failed (told_by was.refusals w) steps) (shown files failed (told_by r w) steps) was is
     more) (sym same) goes
 
-pub breaks_told : (files : Option FileMap) (failed w : Option (List ℕ)) (steps : ℕ) (was is : Reading) (more : List ℕ)
-    (stop : LineStop) → is.refusals ≡ was.refusals →
+pub breaks_told : (files : Option FileMap) (failed w : Option (List ℕ)) (steps : ℕ) (was is : Reading)
+    (told : RefusedLines) (more : List ℕ) (stop : LineStop) → is.refusals ≡ was.refusals →
     Breaks (shown files failed (told_by was.refusals w) steps) (shown files failed (told_by was.refusals w) steps) was
-    more stop →
+    told more stop →
     Breaks (shown files failed (told_by was.refusals w) steps) (shown files failed (told_by is.refusals w) steps) was
-    more stop
-breaks_told files failed w steps was is more stop same breaks =
+    told more stop
+breaks_told files failed w steps was is told more stop same breaks =
     subst (λ r. Breaks (shown files failed (told_by was.refusals w) steps) (shown files failed (told_by r w) steps) was
-    more stop) (sym same) breaks
+    told more stop) (sym same) breaks
 
 -- an LF, with the answer to its line
 pub line_on : {old new : OutsideShown} {was is : Reading} {refused : Bool} → new.files ≡ old.files →
@@ -302,9 +303,10 @@ front_next files lines later line script session to answer begins answered is wh
     (Follow-next files empty_session session lines line to answer answered is) whole transcript
 
 -- where a run stands it has left the answers so far
-pub leaves_so_far : {most : ℕ} {before now : OutsideShown} {bytes script taken rest : List ℕ} {reading : Reading} →
+pub leaves_so_far : {most : ℕ} {before now : OutsideShown} {bytes script taken rest : List ℕ} {reading : Reading}
+    {told : RefusedLines} →
     Begins (ended_lines bytes) (lines_of script) → Stands before now bytes reading →
-    RunLeaves most before now script taken rest (Err stops.Memory)
+    RunLeaves most before now script taken rest (stopped_at stops.Memory told)
 leaves_so_far {bytes = bytes} {script = script} begins stands = record {
   out = stands.out;
   appended = stands.appended;
@@ -314,11 +316,19 @@ leaves_so_far {bytes = bytes} {script = script} begins stands = record {
   tells = tt;
 }
 
-leaves_file : {most : ℕ} {before now : OutsideShown} {bytes script taken rest line : List ℕ} {reading : Reading} →
+-- what is told of the lines so far, where it is still the same
+tells_so_far : {before now : OutsideShown} {bytes : List ℕ} {reading : Reading} {told : RefusedLines} →
+    told ≡ reading.refused_lines → (stands : Stands before now bytes reading) →
+    IsToldOf stands.lines stands.refused_lines told
+tells_so_far unchanged stands = subst (λ v. IsToldOf stands.lines stands.refused_lines v) (sym unchanged) stands.told
+
+leaves_file : {most : ℕ} {before now : OutsideShown} {bytes script taken rest line : List ℕ} {reading : Reading}
+    {told : RefusedLines} →
     IsAtLine most script taken (ended_lines bytes) line → (name : List ℕ) (names : Names line name) →
     ForSome before.files (λ files. IsNextFile files names.what name) → now.failed ≡ Some name →
-    Stands before now bytes reading → RunLeaves most before now script taken rest (Err stops.File)
-leaves_file {bytes = bytes} {script = script} {line = line} place name names in_order failed stands = record {
+    told ≡ reading.refused_lines → Stands before now bytes reading →
+    RunLeaves most before now script taken rest (stopped_at stops.File told)
+leaves_file {bytes = bytes} {script = script} {line = line} place name names in_order failed unchanged stands = record {
   out = stands.out;
   appended = stands.appended;
   counted = stands.counted;
@@ -337,14 +347,16 @@ leaves_file {bytes = bytes} {script = script} {line = line} place name names in_
       answered = answered_of files (ended_lines bytes) _ (stands.answered files e);
       text = refl;
       cost = refl;
+      told_is = tells_so_far unchanged stands;
     };
   };
 }
 
-leaves_part : {most : ℕ} {before old new : OutsideShown} {bytes script taken rest line : List ℕ} {was : Reading} →
+leaves_part : {most : ℕ} {before old new : OutsideShown} {bytes script taken rest line : List ℕ} {was : Reading}
+    {told : RefusedLines} →
     IsAtLine most script taken (ended_lines bytes) line →
     IsPart old new was.script line → Stands before old bytes was →
-    RunLeaves most before new script taken rest (Err stops.Memory)
+    RunLeaves most before new script taken rest (stopped_at stops.Memory told)
 leaves_part {before = before} {old = old} {new = new} {bytes = bytes} {script = script} {line =
     line} place part stands =
     let rose : before.steps ≤ old.steps = stands.counted in
@@ -366,11 +378,11 @@ leaves_part {before = before} {old = old} {new = new} {bytes = bytes} {script = 
     }
 
 leaves_write : {most : ℕ} {before old new : OutsideShown} {bytes script taken rest line : List ℕ} {was : Reading}
-    {to : Standing} → IsAtLine most script taken (ended_lines bytes) line →
-    IsUnfinished old new was.script to line → Stands before old bytes was →
-    RunLeaves most before new script taken rest (Err stops.Write)
+    {to : Standing} {told : RefusedLines} → IsAtLine most script taken (ended_lines bytes) line →
+    IsUnfinished old new was.script to line → told ≡ was.refused_lines → Stands before old bytes was →
+    RunLeaves most before new script taken rest (stopped_at stops.Write told)
 leaves_write {before = before} {old = old} {new = new} {bytes = bytes} {script = script} {line =
-    line} {to = to} place cut stands =
+    line} {to = to} place cut unchanged stands =
     let rose : before.steps ≤ old.steps = stands.counted in
     let counted : new.steps ≡ old.steps + (cut.answer).steps = cut.counted in
     let cost : new.steps - before.steps ≡ (old.steps - before.steps) + (cut.answer).steps = omega arith in
@@ -400,20 +412,22 @@ leaves_write {before = before} {old = old} {new = new} {bytes = bytes} {script =
           within = (cut.part).within;
           text = refl;
           cost = cost;
+          told_is = tells_so_far unchanged stands;
         };
       };
     }
 
--- a stop at a line
-leaves_broken : {most : ℕ} {before old new : OutsideShown} {bytes script taken rest line : List ℕ} {was : Reading} →
+-- a stop at a line; but where memory ran out the same is told as before it
+leaves_broken : {most : ℕ} {before old new : OutsideShown} {bytes script taken rest line : List ℕ} {was : Reading}
+    {told : RefusedLines} →
     new.files ≡ old.files → IsAtLine most script taken (ended_lines bytes) line →
-    (stop : LineStop) → BreaksLine old new was.script line stop → Stands before old bytes was →
-    RunLeaves most before new script taken rest (Err (stop_of stop))
-leaves_broken same place File broken stands = leaves_file place (broken.is).name (broken.is).names
-    (λ files e. (broken.is).in_order files (stands.same ∙ e)) (broken.is).failed_there
+    (stop : LineStop) → BreaksLine old new was.script line stop → (stop ≢ Memory → told ≡ was.refused_lines) →
+    Stands before old bytes was → RunLeaves most before new script taken rest (stopped_at (stop_of stop) told)
+leaves_broken same place File broken unchanged stands = leaves_file place (broken.is).name (broken.is).names
+    (λ files e. (broken.is).in_order files (stands.same ∙ e)) (broken.is).failed_there (unchanged (λ e. cc))
     (nothing_on same (broken.is).unbegun stands)
-leaves_broken same place Write broken stands = leaves_write place broken.is stands
-leaves_broken {line = line} same place Memory broken stands =
+leaves_broken same place Write broken unchanged stands = leaves_write place broken.is (unchanged (λ e. cc)) stands
+leaves_broken {line = line} same place Memory broken unchanged stands =
     elim ((broken.is).done) [
       | inl nothing ↦ leaves_so_far (record { more = line ∷ place.later; is = place.lines })
           (nothing_on same nothing stands)
@@ -441,25 +455,26 @@ ended_place bytes rest =
     }
 
 -- a stop at the line that an LF ends, where a `?` passes it on
-pub breaks_line : {old new : OutsideShown} {was : Reading} {e stop : LineStop} → e ≡ stop → new.files ≡ old.files →
+pub breaks_line : {old new : OutsideShown} {was : Reading} {e stop : LineStop} {told : RefusedLines} → e ≡ stop →
+    new.files ≡ old.files →
     ((line : List ℕ) → Holds was line → BreaksLine old new was.script (strip_carriage_return line) e) →
-    Breaks old new was (10 ∷ []) stop
-breaks_line {old = old} {new = new} {was = was} {e = e} passed same broken =
-    let breaks : Breaks old new was (10 ∷ []) e = record {
+    (e ≢ Memory → told ≡ was.refused_lines) → Breaks old new was told (10 ∷ []) stop
+breaks_line {old = old} {new = new} {was = was} {e = e} {told = told} passed same broken unchanged =
+    let breaks : Breaks old new was told (10 ∷ []) e = record {
       on = λ before bytes rest stands. leaves_broken same (ended_place bytes rest) e (broken
-          (open_line bytes) stands.held) stands;
+          (open_line bytes) stands.held) unchanged stands;
     } in
-    subst (λ v. Breaks old new was (10 ∷ []) v) passed breaks
+    subst (λ v. Breaks old new was told (10 ∷ []) v) passed breaks
 
 -- want of memory before anything was done
-pub breaks_memory : {old : OutsideShown} {was : Reading} {stop : LineStop} (more : List ℕ) → Memory ≡ stop →
-    Breaks old old was more stop
-breaks_memory {old = old} {was = was} more passed =
-    let breaks : Breaks old old was more Memory = record {
+pub breaks_memory : {old : OutsideShown} {was : Reading} {stop : LineStop} {told : RefusedLines} (more : List ℕ) →
+    Memory ≡ stop → Breaks old old was told more stop
+breaks_memory {old = old} {was = was} {told = told} more passed =
+    let breaks : Breaks old old was told more Memory = record {
       on = λ before bytes rest stands. leaves_so_far
           (begins_so bytes more rest) stands;
     } in
-    subst (λ v. Breaks old old was more v) passed breaks
+    subst (λ v. Breaks old old was told more v) passed breaks
 
 -- a line was answered, and then memory ran out
 pub answered_lost : {old new : OutsideShown} {from to : Standing} {line : List ℕ} {was is : Option (Vec ℕ Global)} {refused : Bool} →
@@ -531,10 +546,10 @@ place_ahead ahead fits place = record {
 }
 
 -- further bytes were taken before the stop, and none of them was looked at
-pub leaves_ahead : {most n : ℕ} {before now : OutsideShown} {script taken rest : List ℕ} (ahead : List ℕ) →
-    most + length ahead ≤ n → (stop : LineStop) →
-    RunLeaves most before now script taken (ahead ++ rest) (Err (stop_of stop)) → RunLeaves n before now script
-    (taken ++ ahead) rest (Err (stop_of stop))
+pub leaves_ahead : {most n : ℕ} {before now : OutsideShown} {script taken rest : List ℕ} {told : RefusedLines}
+    (ahead : List ℕ) → most + length ahead ≤ n → (stop : LineStop) →
+    RunLeaves most before now script taken (ahead ++ rest) (stopped_at (stop_of stop) told) →
+    RunLeaves n before now script (taken ++ ahead) rest (stopped_at (stop_of stop) told)
 leaves_ahead ahead fits File leaves = record {
   out = leaves.out;
   appended = leaves.appended;
@@ -548,7 +563,13 @@ leaves_ahead ahead fits File leaves = record {
     names = at.names;
     in_order = at.in_order;
     failed_there = at.failed_there;
-    exact = at.exact;
+    exact = λ files e. let is = at.exact files e in record {
+      session = is.session;
+      answered = is.answered;
+      text = is.text;
+      cost = is.cost;
+      told_is = is.told_is;
+    };
   };
 }
 leaves_ahead ahead fits Write leaves = record {
@@ -561,7 +582,18 @@ leaves_ahead ahead fits Write leaves = record {
     line = at.line;
     place =
         place_ahead ahead fits at.place;
-    cut = at.cut;
+    cut = λ files e. let is = at.cut files e in record {
+      session = is.session;
+      answered = is.answered;
+      to = is.to;
+      answer = is.answer;
+      step = is.step;
+      count = is.count;
+      within = is.within;
+      text = is.text;
+      cost = is.cost;
+      told_is = is.told_is;
+    };
   };
 }
 leaves_ahead ahead fits Memory leaves = record {
@@ -593,18 +625,18 @@ longer front more later piece is = omega (
 )
 
 -- a stop after some bytes of a piece, and before the rest
-pub breaks_within : {old mid new : OutsideShown} {was half : Reading} {stop : LineStop}
+pub breaks_within : {old mid new : OutsideShown} {was half : Reading} {stop : LineStop} {told : RefusedLines}
     (front more later piece : List ℕ) →
     piece ≡ (front ++ more) ++ later →
-    GoesOn old mid was half front → Breaks mid new half more stop → Breaks old new was piece stop
-breaks_within {new = new} {stop = stop} front more later piece is p q = record {
+    GoesOn old mid was half front → Breaks mid new half told more stop → Breaks old new was told piece stop
+breaks_within {new = new} {stop = stop} {told = told} front more later piece is p q = record {
   on = λ before bytes rest stands.
       let taken = ((bytes ++ front) ++ more) ++ later in
       let leaves = leaves_ahead later (longer front more later piece is) stop (q.on before (bytes ++ front)
       (later ++ rest) (p.on before bytes stands)) in
-      subst (λ v. RunLeaves (length piece) before new (v ++ rest) v rest (Err (stop_of stop)))
+      subst (λ v. RunLeaves (length piece) before new (v ++ rest) v rest (stopped_at (stop_of stop) told))
       (within_piece bytes front more later piece is)
-      (subst (λ v. RunLeaves (length piece) before new v taken rest (Err (stop_of stop))) (sym (append_assoc
+      (subst (λ v. RunLeaves (length piece) before new v taken rest (stopped_at (stop_of stop) told)) (sym (append_assoc
       ((bytes ++ front) ++ more) later rest)) leaves);
 }
 
@@ -614,10 +646,10 @@ whole_session : (files : FileMap) (lines : List (List ℕ)) (session : Session) 
 whole_session files lines session answered =
     session_of_totals files lines session (FollowToHalt-whole files empty_session session lines answered)
 
--- all lines of a script were answered
+-- all lines of a script were answered, and this is told of them
 leaves_whole : {before now : OutsideShown} {script : List ℕ} (out : List ℕ) → Appends before.written now.written out →
     before.steps ≤ now.steps → (standing : Standing) (refused : Bool) (refusals : List ℕ) (lines : ℕ)
-    (refused_lines : List ℕ) →
+    (refused_lines : List ℕ) (told : RefusedLines) → tells_one told ≡ refused → IsToldOf lines refused_lines told →
     ForSome before.files (λ files. Follow files empty_session (lines_of script) (record {
       text = out;
       refused = refused;
@@ -627,25 +659,27 @@ leaves_whole : {before now : OutsideShown} {script : List ℕ} (out : List ℕ) 
       steps = now.steps - before.steps;
       standing = standing;
     })) →
-    RunLeaves 0 before now script script [] (Ok refused)
-leaves_whole {before = before} {now = now} {script = script} out appended counted standing refused refusals lines refused_lines answered = record {
-  out = out;
-  appended = appended;
-  counted = counted;
-  front = λ files e whole transcript. front_so_far files (lines_of script) [] script _ (sym (append-nil
-      (lines_of script))) (answered files e) whole transcript;
-  tells = record {
-    read = refl;
-    whole = λ files e. record {
-      session = _;
-      is = whole_session files (lines_of script) _ (answered files e);
-      there = Follow-there files empty_session _ (lines_of script) (answered files e);
-      text = refl;
-      cost = refl;
-      mark = refl;
-    };
-  };
-}
+    RunLeaves 0 before now script script [] (Ok told)
+leaves_whole {before = before} {now = now} {script = script} out appended counted standing refused refusals lines
+    refused_lines told mark tells answered = record {
+      out = out;
+      appended = appended;
+      counted = counted;
+      front = λ files e whole transcript. front_so_far files (lines_of script) [] script _ (sym (append-nil
+          (lines_of script))) (answered files e) whole transcript;
+      tells = record {
+        read = refl;
+        whole = λ files e. record {
+          session = _;
+          is = whole_session files (lines_of script) _ (answered files e);
+          there = Follow-there files empty_session _ (lines_of script) (answered files e);
+          text = refl;
+          cost = refl;
+          mark = mark;
+          told_is = tells;
+        };
+      };
+    }
 
 -- what they have left
 ends_whole : {told : Option FileMap} {script : List ℕ} (session : Session) (kept : Option (Vec ℕ Global))
@@ -701,12 +735,12 @@ answered_none {before = before} {old = old} {was = was} all stands = λ files e.
     subst (λ v. Follow files empty_session v so_far) (sym all) (stands.answered files e)
 
 pub closes_none : {old : OutsideShown} {was : Reading} → ((line : List ℕ) → Holds was line → length line ≡ 0) →
-    Closes old old was (Ok (tells_one was.refused_lines))
+    Closes old old was (Ok was.refused_lines)
 closes_none {was = was} none = record {
   on = λ before script stands.
-      leaves_whole stands.out stands.appended stands.counted was.script (tells_one was.refused_lines) stands.refusals stands.lines
-      stands.refused_lines (answered_none
-      (no_last script none stands.held) stands);
+      leaves_whole stands.out stands.appended stands.counted was.script (tells_one was.refused_lines) stands.refusals
+      stands.lines stands.refused_lines was.refused_lines refl stands.told
+      (answered_none (no_last script none stands.held) stands);
 }
 
 pub stays_none : {old : OutsideShown} {was : Reading} → ((line : List ℕ) → Holds was line → length line ≡ 0) →
@@ -759,21 +793,21 @@ pub closes_on : {old new : OutsideShown} {was : Reading} {to : Standing} {kept :
     Holds was line → 0 < length line) →
     ((line : List ℕ) → Holds was line →
     IsDelivered old new was.script to was.refusals kept line refused) →
-    Notes was.refused_lines told refused → Closes old new was (Ok (tells_one told))
+    Notes was.refused_lines told refused → Closes old new was (Ok told)
 closes_on {old = old} {new = new} {was = was} {to = to} {refused = refused} {told = told} some answers notes = record {
   on = λ before script stands.
-      let mark = tells_noted stands.refused_lines (stands.lines + 1) refused stands.told
-      (notes stands.lines stands.refused_lines stands.told) in
+      let tells = notes stands.lines stands.refused_lines stands.told in
       let answered = (answers (open_line script) stands.held).answered in
       let rose : before.steps ≤ old.steps = stands.counted in
       let counted : new.steps ≡ old.steps + (answered.answer).steps = answered.counted in
-      subst (λ (v : Bool). RunLeaves 0 before new script script [] (Ok v)) (sym mark)
-      (leaves_whole (stands.out ++ (answered.answer).text)
+      leaves_whole (stands.out ++ (answered.answer).text)
       (Appends-then before.written old.written new.written stands.out
       (answered.answer).text stands.appended answered.appended) (omega arith)
       to (tells_one was.refused_lines || refused) (stands.refusals ++ refusal_of answered.answer) (stands.lines + 1)
-      (noted stands.refused_lines (stands.lines + 1) (answered.answer).refused)
-      (answered_on new (one_last script some stands.held) answered stands));
+      (noted stands.refused_lines (stands.lines + 1) (answered.answer).refused) told
+      (tells_noted stands.refused_lines (stands.lines + 1) refused stands.told tells)
+      (told_more (stands.lines + 1) stands.refused_lines told refused (answered.answer).refused answered.marked tells)
+      (answered_on new (one_last script some stands.held) answered stands);
 }
 
 pub stays_on : {old : OutsideShown} (new : OutsideShown) {was : Reading} {to : Standing} {kept : Option
@@ -806,19 +840,20 @@ last_place script line all = record {
 }
 
 -- a stop at the last line
-pub closes_broken : {old new : OutsideShown} {was : Reading} → new.files ≡ old.files →
+pub closes_broken : {old new : OutsideShown} {was : Reading} {told : RefusedLines} → new.files ≡ old.files →
     ((line : List ℕ) → Holds was line →
     0 < length line) → (stop : LineStop) →
-    ((line : List ℕ) → Holds was line → BreaksLine old new was.script line stop) → Closes old new was (Err stop)
-closes_broken same some stop broken = record {
+    ((line : List ℕ) → Holds was line → BreaksLine old new was.script line stop) →
+    (stop ≢ Memory → told ≡ was.refused_lines) → Closes old new was (stopped_at (stop_of stop) told)
+closes_broken same some stop broken unchanged = record {
   on = λ before script stands.
       leaves_broken same (last_place script (open_line script) (one_last script some stands.held)) stop
-      (broken (open_line script) stands.held) stands;
+      (broken (open_line script) stands.held) unchanged stands;
 }
 
 -- the same stop, where a `?` passes it on
-pub closes_at : {old new : OutsideShown} {was : Reading} {T : Type 0} (result : Result T LineStop)
-    (told_in : T → RefusedLines)
-    (stop : LineStop) → result ≡ Err stop → Closes old new was (Err stop) → Closes old new was (refused_by result told_in)
-closes_at {old = old} {new = new} {was = was} result told_in stop is closes =
-    subst (λ v. Closes old new was (refused_by v told_in)) (sym is) closes
+pub closes_at : {old new : OutsideShown} {was : Reading} (result : Result ⊤ LineStop) (told : RefusedLines)
+    (stop : LineStop) → result ≡ Err stop → Closes old new was (stopped_at (stop_of stop) told) →
+    Closes old new was (last_result result told)
+closes_at {old = old} {new = new} {was = was} result told stop is closes =
+    subst (λ v. Closes old new was (last_result v told)) (sym is) closes

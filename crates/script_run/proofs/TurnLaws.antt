@@ -1,6 +1,6 @@
 -- What a run over a told script leaves, at each of its ends.
 use Rattle.std.proofs.Common.{◌≡◌, List, [], ◌++◌, ℕ, ◌+◌, ◌≤◌, Bool, length, take, Option, refl, sym, ap, ◌∙◌, subst, append_assoc, arith, length-append}
-use Rattle.std.specs.Prelude.{None, Some, is_some, if◌then◌else◌, Vec, Result, Ok, Err}
+use Rattle.std.specs.Prelude.{None, Some, is_some, if◌then◌else◌, Vec, Result, Ok, Err, ⊤}
 use Rattle.std.specs.declared.alloc.Global.{Global}
 use Rattle.std.specs.Io.KnownBytes.{Consumes, Keeps, IsAtEnd}
 use Rattle.std.proofs.lemmas.List.{append-nil}
@@ -11,11 +11,12 @@ use Rattle.std.specs.Option.{ForSome}
 use Rattle.script_steps.specs.Steps.{Standing}
 use Rattle.script_steps.specs.declared.stop.LineStop.{LineStop}
 use Rattle.script_run.specs.Limits.{most_script, most_turn}
-use Rattle.script_run.specs.Transcripts.{Session, ended_lines, lines_of, AreAnswered}
+use Rattle.script_run.specs.Transcripts.{ended_lines, lines_of}
 use Rattle.script_run.specs.Stops.{stop_of}
 use Rattle.script_steps.specs.Shown.{OutsideShown, shown}
-use Rattle.script_run.specs.RunClauses.{told_by, IsExactly, RunLeaves, RunMeets, EndsAt, refused_by}
-use Rattle.script_run.specs.RunViews.{IsAtStart, Stands, GoesOn, Breaks, Closes, ClosesAt, TakesAll, run_result}
+use Rattle.script_run.specs.RunClauses.{told_by, Course, IsExactly, RunLeaves, RunMeets, RunResult, EndsAt}
+use Rattle.script_run.specs.RunViews.{IsAtStart, Stands, GoesOn, Breaks, Closes, ClosesAt, TakesAll}
+use Rattle.script_run.specs.RunViews.{stopped_at, last_result, read_result}
 use Rattle.script_run.specs.declared.stop.Stop.{Stop}
 use Rattle.script_run.specs.declared.stop.Stop.TheVariants as stops
 use Rattle.script_run.specs.declared.reading.Reading.{Reading}
@@ -77,9 +78,9 @@ begins_at taken rest script split = subst (λ v. Begins (ended_lines taken) (lin
     (lines_of-append taken rest)
 
 -- memory ran out before anything was done
-pub meets_nothing : (before : OutsideShown) (left : Option (List ℕ)) (script : List ℕ) → left ≡ Some script →
-    RunMeets before before script left (Err stops.Memory)
-meets_nothing before left script is = record {
+pub meets_nothing : (before : OutsideShown) (left : Option (List ℕ)) (told : RefusedLines) (script : List ℕ) →
+    left ≡ Some script → RunMeets before before script left (stopped_at stops.Memory told)
+meets_nothing before left told script is = record {
   taken = [];
   rest = script;
   split = refl;
@@ -97,7 +98,7 @@ meets_nothing before left script is = record {
 -- the source failed
 pub meets_read : {before now : OutsideShown} {l0 l l' : Option (List ℕ)} {count : ℕ} {reading : Reading} →
     Stood before now l0 l count reading → Keeps l l' → count ≤ most_script →
-    (script : List ℕ) → l0 ≡ Some script → RunMeets before now script l' (Err stops.Read)
+    (script : List ℕ) → l0 ≡ Some script → RunMeets before now script l' (stopped_at stops.Read reading.refused_lines)
 meets_read {l0 = l0} {l = l} {l' = l'} stood kept within script is =
     let consumed = subst (λ v. Consumes l0 l' v) (append-nil stood.bytes)
     (Consumes-then l0 l l' stood.bytes [] stood.consumed (Consumes-kept l l' kept)) in
@@ -121,6 +122,7 @@ meets_read {l0 = l0} {l = l} {l' = l'} stood kept within script is =
           answered = answered_of files (ended_lines stood.bytes) _ (stands.answered files e);
           text = refl;
           cost = refl;
+          told_is = stands.told;
         };
       };
     }
@@ -130,23 +132,16 @@ begins_so_far : (bytes piece rest script : List ℕ) → script ≡ (bytes ++ pi
 begins_so_far bytes piece rest script split = begins_at bytes (piece ++ rest) script (split
     ∙ append_assoc bytes piece rest)
 
-exactly_at : (bytes cut : List ℕ) → bytes ≡ cut → (files : FileMap) (out : List ℕ) (spent : ℕ) (session : Session) →
-    AreAnswered files (ended_lines bytes) session →
-    out ≡ session.text → spent ≡ session.steps → IsExactly files (ended_lines cut) out spent
-exactly_at bytes cut same files out spent session answered text cost =
-    record {
-      session = session;
-      answered = subst (λ v. AreAnswered files (ended_lines v) session) same answered;
-      text = text;
-      cost = cost;
-    }
+exactly_at : (bytes cut : List ℕ) → bytes ≡ cut → (files : FileMap) (course : Course) →
+    IsExactly files (ended_lines bytes) course → IsExactly files (ended_lines cut) course
+exactly_at bytes cut same files course exact = subst (λ v. IsExactly files (ended_lines v) course) same exact
 
 -- the script goes on past its limit
 pub meets_long : {before now : OutsideShown} {l0 l l' : Option (List ℕ)} {count n : ℕ} {reading : Reading}
     (piece : List ℕ) →
     length piece ≡ n → Consumes l l' piece → Stood before now l0 l count reading →
     count ≡ most_script → count + n ≡ most_script + 1 → (script : List ℕ) → l0 ≡ Some script →
-    RunMeets before now script l' (Err stops.Long)
+    RunMeets before now script l' (stopped_at stops.Long reading.refused_lines)
 meets_long {l0 = l0} {l = l} {l' = l'} piece size consumed stood full past script is =
     let taken = stood.bytes ++ piece in
     let left = split_told l0 l' taken script is (Consumes-then l0 l l' stood.bytes piece stood.consumed consumed) in
@@ -169,30 +164,34 @@ meets_long {l0 = l0} {l = l} {l' = l'} piece size consumed stood full past scrip
             (ended_lines stood.bytes) begins.more script _ begins.is (stands.answered files e) whole transcript;
         tells = record {
           past = omega (arith, length-append stood.bytes piece, stood.counted);
-          exact = λ files e. exactly_at stood.bytes (take most_script taken) (sym front) files stands.out _ _
-              (answered_of files (ended_lines stood.bytes) _ (stands.answered files e)) refl refl;
+          exact = λ files e. exactly_at stood.bytes (take most_script taken) (sym front) files _ (record {
+            session = _;
+            answered = answered_of files (ended_lines stood.bytes) _ (stands.answered files e);
+            text = refl;
+            cost = refl;
+            told_is = stands.told;
+          });
         };
       };
     }
 
-leaves_turn : {most : ℕ} {before now : OutsideShown} {script taken rest : List ℕ} → most ≤ most_turn →
-    (stop : LineStop) →
-    RunLeaves most before now script taken rest (Err (stop_of stop)) → RunLeaves most_turn before now script taken rest (Err
-    (stop_of stop))
-leaves_turn {most = most} {before = before} {now = now} {script = script} {taken = taken} {rest =
-    rest} fits stop leaves =
-    subst (λ v. RunLeaves most_turn before now script v rest (Err (stop_of stop))) (append-nil taken) (leaves_ahead []
-    (omega arith) stop leaves)
+leaves_turn : {most : ℕ} {before now : OutsideShown} {script taken rest : List ℕ} {told : RefusedLines} →
+    most ≤ most_turn → (stop : LineStop) →
+    RunLeaves most before now script taken rest (stopped_at (stop_of stop) told) →
+    RunLeaves most_turn before now script taken rest (stopped_at (stop_of stop) told)
+leaves_turn {most = most} {before = before} {now = now} {script = script} {taken = taken} {rest = rest} {told = told}
+    fits stop leaves =
+    subst (λ v. RunLeaves most_turn before now script v rest (stopped_at (stop_of stop) told)) (append-nil taken)
+    (leaves_ahead [] (omega arith) stop leaves)
 
 -- a stop within a turn's bytes
 pub meets_break : {before mid now : OutsideShown} {l0 l l' : Option
-    (List ℕ)} {count n : ℕ} {reading : Reading} {stop : LineStop} (piece : List ℕ) → length piece ≡ n →
-    n ≤ most_turn → count + n ≤ most_script →
-    Consumes l l' piece → Stood before mid l0 l count reading → Breaks mid now reading piece stop →
-    (script : List ℕ) → l0 ≡ Some script →
-    (result : Result Bool Stop) → result ≡ Err (stop_of stop) → RunMeets before now script l' result
-meets_break {before = before} {now = now} {l0 = l0} {l = l} {l' = l'} {stop =
-    stop} piece size short within consumed stood breaks script is result result_is =
+    (List ℕ)} {count n : ℕ} {reading : Reading} {stop : LineStop} {told : RefusedLines} (piece : List ℕ) →
+    length piece ≡ n → n ≤ most_turn → count + n ≤ most_script →
+    Consumes l l' piece → Stood before mid l0 l count reading → Breaks mid now reading told piece stop →
+    (script : List ℕ) → l0 ≡ Some script → RunMeets before now script l' (stopped_at (stop_of stop) told)
+meets_break {before = before} {now = now} {l0 = l0} {l = l} {l' = l'} {stop = stop} {told = told}
+    piece size short within consumed stood breaks script is =
     let taken = stood.bytes ++ piece in
     let left = split_told l0 l' taken script is (Consumes-then l0 l l' stood.bytes piece stood.consumed consumed) in
     let leaves = leaves_turn (omega arith) stop (breaks.on before stood.bytes left.rest stood.stands) in
@@ -202,21 +201,21 @@ meets_break {before = before} {now = now} {l0 = l0} {l = l} {l' = l'} {stop =
       split = left.split;
       left_rest = left.left;
       within = λ not_long. omega (arith, length-append stood.bytes piece, stood.counted);
-      leaves = subst (λ v. RunLeaves most_turn before now v taken left.rest result) (sym left.split)
-          (subst (λ v. RunLeaves most_turn before now (taken ++ left.rest) taken left.rest v) (sym result_is) leaves);
+      leaves = subst (λ v. RunLeaves most_turn before now v taken left.rest (stopped_at (stop_of stop) told))
+          (sym left.split) leaves;
     }
 
-leaves_end : {before now : OutsideShown} {script : List ℕ} → (result : Result Bool LineStop) →
-    RunLeaves 0 before now script script [] (run_result result) → RunLeaves most_turn before now script script []
-    (run_result result)
-leaves_end (Ok refused) leaves = record {
+leaves_end : {before now : OutsideShown} {script : List ℕ} (line : Result ⊤ LineStop) (told : RefusedLines) →
+    RunLeaves 0 before now script script [] (last_result line told) →
+    RunLeaves most_turn before now script script [] (last_result line told)
+leaves_end (Ok done) told leaves = record {
   out = leaves.out;
   appended = leaves.appended;
   counted = leaves.counted;
   front = leaves.front;
   tells = leaves.tells;
 }
-leaves_end (Err stop) leaves = leaves_turn (omega arith) stop leaves
+leaves_end (Err stop) told leaves = leaves_turn (omega arith) stop leaves
 
 pub none_taken : (l l' : Option (List ℕ)) (buf : List ℕ) (count : ℕ) → count ≡ 0 → Consumes l l' (take count buf) →
     Consumes l l' []
@@ -242,10 +241,10 @@ all_taken {l0 = l0} {l' = l'} all script is =
 -- the script is at its end
 pub meets_end : {before mid now : OutsideShown} {l0 l' : Option (List ℕ)} {reading : Reading} →
     TakesAll before mid l0 l' reading →
-    (line : Result Bool LineStop) → Closes mid now reading line → (script : List ℕ) → l0 ≡ Some script →
-    (result : Result Bool Stop) → result ≡ run_result line → RunMeets before now script l' result
-meets_end {before = before} {mid = mid} {now = now} {l0 = l0} {l' = l'} {reading =
-    reading} all line closes script is result result_is =
+    (line : Result ⊤ LineStop) (told : RefusedLines) → Closes mid now reading (last_result line told) →
+    (script : List ℕ) → l0 ≡ Some script → RunMeets before now script l' (last_result line told)
+meets_end {before = before} {mid = mid} {now = now} {l0 = l0} {l' = l'} {reading = reading}
+    all line told closes script is =
     let taken = all_taken all script is in
     let stands = subst (λ v. Stands before mid v reading) taken.whole all.stands in
     record {
@@ -254,8 +253,7 @@ meets_end {before = before} {mid = mid} {now = now} {l0 = l0} {l' = l'} {reading
       split = sym (append-nil script);
       left_rest = taken.none_left;
       within = λ not_long. subst (λ v. length v ≤ most_script) taken.whole all.within;
-      leaves = subst (λ v. RunLeaves most_turn before now script script [] v) (sym result_is) (leaves_end line
-          (closes.on before script stands));
+      leaves = leaves_end line told (closes.on before script stands);
     }
 
 -- what the script's lines have left at last
@@ -269,18 +267,18 @@ ends_at {before = before} {mid = mid} {l0 = l0} {l' = l'} {reading = reading} al
 
 -- the same stop
 pub meets_at : {before now : OutsideShown} {script : List ℕ} {left : Option (List ℕ)} {T : Type 0} {found : Stop}
-    (stop : Stop) → ◌≡◌ {A = Result T Stop} (Err found) (Err stop) →
-    RunMeets before now script left (Err found) → RunMeets before now script left (Err stop)
-meets_at {before = before} {now = now} {script = script} {left = left} {found = found} stop is meets =
+    {told : RefusedLines} (stop : Stop) → ◌≡◌ {A = Result T Stop} (Err found) (Err stop) →
+    RunMeets before now script left (stopped_at found told) → RunMeets before now script left (stopped_at stop told)
+meets_at {before = before} {now = now} {script = script} {left = left} {found = found} {told = told} stop is meets =
     let same : found ≡ stop = cc in
-    subst (λ v. RunMeets before now script left (Err v)) same meets
+    subst (λ v. RunMeets before now script left (stopped_at v told)) same meets
 
 -- a stop before the end, where a `?` passes it on
-pub meets_err : {before now : OutsideShown} {script : List ℕ} {left : Option (List ℕ)} {T : Type 0} {stop : Stop}
-    (result : Result T Stop) (told_in : T → RefusedLines) → result ≡ Err stop →
-    RunMeets before now script left (Err stop) → RunMeets before now script left (refused_by result told_in)
-meets_err {before = before} {now = now} {script = script} {left = left} result told_in is meets =
-    subst (λ v. RunMeets before now script left (refused_by v told_in)) (sym is) meets
+pub meets_err : {before now : OutsideShown} {script : List ℕ} {left : Option (List ℕ)} {stop : Stop}
+    (result : Result ⊤ Stop) (told : RefusedLines) → result ≡ Err stop →
+    RunMeets before now script left (stopped_at stop told) → RunMeets before now script left (read_result result told)
+meets_err {before = before} {now = now} {script = script} {left = left} result told is meets =
+    subst (λ v. RunMeets before now script left (read_result v told)) (sym is) meets
 
 -- ---- what is shown of the sink
 
@@ -288,7 +286,8 @@ pub told_same : (a b : Option (Vec ℕ Global)) (written : Option (List ℕ)) �
 told_same a b written same = ap (λ (t : Bool). if t then None else written) same
 
 -- the same run, of which the same is shown
-pub meets_shown : {files files' : Option FileMap} {failed failed' w w' u u' : Option (List ℕ)} {began steps : ℕ} {script : List ℕ} {left : Option (List ℕ)} {result : Result Bool Stop} →
+pub meets_shown : {files files' : Option FileMap} {failed failed' w w' u u' : Option (List ℕ)} {began steps : ℕ}
+    {script : List ℕ} {left : Option (List ℕ)} {result : RunResult} →
     w ≡ u → w' ≡ u' → RunMeets (shown files failed w began) (shown files' failed' w' steps) script left result →
     RunMeets (shown files failed u began) (shown files' failed' u' steps) script left result
 meets_shown {files = files} {files' = files'} {failed = failed} {failed' = failed'} {w' = w'} {u = u} {began = began} {steps = steps} {script = script} {left = left} {result = result} p q meets =

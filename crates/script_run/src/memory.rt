@@ -38,7 +38,10 @@ pub(crate) fn run_in_memory<L: Ledger>(
         Ok(made) => Ok(made.ended),
         Err(stopped) => match stopped.stop {
             Stop::Memory => Err(AllocError),
-            Stop::File | Stop::Read | Stop::Write | Stop::Long => unreachable!(),
+            Stop::File => unreachable!(),
+            Stop::Read => unreachable!(),
+            Stop::Write => unreachable!(),
+            Stop::Long => unreachable!(),
         },
     }
 }

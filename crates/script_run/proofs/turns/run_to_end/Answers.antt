@@ -1,41 +1,16 @@
-use Rattle.std.proofs.Common.{◌∙◌, ap, refl}
-use Rattle.std.specs.Prelude.{Ok, Err, is_some}
-use Rattle.std.proofs.lemmas.Result.{err_from_is_err_and}
-use Rattle.script_run.specs.RefusedLines.{tells_one}
-use Rattle.script_run.proofs.TurnLaws.{meets_nothing, meets_err, meets_end, ends_at, told_same, meets_shown}
+use Rattle.std.proofs.Common.{◌∙◌, ap}
+use Rattle.std.specs.Prelude.{is_some}
+use Rattle.script_run.proofs.TurnLaws.{told_same, meets_shown}
 use Rattle.script_run.proofs.turns.run_to_end.Goals as goal
 
-pub returns-in_err-buf-clause-script : goal.returns-in_err-buf-clause-script
-returns-in_err-buf-clause-script g c = λ script is.
-    let p = err_from_is_err_and c.from_residual.result c.from_residual.ensures.1 in
-    meets_err c.from_residual.result _ (p.1 ∙ ap (λ v. Err v) p.2) (meets_nothing _ _ script is)
-
-pub returns-in_err-take_turns-clause-script : goal.returns-in_err-take_turns-clause-script
-returns-in_err-take_turns-clause-script g c = λ script is.
-    let p = err_from_is_err_and c.from_residual-in_err-take_turns.result c.from_residual-in_err-take_turns.ensures.1
-    in
-    let stop = c.in_err-take_turns.field-0.0 in
+pub returns-in-Ok-clause-script : goal.returns-in-Ok-clause-script
+returns-in-Ok-clause-script g c = λ script is.
     let first = ap (λ v. is_some v) c.new-reading.ensures.kept in
-    meets_shown (told_same _ _ _ first) (told_same _ _ _ (c.take_turns.ensures.mode ∙ first))
-    (meets_err c.from_residual-in_err-take_turns.result _ (p.1 ∙ ap (λ v. Err v) p.2)
-    (c.in_err-take_turns.ensures.err stop refl script is))
+    meets_shown (told_same _ _ _ first) (told_same _ _ _ (c.read_to_end.ensures.mode ∙ first))
+    (c.in-Ok.ensures.script script is)
 
-pub returns-in_err-last_line-clause-script : goal.returns-in_err-last_line-clause-script
-returns-in_err-last_line-clause-script g c = λ script is.
-    let p = err_from_is_err_and c.from_residual-in_err-last_line.result c.from_residual-in_err-last_line.ensures.1 in
-    let stop = c.in_err-last_line.field-0.0 in
+pub returns-in-Err-clause-script : goal.returns-in-Err-clause-script
+returns-in-Err-clause-script g c = λ script is.
     let first = ap (λ v. is_some v) c.new-reading.ensures.kept in
-    meets_shown (told_same _ _ _ first) (told_same _ _ _ (c.last_line.ensures.mode ∙ c.take_turns.ensures.mode ∙ first))
-    (meets_err c.from_residual-in_err-last_line.result _ (p.1 ∙ ap (λ v. Err v) p.2)
-    (meets_end c.in_ok-take_turns.ensures.ok (Err stop) c.in_err-last_line.ensures.closes script is _ refl))
-
-pub returns-clause-script : goal.returns-clause-script
-returns-clause-script g c = λ script is.
-    let first = ap (λ v. is_some v) c.new-reading.ensures.kept in
-    meets_shown (told_same _ _ _ first) (told_same _ _ _ (c.last_line.ensures.mode ∙ c.take_turns.ensures.mode ∙ first))
-    (meets_end c.in_ok-take_turns.ensures.ok
-    (Ok (tells_one c.last_line.new.self.refused_lines)) c.in_ok-last_line.ensures.closes script is _ refl)
-
-pub returns-clause-standing : goal.returns-clause-standing
-returns-clause-standing g c =
-    λ script is. ends_at c.in_ok-take_turns.ensures.ok c.in_ok-last_line.ensures.standing script is
+    meets_shown (told_same _ _ _ first) (told_same _ _ _ (c.read_to_end.ensures.mode ∙ first))
+    (c.in-Err.ensures.script script is)

@@ -3,7 +3,6 @@ use Rattle.std.specs.Prelude.{Err}
 use Rattle.std.proofs.lemmas.Result.{err_from_is_err_and}
 use Rattle.std.proofs.lemmas.List.{length-take-le}
 use Rattle.script_run.specs.Limits.{most_script}
-use Rattle.script_run.specs.Stops.{stop_of}
 use Rattle.script_run.proofs.TurnLaws.{stood_first, stood_on, meets_read, meets_long, meets_break, meets_at}
 use Rattle.script_run.proofs.turns.take_turns.Goals as goal
 
@@ -43,7 +42,7 @@ returns-in_err-feed-clause-err g c = λ stop stop_is script is.
     meets_at stop (sym (p.1 ∙ ap (λ v. Err v) p.2) ∙ stop_is)
     (meets_break (take count buf) size c.in-Ok.ensures.short
     (omega arith) c.in-Ok.ensures.bytes.0 c.turns.invariant.stood
-    (c.in_err-feed.ensures.err c.in_err-feed.field-0.0 refl) script is (Err (stop_of c.in_err-feed.field-0.0)) refl)
+    (c.in_err-feed.ensures.err c.in_err-feed.field-0.0 refl) script is)
 
 pub turns-preserved : goal.turns-preserved
 turns-preserved g c = record {

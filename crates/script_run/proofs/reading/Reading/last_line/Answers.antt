@@ -24,7 +24,7 @@ returns-in_err-wrong-clause-closes g c =
     (closes_broken c.deliver.ensures.same (λ line holds.
     kept_some most_line kept.items line holds.front some) stop
     (λ line holds. broken_same (says_kept kept.items c.deref.result.now line c.deref.ensures.value holds.front) stop
-    (record { to = c.deliver.new.script; is = c.in_err-wrong.ensures.broken stop refl })))
+    (record { to = c.deliver.new.script; is = c.in_err-wrong.ensures.broken stop refl })) (λ other. refl))
 
 pub returns-clause-closes : goal.returns-clause-closes
 returns-clause-closes g c =
@@ -44,7 +44,7 @@ returns-in_err-note-clause-closes g c =
     (closes_broken c.deliver.ensures.same (λ line holds.
     kept_some most_line kept.items line holds.front some) Memory
     (λ line holds. broken_same (says_kept kept.items c.deref.result.now line c.deref.ensures.value holds.front) Memory
-    (answered_lost c.in_ok-wrong.ensures.delivered)))
+    (answered_lost c.in_ok-wrong.ensures.delivered)) (λ other. absurd (other refl)))
 
 pub returns-then-is_empty-clause-standing : goal.returns-then-is_empty-clause-standing
 returns-then-is_empty-clause-standing g c =

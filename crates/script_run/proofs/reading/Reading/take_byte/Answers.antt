@@ -10,7 +10,7 @@ returns-in_err-push-clause-err g c = λ stop is.
     let p = err_from_is_err_and c.from_residual.result c.from_residual.ensures.1 in
     let memory : Memory ≡ stop = cc (p.1, p.2) in
     breaks_told (g.F.Files.told c.args.files.now) (g.F.Files.failed c.args.files.now) (g.W.Sink.written c.args.sink.now)
-    c.args.steps.now c.args.self.now c.push.new.self (c.args.byte ∷ []) stop c.in_err-push.ensures.same.refusals
+    c.args.steps.now c.args.self.now c.push.new.self _ (c.args.byte ∷ []) stop c.in_err-push.ensures.same.refusals
     (breaks_memory (c.args.byte ∷ []) memory)
 
 pub returns-clause-ok : goal.returns-clause-ok
