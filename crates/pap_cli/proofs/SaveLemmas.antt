@@ -1,6 +1,6 @@
 -- What `save` leaves, and the headline from what each status says.
-use Rattle.std.proofs.Common.{◌≡◌, ◌≢◌, ℕ, ◌-◌, ◌≤◌, Bool, false, List, [], ◌++◌, length, take, refl, sym, ap, ◌∙◌, subst, arith, inl, inr, length-append}
-use Rattle.std.specs.Prelude.{Option, Some, None, Result, Ok, Err, codes}
+use Rattle.std.proofs.Common.{◌≡◌, ◌≢◌, ℕ, ◌-◌, ◌≤◌, Bool, false, List, [], ◌++◌, length, take, refl, sym, ap, ◌∙◌, subst, arith, inl, inr}
+use Rattle.std.specs.Prelude.{Option, Some, None, Ok, Err, codes}
 use Rattle.std.specs.Option.{ForSome}
 use Rattle.outside.specs.Causes.{Rose}
 use Rattle.outside.specs.Told.{FileMap, Appends, AppendsShort}
@@ -29,7 +29,7 @@ use Rattle.book_file.specs.declared.refusal.SaveRefusal.TheVariants as unsaved
 use Rattle.pap_cli.specs.SaveAnswers.{Written, IsBookWritten, IsSave, SaveAnswers, was_filed}
 use Rattle.pap_cli.specs.SaveClauses.{unwritten, IsSaveEnd, SaveEnds, LeavesOnSave, IsSavedWhole, HeadlineOnSave}
 use Rattle.pap_cli.specs.SaveViews.{written_of}
-use Rattle.pap_cli.proofs.StatusLemmas.{appended_told, no_write, rose_and_still, written_whole}
+use Rattle.pap_cli.proofs.StatusLemmas.{appended_told, long_stop, no_write, not_long, rose_and_still, written_whole}
 
 -- ---- a script that was answered to its end
 
@@ -210,11 +210,6 @@ save_none o lines =
 
 -- ---- the headline
 
-not_long : (before after : Outside) (script : List ℕ) (lines : RefusedLines) →
-    RunMeets (unwritten before) (unwritten after) script after.left (Err (record { stop = stops.Long; refused_lines = lines })) →
-    length script ≤ most_script → ⊥
-not_long before after script lines meets short = omega (arith, meets.leaves.tells.past, ap (λ v. length v) meets.split, length-append meets.taken meets.rest)
-
 -- the script was answered to its end
 at_end : (before after : Outside) (script written : List ℕ) (files : FileMap) (out : List ℕ) (status : Status) (lines : RefusedLines) →
     RunMeets (unwritten before) (unwritten after) script after.left (Ok lines) →
@@ -241,16 +236,10 @@ headline_by : (before after : Outside) (script written : List ℕ) (files : File
     before.files ≡ Some files → before.left ≡ Some script → before.written ≡ Some written → IsSavedWhole files script written before after status
 headline_by before after script written files out status (Ok lines) meets ends appended file read write memory short told left said =
     at_end before after script written files out status lines meets ends appended write told left said
-headline_by before after script written files out status (Err (record { stop = stops.File; refused_lines = lines })) meets ends appended file read write memory short told left said =
-    absurd (file ends.ended)
-headline_by before after script written files out status (Err (record { stop = stops.Read; refused_lines = lines })) meets ends appended file read write memory short told left said =
-    absurd (read ends.ended)
-headline_by before after script written files out status (Err (record { stop = stops.Write; refused_lines = lines })) meets ends appended file read write memory short told left said =
-    absurd (write ends.ended)
-headline_by before after script written files out status (Err (record { stop = stops.Memory; refused_lines = lines })) meets ends appended file read write memory short told left said =
-    absurd (memory ends.ended)
-headline_by before after script written files out status (Err (record { stop = stops.Long; refused_lines = lines })) meets ends appended file read write memory short told left said =
-    absurd (not_long before after script lines meets short)
+headline_by before after script written files out status (Err stopped) meets ends appended file read write memory short told left said =
+    absurd (not_long script stopped (long_stop stopped.stop
+    (λ e. file (ends.ended ∙ e)) (λ e. read (ends.ended ∙ e)) (λ e. write (ends.ended ∙ e)) (λ e. memory (ends.ended ∙ e)))
+    meets short)
 
 pub headline_save : (before after : Outside) (lines : RefusedLines) (status : Status) →
     LeavesOnSave before after lines status →

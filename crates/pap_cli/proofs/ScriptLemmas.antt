@@ -1,6 +1,6 @@
 -- What a run over a script leaves, and the headline from what each status says.
-use Rattle.std.proofs.Common.{◌≡◌, ◌≢◌, ℕ, ◌≤◌, Bool, List, [], ◌++◌, length, refl, sym, ap, ◌∙◌, subst, arith, length-append}
-use Rattle.std.specs.Prelude.{Option, Some, Result, Ok, Err}
+use Rattle.std.proofs.Common.{◌≡◌, ◌≢◌, ℕ, ◌≤◌, List, [], ◌++◌, length, refl, sym, ap, ◌∙◌, subst, arith}
+use Rattle.std.specs.Prelude.{Option, Some, Ok, Err}
 use Rattle.outside.specs.Causes.{Rose}
 use Rattle.outside.specs.Told.{FileMap}
 use Rattle.outside.proofs.Laws.{Appends-nothing}
@@ -15,7 +15,7 @@ use Rattle.pap_cli.specs.declared.status.Status.TheVariants.{FileFault, ReadFaul
 use Rattle.pap_cli.specs.Statuses.{done_status, status_of}
 use Rattle.pap_cli.specs.Outside.{Outside, shown_of}
 use Rattle.pap_cli.specs.ScriptClauses.{LeavesOnScript, IsTranscribed, HeadlineOnScript}
-use Rattle.pap_cli.proofs.StatusLemmas.{appended_told, rose_and_still}
+use Rattle.pap_cli.proofs.StatusLemmas.{appended_told, long_stop, not_long, rose_and_still}
 
 -- a run that stopped for this reason
 pub stopped_by : (r : RunResult) (stop : Stop) → by_stop r ≡ Err stop → ended_of r ≡ Err stop
@@ -52,12 +52,6 @@ ended before after script written files lines meets told said =
       ended = ap (λ r. done_status r) whole.mark;
     }
 
--- the script isn't too long
-not_long : (before after : Outside) (script : List ℕ) (lines : RefusedLines) →
-    RunMeets (shown_of before) (shown_of after) script after.left (Err (record { stop = stops.Long; refused_lines = lines })) →
-    length script ≤ most_script → ⊥
-not_long before after script lines meets short = omega (arith, meets.leaves.tells.past, ap (λ v. length v) meets.split, length-append meets.taken meets.rest)
-
 headline_by : (before after : Outside) (script written : List ℕ) (files : FileMap) (r : RunResult) →
     RunMeets (shown_of before) (shown_of after) script after.left r →
     (status_of (ended_of r) ≡ FileFault → ⊥) → (status_of (ended_of r) ≡ ReadFault → ⊥) →
@@ -67,16 +61,8 @@ headline_by : (before after : Outside) (script written : List ℕ) (files : File
     IsTranscribed files script written before after (status_of (ended_of r))
 headline_by before after script written files (Ok lines) meets file read write told said short memory =
     ended before after script written files lines meets told said
-headline_by before after script written files (Err (record { stop = stops.File; refused_lines = lines })) meets file read write told said short memory =
-    absurd (file refl)
-headline_by before after script written files (Err (record { stop = stops.Read; refused_lines = lines })) meets file read write told said short memory =
-    absurd (read refl)
-headline_by before after script written files (Err (record { stop = stops.Write; refused_lines = lines })) meets file read write told said short memory =
-    absurd (write refl)
-headline_by before after script written files (Err (record { stop = stops.Memory; refused_lines = lines })) meets file read write told said short memory =
-    absurd (memory refl)
-headline_by before after script written files (Err (record { stop = stops.Long; refused_lines = lines })) meets file read write told said short memory =
-    absurd (not_long before after script lines meets short)
+headline_by before after script written files (Err stopped) meets file read write told said short memory =
+    absurd (not_long script stopped (long_stop stopped.stop file read write memory) meets short)
 
 pub headline_script : (before after : Outside) (lines : RefusedLines) (status : Status) →
     LeavesOnScript before after lines status →

@@ -1,5 +1,5 @@
 -- What `save` leaves and tells, by its status (docs/DEFINITIONS.md).
-use Rattle.std.specs.Prelude.{◌≡◌, ◌≢◌, ◌⊎◌, ℕ, ◌+◌, ◌-◌, ◌≤◌, Bool, List, [], ◌++◌, length, Some, None, Result, Ok, Err}
+use Rattle.std.specs.Prelude.{◌≡◌, ◌≢◌, ◌⊎◌, ℕ, ◌+◌, ◌-◌, ◌≤◌, List, [], ◌++◌, length, Some, None, Ok, Err}
 use Rattle.std.specs.Option.{ForSome}
 use Rattle.outside.specs.Causes.{Still}
 use Rattle.outside.specs.Told.{FileMap, Appends}

@@ -1,5 +1,5 @@
 -- What `run` leaves and tells, by its status (docs/DEFINITIONS.md).
-use Rattle.std.specs.Prelude.{◌≡◌, ◌≢◌, ℕ, ◌+◌, ◌≤◌, Bool, List, [], ◌++◌, length, All, Some, Result}
+use Rattle.std.specs.Prelude.{◌≡◌, ◌≢◌, ℕ, ◌+◌, ◌≤◌, List, [], ◌++◌, length, All, Some}
 use Rattle.std.specs.Option.{ForSome}
 use Rattle.outside.specs.Causes.{Still}
 use Rattle.outside.specs.Told.{FileMap}

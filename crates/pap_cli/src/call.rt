@@ -36,7 +36,10 @@ fn status(ended: Result<bool, Stop>) -> Status
 }
 
 /// Puts into the list which lines of a script were refused, also where it stopped. `Ok` says whether one was.
-fn tell(ended: Result<RefusedLines, Stopped>, refused_lines: &mut RefusedLines) -> Result<bool, Stop>
+fn tell(
+    ended: Result<RefusedLines, Stopped>,
+    refused_lines: &mut RefusedLines,
+) -> Result<bool, Stop>
     ensures ended { result ≡ ended_of ended }
     ensures told { refused_lines.new ≡ told_of ended }
 {

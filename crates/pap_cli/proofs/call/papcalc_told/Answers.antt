@@ -1,8 +1,8 @@
-use Rattle.std.proofs.Common.{◌∙◌, ap, refl, subst, sym}
+use Rattle.std.proofs.Common.{◌∙◌, ap, refl, subst}
 use Rattle.script_run.specs.declared.stop.Stop.TheVariants as stops
 use Rattle.pap_cli.specs.Words.{texts, run, sample, save}
 use Rattle.pap_cli.specs.WordViews.{form_on_files}
-use Rattle.pap_cli.specs.Outside.{objects, outside_of}
+use Rattle.pap_cli.specs.Outside.{objects, outside_of, shown_of}
 use Rattle.pap_cli.specs.CallClauses.{Carries}
 use Rattle.pap_cli.specs.ScriptClauses.{LeavesOnScript}
 use Rattle.pap_cli.specs.Statuses.{status_of}
@@ -30,11 +30,12 @@ returns-in-Ok-Some-Files-clause-meets g c =
     let lines = c.args.refused_lines.now in
     let caused = caused_by before after status c.answer.result c.status.ensures
     (λ e. c.answer.ensures.file.rose e)
-    (λ e. absurd (reads_no_script c.answer.ensures.leaves (ap (λ r. status_of r) e)))
+    (λ e. absurd (reads_no_script {before = shown_of before} {after = shown_of after} c.answer.ensures.leaves
+    (ap (λ r. status_of r) e)))
     (λ e. c.answer.ensures.write.rose e) in
     record {
       bad_words = tells_good words (form_on_files request) own status c.answer.result c.status.ensures;
-      touches = touches_own words (form_on_files request) own first last (λ none. refl)
+      touches = touches_own words (form_on_files request) own first last (λ none. refl {a = c.args.source.now})
           (λ employees e. absurd (files_no_sample request employees e))
           (λ plan limits e. c.answer.ensures.check
           (is_check request.command request.plan.now request.limits.now plan limits e));
@@ -104,8 +105,8 @@ returns-in-Ok-Some-Sample-clause-meets g c =
     record {
       bad_words = tells_good words (sample employees) own status c.sample.result is;
       touches = touches_own words (sample employees) own first last
-          (λ none. refl) (λ number e. refl) (λ plan limits e. cc);
-      files_same = refl;
+          (λ none. refl {a = c.args.source.now}) (λ number e. refl {a = c.args.files.now}) (λ plan limits e. cc);
+      files_same = refl {a = g.F.Files.told c.args.files.now};
       caused = caused;
       carries = λ form has.
           let all = rw (← is) at c.sample.ensures.leaves in

@@ -2,7 +2,6 @@ use Rattle.std.proofs.Common.{◌∙◌, Bool, ap, sym, subst, refl}
 use Rattle.std.specs.Prelude.{Err}
 use Rattle.std.proofs.lemmas.Result.{err_from_is_err_and}
 use Rattle.outside.specs.Told.{Appends, AppendsShort}
-use Rattle.script_run.specs.RefusedLines.{tells_one}
 use Rattle.pap_cli.specs.Statuses.{status_of}
 use Rattle.pap_cli.specs.Outside.{objects, outside_of}
 use Rattle.pap_cli.specs.SaveAnswers.{IsSave, was_filed}
@@ -11,8 +10,8 @@ use Rattle.pap_cli.specs.SaveViews.{written_of}
 use Rattle.pap_cli.proofs.SaveLemmas.{leaves_whole, leaves_cut, leaves_stop, leaves_unsaid}
 use Rattle.pap_cli.proofs.save.save.Goals as goal
 
-pub returns-in-Ok-clause-leaves : goal.returns-in-Ok-clause-leaves
-returns-in-Ok-clause-leaves g c =
+pub returns-in-Ok-put_all-clause-leaves : goal.returns-in-Ok-put_all-clause-leaves
+returns-in-Ok-put_all-clause-leaves g c =
     let before = outside_of g.F.Files g.R.Source g.W.Sink
     (objects c.args.files.now c.args.source.now c.args.sink.now c.args.steps.now) in
     let after = outside_of g.F.Files g.R.Source g.W.Sink
@@ -24,10 +23,10 @@ returns-in-Ok-clause-leaves g c =
     (subst (λ (r : Bool). IsSave r (was_filed ended.script) ended.refusals.items ended.script.book (written_of reply))
     c.any-refused.ensures c.in_ok-reply.ensures)
     (c.in-Ok.ensures.kept (λ e. cc))
-    (subst (λ t. Appends before.written after.written t) c.deref.ensures.value c.in-Ok.ensures.ok)
+    (subst (λ t. Appends before.written after.written t) c.deref.ensures.value c.in-Ok-put_all.ensures.ok)
 
-pub returns-in-Err-clause-leaves : goal.returns-in-Err-clause-leaves
-returns-in-Err-clause-leaves g c =
+pub returns-clause-leaves : goal.returns-clause-leaves
+returns-clause-leaves g c =
     let before = outside_of g.F.Files g.R.Source g.W.Sink
     (objects c.args.files.now c.args.source.now c.args.sink.now c.args.steps.now) in
     let after = outside_of g.F.Files g.R.Source g.W.Sink
@@ -39,26 +38,24 @@ returns-in-Err-clause-leaves g c =
     (subst (λ (r : Bool). IsSave r (was_filed ended.script) ended.refusals.items ended.script.book (written_of reply))
     c.any-refused.ensures c.in_ok-reply.ensures)
     (c.in-Ok.ensures.kept (λ e. cc))
-    (subst (λ t. AppendsShort before.written after.written t) c.deref.ensures.value c.in-Err.ensures.err)
+    (subst (λ t. AppendsShort before.written after.written t) c.deref.ensures.value c.in-Err-put_all.ensures.err)
 
-pub returns-in_err-ended-clause-leaves : goal.returns-in_err-ended-clause-leaves
-returns-in_err-ended-clause-leaves g c =
+pub returns-in-Err-clause-leaves : goal.returns-in-Err-clause-leaves
+returns-in-Err-clause-leaves g c =
+    let before = outside_of g.F.Files g.R.Source g.W.Sink
+    (objects c.args.files.now c.args.source.now c.args.sink.now c.args.steps.now) in
+    let after = outside_of g.F.Files g.R.Source g.W.Sink
+    (objects c.run_unwritten.new.files c.run_unwritten.new.source c.args.sink.now c.run_unwritten.new.steps) in
+    leaves_stop before after c.in-Err.stopped c.in-Err.ensures.script refl
+    (λ other. c.in-Err.ensures.kept (λ e. other cc)) (λ e. c.in-Err.ensures.no_write cc)
+
+pub returns-in_err-reply-clause-leaves : goal.returns-in_err-reply-clause-leaves
+returns-in_err-reply-clause-leaves g c =
     let p = err_from_is_err_and c.from_residual.result c.from_residual.ensures.1 in
     let before = outside_of g.F.Files g.R.Source g.W.Sink
     (objects c.args.files.now c.args.source.now c.args.sink.now c.args.steps.now) in
     let after = outside_of g.F.Files g.R.Source g.W.Sink
     (objects c.run_unwritten.new.files c.run_unwritten.new.source c.args.sink.now c.run_unwritten.new.steps) in
-    subst (λ r. LeavesOnSave before after (status_of r)) (sym (p.1 ∙ ap (λ v. Err v) p.2))
-    (leaves_stop before after c.in_err-ended.field-0.0 c.in_err-ended.ensures.script refl
-    (λ other. c.in_err-ended.ensures.kept (λ e. other cc)) (λ e. c.in_err-ended.ensures.no_write cc))
-
-pub returns-in_err-reply-clause-leaves : goal.returns-in_err-reply-clause-leaves
-returns-in_err-reply-clause-leaves g c =
-    let p = err_from_is_err_and c.from_residual-in_err-reply.result c.from_residual-in_err-reply.ensures.1 in
-    let before = outside_of g.F.Files g.R.Source g.W.Sink
-    (objects c.args.files.now c.args.source.now c.args.sink.now c.args.steps.now) in
-    let after = outside_of g.F.Files g.R.Source g.W.Sink
-    (objects c.run_unwritten.new.files c.run_unwritten.new.source c.args.sink.now c.run_unwritten.new.steps) in
-    subst (λ r. LeavesOnSave before after (status_of r)) (sym (p.1 ∙ ap (λ v. Err v) p.2))
-    (leaves_unsaid before after (tells_one c.in-Ok.ended.refused_lines) c.in-Ok.ensures.script refl
-    (c.in-Ok.ensures.kept (λ e. cc)))
+    let lines = c.in-Ok.ended.refused_lines in
+    subst (λ r. LeavesOnSave before after lines (status_of r)) (sym (p.1 ∙ ap (λ v. Err v) p.2))
+    (leaves_unsaid before after lines c.in-Ok.ensures.script refl (c.in-Ok.ensures.kept (λ e. cc)))
