@@ -51,13 +51,14 @@ pub(crate) fn open<F: Files, L: Ledger>(
     ensures kept { result ≢ Err LineStop.File → F.failed files.new ≡ F.failed files.old }
 {
     let text = files.read_front(alloc, file, MOST_BOOK_TEXT + 1)?;
-    Ok(open_text(alloc, script, &text, steps)?)
+    Ok(open_text(alloc, script, file, &text, steps)?)
 }
 
-/// Opens the book of a text in place of an empty one, of which nothing was filed.
+/// Opens the book of a file's text in place of an empty one, of which nothing was filed.
 fn open_text<L: Ledger>(
     alloc: Global,
     script: &mut Script,
+    file: &str,
     text: &[u8],
     steps: &mut Steps<L>,
 ) -> Result<LineReply, AllocError>
@@ -74,13 +75,14 @@ fn open_text<L: Ledger>(
     if script.ledger.last().is_some() {
         return unopened(alloc, b"book Filed", FILED);
     }
-    open_fresh(alloc, script, text, steps)
+    open_fresh(alloc, script, file, text, steps)
 }
 
-/// Opens the book of a text before the first edit.
+/// Opens the book of a file's text before the first edit.
 fn open_fresh<L: Ledger>(
     alloc: Global,
     script: &mut Script,
+    file: &str,
     text: &[u8],
     steps: &mut Steps<L>,
 ) -> Result<LineReply, AllocError>
@@ -98,7 +100,7 @@ fn open_fresh<L: Ledger>(
             Ok(answered(Vec::from_slice(alloc, OK)?, restored.work.steps))
         }
         Err(BookFault::Memory(error)) => Err(error),
-        Err(fault) => book_refusal(alloc, &fault),
+        Err(fault) => book_refusal(alloc, file, &fault),
     }
 }
 

@@ -9,7 +9,7 @@ use crate::reply::{LineReply, refused};
 use book_file::BookFault;
 use correction_ledger::{FileRefusal, OwedRefusal};
 use month_trace::TraceRefusal;
-use payroll_records::TableFault;
+use payroll_records::{MOST_RECORDS, TableFault};
 use recalc_engine::EditRefusal;
 use script_lang::LineFault;
 use std::alloc::{AllocError, Global};
@@ -52,7 +52,20 @@ pub(crate) fn edit_refusal(alloc: Global, why: &EditRefusal) -> Result<LineReply
     ensures { IfOk result (λ reply. IsEditRefusal why.now (reply_of reply)) }
 {
     let detail = edit_detail(alloc, why)?;
-    refused(alloc, detail.as_bytes(), why.to_string(alloc)?)
+    refused(alloc, detail.as_bytes(), edit_words(alloc, why)?)
+}
+
+/// What is wrong with an edit of the book, and what helps, in plain words.
+fn edit_words(alloc: Global, why: &EditRefusal) -> Result<String, AllocError> {
+    match why {
+        EditRefusal::Records => format!(in alloc;
+            "there would be more than {MOST_RECORDS} runs; split them by employee into several books"
+        ),
+        EditRefusal::Plans => format!(in alloc;
+            "{why}; `drop` one that no run needs, or keep a book for each year"
+        ),
+        why => why.to_string(alloc),
+    }
 }
 
 /// The refusal of a trace.
@@ -68,7 +81,17 @@ pub(crate) fn file_refusal(alloc: Global, why: &FileRefusal) -> Result<LineReply
     ensures { IfOk result (λ reply. IsFileRefusal why.now (reply_of reply)) }
 {
     let detail = file_detail(alloc, why)?;
-    refused(alloc, detail.as_bytes(), why.to_string(alloc)?)
+    refused(alloc, detail.as_bytes(), file_words(alloc, why)?)
+}
+
+/// Why a month isn't filed, and what helps, in plain words.
+fn file_words(alloc: Global, why: &FileRefusal) -> Result<String, AllocError> {
+    match why {
+        FileRefusal::Entries => {
+            format!(in alloc; "{why}; split the runs by employee into several books")
+        }
+        why => why.to_string(alloc),
+    }
 }
 
 /// The refusal of what is owed.
@@ -79,12 +102,35 @@ pub(crate) fn owed_refusal(alloc: Global, why: &OwedRefusal) -> Result<LineReply
     refused(alloc, detail.as_bytes(), why.to_string(alloc)?)
 }
 
-/// The refusal of a text that isn't that of a saved book.
-pub(crate) fn book_refusal(alloc: Global, fault: &BookFault) -> Result<LineReply, AllocError>
+/// The refusal of this file, whose text isn't that of a saved book.
+pub(crate) fn book_refusal(
+    alloc: Global,
+    file: &str,
+    fault: &BookFault,
+) -> Result<LineReply, AllocError>
     ensures { IfOk result (λ reply. IsBookRefusal fault.now (reply_of reply)) }
 {
     let detail = book_detail(alloc, fault)?;
-    refused(alloc, detail.as_bytes(), fault.to_string(alloc)?)
+    refused(alloc, detail.as_bytes(), book_words(alloc, file, fault)?)
+}
+
+/// What is wrong with the saved book of this file, and what helps, in plain words.
+fn book_words(alloc: Global, file: &str, fault: &BookFault) -> Result<String, AllocError> {
+    match fault {
+        BookFault::Long => format!(in alloc;
+            "{file}: {fault}; `save` writes none that is longer: split the runs by employee into several books"
+        ),
+        BookFault::Form { item: 1 } => format!(in alloc;
+            "{file}: {fault}; a saved book begins with the line `papbook 1`, and an empty file is left where `save` wrote to the very file that its script opens"
+        ),
+        BookFault::Form { .. } => format!(in alloc;
+            "{file}: {fault}; items are counted from 1: the first three lines, each plan with its texts, the line `runs N`, each run, and the last line with nothing after it"
+        ),
+        BookFault::Plan { .. } => format!(in alloc;
+            "{file}: {fault}; its texts stand behind its line, and `papcalc check` on them says why"
+        ),
+        fault => format!(in alloc; "{file}: {fault}"),
+    }
 }
 
 /// The group, the name and the details of a line's refusal.

@@ -7,7 +7,7 @@ use outside::FileAnswer;
 use std::alloc::AllocError;
 
 /// Why a line isn't answered, or not to its end.
-#[derive(Clone, Copy, Debug, PartialEq, Eq)]
+#[derive(Clone, Copy, Debug)]
 pub enum LineStop {
     /// A file that it names could not be read.
     File,
