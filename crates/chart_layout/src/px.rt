@@ -1,4 +1,6 @@
 //! Lengths.
+ghost use Rattle.std.specs.Prelude.{◌≡◌, ◌/◌, max};
+
 use crate::measures::{LEAST_SYMBOL, SYMBOL_STEP};
 use std::fmt;
 use std::ops::{Add, Sub};
@@ -31,12 +33,16 @@ impl fmt::Display for Px {
 
 impl Px {
     /// The greater of two lengths.
-    pub fn max(self, other: Px) -> Px {
+    pub fn max(self, other: Px) -> Px
+        ensures { result.0 ≡ max self.0 other.0 }
+    {
         Px(self.0.max(other.0))
     }
 
     /// The half of a length, rounded down.
-    pub fn half(self) -> Px {
+    pub fn half(self) -> Px
+        ensures { result.0 ≡ self.0 / 2 }
+    {
         Px(self.0 / 2)
     }
 

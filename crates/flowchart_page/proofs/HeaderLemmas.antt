@@ -1,11 +1,10 @@
 -- What is said of a plan, from its parts.
-use Rattle.std.proofs.Common.{◌≡◌, ℕ, Bool, true, false, not, Result, Ok, Err, String, string_bytes, List, [], ◌∷◌, ◌++◌, codes, refl, sym, ap, ◌∙◌, append_assoc}
-use Rattle.std.specs.Prelude.{OnOk, IfOk}
-use Rattle.std.specs.declared.alloc.Global.{Global}
+use Rattle.std.proofs.Common.{◌≡◌, ℕ, ◌-◌, Bool, true, false, not, Result, Ok, Err, List, [], ◌∷◌, ◌++◌, length, codes, refl, sym, ap, ◌∙◌, append_assoc, length-append, arith}
+use Rattle.std.specs.Prelude.{OnOk, take}
+use Rattle.std.proofs.Math.Seq.{take-append_seam}
 use Rattle.std.proofs.lemmas.List.{append-nil}
 use Rattle.pap_plan.specs.declared.refusal.PlanRefusal.{PlanRefusal}
 use Rattle.plan_answers.specs.Answers.{Answer, IsRefusal}
-use Rattle.plan_notes.specs.Lines.{line_text}
 use Rattle.flowchart_methods.specs.Turns.{AddsInTurn}
 use Rattle.flowchart_methods.proofs.Laws.{adds_none, adds_before, adds_behind, adds_then}
 use Rattle.flowchart_methods.specs.Escapes.{escaped}
@@ -95,10 +94,21 @@ code_more parts part is_code code = ap not code ∙ sym (behind-append false par
 
 -- ---- the line
 
-pub line_written : {E : Type 0} (r : Result (String Global) E) (plan : List ℕ) (refusal : PlanRefusal) (answer : Answer)
-    (bytes : List ℕ) → IsRefusal plan refusal answer → bytes ≡ answer.text
-    → IfOk r (λ line. string_bytes line ≡ line_text bytes)
-    → IfOk r (λ line. IsRefusalLine plan refusal (string_bytes line))
-line_written (Ok line) plan refusal answer bytes refused same is =
-    record { answer = answer; refused = refused; is = is ∙ ap line_text same }
-line_written (Err e) plan refusal answer bytes refused same is = is
+take_front : (xs : List ℕ) (b : ℕ) → take (length (xs ++ b ∷ []) - 1) (xs ++ b ∷ []) ≡ xs
+take_front xs b =
+    let shorter : length (xs ++ b ∷ []) - 1 ≡ length xs = omega (arith, length-append xs (b ∷ [])) in
+    ap (λ n. take n (xs ++ b ∷ [])) shorter ∙ take-append_seam xs (b ∷ [])
+
+-- the text of a refusal without its last byte
+pub line_written : (plan : List ℕ) (refusal : PlanRefusal) (answer : Answer) (text line : List ℕ) (n : ℕ)
+    → IsRefusal plan refusal answer → text ≡ answer.text → n ≡ length text → line ≡ take (n - 1) text
+    → IsRefusalLine plan refusal line
+line_written plan refusal answer text line n refused same counted front =
+    let inside = codes "refused " ++ refused.detail in
+    let whole : answer.text ≡ inside ++ 10 ∷ [] = ap (λ a. a.text) refused.is in
+    let is : line ≡ inside =
+    front
+    ∙ ap (λ k. take (k - 1) text) counted
+    ∙ ap (λ t. take (length t - 1) t) (same ∙ whole)
+    ∙ take_front inside 10 in
+    record { answer = answer; refused = refused; is = whole ∙ ap (λ l. l ++ 10 ∷ []) (sym is) }

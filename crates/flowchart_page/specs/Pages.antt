@@ -8,7 +8,6 @@ use Rattle.pap_reader.specs.Elements.{IsElements, IsFault}
 use Rattle.pap_types.specs.Meaning.{bound_of}
 use Rattle.pap_plan.specs.declared.refusal.PlanRefusal.{PlanRefusal}
 use Rattle.plan_answers.specs.Answers.{Answer, IsRefusal}
-use Rattle.plan_notes.specs.Lines.{line_text}
 use Rattle.flowchart_methods.specs.Escapes.{escaped}
 use Rattle.flowchart_methods.specs.Turns.{StandInTurn}
 use Rattle.flowchart_methods.specs.Captions.{AreCaptions, methods_of}
@@ -55,7 +54,7 @@ shown_words words = shown_parts false (slice_split (λ byte. byte == 0x60) words
 pub record IsRefusalLine (plan : List ℕ) (r : PlanRefusal) (line : List ℕ) : Type 0 where
   pub answer : Answer
   pub refused : IsRefusal plan r answer
-  pub is : line ≡ line_text answer.text
+  pub is : answer.text ≡ line ++ 10 ∷ []
 
 -- what is said of a refused plan: that it is refused, why in words, and the line that is written of it
 pub record SaysRefused (plan : List ℕ) (r : PlanRefusal) (words : List ℕ) (said : List (List ℕ)) : Type 0 where
@@ -72,8 +71,8 @@ Says _ _ _ _ = ⊥
 
 -- ---- the drawings
 
--- the captions of the plan's methods, where the statement that its refusal names is marked and no other; no captions
--- of a file that isn't read as a plan
+-- the captions of the plan's methods: where its refusal names a statement by its method's name and its number, the one
+-- of that number is marked in each method of that name, and no other; no captions of a file that isn't read as a plan
 abbrev pub ArePlanCaptions : List ℕ → Finding → List (List ℕ) → Type 0
 ArePlanCaptions plan finding captions =
     ((tree : ElementTree) × IsElements plan tree × AreCaptions (marked finding) (methods_of tree) captions)

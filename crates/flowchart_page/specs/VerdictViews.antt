@@ -33,7 +33,7 @@ sentence_of (Refused reason) = refused_text
 -- what stands behind the sentence: of a refused plan why, in words, and its line
 abbrev pub behind_sentence : Verdict → List (List ℕ)
 behind_sentence (Refused reason) =
-    shown_words (string_bytes reason.words) ∷ escaped (string_bytes reason.line) ∷ []
+    shown_words (string_bytes reason.words) ∷ escaped reason.line.items ∷ []
 behind_sentence _ = []
 
 -- what a page says of it, in turn

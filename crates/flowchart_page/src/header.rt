@@ -106,10 +106,10 @@ fn write_verdict_end(page: &mut Page, verdict: &Verdict, site: &Site) -> Result<
 /// Appends why the plan is refused.
 fn write_reason(page: &mut Page, reason: &Reason, site: &Site) -> Result<(), AllocError>
     ensures { OnOk result (AddsInTurn (shown_words (string_bytes reason.now.words)
-        ∷ escaped (string_bytes reason.now.line) ∷ []) page.old page.new) }
+        ∷ escaped reason.now.line.items ∷ []) page.old page.new) }
 {
     write_words(page, &reason.words)?;
-    page.element(".</p>\n<p><code>", reason.line.as_bytes(), "</code>")?;
+    page.element(".</p>\n<p><code>", &reason.line, "</code>")?;
     write_link(page, site)?;
     page.own("</p></div>\n")
 }

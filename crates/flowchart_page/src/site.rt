@@ -5,7 +5,7 @@ ghost use Rattle.flowchart_page.specs.Sites.{named_by, named_by_spot, named_by_t
 ghost use Rattle.flowchart_methods.specs.Sites.{named_statement};
 ghost use Rattle.flowchart_page.specs.Findings.{marked};
 ghost use Rattle.flowchart_page.specs.VerdictViews.{finding_of};
-ghost use Rattle.flowchart_page.specs.SiteViews.{declares, names_method};
+ghost use Rattle.flowchart_page.specs.SiteViews.{site_shown, declares, names_method};
 
 use crate::verdict::Verdict;
 use call_order::OrderFault;
@@ -20,7 +20,8 @@ use pap_types::TypeFault;
 /// What the page shows of a verdict: where a plan is refused what that names.
 #[tactic(auto, using(crate::proofs::SiteLemmas::named_on))]
 pub(crate) fn site_shown(elements: &Elements, verdict: &Verdict) -> Site
-    ensures { named_statement result ≡ marked (finding_of verdict.now) }
+    ensures site { result ≡ site_shown (tree_of elements.now) (finding_of verdict.now) }
+    ensures statement { named_statement result ≡ marked (finding_of verdict.now) }
 {
     match verdict {
         Verdict::Refused(reason) => site_of(elements, &reason.refusal),

@@ -27,7 +27,7 @@ pub(crate) enum Verdict {
 pub(crate) struct Reason {
     pub refusal: PlanRefusal,
     /// The line of standard output, without its end.
-    pub line: String,
+    pub line: Vec<u8>,
     /// What it means, in plain words.
     pub words: String,
 }
@@ -91,7 +91,7 @@ fn reason_of(
     ensures says { IfOk result (λ reason. SaysRefusal (files_of plan.entry ranges.entry) refusal
         (string_bytes reason.words)) }
     ensures line { IfOk result (λ reason.
-        IsRefusalLine plan.entry.bytes.now refusal (string_bytes reason.line)) }
+        IsRefusalLine plan.entry.bytes.now refusal reason.line.items) }
 {
     let line = refusal_line(alloc, plan.bytes, &refusal)?;
     let words = plan_words(alloc, plan, ranges, &refusal)?;
@@ -103,10 +103,12 @@ fn reason_of(
 }
 
 /// The line that is written of a refusal, without its end.
-fn refusal_line(alloc: Global, plan: &[u8], refusal: &PlanRefusal) -> Result<String, AllocError>
+fn refusal_line(alloc: Global, plan: &[u8], refusal: &PlanRefusal) -> Result<Vec<u8>, AllocError>
     requires { HasItsPlan plan.now refusal.now }
-    ensures { IfOk result (λ line. IsRefusalLine plan.now refusal.now (string_bytes line)) }
+    ensures { IfOk result (λ line. IsRefusalLine plan.now refusal.now line.items) }
 {
     let reply = refused(alloc, plan, refusal)?;
-    plan_notes::one_line(alloc, &reply.text)
+    let mut line = reply.text;
+    line.pop();
+    Ok(line)
 }

@@ -15,7 +15,7 @@ returns c =
     let said = said_of c.args.source.verdict.now in
     tree_page finding said (named_statement c.site_shown-site.result) (flat_map chapter_captions
     c.in_ok-chapters.chapters.items)
-    (tree_of c.args.elements.now) c.whole_page.result c.site_shown-site.ensures c.in_ok-chapters.ensures.captions
+    (tree_of c.args.elements.now) c.whole_page.result c.site_shown-site.ensures.statement c.in_ok-chapters.ensures.captions
     (subst (λ cs. IfOk c.whole_page.result (IsWholePage (said ++ flat_map chapter_captions cs)))
     c.deref.ensures.value
     c.whole_page.ensures)

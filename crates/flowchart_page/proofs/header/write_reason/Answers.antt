@@ -8,7 +8,7 @@ use Rattle.flowchart_page.proofs.header.write_reason.Goals as goal
 pub returns : goal.returns
 returns c =
     let words = shown_words (string_bytes c.args.reason.now.words) in
-    let line = escaped (string_bytes c.args.reason.now.line) in
+    let line = escaped c.args.reason.now.line.items in
     let old = c.args.page.now in
     let linked = c.write_link.new.page in
     let new = c.own.new.self in
@@ -18,5 +18,5 @@ returns c =
     (c.in_ok-write_words.ensures ∙ ap (λ w. old ++ shown_words w) c.deref.ensures)
     (c.in_ok-element.ensures
     ∙ ap (λ l. c.write_words.new.page ++ (codes ".</p>\n<p><code>" ++ (escaped l ++ codes "</code>")))
-    c.as_bytes.ensures.value)
+    c.deref-2.ensures.value)
     c.in_ok-write_link.ensures ended)

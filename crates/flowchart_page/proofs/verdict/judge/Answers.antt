@@ -37,6 +37,6 @@ returns-in_ok-reason-in-Err c =
           c.in-Err.ensures.refused
           c.in_ok-reason-in-Err.ensures.says;
       says = says_refused c.args.plan.bytes.now c.in-Err.refusal c.in_ok-reason-in-Err.reason.refusal
-          (string_bytes c.in_ok-reason-in-Err.reason.words) (string_bytes c.in_ok-reason-in-Err.reason.line)
+          (string_bytes c.in_ok-reason-in-Err.reason.words) c.in_ok-reason-in-Err.reason.line.items
           c.in_ok-reason-in-Err.ensures.refusal c.in_ok-reason-in-Err.ensures.line;
     }
