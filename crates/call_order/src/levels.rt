@@ -22,12 +22,9 @@ fn are_placed(methods: &[u32], levels: &[Option<u32>], longest: u32) -> bool
     requires { All (λ j. j < length levels.now) methods.now }
     ensures { TellsPlaced longest levels.now methods.now result }
 {
-    for method in methods {
-        if !is_placed(levels[*method as usize], longest) {
-            return false;
-        }
-    }
-    true
+    methods
+        .iter()
+        .all(|method| is_placed(levels[*method as usize], longest))
 }
 
 /// Gives the methods whose longest chain has one method more than `longest` their level.

@@ -3,7 +3,7 @@ ghost use Rattle.std.specs.Prelude.{◌≡◌, ◌+◌, ◌∷◌, ◌≤◌, Li
 ghost use Rattle.expr_grammar.specs.Machine.{Frame as Waiting, level, binds};
 ghost use Rattle.pap_expr.specs.Frames.{frame_of};
 
-use crate::words::rank;
+use pap_tree::levels::{self, level_of_operator};
 use pap_tree::{Binary, Call, Expr, Name};
 
 /// What waits for the expression that is read.
@@ -39,9 +39,9 @@ impl Frame {
         ensures { result ≡ binds (frame_of self.now) }
     {
         match self {
-            Frame::Minus | Frame::Not => Some(7),
-            Frame::Right(operator, _) => Some(rank(*operator)),
-            Frame::No(_, _) => Some(0),
+            Frame::Minus | Frame::Not => Some(levels::PREFIX),
+            Frame::Right(operator, _) => Some(level_of_operator(*operator)),
+            Frame::No(_, _) => Some(levels::CONDITIONAL),
             _ => None,
         }
     }

@@ -16,8 +16,9 @@ ghost use Rattle.pap_expr.specs.Steps.{Steps};
 
 use crate::fault::ExprFault;
 use crate::state::{Rounded, Scaled, State};
-use crate::words::{Holder, Static, method_of, mode_of, rank, static_of};
+use crate::words::{Holder, Static, method_of, mode_of, static_of};
 use expr_tokens::{Keyword, Placed, Sign, Token};
+use pap_tree::levels::{self, level_of_operator};
 use pap_tree::{Expr, Name};
 use scaled_decimal::MOST_PLACES;
 
@@ -88,14 +89,14 @@ pub(crate) fn tightness(token: Token) -> u8
     ensures { result ≡ machine.tightness (token_of token) }
 {
     match token {
-        Token::Operator(operator) => rank(operator),
+        Token::Operator(operator) => level_of_operator(operator),
         Token::Mark(sign) => match sign {
-            Sign::Question => 1,
-            Sign::Dot => 8,
-            Sign::OpenItem => 10,
-            _ => 0,
+            Sign::Question => levels::OR,
+            Sign::Dot => levels::CALL,
+            Sign::OpenItem => levels::PRIMARY + 1,
+            _ => levels::CONDITIONAL,
         },
-        _ => 0,
+        _ => levels::CONDITIONAL,
     }
 }
 

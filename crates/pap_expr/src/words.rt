@@ -1,11 +1,10 @@
-//! The words and ranks of the language.
+//! The words of the language.
 ghost use Rattle.std.specs.Prelude.{◌≡◌, Some, None, MatchOption, IsTrue};
 ghost use Rattle.pap_tree.specs.Names.{is_name};
-ghost use Rattle.pap_tree.specs.Words.{level_of_operator};
 ghost use Rattle.expr_grammar.specs.Machine.{method_of, constancy_of, mode_of, the_decimal, the_mode};
 ghost use Rattle.pap_expr.specs.Views.{method_view, static_view, holder_view};
 
-use pap_tree::{Binary, Call, Known, Name};
+use pap_tree::{Call, Known, Name};
 use scaled_decimal::Mode;
 
 /// What follows a point after an expression.
@@ -37,20 +36,6 @@ pub(crate) enum Holder {
     BigDecimal,
     /// `RoundingMode`
     RoundingMode,
-}
-
-/// How tightly an operator binds: 1 is the loosest, 6 the tightest.
-pub(crate) fn rank(operator: Binary) -> u8
-    ensures { result ≡ level_of_operator operator }
-{
-    match operator {
-        Binary::Or => 1,
-        Binary::And => 2,
-        Binary::Same | Binary::Differs => 3,
-        Binary::Less | Binary::LessEq | Binary::More | Binary::MoreEq => 4,
-        Binary::Plus | Binary::Sub => 5,
-        Binary::Mul | Binary::Div | Binary::Rem => 6,
-    }
 }
 
 /// The method of a word.

@@ -1,14 +1,15 @@
 -- Statements by their numbers, and methods by their names.
-use Rattle.std.proofs.Common.{◌≡◌, ℕ, zero, suc, ◌+◌, ◌-◌, ◌<◌, ◌≤◌, true, false, List, [], ◌∷◌, length, drop, get_or, map, refl, sym, ap, ◌∙◌, subst, arith, add-one, Vec, Global}
-use Rattle.std.specs.Prelude.{Option, Some, None, if◌then◌else◌}
+use Rattle.std.proofs.Common.{◌≡◌, ℕ, zero, suc, ◌+◌, ◌-◌, ◌<◌, ◌≤◌, true, false, cond, List, [], ◌∷◌, length, drop, get_or, map, refl, sym, ap, ◌∙◌, subst, arith, Vec, Global}
+use Rattle.std.specs.Prelude.{Option, Some, None, if◌then◌else◌, option_map}
+use Rattle.std.specs.List.{find}
 use Rattle.std.specs.Str.{bytes_eq}
 use Rattle.std.proofs.lemmas.Bool.Decides.{nat_tests}
-use Rattle.std.proofs.Math.Seq.{drop-cons}
 use Rattle.pap_tree.specs.declared.expression.Expr.{Expr}
 use Rattle.pap_tree.specs.declared.plan.Stmt.{Stmt, Eval, If, If', Execute}
 use Rattle.pap_tree.specs.declared.plan.Method.{Method}
+use Rattle.pap_tree.specs.declared.plan.PlanText.{PlanText}
 use Rattle.pap_tree.specs.Term.{Term, term_of}
-use Rattle.pap_tree.specs.Flowchart.{Flowchart, Body, done, eval, branch, execute, body_of, stmt_then, routine_of}
+use Rattle.pap_tree.specs.Flowchart.{Body, done, eval, branch, execute, body_of, stmt_then, routine_of, flowchart_of}
 use Rattle.pap_tree.specs.Statements.{written, term_at}
 use Rattle.pap_tree.proofs.Laws.{stmt_at, stmt_then-If}
 use Rattle.pap_types.specs.Routines.{body_named}
@@ -120,19 +121,27 @@ written_if s t ys zs is = ap (λ x. written (stmt_then x done)) is ∙ ap writte
 
 -- ---- methods
 
-pub routine_at : (ms : List Method) (i : ℕ) (r : Method) (x : List ℕ) → r ≡ get_or ms i r → i < length ms →
-    body_named (map routine_of (drop i ms)) x ≡ (if bytes_eq x r.name then Some (body_of r.body.items) else body_named (map routine_of (drop (i + 1) ms)) x)
-routine_at ms i r x is lt =
-    ap (λ l. body_named (map routine_of l) x) (drop-cons ms i r lt)
-    ∙ ap (λ (q : Method). if bytes_eq x q.name then Some (body_of q.body.items) else body_named (map routine_of (drop (suc i) ms)) x) (sym is)
-    ∙ ap (λ n. if bytes_eq x r.name then Some (body_of r.body.items) else body_named (map routine_of (drop n ms)) x) (sym (add-one i))
+-- the body of the method that a search by name finds
+pub named_find : (x : List ℕ) (ms : List Method) →
+    body_named (map routine_of ms) x ≡
+    option_map (λ (m : Method). body_of m.body.items) (find (λ (m : Method). bytes_eq x m.name) ms)
+named_find x [] = refl
+named_find x (m ∷ ms) = elim (bytes_eq x m.name) as (λ b.
+    (if b then Some (body_of m.body.items) else body_named (map routine_of ms) x) ≡
+    option_map (λ (q : Method). body_of q.body.items)
+    (cond b (Some m) (find (λ (q : Method). bytes_eq x q.name) ms))) [
+      | true ↦ refl
+      | false ↦ named_find x ms
+    ]
 
--- the statements of a method other than MAIN
-pub body_found : (f : Flowchart) (method main : List ℕ) (ms : List Method) (i : ℕ) (r : Method) (body : List Stmt) → main ≡ main_name → bytes_eq method main ≡ false →
-    body_named f.methods method ≡ body_named (map routine_of (drop i ms)) method → r ≡ get_or ms i r → i < length ms → bytes_eq method r.name ≡ true → body ≡ r.body.items →
-    body_in f method ≡ Some (body_of body)
-body_found f method main ms i r body is_main other so_far is lt here items =
-    ap (λ t. if t then Some f.main else body_named f.methods method) (subst (λ n. bytes_eq method n ≡ false) is_main other)
-    ∙ so_far ∙ routine_at ms i r method is lt
-    ∙ ap (λ t. if t then Some (body_of r.body.items) else body_named (map routine_of (drop (i + 1) ms)) method) here
-    ∙ ap (λ l. Some (body_of l)) (sym items)
+-- a name other than MAIN's has the body of the method that is found
+pub body_other : (p : PlanText) (x main : List ℕ) (ms : List Method) (found : Option Method) →
+    main ≡ main_name → bytes_eq x main ≡ false → ms ≡ p.methods.items →
+    found ≡ find (λ (m : Method). bytes_eq x m.name) ms →
+    body_in (flowchart_of p) x ≡ option_map (λ (m : Method). body_of m.body.items) found
+body_other p x main ms found is_main other methods is =
+    let f = flowchart_of p in
+    ap (λ t. if t then Some f.main else body_named f.methods x) (subst (λ n. bytes_eq x n ≡ false) is_main other)
+    ∙ ap (λ (l : List Method). body_named (map routine_of l) x) (sym methods)
+    ∙ named_find x ms
+    ∙ ap (option_map (λ (m : Method). body_of m.body.items)) (sym is)

@@ -1,12 +1,14 @@
 //! The nodes of a plan by their places.
-ghost use Rattle.std.specs.Prelude.{◌≡◌, IfOk, MatchOption, Some, None};
+ghost use Rattle.std.specs.Prelude.{◌≡◌, IfOk, MatchOption, Some, None, option_map};
+ghost use Rattle.std.specs.List.{find};
+ghost use Rattle.std.specs.Str.{bytes_eq};
 ghost use Rattle.pap_tree.specs.Term.{term_of};
 ghost use Rattle.pap_tree.specs.Flowchart.{flowchart_of, body_of};
 ghost use Rattle.pap_tree.specs.Statements.{term_at};
 ghost use Rattle.plan_answers.specs.Refusals.{body_in, node_at, spelling_at};
 ghost use Rattle.plan_answers.specs.PlaceViews.{IsSearched, IsSearchedIn};
 
-use pap_tree::{Expr, Name, Place, PlanText, Stmt, find_node, print_expr};
+use pap_tree::{Expr, Method, Name, Place, PlanText, Stmt, find_node, print_expr};
 use std::alloc::{AllocError, Global};
 
 /// The canonical spelling of the node of a place. A place that has no node has an empty one.
@@ -41,12 +43,16 @@ fn body_in<'a>(plan: &'a PlanText, method: &Name) -> Option<&'a [Stmt]>
     if *method == Name::main() {
         return Some(&plan.main);
     }
-    for routine in &plan.methods {
-        if *method == routine.name {
-            return Some(&routine.body);
-        }
-    }
-    None
+    let methods = plan.methods.as_slice();
+    let routine = method_named(methods, method)?;
+    Some(routine.body.as_slice())
+}
+
+/// The method of a name other than MAIN's.
+fn method_named<'a>(methods: &'a [Method], name: &Name) -> Option<&'a Method>
+    ensures { option_map (λ m. m.now) result ≡ find (λ m. bytes_eq name.now m.name) methods.now }
+{
+    methods.iter().find(|method| *name == method.name)
 }
 
 /// The expression of the statement of a number: the value of an EVAL or the test of an IF. An EXECUTE has none.

@@ -7,7 +7,6 @@ ghost use Rattle.payroll_records.specs.NamedValues.{name_cmp, name_of};
 ghost use Rattle.recalc_engine.specs.RowLaws.{HaveNames};
 ghost use Rattle.what_if.specs.SideViews.{AreOrdered, both_sides, left_only, right_only, side_row, sides_of};
 
-use crate::states::same_amount;
 use crate::trial::TrialRow;
 use pap_tree::Name;
 use payroll_records::{Key, NamedValue};
@@ -156,7 +155,7 @@ pub(crate) fn push_sides(
 {
     for side in sides {
         rows.reserve(1)?;
-        if !same_amount(side.before, side.after) {
+        if side.before != side.after {
             rows.push_reserved(TrialRow::Value {
                 key: *key,
                 name: side.name,

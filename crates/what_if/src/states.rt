@@ -1,14 +1,13 @@
 //! The states of a run in two books.
 ghost use Rattle.std.specs.Prelude.{◌≡◌};
 ghost use Rattle.std.specs.Cmp.Lexicographic.{pointwise};
-ghost use Rattle.what_if.specs.Changes.{state_outputs, same_amount, same_cause, same_output, same_state};
+ghost use Rattle.what_if.specs.Changes.{state_outputs, same_cause, same_output, same_state};
 ghost use Rattle.what_if.specs.Changes.{shown_cause, shown_state};
 
 use crate::trial::Shown;
 use carry_bindings::Blocked;
 use payroll_records::NamedValue;
 use recalc_engine::State;
-use scaled_decimal::Dec;
 
 /// Whether two states are the same: their names, days, values and scales.
 pub(crate) fn same_state(a: &State, b: &State) -> bool
@@ -47,17 +46,6 @@ fn same_output(a: &NamedValue, b: &NamedValue) -> bool
     ensures { result ≡ same_output a.now b.now }
 {
     a.name == b.name && a.value == b.value
-}
-
-/// Whether an output has no value in both states, or the same number and scale.
-pub(crate) fn same_amount(a: Option<Dec>, b: Option<Dec>) -> bool
-    ensures { result ≡ same_amount a b }
-{
-    match (a, b) {
-        (None, None) => true,
-        (Some(a), Some(b)) => a == b,
-        _ => false,
-    }
 }
 
 /// A state without its values.
