@@ -67,7 +67,7 @@ pub(crate) fn read_row(
     let Some(day) = Day::read(field(row, 2)) else {
         return Err(RowFault::Day);
     };
-    if Month::of_day(day) != month {
+    if month.year != day.year || month.month != day.month {
         return Err(RowFault::Day);
     }
     if let Some(place) = first_broken(row, header.names.len()) {
