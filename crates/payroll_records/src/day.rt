@@ -9,8 +9,11 @@ use std::fmt;
 /// A day that the calendar has, of a year from 1900 to 2999. Days are ordered by time.
 #[derive(Clone, Copy, Debug, PartialEq, Eq, PartialOrd, Ord)]
 pub struct Day {
+    /// From 1900 to 2999.
     pub year: u16,
+    /// From 1 to 12.
     pub month: u8,
+    /// From 1 to 28, 29, 30 or 31, as the calendar has it in the month.
     pub day: u8,
     pub ghost exists: { IsDay year month day },
 }

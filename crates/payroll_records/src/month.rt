@@ -8,6 +8,7 @@ use std::fmt;
 /// A month of a year from 1900 to 2999. Months are ordered by time.
 #[derive(Clone, Copy, Debug, PartialEq, Eq, PartialOrd, Ord)]
 pub struct Month {
+    /// From 1900 to 2999.
     pub year: u16,
     /// From 1 to 12.
     pub month: u8,

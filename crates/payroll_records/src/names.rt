@@ -1,5 +1,5 @@
 //! The names of a record's values.
-ghost use Rattle.std.specs.Prelude.{◌≡◌, ◌<◌, ◌≤◌, IfOk, OnErr, OnOk, length};
+ghost use Rattle.std.specs.Prelude.{◌≡◌, ◌<◌, ◌≤◌, IfOk, IfSome, OnErr, OnOk, length};
 ghost use Rattle.std.specs.List.{insert};
 ghost use Rattle.std.specs.Rc.{rc_slice_items};
 ghost use Rattle.payroll_records.specs.Limits.{most_values};
@@ -29,6 +29,19 @@ impl Names {
         }
     }
 
+    /// The same names in a list that can be shared: that of `before` where it has just these, and else one of their own.
+    pub(crate) fn sharing(self, before: Option<&Names>) -> Result<Names, AllocError>
+        ensures { IfOk result (λ names. listed names ≡ listed self) }
+    {
+        if let Some(list) = list_of(before, self.as_slice()) {
+            return Ok(Names::Shared(list.clone()?));
+        }
+        match self {
+            Names::Own(names) => Ok(Names::Shared(RcSlice::from_vec(names)?)),
+            Names::Shared(list) => Ok(Names::Shared(list)),
+        }
+    }
+
     /// Puts one more name at a place: into the list of the record alone, which is made where there is none. Without memory
     /// the names are as before.
     pub(crate) fn insert(&mut self, alloc: Global, at: usize, name: Name) -> Result<(), AllocError>
@@ -51,16 +64,16 @@ impl Names {
     }
 }
 
-/// A list of the names that records can share: that of `before` where it has the same ones, and else a new one.
-pub(crate) fn shared(names: Vec<Name>, before: Option<&Names>) -> Result<RcSlice<Name>, AllocError>
-    ensures { IfOk result (λ list. rc_slice_items list ≡ names.items) }
+/// The list of `before`, if it can be shared and has just these names.
+fn list_of<'a>(before: Option<&'a Names>, names: &[Name]) -> Option<&'a RcSlice<Name>>
+    ensures { IfSome result (λ list. rc_slice_items list.now ≡ names.now) }
 {
     if let Some(Names::Shared(list)) = before {
-        if list.as_slice() == names.as_slice() {
-            return list.clone();
+        if list.as_slice() == names {
+            return Some(list);
         }
     }
-    RcSlice::from_vec(names)
+    None
 }
 
 /// A new list of the names with one more, at a place.

@@ -21,11 +21,17 @@ use std::alloc::{AllocError, Global};
 /// What is wrong with a row by itself.
 #[derive(Drop)]
 pub(crate) enum RowFault {
+    /// It is shorter or longer than the header.
     Width,
+    /// Its first field is no employee.
     Employee,
+    /// Its second field is no month.
     Month,
+    /// Its third field is no day of its month.
     Day,
+    /// The leftmost cell that neither is empty nor spells a number is in the column of this name.
     Value { name: Name },
+    /// There was no memory for its record.
     Memory(AllocError),
 }
 

@@ -20,22 +20,31 @@ use thiserror::Error;
 /// Why a table is refused. Rows are counted from 1 after the header.
 #[derive(Debug, Drop, Error)]
 pub enum TableFault {
+    /// It is longer than a table may be.
     #[error("the table has more than 33554432 bytes")]
     TableLong,
+    /// There is no first row, or it is no header.
     #[error("the first row is not employee,month,day and then at most 256 different names")]
     Header,
+    /// This row is shorter or longer than the header.
     #[error("row {row} has not as many fields as the header")]
     Width { row: u64 },
+    /// The first field of this row is no employee.
     #[error("row {row}: the employee is not 1 to 32 ASCII letters, digits, `_`, `-` and `.`")]
     Employee { row: u64 },
+    /// The second field of this row is no month.
     #[error("row {row}: the month is not of the form YYYY-MM, or not of the years 1900 to 2999")]
     Month { row: u64 },
+    /// The third field of this row is no day of its month.
     #[error("row {row}: the day is not of the form YYYY-MM-DD, not in the calendar, not of the years 1900 to 2999 or not in the month")]
     Day { row: u64 },
+    /// The leftmost cell of this row that neither is empty nor spells a number, in the column of this name.
     #[error("row {row}: the value of {name} is no number of at most 30 decimal places and at most 10^37 without its point")]
     Value { row: u64, name: Name },
+    /// This row has the employee and the day of an earlier one.
     #[error("row {row}: an earlier row has the same employee and day")]
     Repeat { row: u64 },
+    /// There was no memory for the records, or to read them.
     #[error("out of memory")]
     Memory(AllocError),
 }

@@ -6,7 +6,7 @@ ghost use Rattle.payroll_records.specs.NamedValues.{AreValues, name_cmp, name_of
 ghost use Rattle.payroll_records.specs.ValueViews.{IsKeptAs, goes_at, is_before, is_beyond, named_numbers, stands_at};
 
 use crate::MOST_VALUES;
-use crate::names::{Names, shared};
+use crate::names::Names;
 use pap_tree::Name;
 use scaled_decimal::Dec;
 use std::alloc::{AllocError, Global};
@@ -16,7 +16,9 @@ use thiserror::Error;
 /// A value under a name: an input of a run, or an output.
 #[derive(Clone, Copy, Debug)]
 pub struct NamedValue {
+    /// The name of the input or output: 1 to 32 bytes.
     pub name: Name,
+    /// The value: at most 30 decimal places, and at most 10^37 without its point.
     pub value: Dec,
 }
 
@@ -47,10 +49,13 @@ impl Model for Values {
 /// Why a value was not inserted.
 #[derive(Debug, Drop, Error)]
 pub enum InsertFault {
+    /// A value stands under the name.
     #[error("the name has a value already")]
     Twice,
+    /// No value stands under the name, and there are as many values as a record may have.
     #[error("there are 256 values already")]
     Full,
+    /// There was no memory for one more.
     #[error("out of memory")]
     Memory(AllocError),
 }
@@ -85,11 +90,20 @@ impl Values {
         requires { IsKeptAs names.items numbers.items }
         ensures { IfOk result (λ values. values ≡ named_numbers names.items numbers.items) }
     {
-        let names = shared(names, before.map(|values| &values.names))?;
-        Ok(Values {
-            names: Names::Shared(names),
+        let values = Values {
+            names: Names::Own(names),
             numbers,
-        })
+        };
+        values.sharing_names(before)
+    }
+
+    /// The same values. Where `before` has the same names, both share one list of them.
+    pub(crate) fn sharing_names(self, before: Option<&Values>) -> Result<Values, AllocError>
+        ensures { IfOk result (λ values. values ≡ self) }
+    {
+        let Values { names, numbers } = self;
+        let names = names.sharing(before.map(|values| &values.names))?;
+        Ok(Values { names, numbers })
     }
 
     /// The names of the values, in order.

@@ -5,9 +5,11 @@ use crate::{Day, Month};
 use std::fmt;
 
 /// When a run was paid: in a month, where its employee has one run in it, or on a day.
-#[derive(Clone, Copy, Debug, PartialEq, Eq)]
+#[derive(Clone, Copy, Debug)]
 pub enum When {
+    /// In this month, in which the employee has one run.
     Month(Month),
+    /// On this day.
     Day(Day),
 }
 

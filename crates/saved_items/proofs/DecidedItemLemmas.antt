@@ -29,7 +29,7 @@ use Rattle.saved_items.proofs.DayLemmas.{day_spells}
 use Rattle.saved_items.proofs.FrontLemmas.{sound_more, text_more}
 use Rattle.saved_items.proofs.ItemLemmas.{same_length_cut, run_words_once}
 use Rattle.saved_items.proofs.LineLemmas.{cut_at}
-use Rattle.saved_items.proofs.NextLemmas.{no_item, line_is, none_nothing, none_titled, none_worked, many_worked, none_planned, many_planned, plan_is, plan_words_once, work_words_once, run_seen, run_few}
+use Rattle.saved_items.proofs.NextLemmas.{no_item, line_is, none_nothing, none_titled, none_worked, none_planned, none_within, plan_is, plan_words_once, work_words_once, run_seen, run_few}
 use Rattle.saved_items.proofs.NumberLemmas.{whole_spells}
 use Rattle.saved_items.proofs.TextLemmas.{ends_text, stops}
 use Rattle.saved_items.proofs.WordLemmas.{value_given, values_once}
@@ -421,8 +421,8 @@ module _ (bytes : Text) (l : FirstLine bytes) where
     | inr none ↦ inr (λ g. none_worked bytes l.text l.left seen l.is refl
         (λ n small e. none (n, e)) a b g.item g.rest g.fits g.text)
     | inl c ↦ elim (cases_lt 64 c.0) [
-      | inl many ↦ inr (λ g. many_worked bytes l.text l.left seen l.is refl c.0 c.1 many a b g.item g.rest g.fits
-          g.text)
+      | inl many ↦ inr (λ g. none_worked bytes l.text l.left seen l.is refl
+          (none_within (codes "plans") seen c.0 64 c.1 many) a b g.item g.rest g.fits g.text)
       | inr few ↦ inl (record {
         item = plan_count c.0;
         fits = few;
@@ -438,8 +438,8 @@ module _ (bytes : Text) (l : FirstLine bytes) where
     | inr none ↦ inr (λ g. none_planned bytes l.text l.left seen l.is refl
         (λ n small e. none (n, e)) a b ps g.item g.rest g.fits g.text)
     | inl c ↦ elim (cases_lt 50000 c.0) [
-      | inl many ↦ inr (λ g. many_planned bytes l.text l.left seen l.is refl c.0 c.1 many a b ps g.item g.rest g.fits
-          g.text)
+      | inl many ↦ inr (λ g. none_planned bytes l.text l.left seen l.is refl
+          (none_within (codes "runs") seen c.0 50000 c.1 many) a b ps g.item g.rest g.fits g.text)
       | inr few ↦ inl (record {
         item = run_count c.0;
         fits = (refl, few);

@@ -5,9 +5,11 @@ use Rattle.std.specs.List.{join_with_byte, slice_split}
 use Rattle.std.proofs.lemmas.List.{take_all, length-take}
 use Rattle.std.proofs.Math.ListN.{length-map}
 use Rattle.scaled_decimal.specs.PlainTexts.{whole_text}
+use Rattle.payroll_records.specs.Limits.{most_records}
 use Rattle.payroll_records.specs.Tables.{Text}
 use Rattle.payroll_records.specs.declared.day.Day.{Day}
 use Rattle.payroll_records.specs.declared.record.Record.{Record}
+use Rattle.plan_calendar.specs.Limits.{most_plans}
 use Rattle.saved_items.specs.Fronts.{nothing, titled, worked, planning, running}
 use Rattle.saved_items.specs.ItemDecisions.{Item, title, work, plan_count, plan, run_count, run, item_text, Fits, IsLater, IsBeyond}
 use Rattle.saved_items.specs.ItemViews.{HasTexts, HasNoTexts}
@@ -25,8 +27,14 @@ use Rattle.saved_items.proofs.WordLemmas.{literal_word, work_are_words, plan_cou
 title_are_words : AreWords title_words
 title_are_words = (literal_word.0, (literal_word.1, tt))
 
-second_word : (f a b : Text) → f ∷ a ∷ [] ≡ f ∷ b ∷ [] → a ≡ b
-second_word f a b e = cc
+-- the number behind a word is above a limit, and so none within it stands there
+pub none_within : (f : Text) (seen : List Text) (n most : ℕ) → seen ≡ f ∷ whole_text n ∷ [] → most < n → (m : ℕ) →
+    m ≤ most → seen ≢ f ∷ whole_text m ∷ []
+none_within f seen n most is many m few e =
+    let same = whole_once m n (second f _ _ (sym e ∙ is)) in omega (arith, few, many, same)
+  where
+    second : (f a b : Text) → f ∷ a ∷ [] ≡ f ∷ b ∷ [] → a ≡ b
+    second f a b e = cc
 
 pub plan_words_once : (d e : Day) (a b x y : ℕ) → plan_words d a b ≡ plan_words e x y → (d ≡ e) × (a ≡ x) × (b ≡ y)
 plan_words_once d e a b x y h =
@@ -48,11 +56,10 @@ plan_text_in p rest = append_assoc (line_of (plan_words p.day (length p.plan) (l
     (p.plan ++ (p.limits ++ (10 ∷ []))) rest
 
 -- no text is longer than the bytes that it stands in
-texts_fit : (bytes line a b rest : Text) → bytes ≡ line ++ ((a ++ (b ++ (10 ∷ []))) ++ rest) →
+texts_fit : (bytes a b rest : Text) → bytes ≡ (a ++ (b ++ (10 ∷ []))) ++ rest →
     (length a ≤ length bytes) × (length b ≤ length bytes)
-texts_fit bytes line a b rest e =
+texts_fit bytes a b rest e =
     let whole = ap length e in
-    let first = length-append line ((a ++ (b ++ (10 ∷ []))) ++ rest) in
     let second = length-append (a ++ (b ++ (10 ∷ []))) rest in
     let third = length-append a (b ++ (10 ∷ [])) in
     let fourth = length-append b (10 ∷ []) in
@@ -123,34 +130,20 @@ module _ (bytes text left : Text) (seen : List Text) (line : IsLine bytes text l
       seen ≡ codes "plans" ∷ whole_text n ∷ []
   plans_are n rest e = (words_are (codes "plans") (whole_text n ∷ []) rest (plan_count_are_words n) (omega arith) e).1
 
-  pub none_worked : ((n : ℕ) → n < 2 ^ 64 → seen ≢ codes "plans" ∷ whole_text n ∷ []) →
+  pub none_worked : ((n : ℕ) → n ≤ most_plans → seen ≢ codes "plans" ∷ whole_text n ∷ []) →
       (a b : ℕ) (i : Item) (rest : Text) → Fits (worked a b) i → bytes ≡ item_text i ++ rest → ⊥
-  none_worked none a b (plan_count n) rest fits e = none n (omega (arith, fits)) (plans_are n rest e)
+  none_worked none a b (plan_count n) rest fits e = none n fits (plans_are n rest e)
   none_worked none a b i rest fits e = fits
-
-  pub many_worked : (n : ℕ) → seen ≡ codes "plans" ∷ whole_text n ∷ [] → 64 < n → (a b : ℕ) (i : Item) (rest : Text) →
-      Fits (worked a b) i → bytes ≡ item_text i ++ rest → ⊥
-  many_worked n is many a b (plan_count m) rest fits e =
-      let same = whole_once m n (second_word _ _ _ (sym (plans_are m rest e) ∙ is)) in omega (arith, fits, many, same)
-  many_worked n is many a b i rest fits e = fits
 
   runs_are : (n : ℕ) (rest : Text) → bytes ≡ item_text (run_count n) ++ rest → seen ≡ codes "runs" ∷ whole_text n ∷ []
   runs_are n rest e = (words_are (codes "runs") (whole_text n ∷ []) rest (run_count_are_words n) (omega arith) e).1
 
-  pub none_planned : ((n : ℕ) → n < 2 ^ 64 → seen ≢ codes "runs" ∷ whole_text n ∷ []) →
+  pub none_planned : ((n : ℕ) → n ≤ most_records → seen ≢ codes "runs" ∷ whole_text n ∷ []) →
       (a b : ℕ) (ps : List SavedPlan) (i : Item) (rest : Text) → Fits (planning a b (length ps) ps) i →
       bytes ≡ item_text i ++ rest → ⊥
-  none_planned none a b ps (run_count n) rest fits e = none n (omega (arith, fits.1)) (runs_are n rest e)
+  none_planned none a b ps (run_count n) rest fits e = none n fits.1 (runs_are n rest e)
   none_planned none a b ps (plan p) rest fits e = omega (arith, fits.0)
   none_planned none a b ps i rest fits e = fits
-
-  pub many_planned : (n : ℕ) → seen ≡ codes "runs" ∷ whole_text n ∷ [] → 50000 < n →
-      (a b : ℕ) (ps : List SavedPlan) (i : Item) (rest : Text) → Fits (planning a b (length ps) ps) i →
-      bytes ≡ item_text i ++ rest → ⊥
-  many_planned n is many a b ps (run_count m) rest fits e =
-      let same = whole_once m n (second_word _ _ _ (sym (runs_are m rest e) ∙ is)) in omega (arith, fits.1, many, same)
-  many_planned n is many a b ps (plan p) rest fits e = omega (arith, fits.0)
-  many_planned n is many a b ps i rest fits e = fits
 
   -- a plan that stands there has these words, and its texts behind them
   pub plan_is : (p : SavedPlan) (rest : Text) → bytes ≡ plan_text p ++ rest →
@@ -162,14 +155,13 @@ module _ (bytes text left : Text) (seen : List Text) (line : IsLine bytes text l
       (plan_are_words p.day (length p.plan) (length p.limits)) (omega arith) (e ∙ plan_text_in p rest) in
       (h.1, h.2)
 
-  pub none_plan : length bytes < 2 ^ 64 → ((d : Day) (x y : ℕ) → x < 2 ^ 64 → y < 2 ^ 64 → seen ≢ plan_words d x y) →
+  pub none_plan : length left < 2 ^ 64 → ((d : Day) (x y : ℕ) → x < 2 ^ 64 → y < 2 ^ 64 → seen ≢ plan_words d x y) →
       (a b n : ℕ) (ps : List SavedPlan) → length ps < n → (i : Item) (rest : Text) → Fits (planning a b n ps) i →
       bytes ≡ item_text i ++ rest → ⊥
   none_plan small none a b n ps more (plan p) rest fits e =
-      let fit = texts_fit bytes (line_of (plan_words p.day (length p.plan) (length p.limits))) p.plan p.limits rest
-      (e ∙ plan_text_in p rest) in
-      none p.day (length p.plan) (length p.limits) (omega (arith, small, fit.0)) (omega (arith, small, fit.1))
-      (plan_is p rest e).0
+      let is = plan_is p rest e in
+      let fit = texts_fit left p.plan p.limits rest is.1 in
+      none p.day (length p.plan) (length p.limits) (omega (arith, small, fit.0)) (omega (arith, small, fit.1)) is.0
   none_plan small none a b n ps more (run_count m) rest fits e = omega (arith, fits.0, more)
   none_plan small none a b n ps more i rest fits e = fits
 

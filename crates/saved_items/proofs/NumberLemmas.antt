@@ -15,7 +15,7 @@ use Rattle.std.proofs.lemmas.Str.{IsUtf8-from_ascii}
 use Rattle.std.proofs.lemmas.Str.Parse.{IsNumeralModel, numerals_by_value, tells_digits, parse_plain}
 use Rattle.std.proofs.Math.Nat.{div-one}
 use Rattle.scaled_decimal.specs.NumberTexts.{sign_text, Spells}
-use Rattle.scaled_decimal.specs.Decimals.{Decimal, decimal, numerator_of}
+use Rattle.scaled_decimal.specs.Decimals.{decimal, numerator_of}
 use Rattle.scaled_decimal.specs.PlainTexts.{digit_byte, plain_text, whole_text}
 use Rattle.scaled_decimal.proofs.Laws.{number_once, plain_text_spells, whole_some}
 use Rattle.saved_items.specs.NumberViews.{BeginsNumber}

@@ -6,12 +6,14 @@ use Rattle.payroll_records.specs.declared.record.Record.{Record}
 use Rattle.saved_items.specs.Fronts as front
 use Rattle.saved_items.specs.ItemDecisions as items
 use Rattle.saved_items.specs.ItemDecisions.{item_text}
+use Rattle.saved_items.specs.LineViews.{ReadsLine}
 use Rattle.saved_items.specs.SavedBooks.{Saved, SavedPlan, end_text}
 use Rattle.saved_items.specs.Views.{plan_in, saved_in}
 use Rattle.saved_items.specs.declared.items.PlanItem.{PlanItem}
 use Rattle.saved_items.specs.declared.item_words.PlanLine.{PlanLine}
 use Rattle.saved_items.specs.declared.item.Item.{Item}
 use Rattle.saved_items.specs.declared.item.Item.TheVariants as code
+use Rattle.saved_items.specs.declared.lines.Line.{Line}
 use Rattle.saved_items.specs.declared.front.Front.{Front}
 use Rattle.saved_items.specs.declared.front.Stage.{Stage}
 use Rattle.saved_items.specs.declared.front.Stage.TheVariants as stage
@@ -29,6 +31,10 @@ abbrev pub Reads : (items.Item → Type 0) → Text → Option (Item × Bor Text
 Reads IsOfForm bytes next = MatchOption next
     ((i : items.Item) (rest : Text) → IsOfForm i → bytes ≡ item_text i ++ rest → ⊥)
     (λ n. IsOfForm (item_in n.0) × (bytes ≡ item_text (item_in n.0) ++ n.1.now))
+
+-- the same of all bytes that this line begins
+abbrev pub ReadsBehind : (items.Item → Type 0) → Line → Option (Item × Bor Text) → Type 0
+ReadsBehind IsOfForm line next = (bytes : Text) → ReadsLine bytes line → Reads IsOfForm bytes next
 
 -- the items so far, by what comes next
 abbrev pub front_at : Stage → Saved → front.Front

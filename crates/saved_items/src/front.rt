@@ -11,8 +11,11 @@ use std::alloc::{AllocError, Global};
 /// Which item comes next.
 #[derive(Clone, Copy)]
 pub(crate) enum Stage {
+    /// The title.
     Title,
+    /// The last work.
     Work,
+    /// The line before the plans.
     PlanCount,
     /// A plan, of so many, or behind the last one the line before the runs.
     Plans { count: u64 },
@@ -23,7 +26,9 @@ pub(crate) enum Stage {
 /// The first items of a saved book.
 #[derive(Drop)]
 pub(crate) struct Front<'a> {
+    /// Which item comes next.
     pub(crate) stage: Stage,
+    /// What the items say.
     pub(crate) items: Items<'a>,
 }
 

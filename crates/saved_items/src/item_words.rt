@@ -1,5 +1,5 @@
 //! The words of items but for runs.
-ghost use Rattle.std.specs.Prelude.{◌≡◌, ◌≢◌, ◌^◌, ◌<◌, ℕ, [], ◌∷◌, MatchBool, MatchOption};
+ghost use Rattle.std.specs.Prelude.{◌≡◌, ◌≢◌, ◌^◌, ◌<◌, ◌≤◌, ℕ, [], ◌∷◌, MatchBool, MatchOption};
 ghost use Rattle.scaled_decimal.specs.PlainTexts.{whole_text};
 ghost use Rattle.payroll_records.specs.declared.day.Day.{Day as Date};
 ghost use Rattle.saved_items.specs.LineViews.{texts};
@@ -37,22 +37,27 @@ pub(crate) fn read_work(words: &[&[u8]]) -> Option<(u64, u64)>
     Some((runs, steps))
 }
 
-/// The number behind a first word.
-pub(crate) fn read_count(first: &[u8], words: &[&[u8]]) -> Option<u64>
+/// The number behind a first word, if it is at most `most`.
+pub(crate) fn read_count(first: &[u8], most: u64, words: &[&[u8]]) -> Option<u64>
     ensures { MatchOption result
-        ((n : ℕ) → n < 2 ^ 64 → texts words.now ≢ first.now ∷ whole_text n ∷ [])
-        (λ n. texts words.now ≡ first.now ∷ whole_text n ∷ []) }
+        ((n : ℕ) → n ≤ most → texts words.now ≢ first.now ∷ whole_text n ∷ [])
+        (λ n. (n ≤ most) × (texts words.now ≡ first.now ∷ whole_text n ∷ [])) }
 {
     let rest = behind(first, words)?;
     let [count] = rest else {
         return None;
     };
-    read_number(count)
+    let count = read_number(count)?;
+    if count > most {
+        return None;
+    }
+    Some(count)
 }
 
 /// What a plan's line says.
 #[derive(Clone, Copy)]
 pub(crate) struct PlanLine {
+    /// The day from which the plan holds.
     pub(crate) day: Day,
     /// How many bytes the plan's text has.
     pub(crate) plan: u64,

@@ -6,6 +6,7 @@ use thiserror::Error;
 /// A plan that holds from a day on.
 #[derive(Clone, Copy, Debug)]
 pub struct PlanItem<'a> {
+    /// The day from which it holds.
     pub day: Day,
     /// The text of the plan.
     pub plan: &'a [u8],
@@ -33,10 +34,12 @@ pub enum ItemFault<'a> {
     /// line before the runs, each run, and the last line with nothing after it.
     #[error("item {item} is not of its form")]
     Form {
+        /// The number of the item, from 1 to 50069.
         item: u32,
         /// The plans of the items before it.
         plans: Vec<PlanItem<'a>>,
     },
+    /// There was no memory for the items.
     #[error("out of memory")]
     Memory(AllocError),
 }

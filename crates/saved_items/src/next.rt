@@ -5,14 +5,16 @@ ghost use Rattle.payroll_records.specs.Orders.{day_cmp, key_cmp};
 ghost use Rattle.payroll_records.specs.Tables.{key_of};
 ghost use Rattle.saved_items.specs.Fronts.{IsFront, nothing, titled, worked, planning, running};
 ghost use Rattle.saved_items.specs.ItemDecisions.{Fits, IsBeyond, IsLater};
-ghost use Rattle.saved_items.specs.ItemViews.{HasNoTexts, HasTexts, Reads, front_in, plans_of};
+ghost use Rattle.saved_items.specs.ItemViews.{HasNoTexts, HasTexts, Reads, ReadsBehind, front_in};
+ghost use Rattle.saved_items.specs.ItemViews.{plans_of};
+ghost use Rattle.saved_items.specs.LineViews.{AreWordsOf};
 ghost use Rattle.saved_items.specs.SavedBooks.{SavedPlan, day_of};
 
 use crate::PlanItem;
 use crate::front::{Front, Stage};
 use crate::item::Item;
 use crate::item_words::{PlanLine, is_title, read_count, read_plan_line, read_work};
-use crate::lines::first_line;
+use crate::lines::{Line, first_line};
 use crate::run_words::read_run;
 use payroll_records::{Day, Record};
 use std::alloc::{AllocError, Global};
@@ -33,109 +35,70 @@ pub(crate) fn next_item<'a>(
     requires { IsFront (front_in front.now) }
     ensures { IfOk result (Reads (Fits (front_in front.now)) rest.now) }
 {
+    let Some(line) = first_line(alloc, rest)? else {
+        return Ok(None);
+    };
     let plans = front.items.plans.as_slice();
     let records = front.items.records.as_slice();
     match front.stage {
-        Stage::Title => next_title(alloc, rest),
-        Stage::Work => next_work(alloc, rest),
-        Stage::PlanCount => next_plan_count(alloc, rest),
-        Stage::Plans { count } if (plans.len() as u64) < count => next_plan(alloc, plans, rest),
-        Stage::Plans { .. } => next_run_count(alloc, rest),
-        Stage::Runs { count } if (records.len() as u64) < count => next_run(alloc, records, rest),
+        Stage::Title => Ok(next_title(&line)),
+        Stage::Work => Ok(next_work(&line)),
+        Stage::PlanCount => Ok(next_plan_count(&line)),
+        Stage::Plans { count } if (plans.len() as u64) < count => Ok(next_plan(plans, &line)),
+        Stage::Plans { .. } => Ok(next_run_count(&line)),
+        Stage::Runs { count } if (records.len() as u64) < count => next_run(alloc, records, &line),
         Stage::Runs { .. } => Ok(None),
     }
 }
 
 /// The title, which stands first.
-fn next_title<'a>(alloc: Global, rest: &'a [u8]) -> Result<Option<(Item<'a>, &'a [u8])>, AllocError>
-    ensures { IfOk result (Reads (Fits nothing) rest.now) }
+fn next_title<'a>(line: &Line<'a>) -> Option<(Item<'a>, &'a [u8])>
+    ensures { ReadsBehind (Fits nothing) line.now result }
 {
-    let Some(line) = first_line(alloc, rest)? else {
-        return Ok(None);
-    };
     if !is_title(line.words.as_slice()) {
-        return Ok(None);
+        return None;
     }
-    Ok(Some((Item::Title, line.rest)))
+    Some((Item::Title, line.rest))
 }
 
 /// The last work, behind the title.
-fn next_work<'a>(alloc: Global, rest: &'a [u8]) -> Result<Option<(Item<'a>, &'a [u8])>, AllocError>
-    ensures { IfOk result (Reads (Fits titled) rest.now) }
+fn next_work<'a>(line: &Line<'a>) -> Option<(Item<'a>, &'a [u8])>
+    ensures { ReadsBehind (Fits titled) line.now result }
 {
-    let Some(line) = first_line(alloc, rest)? else {
-        return Ok(None);
-    };
-    let Some(work) = read_work(line.words.as_slice()) else {
-        return Ok(None);
-    };
-    let (runs, steps) = work;
-    Ok(Some((Item::Work { runs, steps }, line.rest)))
+    let (runs, steps) = read_work(line.words.as_slice())?;
+    Some((Item::Work { runs, steps }, line.rest))
 }
 
 /// The line before the plans, behind the last work.
-fn next_plan_count<'a>(
-    alloc: Global,
-    rest: &'a [u8],
-) -> Result<Option<(Item<'a>, &'a [u8])>, AllocError>
-    ensures { (runs steps : ℕ) → IfOk result (Reads (Fits (worked runs steps)) rest.now) }
+fn next_plan_count<'a>(line: &Line<'a>) -> Option<(Item<'a>, &'a [u8])>
+    ensures { (runs steps : ℕ) → ReadsBehind (Fits (worked runs steps)) line.now result }
 {
-    let Some(line) = first_line(alloc, rest)? else {
-        return Ok(None);
-    };
-    let Some(count) = read_count(b"plans", line.words.as_slice()) else {
-        return Ok(None);
-    };
-    if count > MOST_PLANS {
-        return Ok(None);
-    }
-    Ok(Some((Item::PlanCount(count), line.rest)))
+    let count = read_count(b"plans", MOST_PLANS, line.words.as_slice())?;
+    Some((Item::PlanCount(count), line.rest))
 }
 
 /// The line before the runs, behind the last plan.
-fn next_run_count<'a>(
-    alloc: Global,
-    rest: &'a [u8],
-) -> Result<Option<(Item<'a>, &'a [u8])>, AllocError>
+fn next_run_count<'a>(line: &Line<'a>) -> Option<(Item<'a>, &'a [u8])>
     ensures { (runs steps : ℕ) (plans : List SavedPlan) →
-        IfOk result (Reads (Fits (planning runs steps (length plans) plans)) rest.now) }
+        ReadsBehind (Fits (planning runs steps (length plans) plans)) line.now result }
 {
-    let Some(line) = first_line(alloc, rest)? else {
-        return Ok(None);
-    };
-    let Some(count) = read_count(b"runs", line.words.as_slice()) else {
-        return Ok(None);
-    };
-    if count > MOST_RUNS {
-        return Ok(None);
-    }
-    Ok(Some((Item::RunCount(count), line.rest)))
+    let count = read_count(b"runs", MOST_RUNS, line.words.as_slice())?;
+    Some((Item::RunCount(count), line.rest))
 }
 
 /// A plan behind others, where there are to be more.
-fn next_plan<'a>(
-    alloc: Global,
-    plans: &[PlanItem<'a>],
-    rest: &'a [u8],
-) -> Result<Option<(Item<'a>, &'a [u8])>, AllocError>
+fn next_plan<'a>(plans: &[PlanItem<'a>], line: &Line<'a>) -> Option<(Item<'a>, &'a [u8])>
     requires { IsRising day_cmp day_of (plans_of plans.now) }
     ensures { (runs steps count : ℕ) → length plans.now < count →
-        IfOk result (Reads (Fits (planning runs steps count (plans_of plans.now))) rest.now) }
+        ReadsBehind (Fits (planning runs steps count (plans_of plans.now))) line.now result }
 {
-    text_law(rest);
-    let Some(line) = first_line(alloc, rest)? else {
-        return Ok(None);
-    };
-    let Some(front) = read_plan_line(line.words.as_slice()) else {
-        return Ok(None);
-    };
-    let Some((plan, left)) = plan_texts(front, line.rest) else {
-        return Ok(None);
-    };
+    text_law(line.rest);
+    let front = read_plan_line(line.words.as_slice())?;
+    let (plan, left) = plan_texts(front, line.rest)?;
     if !is_later(plans, front.day) {
-        return Ok(None);
+        return None;
     }
-    Ok(Some((Item::Plan(plan), left)))
+    Some((Item::Plan(plan), left))
 }
 
 /// A law, with nothing to run: 64 bits count the bytes of a text.
@@ -189,25 +152,25 @@ fn front_of(bytes: &[u8], count: u64) -> Option<(&[u8], &[u8])>
     Some(bytes.split_at(count as usize))
 }
 
-/// A run behind others, where there are to be more.
+/// A run behind others, where there are to be more. Its names take no memory of their own where they are those of the run
+/// before it.
 fn next_run<'a>(
     alloc: Global,
     records: &[Record],
-    rest: &'a [u8],
+    line: &Line<'a>,
 ) -> Result<Option<(Item<'a>, &'a [u8])>, AllocError>
-    requires { IsRising key_cmp key_of records.now }
+    requires rising { IsRising key_cmp key_of records.now }
+    requires words { AreWordsOf line.now.text.now line.now.words.items }
     ensures { (runs steps count : ℕ) (plans : List SavedPlan) → length records.now < count →
-        IfOk result (Reads (Fits (running runs steps plans count records.now)) rest.now) }
+        IfOk result (ReadsBehind (Fits (running runs steps plans count records.now)) line.now) }
 {
-    let Some(line) = first_line(alloc, rest)? else {
-        return Ok(None);
-    };
     let Some(run) = read_run(alloc, line.text, line.words.as_slice())? else {
         return Ok(None);
     };
     if !is_beyond(records, &run) {
         return Ok(None);
     }
+    let run = run.sharing_names(records.last())?;
     Ok(Some((Item::Run(run), line.rest)))
 }
 

@@ -1,8 +1,7 @@
 //! Writing a saved book, part by part, behind what stands in a list of bytes.
-ghost use Rattle.std.specs.Prelude.{◌≡◌, ◌++◌, ◌<◌, [], ◌∷◌, OnOk, codes};
+ghost use Rattle.std.specs.Prelude.{◌≡◌, ◌++◌, [], ◌∷◌, OnOk, codes};
 ghost use Rattle.std.specs.List.{join_with_byte};
 ghost use Rattle.scaled_decimal.specs.PlainTexts.{plain_text, whole_text};
-ghost use Rattle.payroll_records.specs.Days.{two_digits};
 ghost use Rattle.saved_items.specs.SavedBooks.{day_word, end_text, head_text, line_of, plan_text};
 ghost use Rattle.saved_items.specs.SavedBooks.{run_count_text, run_text, run_words, saved_plan};
 ghost use Rattle.saved_items.specs.SavedBooks.{plan_words, values_text, work_text};
@@ -11,6 +10,7 @@ use pap_tree::Name;
 use payroll_records::{Day, Record, Values};
 use scaled_decimal::{Dec, write_dec};
 use std::alloc::AllocError;
+use std::io::Write;
 
 /// The lines before the plans: the title, the last work, and how many plans there are.
 pub fn push_head(out: &mut Vec<u8>, runs: u64, steps: u64, plans: u64) -> Result<(), AllocError>
@@ -122,20 +122,10 @@ fn push_value(out: &mut Vec<u8>, name: &Name, number: Dec) -> Result<(), AllocEr
 fn push_day(out: &mut Vec<u8>, day: Day) -> Result<(), AllocError>
     ensures { OnOk result (out.new.items ≡ out.old.items ++ day_word day) }
 {
-    push_two_digits(out, (day.year / 100) as u8)?;
-    push_two_digits(out, (day.year % 100) as u8)?;
-    push(out, b"-")?;
-    push_two_digits(out, day.month)?;
-    push(out, b"-")?;
-    push_two_digits(out, day.day)
-}
-
-/// The two digits of a number below 100.
-fn push_two_digits(out: &mut Vec<u8>, number: u8) -> Result<(), AllocError>
-    requires { number < 100 }
-    ensures { OnOk result (out.new.items ≡ out.old.items ++ two_digits number) }
-{
-    push(out, &[b'0' + number / 10, b'0' + number % 10])
+    match write!(out, "{day}") {
+        Ok(()) => Ok(()),
+        Err(_) => Err(AllocError),
+    }
 }
 
 /// A whole number in digits.

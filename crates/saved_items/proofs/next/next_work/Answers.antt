@@ -4,20 +4,17 @@ use Rattle.saved_items.specs.SavedBooks.{work_words}
 use Rattle.saved_items.proofs.NextLemmas.{none_titled, line_is}
 use Rattle.saved_items.proofs.next.next_work.Goals as goal
 
-pub returns-in_default-read_work : goal.returns-in_default-read_work
-returns-in_default-read_work c =
-    let line = rw c.in-Some.is at c.in_ok-line.ensures in
-    let split : AreWordsOf c.in-Some.line.text.now c.as_slice.result.now = rw c.as_slice.ensures.value line.words in
-    none_titled c.args.rest.now c.in-Some.line.text.now c.in-Some.line.rest.now
-    (texts c.as_slice.result.now) line.is split (rw c.in_default-read_work.is at c.read_work.ensures)
+pub returns-in_err-runs : goal.returns-in_err-runs
+returns-in_err-runs c = rw c.from_residual.ensures (λ bytes h.
+    let line = c.args.line.now in
+    let split : AreWordsOf line.text.now c.as_slice.result.now = rw c.as_slice.ensures.value h.words in
+    none_titled bytes line.text.now line.rest.now (texts c.as_slice.result.now) h.is split c.in_err-runs.ensures)
 
 pub returns : goal.returns
-returns c =
-    let line = rw c.in-Some.is at c.in_ok-line.ensures in
-    let split : AreWordsOf c.in-Some.line.text.now c.as_slice.result.now = rw c.as_slice.ensures.value line.words in
-    let read = rw c.in-Some-read_work.is at c.read_work.ensures in (
-      read.0,
-      line_is c.args.rest.now c.in-Some.line.text.now c.in-Some.line.rest.now
-          (texts c.as_slice.result.now) line.is split (work_words c.in-Some-read_work.work.0 c.in-Some-read_work.work.1)
-          (omega arith) read.1,
+returns c = λ bytes h.
+    let line = c.args.line.now in
+    let split : AreWordsOf line.text.now c.as_slice.result.now = rw c.as_slice.ensures.value h.words in (
+      c.in_ok-runs.ensures.0,
+      line_is bytes line.text.now line.rest.now (texts c.as_slice.result.now) h.is split
+          (work_words c.in_ok-runs.runs c.in_ok-runs.steps) (omega arith) c.in_ok-runs.ensures.1,
     )
