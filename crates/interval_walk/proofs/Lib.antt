@@ -19,4 +19,5 @@ pub mod FilledWalk
 pub mod ReadWalk
 pub mod ReadSound
 pub mod AdmissionLemmas
+pub mod AskedWalk
 pub mod Laws

@@ -1,5 +1,6 @@
 pub mod Admission
 pub mod Analysis
+pub mod Asked
 pub mod Branches
 pub mod Failures
 pub mod NodeRanges
