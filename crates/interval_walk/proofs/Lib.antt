@@ -20,4 +20,5 @@ pub mod ReadWalk
 pub mod ReadSound
 pub mod AdmissionLemmas
 pub mod AskedWalk
+pub mod RefusedWalk
 pub mod Laws

@@ -7,6 +7,7 @@ pub mod NodeRanges
 pub mod Ranged
 pub mod Ranges
 pub mod Reading
+pub mod Refusals
 pub mod Shapes
 pub mod Soundness
 pub mod WalkReading

@@ -2,6 +2,7 @@
 
 ghost use Rattle.interval_walk.specs.Asked.{NothingIsRefusedOutright};
 ghost use Rattle.interval_walk.specs.Reading.{NothingIsRefusedAtReading};
+ghost use Rattle.interval_walk.specs.Refusals.{RefusalsAreRows};
 ghost use Rattle.interval_walk.specs.Soundness.{AnalysisIsSound, RangesHaveShape, SomeBranchIsReached, NoRangeGetsEmpty};
 ghost use Rattle.interval_walk.specs.WalkReading.{WalksReadAll};
 
@@ -44,4 +45,10 @@ pub fn walks_read_all()
 /// there and within the chains that are walked, and where branches meet they have the same variables.
 pub fn nothing_is_refused_outright()
     ensures { NothingIsRefusedOutright }
+{}
+
+/// Where moreover its literals are numbers of their types and its inputs have limits, each refusal of the walk is that of a row, at
+/// the place and for the cause that it names, in the ranges with which the walk comes there; or an output is beyond its bound.
+pub fn refusals_are_rows()
+    ensures { RefusalsAreRows }
 {}
