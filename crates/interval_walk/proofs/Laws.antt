@@ -21,6 +21,10 @@ pub use Rattle.interval_walk.proofs.ShapedWalk.{tested_shaped, walked_shaped}
 -- no range gets empty; so nothing is refused where it is read, at whatever place, and behind each test the walk goes on
 pub use Rattle.interval_walk.proofs.FilledWalk.{filled_after, none_empty}
 pub use Rattle.interval_walk.proofs.ReadWalk.{reads_all}
+-- in a plan that is in order nothing is refused outright
+pub use Rattle.interval_walk.proofs.AskedWalk.{refused_outright}
+-- so each refusal of the walk is that of a row, or an output is beyond its bound
+pub use Rattle.interval_walk.proofs.RefusedWalk.{refusals_rows}
 -- ---- values
 -- where the walk passes, every admitted input is safe
 pub use Rattle.interval_walk.proofs.PlanSound.{analysis_sound}

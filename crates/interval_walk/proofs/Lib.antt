@@ -19,4 +19,6 @@ pub mod FilledWalk
 pub mod ReadWalk
 pub mod ReadSound
 pub mod AdmissionLemmas
+pub mod AskedWalk
+pub mod RefusedWalk
 pub mod Laws

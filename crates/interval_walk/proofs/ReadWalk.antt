@@ -33,11 +33,11 @@ if_some R (Some a) h = h a refl
 
 module _ (f : Flowchart) (typed : IsWellTyped f) (counts : IsWithinCounts f) (numbers : HoldsPlan f) where
   -- the ranges with which a walk comes anywhere
-  record Stands (rs : Ranges) : Type 0 where
-    shaped : AreShaped (scope_of f) rs
-    filled : AreFilled (scope_of f) rs
+  pub record Stands (rs : Ranges) : Type 0 where
+    pub shaped : AreShaped (scope_of f) rs
+    pub filled : AreFilled (scope_of f) rs
 
-  goes_on : (t : Term) (rs : Ranges) → IsTypedTerm (scope_of f) t → KeepsScales t → Stands rs → (Holds Fails : Ranges → Type 0) → ((s : Ranges) → Stands s → Holds s) → ((s : Ranges) → Stands s → Fails s) → GoesOnBehind (scope_of f) t rs Holds Fails
+  pub goes_on : (t : Term) (rs : Ranges) → IsTypedTerm (scope_of f) t → KeepsScales t → Stands rs → (Holds Fails : Ranges → Type 0) → ((s : Ranges) → Stands s → Holds s) → ((s : Ranges) → Stands s → Fails s) → GoesOnBehind (scope_of f) t rs Holds Fails
   goes_on t rs it keeps h Holds Fails p q at br e =
       let scope = scope_of f in
       let shaped = (reading_free f typed counts numbers.declared).test t at rs br h.shaped e in
@@ -48,7 +48,7 @@ module _ (f : Flowchart) (typed : IsWellTyped f) (counts : IsWithinCounts f) (nu
         fails = if_both (AreShaped scope) (AreFilled scope) Fails br.fails shaped.fails filled.fails (λ s a b. q s (record { shaped = a; filled = b }));
       }
 
-  reads_term : (t : Term) (rs : Ranges) → IsTypedTerm (scope_of f) t → KeepsScales t → HoldsTerm t → Stands rs → ReadsTerm (scope_of f) t rs
+  pub reads_term : (t : Term) (rs : Ranges) → IsTypedTerm (scope_of f) t → KeepsScales t → HoldsTerm t → Stands rs → ReadsTerm (scope_of f) t rs
   reads_term (leaf l) rs it keeps held h = (reading_free f typed counts numbers.declared).leaf l rs it held h.shaped
   reads_term (item x e) rs it keeps held h =
       (reads_term e rs it.0 keeps held h, λ index r g. (reading_free f typed counts numbers.declared).item x index r g)

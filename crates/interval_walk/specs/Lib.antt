@@ -1,11 +1,13 @@
 pub mod Admission
 pub mod Analysis
+pub mod Asked
 pub mod Branches
 pub mod Failures
 pub mod NodeRanges
 pub mod Ranged
 pub mod Ranges
 pub mod Reading
+pub mod Refusals
 pub mod Shapes
 pub mod Soundness
 pub mod WalkReading

@@ -1,6 +1,8 @@
 //! The laws of the walk. The functions do nothing; their contracts are the laws.
 
+ghost use Rattle.interval_walk.specs.Asked.{NothingIsRefusedOutright};
 ghost use Rattle.interval_walk.specs.Reading.{NothingIsRefusedAtReading};
+ghost use Rattle.interval_walk.specs.Refusals.{RefusalsAreRows};
 ghost use Rattle.interval_walk.specs.Soundness.{AnalysisIsSound, RangesHaveShape, SomeBranchIsReached, NoRangeGetsEmpty};
 ghost use Rattle.interval_walk.specs.WalkReading.{WalksReadAll};
 
@@ -36,4 +38,17 @@ pub fn no_range_gets_empty()
 /// where it is read, at whatever place it comes, and behind each test that it passes it goes on.
 pub fn walks_read_all()
     ensures { WalksReadAll }
+{}
+
+/// In the walk of a well-typed plan none of whose methods begins a chain of more than 64 nothing is refused outright, whatever
+/// the ranges: each operation and each comparison takes some ranges of its operands, what chooses is a test, each method is
+/// there and within the chains that are walked, and where branches meet they have the same variables.
+pub fn nothing_is_refused_outright()
+    ensures { NothingIsRefusedOutright }
+{}
+
+/// Where moreover its literals are numbers of their types and its inputs have limits, each refusal of the walk is that of a row, at
+/// the place and for the cause that it names, in the ranges with which the walk comes there; or an output is beyond its bound.
+pub fn refusals_are_rows()
+    ensures { RefusalsAreRows }
 {}

@@ -18,9 +18,9 @@ use Rattle.interval_walk.specs.Analysis.{input_range, first_range, start_ranges,
 use Rattle.interval_walk.specs.Failures.{output_fails}
 use Rattle.interval_walk.specs.Ranges.{NamedRange, Ranges, names_in}
 use Rattle.interval_walk.specs.Walked.{walked}
-use Rattle.interval_walk.proofs.Laws.{analysis_sound, reads_all, stepped, walked_named, calls_named}
+use Rattle.interval_walk.proofs.Laws.{analysis_sound, reads_all, refused_outright, stepped, walked_named, calls_named}
 use Rattle.pap_plan.specs.Acceptance.{Meaning, IsAccepted}
-use Rattle.pap_plan.specs.AcceptanceLaws.{AcceptedPlansNeverFail, BoundsAreSmall, RangesAreNamed, JudgedPlansAreRead}
+use Rattle.pap_plan.specs.AcceptanceLaws.{AcceptedPlansNeverFail, BoundsAreSmall, RangesAreNamed, JudgedPlansAreRead, OrderedPlansCanBeWalked}
 use Rattle.pap_plan.proofs.CountLemmas.{counted}
 use Rattle.pap_plan.proofs.HeldLemmas.{plan_held}
 use Rattle.pap_plan.proofs.MeaningLemmas.{judged_limits, accepted_limits}
@@ -52,6 +52,10 @@ pub judged_read : JudgedPlansAreRead
 judged_read plan limits f l h =
     let typed = h.suited.named.file.ordered.typed in
     reads_all f l typed.typed (counted plan f typed.text) (plan_held plan f typed.text) (judged_limits plan limits f l h)
+
+-- nor anything outright
+pub ordered_walked : OrderedPlansCanBeWalked
+ordered_walked plan f h = refused_outright f h.typed.typed h.ordered.1.chains
 
 -- ---- the names of the ranges
 

@@ -7,11 +7,12 @@ use Rattle.pap_types.specs.Scopes.{names_of}
 use Rattle.pap_types.specs.Limits.{most_steps}
 use Rattle.pap_types.specs.Meaning.{IsSafeFor, outputs_of, cost_of, bound_of}
 use Rattle.interval_walk.specs.Admission.{AreAdmitted}
+use Rattle.interval_walk.specs.Asked.{RefusesNothingOutright}
 use Rattle.interval_walk.specs.Ranges.{names_in}
 use Rattle.interval_walk.specs.Soundness.{AreOutputs}
 use Rattle.interval_walk.specs.WalkReading.{ReadsPlan}
 use Rattle.pap_plan.specs.declared.refusal.PlanRefusal.{PlanRefusal}
-use Rattle.pap_plan.specs.Acceptance.{Meaning, HasBindings, IsAccepted, Answers}
+use Rattle.pap_plan.specs.Acceptance.{Meaning, IsOrderedPlan, HasBindings, IsAccepted, Answers}
 
 -- every two texts have an answer
 abbrev pub HaveAnAnswer : Type 0
@@ -56,3 +57,9 @@ RangesAreNamed =
 abbrev pub JudgedPlansAreRead : Type 0
 JudgedPlansAreRead =
     (plan limits : List ℕ) (f : Flowchart) (l : Limits) → HasBindings plan limits f l → ReadsPlan f l
+
+-- Where the names and kinds of a plan are right and its methods can be ordered, as of each whose ranges are judged, its walk
+-- refuses nothing outright, whatever the ranges are.
+abbrev pub OrderedPlansCanBeWalked : Type 0
+OrderedPlansCanBeWalked =
+    (plan : List ℕ) (f : Flowchart) → IsOrderedPlan plan f → RefusesNothingOutright f
