@@ -18,9 +18,9 @@ use Rattle.interval_walk.specs.Analysis.{input_range, first_range, start_ranges,
 use Rattle.interval_walk.specs.Failures.{output_fails}
 use Rattle.interval_walk.specs.Ranges.{NamedRange, Ranges, names_in}
 use Rattle.interval_walk.specs.Walked.{walked}
-use Rattle.interval_walk.proofs.Laws.{analysis_sound, reads_all, refused_outright, stepped, walked_named, calls_named}
+use Rattle.interval_walk.proofs.Laws.{analysis_sound, reads_all, refused_outright, refusals_rows, stepped, walked_named, calls_named}
 use Rattle.pap_plan.specs.Acceptance.{Meaning, IsAccepted}
-use Rattle.pap_plan.specs.AcceptanceLaws.{AcceptedPlansNeverFail, BoundsAreSmall, RangesAreNamed, JudgedPlansAreRead, OrderedPlansCanBeWalked}
+use Rattle.pap_plan.specs.AcceptanceLaws.{AcceptedPlansNeverFail, BoundsAreSmall, RangesAreNamed, JudgedPlansAreRead, JudgedPlansAreRefusedByRows, OrderedPlansCanBeWalked}
 use Rattle.pap_plan.proofs.CountLemmas.{counted}
 use Rattle.pap_plan.proofs.HeldLemmas.{plan_held}
 use Rattle.pap_plan.proofs.MeaningLemmas.{judged_limits, accepted_limits}
@@ -56,6 +56,14 @@ judged_read plan limits f l h =
 -- nor anything outright
 pub ordered_walked : OrderedPlansCanBeWalked
 ordered_walked plan f h = refused_outright f h.typed.typed h.ordered.1.chains
+
+-- what is refused is refused by a row, or an output is beyond its bound
+pub judged_rows : JudgedPlansAreRefusedByRows
+judged_rows plan limits f l x h e =
+    let ordered = h.suited.named.file.ordered in
+    let text = ordered.typed.text in
+    let have = judged_limits plan limits f l h in
+    refusals_rows f l x ordered.typed.typed (counted plan f text) (plan_held plan f text) ordered.ordered.1.chains have e
 
 -- ---- the names of the ranges
 

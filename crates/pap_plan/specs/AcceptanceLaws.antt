@@ -1,5 +1,5 @@
 -- What holds of acceptance.
-use Rattle.std.specs.Prelude.{◌≡◌, ℕ, ◌≤◌, List, Some, Result}
+use Rattle.std.specs.Prelude.{◌≡◌, ℕ, ◌≤◌, List, Some, Result, Err}
 use Rattle.scaled_decimal.specs.Decimals.{Decimal}
 use Rattle.pap_tree.specs.Flowchart.{Flowchart}
 use Rattle.limits_file.specs.declared.limits.Limits.{Limits}
@@ -7,8 +7,11 @@ use Rattle.pap_types.specs.Scopes.{names_of}
 use Rattle.pap_types.specs.Limits.{most_steps}
 use Rattle.pap_types.specs.Meaning.{IsSafeFor, outputs_of, cost_of, bound_of}
 use Rattle.interval_walk.specs.Admission.{AreAdmitted}
+use Rattle.interval_walk.specs.Analysis.{analysed}
 use Rattle.interval_walk.specs.Asked.{RefusesNothingOutright}
+use Rattle.interval_walk.specs.Failures.{WalkFault}
 use Rattle.interval_walk.specs.Ranges.{names_in}
+use Rattle.interval_walk.specs.Refusals.{PlanRefuses}
 use Rattle.interval_walk.specs.Soundness.{AreOutputs}
 use Rattle.interval_walk.specs.WalkReading.{ReadsPlan}
 use Rattle.pap_plan.specs.declared.refusal.PlanRefusal.{PlanRefusal}
@@ -63,3 +66,10 @@ JudgedPlansAreRead =
 abbrev pub OrderedPlansCanBeWalked : Type 0
 OrderedPlansCanBeWalked =
     (plan : List ℕ) (f : Flowchart) → IsOrderedPlan plan f → RefusesNothingOutright f
+
+-- Where the ranges of a plan are judged, each refusal is that of a row, at the place and for the cause that it names; or an
+-- output is beyond its bound.
+abbrev pub JudgedPlansAreRefusedByRows : Type 0
+JudgedPlansAreRefusedByRows =
+    (plan limits : List ℕ) (f : Flowchart) (l : Limits) (x : WalkFault)
+    → HasBindings plan limits f l → analysed f l ≡ Err x → PlanRefuses f l x

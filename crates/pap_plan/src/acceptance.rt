@@ -10,7 +10,7 @@ ghost use Rattle.std.specs.List.{All};
 ghost use Rattle.limits_file.specs.Limits.{HasSoundBounds};
 ghost use Rattle.pap_plan.specs.AcceptanceClauses.{IsAcceptedAs, IsUnread, IsUntyped, AreMatched, IsUnmatched};
 ghost use Rattle.pap_plan.specs.JudgedViews.{IsJudged, IsMisjudged, HasVerdict, HasNoVerdict};
-ghost use Rattle.pap_plan.specs.AcceptanceLaws.{HaveAnAnswer, HaveOneAnswer, AcceptedPlansNeverFail, BoundsAreSmall, JudgedPlansAreRead, OrderedPlansCanBeWalked, RangesAreNamed};
+ghost use Rattle.pap_plan.specs.AcceptanceLaws.{HaveAnAnswer, HaveOneAnswer, AcceptedPlansNeverFail, BoundsAreSmall, JudgedPlansAreRead, JudgedPlansAreRefusedByRows, OrderedPlansCanBeWalked, RangesAreNamed};
 
 use crate::PlanRefusal;
 use crate::bindings::{first_unsuited, unbound_input, unmatched_name};
@@ -147,7 +147,7 @@ fn match_limits(plan: &PlanText, ranges: &Limits) -> Result<(), PlanRefusal>
 /// Every two texts are accepted, with one meaning, or refused for one reason, and never both. What is accepted never fails in
 /// the middle of a run, whatever admitted inputs it gets: each run ends within the bound, which is at most 1,000,000,000 steps,
 /// and its outputs lie in the ranges that stand under their names. The walk that judges a plan's ranges refuses nothing where
-/// it is read, and nothing outright, whatever the ranges are.
+/// it is read, and nothing outright, whatever the ranges are: each refusal is that of a row, or an output is beyond its bound.
 pub fn acceptance_laws()
     ensures some { HaveAnAnswer }
     ensures one { HaveOneAnswer }
@@ -156,4 +156,5 @@ pub fn acceptance_laws()
     ensures ranges { RangesAreNamed }
     ensures read { JudgedPlansAreRead }
     ensures walk { OrderedPlansCanBeWalked }
+    ensures rows { JudgedPlansAreRefusedByRows }
 {}

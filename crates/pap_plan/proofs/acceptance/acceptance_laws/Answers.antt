@@ -1,5 +1,5 @@
 use Rattle.pap_plan.proofs.AnswerLaws.{some, one}
-use Rattle.pap_plan.proofs.AcceptedLaws.{never_fail, small_bounds, ranges_named, judged_read, ordered_walked}
+use Rattle.pap_plan.proofs.AcceptedLaws.{never_fail, small_bounds, ranges_named, judged_read, ordered_walked, judged_rows}
 use Rattle.pap_plan.proofs.acceptance.acceptance_laws.Goals as goal
 
 pub returns-clause-some : goal.returns-clause-some
@@ -22,3 +22,6 @@ returns-clause-read c = judged_read
 
 pub returns-clause-walk : goal.returns-clause-walk
 returns-clause-walk c = ordered_walked
+
+pub returns-clause-rows : goal.returns-clause-rows
+returns-clause-rows c = judged_rows
