@@ -38,6 +38,7 @@ done
 status=${PIPESTATUS[0]}
 refused=$(grep -c ': refused, as it must be' "$copy/tried")
 seconds=$((SECONDS - begin))
-processor=$(times | tail -n 1)
+times > "$copy/times"
+processor=$(tail -n 1 "$copy/times")
 echo "wrong_bodies: $refused of $edits were refused, in $seconds s (processor: $processor)"
 [ "$status" -eq 0 ] && [ "$refused" -eq "$edits" ]
