@@ -7,9 +7,9 @@ use Rattle.outside.specs.declared.traits.FileAnswer.{FileAnswer}
 use Rattle.outside.specs.declared.traits.FileAnswer.TheVariants as files
 use Rattle.author_cli.specs.declared.answer.Answer.{Answer as Made}
 use Rattle.author_cli.specs.declared.stop.Stop.TheVariants as stops
-use Rattle.author_cli.specs.StopViews.{stop_of_file}
+use Rattle.author_cli.specs.Stops.{stop_of_file}
 use Rattle.author_cli.specs.Words.{Form}
-use Rattle.author_cli.specs.AnswerViews.{answer_of, Makes}
+use Rattle.author_cli.specs.private.AnswerViews.{answer_of, Makes}
 use Rattle.author_cli.specs.Ends.{Ended, words_of}
 use Rattle.author_cli.specs.Outside.{Outside}
 use Rattle.author_cli.specs.CallClauses.{Leaves, Headline, Carries}

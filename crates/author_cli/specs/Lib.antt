@@ -1,10 +1,9 @@
 pub mod Answers
-pub mod AnswerViews
 pub mod CallClauses
 pub mod Ends
 pub mod Laws
 pub mod Outside
-pub mod StopViews
 pub mod Words
-pub mod WordViews
 pub mod DraftLaws
+pub mod Stops
+pub mod private

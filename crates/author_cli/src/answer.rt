@@ -4,9 +4,9 @@ ghost use Rattle.outside.specs.Causes.{Caused};
 ghost use Rattle.pap_reader.specs.Elements.{IsFault};
 ghost use Rattle.plain_words.specs.Places.{named_text};
 ghost use Rattle.author_cli.specs.Words.{chart, chart_within, ranges};
-ghost use Rattle.author_cli.specs.WordViews.{form_of};
+ghost use Rattle.author_cli.specs.private.WordViews.{form_of};
 ghost use Rattle.author_cli.specs.Answers.{IsChart, IsUnread, IsRanges};
-ghost use Rattle.author_cli.specs.AnswerViews.{answer_of, Makes};
+ghost use Rattle.author_cli.specs.private.AnswerViews.{answer_of, Makes};
 ghost use Rattle.author_cli.specs.Outside.{outside_of};
 ghost use Rattle.author_cli.specs.CallClauses.{Leaves};
 

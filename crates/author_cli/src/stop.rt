@@ -19,7 +19,7 @@ pub enum Stop {
 }
 
 impl From<FileAnswer> for Stop {
-    ghost use Rattle.author_cli.specs.StopViews.{stop_of_file};
+    ghost use Rattle.author_cli.specs.Stops.{stop_of_file};
 
     ghost from_gives = { λ answer stop. stop ≡ stop_of_file answer };
 

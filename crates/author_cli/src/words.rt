@@ -1,7 +1,7 @@
 //! The words of the command line.
 ghost use Rattle.std.specs.Prelude.{◌∷◌, [], MatchOption};
 ghost use Rattle.author_cli.specs.Words.{texts, HasForm, IsBad};
-ghost use Rattle.author_cli.specs.WordViews.{form_of};
+ghost use Rattle.author_cli.specs.private.WordViews.{form_of};
 
 /// What the words ask for, each file by its name.
 #[derive(Clone, Copy)]

@@ -21,7 +21,7 @@ use Rattle.book_edits.specs.declared.years.Years.{Years}
 use Rattle.book_edits.specs.Books.{YearRuns, AreInOrder, added, changed, run_at, run_count, runs_key, runs_of, runs_or_none, with_runs, withdrawn, year_cmp, year_of}
 use Rattle.book_edits.specs.Kept.{AreYears, years_of}
 use Rattle.book_edits.specs.Refusals.{CountsEdit, most_records}
-use Rattle.book_edits.specs.Views.{AreKeptYears}
+use Rattle.book_edits.specs.private.Views.{AreKeptYears}
 use Rattle.book_edits.proofs.ListLemmas.{length_put, length_without, sum_put, sum_without, weight}
 use Rattle.book_edits.proofs.MonthLemmas.{IsSource, runs_rising}
 use Rattle.book_edits.proofs.YearsLemmas.{year_total}

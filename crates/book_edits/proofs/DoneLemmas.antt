@@ -12,7 +12,7 @@ use Rattle.book_edits.specs.declared.years.Years.{Years}
 use Rattle.book_edits.specs.Books.{added, changed, changed_from, run_at, run_count, source_of, withdrawal, withdrawn, withdrawn_from}
 use Rattle.book_edits.specs.Kept.{AreSameYears, AreYears, IsYearsEdit, YearsAreInOrder, years_of}
 use Rattle.book_edits.specs.Refusals.{most_records}
-use Rattle.book_edits.specs.Views.{IsListEdit, IsSameList}
+use Rattle.book_edits.specs.private.Views.{IsListEdit, IsSameList}
 use Rattle.book_edits.proofs.CountLemmas.{count_added, count_changed, count_withdrawn, kept_of, years_from}
 use Rattle.book_edits.proofs.MonthLemmas.{source_is, withdrawal_is}
 use Rattle.book_edits.proofs.YearsLemmas.{kept_in_order}

@@ -13,7 +13,7 @@ use Rattle.book_year.specs.YearClauses.{IsYearEdit, IsSameYear, edit_cost}
 use Rattle.book_year.specs.Years.{year_jobs}
 use Rattle.book_edits.specs.Books.{with_edited_year, runs_of, with_runs, year_cmp}
 use Rattle.book_edits.specs.Kept.{kept_key, runs_in}
-use Rattle.book_edits.specs.Views.{AreKeptYears, IsListEdit, IsSameList, list_cost}
+use Rattle.book_edits.specs.private.Views.{AreKeptYears, IsListEdit, IsSameList, list_cost}
 use Rattle.book_edits.proofs.YearsLemmas.{IsFound, insert_edit, jobs_with_runs, quiet_years, remove_edit, runs_here, runs_missed, set_edit, set_same}
 
 -- an edit of a year costs what its new jobs cost

@@ -13,7 +13,8 @@ use Rattle.book_edits.specs.Books.{year_cmp}
 use Rattle.book_edits.specs.Kept.{AreYears, HasRuns, kept_key, runs_in, runs_in_year}
 use Rattle.book_edits.specs.declared.redone.Redone.{Redone}
 use Rattle.book_edits.specs.Replans.{IsReplan}
-use Rattle.book_edits.specs.RedoneClauses.{New, with_new, merged, YearKept, AllRedone, AreRedoneFor}
+use Rattle.book_edits.specs.RedoneClauses.{New, with_new, YearKept}
+use Rattle.book_edits.specs.private.RedoneClauses.{merged, AllRedone, AreRedoneFor}
 
 pub redone_more : (q : Planned) (ys : List Year) (news : List New) (y : Year) (new : New) → AllRedone q ys news → YearKept q (with_new y new) → AllRedone q (ys ++ y ∷ []) (news ++ new ∷ [])
 redone_more q [] [] y new all kept = (kept, tt)

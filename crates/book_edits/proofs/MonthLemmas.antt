@@ -26,7 +26,7 @@ use Rattle.book_edits.specs.declared.in_month.InMonth.{InMonth}
 use Rattle.book_edits.specs.declared.in_month.InMonth.TheVariants.{Empty, One, Several}
 use Rattle.book_edits.specs.Books.{YearRuns, AreInOrder, in_month, is_in_month, only_one, run_at, runs_key, runs_of, runs_or_none, source_of, withdrawal, year_cmp, year_of}
 use Rattle.book_edits.specs.Kept.{runs_in, runs_in_year}
-use Rattle.book_edits.specs.Views.{one_more, with_one_more}
+use Rattle.book_edits.specs.private.Views.{one_more, with_one_more}
 use Rattle.book_edits.proofs.ListLemmas.{found_each}
 use Rattle.book_edits.proofs.YearsLemmas.{year_same}
 

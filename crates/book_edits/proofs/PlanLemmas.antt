@@ -21,7 +21,7 @@ use Rattle.book_edits.specs.declared.years.Years.{Years}
 use Rattle.book_edits.specs.Kept.{AreYears, jobs_in, years_of}
 use Rattle.book_edits.specs.declared.redone.Redone.{Redone}
 use Rattle.book_edits.specs.Replans.{replan_cost}
-use Rattle.book_edits.specs.RedoneClauses.{AreRedone, AreRedoneFor}
+use Rattle.book_edits.specs.private.RedoneClauses.{AreRedone, AreRedoneFor}
 use Rattle.book_edits.proofs.ListLemmas.{at_key_map, map_put, map_rising, map_without}
 
 -- ---- the plan of a day, searched for

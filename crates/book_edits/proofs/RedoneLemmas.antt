@@ -18,7 +18,8 @@ use Rattle.book_year.proofs.Laws.{rows_agree, total_append, year_quiet}
 use Rattle.book_edits.specs.Books.{YearRuns, runs_of, year_cmp}
 use Rattle.book_edits.specs.Kept.{jobs_in, kept_key, runs_in, runs_in_year}
 use Rattle.book_edits.specs.declared.redone.RedoneYear.{RedoneYear}
-use Rattle.book_edits.specs.RedoneClauses.{New, YearKept, AllRedone, IsYearRedone}
+use Rattle.book_edits.specs.RedoneClauses.{New, YearKept, IsYearRedone}
+use Rattle.book_edits.specs.private.RedoneClauses.{AllRedone}
 use Rattle.book_edits.proofs.YearLemmas.{runs_at}
 use Rattle.book_edits.proofs.MergeLemmas.{redone_more}
 

@@ -27,7 +27,7 @@ use Rattle.book_year.specs.Years.{IsYear, year_jobs}
 use Rattle.book_year.proofs.Laws.{year_quiet}
 use Rattle.book_edits.specs.Books.{YearRuns, AreInOrder, runs_key, runs_of, runs_or_none, with_runs, year_cmp}
 use Rattle.book_edits.specs.Kept.{HasRuns, jobs_in, kept_key, runs_in, runs_in_year}
-use Rattle.book_edits.specs.Views.{AreKeptYears, IsListEdit, IsSameList}
+use Rattle.book_edits.specs.private.Views.{AreKeptYears, IsListEdit, IsSameList}
 use Rattle.book_edits.proofs.ListLemmas.{all_put, all_without, at_key_map, at_key_tied, found_each, map_put, map_rising, map_without}
 
 -- ---- the orders of years and of runs

@@ -1,19 +1,13 @@
 -- What the years computed anew beside those that are kept promise.
-use Rattle.std.specs.Prelude.{◌≡◌, ◌≤◌, ◌*◌, List, [], ◌∷◌, Option, Some, None, Vec}
-use Rattle.std.specs.List.{AllZip}
+use Rattle.std.specs.Prelude.{◌≡◌, ◌≤◌, ◌*◌, Option, Some, None, Vec}
 use Rattle.std.specs.declared.alloc.Global.{Global}
 use Rattle.pap_types.specs.Limits.{most_steps}
-use Rattle.plan_calendar.specs.Picking.{Entry, pick}
-use Rattle.book_year.specs.Accepted.{Accepted}
 use Rattle.book_year.specs.declared.outcome.Outcome.{Outcome}
 use Rattle.book_year.specs.declared.year.Year.{Year}
 use Rattle.book_year.specs.Jobs.{work_of}
 use Rattle.book_year.specs.Kept.{AreKept, most_runs}
 use Rattle.book_year.specs.Rows.{Planned}
 use Rattle.book_year.specs.Years.{year_jobs}
-use Rattle.book_edits.specs.declared.years.Years.{Years}
-use Rattle.book_edits.specs.Kept.{jobs_in, years_of}
-use Rattle.book_edits.specs.declared.redone.Redone.{Redone}
 use Rattle.book_edits.specs.declared.redone.RedoneYear.{RedoneYear}
 
 -- the new outcomes of a year, where it has some
@@ -25,19 +19,9 @@ abbrev pub with_new : Year → New → Year
 with_new y None = y
 with_new y (Some outcomes) = record y { outcomes = outcomes }
 
--- the years with their new outcomes, one after another
-abbrev pub merged : List Year → List New → List Year
-merged [] news = []
-merged (y ∷ ys) [] = y ∷ ys
-merged (y ∷ ys) (new ∷ news) = with_new y new ∷ merged ys news
-
 -- what is kept of the year is what computing it anew gives, where these are the plans of the days
 abbrev pub YearKept : Planned → Year → Type 0
 YearKept planned y = AreKept planned y.records.items y.outcomes.items
-
--- so it is of each year with its new outcomes
-abbrev pub AllRedone : Planned → List Year → List New → Type 0
-AllRedone planned years news = AllZip (λ y new. YearKept planned (with_new y new)) years news
 
 -- a year computed anew, and the work of its new jobs
 pub record IsYearRedone (before after : Planned) (y : Year) (redone : RedoneYear) : Type 0 where
@@ -45,12 +29,3 @@ pub record IsYearRedone (before after : Planned) (y : Year) (redone : RedoneYear
   pub work_is : redone.work ≡ work_of (year_jobs before after y.records.items y.records.items)
   pub few : redone.work.runs ≤ most_runs
   pub cheap : redone.work.steps ≤ most_runs * most_steps
-
--- the years computed anew, and the work of their new jobs
-pub record AreRedone (before after : Planned) (years : Years) (redone : Redone) : Type 0 where
-  pub all : AllRedone after years.list.items redone.outcomes.items
-  pub work_is : redone.work ≡ work_of (jobs_in before after (years_of years) (years_of years))
-
--- the same where one calendar becomes another
-abbrev pub AreRedoneFor : List (Entry Accepted) → List (Entry Accepted) → Years → Redone → Type 0
-AreRedoneFor old new years redone = AreRedone (pick old) (pick new) years redone

@@ -12,7 +12,7 @@ ghost use Rattle.book_edits.specs.Books.{runs_of, withdrawal, withdrawn, withdra
 ghost use Rattle.book_edits.specs.Kept.{AreSameYears, AreYears, IsYearsEdit, edit_cost, runs_in, years_of};
 ghost use Rattle.book_edits.specs.Refusals.{CanAdd, CountsEdit, IsAddRefused, IsChangeRefused};
 ghost use Rattle.book_edits.specs.Refusals.{IsOne, IsWithdrawRefused};
-ghost use Rattle.book_edits.specs.Views.{AreKeptYears, IsListEdit, IsSameList, only_key, list_cost};
+ghost use Rattle.book_edits.specs.private.Views.{AreKeptYears, IsListEdit, IsSameList, only_key, list_cost};
 
 use crate::places::{place_year, year_of};
 use crate::{EditRefusal, InMonth, Years};

@@ -4,7 +4,7 @@ ghost use Rattle.rising_lists.specs.Keyed.{IsRising};
 ghost use Rattle.rising_lists.specs.Places.{Finds, Misses};
 ghost use Rattle.book_edits.specs.Books.{is_in_month, only_one, year_cmp, year_of};
 ghost use Rattle.book_edits.specs.Kept.{kept_key};
-ghost use Rattle.book_edits.specs.Views.{with_one_more};
+ghost use Rattle.book_edits.specs.private.Views.{with_one_more};
 
 use crate::InMonth;
 use book_year::{Year, YearKey};

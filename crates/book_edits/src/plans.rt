@@ -6,7 +6,7 @@ ghost use Rattle.book_year.specs.Jobs.{Counts};
 ghost use Rattle.book_edits.specs.Kept.{AreSameYears, AreYears};
 ghost use Rattle.book_edits.specs.Refusals.{CountsEdit};
 ghost use Rattle.book_edits.specs.Replans.{IsDropRefused, HasMostPlans, IsPutRefused, IsReplan, replan_cost};
-ghost use Rattle.book_edits.specs.RedoneClauses.{AreRedoneFor};
+ghost use Rattle.book_edits.specs.private.RedoneClauses.{AreRedoneFor};
 
 use crate::redone::{Redone, put_in, redo_years};
 use crate::refusal::EditRefusal;

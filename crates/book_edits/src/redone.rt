@@ -6,7 +6,8 @@ ghost use Rattle.book_year.specs.Picks.{before, after, ArePicks};
 ghost use Rattle.book_year.specs.Years.{IsYear};
 ghost use Rattle.book_year.specs.YearClauses.{replan_cost};
 ghost use Rattle.book_edits.specs.Kept.{AreYears, years_of, jobs_in};
-ghost use Rattle.book_edits.specs.RedoneClauses.{with_new, merged, AreRedone, IsYearRedone};
+ghost use Rattle.book_edits.specs.RedoneClauses.{with_new, IsYearRedone};
+ghost use Rattle.book_edits.specs.private.RedoneClauses.{merged, AreRedone};
 
 use crate::years::Years;
 use book_year::{Outcome, Picks, Work, Year};

@@ -14,7 +14,7 @@ use Rattle.book_file.specs.BookTexts.{IsTextOf, saved_of}
 use Rattle.book_file.specs.Limits.{most_book_text}
 use Rattle.book_file.specs.declared.refusal.BookFault.{BookFault}
 use Rattle.book_file.specs.declared.refusal.BookFault.TheVariants as fault
-use Rattle.book_file.specs.Views.{book_of_saved}
+use Rattle.book_file.specs.private.Views.{book_of_saved}
 use Rattle.book_file.proofs.BookLemmas.{books_same, made_text}
 use Rattle.book_file.proofs.PlanLemmas.{all_acceptable, entries_for, first_refused, never_refused, one_refused}
 

@@ -15,7 +15,7 @@ use Rattle.recalc_engine.specs.Contents.{Contents, book_of}
 use Rattle.recalc_engine.proofs.Laws.{parts_make}
 use Rattle.book_file.specs.BookTexts.{IsTextOf, saved_of, saved_entry}
 use Rattle.book_file.specs.Limits.{most_book_text}
-use Rattle.book_file.specs.Views.{AreEntriesOf, book_of_saved}
+use Rattle.book_file.specs.private.Views.{AreEntriesOf, book_of_saved}
 use Rattle.book_file.proofs.PlanLemmas.{entries_same}
 use Rattle.book_file.proofs.RunLemmas.{listed, years_made}
 

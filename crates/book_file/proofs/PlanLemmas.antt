@@ -11,7 +11,7 @@ use Rattle.book_year.specs.Accepted.{Accepted}
 use Rattle.recalc_engine.specs.BookLaws.{AreAcceptedPlans, IsAcceptedPlan}
 use Rattle.book_file.specs.BookSays.{IsAcceptable, IsFirstRefused, IsUnacceptable}
 use Rattle.book_file.specs.BookTexts.{saved_entry}
-use Rattle.book_file.specs.Views.{AreEntriesOf}
+use Rattle.book_file.specs.private.Views.{AreEntriesOf}
 
 -- ---- one plan
 

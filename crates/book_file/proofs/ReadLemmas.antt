@@ -15,7 +15,7 @@ use Rattle.saved_items.specs.Fronts.{Front, nothing, titled, worked, planning, r
 use Rattle.saved_items.specs.SavedBooks.{IsText, Saved, SavedPlan, ArePlans}
 use Rattle.saved_items.specs.SavedBooks as saved
 use Rattle.saved_items.specs.Texts.{Stop, StopsAt}
-use Rattle.saved_items.specs.Views.{plan_in}
+use Rattle.saved_items.specs.ItemFaults.{plan_in}
 use Rattle.saved_items.specs.declared.items.PlanItem.{PlanItem}
 use Rattle.pap_plan.specs.Acceptance.{IsAccepted}
 use Rattle.pap_plan.specs.Plans.{Seen, meaning}
@@ -31,7 +31,7 @@ use Rattle.book_file.specs.BookSays.{BookSays, BreaksAtItem, IsAcceptable}
 use Rattle.book_file.specs.BookTexts.{IsTextOf, saved_entry}
 use Rattle.book_file.specs.Clauses.{CountsRead, IsBookFaultOrMemory, said_cost}
 use Rattle.book_file.specs.Limits.{most_book_text}
-use Rattle.book_file.specs.Views.{AreEntriesOf, CountsMade, HasNoPlan, IsBookOf, IsNoPlan, IsPartlyMade, IsPlanOf, book_of_saved}
+use Rattle.book_file.specs.private.Views.{AreEntriesOf, CountsMade, HasNoPlan, IsBookOf, IsNoPlan, IsPartlyMade, IsPlanOf, book_of_saved}
 use Rattle.book_file.specs.declared.refusal.BookFault.{BookFault}
 use Rattle.book_file.specs.declared.refusal.BookFault.TheVariants as fault
 use Rattle.book_file.proofs.AnswerLemmas.{one}

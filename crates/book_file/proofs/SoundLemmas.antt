@@ -16,7 +16,7 @@ use Rattle.recalc_engine.specs.BookLaws.{IsBook}
 use Rattle.recalc_engine.specs.Contents.{Contents}
 use Rattle.recalc_engine.proofs.Laws.{runs_rise}
 use Rattle.book_file.specs.BookTexts.{saved_entry, saved_of}
-use Rattle.book_file.specs.WritingViews.{HasRuns}
+use Rattle.book_file.specs.private.WritingViews.{HasRuns}
 use Rattle.book_file.proofs.BookLemmas.{count_listed}
 use Rattle.book_file.proofs.RunLemmas.{listed}
 

@@ -21,7 +21,7 @@ use Rattle.book_file.specs.BookLaws.{BooksAreSaved}
 use Rattle.book_file.specs.BookTexts.{book_text, saved_entry}
 use Rattle.book_file.specs.Limits.{most_book_text}
 use Rattle.book_file.specs.Saving.{IsUnsaved, SaveSays}
-use Rattle.book_file.specs.WritingViews.{IsCutFrom, entry_text, year_text}
+use Rattle.book_file.specs.private.WritingViews.{IsCutFrom, entry_text, year_text}
 use Rattle.book_file.specs.declared.refusal.SaveRefusal.{SaveRefusal}
 use Rattle.book_file.specs.declared.refusal.SaveRefusal.TheVariants as refusal
 use Rattle.book_file.proofs.BookLemmas.{count_listed}

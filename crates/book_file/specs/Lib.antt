@@ -4,5 +4,4 @@ pub mod Saving
 pub mod BookSays
 pub mod BookLaws
 pub mod Clauses
-pub mod Views
-pub mod WritingViews
+pub mod private

@@ -1,9 +1,9 @@
 //! The plans of a saved book.
 ghost use Rattle.std.specs.Prelude.{IfOk, IfErr, map};
 ghost use Rattle.saved_items.specs.SavedBooks.{ArePlans};
-ghost use Rattle.saved_items.specs.Views.{plan_in};
+ghost use Rattle.saved_items.specs.ItemFaults.{plan_in};
 ghost use Rattle.book_year.specs.Accepted.{plans_in};
-ghost use Rattle.book_file.specs.Views.{AreEntriesOf, HasNoPlan, IsNoPlan, IsPlanOf};
+ghost use Rattle.book_file.specs.private.Views.{AreEntriesOf, HasNoPlan, IsNoPlan, IsPlanOf};
 
 use crate::BookFault;
 use pap_plan::{Plan, PlanRefusal, accept};

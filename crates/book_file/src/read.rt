@@ -1,13 +1,13 @@
 //! The book of a text.
 ghost use Rattle.std.specs.Prelude.{◌≡◌, IfOk, IfErr, Ok};
 ghost use Rattle.saved_items.specs.SavedBooks.{IsSaved};
-ghost use Rattle.saved_items.specs.Views.{saved_in};
+ghost use Rattle.saved_items.specs.ItemFaults.{saved_in};
 ghost use Rattle.recalc_engine.specs.Contents.{whole_work};
 ghost use Rattle.book_file.specs.BookLaws.{FrontsTell, TextsAreOfOneBook};
 ghost use Rattle.book_file.specs.BookLaws.{TextsSayOneThing, TextsSaySomething};
 ghost use Rattle.book_file.specs.BookSays.{BookSays};
 ghost use Rattle.book_file.specs.Clauses.{CountsRead, IsBookFaultOrMemory};
-ghost use Rattle.book_file.specs.Views.{CountsMade, HasNoPlan, IsBookOf};
+ghost use Rattle.book_file.specs.private.Views.{CountsMade, HasNoPlan, IsBookOf};
 
 use crate::plans::accept_plans;
 use crate::{BookFault, MOST_BOOK_TEXT};

@@ -7,7 +7,7 @@ ghost use Rattle.book_edits.specs.Kept.{runs_in};
 ghost use Rattle.book_file.specs.BookLaws.{BooksAreSaved, BooksAreSavedOneWay};
 ghost use Rattle.book_file.specs.BookSays.{BookSays};
 ghost use Rattle.book_file.specs.Saving.{IsUnsaved, SaveSays};
-ghost use Rattle.book_file.specs.WritingViews.{HasRuns, IsCutFrom, entry_text, year_text};
+ghost use Rattle.book_file.specs.private.WritingViews.{HasRuns, IsCutFrom, entry_text, year_text};
 
 use crate::{MOST_BOOK_TEXT, SaveRefusal};
 use book_year::Year;

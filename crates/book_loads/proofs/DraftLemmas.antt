@@ -28,8 +28,8 @@ use Rattle.book_edits.proofs.Laws.{IsQuiet, all_put, jobs_quiet, put_some, runs_
 use Rattle.book_loads.specs.declared.drafts.Computed.{Computed}
 use Rattle.book_loads.specs.declared.drafts.Draft.{Draft}
 use Rattle.book_loads.specs.declared.groups.Group.{Group}
-use Rattle.book_loads.specs.Groups.{IsGroup, group_year, group_years, put_runs, put_years}
-use Rattle.book_loads.specs.Drafts.{AreDrafted, HasRoom, IsComputedGroup, IsYearDraft, IsRoomy, draft_year, group_cost, group_jobs, groups_cost, groups_jobs}
+use Rattle.book_loads.specs.private.Groups.{IsGroup, group_year, group_years, put_runs, put_years}
+use Rattle.book_loads.specs.private.Drafts.{AreDrafted, HasRoom, IsComputedGroup, IsYearDraft, IsRoomy, draft_year, group_cost, group_jobs, groups_cost, groups_jobs}
 use Rattle.book_loads.proofs.GroupLemmas.{all_more}
 use Rattle.book_loads.proofs.OrderLemmas.{put_year}
 use Rattle.book_loads.proofs.RecordLemmas.{all_puts, rising_puts}

@@ -17,7 +17,7 @@ use Rattle.book_year.specs.Years.{IsOwn}
 use Rattle.book_edits.specs.Books.{YearRuns, added, loaded, runs_key, runs_of, runs_or_none, year_cmp}
 use Rattle.book_edits.proofs.Laws.{all_put, at_key_map, at_key_tied, map_put, year_total, year_same}
 use Rattle.book_loads.specs.declared.groups.Group.{Group}
-use Rattle.book_loads.specs.Groups.{AreGroups, IsGroup, IsPutGroup, group_key, group_year, group_years, items_of, items_or_none, put_runs, put_years}
+use Rattle.book_loads.specs.private.Groups.{AreGroups, IsGroup, IsPutGroup, group_key, group_year, group_years, items_of, items_or_none, put_runs, put_years}
 use Rattle.book_loads.proofs.OrderLemmas.{added_is, put_year, year_at, year_holding}
 use Rattle.book_loads.proofs.PutLemmas.{at_key_puts, first_of, puts_put}
 

@@ -20,14 +20,14 @@ use Rattle.book_edits.specs.declared.years.Years.{Years}
 use Rattle.book_edits.specs.Books.{AreInOrder, loaded, run_count, runs_key, year_cmp}
 use Rattle.book_edits.specs.Kept.{AreSameYears, AreYears, HasRuns, IsYearsEdit, edit_jobs, kept_key, runs_in, runs_in_year, years_of}
 use Rattle.book_edits.specs.Refusals.{CountsEdit, most_records}
-use Rattle.book_edits.specs.Views.{AreKeptYears, IsListEdit, list_cost}
+use Rattle.book_edits.specs.private.Views.{AreKeptYears, IsListEdit, list_cost}
 use Rattle.book_edits.proofs.Laws.{kept_in_order, map_rising, quiet_years, rising_map, year_total}
 use Rattle.book_loads.specs.Loads.{CanLoad, IsLoadRefused}
 use Rattle.book_loads.specs.declared.drafts.Drafted.{Drafted}
 use Rattle.book_loads.specs.declared.groups.Group.{Group}
-use Rattle.book_loads.specs.Groups.{AreGroups, group_year, group_years, put_years}
-use Rattle.book_loads.specs.Drafts.{AreDrafted, draft_year, groups_cost, groups_jobs}
-use Rattle.book_loads.specs.Merges.{AreMergeable, CanMerge, IsKeptYear, merged_runs}
+use Rattle.book_loads.specs.private.Groups.{AreGroups, group_year, group_years, put_years}
+use Rattle.book_loads.specs.private.Drafts.{AreDrafted, draft_year, groups_cost, groups_jobs}
+use Rattle.book_loads.specs.private.Merges.{AreMergeable, CanMerge, IsKeptYear, merged_runs}
 use Rattle.book_loads.proofs.DraftLemmas.{jobs_puts}
 use Rattle.book_loads.proofs.OrderLemmas.{count_loaded, distinct_apart}
 use Rattle.book_loads.proofs.PresentLemmas.{IsFree, free_each}

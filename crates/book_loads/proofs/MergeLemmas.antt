@@ -18,9 +18,9 @@ use Rattle.book_edits.specs.Books.{YearRuns, runs_key, runs_of, runs_or_none, ye
 use Rattle.book_edits.specs.Kept.{kept_key, runs_in, runs_in_year}
 use Rattle.book_edits.proofs.Laws.{map_rising, year_total}
 use Rattle.book_loads.specs.declared.drafts.Draft.{Draft}
-use Rattle.book_loads.specs.Groups.{put_runs, put_years}
-use Rattle.book_loads.specs.Drafts.{HasRoom, IsYearDraft, IsRoomy, draft_key, draft_year}
-use Rattle.book_loads.specs.Merges.{AreMergeable, CanMerge, IsFirst, IsKeptYear, merged_runs}
+use Rattle.book_loads.specs.private.Groups.{put_runs, put_years}
+use Rattle.book_loads.specs.private.Drafts.{HasRoom, IsYearDraft, IsRoomy, draft_key, draft_year}
+use Rattle.book_loads.specs.private.Merges.{AreMergeable, CanMerge, IsFirst, IsKeptYear, merged_runs}
 use Rattle.book_loads.proofs.GroupLemmas.{all_more}
 use Rattle.book_loads.proofs.PutLemmas.{puts_new, puts_old, puts_tied}
 

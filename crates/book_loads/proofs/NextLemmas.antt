@@ -14,8 +14,8 @@ use Rattle.book_year.specs.Records.{record_day}
 use Rattle.book_edits.specs.Books.{runs_of, year_cmp}
 use Rattle.book_edits.specs.Kept.{runs_in}
 use Rattle.book_loads.specs.declared.drafts.Draft.{Draft}
-use Rattle.book_loads.specs.Drafts.{HasRoom}
-use Rattle.book_loads.specs.Merges.{CanMerge, IsFirst}
+use Rattle.book_loads.specs.private.Drafts.{HasRoom}
+use Rattle.book_loads.specs.private.Merges.{CanMerge, IsFirst}
 use Rattle.book_loads.proofs.MergeLemmas.{IsWritten, first_alone, first_both, first_draft, first_last, first_old, runs_tied}
 
 -- how the first year stands to a key

@@ -7,7 +7,7 @@ use Rattle.std.specs.Cmp.{IsTotalOrder}
 use Rattle.std.proofs.lemmas.Cmp.{alike_right}
 use Rattle.rising_lists.specs.Keyed.{at_key, put, put_by, AreAbove, IsRising}
 use Rattle.rising_lists.proofs.Laws.{at_key_put, put_rising, above_more, above_same}
-use Rattle.book_loads.specs.Puts.{puts}
+use Rattle.book_loads.specs.private.Puts.{puts}
 
 -- the first of two that there is
 abbrev pub first_of : {X : Type 0} → Option X → Option X → Option X

@@ -8,7 +8,7 @@ use Rattle.payroll_records.specs.declared.record.Record.{Record}
 use Rattle.payroll_records.specs.Orders.{day_cmp}
 use Rattle.book_year.specs.Records.{AreBefore, record_day, put_run}
 use Rattle.book_year.proofs.Laws.{IsBefore, all_fewer, all_put, front_long, front_put, rising_put}
-use Rattle.book_loads.specs.Groups.{put_runs}
+use Rattle.book_loads.specs.private.Groups.{put_runs}
 use Rattle.book_loads.proofs.GroupLemmas.{put_runs_more}
 
 pub rising_puts : (is rs : List Record) → IsRising day_cmp record_day rs → IsRising day_cmp record_day (put_runs is rs)

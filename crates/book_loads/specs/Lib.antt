@@ -1,5 +1,2 @@
-pub mod Puts
 pub mod Loads
-pub mod Groups
-pub mod Drafts
-pub mod Merges
+pub mod private

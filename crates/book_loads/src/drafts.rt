@@ -10,8 +10,8 @@ ghost use Rattle.book_year.specs.Years.{IsYear};
 ghost use Rattle.payroll_records.specs.Limits.{most_records};
 ghost use Rattle.book_edits.specs.Books.{runs_of, year_cmp};
 ghost use Rattle.book_edits.specs.Kept.{kept_key, runs_in};
-ghost use Rattle.book_loads.specs.Groups.{IsGroup};
-ghost use Rattle.book_loads.specs.Drafts.{AreDrafted, IsComputedGroup, group_cost, groups_cost};
+ghost use Rattle.book_loads.specs.private.Groups.{IsGroup};
+ghost use Rattle.book_loads.specs.private.Drafts.{AreDrafted, IsComputedGroup, group_cost, groups_cost};
 
 use crate::groups::Group;
 use crate::records::{references_with, runs_before_all};

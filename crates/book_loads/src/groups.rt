@@ -4,7 +4,7 @@ ghost use Rattle.rising_lists.specs.Keyed.{IsRising};
 ghost use Rattle.rising_lists.specs.Places.{Finds, Misses};
 ghost use Rattle.payroll_records.specs.Tables.{HaveOwnKeys};
 ghost use Rattle.book_edits.specs.Books.{YearRuns, loaded, year_cmp};
-ghost use Rattle.book_loads.specs.Groups.{AreGroups, IsPutGroup, group_key};
+ghost use Rattle.book_loads.specs.private.Groups.{AreGroups, IsPutGroup, group_key};
 
 use book_edits::year_of;
 use book_year::YearKey;

@@ -8,7 +8,7 @@ ghost use Rattle.book_edits.specs.Kept.{edit_jobs, runs_in, years_of};
 ghost use Rattle.book_edits.specs.Refusals.{CountsEdit};
 ghost use Rattle.payroll_records.specs.Limits.{most_records};
 ghost use Rattle.payroll_records.specs.Tables.{HaveOwnKeys};
-ghost use Rattle.book_edits.specs.Views.{AreKeptYears, IsListEdit, list_cost};
+ghost use Rattle.book_edits.specs.private.Views.{AreKeptYears, IsListEdit, list_cost};
 ghost use Rattle.book_loads.specs.Loads.{CanLoad, IsLoadRefused};
 
 use crate::drafts::draft_all;

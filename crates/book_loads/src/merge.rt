@@ -10,8 +10,8 @@ ghost use Rattle.book_year.specs.Accepted.{Accepted};
 ghost use Rattle.book_year.specs.Records.{record_day};
 ghost use Rattle.book_edits.specs.Books.{year_cmp};
 ghost use Rattle.book_edits.specs.Kept.{runs_in};
-ghost use Rattle.book_loads.specs.Groups.{put_runs};
-ghost use Rattle.book_loads.specs.Merges.{AreMergeable, CanMerge, IsFirst, IsKeptYear, merged_runs};
+ghost use Rattle.book_loads.specs.private.Groups.{put_runs};
+ghost use Rattle.book_loads.specs.private.Merges.{AreMergeable, CanMerge, IsFirst, IsKeptYear, merged_runs};
 
 use crate::drafts::Draft;
 use crate::records::put_all;

@@ -3,7 +3,7 @@ ghost use Rattle.std.specs.Prelude.{◌≡◌, ◌+◌, ◌≤◌, IfOk, length,
 ghost use Rattle.rising_lists.specs.Keyed.{IsRising};
 ghost use Rattle.payroll_records.specs.Orders.{day_cmp};
 ghost use Rattle.book_year.specs.Records.{record_day, ReferTo};
-ghost use Rattle.book_loads.specs.Groups.{put_runs};
+ghost use Rattle.book_loads.specs.private.Groups.{put_runs};
 
 use book_year::{put_in_room, put_reference, references, runs_before};
 use payroll_records::Record;

@@ -16,7 +16,7 @@ use Rattle.book_year.specs.Rows.{Planned, Job, row_of, year_rows, earlier_of, ou
 use Rattle.book_year.specs.Records.{records_of}
 use Rattle.book_year.specs.Jobs.{new_job, new_jobs, total_cost, Counts}
 use Rattle.book_year.specs.Kept.{kept, IsBounded}
-use Rattle.book_year.specs.ChainClauses.{IsRan}
+use Rattle.book_year.specs.private.ChainClauses.{IsRan}
 use Rattle.book_year.proofs.RowLemmas.{rows_more, new_jobs_append, total_append, total_front, row_of_day}
 use Rattle.book_year.proofs.OldLemmas.{rows_length}
 

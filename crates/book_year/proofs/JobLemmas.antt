@@ -17,7 +17,7 @@ use Rattle.book_year.specs.declared.chain.OldJob.{OldJob}
 use Rattle.book_year.specs.Rows.{Job, job_of}
 use Rattle.book_year.specs.Jobs.{has_texts, same_decimal, same_inputs, new_job}
 use Rattle.book_year.specs.Picks.{KnowsSame, same_plan, meaning_of}
-use Rattle.book_year.specs.ChainClauses.{HasJob}
+use Rattle.book_year.specs.private.ChainClauses.{HasJob}
 
 both : (a b : Bool) → (a && b) ≡ true → (a ≡ true) × (b ≡ true)
 both true b e = (refl, e)

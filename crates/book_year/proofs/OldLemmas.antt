@@ -28,7 +28,7 @@ use Rattle.book_year.specs.Records.{record_day}
 use Rattle.book_year.specs.Rows.{Planned, Job, Row, row_of, row_filled, rows, year_rows, earlier_of, outputs_in}
 use Rattle.book_year.specs.Jobs.{job_at}
 use Rattle.book_year.specs.Kept.{AreKept, IsBounded, kept}
-use Rattle.book_year.specs.ChainClauses.{outcome_job, outcome_parts, old_parts, IsOldJob}
+use Rattle.book_year.specs.private.ChainClauses.{outcome_job, outcome_parts, old_parts, IsOldJob}
 use Rattle.book_year.proofs.RowLemmas.{row_of_day}
 
 abbrev pub row_day : Row → Day

@@ -13,7 +13,7 @@ use Rattle.payroll_records.specs.declared.day.Day.{Day}
 use Rattle.payroll_records.proofs.Laws.{day_total, day_same}
 use Rattle.plan_calendar.specs.Picking.{Entry, day_of, last_where, pick, pick_before, plan_of, serves, serves_before}
 use Rattle.plan_calendar.specs.Edits.{moves, picked_after}
-use Rattle.plan_calendar.specs.Views.{picked_entry as entry_lent}
+use Rattle.plan_calendar.specs.Picks.{picked_entry as entry_lent}
 use Rattle.plan_calendar.proofs.Laws.{pick_same}
 use Rattle.pap_plan.specs.Acceptance.{Meaning}
 use Rattle.pap_plan.specs.Plans.{Seen}

@@ -14,7 +14,8 @@ use Rattle.payroll_records.specs.declared.day.Day.{Day}
 use Rattle.payroll_records.specs.declared.record.Record.{Record}
 use Rattle.payroll_records.specs.Orders.{day_cmp}
 use Rattle.payroll_records.proofs.Laws.{day_total}
-use Rattle.book_year.specs.Records.{record_day, reference_day, records_of, put_run, without_run}
+use Rattle.book_year.specs.Records.{record_day, records_of, put_run, without_run}
+use Rattle.book_year.specs.private.Records.{reference_day}
 
 pub put_at : (r : Record) (rs : List Record) (i : ℕ) → IsAt day_cmp record_day rs r.day i → put_run r rs ≡ set rs i r
 put_at r rs i h = put_here day_cmp day_total record_day rs r.day i r h (tied_itself day_total r.day)

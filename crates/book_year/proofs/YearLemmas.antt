@@ -17,8 +17,9 @@ use Rattle.book_year.specs.Rows.{year_rows}
 use Rattle.book_year.specs.Jobs.{new_jobs, total_cost, Counts}
 use Rattle.book_year.specs.Kept.{IsBounded, job_by}
 use Rattle.book_year.specs.Years.{IsOwn}
-use Rattle.book_year.specs.YearClauses.{IsYearEdit, IsComputed, edit_cost}
-use Rattle.book_year.specs.ChainClauses.{IsRest}
+use Rattle.book_year.specs.YearClauses.{IsYearEdit, edit_cost}
+use Rattle.book_year.specs.private.YearClauses.{IsComputed}
+use Rattle.book_year.specs.private.ChainClauses.{IsRest}
 use Rattle.book_year.proofs.DayLemmas.{year_few, IsIn}
 
 own_days : (key : YearKey) (rs : List Record) → AllByRecursion (IsOwn key) rs → AllByRecursion (IsIn key.year) rs

@@ -7,3 +7,4 @@ pub mod Picks
 pub mod ChainClauses
 pub mod Years
 pub mod YearClauses
+pub mod private

@@ -28,9 +28,6 @@ pub record AreBefore (day : Day) (rs : List Record) (count : ℕ) : Type 0 where
 
 -- ---- references
 
-abbrev pub reference_day : Bor Record → Day
-reference_day r = r.now.day
-
 abbrev pub records_of : List (Bor Record) → List Record
 records_of items = map (λ r. r.now) items
 

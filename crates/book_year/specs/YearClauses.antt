@@ -9,8 +9,7 @@ use Rattle.book_year.specs.declared.year.Year.{Year}
 use Rattle.book_year.specs.declared.chain.Recalculated.{Recalculated}
 use Rattle.book_year.specs.Jobs.{total_cost, work_of}
 use Rattle.book_year.specs.Kept.{most_runs, job_by}
-use Rattle.book_year.specs.declared.chain.Rest.{Rest}
-use Rattle.book_year.specs.ChainClauses.{IsRecalculated, IsRest}
+use Rattle.book_year.specs.ChainClauses.{IsRecalculated}
 use Rattle.book_year.specs.declared.picks.Picks.{Picks}
 use Rattle.book_year.specs.Picks.{before, after}
 use Rattle.book_year.specs.Years.{IsYear, year_jobs}
@@ -36,11 +35,6 @@ pub record IsSameYear (old new : Year) : Type 0 where
 abbrev pub edit_cost : List (Entry Accepted) → Year → List Record → ℕ
 edit_cost plans old records =
     total_cost (year_jobs (pick plans) (pick plans) old.records.items records)
-
--- the year computed anew with these records, behind the outcomes that stay
-abbrev pub IsComputed : List (Entry Accepted) → Year → List Record → Rest → Type 0
-IsComputed plans old records r =
-    IsRest (pick plans) (job_by (pick plans) old.records.items) records old.outcomes.items r
 
 -- the year computed anew for an edit of the calendar, and the cost of the jobs that are new then
 abbrev pub IsReplanned : Picks → Year → Recalculated → Type 0

@@ -13,8 +13,9 @@ ghost use Rattle.book_year.specs.Rows.{Job, job_of, row_of, row_filled};
 ghost use Rattle.book_year.specs.Jobs.{same_inputs, new_job, Counts};
 ghost use Rattle.book_year.specs.Kept.{IsOld};
 ghost use Rattle.book_year.specs.Picks.{before, after, KnowsSame, ArePicks, picked_entry};
-ghost use Rattle.book_year.specs.ChainClauses.{old_parts, outcome_job, IsOldJob, KeepsOutputs, IsRan, CountsRun};
-ghost use Rattle.book_year.specs.ChainClauses.{old_jobs, chain_cost, IsChain, IsChainRest, KeepsFront};
+ghost use Rattle.book_year.specs.private.ChainClauses.{old_parts, outcome_job, IsOldJob, KeepsOutputs, IsRan, CountsRun};
+ghost use Rattle.book_year.specs.ChainClauses.{old_jobs, chain_cost, IsChain, KeepsFront};
+ghost use Rattle.book_year.specs.private.ChainClauses.{IsChainRest};
 
 use crate::done::{Done, copied, copy_of, front};
 use crate::outcome::{Outcome, State, Work};

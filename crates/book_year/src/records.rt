@@ -3,7 +3,8 @@ ghost use Rattle.std.specs.Prelude.{◌≡◌, ◌+◌, ◌≤◌, IfOk, IfErr, 
 ghost use Rattle.rising_lists.specs.Keyed.{IsRising};
 ghost use Rattle.rising_lists.specs.Places.{IsAt, IsGap};
 ghost use Rattle.payroll_records.specs.Orders.{day_cmp};
-ghost use Rattle.book_year.specs.Records.{record_day, reference_day, records_of, ReferTo, put_run, without_run};
+ghost use Rattle.book_year.specs.Records.{record_day, records_of, ReferTo, put_run, without_run};
+ghost use Rattle.book_year.specs.private.Records.{reference_day};
 ghost use Rattle.book_year.specs.Records.{AreBefore};
 
 use payroll_records::{Day, Record};

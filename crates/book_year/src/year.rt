@@ -10,7 +10,8 @@ ghost use Rattle.book_year.specs.Picks.{ArePicks, before, after};
 ghost use Rattle.book_year.specs.Jobs.{Counts};
 ghost use Rattle.book_year.specs.Records.{put_run, record_day, without_run};
 ghost use Rattle.book_year.specs.Years.{IsOwn, IsYear, YearsStay, YearsFollowPlans};
-ghost use Rattle.book_year.specs.YearClauses.{IsYearEdit, IsSameYear, IsComputed, edit_cost};
+ghost use Rattle.book_year.specs.YearClauses.{IsYearEdit, IsSameYear, edit_cost};
+ghost use Rattle.book_year.specs.private.YearClauses.{IsComputed};
 ghost use Rattle.book_year.specs.YearClauses.{IsReplanned, replan_cost};
 
 use crate::chain::{Old, Recalculated, Rest, recalculate, recalculate_rest};

@@ -13,7 +13,7 @@ use Rattle.pap_types.specs.Scopes.{number_of}
 use Rattle.pap_types.specs.Routines.{method_names}
 use Rattle.pap_types.specs.Counts.{methods_written}
 use Rattle.call_order.specs.Graphs.{executed, Content}
-use Rattle.call_order.specs.ContentViews.{IsAdded}
+use Rattle.call_order.specs.private.ContentViews.{IsAdded}
 
 written-then : (s : Stmt) (rest : Body) → written (stmt_then s rest) ≡ written (stmt_then s done) + written rest
 written-then (Eval x e) rest = omega arith

@@ -8,8 +8,8 @@ use Rattle.std.proofs.Math.ListN.{get_or-append}
 use Rattle.std.proofs.lemmas.List.Elements.{All-nil}
 use Rattle.call_order.specs.Graphs.{Graph}
 use Rattle.call_order.specs.Chains.{IsChain, BeginsMore, ReachesItself, content_at}
-use Rattle.call_order.specs.LevelViews.{AllKnown, level_at, IsLongest, IsLevel, AreLevels, HaveLevels, AreAllPlaced, IsPartly, IsByLevel}
-use Rattle.call_order.specs.MarkViews.{AreMarked, IsMarking, is_marked, left}
+use Rattle.call_order.specs.private.LevelViews.{AllKnown, level_at, IsLongest, IsLevel, AreLevels, HaveLevels, AreAllPlaced, IsPartly, IsByLevel}
+use Rattle.call_order.specs.private.MarkViews.{AreMarked, IsMarking, is_marked, left}
 use Rattle.call_order.specs.Orders.{HasNone}
 use Rattle.call_order.specs.Faults.{IsFirst}
 use Rattle.call_order.proofs.ChainLemmas.{begins-more}

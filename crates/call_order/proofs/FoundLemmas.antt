@@ -7,9 +7,9 @@ use Rattle.call_order.specs.Graphs.{Graph, Content, content_of, graph_of, execut
 use Rattle.call_order.specs.Expanded.{expanded_of, expanded_in}
 use Rattle.call_order.specs.Orders.{IsOrdered}
 use Rattle.call_order.specs.Faults.{IsFirst, last_count, IsTooLong}
-use Rattle.call_order.specs.LevelViews.{level_at, AreLevels, HaveLevels, IsByLevel}
-use Rattle.call_order.specs.LengthViews.{length_of, length_with, AreLengths}
-use Rattle.call_order.specs.OrderViews.{IsLongFault, IsSorted}
+use Rattle.call_order.specs.private.LevelViews.{level_at, AreLevels, HaveLevels, IsByLevel}
+use Rattle.call_order.specs.private.LengthViews.{length_of, length_with, AreLengths}
+use Rattle.call_order.specs.private.OrderViews.{IsLongFault, IsSorted}
 use Rattle.call_order.proofs.OrderLemmas.{is_order, counted_there, not_long, not_cyclic, first_chain}
 use Rattle.call_order.proofs.LengthLemmas.{min_sum}
 use Rattle.call_order.proofs.WholeLemmas.{known, body_known, length_graph, expanded_sum, expanded_is}

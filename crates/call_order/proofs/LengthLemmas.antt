@@ -9,7 +9,7 @@ use Rattle.call_order.specs.Graphs.{Graph, Content}
 use Rattle.call_order.specs.Chains.{Executes, BeginsMore, content_at}
 use Rattle.call_order.specs.Faults.{last_count}
 use Rattle.call_order.specs.Orders.{IsOrder}
-use Rattle.call_order.specs.LengthViews.{length_of, length_with, AreLengths}
+use Rattle.call_order.specs.private.LengthViews.{length_of, length_with, AreLengths}
 use Rattle.call_order.proofs.ChainLemmas.{begins-more}
 
 -- a sum that stops, of parts that last_count

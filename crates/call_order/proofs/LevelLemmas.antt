@@ -6,7 +6,7 @@ use Rattle.std.proofs.lemmas.List.{get_or-set_same, get_or-set_other, length-set
 use Rattle.std.proofs.lemmas.List.Elements.{All-contains}
 use Rattle.call_order.specs.Graphs.{Graph, Content}
 use Rattle.call_order.specs.Chains.{Executes, IsChain, BeginsMore, content_at}
-use Rattle.call_order.specs.LevelViews.{AllKnown, level_at, IsLongest, IsLevel, IsPlaced, AreLevels, AreRaised}
+use Rattle.call_order.specs.private.LevelViews.{AllKnown, level_at, IsLongest, IsLevel, IsPlaced, AreLevels, AreRaised}
 use Rattle.call_order.proofs.ChainLemmas.{begins-less, begins-more}
 
 -- what the test of a level tells

@@ -8,8 +8,8 @@ use Rattle.std.proofs.lemmas.List.Elements.{Contains-get_or, All-contains}
 use Rattle.std.proofs.lemmas.Grind.{get_or_default_zero}
 use Rattle.call_order.specs.Graphs.{Graph}
 use Rattle.call_order.specs.Chains.{Executes, IsChain, Reaches, content_at}
-use Rattle.call_order.specs.LevelViews.{AllKnown}
-use Rattle.call_order.specs.MarkViews.{AreMarked, IsMarking, is_marked, left}
+use Rattle.call_order.specs.private.LevelViews.{AllKnown}
+use Rattle.call_order.specs.private.MarkViews.{AreMarked, IsMarking, is_marked, left}
 use Rattle.call_order.proofs.ChainLemmas.{reaches-one, reaches-more, closed}
 
 pub marked_cases : (b : Bool) → (b ≡ true) ⊎ (b ≡ false)

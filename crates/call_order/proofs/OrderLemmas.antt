@@ -12,7 +12,7 @@ use Rattle.std.proofs.lemmas.List.Elements.{All-push, All-contains}
 use Rattle.std.proofs.lemmas.Grind.{get_or_default_zero}
 use Rattle.call_order.specs.Graphs.{Graph}
 use Rattle.call_order.specs.Chains.{Executes, BeginsMore, ReachesItself, content_at}
-use Rattle.call_order.specs.LevelViews.{AllKnown, level_at, IsLongest, IsLevel, IsPlaced, AreLevels, HaveLevels, AreAllPlaced, IsByLevel, IsPassed, IsAhead, IsPartly}
+use Rattle.call_order.specs.private.LevelViews.{AllKnown, level_at, IsLongest, IsLevel, IsPlaced, AreLevels, HaveLevels, AreAllPlaced, IsByLevel, IsPassed, IsAhead, IsPartly}
 use Rattle.call_order.specs.Orders.{IsOrder}
 use Rattle.call_order.specs.Faults.{IsFirst}
 use Rattle.call_order.proofs.ChainLemmas.{cycle-long}

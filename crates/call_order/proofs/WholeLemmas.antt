@@ -16,8 +16,8 @@ use Rattle.call_order.specs.Chains.{BeginsMore, content_at}
 use Rattle.call_order.specs.Expanded.{expanded, expanded_of}
 use Rattle.call_order.specs.Orders.{HasNone}
 use Rattle.call_order.specs.Faults.{IsFirst}
-use Rattle.call_order.specs.LevelViews.{AllKnown}
-use Rattle.call_order.specs.LengthViews.{length_of, length_with}
+use Rattle.call_order.specs.private.LevelViews.{AllKnown}
+use Rattle.call_order.specs.private.LengthViews.{length_of, length_with}
 use Rattle.call_order.proofs.Numbers.{method_number, number_below, by_number}
 
 module _ (all : List Routine) where

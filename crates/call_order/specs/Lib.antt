@@ -7,8 +7,4 @@ pub mod OrderClauses
 pub mod OrderLaws
 pub mod Executed
 pub mod ChainLaws
-pub mod ContentViews
-pub mod LevelViews
-pub mod MarkViews
-pub mod LengthViews
-pub mod OrderViews
+pub mod private

@@ -6,7 +6,7 @@ ghost use Rattle.pap_tree.specs.Limits.{most_methods};
 ghost use Rattle.pap_tree.specs.Statements.{written};
 ghost use Rattle.call_order.specs.Graphs.{content_of, graph_of};
 ghost use Rattle.call_order.specs.Chains.{nothing};
-ghost use Rattle.call_order.specs.ContentViews.{IsAdded};
+ghost use Rattle.call_order.specs.private.ContentViews.{IsAdded};
 
 use pap_tree::Stmt;
 use pap_types::Typed;

@@ -1,7 +1,7 @@
 //! The first method that reaches itself.
 ghost use Rattle.std.specs.Prelude.{◌≡◌, ℕ, ◌<◌, IfOk, length, true, false};
-ghost use Rattle.call_order.specs.LevelViews.{AllKnown};
-ghost use Rattle.call_order.specs.MarkViews.{AreMarked, TellsCycle, IsFirstInCycle, is_marked};
+ghost use Rattle.call_order.specs.private.LevelViews.{AllKnown};
+ghost use Rattle.call_order.specs.private.MarkViews.{AreMarked, TellsCycle, IsFirstInCycle, is_marked};
 
 use crate::contents::Contents;
 use std::alloc::{AllocError, Global};

@@ -2,8 +2,8 @@
 ghost use Rattle.std.specs.Prelude.{◌≡◌, ◌+◌, ◌<◌, All, IfOk, length, min, slice_index};
 ghost use Rattle.call_order.specs.Faults.{last_count};
 ghost use Rattle.call_order.specs.Orders.{IsOrder};
-ghost use Rattle.call_order.specs.LevelViews.{AllKnown};
-ghost use Rattle.call_order.specs.LengthViews.{AreLengths, length_with};
+ghost use Rattle.call_order.specs.private.LevelViews.{AllKnown};
+ghost use Rattle.call_order.specs.private.LengthViews.{AreLengths, length_with};
 
 use crate::contents::Contents;
 use std::alloc::{AllocError, Global};

@@ -1,7 +1,7 @@
 //! The lengths of the longest chains that methods begin.
 ghost use Rattle.std.specs.Prelude.{◌+◌, ◌<◌, All, IfOk, MatchBool, length};
 ghost use Rattle.pap_types.specs.Limits.{longest_chain};
-ghost use Rattle.call_order.specs.LevelViews.{AllKnown, AreLevels, IsPlaced, TellsPlaced};
+ghost use Rattle.call_order.specs.private.LevelViews.{AllKnown, AreLevels, IsPlaced, TellsPlaced};
 
 use crate::contents::Contents;
 use pap_types::LONGEST_CHAIN;

@@ -6,8 +6,8 @@ ghost use Rattle.call_order.specs.Graphs.{graph_of};
 ghost use Rattle.call_order.specs.Expanded.{expanded_in};
 ghost use Rattle.call_order.specs.Faults.{IsFirst, last_count};
 ghost use Rattle.call_order.specs.OrderClauses.{OrderAnswer};
-ghost use Rattle.call_order.specs.LevelViews.{level_at, HaveLevels, AreAllPlaced, IsPartly, IsByLevel};
-ghost use Rattle.call_order.specs.OrderViews.{IsSorted, ChainsAnswer, IsLongFault};
+ghost use Rattle.call_order.specs.private.LevelViews.{level_at, HaveLevels, AreAllPlaced, IsPartly, IsByLevel};
+ghost use Rattle.call_order.specs.private.OrderViews.{IsSorted, ChainsAnswer, IsLongFault};
 
 use crate::OrderFault;
 use crate::contents::{Contents, content_of, graph_of};

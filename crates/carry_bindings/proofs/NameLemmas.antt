@@ -15,7 +15,7 @@ use Rattle.std.specs.Cmp.Lexicographic.{nat_list_cmp_total}
 use Rattle.scaled_decimal.specs.Decimals.{Decimal}
 use Rattle.rising_lists.specs.Keyed.{AreAbove, IsRising}
 use Rattle.payroll_records.proofs.Laws.{at_place, place_within}
-use Rattle.carry_bindings.specs.Views.{marked, places_of, taken}
+use Rattle.carry_bindings.specs.private.Views.{marked, places_of, taken}
 use Rattle.std.proofs.Math.Seq.{take-suc}
 use Rattle.limits_file.specs.declared.slots.Slot.{Slot}
 use Rattle.payroll_records.specs.NamedValues.{name_cmp, name_of, place_at}

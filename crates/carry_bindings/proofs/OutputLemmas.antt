@@ -17,7 +17,7 @@ use Rattle.payroll_records.specs.declared.values.NamedValue.{NamedValue}
 use Rattle.payroll_records.specs.NamedValues.{name_of}
 use Rattle.carry_bindings.specs.declared.carried.Earlier.{Earlier}
 use Rattle.carry_bindings.specs.Carrying.{amount_of, named}
-use Rattle.carry_bindings.specs.OutputViews.{AreAlike, lent_names, names_before, names_in, place_in}
+use Rattle.carry_bindings.specs.private.OutputViews.{AreAlike, lent_names, names_before, names_in, place_in}
 
 -- ---- the place of a name
 

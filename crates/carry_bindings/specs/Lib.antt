@@ -2,5 +2,4 @@ pub mod Carrying
 pub mod Filling
 pub mod Conditions
 pub mod Limits
-pub mod Views
-pub mod OutputViews
+pub mod private

@@ -4,7 +4,7 @@ ghost use Rattle.std.specs.List.{AllByRecursion};
 ghost use Rattle.carry_bindings.specs.Carrying.{amounts, carried, latest, total};
 ghost use Rattle.carry_bindings.specs.Conditions.{AreBounded};
 ghost use Rattle.carry_bindings.specs.Limits.{most_runs};
-ghost use Rattle.carry_bindings.specs.OutputViews.{AreAlike};
+ghost use Rattle.carry_bindings.specs.private.OutputViews.{AreAlike};
 
 use crate::outputs::{amount_at, is_marked, place_in};
 use limits_file::{Carry, Items};

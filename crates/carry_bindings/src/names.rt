@@ -1,7 +1,7 @@
 //! The names of a record's values, and those of the inputs.
 ghost use Rattle.std.specs.Prelude.{◌≡◌, ◌<◌, IfOk, IfSome, length};
 ghost use Rattle.carry_bindings.specs.Filling.{unknown};
-ghost use Rattle.carry_bindings.specs.Views.{marked, places_of, taken};
+ghost use Rattle.carry_bindings.specs.private.Views.{marked, places_of, taken};
 
 use limits_file::Slot;
 use pap_tree::Name;

@@ -4,7 +4,7 @@ ghost use Rattle.std.specs.Bool.{OnTrue};
 ghost use Rattle.std.specs.Str.{bytes_eq};
 ghost use Rattle.payroll_records.specs.NamedValues.{name_of};
 ghost use Rattle.carry_bindings.specs.Carrying.{amount_of};
-ghost use Rattle.carry_bindings.specs.OutputViews.{AreAlike, lent_names, names_in, place_in};
+ghost use Rattle.carry_bindings.specs.private.OutputViews.{AreAlike, lent_names, names_in, place_in};
 
 use crate::carried::Earlier;
 use limits_file::Items;

@@ -17,7 +17,8 @@ use Rattle.chart_layout.specs.declared.figure.Figure.TheFolds.{fold-roll-Figure}
 use Rattle.chart_layout.specs.declared.figure.Body.{Body, out-Body, fold_out-Body}
 use Rattle.chart_layout.specs.declared.choice.Arm.{Arm, out-Arm, fold_out-Arm, Arm-F, roll-Arm, fold-roll-Arm}
 use Rattle.chart_layout.specs.declared.choice.Choice.{Choice, out-Choice, fold_out-Choice, Choice-F, roll-Choice, fold-roll-Choice}
-use Rattle.chart_layout.specs.Drawn.{Drawn, drawn_statement, drawn_call, joined, joined_back, figure_step, arm_step, choice_step, body_step, figure_statements, arm_statements, choice_statements, body_statements, figures_statements, row_statements, part_statements, drawing_statements}
+use Rattle.chart_layout.specs.Drawn.{Drawn, drawn_statement, drawn_call, joined, joined_back, figure_step, arm_step, choice_step, body_step, body_statements, row_statements, part_statements, drawing_statements}
+use Rattle.chart_layout.specs.private.Drawn.{figure_statements, arm_statements, choice_statements, figures_statements}
 
 -- ---- parts
 

@@ -1,16 +1,12 @@
 -- The statements of a method's figures and of its drawing, in order.
-use Rattle.std.specs.Prelude.{◌≡◌, ℕ, Bool, List, [], ◌∷◌, ◌++◌, map, ⊤}
+use Rattle.std.specs.Prelude.{◌≡◌, ℕ, Bool, List, [], ◌∷◌, ◌++◌, map}
 use Rattle.std.specs.List.{flat_map}
 use Rattle.chart_layout.specs.declared.statement.Statement.{Statement}
 use Rattle.chart_layout.specs.declared.statement.Call.{Call as Execute}
-use Rattle.chart_layout.specs.declared.figure.Figure.{Figure}
 use Rattle.chart_layout.specs.declared.figure.Body.{Body, out-Body}
-use Rattle.chart_layout.specs.declared.choice.Arm.{Arm, out-Arm}
-use Rattle.chart_layout.specs.declared.choice.Choice.{Choice as AnIf, out-Choice}
-use Rattle.chart_layout.specs.declared.choice.Shape.{Shape}
 use Rattle.chart_layout.specs.declared.choice.Shape.TheVariants as shapes
 use Rattle.chart_layout.specs.declared.figure.Figure.TheOpen.{Figure-F, Note, Box, Call, Choice, Arm-F, Choice-F, Body-F}
-use Rattle.chart_layout.specs.declared.figure.Figure.TheFolds.{fold-Figure, fold-Arm, fold-Choice, fold-Body}
+use Rattle.chart_layout.specs.declared.figure.Figure.TheFolds.{fold-Body}
 use Rattle.chart_layout.specs.declared.drawing.Row.{Row}
 use Rattle.chart_layout.specs.declared.drawing.Row.TheVariants as rows
 use Rattle.chart_layout.specs.declared.drawing.Part.{Part}
@@ -60,20 +56,8 @@ choice_step c = c.first ++ (joined_back c.later.items ++ c.otherwise)
 abbrev pub body_step : Body-F (List Drawn) (List Drawn) (List Drawn) (List Drawn) → List Drawn
 body_step b = joined b.figures.items
 
-abbrev pub figure_statements : Figure → List Drawn
-figure_statements = fold-Figure (List Drawn) (List Drawn) (List Drawn) (List Drawn) figure_step arm_step choice_step body_step
-
-abbrev pub arm_statements : Arm → List Drawn
-arm_statements = fold-Arm (List Drawn) (List Drawn) (List Drawn) (List Drawn) figure_step arm_step choice_step body_step
-
-abbrev pub choice_statements : AnIf → List Drawn
-choice_statements = fold-Choice (List Drawn) (List Drawn) (List Drawn) (List Drawn) figure_step arm_step choice_step body_step
-
 abbrev pub body_statements : Body → List Drawn
 body_statements = fold-Body (List Drawn) (List Drawn) (List Drawn) (List Drawn) figure_step arm_step choice_step body_step
-
-abbrev pub figures_statements : List Figure → List Drawn
-figures_statements figures = joined (map figure_statements figures)
 
 -- nothing stands in the body, no comment either
 abbrev pub IsBlank : Body → Type 0
@@ -95,15 +79,3 @@ abbrev pub drawing_statements : List Part → List Drawn
 drawing_statements parts = flat_map part_statements parts
 
 -- ---- of the ways of an IF
-
--- what is empty where the branches of an IF come together so
-abbrev pub HasShape : AnIf → Shape → Type 0
-HasShape c shapes.Rail = ⊤
-HasShape c shapes.Then =
-    ((out-Choice c).later.items ≡ []) × (body_statements (out-Choice c).otherwise ≡ [])
-HasShape c shapes.Else =
-    ((out-Choice c).later.items ≡ []) × (body_statements (out-Arm (out-Choice c).first).then ≡ [])
-HasShape c shapes.Nothing =
-    ((out-Choice c).later.items ≡ [])
-    × (body_statements (out-Arm (out-Choice c).first).then ≡ [])
-    × (body_statements (out-Choice c).otherwise ≡ [])

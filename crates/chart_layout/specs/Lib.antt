@@ -1,3 +1,4 @@
 pub mod Drawn
 pub mod Statements
 pub mod Counts
+pub mod private

@@ -5,10 +5,8 @@ use Rattle.pap_tree.specs.Grammar.{Line, Level, Assignment, Meaning, tree, assig
 use Rattle.pap_tree.specs.Spelling.{spelling}
 use Rattle.pap_tree.specs.Stopping.{Cause}
 use Rattle.pap_tree.specs.Expressions.{IsAccepted, IsWrong}
-use Rattle.pap_reader.specs.declared.elements.RawStmt.{RawStmt}
-use Rattle.pap_reader.specs.Trees.{RawBody, done, eval, branch, execute, raw_stmt_then}
-use Rattle.chart_layout.specs.Drawn.{Drawn, drawn}
-use Rattle.chart_layout.specs.declared.build.Numbering.{Numbering}
+use Rattle.pap_reader.specs.Trees.{RawBody, done, eval, branch, execute}
+use Rattle.chart_layout.specs.Drawn.{Drawn}
 
 -- a statement of the file: the text of its expression, with the line of the grammar that it is read by, or the name of the
 -- method that it executes
@@ -44,10 +42,6 @@ IsDrawnAs (execution name) text = text ≡ name
 abbrev pub next_number : ℕ → ℕ
 next_number number = min (number + 1) (2 ^ 32 - 1)
 
-abbrev pub number_behind : ℕ → List FileStatement → ℕ
-number_behind number [] = number
-number_behind number (s ∷ ss) = number_behind (next_number number) ss
-
 -- whether the refused statement has this number
 abbrev pub is_number : Option ℕ → ℕ → Bool
 is_number refused number = option_eq nat_eq refused (Some number)
@@ -61,25 +55,3 @@ AreDrawn refused number (s ∷ ss) (d ∷ ds) =
 AreDrawn _ _ _ _ = ⊥
 
 -- ---- what a builder does
-
--- a statement without those that follow it, and what stands in it
-abbrev pub statements_in : RawStmt → List FileStatement
-statements_in s = statements_of (raw_stmt_then s done)
-
--- the numbers behind the next statement, and behind some
-abbrev pub after : Numbering → Numbering
-after n = record n { next = next_number n.next }
-
-abbrev pub numbering_behind : Numbering → List FileStatement → Numbering
-numbering_behind n ss = record n { next = number_behind n.next ss }
-
--- the next statement as it is drawn, with this text
-abbrev pub next_drawn : Numbering → List ℕ → Drawn
-next_drawn n text = drawn n.next (is_number n.refused n.next) text
-
--- the drawn statements of these are appended, numbered from one number up to the next
-pub record Adds (from to : Numbering) (ss : List FileStatement) (old new : List Drawn) : Type 0 where
-  pub more : List Drawn
-  pub drawn : AreDrawn from.refused from.next ss more
-  pub behind : to ≡ numbering_behind from ss
-  pub grown : new ≡ old ++ more

@@ -3,8 +3,10 @@ ghost use Rattle.std.specs.Prelude.{◌≡◌, ◌++◌, [], ◌∷◌, IsTrue, 
 ghost use Rattle.pap_tree.specs.Grammar.{Level, Assignment, assignment};
 ghost use Rattle.pap_tree.specs.Term.{term_of};
 ghost use Rattle.pap_reader.specs.Trees.{raw_body_of};
-ghost use Rattle.chart_layout.specs.Drawn.{drawn_statement, arm_statements, body_statements, choice_statements, figures_statements};
-ghost use Rattle.chart_layout.specs.Statements.{expression, execution, statements_of, statements_in, is_number, after, next_drawn, spelled, IsSpelledAs, AreDrawn, Adds};
+ghost use Rattle.chart_layout.specs.Drawn.{drawn_statement, body_statements};
+ghost use Rattle.chart_layout.specs.private.Drawn.{arm_statements, choice_statements, figures_statements};
+ghost use Rattle.chart_layout.specs.Statements.{expression, execution, statements_of, is_number, spelled, IsSpelledAs, AreDrawn};
+ghost use Rattle.chart_layout.specs.private.Statements.{statements_in, after, next_drawn, Adds};
 ghost use Rattle.chart_layout.specs.Counts.{count_of};
 
 use crate::choice::{Arm, Choice};

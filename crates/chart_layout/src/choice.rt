@@ -1,5 +1,5 @@
 //! An IF, with those that stand alone in its ELSE.
-ghost use Rattle.chart_layout.specs.Drawn.{HasShape};
+ghost use Rattle.chart_layout.specs.private.Drawn.{HasShape};
 
 use crate::figure::{Body, End};
 use crate::measures::{RAIL_ROOM, STEP};

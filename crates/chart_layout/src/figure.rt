@@ -1,6 +1,7 @@
 //! What a body is drawn as.
 ghost use Rattle.std.specs.Prelude.{◌≡◌, ◌↔◌, [], IsTrue};
-ghost use Rattle.chart_layout.specs.Drawn.{body_statements, figures_statements, IsBlank};
+ghost use Rattle.chart_layout.specs.Drawn.{body_statements, IsBlank};
+ghost use Rattle.chart_layout.specs.private.Drawn.{figures_statements};
 
 use crate::choice::Choice;
 use crate::measures::{LEAST_SYMBOL, STATEMENT_GAP, TEXT_DROP};

@@ -2,7 +2,8 @@
 ghost use Rattle.std.specs.Prelude.{◌≡◌, ◌++◌, [], ◌∷◌, OnOk, IfOk, map};
 ghost use Rattle.chart_layout.specs.declared.choice.Arm.{out-Arm};
 ghost use Rattle.chart_layout.specs.declared.choice.Choice.{out-Choice};
-ghost use Rattle.chart_layout.specs.Drawn.{drawn_statement, drawn_call, joined_back, drawing_statements, body_statements, figure_statements, choice_statements, arm_statements};
+ghost use Rattle.chart_layout.specs.Drawn.{drawn_statement, drawn_call, joined_back, drawing_statements, body_statements};
+ghost use Rattle.chart_layout.specs.private.Drawn.{figure_statements, choice_statements, arm_statements};
 
 use crate::build::MethodText;
 use crate::choice::{Arm, Choice, Shape};

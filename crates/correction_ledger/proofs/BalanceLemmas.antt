@@ -10,7 +10,7 @@ use Rattle.rising_lists.specs.Keyed.{at_key, AreAbove, IsRising}
 use Rattle.rising_lists.proofs.Laws.{above_all_of, above_more, above_same, all_above, at_key_above, at_key_map, rising_map}
 use Rattle.correction_ledger.specs.declared.balances.Balance.{Balance}
 use Rattle.correction_ledger.specs.declared.due.Due.{Due}
-use Rattle.correction_ledger.specs.BalanceViews.{AreBothBounded, both_sides, due_by, owed_of, filed_only, balances_of, balances_by, balances_with, reported_only, settled_by, settled_of}
+use Rattle.correction_ledger.specs.private.BalanceViews.{AreBothBounded, both_sides, due_by, owed_of, filed_only, balances_of, balances_by, balances_with, reported_only, settled_by, settled_of}
 use Rattle.correction_ledger.specs.Accounts.{Account, account_cmp, account_of}
 use Rattle.correction_ledger.proofs.DifferenceLemmas.{settled_bounded, zero_bounded}
 use Rattle.correction_ledger.proofs.AccountLemmas.{account_total}

@@ -5,11 +5,11 @@ use Rattle.payroll_records.specs.declared.month.Month.{Month}
 use Rattle.recalc_engine.specs.MonthRows.{KeyedRow}
 use Rattle.correction_ledger.specs.declared.due.Due.{Due}
 use Rattle.correction_ledger.specs.declared.due.Entry.{Entry}
-use Rattle.correction_ledger.specs.FilingViews.{AreSumsOf}
+use Rattle.correction_ledger.specs.FilingSums.{AreSumsOf}
 use Rattle.correction_ledger.specs.Filings.{IsClosed, IsFiling, HasTooMany, IsOwedNow, entry_with}
 use Rattle.correction_ledger.specs.Limits.{most_entries}
 use Rattle.correction_ledger.specs.Open.{first_open}
-use Rattle.correction_ledger.specs.RowViews.{AreReported}
+use Rattle.correction_ledger.specs.private.RowViews.{AreReported}
 use Rattle.correction_ledger.proofs.KeptLemmas.{list_is_kept, list_is_owed, owed_list, settled_list, up_to_now}
 
 -- the entries once these amounts are filed with the month

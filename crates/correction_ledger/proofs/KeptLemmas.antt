@@ -16,14 +16,14 @@ use Rattle.recalc_engine.specs.MonthRows.{KeyedRow}
 use Rattle.correction_ledger.specs.declared.balances.Balance.{Balance}
 use Rattle.correction_ledger.specs.declared.due.Due.{Due}
 use Rattle.correction_ledger.specs.declared.due.Entry.{Entry}
-use Rattle.correction_ledger.specs.BalanceViews.{AreBothBounded, due_by, owed_of, filed_only, balances_of, reported_only, both_sides, settled_by, settled_of}
-use Rattle.correction_ledger.specs.FilingViews.{AreSumsOf, AreUpTo}
+use Rattle.correction_ledger.specs.private.BalanceViews.{AreBothBounded, due_by, owed_of, filed_only, balances_of, reported_only, both_sides, settled_by, settled_of}
+use Rattle.correction_ledger.specs.FilingSums.{AreSumsOf, AreUpTo}
 use Rattle.correction_ledger.specs.Filings.{IsLater, entry_with}
 use Rattle.correction_ledger.specs.Limits.{most_entries}
 use Rattle.correction_ledger.specs.Months.{is_up_to}
 use Rattle.correction_ledger.specs.Owed.{IsOwed, filed, reported}
 use Rattle.correction_ledger.specs.Accounts.{Account, amount_at, due_amount, account_cmp, account_of}
-use Rattle.correction_ledger.specs.RowViews.{AreReported}
+use Rattle.correction_ledger.specs.private.RowViews.{AreReported}
 use Rattle.correction_ledger.proofs.BalanceLemmas.{all_balances, at_balances, balance_account, due_at, balances_bounded, balances_rising, met, settled_by_bounded}
 use Rattle.correction_ledger.proofs.OwedLemmas.{filed_after, owed_at, owed_between, owed_of_at}
 use Rattle.correction_ledger.proofs.AccountLemmas.{account_same, account_total, up_to_later}

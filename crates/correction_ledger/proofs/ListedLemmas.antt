@@ -17,7 +17,7 @@ use Rattle.carry_bindings.specs.Carrying.{named}
 use Rattle.correction_ledger.specs.declared.due.Due.{Due}
 use Rattle.recalc_engine.specs.RowLaws.{HaveNames}
 use Rattle.correction_ledger.specs.Accounts.{due_amount}
-use Rattle.correction_ledger.specs.RowViews.{AreListed, due_for, due_name, dues_of}
+use Rattle.correction_ledger.specs.private.RowViews.{AreListed, due_for, due_name, dues_of}
 
 -- ---- what stands under a name
 

@@ -17,7 +17,7 @@ use Rattle.recalc_engine.specs.MonthRows.{KeyedRow}
 use Rattle.correction_ledger.specs.declared.balances.Balance.{Balance}
 use Rattle.correction_ledger.specs.declared.due.Due.{Due}
 use Rattle.correction_ledger.specs.declared.due.Entry.{Entry}
-use Rattle.correction_ledger.specs.BalanceViews.{due_by, owed_of, settled_by}
+use Rattle.correction_ledger.specs.private.BalanceViews.{due_by, owed_of, settled_by}
 use Rattle.correction_ledger.specs.Filings.{entry_with}
 use Rattle.correction_ledger.specs.Months.{is_up_to}
 use Rattle.correction_ledger.specs.Owed.{IsDue, IsOwed, entry_amount, filed, is_for, reported}

@@ -25,7 +25,7 @@ use Rattle.recalc_engine.specs.RowLaws.{AreNamed, HaveNames}
 use Rattle.correction_ledger.specs.Months.{is_up_to}
 use Rattle.correction_ledger.specs.Owed.{output_of, reported}
 use Rattle.correction_ledger.specs.Accounts.{Account, amount_at, due_amount, account_cmp, account_of}
-use Rattle.correction_ledger.specs.RowViews.{AreListed, AreReported, due_name, outputs_by, outputs_or_none}
+use Rattle.correction_ledger.specs.private.RowViews.{AreListed, AreReported, due_name, outputs_by, outputs_or_none}
 use Rattle.correction_ledger.proofs.RisingLemmas.{all_append, all_more, at_key_append, rising_append}
 
 -- ---- the outputs of a row that count

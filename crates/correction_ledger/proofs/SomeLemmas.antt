@@ -25,7 +25,7 @@ use Rattle.correction_ledger.specs.Months.{is_up_to}
 use Rattle.correction_ledger.specs.Owed.{IsOwed, entry_amount, filed, is_for, output_of, reported}
 use Rattle.correction_ledger.specs.OwedLaws.{HasOneOwed}
 use Rattle.correction_ledger.specs.Accounts.{Account, account_cmp, account_of}
-use Rattle.correction_ledger.specs.RowViews.{outputs_or_none}
+use Rattle.correction_ledger.specs.private.RowViews.{outputs_or_none}
 use Rattle.correction_ledger.proofs.OwedLemmas.{owed_at, owed_between, owed_of_at, owed_once, owed_account}
 use Rattle.correction_ledger.proofs.AccountLemmas.{account_same, account_total}
 

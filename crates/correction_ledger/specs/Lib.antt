@@ -5,7 +5,5 @@ pub mod Owed
 pub mod Filings
 pub mod OwedLaws
 pub mod Open
-pub mod BalanceViews
-pub mod FilingViews
-pub mod Admission
-pub mod RowViews
+pub mod FilingSums
+pub mod private

@@ -2,8 +2,8 @@
 ghost use Rattle.std.specs.Prelude.{◌≡◌};
 ghost use Rattle.std.specs.Iterator.{YieldsFirst, item_count};
 ghost use Rattle.correction_ledger.specs.Accounts.{account_cmp, account_of};
-ghost use Rattle.correction_ledger.specs.BalanceViews.{AreBothBounded, balances_of, owed_of};
-ghost use Rattle.correction_ledger.specs.BalanceViews.{both_sides, filed_only, reported_only, settled_of};
+ghost use Rattle.correction_ledger.specs.private.BalanceViews.{AreBothBounded, balances_of, owed_of};
+ghost use Rattle.correction_ledger.specs.private.BalanceViews.{both_sides, filed_only, reported_only, settled_of};
 
 use crate::due::Due;
 use pap_tree::Name;
@@ -100,7 +100,7 @@ pub(crate) struct Balances<'a> {
 impl<'a> Model for Balances<'a> {
     ghost use Rattle.std.specs.Prelude.{List};
     ghost use Rattle.correction_ledger.specs.declared.balances.Balance.{Balance};
-    ghost use Rattle.correction_ledger.specs.BalanceViews.{balances_of};
+    ghost use Rattle.correction_ledger.specs.private.BalanceViews.{balances_of};
 
     ghost Value = { List Balance };
 

@@ -1,7 +1,7 @@
 //! What is owed, and what is filed with it: one pass over the balances each.
 ghost use Rattle.std.specs.Prelude.{◌≡◌, IfOk, map};
 ghost use Rattle.std.specs.List.{AllByRecursion, filter_map};
-ghost use Rattle.correction_ledger.specs.BalanceViews.{AreBothBounded, owed_of, settled_of};
+ghost use Rattle.correction_ledger.specs.private.BalanceViews.{AreBothBounded, owed_of, settled_of};
 ghost use Rattle.correction_ledger.specs.Filings.{entry_with};
 
 use crate::balances::Balances;

@@ -1,7 +1,7 @@
 //! The ledger.
 ghost use Rattle.std.specs.Prelude.{◌≡◌, [], None, IfOk, IfErr, OnErr, OnOk};
 ghost use Rattle.recalc_engine.specs.MonthRows.{month_rows};
-ghost use Rattle.correction_ledger.specs.Admission.{IsAdmitRefused};
+ghost use Rattle.correction_ledger.specs.private.Admission.{IsAdmitRefused};
 ghost use Rattle.correction_ledger.specs.Filings.{IsClosed, IsFiling, IsFileRefused};
 ghost use Rattle.correction_ledger.specs.Filings.{IsOwedNow, IsOwedRefused};
 ghost use Rattle.correction_ledger.specs.OwedLaws.{FilingSettles, OwedIsOne, OwedSettles};
@@ -32,7 +32,7 @@ pub struct Ledger {
 
 impl Model for Ledger {
     ghost use Rattle.correction_ledger.specs.Filings.{Filings};
-    ghost use Rattle.correction_ledger.specs.FilingViews.{AreSumsOf};
+    ghost use Rattle.correction_ledger.specs.FilingSums.{AreSumsOf};
 
     ghost Value = { Filings };
 

@@ -3,7 +3,7 @@ ghost use Rattle.std.specs.Prelude.{◌≡◌, [], OnOk};
 ghost use Rattle.std.specs.List.Sorted.{IsPermutation, IsSortedByKey};
 ghost use Rattle.payroll_records.specs.NamedValues.{name_cmp};
 ghost use Rattle.recalc_engine.specs.RowLaws.{HaveNames};
-ghost use Rattle.correction_ledger.specs.RowViews.{AreListed, due_name, dues_of};
+ghost use Rattle.correction_ledger.specs.private.RowViews.{AreListed, due_name, dues_of};
 
 use crate::due::Due;
 use payroll_records::{Key, NamedValue};

@@ -1,10 +1,10 @@
 //! The runs of a book up to a month.
 ghost use Rattle.std.specs.Prelude.{◌≡◌, IfOk};
 ghost use Rattle.recalc_engine.specs.MonthRows.{month_rows};
-ghost use Rattle.recalc_engine.specs.RowViews.{lent_row};
+ghost use Rattle.recalc_engine.specs.LentRows.{lent_row};
 ghost use Rattle.correction_ledger.specs.Months.{is_up_to};
 ghost use Rattle.correction_ledger.specs.Open.{first_open, is_open};
-ghost use Rattle.correction_ledger.specs.RowViews.{outputs_by, AreReported};
+ghost use Rattle.correction_ledger.specs.private.RowViews.{outputs_by, AreReported};
 
 use crate::due::Due;
 use crate::outputs::list_outputs;

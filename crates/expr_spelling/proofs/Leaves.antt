@@ -22,7 +22,7 @@ use Rattle.pap_tree.specs.Spelling as bytes
 use Rattle.pap_tree.specs.Spelling.{spelled_leaf}
 use Rattle.pap_tree.specs.Tokens as tokens
 use Rattle.pap_tree.specs.Tokens.{Token, Literal, Quoted, Word, Operator, Mark, Open, Close, int, long, point, greatest_int, greatest_long, is_word_text}
-use Rattle.expr_tokens.specs.Views.{First, Stops}
+use Rattle.expr_tokens.specs.private.Views.{First, Stops}
 use Rattle.expr_tokens.proofs.Laws.{all_digits, word_first}
 use Rattle.expr_grammar.specs.SpelledTokens.{leaf_tokens}
 use Rattle.expr_spelling.proofs.Lexing.{Lex, Any, Cut, join, lead, word_lex, cut_no_digit, cut_no_places}

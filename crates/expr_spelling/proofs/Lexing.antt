@@ -9,7 +9,7 @@ use Rattle.std.proofs.lemmas.List.Folds.{list_all-append}
 use Rattle.pap_tree.specs.White.{is_white}
 use Rattle.pap_tree.specs.Names.{is_letter, is_word}
 use Rattle.pap_tree.specs.Tokens.{Token, Word, is_word_text, Spot, plain, Tokens, IsToken}
-use Rattle.expr_tokens.specs.Views.{Begins, First, Stops, NotFirst, NoPlaces, is_sign_byte, IsNoPair}
+use Rattle.expr_tokens.specs.private.Views.{Begins, First, Stops, NotFirst, NoPlaces, is_sign_byte, IsNoPair}
 use Rattle.expr_tokens.proofs.Laws.{within, begins, class, only_word, word_first, a_token}
 
 -- from each place on the bytes have these tokens

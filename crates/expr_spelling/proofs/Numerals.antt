@@ -14,7 +14,7 @@ use Rattle.scaled_decimal.specs.Limits.{IsKept}
 use Rattle.scaled_decimal.specs.PlainTexts.{digit_byte, whole_text, last_digits, plain_text}
 use Rattle.scaled_decimal.proofs.Laws.{length-last_digits, whole_some, digits_last, digits_whole, some_whole, value_whole, value_all, plain_text_spells}
 use Rattle.pap_tree.specs.Tokens.{Literal, Quoted, int, long, point, greatest_int, greatest_long, IsNumeral, IsPoint}
-use Rattle.expr_tokens.specs.Views.{Begins, First, Stops, IsNumeralSplit}
+use Rattle.expr_tokens.specs.private.Views.{Begins, First, Stops, IsNumeralSplit}
 use Rattle.expr_tokens.proofs.Laws.{all_digits, int_begins, long_begins, point_begins, string_begins, number_no_quote}
 use Rattle.expr_spelling.proofs.Lexing.{Lex, Any, Cut, one, cut_no_digit, cut_no_long, cut_no_places}
 

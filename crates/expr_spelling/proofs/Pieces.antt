@@ -10,7 +10,7 @@ use Rattle.pap_tree.specs.Spelling as bytes
 use Rattle.pap_tree.specs.Tokens as tokens
 use Rattle.pap_tree.specs.Tokens.{Token, Word, Operator, Mark, Open, Close, is_word_text, IsToken}
 use Rattle.pap_tree.specs.Texts.{begins_point}
-use Rattle.expr_tokens.specs.Views.{NotFirst, is_sign_byte, IsNoPair}
+use Rattle.expr_tokens.specs.private.Views.{NotFirst, is_sign_byte, IsNoPair}
 use Rattle.expr_tokens.proofs.Laws.{pair_begins, a_token}
 use Rattle.expr_grammar.specs.SpelledTokens as spelled
 use Rattle.expr_grammar.specs.SpelledTokens.{begins_signed}

@@ -16,7 +16,7 @@ use Rattle.pap_tree.specs.Words.{operator_text}
 use Rattle.pap_tree.specs.declared.expression.Binary.{Binary}
 use Rattle.pap_tree.specs.declared.expression.Binary.TheVariants.{Mul, Div, Rem, Plus, Sub, Less, LessEq, More, MoreEq, Same, Differs, And, Or}
 use Rattle.pap_tree.specs.Tokens.{Equals, Bang, Question, Colon, Dot, Comma, Semicolon, Open, Close, OpenItem, CloseItem, OpenTable, CloseTable, Token, Literal, Quoted, Beyond, Word, Operator, Mark, Alien, int, long, point, greatest_int, greatest_long, Spot, IsNumeral, IsPoint, great_int, great_long, great_point, great_quoted, IsToken, Tokens}
-use Rattle.expr_tokens.specs.Views.{Begins, First, Stops, IsLongest, NotFirst, IsNumeralSplit, IsAfterPlaces, NoPlaces, is_no_quote, is_sign_byte, IsNoPair}
+use Rattle.expr_tokens.specs.private.Views.{Begins, First, Stops, IsLongest, NotFirst, IsNumeralSplit, IsAfterPlaces, NoPlaces, is_no_quote, is_sign_byte, IsNoPair}
 use Rattle.expr_tokens.proofs.FrontLemmas.{longest_at}
 use Rattle.expr_tokens.proofs.ClassLemmas.{is_single}
 use Rattle.expr_tokens.proofs.WordLemmas.{word_begins}

@@ -13,7 +13,7 @@ use Rattle.pap_tree.specs.Words.{operator_text}
 use Rattle.pap_tree.specs.declared.expression.Binary.{Binary}
 use Rattle.pap_tree.specs.declared.expression.Binary.TheVariants.{Mul, Div, Rem, Plus, Sub, Less, LessEq, More, MoreEq, Same, Differs, And, Or}
 use Rattle.pap_tree.specs.Tokens.{Sign, Equals, Bang, Question, Colon, Dot, Comma, Semicolon, Open, Close, OpenItem, CloseItem, OpenTable, CloseTable, sign_text, Token, Literal, Quoted, Beyond, Word, Operator, Mark, Alien, int, long, point, is_word_text, IsNumeral, IsLong, IsPoint, IsQuoted, IsBeyondRange, great_int, great_long, great_point, great_quoted, IsToken}
-use Rattle.expr_tokens.specs.Views.{First, Stops, is_sign_byte}
+use Rattle.expr_tokens.specs.private.Views.{First, Stops, is_sign_byte}
 
 -- the texts of numbers
 pub data IsNumberText : List ℕ → Type 0 where

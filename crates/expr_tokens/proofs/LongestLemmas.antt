@@ -2,7 +2,7 @@
 use Rattle.std.proofs.Common.{◌≡◌, ℕ, ◌+◌, ◌≤◌, List, ◌++◌, length, sym, ap, ◌∙◌, append_assoc, length-append, arith}
 use Rattle.std.proofs.lemmas.List.{nil_from_length}
 use Rattle.pap_tree.specs.Tokens.{Token, Literal, Quoted, Beyond, Word, Operator, Mark, Alien, IsToken, TakesMost, IsFirst}
-use Rattle.expr_tokens.specs.Views.{Begins}
+use Rattle.expr_tokens.specs.private.Views.{Begins}
 
 -- where nothing that is left of the bytes after a token is shorter, no more of them spell a token
 pub takes_most : (text rest : List ℕ) → ((u left : List ℕ) (t : Token) → text ++ rest ≡ u ++ left → IsToken u t → length rest ≤ length left) → TakesMost text rest

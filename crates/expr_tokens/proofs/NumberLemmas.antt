@@ -9,7 +9,7 @@ use Rattle.std.proofs.lemmas.List.{append_cancel_right}
 use Rattle.std.proofs.Math.Seq.{take-append_seam}
 use Rattle.scaled_decimal.specs.Decimals.{Decimal, decimal}
 use Rattle.pap_tree.specs.Tokens.{Token, IsToken, IsNumeral, IsPoint}
-use Rattle.expr_tokens.specs.Views.{Begins, First, Stops, IsLongest, NotFirst, IsNumeralSplit, IsAfterPlaces, NoPlaces}
+use Rattle.expr_tokens.specs.private.Views.{Begins, First, Stops, IsLongest, NotFirst, IsNumeralSplit, IsAfterPlaces, NoPlaces}
 use Rattle.expr_tokens.proofs.FrontLemmas.{within}
 use Rattle.expr_tokens.proofs.ClassLemmas.{all_digits, digits_all, IsNumberText, whole, whole_long, with_places, class, only_number}
 use Rattle.expr_tokens.proofs.LongestLemmas.{begins}

@@ -15,7 +15,7 @@ use Rattle.pap_tree.specs.White.{is_white}
 use Rattle.pap_tree.specs.Names.{is_letter}
 use Rattle.pap_tree.specs.declared.expression.Binary.TheVariants.{Mul, Div, Rem, Plus, Sub, Less, LessEq, More, MoreEq, Same, Differs, And, Or}
 use Rattle.pap_tree.specs.Tokens.{Equals, Bang, Question, Colon, Dot, Comma, Semicolon, Open, Close, OpenItem, CloseItem, OpenTable, CloseTable, Token, Literal, Quoted, Beyond, Word, Operator, Mark, Alien, int, long, point, greatest_int, greatest_long, is_word_text, Spot, IsNumeral, IsLong, IsPoint, IsQuoted, IsBeyondRange, great_int, great_long, great_point, great_quoted, IsToken, TakesMost, SpellsNoToken, IsFirst, Tokens}
-use Rattle.expr_tokens.specs.Views.{First, Stops, is_sign_byte}
+use Rattle.expr_tokens.specs.private.Views.{First, Stops, is_sign_byte}
 use Rattle.expr_tokens.proofs.FrontLemmas.{within as front_within}
 use Rattle.expr_tokens.proofs.ClassLemmas.{IsNumberText, whole, whole_long, with_places, class, is_quote, digit_no_letter, digit_no_sign, letter_no_sign, digit_no_quote, letter_no_quote, sign_no_quote, apart, number_first, word_first, string_first, some_bytes, class_black}
 use Rattle.expr_tokens.proofs.NumberLemmas.{either, digit_among, differ, heads, tails, no_point}

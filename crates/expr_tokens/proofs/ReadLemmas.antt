@@ -10,7 +10,7 @@ use Rattle.expr_tokens.specs.declared.token.Token.TheVariants as reads
 use Rattle.expr_tokens.specs.declared.token.Placed.{Placed}
 use Rattle.expr_tokens.specs.Ranges.{is_in_range}
 use Rattle.expr_tokens.specs.Spots.{token_of, spot_of, spots_of}
-use Rattle.expr_tokens.specs.Views.{Begins, IsLongest}
+use Rattle.expr_tokens.specs.private.Views.{Begins, IsLongest}
 use Rattle.expr_tokens.proofs.ClassLemmas.{class, some_bytes}
 
 -- ---- one token

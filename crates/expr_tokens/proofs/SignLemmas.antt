@@ -6,7 +6,7 @@ use Rattle.pap_tree.specs.White.{is_white}
 use Rattle.pap_tree.specs.Words.{operator_text}
 use Rattle.pap_tree.specs.declared.expression.Binary.{Binary}
 use Rattle.pap_tree.specs.Tokens.{Token, Literal, Quoted, Beyond, Word, Operator, Mark, Alien, IsToken}
-use Rattle.expr_tokens.specs.Views.{Begins, is_sign_byte, IsNoPair, IsSingle}
+use Rattle.expr_tokens.specs.private.Views.{Begins, is_sign_byte, IsNoPair, IsSingle}
 use Rattle.expr_tokens.proofs.ClassLemmas.{class, Spelling, one, two, only_sign, is_single}
 use Rattle.expr_tokens.proofs.LongestLemmas.{begins, less_left}
 

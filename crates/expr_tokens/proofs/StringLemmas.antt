@@ -11,7 +11,7 @@ use Rattle.std.proofs.lemmas.List.Folds.{list_all-append}
 use Rattle.scaled_decimal.specs.Decimals.{Decimal}
 use Rattle.scaled_decimal.specs.NumberTexts.{sign_text, point_text, Spells, SpellsNone}
 use Rattle.pap_tree.specs.Tokens.{Token, Alien, IsToken, SpellsNoToken}
-use Rattle.expr_tokens.specs.Views.{Begins, IsLongest, NotFirst, is_no_quote}
+use Rattle.expr_tokens.specs.private.Views.{Begins, IsLongest, NotFirst, is_no_quote}
 use Rattle.expr_tokens.proofs.FrontLemmas.{within}
 use Rattle.expr_tokens.proofs.ClassLemmas.{digit_is, class, only_string}
 use Rattle.expr_tokens.proofs.LongestLemmas.{begins}

@@ -7,7 +7,7 @@ use Rattle.std.proofs.lemmas.List.Sums.{prefix_len-le-length}
 use Rattle.std.proofs.Math.Seq.{take-append-add}
 use Rattle.pap_tree.specs.Names.{is_letter, is_word}
 use Rattle.pap_tree.specs.Tokens.{Word, is_word_text}
-use Rattle.expr_tokens.specs.Views.{Begins, First, Stops, IsLongest}
+use Rattle.expr_tokens.specs.private.Views.{Begins, First, Stops, IsLongest}
 use Rattle.expr_tokens.proofs.FrontLemmas.{longest_at, within}
 use Rattle.expr_tokens.proofs.ClassLemmas.{class, only_word}
 use Rattle.expr_tokens.proofs.LongestLemmas.{begins, less_left}

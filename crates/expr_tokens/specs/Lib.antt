@@ -1,3 +1,3 @@
 pub mod Ranges
 pub mod Spots
-pub mod Views
+pub mod private

@@ -4,7 +4,7 @@ ghost use Rattle.std.specs.List.{prefix_len};
 ghost use Rattle.pap_tree.specs.White.{is_white};
 ghost use Rattle.pap_tree.specs.Tokens.{Spot, Tokens};
 ghost use Rattle.expr_tokens.specs.Spots.{token_of, spots_of};
-ghost use Rattle.expr_tokens.specs.Views.{Begins, Stops, IsLongest};
+ghost use Rattle.expr_tokens.specs.private.Views.{Begins, Stops, IsLongest};
 
 use crate::number::{split_number, split_quoted};
 use crate::sign::split_sign;

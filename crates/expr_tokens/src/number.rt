@@ -7,7 +7,7 @@ ghost use Rattle.std.specs.Str.Parse.{digits_value};
 ghost use Rattle.scaled_decimal.specs.Decimals.{Decimal};
 ghost use Rattle.pap_tree.specs.Tokens.{IsToken, IsNumeral, IsPoint};
 ghost use Rattle.expr_tokens.specs.Spots.{token_of};
-ghost use Rattle.expr_tokens.specs.Views.{Begins, First, IsLongest, IsNumeralSplit, IsAfterPlaces, NoPlaces, NotFirst, is_no_quote};
+ghost use Rattle.expr_tokens.specs.private.Views.{Begins, First, IsLongest, IsNumeralSplit, IsAfterPlaces, NoPlaces, NotFirst, is_no_quote};
 
 use crate::token::Token;
 use scaled_decimal::{NumFault, read_dec};

@@ -2,7 +2,7 @@
 ghost use Rattle.std.specs.Prelude.{◌≡◌, true, [], ◌∷◌, MatchOption};
 ghost use Rattle.pap_tree.specs.Words.{operator_text};
 ghost use Rattle.expr_tokens.specs.Spots.{token_of};
-ghost use Rattle.expr_tokens.specs.Views.{Begins, is_sign_byte, IsSingle, IsNoPair};
+ghost use Rattle.expr_tokens.specs.private.Views.{Begins, is_sign_byte, IsSingle, IsNoPair};
 
 use crate::token::{Sign, Token};
 use pap_tree::Binary;

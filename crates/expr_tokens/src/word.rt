@@ -4,7 +4,7 @@ ghost use Rattle.std.specs.List.{prefix_len};
 ghost use Rattle.pap_tree.specs.Names.{is_letter, is_word, is_reserved};
 ghost use Rattle.pap_tree.specs.Tokens.{Word, is_word_text};
 ghost use Rattle.expr_tokens.specs.Spots.{keyword_text, token_of};
-ghost use Rattle.expr_tokens.specs.Views.{Begins, First};
+ghost use Rattle.expr_tokens.specs.private.Views.{Begins, First};
 
 use crate::token::{Keyword, Token};
 use pap_tree::{Name, is_word};

@@ -19,7 +19,8 @@ use Rattle.flowchart_methods.specs.declared.chapter.Chapter.{Chapter}
 use Rattle.flowchart_methods.specs.Turns.{AddsInTurn}
 use Rattle.flowchart_methods.specs.Sites.{NamedStatement, number_in}
 use Rattle.flowchart_methods.specs.Captions.{heading, statement_captions, method_captions, AreCaptions}
-use Rattle.flowchart_methods.specs.Chapters.{chapter_captions, IsChapter, method_comments, AreCommented}
+use Rattle.flowchart_methods.specs.Chapters.{chapter_captions, method_comments, AreCommented}
+use Rattle.flowchart_methods.specs.private.Chapters.{IsChapter}
 use Rattle.flowchart_methods.proofs.Laws.{adds_behind, adds_then}
 
 captions_push : (refused : Option NamedStatement) (ms : List RawRoutine) (m : RawRoutine) (captions more : List (List

@@ -1,10 +1,8 @@
 -- The methods as the page has them.
-use Rattle.std.specs.Prelude.{◌≡◌, ℕ, zero, suc, ◌+◌, Option, List, [], ◌∷◌, String, ⊤}
+use Rattle.std.specs.Prelude.{◌≡◌, ℕ, zero, suc, ◌+◌, List, [], ◌∷◌, String, ⊤}
 use Rattle.std.specs.declared.alloc.Global.{Global}
 use Rattle.pap_reader.specs.declared.element.Element.TheVariants.{Main, Method}
-use Rattle.pap_reader.specs.Trees.{RawBody}
 use Rattle.chart_layout.specs.Drawn.{body_statements}
-use Rattle.chart_layout.specs.Statements.{statements_of, AreDrawn}
 use Rattle.plan_notes.specs.declared.notes.Notes.{Notes}
 use Rattle.plan_notes.specs.StartTags.{comments_before}
 use Rattle.flowchart_methods.specs.declared.chapter.Chapter.{Chapter}
@@ -12,11 +10,6 @@ use Rattle.flowchart_methods.specs.Captions.{method_captions}
 
 abbrev pub chapter_captions : Chapter → List (List ℕ)
 chapter_captions c = method_captions c.text.name (body_statements c.text.body)
-
--- a chapter has the statements of this body under this name, and the one of the refused number is marked
-abbrev pub IsChapter : Option ℕ → List ℕ → RawBody → Chapter → Type 0
-IsChapter refused name body c =
-    (c.text.name ≡ name) × AreDrawn refused 0 (statements_of body) (body_statements c.text.body)
 
 -- the comments before the start tag of the numbered method, where MAIN is the first
 abbrev pub method_comments : Notes → ℕ → List (String Global)

@@ -4,3 +4,4 @@ pub mod Comments
 pub mod Sites
 pub mod Captions
 pub mod Chapters
+pub mod private

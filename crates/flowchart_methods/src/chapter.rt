@@ -6,7 +6,8 @@ ghost use Rattle.chart_layout.specs.Statements.{statements_of};
 ghost use Rattle.chart_layout.specs.Counts.{count_of};
 ghost use Rattle.flowchart_methods.specs.Sites.{named_statement, number_in};
 ghost use Rattle.flowchart_methods.specs.Captions.{methods_of, AreCaptions};
-ghost use Rattle.flowchart_methods.specs.Chapters.{chapter_captions, IsChapter, AreCommented};
+ghost use Rattle.flowchart_methods.specs.Chapters.{chapter_captions, AreCommented};
+ghost use Rattle.flowchart_methods.specs.private.Chapters.{IsChapter};
 
 use crate::site::Site;
 use chart_layout::{MethodText, read_method};

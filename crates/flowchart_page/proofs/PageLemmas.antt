@@ -12,7 +12,7 @@ use Rattle.flowchart_methods.specs.Captions.{AreCaptions, methods_of}
 use Rattle.flowchart_methods.proofs.Laws.{adds_none, adds_before, adds_behind, adds_then}
 use Rattle.flowchart_page.specs.Findings.{Finding, IsFound, marked}
 use Rattle.flowchart_page.specs.Pages.{page_start, page_end, IsWholePage, Says, Shows, IsPage}
-use Rattle.flowchart_page.specs.PageViews.{ShowsTree}
+use Rattle.flowchart_page.specs.private.PageViews.{ShowsTree}
 
 -- from its start on, HTML a, what is said, HTML b, the captions, HTML c, and its end
 pub whole_page : (said captions : List (List ℕ)) (a b c p0 p1 p2 p3 p4 p5 p6 p7 : List ℕ) → p0 ≡ []

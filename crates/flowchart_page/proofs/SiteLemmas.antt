@@ -12,8 +12,9 @@ use Rattle.flowchart_methods.specs.declared.site.Site.TheVariants.{Statement, Me
 use Rattle.flowchart_methods.specs.Sites.{named_statement}
 use Rattle.pap_reader.specs.Trees.{ElementTree}
 use Rattle.pap_plan.specs.declared.refusal.PlanRefusal.{PlanRefusal}
-use Rattle.flowchart_page.specs.Sites.{is_among, named_by_key, named_by, has_row, has_method, site_on, site_of}
-use Rattle.flowchart_page.specs.SiteViews.{declares, names_method}
+use Rattle.flowchart_page.specs.private.Sites.{is_among, has_row, has_method, site_on, site_of}
+use Rattle.flowchart_page.specs.Sites.{named_by_key, named_by}
+use Rattle.flowchart_page.specs.private.SiteViews.{declares, names_method}
 
 pub declares_among : (group : List RawDeclared) (name : List ℕ)
     → declares group name ≡ is_among (map raw_declaration_of group) name

@@ -13,7 +13,7 @@ use Rattle.flowchart_page.specs.Verdicts.{lacks_limit, file_or_none, IsJudged}
 use Rattle.flowchart_page.specs.Findings.{IsFound, accepted, in_order, refused}
 use Rattle.flowchart_methods.specs.Escapes.{escaped}
 use Rattle.flowchart_page.specs.Pages.{refused_text, shown_words, IsRefusalLine, Says}
-use Rattle.flowchart_page.specs.VerdictViews.{SaysRefusal, is_excused}
+use Rattle.flowchart_page.specs.private.VerdictViews.{SaysRefusal, is_excused}
 
 pub file_kept : (limits : Option TextFile) (file other : TextFile) → file ≡ unwrap_or limits other
     → named_text other ≡ file_or_none None → named_text file ≡ file_or_none (option_map (λ f. named_text f) limits)

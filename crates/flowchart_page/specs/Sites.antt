@@ -1,9 +1,7 @@
 -- What a refusal names on the page of a plan: a statement, a method, or the row of a declared name.
-use Rattle.std.specs.Prelude.{ℕ, Bool, ◌||◌, if◌then◌else◌, List, ◌∷◌, codes, map}
+use Rattle.std.specs.Prelude.{ℕ, if◌then◌else◌, List}
 use Rattle.pap_tree.specs.Names.{is_name}
 use Rattle.pap_tree.specs.declared.place.Place.{Place}
-use Rattle.pap_reader.specs.Trees.{RawDeclaration, ElementTree}
-use Rattle.pap_types.specs.Checks.{has_name}
 use Rattle.pap_types.specs.declared.fault.TypeFault.{TypeFault}
 use Rattle.pap_types.specs.declared.fault.TypeFault.TheVariants as types
 use Rattle.call_order.specs.declared.fault.OrderFault.TheVariants as orders
@@ -54,29 +52,3 @@ named_by (refusals.Range (walks.Output name)) = Declared name
 named_by _ = Nowhere
 
 -- ---- where the page has it
-
-abbrev pub is_among : List RawDeclaration → List ℕ → Bool
-is_among group name = has_name (map (λ d. d.name) group) name
-
--- the name has a row in the table of declarations
-abbrev pub has_row : ElementTree → List ℕ → Bool
-has_row tree name =
-    is_among tree.inputs name
-    || (is_among tree.outputs name
-    || (is_among tree.internals name || is_among tree.constants name))
-
-abbrev pub has_method : ElementTree → List ℕ → Bool
-has_method tree name = has_name (codes "MAIN" ∷ map (λ m. m.name) tree.methods) name
-
--- a name's row, or else the method of that name
-abbrev pub site_of_name : ElementTree → List ℕ → Site
-site_of_name tree name =
-    if has_row tree name then Declared name else (if has_method tree name then Method name else Nowhere)
-
-abbrev pub site_on : ElementTree → Site → Site
-site_on tree (Declared name) = site_of_name tree name
-site_on tree site = site
-
--- what the page of a plan with these elements shows of a refusal
-abbrev pub site_of : ElementTree → PlanRefusal → Site
-site_of tree r = site_on tree (named_by r)

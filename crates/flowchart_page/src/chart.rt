@@ -6,8 +6,8 @@ ghost use Rattle.flowchart_methods.specs.Chapters.{chapter_captions};
 ghost use Rattle.plain_words.specs.Places.{named_text};
 ghost use Rattle.flowchart_page.specs.Verdicts.{IsJudged};
 ghost use Rattle.flowchart_page.specs.Pages.{IsWholePage, Shows, IsPage};
-ghost use Rattle.flowchart_page.specs.PageViews.{ShowsTree};
-ghost use Rattle.flowchart_page.specs.VerdictViews.{finding_of, words_of, said_of};
+ghost use Rattle.flowchart_page.specs.private.PageViews.{ShowsTree};
+ghost use Rattle.flowchart_page.specs.private.VerdictViews.{finding_of, words_of, said_of};
 
 use crate::declarations::{Declarations, write_declarations};
 use crate::header::{PAGE_END, PAGE_START, head_of, write_lead, write_verdict};

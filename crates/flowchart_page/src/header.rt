@@ -3,7 +3,7 @@ ghost use Rattle.std.specs.Prelude.{◌≡◌, ◌∷◌, ◌++◌, [], IfOk, On
 ghost use Rattle.flowchart_methods.specs.Turns.{AddsInTurn};
 ghost use Rattle.flowchart_methods.specs.Escapes.{escaped};
 ghost use Rattle.flowchart_page.specs.Pages.{shown_parts, shown_words};
-ghost use Rattle.flowchart_page.specs.VerdictViews.{said_of, sentence_of, behind_sentence};
+ghost use Rattle.flowchart_page.specs.private.VerdictViews.{said_of, sentence_of, behind_sentence};
 
 use crate::style::STYLE;
 use crate::verdict::{Reason, Verdict};

@@ -1,6 +1,6 @@
 //! The ranges of declared names as the table shows them.
 ghost use Rattle.std.specs.Prelude.{◌≡◌, IfOk, string_bytes};
-ghost use Rattle.flowchart_page.specs.Ranges.{range_text};
+ghost use Rattle.flowchart_page.specs.private.Ranges.{range_text};
 
 use interval_analysis::OutputRange;
 use limits_file::{Binding, Carry, InputLimit, Limits};

@@ -1,11 +1,12 @@
 //! What a refusal names.
 ghost use Rattle.std.specs.Prelude.{◌≡◌};
 ghost use Rattle.pap_reader.specs.Trees.{tree_of};
-ghost use Rattle.flowchart_page.specs.Sites.{named_by, named_by_spot, named_by_types, named_by_key, has_row, has_method, site_of_name, site_of};
+ghost use Rattle.flowchart_page.specs.Sites.{named_by, named_by_spot, named_by_types, named_by_key};
+ghost use Rattle.flowchart_page.specs.private.Sites.{has_row, has_method, site_of_name, site_of};
 ghost use Rattle.flowchart_methods.specs.Sites.{named_statement};
 ghost use Rattle.flowchart_page.specs.Findings.{marked};
-ghost use Rattle.flowchart_page.specs.VerdictViews.{finding_of};
-ghost use Rattle.flowchart_page.specs.SiteViews.{site_shown, declares, names_method};
+ghost use Rattle.flowchart_page.specs.private.VerdictViews.{finding_of};
+ghost use Rattle.flowchart_page.specs.private.SiteViews.{site_shown, declares, names_method};
 
 use crate::verdict::Verdict;
 use call_order::OrderFault;

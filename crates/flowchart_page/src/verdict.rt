@@ -5,7 +5,7 @@ ghost use Rattle.plan_answers.specs.Refusals.{HasItsPlan};
 ghost use Rattle.flowchart_page.specs.Verdicts.{lacks_limit, file_or_none, IsJudged};
 ghost use Rattle.flowchart_page.specs.Findings.{IsFound};
 ghost use Rattle.flowchart_page.specs.Pages.{IsRefusalLine, Says};
-ghost use Rattle.flowchart_page.specs.VerdictViews.{finding_of, words_of, said_of, is_excused, SaysRefusal};
+ghost use Rattle.flowchart_page.specs.private.VerdictViews.{finding_of, words_of, said_of, is_excused, SaysRefusal};
 
 use pap_plan::{Plan, PlanRefusal, accept};
 use plain_words::{TextFile, plan_words};

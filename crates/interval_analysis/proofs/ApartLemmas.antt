@@ -10,7 +10,7 @@ use Rattle.interval_num.proofs.Laws.{refined_some, signs_back}
 use Rattle.interval_walk.specs.Branches.{can_have, exchanged}
 use Rattle.interval_analysis.specs.declared.comparisons.Against.{Against}
 use Rattle.interval_analysis.specs.declared.comparisons.Sides.{Sides}
-use Rattle.interval_analysis.specs.ComparisonViews.{AreApart, CanCompare, against, branch_by, narrowed}
+use Rattle.interval_analysis.specs.private.ComparisonViews.{AreApart, CanCompare, against, branch_by, narrowed}
 use Rattle.interval_analysis.proofs.PartLemmas.{new, old, new_or_old}
 
 both : (s t : Bool) → (s && t) ≡ true → (s ≡ true) × (t ≡ true)

@@ -20,7 +20,7 @@ use Rattle.call_order.specs.Executed.{EachExecuted, StandsIn}
 use Rattle.call_order.specs.Graphs.{content_of}
 use Rattle.call_order.specs.Orders.{IsOrdered}
 use Rattle.call_order.proofs.Laws.{chains_close, bound_small, calls_stand}
-use Rattle.interval_analysis.specs.BoundViews.{last_sum, bound_at, stopped_bound, AreBounds}
+use Rattle.interval_analysis.specs.private.BoundViews.{last_sum, bound_at, stopped_bound, AreBounds}
 use Rattle.interval_analysis.proofs.MethodLemmas.{body_by}
 
 -- ---- sums that stop

@@ -6,7 +6,7 @@ use Rattle.std.proofs.lemmas.List.{length-set, get_or-set_same, get_or-set_other
 use Rattle.std.proofs.lemmas.Option.{slice_get_past, slice_get-get_or}
 use Rattle.interval_num.specs.Intervals.{Interval}
 use Rattle.interval_analysis.specs.declared.branches.Change.{Change}
-use Rattle.interval_analysis.specs.Changes.{after_change, changed}
+use Rattle.interval_analysis.specs.private.Changes.{after_change, changed}
 
 pub changed-append : (rs : List Interval) (cs ds : List Change) → changed rs (cs ++ ds) ≡ changed (changed rs cs) ds
 changed-append rs [] ds = refl

@@ -45,20 +45,20 @@ use Rattle.interval_analysis.specs.declared.shapes.One.{One}
 use Rattle.interval_analysis.specs.declared.shapes.One.TheVariants as ones
 use Rattle.interval_analysis.specs.declared.shapes.Two.{Two}
 use Rattle.interval_analysis.specs.declared.shapes.Two.TheVariants as twos
-use Rattle.interval_analysis.specs.ShapeViews.{TakesOne, TakesTwo, one_meant, two_meant}
+use Rattle.interval_analysis.specs.private.ShapeViews.{TakesOne, TakesTwo, one_meant, two_meant}
 use Rattle.interval_analysis.specs.declared.expressions.Walk.{Walk}
-use Rattle.pap_types.specs.ScopeViews.{scope_in, variables_in}
-use Rattle.interval_analysis.specs.PlanViews.{IsSized, variable_in, ranges_in}
-use Rattle.interval_analysis.specs.ComparisonViews.{CanCompare, HasRange, Ways, branches_by, sides_of}
+use Rattle.pap_types.specs.private.ScopeViews.{scope_in, variables_in}
+use Rattle.interval_analysis.specs.private.PlanViews.{IsSized, variable_in, ranges_in}
+use Rattle.interval_analysis.specs.private.ComparisonViews.{CanCompare, HasRange, Ways, branches_by, sides_of}
 use Rattle.interval_analysis.proofs.NameLemmas as names
 use Rattle.interval_analysis.proofs.NameLemmas.{named_by}
 use Rattle.interval_analysis.proofs.NarrowLemmas.{branches_named}
 use Rattle.pap_tree.specs.declared.plan.PlanText.{PlanText}
 use Rattle.std.specs.Prelude.{slice_get}
 use Rattle.std.proofs.lemmas.Option.{slice_get_cases}
-use Rattle.interval_analysis.specs.OperationViews.{TakesUnary, TakesWholes, TakesShown, IsPlainShown}
-use Rattle.interval_analysis.specs.ExpressionViews.{AreRanged, CanWalk, CanWalkTwo, IsRanged, StopsAs, ranged_in, second_in}
-use Rattle.interval_analysis.specs.TestViews.{Comparison, ComparedAnswer, ComparesAs, HaveShapes, IsInner, IsPassed, IsPlainComparison, OrderAnswer, TestsAs, WaysFrom, comparison, comparison_in, is_compare_to, named_ways, order_compared, order_node, sides_compared}
+use Rattle.interval_analysis.specs.private.OperationViews.{TakesUnary, TakesWholes, TakesShown, IsPlainShown}
+use Rattle.interval_analysis.specs.private.ExpressionViews.{AreRanged, CanWalk, CanWalkTwo, IsRanged, StopsAs, ranged_in, second_in}
+use Rattle.interval_analysis.specs.private.TestViews.{Comparison, ComparedAnswer, ComparesAs, HaveShapes, IsInner, IsPassed, IsPlainComparison, OrderAnswer, TestsAs, WaysFrom, comparison, comparison_in, is_compare_to, named_ways, order_compared, order_node, sides_compared}
 use Rattle.interval_analysis.proofs.NodeLemmas.{can_item, can_one, can_two, left_shape, right_shape, shape, stops_first, stops_two}
 
 -- a number that is made longer

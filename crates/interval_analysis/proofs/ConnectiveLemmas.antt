@@ -20,11 +20,11 @@ use Rattle.interval_analysis.specs.declared.conditions.Comparison as declared
 use Rattle.interval_analysis.specs.declared.conditions.Followed.{Followed}
 use Rattle.interval_analysis.specs.declared.expressions.Stop.{Stop}
 use Rattle.interval_analysis.specs.declared.expressions.Walk.{Walk}
-use Rattle.interval_analysis.specs.Changes.{changed, turned_changes}
-use Rattle.interval_analysis.specs.Connectives.{ComparisonFollowed, FollowAnswer, FollowsAnswer, IsFollowedBy, IsFollowedTo, IsOperator, behind_both, connected, directions_of, reached_in, there_if, turned}
-use Rattle.interval_analysis.specs.ComparisonViews.{branch_by, branches_by}
-use Rattle.interval_analysis.specs.TestViews.{Comparison, IsCompared, IsTestedAs, comparison, comparison_in, comparison_of, named_ways, tested_in}
-use Rattle.interval_analysis.specs.PlanViews.{ranges_in, ranges_after, branches_in}
+use Rattle.interval_analysis.specs.private.Changes.{changed, turned_changes}
+use Rattle.interval_analysis.specs.private.Connectives.{ComparisonFollowed, FollowAnswer, FollowsAnswer, IsFollowedBy, IsFollowedTo, IsOperator, behind_both, connected, directions_of, reached_in, there_if, turned}
+use Rattle.interval_analysis.specs.private.ComparisonViews.{branch_by, branches_by}
+use Rattle.interval_analysis.specs.private.TestViews.{Comparison, IsCompared, IsTestedAs, comparison, comparison_in, comparison_of, named_ways, tested_in}
+use Rattle.interval_analysis.specs.private.PlanViews.{ranges_in, ranges_after, branches_in}
 use Rattle.interval_analysis.proofs.ExpressionLemmas.{plain_operator}
 
 turned_twice : (c : Connective) (br : meant.Branches) → turned c (turned c br) ≡ br

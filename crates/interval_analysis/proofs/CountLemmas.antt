@@ -6,7 +6,7 @@ use Rattle.pap_tree.specs.Flowchart.{Body, done, body_of, stmt_then}
 use Rattle.pap_tree.specs.Statements.{written}
 use Rattle.pap_tree.proofs.Laws.{stmt_then-If, stmt_at}
 use Rattle.interval_analysis.specs.declared.expressions.Walk.{Walk}
-use Rattle.interval_analysis.specs.StatementViews.{CanWalkBody}
+use Rattle.interval_analysis.specs.private.StatementViews.{CanWalkBody}
 
 pub written-then : (s : Stmt) (rest : Body) → written (stmt_then s rest) ≡ written (stmt_then s done) + written rest
 written-then (Eval x e) rest = omega arith

@@ -15,10 +15,10 @@ use Rattle.interval_analysis.specs.declared.expressions.Stop.{Stop}
 use Rattle.interval_analysis.specs.declared.expressions.Stop.TheVariants.{At, Memory}
 use Rattle.interval_analysis.specs.declared.conditions.Tested.{Tested}
 use Rattle.interval_analysis.specs.declared.expressions.Walk.{Walk}
-use Rattle.pap_types.specs.ScopeViews.{scope_in}
-use Rattle.interval_analysis.specs.PlanViews.{ranges_in}
-use Rattle.interval_analysis.specs.ExpressionViews.{StopsAs, ranged_in, second_in}
-use Rattle.interval_analysis.specs.TestViews.{ComparisonAnswer, TestAnswer, comparison, comparison_in}
+use Rattle.pap_types.specs.private.ScopeViews.{scope_in}
+use Rattle.interval_analysis.specs.private.PlanViews.{ranges_in}
+use Rattle.interval_analysis.specs.private.ExpressionViews.{StopsAs, ranged_in, second_in}
+use Rattle.interval_analysis.specs.private.TestViews.{ComparisonAnswer, TestAnswer, comparison, comparison_in}
 use Rattle.interval_analysis.proofs.NodeLemmas.{stops_two}
 
 -- an operator that is no connective is walked as a comparison

@@ -28,10 +28,10 @@ use Rattle.interval_walk.specs.NodeRanges.{leaf_range}
 use Rattle.interval_walk.specs.Ranged.{ranged}
 use Rattle.interval_walk.proofs.Laws.{leaf_shape, passed_node}
 use Rattle.interval_walk.specs.Walked.{range_kept_as, assigned_range}
-use Rattle.pap_types.specs.ScopeViews.{scope_in, variables_in}
-use Rattle.interval_analysis.specs.PlanViews.{IsSized, kind_at, ranges_in}
+use Rattle.pap_types.specs.private.ScopeViews.{scope_in, variables_in}
+use Rattle.interval_analysis.specs.private.PlanViews.{IsSized, kind_at, ranges_in}
 use Rattle.interval_analysis.proofs.NameLemmas.{number_in, put_by, put_none}
-use Rattle.interval_analysis.specs.StatementViews.{FitsFactor, CanKeep, CanPut}
+use Rattle.interval_analysis.specs.private.StatementViews.{FitsFactor, CanKeep, CanPut}
 
 pub both : (s t : Bool) → (s && t) ≡ true → (s ≡ true) × (t ≡ true)
 both true t e = (refl, e)

@@ -16,12 +16,12 @@ use Rattle.interval_walk.specs.Failures.{and_then}
 use Rattle.interval_walk.specs.Ranges.{Ranges}
 use Rattle.interval_walk.specs.Walked.{joined}
 use Rattle.interval_walk.proofs.Laws.{join_same}
-use Rattle.interval_analysis.specs.PlanViews.{with_names}
+use Rattle.interval_analysis.specs.private.PlanViews.{with_names}
 use Rattle.interval_analysis.specs.declared.branches.Change.{Change}
-use Rattle.interval_analysis.specs.Changes.{AreKept}
-use Rattle.interval_analysis.specs.Notes.{AreDistinct, IsOther, taken_back}
-use Rattle.interval_analysis.specs.Meetings.{is_around}
-use Rattle.interval_analysis.specs.StatementViews.{joined_lists}
+use Rattle.interval_analysis.specs.private.Changes.{AreKept}
+use Rattle.interval_analysis.specs.private.Notes.{AreDistinct, IsOther, taken_back}
+use Rattle.interval_analysis.specs.private.Meetings.{is_around}
+use Rattle.interval_analysis.specs.private.StatementViews.{joined_lists}
 use Rattle.interval_analysis.proofs.ChangeLemmas.{set_there}
 use Rattle.interval_analysis.proofs.NoteLemmas.{within_of, length-taken_back}
 use Rattle.interval_analysis.proofs.RepeatLemmas.{other_stays}

@@ -16,9 +16,9 @@ use Rattle.pap_types.specs.Scopes.{number_of}
 use Rattle.pap_types.specs.Typing.{IsTypedBody}
 use Rattle.pap_types.proofs.Laws.{has_types}
 use Rattle.interval_analysis.specs.declared.expressions.Walk.{Walk}
-use Rattle.pap_types.specs.ScopeViews.{scope_in}
-use Rattle.pap_tree.specs.TreeViews.{methods_in}
-use Rattle.interval_analysis.specs.StatementViews.{CanWalkBody, IsMethodBody}
+use Rattle.pap_types.specs.private.ScopeViews.{scope_in}
+use Rattle.pap_tree.specs.private.TreeViews.{methods_in}
+use Rattle.interval_analysis.specs.private.StatementViews.{CanWalkBody, IsMethodBody}
 use Rattle.interval_analysis.proofs.NameLemmas.{place_of, number_in, number_past}
 
 body_at : (ms : List Routine) (x : List ℕ) → option_map (λ m. m.body) (slice_get ms (place_of (method_names ms) x)) ≡ body_named ms x

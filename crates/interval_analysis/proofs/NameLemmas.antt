@@ -11,7 +11,7 @@ use Rattle.std.proofs.lemmas.Slice.Eq.{bytes_eq-Decides}
 use Rattle.pap_types.specs.Scopes.{number_of}
 use Rattle.interval_num.specs.Intervals.{Interval}
 use Rattle.interval_walk.specs.Ranges.{range_named, put_range}
-use Rattle.interval_analysis.specs.PlanViews.{with_names}
+use Rattle.interval_analysis.specs.private.PlanViews.{with_names}
 
 pub same_either_way : (x y : List ℕ) → bytes_eq x y ≡ bytes_eq y x
 same_either_way x y = grind (arith, bytes_eq-Decides)

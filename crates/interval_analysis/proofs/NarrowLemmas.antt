@@ -16,10 +16,10 @@ use Rattle.interval_walk.specs.Branches as meant
 use Rattle.interval_walk.specs.Branches.{can_have, exchanged, others}
 use Rattle.interval_analysis.specs.declared.comparisons.Against.{Against}
 use Rattle.interval_analysis.specs.declared.comparisons.Sides.{Sides}
-use Rattle.pap_types.specs.ScopeViews.{variables_in}
-use Rattle.interval_analysis.specs.PlanViews.{variable_in, ranges_in, IsSized}
-use Rattle.interval_analysis.specs.ComparisonViews.{against, branch_by, branches_by, narrowed}
-use Rattle.interval_analysis.specs.TestViews.{named_ways}
+use Rattle.pap_types.specs.private.ScopeViews.{variables_in}
+use Rattle.interval_analysis.specs.private.PlanViews.{variable_in, ranges_in, IsSized}
+use Rattle.interval_analysis.specs.private.ComparisonViews.{against, branch_by, branches_by, narrowed}
+use Rattle.interval_analysis.specs.private.TestViews.{named_ways}
 use Rattle.interval_analysis.proofs.NameLemmas.{named_by, named_none, number_in, put_by}
 
 -- ---- by name

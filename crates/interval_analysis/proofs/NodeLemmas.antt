@@ -23,9 +23,9 @@ use Rattle.interval_analysis.specs.declared.expressions.Ranged.{Ranged}
 use Rattle.interval_analysis.specs.declared.expressions.Stop.{Stop}
 use Rattle.interval_analysis.specs.declared.expressions.Stop.TheVariants.{At, Memory}
 use Rattle.interval_analysis.specs.declared.expressions.Walk.{Walk}
-use Rattle.pap_types.specs.ScopeViews.{scope_in}
-use Rattle.interval_analysis.specs.PlanViews.{variable_in, ranges_in}
-use Rattle.interval_analysis.specs.ExpressionViews.{AreRanged, CanWalk, CanWalkTwo, IsPartRanged, IsRanged, OneAnswer, OwnAnswer, PartsAnswer, RangeAnswer, StopsAs, TwoAnswer, either_range, part_ranged, parts_ranged, ranged_in, second_in}
+use Rattle.pap_types.specs.private.ScopeViews.{scope_in}
+use Rattle.interval_analysis.specs.private.PlanViews.{variable_in, ranges_in}
+use Rattle.interval_analysis.specs.private.ExpressionViews.{AreRanged, CanWalk, CanWalkTwo, IsPartRanged, IsRanged, OneAnswer, OwnAnswer, PartsAnswer, RangeAnswer, StopsAs, TwoAnswer, either_range, part_ranged, parts_ranged, ranged_in, second_in}
 
 -- ---- what stops
 

@@ -6,8 +6,8 @@ use Rattle.std.proofs.lemmas.List.{length-set, set-set, set_past, append-nil, ta
 use Rattle.interval_num.specs.Intervals.{Interval, IsKeptInterval}
 use Rattle.interval_analysis.specs.declared.branches.Change.{Change}
 use Rattle.interval_analysis.specs.declared.variables.Variables.{Variables}
-use Rattle.interval_analysis.specs.Changes.{AreKept, changed}
-use Rattle.interval_analysis.specs.Notes.{IsNoted, IsTold, AreOwn, taken_back, range_there, own_ranges, numbered}
+use Rattle.interval_analysis.specs.private.Changes.{AreKept, changed}
+use Rattle.interval_analysis.specs.private.Notes.{IsNoted, IsTold, AreOwn, taken_back, range_there, own_ranges, numbered}
 
 -- ---- one range
 

@@ -14,9 +14,9 @@ use Rattle.interval_num.specs.Intervals.{Interval}
 use Rattle.interval_walk.specs.Ranges.{NamedRange}
 use Rattle.interval_walk.specs.Failures.{output_fails}
 use Rattle.interval_walk.specs.Analysis.{is_bounded, output_ranges, unless_unbounded}
-use Rattle.pap_types.specs.ScopeViews.{variables_in}
-use Rattle.interval_analysis.specs.PlanViews.{IsSized, with_names, ranges_in}
-use Rattle.interval_analysis.specs.OutputViews.{output_names}
+use Rattle.pap_types.specs.private.ScopeViews.{variables_in}
+use Rattle.interval_analysis.specs.private.PlanViews.{IsSized, with_names, ranges_in}
+use Rattle.interval_analysis.specs.private.OutputViews.{output_names}
 
 -- the output at a place
 pub output_at : (ds : List Declared) (rs : List Interval) (i : ℕ) (d : Declared) (r : Interval) → length rs ≡ length ds → i < length ds → drop i (with_names (output_names ds) rs) ≡ record { name = (get_or ds i d).name; range = get_or rs i r } ∷ drop (i + 1) (with_names (output_names ds) rs)

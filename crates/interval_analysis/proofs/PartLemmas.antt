@@ -19,7 +19,7 @@ use Rattle.interval_num.specs.Refinement.{refined, low_end, high_end, is_apart, 
 use Rattle.interval_walk.specs.Branches.{exchanged}
 use Rattle.interval_analysis.specs.declared.comparisons.Against.{Against}
 use Rattle.interval_analysis.specs.declared.comparisons.Sides.{Sides}
-use Rattle.interval_analysis.specs.ComparisonViews.{against, narrowed, CanCompare, CanNarrow, CanNarrowAt, CanRefine}
+use Rattle.interval_analysis.specs.private.ComparisonViews.{against, narrowed, CanCompare, CanNarrow, CanNarrowAt, CanRefine}
 
 -- an interval inside another, with its scales
 pub record IsPart (v a : Interval) : Type 0 where

@@ -7,7 +7,7 @@ use Rattle.std.proofs.lemmas.List.{length-take-le, set-set, take-append-drop, ta
 use Rattle.interval_num.specs.Intervals.{Interval}
 use Rattle.interval_analysis.specs.declared.branches.Change.{Change}
 use Rattle.interval_analysis.specs.declared.variables.Variables.{Variables}
-use Rattle.interval_analysis.specs.Notes.{AreDistinct, ArePlaced, IsFirst, IsNoted, IsOther, IsRepeated, TakesBackAs, taken_back}
+use Rattle.interval_analysis.specs.private.Notes.{AreDistinct, ArePlaced, IsFirst, IsNoted, IsOther, IsRepeated, TakesBackAs, taken_back}
 use Rattle.interval_analysis.proofs.ChangeLemmas.{set_there, set_elsewhere}
 use Rattle.interval_analysis.proofs.NoteLemmas.{drop_there, length-taken_back, notes_before, set_both, since, taken_back-append, taken_last}
 

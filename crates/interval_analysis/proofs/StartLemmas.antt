@@ -20,8 +20,8 @@ use Rattle.pap_types.specs.Kinds.{has_few_places}
 use Rattle.pap_types.specs.Scopes.{names_of, at_factor_scale}
 use Rattle.interval_walk.specs.Analysis.{input_range, first_range}
 use Rattle.interval_walk.proofs.Laws.{at_most}
-use Rattle.interval_analysis.specs.PlanViews.{with_names}
-use Rattle.interval_analysis.specs.StartViews.{CanSpan, IsStart, declarations, limited, begun}
+use Rattle.interval_analysis.specs.private.PlanViews.{with_names}
+use Rattle.interval_analysis.specs.private.StartViews.{CanSpan, IsStart, declarations, limited, begun}
 use Rattle.interval_analysis.proofs.KeptLemmas.{both, held_is}
 
 -- ---- a limit's bounds

@@ -16,16 +16,16 @@ use Rattle.interval_walk.specs.Ranged.{ranged, tested}
 use Rattle.interval_analysis.specs.declared.expressions.Walk.{Walk}
 use Rattle.interval_analysis.specs.declared.fault.RangeFault.{RangeFault}
 use Rattle.interval_analysis.specs.declared.fault.RangeFault.TheVariants as faults
-use Rattle.pap_types.specs.ScopeViews.{scope_in, variables_in}
-use Rattle.interval_analysis.specs.PlanViews.{IsSized, ranges_after, with_names, ranges_in, branches_in}
-use Rattle.pap_tree.specs.TreeViews.{if_of}
-use Rattle.interval_analysis.specs.StatementViews.{through_if, through_fork, end_of, fault_of}
+use Rattle.pap_types.specs.private.ScopeViews.{scope_in, variables_in}
+use Rattle.interval_analysis.specs.private.PlanViews.{IsSized, ranges_after, with_names, ranges_in, branches_in}
+use Rattle.pap_tree.specs.private.TreeViews.{if_of}
+use Rattle.interval_analysis.specs.private.StatementViews.{through_if, through_fork, end_of, fault_of}
 use Rattle.pap_tree.specs.declared.expression.Expr.{Expr}
 use Rattle.interval_analysis.specs.declared.branches.Branches.{Branches}
 use Rattle.interval_analysis.specs.declared.expressions.Stop.{Stop}
 use Rattle.interval_analysis.specs.declared.expressions.Stop.TheVariants as stops
-use Rattle.interval_analysis.specs.TestViews.{tested_in}
-use Rattle.interval_analysis.specs.Meetings.{MeetsAnswer}
+use Rattle.interval_analysis.specs.private.TestViews.{tested_in}
+use Rattle.interval_analysis.specs.private.Meetings.{MeetsAnswer}
 use Rattle.interval_analysis.proofs.MeetLemmas.{joined_by_name, joined_either}
 use Rattle.std.specs.Result.{IsErrAnd}
 use Rattle.pap_tree.specs.declared.plan.PlanText.{PlanText}
@@ -33,7 +33,7 @@ use Rattle.interval_num.specs.declared.cause.RangeCause.{RangeCause}
 use Rattle.interval_num.specs.Intervals.{Interval}
 use Rattle.interval_analysis.specs.declared.statements.Fork.{Fork}
 use Rattle.interval_analysis.specs.declared.statements.Spot.{Spot}
-use Rattle.interval_analysis.specs.StatementViews.{calls_in, walked_in, met_in, forked_in, first_spot, second_spot, joined_lists, FaultOf, EnvAnswer, Passage, Passes}
+use Rattle.interval_analysis.specs.private.StatementViews.{calls_in, walked_in, met_in, forked_in, first_spot, second_spot, joined_lists, FaultOf, EnvAnswer, Passage, Passes}
 use Rattle.interval_walk.specs.Walked.{RangeCalls, walked, range_calls_of, with_body, joined}
 
 assoc : {A B C E : Type 0} (r : Result A E) (f : A → Result B E) (g : B → Result C E) → and_then r (λ a. and_then (f a) g) ≡ and_then (and_then r f) g

@@ -8,7 +8,7 @@ use Rattle.scaled_decimal.specs.Decimals.{Decimal}
 use Rattle.pap_tree.specs.Declarations.{Declaration}
 use Rattle.pap_types.specs.Scopes.{Scope, names_of, number_of, declared_as, declared_table, items_of, table_in}
 use Rattle.pap_types.proofs.Laws.{declared_by}
-use Rattle.interval_analysis.specs.TableViews.{tables_of}
+use Rattle.interval_analysis.specs.private.TableViews.{tables_of}
 use Rattle.interval_analysis.proofs.KeptLemmas.{declared_at, variable_of}
 use Rattle.interval_analysis.proofs.NameLemmas.{number_in}
 

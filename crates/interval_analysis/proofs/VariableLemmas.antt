@@ -3,9 +3,9 @@ use Rattle.std.proofs.Common.{◌≡◌, ℕ, List, length, sym, ap, ◌∙◌, 
 use Rattle.pap_tree.specs.declared.plan.PlanText.{PlanText}
 use Rattle.interval_analysis.specs.declared.branches.Change.{Change}
 use Rattle.interval_analysis.specs.declared.variables.Variables.{Variables}
-use Rattle.interval_analysis.specs.Changes.{AreKept, changed}
-use Rattle.interval_analysis.specs.Notes.{IsNoted, TakesBackAs}
-use Rattle.interval_analysis.specs.VariableViews.{AreHeld, GoesOn, IsLeft}
+use Rattle.interval_analysis.specs.private.Changes.{AreKept, changed}
+use Rattle.interval_analysis.specs.private.Notes.{IsNoted, TakesBackAs}
+use Rattle.interval_analysis.specs.private.VariableViews.{AreHeld, GoesOn, IsLeft}
 use Rattle.interval_analysis.proofs.ChangeLemmas.{length-changed}
 use Rattle.interval_analysis.proofs.NoteLemmas.{noted_length, noted_none, noted_then, noted_same}
 use Rattle.interval_analysis.proofs.RepeatLemmas.{noted_again}

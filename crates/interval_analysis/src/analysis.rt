@@ -8,7 +8,7 @@ ghost use Rattle.interval_walk.specs.Admission.{HaveLimits, AreAdmitted};
 ghost use Rattle.interval_walk.specs.Analysis.{analysed};
 ghost use Rattle.interval_walk.specs.Soundness.{RunHolds};
 ghost use Rattle.interval_analysis.specs.Answers.{named_range, IsWalkFaultOrMemory};
-ghost use Rattle.interval_analysis.specs.OutputViews.{OutputAnswer};
+ghost use Rattle.interval_analysis.specs.private.OutputViews.{OutputAnswer};
 
 use crate::bounds::bound_of;
 use crate::expressions::Walk;

@@ -7,7 +7,7 @@ ghost use Rattle.pap_types.specs.Bounds.{term_bound};
 ghost use Rattle.pap_types.specs.Counts.{AreSmallTerms};
 ghost use Rattle.pap_types.specs.Meaning.{bound_of};
 ghost use Rattle.call_order.specs.Orders.{IsOrdered};
-ghost use Rattle.interval_analysis.specs.BoundViews.{AreBounds, bound_at, stopped_bound};
+ghost use Rattle.interval_analysis.specs.private.BoundViews.{AreBounds, bound_at, stopped_bound};
 
 use pap_tree::{Expr, Name, Stmt};
 use pap_types::Typed;

@@ -1,7 +1,7 @@
 //! What a test leaves of the ranges of the variables.
 ghost use Rattle.std.specs.Prelude.{◌≡◌, [], Some, None, if◌then◌else◌};
 ghost use Rattle.std.specs.Option.{option_map};
-ghost use Rattle.interval_analysis.specs.Changes.{turned_changes};
+ghost use Rattle.interval_analysis.specs.private.Changes.{turned_changes};
 
 use interval_num::Abs;
 use std::alloc::Global;

@@ -7,8 +7,8 @@ ghost use Rattle.interval_num.specs.Signs.{signs_of};
 ghost use Rattle.pap_types.specs.Kinds.{is_whole};
 ghost use Rattle.pap_types.specs.Operations.{holds_of};
 ghost use Rattle.interval_walk.specs.Branches.{signs_where, others, exchanged, can_have};
-ghost use Rattle.interval_analysis.specs.Changes.{after_both, after_change, changed, ranges_left};
-ghost use Rattle.interval_analysis.specs.ComparisonViews.{AreApart, CanCompare, CanNarrow, against, branch_by, branches_by, narrowed, sides_of, ways_in};
+ghost use Rattle.interval_analysis.specs.private.Changes.{after_both, after_change, changed, ranges_left};
+ghost use Rattle.interval_analysis.specs.private.ComparisonViews.{AreApart, CanCompare, CanNarrow, against, branch_by, branches_by, narrowed, sides_of, ways_in};
 
 use crate::branches::{Branches, Change, Narrowed};
 use crate::expressions::{Operands, Ranged};

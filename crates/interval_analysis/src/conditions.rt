@@ -2,14 +2,14 @@
 ghost use Rattle.std.specs.Prelude.{◌≡◌, ◌+◌, ◌<◌, ◌^◌, MatchOption, IfOk, OnOk};
 ghost use Rattle.pap_tree.specs.Term.{term_of, unary, operator};
 ghost use Rattle.interval_num.specs.declared.cause.RangeCause.TheVariants.{Wide};
-ghost use Rattle.interval_analysis.specs.VariableViews.{AreHeld, GoesOn, IsLeft};
-ghost use Rattle.pap_tree.specs.TreeViews.{one_of, two_of};
-ghost use Rattle.interval_analysis.specs.ExpressionViews.{CanWalk};
-ghost use Rattle.interval_analysis.specs.TestViews.{ComparedAnswer, ComparesAs, ComparisonAnswer, HaveShapes, IsInner, IsPlainComparison, OrderAnswer, TestAnswer, comparison_of, order_compared, sides_compared};
-ghost use Rattle.interval_analysis.specs.Changes.{AreKept};
-ghost use Rattle.interval_analysis.specs.Notes.{IsNoted};
-ghost use Rattle.interval_analysis.specs.ComparisonViews.{CanCompare};
-ghost use Rattle.interval_analysis.specs.Connectives.{FollowAnswer, BehindAnswer, ComparisonFollowed, IsFollowedBy, IsRole, behind_both, connected, directions_of};
+ghost use Rattle.interval_analysis.specs.private.VariableViews.{AreHeld, GoesOn, IsLeft};
+ghost use Rattle.pap_tree.specs.private.TreeViews.{one_of, two_of};
+ghost use Rattle.interval_analysis.specs.private.ExpressionViews.{CanWalk};
+ghost use Rattle.interval_analysis.specs.private.TestViews.{ComparedAnswer, ComparesAs, ComparisonAnswer, HaveShapes, IsInner, IsPlainComparison, OrderAnswer, TestAnswer, comparison_of, order_compared, sides_compared};
+ghost use Rattle.interval_analysis.specs.private.Changes.{AreKept};
+ghost use Rattle.interval_analysis.specs.private.Notes.{IsNoted};
+ghost use Rattle.interval_analysis.specs.private.ComparisonViews.{CanCompare};
+ghost use Rattle.interval_analysis.specs.private.Connectives.{FollowAnswer, BehindAnswer, ComparisonFollowed, IsFollowedBy, IsRole, behind_both, connected, directions_of};
 
 use crate::branches::{Branches, Connective, opposite, turned, unchanged_if};
 use crate::comparisons::{

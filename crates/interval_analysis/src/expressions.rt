@@ -2,12 +2,12 @@
 ghost use Rattle.std.specs.Prelude.{◌≡◌, ◌<◌, OnOk};
 ghost use Rattle.pap_tree.specs.Term.{term_of, leaf, named};
 ghost use Rattle.pap_types.specs.Scopes.{number_of};
-ghost use Rattle.pap_types.specs.ScopeViews.{variables_in};
-ghost use Rattle.interval_analysis.specs.PlanViews.{IsSized, name_range_in, ranges_after, branches_in};
-ghost use Rattle.interval_analysis.specs.ShapeViews.{leaf_of};
-ghost use Rattle.interval_analysis.specs.VariableViews.{AreHeld, GoesOn, IsLeft};
-ghost use Rattle.pap_tree.specs.TreeViews.{choice_of};
-ghost use Rattle.interval_analysis.specs.ExpressionViews.{CanWalk, CanWalkTwo, CanWalkParts, RangeAnswer, OperandsAnswer, PartAnswer, PartsAnswer};
+ghost use Rattle.pap_types.specs.private.ScopeViews.{variables_in};
+ghost use Rattle.interval_analysis.specs.private.PlanViews.{IsSized, name_range_in, ranges_after, branches_in};
+ghost use Rattle.interval_analysis.specs.private.ShapeViews.{leaf_of};
+ghost use Rattle.interval_analysis.specs.private.VariableViews.{AreHeld, GoesOn, IsLeft};
+ghost use Rattle.pap_tree.specs.private.TreeViews.{choice_of};
+ghost use Rattle.interval_analysis.specs.private.ExpressionViews.{CanWalk, CanWalkTwo, CanWalkParts, RangeAnswer, OperandsAnswer, PartAnswer, PartsAnswer};
 
 use crate::branches::{Branches, Change};
 use crate::conditions::Tested;

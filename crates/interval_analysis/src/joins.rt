@@ -1,9 +1,9 @@
 //! The ranges where two branches meet.
 ghost use Rattle.std.specs.Prelude.{◌≡◌, ◌≤◌, length, drop};
 ghost use Rattle.interval_num.specs.Rows.{join_row};
-ghost use Rattle.interval_analysis.specs.Changes.{AreKept};
-ghost use Rattle.interval_analysis.specs.Notes.{AreDistinct, TakesBackAs, taken_back};
-ghost use Rattle.interval_analysis.specs.Meetings.{MeetsAnswer, is_around};
+ghost use Rattle.interval_analysis.specs.private.Changes.{AreKept};
+ghost use Rattle.interval_analysis.specs.private.Notes.{AreDistinct, TakesBackAs, taken_back};
+ghost use Rattle.interval_analysis.specs.private.Meetings.{MeetsAnswer, is_around};
 
 use crate::branches::Change;
 use crate::expressions::Stop;

@@ -5,8 +5,8 @@ ghost use Rattle.pap_types.specs.Kinds.{name_kind};
 ghost use Rattle.pap_types.specs.Scopes.{number_of};
 ghost use Rattle.interval_walk.specs.Ranges.{single};
 ghost use Rattle.interval_walk.specs.NodeRanges.{big_range};
-ghost use Rattle.pap_types.specs.ScopeViews.{scope_in, variables_in};
-ghost use Rattle.interval_analysis.specs.PlanViews.{kind_at};
+ghost use Rattle.pap_types.specs.private.ScopeViews.{scope_in, variables_in};
+ghost use Rattle.interval_analysis.specs.private.PlanViews.{kind_at};
 
 use interval_num::Abs;
 use pap_tree::{Expr, Name};

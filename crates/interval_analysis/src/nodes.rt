@@ -5,9 +5,9 @@ ghost use Rattle.pap_types.specs.Kinds.{kind_of_one, kind_of_two, wider};
 ghost use Rattle.interval_num.specs.Intervals.{IsWhole};
 ghost use Rattle.interval_walk.specs.Ranges.{single};
 ghost use Rattle.interval_walk.specs.NodeRanges.{read_range, item_range};
-ghost use Rattle.pap_types.specs.ScopeViews.{scope_in};
-ghost use Rattle.interval_analysis.specs.ShapeViews.{TakesOne, TakesTwo, one_meant, two_meant};
-ghost use Rattle.interval_analysis.specs.ExpressionViews.{NodeAnswer, OwnAnswer, OneAnswer, TwoAnswer, either_range};
+ghost use Rattle.pap_types.specs.private.ScopeViews.{scope_in};
+ghost use Rattle.interval_analysis.specs.private.ShapeViews.{TakesOne, TakesTwo, one_meant, two_meant};
+ghost use Rattle.interval_analysis.specs.private.ExpressionViews.{NodeAnswer, OwnAnswer, OneAnswer, TwoAnswer, either_range};
 
 use crate::expressions::{Operands, Part, Ranged, Stop};
 use crate::names::single;

@@ -2,8 +2,8 @@
 ghost use Rattle.std.specs.Prelude.{◌≡◌, IfOk, OnOk};
 ghost use Rattle.std.specs.List.{All};
 ghost use Rattle.pap_types.specs.Scopes.{number_of};
-ghost use Rattle.pap_types.specs.ScopeViews.{variables_in};
-ghost use Rattle.interval_analysis.specs.NumberViews.{AreNumbers, HasItsNumber};
+ghost use Rattle.pap_types.specs.private.ScopeViews.{variables_in};
+ghost use Rattle.interval_analysis.specs.private.NumberViews.{AreNumbers, HasItsNumber};
 
 use pap_tree::{Declared, Name};
 use pap_types::Typed;

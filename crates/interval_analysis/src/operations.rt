@@ -8,9 +8,9 @@ ghost use Rattle.pap_tree.specs.Term.{Term, term_of, unary};
 ghost use Rattle.pap_types.specs.Safety.{bits_of};
 ghost use Rattle.pap_types.specs.declared.kinds.NodeKind.{NodeKind};
 ghost use Rattle.interval_walk.specs.NodeRanges.{read_range, operator_range, one_range, two_range, method_range, shown_range, comparison_range, item_range};
-ghost use Rattle.pap_types.specs.ScopeViews.{scope_in};
-ghost use Rattle.interval_analysis.specs.ShapeViews.{TakesOne, TakesTwo, one_meant, two_meant};
-ghost use Rattle.interval_analysis.specs.OperationViews.{TakesWholes, TakesUnary, TakesShown, IsPlainShown, read_fitting};
+ghost use Rattle.pap_types.specs.private.ScopeViews.{scope_in};
+ghost use Rattle.interval_analysis.specs.private.ShapeViews.{TakesOne, TakesTwo, one_meant, two_meant};
+ghost use Rattle.interval_analysis.specs.private.OperationViews.{TakesWholes, TakesUnary, TakesShown, IsPlainShown, read_fitting};
 
 use crate::names::as_big;
 use crate::shapes::{One, Two};

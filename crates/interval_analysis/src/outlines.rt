@@ -2,7 +2,7 @@
 ghost use Rattle.std.specs.Prelude.{◌≡◌, ◌+◌, ◌<◌, ◌^◌};
 ghost use Rattle.pap_tree.specs.Term.{term_of, choice};
 ghost use Rattle.pap_tree.specs.Numbering.{nodes};
-ghost use Rattle.interval_analysis.specs.OutlineViews.{IsOutline, AreOutlines};
+ghost use Rattle.interval_analysis.specs.private.OutlineViews.{IsOutline, AreOutlines};
 
 use pap_tree::Expr;
 use pap_types::{NodeKind, Typed, kind_of_call, kind_of_operator, kind_of_unary};

@@ -1,8 +1,8 @@
 //! The ranges of the outputs.
 ghost use Rattle.std.specs.Prelude.{◌≡◌, ◌*ℤ◌, length};
 ghost use Rattle.interval_walk.specs.Analysis.{is_bounded, is_small};
-ghost use Rattle.interval_analysis.specs.PlanViews.{IsSized};
-ghost use Rattle.interval_analysis.specs.OutputViews.{OutputAnswer, bounded_outputs, outputs_in};
+ghost use Rattle.interval_analysis.specs.private.PlanViews.{IsSized};
+ghost use Rattle.interval_analysis.specs.private.OutputViews.{OutputAnswer, bounded_outputs, outputs_in};
 
 use crate::{OutputRange, RangeFault};
 use interval_num::Abs;

@@ -1,7 +1,7 @@
 //! The first notes of variables, among notes that may repeat one.
 ghost use Rattle.std.specs.Prelude.{◌≡◌, ◌≤◌, length, take, List};
 ghost use Rattle.interval_num.specs.Intervals.{Interval};
-ghost use Rattle.interval_analysis.specs.Notes.{AreDistinct, ArePlaced, FirstAnswer, taken_back};
+ghost use Rattle.interval_analysis.specs.private.Notes.{AreDistinct, ArePlaced, FirstAnswer, taken_back};
 
 use crate::branches::Change;
 

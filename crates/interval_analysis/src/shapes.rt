@@ -1,6 +1,6 @@
 //! An expression by what its node does: a walk over it has five cases.
 ghost use Rattle.pap_tree.specs.Term.{term_of};
-ghost use Rattle.interval_analysis.specs.ShapeViews.{IsShape};
+ghost use Rattle.interval_analysis.specs.private.ShapeViews.{IsShape};
 
 use pap_tree::{Binary, Call, Expr, Known, Name, Unary};
 use scaled_decimal::{Dec, Mode};

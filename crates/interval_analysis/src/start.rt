@@ -9,7 +9,7 @@ ghost use Rattle.interval_num.specs.Intervals.{interval};
 ghost use Rattle.pap_types.specs.Typing.{HasItsType};
 ghost use Rattle.interval_walk.specs.Admission.{HaveLimits, HasLimit, SuitsLimit};
 ghost use Rattle.interval_walk.specs.Analysis.{limit_range, input_range};
-ghost use Rattle.interval_analysis.specs.StartViews.{CanSpan, IsStart, declarations, limited, begun};
+ghost use Rattle.interval_analysis.specs.private.StartViews.{CanSpan, IsStart, declarations, limited, begun};
 
 use crate::names::single;
 use interval_num::Abs;

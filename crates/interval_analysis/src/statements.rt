@@ -5,11 +5,11 @@ ghost use Rattle.pap_tree.specs.Flowchart.{routine_of, body_of, stmt_then, done}
 ghost use Rattle.pap_types.specs.Checks.{place};
 ghost use Rattle.pap_types.specs.Routines.{body_named};
 ghost use Rattle.interval_walk.specs.Walked.{range_kept_as};
-ghost use Rattle.interval_analysis.specs.Changes.{changed};
-ghost use Rattle.interval_analysis.specs.PlanViews.{ranges_in, branches_in};
-ghost use Rattle.interval_analysis.specs.VariableViews.{AreHeld, GoesOn};
-ghost use Rattle.pap_tree.specs.TreeViews.{if_of, methods_in};
-ghost use Rattle.interval_analysis.specs.StatementViews.{CanWalkBody, CanWalkLists, CanAssign, CanPut, CanKeep, IsMethodBody, Passes, EnvAnswer, through_body, through_if, through_fork, through_first, through_second, through_both, evaluated, executed, assigned_in, fault_of};
+ghost use Rattle.interval_analysis.specs.private.Changes.{changed};
+ghost use Rattle.interval_analysis.specs.private.PlanViews.{ranges_in, branches_in};
+ghost use Rattle.interval_analysis.specs.private.VariableViews.{AreHeld, GoesOn};
+ghost use Rattle.pap_tree.specs.private.TreeViews.{if_of, methods_in};
+ghost use Rattle.interval_analysis.specs.private.StatementViews.{CanWalkBody, CanWalkLists, CanAssign, CanPut, CanKeep, IsMethodBody, Passes, EnvAnswer, through_body, through_if, through_fork, through_first, through_second, through_both, evaluated, executed, assigned_in, fault_of};
 
 use crate::RangeFault;
 use crate::branches::{Branches, Change};

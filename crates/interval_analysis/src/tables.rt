@@ -1,9 +1,9 @@
 //! A plan with the ranges of its tables' items and the numbers of its variables, computed once before the walk.
 ghost use Rattle.std.specs.Prelude.{◌≡◌, ◌++◌, IfOk, OnOk};
 ghost use Rattle.pap_types.specs.Scopes.{number_of, table_in};
-ghost use Rattle.pap_types.specs.ScopeViews.{scope_in, variables_in};
-ghost use Rattle.interval_analysis.specs.StartViews.{declarations};
-ghost use Rattle.interval_analysis.specs.TableViews.{tables_of};
+ghost use Rattle.pap_types.specs.private.ScopeViews.{scope_in, variables_in};
+ghost use Rattle.interval_analysis.specs.private.StartViews.{declarations};
+ghost use Rattle.interval_analysis.specs.private.TableViews.{tables_of};
 
 use crate::numbers::VariableNumbers;
 use interval_num::ItemRanges;
@@ -30,7 +30,7 @@ impl<'a> Model for TabledPlan<'a> {
     ghost use Rattle.pap_tree.specs.contracts.plan.Stmt as statement;
     ghost use Rattle.pap_tree.specs.contracts.expression.Expr as expression;
     ghost use Rattle.std.specs.Coded.{codes};
-    ghost use Rattle.interval_analysis.specs.TableViews.{IsTabled};
+    ghost use Rattle.interval_analysis.specs.private.TableViews.{IsTabled};
 
     ghost Value = { PlanText };
 

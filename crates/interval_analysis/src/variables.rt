@@ -1,9 +1,9 @@
 //! The ranges of the variables, with notes of what was changed, so that a branch can be left as it was entered.
 ghost use Rattle.std.specs.Prelude.{◌≡◌, ◌≤◌, length, take, drop, slice_set, IfOk, OnOk, OnErr};
 ghost use Rattle.interval_num.specs.Intervals.{IsKeptInterval};
-ghost use Rattle.interval_analysis.specs.Changes.{AreKept, after_both, after_change, changed};
-ghost use Rattle.interval_analysis.specs.Notes.{AreDistinct, IsNoted, IsTold, TakesBackAs, taken_back, own_ranges, numbered};
-ghost use Rattle.interval_analysis.specs.VariableViews.{IsLeft};
+ghost use Rattle.interval_analysis.specs.private.Changes.{AreKept, after_both, after_change, changed};
+ghost use Rattle.interval_analysis.specs.private.Notes.{AreDistinct, IsNoted, IsTold, TakesBackAs, taken_back, own_ranges, numbered};
+ghost use Rattle.interval_analysis.specs.private.VariableViews.{IsLeft};
 
 use crate::branches::{Change, Narrowed};
 use crate::repeats::first_notes;

@@ -14,7 +14,7 @@ use Rattle.interval_num.specs.declared.cause.RangeCause.TheVariants.{Wide}
 use Rattle.interval_num.specs.Intervals.{Interval, interval}
 use Rattle.interval_num.specs.Alignment.{unless, is_beyond, ends_beyond, at_scale, least, greatest, hull}
 use Rattle.interval_num.specs.Rows.{Answer, join_of, least_scale, greatest_scale, decimals_row}
-use Rattle.interval_num.specs.Views.{joined}
+use Rattle.interval_num.specs.ItemLevels.{joined}
 use Rattle.interval_num.proofs.NumberLemmas.{times_one, within_in, within_out, kept_shorter, kept_between}
 use Rattle.interval_num.proofs.AlignmentLemmas.{at_greater}
 use Rattle.interval_num.proofs.ItemLemmas.{least_member, greatest_member, greatest_scale_holds}

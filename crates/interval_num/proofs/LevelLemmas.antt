@@ -5,7 +5,8 @@ use Rattle.std.proofs.lemmas.List.{append-nil, length-append, take_rest, take_mo
 use Rattle.std.proofs.lemmas.List.Elements.{All-head, All-tail, All-nil, All-cons, All-get_or}
 use Rattle.scaled_decimal.specs.Decimals.{Decimal}
 use Rattle.interval_num.specs.Rows.{Answer, decimals_row}
-use Rattle.interval_num.specs.Views.{joined, halved, first_level, single_rows, AreLevels, IsSome, items_of}
+use Rattle.interval_num.specs.ItemLevels.{joined, halved, first_level, single_rows, AreLevels}
+use Rattle.interval_num.specs.private.Views.{IsSome, items_of}
 use Rattle.interval_num.proofs.JoinLemmas.{joined_rows}
 
 -- ---- the loop that halves

@@ -8,7 +8,7 @@ use Rattle.scaled_decimal.specs.laws.RoundingLemmas.{mag_quot}
 use Rattle.scaled_decimal.specs.WholeNumbers.{IsOfBits}
 use Rattle.interval_num.specs.declared.wholes.Width.{Width}
 use Rattle.interval_num.specs.declared.wholes.Width.TheVariants.{Int, Long}
-use Rattle.interval_num.specs.Widths.{bits_of}
+use Rattle.interval_num.specs.private.Widths.{bits_of}
 
 abbrev pub held : ℤ → ℤ
 held z = to_z w128 (of_z w128 z)

@@ -9,7 +9,8 @@ use Rattle.scaled_decimal.specs.laws.RoundingLaws.{rounds_exactly_one, rounds_ri
 use Rattle.scaled_decimal.specs.laws.ScaledLemmas.{rounds_scaled}
 use Rattle.scaled_decimal.specs.laws.IntegerLemmas.{le_times, times_zero}
 use Rattle.scaled_decimal.specs.Decimals.{Decimal, decimal, numerator_of, scale_of, numerator_at, ten_to, RoundsValue, RoundsQuotient}
-use Rattle.scaled_decimal.specs.RoundedDecimals.{rounded, rounded_is, quotient, rescaled}
+use Rattle.scaled_decimal.specs.RoundedDecimals.{rounded, quotient, rescaled}
+use Rattle.scaled_decimal.specs.RoundedDecimals.{rounded_is}
 use Rattle.scaled_decimal.specs.WorkingNumbers.{QuotientFits, RescaleFits}
 use Rattle.scaled_decimal.specs.Limits.{IsWithinLimit, most_places}
 use Rattle.interval_num.specs.declared.cause.RangeCause.TheVariants.{Wide, Divisor}

@@ -10,7 +10,8 @@ use Rattle.scaled_decimal.specs.declared.rounding.Mode.TheVariants.{Floor, Ceili
 use Rattle.scaled_decimal.specs.laws.IntegerLemmas.{le_times}
 use Rattle.scaled_decimal.specs.Rounding.{IsFloor, IsCeiling}
 use Rattle.scaled_decimal.specs.Decimals.{Decimal, decimal, numerator_of, numerator_at, ten_to, value_order}
-use Rattle.scaled_decimal.specs.RoundedDecimals.{rescaled, rescaled_is}
+use Rattle.scaled_decimal.specs.RoundedDecimals.{rescaled}
+use Rattle.scaled_decimal.specs.RoundedDecimals.{rescaled_is}
 use Rattle.interval_num.specs.declared.sign_set.SignSet.{SignSet}
 use Rattle.interval_num.specs.Intervals.{Interval, interval, Contains, IsWhole}
 use Rattle.interval_num.specs.Signs.{HasOrder, HasSign}

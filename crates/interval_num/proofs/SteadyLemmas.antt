@@ -9,7 +9,8 @@ use Rattle.scaled_decimal.specs.Rounding.{Rounds, IsAtMost, dividend_over}
 use Rattle.scaled_decimal.specs.laws.RoundingLaws.{rounds_near, rounds_rising}
 use Rattle.scaled_decimal.specs.laws.IntegerLemmas.{le_times, times_assoc, times_neg, times_swap, times_zero, some_abs}
 use Rattle.scaled_decimal.specs.Decimals.{ten_to}
-use Rattle.scaled_decimal.specs.RoundedDecimals.{rounded, rounded_is}
+use Rattle.scaled_decimal.specs.RoundedDecimals.{rounded}
+use Rattle.scaled_decimal.specs.RoundedDecimals.{rounded_is}
 use Rattle.interval_num.specs.Intervals.{Interval}
 use Rattle.interval_num.specs.Alignment.{has_zero}
 use Rattle.interval_num.proofs.NumberLemmas.{longer, ten_some}

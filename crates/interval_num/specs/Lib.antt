@@ -6,5 +6,5 @@ pub mod Refinement
 pub mod Rows
 pub mod Signs
 pub mod Soundness
-pub mod Views
-pub mod Widths
+pub mod ItemLevels
+pub mod private

@@ -5,7 +5,7 @@ ghost use Rattle.scaled_decimal.specs.Limits.{IsWithinLimit, most_places};
 ghost use Rattle.interval_num.specs.Intervals.{Interval, interval, HasKeptEnds};
 ghost use Rattle.interval_num.specs.Alignment.{is_beyond, ends_beyond, kept, at_scale, greater_scale, aligned, most, has_zero};
 ghost use Rattle.interval_num.specs.Rows.{Answer, most_power};
-ghost use Rattle.interval_num.specs.Views.{with_pair};
+ghost use Rattle.interval_num.specs.private.Views.{with_pair};
 
 use crate::cause::RangeCause;
 use crate::interval::Abs;

@@ -3,7 +3,8 @@ ghost use Rattle.std.specs.Prelude.{◌≡◌, ◌<◌, ◌≤◌, ℕ, List, []
 ghost use Rattle.scaled_decimal.specs.Decimals.{Decimal};
 ghost use Rattle.interval_num.specs.Intervals.{IsWhole};
 ghost use Rattle.interval_num.specs.Rows.{item_row, decimals_row};
-ghost use Rattle.interval_num.specs.Views.{joined, halved, single_rows, first_level, AreLevels, AreLevelsOf, IsSome, items_of};
+ghost use Rattle.interval_num.specs.ItemLevels.{joined, halved, single_rows, first_level, AreLevels, AreLevelsOf};
+ghost use Rattle.interval_num.specs.private.Views.{IsSome, items_of};
 ghost use Rattle.interval_num.specs.Soundness.{ItemIsSound};
 
 use crate::cause::RangeCause;
@@ -25,7 +26,7 @@ pub struct ItemRanges {
 impl Model for ItemRanges {
     ghost use Rattle.std.specs.Prelude.{List};
     ghost use Rattle.scaled_decimal.specs.Decimals.{Decimal};
-    ghost use Rattle.interval_num.specs.Views.{AreLevelsOf};
+    ghost use Rattle.interval_num.specs.ItemLevels.{AreLevelsOf};
 
     ghost Value = { List Decimal };
 

@@ -6,7 +6,7 @@ ghost use Rattle.scaled_decimal.specs.Limits.{IsWithinLimit};
 ghost use Rattle.interval_num.specs.Intervals.{IsWholeOfBits};
 ghost use Rattle.interval_num.specs.Rows.{whole_hull, whole_row, whole_opposite_row, whole_quotient_row, whole_remainder_row, least_remainder, greatest_remainder};
 ghost use Rattle.interval_num.specs.Soundness.{WholeIsSound, WholeQuotientIsSound, WholeOppositeIsSound};
-ghost use Rattle.interval_num.specs.Widths.{bits_of};
+ghost use Rattle.interval_num.specs.private.Widths.{bits_of};
 
 use crate::alignment::{has_zero, most};
 use crate::cause::RangeCause;

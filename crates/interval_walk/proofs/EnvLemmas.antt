@@ -6,7 +6,8 @@ use Rattle.interval_num.specs.Intervals.{Interval, Contains}
 use Rattle.pap_types.specs.Scopes.{Scope}
 use Rattle.pap_types.specs.Values.{Env, look, put}
 use Rattle.interval_walk.specs.Ranges.{Ranges, range_named, put_range}
-use Rattle.interval_walk.specs.Soundness.{AreWithin, AreVariables}
+use Rattle.interval_walk.specs.Soundness.{AreWithin}
+use Rattle.interval_walk.specs.private.Soundness.{AreVariables}
 
 -- a variable has a value in its range
 pub look_inside : (rs : Ranges) (env : Env) (x : List ℕ) (a : Interval) → AreWithin rs env → range_named rs x ≡ Some a → (d : Decimal) × (look env x ≡ Some d) × Contains a d

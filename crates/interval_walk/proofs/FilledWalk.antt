@@ -30,7 +30,8 @@ use Rattle.interval_walk.specs.Ranged.{ranged}
 use Rattle.interval_walk.specs.Walked.{range_kept_as, assigned_range, walked, range_calls_of}
 use Rattle.interval_walk.specs.Admission.{SuitsLimit, HasLimit}
 use Rattle.interval_walk.specs.Analysis.{limit_range, input_range, first_range}
-use Rattle.interval_walk.specs.Soundness.{AreVariables, IsFilled, AreFilled, NoRangeGetsEmpty}
+use Rattle.interval_walk.specs.private.Soundness.{AreVariables}
+use Rattle.interval_walk.specs.Soundness.{IsFilled, AreFilled, NoRangeGetsEmpty}
 use Rattle.interval_walk.proofs.RowLaws.{low_inside}
 use Rattle.interval_walk.proofs.ScopeLemmas.{IsSoundScope}
 use Rattle.interval_walk.proofs.PlanLemmas.{sound_scope}

@@ -6,7 +6,8 @@ use Rattle.scaled_decimal.specs.declared.rounding.Mode.{Mode}
 use Rattle.scaled_decimal.specs.Decimals.{Decimal, decimal, numerator_of, scale_of, ten_to, sum, difference, product, negated, magnitude, comparison, lesser, greater}
 use Rattle.scaled_decimal.specs.Limits.{most_places}
 use Rattle.scaled_decimal.specs.ExactQuotients.{IsPlainDivisor}
-use Rattle.scaled_decimal.specs.RoundedDecimals.{quotient, quotient_is, rescaled, rescaled_is}
+use Rattle.scaled_decimal.specs.RoundedDecimals.{quotient, rescaled}
+use Rattle.scaled_decimal.specs.RoundedDecimals.{quotient_is, rescaled_is}
 use Rattle.scaled_decimal.specs.ShortenedDecimals.{exact_quotient}
 use Rattle.scaled_decimal.specs.WholeNumbers.{item_at, whole_decimal, whole_sum, whole_difference, whole_product, whole_quotient, whole_remainder, whole_opposite}
 use Rattle.scaled_decimal.proofs.Laws.{exact_quotient_is}

@@ -8,7 +8,8 @@ use Rattle.pap_types.specs.Operations.{is_zero}
 use Rattle.pap_types.specs.Values.{Env}
 use Rattle.pap_types.proofs.Laws.{has_types}
 use Rattle.interval_walk.specs.Ranges.{Ranges}
-use Rattle.interval_walk.specs.Soundness.{AreWithin, AreVariables, Reaches, IsFilled, SomeBranchIsReached}
+use Rattle.interval_walk.specs.Soundness.{AreWithin, Reaches, IsFilled, SomeBranchIsReached}
+use Rattle.interval_walk.specs.private.Soundness.{AreVariables}
 use Rattle.interval_walk.proofs.EnvLemmas.{look_none}
 use Rattle.interval_walk.proofs.RowLaws.{low_inside}
 use Rattle.interval_walk.proofs.PlanLemmas.{sound_scope}

@@ -13,7 +13,7 @@ use Rattle.pap_types.specs.Checks.{is_of_type}
 use Rattle.pap_types.specs.Typing.{HasItsType}
 use Rattle.pap_types.specs.Values.{Env, value, named_value}
 use Rattle.pap_types.proofs.Laws.{plain_divisor}
-use Rattle.interval_walk.specs.Soundness.{AreVariables}
+use Rattle.interval_walk.specs.private.Soundness.{AreVariables}
 
 -- what the soundness of an expression takes of the names of a plan
 pub record IsSoundScope (scope : Scope) : Type 0 where

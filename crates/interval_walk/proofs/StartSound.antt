@@ -24,7 +24,8 @@ use Rattle.pap_types.specs.Meaning.{first_entry, given, start, SuitsKind, AreInp
 use Rattle.interval_walk.specs.Ranges.{single}
 use Rattle.interval_walk.specs.Admission.{SuitsLimit, HasLimit, HaveLimits, FitsAsFactor, FitsAs, IsAdmitted, IsAdmittedFor, AllAdmitted, AreAdmitted}
 use Rattle.interval_walk.specs.Analysis.{limit_range, input_range, first_range, start_ranges}
-use Rattle.interval_walk.specs.Soundness.{AreWithin, AreVariables}
+use Rattle.interval_walk.specs.Soundness.{AreWithin}
+use Rattle.interval_walk.specs.private.Soundness.{AreVariables}
 use Rattle.interval_walk.proofs.NodeSound.{single_inside}
 use Rattle.interval_walk.proofs.PlanLemmas.{other_name}
 use Rattle.interval_walk.proofs.WalkSound.{at_greater}

@@ -26,7 +26,8 @@ use Rattle.interval_walk.specs.Failures.{NodeFault, and_then, at_node, nowhere}
 use Rattle.interval_walk.specs.NodeRanges.{leaf_interval, leaf_range, item_range, one_range, two_range, comparison_range}
 use Rattle.interval_walk.specs.Branches.{Branches, Sides, sides, sides_of, compared, opposite, reached, both_hold, one_holds, either_way}
 use Rattle.interval_walk.specs.Ranged.{ranged, compare_sides, tested, are_whole}
-use Rattle.interval_walk.specs.Soundness.{AreWithin, AreVariables, TermHolds, TestHolds}
+use Rattle.interval_walk.specs.Soundness.{AreWithin, TermHolds, TestHolds}
+use Rattle.interval_walk.specs.private.Soundness.{AreVariables}
 use Rattle.interval_walk.proofs.RowShapes.{both_true, shape_bits}
 use Rattle.interval_walk.proofs.NodeShapes.{stepped, passed_node, leaf_shape, ranged_shape}
 use Rattle.interval_walk.proofs.ScopeLemmas.{IsSoundScope, shown_value}

@@ -35,7 +35,8 @@ use Rattle.interval_walk.specs.NodeRanges.{leaf_range}
 use Rattle.interval_walk.specs.Branches.{Branches, either_way}
 use Rattle.interval_walk.specs.Ranged.{ranged, tested}
 use Rattle.interval_walk.specs.Walked.{range_kept_as, assigned_range, joined, RangeCalls, walked, with_body, range_calls_of}
-use Rattle.interval_walk.specs.Soundness.{AreWithin, AreVariables, TestHolds}
+use Rattle.interval_walk.specs.Soundness.{AreWithin, TestHolds}
+use Rattle.interval_walk.specs.private.Soundness.{AreVariables}
 use Rattle.interval_walk.proofs.RowShapes.{both_true}
 use Rattle.interval_walk.proofs.NodeShapes.{stepped, passed_node, leaf_shape}
 use Rattle.interval_walk.proofs.ScopeLemmas.{IsSoundScope}

@@ -12,3 +12,4 @@ pub mod Shapes
 pub mod Soundness
 pub mod WalkReading
 pub mod Walked
+pub mod private

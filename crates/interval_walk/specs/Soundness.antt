@@ -16,7 +16,7 @@ use Rattle.pap_types.specs.Scopes.{Scope, declared_as, scope_of}
 use Rattle.pap_types.specs.Kinds.{kind_of}
 use Rattle.pap_types.specs.Typing.{IsTypedTerm, IsTypedBody}
 use Rattle.pap_types.specs.Operations.{is_zero}
-use Rattle.pap_types.specs.Values.{Env, look, value}
+use Rattle.pap_types.specs.Values.{Env, value}
 use Rattle.pap_types.specs.Safety.{IsSafe}
 use Rattle.interval_walk.specs.Ranges.{Ranges, range_named}
 use Rattle.interval_walk.specs.Ranged.{ranged, tested}
@@ -29,10 +29,6 @@ abbrev pub AreWithin : Ranges → Env → Type 0
 AreWithin [] [] = ⊤
 AreWithin (r ∷ rs) (v ∷ vs) = (r.name ≡ v.name) × Contains r.range v.value × AreWithin rs vs
 AreWithin _ _ = ⊥
-
--- nothing but variables has a value
-abbrev pub AreVariables : Scope → Env → Type 0
-AreVariables scope env = (x : List ℕ) → declared_as scope.variables x ≡ None → look env x ≡ None
 
 -- ranges of the variables that can be reached, in which their values lie
 pub record Reaches (o : Option Ranges) (env : Env) : Type 0 where

@@ -8,7 +8,7 @@ use Rattle.limits_file.specs.declared.fault.LimitsFault.{LimitsFault}
 use Rattle.limits_file.specs.declared.fault.LimitsFault.TheVariants as answered
 use Rattle.limits_file.specs.declared.limits.InputLimit.{InputLimit}
 use Rattle.limits_file.specs.declared.limits.Binding.{Binding}
-use Rattle.limits_file.specs.AnswerViews.{Tells}
+use Rattle.limits_file.specs.private.AnswerViews.{Tells}
 use Rattle.limits_file.specs.Labels.{label_of}
 use Rattle.limits_file.specs.Entries.{Form, has_key, first_unsuited, failing_key}
 use Rattle.limits_file.specs.Inputs.{input_form, InputSays, GivesNoLimit}

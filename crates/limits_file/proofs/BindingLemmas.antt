@@ -14,7 +14,7 @@ use Rattle.limits_file.specs.Labels.{label_of}
 use Rattle.limits_file.specs.Faults.{Fault, too_long, no_toml, bad_key, bad_bound}
 use Rattle.limits_file.specs.Entries.{has_key, text_at, first_unsuited, entry_of, failing_key}
 use Rattle.limits_file.specs.Bindings.{is_count, is_kind, suits_binding, binding_form, IsCarryOf, BindingSays}
-use Rattle.limits_file.specs.BindingViews.{is_whole, GivesCarry}
+use Rattle.limits_file.specs.private.BindingViews.{is_whole, GivesCarry}
 use Rattle.limits_file.proofs.WalkLemmas.{SaysOne, SaysSome}
 use Rattle.limits_file.proofs.EntryLemmas.{suited, IsFit, fit, is_table}
 

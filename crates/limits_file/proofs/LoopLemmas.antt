@@ -5,7 +5,7 @@ use Rattle.toml.specs.Data.{Data, member}
 use Rattle.toml.specs.View.{view, members_view}
 use Rattle.limits_file.specs.declared.fault.LimitsFault.{LimitsFault}
 use Rattle.limits_file.specs.declared.fault.LimitsFault.TheVariants as answered
-use Rattle.limits_file.specs.AnswerViews.{Tells}
+use Rattle.limits_file.specs.private.AnswerViews.{Tells}
 use Rattle.limits_file.specs.Faults.{Fault, too_long, no_toml, bad_key, bad_bound}
 use Rattle.limits_file.specs.Walks.{AllOrFirstFault}
 use Rattle.limits_file.proofs.WalkLemmas.{GoesOn, goes_on, stops, ends}

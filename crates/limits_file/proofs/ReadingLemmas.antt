@@ -21,7 +21,7 @@ use Rattle.limits_file.specs.declared.fault.LimitsFault.TheVariants as answered
 use Rattle.limits_file.specs.declared.limits.InputLimit.{InputLimit}
 use Rattle.limits_file.specs.declared.limits.Binding.{Binding}
 use Rattle.limits_file.specs.declared.limits.Limits.{Limits}
-use Rattle.limits_file.specs.AnswerViews.{Tells}
+use Rattle.limits_file.specs.private.AnswerViews.{Tells}
 use Rattle.limits_file.specs.Labels.{label_of}
 use Rattle.limits_file.specs.Faults.{Fault, bad_key}
 use Rattle.limits_file.specs.Walks.{AllOrFirstFault, TableSays}

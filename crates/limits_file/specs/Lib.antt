@@ -6,5 +6,4 @@ pub mod Entries
 pub mod Inputs
 pub mod Bindings
 pub mod RangeFiles
-pub mod AnswerViews
-pub mod BindingViews
+pub mod private

@@ -1,9 +1,9 @@
 //! `[bind]`: what inputs carry over from earlier runs.
 ghost use Rattle.std.specs.Prelude.{◌≡◌, ℕ, MatchOption, IfOk, map, None, false, option_map};
 ghost use Rattle.toml.specs.View.{view, table_view};
-ghost use Rattle.limits_file.specs.AnswerViews.{Tells};
+ghost use Rattle.limits_file.specs.private.AnswerViews.{Tells};
 ghost use Rattle.limits_file.specs.Entries.{first_unsuited, text_at};
-ghost use Rattle.limits_file.specs.BindingViews.{is_whole, GivesCarry};
+ghost use Rattle.limits_file.specs.private.BindingViews.{is_whole, GivesCarry};
 ghost use Rattle.limits_file.specs.RangeFiles.{NamesAscend};
 ghost use Rattle.limits_file.specs.Walks.{AllOrFirstFault};
 ghost use Rattle.limits_file.specs.Bindings.{is_count, is_kind, suits_binding, binding_form, BindingSays};

@@ -2,7 +2,7 @@
 ghost use Rattle.std.specs.Prelude.{◌≡◌, ◌↔◌, IsTrue, MatchOption, IfOk, map, Some, not, option_map};
 ghost use Rattle.scaled_decimal.specs.Decimals.{Decimal};
 ghost use Rattle.toml.specs.View.{view, table_view};
-ghost use Rattle.limits_file.specs.AnswerViews.{Tells};
+ghost use Rattle.limits_file.specs.private.AnswerViews.{Tells};
 ghost use Rattle.limits_file.specs.Entries.{first_unsuited, has_key, has_needed_keys};
 ghost use Rattle.limits_file.specs.Inputs.{suits_input, is_bound_key, input_form, IsBound, IsBoundAt, IsLimitOf, GivesNoLimit, InputSays, HasNoBoundAt, HasPlaces, HasNoPlaces};
 ghost use Rattle.limits_file.specs.RangeFiles.{NamesAscend};

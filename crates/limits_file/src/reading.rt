@@ -1,7 +1,7 @@
 //! A range file is read key by key, in byte order of its keys.
 ghost use Rattle.std.specs.Prelude.{◌≡◌, ◌<◌, ◌≤◌, ◌↔◌, ℕ, List, Ok, Err, IfOk, IfErr, length};
 ghost use Rattle.toml.specs.View.{table_view};
-ghost use Rattle.limits_file.specs.AnswerViews.{Tells, IsNoTomlOrMemory};
+ghost use Rattle.limits_file.specs.private.AnswerViews.{Tells, IsNoTomlOrMemory};
 ghost use Rattle.limits_file.specs.Faults.{no_toml, bad_key, bad_bound};
 ghost use Rattle.limits_file.specs.Limits.{longest_limits};
 ghost use Rattle.limits_file.specs.RangeFiles.{SectionSays, joined, IsToml, FileSays, AreInOrder, HasOneAnswer};

@@ -21,11 +21,11 @@ use Rattle.pap_types.specs.Safety.{TwoFits}
 use Rattle.pap_types.specs.Scopes.{declared_as, names_of, variables_of}
 use Rattle.pap_types.specs.Values.{look, goes_right}
 use Rattle.pap_types.proofs.Laws.{has_types}
-use Rattle.interval_walk.specs.Soundness.{AreVariables}
+use Rattle.interval_walk.specs.private.Soundness.{AreVariables}
 use Rattle.interval_walk.proofs.Laws.{sound_scope, shown_plain, shown_value}
-use Rattle.month_trace.specs.OperationViews.{CanTakeOne, CanOperate, IsPlainFor, CanCall, CanDivide}
-use Rattle.pap_types.specs.ScopeViews.{scope_in}
-use Rattle.month_trace.specs.ValueViews.{with_names, values_in, value_in, HasValues, CanEvaluate}
+use Rattle.month_trace.specs.private.OperationViews.{CanTakeOne, CanOperate, IsPlainFor, CanCall, CanDivide}
+use Rattle.pap_types.specs.private.ScopeViews.{scope_in}
+use Rattle.month_trace.specs.private.ValueViews.{with_names, values_in, value_in, HasValues, CanEvaluate}
 use Rattle.month_trace.proofs.NameLemmas.{same_either_way}
 use Rattle.month_trace.proofs.OperationLemmas.{some_first, some_step, some_if, some_else}
 

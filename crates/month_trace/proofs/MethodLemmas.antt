@@ -19,10 +19,10 @@ use Rattle.pap_types.specs.Routines.{body_named, method_names}
 use Rattle.pap_types.specs.Scopes.{number_of}
 use Rattle.pap_types.specs.Typing.{IsTypedBody}
 use Rattle.pap_types.proofs.Laws.{has_types}
-use Rattle.pap_types.specs.ScopeViews.{scope_in}
-use Rattle.month_trace.specs.ValueViews.{values_in, IsStart}
-use Rattle.pap_tree.specs.TreeViews.{methods_in}
-use Rattle.month_trace.specs.WalkViews.{calls_by, CanRun, IsMethodBody}
+use Rattle.pap_types.specs.private.ScopeViews.{scope_in}
+use Rattle.month_trace.specs.private.ValueViews.{values_in, IsStart}
+use Rattle.pap_tree.specs.private.TreeViews.{methods_in}
+use Rattle.month_trace.specs.private.WalkViews.{calls_by, CanRun, IsMethodBody}
 use Rattle.month_trace.proofs.NameLemmas.{place_of, number_in, number_past}
 
 body_at : (ms : List Routine) (x : List ℕ)

@@ -11,7 +11,7 @@ use Rattle.std.proofs.lemmas.Slice.Eq.{bytes_eq-Decides}
 use Rattle.pap_types.specs.Scopes.{number_of}
 use Rattle.scaled_decimal.specs.Decimals.{Decimal}
 use Rattle.pap_types.specs.Values.{look, put}
-use Rattle.month_trace.specs.ValueViews.{with_names}
+use Rattle.month_trace.specs.private.ValueViews.{with_names}
 
 pub same_either_way : (x y : List ℕ) → bytes_eq x y ≡ bytes_eq y x
 same_either_way x y = grind (arith, bytes_eq-Decides)

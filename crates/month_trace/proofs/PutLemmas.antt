@@ -16,8 +16,8 @@ use Rattle.pap_types.specs.Scopes.{Scope, names_of, number_of, declared_as, decl
 use Rattle.pap_types.specs.Values.{Env, value, put}
 use Rattle.pap_types.proofs.Laws.{declared_by}
 use Rattle.month_trace.specs.Traces.{value_put}
-use Rattle.pap_types.specs.ScopeViews.{scope_in, variables_in}
-use Rattle.month_trace.specs.ValueViews.{IsSized, values_in, IsFactorOf, CanKeep}
+use Rattle.pap_types.specs.private.ScopeViews.{scope_in, variables_in}
+use Rattle.month_trace.specs.private.ValueViews.{IsSized, values_in, IsFactorOf, CanKeep}
 use Rattle.month_trace.proofs.NameLemmas.{number_in, put_by}
 
 -- a name that has a variable's number is declared as that variable

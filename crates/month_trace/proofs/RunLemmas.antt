@@ -19,10 +19,10 @@ use Rattle.month_trace.specs.declared.step.TraceStep.{TraceStep}
 use Rattle.month_trace.specs.declared.step.TraceStep.TheVariants.{Set, Test, Enter}
 use Rattle.month_trace.specs.declared.statements.Spot.{Spot}
 use Rattle.month_trace.specs.Traces.{Trace, first_then, both_in_order, value_put, traced, traces_of}
-use Rattle.pap_types.specs.ScopeViews.{scope_in}
-use Rattle.month_trace.specs.ValueViews.{values_in, IsSized}
-use Rattle.pap_tree.specs.TreeViews.{methods_in}
-use Rattle.month_trace.specs.WalkViews.{calls_by, traces_by, after_in, traced_in, followed, CanRun, Progress, Goes}
+use Rattle.pap_types.specs.private.ScopeViews.{scope_in}
+use Rattle.month_trace.specs.private.ValueViews.{values_in, IsSized}
+use Rattle.pap_tree.specs.private.TreeViews.{methods_in}
+use Rattle.month_trace.specs.private.WalkViews.{calls_by, traces_by, after_in, traced_in, followed, CanRun, Progress, Goes}
 use Rattle.month_trace.proofs.CountLemmas.{written-then}
 use Rattle.month_trace.proofs.OperationLemmas.{some_first, some_step}
 

@@ -10,7 +10,7 @@ use Rattle.pap_tree.specs.Declarations.{Declaration, declaration_of}
 use Rattle.pap_tree.specs.Flowchart.{flowchart_of}
 use Rattle.pap_types.specs.Meaning.{AreInputs, first_entry, given}
 use Rattle.pap_types.specs.Scopes.{first_value, names_of}
-use Rattle.month_trace.specs.ValueViews.{IsStart, with_names}
+use Rattle.month_trace.specs.private.ValueViews.{IsStart, with_names}
 
 -- what variables begin with
 abbrev pub begun : List Declaration → List Decimal

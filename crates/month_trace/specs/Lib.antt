@@ -1,6 +1,4 @@
 pub mod Traces
 pub mod TraceLaws
-pub mod ValueViews
-pub mod OperationViews
-pub mod WalkViews
 pub mod BookTraces
+pub mod private

@@ -1,8 +1,8 @@
 //! The values of expressions.
 ghost use Rattle.std.specs.Prelude.{◌≡◌, Some};
 ghost use Rattle.pap_tree.specs.Term.{term_of, item, value_of, value_of_scaled, new_big, unary, set_scale, operator, method, divide};
-ghost use Rattle.pap_tree.specs.TreeViews.{one_of, two_of, choice_of};
-ghost use Rattle.month_trace.specs.ValueViews.{CanEvaluate, value_in};
+ghost use Rattle.pap_tree.specs.private.TreeViews.{one_of, two_of, choice_of};
+ghost use Rattle.month_trace.specs.private.ValueViews.{CanEvaluate, value_in};
 
 use crate::operations::{
     as_big, call_value, goes_right, is_zero, item, operator_value, quotient, rescaled, unary_value,

@@ -9,7 +9,7 @@ ghost use Rattle.scaled_decimal.specs.WorkingNumbers.{RescaleFits, ExactQuotient
 ghost use Rattle.pap_tree.specs.Term.{Term, term_of, unary, operator, divide};
 ghost use Rattle.pap_types.specs.Operations.{as_big, is_zero, of_one, of_operator, of_method, of_two, holds_of};
 ghost use Rattle.pap_types.specs.Values.{goes_right};
-ghost use Rattle.month_trace.specs.OperationViews.{CanTakeOne, CanOperate, CanCall, CanDivide};
+ghost use Rattle.month_trace.specs.private.OperationViews.{CanTakeOne, CanOperate, CanCall, CanDivide};
 
 use pap_tree::{Binary, Call, Expr, Unary};
 use pap_types::shortened;

@@ -4,8 +4,8 @@ ghost use Rattle.std.specs.Option.{option_map};
 ghost use Rattle.pap_tree.specs.Flowchart.{routine_of, body_of, stmt_then, done, eval, execute};
 ghost use Rattle.pap_tree.specs.Term.{term_of};
 ghost use Rattle.pap_types.specs.Routines.{body_named};
-ghost use Rattle.pap_tree.specs.TreeViews.{if_of, methods_in};
-ghost use Rattle.month_trace.specs.WalkViews.{CanRun, CanExecute, IsMethodBody, GoesTo, GoesInside, progress};
+ghost use Rattle.pap_tree.specs.private.TreeViews.{if_of, methods_in};
+ghost use Rattle.month_trace.specs.private.WalkViews.{CanRun, CanExecute, IsMethodBody, GoesTo, GoesInside, progress};
 
 use crate::expressions::value_of;
 use crate::lists::written;

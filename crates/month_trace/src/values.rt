@@ -9,8 +9,8 @@ ghost use Rattle.pap_types.specs.Runs.{assigned};
 ghost use Rattle.pap_types.specs.Scopes.{first_value, table_in, kept_as, at_factor_scale};
 ghost use Rattle.pap_types.specs.Typing.{HasItsType};
 ghost use Rattle.month_trace.specs.Traces.{value_put};
-ghost use Rattle.pap_types.specs.ScopeViews.{scope_in};
-ghost use Rattle.month_trace.specs.ValueViews.{HasValues, IsStart, CanPut, CanKeep, IsFactorOf, values_in, name_value_in};
+ghost use Rattle.pap_types.specs.private.ScopeViews.{scope_in};
+ghost use Rattle.month_trace.specs.private.ValueViews.{HasValues, IsStart, CanPut, CanKeep, IsFactorOf, values_in, name_value_in};
 
 use pap_tree::{Declared, Expr, Kind, Name};
 use pap_types::{Typed, at_factor_scale, first_value, items_of};

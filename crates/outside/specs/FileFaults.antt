@@ -1,19 +1,8 @@
 -- Why the system doesn't read a file, and what that prints as.
-use Rattle.std.specs.Prelude.{ℕ, List, Option, Some, None, codes, string_bytes, option_map}
-use Rattle.std.specs.declared.io.ErrorKind.{ErrorKind}
-use Rattle.std.specs.declared.io.ErrorKind.TheVariants.{NotFound, NotADirectory, PermissionDenied, IsADirectory, OutOfMemory}
+use Rattle.std.specs.Prelude.{ℕ, List, Option, codes, string_bytes, option_map}
 use Rattle.outside.specs.declared.file_fault.FileFault.{FileFault}
 use Rattle.outside.specs.declared.file_fault.FileFault.TheVariants.{Missing, Forbidden, Folder, Unreadable}
 use Rattle.outside.specs.declared.file_fault.FailedFile.{FailedFile}
-
--- the fault that an error of this kind is; want of memory is none
-abbrev pub fault_of : ErrorKind → Option FileFault
-fault_of OutOfMemory = None
-fault_of NotFound = Some Missing
-fault_of NotADirectory = Some Missing
-fault_of PermissionDenied = Some Forbidden
-fault_of IsADirectory = Some Folder
-fault_of _ = Some Unreadable
 
 abbrev pub fault_text : FileFault → List ℕ
 fault_text Missing = codes "there is no such file"

@@ -1,6 +1,6 @@
 //! Why the system doesn't read a file.
 ghost use Rattle.std.specs.Prelude.{◌≡◌};
-ghost use Rattle.outside.specs.FileFaults.{fault_of};
+ghost use Rattle.outside.specs.private.FileFaults.{fault_of};
 
 use std::fmt;
 use std::io::ErrorKind;

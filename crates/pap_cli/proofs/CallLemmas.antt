@@ -8,7 +8,8 @@ use Rattle.pap_cli.specs.CallClauses.{TellsBadWords, TouchesOnly, IsCaused}
 use Rattle.pap_cli.specs.Outside.{Objects, Outside}
 use Rattle.pap_cli.specs.Statuses.{status_of}
 use Rattle.pap_cli.specs.Words.{Form, check, sample, HasForm}
-use Rattle.pap_cli.specs.WordViews.{ReadsScript, form_by, form_on_files}
+use Rattle.pap_cli.specs.ScriptWords.{ReadsScript}
+use Rattle.pap_cli.specs.private.WordViews.{form_by, form_on_files}
 use Rattle.pap_cli.specs.declared.status.Status.{Status}
 use Rattle.pap_cli.specs.declared.status.Status.TheVariants.{BadWords}
 use Rattle.pap_cli.specs.declared.words.Command.{Command}

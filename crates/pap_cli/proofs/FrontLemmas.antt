@@ -10,7 +10,7 @@ use Rattle.plan_answers.proofs.Laws.{accepted_whole, answers_front, refusal_answ
 use Rattle.pap_cli.specs.declared.words.Command.{Command}
 use Rattle.pap_cli.specs.declared.words.Command.TheVariants.{Check, Once}
 use Rattle.pap_cli.specs.RunAnswers.{IsOnce}
-use Rattle.pap_cli.specs.AnswerViews.{answers_of}
+use Rattle.pap_cli.specs.private.AnswerViews.{answers_of}
 use Rattle.pap_cli.specs.FileClauses.{AnswersFiles}
 
 module _ (n m : ℕ) (more_plan : 1048576 < n) (more_limits : 262144 < m) where

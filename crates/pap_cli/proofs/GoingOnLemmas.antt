@@ -16,8 +16,8 @@ use Rattle.script_steps.specs.GoingOn.{AreSameFor, IsCut, opened}
 use Rattle.script_steps.specs.Standings.{with_book}
 use Rattle.script_steps.specs.Steps.{Standing, AreThere, first_standing}
 use Rattle.script_steps.proofs.Laws.{GoAlike, cut_opens, go_alike, not_filed, steps_over}
-use Rattle.script_run.specs.RunViews.{Follow, with_answer}
-use Rattle.script_run.specs.RunViews.{empty_session as beginning}
+use Rattle.script_run.specs.private.RunViews.{Follow, with_answer}
+use Rattle.script_run.specs.private.RunViews.{empty_session as beginning}
 use Rattle.script_run.specs.Transcripts.{IsHalted, Session, lines_of}
 use Rattle.script_run.proofs.Laws.{FollowToHalt, FollowToHalt-one, FollowToHalt-rest, HasAnswered, HasSteps}
 use Rattle.script_run.proofs.Laws.{any_refused, has_answered, has_steps, no_refusals, one, refusals, texts, totals_of_session}

@@ -19,8 +19,8 @@ use Rattle.pap_cli.specs.declared.words.Command.TheVariants.{Check, Once}
 use Rattle.pap_cli.specs.Statuses.{done_status, status_of}
 use Rattle.plan_answers.specs.Answers.{Answer, CheckAnswers}
 use Rattle.pap_cli.specs.RunAnswers.{OnceAnswers}
-use Rattle.plan_answers.specs.ReplyViews.{reply_of}
-use Rattle.pap_cli.specs.AnswerViews.{answers_of}
+use Rattle.plan_answers.specs.Replies.{reply_of}
+use Rattle.pap_cli.specs.private.AnswerViews.{answers_of}
 use Rattle.pap_cli.specs.Outside.{Outside, shown_of}
 use Rattle.pap_cli.specs.FileClauses.{Answering, AnswersFiles, EndsOnFiles, EndsWhole, IsCounted, LeavesOnFiles, HeadlineOnFiles}
 use Rattle.plan_answers.specs.Fronts.{AreFronts, IsMissing}
@@ -29,7 +29,7 @@ use Rattle.pap_cli.specs.Words.{Form, check, once, run, sample, save}
 use Rattle.pap_cli.proofs.ScriptLemmas.{script_none}
 use Rattle.pap_cli.proofs.SampleLemmas.{sample_none}
 use Rattle.pap_cli.proofs.SaveLemmas.{save_none}
-use Rattle.pap_cli.specs.WordViews.{form_by}
+use Rattle.pap_cli.specs.private.WordViews.{form_by}
 use Rattle.pap_cli.proofs.FrontLemmas.{answers_both}
 use Rattle.pap_cli.proofs.StatusLemmas.{appended_told}
 use Rattle.pap_cli.proofs.StatusLemmas.{rose_and_still}

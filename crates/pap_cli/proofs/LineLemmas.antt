@@ -7,7 +7,7 @@ use Rattle.pap_tree.specs.Declarations.{Declaration}
 use Rattle.payroll_records.specs.declared.values.NamedValue.{NamedValue}
 use Rattle.pay_run.specs.Runs.{named_values}
 use Rattle.pap_cli.specs.RunLines.{value_line, value_lines}
-use Rattle.pap_cli.specs.RunViews.{named_lines}
+use Rattle.pap_cli.specs.private.RunViews.{named_lines}
 
 lines_append : (vs : List NamedValue) (v : NamedValue) → named_lines (vs ++ v ∷ []) ≡ named_lines vs ++ value_line v.name v.value
 lines_append [] v = append-nil (value_line v.name v.value)

@@ -19,14 +19,14 @@ use Rattle.pay_run.specs.Runs.{filled}
 use Rattle.pap_cli.specs.declared.words.Command.{Command}
 use Rattle.pap_cli.specs.declared.words.Command.TheVariants.{Check, Once}
 use Rattle.pap_cli.specs.Words.{Form, check, once, HasForm}
-use Rattle.pap_cli.specs.WordViews.{form_by, IsOnFiles}
+use Rattle.pap_cli.specs.private.WordViews.{form_by, IsOnFiles}
 use Rattle.plan_answers.specs.Answers.{Answer, IsRefusal, IsChecked, CheckAnswers}
 use Rattle.pap_cli.specs.RunAnswers.{IsRunOn, IsOnce, OnceAnswers}
-use Rattle.pap_cli.specs.AnswerViews.{answers_of, IsRunWith, MarksRefusals}
+use Rattle.pap_cli.specs.private.AnswerViews.{answers_of, IsRunWith, MarksRefusals}
 use Rattle.plain_words.specs.Places.{PlanFiles}
 use Rattle.plain_words.specs.Refusals.{TellsPlan}
 use Rattle.pap_cli.specs.Reasons.{bytes_of, SaysRefused, SaysRefusedOn, files_on, TellsReason}
-use Rattle.pap_cli.specs.ReasonViews.{TellsOn, TellsFilled}
+use Rattle.pap_cli.specs.private.ReasonViews.{TellsOn, TellsFilled}
 use Rattle.plan_answers.proofs.Laws.{check_answers}
 use Rattle.pap_cli.proofs.AnswerLemmas.{once_answers, words_kept}
 

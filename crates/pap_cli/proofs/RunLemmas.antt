@@ -24,9 +24,9 @@ use Rattle.pay_run.specs.declared.outputs.Finished.{Finished}
 use Rattle.pay_run.proofs.Laws.{outputs_are, cost_is}
 use Rattle.plan_answers.specs.Answers.{Answer, IsRefusal}
 use Rattle.plan_answers.proofs.Laws.{refused_is}
-use Rattle.pap_cli.specs.AnswerViews.{IsRunWith}
+use Rattle.pap_cli.specs.private.AnswerViews.{IsRunWith}
 use Rattle.pap_cli.specs.RunLines.{value_lines, steps_line}
-use Rattle.pap_cli.specs.RunViews.{named_lines}
+use Rattle.pap_cli.specs.private.RunViews.{named_lines}
 use Rattle.pap_cli.specs.RunAnswers.{IsRunOn, IsOnce, OnceAnswers, finished}
 use Rattle.pap_cli.specs.FileClauses.{IsCounted}
 use Rattle.pap_cli.proofs.LineLemmas.{lines_named}

@@ -6,7 +6,7 @@ use Rattle.outside.specs.Causes.{Rose}
 use Rattle.outside.specs.Told.{FileMap, Appends, AppendsShort}
 use Rattle.outside.proofs.Laws.{Appends-nothing}
 use Rattle.plan_answers.specs.Answers.{Answer, refusal}
-use Rattle.plan_answers.specs.ReplyViews.{reply_of}
+use Rattle.plan_answers.specs.Replies.{reply_of}
 use Rattle.plan_answers.specs.declared.reply.Reply.{Reply}
 use Rattle.script_steps.specs.Steps.{Standing}
 use Rattle.script_run.specs.Limits.{most_script}
@@ -28,7 +28,7 @@ use Rattle.book_file.specs.Saving.{SaveSays}
 use Rattle.book_file.specs.declared.refusal.SaveRefusal.TheVariants as unsaved
 use Rattle.pap_cli.specs.SaveAnswers.{Written, IsBookWritten, IsSave, SaveAnswers, was_filed}
 use Rattle.pap_cli.specs.SaveClauses.{unwritten, IsSaveEnd, SaveEnds, LeavesOnSave, IsSavedWhole, HeadlineOnSave}
-use Rattle.pap_cli.specs.SaveViews.{written_of}
+use Rattle.pap_cli.specs.private.SaveViews.{written_of}
 use Rattle.pap_cli.proofs.StatusLemmas.{appended_told, long_stop, no_write, not_long, rose_and_still, written_whole}
 
 -- ---- a script that was answered to its end

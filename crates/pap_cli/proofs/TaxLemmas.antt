@@ -10,7 +10,7 @@ use Rattle.recalc_engine.specs.RowLaws.{HasBound}
 use Rattle.carry_bindings.specs.Carrying.{total, zero_amount}
 use Rattle.carry_bindings.proofs.Laws.{IsPartial, sum_fits, sum_partial, amount_by}
 use Rattle.pap_cli.specs.SampleAnswers.{tax_of}
-use Rattle.pap_cli.specs.SampleViews.{add_if, TaxFits}
+use Rattle.pap_cli.specs.private.SampleViews.{add_if, TaxFits}
 
 -- so much of the rows is added up, and these are left
 pub record IsUnderway (rows rest : List KeyedRow) (so_far : Decimal) : Type 0 where

@@ -18,7 +18,7 @@ use Rattle.std.specs.Str.Parse.{ParsesUnsigned}
 use Rattle.pap_cli.specs.Words.{texts, Form, check, once, run, sample, save, HasForm, HasSampleForm, IsBad}
 use Rattle.pap_cli.specs.declared.words.Command.{Command}
 use Rattle.pap_cli.specs.declared.words.Command.TheVariants.{Check, Once}
-use Rattle.pap_cli.specs.WordViews.{form_by, AskNoFiles, AskNoSample, IsInRange, IsSampleWord}
+use Rattle.pap_cli.specs.private.WordViews.{form_by, AskNoFiles, AskNoSample, IsInRange, IsSampleWord}
 
 -- ---- the words of the program
 

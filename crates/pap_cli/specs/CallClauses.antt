@@ -8,7 +8,7 @@ use Rattle.script_run.specs.declared.refused_lines.RefusedLines.{RefusedLines}
 use Rattle.pap_cli.specs.declared.status.Status.{Status}
 use Rattle.pap_cli.specs.declared.status.Status.TheVariants.{BadWords, FileFault, NoMemory, ReadFault, WriteFault}
 use Rattle.pap_cli.specs.Words.{Form, check, once, run, sample, save, HasForm, IsBad}
-use Rattle.pap_cli.specs.WordViews.{ReadsScript}
+use Rattle.pap_cli.specs.ScriptWords.{ReadsScript}
 use Rattle.plan_answers.specs.Answers.{CheckAnswers}
 use Rattle.pap_cli.specs.RunAnswers.{OnceAnswers}
 use Rattle.pap_cli.specs.Outside.{Objects, Outside, outside_of, shown_of, output_of}

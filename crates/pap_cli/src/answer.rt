@@ -1,9 +1,9 @@
 //! The answer on two files.
 ghost use Rattle.std.specs.Prelude.{◌≡◌, ◌+◌, IfOk, OnErr};
 ghost use Rattle.outside.specs.Causes.{Caused};
-ghost use Rattle.plan_answers.specs.ReplyViews.{reply_of};
+ghost use Rattle.plan_answers.specs.Replies.{reply_of};
 ghost use Rattle.script_steps.specs.Shown.{shown};
-ghost use Rattle.pap_cli.specs.AnswerViews.{answers_of};
+ghost use Rattle.pap_cli.specs.private.AnswerViews.{answers_of};
 ghost use Rattle.pap_cli.specs.FileClauses.{IsCounted, LeavesOnFiles};
 ghost use Rattle.pap_cli.specs.Statuses.{status_of};
 

@@ -1,10 +1,10 @@
 //! The answer of `once`.
 ghost use Rattle.std.specs.Prelude.{◌≡◌, ◌≢◌, ◌+◌, ◌++◌, IfOk, OnOk, OnErr, string_bytes};
 ghost use Rattle.pap_plan.specs.Plans.{Admits, flowchart};
-ghost use Rattle.pap_cli.specs.RunViews.{named_lines};
+ghost use Rattle.pap_cli.specs.private.RunViews.{named_lines};
 ghost use Rattle.pap_cli.specs.RunAnswers.{OnceAnswers, IsRunOn};
-ghost use Rattle.pap_cli.specs.AnswerViews.{IsRunWith};
-ghost use Rattle.plan_answers.specs.ReplyViews.{reply_of};
+ghost use Rattle.pap_cli.specs.private.AnswerViews.{IsRunWith};
+ghost use Rattle.plan_answers.specs.Replies.{reply_of};
 ghost use Rattle.pap_cli.specs.FileClauses.{IsCounted};
 ghost use Rattle.carry_bindings.specs.declared.filling.Filled.TheVariants.{Inputs, State};
 ghost use Rattle.payroll_records.specs.declared.day.Day.{Day as Date};

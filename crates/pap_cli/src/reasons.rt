@@ -1,11 +1,11 @@
 //! The reason of a refusal, in plain words.
 ghost use Rattle.std.specs.Prelude.{◌≡◌, IfOk, IfSome, None, is_some, string_bytes};
 ghost use Rattle.pay_run.specs.Accepted.{accepted};
-ghost use Rattle.pap_cli.specs.AnswerViews.{answers_of, IsRunWith, MarksRefusals};
+ghost use Rattle.pap_cli.specs.private.AnswerViews.{answers_of, IsRunWith, MarksRefusals};
 ghost use Rattle.pap_cli.specs.Words.{texts, Form, HasForm, IsBad};
 ghost use Rattle.plain_words.specs.Places.{files_of};
 ghost use Rattle.pap_cli.specs.Reasons.{bytes_of, SaysRefusedOn, TellsReason};
-ghost use Rattle.pap_cli.specs.ReasonViews.{files_in, TellsOn, TellsFilled};
+ghost use Rattle.pap_cli.specs.private.ReasonViews.{files_in, TellsOn, TellsFilled};
 
 use crate::once::record_of;
 use crate::words::{Command, FileRequest, Request, read_words};

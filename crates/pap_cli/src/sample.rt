@@ -3,13 +3,13 @@ ghost use Rattle.std.specs.Prelude.{◌≡◌, ◌≤◌, ◌++◌, length, code
 ghost use Rattle.recalc_engine.specs.MonthRows.{month_rows};
 ghost use Rattle.outside.specs.Causes.{Caused};
 ghost use Rattle.carry_bindings.specs.Carrying.{named};
-ghost use Rattle.recalc_engine.specs.RowViews.{lent_row};
+ghost use Rattle.recalc_engine.specs.LentRows.{lent_row};
 ghost use Rattle.script_run.specs.Limits.{most_employees};
 ghost use Rattle.pap_cli.specs.Outside.{output};
 ghost use Rattle.pap_cli.specs.SampleAnswers.{book_lines, work_lines};
 ghost use Rattle.pap_cli.specs.SampleAnswers.{summary_text, tax_of, tax_sum};
 ghost use Rattle.pap_cli.specs.SampleClauses.{LeavesOnSample};
-ghost use Rattle.pap_cli.specs.SampleViews.{add_if, TaxFits};
+ghost use Rattle.pap_cli.specs.private.SampleViews.{add_if, TaxFits};
 ghost use Rattle.pap_cli.specs.Statuses.{status_of};
 
 use outside::{Sink, put_all};

@@ -6,7 +6,7 @@ ghost use Rattle.pap_cli.specs.Laws.{ScriptsHaveOneSave};
 ghost use Rattle.pap_cli.specs.Outside.{objects, outside_of};
 ghost use Rattle.pap_cli.specs.SaveAnswers.{IsSave, was_filed};
 ghost use Rattle.pap_cli.specs.SaveClauses.{LeavesOnSave};
-ghost use Rattle.pap_cli.specs.SaveViews.{written_of};
+ghost use Rattle.pap_cli.specs.private.SaveViews.{written_of};
 ghost use Rattle.pap_cli.specs.Statuses.{status_of};
 
 use book_file::{SaveRefusal, saving_laws, write_book};

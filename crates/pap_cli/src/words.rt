@@ -3,8 +3,8 @@ ghost use Rattle.std.specs.Prelude.{◌≡◌, ◌↔◌, ◌∷◌, [], IfOk, I
 ghost use Rattle.payroll_records.specs.declared.values.NamedValue.{NamedValue as Value};
 ghost use Rattle.payroll_records.specs.ValueWords.{AreValueWords};
 ghost use Rattle.pap_cli.specs.Words.{texts, HasForm, IsBad, sample};
-ghost use Rattle.pap_cli.specs.WordViews.{form_of, form_on_files, AskNoFiles, AskNoSample};
-ghost use Rattle.pap_cli.specs.WordViews.{IsInRange, IsSampleWord};
+ghost use Rattle.pap_cli.specs.private.WordViews.{form_of, form_on_files, AskNoFiles, AskNoSample};
+ghost use Rattle.pap_cli.specs.private.WordViews.{IsInRange, IsSampleWord};
 
 use payroll_records::{InsertFault, NamedValue, Values};
 use script_run::MOST_EMPLOYEES;

@@ -19,7 +19,7 @@ use Rattle.call_order.specs.Executed.{EachExecuted, StandsIn}
 use Rattle.call_order.specs.Orders.{IsOrdered}
 use Rattle.call_order.proofs.Laws.{by_bounds, calls_stand}
 use Rattle.pap_compiler.specs.Depths.{body_depth, method_depth, depth_of}
-use Rattle.pap_compiler.specs.DepthViews.{depth_at, AreSmall}
+use Rattle.pap_compiler.specs.private.DepthViews.{depth_at, AreSmall}
 use Rattle.pap_compiler.proofs.NameLemmas.{place_of, number_is, same_bytes, bytes_same}
 
 module _ (call : List ℕ → ℕ) where

@@ -9,7 +9,7 @@ use Rattle.pap_types.specs.Scopes.{Scope}
 use Rattle.pap_machine.specs.declared.code.Instr.{Instr}
 use Rattle.pap_machine.specs.declared.code.Instr.TheVariants as i
 use Rattle.pap_compiler.specs.CodeDecisions.{term_length, term_code}
-use Rattle.pap_compiler.specs.EmitViews.{IsAppended, skip_to, skip_code}
+use Rattle.pap_compiler.specs.private.EmitViews.{IsAppended, skip_to, skip_code}
 
 -- one instruction and then others
 pub one_and_more : (c1 c2 c3 more : List Instr) (j : Instr) → c2 ≡ c1 ++ j ∷ [] → c3 ≡ c2 ++ more → c3 ≡ c1 ++ j ∷ more

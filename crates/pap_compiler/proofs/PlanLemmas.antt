@@ -14,11 +14,12 @@ use Rattle.pap_types.specs.Counts.{AreSmallTerms, methods_written, IsWithinCount
 use Rattle.pap_machine.specs.declared.code.Instr.{Instr}
 use Rattle.pap_machine.specs.declared.code.Instr.TheVariants as i
 use Rattle.pap_compiler.specs.declared.names.Names.{Names}
-use Rattle.pap_compiler.specs.CodeDecisions.{term_length, body_length, methods_length, length_of, entries_from, numbers_from}
+use Rattle.pap_compiler.specs.CodeDecisions.{term_length, body_length, entries_from, numbers_from}
+use Rattle.pap_compiler.specs.private.CodeDecisions.{methods_length, length_of}
 use Rattle.pap_compiler.specs.Heights.{body_height, methods_height}
-use Rattle.pap_compiler.specs.EmitViews.{IsAppended}
-use Rattle.pap_compiler.specs.StatementViews.{code_in}
-use Rattle.pap_compiler.specs.PlanViews.{methods_code_in}
+use Rattle.pap_compiler.specs.private.EmitViews.{IsAppended}
+use Rattle.pap_compiler.specs.private.StatementViews.{code_in}
+use Rattle.pap_compiler.specs.private.PlanViews.{methods_code_in}
 
 term_small : (t : Term) → term_length t ≤ 2 * nodes t
 term_small (leaf l) = omega arith

@@ -9,9 +9,9 @@ use Rattle.pap_machine.specs.declared.code.Instr.{Instr}
 use Rattle.pap_machine.specs.declared.code.Instr.TheVariants as i
 use Rattle.pap_compiler.specs.declared.names.Names.{Names}
 use Rattle.pap_compiler.specs.CodeDecisions.{term_length, term_code, body_length, assigned_code, slot, entry, first_method}
-use Rattle.pap_compiler.specs.NameViews.{plan_in, scope_of_names}
-use Rattle.pap_compiler.specs.EmitViews.{IsAppended}
-use Rattle.pap_compiler.specs.StatementViews.{code_in, IsLedOn}
+use Rattle.pap_compiler.specs.private.NameViews.{plan_in, scope_of_names}
+use Rattle.pap_compiler.specs.private.EmitViews.{IsAppended}
+use Rattle.pap_compiler.specs.private.StatementViews.{code_in, IsLedOn}
 use Rattle.pap_compiler.proofs.SizeLemmas.{length_then}
 
 module _ (n : Names) where

@@ -39,13 +39,6 @@ body_length (eval x e rest) = term_length e + 1 + body_length rest
 body_length (branch t a b rest) = term_length t + 1 + body_length a + 1 + body_length b + body_length rest
 body_length (execute m rest) = 1 + body_length rest
 
-abbrev pub methods_length : List Routine → ℕ
-methods_length [] = 0
-methods_length (m ∷ ms) = body_length m.body + 1 + methods_length ms
-
-abbrev pub length_of : Flowchart → ℕ
-length_of f = body_length f.main + 1 + methods_length f.methods
-
 -- ---- expressions
 
 abbrev pub instr_of_one : One → Instr

@@ -1,10 +1,5 @@
 pub mod CodeDecisions
 pub mod Correct
-pub mod DepthViews
 pub mod Depths
-pub mod EmitViews
 pub mod Heights
-pub mod NameViews
-pub mod PlanViews
-pub mod SizeViews
-pub mod StatementViews
+pub mod private

@@ -4,12 +4,13 @@ ghost use Rattle.pap_tree.specs.Flowchart.{flowchart_of, routine_of, body_of};
 ghost use Rattle.pap_tree.specs.Declarations.{declaration_of};
 ghost use Rattle.pap_types.specs.Scopes.{variables_of, first_value};
 ghost use Rattle.call_order.specs.Orders.{IsOrdered};
-ghost use Rattle.pap_compiler.specs.CodeDecisions.{body_length, methods_length, entries_from};
+ghost use Rattle.pap_compiler.specs.CodeDecisions.{body_length, entries_from};
+ghost use Rattle.pap_compiler.specs.private.CodeDecisions.{methods_length};
 ghost use Rattle.pap_compiler.specs.CodeDecisions.{first_method, code_of, compiled, numbers_from};
 ghost use Rattle.pap_compiler.specs.Correct.{IsCodeOf};
-ghost use Rattle.pap_compiler.specs.EmitViews.{HasRoom};
-ghost use Rattle.pap_compiler.specs.NameViews.{IsMade, plan_in};
-ghost use Rattle.pap_compiler.specs.PlanViews.{methods_code_in, IsLayout, tables_in};
+ghost use Rattle.pap_compiler.specs.private.EmitViews.{HasRoom};
+ghost use Rattle.pap_compiler.specs.private.NameViews.{IsMade, plan_in};
+ghost use Rattle.pap_compiler.specs.private.PlanViews.{methods_code_in, IsLayout, tables_in};
 
 use crate::depths::depth;
 use crate::emit::put;

@@ -4,7 +4,7 @@ ghost use Rattle.pap_tree.specs.Flowchart.{flowchart_of, body_of, stmt_then, don
 ghost use Rattle.pap_types.specs.Limits.{longest_chain};
 ghost use Rattle.call_order.specs.Orders.{IsOrdered};
 ghost use Rattle.pap_compiler.specs.Depths.{depth_of};
-ghost use Rattle.pap_compiler.specs.DepthViews.{depth_at, depth_in, AreSmall};
+ghost use Rattle.pap_compiler.specs.private.DepthViews.{depth_at, depth_in, AreSmall};
 
 use pap_tree::{Name, Stmt};
 use pap_types::Typed;

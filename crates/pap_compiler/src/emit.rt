@@ -2,9 +2,9 @@
 ghost use Rattle.std.specs.Prelude.{◌≡◌, ◌<◌, ◌+◌, ◌^◌, ◌∷◌, [], OnOk, length, slice_set};
 ghost use Rattle.pap_tree.specs.Term.{term_of, unary, value_of, one, two, choice, operator};
 ghost use Rattle.pap_compiler.specs.CodeDecisions.{term_length, instr_of_one, instr_of_method};
-ghost use Rattle.pap_compiler.specs.NameViews.{IsMade, scope_of_names};
-ghost use Rattle.pap_compiler.specs.EmitViews.{IsAppended, HasRoom, HasTerm, HasOne, HasTwo};
-ghost use Rattle.pap_compiler.specs.EmitViews.{HasJoined, HasInstr, two_length, skip_to};
+ghost use Rattle.pap_compiler.specs.private.NameViews.{IsMade, scope_of_names};
+ghost use Rattle.pap_compiler.specs.private.EmitViews.{IsAppended, HasRoom, HasTerm, HasOne, HasTwo};
+ghost use Rattle.pap_compiler.specs.private.EmitViews.{HasJoined, HasInstr, two_length, skip_to};
 
 use crate::names::Names;
 use pap_machine::Instr;

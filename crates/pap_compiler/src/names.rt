@@ -3,7 +3,7 @@ ghost use Rattle.std.specs.Prelude.{◌≡◌, ◌<◌, unwrap_or, length};
 ghost use Rattle.pap_tree.specs.Term.{term_of};
 ghost use Rattle.pap_types.specs.Scopes.{constant_in, zero};
 ghost use Rattle.pap_compiler.specs.CodeDecisions.{slot, name_code, table_number, shown_number};
-ghost use Rattle.pap_compiler.specs.NameViews.{IsMade, scope_of_names, entry_in};
+ghost use Rattle.pap_compiler.specs.private.NameViews.{IsMade, scope_of_names, entry_in};
 
 use pap_machine::Instr;
 use pap_tree::{Expr, Name};

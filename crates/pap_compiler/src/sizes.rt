@@ -3,7 +3,7 @@ ghost use Rattle.std.specs.Prelude.{◌≡◌, ◌<◌, ◌+◌, ◌^◌, max};
 ghost use Rattle.pap_tree.specs.Term.{term_of};
 ghost use Rattle.pap_tree.specs.Flowchart.{body_of, stmt_then, branch, done};
 ghost use Rattle.pap_compiler.specs.CodeDecisions.{term_length, body_length};
-ghost use Rattle.pap_compiler.specs.SizeViews.{IsTermSize, IsBodySize};
+ghost use Rattle.pap_compiler.specs.private.SizeViews.{IsTermSize, IsBodySize};
 
 use pap_tree::{Binary, Expr, Stmt};
 

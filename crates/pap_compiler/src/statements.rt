@@ -3,9 +3,9 @@ ghost use Rattle.std.specs.Prelude.{OnOk};
 ghost use Rattle.pap_tree.specs.Term.{term_of};
 ghost use Rattle.pap_tree.specs.Flowchart.{body_of, stmt_then, eval, branch, execute, done};
 ghost use Rattle.pap_compiler.specs.CodeDecisions.{term_length, body_length};
-ghost use Rattle.pap_compiler.specs.NameViews.{IsMade};
-ghost use Rattle.pap_compiler.specs.EmitViews.{HasRoom};
-ghost use Rattle.pap_compiler.specs.StatementViews.{HasBody, HasFactor, IsLedOn};
+ghost use Rattle.pap_compiler.specs.private.NameViews.{IsMade};
+ghost use Rattle.pap_compiler.specs.private.EmitViews.{HasRoom};
+ghost use Rattle.pap_compiler.specs.private.StatementViews.{HasBody, HasFactor, IsLedOn};
 
 use crate::emit::{emit_term, patch, place, put};
 use crate::names::Names;

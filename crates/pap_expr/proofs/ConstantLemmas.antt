@@ -9,7 +9,7 @@ use Rattle.expr_grammar.specs.Shortened.{shortened}
 use Rattle.expr_grammar.specs.Run.{refusal, cause_of}
 use Rattle.pap_expr.specs.declared.constant.Due.{Due as CodeDue}
 use Rattle.pap_expr.specs.declared.fault.ExprFault.{ExprFault}
-use Rattle.pap_expr.specs.Constants.{Reaches, Moves}
+use Rattle.pap_expr.specs.private.Constants.{Reaches, Moves}
 
 -- states that step alike, with like causes
 moved : (s q : State) (t : Spot) (r : Result CodeDue ExprFault) → step s t.token ≡ step q t.token → cause_of s t.token ≡ cause_of q t.token → Moves q t r → Moves s t r

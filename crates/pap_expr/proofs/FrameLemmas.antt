@@ -5,7 +5,7 @@ use Rattle.pap_tree.specs.Term.{Term}
 use Rattle.expr_grammar.specs.Machine as machine
 use Rattle.expr_grammar.specs.Machine.{close, closes, binds, made}
 use Rattle.pap_expr.specs.declared.frame.Frame.{Frame}
-use Rattle.pap_expr.specs.Frames.{frame_of, frames_of}
+use Rattle.pap_expr.specs.private.Frames.{frame_of, frames_of}
 
 -- the innermost frame stands last
 pub pushed : (fs : List Frame) (f : Frame) → frames_of (fs ++ (f ∷ [])) ≡ frame_of f ∷ frames_of fs

@@ -15,8 +15,8 @@ use Rattle.pap_expr.specs.declared.expression.Kind.{Kind}
 use Rattle.pap_expr.specs.declared.expression.Kind.TheVariants as kinds
 use Rattle.pap_expr.specs.declared.fault.ExprFault.{ExprFault}
 use Rattle.pap_expr.specs.declared.fault.ExprFault.TheVariants as faults
-use Rattle.pap_expr.specs.Views.{refusal_of, plain_cause}
-use Rattle.pap_expr.specs.Answers.{line_of, Fails}
+use Rattle.pap_expr.specs.private.Views.{refusal_of, plain_cause}
+use Rattle.pap_expr.specs.private.Answers.{line_of, Fails}
 use Rattle.expr_grammar.proofs.Laws.{stepped, stuck, too_deep, no_limits}
 
 -- the tokens from here on

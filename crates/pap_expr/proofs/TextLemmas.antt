@@ -14,9 +14,9 @@ use Rattle.pap_tree.specs.Scales.{KeepsScales}
 use Rattle.expr_grammar.proofs.Laws.{answer_ok, answer_err, bounded, bytes_keep}
 use Rattle.pap_expr.specs.declared.fault.ExprFault.{ExprFault}
 use Rattle.pap_expr.specs.declared.fault.ExprFault.TheVariants as faults
-use Rattle.pap_expr.specs.Views.{refusal_of}
-use Rattle.pap_expr.specs.Answers.{Fails}
-use Rattle.pap_expr.specs.Constants.{Gives}
+use Rattle.pap_expr.specs.private.Views.{refusal_of}
+use Rattle.pap_expr.specs.private.Answers.{Fails}
+use Rattle.pap_expr.specs.private.Constants.{Gives}
 use Rattle.pap_expr.specs.Faults.{IsFaultOf}
 
 pub accepted : (l : Line) → IsWhole l → (bytes : List ℕ) (ts : List Spot) (x : Meaning) → Tokens 0 bytes ts → answer l (length bytes) ts ≡ Ok x → IsAccepted l bytes x

@@ -6,8 +6,8 @@ use Rattle.std.proofs.lemmas.Slice.Eq.{bytes_eq-Decides}
 use Rattle.pap_tree.specs.Names.{is_name}
 use Rattle.pap_tree.specs.Tokens.{Token, Word}
 use Rattle.expr_grammar.specs.Machine.{same_token}
-use Rattle.pap_expr.specs.Views.{IsNoKeyword}
-use Rattle.pap_expr.specs.States.{the_class}
+use Rattle.pap_expr.specs.private.Views.{IsNoKeyword}
+use Rattle.pap_expr.specs.private.States.{the_class}
 
 no_name : IsTrue (is_name (codes "BigDecimal")) → ⊥
 no_name h = cc

@@ -15,9 +15,9 @@ ghost use Rattle.expr_grammar.specs.Shortened.{shortened};
 ghost use Rattle.expr_grammar.specs.Run.{refusal, answer, point_cause};
 ghost use Rattle.pap_expr.specs.declared.fault.ExprFault.TheVariants.{Memory};
 ghost use Rattle.pap_expr.specs.declared.constant.Due.TheVariants.{NewClass};
-ghost use Rattle.pap_expr.specs.Views.{plain_cause};
+ghost use Rattle.pap_expr.specs.private.Views.{plain_cause};
 ghost use Rattle.pap_expr.specs.Faults.{IsFaultOf};
-ghost use Rattle.pap_expr.specs.Constants.{room_of, slot_of, due_of, big_of, Reaches, Moves, Gives};
+ghost use Rattle.pap_expr.specs.private.Constants.{room_of, slot_of, due_of, big_of, Reaches, Moves, Gives};
 
 use crate::constant::{Due, Room, Slot};
 use crate::fault::ExprFault;

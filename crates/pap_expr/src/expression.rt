@@ -13,8 +13,8 @@ ghost use Rattle.expr_grammar.specs.Machine.{Due, Want, Naming, naming_step, sta
 ghost use Rattle.expr_grammar.specs.Run.{Refusal, run, answer, never};
 ghost use Rattle.pap_tree.specs.Scales.{KeepsScales};
 ghost use Rattle.pap_tree.specs.Limits.{most_tokens};
-ghost use Rattle.pap_expr.specs.Views.{refusal_of};
-ghost use Rattle.pap_expr.specs.Answers.{line_of, base_of, Answers};
+ghost use Rattle.pap_expr.specs.private.Views.{refusal_of};
+ghost use Rattle.pap_expr.specs.private.Answers.{line_of, base_of, Answers};
 ghost use Rattle.pap_expr.specs.Faults.{IsFaultOf};
 
 use crate::fault::ExprFault;

@@ -1,7 +1,7 @@
 //! What waits for the expression that is read.
 ghost use Rattle.std.specs.Prelude.{◌≡◌, ◌+◌, ◌∷◌, ◌≤◌, List};
 ghost use Rattle.expr_grammar.specs.Machine.{Frame as Waiting, level, binds};
-ghost use Rattle.pap_expr.specs.Frames.{frame_of};
+ghost use Rattle.pap_expr.specs.private.Frames.{frame_of};
 
 use pap_tree::levels::{self, level_of_operator};
 use pap_tree::{Binary, Call, Expr, Name};

@@ -13,9 +13,9 @@ ghost use Rattle.expr_grammar.specs.Machine.{Frame as Waiting, InNew, Want, Have
 ghost use Rattle.expr_grammar.specs.Machine.{level, taken, literal_step, want_step};
 ghost use Rattle.expr_grammar.specs.Run.{refusal, point_cause};
 ghost use Rattle.pap_expr.specs.declared.state.State.TheVariants.{AfterName};
-ghost use Rattle.pap_expr.specs.Stacks.{stack_of};
-ghost use Rattle.pap_expr.specs.States.{state_of};
-ghost use Rattle.pap_expr.specs.Steps.{Steps, Leads};
+ghost use Rattle.pap_expr.specs.private.Stacks.{stack_of};
+ghost use Rattle.pap_expr.specs.private.States.{state_of};
+ghost use Rattle.pap_expr.specs.private.Steps.{Steps, Leads};
 
 use crate::fault::ExprFault;
 use crate::frame::Frame;

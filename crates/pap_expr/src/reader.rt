@@ -9,10 +9,10 @@ ghost use Rattle.expr_grammar.specs.Machine as machine;
 ghost use Rattle.expr_grammar.specs.Machine.{Frame as Waiting, Want, Have, level};
 ghost use Rattle.expr_grammar.specs.Run.{refusal};
 ghost use Rattle.pap_expr.specs.declared.fault.ExprFault.TheVariants.{Memory};
-ghost use Rattle.pap_expr.specs.Frames.{frame_of};
-ghost use Rattle.pap_expr.specs.Stacks.{stack_of};
-ghost use Rattle.pap_expr.specs.Views.{plain_cause};
-ghost use Rattle.pap_expr.specs.Steps.{Steps, Leads, Opens};
+ghost use Rattle.pap_expr.specs.private.Frames.{frame_of};
+ghost use Rattle.pap_expr.specs.private.Stacks.{stack_of};
+ghost use Rattle.pap_expr.specs.private.Views.{plain_cause};
+ghost use Rattle.pap_expr.specs.private.Steps.{Steps, Leads, Opens};
 
 use crate::fault::ExprFault;
 use crate::frame::Frame;

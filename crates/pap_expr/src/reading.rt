@@ -10,11 +10,11 @@ ghost use Rattle.expr_grammar.specs.Machine as machine;
 ghost use Rattle.expr_grammar.specs.Machine.{Want, level, level_of};
 ghost use Rattle.expr_grammar.specs.Run.{run};
 ghost use Rattle.pap_expr.specs.declared.fault.ExprFault.TheVariants.{Memory};
-ghost use Rattle.pap_expr.specs.Stacks.{stack_of};
-ghost use Rattle.pap_expr.specs.Views.{refusal_of, method_view};
-ghost use Rattle.pap_expr.specs.States.{state_of};
-ghost use Rattle.pap_expr.specs.Steps.{Steps};
-ghost use Rattle.pap_expr.specs.Answers.{meaning_of, base_of, Answers};
+ghost use Rattle.pap_expr.specs.private.Stacks.{stack_of};
+ghost use Rattle.pap_expr.specs.private.Views.{refusal_of, method_view};
+ghost use Rattle.pap_expr.specs.private.States.{state_of};
+ghost use Rattle.pap_expr.specs.private.Steps.{Steps};
+ghost use Rattle.pap_expr.specs.private.Answers.{meaning_of, base_of, Answers};
 
 use crate::fault::ExprFault;
 use crate::frame::Frame;

@@ -2,7 +2,7 @@
 ghost use Rattle.std.specs.Prelude.{◌≡◌, ◌∷◌, ◌≤◌, List, [], MatchOption, OnOk, IfErr};
 ghost use Rattle.pap_tree.specs.Limits.{most_levels};
 ghost use Rattle.expr_grammar.specs.Machine.{Frame as Waiting, level};
-ghost use Rattle.pap_expr.specs.Frames.{frame_of, frames_of, Pops, PopsBinding};
+ghost use Rattle.pap_expr.specs.private.Frames.{frame_of, frames_of, Pops, PopsBinding};
 ghost use Rattle.pap_expr.specs.declared.fault.ExprFault.TheVariants.{Memory};
 
 use crate::fault::ExprFault;

@@ -10,9 +10,9 @@ ghost use Rattle.expr_grammar.specs.Machine as machine;
 ghost use Rattle.expr_grammar.specs.Machine.{Frame as Waiting};
 ghost use Rattle.expr_grammar.specs.Run.{refusal, cause_of};
 ghost use Rattle.pap_expr.specs.declared.state.State.TheVariants as states;
-ghost use Rattle.pap_expr.specs.Views.{plain_cause, refusal_of, holder_view, IsNoKeyword};
-ghost use Rattle.pap_expr.specs.States.{state_of, rounded_of, job_of};
-ghost use Rattle.pap_expr.specs.Steps.{Steps};
+ghost use Rattle.pap_expr.specs.private.Views.{plain_cause, refusal_of, holder_view, IsNoKeyword};
+ghost use Rattle.pap_expr.specs.private.States.{state_of, rounded_of, job_of};
+ghost use Rattle.pap_expr.specs.private.Steps.{Steps};
 
 use crate::fault::ExprFault;
 use crate::state::{Rounded, Scaled, State};

@@ -2,7 +2,7 @@
 ghost use Rattle.std.specs.Prelude.{◌≡◌, Some, None, MatchOption, IsTrue};
 ghost use Rattle.pap_tree.specs.Names.{is_name};
 ghost use Rattle.expr_grammar.specs.Machine.{method_of, constancy_of, mode_of, the_decimal, the_mode};
-ghost use Rattle.pap_expr.specs.Views.{method_view, static_view, holder_view};
+ghost use Rattle.pap_expr.specs.private.Views.{method_view, static_view, holder_view};
 
 use pap_tree::{Call, Known, Name};
 use scaled_decimal::Mode;

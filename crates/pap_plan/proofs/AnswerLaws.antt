@@ -28,7 +28,7 @@ use Rattle.pap_plan.specs.declared.refusal.PlanRefusal.{PlanRefusal}
 use Rattle.pap_plan.specs.declared.refusal.PlanRefusal.TheVariants as refusals
 use Rattle.pap_plan.specs.Bindings.{unmatched_name, HasSuitedLimit, IsFirstUnsuited, unbound_input}
 use Rattle.pap_plan.specs.Acceptance.{Meaning, IsTypedPlan, IsOrderedPlan, HasRangeFile, HasMatchingNames, HasSuitedLimits, HasBindings, IsLimitsFault, Answers}
-use Rattle.pap_plan.specs.PlanViews.{text_refusal}
+use Rattle.pap_plan.specs.StageRefusals.{text_refusal}
 use Rattle.pap_plan.proofs.SuitedLemmas.{suited_or_first, never_suited, one_unsuited}
 
 abbrev Out : Type 0

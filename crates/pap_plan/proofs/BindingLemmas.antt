@@ -20,7 +20,7 @@ use Rattle.limits_file.specs.Limits.{limit_named}
 use Rattle.interval_walk.specs.Admission.{SuitsLimit}
 use Rattle.pap_plan.specs.Bindings.{has_limit, is_bound, HasSuitedLimit, IsFirstUnsuited}
 use Rattle.pap_tree.specs.Flowchart.{Flowchart}
-use Rattle.pap_plan.specs.BindingViews.{declares, without_limit, without_input}
+use Rattle.pap_plan.specs.private.BindingViews.{declares, without_limit, without_input}
 
 pub declared_names : (ds : List Declared) (x : List ℕ) → declares ds x ≡ has_name (names_of (map declaration_of ds)) x
 declared_names [] x = refl

@@ -17,7 +17,7 @@ use Rattle.pap_plan.specs.AcceptanceLaws.{RunsToItsEnd}
 use Rattle.pap_plan.proofs.AcceptedLaws.{never_fail, small_bounds}
 use Rattle.pap_plan.proofs.AnswerLaws.{one}
 use Rattle.pap_plan.specs.Plans.{Seen, flowchart, meaning, Admits}
-use Rattle.pap_plan.specs.PlanViews.{IsKept}
+use Rattle.pap_plan.specs.StageRefusals.{IsKept}
 
 admitted_length : (p : Seen) (ds : List Declaration) (vs : List Decimal) → AllAdmitted p.ranges ds vs → length vs ≡ length ds
 admitted_length p [] [] h = refl

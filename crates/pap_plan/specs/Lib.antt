@@ -1,9 +1,8 @@
 pub mod Acceptance
 pub mod AcceptanceClauses
 pub mod AcceptanceLaws
-pub mod BindingViews
 pub mod Bindings
 pub mod Inputs
-pub mod JudgedViews
-pub mod PlanViews
 pub mod Plans
+pub mod StageRefusals
+pub mod private

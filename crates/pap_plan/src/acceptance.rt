@@ -8,8 +8,9 @@ ghost use Rattle.interval_walk.specs.Reading.{HoldsPlan};
 ghost use Rattle.pap_plan.specs.Acceptance.{IsTypedPlan, IsRefusedOrMemory};
 ghost use Rattle.std.specs.List.{All};
 ghost use Rattle.limits_file.specs.Limits.{HasSoundBounds};
-ghost use Rattle.pap_plan.specs.AcceptanceClauses.{IsAcceptedAs, IsUnread, IsUntyped, AreMatched, IsUnmatched};
-ghost use Rattle.pap_plan.specs.JudgedViews.{IsJudged, IsMisjudged, HasVerdict, HasNoVerdict};
+ghost use Rattle.pap_plan.specs.AcceptanceClauses.{IsAcceptedAs, IsUnread};
+ghost use Rattle.pap_plan.specs.private.AcceptanceClauses.{IsUntyped, AreMatched, IsUnmatched};
+ghost use Rattle.pap_plan.specs.private.JudgedViews.{IsJudged, IsMisjudged, HasVerdict, HasNoVerdict};
 ghost use Rattle.pap_plan.specs.AcceptanceLaws.{HaveAnAnswer, HaveOneAnswer, AcceptedPlansNeverFail, BoundsAreSmall, JudgedPlansAreRead, JudgedPlansAreRefusedByRows, OrderedPlansCanBeWalked, RangesAreNamed};
 
 use crate::PlanRefusal;

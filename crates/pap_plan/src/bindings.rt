@@ -5,7 +5,7 @@ ghost use Rattle.pap_tree.specs.Declarations.{declaration_of};
 ghost use Rattle.pap_tree.specs.Flowchart.{flowchart_of};
 ghost use Rattle.interval_walk.specs.Admission.{SuitsLimit};
 ghost use Rattle.pap_plan.specs.Bindings.{unmatched_name, is_bound, carries_output, unbound_input, IsFirstUnsuited, HasSuitedLimit};
-ghost use Rattle.pap_plan.specs.BindingViews.{declares, without_limit, without_input};
+ghost use Rattle.pap_plan.specs.private.BindingViews.{declares, without_limit, without_input};
 
 use limits_file::{Binding, Carry, InputLimit, Limits};
 use pap_tree::{Declared, Kind, Name, PlanText};

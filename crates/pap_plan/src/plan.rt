@@ -37,7 +37,7 @@ impl Model for Plan {
     ghost use Rattle.pap_tree.specs.contracts.plan.Stmt as statement;
     ghost use Rattle.pap_tree.specs.contracts.expression.Expr as expression;
     ghost use Rattle.pap_plan.specs.Plans.{Seen, seen};
-    ghost use Rattle.pap_plan.specs.PlanViews.{IsKept};
+    ghost use Rattle.pap_plan.specs.StageRefusals.{IsKept};
 
     ghost Value = { Seen };
 

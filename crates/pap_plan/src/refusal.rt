@@ -1,7 +1,7 @@
 //! Why the two texts of a plan are refused.
 ghost use Rattle.std.specs.Prelude.{◌≡◌};
 ghost use Rattle.pap_plan.specs.declared.refusal.PlanRefusal.TheVariants.{Memory};
-ghost use Rattle.pap_plan.specs.PlanViews.{text_refusal, type_refusal, order_refusal, limits_refusal, range_refusal};
+ghost use Rattle.pap_plan.specs.StageRefusals.{text_refusal, type_refusal, order_refusal, limits_refusal, range_refusal};
 
 use call_order::OrderFault;
 use interval_analysis::RangeFault;

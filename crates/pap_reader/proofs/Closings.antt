@@ -13,9 +13,9 @@ use Rattle.pap_reader.specs.Trees.{RawBody, done, branch, raw_declaration_of, ra
 use Rattle.pap_reader.specs.Meaning.{join, Piece, both, adds, says, later, or_done}
 use Rattle.pap_reader.specs.declared.attributes.TagValue.{TagValue}
 use Rattle.pap_reader.specs.declared.attributes.TagValue.TheVariants.{Text, Named}
-use Rattle.pap_reader.specs.Views.{is_in_body, IsValueOf, IsText, IsNamed}
+use Rattle.pap_reader.specs.private.Views.{is_in_body, IsValueOf, IsText, IsNamed}
 use Rattle.pap_reader.proofs.Pieces.{join-done}
-use Rattle.pap_reader.specs.ReaderViews.{ShowsPiece, ShowsPlan, ClosedInBody, ClosedInPlan, Closed}
+use Rattle.pap_reader.specs.private.ReaderViews.{ShowsPiece, ShowsPlan, ClosedInBody, ClosedInPlan, Closed}
 
 -- ---- lists of statements
 

@@ -10,7 +10,7 @@ use Rattle.std.proofs.lemmas.List.{take_all}
 use Rattle.std.proofs.lemmas.Int.Digits.{digits_more, digits_value_more}
 use Rattle.std.proofs.lemmas.Str.Parse.{digits_value-take-le}
 use Rattle.pap_reader.specs.Values.{WritesCode, StandsFor, less_than, greater_than, ampersand, quotation_mark, apostrophe, decimal, hexadecimal}
-use Rattle.pap_reader.specs.EscapeDecisions.{writes_code, code_of, byte_numbered, after_hash, byte_named}
+use Rattle.pap_reader.specs.private.EscapeDecisions.{writes_code, code_of, byte_numbered, after_hash, byte_named}
 
 -- ---- digits
 

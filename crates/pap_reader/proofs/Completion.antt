@@ -10,7 +10,7 @@ use Rattle.pap_reader.specs.declared.element.Element.{Element}
 use Rattle.pap_reader.specs.declared.element.Element.TheVariants.{Pap, Interface, Variables, Outputs, Output, Methods, Main, If, Then}
 use Rattle.pap_reader.specs.Table.{same, is_complete, all_stand, fits}
 use Rattle.pap_reader.specs.Structure.{Shape, opens, closes, Nodes, none, node, opens_internals, IsDocument, BeginsDocument}
-use Rattle.pap_reader.specs.NestingDecisions.{Open, fresh, enters, start}
+use Rattle.pap_reader.specs.private.NestingDecisions.{Open, fresh, enters, start}
 use Rattle.pap_reader.proofs.Structures.{Spelled, whole, within, adds, closed, nodes-append, more_stand, goes}
 
 -- shapes that hold no INTERNALS and are elements of these kinds

@@ -10,9 +10,10 @@ use Rattle.pap_reader.specs.declared.tags.Form.TheVariants as forms
 use Rattle.pap_reader.specs.Tags.{Attribute, Tag, Front, IsAttribute, Ending, start, empty, more, IsTag, closing, NoTag}
 use Rattle.pap_reader.specs.Bytes.{is_first, is_inner, begins_with, drop_while}
 use Rattle.std.specs.Char.{is_ascii_alphabetic}
-use Rattle.pap_reader.specs.Values.{Escape, Plain, Quoted, closing_quote, byte, is_quote, IsByte, NoValue}
-use Rattle.pap_reader.specs.EscapeDecisions.{byte_named}
-use Rattle.pap_reader.specs.Views.{is_code, NoAttribute, NoEnding}
+use Rattle.pap_reader.specs.Values.{Escape, Plain, Quoted, closing_quote, byte, is_quote, IsByte}
+use Rattle.pap_reader.specs.private.Values.{NoValue}
+use Rattle.pap_reader.specs.private.EscapeDecisions.{byte_named}
+use Rattle.pap_reader.specs.private.Views.{is_code, NoAttribute, NoEnding}
 use Rattle.pap_reader.specs.Skipped.{Past, here, later, IsPassed, white, comment, byte_order_mark, IsAfterMark, IsAfterDeclaration}
 use Rattle.pap_reader.proofs.Escapes.{found, escaped}
 use Rattle.pap_reader.proofs.Lexing.{unquoted, reads_next, unended, ClosesAs, an_attribute, no_attribute, attributes_next}

@@ -6,14 +6,14 @@ use Rattle.pap_reader.specs.declared.element.Element.TheVariants as elements
 use Rattle.pap_reader.specs.declared.fault.Which.TheVariants as which
 use Rattle.pap_reader.specs.Table.{may_stand}
 use Rattle.pap_reader.specs.Structure.{Shape, opens, closes, IsDocument}
-use Rattle.pap_reader.specs.NestingDecisions.{Open, enters, start}
+use Rattle.pap_reader.specs.private.NestingDecisions.{Open, enters, start}
 use Rattle.pap_reader.specs.Tags.{Attribute, Tag}
 use Rattle.pap_reader.specs.Tokens.{PlacedTag}
 use Rattle.pap_reader.specs.Marks.{Mark, begins, ends, marks_by, marks_of, marks, shape, shapes, element_of}
 use Rattle.pap_reader.specs.Trees.{RawBody, done, eval, branch, execute, RawRoutine}
 use Rattle.pap_reader.specs.Meaning.{join, Piece, both, later, or_done, routine, says, Says, none, node}
 use Rattle.pap_reader.specs.Limits.{IsWithin}
-use Rattle.pap_reader.specs.CountDecisions.{deeper, depth_from}
+use Rattle.pap_reader.specs.private.CountDecisions.{deeper, depth_from}
 use Rattle.pap_reader.specs.TreeLimits.{raw_nesting, methods_nesting}
 use Rattle.pap_reader.proofs.Completion.{document_read}
 use Rattle.pap_reader.proofs.Fronts.{enters_then, enters_front, no_some}

@@ -8,8 +8,8 @@ use Rattle.std.proofs.lemmas.Bool.Decides.{nat_tests}
 use Rattle.std.proofs.lemmas.List.{take-append-drop}
 use Rattle.std.proofs.Math.Seq.{take-append_seam, drop-append_seam}
 use Rattle.pap_reader.specs.Values.{StandsFor, less_than, greater_than, ampersand, quotation_mark, apostrophe, decimal, hexadecimal, Escape}
-use Rattle.pap_reader.specs.EscapeDecisions.{byte_named}
-use Rattle.pap_reader.specs.Views.{is_code, FoundEscape}
+use Rattle.pap_reader.specs.private.EscapeDecisions.{byte_named}
+use Rattle.pap_reader.specs.private.Views.{is_code, FoundEscape}
 use Rattle.pap_reader.proofs.Codes.{named, stands}
 
 -- ---- the word has no byte but letters, digits and `#`

@@ -10,13 +10,13 @@ use Rattle.pap_reader.specs.declared.fault.Which.TheVariants as which
 use Rattle.pap_reader.specs.declared.fault.ReadFault.{ReadFault}
 use Rattle.pap_reader.specs.declared.fault.ReadFault.TheVariants as faults
 use Rattle.pap_reader.specs.Structure.{Shape, BeginsDocument}
-use Rattle.pap_reader.specs.NestingDecisions.{Open, start, steps, is_ended}
+use Rattle.pap_reader.specs.private.NestingDecisions.{Open, start, steps, is_ended}
 use Rattle.pap_reader.specs.Tokens.{PlacedTag}
 use Rattle.pap_reader.specs.Marks.{Mark, marks_of, marks, shape, shapes}
 use Rattle.pap_reader.specs.Attributes.{mark_is_right}
 use Rattle.pap_reader.specs.Limits.{amount, most, tested, IsWithin, IsFirstOver}
-use Rattle.pap_reader.specs.CountDecisions.{tally}
-use Rattle.pap_reader.specs.VerdictDecisions.{IsFew, Work, builds, begun, built, first_over, within, entered, verdict}
+use Rattle.pap_reader.specs.private.CountDecisions.{tally}
+use Rattle.pap_reader.specs.private.VerdictDecisions.{IsFew, Work, builds, begun, built, first_over, within, entered, verdict}
 use Rattle.pap_reader.specs.Elements.{HasTree}
 use Rattle.pap_reader.specs.Faults.{Earns, IsClean}
 use Rattle.pap_reader.proofs.Completion.{Reached, is_front}

@@ -7,7 +7,7 @@ use Rattle.std.proofs.lemmas.List.{append-nil}
 use Rattle.pap_reader.specs.declared.element.Element.{Element}
 use Rattle.pap_reader.specs.Table.{all_stand, is_complete}
 use Rattle.pap_reader.specs.Structure.{Shape, none, opens_internals, IsDocument, BeginsDocument}
-use Rattle.pap_reader.specs.NestingDecisions.{Open, enter, enters, is_second, step, steps, start, is_ended}
+use Rattle.pap_reader.specs.private.NestingDecisions.{Open, enter, enters, is_second, step, steps, start, is_ended}
 use Rattle.pap_reader.proofs.Structures.{Spelled, whole, enter_spelled}
 use Rattle.pap_reader.proofs.Completion.{count_by-append, count_by-cons, Reached, document_read}
 

@@ -9,8 +9,8 @@ use Rattle.pap_reader.specs.Tags.{Attribute, Front, IsAttribute, Ending, start, 
 use Rattle.pap_reader.specs.Values.{Escape, Plain, Quoted, closing_quote, byte, is_quote, IsByte, NoByte}
 use Rattle.pap_reader.specs.Bytes.{is_first, is_inner, begins_with, drop_while}
 use Rattle.std.specs.List.{take_while}
-use Rattle.pap_reader.specs.EscapeDecisions.{byte_named}
-use Rattle.pap_reader.specs.Views.{is_code, FoundEscape, NoFoundEscape, Closing}
+use Rattle.pap_reader.specs.private.EscapeDecisions.{byte_named}
+use Rattle.pap_reader.specs.private.Views.{is_code, FoundEscape, NoFoundEscape, Closing}
 use Rattle.pap_reader.proofs.Escapes.{found, escaped}
 
 head_of : (b c : ℕ) (x y : List ℕ) → b ∷ x ≡ c ∷ y → b ≡ c

@@ -8,9 +8,9 @@ use Rattle.pap_reader.specs.declared.fault.Which.{Which}
 use Rattle.pap_reader.specs.declared.fault.Which.TheVariants as which
 use Rattle.pap_reader.specs.Table.{may_stand, is_complete}
 use Rattle.pap_reader.specs.Structure.{Shape, opens, closes, foreign}
-use Rattle.pap_reader.specs.NestingDecisions.{Open, fresh, with_child, is_inside, enter, enters, start}
+use Rattle.pap_reader.specs.private.NestingDecisions.{Open, fresh, with_child, is_inside, enter, enters, start}
 use Rattle.pap_reader.specs.Limits.{begins_if, ends_if, amount}
-use Rattle.pap_reader.specs.CountDecisions.{deeper, depth_from, tally}
+use Rattle.pap_reader.specs.private.CountDecisions.{deeper, depth_from, tally}
 use Rattle.pap_reader.proofs.Structures.{same_is}
 use Rattle.pap_reader.proofs.Completion.{count_by-cons}
 

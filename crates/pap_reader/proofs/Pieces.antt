@@ -8,7 +8,7 @@ use Rattle.pap_reader.specs.Tags.{Attribute}
 use Rattle.pap_reader.specs.Marks.{Mark, begins, ends, alien, shape}
 use Rattle.pap_reader.specs.Trees.{RawBody, done, eval, branch, execute}
 use Rattle.pap_reader.specs.Meaning.{join, Piece, nothing, both, later, says, Says, none, node}
-use Rattle.pap_reader.specs.VerdictDecisions.{Work, with_piece, build, builds, begun}
+use Rattle.pap_reader.specs.private.VerdictDecisions.{Work, with_piece, build, builds, begun}
 
 -- ---- pieces one after the other
 

@@ -15,16 +15,16 @@ use Rattle.pap_reader.specs.declared.elements.Elements.{Elements}
 use Rattle.pap_reader.specs.declared.attributes.TagValue.{TagValue}
 use Rattle.pap_reader.specs.Table.{may_stand, is_complete}
 use Rattle.pap_reader.specs.Structure.{Shape, opens, closes, opens_internals}
-use Rattle.pap_reader.specs.NestingDecisions.{Open, fresh, with_child, is_inside, enter, is_second, step, start, is_ended}
+use Rattle.pap_reader.specs.private.NestingDecisions.{Open, fresh, with_child, is_inside, enter, is_second, step, start, is_ended}
 use Rattle.pap_reader.specs.Tags.{Attribute}
 use Rattle.pap_reader.specs.Marks.{begins, ends}
 use Rattle.pap_reader.specs.Limits.{counts, is_counted, most, tested}
-use Rattle.pap_reader.specs.CountDecisions.{deeper, depth_from, tally}
-use Rattle.pap_reader.specs.VerdictDecisions.{IsFew, built, begun, Work, build, first_over, within, entered}
+use Rattle.pap_reader.specs.private.CountDecisions.{deeper, depth_from, tally}
+use Rattle.pap_reader.specs.private.VerdictDecisions.{IsFew, built, begun, Work, build, first_over, within, entered}
 use Rattle.pap_reader.specs.Trees.{RawBody, raw_body_of, tree_of}
 use Rattle.pap_reader.specs.Meaning.{later, Piece, nothing, both, outside, adds, or_done, piece_tree}
-use Rattle.pap_reader.specs.Views.{HasFlags, Tallies, IsSmall, IsMore, one_if, IsValueOf}
-use Rattle.pap_reader.specs.ReaderViews.{one_verdict, ShowsPlan, IsValueIn, ShowsOpen, Closed, ShowsAll, total}
+use Rattle.pap_reader.specs.private.Views.{HasFlags, Tallies, IsSmall, IsMore, one_if, IsValueOf}
+use Rattle.pap_reader.specs.private.ReaderViews.{one_verdict, ShowsPlan, IsValueIn, ShowsOpen, Closed, ShowsAll, total}
 use Rattle.pap_reader.proofs.Pieces.{both-nothing, later-assoc}
 use Rattle.pap_reader.proofs.Structures.{same_is}
 use Rattle.pap_reader.proofs.Completion.{count_by-append, count_by-cons}

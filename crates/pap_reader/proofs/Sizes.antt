@@ -13,7 +13,7 @@ use Rattle.pap_reader.specs.Trees.{RawBody, done, eval, branch, execute, RawRout
 use Rattle.pap_reader.specs.Meaning.{join, Piece, nothing, both, later, or_done, routine, adds, says, Says, none, node}
 use Rattle.pap_reader.specs.Limits.{counts, is_counted}
 use Rattle.pap_reader.specs.TreeLimits.{raw_written, methods_written}
-use Rattle.pap_reader.specs.Views.{one_if}
+use Rattle.pap_reader.specs.private.Views.{one_if}
 use Rattle.pap_reader.proofs.Completion.{count_by-append, count_by-cons}
 use Rattle.pap_reader.proofs.Exact.{map-append}
 

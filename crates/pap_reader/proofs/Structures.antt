@@ -7,7 +7,7 @@ use Rattle.pap_reader.specs.declared.element.Element.{Element}
 use Rattle.pap_reader.specs.declared.element.Element.TheVariants.{Pap, Interface, Variables, Inputs, Outputs, Internals, Constants, Input, Output, Internal, Constant, Methods, Main, Method, Eval, Execute, If, Then, Else}
 use Rattle.pap_reader.specs.Table.{number, same, may_stand, is_complete, all_stand, fits}
 use Rattle.pap_reader.specs.Structure.{Shape, opens, closes, foreign, Nodes, none, node}
-use Rattle.pap_reader.specs.NestingDecisions.{Open, fresh, with_child, is_inside, enter, enters}
+use Rattle.pap_reader.specs.private.NestingDecisions.{Open, fresh, with_child, is_inside, enter, enters}
 
 -- ---- two elements with one number are the same
 

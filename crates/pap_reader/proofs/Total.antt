@@ -6,13 +6,13 @@ use Rattle.std.proofs.lemmas.List.{append-nil}
 use Rattle.pap_reader.specs.declared.fault.Which.TheVariants as which
 use Rattle.pap_reader.specs.declared.fault.ReadFault.{ReadFault}
 use Rattle.pap_reader.specs.declared.fault.ReadFault.TheVariants as faults
-use Rattle.pap_reader.specs.NestingDecisions.{Open, start, is_ended}
+use Rattle.pap_reader.specs.private.NestingDecisions.{Open, start, is_ended}
 use Rattle.pap_reader.specs.Tags.{Tag, IsTag}
 use Rattle.pap_reader.specs.Tokens.{PlacedTag, Reads, placed}
 use Rattle.pap_reader.specs.Marks.{shapes, marks_of}
 use Rattle.pap_reader.specs.Trees.{ElementTree}
 use Rattle.pap_reader.specs.Limits.{most}
-use Rattle.pap_reader.specs.VerdictDecisions.{Work, begun, built, builds, verdict}
+use Rattle.pap_reader.specs.private.VerdictDecisions.{Work, begun, built, builds, verdict}
 use Rattle.pap_reader.specs.Tokens as tokens
 use Rattle.pap_reader.specs.Skipped.{IsPassed}
 use Rattle.pap_reader.specs.Elements.{IsElements, StopsAt, IsRefusedText, IsFault}

@@ -13,14 +13,14 @@ use Rattle.pap_reader.specs.declared.reader.Reader.{Reader}
 use Rattle.pap_reader.specs.declared.tags.Form.{Form}
 use Rattle.pap_reader.specs.Table.{is_complete}
 use Rattle.pap_reader.specs.Structure.{Shape, opens, closes, foreign}
-use Rattle.pap_reader.specs.NestingDecisions.{Open, with_child, is_second, step, steps}
+use Rattle.pap_reader.specs.private.NestingDecisions.{Open, with_child, is_second, step, steps}
 use Rattle.pap_reader.specs.Tags.{Attribute, Tag}
 use Rattle.pap_reader.specs.Marks.{Mark, begins, ends, alien, element_of, marks_by, marks_of, shape}
 use Rattle.pap_reader.specs.Attributes.{mark_is_right, is_right}
 use Rattle.pap_reader.specs.Limits.{most, tested}
-use Rattle.pap_reader.specs.CountDecisions.{deeper, depth_from, tally}
-use Rattle.pap_reader.specs.VerdictDecisions.{IsFew, Work, build, builds, first_over, within, entered, verdict_on}
-use Rattle.pap_reader.specs.ReaderViews.{Stands, Refuses, one_verdict, Took, Judges}
+use Rattle.pap_reader.specs.private.CountDecisions.{deeper, depth_from, tally}
+use Rattle.pap_reader.specs.private.VerdictDecisions.{IsFew, Work, build, builds, first_over, within, entered, verdict_on}
+use Rattle.pap_reader.specs.private.ReaderViews.{Stands, Refuses, one_verdict, Took, Judges}
 use Rattle.pap_reader.proofs.Structures.{same_refl}
 use Rattle.pap_reader.proofs.ReaderSteps.{step_opens, closes_count, depth-one, few_close}
 

@@ -6,7 +6,7 @@ use Rattle.pap_reader.specs.declared.fault.ReadFault.{ReadFault}
 use Rattle.pap_reader.specs.declared.fault.ReadFault.TheVariants as faults
 use Rattle.pap_reader.specs.declared.reader.Reader.{Reader}
 use Rattle.pap_reader.specs.declared.elements.Elements.{Elements}
-use Rattle.pap_reader.specs.NestingDecisions.{Open, start, is_ended}
+use Rattle.pap_reader.specs.private.NestingDecisions.{Open, start, is_ended}
 use Rattle.pap_reader.specs.Tags.{Tag, IsTag}
 use Rattle.pap_reader.specs.Tokens.{PlacedTag, Leads, Reads, placed}
 use Rattle.pap_reader.specs.Marks.{shapes, marks_of}
@@ -14,12 +14,12 @@ use Rattle.pap_reader.specs.Trees.{ElementTree, tree_of}
 use Rattle.pap_reader.specs.Limits.{most, tested, IsFirstOver}
 use Rattle.pap_reader.specs.Elements.{HasTree, IsElements, StopsAt, IsRefusedText, IsFaultOrMemory}
 use Rattle.pap_reader.specs.Faults.{Earns}
-use Rattle.pap_reader.specs.VerdictDecisions.{Work, begun, built, builds, verdict, ending}
-use Rattle.pap_reader.specs.ReaderViews.{Stands, Refuses, Judges, Gives}
-use Rattle.pap_reader.specs.Views as views
+use Rattle.pap_reader.specs.private.VerdictDecisions.{Work, begun, built, builds, verdict, ending}
+use Rattle.pap_reader.specs.private.ReaderViews.{Stands, Refuses, Judges, Gives}
+use Rattle.pap_reader.specs.private.Views as views
 use Rattle.pap_reader.specs.Tokens as tokens
 use Rattle.pap_reader.specs.Skipped.{IsPassed, IsAfterMark, IsAfterDeclaration}
-use Rattle.pap_reader.specs.Views.{Passes}
+use Rattle.pap_reader.specs.private.Views.{Passes}
 use Rattle.pap_reader.proofs.Fronts.{document_ended}
 use Rattle.pap_reader.proofs.Exact.{Held, Judged, judged, held_more, held_start, shapes-one, tree_here}
 

@@ -47,10 +47,6 @@ pub data Quoted : ℕ → List ℕ → List ℕ → List ℕ → Type 0 where
   byte : {q c : ℕ} {bytes next value rest : List ℕ}
       → IsByte q bytes c next → Quoted q next value rest → Quoted q bytes (c ∷ value) rest
 
--- No value with this quote can be read here.
-abbrev pub NoValue : ℕ → List ℕ → Type 0
-NoValue q bytes = (value rest : List ℕ) → Quoted q bytes value rest → ⊥
-
 -- `"` or `'`
 abbrev pub is_quote : ℕ → Bool
 is_quote b = b == 34 || b == 39

@@ -5,7 +5,7 @@ ghost use Rattle.pap_reader.specs.Attributes.{value_of, type_word, kind_of, is_k
 ghost use Rattle.pap_reader.specs.Trees.{items_of};
 ghost use Rattle.pap_reader.specs.Meaning.{text_of, or_int};
 ghost use Rattle.pap_reader.specs.Tags.{attributes_of};
-ghost use Rattle.pap_reader.specs.Views.{SomeWhere, IsValueOf, DeclaresOf, IsNamed, IsText, declares};
+ghost use Rattle.pap_reader.specs.private.Views.{SomeWhere, IsValueOf, DeclaresOf, IsNamed, IsText, declares};
 
 use crate::element::Element;
 use crate::elements::RawDeclared;

@@ -2,10 +2,10 @@
 
 ghost use Rattle.std.specs.Prelude.{◌≡◌, ◌-◌, ◌<◌, List, []};
 ghost use Rattle.pap_reader.specs.Limits.{tested};
-ghost use Rattle.pap_reader.specs.CountDecisions.{deeper};
-ghost use Rattle.pap_reader.specs.VerdictDecisions.{first_over};
+ghost use Rattle.pap_reader.specs.private.CountDecisions.{deeper};
+ghost use Rattle.pap_reader.specs.private.VerdictDecisions.{first_over};
 ghost use Rattle.pap_reader.specs.Structure.{Shape, closes};
-ghost use Rattle.pap_reader.specs.Views.{Tallies, IsMore, IsSmall};
+ghost use Rattle.pap_reader.specs.private.Views.{Tallies, IsMore, IsSmall};
 
 use crate::element::Element;
 use crate::fault::Which;

@@ -3,7 +3,7 @@
 ghost use Rattle.std.specs.Prelude.{◌≡◌, ◌<◌, List, []};
 ghost use Rattle.pap_reader.specs.Table.{number, has, may_stand, is_complete};
 ghost use Rattle.pap_reader.specs.Marks.{tag_name, element_of};
-ghost use Rattle.pap_reader.specs.Views.{is_in_body, HasFlags, AddsChild};
+ghost use Rattle.pap_reader.specs.private.Views.{is_in_body, HasFlags, AddsChild};
 ghost use Rattle.pap_reader.specs.declared.element.Element.{Element as Kind};
 
 /// The elements of a plan's file.

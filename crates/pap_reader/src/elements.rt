@@ -1,7 +1,7 @@
 //! What is written in a plan's file.
 
 ghost use Rattle.pap_reader.specs.Meaning.{nothing};
-ghost use Rattle.pap_reader.specs.ReaderViews.{ShowsPlan};
+ghost use Rattle.pap_reader.specs.private.ReaderViews.{ShowsPlan};
 
 use pap_tree::{Kind, Name};
 use std::alloc::Global;

@@ -2,15 +2,15 @@
 
 ghost use Rattle.std.specs.Prelude.{◌≡◌, ℕ, List, ◌∷◌, [], ◌++◌, map, is_some, OnOk, ◌&&◌, ◌||◌};
 ghost use Rattle.pap_reader.specs.Structure.{Shape, opens, opens_internals};
-ghost use Rattle.pap_reader.specs.NestingDecisions.{Open, fresh, is_inside, step, start, is_ended};
+ghost use Rattle.pap_reader.specs.private.NestingDecisions.{Open, fresh, is_inside, step, start, is_ended};
 ghost use Rattle.pap_reader.specs.Table.{is_complete};
 ghost use Rattle.pap_reader.specs.Tags.{Attribute as AnyAttribute, attributes_of, tag_of};
 ghost use Rattle.pap_reader.specs.Marks.{begins, ends, marks_of};
 ghost use Rattle.pap_reader.specs.Trees.{raw_declaration_of};
 ghost use Rattle.pap_reader.specs.Meaning.{declared};
-ghost use Rattle.pap_reader.specs.VerdictDecisions.{Work, begun, ending};
-ghost use Rattle.pap_reader.specs.Views.{DeclaresOf};
-ghost use Rattle.pap_reader.specs.ReaderViews.{ShowsOpen, Closed, ClosedInBody, ClosedInPlan, Stands, IsFresh, BeginsElement, EndsElement, TakesMarks, Gives};
+ghost use Rattle.pap_reader.specs.private.VerdictDecisions.{Work, begun, ending};
+ghost use Rattle.pap_reader.specs.private.Views.{DeclaresOf};
+ghost use Rattle.pap_reader.specs.private.ReaderViews.{ShowsOpen, Closed, ClosedInBody, ClosedInPlan, Stands, IsFresh, BeginsElement, EndsElement, TakesMarks, Gives};
 
 use crate::attributes::{TagValue, read_attributes};
 use crate::counts::Counts;

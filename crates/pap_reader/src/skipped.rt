@@ -2,7 +2,7 @@
 
 ghost use Rattle.std.specs.Prelude.{◌<◌, ◌≤◌, length, MatchOption, IfSome};
 ghost use Rattle.pap_reader.specs.Skipped.{Past, IsPassed, IsAfterMark, IsAfterDeclaration, NoPast, NotPassed, IsAfterProlog};
-ghost use Rattle.pap_reader.specs.Views.{Passes};
+ghost use Rattle.pap_reader.specs.private.Views.{Passes};
 
 use crate::bytes::{after_text, split};
 use pap_tree::is_white;

@@ -3,7 +3,7 @@
 ghost use Rattle.std.specs.Prelude.{◌≡◌, ◌<◌, ◌∷◌, [], true, length, MatchOption, IfOk, IfSome};
 ghost use Rattle.pap_reader.specs.Values.{is_quote};
 ghost use Rattle.pap_reader.specs.Tags.{Front, IsAttribute, Ending, IsTag, attribute_of, attributes_of, tag_of, NoTag, IsFrontOf};
-ghost use Rattle.pap_reader.specs.Views.{NoQuote, NoAttribute, NoClosing, NoEnding};
+ghost use Rattle.pap_reader.specs.private.Views.{NoQuote, NoAttribute, NoClosing, NoEnding};
 
 use crate::bytes::{
     after_byte, after_white, begins_with_first, begins_with_letter, begins_with_white, split,

@@ -3,9 +3,10 @@
 ghost use Rattle.std.specs.Prelude.{◌≡◌, ◌<◌, ◌≤◌, true, length, MatchOption, IfOk, IfSome};
 ghost use Rattle.std.specs.List.{prefix_len, take_while};
 ghost use Rattle.pap_reader.specs.Bytes.{drop_while};
-ghost use Rattle.pap_reader.specs.Values.{is_quote, Quoted, IsByte, NoByte, NoValue};
-ghost use Rattle.pap_reader.specs.EscapeDecisions.{code_of, byte_numbered, byte_named};
-ghost use Rattle.pap_reader.specs.Views.{is_code, FoundEscape, NoFoundEscape};
+ghost use Rattle.pap_reader.specs.Values.{is_quote, Quoted, IsByte, NoByte};
+ghost use Rattle.pap_reader.specs.private.Values.{NoValue};
+ghost use Rattle.pap_reader.specs.private.EscapeDecisions.{code_of, byte_numbered, byte_named};
+ghost use Rattle.pap_reader.specs.private.Views.{is_code, FoundEscape, NoFoundEscape};
 
 use crate::bytes::{after_byte, split};
 use std::alloc::{AllocError, Global};

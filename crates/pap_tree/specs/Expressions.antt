@@ -2,8 +2,7 @@
 use Rattle.std.specs.Prelude.{ℕ, List, length}
 use Rattle.pap_tree.specs.Term.{Term}
 use Rattle.pap_tree.specs.Tokens.{Spot, plain, Tokens}
-use Rattle.pap_tree.specs.Grammar.{Line, Level, Assignment, Constant, Meaning, tree, assignment, declared}
-use Rattle.pap_tree.specs.Declarations.{DeclaredLiteral}
+use Rattle.pap_tree.specs.Grammar.{Line, Level, Assignment, Meaning, tree, assignment}
 use Rattle.pap_tree.specs.Texts.{Text}
 use Rattle.pap_tree.specs.Stopping.{IsRead, IsRefusedAt, Cause}
 
@@ -19,9 +18,6 @@ IsTest bytes x = IsText (Level 0) bytes (tree x)
 
 abbrev pub IsAssignment : List ℕ → List ℕ → Term → Type 0
 IsAssignment bytes name x = IsText Assignment bytes (assignment name x)
-
-abbrev pub IsDeclared : List ℕ → DeclaredLiteral → Type 0
-IsDeclared bytes d = IsText Constant bytes (declared d)
 
 -- the same, and no token stops the reading
 pub record IsAccepted (l : Line) (bytes : List ℕ) (x : Meaning) : Type 0 where

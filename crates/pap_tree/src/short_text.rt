@@ -32,7 +32,7 @@ impl Model for ShortText {
 
     ghost Value = { List ℕ };
 
-    ghost use Rattle.pap_tree.specs.PaddedBack.{back};
+    ghost use Rattle.pap_tree.specs.laws.PaddedBack.{back};
 
     ghost view = { λ t. take t.len t.bytes };
 

@@ -18,7 +18,7 @@ use Rattle.pap_types.specs.Checks.{Check, first_fault, place}
 use Rattle.pap_types.specs.Routines.{body_named, method_names}
 use Rattle.pap_types.specs.declared.fault.TypeFault.TheVariants as faults
 use Rattle.pap_types.specs.Counts.{AreSmallTerms}
-use Rattle.pap_types.specs.StatementViews.{checks_from, statement_of, eval_checks_in, test_checks_in, BodyAnswer, BranchesAnswer, checks_of_branches}
+use Rattle.pap_types.specs.private.StatementViews.{checks_from, statement_of, eval_checks_in, test_checks_in, BodyAnswer, BranchesAnswer, checks_of_branches}
 use Rattle.pap_types.proofs.CheckLemmas.{past, front}
 
 -- some statements are left: the first fault is that of their checks, and their expressions are small

@@ -14,7 +14,7 @@ use Rattle.pap_types.specs.declared.nodes.Operands.{Operands}
 use Rattle.pap_types.specs.declared.nodes.Statement.{Statement}
 use Rattle.pap_types.specs.Kinds.{kind_of}
 use Rattle.pap_types.specs.Checks.{Check, check, first_fault, place}
-use Rattle.pap_types.specs.CheckViews.{NodesAnswer, PairAnswer, OwnAnswer, checks_in, checks_of_two, scope_of_statement}
+use Rattle.pap_types.specs.private.CheckViews.{NodesAnswer, PairAnswer, OwnAnswer, checks_in, checks_of_two, scope_of_statement}
 
 passes_on : (c : Check) (a b : List Check) → (first_fault a ≡ None → first_fault (a ++ b) ≡ first_fault b) → (passes : Bool) → (if passes then first_fault a else Some c.fault) ≡ None → (if passes then first_fault (a ++ b) else Some c.fault) ≡ first_fault b
 passes_on c a b more true e = more e

@@ -7,7 +7,7 @@ use Rattle.pap_types.specs.Scopes.{names_of}
 use Rattle.pap_types.specs.Checks.{first_fault, declaration_checks}
 use Rattle.pap_types.specs.declared.fault.TypeFault.{TypeFault}
 use Rattle.pap_types.specs.declared.fault.TypeFault.TheVariants.{Memory, Twice, Unknown, Kind, ConstantWritten, NoMethod, Value}
-use Rattle.pap_types.specs.DeclarationViews.{IsDeclared, UnlessMemory}
+use Rattle.pap_types.specs.private.DeclarationViews.{IsDeclared, UnlessMemory}
 
 -- some declarations are left: the names so far and theirs are all, and the first fault is that of the checks that are left
 pub record IsLeft (earlier old now : List (List ℕ)) (ds left : List Declaration) : Type 0 where

@@ -14,8 +14,8 @@ use Rattle.pap_types.specs.Routines.{method_names}
 use Rattle.pap_tree.specs.Names.{main_name}
 use Rattle.pap_types.specs.Counts.{AreSmallTerms, methods_written}
 use Rattle.pap_types.specs.Checks.{first_fault, method_checks}
-use Rattle.pap_types.specs.StatementViews.{IsVerdict}
-use Rattle.pap_types.specs.PlanViews.{statement_checks, method_checks_in, other_checks_in}
+use Rattle.pap_types.specs.private.StatementViews.{IsVerdict}
+use Rattle.pap_types.specs.private.PlanViews.{statement_checks, method_checks_in, other_checks_in}
 use Rattle.pap_types.proofs.CheckLemmas.{past, front}
 
 -- some methods are left: the names so far and theirs are all, and the first fault is that of the checks that are left

@@ -17,7 +17,7 @@ use Rattle.rising_lists.proofs.Laws.{put_rising, at_key_put}
 use Rattle.pap_types.specs.Scopes.{number_of}
 use Rattle.pap_types.specs.Checks.{has_name}
 use Rattle.pap_types.specs.declared.declared_names.Numbered.{Numbered}
-use Rattle.pap_types.specs.NameViews.{AreNumbers, AreNumbered, numbered_name, number_at}
+use Rattle.pap_types.specs.private.NameViews.{AreNumbers, AreNumbered, numbered_name, number_at}
 
 module _ (p : List ℕ → Bool) where
   some_from : (i : ℕ) (xs : List (List ℕ)) → is_some (position_from p i xs) ≡ list_any p xs

@@ -13,8 +13,8 @@ use Rattle.pap_types.specs.Routines.{method_names}
 use Rattle.pap_tree.specs.Names.{main_name}
 use Rattle.pap_types.specs.Checks.{first_fault, declaration_checks, method_checks, checks_of, type_fault}
 use Rattle.pap_types.specs.Faults.{IsTypeFault}
-use Rattle.pap_types.specs.DeclarationViews.{AreDeclared, UnlessMemory}
-use Rattle.pap_types.specs.PlanViews.{name_checks, statement_checks, AreMethodNames, IsFilled}
+use Rattle.pap_types.specs.private.DeclarationViews.{AreDeclared, UnlessMemory}
+use Rattle.pap_types.specs.private.PlanViews.{name_checks, statement_checks, AreMethodNames, IsFilled}
 use Rattle.pap_types.proofs.CheckLemmas.{past, front}
 use Rattle.pap_types.proofs.DeclarationLemmas.{unless_memory}
 

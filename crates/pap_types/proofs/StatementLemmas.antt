@@ -15,8 +15,8 @@ use Rattle.pap_types.specs.declared.nodes.Statement.{Statement}
 use Rattle.pap_types.specs.Scopes.{declared_as}
 use Rattle.pap_types.specs.Kinds.{kind_of, suits}
 use Rattle.pap_types.specs.Checks.{Check, check, first_fault, last_node, target_kind}
-use Rattle.pap_types.specs.CheckViews.{scope_of_statement, checks_in}
-use Rattle.pap_types.specs.StatementViews.{IsVerdict, place_in, eval_checks_in}
+use Rattle.pap_types.specs.private.CheckViews.{scope_of_statement, checks_in}
+use Rattle.pap_types.specs.private.StatementViews.{IsVerdict, place_in, eval_checks_in}
 use Rattle.pap_types.proofs.CheckLemmas.{past, front}
 
 -- an expression has a node

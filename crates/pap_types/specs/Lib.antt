@@ -12,11 +12,7 @@ pub mod Safety
 pub mod Runs
 pub mod Bounds
 pub mod Meaning
-pub mod NameViews
-pub mod ScopeViews
-pub mod CheckViews
-pub mod StatementViews
-pub mod DeclarationViews
-pub mod TypedViews
-pub mod PlanViews
 pub mod MeaningLaws
+pub mod NumberedNames
+pub mod TypedPlans
+pub mod private

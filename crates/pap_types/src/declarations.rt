@@ -6,8 +6,8 @@ ghost use Rattle.pap_tree.specs.declared.declaration.Kind.TheVariants.{Factor};
 ghost use Rattle.pap_types.specs.Checks.{is_of_type};
 ghost use Rattle.pap_tree.specs.Flowchart.{routine_of};
 ghost use Rattle.pap_tree.specs.Names.{main_name};
-ghost use Rattle.pap_types.specs.PlanViews.{AreMethodNames};
-ghost use Rattle.pap_types.specs.DeclarationViews.{AreDeclared, IsDeclared, IsAdded};
+ghost use Rattle.pap_types.specs.private.PlanViews.{AreMethodNames};
+ghost use Rattle.pap_types.specs.private.DeclarationViews.{AreDeclared, IsDeclared, IsAdded};
 
 use crate::TypeFault;
 use crate::declared_names::DeclaredNames;

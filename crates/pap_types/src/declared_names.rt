@@ -6,7 +6,7 @@ ghost use Rattle.rising_lists.specs.Keyed.{IsRising};
 ghost use Rattle.rising_lists.specs.Places.{Finds, Misses};
 ghost use Rattle.pap_types.specs.Scopes.{number_of};
 ghost use Rattle.pap_types.specs.Checks.{has_name};
-ghost use Rattle.pap_types.specs.NameViews.{IsInserted, numbered_name};
+ghost use Rattle.pap_types.specs.private.NameViews.{IsInserted, numbered_name};
 
 use pap_tree::Name;
 use std::alloc::{AllocError, Global};
@@ -31,7 +31,7 @@ pub(crate) struct DeclaredNames {
 
 impl Model for DeclaredNames {
     ghost use Rattle.std.specs.Prelude.{ℕ, List};
-    ghost use Rattle.pap_types.specs.NameViews.{AreNumbered};
+    ghost use Rattle.pap_types.specs.private.NameViews.{AreNumbered};
 
     ghost Value = { List (List ℕ) };
 

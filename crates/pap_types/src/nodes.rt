@@ -4,7 +4,7 @@ ghost use Rattle.pap_tree.specs.Term.{Term, term_of, leaf, named, item, one, two
 ghost use Rattle.pap_tree.specs.Numbering.{nodes};
 ghost use Rattle.pap_types.specs.Kinds.{takes_two};
 ghost use Rattle.pap_types.specs.Checks.{place};
-ghost use Rattle.pap_types.specs.CheckViews.{HasNumbers, NodesAnswer, PairAnswer, OwnAnswer, scope_of_statement};
+ghost use Rattle.pap_types.specs.private.CheckViews.{HasNumbers, NodesAnswer, PairAnswer, OwnAnswer, scope_of_statement};
 
 use crate::TypeFault;
 use crate::kinds::{

@@ -6,9 +6,9 @@ ghost use Rattle.pap_tree.specs.Flowchart.{flowchart_of};
 ghost use Rattle.pap_tree.specs.Term.{term_of};
 ghost use Rattle.pap_types.specs.Kinds.{shows_plain_divisor, shown_divisor, written_decimal, int_literal, is_plain_divisor};
 ghost use Rattle.pap_types.specs.Scopes.{scope_of, variables_of, declaration_in, declared_as};
-ghost use Rattle.pap_types.specs.ScopeViews.{IsNumbered};
-ghost use Rattle.pap_types.specs.PlanViews.{AreEmpty, IsFilled, IsNamed};
-ghost use Rattle.pap_types.specs.DeclarationViews.{AreDeclared};
+ghost use Rattle.pap_types.specs.NumberedNames.{IsNumbered};
+ghost use Rattle.pap_types.specs.private.PlanViews.{AreEmpty, IsFilled, IsNamed};
+ghost use Rattle.pap_types.specs.private.DeclarationViews.{AreDeclared};
 
 use crate::TypeFault;
 use crate::declarations::{declare, name_methods};

@@ -5,10 +5,10 @@ ghost use Rattle.pap_tree.specs.Flowchart.{done, stmt_then, body_of, routine_of,
 ghost use Rattle.pap_tree.specs.Statements.{written};
 ghost use Rattle.pap_types.specs.Checks.{last_node};
 ghost use Rattle.pap_types.specs.Counts.{IsSmallTerm, AreSmallTerms, methods_written, IsWithinCounts};
-ghost use Rattle.pap_types.specs.CheckViews.{HasNumbers, scope_of_statement};
-ghost use Rattle.pap_types.specs.ScopeViews.{IsNumbered};
-ghost use Rattle.pap_types.specs.PlanViews.{statement_checks, method_checks_in, other_checks_in};
-ghost use Rattle.pap_types.specs.StatementViews.{IsVerdict, TargetAnswer, IsWrongTarget, place_in, eval_checks_in, test_checks_in, AreNumbered, statement_of, BodyAnswer, BranchesAnswer};
+ghost use Rattle.pap_types.specs.private.CheckViews.{HasNumbers, scope_of_statement};
+ghost use Rattle.pap_types.specs.NumberedNames.{IsNumbered};
+ghost use Rattle.pap_types.specs.private.PlanViews.{statement_checks, method_checks_in, other_checks_in};
+ghost use Rattle.pap_types.specs.private.StatementViews.{IsVerdict, TargetAnswer, IsWrongTarget, place_in, eval_checks_in, test_checks_in, AreNumbered, statement_of, BodyAnswer, BranchesAnswer};
 
 use crate::TypeFault;
 use crate::kinds::suits;

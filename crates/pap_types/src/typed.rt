@@ -9,9 +9,9 @@ ghost use Rattle.pap_types.specs.Routines.{method_names};
 ghost use Rattle.pap_types.specs.Scopes.{scope_of, variables_of, names_of, number_of, declaration_in, constant_in};
 ghost use Rattle.pap_types.specs.Checks.{IsWellTyped};
 ghost use Rattle.pap_types.specs.Faults.{IsTypeFault};
-ghost use Rattle.pap_types.specs.ScopeViews.{IsNumbered};
-ghost use Rattle.pap_types.specs.PlanViews.{statement_checks};
-ghost use Rattle.pap_types.specs.StatementViews.{IsVerdict};
+ghost use Rattle.pap_types.specs.NumberedNames.{IsNumbered};
+ghost use Rattle.pap_types.specs.private.PlanViews.{statement_checks};
+ghost use Rattle.pap_types.specs.private.StatementViews.{IsVerdict};
 ghost use Rattle.pap_types.specs.Counts.{IsWithinCounts};
 
 use crate::TypeFault;
@@ -35,7 +35,7 @@ impl Model for Typed {
     ghost use Rattle.pap_tree.specs.contracts.plan.Stmt as statement;
     ghost use Rattle.pap_tree.specs.contracts.expression.Expr as expression;
     ghost use Rattle.std.specs.Coded.{codes};
-    ghost use Rattle.pap_types.specs.TypedViews.{IsTyped};
+    ghost use Rattle.pap_types.specs.TypedPlans.{IsTyped};
 
     ghost Value = { PlanText };
 

@@ -10,8 +10,8 @@ use Rattle.scaled_decimal.specs.Decimals.{Decimal}
 use Rattle.rising_lists.proofs.Laws.{rising_append, rising_far}
 use Rattle.payroll_records.specs.NamedValues.{name_cmp, name_of}
 use Rattle.payroll_records.specs.Tables.{Text, Supplies, IsNumberText, cell_of, name_at}
-use Rattle.payroll_records.specs.TableViews.{AreColumns, IsColumnOf, column_name}
-use Rattle.payroll_records.specs.CellViews.{AreValuesOf, column_at}
+use Rattle.payroll_records.specs.private.TableViews.{AreColumns, IsColumnOf, column_name}
+use Rattle.payroll_records.specs.private.CellViews.{AreValuesOf, column_at}
 use Rattle.payroll_records.specs.declared.header.Column.{Column}
 use Rattle.payroll_records.specs.declared.values.NamedValue.{NamedValue}
 use Rattle.payroll_records.proofs.ColumnLemmas.{at_name}

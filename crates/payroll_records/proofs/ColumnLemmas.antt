@@ -19,7 +19,7 @@ use Rattle.rising_lists.specs.Places.{Misses, Finds}
 use Rattle.rising_lists.proofs.Laws.{put_rising, at_key_put}
 use Rattle.payroll_records.specs.NamedValues.{name_cmp}
 use Rattle.payroll_records.specs.Tables.{Text, name_at, field_of}
-use Rattle.payroll_records.specs.TableViews.{AreColumns, IsColumnOf, column_name}
+use Rattle.payroll_records.specs.private.TableViews.{AreColumns, IsColumnOf, column_name}
 use Rattle.payroll_records.specs.declared.header.Column.{Column}
 
 field_or : (row : List Text) (i : ℕ) → unwrap_or (field_at row i) [] ≡ field_of row i

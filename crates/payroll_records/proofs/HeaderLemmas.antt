@@ -5,7 +5,7 @@ use Rattle.std.specs.List.{AllByRecursion, Contains}
 use Rattle.std.proofs.lemmas.List.{get_or-take, length-take, get_or_default}
 use Rattle.pap_tree.specs.Names.{is_name}
 use Rattle.payroll_records.specs.Tables.{Text, IsHeader, name_at, field_of}
-use Rattle.payroll_records.specs.TableViews.{BeginsHeader}
+use Rattle.payroll_records.specs.private.TableViews.{BeginsHeader}
 
 -- the three fields before the values
 abbrev pub begun : List Text → List Text

@@ -6,7 +6,7 @@ use Rattle.csv.specs.Reading.{Reached, ReadRecord, default_config, source_of}
 use Rattle.csv.specs.declared.parser.State.{State}
 use Rattle.csv.specs.declared.reader.Reader.{Reader}
 use Rattle.csv.proofs.ReadFacts.{rows-end, rows-more}
-use Rattle.payroll_records.specs.RowViews.{rows_from, rows_of_known, IsBetweenRows, ReadsRow}
+use Rattle.payroll_records.specs.private.RowViews.{rows_from, rows_of_known, IsBetweenRows, ReadsRow}
 use Rattle.payroll_records.proofs.RowLemmas.{row_taken, rows_ended, next_between}
 
 some_value : {X : Type 0} (o : Option X) → IsSome o → (x : X) × (o ≡ Some x)

@@ -8,7 +8,7 @@ use Rattle.csv.specs.declared.parser.State.{State}
 use Rattle.csv.specs.declared.parser.State.TheVariants as st
 use Rattle.csv.specs.declared.parser.Action.{Action}
 use Rattle.csv.specs.declared.parser.Action.TheVariants as act
-use Rattle.payroll_records.specs.RowViews.{rows_from}
+use Rattle.payroll_records.specs.private.RowViews.{rows_from}
 
 -- what ends a row leaves the machine between two rows
 abbrev EndsBetween : State × Action → Type 0

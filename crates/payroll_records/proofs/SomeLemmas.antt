@@ -17,8 +17,8 @@ use Rattle.payroll_records.specs.Employees.{is_employee}
 use Rattle.payroll_records.specs.NamedValues.{name_cmp}
 use Rattle.payroll_records.specs.Limits.{longest_table, most_values}
 use Rattle.payroll_records.specs.Tables.{Text, name_at, field_of, cell_of, IsHeader, IsReadable, IsWide, HasEmployee, HasDay, IsRecordOf, key_of, AreRecordsOf, IsFirstFault, BreaksAt, TableSays}
-use Rattle.payroll_records.specs.TableViews.{AreColumns, IsColumnOf, column_name}
-use Rattle.payroll_records.specs.CellViews.{AreValuesOf}
+use Rattle.payroll_records.specs.private.TableViews.{AreColumns, IsColumnOf, column_name}
+use Rattle.payroll_records.specs.private.CellViews.{AreValuesOf}
 use Rattle.payroll_records.specs.declared.header.Column.{Column}
 use Rattle.payroll_records.specs.declared.record.Record.{Record}
 use Rattle.payroll_records.specs.declared.table.TableFault.{TableFault}

@@ -19,9 +19,9 @@ use Rattle.payroll_records.specs.declared.table.TableFault.TheVariants as whole
 use Rattle.payroll_records.specs.CsvRows.{csv_rows}
 use Rattle.payroll_records.specs.Limits.{longest_table}
 use Rattle.payroll_records.specs.Orders.{key_cmp}
-use Rattle.payroll_records.specs.RowViews.{IsBetweenRows, rows_left, ReadsRow}
+use Rattle.payroll_records.specs.private.RowViews.{IsBetweenRows, rows_left, ReadsRow}
 use Rattle.payroll_records.specs.Tables.{AreRecordsOf, BreaksAt, ByItself, IsFirstFault, IsHeader, IsRecordOf, IsTableFaultOrMemory, Repeats, Text, WrongDay, WrongEmployee, WrongMonth, WrongValue, WrongWidth, key_of}
-use Rattle.payroll_records.specs.TableViews.{BreaksIn, IsRowFault, fault_at}
+use Rattle.payroll_records.specs.private.TableViews.{BreaksIn, IsRowFault, fault_at}
 use Rattle.payroll_records.proofs.KeyLemmas.{HasKey, has_key, key_found, key_there, own_more, own_none}
 use Rattle.payroll_records.proofs.OrderLemmas.{key_total}
 

@@ -23,7 +23,8 @@ use Rattle.rising_lists.specs.Places.{IsAt, IsGap, Finds, Misses}
 use Rattle.rising_lists.proofs.Laws.{above_all, at_tail, found, gap_first, gap_tail, misses, put_rising, rising_far, searched}
 use Rattle.payroll_records.specs.Tables.{Text}
 use Rattle.payroll_records.specs.NamedValues.{name_cmp, name_of, place_at, value_at, with_value}
-use Rattle.payroll_records.specs.ValueViews.{IsKeptAs, goes_at, is_before, is_beyond, named_numbers, stands_at}
+use Rattle.payroll_records.specs.KeptValues.{IsKeptAs, named_numbers}
+use Rattle.payroll_records.specs.private.ValueViews.{goes_at, is_before, is_beyond, stands_at}
 use Rattle.payroll_records.specs.declared.values.NamedValue.{NamedValue}
 
 -- each of both lists is there whole

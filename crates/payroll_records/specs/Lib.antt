@@ -2,12 +2,10 @@ pub mod Days
 pub mod Employees
 pub mod Limits
 pub mod NamedValues
-pub mod ValueViews
 pub mod ValueWords
 pub mod Whens
 pub mod Orders
 pub mod CsvRows
-pub mod RowViews
 pub mod Tables
-pub mod TableViews
-pub mod CellViews
+pub mod KeptValues
+pub mod private

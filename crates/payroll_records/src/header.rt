@@ -7,7 +7,7 @@ ghost use Rattle.rising_lists.specs.Keyed.{IsRising};
 ghost use Rattle.rising_lists.specs.Places.{Finds, Misses};
 ghost use Rattle.payroll_records.specs.NamedValues.{name_cmp};
 ghost use Rattle.payroll_records.specs.Tables.{IsHeader, Text, field_of};
-ghost use Rattle.payroll_records.specs.TableViews.{AddsColumn, AreColumns, BeginsHeader, column_name};
+ghost use Rattle.payroll_records.specs.private.TableViews.{AddsColumn, AreColumns, BeginsHeader, column_name};
 
 use crate::MOST_VALUES;
 use csv::ByteRecord;

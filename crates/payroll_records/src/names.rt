@@ -3,7 +3,7 @@ ghost use Rattle.std.specs.Prelude.{◌≡◌, ◌<◌, ◌≤◌, IfOk, IfSome,
 ghost use Rattle.std.specs.List.{insert};
 ghost use Rattle.std.specs.Rc.{rc_slice_items};
 ghost use Rattle.payroll_records.specs.Limits.{most_values};
-ghost use Rattle.payroll_records.specs.ValueViews.{listed};
+ghost use Rattle.payroll_records.specs.KeptValues.{listed};
 
 use pap_tree::Name;
 use std::alloc::{AllocError, Global};

@@ -6,8 +6,8 @@ ghost use Rattle.scaled_decimal.specs.Decimals.{Decimal};
 ghost use Rattle.payroll_records.specs.Limits.{most_values};
 ghost use Rattle.payroll_records.specs.NamedValues.{AreValues};
 ghost use Rattle.payroll_records.specs.Tables.{IsNumberText, IsReadable, IsRecordOf, Supplies, cell_of};
-ghost use Rattle.payroll_records.specs.CellViews.{filled_cells, is_filled};
-ghost use Rattle.payroll_records.specs.TableViews.{AreColumns, IsFirstBroken, IsRowFault};
+ghost use Rattle.payroll_records.specs.private.CellViews.{filled_cells, is_filled};
+ghost use Rattle.payroll_records.specs.private.TableViews.{AreColumns, IsFirstBroken, IsRowFault};
 ghost use Rattle.payroll_records.specs.declared.row.RowFault.TheVariants.{Memory};
 ghost use Rattle.payroll_records.specs.declared.values.NamedValue.{NamedValue};
 

@@ -2,7 +2,7 @@
 ghost use Rattle.std.specs.Prelude.{◌≡◌, IfOk, Some};
 ghost use Rattle.csv.specs.Records.{fields_of};
 ghost use Rattle.payroll_records.specs.CsvRows.{csv_rows};
-ghost use Rattle.payroll_records.specs.RowViews.{IsBetweenRows, ReadsRow, rows_left};
+ghost use Rattle.payroll_records.specs.private.RowViews.{IsBetweenRows, ReadsRow, rows_left};
 
 use csv::{ByteRecord, Reader, ReaderBuilder};
 use std::alloc::{AllocError, Global};

@@ -2,8 +2,8 @@
 ghost use Rattle.std.specs.Prelude.{◌≡◌, ◌↔◌, ◌<◌, ◌≤◌, ℕ, List, [], IfOk, IfErr, Err, MatchResult, alloc_error, length};
 ghost use Rattle.payroll_records.specs.Limits.{longest_table, most_values};
 ghost use Rattle.payroll_records.specs.Tables.{AreRecordsOf, HasOneAnswer, IsTableFaultOrMemory, IsTable};
-ghost use Rattle.payroll_records.specs.RowViews.{IsBetweenRows, rows_left};
-ghost use Rattle.payroll_records.specs.TableViews.{AreColumns, BreaksIn, fault_at};
+ghost use Rattle.payroll_records.specs.private.RowViews.{IsBetweenRows, rows_left};
+ghost use Rattle.payroll_records.specs.private.TableViews.{AreColumns, BreaksIn, fault_at};
 ghost use Rattle.payroll_records.specs.declared.table.TableFault.TheVariants.{Memory};
 
 use crate::header::{Header, read_header};

@@ -3,7 +3,8 @@ ghost use Rattle.std.specs.Prelude.{◌≡◌, ◌↔◌, ◌<◌, ◌≤◌, []
 ghost use Rattle.rising_lists.specs.Places.{Finds, Misses};
 ghost use Rattle.payroll_records.specs.Limits.{most_values};
 ghost use Rattle.payroll_records.specs.NamedValues.{AreValues, name_cmp, name_of, place_at, value_at, with_value};
-ghost use Rattle.payroll_records.specs.ValueViews.{IsKeptAs, goes_at, is_before, is_beyond, named_numbers, stands_at};
+ghost use Rattle.payroll_records.specs.KeptValues.{IsKeptAs, named_numbers};
+ghost use Rattle.payroll_records.specs.private.ValueViews.{goes_at, is_before, is_beyond, stands_at};
 
 use crate::MOST_VALUES;
 use crate::names::Names;
@@ -36,7 +37,7 @@ pub struct Values {
 impl Model for Values {
     ghost use Rattle.std.specs.Prelude.{List};
     ghost use Rattle.payroll_records.specs.NamedValues.{AreValues};
-    ghost use Rattle.payroll_records.specs.ValueViews.{IsKeptAs, listed, named_numbers};
+    ghost use Rattle.payroll_records.specs.KeptValues.{IsKeptAs, listed, named_numbers};
     ghost use Rattle.payroll_records.specs.declared.values.NamedValue.{NamedValue};
 
     ghost Value = { List NamedValue };

@@ -15,8 +15,8 @@ use Rattle.pap_plan.specs.declared.refusal.PlanRefusal.TheVariants as refusals
 use Rattle.plain_words.specs.declared.found.Found.{Found}
 use Rattle.plain_words.specs.Places.{PlanPlace}
 use Rattle.plain_words.specs.Refusals.{IsInPlan, IsInRanges, DeclaresInput, IsPlaceOfUnmatched}
-use Rattle.plain_words.specs.FoundViews.{place_in, place_of, IsOfPlan, IsOfRanges, IsPlaceBeside}
-use Rattle.plain_words.specs.SiteViews.{declares_input}
+use Rattle.plain_words.specs.private.FoundViews.{place_in, place_of, IsOfPlan, IsOfRanges, IsPlaceBeside}
+use Rattle.plain_words.specs.private.SiteViews.{declares_input}
 
 pub in_plan_file : (f : Found) → IsOfPlan f → IsInPlan (place_of f)
 in_plan_file f is = subst (λ k. IsInPlan (place_in k f.at)) (sym is) tt

@@ -32,7 +32,7 @@ use Rattle.plain_words.specs.Helps.{read_help, expression_help, type_help, order
 use Rattle.plain_words.specs.Helps.{range_help, help_of}
 use Rattle.plain_words.specs.Refusals.{IsPlaceOf, BeginsAtRefusal}
 use Rattle.plain_words.specs.States.{state_text, state_help, IsPlaceOfState, SaysState}
-use Rattle.plain_words.specs.FoundViews.{place_of, help_text, HelpsAs}
+use Rattle.plain_words.specs.private.FoundViews.{place_of, help_text, HelpsAs}
 
 shown-append : (a b : List ℕ) → IsUtf8 a → shown_text (a ++ b) ≡ shown_text a ++ shown_text b
 shown-append a b whole =

@@ -4,5 +4,4 @@ pub mod Places
 pub mod Helps
 pub mod Refusals
 pub mod States
-pub mod FoundViews
-pub mod SiteViews
+pub mod private

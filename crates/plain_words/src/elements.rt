@@ -1,7 +1,7 @@
 //! Where the elements of a plan's file are refused.
 ghost use Rattle.std.specs.Prelude.{IfOk, IfSome};
 ghost use Rattle.plain_words.specs.Refusals.{IsPlaceOfFault, IsPlaceOfExcess};
-ghost use Rattle.plain_words.specs.FoundViews.{place_of, HasTag, IsExcessByte};
+ghost use Rattle.plain_words.specs.private.FoundViews.{place_of, HasTag, IsExcessByte};
 
 use crate::found::Found;
 use crate::place::TextFile;

@@ -1,6 +1,6 @@
 //! Where the text of an expression is refused.
 ghost use Rattle.std.specs.Prelude.{IfOk};
-ghost use Rattle.plain_words.specs.FoundViews.{IsOfPlan};
+ghost use Rattle.plain_words.specs.private.FoundViews.{IsOfPlan};
 
 use crate::found::{CHANGED, Found};
 use crate::help::expression_help;

@@ -1,6 +1,6 @@
 //! Where a refusal stands in its files, and what helps.
 ghost use Rattle.std.specs.Prelude.{◌≡◌};
-ghost use Rattle.plain_words.specs.FoundViews.{IsOfPlan, IsOfRanges, place_of, help_text};
+ghost use Rattle.plain_words.specs.private.FoundViews.{IsOfPlan, IsOfRanges, place_of, help_text};
 
 /// One of the two files of a plan.
 #[derive(Clone, Copy)]

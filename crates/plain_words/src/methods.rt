@@ -1,6 +1,6 @@
 //! Where the order of a plan's methods is refused.
 ghost use Rattle.std.specs.Prelude.{IfOk};
-ghost use Rattle.plain_words.specs.FoundViews.{IsOfPlan};
+ghost use Rattle.plain_words.specs.private.FoundViews.{IsOfPlan};
 
 use crate::found::Found;
 use crate::sites::{Source, method_byte};

@@ -5,7 +5,7 @@ ghost use Rattle.plain_words.specs.Lines.{IsOneLine};
 ghost use Rattle.plain_words.specs.Places.{files_of};
 ghost use Rattle.plain_words.specs.Refusals.{IsPlaceOf, BeginsAtRefusal};
 ghost use Rattle.plain_words.specs.Helps.{help_of};
-ghost use Rattle.plain_words.specs.FoundViews.{place_of, IsOfPlan, IsPlaceBeside, HelpsAs};
+ghost use Rattle.plain_words.specs.private.FoundViews.{place_of, IsOfPlan, IsPlaceBeside, HelpsAs};
 
 use crate::elements::find_element;
 use crate::expressions::find_expression;

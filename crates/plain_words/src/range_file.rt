@@ -2,8 +2,8 @@
 ghost use Rattle.std.specs.Prelude.{◌≡◌, ◌≤◌, IfOk, true, false};
 ghost use Rattle.scaled_decimal.specs.Limits.{most_places};
 ghost use Rattle.plain_words.specs.Refusals.{IsPlaceOfLimits};
-ghost use Rattle.plain_words.specs.FoundViews.{place_of, IsOfPlan, IsOfRanges};
-ghost use Rattle.plain_words.specs.SiteViews.{declares_input};
+ghost use Rattle.plain_words.specs.private.FoundViews.{place_of, IsOfPlan, IsOfRanges};
+ghost use Rattle.plain_words.specs.private.SiteViews.{declares_input};
 
 use crate::found::Found;
 use crate::place::TextFile;

@@ -1,6 +1,6 @@
 //! What may fail on inputs within their ranges.
 ghost use Rattle.std.specs.Prelude.{IfOk};
-ghost use Rattle.plain_words.specs.FoundViews.{IsOfPlan};
+ghost use Rattle.plain_words.specs.private.FoundViews.{IsOfPlan};
 
 use crate::found::Found;
 use crate::nodes::write_node;

@@ -3,7 +3,7 @@ ghost use Rattle.std.specs.Prelude.{◌≡◌, ◌++◌, IfOk, codes};
 ghost use Rattle.std.specs.String.{string_bytes};
 ghost use Rattle.plain_words.specs.Lines.{shown_text, IsOneLine, EndsWith};
 ghost use Rattle.plain_words.specs.Places.{files_of, place_in_words, words_at};
-ghost use Rattle.plain_words.specs.FoundViews.{place_of, help_text};
+ghost use Rattle.plain_words.specs.private.FoundViews.{place_of, help_text};
 
 use crate::found::{FileKind, Found};
 use crate::lines::one_line;

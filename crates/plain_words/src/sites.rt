@@ -2,7 +2,7 @@
 ghost use Rattle.std.specs.Prelude.{◌≡◌, IfOk, IfSome, IfNone};
 ghost use Rattle.pap_reader.specs.Trees.{tree_of, ElementTree};
 ghost use Rattle.pap_reader.specs.Elements.{IsElements};
-ghost use Rattle.plain_words.specs.SiteViews.{declares_input};
+ghost use Rattle.plain_words.specs.private.SiteViews.{declares_input};
 
 use crate::group::Group;
 use crate::ordinal::Ordinal;

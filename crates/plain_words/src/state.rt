@@ -4,7 +4,7 @@ ghost use Rattle.std.specs.String.{string_bytes};
 ghost use Rattle.plain_words.specs.Lines.{IsOneLine};
 ghost use Rattle.plain_words.specs.Places.{files_of};
 ghost use Rattle.plain_words.specs.States.{state_text, state_help, IsPlaceOfState, SaysState};
-ghost use Rattle.plain_words.specs.FoundViews.{place_of};
+ghost use Rattle.plain_words.specs.private.FoundViews.{place_of};
 
 use crate::found::Found;
 use crate::place::TextFile;

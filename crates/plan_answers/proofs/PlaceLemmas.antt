@@ -17,7 +17,7 @@ use Rattle.pap_tree.specs.Names.{main_name}
 use Rattle.plan_answers.specs.Refusals.{body_in}
 use Rattle.plan_answers.specs.declared.places.Search.{Search}
 use Rattle.plan_answers.specs.declared.places.Search.TheVariants.{Found, Executes, Left}
-use Rattle.plan_answers.specs.PlaceViews.{IsThere, GoesOn, IsSearched, IsSearchedIn}
+use Rattle.plan_answers.specs.private.PlaceViews.{IsThere, GoesOn, IsSearched, IsSearchedIn}
 
 -- no statement has a number behind those of all
 pub term_past : (b : Body) (n : ℕ) → written b ≤ n → term_at b n ≡ None

@@ -2,6 +2,6 @@ pub mod Answers
 pub mod Fronts
 pub mod Laws
 pub mod Lines
-pub mod PlaceViews
 pub mod Refusals
-pub mod ReplyViews
+pub mod Replies
+pub mod private

@@ -6,7 +6,7 @@ ghost use Rattle.pap_plan.specs.Plans.{flowchart, meaning};
 ghost use Rattle.plan_answers.specs.Lines.{bound_line, range_line, range_lines};
 ghost use Rattle.plan_answers.specs.Refusals.{HasItsPlan};
 ghost use Rattle.plan_answers.specs.Answers.{acceptance, IsRefusal, CheckAnswers};
-ghost use Rattle.plan_answers.specs.ReplyViews.{reply_of};
+ghost use Rattle.plan_answers.specs.Replies.{reply_of};
 
 use crate::refusals::refusal_detail;
 use crate::reply::{Reply, refusal};

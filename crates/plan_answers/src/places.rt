@@ -6,7 +6,7 @@ ghost use Rattle.pap_tree.specs.Term.{term_of};
 ghost use Rattle.pap_tree.specs.Flowchart.{flowchart_of, body_of};
 ghost use Rattle.pap_tree.specs.Statements.{term_at};
 ghost use Rattle.plan_answers.specs.Refusals.{body_in, node_at, spelling_at};
-ghost use Rattle.plan_answers.specs.PlaceViews.{IsSearched, IsSearchedIn};
+ghost use Rattle.plan_answers.specs.private.PlaceViews.{IsSearched, IsSearchedIn};
 
 use pap_tree::{Expr, Method, Name, Place, PlanText, Stmt, find_node, print_expr};
 use std::alloc::{AllocError, Global};

@@ -1,7 +1,7 @@
 //! What is written on a command.
 ghost use Rattle.std.specs.Prelude.{◌≡◌, IfOk};
 ghost use Rattle.plan_answers.specs.Answers.{refusal};
-ghost use Rattle.plan_answers.specs.ReplyViews.{reply_of};
+ghost use Rattle.plan_answers.specs.Replies.{reply_of};
 
 use std::alloc::{AllocError, Global};
 

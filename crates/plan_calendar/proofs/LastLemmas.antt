@@ -13,7 +13,7 @@ use Rattle.payroll_records.specs.declared.day.Day.{Day}
 use Rattle.payroll_records.specs.Orders.{day_cmp}
 use Rattle.payroll_records.proofs.Laws.{day_total}
 use Rattle.plan_calendar.specs.Picking.{Entry, day_of, last_where, pick, pick_before}
-use Rattle.plan_calendar.specs.Views.{last_of_year}
+use Rattle.plan_calendar.specs.private.Views.{last_of_year}
 use Rattle.plan_calendar.proofs.DayLemmas.{greater_back, not_after}
 
 -- a day that isn't after another is of its year or of an earlier one

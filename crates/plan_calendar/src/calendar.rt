@@ -7,7 +7,8 @@ ghost use Rattle.plan_calendar.specs.Picking.{AreEntries, day_of, plan_of, entry
 ghost use Rattle.plan_calendar.specs.Picking.{pick, pick_before};
 ghost use Rattle.plan_calendar.specs.Edits.{EditsMovePicks, PicksLatest};
 ghost use Rattle.plan_calendar.specs.Refusals.{refused_plan};
-ghost use Rattle.plan_calendar.specs.Views.{last_of_year, picked_entry};
+ghost use Rattle.plan_calendar.specs.private.Views.{last_of_year};
+ghost use Rattle.plan_calendar.specs.Picks.{picked_entry};
 
 use payroll_records::Day;
 use std::alloc::Global;

@@ -13,7 +13,7 @@ use Rattle.pap_reader.specs.Values.{Quoted, closing_quote, byte, IsByte, NoByte,
 use Rattle.pap_reader.specs.Tags.{Attribute, Tag, Front, IsFrontOf, IsAttribute, Ending, IsTag, opening, closing}
 use Rattle.pap_reader.specs.Skipped.{Past, here, NoPast}
 use Rattle.pap_reader.specs.Attributes.{value_of}
-use Rattle.pap_reader.specs.Views.{is_code}
+use Rattle.pap_reader.specs.private.Views.{is_code}
 use Rattle.pap_reader.proofs.Escapes.{found}
 use Rattle.pap_reader.proofs.Passing.{past_later, same_past}
 use Rattle.pap_reader.proofs.Lexing.{same_front, FirstAttribute, ClosesAs, unended}

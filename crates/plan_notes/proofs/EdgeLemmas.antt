@@ -9,7 +9,7 @@ use Rattle.pap_reader.proofs.Laws as reader
 use Rattle.plan_notes.specs.declared.notes.Notes.{Notes}
 use Rattle.plan_notes.specs.Edges.{Edge, edges_by, edges_of, HasEdges}
 use Rattle.plan_notes.specs.Marks.{edge_of}
-use Rattle.plan_notes.specs.ScanViews.{Takes, Stops, HasRead}
+use Rattle.plan_notes.specs.private.ScanViews.{Takes, Stops, HasRead}
 
 pub edges_of-append : (a b : List PlacedTag) → edges_of (a ++ b) ≡ edges_of a ++ edges_of b
 edges_of-append [] b = refl

@@ -7,7 +7,7 @@ use Rattle.std.proofs.lemmas.List.Sorted.{IsNonDecreasingBy-push}
 use Rattle.plan_notes.specs.declared.notes.Notes.{Notes}
 use Rattle.plan_notes.specs.declared.tag.Mark.{Mark}
 use Rattle.plan_notes.specs.Marks.{HaveInTurn}
-use Rattle.plan_notes.specs.ScanViews.{AreKept}
+use Rattle.plan_notes.specs.private.ScanViews.{AreKept}
 
 -- the same tags begin before a later place
 pub kept_later : (notes : Notes) (first place later : ℕ) → AreKept notes first place → place ≤ later

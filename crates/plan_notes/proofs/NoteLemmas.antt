@@ -17,9 +17,10 @@ use Rattle.plan_notes.specs.declared.tag.Mark.{Mark}
 use Rattle.plan_notes.specs.Edges.{edges_by}
 use Rattle.plan_notes.specs.Marks.{edge_of, HaveInTurn}
 use Rattle.plan_notes.specs.Walks.{comments_at}
-use Rattle.plan_notes.specs.Contents.{Token, remark, tagged, comment_with, IsComment, IsToken, Tells, nothing, white, token, HasTokens, Item, line, place, items_by, items_of, root_by, root_of}
+use Rattle.plan_notes.specs.Contents.{Token, remark, tagged, IsComment, IsToken, Tells, nothing, white, token, HasTokens, Item, line, place, items_by, items_of, root_by, root_of}
+use Rattle.plan_notes.specs.private.Contents.{comment_with}
 use Rattle.plan_notes.specs.Notes.{lines_of, items_at, noted, SaysOfRoot, HasNotes}
-use Rattle.plan_notes.specs.ScanViews.{AreKept, Stops, SameRoot, KeepsPassed, KeepsRootBy, TellsMore, HasTold}
+use Rattle.plan_notes.specs.private.ScanViews.{AreKept, Stops, SameRoot, KeepsPassed, KeepsRootBy, TellsMore, HasTold}
 use Rattle.plan_notes.proofs.EdgeLemmas.{ended}
 
 -- ---- the comments of marks

@@ -6,7 +6,7 @@ use Rattle.std.proofs.lemmas.List.{append-nil, append_assoc}
 use Rattle.std.proofs.lemmas.List.Sums.{fold_push}
 use Rattle.std.proofs.lemmas.Str.{encodes-append, length-le-encodes}
 use Rattle.plan_notes.specs.Lines.{is_some_text}
-use Rattle.plan_notes.specs.LineViews.{gap_text}
+use Rattle.plan_notes.specs.private.LineViews.{gap_text}
 
 -- a line so far, and whether a gap follows it
 pub record Line : Type 0 where

@@ -1,5 +1,5 @@
 -- What a plan's file has beside white space, in its order: comments and tags.
-use Rattle.std.specs.Prelude.{◌≡◌, ℕ, ◌-◌, true, List, [], ◌∷◌, ◌++◌, length, map, filter, codes}
+use Rattle.std.specs.Prelude.{◌≡◌, ℕ, ◌-◌, true, List, [], ◌∷◌, length, map, filter, codes}
 use Rattle.std.specs.List.{fold, flat_map}
 use Rattle.pap_tree.specs.White.{is_white}
 use Rattle.pap_reader.specs.declared.element.Element.TheVariants.{Pap}
@@ -14,10 +14,6 @@ use Rattle.plan_notes.specs.Lines.{is_some_text, line_text}
 pub data Token : Type 0 where
   remark : List ℕ → Token
   tagged : PlacedTag → Token
-
--- a comment with these bytes inside
-abbrev pub comment_with : List ℕ → List ℕ
-comment_with inside = codes "<!--" ++ (inside ++ codes "-->")
 
 -- a comment comes first: it ends at the first `-->`
 pub record IsComment (bytes inside rest : List ℕ) : Type 0 where

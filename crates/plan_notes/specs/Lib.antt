@@ -6,6 +6,5 @@ pub mod Contents
 pub mod Notes
 pub mod AttributeBytes
 pub mod TagNames
-pub mod ScanViews
 pub mod Lines
-pub mod LineViews
+pub mod private

@@ -7,9 +7,10 @@ ghost use Rattle.pap_reader.specs.Attributes.{value_of};
 ghost use Rattle.plan_notes.specs.Lines.{line_text};
 ghost use Rattle.plan_notes.specs.Edges.{HasEdges, edge, edges_by};
 ghost use Rattle.plan_notes.specs.Marks.{edge_of, HaveComments};
-ghost use Rattle.plan_notes.specs.Contents.{place, comment_with};
+ghost use Rattle.plan_notes.specs.Contents.{place};
+ghost use Rattle.plan_notes.specs.private.Contents.{comment_with};
 ghost use Rattle.plan_notes.specs.Notes.{noted, SaysOfRoot, HasNotes};
-ghost use Rattle.plan_notes.specs.ScanViews.{AreKept, Finds, Takes, Stops, SameRoot, AddsComment, KeepsPassed, KeepsRoot, KeepsRootBy, TellsMore};
+ghost use Rattle.plan_notes.specs.private.ScanViews.{AreKept, Finds, Takes, Stops, SameRoot, AddsComment, KeepsPassed, KeepsRoot, KeepsRootBy, TellsMore};
 
 use crate::notes::Notes;
 use crate::tag::Mark;

@@ -2,7 +2,7 @@
 ghost use Rattle.std.specs.Prelude.{◌≡◌, ◌++◌, IfOk, OnOk, string_bytes, encode_utf8, encode_utf8_all};
 ghost use Rattle.std.specs.Str.{chars};
 ghost use Rattle.plan_notes.specs.Lines.{is_blank, spaced, line_text};
-ghost use Rattle.plan_notes.specs.LineViews.{gap_text};
+ghost use Rattle.plan_notes.specs.private.LineViews.{gap_text};
 
 use std::alloc::{AllocError, Global};
 

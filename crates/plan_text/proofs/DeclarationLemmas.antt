@@ -12,7 +12,7 @@ use Rattle.plan_text.specs.declared.fault.Spot.TheVariants.{Declared}
 use Rattle.plan_text.specs.declared.fault.PlanFault.{PlanFault}
 use Rattle.plan_text.specs.Sites.{declared_sites, literal_sites}
 use Rattle.plan_text.specs.Plans.{IsDeclaration, AreDeclarations}
-use Rattle.plan_text.specs.Views.{TellsFault, fault_at}
+use Rattle.plan_text.specs.private.Views.{TellsFault, fault_at}
 use Rattle.plan_text.proofs.SiteLemmas.{earlier, later, of_text}
 use Rattle.plan_text.proofs.ReadLemmas.{literal_readable}
 

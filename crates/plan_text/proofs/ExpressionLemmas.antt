@@ -10,7 +10,7 @@ use Rattle.plan_text.specs.declared.fault.PlanFault.{PlanFault}
 use Rattle.plan_text.specs.Sites.{Site, declared_sites, body_sites, routine_sites, sites_of}
 use Rattle.pap_tree.specs.Names.{main_name}
 use Rattle.plan_text.specs.Plans.{AreDeclarations, IsBody, AreRoutines}
-use Rattle.plan_text.specs.Views.{TellsFault}
+use Rattle.plan_text.specs.private.Views.{TellsFault}
 use Rattle.plan_text.proofs.SiteLemmas.{earlier, later}
 use Rattle.plan_text.proofs.ReadLemmas.{declared_readable, body_readable}
 

@@ -13,7 +13,7 @@ use Rattle.plan_text.specs.declared.fault.PlanFault.{PlanFault}
 use Rattle.plan_text.specs.declared.fault.PlanFault.TheVariants as faults
 use Rattle.plan_text.specs.ExprFaults.{IsExprFault}
 use Rattle.plan_text.specs.Sites.{Site, site, IsReadable, IsFirstFault}
-use Rattle.plan_text.specs.Views.{TellsFault, Tells, fault_at}
+use Rattle.plan_text.specs.private.Views.{TellsFault, Tells, fault_at}
 
 -- a fault among the first texts
 first_earlier : (xs ys : List Site) (spot : Spot) (f : ExprFault) → IsFirstFault xs spot f → IsFirstFault (xs ++ ys) spot f

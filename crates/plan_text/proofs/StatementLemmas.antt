@@ -20,7 +20,7 @@ use Rattle.plan_text.specs.declared.fault.PlanFault.{PlanFault}
 use Rattle.plan_text.specs.declared.fault.Spot.TheVariants.{Statement}
 use Rattle.plan_text.specs.Sites.{site, body_sites, IsReadable}
 use Rattle.plan_text.specs.Plans.{IsBody}
-use Rattle.plan_text.specs.Views.{Tells, TellsFault, TellsStatement, IsStatement, IsTest, IsAssignment}
+use Rattle.plan_text.specs.private.Views.{Tells, TellsFault, TellsStatement, IsStatement, IsTest, IsAssignment}
 use Rattle.plan_text.proofs.SiteLemmas.{earlier, later, behind_one}
 use Rattle.plan_text.proofs.ReadLemmas.{body_readable}
 

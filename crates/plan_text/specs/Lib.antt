@@ -2,4 +2,4 @@ pub mod ExprFaults
 pub mod Plans
 pub mod Sites
 pub mod Spots
-pub mod Views
+pub mod private

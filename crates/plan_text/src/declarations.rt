@@ -5,7 +5,7 @@ ghost use Rattle.pap_tree.specs.Declarations.{declared_of, declaration_of};
 ghost use Rattle.pap_reader.specs.Trees.{raw_declaration_of};
 ghost use Rattle.plan_text.specs.Plans.{IsValue, IsDeclaration, AreDeclarations};
 ghost use Rattle.plan_text.specs.Sites.{declared_sites, literal_sites};
-ghost use Rattle.plan_text.specs.Views.{Tells};
+ghost use Rattle.plan_text.specs.private.Views.{Tells};
 
 use crate::PlanFault;
 use crate::fault::{Spot, expr_fault};

@@ -1,7 +1,7 @@
 //! Why a plan's text is not read.
 ghost use Rattle.std.specs.Prelude.{◌≡◌};
 ghost use Rattle.plan_text.specs.declared.fault.PlanFault.TheVariants.{Memory};
-ghost use Rattle.plan_text.specs.Views.{fault_at};
+ghost use Rattle.plan_text.specs.private.Views.{fault_at};
 
 use pap_expr::ExprFault;
 use pap_reader::ReadFault;

@@ -5,7 +5,7 @@ ghost use Rattle.pap_reader.specs.Trees.{tree_of};
 ghost use Rattle.pap_reader.specs.TreeLimits.{IsSmallTree};
 ghost use Rattle.plan_text.specs.Plans.{IsPlan, HasFlowchart, IsPlanFault, IsFaultOrMemory};
 ghost use Rattle.plan_text.specs.Sites.{sites_of};
-ghost use Rattle.plan_text.specs.Views.{Tells};
+ghost use Rattle.plan_text.specs.private.Views.{Tells};
 ghost use Rattle.plan_text.specs.declared.fault.PlanFault.{PlanFault as Fault};
 
 use crate::PlanFault;

@@ -6,7 +6,7 @@ ghost use Rattle.pap_reader.specs.TreeLimits.{raw_written, methods_written};
 ghost use Rattle.pap_tree.specs.Grammar.{Level, Assignment};
 ghost use Rattle.plan_text.specs.Plans.{IsBody, AreRoutines};
 ghost use Rattle.plan_text.specs.Sites.{site, body_sites, routine_sites};
-ghost use Rattle.plan_text.specs.Views.{Tells, TellsStatement, IsAssignment, IsTest};
+ghost use Rattle.plan_text.specs.private.Views.{Tells, TellsStatement, IsAssignment, IsTest};
 ghost use Rattle.plan_text.specs.declared.fault.Spot.TheVariants.{Statement};
 
 use crate::PlanFault;

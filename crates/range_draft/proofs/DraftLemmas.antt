@@ -27,7 +27,7 @@ use Rattle.plan_notes.specs.Walks.{notes_of, marks_left, is_start, behind_start,
 use Rattle.plan_notes.proofs.Laws.{comments_found}
 use Rattle.range_draft.specs.Bounds.{least, greatest, advice}
 use Rattle.range_draft.specs.Draft.{head, table, shown_char, front, comment_line, comment_lines, longest_comment, input_comments, entry_of, declares, none, again, entry, IsDraft}
-use Rattle.range_draft.specs.DraftViews.{texts_of}
+use Rattle.range_draft.specs.private.DraftViews.{texts_of}
 
 -- ---- a line
 

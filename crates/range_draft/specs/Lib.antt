@@ -1,3 +1,3 @@
 pub mod Bounds
 pub mod Draft
-pub mod DraftViews
+pub mod private

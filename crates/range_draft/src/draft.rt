@@ -5,7 +5,7 @@ ghost use Rattle.pap_tree.specs.Limits.{most_inputs};
 ghost use Rattle.pap_reader.specs.Trees.{tree_of, raw_declaration_of};
 ghost use Rattle.limits_file.specs.Limits.{longest_limits};
 ghost use Rattle.range_draft.specs.Draft.{IsDraft, entry_of, is_comment_char, shown_char, front, comment_line, comment_lines, longest_comment, table};
-ghost use Rattle.range_draft.specs.DraftViews.{texts_of};
+ghost use Rattle.range_draft.specs.private.DraftViews.{texts_of};
 
 use crate::bounds::widest;
 use pap_reader::{Elements, RawDeclared};

@@ -39,7 +39,7 @@ use Rattle.book_edits.specs.Books.{runs_of, year_cmp, year_of}
 use Rattle.book_edits.specs.Kept.{kept_key, runs_in}
 use Rattle.book_edits.proofs.Laws.{runs_kept, runs_missed}
 use Rattle.recalc_engine.specs.Jobs.{HasNoOutputs}
-use Rattle.recalc_engine.specs.JobViews.{AdmitsWhatItFills, job_inputs}
+use Rattle.recalc_engine.specs.private.JobViews.{AdmitsWhatItFills, job_inputs}
 use Rattle.recalc_engine.proofs.RowLemmas.{IsRunOn, row_day, row_gap, row_here, run_on}
 
 -- ---- an employee's year

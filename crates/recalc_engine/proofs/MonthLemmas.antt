@@ -18,8 +18,8 @@ use Rattle.book_year.proofs.Laws.{row_of_day, rows_length}
 use Rattle.book_edits.specs.Kept.{HasRuns, runs_in, runs_in_year}
 use Rattle.recalc_engine.specs.declared.months.MonthRow.{MonthRow}
 use Rattle.recalc_engine.specs.MonthRows.{KeyedRow, keyed_row, keyed_rows}
-use Rattle.recalc_engine.specs.MonthViews.{kept_row, kept_rows, rows_kept, rows_kept_in, ArePaired, IsPaired}
-use Rattle.recalc_engine.specs.RowViews.{lent_row}
+use Rattle.recalc_engine.specs.KeptRows.{kept_row, kept_rows, rows_kept, rows_kept_in, ArePaired, IsPaired}
+use Rattle.recalc_engine.specs.LentRows.{lent_row}
 use Rattle.recalc_engine.proofs.RowLemmas.{next}
 
 own_row : (k : YearKey) (o : Option (Entry Accepted)) (earlier : List Earlier) (r : Record) → IsOwn k r → kept_row r (kept (row_of o earlier r)) ≡ keyed_row k (row_of o earlier r)

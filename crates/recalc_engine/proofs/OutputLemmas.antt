@@ -28,10 +28,11 @@ use Rattle.book_year.specs.Kept.{IsBounded}
 use Rattle.book_year.specs.Rows.{Planned, outputs_in, row_filled, row_of, rows}
 use Rattle.book_year.specs.Years.{IsYear}
 use Rattle.book_edits.specs.Books.{YearRuns}
-use Rattle.recalc_engine.specs.BookLaws.{AreAcceptedPlans, HasPlan, IsBook, IsAcceptedPlan}
+use Rattle.recalc_engine.specs.BookLaws.{AreAcceptedPlans, IsBook, IsAcceptedPlan}
+use Rattle.recalc_engine.specs.private.BookLaws.{HasPlan}
 use Rattle.recalc_engine.specs.Contents.{Contents}
 use Rattle.recalc_engine.specs.MonthRows.{keyed_row, keyed_rows, month_rows}
-use Rattle.recalc_engine.specs.MonthViews.{kept_rows, rows_kept, rows_kept_in}
+use Rattle.recalc_engine.specs.KeptRows.{kept_rows, rows_kept, rows_kept_in}
 use Rattle.recalc_engine.specs.RowLaws.{AreNamed, HasBound, HasNames, HaveNames}
 use Rattle.recalc_engine.proofs.RowLemmas.{next}
 

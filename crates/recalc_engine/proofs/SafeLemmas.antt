@@ -34,7 +34,8 @@ use Rattle.book_year.specs.Records.{record_day}
 use Rattle.book_year.specs.Rows.{Job, Planned, Row, outputs_in, row_filled, row_of, rows, year_rows}
 use Rattle.book_year.proofs.Laws.{own_few}
 use Rattle.book_edits.specs.Books.{YearRuns, runs_key, runs_or_none, year_cmp, year_of}
-use Rattle.recalc_engine.specs.BookLaws.{HasKeptValues, HasOwnRuns, HasPlan, IsAcceptedPlan, IsSafeJob, JobsAreSafe}
+use Rattle.recalc_engine.specs.BookLaws.{HasKeptValues, HasOwnRuns, IsAcceptedPlan, IsSafeJob, JobsAreSafe}
+use Rattle.recalc_engine.specs.private.BookLaws.{HasPlan}
 use Rattle.recalc_engine.proofs.JobLemmas.{admits_filled, all_at_key}
 use Rattle.recalc_engine.proofs.OutputLemmas.{all_both, picked_plan}
 use Rattle.recalc_engine.proofs.RowLemmas.{next, row_day}

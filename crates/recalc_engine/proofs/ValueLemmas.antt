@@ -12,7 +12,7 @@ use Rattle.book_year.specs.declared.year.Year.{Year}
 use Rattle.book_edits.specs.Books.{YearRuns}
 use Rattle.book_edits.specs.Kept.{runs_in}
 use Rattle.recalc_engine.specs.BookLaws.{HasKeptValues}
-use Rattle.recalc_engine.specs.ValueViews.{IsYearKept}
+use Rattle.recalc_engine.specs.private.ValueViews.{IsYearKept}
 use Rattle.recalc_engine.proofs.OutputLemmas.{all_both}
 
 pub values_kept : (vs : List NamedValue) (numbers : List Decimal) → numbers ≡ map (λ (v : NamedValue). v.value) vs →

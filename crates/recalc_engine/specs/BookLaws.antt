@@ -1,5 +1,5 @@
 -- What holds of every book, and what follows from it.
-use Rattle.std.specs.Prelude.{◌≡◌, ◌≤◌, List, [], length, Option, Some, None, All, ⊤}
+use Rattle.std.specs.Prelude.{◌≡◌, ◌≤◌, List, [], length, Option, Some, None, All}
 use Rattle.std.specs.List.{AllByRecursion, flat_map}
 use Rattle.std.specs.Option.{option_map}
 use Rattle.rising_lists.specs.Keyed.{at_key, IsRising}
@@ -30,11 +30,6 @@ IsAcceptedPlan p = IsAccepted p.plan p.limits p.meaning
 -- so it is of each plan of a calendar
 abbrev pub AreAcceptedPlans : List (Entry Accepted) → Type 0
 AreAcceptedPlans es = AllByRecursion (λ (e : Entry Accepted). IsAcceptedPlan (plan_of e)) es
-
--- the plan of a day, if there is one, is accepted
-abbrev pub HasPlan : Option (Entry Accepted) → Type 0
-HasPlan None = ⊤
-HasPlan (Some e) = IsAcceptedPlan (plan_of e)
 
 -- each run of the year is its employee's, in its calendar year
 abbrev pub HasOwnRuns : YearRuns → Type 0

@@ -3,11 +3,10 @@ pub mod Contents
 pub mod Edits
 pub mod EditAnswers
 pub mod MonthRows
-pub mod MonthViews
-pub mod RowViews
 pub mod Jobs
-pub mod JobViews
 pub mod BookLaws
 pub mod RunMaps
 pub mod RowLaws
-pub mod ValueViews
+pub mod KeptRows
+pub mod LentRows
+pub mod private

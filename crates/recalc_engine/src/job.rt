@@ -7,7 +7,7 @@ ghost use Rattle.book_year.specs.Records.{record_day};
 ghost use Rattle.book_year.specs.Accepted.{accepted};
 ghost use Rattle.book_edits.specs.Books.{year_cmp, year_of};
 ghost use Rattle.book_edits.specs.Kept.{kept_key};
-ghost use Rattle.recalc_engine.specs.JobViews.{AdmitsWhatItFills, HasInputsOf};
+ghost use Rattle.recalc_engine.specs.private.JobViews.{AdmitsWhatItFills, HasInputsOf};
 
 use book_edits::{place_year, year_of};
 use book_year::{Year, place_run};

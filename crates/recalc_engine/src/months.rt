@@ -1,8 +1,8 @@
 //! A book's runs, one after another.
 ghost use Rattle.std.specs.Prelude.{◌≡◌, length, []};
 ghost use Rattle.std.specs.Iterator.{YieldsFirstBy, item_count};
-ghost use Rattle.recalc_engine.specs.MonthViews.{ArePaired, IsPaired, rows_kept, rows_kept_in};
-ghost use Rattle.recalc_engine.specs.RowViews.{lent_row};
+ghost use Rattle.recalc_engine.specs.KeptRows.{ArePaired, IsPaired, rows_kept, rows_kept_in};
+ghost use Rattle.recalc_engine.specs.LentRows.{lent_row};
 
 use book_year::{Outcome, State, Year};
 use payroll_records::{Day, Key, Record};
@@ -31,7 +31,7 @@ pub struct Months<'a> {
 impl<'a> Model for Months<'a> {
     ghost use Rattle.std.specs.Prelude.{List, ◌++◌};
     ghost use Rattle.recalc_engine.specs.MonthRows.{KeyedRow};
-    ghost use Rattle.recalc_engine.specs.MonthViews.{ArePaired, rows_kept};
+    ghost use Rattle.recalc_engine.specs.KeptRows.{ArePaired, rows_kept};
 
     ghost Value = { List KeyedRow };
 
@@ -81,7 +81,7 @@ struct YearRows<'a> {
 impl<'a> Model for YearRows<'a> {
     ghost use Rattle.std.specs.Prelude.{◌≡◌, List, length};
     ghost use Rattle.recalc_engine.specs.MonthRows.{KeyedRow};
-    ghost use Rattle.recalc_engine.specs.MonthViews.{kept_rows};
+    ghost use Rattle.recalc_engine.specs.KeptRows.{kept_rows};
 
     ghost Value = { List KeyedRow };
 

@@ -2,7 +2,7 @@
 ghost use Rattle.std.specs.Prelude.{All};
 ghost use Rattle.pay_run.specs.Runs.{IsKeptValue};
 ghost use Rattle.recalc_engine.specs.BookLaws.{HasKeptValues};
-ghost use Rattle.recalc_engine.specs.ValueViews.{IsYearKept};
+ghost use Rattle.recalc_engine.specs.private.ValueViews.{IsYearKept};
 
 use book_year::Year;
 use pay_run::each_is_kept;

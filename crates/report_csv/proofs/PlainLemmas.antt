@@ -11,7 +11,7 @@ use Rattle.pap_tree.specs.Names.{is_name, is_word}
 use Rattle.scaled_decimal.specs.Decimals.{Decimal}
 use Rattle.scaled_decimal.specs.NumberTexts.{sign_text, point_text, Spells}
 use Rattle.payroll_records.specs.Employees.{is_employee, is_employee_byte}
-use Rattle.report_csv.specs.Views.{IsPlain}
+use Rattle.report_csv.specs.private.Views.{IsPlain}
 
 both : (a b : Bool) → (a && b) ≡ true → (a ≡ true) × (b ≡ true)
 both true b h = (refl, h)

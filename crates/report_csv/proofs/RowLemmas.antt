@@ -5,7 +5,7 @@ use Rattle.std.specs.List.{AllByRecursion, join_with_byte}
 use Rattle.std.proofs.lemmas.List.{append-nil, length-map}
 use Rattle.csv.specs.Writing.{default_writer, row_text, fields_text, field_text, is_blank}
 use Rattle.report_csv.specs.Reports.{comma, row_line}
-use Rattle.report_csv.specs.Views.{IsPlain}
+use Rattle.report_csv.specs.private.Views.{IsPlain}
 use Rattle.report_csv.proofs.PlainLemmas.{unquoted}
 
 field_plain : (f : List ℕ) → IsPlain f → field_text default_writer f ≡ f

@@ -2,4 +2,4 @@ pub mod Reports
 pub mod ReportTexts
 pub mod TableParts
 pub mod ReportLaws
-pub mod Views
+pub mod private

@@ -1,7 +1,7 @@
 //! What the rows of a run begin with.
 ghost use Rattle.std.specs.Prelude.{◌≡◌, ◌++◌, IfOk};
 ghost use Rattle.report_csv.specs.Reports.{row_fields, row_line, run_front};
-ghost use Rattle.report_csv.specs.Views.{IsPlain};
+ghost use Rattle.report_csv.specs.private.Views.{IsPlain};
 
 use crate::rows::Rows;
 use crate::texts::{day_text, month_text, plan_text};
@@ -20,7 +20,7 @@ pub(crate) struct Front {
 
 impl Model for Front {
     ghost use Rattle.std.specs.Prelude.{ℕ, List, [], ◌∷◌, string_bytes};
-    ghost use Rattle.report_csv.specs.Views.{IsPlain};
+    ghost use Rattle.report_csv.specs.private.Views.{IsPlain};
 
     ghost Value = { List (List ℕ) };
 

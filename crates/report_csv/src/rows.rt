@@ -2,7 +2,7 @@
 ghost use Rattle.std.specs.Prelude.{◌≡◌, ◌<◌, ◌≤◌, ◌++◌, [], IfOk, length, map};
 ghost use Rattle.std.specs.List.{AllByRecursion};
 ghost use Rattle.report_csv.specs.Reports.{row_line};
-ghost use Rattle.report_csv.specs.Views.{IsPlain};
+ghost use Rattle.report_csv.specs.private.Views.{IsPlain};
 
 use csv::{Writer, WriterBuilder};
 use std::alloc::{AllocError, Global};
@@ -17,7 +17,7 @@ pub(crate) struct Rows {
 
 impl Model for Rows {
     ghost use Rattle.std.specs.Prelude.{ℕ, List};
-    ghost use Rattle.report_csv.specs.Views.{IsBetweenRows, written};
+    ghost use Rattle.report_csv.specs.private.Views.{IsBetweenRows, written};
 
     ghost Value = { List ℕ };
 

@@ -3,7 +3,7 @@ ghost use Rattle.std.specs.Prelude.{◌≡◌, IfOk, string_bytes};
 ghost use Rattle.scaled_decimal.specs.PlainTexts.{plain_text};
 ghost use Rattle.payroll_records.specs.Days.{day_text, month_text};
 ghost use Rattle.report_csv.specs.Reports.{plan_text};
-ghost use Rattle.report_csv.specs.Views.{IsPlain};
+ghost use Rattle.report_csv.specs.private.Views.{IsPlain};
 
 use payroll_records::{Day, Month};
 use scaled_decimal::Dec;

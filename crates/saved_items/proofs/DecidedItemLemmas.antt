@@ -21,8 +21,8 @@ use Rattle.payroll_records.specs.declared.record.Record.{Record}
 use Rattle.payroll_records.specs.declared.values.NamedValue.{NamedValue}
 use Rattle.payroll_records.proofs.Laws.{Decided, both, by_iff, true_decided, eq_decided, text_decided, day_spelled_decided, value_word_decided, value_once}
 use Rattle.saved_items.specs.Fronts.{Front, nothing, titled, worked, planning, running, items_in, plans_in, front_text, IsFront}
-use Rattle.saved_items.specs.ItemDecisions.{Item, title, work, plan_count, plan, run_count, run, item_text, Fits, with_item, IsLater, IsBeyond, Goes, all_of, Ends}
-use Rattle.saved_items.specs.LineViews.{Misses, is_space, IsLine}
+use Rattle.saved_items.specs.private.ItemDecisions.{Item, title, work, plan_count, plan, run_count, run, item_text, Fits, with_item, IsLater, IsBeyond, Goes, all_of, Ends}
+use Rattle.saved_items.specs.private.LineViews.{Misses, is_space, IsLine}
 use Rattle.saved_items.specs.SavedBooks.{SavedPlan, Saved, saved_plan, IsRun, IsValue, line_of, day_word, value_word, title_words, work_words, plan_words, plan_text, run_words, run_text, end_text}
 use Rattle.saved_items.specs.Texts.{Stop, TextSays}
 use Rattle.saved_items.proofs.DayLemmas.{day_spells}

@@ -5,10 +5,10 @@ use Rattle.std.specs.Str.{bytes_eq}
 use Rattle.std.proofs.lemmas.Bool.{false≢true}
 use Rattle.std.proofs.lemmas.Slice.Eq.{bytes_eq-Decides}
 use Rattle.payroll_records.specs.Tables.{Text}
-use Rattle.saved_items.specs.ItemDecisions.{all_of, Ends}
-use Rattle.saved_items.specs.ItemViews.{front_at, front_in, IsComplete, EndsWith}
+use Rattle.saved_items.specs.private.ItemDecisions.{all_of, Ends}
+use Rattle.saved_items.specs.private.ItemViews.{front_at, front_in, IsComplete, EndsWith}
 use Rattle.saved_items.specs.SavedBooks.{Saved, end_text}
-use Rattle.saved_items.specs.Views.{saved_in}
+use Rattle.saved_items.specs.ItemFaults.{saved_in}
 use Rattle.saved_items.specs.declared.front.Front.{Front}
 use Rattle.saved_items.specs.declared.front.Stage.{Stage}
 use Rattle.saved_items.specs.declared.front.Stage.TheVariants as stage

@@ -9,7 +9,7 @@ use Rattle.std.proofs.lemmas.List.{take-append-drop, take_all, take_rest}
 use Rattle.std.proofs.lemmas.List.Quantifiers.{position-Some}
 use Rattle.std.proofs.lemmas.List.Sums.{fails_before_first}
 use Rattle.payroll_records.specs.Tables.{Text}
-use Rattle.saved_items.specs.LineViews.{Misses, IsLine, texts}
+use Rattle.saved_items.specs.private.LineViews.{Misses, IsLine, texts}
 
 abbrev is_feed : ℕ → Bool
 is_feed b = b == 10

@@ -12,7 +12,7 @@ use Rattle.payroll_records.specs.Tables.{Text, key_of}
 use Rattle.payroll_records.specs.declared.record.Record.{Record}
 use Rattle.payroll_records.proofs.Laws.{day_total, key_total}
 use Rattle.saved_items.specs.Fronts.{Front, nothing, titled, worked, planning, running, items_in, front_text, IsFront}
-use Rattle.saved_items.specs.ItemDecisions.{Item, title, work, plan_count, plan, run_count, run, item_text, Fits, with_item}
+use Rattle.saved_items.specs.private.ItemDecisions.{Item, title, work, plan_count, plan, run_count, run, item_text, Fits, with_item}
 use Rattle.saved_items.specs.SavedBooks.{SavedPlan, day_of, IsRun, title_text, work_text, plan_count_text, head_text, plan_text, run_count_text, run_text}
 use Rattle.saved_items.proofs.ItemLemmas.{fit_once}
 

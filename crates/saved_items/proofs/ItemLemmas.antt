@@ -8,10 +8,10 @@ use Rattle.payroll_records.specs.declared.day.Day.{Day}
 use Rattle.payroll_records.specs.declared.record.Record.{Record}
 use Rattle.payroll_records.proofs.Laws.{same_record}
 use Rattle.saved_items.specs.Fronts.{Front, nothing, titled, worked, planning, running}
-use Rattle.saved_items.specs.ItemDecisions.{Item, title, work, plan_count, plan, run_count, run, item_text, Fits}
+use Rattle.saved_items.specs.private.ItemDecisions.{Item, title, work, plan_count, plan, run_count, run, item_text, Fits}
 use Rattle.saved_items.specs.SavedBooks.{SavedPlan, IsRun, line_of, day_word, value_word, work_words, plan_words, plan_text, run_words, run_text}
 use Rattle.saved_items.proofs.DayLemmas.{day_word_once}
-use Rattle.saved_items.specs.LineViews.{is_space}
+use Rattle.saved_items.specs.private.LineViews.{is_space}
 use Rattle.saved_items.proofs.LineLemmas.{AreWords, cut_once, join_misses, split_join}
 use Rattle.saved_items.proofs.NumberLemmas.{whole_once}
 use Rattle.saved_items.proofs.WordLemmas.{values_once, work_are_words, plan_count_are_words, run_count_are_words, plan_are_words, run_are_words}

@@ -6,7 +6,7 @@ use Rattle.std.proofs.lemmas.Bool.{cases_eq}
 use Rattle.std.proofs.lemmas.Bool.Decides.{nat_tests}
 use Rattle.std.proofs.lemmas.List.Splits.{slice_split-cons_no, join_with_byte-slice_split}
 use Rattle.payroll_records.specs.Tables.{Text}
-use Rattle.saved_items.specs.LineViews.{Misses, is_space}
+use Rattle.saved_items.specs.private.LineViews.{Misses, is_space}
 use Rattle.saved_items.specs.SavedBooks.{line_of}
 
 -- a byte that stands in a word: no space, no line feed

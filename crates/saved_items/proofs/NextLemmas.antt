@@ -11,11 +11,11 @@ use Rattle.payroll_records.specs.declared.day.Day.{Day}
 use Rattle.payroll_records.specs.declared.record.Record.{Record}
 use Rattle.plan_calendar.specs.Limits.{most_plans}
 use Rattle.saved_items.specs.Fronts.{nothing, titled, worked, planning, running}
-use Rattle.saved_items.specs.ItemDecisions.{Item, title, work, plan_count, plan, run_count, run, item_text, Fits, IsLater, IsBeyond}
-use Rattle.saved_items.specs.ItemViews.{HasTexts, HasNoTexts}
-use Rattle.saved_items.specs.LineViews.{Misses, is_space, IsLine}
+use Rattle.saved_items.specs.private.ItemDecisions.{Item, title, work, plan_count, plan, run_count, run, item_text, Fits, IsLater, IsBeyond}
+use Rattle.saved_items.specs.private.ItemViews.{HasTexts, HasNoTexts}
+use Rattle.saved_items.specs.private.LineViews.{Misses, is_space, IsLine}
 use Rattle.saved_items.specs.SavedBooks.{SavedPlan, IsWork, IsRun, line_of, day_word, value_word, title_words, work_words, plan_words, run_words, plan_text, run_text}
-use Rattle.saved_items.specs.Views.{plan_in}
+use Rattle.saved_items.specs.ItemFaults.{plan_in}
 use Rattle.saved_items.specs.declared.item_words.PlanLine.{PlanLine}
 use Rattle.saved_items.specs.declared.items.PlanItem.{PlanItem}
 use Rattle.saved_items.proofs.DayLemmas.{day_word_once}

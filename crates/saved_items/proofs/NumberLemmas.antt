@@ -18,7 +18,7 @@ use Rattle.scaled_decimal.specs.NumberTexts.{sign_text, Spells}
 use Rattle.scaled_decimal.specs.Decimals.{decimal, numerator_of}
 use Rattle.scaled_decimal.specs.PlainTexts.{digit_byte, plain_text, whole_text}
 use Rattle.scaled_decimal.proofs.Laws.{number_once, plain_text_spells, whole_some}
-use Rattle.saved_items.specs.NumberViews.{BeginsNumber}
+use Rattle.saved_items.specs.private.NumberViews.{BeginsNumber}
 
 -- a whole number that isn't below 0 is its digits
 pub whole_plain : (n : ℕ) → plain_text (decimal (pos n) 0) ≡ whole_text n

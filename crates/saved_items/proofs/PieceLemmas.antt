@@ -9,7 +9,8 @@ use Rattle.scaled_decimal.specs.PlainTexts.{plain_text}
 use Rattle.payroll_records.specs.NamedValues.{name_of}
 use Rattle.payroll_records.specs.Tables.{Text}
 use Rattle.payroll_records.specs.declared.values.NamedValue.{NamedValue}
-use Rattle.saved_items.specs.SavedBooks.{value_word, values_text}
+use Rattle.saved_items.specs.SavedBooks.{value_word}
+use Rattle.saved_items.specs.private.SavedBooks.{values_text}
 
 pub five_pieces : (a v w x y z : List ℕ) {b c d e f : List ℕ} → b ≡ a ++ v → c ≡ b ++ w → d ≡ c ++ x → e ≡ d ++ y →
     f ≡ e ++ z → f ≡ a ++ (v ++ (w ++ (x ++ (y ++ z))))

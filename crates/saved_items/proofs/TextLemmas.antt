@@ -5,7 +5,7 @@ use Rattle.std.proofs.lemmas.Bool.{cases_lt}
 use Rattle.payroll_records.specs.Tables.{Text}
 use Rattle.payroll_records.specs.declared.record.Record.{Record}
 use Rattle.saved_items.specs.Fronts.{Front, items_in, plans_in, front_text, IsFront}
-use Rattle.saved_items.specs.ItemDecisions.{Item, run, item_text, Fits, with_item, Goes, all_of, Ends}
+use Rattle.saved_items.specs.private.ItemDecisions.{Item, run, item_text, Fits, with_item, Goes, all_of, Ends}
 use Rattle.saved_items.specs.SavedBooks.{SavedPlan, Saved, IsSaved, IsText, head_text, plan_text, run_count_text, run_text, end_text, saved_text}
 use Rattle.saved_items.specs.Texts.{Stop, StopsAt, TextSays}
 use Rattle.saved_items.proofs.FrontLemmas.{step, fronts_once, sound_more, items_more, text_more}

@@ -20,7 +20,7 @@ use Rattle.payroll_records.specs.Tables.{Text}
 use Rattle.payroll_records.specs.ValueWords.{IsValueWord}
 use Rattle.payroll_records.specs.declared.values.NamedValue.{NamedValue}
 use Rattle.payroll_records.proofs.Laws.{value_once}
-use Rattle.saved_items.specs.LineViews.{texts}
+use Rattle.saved_items.specs.private.LineViews.{texts}
 use Rattle.saved_items.specs.SavedBooks.{IsValue, value_word}
 use Rattle.saved_items.proofs.FrontLemmas.{all_push}
 use Rattle.saved_items.proofs.WordLemmas.{value_given}

@@ -13,7 +13,7 @@ use Rattle.payroll_records.specs.declared.day.Day.{Day}
 use Rattle.payroll_records.specs.declared.record.Record.{Record}
 use Rattle.payroll_records.specs.declared.values.NamedValue.{NamedValue}
 use Rattle.payroll_records.proofs.Laws.{days_once, same_record}
-use Rattle.saved_items.specs.LineViews.{texts, is_space}
+use Rattle.saved_items.specs.private.LineViews.{texts, is_space}
 use Rattle.saved_items.specs.SavedBooks.{IsRun, day_word, value_word, plan_words, run_words}
 use Rattle.saved_items.proofs.DayLemmas.{day_spells}
 use Rattle.saved_items.proofs.LineLemmas.{split_join}

@@ -79,10 +79,6 @@ day_word d = day_text d.year d.month d.day
 abbrev pub value_word : NamedValue → Text
 value_word v = v.name ++ (codes "=" ++ plain_text v.value)
 
--- value words, each with a space before it
-abbrev pub values_text : List NamedValue → Text
-values_text values = flat_map (λ v. codes " " ++ value_word v) values
-
 -- the lines before the plans
 abbrev pub title_words : List Text
 title_words = codes "papbook" ∷ codes "1" ∷ []

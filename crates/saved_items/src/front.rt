@@ -1,8 +1,8 @@
 //! What was read of a saved book so far.
 ghost use Rattle.std.specs.Prelude.{◌≡◌, OnOk};
 ghost use Rattle.saved_items.specs.Fronts.{nothing};
-ghost use Rattle.saved_items.specs.ItemDecisions.{Fits, with_item};
-ghost use Rattle.saved_items.specs.ItemViews.{IsKnown, front_in, item_in};
+ghost use Rattle.saved_items.specs.private.ItemDecisions.{Fits, with_item};
+ghost use Rattle.saved_items.specs.private.ItemViews.{IsKnown, front_in, item_in};
 
 use crate::Items;
 use crate::item::Item;

@@ -2,7 +2,7 @@
 ghost use Rattle.std.specs.Prelude.{◌≡◌, ◌≢◌, ◌^◌, ◌<◌, ◌≤◌, ℕ, [], ◌∷◌, MatchBool, MatchOption};
 ghost use Rattle.scaled_decimal.specs.PlainTexts.{whole_text};
 ghost use Rattle.payroll_records.specs.declared.day.Day.{Day as Date};
-ghost use Rattle.saved_items.specs.LineViews.{texts};
+ghost use Rattle.saved_items.specs.private.LineViews.{texts};
 ghost use Rattle.saved_items.specs.SavedBooks.{IsWork, plan_words, title_words, work_words};
 
 use crate::lines::behind;

@@ -1,7 +1,7 @@
 //! The lines of a saved book and their words.
 ghost use Rattle.std.specs.Prelude.{◌≡◌, ◌≢◌, ◌==◌, List, ◌∷◌, IfOk, MatchOption, position};
 ghost use Rattle.payroll_records.specs.Tables.{Text};
-ghost use Rattle.saved_items.specs.LineViews.{AreWordsOf, Misses, ReadsLine, texts};
+ghost use Rattle.saved_items.specs.private.LineViews.{AreWordsOf, Misses, ReadsLine, texts};
 
 use std::alloc::{AllocError, Global};
 

@@ -4,10 +4,10 @@ ghost use Rattle.rising_lists.specs.Keyed.{IsRising};
 ghost use Rattle.payroll_records.specs.Orders.{day_cmp, key_cmp};
 ghost use Rattle.payroll_records.specs.Tables.{key_of};
 ghost use Rattle.saved_items.specs.Fronts.{IsFront, nothing, titled, worked, planning, running};
-ghost use Rattle.saved_items.specs.ItemDecisions.{Fits, IsBeyond, IsLater};
-ghost use Rattle.saved_items.specs.ItemViews.{HasNoTexts, HasTexts, Reads, ReadsBehind, front_in};
-ghost use Rattle.saved_items.specs.ItemViews.{plans_of};
-ghost use Rattle.saved_items.specs.LineViews.{AreWordsOf};
+ghost use Rattle.saved_items.specs.private.ItemDecisions.{Fits, IsBeyond, IsLater};
+ghost use Rattle.saved_items.specs.private.ItemViews.{HasNoTexts, HasTexts, Reads, ReadsBehind, front_in};
+ghost use Rattle.saved_items.specs.private.ItemViews.{plans_of};
+ghost use Rattle.saved_items.specs.private.LineViews.{AreWordsOf};
 ghost use Rattle.saved_items.specs.SavedBooks.{SavedPlan, day_of};
 
 use crate::PlanItem;

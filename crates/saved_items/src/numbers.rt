@@ -1,7 +1,7 @@
 //! Whole numbers in digits.
 ghost use Rattle.std.specs.Prelude.{◌≡◌, ◌≢◌, ◌^◌, ◌<◌, ℕ, MatchBool, MatchOption};
 ghost use Rattle.scaled_decimal.specs.PlainTexts.{whole_text};
-ghost use Rattle.saved_items.specs.NumberViews.{BeginsNumber};
+ghost use Rattle.saved_items.specs.private.NumberViews.{BeginsNumber};
 
 /// The number of 64 bits that a word is the digits of, without leading zeros.
 pub(crate) fn read_number(word: &[u8]) -> Option<u64>

@@ -2,11 +2,11 @@
 ghost use Rattle.std.specs.Prelude.{◌≡◌, ◌+◌, ◌<◌, IfOk, IfErr, MatchBool};
 ghost use Rattle.payroll_records.specs.Tables.{Text};
 ghost use Rattle.saved_items.specs.Fronts.{IsFront, items_in};
-ghost use Rattle.saved_items.specs.ItemDecisions.{Ends};
-ghost use Rattle.saved_items.specs.ItemViews.{EndsWith, IsComplete, front_in};
+ghost use Rattle.saved_items.specs.private.ItemDecisions.{Ends};
+ghost use Rattle.saved_items.specs.private.ItemViews.{EndsWith, IsComplete, front_in};
 ghost use Rattle.saved_items.specs.SavedBooks.{IsText};
 ghost use Rattle.saved_items.specs.Texts.{HasOneAnswer};
-ghost use Rattle.saved_items.specs.Views.{IsItemFaultOrMemory, saved_in};
+ghost use Rattle.saved_items.specs.ItemFaults.{IsItemFaultOrMemory, saved_in};
 
 use crate::front::{Front, Stage};
 use crate::next::next_item;

@@ -4,7 +4,7 @@ ghost use Rattle.std.specs.List.{AllByRecursion, join_with_byte};
 ghost use Rattle.payroll_records.specs.NamedValues.{AreValues};
 ghost use Rattle.payroll_records.specs.declared.record.Record.{Record as Run};
 ghost use Rattle.payroll_records.specs.declared.values.NamedValue.{NamedValue as Value};
-ghost use Rattle.saved_items.specs.LineViews.{AreWordsOf, texts};
+ghost use Rattle.saved_items.specs.private.LineViews.{AreWordsOf, texts};
 ghost use Rattle.saved_items.specs.SavedBooks.{IsRun, IsValue, run_words, value_word};
 
 use crate::lines::behind;

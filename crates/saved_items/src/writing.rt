@@ -4,7 +4,8 @@ ghost use Rattle.std.specs.List.{join_with_byte};
 ghost use Rattle.scaled_decimal.specs.PlainTexts.{plain_text, whole_text};
 ghost use Rattle.saved_items.specs.SavedBooks.{day_word, end_text, head_text, line_of, plan_text};
 ghost use Rattle.saved_items.specs.SavedBooks.{run_count_text, run_text, run_words, saved_plan};
-ghost use Rattle.saved_items.specs.SavedBooks.{plan_words, values_text, work_text};
+ghost use Rattle.saved_items.specs.SavedBooks.{plan_words, work_text};
+ghost use Rattle.saved_items.specs.private.SavedBooks.{values_text};
 
 use pap_tree::Name;
 use payroll_records::{Day, Record, Values};

@@ -9,11 +9,12 @@ use Rattle.scaled_decimal.specs.declared.rounding.Mode.{Mode}
 use Rattle.scaled_decimal.specs.Decimals.{Decimal, decimal, numerator_of, scale_of, ten_to, IsRescaled, IsQuotient}
 use Rattle.scaled_decimal.specs.ExactQuotients.{IsPlainDivisor, IsExactQuotient}
 use Rattle.scaled_decimal.specs.Limits.{most_places}
-use Rattle.scaled_decimal.specs.RoundedDecimals.{quotient, quotient_is, rescaled, rescaled_is}
+use Rattle.scaled_decimal.specs.RoundedDecimals.{quotient, rescaled}
+use Rattle.scaled_decimal.specs.RoundedDecimals.{quotient_is, rescaled_is}
 use Rattle.scaled_decimal.specs.ShortenedDecimals.{exact_quotient}
 use Rattle.scaled_decimal.proofs.ExactLemmas.{shortened_quotient}
 use Rattle.scaled_decimal.specs.NumberTexts.{spelled, Spells, SpellsNone}
-use Rattle.scaled_decimal.specs.TextParts.{IsSignSplit, IsDigitSplit}
+use Rattle.scaled_decimal.specs.private.TextParts.{IsSignSplit, IsDigitSplit}
 use Rattle.scaled_decimal.proofs.NumberLemmas.{spells, spells_once, ends_at_sign, ends_at_point, ends_in_places, whole_number, number_with_places}
 -- powers of ten: up to 10^37, above 0, multiplied
 pub use Rattle.scaled_decimal.proofs.PowerLemmas.{power_le, power_bound, ten_some, ten_not_zero, ten_add}

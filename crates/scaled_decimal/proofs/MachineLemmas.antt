@@ -5,7 +5,7 @@ use Rattle.std.proofs.lemmas.Int.{ints, to_z-of_z, quot_fits, fits_signed_from_a
 use Rattle.scaled_decimal.specs.declared.rounding.Mode.{Mode}
 use Rattle.scaled_decimal.specs.laws.IntegerLemmas.{abs_sub}
 use Rattle.scaled_decimal.specs.Limits.{IsWithinLimit}
-use Rattle.scaled_decimal.specs.RoundingDecision.{moves_away}
+use Rattle.scaled_decimal.specs.private.RoundingDecision.{moves_away}
 use Rattle.scaled_decimal.specs.laws.RoundingLemmas.{is_odd, part_bound, left_over}
 
 -- a number within the limit fits 128 bits

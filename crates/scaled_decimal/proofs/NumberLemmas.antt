@@ -7,7 +7,7 @@ use Rattle.std.proofs.Math.Seq.{take-append_seam}
 use Rattle.std.proofs.lemmas.Bool.{cases_lt}
 use Rattle.scaled_decimal.specs.Decimals.{Decimal}
 use Rattle.scaled_decimal.specs.NumberTexts.{sign_text, point_text, IsNumber, spelled, Spells, SpellsNone, IsBeginning, IsLongestFront}
-use Rattle.scaled_decimal.specs.TextParts.{NoDigitFirst, NotFirst, IsSignSplit, IsDigitSplit}
+use Rattle.scaled_decimal.specs.private.TextParts.{NoDigitFirst, NotFirst, IsSignSplit, IsDigitSplit}
 
 -- one digit more
 AllDigits_push : (ds : List ℕ) (b : ℕ) → AllDigits 10 ds → digit_value b < 10 → AllDigits 10 (ds ++ (b ∷ []))

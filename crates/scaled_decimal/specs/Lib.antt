@@ -6,10 +6,9 @@ pub mod NumberTexts
 pub mod PlainTexts
 pub mod RoundedDecimals
 pub mod Rounding
-pub mod RoundingDecision
 pub mod ShortenedDecimals
 pub mod Shortening
-pub mod TextParts
 pub mod WholeNumbers
 pub mod WorkingNumbers
 pub mod laws
+pub mod private

@@ -17,10 +17,3 @@ IsWithinLimit n = unsigned_abs n ≤ limit
 pub record IsKept (d : Decimal) : Type 0 where
   pub numerator : IsWithinLimit (numerator_of d)
   pub scale : scale_of d ≤ most_places
-
--- the most places with their point, and the longest plain text: a sign, 39 digits of 128 bits, and those places
-abbrev pub longest_places : ℕ
-longest_places = 31
-
-abbrev pub longest_text : ℕ
-longest_text = 71

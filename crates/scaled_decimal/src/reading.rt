@@ -4,7 +4,7 @@ ghost use Rattle.std.specs.Option.{SomeIff};
 ghost use Rattle.std.specs.Str.Parse.{AllDigits, digits_value_after};
 ghost use Rattle.scaled_decimal.specs.Decimals.{Decimal};
 ghost use Rattle.scaled_decimal.specs.NumberTexts.{IsNumber, signed, Spells, SpellsNone, IsLongestFront, HasManyPlaces, IsWide};
-ghost use Rattle.scaled_decimal.specs.TextParts.{NoDigitFirst, NotFirst, IsSignSplit, IsDigitSplit};
+ghost use Rattle.scaled_decimal.specs.private.TextParts.{NoDigitFirst, NotFirst, IsSignSplit, IsDigitSplit};
 ghost use Rattle.scaled_decimal.specs.Limits.{IsKept, IsWithinLimit, limit};
 
 use crate::decimal::Dec;

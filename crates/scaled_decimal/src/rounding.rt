@@ -1,7 +1,7 @@
 //! Rounding a quotient to a whole number.
 ghost use Rattle.std.specs.Prelude.{◌≡◌, ◌≢◌, pos, ◌<ℤ◌, int_div};
 ghost use Rattle.scaled_decimal.specs.Rounding.{Rounds, RoundsPositive, EachQuotientHasOneRounding};
-ghost use Rattle.scaled_decimal.specs.RoundingDecision.{moves_away};
+ghost use Rattle.scaled_decimal.specs.private.RoundingDecision.{moves_away};
 ghost use Rattle.scaled_decimal.specs.Limits.{IsWithinLimit};
 
 /// How a quotient that lies between two whole numbers is rounded, as in `java.math.RoundingMode`.

@@ -2,7 +2,8 @@
 ghost use Rattle.std.specs.Prelude.{◌≡◌, ◌+◌, ◌/◌, ◌^◌, ◌<◌, ◌≤◌, List, [], ◌∷◌, ◌++◌, length, OnOk, OnErr};
 ghost use Rattle.scaled_decimal.specs.NumberTexts.{sign_text, point_text};
 ghost use Rattle.scaled_decimal.specs.PlainTexts.{EachPlainTextSpellsItsDecimal, plain_text, whole_text, last_digits};
-ghost use Rattle.scaled_decimal.specs.Limits.{most_places, longest_places, longest_text};
+ghost use Rattle.scaled_decimal.specs.Limits.{most_places};
+ghost use Rattle.scaled_decimal.specs.private.Limits.{longest_places, longest_text};
 
 use crate::decimal::Dec;
 use std::alloc::{AllocError, Global};
@@ -60,7 +61,7 @@ struct BackText {
 
 impl Model for BackText {
     ghost use Rattle.std.specs.Prelude.{◌≤◌, List, ℕ, drop};
-    ghost use Rattle.scaled_decimal.specs.Limits.{longest_text};
+    ghost use Rattle.scaled_decimal.specs.private.Limits.{longest_text};
 
     ghost Value = { List ℕ };
 

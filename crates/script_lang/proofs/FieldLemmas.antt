@@ -7,7 +7,7 @@ use Rattle.std.proofs.lemmas.Bool.{false≢true}
 use Rattle.payroll_records.specs.Tables.{Text}
 use Rattle.script_lang.specs.Fields.{Field, IsGood, fault_of, employee, month, day, day_in, value, new_name}
 use Rattle.script_lang.specs.Lines.{Verb, takes, fields_of, IsFirstFault}
-use Rattle.script_lang.specs.Views.{BreaksIn, IsFaultOf}
+use Rattle.script_lang.specs.private.Views.{BreaksIn, IsFaultOf}
 use Rattle.script_lang.specs.declared.fault.LineFault.{LineFault}
 use Rattle.script_lang.specs.declared.fault.LineFault.TheVariants as fault
 

@@ -13,7 +13,7 @@ use Rattle.payroll_records.specs.declared.values.NamedValue.{NamedValue}
 use Rattle.payroll_records.proofs.Laws.{cut_before, given_apart, inserted, no_words, none_of_differ, one_more, value_count}
 use Rattle.script_lang.specs.Fields.{IsGood, value, new_name, name_in, value_fields}
 use Rattle.script_lang.specs.Lines.{IsFirstFault}
-use Rattle.script_lang.specs.Views.{texts}
+use Rattle.script_lang.specs.private.Views.{texts}
 use Rattle.script_lang.specs.declared.fault.LineFault.TheVariants as fault
 use Rattle.script_lang.proofs.FieldLemmas.{first_here, first_later, first_behind}
 

@@ -13,7 +13,7 @@ use Rattle.payroll_records.proofs.Laws.{month_numbers, day_numbers}
 use Rattle.script_lang.specs.Fields.{fault_of, employee, month, day, day_in, time_field, value_fields}
 use Rattle.script_lang.specs.Lines as lines
 use Rattle.script_lang.specs.Lines.{IsFirstFault, IsDayWord, IsOfPlan, IsDrop, IsFileMonth}
-use Rattle.script_lang.specs.Views.{Breaks, BreaksIn, IsFaultOf, texts}
+use Rattle.script_lang.specs.private.Views.{Breaks, BreaksIn, IsFaultOf, texts}
 use Rattle.script_lang.specs.Words.{is_file}
 use Rattle.script_lang.specs.declared.fault.LineFault.{LineFault}
 use Rattle.script_lang.specs.declared.fault.LineFault.TheVariants as fault

@@ -3,4 +3,4 @@ pub mod Commands
 pub mod Fields
 pub mod Limits
 pub mod Lines
-pub mod Views
+pub mod private

@@ -4,7 +4,7 @@ ghost use Rattle.payroll_records.specs.Tables.{Text};
 ghost use Rattle.script_lang.specs.Commands.{asked_of};
 ghost use Rattle.script_lang.specs.Lines as lines;
 ghost use Rattle.script_lang.specs.Lines.{Ask, HasOneAnswer, IsLine, IsOfFile, IsOfPlan, IsOfRun, IsLineFaultOrMemory};
-ghost use Rattle.script_lang.specs.Views.{Answers, IsFaultOf, texts};
+ghost use Rattle.script_lang.specs.private.Views.{Answers, IsFaultOf, texts};
 
 use crate::run::{read_day, read_employee, read_month, read_record, read_when};
 use crate::words::{Verb, file, read_verb, words};

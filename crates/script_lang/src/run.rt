@@ -10,7 +10,7 @@ ghost use Rattle.script_lang.specs.Fields as field;
 ghost use Rattle.script_lang.specs.Fields.{time_field, value_fields};
 ghost use Rattle.script_lang.specs.Lines as lines;
 ghost use Rattle.script_lang.specs.Lines.{IsDayWord, IsOfRecord};
-ghost use Rattle.script_lang.specs.Views.{Breaks, BreaksIn, IsFaultOf, texts};
+ghost use Rattle.script_lang.specs.private.Views.{Breaks, BreaksIn, IsFaultOf, texts};
 
 use crate::LineFault;
 use payroll_records::{

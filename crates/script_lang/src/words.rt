@@ -3,7 +3,7 @@ ghost use Rattle.std.specs.Prelude.{◌≡◌, ◌≢◌, false, IfOk, IsTrue, M
 ghost use Rattle.std.specs.List.{list_all};
 ghost use Rattle.script_lang.specs.Lines as lines;
 ghost use Rattle.script_lang.specs.Lines.{text_of};
-ghost use Rattle.script_lang.specs.Views.{texts, verb_of};
+ghost use Rattle.script_lang.specs.private.Views.{texts, verb_of};
 ghost use Rattle.script_lang.specs.Words.{is_blank, is_file, is_visible, words_of};
 
 use std::alloc::{AllocError, Global};

@@ -8,7 +8,7 @@ use Rattle.script_steps.specs.Steps.{Standing}
 use Rattle.script_steps.specs.StepClauses.{IsAnswered, IsOutOfMemory, IsUnfinished, IsBroken}
 use Rattle.script_steps.specs.declared.stop.LineStop.{LineStop}
 use Rattle.script_steps.specs.declared.stop.LineStop.TheVariants.{File, Write, Memory}
-use Rattle.script_run.specs.RunViews.{IsDelivered}
+use Rattle.script_run.specs.private.RunViews.{IsDelivered}
 
 -- of a sink that shows nothing
 abbrev pub unseen : OutsideShown → OutsideShown

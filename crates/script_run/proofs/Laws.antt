@@ -7,7 +7,7 @@ use Rattle.outside.specs.Told.{FileMap}
 use Rattle.script_steps.specs.Steps.{Standing, Answer, AreThere, IsStep}
 use Rattle.script_steps.specs.StepLaws.{LacksAFile}
 use Rattle.script_steps.proofs.Laws as step
-use Rattle.script_run.specs.RunViews.{Follow, empty_session, with_answer}
+use Rattle.script_run.specs.private.RunViews.{Follow, empty_session, with_answer}
 use Rattle.script_run.specs.Transcripts.{Session, lines_of, IsHalted, IsSession}
 use Rattle.script_run.specs.TranscriptLaws.{ScriptsHaveATranscript, ScriptsHaveOneTranscript}
 use Rattle.script_run.specs.RunClauses.{IsFrontOfSession}

@@ -6,7 +6,7 @@ use Rattle.std.specs.Str.Lines.{lines_of_parts, strip_carriage_return}
 use Rattle.std.proofs.lemmas.List.{append-nil}
 use Rattle.std.proofs.lemmas.Bool.Decides.{nat_tests}
 use Rattle.script_run.specs.Transcripts.{lines_of, ended_parts, ended_lines}
-use Rattle.script_run.specs.RunViews.{last_part, open_line}
+use Rattle.script_run.specs.private.RunViews.{last_part, open_line}
 
 same_byte : (c : ℕ) → (c == 10) ≡ true → c ≡ 10
 same_byte c test = grind (arith, nat_tests)

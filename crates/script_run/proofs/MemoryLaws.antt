@@ -9,8 +9,9 @@ use Rattle.script_steps.specs.Steps.{Standing, AreThere}
 use Rattle.script_run.specs.Limits.{most_script}
 use Rattle.script_run.specs.Transcripts.{lines_of}
 use Rattle.script_steps.specs.Shown.{OutsideShown}
-use Rattle.script_run.specs.RunClauses.{RunMeets, EndsAt, EndsUnwritten, IsFinished, IsSpentWithin}
-use Rattle.script_run.specs.RunViews.{stopped_at}
+use Rattle.script_run.specs.RunClauses.{RunMeets, EndsUnwritten, IsFinished, IsSpentWithin}
+use Rattle.script_run.specs.private.RunClauses.{EndsAt}
+use Rattle.script_run.specs.private.RunViews.{stopped_at}
 use Rattle.script_run.specs.declared.turns.Ended.{Ended}
 use Rattle.script_run.specs.declared.refused_lines.RefusedLines.{RefusedLines}
 use Rattle.script_run.specs.declared.stop.Stop.{Stop}

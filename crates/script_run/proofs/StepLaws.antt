@@ -16,12 +16,14 @@ use Rattle.script_steps.proofs.Laws as step
 use Rattle.script_run.specs.Transcripts.{Session, refusal_of, lines_of, ended_lines, IsSession, IsTranscript}
 use Rattle.script_run.specs.Stops.{stop_of}
 use Rattle.script_steps.specs.Shown.{OutsideShown, shown}
-use Rattle.script_run.specs.RunClauses.{told_by, IsFrontOfSession, IsAtLine, RunLeaves, EndsAt, KeepsRefusals}
-use Rattle.script_run.specs.RunViews.{Follow, empty_session, with_answer, open_line, Holds, IsSameSoFar, IsAtStart, Keeps}
-use Rattle.script_run.specs.RunViews.{IsDelivered, Stands, GoesOn, Breaks, Closes, ClosesAt, stopped_at, last_result}
+use Rattle.script_run.specs.private.RunClauses.{told_by, EndsAt, KeepsRefusals}
+use Rattle.script_run.specs.RunClauses.{IsFrontOfSession, IsAtLine, RunLeaves}
+use Rattle.script_run.specs.private.RunViews.{Follow, empty_session, with_answer, open_line, Holds, IsSameSoFar, IsAtStart, Keeps}
+use Rattle.script_run.specs.private.RunViews.{IsDelivered, Stands, GoesOn, Breaks, Closes, ClosesAt, stopped_at, last_result}
 use Rattle.script_run.specs.declared.stop.Stop.TheVariants as stops
 use Rattle.script_run.specs.declared.reading.Reading.{Reading}
-use Rattle.script_run.specs.RefusedLines.{IsToldOf, Notes, noted, tells_one}
+use Rattle.script_run.specs.RefusedLines.{IsToldOf, tells_one}
+use Rattle.script_run.specs.private.RefusedLines.{Notes, noted}
 use Rattle.script_run.specs.declared.refused_lines.RefusedLines.{RefusedLines}
 use Rattle.script_run.proofs.Laws.{FollowToHalt, Follow-next, Follow-grows, Follow-there, FollowToHalt-rest, FollowToHalt-whole}
 use Rattle.script_run.proofs.Laws.{answered_of, session_of_totals, totals_of_session}

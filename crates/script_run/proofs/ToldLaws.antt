@@ -2,7 +2,8 @@
 use Rattle.std.proofs.Common.{◌≡◌, List, [], ◌∷◌, ◌++◌, ℕ, ◌+◌, ◌-◌, ◌^◌, Bool, true, false, ◌||◌, length, refl, sym, ap, ◌∙◌, subst, arith, length-append}
 use Rattle.std.specs.Prelude.{min, nat_lt}
 use Rattle.std.proofs.lemmas.List.{append-nil}
-use Rattle.script_run.specs.RefusedLines.{IsToldOf, noted, tells_one, told_number}
+use Rattle.script_run.specs.RefusedLines.{IsToldOf, tells_one, told_number}
+use Rattle.script_run.specs.private.RefusedLines.{noted}
 use Rattle.script_run.specs.declared.refused_lines.RefusedLines.{RefusedLines}
 use Rattle.script_run.proofs.KeepingLaws.{above, below}
 

@@ -14,9 +14,10 @@ use Rattle.script_run.specs.Limits.{most_script, most_turn}
 use Rattle.script_run.specs.Transcripts.{ended_lines, lines_of}
 use Rattle.script_run.specs.Stops.{stop_of}
 use Rattle.script_steps.specs.Shown.{OutsideShown, shown}
-use Rattle.script_run.specs.RunClauses.{told_by, Course, IsExactly, RunLeaves, RunMeets, RunResult, EndsAt}
-use Rattle.script_run.specs.RunViews.{IsAtStart, Stands, GoesOn, Breaks, Closes, ClosesAt, TakesAll}
-use Rattle.script_run.specs.RunViews.{stopped_at, last_result, read_result}
+use Rattle.script_run.specs.private.RunClauses.{told_by, EndsAt}
+use Rattle.script_run.specs.RunClauses.{Course, IsExactly, RunLeaves, RunMeets, RunResult}
+use Rattle.script_run.specs.private.RunViews.{IsAtStart, Stands, GoesOn, Breaks, Closes, ClosesAt, TakesAll}
+use Rattle.script_run.specs.private.RunViews.{stopped_at, last_result, read_result}
 use Rattle.script_run.specs.declared.stop.Stop.{Stop}
 use Rattle.script_run.specs.declared.stop.Stop.TheVariants as stops
 use Rattle.script_run.specs.declared.reading.Reading.{Reading}

@@ -4,6 +4,6 @@ pub mod Transcripts
 pub mod TranscriptLaws
 pub mod Stops
 pub mod RunClauses
-pub mod RunViews
 pub mod Samples
 pub mod SampleFiles
+pub mod private

@@ -1,11 +1,8 @@
 -- What a run over a script that is told leaves, by its result.
-use Rattle.std.specs.Prelude.{◌≡◌, ◌≢◌, ◌⊎◌, ℕ, ◌+◌, ◌-◌, ◌<◌, ◌≤◌, Bool, if◌then◌else◌, List, [], ◌∷◌, ◌++◌, length, take, All, Option, Some, None, is_some, Vec, Result, Ok, Err, ⊤}
-use Rattle.std.specs.declared.alloc.Global.{Global}
+use Rattle.std.specs.Prelude.{◌≡◌, ◌≢◌, ◌⊎◌, ℕ, ◌+◌, ◌-◌, ◌<◌, ◌≤◌, Bool, List, [], ◌∷◌, ◌++◌, length, take, All, Option, Some, Result, Ok, Err, ⊤}
 use Rattle.std.specs.Option.{ForSome}
 use Rattle.outside.specs.Told.{FileMap, Appends}
-use Rattle.outside.specs.declared.traits.Files.{Ghosts as FilesTell}
-use Rattle.outside.specs.declared.traits.Sink.{Ghosts as SinkTells}
-use Rattle.script_steps.specs.Shown.{OutsideShown, shown, shown_by}
+use Rattle.script_steps.specs.Shown.{OutsideShown}
 use Rattle.script_steps.specs.Steps.{Standing, Answer, Names, AreThere, IsStep}
 use Rattle.script_steps.specs.LineSteps.{IsNextFile}
 use Rattle.script_run.specs.Limits.{most_script, most_turn}
@@ -17,23 +14,6 @@ use Rattle.script_run.specs.declared.stop.Stopped.{Stopped}
 use Rattle.script_run.specs.RefusedLines.{IsToldOf, tells_one}
 use Rattle.script_run.specs.declared.refused_lines.RefusedLines.{RefusedLines}
 use Rattle.script_run.specs.declared.stop.Stop.TheVariants as stops
-
--- what is shown of a sink: nothing, where answers are kept and not written
-abbrev pub told_by : Option (Vec ℕ Global) → Option (List ℕ) → Option (List ℕ)
-told_by kept written = if is_some kept then None else written
-
-abbrev pub unless_kept : Option (Vec ℕ Global) → OutsideShown → OutsideShown
-unless_kept kept s = shown s.files s.failed (told_by kept s.written) s.steps
-
--- what files, a sink beside what is kept, and a counter show
-abbrev pub shown_beside :
-    Option (Vec ℕ Global) → {F W : Type 0} → FilesTell F → SinkTells W → F → W → ℕ → OutsideShown
-shown_beside kept of_files of_sink files sink steps = unless_kept kept (shown_by of_files of_sink files sink steps)
-
--- where refusals are kept, they are these
-abbrev pub KeepsRefusals : Option (Vec ℕ Global) → List ℕ → Type 0
-KeepsRefusals None refusals = ⊤
-KeepsRefusals (Some kept) refusals = kept.items ≡ refusals
 
 -- how far a run came: the script, what was taken of it and what is left, what was written and counted since it began, and
 -- what is told of refused lines
@@ -192,15 +172,6 @@ pub record RunMeets (before after : OutsideShown) (script : List ℕ) (left : Op
   pub left_rest : left ≡ Some rest
   pub within : ended_of result ≢ Err stops.Long → length taken ≤ most_script
   pub leaves : RunLeaves most_turn before after script taken rest result
-
--- the lines of the script have left this at last, where refusals were kept they are these, and this is told of them
-pub record EndsAt (files : FileMap) (script : List ℕ) (standing : Standing)
-    (kept : Option (Vec ℕ Global)) (told : RefusedLines) : Type 0 where
-  pub session : Session
-  pub is : IsTranscript files script session
-  pub left : session.standing ≡ standing
-  pub refusals : KeepsRefusals kept session.refusals
-  pub told_is : IsToldOf session.lines session.refused_lines told
 
 -- a result by why the run stopped
 abbrev pub by_stop : {T : Type 0} → Result T Stopped → Result T Stop

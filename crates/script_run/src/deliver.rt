@@ -4,8 +4,8 @@ ghost use Rattle.std.specs.Result.{ForErr};
 ghost use Rattle.outside.specs.Causes.{Caused};
 ghost use Rattle.script_steps.specs.StepClauses.{IsBroken};
 ghost use Rattle.script_steps.specs.Shown.{shown};
-ghost use Rattle.script_run.specs.RunClauses.{shown_beside};
-ghost use Rattle.script_run.specs.RunViews.{IsDelivered};
+ghost use Rattle.script_run.specs.private.RunClauses.{shown_beside};
+ghost use Rattle.script_run.specs.private.RunViews.{IsDelivered};
 
 use crate::buffer::Buffer;
 use outside::{Files, Sink};

@@ -5,9 +5,9 @@ ghost use Rattle.std.specs.Result.{ForErr};
 ghost use Rattle.std.specs.Str.Lines.{strip_carriage_return};
 ghost use Rattle.outside.specs.Causes.{Caused};
 ghost use Rattle.script_steps.specs.Steps.{first_standing};
-ghost use Rattle.script_run.specs.RunClauses.{KeepsRefusals, shown_beside};
-ghost use Rattle.script_run.specs.RunViews.{Holds, IsSameSoFar, IsAtStart};
-ghost use Rattle.script_run.specs.RunViews.{GoesOn, Breaks, Closes, ClosesAt, last_result};
+ghost use Rattle.script_run.specs.private.RunClauses.{KeepsRefusals, shown_beside};
+ghost use Rattle.script_run.specs.private.RunViews.{Holds, IsSameSoFar, IsAtStart};
+ghost use Rattle.script_run.specs.private.RunViews.{GoesOn, Breaks, Closes, ClosesAt, last_result};
 
 use crate::deliver::deliver;
 use crate::refused_lines::RefusedLines;

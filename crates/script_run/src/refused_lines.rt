@@ -1,6 +1,7 @@
 //! Which lines of a script were refused, and why.
 ghost use Rattle.std.specs.Prelude.{◌≡◌, [], is_some, OnOk};
-ghost use Rattle.script_run.specs.RefusedLines.{IsToldOf, Notes, tells_one, with_line};
+ghost use Rattle.script_run.specs.RefusedLines.{IsToldOf, tells_one};
+ghost use Rattle.script_run.specs.private.RefusedLines.{Notes, with_line};
 
 use std::alloc::{AllocError, Global};
 

@@ -5,10 +5,12 @@ ghost use Rattle.std.specs.Result.{ForErr};
 ghost use Rattle.outside.specs.Causes.{Caused, HasCause};
 ghost use Rattle.outside.specs.Told.{ReadConsumes};
 ghost use Rattle.script_run.specs.Limits.{most_script, most_turn};
-ghost use Rattle.script_run.specs.RunClauses.{RunMeets, KeepsRefusals, EndsAt, EndsUnwritten};
+ghost use Rattle.script_run.specs.RunClauses.{RunMeets, EndsUnwritten};
+ghost use Rattle.script_run.specs.private.RunClauses.{KeepsRefusals, EndsAt};
 ghost use Rattle.script_steps.specs.Shown.{shown, shown_by};
-ghost use Rattle.script_run.specs.RunClauses.{by_stop, run_result, shown_beside};
-ghost use Rattle.script_run.specs.RunViews.{IsAtStart, TakesAll, read_result, stopped_at};
+ghost use Rattle.script_run.specs.RunClauses.{by_stop, run_result};
+ghost use Rattle.script_run.specs.private.RunClauses.{shown_beside};
+ghost use Rattle.script_run.specs.private.RunViews.{IsAtStart, TakesAll, read_result, stopped_at};
 
 use crate::reading::Reading;
 use crate::refused_lines::RefusedLines;

@@ -23,7 +23,8 @@ use Rattle.book_year.specs.Rows.{Job, Planned, earlier_of, row_filled, row_of, r
 use Rattle.book_year.proofs.Laws.{total_append}
 use Rattle.book_edits.specs.Books.{YearRuns, run_count, runs_of}
 use Rattle.book_edits.specs.Kept.{jobs_in}
-use Rattle.recalc_engine.specs.BookLaws.{HasPlan, IsAcceptedPlan}
+use Rattle.recalc_engine.specs.private.BookLaws.{HasPlan}
+use Rattle.recalc_engine.specs.BookLaws.{IsAcceptedPlan}
 use Rattle.recalc_engine.specs.Contents.{Contents, jobs_between}
 
 -- ---- a run of an accepted plan

@@ -20,7 +20,7 @@ use Rattle.plan_answers.specs.Answers.{Answer, refusal}
 use Rattle.script_steps.specs.LineTexts.{file_detail, owed_detail, filed_text}
 use Rattle.script_steps.specs.Standings.{Standing, StaysOrSteps, answered}
 use Rattle.script_steps.specs.FilingSteps.{IsFileStep, IsOwedAnswer, filed_answer, new_entries, owed_answer}
-use Rattle.script_steps.specs.StepViews.{IsFileRefusal, IsOwedRefusal}
+use Rattle.script_steps.specs.private.StepViews.{IsFileRefusal, IsOwedRefusal}
 use Rattle.script_steps.proofs.EditLemmas.{standing}
 
 -- ---- lines, one after the other

@@ -11,12 +11,12 @@ use Rattle.recalc_engine.specs.EditAnswers.{Edit, EditAnswers, IsEdited, edited_
 use Rattle.correction_ledger.specs.Filings.{Filings}
 use Rattle.plan_answers.specs.Answers.{Answer, refusal}
 use Rattle.script_steps.specs.declared.reply.LineReply.{LineReply}
-use Rattle.script_steps.specs.Replies.{reply_of}
+use Rattle.script_steps.specs.private.Replies.{reply_of}
 use Rattle.plan_answers.proofs.Laws.{if_ok_map, on_err_any}
 use Rattle.script_steps.specs.LineTexts.{edit_detail}
 use Rattle.script_steps.specs.Standings.{Standing, StaysOrSteps, answered, after_edit, more_work}
 use Rattle.script_steps.specs.LineSteps.{IsEditStep}
-use Rattle.script_steps.specs.StepViews.{IsMade, IsLost, IsEditReply, work_behind}
+use Rattle.script_steps.specs.private.StepViews.{IsMade, IsLost, IsEditReply, work_behind}
 
 -- a refusal that isn't want of memory
 refused_step : (text : List ℕ) (from : Standing) (e : Edit) (why : EditRefusal) (answer : Answer)

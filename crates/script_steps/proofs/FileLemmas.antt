@@ -19,8 +19,8 @@ use Rattle.script_steps.specs.Standings.{Standing, Doing}
 use Rattle.script_steps.specs.declared.plan.Judged.{Judged}
 use Rattle.script_steps.specs.LineSteps.{IsPlanStep, IsReadStep, IsTableStep, IsTextsStep, IsUsed, PlanUse}
 use Rattle.script_steps.specs.OpenSteps.{IsOpenStep}
-use Rattle.script_steps.specs.PlanViews.{AreJudged}
-use Rattle.script_steps.specs.StepViews.{ToldDoes}
+use Rattle.script_steps.specs.private.PlanViews.{AreJudged}
+use Rattle.script_steps.specs.private.StepViews.{ToldDoes}
 use Rattle.script_steps.proofs.OpenLemmas.{open_front}
 
 -- ---- a table

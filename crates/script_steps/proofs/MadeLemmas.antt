@@ -24,9 +24,9 @@ use Rattle.script_steps.specs.Standings.{Standing, Doing, StaysOrSteps}
 use Rattle.script_steps.specs.Shown.{OutsideShown}
 use Rattle.script_steps.specs.Stops.{stop_of}
 use Rattle.script_steps.specs.StepClauses.{ToldStep, IsAnswered, IsBroken}
-use Rattle.script_steps.specs.StepViews.{IsMade, IsLost, IsWant, ToldDoes, IsUnmade, IsLineRefusal, IsWritten}
-use Rattle.script_steps.specs.StepViews.{IsFrontWritten, IsRefusalWritten, IsRefusalUnwritten}
-use Rattle.script_steps.specs.PlanViews.{IsUnjudged}
+use Rattle.script_steps.specs.private.StepViews.{IsMade, IsLost, IsWant, ToldDoes, IsUnmade, IsLineRefusal, IsWritten}
+use Rattle.script_steps.specs.private.StepViews.{IsFrontWritten, IsRefusalWritten, IsRefusalUnwritten}
+use Rattle.script_steps.specs.private.PlanViews.{IsUnjudged}
 
 err_same : {T E : Type 0} (r : Result T E) (x y : E) → r ≡ Err x → r ≡ Err y → x ≡ y
 err_same r x y a b = cc

@@ -17,13 +17,13 @@ use Rattle.book_file.specs.declared.refusal.BookFault.TheVariants as books
 use Rattle.book_file.proofs.Laws as texts
 use Rattle.plan_answers.specs.Answers.{Answer, refusal}
 use Rattle.script_steps.specs.declared.reply.LineReply.{LineReply}
-use Rattle.script_steps.specs.Replies.{reply_of}
+use Rattle.script_steps.specs.private.Replies.{reply_of}
 use Rattle.plan_answers.proofs.Laws.{if_ok_map}
 use Rattle.script_steps.specs.LineTexts.{book_detail, ok_line}
 use Rattle.script_steps.specs.OpenSteps.{IsEmpty, IsFresh, IsOpenStep, IsOpened, OpenRefusal, OpenSays, open_detail}
 use Rattle.script_steps.specs.OpenSteps.{not_empty, filed, faulty}
 use Rattle.script_steps.specs.Standings.{Standing, StaysOrSteps, answered, with_book}
-use Rattle.script_steps.specs.StepViews.{IsBookRefusal, IsMade, IsWant}
+use Rattle.script_steps.specs.private.StepViews.{IsBookRefusal, IsMade, IsWant}
 use Rattle.script_steps.proofs.KindLemmas.{Has, Same, stays_one}
 use Rattle.script_steps.proofs.MadeLemmas.{made_still}
 

@@ -11,13 +11,13 @@ use Rattle.recalc_engine.specs.EditAnswers as edits
 use Rattle.plan_answers.specs.Answers.{Answer}
 use Rattle.plan_answers.specs.Lines.{bound_line}
 use Rattle.script_steps.specs.declared.reply.LineReply.{LineReply}
-use Rattle.script_steps.specs.Replies.{reply_of}
+use Rattle.script_steps.specs.private.Replies.{reply_of}
 use Rattle.plan_answers.proofs.Laws.{if_ok_map, on_err_map, refused_is, refusal_steps}
 use Rattle.script_steps.specs.declared.plan.Judged.TheVariants.{Refused}
 use Rattle.script_steps.specs.Standings.{Standing, StaysOrSteps}
 use Rattle.script_steps.specs.LineSteps.{IsEditStep, IsPut, IsTextsStep, IsTrialStep, PlanUse}
-use Rattle.script_steps.specs.PlanViews.{IsJudged}
-use Rattle.script_steps.specs.StepViews.{IsMade, IsLost, IsWant}
+use Rattle.script_steps.specs.private.PlanViews.{IsJudged}
+use Rattle.script_steps.specs.private.StepViews.{IsMade, IsLost, IsWant}
 use Rattle.script_steps.proofs.MadeLemmas.{made_map, made_still, lost_map, stays_map, want_map}
 
 module _ (from : Standing) (day : Day) (plan limits : List ℕ) where

@@ -19,7 +19,8 @@ use Rattle.book_edits.specs.Replans.{HasMostPlans}
 use Rattle.book_edits.proofs.Laws.{all_put, all_without, length_put, map_rising, sum_put}
 use Rattle.book_file.specs.BookTexts.{IsTextOf, saved_entry}
 use Rattle.book_file.specs.Saving.{SaveSays}
-use Rattle.recalc_engine.specs.BookLaws.{AreAcceptedPlans, HasOwnRuns, HasPlan, IsBook, IsAcceptedPlan}
+use Rattle.recalc_engine.specs.BookLaws.{AreAcceptedPlans, HasOwnRuns, IsBook, IsAcceptedPlan}
+use Rattle.recalc_engine.specs.private.BookLaws.{HasPlan}
 use Rattle.recalc_engine.specs.Contents.{Contents}
 use Rattle.recalc_engine.specs.EditAnswers.{CanEdit, Edit, add, change, drop, edited_book, load, put, withdraw, with_edit}
 use Rattle.recalc_engine.proofs.Laws.{picked_plan, runs_rise}

@@ -9,12 +9,12 @@ use Rattle.payroll_records.specs.Tables.{IsTable, IsTableFaultOrMemory, TableSay
 use Rattle.recalc_engine.specs.EditAnswers as edits
 use Rattle.plan_answers.specs.Answers.{Answer, refusal}
 use Rattle.script_steps.specs.declared.reply.LineReply.{LineReply}
-use Rattle.script_steps.specs.Replies.{reply_of}
+use Rattle.script_steps.specs.private.Replies.{reply_of}
 use Rattle.plan_answers.proofs.Laws.{if_ok_map, on_err_map}
 use Rattle.script_steps.specs.LineTexts.{ok_line, table_detail}
 use Rattle.script_steps.specs.Standings.{Standing, StaysOrSteps}
 use Rattle.script_steps.specs.LineSteps.{IsEditStep, IsTableStep}
-use Rattle.script_steps.specs.StepViews.{IsMade, IsLost, IsWant, IsTableRefusal}
+use Rattle.script_steps.specs.private.StepViews.{IsMade, IsLost, IsWant, IsTableRefusal}
 use Rattle.script_steps.proofs.MadeLemmas.{made_map, lost_map, stays_map}
 
 module _ (from : Standing) (table : List ℕ) (before now : ℕ) where

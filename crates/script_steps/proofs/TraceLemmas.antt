@@ -10,7 +10,7 @@ use Rattle.month_trace.specs.declared.step.TraceStep.{TraceStep}
 use Rattle.plan_answers.specs.Answers.{Answer}
 use Rattle.script_steps.specs.LineTexts.{trace_text}
 use Rattle.script_steps.specs.Standings.{answered}
-use Rattle.script_steps.specs.StepViews.{IsTraceRefusal}
+use Rattle.script_steps.specs.private.StepViews.{IsTraceRefusal}
 use Rattle.script_steps.specs.TraceSteps.{told_trace, trace_answer}
 
 module _ (book : Contents) (e : List ℕ) (w : When) where

@@ -16,12 +16,12 @@ use Rattle.what_if.specs.declared.trial.TryRefusal.{TryRefusal}
 use Rattle.what_if.specs.declared.trial.TryRefusal.TheVariants as trying
 use Rattle.plan_answers.specs.Answers.{Answer, refusal}
 use Rattle.script_steps.specs.declared.reply.LineReply.{LineReply}
-use Rattle.script_steps.specs.Replies.{reply_of}
+use Rattle.script_steps.specs.private.Replies.{reply_of}
 use Rattle.plan_answers.proofs.Laws.{if_ok_map, on_err_any}
 use Rattle.script_steps.specs.LineSteps.{IsTrialStep, bound_text, trial_answer}
 use Rattle.script_steps.specs.LineTexts.{edit_detail, trial_text}
 use Rattle.script_steps.specs.Standings.{Standing, answered}
-use Rattle.script_steps.specs.StepViews.{IsMade, IsTrialReply, IsWant}
+use Rattle.script_steps.specs.private.StepViews.{IsMade, IsTrialReply, IsWant}
 use Rattle.script_steps.proofs.EditLemmas.{standing}
 
 module _ (from : Standing) (e : Entry Accepted) (bound : List ℕ) (says : bound ≡ bound_text e) (before now : ℕ) where

@@ -11,7 +11,7 @@ use Rattle.script_lang.specs.declared.fault.LineFault.{LineFault}
 use Rattle.plan_answers.specs.Answers.{Answer}
 use Rattle.script_steps.specs.declared.stop.LineStop.{LineStop}
 use Rattle.script_steps.specs.declared.stop.LineStop.TheVariants as stops
-use Rattle.script_steps.specs.StepViews.{IsFrontWritten, IsLineRefusal, IsRefusalUnwritten}
+use Rattle.script_steps.specs.private.StepViews.{IsFrontWritten, IsLineRefusal, IsRefusalUnwritten}
 
 -- a front of the first part is one of the whole
 pub first_front : (old new : Option (List ℕ)) (first rest : List ℕ) → AppendsFront old new first

@@ -11,6 +11,4 @@ pub mod StepClauses
 pub mod Promises
 pub mod StepLaws
 pub mod GoingOn
-pub mod Replies
-pub mod StepViews
-pub mod PlanViews
+pub mod private

@@ -2,14 +2,14 @@
 ghost use Rattle.std.specs.Prelude.{◌≡◌, ◌≢◌, ℕ, List, IfOk, OnErr, Ok, Err, is_some};
 ghost use Rattle.std.specs.Result.{ForErr};
 ghost use Rattle.outside.specs.Causes.{Caused};
-ghost use Rattle.script_steps.specs.Replies.{reply_of};
+ghost use Rattle.script_steps.specs.private.Replies.{reply_of};
 ghost use Rattle.script_lang.specs.Commands.{asked_of};
 ghost use Rattle.script_lang.specs.Lines.{IsLine};
 ghost use Rattle.script_steps.specs.LineTexts.{work_line};
 ghost use Rattle.script_steps.specs.Standings.{StaysOrSteps, answered};
 ghost use Rattle.script_steps.specs.Shown.{shown_by};
 ghost use Rattle.script_steps.specs.StepClauses.{IsAnswered, IsBroken};
-ghost use Rattle.script_steps.specs.StepViews.{IsMade, IsUnmade, ToldDoes};
+ghost use Rattle.script_steps.specs.private.StepViews.{IsMade, IsUnmade, ToldDoes};
 
 use crate::edits::{add, change, drop_plan, withdraw};
 use crate::filings::{file, owed};

@@ -1,11 +1,11 @@
 //! Lines that edit the book.
 ghost use Rattle.std.specs.Prelude.{◌≡◌, IfOk, OnErr};
-ghost use Rattle.script_steps.specs.Replies.{reply_of};
+ghost use Rattle.script_steps.specs.private.Replies.{reply_of};
 ghost use Rattle.recalc_engine.specs.EditAnswers.{add, change, drop, withdraw};
 ghost use Rattle.script_steps.specs.LineSteps.{IsEditStep};
 ghost use Rattle.script_steps.specs.LineTexts.{ok_line};
 ghost use Rattle.script_steps.specs.Standings.{StaysOrSteps, more_work};
-ghost use Rattle.script_steps.specs.StepViews.{IsEditReply, IsLost, IsMade, work_behind};
+ghost use Rattle.script_steps.specs.private.StepViews.{IsEditReply, IsLost, IsMade, work_behind};
 
 use crate::refusals::edit_refusal;
 use crate::reply::{LineReply, answered};

@@ -1,6 +1,6 @@
 //! The lines `file` and `owed`.
 ghost use Rattle.std.specs.Prelude.{◌≡◌, ◌++◌, IfOk, OnErr, OnOk, string_bytes};
-ghost use Rattle.script_steps.specs.Replies.{reply_of};
+ghost use Rattle.script_steps.specs.private.Replies.{reply_of};
 ghost use Rattle.script_steps.specs.FilingSteps.{IsFileStep, IsOwedAnswer};
 ghost use Rattle.script_steps.specs.Standings.{StaysOrSteps};
 ghost use Rattle.script_steps.specs.LineTexts.{due_words, filed_text, owed_text};

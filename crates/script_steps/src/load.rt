@@ -2,11 +2,11 @@
 ghost use Rattle.std.specs.Prelude.{◌≡◌, ◌≢◌, IfOk, OnErr, Ok, Err};
 ghost use Rattle.std.specs.Result.{ForErr};
 ghost use Rattle.outside.specs.Causes.{Caused};
-ghost use Rattle.script_steps.specs.Replies.{reply_of};
+ghost use Rattle.script_steps.specs.private.Replies.{reply_of};
 ghost use Rattle.script_lang.specs.Commands as asked;
 ghost use Rattle.script_steps.specs.LineSteps.{IsTableStep};
 ghost use Rattle.script_steps.specs.Standings.{StaysOrSteps};
-ghost use Rattle.script_steps.specs.StepViews.{IsMade, IsUnmade, IsWant, ToldDoes};
+ghost use Rattle.script_steps.specs.private.StepViews.{IsMade, IsUnmade, IsWant, ToldDoes};
 
 use crate::edits::{OK, edit_reply};
 use crate::refusals::table_refusal;

@@ -4,12 +4,12 @@ ghost use Rattle.std.specs.Result.{ForErr};
 ghost use Rattle.outside.specs.Causes.{Caused};
 ghost use Rattle.plan_answers.specs.Answers.{IsRefusal};
 ghost use Rattle.plan_answers.specs.Refusals.{HasItsPlan};
-ghost use Rattle.script_steps.specs.Replies.{reply_of};
+ghost use Rattle.script_steps.specs.private.Replies.{reply_of};
 ghost use Rattle.script_lang.specs.Commands as asked;
 ghost use Rattle.script_steps.specs.LineSteps.{IsPut, IsTextsStep, IsTrialStep};
-ghost use Rattle.script_steps.specs.PlanViews.{AreJudged, IsJudged, IsUnjudged};
+ghost use Rattle.script_steps.specs.private.PlanViews.{AreJudged, IsJudged, IsUnjudged};
 ghost use Rattle.script_steps.specs.Standings.{StaysOrSteps};
-ghost use Rattle.script_steps.specs.StepViews.{IsMade, IsUnmade, IsWant, ToldDoes};
+ghost use Rattle.script_steps.specs.private.StepViews.{IsMade, IsUnmade, IsWant, ToldDoes};
 
 use crate::edits::edit_reply;
 use crate::reply::LineReply;

@@ -1,9 +1,9 @@
 //! How the refusals of lines, tables, edits, traces, filings and books are written.
 ghost use Rattle.std.specs.Prelude.{IfOk, string_bytes};
 ghost use Rattle.plan_answers.specs.Answers.{refusal};
-ghost use Rattle.script_steps.specs.Replies.{reply_of};
-ghost use Rattle.script_steps.specs.StepViews.{IsBookRefusal, IsEditRefusal, IsLineRefusal, IsTableRefusal};
-ghost use Rattle.script_steps.specs.StepViews.{IsFileRefusal, IsOwedRefusal, IsTraceRefusal};
+ghost use Rattle.script_steps.specs.private.Replies.{reply_of};
+ghost use Rattle.script_steps.specs.private.StepViews.{IsBookRefusal, IsEditRefusal, IsLineRefusal, IsTableRefusal};
+ghost use Rattle.script_steps.specs.private.StepViews.{IsFileRefusal, IsOwedRefusal, IsTraceRefusal};
 
 use crate::reply::{LineReply, refused};
 use book_file::BookFault;

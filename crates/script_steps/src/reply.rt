@@ -3,9 +3,9 @@ ghost use Rattle.std.specs.Prelude.{◌≡◌, IfOk, is_some};
 ghost use Rattle.std.specs.Result.{ForErr};
 ghost use Rattle.outside.specs.Causes.{Caused};
 ghost use Rattle.plan_answers.specs.Answers.{refusal};
-ghost use Rattle.script_steps.specs.Replies.{reply_of};
+ghost use Rattle.script_steps.specs.private.Replies.{reply_of};
 ghost use Rattle.script_steps.specs.Standings.{answered};
-ghost use Rattle.script_steps.specs.StepViews.{IsFrontWritten, IsWritten};
+ghost use Rattle.script_steps.specs.private.StepViews.{IsFrontWritten, IsWritten};
 
 use crate::stop::LineStop;
 use outside::{Sink, put_all};

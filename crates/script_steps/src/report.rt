@@ -4,7 +4,7 @@ ghost use Rattle.std.specs.Result.{ForErr};
 ghost use Rattle.outside.specs.Causes.{Caused};
 ghost use Rattle.report_csv.specs.ReportTexts.{report_text};
 ghost use Rattle.script_steps.specs.LineTexts.{end_line};
-ghost use Rattle.script_steps.specs.StepViews.{IsFrontWritten, IsWritten};
+ghost use Rattle.script_steps.specs.private.StepViews.{IsFrontWritten, IsWritten};
 
 use crate::stop::LineStop;
 use outside::{Sink, put_all};

@@ -7,7 +7,7 @@ ghost use Rattle.script_steps.specs.StepClauses.{IsAnswered, IsBroken};
 ghost use Rattle.script_steps.specs.StepLaws.{LinesHaveAStep, LinesHaveOneStep, FilesAreTold};
 ghost use Rattle.script_steps.specs.StepLaws.{LongLinesAreOne, LongLinesNameNoFile};
 ghost use Rattle.script_steps.specs.StepLaws.{PutPlansHold, RefusedLinesChangeNothing};
-ghost use Rattle.script_steps.specs.StepViews.{IsRefusalUnwritten, IsRefusalWritten};
+ghost use Rattle.script_steps.specs.private.StepViews.{IsRefusalUnwritten, IsRefusalWritten};
 
 use crate::command::answer_command;
 use crate::refusals::line_refusal;

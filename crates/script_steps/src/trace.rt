@@ -1,6 +1,6 @@
 //! The line `trace`.
 ghost use Rattle.std.specs.Prelude.{◌≡◌, ◌++◌, IfOk, OnOk, string_bytes};
-ghost use Rattle.script_steps.specs.Replies.{reply_of};
+ghost use Rattle.script_steps.specs.private.Replies.{reply_of};
 ghost use Rattle.script_steps.specs.LineTexts.{step_line, trace_text};
 ghost use Rattle.script_steps.specs.TraceSteps.{trace_answer};
 

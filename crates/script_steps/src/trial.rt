@@ -1,9 +1,9 @@
 //! What the line `try` answers.
 ghost use Rattle.std.specs.Prelude.{◌≡◌, ◌++◌, IfOk, OnOk, string_bytes};
 ghost use Rattle.std.specs.List.{flat_map};
-ghost use Rattle.script_steps.specs.Replies.{reply_of};
+ghost use Rattle.script_steps.specs.private.Replies.{reply_of};
 ghost use Rattle.script_steps.specs.LineTexts.{amount_word, shown_word, trial_line, trial_text};
-ghost use Rattle.script_steps.specs.StepViews.{IsTrialReply};
+ghost use Rattle.script_steps.specs.private.StepViews.{IsTrialReply};
 
 use crate::refusals::edit_refusal;
 use crate::reply::{LineReply, answered};

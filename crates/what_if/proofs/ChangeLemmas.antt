@@ -16,11 +16,11 @@ use Rattle.book_year.proofs.Laws.{row_of_day, rows_length}
 use Rattle.book_edits.specs.Books.{YearRuns}
 use Rattle.recalc_engine.specs.BookLaws.{row_key}
 use Rattle.recalc_engine.specs.MonthRows.{KeyedRow, keyed_row, keyed_rows}
-use Rattle.recalc_engine.specs.MonthViews.{kept_row, kept_rows}
+use Rattle.recalc_engine.specs.KeptRows.{kept_row, kept_rows}
 use Rattle.what_if.specs.declared.trial.TrialRow.{TrialRow}
 use Rattle.what_if.specs.declared.trial.TrialRow.TheVariants.{Changed}
 use Rattle.what_if.specs.Changes.{row_state, state_outputs, run_changes, shown_state, value_rows}
-use Rattle.what_if.specs.YearViews.{changes, year_changes}
+use Rattle.what_if.specs.private.YearViews.{changes, year_changes}
 use Rattle.what_if.proofs.StateLemmas.{state_own}
 
 -- ---- one list after another

@@ -19,7 +19,7 @@ use Rattle.recalc_engine.specs.MonthRows.{KeyedRow, month_rows}
 use Rattle.recalc_engine.proofs.Laws.{book_rows_rise}
 use Rattle.what_if.specs.Changes.{changes_at, changes_between, row_state, run_changes, state_of}
 use Rattle.what_if.specs.Trials.{book_with}
-use Rattle.what_if.specs.YearViews.{changes}
+use Rattle.what_if.specs.private.YearViews.{changes}
 use Rattle.what_if.proofs.ChangeLemmas.{HaveKeys, all_keys, head_key, state_at, tail_keys}
 
 -- ---- a run of two lists

@@ -7,7 +7,7 @@ use Rattle.rising_lists.proofs.Laws.{sorted_by_text}
 use Rattle.payroll_records.specs.declared.values.NamedValue.{NamedValue}
 use Rattle.payroll_records.specs.NamedValues.{name_cmp, name_of}
 use Rattle.recalc_engine.specs.RowLaws.{HaveNames}
-use Rattle.what_if.specs.SideViews.{AreOrdered}
+use Rattle.what_if.specs.private.SideViews.{AreOrdered}
 
 -- outputs with different names, sorted by them
 pub ordered_sorted : (outputs ys : List NamedValue) → HaveNames outputs → IsPermutation outputs ys →

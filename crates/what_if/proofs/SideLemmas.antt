@@ -10,7 +10,7 @@ use Rattle.rising_lists.proofs.Laws.{above_all_of, above_more, above_same, all_a
 use Rattle.payroll_records.specs.declared.values.NamedValue.{NamedValue}
 use Rattle.payroll_records.specs.NamedValues.{name_cmp, name_of, value_at}
 use Rattle.what_if.specs.declared.sides.Side.{Side}
-use Rattle.what_if.specs.SideViews.{both_sides, left_only, right_only, sides_by, sides_of, sides_with}
+use Rattle.what_if.specs.private.SideViews.{both_sides, left_only, right_only, sides_by, sides_of, sides_with}
 
 abbrev pub side_name : Side → List ℕ
 side_name s = s.name

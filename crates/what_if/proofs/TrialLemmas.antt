@@ -12,7 +12,8 @@ use Rattle.book_year.specs.Jobs.{Counts, total_cost, work_of}
 use Rattle.book_year.specs.Rows.{Planned}
 use Rattle.book_edits.specs.declared.years.Years.{Years}
 use Rattle.book_edits.specs.Kept.{jobs_in, years_of}
-use Rattle.recalc_engine.specs.BookLaws.{HasPlan, IsBook, IsAcceptedPlan}
+use Rattle.recalc_engine.specs.private.BookLaws.{HasPlan}
+use Rattle.recalc_engine.specs.BookLaws.{IsBook, IsAcceptedPlan}
 use Rattle.recalc_engine.specs.Contents.{Contents}
 use Rattle.recalc_engine.proofs.Laws.{picked_plan}
 use Rattle.what_if.specs.declared.trial.Trial.{Trial}
@@ -20,7 +21,7 @@ use Rattle.what_if.specs.declared.trial.TryRefusal.{TryRefusal}
 use Rattle.what_if.specs.declared.trial.TryRefusal.TheVariants as trying
 use Rattle.what_if.specs.Changes.{changes_between}
 use Rattle.what_if.specs.Trials.{CountsTry, book_with, trial_of}
-use Rattle.what_if.specs.YearViews.{ArePlanned, IsTried, year_changes}
+use Rattle.what_if.specs.private.YearViews.{ArePlanned, IsTried, year_changes}
 use Rattle.what_if.proofs.ChangeLemmas.{changes_by_year}
 use Rattle.what_if.proofs.KeyLemmas.{by_key}
 

@@ -17,7 +17,7 @@ use Rattle.what_if.specs.declared.sides.Side.{Side}
 use Rattle.what_if.specs.declared.trial.TrialRow.{TrialRow}
 use Rattle.what_if.specs.declared.trial.TrialRow.TheVariants.{Changed, Value}
 use Rattle.what_if.specs.Changes.{in_order, same_amount, value_row, value_rows}
-use Rattle.what_if.specs.SideViews.{AreOrdered, side_row, sides_of}
+use Rattle.what_if.specs.private.SideViews.{AreOrdered, side_row, sides_of}
 use Rattle.what_if.proofs.RisingLemmas.{same_at}
 use Rattle.what_if.proofs.SideLemmas.{at_sides, met, side_name, sides_rising}
 

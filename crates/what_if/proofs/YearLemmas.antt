@@ -22,12 +22,12 @@ use Rattle.book_edits.specs.declared.redone.RedoneYear.{RedoneYear}
 use Rattle.book_edits.specs.RedoneClauses.{New, IsYearRedone, YearKept, with_new}
 use Rattle.book_edits.proofs.Laws.{IsRedoing, redoing_more}
 use Rattle.recalc_engine.specs.MonthRows.{keyed_row, keyed_rows}
-use Rattle.recalc_engine.specs.MonthViews.{rows_kept_in}
+use Rattle.recalc_engine.specs.KeptRows.{rows_kept_in}
 use Rattle.recalc_engine.specs.RowLaws.{AreNamed, HasNames, HaveNames}
 use Rattle.recalc_engine.proofs.Laws.{no_names, rows_named, year_kept_by}
 use Rattle.what_if.specs.declared.trial.TrialRow.{TrialRow}
 use Rattle.what_if.specs.Changes.{state_outputs}
-use Rattle.what_if.specs.YearViews.{ArePlanned, HasOutcomes, IsNamed, changes, year_changes}
+use Rattle.what_if.specs.private.YearViews.{ArePlanned, HasOutcomes, IsNamed, changes, year_changes}
 
 -- ---- the outputs of a year's runs have different names
 

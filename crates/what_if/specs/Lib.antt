@@ -1,5 +1,4 @@
 pub mod Changes
 pub mod Trials
 pub mod TrialLaws
-pub mod SideViews
-pub mod YearViews
+pub mod private

@@ -1,10 +1,10 @@
 //! The rows of a trial, run by run.
 ghost use Rattle.std.specs.Prelude.{◌≡◌, ◌++◌, OnOk};
-ghost use Rattle.recalc_engine.specs.MonthViews.{kept_rows, rows_kept_in};
+ghost use Rattle.recalc_engine.specs.KeptRows.{kept_rows, rows_kept_in};
 ghost use Rattle.recalc_engine.specs.RowLaws.{HaveNames};
 ghost use Rattle.book_edits.specs.RedoneClauses.{with_new};
 ghost use Rattle.what_if.specs.Changes.{state_outputs, run_changes, value_rows};
-ghost use Rattle.what_if.specs.YearViews.{AreOutcomesOf, HasOutcomes, changes};
+ghost use Rattle.what_if.specs.private.YearViews.{AreOutcomesOf, HasOutcomes, changes};
 
 use crate::sides::{Sides, ordered, push_sides};
 use crate::states::{same_state, shown, state_outputs};

@@ -5,7 +5,7 @@ ghost use Rattle.std.specs.List.{filter_map};
 ghost use Rattle.std.specs.List.Sorted.{IsPermutation, IsSortedByKey};
 ghost use Rattle.payroll_records.specs.NamedValues.{name_cmp, name_of};
 ghost use Rattle.recalc_engine.specs.RowLaws.{HaveNames};
-ghost use Rattle.what_if.specs.SideViews.{AreOrdered, both_sides, left_only, right_only, side_row, sides_of};
+ghost use Rattle.what_if.specs.private.SideViews.{AreOrdered, both_sides, left_only, right_only, side_row, sides_of};
 
 use crate::trial::TrialRow;
 use pap_tree::Name;
@@ -68,7 +68,7 @@ pub(crate) struct Sides<'a> {
 impl<'a> Model for Sides<'a> {
     ghost use Rattle.std.specs.Prelude.{List};
     ghost use Rattle.what_if.specs.declared.sides.Side.{Side};
-    ghost use Rattle.what_if.specs.SideViews.{sides_of};
+    ghost use Rattle.what_if.specs.private.SideViews.{sides_of};
 
     ghost Value = { List Side };
 

@@ -7,7 +7,7 @@ ghost use Rattle.book_edits.specs.Kept.{AreYears, jobs_in, years_of};
 ghost use Rattle.recalc_engine.specs.EditAnswers.{CanEdit, put};
 ghost use Rattle.what_if.specs.TrialLaws.{NamedRunsChange, RowsTellBoth, SameStatesAreOne, UnnamedRunsStay, UntoldValuesStay};
 ghost use Rattle.what_if.specs.Trials.{CountsTry, IsTryRefused, trial_of};
-ghost use Rattle.what_if.specs.YearViews.{ArePlanned, IsTried};
+ghost use Rattle.what_if.specs.private.YearViews.{ArePlanned, IsTried};
 
 use crate::rows::push_year;
 use crate::trial::{Trial, TryRefusal};

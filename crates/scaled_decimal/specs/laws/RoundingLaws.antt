@@ -6,7 +6,7 @@ use Rattle.std.proofs.lemmas.Int.{ints}
 use Rattle.scaled_decimal.specs.declared.rounding.Mode.{Mode}
 use Rattle.scaled_decimal.specs.declared.rounding.Mode.TheVariants.{Down, Up, Floor, Ceiling, HalfUp, HalfDown, HalfEven}
 use Rattle.scaled_decimal.specs.Rounding.{IsFloor, IsCeiling, IsNearest, RoundsPositive, Rounds, IsNear, IsAtMost, StaysNear, RisesWithQuotient, HasExactlyOne, dividend_over}
-use Rattle.scaled_decimal.specs.RoundingDecision.{moves_away}
+use Rattle.scaled_decimal.specs.private.RoundingDecision.{moves_away}
 use Rattle.scaled_decimal.specs.laws.RoundingLemmas.{is_odd, stays, moves_up, moves_down, divides}
 use Rattle.scaled_decimal.specs.laws.IntegerLemmas.{times_more, times_less, times_neg_right, by_sign, some_abs}
 use Rattle.scaled_decimal.specs.laws.MonotoneLemmas.{rounds_rise}

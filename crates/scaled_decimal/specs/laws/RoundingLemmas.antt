@@ -8,7 +8,7 @@ use Rattle.scaled_decimal.specs.declared.rounding.Mode.{Mode}
 use Rattle.scaled_decimal.specs.declared.rounding.Mode.TheVariants.{Down, Up, Floor, Ceiling, HalfUp, HalfDown, HalfEven}
 use native.Mathlib.Nat.{div-le_self, mod-le}
 use Rattle.scaled_decimal.specs.Rounding.{IsFloor, IsCeiling, IsNearest, RoundsPositive, Rounds}
-use Rattle.scaled_decimal.specs.RoundingDecision.{moves_away}
+use Rattle.scaled_decimal.specs.private.RoundingDecision.{moves_away}
 use Rattle.scaled_decimal.specs.laws.IntegerLemmas.{times_more, times_less, times_neg}
 
 -- a is k times d, and r is left

@@ -1,7 +1,7 @@
 use Rattle.std.proofs.Common.{None, subst}
 use Rattle.outside.specs.Told.{IsToldFront}
 use Rattle.author_cli.specs.Answers.{IsChart, file_of}
-use Rattle.author_cli.specs.AnswerViews.{answer_of}
+use Rattle.author_cli.specs.private.AnswerViews.{answer_of}
 use Rattle.author_cli.proofs.FrontLemmas.{chart_of}
 use Rattle.author_cli.proofs.answer.answer_chart.Goals as goal
 

@@ -1,6 +1,6 @@
 use Rattle.std.proofs.Common.{Some, subst}
 use Rattle.author_cli.specs.Answers.{IsChart, file_of}
-use Rattle.author_cli.specs.AnswerViews.{answer_of}
+use Rattle.author_cli.specs.private.AnswerViews.{answer_of}
 use Rattle.author_cli.proofs.FrontLemmas.{chart_within_of}
 use Rattle.author_cli.proofs.answer.answer_chart_within.Goals as goal
 

@@ -1,7 +1,7 @@
 use Rattle.std.proofs.Common.{subst}
 use Rattle.outside.specs.Told.{IsToldFront}
 use Rattle.author_cli.specs.Answers.{IsRanges, file_of}
-use Rattle.author_cli.specs.AnswerViews.{answer_of}
+use Rattle.author_cli.specs.private.AnswerViews.{answer_of}
 use Rattle.author_cli.proofs.FrontLemmas.{ranges_of}
 use Rattle.author_cli.proofs.answer.answer_ranges.Goals as goal
 

@@ -1,6 +1,6 @@
 use Rattle.std.proofs.Common.{◌≡◌, subst}
 use Rattle.outside.specs.Told.{AppendsShort}
-use Rattle.author_cli.specs.AnswerViews.{answer_of}
+use Rattle.author_cli.specs.private.AnswerViews.{answer_of}
 use Rattle.author_cli.proofs.answer.write_answer.Goals as goal
 
 pub returns-clause-leaves : goal.returns-clause-leaves

@@ -1,6 +1,6 @@
 use Rattle.std.proofs.Common.{subst}
 use Rattle.author_cli.specs.Words.{texts}
-use Rattle.author_cli.specs.WordViews.{form_of}
+use Rattle.author_cli.specs.private.WordViews.{form_of}
 use Rattle.author_cli.specs.Outside.{outside_of}
 use Rattle.author_cli.specs.CallClauses.{Carries}
 use Rattle.author_cli.proofs.WordLemmas.{one_form}

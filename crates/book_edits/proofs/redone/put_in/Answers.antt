@@ -1,6 +1,7 @@
 use Rattle.std.proofs.Common.{◌≡◌, ◌<◌, [], ◌∷◌, length, get_or, sym, ap, ◌∙◌, arith}
 use Rattle.std.proofs.lemmas.List.{length-append, length-set, nil_from_length}
-use Rattle.book_edits.specs.RedoneClauses.{merged, with_new}
+use Rattle.book_edits.specs.private.RedoneClauses.{merged}
+use Rattle.book_edits.specs.RedoneClauses.{with_new}
 use Rattle.book_edits.proofs.MergeLemmas.{merged_last, merged_none}
 use Rattle.book_edits.proofs.redone.put_in.Goals as goal
 

@@ -1,5 +1,5 @@
 use Rattle.std.proofs.Common.{◌≡◌, ◌≤◌, length, vec_len}
-use Rattle.book_edits.specs.RedoneClauses.{merged}
+use Rattle.book_edits.specs.private.RedoneClauses.{merged}
 use Rattle.book_edits.proofs.redone.put_in.Given as goal
 
 abbrev pub invariant-loop-new : goal.invariant-loop-new

@@ -1,7 +1,7 @@
 use Rattle.std.proofs.Common.{arith, map, sym, ◌∙◌}
 use Rattle.std.proofs.lemmas.Result.{err_from_is_err_and}
-use Rattle.saved_items.specs.Views.{plan_in}
-use Rattle.book_file.specs.Views.{HasNoPlan}
+use Rattle.saved_items.specs.ItemFaults.{plan_in}
+use Rattle.book_file.specs.private.Views.{HasNoPlan}
 use Rattle.book_file.proofs.ReadLemmas.{err_holds, item_accepted, item_refused, ok_from_not_err}
 use Rattle.book_file.proofs.plans.accept_plans.Goals as goal
 

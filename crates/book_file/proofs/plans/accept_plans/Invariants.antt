@@ -1,7 +1,7 @@
 use Rattle.std.proofs.Common.{map, take}
-use Rattle.saved_items.specs.Views.{plan_in}
+use Rattle.saved_items.specs.ItemFaults.{plan_in}
 use Rattle.book_year.specs.Accepted.{plans_in}
-use Rattle.book_file.specs.Views.{AreEntriesOf}
+use Rattle.book_file.specs.private.Views.{AreEntriesOf}
 use Rattle.book_file.proofs.plans.accept_plans.Given as goal
 
 abbrev pub invariant-loop-item : goal.invariant-loop-item

@@ -1,12 +1,12 @@
 use Rattle.std.proofs.Common.{Ok, arith, map, subst}
 use Rattle.std.proofs.lemmas.Result.{err_from_is_err_and}
 use Rattle.saved_items.specs.Texts.{Stop}
-use Rattle.saved_items.specs.Views.{IsItemFaultOrMemory, plan_in, saved_in}
+use Rattle.saved_items.specs.ItemFaults.{IsItemFaultOrMemory, plan_in, saved_in}
 use Rattle.book_year.specs.Accepted.{plans_in}
 use Rattle.recalc_engine.specs.declared.book.RestoredBook.{RestoredBook}
 use Rattle.book_file.specs.BookSays.{BookSays}
 use Rattle.book_file.specs.Clauses.{IsBookFaultOrMemory}
-use Rattle.book_file.specs.Views.{AreEntriesOf, HasNoPlan, IsBookOf}
+use Rattle.book_file.specs.private.Views.{AreEntriesOf, HasNoPlan, IsBookOf}
 use Rattle.book_file.proofs.ReadLemmas.{breaks, counts_read, err_holds, err_more, ok_more, says_book, unread_broken, unread_whole}
 use Rattle.book_file.proofs.read.read_book.Goals as goal
 

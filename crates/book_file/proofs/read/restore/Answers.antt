@@ -1,9 +1,9 @@
 use Rattle.std.proofs.Common.{map, subst}
 use Rattle.std.proofs.lemmas.Result.{err_from_is_err_and}
-use Rattle.saved_items.specs.Views.{plan_in, saved_in}
+use Rattle.saved_items.specs.ItemFaults.{plan_in, saved_in}
 use Rattle.book_year.specs.Accepted.{plans_in}
 use Rattle.payroll_records.proofs.Laws.{own_rising}
-use Rattle.book_file.specs.Views.{AreEntriesOf}
+use Rattle.book_file.specs.private.Views.{AreEntriesOf}
 use Rattle.book_file.proofs.ReadLemmas.{counts_made}
 use Rattle.book_file.proofs.read.restore.Goals as goal
 

@@ -6,7 +6,7 @@ use Rattle.saved_items.specs.SavedBooks.{IsWork, end_text}
 use Rattle.book_year.specs.declared.outcome.Work.{Work}
 use Rattle.book_file.specs.Limits.{most_book_text}
 use Rattle.book_file.specs.Saving.{IsUnsaved}
-use Rattle.book_file.specs.WritingViews.{HasRuns, IsCutFrom, year_text}
+use Rattle.book_file.specs.private.WritingViews.{HasRuns, IsCutFrom, year_text}
 use Rattle.book_file.proofs.ReadLemmas.{err_holds}
 use Rattle.book_file.proofs.SoundLemmas.{sound}
 use Rattle.book_file.proofs.WriteLemmas.{begun, cut_short, whole_text}

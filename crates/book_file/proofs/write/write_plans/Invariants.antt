@@ -1,7 +1,7 @@
 use Rattle.std.proofs.Common.{◌≡◌, ◌++◌, take}
 use Rattle.std.specs.List.{flat_map}
 use Rattle.book_year.specs.Accepted.{plans_in}
-use Rattle.book_file.specs.WritingViews.{entry_text}
+use Rattle.book_file.specs.private.WritingViews.{entry_text}
 use Rattle.book_file.proofs.write.write_plans.Given as goal
 
 abbrev pub invariant-loop-entry : goal.invariant-loop-entry

@@ -1,6 +1,6 @@
 use Rattle.std.proofs.Common.{arith, subst, All}
 use Rattle.saved_items.specs.SavedBooks.{IsRun}
-use Rattle.book_file.specs.WritingViews.{HasRuns}
+use Rattle.book_file.specs.private.WritingViews.{HasRuns}
 use Rattle.book_file.proofs.WriteLemmas.{more_years, one_more, years_cut}
 use Rattle.book_file.proofs.write.write_years.Goals as goal
 

@@ -2,7 +2,7 @@ use Rattle.std.proofs.Common.{◌≡◌, ◌++◌, ◌<◌, ℕ, get_or, take}
 use Rattle.std.specs.List.{flat_map}
 use Rattle.book_year.specs.declared.year.Year.{Year}
 use Rattle.book_edits.specs.Kept.{runs_in}
-use Rattle.book_file.specs.WritingViews.{HasRuns, year_text}
+use Rattle.book_file.specs.private.WritingViews.{HasRuns, year_text}
 use Rattle.book_file.proofs.write.write_years.Given as goal
 
 abbrev pub invariant-loop-year : goal.invariant-loop-year

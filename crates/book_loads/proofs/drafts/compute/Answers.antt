@@ -10,7 +10,7 @@ use Rattle.book_year.specs.Records.{record_day, records_of}
 use Rattle.book_year.specs.ChainClauses.{IsRecalculated}
 use Rattle.book_year.proofs.Laws.{front_is, plans_stay}
 use Rattle.book_edits.specs.Kept.{runs_in}
-use Rattle.book_loads.specs.Groups.{group_year, put_runs}
+use Rattle.book_loads.specs.private.Groups.{group_year, put_runs}
 use Rattle.book_loads.proofs.DraftLemmas.{computed_group, group_few}
 use Rattle.book_loads.proofs.RecordLemmas.{now_of}
 use Rattle.book_loads.proofs.drafts.compute.Goals as goal

@@ -5,8 +5,8 @@ use Rattle.std.proofs.lemmas.List.{nil_from_length}
 use Rattle.book_year.specs.Accepted.{plans_in}
 use Rattle.book_edits.specs.Kept.{runs_in}
 use Rattle.book_loads.specs.declared.drafts.Draft.{Draft}
-use Rattle.book_loads.specs.Groups.{IsGroup}
-use Rattle.book_loads.specs.Drafts.{AreDrafted, groups_cost}
+use Rattle.book_loads.specs.private.Groups.{IsGroup}
+use Rattle.book_loads.specs.private.Drafts.{AreDrafted, groups_cost}
 use Rattle.book_loads.proofs.DraftLemmas.{AreDraftedSoFar, cost_within, drafted_all, drafted_first, one_drafted}
 use Rattle.book_loads.proofs.ErrLemmas.{err_counts, err_done}
 use Rattle.book_loads.proofs.drafts.draft_all.Goals as goal

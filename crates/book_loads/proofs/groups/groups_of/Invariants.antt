@@ -1,6 +1,6 @@
 use Rattle.std.proofs.Common.{◌≡◌, ◌++◌}
 use Rattle.std.specs.Vec.Iter.{into_iter_items}
-use Rattle.book_loads.specs.Groups.{AreGroups}
+use Rattle.book_loads.specs.private.Groups.{AreGroups}
 use Rattle.book_loads.proofs.groups.groups_of.Given as goal
 
 abbrev pub invariant-loop-item : goal.invariant-loop-item

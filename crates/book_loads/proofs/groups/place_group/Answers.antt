@@ -3,7 +3,7 @@ use Rattle.std.proofs.lemmas.List.Sorted.{answers_always}
 use Rattle.rising_lists.proofs.Laws.{found}
 use Rattle.book_edits.specs.Books.{year_cmp}
 use Rattle.book_edits.proofs.Laws.{year_total}
-use Rattle.book_loads.specs.Groups.{group_key}
+use Rattle.book_loads.specs.private.Groups.{group_key}
 use Rattle.book_loads.proofs.groups.place_group.Goals as goal
 
 pub returns : goal.returns

@@ -1,7 +1,7 @@
 use Rattle.std.proofs.Common.{sym, ap, subst, ◌∙◌}
 use Rattle.rising_lists.specs.Places.{Finds, Misses}
 use Rattle.book_edits.specs.Books.{year_cmp, year_of}
-use Rattle.book_loads.specs.Groups.{IsPutGroup, group_key}
+use Rattle.book_loads.specs.private.Groups.{IsPutGroup, group_key}
 use Rattle.book_loads.proofs.GroupLemmas.{put_found_if, put_missed}
 use Rattle.book_loads.proofs.OrderLemmas.{year_at}
 use Rattle.book_loads.proofs.groups.put_item.Goals as goal

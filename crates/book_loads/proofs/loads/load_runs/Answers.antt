@@ -5,9 +5,9 @@ use Rattle.book_year.specs.Accepted.{plans_in}
 use Rattle.book_year.specs.Years.{IsYear}
 use Rattle.book_edits.specs.Books.{loaded, year_cmp}
 use Rattle.book_edits.specs.Kept.{kept_key, runs_in}
-use Rattle.book_edits.specs.Views.{IsListEdit, list_cost}
-use Rattle.book_loads.specs.Drafts.{AreDrafted, groups_cost}
-use Rattle.book_loads.specs.Merges.{AreMergeable, CanMerge, merged_runs}
+use Rattle.book_edits.specs.private.Views.{IsListEdit, list_cost}
+use Rattle.book_loads.specs.private.Drafts.{AreDrafted, groups_cost}
+use Rattle.book_loads.specs.private.Merges.{AreMergeable, CanMerge, merged_runs}
 use Rattle.book_loads.proofs.ErrLemmas.{err_counts, err_done, err_on}
 use Rattle.book_loads.proofs.LoadLemmas.{can_merge, load_cost, load_done, mergeable}
 use Rattle.book_loads.proofs.loads.load_runs.Goals as goal

@@ -1,6 +1,6 @@
 use Rattle.std.proofs.Common.{◌≡◌, ◌<◌, ◌∷◌, ◌++◌, length, refl, ap, ◌∙◌, arith}
 use Rattle.std.specs.Option.{option_to_list}
-use Rattle.book_loads.specs.Groups.{put_runs}
+use Rattle.book_loads.specs.private.Groups.{put_runs}
 use Rattle.book_loads.proofs.NextLemmas.{ahead_first, ahead_from, next_old, tied_first, tied_from}
 use Rattle.book_loads.proofs.merge.next_year.Goals as goal
 

@@ -4,7 +4,7 @@ use Rattle.rising_lists.specs.Keyed.{IsRising}
 use Rattle.payroll_records.specs.Orders.{day_cmp}
 use Rattle.book_year.specs.Records.{record_day}
 use Rattle.book_year.proofs.Laws.{rising_put}
-use Rattle.book_loads.specs.Groups.{put_runs}
+use Rattle.book_loads.specs.private.Groups.{put_runs}
 use Rattle.book_loads.proofs.records.put_all.Goals as goal
 
 pub loop-item-preserved : goal.loop-item-preserved

@@ -2,7 +2,7 @@ use Rattle.std.proofs.Common.{subst, sym, ap, ◌∙◌, take}
 use Rattle.rising_lists.specs.Keyed.{IsRising}
 use Rattle.payroll_records.specs.Orders.{day_cmp}
 use Rattle.book_year.specs.Records.{put_run, record_day}
-use Rattle.book_loads.specs.Groups.{put_runs}
+use Rattle.book_loads.specs.private.Groups.{put_runs}
 use Rattle.book_loads.proofs.RecordLemmas.{puts_next, rising_puts}
 use Rattle.book_loads.proofs.records.references_with.Goals as goal
 

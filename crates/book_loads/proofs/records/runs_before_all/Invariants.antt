@@ -1,5 +1,5 @@
 use Rattle.std.proofs.Common.{◌≡◌, ◌≤◌, length, take}
-use Rattle.book_loads.specs.Groups.{put_runs}
+use Rattle.book_loads.specs.private.Groups.{put_runs}
 use Rattle.book_loads.proofs.records.runs_before_all.Given as goal
 
 abbrev pub invariant-loop-item : goal.invariant-loop-item

@@ -1,5 +1,5 @@
 use Rattle.std.proofs.Common.{sym, ◌∙◌, subst}
-use Rattle.book_year.specs.ChainClauses.{IsOldJob}
+use Rattle.book_year.specs.private.ChainClauses.{IsOldJob}
 use Rattle.book_year.proofs.JobLemmas.{same_job}
 use Rattle.book_year.proofs.chain.kept_outputs.Goals as goal
 

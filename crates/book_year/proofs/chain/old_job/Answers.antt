@@ -3,7 +3,7 @@ use Rattle.std.proofs.lemmas.List.{length-map}
 use Rattle.book_year.specs.Rows.{year_rows}
 use Rattle.book_year.specs.Kept.{kept}
 use Rattle.book_year.specs.Picks.{before}
-use Rattle.book_year.specs.ChainClauses.{outcome_job}
+use Rattle.book_year.specs.private.ChainClauses.{outcome_job}
 use Rattle.book_year.proofs.OldLemmas.{old_at, rows_length, job_gap}
 use Rattle.book_year.proofs.chain.old_job.Goals as goal
 

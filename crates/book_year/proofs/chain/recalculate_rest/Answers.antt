@@ -7,7 +7,8 @@ use Rattle.book_year.specs.Rows.{row_of, year_rows, outputs_in}
 use Rattle.book_year.specs.Jobs.{new_jobs, total_cost}
 use Rattle.book_year.specs.Kept.{kept}
 use Rattle.book_year.specs.Picks.{after, before}
-use Rattle.book_year.specs.ChainClauses.{IsRan, old_jobs}
+use Rattle.book_year.specs.private.ChainClauses.{IsRan}
+use Rattle.book_year.specs.ChainClauses.{old_jobs}
 use Rattle.book_year.proofs.ChainLemmas.{IsWalk, earlier_few, out_before, out_after, walk_more, take_step}
 use Rattle.book_year.proofs.FrontLemmas.{all_taken, rest_read, rest_within, walk_front}
 use Rattle.book_year.proofs.OldLemmas.{rows_length}

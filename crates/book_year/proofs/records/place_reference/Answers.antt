@@ -3,7 +3,8 @@ use Rattle.std.proofs.lemmas.List.Sorted.{answers_always}
 use Rattle.rising_lists.proofs.Laws.{searched}
 use Rattle.payroll_records.specs.Orders.{day_cmp}
 use Rattle.payroll_records.proofs.Laws.{day_total}
-use Rattle.book_year.specs.Records.{record_day, reference_day}
+use Rattle.book_year.specs.Records.{record_day}
+use Rattle.book_year.specs.private.Records.{reference_day}
 use Rattle.book_year.proofs.RecordLemmas.{rising_map, now_of}
 use Rattle.book_year.proofs.records.place_reference.Goals as goal
 

@@ -1,6 +1,6 @@
 use Rattle.rising_lists.specs.Places.{IsAt, IsGap}
 use Rattle.payroll_records.specs.Orders.{day_cmp}
-use Rattle.book_year.specs.Records.{reference_day}
+use Rattle.book_year.specs.private.Records.{reference_day}
 use Rattle.book_year.proofs.RecordLemmas.{put_ref_at, put_ref_in}
 use Rattle.book_year.proofs.records.put_reference.Goals as goal
 

@@ -1,4 +1,4 @@
-use Rattle.call_order.specs.MarkViews.{left, IsMarking}
+use Rattle.call_order.specs.private.MarkViews.{left, IsMarking}
 use Rattle.call_order.proofs.cycles.+mark.Given as goal
 
 abbrev pub decreases-mark : goal.decreases-mark

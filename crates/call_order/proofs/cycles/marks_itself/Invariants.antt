@@ -1,4 +1,4 @@
-use Rattle.call_order.specs.MarkViews.{IsMarking}
+use Rattle.call_order.specs.private.MarkViews.{IsMarking}
 use Rattle.call_order.proofs.cycles.marks_itself.Given as goal
 
 abbrev pub invariant-loop-next : goal.invariant-loop-next

@@ -2,7 +2,7 @@ use Rattle.std.proofs.Common.{◌≡◌, ℕ, ◌<◌, length, get_or, set, ap, 
 use Rattle.std.specs.Prelude.{All, min, slice_index}
 use Rattle.call_order.specs.Graphs.{Content}
 use Rattle.call_order.specs.Faults.{last_count}
-use Rattle.call_order.specs.LengthViews.{length_with}
+use Rattle.call_order.specs.private.LengthViews.{length_with}
 use Rattle.call_order.proofs.LengthLemmas.{lengths_more, call_at}
 use Rattle.call_order.proofs.lengths.lengths_of.Goals as goal
 

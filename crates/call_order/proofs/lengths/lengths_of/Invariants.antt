@@ -1,5 +1,5 @@
 use Rattle.std.proofs.Common.{take}
-use Rattle.call_order.specs.LengthViews.{AreLengths}
+use Rattle.call_order.specs.private.LengthViews.{AreLengths}
 use Rattle.call_order.proofs.lengths.lengths_of.Given as goal
 
 abbrev pub invariant-loop-method : goal.invariant-loop-method

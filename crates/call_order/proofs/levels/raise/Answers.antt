@@ -1,7 +1,7 @@
 use Rattle.std.proofs.Common.{ℕ, ◌<◌, List, length, subst, sym}
 use Rattle.std.specs.Prelude.{All}
 use Rattle.call_order.specs.Chains.{content_at}
-use Rattle.call_order.specs.LevelViews.{level_at}
+use Rattle.call_order.specs.private.LevelViews.{level_at}
 use Rattle.call_order.proofs.LevelLemmas.{is_without, is_with, read_at, raised_set, raised_not, raised_kept}
 use Rattle.call_order.proofs.levels.raise.Goals as goal
 use Rattle.call_order.proofs.levels.raise.Goals.{then-is_none+then-are_placed, else-is_none, else-is_none-via-then-is_none+else-are_placed, else-is_none-via-else-is_none}

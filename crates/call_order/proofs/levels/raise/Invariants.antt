@@ -1,4 +1,4 @@
-use Rattle.call_order.specs.LevelViews.{AreRaised}
+use Rattle.call_order.specs.private.LevelViews.{AreRaised}
 use Rattle.call_order.proofs.levels.raise.Given as goal
 
 abbrev pub invariant-loop-i : goal.invariant-loop-i

@@ -1,7 +1,7 @@
 use Rattle.std.proofs.Common.{◌≡◌, None, ap, length, subst, arith}
 use Rattle.pap_tree.specs.Flowchart.{flowchart_of}
 use Rattle.call_order.specs.Faults.{IsFirst}
-use Rattle.call_order.specs.LevelViews.{level_at, HaveLevels, IsByLevel}
+use Rattle.call_order.specs.private.LevelViews.{level_at, HaveLevels, IsByLevel}
 use Rattle.call_order.proofs.WholeLemmas.{known}
 use Rattle.call_order.proofs.FoundLemmas.{long_fault, sorted}
 use Rattle.call_order.proofs.order.by_chains.Goals as goal

@@ -1,7 +1,7 @@
 use Rattle.std.proofs.Common.{◌∙◌, ap, subst}
 use Rattle.pap_tree.specs.Flowchart.{flowchart_of, body_of}
 use Rattle.call_order.specs.Graphs.{content_of}
-use Rattle.call_order.specs.LengthViews.{AreLengths}
+use Rattle.call_order.specs.private.LengthViews.{AreLengths}
 use Rattle.call_order.proofs.WholeLemmas.{known}
 use Rattle.call_order.proofs.FoundLemmas.{main_known, counted}
 use Rattle.call_order.proofs.order.count_of.Goals as goal

@@ -1,4 +1,4 @@
-use Rattle.call_order.specs.LevelViews.{IsPartly}
+use Rattle.call_order.specs.private.LevelViews.{IsPartly}
 use Rattle.call_order.proofs.order.push_level.Given as goal
 
 abbrev pub invariant-loop-i : goal.invariant-loop-i

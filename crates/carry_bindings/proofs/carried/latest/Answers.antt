@@ -1,5 +1,5 @@
 use Rattle.std.proofs.Common.{sym, ◌∙◌}
-use Rattle.carry_bindings.specs.OutputViews.{names_before}
+use Rattle.carry_bindings.specs.private.OutputViews.{names_before}
 use Rattle.carry_bindings.proofs.AmountLemmas.{amounts_from}
 use Rattle.carry_bindings.proofs.OutputLemmas.{marked_alike, place_next}
 use Rattle.carry_bindings.proofs.carried.latest.Goals.{in-Some, in_default}

@@ -1,7 +1,7 @@
 use Rattle.std.proofs.Common.{◌≡◌, drop}
 use Rattle.std.specs.Prelude.{fold}
 use Rattle.carry_bindings.specs.Carrying.{amounts, latest}
-use Rattle.carry_bindings.specs.OutputViews.{names_before, place_in}
+use Rattle.carry_bindings.specs.private.OutputViews.{names_before, place_in}
 use Rattle.carry_bindings.proofs.carried.latest.Given as goal
 
 abbrev pub invariant-loop-at : goal.invariant-loop-at

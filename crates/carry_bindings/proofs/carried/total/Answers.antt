@@ -1,6 +1,6 @@
 use Rattle.std.proofs.Common.{arith, sym, ◌∙◌, ◌≡◌, None, Some}
 use Rattle.carry_bindings.specs.Carrying.{amount_of}
-use Rattle.carry_bindings.specs.OutputViews.{names_before}
+use Rattle.carry_bindings.specs.private.OutputViews.{names_before}
 use Rattle.carry_bindings.proofs.AmountLemmas.{sum_fits, sum_partial, partial_more, amount_bounded, amounts_from}
 use Rattle.carry_bindings.proofs.OutputLemmas.{marked_alike, place_next}
 use Rattle.carry_bindings.proofs.carried.total.Goals as goal

@@ -2,7 +2,7 @@ use Rattle.std.proofs.Common.{◌≡◌, drop}
 use Rattle.std.specs.Prelude.{fold}
 use Rattle.scaled_decimal.specs.Decimals.{sum}
 use Rattle.carry_bindings.specs.Carrying.{amounts, total}
-use Rattle.carry_bindings.specs.OutputViews.{names_before, place_in}
+use Rattle.carry_bindings.specs.private.OutputViews.{names_before, place_in}
 use Rattle.carry_bindings.proofs.AmountLemmas.{IsPartial}
 use Rattle.carry_bindings.proofs.carried.total.Given as goal
 

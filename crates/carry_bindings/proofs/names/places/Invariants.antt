@@ -1,5 +1,5 @@
 use Rattle.std.proofs.Common.{◌≡◌, take}
-use Rattle.carry_bindings.specs.Views.{places_of}
+use Rattle.carry_bindings.specs.private.Views.{places_of}
 use Rattle.carry_bindings.proofs.names.places.Given as goal
 
 abbrev pub invariant-loop-slot : goal.invariant-loop-slot

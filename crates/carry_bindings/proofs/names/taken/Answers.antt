@@ -3,7 +3,7 @@ use Rattle.std.specs.Prelude.{replicate}
 use Rattle.std.proofs.Math.ListN.{length-map}
 use Rattle.payroll_records.specs.NamedValues.{name_of}
 use Rattle.carry_bindings.specs.Filling.{takes}
-use Rattle.carry_bindings.specs.Views.{marked, taken}
+use Rattle.carry_bindings.specs.private.Views.{marked, taken}
 use Rattle.carry_bindings.proofs.NameLemmas.{mark_more, none_taken, place_fits, place_for}
 use Rattle.carry_bindings.proofs.names.taken.Goals as goal
 

@@ -1,5 +1,5 @@
 use Rattle.std.proofs.Common.{◌≡◌, take}
-use Rattle.carry_bindings.specs.Views.{taken}
+use Rattle.carry_bindings.specs.private.Views.{taken}
 use Rattle.carry_bindings.proofs.names.taken.Given as goal
 
 abbrev pub invariant-loop-at : goal.invariant-loop-at

@@ -1,7 +1,7 @@
 use Rattle.std.proofs.Common.{◌≡◌, add-one, ◌+◌, [], ◌∷◌, length, sym, ap, subst, ◌∙◌}
 use Rattle.std.specs.Bool.{OnTrue}
 use Rattle.std.proofs.lemmas.List.{length-append}
-use Rattle.carry_bindings.specs.OutputViews.{AreAlike, lent_names, names_before}
+use Rattle.carry_bindings.specs.private.OutputViews.{AreAlike, lent_names, names_before}
 use Rattle.carry_bindings.proofs.OutputLemmas.{lent_is, names_next, one_mark_more}
 use Rattle.carry_bindings.proofs.outputs.alike.Goals as goal
 

@@ -1,5 +1,5 @@
 use Rattle.std.proofs.Common.{◌≡◌, length}
-use Rattle.carry_bindings.specs.OutputViews.{AreAlike, lent_names, names_before}
+use Rattle.carry_bindings.specs.private.OutputViews.{AreAlike, lent_names, names_before}
 use Rattle.carry_bindings.proofs.outputs.alike.Given as goal
 
 abbrev pub invariant-loop-e : goal.invariant-loop-e

@@ -1,7 +1,7 @@
 use Rattle.std.proofs.Common.{map, ap, ◌∙◌, Some}
 use Rattle.std.specs.Prelude.{option_map}
 use Rattle.payroll_records.specs.NamedValues.{name_of}
-use Rattle.carry_bindings.specs.OutputViews.{place_in}
+use Rattle.carry_bindings.specs.private.OutputViews.{place_in}
 use Rattle.carry_bindings.proofs.OutputLemmas.{place_found}
 use Rattle.carry_bindings.proofs.outputs.place_in.Goals as goal
 

@@ -1,5 +1,5 @@
 use Rattle.std.proofs.Common.{None, refl, sym, ap, ◌∙◌}
-use Rattle.chart_layout.specs.Drawn.{figures_statements}
+use Rattle.chart_layout.specs.private.Drawn.{figures_statements}
 use Rattle.chart_layout.proofs.DrawnLemmas.{arm_roll, choice_alone, if_ok}
 use Rattle.chart_layout.proofs.build.joined.Goals as goal
 

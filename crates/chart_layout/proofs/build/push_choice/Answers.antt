@@ -1,5 +1,6 @@
 use Rattle.std.proofs.Common.{◌++◌, ◌∷◌, ap, ◌∙◌}
-use Rattle.chart_layout.specs.Drawn.{drawn_statement, figures_statements}
+use Rattle.chart_layout.specs.Drawn.{drawn_statement}
+use Rattle.chart_layout.specs.private.Drawn.{figures_statements}
 use Rattle.chart_layout.proofs.DrawnLemmas.{one_figure, figure_choice}
 use Rattle.chart_layout.proofs.build.push_choice.Goals as goal
 

@@ -1,6 +1,6 @@
 use Rattle.std.proofs.Common.{◌≡◌, ◌++◌}
 use Rattle.std.specs.List.{AllByRecursion, filter_map}
-use Rattle.correction_ledger.specs.BalanceViews.{AreBothBounded, owed_of}
+use Rattle.correction_ledger.specs.private.BalanceViews.{AreBothBounded, owed_of}
 use Rattle.correction_ledger.proofs.filings.owed.Given as goal
 
 abbrev pub invariant-loop-balance : goal.invariant-loop-balance

@@ -1,6 +1,6 @@
 use Rattle.std.proofs.Common.{◌≡◌, ◌++◌, map}
 use Rattle.std.specs.List.{AllByRecursion}
-use Rattle.correction_ledger.specs.BalanceViews.{AreBothBounded, settled_of}
+use Rattle.correction_ledger.specs.private.BalanceViews.{AreBothBounded, settled_of}
 use Rattle.correction_ledger.proofs.filings.settled.Given as goal
 
 abbrev pub invariant-loop-balance : goal.invariant-loop-balance

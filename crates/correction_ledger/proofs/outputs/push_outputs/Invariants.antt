@@ -1,5 +1,5 @@
 use Rattle.std.proofs.Common.{◌≡◌, take}
-use Rattle.correction_ledger.specs.RowViews.{dues_of}
+use Rattle.correction_ledger.specs.private.RowViews.{dues_of}
 use Rattle.correction_ledger.proofs.outputs.push_outputs.Given as goal
 
 abbrev pub invariant-loop-output : goal.invariant-loop-output

@@ -1,6 +1,6 @@
 use Rattle.std.proofs.lemmas.List.Sorted.{answers_always}
 use Rattle.std.proofs.Common.{rules}
-use Rattle.correction_ledger.specs.RowViews.{due_name}
+use Rattle.correction_ledger.specs.private.RowViews.{due_name}
 use Rattle.correction_ledger.proofs.outputs.sort.Goals as goal
 
 pub returns-clause-sorted : goal.returns-clause-sorted

@@ -1,7 +1,7 @@
 use Rattle.std.proofs.Common.{sym, subst, ◌∙◌}
-use Rattle.recalc_engine.specs.RowViews.{lent_row}
+use Rattle.recalc_engine.specs.LentRows.{lent_row}
 use Rattle.recalc_engine.specs.RowLaws.{AreBookRows, HaveNames}
-use Rattle.correction_ledger.specs.RowViews.{AreReported}
+use Rattle.correction_ledger.specs.private.RowViews.{AreReported}
 use Rattle.correction_ledger.proofs.ReportedLemmas.{begins, named_there, underway_done, underway_more}
 use Rattle.correction_ledger.proofs.rows.reported.Goals as goal
 

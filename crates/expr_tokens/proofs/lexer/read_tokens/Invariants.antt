@@ -2,7 +2,7 @@ use Rattle.std.proofs.Common.{◌≤◌, ◌-◌, List, length, ◌++◌}
 use Rattle.pap_tree.specs.White.{is_white}
 use Rattle.pap_tree.specs.Tokens.{Spot, Tokens}
 use Rattle.expr_tokens.specs.Spots.{spots_of}
-use Rattle.expr_tokens.specs.Views.{Stops}
+use Rattle.expr_tokens.specs.private.Views.{Stops}
 use Rattle.expr_tokens.proofs.lexer.read_tokens.Given as goal
 
 -- the tokens so far, and those of what is left, are those of the text

@@ -1,5 +1,5 @@
 use Rattle.std.proofs.Common.{subst}
-use Rattle.expr_tokens.specs.Views.{IsLongest, is_no_quote}
+use Rattle.expr_tokens.specs.private.Views.{IsLongest, is_no_quote}
 use Rattle.expr_tokens.proofs.FrontLemmas.{longest_by}
 use Rattle.expr_tokens.proofs.StringLemmas.{no_quote_left}
 use Rattle.expr_tokens.proofs.number.split_at_quote.Goals as goal

@@ -1,7 +1,7 @@
 use Rattle.std.proofs.Common.{◌∷◌, length, arith, ap, sym, subst}
 use Rattle.pap_tree.specs.Tokens.{Operator}
 use Rattle.expr_tokens.specs.Spots.{token_of}
-use Rattle.expr_tokens.specs.Views.{Begins}
+use Rattle.expr_tokens.specs.private.Views.{Begins}
 use Rattle.expr_tokens.proofs.SignLemmas.{pair_begins, single_begins, no_pair}
 use Rattle.expr_tokens.proofs.sign.split_sign.Goals as goal
 

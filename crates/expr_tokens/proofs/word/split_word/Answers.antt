@@ -1,5 +1,5 @@
 use Rattle.std.proofs.Common.{sym, subst}
-use Rattle.expr_tokens.specs.Views.{Begins}
+use Rattle.expr_tokens.specs.private.Views.{Begins}
 use Rattle.expr_tokens.proofs.WordLemmas.{word_begins}
 use Rattle.expr_tokens.proofs.word.split_word.Goals as goal
 

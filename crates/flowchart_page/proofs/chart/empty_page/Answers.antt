@@ -1,4 +1,4 @@
-use Rattle.flowchart_page.specs.VerdictViews.{said_of}
+use Rattle.flowchart_page.specs.private.VerdictViews.{said_of}
 use Rattle.flowchart_page.proofs.PageLemmas.{head_alone}
 use Rattle.flowchart_page.proofs.chart.empty_page.Goals as goal
 

@@ -5,7 +5,7 @@ use Rattle.pap_reader.specs.Trees.{tree_of}
 use Rattle.flowchart_methods.specs.Sites.{named_statement}
 use Rattle.flowchart_methods.specs.Chapters.{chapter_captions}
 use Rattle.flowchart_page.specs.Pages.{IsWholePage}
-use Rattle.flowchart_page.specs.VerdictViews.{finding_of, said_of}
+use Rattle.flowchart_page.specs.private.VerdictViews.{finding_of, said_of}
 use Rattle.flowchart_page.proofs.PageLemmas.{tree_page}
 use Rattle.flowchart_page.proofs.chart.plan_page.Goals as goal
 

@@ -1,6 +1,6 @@
 use Rattle.std.specs.List.{flat_map}
 use Rattle.flowchart_methods.specs.Chapters.{chapter_captions}
-use Rattle.flowchart_page.specs.VerdictViews.{said_of}
+use Rattle.flowchart_page.specs.private.VerdictViews.{said_of}
 use Rattle.flowchart_page.proofs.PageLemmas.{whole_page}
 use Rattle.flowchart_page.proofs.chart.whole_page.Goals as goal
 

@@ -1,6 +1,6 @@
 use Rattle.std.proofs.Common.{◌∙◌}
 use Rattle.flowchart_methods.specs.Turns.{AddsInTurn}
-use Rattle.flowchart_page.specs.VerdictViews.{said_of, sentence_of, behind_sentence}
+use Rattle.flowchart_page.specs.private.VerdictViews.{said_of, sentence_of, behind_sentence}
 use Rattle.flowchart_page.proofs.HeaderLemmas.{on_ok, said_in}
 use Rattle.flowchart_page.proofs.header.write_verdict.Goals as goal
 

@@ -2,7 +2,7 @@ use Rattle.std.proofs.Common.{◌≡◌, ◌≢◌, true, false, rules, refl}
 use Rattle.std.specs.Prelude.{is_none, string_bytes}
 use Rattle.pap_plan.specs.declared.refusal.PlanRefusal.TheVariants as refusals
 use Rattle.plan_answers.proofs.Laws.{its_plan}
-use Rattle.flowchart_page.specs.VerdictViews.{is_excused}
+use Rattle.flowchart_page.specs.private.VerdictViews.{is_excused}
 use Rattle.flowchart_page.proofs.VerdictLemmas.{found_in_order, judged_in_order, found_refused, judged_refused, says_refused}
 use Rattle.flowchart_page.proofs.verdict.judge.Goals as goal
 

@@ -1,5 +1,5 @@
 use Rattle.std.proofs.Common.{refl}
-use Rattle.plan_answers.specs.ReplyViews.{reply_of}
+use Rattle.plan_answers.specs.Replies.{reply_of}
 use Rattle.flowchart_page.proofs.HeaderLemmas.{line_written}
 use Rattle.flowchart_page.proofs.verdict.refusal_line.Goals as goal
 

@@ -4,7 +4,7 @@ use Rattle.pap_tree.specs.Flowchart.{flowchart_of, body_of, stmt_then, done}
 use Rattle.pap_tree.specs.Statements.{written}
 use Rattle.pap_types.specs.Bounds.{body_bound}
 use Rattle.pap_types.specs.Counts.{AreSmallTerms}
-use Rattle.interval_analysis.specs.BoundViews.{last_sum, bound_at, stopped_bound}
+use Rattle.interval_analysis.specs.private.BoundViews.{last_sum, bound_at, stopped_bound}
 use Rattle.interval_analysis.proofs.bounds.+bound.Given as goal
 
 abbrev pub decreases-body_bound : goal.decreases-body_bound

@@ -1,6 +1,6 @@
 use Rattle.std.proofs.Common.{◌≡◌, ap, ◌∙◌, arith}
 use Rattle.pap_tree.specs.Flowchart.{flowchart_of, body_of}
-use Rattle.interval_analysis.specs.BoundViews.{stopped_bound}
+use Rattle.interval_analysis.specs.private.BoundViews.{stopped_bound}
 use Rattle.interval_analysis.proofs.BoundLemmas.{main_bound, main_fits}
 use Rattle.interval_analysis.proofs.bounds.bound_of.Goals as goal
 

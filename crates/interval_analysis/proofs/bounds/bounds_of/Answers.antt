@@ -2,7 +2,7 @@ use Rattle.std.proofs.Common.{◌≡◌, ◌<◌, length, get_or, set, refl, sym
 use Rattle.std.proofs.lemmas.List.{length-map}
 use Rattle.pap_tree.specs.Flowchart.{flowchart_of, body_of, routine_of}
 use Rattle.pap_types.specs.Counts.{AreSmallTerms}
-use Rattle.interval_analysis.specs.BoundViews.{stopped_bound}
+use Rattle.interval_analysis.specs.private.BoundViews.{stopped_bound}
 use Rattle.interval_analysis.proofs.BoundLemmas.{number_known, bounds_more, method_there, small_there}
 use Rattle.interval_analysis.proofs.bounds.bounds_of.Goals as goal
 

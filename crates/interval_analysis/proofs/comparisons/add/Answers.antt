@@ -1,5 +1,5 @@
 use Rattle.std.proofs.Common.{[], ◌∷◌, sym, ap, ◌∙◌}
-use Rattle.interval_analysis.specs.Changes.{after_change, changed}
+use Rattle.interval_analysis.specs.private.Changes.{after_change, changed}
 use Rattle.interval_analysis.proofs.ChangeLemmas.{changed-append}
 use Rattle.interval_analysis.proofs.comparisons.add.Goals as goal
 

@@ -1,7 +1,7 @@
 use Rattle.std.proofs.Common.{◌≡◌, Some, sym, ap, ◌∙◌, subst}
 use Rattle.std.specs.Option.{option_map}
-use Rattle.interval_analysis.specs.Changes.{after_change}
-use Rattle.interval_analysis.specs.ComparisonViews.{CanNarrowAt, against, narrowed}
+use Rattle.interval_analysis.specs.private.Changes.{after_change}
+use Rattle.interval_analysis.specs.private.ComparisonViews.{CanNarrowAt, against, narrowed}
 use Rattle.interval_analysis.proofs.PartLemmas.{second_narrows}
 use Rattle.interval_analysis.proofs.comparisons.branch_of.Goals as goal
 

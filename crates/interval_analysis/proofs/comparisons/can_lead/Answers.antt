@@ -1,7 +1,7 @@
 use Rattle.std.proofs.Common.{◌∙◌, ap, subst}
 use Rattle.std.specs.Bool.{OnTrue}
 use Rattle.interval_walk.specs.Branches.{can_have}
-use Rattle.interval_analysis.specs.ComparisonViews.{AreApart}
+use Rattle.interval_analysis.specs.private.ComparisonViews.{AreApart}
 use Rattle.interval_analysis.proofs.ApartLemmas.{apart_leads}
 use Rattle.interval_analysis.proofs.comparisons.can_lead.Goals as goal
 

@@ -1,6 +1,6 @@
 use Rattle.std.proofs.Common.{◌≡◌, Some, sym, ◌∙◌, subst, arith}
-use Rattle.interval_analysis.specs.Changes.{after_change}
-use Rattle.interval_analysis.specs.ComparisonViews.{CanRefine}
+use Rattle.interval_analysis.specs.private.Changes.{after_change}
+use Rattle.interval_analysis.specs.private.ComparisonViews.{CanRefine}
 use Rattle.interval_analysis.proofs.ChangeLemmas.{length-after_change}
 use Rattle.interval_analysis.proofs.NoteLemmas.{within_of}
 use Rattle.interval_analysis.proofs.comparisons.narrow.Goals as goal

@@ -4,7 +4,7 @@ use Rattle.pap_types.specs.declared.kinds.NodeKind.TheVariants.{Int}
 use Rattle.interval_walk.specs.Failures.{at_node}
 use Rattle.interval_walk.specs.NodeRanges.{read_range}
 use Rattle.interval_walk.specs.Ranges.{single}
-use Rattle.interval_analysis.specs.ExpressionViews.{StopsAs}
+use Rattle.interval_analysis.specs.private.ExpressionViews.{StopsAs}
 use Rattle.interval_analysis.proofs.ComparisonLemmas.{widened, literal_stops, order_err, order_node_stops, order_passes}
 use Rattle.interval_analysis.proofs.conditions.behind_order.Goals as goal
 

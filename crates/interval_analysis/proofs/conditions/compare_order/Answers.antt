@@ -3,8 +3,8 @@ use Rattle.std.specs.Int.{w32}
 use Rattle.std.proofs.lemmas.Int.{to_z-of_z}
 use Rattle.interval_walk.specs.Branches.{signs_where}
 use Rattle.interval_walk.specs.Failures.{and_then}
-use Rattle.interval_analysis.specs.ComparisonViews.{CanRefine, branches_by, sides_of}
-use Rattle.interval_analysis.specs.TestViews.{order_node}
+use Rattle.interval_analysis.specs.private.ComparisonViews.{CanRefine, branches_by, sides_of}
+use Rattle.interval_analysis.specs.private.TestViews.{order_node}
 use Rattle.interval_analysis.proofs.ComparisonLemmas.{order_aligned}
 use Rattle.interval_analysis.proofs.conditions.compare_order.Goals as goal
 

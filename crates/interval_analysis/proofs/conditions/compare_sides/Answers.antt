@@ -3,7 +3,7 @@ use Rattle.pap_types.specs.Kinds.{is_whole}
 use Rattle.interval_walk.specs.Branches.{signs_where}
 use Rattle.interval_walk.specs.Failures.{and_then, at_node}
 use Rattle.interval_walk.proofs.Laws.{passed_node, compared_aligned}
-use Rattle.interval_analysis.specs.ComparisonViews.{CanRefine, branches_by, sides_of}
+use Rattle.interval_analysis.specs.private.ComparisonViews.{CanRefine, branches_by, sides_of}
 use Rattle.interval_analysis.proofs.ComparisonLemmas.{left_whole, right_whole}
 use Rattle.interval_analysis.proofs.conditions.compare_sides.Goals as goal
 

@@ -1,7 +1,7 @@
 use Rattle.std.proofs.Common.{◌+◌, length, drop, refl, sym, ap, ◌∙◌, arith}
 use Rattle.std.proofs.lemmas.Option.{slice_get_read}
-use Rattle.interval_analysis.specs.Notes.{taken_back}
-use Rattle.interval_analysis.specs.StatementViews.{joined_lists}
+use Rattle.interval_analysis.specs.private.Notes.{taken_back}
+use Rattle.interval_analysis.specs.private.StatementViews.{joined_lists}
 use Rattle.interval_analysis.proofs.MeetLemmas.{distinct_rest, join_fails, join_past, join_step, joined_behind}
 use Rattle.interval_analysis.proofs.NoteLemmas.{drop_there, kept_set}
 use Rattle.interval_analysis.proofs.RepeatLemmas.{seen_over}

@@ -1,7 +1,7 @@
 use Rattle.std.proofs.Common.{◌≡◌, drop}
-use Rattle.interval_analysis.specs.Changes.{AreKept}
-use Rattle.interval_analysis.specs.Notes.{taken_back}
-use Rattle.interval_analysis.specs.StatementViews.{joined_lists}
+use Rattle.interval_analysis.specs.private.Changes.{AreKept}
+use Rattle.interval_analysis.specs.private.Notes.{taken_back}
+use Rattle.interval_analysis.specs.private.StatementViews.{joined_lists}
 use Rattle.interval_analysis.proofs.joins.join_noted.Given as goal
 
 abbrev pub invariant-loop-note : goal.invariant-loop-note

@@ -1,5 +1,5 @@
 use Rattle.std.proofs.Common.{sym, ◌∙◌}
-use Rattle.pap_types.specs.ScopeViews.{scope_in}
+use Rattle.pap_types.specs.private.ScopeViews.{scope_in}
 use Rattle.interval_analysis.proofs.KeptLemmas.{kind_by}
 use Rattle.interval_analysis.proofs.names.kind_named.Goals as goal
 

@@ -1,7 +1,7 @@
 use Rattle.std.proofs.Common.{[], sym, ◌∙◌, subst}
 use Rattle.std.specs.List.{All}
 use Rattle.std.proofs.lemmas.List.Elements.{All-append, All-cons, All-nil}
-use Rattle.interval_analysis.specs.NumberViews.{HasItsNumber}
+use Rattle.interval_analysis.specs.private.NumberViews.{HasItsNumber}
 use Rattle.interval_analysis.proofs.numbers.push_numbers.Goals as goal
 use Rattle.interval_analysis.proofs.numbers.push_numbers.Goals.{in-Some+in_ok-push, in_default}
 

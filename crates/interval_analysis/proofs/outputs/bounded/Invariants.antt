@@ -1,9 +1,9 @@
 use Rattle.std.proofs.Common.{◌≡◌, take, drop, map, not}
 use Rattle.std.specs.List.{find}
 use Rattle.interval_walk.specs.Analysis.{is_bounded}
-use Rattle.interval_analysis.specs.PlanViews.{with_names}
+use Rattle.interval_analysis.specs.private.PlanViews.{with_names}
 use Rattle.interval_analysis.specs.Answers.{named_range}
-use Rattle.interval_analysis.specs.OutputViews.{output_names}
+use Rattle.interval_analysis.specs.private.OutputViews.{output_names}
 use Rattle.interval_analysis.proofs.outputs.bounded.Given as goal
 
 abbrev pub invariant-loop-i : goal.invariant-loop-i

@@ -1,7 +1,7 @@
 use Rattle.std.proofs.Common.{◌≡◌, ◌+◌, ◌-◌, length, take, drop, sym, ap, ap₂, ◌∙◌, subst, arith}
 use Rattle.interval_walk.specs.Analysis.{unless_unbounded}
-use Rattle.interval_analysis.specs.PlanViews.{with_names}
-use Rattle.interval_analysis.specs.OutputViews.{OutputAnswer, output_names}
+use Rattle.interval_analysis.specs.private.PlanViews.{with_names}
+use Rattle.interval_analysis.specs.private.OutputViews.{OutputAnswer, output_names}
 use Rattle.interval_analysis.proofs.OutputLemmas.{output_part}
 use Rattle.interval_analysis.proofs.outputs.output_ranges.Goals as goal
 

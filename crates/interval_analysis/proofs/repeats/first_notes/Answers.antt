@@ -1,6 +1,6 @@
 use Rattle.std.proofs.Common.{◌<◌, length, take, ◌∙◌, subst, arith}
 use Rattle.std.proofs.lemmas.List.{length-set}
-use Rattle.interval_analysis.specs.Notes.{FirstAnswer}
+use Rattle.interval_analysis.specs.private.Notes.{FirstAnswer}
 use Rattle.interval_analysis.proofs.RepeatLemmas.{kept_back, kept_placed, placed_distinct, skipped_back}
 use Rattle.interval_analysis.proofs.repeats.first_notes.Goals as goal
 use Rattle.interval_analysis.proofs.repeats.first_notes.Goals.{then-is_first, else-is_first}

@@ -1,6 +1,6 @@
 use Rattle.std.proofs.Common.{◌≡◌, ◌≤◌, ◌++◌, List, length, take, drop}
 use Rattle.interval_num.specs.Intervals.{Interval}
-use Rattle.interval_analysis.specs.Notes.{ArePlaced, taken_back}
+use Rattle.interval_analysis.specs.private.Notes.{ArePlaced, taken_back}
 use Rattle.interval_analysis.proofs.repeats.first_notes.Given as goal
 
 abbrev pub invariant-loop-at : goal.invariant-loop-at

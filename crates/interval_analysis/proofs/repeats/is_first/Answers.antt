@@ -3,7 +3,7 @@ use Rattle.std.specs.Prelude.{slice_get, not}
 use Rattle.std.proofs.lemmas.Bool.Decides.{nat_tests}
 use Rattle.std.proofs.lemmas.Option.{slice_get-get_or}
 use Rattle.interval_analysis.specs.declared.branches.Change.{Change}
-use Rattle.interval_analysis.specs.Notes.{FirstAnswer, IsFirst, IsRepeated}
+use Rattle.interval_analysis.specs.private.Notes.{FirstAnswer, IsFirst, IsRepeated}
 use Rattle.interval_analysis.proofs.NoteLemmas.{within_of}
 use Rattle.interval_analysis.proofs.RepeatLemmas.{placed_other, seen_over}
 use Rattle.interval_analysis.proofs.repeats.is_first.Goals as goal

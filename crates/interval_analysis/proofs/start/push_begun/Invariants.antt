@@ -1,5 +1,5 @@
 use Rattle.std.proofs.Common.{◌≡◌, ◌++◌, take}
-use Rattle.interval_analysis.specs.StartViews.{declarations, begun}
+use Rattle.interval_analysis.specs.private.StartViews.{declarations, begun}
 use Rattle.interval_analysis.proofs.start.push_begun.Given as goal
 
 abbrev pub invariant-loop-variable : goal.invariant-loop-variable

@@ -1,5 +1,5 @@
 use Rattle.std.proofs.Common.{◌≡◌, ◌++◌, take}
-use Rattle.interval_analysis.specs.StartViews.{declarations, limited}
+use Rattle.interval_analysis.specs.private.StartViews.{declarations, limited}
 use Rattle.interval_analysis.proofs.start.push_limited.Given as goal
 
 abbrev pub invariant-loop-input : goal.invariant-loop-input

@@ -3,7 +3,7 @@ use Rattle.std.specs.Prelude.{All}
 use Rattle.pap_tree.specs.Flowchart.{flowchart_of}
 use Rattle.pap_types.specs.Typing.{HasItsType}
 use Rattle.pap_types.proofs.Laws.{parts_typed}
-use Rattle.interval_analysis.specs.StartViews.{declarations, limited, begun}
+use Rattle.interval_analysis.specs.private.StartViews.{declarations, limited, begun}
 use Rattle.interval_analysis.proofs.StartLemmas.{is_start}
 use Rattle.interval_analysis.proofs.start.start_ranges.Goals as goal
 

@@ -1,7 +1,7 @@
 use Rattle.std.proofs.Common.{Some, sym, ap, ◌∙◌}
 use Rattle.std.specs.Option.{option_map}
 use Rattle.pap_tree.specs.Flowchart.{body_of}
-use Rattle.pap_tree.specs.TreeViews.{methods_in}
+use Rattle.pap_tree.specs.private.TreeViews.{methods_in}
 use Rattle.interval_analysis.proofs.MethodLemmas.{body_by, body_none, method_body}
 use Rattle.interval_analysis.proofs.statements.method_body.Goals as goal
 

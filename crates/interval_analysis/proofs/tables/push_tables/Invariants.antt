@@ -1,6 +1,6 @@
 use Rattle.std.proofs.Common.{◌≡◌, ◌++◌, take}
-use Rattle.interval_analysis.specs.StartViews.{declarations}
-use Rattle.interval_analysis.specs.TableViews.{tables_of}
+use Rattle.interval_analysis.specs.private.StartViews.{declarations}
+use Rattle.interval_analysis.specs.private.TableViews.{tables_of}
 use Rattle.interval_analysis.proofs.tables.push_tables.Given as goal
 
 abbrev pub invariant-loop-name : goal.invariant-loop-name

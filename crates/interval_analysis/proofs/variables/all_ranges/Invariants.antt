@@ -1,5 +1,5 @@
 use Rattle.std.proofs.Common.{◌≡◌, ◌++◌, drop}
-use Rattle.interval_analysis.specs.Notes.{numbered}
+use Rattle.interval_analysis.specs.private.Notes.{numbered}
 use Rattle.interval_analysis.proofs.variables.all_ranges.Given as goal
 
 abbrev pub invariant-loop-number : goal.invariant-loop-number

@@ -1,5 +1,5 @@
 use Rattle.std.proofs.Common.{take}
-use Rattle.interval_analysis.specs.Changes.{AreKept}
+use Rattle.interval_analysis.specs.private.Changes.{AreKept}
 use Rattle.interval_analysis.proofs.variables.are_kept.Given as goal
 
 abbrev pub invariant-loop-range : goal.invariant-loop-range

@@ -1,6 +1,6 @@
 use Rattle.std.proofs.Common.{refl, ap, ◌∙◌, sym, ◌++◌, ◌+◌, drop, arith, append_assoc, None, Some, [], ◌∷◌}
 use Rattle.std.proofs.lemmas.Option.{slice_get_read, slice_get_past}
-use Rattle.interval_analysis.specs.Notes.{own_ranges}
+use Rattle.interval_analysis.specs.private.Notes.{own_ranges}
 use Rattle.interval_analysis.proofs.NoteLemmas.{own_more}
 use Rattle.interval_analysis.proofs.variables.own_ranges.Goals as goal
 use Rattle.interval_analysis.proofs.variables.own_ranges.Goals.{then-number-ranges+in_ok-push, else-number-ranges}

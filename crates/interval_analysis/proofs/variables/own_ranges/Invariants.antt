@@ -1,5 +1,5 @@
 use Rattle.std.proofs.Common.{◌≡◌, ◌++◌, drop}
-use Rattle.interval_analysis.specs.Notes.{own_ranges}
+use Rattle.interval_analysis.specs.private.Notes.{own_ranges}
 use Rattle.interval_analysis.proofs.variables.own_ranges.Given as goal
 
 abbrev pub invariant-loop-change : goal.invariant-loop-change

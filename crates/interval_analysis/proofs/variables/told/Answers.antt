@@ -3,7 +3,7 @@ use Rattle.std.specs.Prelude.{IfOk, ◌≡◌}
 use Rattle.std.specs.declared.alloc.AllocError.{AllocError}
 use Rattle.interval_num.specs.Intervals.{Interval}
 use Rattle.interval_analysis.specs.declared.branches.Change.{Change}
-use Rattle.interval_analysis.specs.Notes.{IsTold, taken_back}
+use Rattle.interval_analysis.specs.private.Notes.{IsTold, taken_back}
 use Rattle.interval_analysis.proofs.NoteLemmas.{told_noted, told_all, length-taken_back}
 use Rattle.interval_analysis.proofs.variables.told.Goals as goal
 

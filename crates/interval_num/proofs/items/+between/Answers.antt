@@ -1,6 +1,6 @@
 use Rattle.std.proofs.Common.{arith, ◌≡◌, ◌+◌, ◌-◌, ◌*◌, ◌/◌, ◌<◌, length, sym, ap, ◌∙◌}
 use Rattle.std.specs.Prelude.{slice_get}
-use Rattle.interval_num.specs.Views.{first_level}
+use Rattle.interval_num.specs.ItemLevels.{first_level}
 use Rattle.interval_num.proofs.LevelLemmas.{level_is, one_run, first_run, last_run, above_rows, even_runs, above_halved, halved_length, pairs, pairs_some}
 use Rattle.interval_num.proofs.items.+between.Goals as goal
 

@@ -1,7 +1,7 @@
 use Rattle.std.proofs.Common.{arith, ◌≡◌, ◌+◌, ◌-◌, ◌*◌, ◌≤◌, length, sym, ap, ap₂, ◌∙◌, ◌++◌, ◌∷◌, []}
 use Rattle.std.specs.Prelude.{slice_get}
 use Rattle.std.proofs.lemmas.List.{take_all}
-use Rattle.interval_num.specs.Views.{halved}
+use Rattle.interval_num.specs.ItemLevels.{halved}
 use Rattle.interval_num.proofs.LevelLemmas.{halved_next, halved_last}
 use Rattle.interval_num.proofs.items.halved.Goals as goal
 use Rattle.interval_num.proofs.items.halved.Goals.{then-count-eq1+in_ok-push-2, else-count-eq1}

@@ -1,5 +1,5 @@
 use Rattle.std.proofs.Common.{◌≡◌, ◌*◌, take}
-use Rattle.interval_num.specs.Views.{halved}
+use Rattle.interval_num.specs.ItemLevels.{halved}
 use Rattle.interval_num.proofs.items.halved.Given as goal
 
 abbrev pub invariant-loop-i : goal.invariant-loop-i

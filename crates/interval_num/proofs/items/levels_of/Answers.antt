@@ -1,5 +1,5 @@
 use Rattle.std.proofs.Common.{arith, ◌≤◌, ◌++◌, ◌∷◌, [], length, sym, ap, ◌∙◌, subst, append_assoc}
-use Rattle.interval_num.specs.Views.{first_level, AreLevels}
+use Rattle.interval_num.specs.ItemLevels.{first_level, AreLevels}
 use Rattle.interval_num.proofs.LevelLemmas.{first_stays, halved_shorter}
 use Rattle.interval_num.proofs.items.levels_of.Goals as goal
 

@@ -1,6 +1,6 @@
 use Rattle.std.proofs.Common.{◌≡◌, List, [], ◌∷◌, ◌++◌, length}
 use Rattle.interval_num.specs.Rows.{Answer}
-use Rattle.interval_num.specs.Views.{AreLevels, first_level, single_rows}
+use Rattle.interval_num.specs.ItemLevels.{AreLevels, first_level, single_rows}
 use Rattle.interval_num.proofs.items.levels_of.Given as goal
 
 abbrev pub invariant-loop-alloc : goal.invariant-loop-alloc

@@ -1,5 +1,5 @@
 use Rattle.std.proofs.Common.{◌≡◌, take}
-use Rattle.interval_num.specs.Views.{single_rows}
+use Rattle.interval_num.specs.ItemLevels.{single_rows}
 use Rattle.interval_num.proofs.items.singles.Given as goal
 
 abbrev pub invariant-loop-item : goal.invariant-loop-item

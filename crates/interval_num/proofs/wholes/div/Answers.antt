@@ -3,7 +3,7 @@ use Rattle.scaled_decimal.specs.WholeNumbers.{whole_quotient}
 use Rattle.interval_num.specs.declared.cause.RangeCause.TheVariants.{Divisor}
 use Rattle.interval_num.specs.Alignment.{corners, has_zero}
 use Rattle.interval_num.specs.Rows.{whole_hull}
-use Rattle.interval_num.specs.Widths.{bits_of}
+use Rattle.interval_num.specs.private.Widths.{bits_of}
 use Rattle.interval_num.specs.Soundness.{WholeQuotientIsSound}
 use Rattle.interval_num.proofs.AlignmentLemmas.{if_ok, unless_passes}
 use Rattle.interval_num.proofs.WholeLemmas.{whole_quotient_sound}

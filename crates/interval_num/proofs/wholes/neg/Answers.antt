@@ -1,6 +1,6 @@
 use Rattle.std.proofs.Common.{◌∙◌, sym}
 use Rattle.scaled_decimal.specs.WholeNumbers.{whole_opposite}
-use Rattle.interval_num.specs.Widths.{bits_of}
+use Rattle.interval_num.specs.private.Widths.{bits_of}
 use Rattle.interval_num.specs.Soundness.{WholeOppositeIsSound}
 use Rattle.interval_num.proofs.AlignmentLemmas.{if_ok}
 use Rattle.interval_num.proofs.WholeLemmas.{whole_opposite_sound}

@@ -5,7 +5,7 @@ use Rattle.interval_num.specs.declared.cause.RangeCause.TheVariants.{Divisor}
 use Rattle.interval_num.specs.Intervals.{interval}
 use Rattle.interval_num.specs.Alignment.{has_zero, most}
 use Rattle.interval_num.specs.Rows.{Answer, least_remainder, greatest_remainder}
-use Rattle.interval_num.specs.Widths.{bits_of}
+use Rattle.interval_num.specs.private.Widths.{bits_of}
 use Rattle.interval_num.proofs.AlignmentLemmas.{unless_passes}
 use Rattle.interval_num.proofs.WholeLemmas.{whole_remainder_sound, remainder_order}
 use Rattle.interval_num.proofs.MachineLemmas.{held, held_is, held_at, held_difference}

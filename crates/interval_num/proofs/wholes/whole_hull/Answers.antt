@@ -5,7 +5,7 @@ use Rattle.scaled_decimal.specs.Limits.{IsWithinLimit}
 use Rattle.interval_num.specs.declared.cause.RangeCause.TheVariants.{Wide}
 use Rattle.interval_num.specs.Alignment.{hull}
 use Rattle.interval_num.specs.Rows.{Answer}
-use Rattle.interval_num.specs.Widths.{bits_of}
+use Rattle.interval_num.specs.private.Widths.{bits_of}
 use Rattle.interval_num.proofs.AlignmentLemmas.{unless_passes}
 use Rattle.interval_num.proofs.WholeLemmas.{all_of_bits}
 use Rattle.interval_num.proofs.MachineLemmas.{of_width_kept}

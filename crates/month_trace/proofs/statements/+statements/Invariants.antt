@@ -1,8 +1,8 @@
 use Rattle.std.proofs.Common.{◌≡◌, ◌+◌, ◌*◌, ◌^◌, ◌≤◌, drop}
 use Rattle.pap_tree.specs.Flowchart.{body_of, stmt_then, done}
 use Rattle.pap_tree.specs.Statements.{written}
-use Rattle.month_trace.specs.ValueViews.{values_in}
-use Rattle.month_trace.specs.WalkViews.{CanRun, after_in, traced_in, followed}
+use Rattle.month_trace.specs.private.ValueViews.{values_in}
+use Rattle.month_trace.specs.private.WalkViews.{CanRun, after_in, traced_in, followed}
 use Rattle.month_trace.proofs.statements.+statements.Given as goal
 
 -- the chain of methods that is left counts first, and then the statements

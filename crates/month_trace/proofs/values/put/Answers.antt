@@ -1,7 +1,7 @@
 use Rattle.std.proofs.Common.{ap, ◌∙◌}
 use Rattle.std.specs.Option.{option_map_or}
 use Rattle.pap_types.specs.Scopes.{kept_as}
-use Rattle.pap_types.specs.ScopeViews.{scope_in}
+use Rattle.pap_types.specs.private.ScopeViews.{scope_in}
 use Rattle.month_trace.proofs.PutLemmas.{variable_of, not_declared, put_kept}
 use Rattle.month_trace.proofs.values.put.Goals as goal
 use Rattle.month_trace.proofs.values.put.Goals.{in-Some-declaration, in-None}

@@ -2,8 +2,8 @@ use Rattle.std.proofs.Common.{Some, length, sym, ap, ◌∙◌, ◌<◌, arith}
 use Rattle.std.specs.Option.{option_or}
 use Rattle.std.proofs.lemmas.Option.{slice_get-get_or}
 use Rattle.pap_types.specs.Scopes.{constant_in}
-use Rattle.pap_types.specs.ScopeViews.{scope_in, variables_in}
-use Rattle.month_trace.specs.ValueViews.{name_value_in}
+use Rattle.pap_types.specs.private.ScopeViews.{scope_in, variables_in}
+use Rattle.month_trace.specs.private.ValueViews.{name_value_in}
 use Rattle.month_trace.proofs.NameLemmas.{named_by, named_none, number_in}
 use Rattle.month_trace.proofs.OperationLemmas.{none_there}
 use Rattle.month_trace.proofs.values.value_of_name.Goals as goal

@@ -2,8 +2,8 @@ use Rattle.std.proofs.Common.{◌∙◌, ap, subst}
 use Rattle.std.specs.Prelude.{Err}
 use Rattle.std.proofs.lemmas.Result.{err_from_is_err_and}
 use Rattle.outside.specs.Told.{Appends, AppendsShort}
-use Rattle.plan_answers.specs.ReplyViews.{reply_of}
-use Rattle.pap_cli.specs.AnswerViews.{answers_of}
+use Rattle.plan_answers.specs.Replies.{reply_of}
+use Rattle.pap_cli.specs.private.AnswerViews.{answers_of}
 use Rattle.pap_cli.specs.FileClauses.{IsCounted}
 use Rattle.pap_cli.proofs.FrontLemmas.{answers_both}
 use Rattle.pap_cli.proofs.LeavesLemmas.{leaves_answer, leaves_want, leaves_whole, leaves_cut}

@@ -1,7 +1,7 @@
 use Rattle.std.proofs.Common.{sym, subst}
 use Rattle.std.specs.Prelude.{IfOk, OnErr}
-use Rattle.plan_answers.specs.ReplyViews.{reply_of}
-use Rattle.pap_cli.specs.AnswerViews.{answers_of}
+use Rattle.plan_answers.specs.Replies.{reply_of}
+use Rattle.pap_cli.specs.private.AnswerViews.{answers_of}
 use Rattle.pap_cli.specs.FileClauses.{IsCounted}
 use Rattle.pap_cli.proofs.answer.reply_on_bytes.Goals as goal
 

@@ -1,7 +1,7 @@
 use Rattle.std.proofs.Common.{◌∙◌, ap, refl, subst}
 use Rattle.script_run.specs.declared.stop.Stop.TheVariants as stops
 use Rattle.pap_cli.specs.Words.{texts, run, sample, save}
-use Rattle.pap_cli.specs.WordViews.{form_on_files}
+use Rattle.pap_cli.specs.private.WordViews.{form_on_files}
 use Rattle.pap_cli.specs.Outside.{objects, outside_of, shown_of}
 use Rattle.pap_cli.specs.CallClauses.{Carries}
 use Rattle.pap_cli.specs.ScriptClauses.{LeavesOnScript}

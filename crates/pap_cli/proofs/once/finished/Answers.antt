@@ -1,6 +1,6 @@
 use Rattle.std.proofs.Common.{◌++◌, ◌∙◌, ap, string_bytes}
 use Rattle.plan_answers.proofs.Laws.{on_err_any}
-use Rattle.pap_cli.specs.RunViews.{named_lines}
+use Rattle.pap_cli.specs.private.RunViews.{named_lines}
 use Rattle.pap_cli.proofs.RunLemmas.{counted_run, finished_reply}
 use Rattle.pap_cli.proofs.once.finished.Goals as goal
 

@@ -1,8 +1,8 @@
 use Rattle.std.proofs.Common.{◌≡◌, ◌+◌, refl, inl, arith}
 use Rattle.plan_answers.specs.Answers.{IsRefusal}
-use Rattle.pap_cli.specs.AnswerViews.{IsRunWith}
+use Rattle.pap_cli.specs.private.AnswerViews.{IsRunWith}
 use Rattle.pap_cli.specs.RunAnswers.{OnceAnswers}
-use Rattle.plan_answers.specs.ReplyViews.{reply_of}
+use Rattle.plan_answers.specs.Replies.{reply_of}
 use Rattle.pap_cli.specs.FileClauses.{IsCounted}
 use Rattle.pap_cli.proofs.RunLemmas.{counted_map, once_accepted, once_refused}
 use Rattle.plan_answers.proofs.Laws.{if_ok_map, its_plan, on_err_any, on_err_map, refusal_steps}

@@ -3,9 +3,9 @@ use Rattle.carry_bindings.specs.declared.filling.Filled.TheVariants.{Inputs, Sta
 use Rattle.pap_plan.specs.Plans.{flowchart}
 use Rattle.pay_run.specs.Accepted.{accepted}
 use Rattle.pay_run.specs.RunClauses.{AdmitsFilled}
-use Rattle.plan_answers.specs.ReplyViews.{reply_of}
+use Rattle.plan_answers.specs.Replies.{reply_of}
 use Rattle.plan_answers.proofs.Laws.{if_ok_map, on_err_map}
-use Rattle.pap_cli.specs.AnswerViews.{IsRunWith}
+use Rattle.pap_cli.specs.private.AnswerViews.{IsRunWith}
 use Rattle.pap_cli.specs.RunAnswers.{IsRunOn}
 use Rattle.pap_cli.specs.FileClauses.{IsCounted}
 use Rattle.pap_cli.proofs.RunLemmas.{counted_map, filled_from, never_waits, state_steps}

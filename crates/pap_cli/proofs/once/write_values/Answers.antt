@@ -2,7 +2,7 @@ use Rattle.std.proofs.Common.{[], ◌∷◌, ◌++◌, ◌∙◌, refl, sym, ap,
 use Rattle.scaled_decimal.specs.PlainTexts.{plain_text}
 use Rattle.plan_answers.proofs.Laws.{text_more}
 use Rattle.pap_cli.specs.RunLines.{value_line}
-use Rattle.pap_cli.specs.RunViews.{named_lines}
+use Rattle.pap_cli.specs.private.RunViews.{named_lines}
 use Rattle.pap_cli.proofs.LineLemmas.{lines_more, value_text}
 use Rattle.pap_cli.proofs.once.write_values.Goals as goal
 

@@ -1,5 +1,5 @@
 use Rattle.std.proofs.Common.{◌≡◌, ◌++◌, take, string_bytes}
-use Rattle.pap_cli.specs.RunViews.{named_lines}
+use Rattle.pap_cli.specs.private.RunViews.{named_lines}
 use Rattle.pap_cli.proofs.once.write_values.Given as goal
 
 abbrev pub invariant-loop-output : goal.invariant-loop-output

@@ -2,10 +2,10 @@ use Rattle.std.proofs.Common.{is_some, subst}
 use Rattle.std.specs.Prelude.{IfOk, IfSome, string_bytes}
 use Rattle.plan_answers.proofs.Laws.{if_ok_map}
 use Rattle.pap_cli.specs.Words.{texts, HasForm}
-use Rattle.pap_cli.specs.WordViews.{form_on_files}
-use Rattle.pap_cli.specs.AnswerViews.{answers_of, MarksRefusals}
+use Rattle.pap_cli.specs.private.WordViews.{form_on_files}
+use Rattle.pap_cli.specs.private.AnswerViews.{answers_of, MarksRefusals}
 use Rattle.pap_cli.specs.Reasons.{bytes_of, SaysRefusedOn, TellsReason, files_on}
-use Rattle.pap_cli.specs.ReasonViews.{TellsOn}
+use Rattle.pap_cli.specs.private.ReasonViews.{TellsOn}
 use Rattle.pap_cli.proofs.WordLemmas.{one_form}
 use Rattle.pap_cli.proofs.ReasonLemmas.{told_given, if_some_map, tells_given}
 use Rattle.pap_cli.proofs.reasons.reason.Goals as goal

@@ -4,8 +4,8 @@ use Rattle.pay_run.specs.Accepted.{accepted}
 use Rattle.pap_plan.specs.declared.refusal.PlanRefusal.TheVariants as refusals
 use Rattle.pap_cli.specs.declared.words.Command.TheVariants as commands
 use Rattle.pap_cli.specs.RunAnswers.{OnceAnswers}
-use Rattle.pap_cli.specs.AnswerViews.{IsRunWith, MarksRefusals}
-use Rattle.pap_cli.specs.ReasonViews.{files_in, TellsOn, TellsFilled}
+use Rattle.pap_cli.specs.private.AnswerViews.{IsRunWith, MarksRefusals}
+use Rattle.pap_cli.specs.private.ReasonViews.{files_in, TellsOn, TellsFilled}
 use Rattle.plan_answers.proofs.Laws.{if_ok_map}
 use Rattle.pap_cli.proofs.ReasonLemmas.{told_accepted, told_once, refused_is, told_refused, if_some_map, tells_state, tells_plan}
 use Rattle.pap_cli.proofs.reasons.reason_on_bytes.Goals as goal

@@ -1,7 +1,7 @@
 use Rattle.std.proofs.Common.{◌≤◌, length, sym, ap, subst, ◌∙◌, arith}
 use Rattle.book_edits.specs.Refusals.{most_records}
 use Rattle.recalc_engine.specs.RowLaws.{AreBookRows}
-use Rattle.recalc_engine.specs.RowViews.{lent_row}
+use Rattle.recalc_engine.specs.LentRows.{lent_row}
 use Rattle.recalc_engine.proofs.Laws.{book_rows_counted}
 use Rattle.pap_cli.proofs.TaxLemmas.{IsUnderway, begins, tax_fits, one_more, all_added, sum_of}
 use Rattle.pap_cli.proofs.sample.tax_sum.Goals as goal

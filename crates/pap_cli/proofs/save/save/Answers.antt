@@ -6,7 +6,7 @@ use Rattle.pap_cli.specs.Statuses.{status_of}
 use Rattle.pap_cli.specs.Outside.{objects, outside_of}
 use Rattle.pap_cli.specs.SaveAnswers.{IsSave, was_filed}
 use Rattle.pap_cli.specs.SaveClauses.{LeavesOnSave}
-use Rattle.pap_cli.specs.SaveViews.{written_of}
+use Rattle.pap_cli.specs.private.SaveViews.{written_of}
 use Rattle.pap_cli.proofs.SaveLemmas.{leaves_whole, leaves_cut, leaves_stop, leaves_unsaid}
 use Rattle.pap_cli.proofs.save.save.Goals as goal
 

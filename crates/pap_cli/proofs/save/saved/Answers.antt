@@ -3,9 +3,9 @@ use Rattle.std.specs.Prelude.{Ok, codes, is_some}
 use Rattle.plan_answers.proofs.Laws.{if_ok_map}
 use Rattle.book_file.specs.Saving.{SaveSays}
 use Rattle.plan_answers.specs.Answers.{refusal}
-use Rattle.plan_answers.specs.ReplyViews.{reply_of}
+use Rattle.plan_answers.specs.Replies.{reply_of}
 use Rattle.pap_cli.specs.SaveAnswers.{IsSave, was_filed}
-use Rattle.pap_cli.specs.SaveViews.{written_of}
+use Rattle.pap_cli.specs.private.SaveViews.{written_of}
 use Rattle.pap_cli.proofs.SaveLemmas.{saved_book, long_book}
 use Rattle.pap_cli.proofs.save.saved.Goals as goal
 

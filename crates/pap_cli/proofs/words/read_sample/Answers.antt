@@ -2,7 +2,7 @@ use Rattle.std.proofs.Common.{ℕ}
 use Rattle.std.specs.Prelude.{MatchOption}
 use Rattle.plan_answers.proofs.Laws.{if_ok_map}
 use Rattle.pap_cli.specs.Words.{texts, HasForm, sample}
-use Rattle.pap_cli.specs.WordViews.{AskNoSample, IsSampleWord}
+use Rattle.pap_cli.specs.private.WordViews.{AskNoSample, IsSampleWord}
 use Rattle.pap_cli.proofs.WordLemmas.{sample_words}
 use Rattle.pap_cli.proofs.words.read_sample.Goals as goal
 

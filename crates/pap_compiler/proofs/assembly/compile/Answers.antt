@@ -1,6 +1,7 @@
 use Rattle.std.proofs.Common.{arith, ap, ◌∙◌, map, sym, subst}
 use Rattle.pap_tree.specs.Flowchart.{flowchart_of, body_of, routine_of}
-use Rattle.pap_compiler.specs.CodeDecisions.{body_length, methods_length}
+use Rattle.pap_compiler.specs.CodeDecisions.{body_length}
+use Rattle.pap_compiler.specs.private.CodeDecisions.{methods_length}
 use Rattle.pap_compiler.proofs.PlanLemmas.{length_small}
 use Rattle.pap_types.proofs.Laws.{cost_at_most}
 use Rattle.call_order.proofs.Laws.{bound_small}

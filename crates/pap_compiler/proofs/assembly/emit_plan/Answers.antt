@@ -1,7 +1,8 @@
 use Rattle.std.proofs.Common.{arith, ap, length, map, ◌∙◌}
 use Rattle.pap_tree.specs.Flowchart.{body_of, routine_of}
-use Rattle.pap_compiler.specs.CodeDecisions.{body_length, methods_length}
-use Rattle.pap_compiler.specs.NameViews.{plan_in}
+use Rattle.pap_compiler.specs.CodeDecisions.{body_length}
+use Rattle.pap_compiler.specs.private.CodeDecisions.{methods_length}
+use Rattle.pap_compiler.specs.private.NameViews.{plan_in}
 use Rattle.pap_compiler.proofs.PlanLemmas.{length_small}
 use Rattle.pap_compiler.proofs.assembly.emit_plan.Goals as goal
 

@@ -1,6 +1,7 @@
 use Rattle.std.proofs.Common.{◌≡◌, ◌+◌, ◌++◌, max, map, drop}
 use Rattle.pap_tree.specs.Flowchart.{body_of, routine_of}
-use Rattle.pap_compiler.specs.CodeDecisions.{body_length, methods_length, entries_from}
+use Rattle.pap_compiler.specs.CodeDecisions.{body_length, entries_from}
+use Rattle.pap_compiler.specs.private.CodeDecisions.{methods_length}
 use Rattle.pap_compiler.specs.Heights.{body_height, methods_height}
 use Rattle.pap_compiler.proofs.assembly.layout_of.Given as goal
 

@@ -3,7 +3,7 @@ use Rattle.pap_tree.specs.Flowchart.{flowchart_of, done}
 use Rattle.pap_tree.proofs.Laws.{branch_is}
 use Rattle.pap_compiler.specs.CodeDecisions.{body_length}
 use Rattle.pap_compiler.specs.Depths.{body_depth}
-use Rattle.pap_compiler.specs.DepthViews.{depth_at}
+use Rattle.pap_compiler.specs.private.DepthViews.{depth_at}
 use Rattle.pap_compiler.proofs.SizeLemmas.{size_at}
 use Rattle.pap_compiler.proofs.DepthLemmas.{depth_from}
 use Rattle.pap_compiler.proofs.depths.+depth.Goals as goal

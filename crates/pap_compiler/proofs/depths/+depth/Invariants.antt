@@ -2,7 +2,7 @@ use Rattle.std.proofs.Common.{◌≡◌, ◌+◌, ◌*◌, ◌≤◌, max, drop}
 use Rattle.pap_tree.specs.Flowchart.{flowchart_of, body_of, stmt_then, done}
 use Rattle.pap_compiler.specs.CodeDecisions.{body_length}
 use Rattle.pap_compiler.specs.Depths.{body_depth}
-use Rattle.pap_compiler.specs.DepthViews.{depth_at}
+use Rattle.pap_compiler.specs.private.DepthViews.{depth_at}
 use Rattle.pap_compiler.proofs.depths.+depth.Given as goal
 
 abbrev pub decreases-body_depth : goal.decreases-body_depth

@@ -2,7 +2,7 @@ use Rattle.std.proofs.Common.{◌≡◌, ◌∙◌, length, ap, subst, arith, ge
 use Rattle.std.specs.Prelude.{slice_index}
 use Rattle.pap_tree.specs.Flowchart.{flowchart_of, routine_of, body_of}
 use Rattle.pap_compiler.specs.Depths.{body_depth}
-use Rattle.pap_compiler.specs.DepthViews.{depth_at}
+use Rattle.pap_compiler.specs.private.DepthViews.{depth_at}
 use Rattle.pap_compiler.proofs.DepthLemmas.{AreDepths, within, one_deeper, main_depth}
 use Rattle.pap_compiler.proofs.NumberLemmas.{routine_there}
 use Rattle.pap_compiler.proofs.depths.depth.Goals as goal

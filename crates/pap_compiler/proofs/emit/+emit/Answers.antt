@@ -3,8 +3,8 @@ use Rattle.std.specs.Prelude.{slice_set}
 use Rattle.pap_tree.specs.Term.{term_of}
 use Rattle.pap_machine.specs.declared.code.Instr.TheVariants as i
 use Rattle.pap_compiler.specs.CodeDecisions.{term_length, term_code}
-use Rattle.pap_compiler.specs.EmitViews.{IsAppended}
-use Rattle.pap_compiler.specs.NameViews.{scope_of_names}
+use Rattle.pap_compiler.specs.private.EmitViews.{IsAppended}
+use Rattle.pap_compiler.specs.private.NameViews.{scope_of_names}
 use Rattle.pap_compiler.proofs.EmitLemmas.{joined_whole, jumps_whole, length_patched}
 use Rattle.pap_compiler.proofs.emit.+emit.Goals as goal
 

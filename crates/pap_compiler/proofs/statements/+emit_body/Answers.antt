@@ -4,9 +4,9 @@ use Rattle.pap_tree.specs.Flowchart.{body_of, stmt_then, done}
 use Rattle.pap_tree.proofs.Laws.{branch_is}
 use Rattle.pap_machine.specs.declared.code.Instr.TheVariants as i
 use Rattle.pap_compiler.specs.CodeDecisions.{term_length, term_code, body_length}
-use Rattle.pap_compiler.specs.EmitViews.{IsAppended}
-use Rattle.pap_compiler.specs.NameViews.{scope_of_names}
-use Rattle.pap_compiler.specs.StatementViews.{code_in}
+use Rattle.pap_compiler.specs.private.EmitViews.{IsAppended}
+use Rattle.pap_compiler.specs.private.NameViews.{scope_of_names}
+use Rattle.pap_compiler.specs.private.StatementViews.{code_in}
 use Rattle.pap_compiler.proofs.EmitLemmas.{jumps_whole, length_patched}
 use Rattle.pap_compiler.proofs.SizeLemmas.{size_at}
 use Rattle.pap_compiler.proofs.StatementLemmas.{if_whole, led_as, one_more}

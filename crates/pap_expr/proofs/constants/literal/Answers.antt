@@ -2,7 +2,7 @@ use Rattle.std.proofs.Common.{◌∙◌, refl, arith}
 use Rattle.pap_tree.specs.Grammar.{Constant}
 use Rattle.pap_tree.specs.Stopping.{syntax}
 use Rattle.expr_grammar.specs.Run.{refusal}
-use Rattle.pap_expr.specs.Constants.{due_of}
+use Rattle.pap_expr.specs.private.Constants.{due_of}
 use Rattle.pap_expr.proofs.RunLemmas.{goes_on}
 use Rattle.pap_expr.proofs.constants.literal.Goals as goal
 

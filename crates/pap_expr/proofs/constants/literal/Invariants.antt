@@ -4,7 +4,7 @@ use Rattle.pap_tree.specs.Stopping.{syntax}
 use Rattle.expr_tokens.specs.Spots.{spots_of}
 use Rattle.expr_grammar.specs.Machine.{Signed, OfLine}
 use Rattle.expr_grammar.specs.Run.{refusal, run}
-use Rattle.pap_expr.specs.Constants.{due_of}
+use Rattle.pap_expr.specs.private.Constants.{due_of}
 use Rattle.pap_expr.proofs.constants.literal.Given as goal
 
 abbrev pub invariant-loop-found : goal.invariant-loop-found

@@ -2,7 +2,7 @@ use Rattle.std.proofs.Common.{sym}
 use Rattle.std.specs.Int.{w32}
 use Rattle.std.proofs.lemmas.Int.{to_z-of_z}
 use Rattle.expr_tokens.specs.Spots.{spot_of}
-use Rattle.pap_expr.specs.Constants.{room_of}
+use Rattle.pap_expr.specs.private.Constants.{room_of}
 use Rattle.pap_expr.proofs.ConstantLemmas.{int_moves}
 use Rattle.pap_expr.proofs.constants.value_int.Goals as goal
 

@@ -1,5 +1,5 @@
 use Rattle.expr_tokens.specs.Spots.{spot_of}
-use Rattle.pap_expr.specs.Constants.{room_of}
+use Rattle.pap_expr.specs.private.Constants.{room_of}
 use Rattle.pap_expr.proofs.ConstantLemmas.{point_moves}
 use Rattle.pap_expr.proofs.constants.value_point.Goals as goal
 

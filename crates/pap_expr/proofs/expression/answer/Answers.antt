@@ -4,7 +4,7 @@ use Rattle.expr_tokens.specs.declared.token.Placed.{Placed}
 use Rattle.expr_tokens.specs.Spots.{spots_of}
 use Rattle.expr_grammar.specs.Machine.{start}
 use Rattle.expr_grammar.specs.Run.{refusal, run}
-use Rattle.pap_expr.specs.Answers.{line_of, Answers}
+use Rattle.pap_expr.specs.private.Answers.{line_of, Answers}
 use Rattle.pap_expr.proofs.RunLemmas.{short_answer, long_answer}
 use Rattle.pap_expr.proofs.expression.answer.Goals as goal
 

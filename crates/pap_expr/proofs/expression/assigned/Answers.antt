@@ -4,8 +4,8 @@ use Rattle.pap_tree.specs.Grammar.{Assignment}
 use Rattle.expr_tokens.specs.Spots.{spot_of, spots_of}
 use Rattle.expr_grammar.specs.Machine.{Naming}
 use Rattle.expr_grammar.specs.Run.{refusal, run}
-use Rattle.pap_expr.specs.Views.{refusal_of, plain_cause}
-use Rattle.pap_expr.specs.Answers.{Answers}
+use Rattle.pap_expr.specs.private.Views.{refusal_of, plain_cause}
+use Rattle.pap_expr.specs.private.Answers.{Answers}
 use Rattle.pap_expr.proofs.RunLemmas.{due, due_cause, targeted, assigned, unassigned, fails}
 use Rattle.pap_expr.proofs.expression.assigned.Goals as goal
 

@@ -1,9 +1,9 @@
 use Rattle.std.proofs.Common.{◌∙◌, arith, sym}
 use Rattle.std.proofs.lemmas.Bool.{ltb-false}
 use Rattle.expr_grammar.specs.Machine.{level_of}
-use Rattle.pap_expr.specs.Stacks.{stack_of}
-use Rattle.pap_expr.specs.Views.{refusal_of}
-use Rattle.pap_expr.specs.States.{state_of}
+use Rattle.pap_expr.specs.private.Stacks.{stack_of}
+use Rattle.pap_expr.specs.private.Views.{refusal_of}
+use Rattle.pap_expr.specs.private.States.{state_of}
 use Rattle.pap_expr.proofs.RunLemmas.{goes}
 use Rattle.pap_expr.proofs.reading.read.Goals as goal
 

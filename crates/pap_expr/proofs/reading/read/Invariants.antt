@@ -4,10 +4,10 @@ use Rattle.pap_tree.specs.Stopping.{has_limits}
 use Rattle.expr_tokens.specs.Spots.{spots_of}
 use Rattle.expr_grammar.specs.Machine.{Want, level_of}
 use Rattle.expr_grammar.specs.Run.{run}
-use Rattle.pap_expr.specs.Stacks.{stack_of}
-use Rattle.pap_expr.specs.Views.{refusal_of}
-use Rattle.pap_expr.specs.States.{state_of}
-use Rattle.pap_expr.specs.Answers.{base_of}
+use Rattle.pap_expr.specs.private.Stacks.{stack_of}
+use Rattle.pap_expr.specs.private.Views.{refusal_of}
+use Rattle.pap_expr.specs.private.States.{state_of}
+use Rattle.pap_expr.specs.private.Answers.{base_of}
 use Rattle.pap_expr.proofs.reading.read.Given as goal
 
 abbrev pub invariant-loop-found : goal.invariant-loop-found

@@ -1,5 +1,5 @@
 use Rattle.pap_tree.specs.Flowchart.{flowchart_of}
-use Rattle.pap_plan.specs.JudgedViews.{IsMisjudged}
+use Rattle.pap_plan.specs.private.JudgedViews.{IsMisjudged}
 use Rattle.pap_plan.proofs.LimitLemmas.{file_sound}
 use Rattle.pap_plan.proofs.AcceptLemmas.{passed, misjudged}
 use Rattle.pap_plan.proofs.acceptance.judge.Goals as goal

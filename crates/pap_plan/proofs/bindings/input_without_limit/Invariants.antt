@@ -1,5 +1,5 @@
 use Rattle.std.proofs.Common.{◌≡◌, drop}
-use Rattle.pap_plan.specs.BindingViews.{without_limit}
+use Rattle.pap_plan.specs.private.BindingViews.{without_limit}
 use Rattle.pap_plan.proofs.bindings.input_without_limit.Given as goal
 
 abbrev pub invariant-loop-input : goal.invariant-loop-input

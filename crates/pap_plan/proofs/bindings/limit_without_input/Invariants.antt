@@ -1,5 +1,5 @@
 use Rattle.std.proofs.Common.{◌≡◌, drop}
-use Rattle.pap_plan.specs.BindingViews.{without_input}
+use Rattle.pap_plan.specs.private.BindingViews.{without_input}
 use Rattle.pap_plan.proofs.bindings.limit_without_input.Given as goal
 
 abbrev pub invariant-loop-limit : goal.invariant-loop-limit

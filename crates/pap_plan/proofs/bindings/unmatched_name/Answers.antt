@@ -2,7 +2,7 @@ use Rattle.std.proofs.Common.{sym, ap, ap₂, ◌∙◌}
 use Rattle.std.specs.Option.{option_or}
 use Rattle.pap_tree.specs.Flowchart.{flowchart_of}
 use Rattle.pap_plan.specs.Bindings.{limit_without_input}
-use Rattle.pap_plan.specs.BindingViews.{without_limit, without_input}
+use Rattle.pap_plan.specs.private.BindingViews.{without_limit, without_input}
 use Rattle.pap_plan.proofs.BindingLemmas.{limits_found, inputs_found}
 use Rattle.pap_plan.proofs.bindings.unmatched_name.Goals as goal
 

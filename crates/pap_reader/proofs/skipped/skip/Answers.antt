@@ -1,5 +1,5 @@
 use Rattle.std.proofs.Common.{arith}
-use Rattle.pap_reader.specs.Views.{none, one}
+use Rattle.pap_reader.specs.private.Views.{none, one}
 use Rattle.pap_reader.proofs.skipped.skip.Goals as goal
 
 pub loop-rest-preserved : goal.loop-rest-preserved

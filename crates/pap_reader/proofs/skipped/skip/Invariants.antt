@@ -1,5 +1,5 @@
 use Rattle.std.proofs.Common.{◌≤◌, length, List, ℕ}
-use Rattle.pap_reader.specs.Views.{Passes}
+use Rattle.pap_reader.specs.private.Views.{Passes}
 use Rattle.pap_reader.proofs.skipped.skip.Given as goal
 
 abbrev pub invariant-loop-rest : goal.invariant-loop-rest

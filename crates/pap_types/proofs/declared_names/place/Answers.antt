@@ -2,7 +2,7 @@ use Rattle.std.proofs.Common.{rules, nat_cmp}
 use Rattle.std.specs.Cmp.Lexicographic.{slice_cmp, nat_list_cmp_total}
 use Rattle.std.proofs.lemmas.List.Sorted.{answers_always}
 use Rattle.rising_lists.proofs.Laws.{found}
-use Rattle.pap_types.specs.NameViews.{numbered_name}
+use Rattle.pap_types.specs.private.NameViews.{numbered_name}
 use Rattle.pap_types.proofs.declared_names.place.Goals as goal
 
 pub returns : goal.returns

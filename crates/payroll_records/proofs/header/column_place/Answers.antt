@@ -3,7 +3,7 @@ use Rattle.std.proofs.lemmas.List.Sorted.{answers_always}
 use Rattle.std.specs.Cmp.Lexicographic.{nat_list_cmp_total}
 use Rattle.rising_lists.proofs.Laws.{found}
 use Rattle.payroll_records.specs.NamedValues.{name_cmp}
-use Rattle.payroll_records.specs.TableViews.{column_name}
+use Rattle.payroll_records.specs.private.TableViews.{column_name}
 use Rattle.payroll_records.proofs.header.column_place.Goals as goal
 
 pub returns : goal.returns

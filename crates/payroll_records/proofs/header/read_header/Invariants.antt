@@ -3,7 +3,7 @@ use Rattle.std.specs.Prelude.{IsTrue}
 use Rattle.std.specs.List.{AllByRecursion}
 use Rattle.csv.specs.Records.{fields_of}
 use Rattle.pap_tree.specs.Names.{is_name}
-use Rattle.payroll_records.specs.TableViews.{AreColumns}
+use Rattle.payroll_records.specs.private.TableViews.{AreColumns}
 use Rattle.payroll_records.proofs.HeaderLemmas.{begun}
 use Rattle.payroll_records.proofs.header.read_header.Given as goal
 

@@ -2,7 +2,7 @@ use Rattle.std.proofs.Common.{◌≡◌, ◌<◌, ◌++◌, ◌∷◌, [], ap, r
 use Rattle.std.proofs.lemmas.Result.{IfOk-weaker}
 use Rattle.csv.specs.Records.{fields_of}
 use Rattle.scaled_decimal.specs.Decimals.{Decimal}
-use Rattle.payroll_records.specs.ValueViews.{named_numbers}
+use Rattle.payroll_records.specs.KeptValues.{named_numbers}
 use Rattle.payroll_records.proofs.CellLemmas.{value_passed, value_added, values_supplied, supplied_values}
 use Rattle.payroll_records.proofs.ValueLemmas.{named_more}
 use Rattle.payroll_records.proofs.row.values_of.Goals as goal

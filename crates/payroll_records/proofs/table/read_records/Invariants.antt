@@ -1,5 +1,5 @@
 use Rattle.std.proofs.Common.{length, ◌+◌}
-use Rattle.payroll_records.specs.RowViews.{rows_left}
+use Rattle.payroll_records.specs.private.RowViews.{rows_left}
 use Rattle.payroll_records.proofs.TableLemmas.{ReadSoFar}
 use Rattle.payroll_records.proofs.table.read_records.Given as goal
 

@@ -2,7 +2,7 @@ use Rattle.std.proofs.Common.{ℕ}
 use Rattle.std.specs.Prelude.{Option}
 use Rattle.pap_reader.specs.declared.fault.Which.{Which}
 use Rattle.pap_reader.specs.declared.fault.Which.TheVariants as which
-use Rattle.plain_words.specs.FoundViews.{HasTag, IsExcessByte}
+use Rattle.plain_words.specs.private.FoundViews.{HasTag, IsExcessByte}
 use Rattle.plain_words.proofs.elements.excess_tag.Goals as goal
 
 -- what has a tag may have a byte

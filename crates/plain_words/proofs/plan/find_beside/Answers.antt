@@ -1,7 +1,7 @@
 use Rattle.std.proofs.Common.{◌≡◌, true, false, IfOk, subst}
 use Rattle.pap_reader.specs.declared.elements.Elements.{Elements}
-use Rattle.plain_words.specs.FoundViews.{IsOfPlan, IsOfRanges}
-use Rattle.plain_words.specs.SiteViews.{declares_input}
+use Rattle.plain_words.specs.private.FoundViews.{IsOfPlan, IsOfRanges}
+use Rattle.plain_words.specs.private.SiteViews.{declares_input}
 use Rattle.plain_words.proofs.Besides.{in_range_file, unread_beside, limit_beside}
 use Rattle.plain_words.proofs.plan.find_beside.Goals as goal
 

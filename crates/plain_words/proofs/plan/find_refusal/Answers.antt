@@ -3,7 +3,7 @@ use Rattle.std.specs.Prelude.{None, Some}
 use Rattle.std.specs.Option.{option_copied}
 use Rattle.plain_words.specs.Helps.{help_of}
 use Rattle.plain_words.specs.Refusals.{IsPlaceOf}
-use Rattle.plain_words.specs.FoundViews.{HelpsAs}
+use Rattle.plain_words.specs.private.FoundViews.{HelpsAs}
 use Rattle.plain_words.proofs.plan.find_refusal.Goals as goal
 
 pub returns-in-Some-clause-place : goal.returns-in-Some-clause-place

@@ -3,7 +3,7 @@ use Rattle.std.specs.Prelude.{codes, string_bytes}
 use Rattle.std.proofs.lemmas.Result.{IfOk-weaker}
 use Rattle.std.proofs.lemmas.Str.{IsUtf8-string_bytes}
 use Rattle.plain_words.specs.Lines.{shown_text, EndsWith}
-use Rattle.plain_words.specs.FoundViews.{help_text}
+use Rattle.plain_words.specs.private.FoundViews.{help_text}
 use Rattle.plain_words.proofs.Shown.{shown_end}
 use Rattle.plain_words.proofs.reason.reason_line.Goals as goal
 

@@ -1,7 +1,7 @@
 use Rattle.std.proofs.Common.{◌≡◌}
 use Rattle.pap_plan.specs.Plans.{meaning}
 use Rattle.plan_answers.specs.Answers.{acceptance, IsRefusal, CheckAnswers}
-use Rattle.plan_answers.specs.ReplyViews.{reply_of}
+use Rattle.plan_answers.specs.Replies.{reply_of}
 use Rattle.plan_answers.proofs.AnswerLemmas.{its_plan}
 use Rattle.plan_answers.proofs.ReplyLemmas.{if_ok_map, check_accepted, check_refused}
 use Rattle.plan_answers.proofs.check.check_reply.Goals as goal

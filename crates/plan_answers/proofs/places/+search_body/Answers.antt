@@ -2,7 +2,7 @@ use Rattle.std.proofs.Common.{◌+◌, ◌-◌, refl, subst, arith, drop}
 use Rattle.pap_tree.specs.Flowchart.{body_of, stmt_then}
 use Rattle.pap_tree.proofs.Laws.{branch_is, stmt_at}
 use Rattle.plan_answers.specs.declared.places.Search.TheVariants.{Left}
-use Rattle.plan_answers.specs.PlaceViews.{IsSearched, GoesOn}
+use Rattle.plan_answers.specs.private.PlaceViews.{IsSearched, GoesOn}
 use Rattle.plan_answers.proofs.PlaceLemmas.{in_first, in_second, goes_then, goes_found, written_at, written_part, written_if}
 use Rattle.plan_answers.proofs.places.+search_body.Goals as goal
 

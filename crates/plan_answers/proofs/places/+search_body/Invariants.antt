@@ -1,7 +1,7 @@
 use Rattle.std.proofs.Common.{◌+◌, ◌*◌, drop}
 use Rattle.pap_tree.specs.Flowchart.{body_of, stmt_then, done}
 use Rattle.pap_tree.specs.Statements.{written}
-use Rattle.plan_answers.specs.PlaceViews.{GoesOn}
+use Rattle.plan_answers.specs.private.PlaceViews.{GoesOn}
 use Rattle.plan_answers.proofs.places.+search_body.Given as goal
 
 abbrev pub decreases-search_body : goal.decreases-search_body

@@ -1,5 +1,5 @@
 use Rattle.std.proofs.Common.{◌-◌, ◌≤◌, length}
-use Rattle.plan_notes.specs.ScanViews.{AreKept, HasRead, HasTold}
+use Rattle.plan_notes.specs.private.ScanViews.{AreKept, HasRead, HasTold}
 use Rattle.plan_notes.proofs.scan.read_notes.Given as goal
 
 abbrev pub invariant-loop-scan : goal.invariant-loop-scan

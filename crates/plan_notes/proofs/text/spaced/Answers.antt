@@ -4,7 +4,7 @@ use Rattle.std.specs.List.{slice_split}
 use Rattle.std.proofs.lemmas.Iterator.{YieldsList-from_chars}
 use Rattle.std.proofs.lemmas.Iterator.Consumers.{YieldsList-end}
 use Rattle.plan_notes.specs.Lines.{is_blank}
-use Rattle.plan_notes.specs.LineViews.{gap_text}
+use Rattle.plan_notes.specs.private.LineViews.{gap_text}
 use Rattle.plan_notes.proofs.Spaces.{Line, line_of, joined, line_is, with_blank, with_letter, text_more, gap_is}
 use Rattle.plan_notes.proofs.text.spaced.Goals as goal
 

@@ -1,7 +1,7 @@
 use Rattle.std.proofs.Common.{sym, subst}
 use Rattle.pap_reader.specs.Trees.{raw_declaration_of}
 use Rattle.plan_text.specs.Sites.{literal_sites}
-use Rattle.plan_text.specs.Views.{TellsFault}
+use Rattle.plan_text.specs.private.Views.{TellsFault}
 use Rattle.plan_text.proofs.DeclarationLemmas.{value_fails}
 use Rattle.plan_text.proofs.declarations.read_value.Goals as goal
 

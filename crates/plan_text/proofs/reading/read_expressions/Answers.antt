@@ -5,7 +5,7 @@ use Rattle.pap_reader.specs.Trees.{raw_declaration_of, raw_body_of, raw_routine_
 use Rattle.plan_text.specs.Plans.{HasFlowchart, AreDeclarations, IsBody}
 use Rattle.plan_text.specs.Sites.{sites_of, declared_sites, body_sites, routine_sites}
 use Rattle.pap_tree.specs.Names.{main_name}
-use Rattle.plan_text.specs.Views.{TellsFault}
+use Rattle.plan_text.specs.private.Views.{TellsFault}
 use Rattle.plan_text.proofs.ExpressionLemmas.{outputs_fail, internals_fail, constants_fail, main_fails, methods_fail}
 use Rattle.plan_text.proofs.SiteLemmas.{passed}
 use Rattle.plan_text.proofs.reading.read_expressions.Goals as goal

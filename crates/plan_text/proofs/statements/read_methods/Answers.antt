@@ -7,7 +7,7 @@ use Rattle.pap_reader.specs.Trees.{raw_routine_of, raw_body_of}
 use Rattle.pap_reader.specs.TreeLimits.{raw_written}
 use Rattle.plan_text.specs.Plans.{AreRoutines, IsBody}
 use Rattle.plan_text.specs.Sites.{routine_sites, body_sites}
-use Rattle.plan_text.specs.Views.{TellsFault}
+use Rattle.plan_text.specs.private.Views.{TellsFault}
 use Rattle.plan_text.proofs.ExpressionLemmas.{AreRead, none_yet, one_more, method_fails, method_from, method_room, all_read}
 use Rattle.plan_text.proofs.SiteLemmas.{passed}
 use Rattle.plan_text.proofs.statements.read_methods.Goals as goal

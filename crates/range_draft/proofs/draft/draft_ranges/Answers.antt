@@ -1,5 +1,5 @@
 use Rattle.std.proofs.Common.{◌+◌, length, get_or, arith, sym, ap, subst, ◌∙◌, string_bytes}
-use Rattle.range_draft.specs.DraftViews.{texts_of}
+use Rattle.range_draft.specs.private.DraftViews.{texts_of}
 use Rattle.range_draft.proofs.DraftLemmas.{IsDrafted, no_names, was_there, was_new, drafted_start, drafted_new, drafted_again}
 use Rattle.range_draft.proofs.draft.draft_ranges.Goals.{then-branch+in_ok-write_input, else-branch}
 use Rattle.range_draft.proofs.draft.draft_ranges.Goals as goal

@@ -1,5 +1,5 @@
 use Rattle.std.proofs.Common.{drop, string_bytes}
-use Rattle.range_draft.specs.DraftViews.{texts_of}
+use Rattle.range_draft.specs.private.DraftViews.{texts_of}
 use Rattle.range_draft.proofs.DraftLemmas.{AreBefore}
 use Rattle.range_draft.proofs.draft.write_comments.Given as goal
 

@@ -1,7 +1,7 @@
 use Rattle.std.proofs.Common.{◌≡◌, ◌++◌, string_bytes}
 use Rattle.pap_reader.specs.Trees.{RawDeclaration, raw_declaration_of}
 use Rattle.range_draft.specs.Draft.{table, entry_of}
-use Rattle.range_draft.specs.DraftViews.{texts_of}
+use Rattle.range_draft.specs.private.DraftViews.{texts_of}
 use Rattle.range_draft.proofs.DraftLemmas.{on_ok, entry_written}
 use Rattle.range_draft.proofs.draft.write_input.Goals as goal
 

@@ -3,7 +3,7 @@ use Rattle.std.specs.Option.{option_map}
 use Rattle.rising_lists.specs.Places.{IsAt, IsGap}
 use Rattle.payroll_records.specs.Orders.{day_cmp}
 use Rattle.book_year.specs.Records.{record_day}
-use Rattle.recalc_engine.specs.JobViews.{job_inputs}
+use Rattle.recalc_engine.specs.private.JobViews.{job_inputs}
 use Rattle.recalc_engine.proofs.JobLemmas.{inputs_gap, inputs_here}
 use Rattle.recalc_engine.proofs.job.inputs_on.Goals as goal
 

@@ -1,5 +1,5 @@
 use Rattle.std.proofs.Common.{subst, sym}
-use Rattle.report_csv.specs.Views.{IsPlain}
+use Rattle.report_csv.specs.private.Views.{IsPlain}
 use Rattle.report_csv.proofs.PlainLemmas.{name_plain}
 use Rattle.report_csv.proofs.run.with_outputs.Goals as goal
 

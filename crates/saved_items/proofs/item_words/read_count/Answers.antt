@@ -2,7 +2,7 @@ use Rattle.std.proofs.Common.{◌≡◌, ◌<◌, ◌≤◌, ℕ, List, [], ◌�
 use denote.Ref.{Bor}
 use Rattle.scaled_decimal.specs.PlainTexts.{whole_text}
 use Rattle.payroll_records.specs.Tables.{Text}
-use Rattle.saved_items.specs.LineViews.{texts}
+use Rattle.saved_items.specs.private.LineViews.{texts}
 use Rattle.saved_items.proofs.NextLemmas.{none_within}
 use Rattle.saved_items.proofs.item_words.read_count.Goals as goal
 

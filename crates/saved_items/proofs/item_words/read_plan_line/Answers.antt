@@ -1,5 +1,5 @@
 use Rattle.std.proofs.lemmas.Bool.{false≢true}
-use Rattle.saved_items.specs.LineViews.{texts}
+use Rattle.saved_items.specs.private.LineViews.{texts}
 use Rattle.saved_items.proofs.WordListLemmas.{plan_day, plan_line_is, is_spelled}
 use Rattle.saved_items.proofs.item_words.read_plan_line.Goals as goal
 

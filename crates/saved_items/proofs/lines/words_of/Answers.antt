@@ -2,7 +2,7 @@ use Rattle.std.proofs.Common.{rules, tests}
 use Rattle.std.proofs.lemmas.Iterator.{YieldsList-from_take}
 use Rattle.std.proofs.lemmas.Iterator.Consumers.{map_from_collect, YieldsList-at}
 use Rattle.std.proofs.lemmas.Iterator.Splits.{YieldsList-from_slice_split}
-use Rattle.saved_items.specs.LineViews.{is_space}
+use Rattle.saved_items.specs.private.LineViews.{is_space}
 use Rattle.saved_items.proofs.lines.words_of.Goals as goal
 
 pub returns : goal.returns

@@ -7,7 +7,7 @@ use Rattle.payroll_records.specs.Orders.{key_cmp}
 use Rattle.payroll_records.specs.Tables.{key_of}
 use Rattle.payroll_records.specs.declared.record.Record.{Record}
 use Rattle.payroll_records.proofs.Laws.{key_total}
-use Rattle.saved_items.specs.ItemDecisions.{IsBeyond}
+use Rattle.saved_items.specs.private.ItemDecisions.{IsBeyond}
 use Rattle.saved_items.proofs.ValueListLemmas.{last_above, all_get, by_less}
 use Rattle.saved_items.proofs.next.is_beyond.Goals as goal
 

@@ -6,10 +6,10 @@ use Rattle.std.specs.List.{slice_get}
 use Rattle.std.proofs.Math.ListN.{length-map}
 use Rattle.payroll_records.specs.Orders.{day_cmp}
 use Rattle.payroll_records.proofs.Laws.{day_total}
-use Rattle.saved_items.specs.ItemDecisions.{IsLater}
-use Rattle.saved_items.specs.ItemViews.{plans_of}
+use Rattle.saved_items.specs.private.ItemDecisions.{IsLater}
+use Rattle.saved_items.specs.private.ItemViews.{plans_of}
 use Rattle.saved_items.specs.SavedBooks.{SavedPlan, day_of}
-use Rattle.saved_items.specs.Views.{plan_in}
+use Rattle.saved_items.specs.ItemFaults.{plan_in}
 use Rattle.saved_items.proofs.ValueListLemmas.{last_above, all_get, by_less, last_of_map}
 use Rattle.saved_items.proofs.next.is_later.Goals as goal
 

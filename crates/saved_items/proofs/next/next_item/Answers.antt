@@ -3,9 +3,9 @@ use Rattle.std.specs.Prelude.{IfOk}
 use Rattle.std.proofs.lemmas.Result.{IfOk-weaker}
 use Rattle.std.proofs.Math.ListN.{length-map}
 use Rattle.saved_items.specs.Fronts.{IsFront, planning}
-use Rattle.saved_items.specs.ItemDecisions.{Fits}
-use Rattle.saved_items.specs.ItemViews.{Reads, front_at, plans_of}
-use Rattle.saved_items.specs.Views.{plan_in, saved_in}
+use Rattle.saved_items.specs.private.ItemDecisions.{Fits}
+use Rattle.saved_items.specs.private.ItemViews.{Reads, front_at, plans_of}
+use Rattle.saved_items.specs.ItemFaults.{plan_in, saved_in}
 use Rattle.saved_items.specs.declared.front.Stage.{Stage}
 use Rattle.saved_items.proofs.NextLemmas.{no_item}
 use Rattle.saved_items.proofs.next.next_item.Goals as goal

@@ -1,8 +1,8 @@
 use Rattle.std.proofs.Common.{arith}
 use Rattle.std.proofs.Math.ListN.{length-map}
-use Rattle.saved_items.specs.ItemViews.{plans_of}
-use Rattle.saved_items.specs.LineViews.{AreWordsOf, texts}
-use Rattle.saved_items.specs.Views.{plan_in}
+use Rattle.saved_items.specs.private.ItemViews.{plans_of}
+use Rattle.saved_items.specs.private.LineViews.{AreWordsOf, texts}
+use Rattle.saved_items.specs.ItemFaults.{plan_in}
 use Rattle.saved_items.proofs.NextLemmas.{none_plan, no_texts, not_later, plan_read}
 use Rattle.saved_items.proofs.next.next_plan.Goals as goal
 

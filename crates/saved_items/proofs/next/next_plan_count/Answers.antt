@@ -1,6 +1,6 @@
 use Rattle.std.proofs.Common.{arith, [], ◌∷◌, codes}
 use Rattle.scaled_decimal.specs.PlainTexts.{whole_text}
-use Rattle.saved_items.specs.LineViews.{AreWordsOf, texts}
+use Rattle.saved_items.specs.private.LineViews.{AreWordsOf, texts}
 use Rattle.saved_items.proofs.NextLemmas.{none_worked, line_is}
 use Rattle.saved_items.proofs.next.next_plan_count.Goals as goal
 

@@ -1,4 +1,4 @@
-use Rattle.saved_items.specs.LineViews.{AreWordsOf, texts}
+use Rattle.saved_items.specs.private.LineViews.{AreWordsOf, texts}
 use Rattle.saved_items.proofs.NextLemmas.{none_run, not_beyond}
 use Rattle.saved_items.proofs.next.next_run.Goals as goal
 

@@ -1,6 +1,6 @@
 use Rattle.std.proofs.Common.{arith, refl, [], ◌∷◌, codes}
 use Rattle.scaled_decimal.specs.PlainTexts.{whole_text}
-use Rattle.saved_items.specs.LineViews.{AreWordsOf, texts}
+use Rattle.saved_items.specs.private.LineViews.{AreWordsOf, texts}
 use Rattle.saved_items.proofs.NextLemmas.{none_planned, line_is}
 use Rattle.saved_items.proofs.next.next_run_count.Goals as goal
 

@@ -1,5 +1,5 @@
 use Rattle.std.proofs.Common.{arith}
-use Rattle.saved_items.specs.LineViews.{AreWordsOf, texts}
+use Rattle.saved_items.specs.private.LineViews.{AreWordsOf, texts}
 use Rattle.saved_items.specs.SavedBooks.{title_words}
 use Rattle.saved_items.proofs.NextLemmas.{none_nothing, line_is}
 use Rattle.saved_items.proofs.next.next_title.Goals as goal

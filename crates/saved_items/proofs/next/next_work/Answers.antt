@@ -1,5 +1,5 @@
 use Rattle.std.proofs.Common.{arith}
-use Rattle.saved_items.specs.LineViews.{AreWordsOf, texts}
+use Rattle.saved_items.specs.private.LineViews.{AreWordsOf, texts}
 use Rattle.saved_items.specs.SavedBooks.{work_words}
 use Rattle.saved_items.proofs.NextLemmas.{none_titled, line_is}
 use Rattle.saved_items.proofs.next.next_work.Goals as goal

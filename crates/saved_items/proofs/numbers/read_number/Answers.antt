@@ -1,6 +1,6 @@
 use Rattle.std.proofs.Common.{sym, subst}
 use Rattle.std.specs.Str.{IsUtf8}
-use Rattle.saved_items.specs.NumberViews.{BeginsNumber}
+use Rattle.saved_items.specs.private.NumberViews.{BeginsNumber}
 use Rattle.saved_items.proofs.NumberLemmas.{whole_begins, whole_utf8, read_answer}
 use Rattle.saved_items.proofs.numbers.read_number.Goals as goal
 

@@ -1,6 +1,6 @@
 use Rattle.std.proofs.Common.{ap, ◌∙◌}
 use Rattle.std.specs.Str.{bytes_eq}
-use Rattle.saved_items.specs.Views.{saved_in}
+use Rattle.saved_items.specs.ItemFaults.{saved_in}
 use Rattle.saved_items.proofs.EndLemmas.{complete_of, ends_by}
 use Rattle.saved_items.proofs.reading.is_end.Goals as goal
 

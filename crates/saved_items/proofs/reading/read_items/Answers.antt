@@ -1,7 +1,7 @@
 use Rattle.std.proofs.Common.{◌+◌, length, sym, ap, arith, length-append}
-use Rattle.saved_items.specs.ItemViews.{front_in, item_in}
-use Rattle.saved_items.specs.ItemDecisions.{item_text}
-use Rattle.saved_items.specs.Views.{saved_in}
+use Rattle.saved_items.specs.private.ItemViews.{front_in, item_in}
+use Rattle.saved_items.specs.private.ItemDecisions.{item_text}
+use Rattle.saved_items.specs.ItemFaults.{saved_in}
 use Rattle.saved_items.proofs.DecidedItemLemmas.{item_some}
 use Rattle.saved_items.proofs.TextLemmas.{goes_on, ends_text, stops_as}
 use Rattle.saved_items.proofs.reading.read_items.Goals as goal

@@ -1,6 +1,6 @@
 use Rattle.std.proofs.Common.{◌≡◌, ◌++◌, length}
 use Rattle.saved_items.specs.Fronts.{IsFront, front_text}
-use Rattle.saved_items.specs.ItemViews.{IsKnown, front_in}
+use Rattle.saved_items.specs.private.ItemViews.{IsKnown, front_in}
 use Rattle.saved_items.proofs.reading.read_items.Given as goal
 
 abbrev pub invariant-loop-front : goal.invariant-loop-front

@@ -1,6 +1,6 @@
 use Rattle.std.proofs.Common.{◌≡◌, ap, sym, ◌∙◌}
 use Rattle.std.specs.List.{join_with_byte}
-use Rattle.saved_items.specs.LineViews.{texts}
+use Rattle.saved_items.specs.private.LineViews.{texts}
 use Rattle.saved_items.specs.SavedBooks.{run_words}
 use Rattle.saved_items.proofs.WordListLemmas.{text_words, some_once}
 use Rattle.saved_items.proofs.run_words.read_run.Goals as goal

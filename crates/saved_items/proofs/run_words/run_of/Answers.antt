@@ -1,7 +1,7 @@
 use Rattle.std.proofs.Common.{◌≡◌, ap, sym, ◌∙◌}
 use Rattle.std.specs.Prelude.{Some}
 use Rattle.std.proofs.lemmas.Bool.{false≢true}
-use Rattle.saved_items.specs.LineViews.{texts}
+use Rattle.saved_items.specs.private.LineViews.{texts}
 use Rattle.saved_items.proofs.WordListLemmas.{run_rest, run_values, run_same, is_spelled, no_text, some_once}
 use Rattle.saved_items.proofs.run_words.run_of.Goals as goal
 

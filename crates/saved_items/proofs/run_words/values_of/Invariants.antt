@@ -2,7 +2,7 @@ use Rattle.std.proofs.Common.{◌≡◌, List, map, take}
 use Rattle.std.specs.List.{AllByRecursion}
 use Rattle.payroll_records.specs.NamedValues.{AreValues}
 use Rattle.payroll_records.specs.declared.values.NamedValue.{NamedValue}
-use Rattle.saved_items.specs.LineViews.{texts}
+use Rattle.saved_items.specs.private.LineViews.{texts}
 use Rattle.saved_items.specs.SavedBooks.{IsValue, value_word}
 use Rattle.saved_items.proofs.run_words.values_of.Given as goal
 

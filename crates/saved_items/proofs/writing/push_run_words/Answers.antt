@@ -1,6 +1,7 @@
 use Rattle.std.proofs.Common.{◌∷◌, ◌++◌, sym, ap, ◌∙◌, codes}
 use Rattle.std.proofs.lemmas.Result.{on_ok_weaker}
-use Rattle.saved_items.specs.SavedBooks.{day_word, values_text}
+use Rattle.saved_items.specs.SavedBooks.{day_word}
+use Rattle.saved_items.specs.private.SavedBooks.{values_text}
 use Rattle.saved_items.proofs.PieceLemmas.{five_pieces, join_values}
 use Rattle.saved_items.proofs.writing.push_run_words.Goals as goal
 

@@ -1,5 +1,5 @@
 use Rattle.std.proofs.Common.{◌≡◌, ◌++◌, take}
-use Rattle.saved_items.specs.SavedBooks.{values_text}
+use Rattle.saved_items.specs.private.SavedBooks.{values_text}
 use Rattle.saved_items.proofs.writing.push_values.Given as goal
 
 abbrev pub invariant-loop-at : goal.invariant-loop-at

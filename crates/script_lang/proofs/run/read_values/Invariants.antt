@@ -1,6 +1,6 @@
 use Rattle.std.proofs.Common.{◌≡◌, ◌+◌, take}
 use Rattle.payroll_records.specs.ValueWords.{AreValueWords}
-use Rattle.script_lang.specs.Views.{texts}
+use Rattle.script_lang.specs.private.Views.{texts}
 use Rattle.script_lang.proofs.run.read_values.Given as goal
 
 abbrev pub invariant-loop-word : goal.invariant-loop-word

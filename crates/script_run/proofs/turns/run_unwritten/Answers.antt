@@ -1,6 +1,6 @@
 use Rattle.std.proofs.Common.{◌≡◌, subst}
 use Rattle.std.specs.Prelude.{Some}
-use Rattle.script_run.specs.RunClauses.{EndsAt}
+use Rattle.script_run.specs.private.RunClauses.{EndsAt}
 use Rattle.script_run.proofs.MemoryLaws.{ends_unwritten}
 use Rattle.script_run.proofs.turns.run_unwritten.Goals as goal
 

@@ -1,7 +1,7 @@
 use Rattle.std.proofs.Common.{◌≡◌, ◌≤◌, ◌-◌, length}
 use Rattle.script_run.specs.Limits.{most_script, most_turn}
 use Rattle.std.specs.Prelude.{is_some}
-use Rattle.script_run.specs.RunClauses.{shown_beside}
+use Rattle.script_run.specs.private.RunClauses.{shown_beside}
 use Rattle.script_run.proofs.TurnLaws.{Stood}
 use Rattle.script_run.proofs.turns.take_turns.Given as goal
 

@@ -6,12 +6,12 @@ use Rattle.std.proofs.lemmas.Result.{err_from_is_err_and}
 use Rattle.script_lang.specs.Commands as asked
 use Rattle.script_lang.specs.Commands.{asked_of}
 use Rattle.script_lang.specs.Lines.{IsLine}
-use Rattle.script_steps.specs.Replies.{reply_of}
+use Rattle.script_steps.specs.private.Replies.{reply_of}
 use Rattle.script_steps.specs.LineSteps.{report_answer}
 use Rattle.report_csv.specs.ReportTexts.{report_text}
 use Rattle.script_steps.specs.LineTexts.{end_line}
 use Rattle.script_steps.specs.Standings.{Standing}
-use Rattle.script_steps.specs.StepViews.{IsWritten, IsFrontWritten, ToldDoes}
+use Rattle.script_steps.specs.private.StepViews.{IsWritten, IsFrontWritten, ToldDoes}
 use Rattle.script_steps.proofs.WriteLemmas.{never_file}
 use Rattle.script_steps.proofs.MadeLemmas.{made_answered, made_broken, report_made, unmade_broken, unmade_cause}
 use Rattle.script_steps.proofs.command.answer_command.Goals as goal

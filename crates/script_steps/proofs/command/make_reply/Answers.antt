@@ -8,7 +8,7 @@ use Rattle.script_lang.specs.Commands.{Asked, asked_of}
 use Rattle.recalc_engine.specs.EditAnswers as edits
 use Rattle.script_steps.specs.LineSteps.{IsEditStep}
 use Rattle.script_steps.specs.LineTexts.{ok_line}
-use Rattle.script_steps.specs.StepViews.{IsUnmade, ToldDoes}
+use Rattle.script_steps.specs.private.StepViews.{IsUnmade, ToldDoes}
 use Rattle.script_steps.proofs.MadeLemmas.{told_left}
 use Rattle.script_steps.proofs.command.make_reply.Goals as goal
 

@@ -1,7 +1,7 @@
 use Rattle.std.proofs.Common.{◌∙◌, sym, ap, subst, length, drop}
 use Rattle.std.specs.Prelude.{IfOk, Ok}
 use Rattle.std.proofs.lemmas.List.{take_rest}
-use Rattle.script_steps.specs.Replies.{reply_of}
+use Rattle.script_steps.specs.private.Replies.{reply_of}
 use Rattle.plan_answers.proofs.Laws.{if_ok_map, on_err_any}
 use Rattle.script_steps.specs.FilingSteps.{IsFileStep}
 use Rattle.script_steps.specs.Standings.{answered}

@@ -4,9 +4,9 @@ use Rattle.plan_answers.proofs.Laws.{on_err_any}
 use Rattle.std.proofs.lemmas.Result.{err_from_is_err_and}
 use Rattle.outside.specs.Told.{IsToldFront}
 use Rattle.script_lang.specs.Commands as asked
-use Rattle.script_steps.specs.Replies.{reply_of}
+use Rattle.script_steps.specs.private.Replies.{reply_of}
 use Rattle.script_steps.specs.OpenSteps.{IsOpenStep}
-use Rattle.script_steps.specs.StepViews.{ToldDoes}
+use Rattle.script_steps.specs.private.StepViews.{ToldDoes}
 use Rattle.script_steps.proofs.FileLemmas.{open_told}
 use Rattle.script_steps.proofs.MadeLemmas.{made_map, stays_map, want_map, unread, wanting}
 use Rattle.script_steps.proofs.open.open.Goals as goal

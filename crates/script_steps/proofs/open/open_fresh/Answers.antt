@@ -1,9 +1,9 @@
 use Rattle.std.proofs.Common.{◌∙◌, sym, ap, subst}
-use Rattle.script_steps.specs.Replies.{reply_of}
+use Rattle.script_steps.specs.private.Replies.{reply_of}
 use Rattle.plan_answers.proofs.Laws.{on_err_any}
 use Rattle.script_steps.specs.OpenSteps.{IsOpenStep}
 use Rattle.script_steps.specs.Standings.{Standing, StaysOrSteps, answered, with_book}
-use Rattle.script_steps.specs.StepViews.{IsMade}
+use Rattle.script_steps.specs.private.StepViews.{IsMade}
 use Rattle.script_steps.proofs.OpenLemmas.{book_left, book_lost, book_made, fault_made, read_lost}
 use Rattle.script_steps.proofs.open.open_fresh.Goals as goal
 

@@ -1,5 +1,5 @@
 use Rattle.std.proofs.Common.{subst}
-use Rattle.script_steps.specs.PlanViews.{IsJudged}
+use Rattle.script_steps.specs.private.PlanViews.{IsJudged}
 use Rattle.script_steps.proofs.plan.judge.Goals as goal
 
 pub returns-clause-judged : goal.returns-clause-judged

@@ -2,10 +2,10 @@ use Rattle.std.proofs.Common.{subst}
 use Rattle.std.specs.Prelude.{IfOk, string_bytes}
 use Rattle.book_year.specs.Accepted.{accepted}
 use Rattle.recalc_engine.specs.EditAnswers as edits
-use Rattle.script_steps.specs.Replies.{reply_of}
+use Rattle.script_steps.specs.private.Replies.{reply_of}
 use Rattle.script_steps.specs.LineSteps.{IsPut}
-use Rattle.script_steps.specs.PlanViews.{IsJudged}
-use Rattle.script_steps.specs.StepViews.{IsEditReply}
+use Rattle.script_steps.specs.private.PlanViews.{IsJudged}
+use Rattle.script_steps.specs.private.StepViews.{IsEditReply}
 use Rattle.script_steps.proofs.EditLemmas.{standing, edit_left, edit_made, edit_lost}
 use Rattle.script_steps.proofs.PlanLemmas.{refused, put_left, put_made, put_lost}
 use Rattle.script_steps.proofs.plan.put.Goals as goal

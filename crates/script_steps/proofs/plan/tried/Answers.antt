@@ -2,7 +2,7 @@ use Rattle.std.proofs.Common.{subst}
 use Rattle.std.specs.Prelude.{string_bytes}
 use Rattle.book_year.specs.Accepted.{accepted}
 use Rattle.script_steps.specs.LineSteps.{IsTrialStep}
-use Rattle.script_steps.specs.PlanViews.{IsJudged}
+use Rattle.script_steps.specs.private.PlanViews.{IsJudged}
 use Rattle.script_steps.proofs.PlanLemmas.{refused, tried_made, tried_lost}
 use Rattle.script_steps.proofs.TrialLemmas.{trial_made, trial_lost}
 use Rattle.script_steps.proofs.plan.tried.Goals as goal

@@ -2,7 +2,7 @@ use Rattle.std.proofs.Common.{◌++◌, refl, arith}
 use Rattle.report_csv.specs.ReportTexts.{report_text}
 use Rattle.script_steps.specs.declared.stop.LineStop.TheVariants as stops
 use Rattle.script_steps.specs.LineTexts.{end_line}
-use Rattle.script_steps.specs.StepViews.{IsFrontWritten}
+use Rattle.script_steps.specs.private.StepViews.{IsFrontWritten}
 use Rattle.script_steps.proofs.MadeLemmas.{for_err}
 use Rattle.script_steps.proofs.WriteLemmas.{first_front, first_prefix, second_prefix}
 use Rattle.script_steps.proofs.report.report.Goals as goal

@@ -1,4 +1,4 @@
-use Rattle.script_steps.specs.Replies.{reply_of}
+use Rattle.script_steps.specs.private.Replies.{reply_of}
 use Rattle.script_steps.proofs.WriteLemmas.{refusal_unwritten}
 use Rattle.script_steps.proofs.step.answer_fault.Goals as goal
 

@@ -1,7 +1,7 @@
 use Rattle.std.proofs.Common.{refl}
 use Rattle.script_steps.specs.Shown.{shown_by}
 use Rattle.script_steps.proofs.MadeLemmas.{want_broken, faults_answered, faults_broken}
-use Rattle.script_steps.specs.StepViews.{IsRefusalUnwritten}
+use Rattle.script_steps.specs.private.StepViews.{IsRefusalUnwritten}
 use Rattle.script_steps.proofs.WriteLemmas.{never_file}
 use Rattle.script_steps.proofs.step.answer_line.Goals as goal
 

@@ -1,8 +1,8 @@
 use Rattle.std.proofs.Common.{◌≡◌, ◌++◌, append_assoc, get_or, sym, ap, ap₂, take, ◌∙◌}
 use Rattle.payroll_records.specs.Tables.{key_of}
-use Rattle.recalc_engine.specs.MonthViews.{kept_rows}
+use Rattle.recalc_engine.specs.KeptRows.{kept_rows}
 use Rattle.what_if.specs.Changes.{run_changes}
-use Rattle.what_if.specs.YearViews.{changes}
+use Rattle.what_if.specs.private.YearViews.{changes}
 use Rattle.what_if.proofs.ChangeLemmas.{runs_more}
 use Rattle.what_if.proofs.rows.push_runs.Goals as goal
 

@@ -1,6 +1,6 @@
 use Rattle.std.proofs.Common.{◌≡◌, ◌++◌, take}
-use Rattle.recalc_engine.specs.MonthViews.{kept_rows}
-use Rattle.what_if.specs.YearViews.{changes}
+use Rattle.recalc_engine.specs.KeptRows.{kept_rows}
+use Rattle.what_if.specs.private.YearViews.{changes}
 use Rattle.what_if.proofs.rows.push_runs.Given as goal
 
 abbrev pub invariant-loop-at : goal.invariant-loop-at

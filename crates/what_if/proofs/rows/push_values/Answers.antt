@@ -1,6 +1,6 @@
 use Rattle.std.proofs.Common.{◌≡◌, ◌++◌, OnOk, ap, ap₂, subst, ◌∙◌}
 use Rattle.std.specs.List.{filter_map}
-use Rattle.what_if.specs.SideViews.{side_row, sides_of}
+use Rattle.what_if.specs.private.SideViews.{side_row, sides_of}
 use Rattle.what_if.proofs.ValueLemmas.{side_rows}
 use Rattle.what_if.proofs.rows.push_values.Goals as goal
 

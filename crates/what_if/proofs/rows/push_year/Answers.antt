@@ -1,8 +1,8 @@
 use Rattle.std.proofs.Common.{◌++◌, sym, ap, ◌∙◌}
 use Rattle.std.proofs.lemmas.List.{append-nil}
 use Rattle.book_edits.specs.RedoneClauses.{New, with_new}
-use Rattle.recalc_engine.specs.MonthViews.{rows_kept_in}
-use Rattle.what_if.specs.YearViews.{changes}
+use Rattle.recalc_engine.specs.KeptRows.{rows_kept_in}
+use Rattle.what_if.specs.private.YearViews.{changes}
 use Rattle.what_if.proofs.ChangeLemmas.{changes_none}
 use Rattle.what_if.proofs.rows.push_year.Goals as goal
 

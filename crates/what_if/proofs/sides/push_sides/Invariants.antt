@@ -1,6 +1,6 @@
 use Rattle.std.proofs.Common.{◌≡◌, ◌++◌}
 use Rattle.std.specs.List.{filter_map}
-use Rattle.what_if.specs.SideViews.{side_row}
+use Rattle.what_if.specs.private.SideViews.{side_row}
 use Rattle.what_if.proofs.sides.push_sides.Given as goal
 
 abbrev pub invariant-loop-side : goal.invariant-loop-side

@@ -1,6 +1,8 @@
 use Rattle.std.proofs.Common.{arith, ap, refl, sym}
-use Rattle.chart_layout.specs.Drawn.{drawn_statement, figures_statements}
-use Rattle.chart_layout.specs.Statements.{statements_of, statements_in, Adds}
+use Rattle.chart_layout.specs.Drawn.{drawn_statement}
+use Rattle.chart_layout.specs.private.Drawn.{figures_statements}
+use Rattle.chart_layout.specs.Statements.{statements_of}
+use Rattle.chart_layout.specs.private.Statements.{statements_in, Adds}
 use Rattle.pap_reader.specs.Trees.{raw_body_of}
 use Rattle.chart_layout.proofs.AddingLemmas.{adds_next, adds_all, adds_as, adds_if, of_eval, of_execute, of_if}
 use Rattle.chart_layout.proofs.DrawnLemmas.{on_ok}

@@ -1,7 +1,7 @@
 use Rattle.std.proofs.Common.{take}
 use Rattle.std.specs.List.{flat_map}
-use Rattle.chart_layout.specs.Drawn.{figures_statements}
-use Rattle.chart_layout.specs.Statements.{statements_in, Adds}
+use Rattle.chart_layout.specs.private.Drawn.{figures_statements}
+use Rattle.chart_layout.specs.private.Statements.{statements_in, Adds}
 use Rattle.chart_layout.proofs.build.Builder.+build.Given as goal
 
 -- the statements so far are appended

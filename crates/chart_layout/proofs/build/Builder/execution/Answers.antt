@@ -1,5 +1,6 @@
 use Rattle.std.proofs.Common.{ap, ◌∙◌}
-use Rattle.chart_layout.specs.Drawn.{drawn_call, figures_statements}
+use Rattle.chart_layout.specs.Drawn.{drawn_call}
+use Rattle.chart_layout.specs.private.Drawn.{figures_statements}
 use Rattle.chart_layout.specs.Statements.{execution}
 use Rattle.chart_layout.proofs.DrawnLemmas.{one_figure, figure_call}
 use Rattle.chart_layout.proofs.AddingLemmas.{adds_one}

@@ -1,6 +1,6 @@
 use Rattle.std.proofs.Common.{◌-◌, sym, arith}
 use Rattle.chart_layout.specs.declared.choice.Choice.{out-Choice}
-use Rattle.chart_layout.specs.Drawn.{arm_statements}
+use Rattle.chart_layout.specs.private.Drawn.{arm_statements}
 use Rattle.chart_layout.proofs.DrawnLemmas.{arms_step}
 use Rattle.chart_layout.proofs.pen.Pen.+draw.Goals as goal
 

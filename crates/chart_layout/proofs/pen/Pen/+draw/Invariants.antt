@@ -1,6 +1,7 @@
 use Rattle.std.proofs.Common.{◌≡◌, ◌≤◌, ◌++◌, length, map, take, drop}
 use Rattle.chart_layout.specs.declared.choice.Choice.{out-Choice}
-use Rattle.chart_layout.specs.Drawn.{joined, joined_back, drawing_statements, body_statements, figure_statements, arm_statements}
+use Rattle.chart_layout.specs.Drawn.{joined, joined_back, drawing_statements, body_statements}
+use Rattle.chart_layout.specs.private.Drawn.{figure_statements, arm_statements}
 use Rattle.chart_layout.proofs.pen.Pen.+draw.Given as goal
 
 -- the arms from the second on that aren't drawn are those before a number

@@ -1,7 +1,7 @@
 use Rattle.std.proofs.Common.{◌≡◌, ◌+◌, ◌<◌, ◌≤◌, ◌++◌, Some, length, map, ap, ap₂, subst, ◌∙◌, arith}
 use Rattle.std.specs.List.{filter_map}
 use Rattle.recalc_engine.specs.MonthRows.{month_rows}
-use Rattle.correction_ledger.specs.BalanceViews.{owed_of, balances_of, settled_of}
+use Rattle.correction_ledger.specs.private.BalanceViews.{owed_of, balances_of, settled_of}
 use Rattle.correction_ledger.specs.Filings.{IsFiling, HasTooMany, entry_with}
 use Rattle.correction_ledger.specs.Limits.{most_entries}
 use Rattle.correction_ledger.proofs.FileLemmas.{filed_with, is_filing, is_full, is_kept}

@@ -2,8 +2,8 @@ use Rattle.std.proofs.Common.{◌≡◌, Some, sym, ap, ap₂, subst, ◌∙◌}
 use Rattle.std.specs.List.{filter_map}
 use Rattle.std.proofs.lemmas.Result.{err_from_is_err_and}
 use Rattle.recalc_engine.specs.MonthRows.{month_rows}
-use Rattle.correction_ledger.specs.BalanceViews.{owed_of, balances_of}
-use Rattle.correction_ledger.specs.FilingViews.{AreSumsOf}
+use Rattle.correction_ledger.specs.private.BalanceViews.{owed_of, balances_of}
+use Rattle.correction_ledger.specs.FilingSums.{AreSumsOf}
 use Rattle.correction_ledger.specs.Filings.{Filings, IsOwedNow}
 use Rattle.correction_ledger.proofs.FileLemmas.{is_owed_now}
 use Rattle.correction_ledger.proofs.BalanceLemmas.{balances_bounded}

@@ -3,13 +3,13 @@ use Rattle.pap_tree.specs.Flowchart.{body_of, stmt_then, done}
 use Rattle.pap_tree.specs.Statements.{written}
 use Rattle.pap_tree.proofs.Laws.{stmt_at, branch_is}
 use Rattle.pap_types.specs.Routines.{body_named}
-use Rattle.pap_types.specs.ScopeViews.{scope_in}
-use Rattle.interval_analysis.specs.PlanViews.{ranges_in, branches_in}
-use Rattle.pap_tree.specs.TreeViews.{if_of, methods_in}
-use Rattle.interval_analysis.specs.StatementViews.{joined_lists, first_spot, CanWalkBody, FaultOf, Passes, through_body, through_fork, through_if, walked_in, met_in, executed}
+use Rattle.pap_types.specs.private.ScopeViews.{scope_in}
+use Rattle.interval_analysis.specs.private.PlanViews.{ranges_in, branches_in}
+use Rattle.pap_tree.specs.private.TreeViews.{if_of, methods_in}
+use Rattle.interval_analysis.specs.private.StatementViews.{joined_lists, first_spot, CanWalkBody, FaultOf, Passes, through_body, through_fork, through_if, walked_in, met_in, executed}
 use Rattle.interval_analysis.specs.declared.statements.Fork.{Fork}
-use Rattle.interval_analysis.specs.Changes.{changed}
-use Rattle.interval_analysis.specs.Meetings.{MeetsAnswer}
+use Rattle.interval_analysis.specs.private.Changes.{changed}
+use Rattle.interval_analysis.specs.private.Meetings.{MeetsAnswer}
 use Rattle.interval_analysis.proofs.NoteLemmas.{noted_then, since}
 use Rattle.interval_analysis.proofs.RepeatLemmas.{noted_longer}
 use Rattle.interval_analysis.proofs.CountLemmas.{written_at, can_here, can_rest}

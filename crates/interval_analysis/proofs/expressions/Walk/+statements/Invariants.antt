@@ -1,8 +1,8 @@
 use Rattle.std.proofs.Common.{◌≡◌, ◌+◌, ◌*◌, ◌^◌, ◌≤◌, drop}
 use Rattle.pap_tree.specs.Flowchart.{body_of, stmt_then, done}
 use Rattle.pap_tree.specs.Statements.{written}
-use Rattle.interval_analysis.specs.VariableViews.{GoesOn}
-use Rattle.interval_analysis.specs.StatementViews.{CanWalkBody, walked_in}
+use Rattle.interval_analysis.specs.private.VariableViews.{GoesOn}
+use Rattle.interval_analysis.specs.private.StatementViews.{CanWalkBody, walked_in}
 use Rattle.interval_analysis.proofs.expressions.Walk.+statements.Given as goal
 
 -- the chain of methods that is left counts first, and then the statements

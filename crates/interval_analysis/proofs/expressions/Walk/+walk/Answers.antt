@@ -4,13 +4,13 @@ use Rattle.std.specs.Int.{w32}
 use Rattle.pap_tree.specs.Numbering.{nodes}
 use Rattle.pap_tree.specs.Term.{term_of, item, one, two, operator}
 use Rattle.pap_types.specs.Kinds.{kind_of_two}
-use Rattle.pap_types.specs.ScopeViews.{scope_in}
-use Rattle.interval_analysis.specs.PlanViews.{ranges_after, branches_in}
-use Rattle.interval_analysis.specs.ShapeViews.{TakesTwo, one_meant, two_meant}
-use Rattle.interval_analysis.specs.ExpressionViews.{CanWalk, IsPartRanged, RangeAnswer, StopsAs, TwoAnswer, part_ranged}
-use Rattle.interval_analysis.specs.TestViews.{ComparesAs, TestAnswer, comparison, comparison_of, order_compared}
-use Rattle.interval_analysis.specs.Connectives.{FollowAnswer, IsFollowedBy, connected, directions_of}
-use Rattle.interval_analysis.specs.Notes.{IsTold}
+use Rattle.pap_types.specs.private.ScopeViews.{scope_in}
+use Rattle.interval_analysis.specs.private.PlanViews.{ranges_after, branches_in}
+use Rattle.interval_analysis.specs.private.ShapeViews.{TakesTwo, one_meant, two_meant}
+use Rattle.interval_analysis.specs.private.ExpressionViews.{CanWalk, IsPartRanged, RangeAnswer, StopsAs, TwoAnswer, part_ranged}
+use Rattle.interval_analysis.specs.private.TestViews.{ComparesAs, TestAnswer, comparison, comparison_of, order_compared}
+use Rattle.interval_analysis.specs.private.Connectives.{FollowAnswer, IsFollowedBy, connected, directions_of}
+use Rattle.interval_analysis.specs.private.Notes.{IsTold}
 use Rattle.interval_analysis.proofs.NodeLemmas.{can_item, can_one, can_two, first_stops, item_answer, item_stops, one_answer, one_stops, parts_answer, parts_err, range_err, second_stops, two_answer, two_stops}
 use Rattle.interval_analysis.proofs.ExpressionLemmas.{plain_answer, comparison_stops}
 use Rattle.interval_analysis.proofs.ConnectiveLemmas.{both_followed, comparison_followed, operator_followed, sequence_tested}

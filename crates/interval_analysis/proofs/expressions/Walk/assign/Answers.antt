@@ -1,5 +1,5 @@
 use Rattle.pap_tree.specs.Term.{term_of}
-use Rattle.interval_analysis.specs.PlanViews.{ranges_in}
+use Rattle.interval_analysis.specs.private.PlanViews.{ranges_in}
 use Rattle.interval_analysis.proofs.KeptLemmas.{can_put}
 use Rattle.interval_analysis.proofs.VariableLemmas.{held_left}
 use Rattle.interval_analysis.proofs.expressions.Walk.assign.Goals as goal

@@ -4,8 +4,8 @@ use Rattle.std.specs.Option.{option_map_or}
 use Rattle.pap_tree.specs.Declarations.{declaration_of}
 use Rattle.pap_types.specs.Scopes.{number_of}
 use Rattle.interval_walk.specs.Walked.{range_kept_as}
-use Rattle.pap_types.specs.ScopeViews.{scope_in, variables_in}
-use Rattle.interval_analysis.specs.StatementViews.{CanPut}
+use Rattle.pap_types.specs.private.ScopeViews.{scope_in, variables_in}
+use Rattle.interval_analysis.specs.private.StatementViews.{CanPut}
 use Rattle.interval_analysis.proofs.KeptLemmas.{declared_at, put_done, put_nothing}
 use Rattle.interval_analysis.proofs.VariableLemmas.{goes_noted, goes_none}
 use Rattle.interval_analysis.proofs.expressions.Walk.put.Goals as goal

@@ -3,7 +3,7 @@ use Rattle.std.specs.Option.{option_or, option_map}
 use Rattle.std.proofs.lemmas.Option.{slice_get-get_or}
 use Rattle.pap_types.specs.Scopes.{constant_in}
 use Rattle.interval_walk.specs.Ranges.{single}
-use Rattle.pap_types.specs.ScopeViews.{scope_in, variables_in}
+use Rattle.pap_types.specs.private.ScopeViews.{scope_in, variables_in}
 use Rattle.interval_analysis.proofs.NameLemmas.{named_by, named_none, number_in}
 use Rattle.interval_analysis.proofs.expressions.Walk.value_of_name.Goals as goal
 

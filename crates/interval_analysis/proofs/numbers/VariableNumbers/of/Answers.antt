@@ -1,5 +1,5 @@
 use Rattle.std.proofs.lemmas.List.Sorted.{All-permutation}
-use Rattle.interval_analysis.specs.NumberViews.{HasItsNumber}
+use Rattle.interval_analysis.specs.private.NumberViews.{HasItsNumber}
 use Rattle.interval_analysis.proofs.numbers.VariableNumbers.of.Goals as goal
 
 pub returns : goal.returns

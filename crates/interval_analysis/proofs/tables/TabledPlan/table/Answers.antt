@@ -1,6 +1,6 @@
 use Rattle.std.proofs.Common.{ap, ◌∙◌}
 use Rattle.pap_types.specs.Scopes.{table_in}
-use Rattle.pap_types.specs.ScopeViews.{scope_in}
+use Rattle.pap_types.specs.private.ScopeViews.{scope_in}
 use Rattle.interval_analysis.proofs.TableLemmas.{variable_table, constant_table, no_table}
 use Rattle.interval_analysis.proofs.tables.TabledPlan.table.Goals as goal
 

@@ -1,5 +1,5 @@
 use Rattle.std.proofs.Common.{◌+◌, drop, ap, ◌∙◌, sym}
-use Rattle.interval_analysis.specs.Changes.{changed}
+use Rattle.interval_analysis.specs.private.Changes.{changed}
 use Rattle.interval_analysis.proofs.NoteLemmas.{noted_then, drop_there}
 use Rattle.interval_analysis.proofs.variables.Variables.apply.Goals as goal
 

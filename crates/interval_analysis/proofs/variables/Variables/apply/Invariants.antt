@@ -1,6 +1,6 @@
 use Rattle.std.proofs.Common.{◌≡◌, drop}
-use Rattle.interval_analysis.specs.Changes.{AreKept, changed}
-use Rattle.interval_analysis.specs.Notes.{IsNoted}
+use Rattle.interval_analysis.specs.private.Changes.{AreKept, changed}
+use Rattle.interval_analysis.specs.private.Notes.{IsNoted}
 use Rattle.interval_analysis.proofs.variables.Variables.apply.Given as goal
 
 abbrev pub invariant-loop-change : goal.invariant-loop-change

@@ -1,5 +1,5 @@
 use Rattle.std.proofs.Common.{◌≡◌, ◌≤◌, length, take, drop, sym, ap, ◌∙◌, subst, arith}
-use Rattle.interval_analysis.specs.Notes.{AreDistinct, taken_back}
+use Rattle.interval_analysis.specs.private.Notes.{AreDistinct, taken_back}
 use Rattle.interval_analysis.proofs.RepeatLemmas.{all_behind, first_before, first_behind, first_kept, first_room}
 use Rattle.interval_analysis.proofs.variables.Variables.drop_repeats.Goals as goal
 use Rattle.interval_analysis.proofs.variables.Variables.drop_repeats.Goals.{then-len+in_ok-resize, else-len}

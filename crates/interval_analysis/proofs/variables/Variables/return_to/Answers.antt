@@ -1,5 +1,5 @@
 use Rattle.std.proofs.Common.{◌≡◌, ◌+◌, ◌-◌, ◌<◌, length, take, drop, ap, ◌∙◌, arith}
-use Rattle.interval_analysis.specs.Notes.{taken_back}
+use Rattle.interval_analysis.specs.private.Notes.{taken_back}
 use Rattle.interval_analysis.proofs.NoteLemmas.{noted_then}
 use Rattle.interval_analysis.proofs.RepeatLemmas.{note_before, returned}
 use Rattle.interval_analysis.proofs.variables.Variables.return_to.Goals as goal

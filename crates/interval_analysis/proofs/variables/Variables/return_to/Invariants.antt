@@ -1,6 +1,6 @@
 use Rattle.std.proofs.Common.{◌≡◌, ◌≤◌, length, take, drop}
-use Rattle.interval_analysis.specs.Changes.{AreKept}
-use Rattle.interval_analysis.specs.Notes.{IsNoted, taken_back}
+use Rattle.interval_analysis.specs.private.Changes.{AreKept}
+use Rattle.interval_analysis.specs.private.Notes.{IsNoted, taken_back}
 use Rattle.interval_analysis.proofs.variables.Variables.return_to.Given as goal
 
 abbrev pub invariant-loop-left : goal.invariant-loop-left

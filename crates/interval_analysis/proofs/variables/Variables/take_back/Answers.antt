@@ -1,6 +1,6 @@
 use Rattle.std.proofs.Common.{◌≤◌, [], ◌∷◌, length, take, drop, sym, ap, ◌∙◌, arith}
 use Rattle.std.proofs.lemmas.List.{take-append-le, length-append}
-use Rattle.interval_analysis.specs.Notes.{taken_back}
+use Rattle.interval_analysis.specs.private.Notes.{taken_back}
 use Rattle.interval_analysis.proofs.NoteLemmas.{taken_last}
 use Rattle.interval_analysis.proofs.variables.Variables.take_back.Goals as goal
 

@@ -1,5 +1,5 @@
 use Rattle.std.proofs.Common.{◌≡◌, ◌≤◌, length, take, drop}
-use Rattle.interval_analysis.specs.Notes.{taken_back}
+use Rattle.interval_analysis.specs.private.Notes.{taken_back}
 use Rattle.interval_analysis.proofs.variables.Variables.take_back.Given as goal
 
 abbrev pub invariant-loop-self : goal.invariant-loop-self

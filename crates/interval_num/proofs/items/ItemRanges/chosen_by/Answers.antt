@@ -4,7 +4,7 @@ use Rattle.std.specs.Int.{w128}
 use Rattle.std.proofs.lemmas.Int.{ints}
 use Rattle.interval_num.specs.declared.cause.RangeCause.TheVariants.{Index}
 use Rattle.interval_num.specs.Rows.{decimals_row}
-use Rattle.interval_num.specs.Views.{first_level}
+use Rattle.interval_num.specs.ItemLevels.{first_level}
 use Rattle.interval_num.specs.Soundness.{ItemIsSound}
 use Rattle.interval_num.proofs.AlignmentLemmas.{if_ok, unless_passes}
 use Rattle.interval_num.proofs.ItemLemmas.{item_sound}

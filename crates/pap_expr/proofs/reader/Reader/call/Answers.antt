@@ -1,5 +1,5 @@
 use Rattle.expr_grammar.specs.Machine.{level}
-use Rattle.pap_expr.specs.Stacks.{stack_of}
+use Rattle.pap_expr.specs.private.Stacks.{stack_of}
 use Rattle.pap_expr.proofs.reader.Reader.call.Goals as goal
 use Rattle.pap_expr.proofs.reader.Reader.call.Goals.{in-Negate, in-Abs, in-SetScale}
 

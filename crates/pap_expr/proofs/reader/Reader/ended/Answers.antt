@@ -1,4 +1,4 @@
-use Rattle.pap_expr.specs.Stacks.{stack_of}
+use Rattle.pap_expr.specs.private.Stacks.{stack_of}
 use Rattle.pap_expr.proofs.reader.Reader.ended.Goals as goal
 
 pub returns-in_default-Close : goal.returns-in_default-Close

@@ -1,5 +1,5 @@
 use Rattle.pap_tree.specs.Term.{term_of}
-use Rattle.pap_expr.specs.Stacks.{stack_of}
+use Rattle.pap_expr.specs.private.Stacks.{stack_of}
 use Rattle.pap_expr.proofs.SignLemmas.{ends}
 use Rattle.pap_expr.proofs.reader.Reader.marked.Goals as goal
 

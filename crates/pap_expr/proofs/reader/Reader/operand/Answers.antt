@@ -1,4 +1,4 @@
-use Rattle.pap_expr.specs.Stacks.{stack_of}
+use Rattle.pap_expr.specs.private.Stacks.{stack_of}
 use Rattle.pap_expr.proofs.reader.Reader.operand.Goals as goal
 
 pub returns-in-Keyword : goal.returns-in-Keyword

@@ -1,6 +1,6 @@
 use Rattle.std.proofs.Common.{suc}
 use Rattle.expr_grammar.specs.Machine.{level}
-use Rattle.pap_expr.specs.Stacks.{stack_of}
+use Rattle.pap_expr.specs.private.Stacks.{stack_of}
 use Rattle.pap_expr.proofs.reader.Reader.step.Goals as goal
 
 pub returns-in-ClassPoint : goal.returns-in-ClassPoint

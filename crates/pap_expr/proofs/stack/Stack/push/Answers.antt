@@ -1,6 +1,6 @@
 use Rattle.std.proofs.Common.{ap, ◌∙◌, arith}
 use Rattle.expr_grammar.specs.Machine.{level}
-use Rattle.pap_expr.specs.Frames.{frames_of}
+use Rattle.pap_expr.specs.private.Frames.{frames_of}
 use Rattle.pap_expr.proofs.FrameLemmas.{pushed}
 use Rattle.pap_expr.proofs.stack.Stack.push.Goals as goal
 

@@ -1,7 +1,7 @@
 use Rattle.std.proofs.Common.{◌≡◌, List, subst, MatchOption, ◌∷◌, []}
 use Rattle.expr_grammar.specs.Machine as machine
 use Rattle.pap_expr.specs.declared.frame.Frame.{Frame}
-use Rattle.pap_expr.specs.Frames.{frame_of, frames_of}
+use Rattle.pap_expr.specs.private.Frames.{frame_of, frames_of}
 use Rattle.pap_expr.proofs.FrameLemmas.{top_is}
 use Rattle.pap_expr.proofs.stack.Stack.top.Goals as goal
 

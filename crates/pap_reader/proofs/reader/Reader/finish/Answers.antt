@@ -1,7 +1,7 @@
 use Rattle.std.proofs.Common.{Ok, Err, sym, ap, ◌∙◌, reverse}
 use Rattle.std.specs.Prelude.{if◌then◌else◌}
 use Rattle.pap_reader.specs.declared.fault.ReadFault.TheVariants as faults
-use Rattle.pap_reader.specs.VerdictDecisions.{built}
+use Rattle.pap_reader.specs.private.VerdictDecisions.{built}
 use Rattle.pap_reader.proofs.ReaderSteps.{tree_built}
 use Rattle.pap_reader.proofs.reader.Reader.finish.Goals as goal
 

@@ -1,9 +1,9 @@
 use Rattle.std.proofs.Common.{◌≡◌, ◌∷◌, [], ◌++◌, true, false, sym, ◌∙◌}
 use Rattle.pap_reader.specs.Structure.{opens}
-use Rattle.pap_reader.specs.NestingDecisions.{step}
+use Rattle.pap_reader.specs.private.NestingDecisions.{step}
 use Rattle.pap_reader.specs.Attributes.{is_right}
 use Rattle.pap_reader.specs.Tags.{attributes_of}
-use Rattle.pap_reader.specs.Views.{IsValueOf}
+use Rattle.pap_reader.specs.private.Views.{IsValueOf}
 use Rattle.pap_reader.proofs.ReaderSteps.{none_is, some_is, at_none, at_some, verdict_none, verdict_wrong, verdict_over, tallies_open, few_open, parts_open, internals_more, plan_begun}
 use Rattle.pap_reader.proofs.reader.Reader.open.Goals as goal
 

@@ -3,8 +3,8 @@ use Rattle.std.proofs.lemmas.Result.{err_from_is_err_and}
 use Rattle.pap_reader.specs.Structure.{opens}
 use Rattle.pap_reader.specs.Marks.{begins, ends}
 use Rattle.pap_reader.specs.Attributes.{is_right}
-use Rattle.pap_reader.specs.VerdictDecisions.{verdict_on}
-use Rattle.pap_reader.specs.ReaderViews.{Refuses, one_verdict}
+use Rattle.pap_reader.specs.private.VerdictDecisions.{verdict_on}
+use Rattle.pap_reader.specs.private.ReaderViews.{Refuses, one_verdict}
 use Rattle.pap_reader.specs.Tags.{attributes_of}
 use Rattle.pap_reader.proofs.Verdicts.{pair_refused, refuses_same, judges_pair}
 use Rattle.pap_reader.proofs.reader.Reader.open_and_close.Goals as goal

@@ -5,7 +5,7 @@ use Rattle.std.specs.Cmp.Lexicographic.{slice_cmp}
 use Rattle.rising_lists.specs.Keyed.{at_key}
 use Rattle.rising_lists.specs.Places.{Misses}
 use Rattle.pap_types.specs.Checks.{has_name}
-use Rattle.pap_types.specs.NameViews.{AreNumbered, numbered_name}
+use Rattle.pap_types.specs.private.NameViews.{AreNumbered, numbered_name}
 use Rattle.pap_types.proofs.NameLemmas.{name_there, one_numbered_more}
 use Rattle.pap_types.proofs.declared_names.DeclaredNames.insert.Goals as goal
 

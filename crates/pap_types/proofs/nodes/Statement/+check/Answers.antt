@@ -3,7 +3,7 @@ use Rattle.std.proofs.lemmas.List.{append_assoc}
 use Rattle.pap_tree.specs.Term.{term_of, leaf, named, item, one, two, choice, unary, value_of, value_of_scaled, new_big, set_scale, operator, method, divide}
 use Rattle.pap_tree.specs.Numbering.{nodes}
 use Rattle.pap_types.specs.Kinds.{kind_of, kind_of_one, kind_of_operator, wider, are_parts, is_convertible, is_int, is_whole, is_big, is_truth, is_table, takes_one, takes_operator, takes_two}
-use Rattle.pap_types.specs.CheckViews.{scope_of_statement, checks_in, checks_of_two}
+use Rattle.pap_types.specs.private.CheckViews.{scope_of_statement, checks_in, checks_of_two}
 use Rattle.pap_types.proofs.CheckLemmas.{front, early, own_answer, pair_early, second_checks, checks_of_three, three_then, later_checks}
 use Rattle.pap_types.proofs.nodes.Statement.+check.Goals as goal
 

@@ -2,7 +2,7 @@ use Rattle.std.proofs.Common.{sym, ap, ◌∙◌, arith}
 use Rattle.pap_tree.specs.Term.{term_of}
 use Rattle.pap_types.specs.declared.fault.TypeFault.TheVariants as faults
 use Rattle.pap_types.specs.Kinds.{is_truth}
-use Rattle.pap_types.specs.CheckViews.{checks_in}
+use Rattle.pap_types.specs.private.CheckViews.{checks_in}
 use Rattle.pap_types.proofs.StatementLemmas.{nodes_some, early_verdict, last_passes, last_fails, last_place}
 use Rattle.pap_types.proofs.nodes.Statement.check_test.Goals as goal
 

@@ -1,7 +1,7 @@
 use Rattle.std.proofs.Common.{ap, map, subst, Ok, Err}
 use Rattle.pap_tree.specs.Flowchart.{flowchart_of, routine_of}
 use Rattle.pap_tree.specs.Declarations.{declaration_of}
-use Rattle.pap_types.specs.DeclarationViews.{AreDeclared}
+use Rattle.pap_types.specs.private.DeclarationViews.{AreDeclared}
 use Rattle.pap_types.proofs.NamingLemmas.{of_call, variables_fail, constants_fail, filled}
 use Rattle.pap_types.proofs.scope.Names.fill.Goals as goal
 

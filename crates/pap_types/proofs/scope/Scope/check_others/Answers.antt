@@ -2,7 +2,7 @@ use Rattle.std.proofs.Common.{◌+◌, drop, map, ap, subst, sym, ◌∙◌}
 use Rattle.pap_tree.specs.Flowchart.{body_of, routine_of}
 use Rattle.pap_types.specs.Checks.{first_fault}
 use Rattle.pap_types.specs.Counts.{AreSmallTerms}
-use Rattle.pap_types.specs.PlanViews.{method_checks_in}
+use Rattle.pap_types.specs.private.PlanViews.{method_checks_in}
 use Rattle.pap_types.proofs.MethodLemmas.{methods_from, small_method, failed_method, passed_method}
 use Rattle.pap_types.proofs.scope.Scope.check_others.Goals as goal
 

@@ -4,7 +4,7 @@ use Rattle.pap_tree.specs.Flowchart.{done, stmt_then, body_of}
 use Rattle.pap_tree.specs.Statements.{written}
 use Rattle.pap_tree.proofs.Laws.{branch_is}
 use Rattle.pap_types.specs.Counts.{AreSmallTerms}
-use Rattle.pap_types.specs.StatementViews.{BodyAnswer, checks_from}
+use Rattle.pap_types.specs.private.StatementViews.{BodyAnswer, checks_from}
 use Rattle.pap_types.specs.declared.nodes.Statement.{Statement}
 use Rattle.pap_types.specs.Checks.{first_fault, place}
 use Rattle.pap_types.proofs.BodyLemmas.{of_statement, execute_passes, execute_fails, small_here, room_here, failed_here, one_step, branches_early, branches_answer, branch_early, branch_answer}

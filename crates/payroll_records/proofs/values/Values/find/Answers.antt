@@ -1,5 +1,5 @@
 use Rattle.std.proofs.Common.{[], arith}
-use Rattle.payroll_records.specs.ValueViews.{listed}
+use Rattle.payroll_records.specs.KeptValues.{listed}
 use Rattle.payroll_records.specs.declared.values.NamedValue.{NamedValue}
 use Rattle.payroll_records.proofs.ValueLemmas.{named_length, number_at}
 use Rattle.payroll_records.proofs.values.Values.find.Goals as goal

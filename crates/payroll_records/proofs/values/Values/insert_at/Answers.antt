@@ -1,6 +1,6 @@
 use Rattle.std.proofs.Common.{◌≡◌, rules, arith}
 use Rattle.std.specs.List.{insert}
-use Rattle.payroll_records.specs.ValueViews.{listed}
+use Rattle.payroll_records.specs.KeptValues.{listed}
 use Rattle.payroll_records.proofs.ValueLemmas.{at_most, kept_put, named_length, value_put}
 use Rattle.payroll_records.proofs.values.Values.insert_at.Goals as goal
 

@@ -1,5 +1,5 @@
 use Rattle.std.proofs.Common.{arith}
-use Rattle.payroll_records.specs.ValueViews.{listed}
+use Rattle.payroll_records.specs.KeptValues.{listed}
 use Rattle.payroll_records.proofs.ValueLemmas.{named_length}
 use Rattle.payroll_records.proofs.values.Values.len.Goals as goal
 

@@ -1,5 +1,5 @@
 use Rattle.std.proofs.Common.{◌∙◌, sym}
-use Rattle.payroll_records.specs.ValueViews.{listed}
+use Rattle.payroll_records.specs.KeptValues.{listed}
 use Rattle.payroll_records.proofs.ValueLemmas.{numbers_are}
 use Rattle.payroll_records.proofs.values.Values.numbers.Goals as goal
 

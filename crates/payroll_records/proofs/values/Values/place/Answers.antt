@@ -1,4 +1,4 @@
-use Rattle.payroll_records.specs.ValueViews.{listed}
+use Rattle.payroll_records.specs.KeptValues.{listed}
 use Rattle.payroll_records.proofs.ValueLemmas.{beyond, places}
 use Rattle.payroll_records.proofs.values.Values.place.Goals as goal
 

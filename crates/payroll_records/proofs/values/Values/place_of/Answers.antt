@@ -1,5 +1,5 @@
 use Rattle.std.proofs.Common.{refl, arith}
-use Rattle.payroll_records.specs.ValueViews.{listed, named_numbers}
+use Rattle.payroll_records.specs.KeptValues.{listed, named_numbers}
 use Rattle.payroll_records.proofs.ValueLemmas.{guessed, placed, place_within, would_go}
 use Rattle.payroll_records.proofs.values.Values.place_of.Goals as goal
 

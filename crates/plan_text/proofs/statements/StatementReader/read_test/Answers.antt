@@ -2,7 +2,7 @@ use Rattle.std.proofs.Common.{[], ◌∷◌, sym, ap, subst, ◌∙◌}
 use Rattle.pap_tree.specs.Grammar.{Level}
 use Rattle.plan_text.specs.declared.fault.Spot.TheVariants.{Statement}
 use Rattle.plan_text.specs.Sites.{site}
-use Rattle.plan_text.specs.Views.{TellsFault, fault_at}
+use Rattle.plan_text.specs.private.Views.{TellsFault, fault_at}
 use Rattle.plan_text.proofs.SiteLemmas.{of_text}
 use Rattle.plan_text.proofs.statements.StatementReader.read_test.Goals as goal
 

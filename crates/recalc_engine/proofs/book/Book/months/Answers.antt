@@ -1,6 +1,6 @@
 use Rattle.std.proofs.Common.{ap, ◌∙◌}
 use Rattle.book_year.specs.Accepted.{plans_in}
-use Rattle.recalc_engine.specs.MonthViews.{rows_kept}
+use Rattle.recalc_engine.specs.KeptRows.{rows_kept}
 use Rattle.recalc_engine.proofs.MonthLemmas.{years_kept, years_paired}
 use Rattle.recalc_engine.proofs.book.Book.months.Goals as goal
 

@@ -3,7 +3,7 @@ use Rattle.std.specs.List.{AllByRecursion}
 use Rattle.book_year.specs.Accepted.{plans_in}
 use Rattle.recalc_engine.specs.Contents.{Contents}
 use Rattle.recalc_engine.specs.MonthRows.{month_rows}
-use Rattle.recalc_engine.specs.MonthViews.{rows_kept}
+use Rattle.recalc_engine.specs.KeptRows.{rows_kept}
 use Rattle.recalc_engine.specs.RowLaws.{HasBound}
 use Rattle.recalc_engine.proofs.BookLemmas.{book_rows_rise}
 use Rattle.recalc_engine.proofs.MonthLemmas.{years_kept}

@@ -1,6 +1,6 @@
 use Rattle.std.proofs.Common.{subst}
 use Rattle.std.specs.Prelude.{All}
-use Rattle.recalc_engine.specs.ValueViews.{IsYearKept}
+use Rattle.recalc_engine.specs.private.ValueViews.{IsYearKept}
 use Rattle.recalc_engine.proofs.ValueLemmas.{listed_kept}
 use Rattle.recalc_engine.proofs.book.Book.values_law.Goals as goal
 

@@ -1,7 +1,7 @@
 use Rattle.std.proofs.Common.{subst}
 use Rattle.std.specs.Iterator.{YieldsFirstBy}
-use Rattle.recalc_engine.specs.MonthViews.{ArePaired}
-use Rattle.recalc_engine.specs.RowViews.{lent_row}
+use Rattle.recalc_engine.specs.KeptRows.{ArePaired}
+use Rattle.recalc_engine.specs.LentRows.{lent_row}
 use Rattle.recalc_engine.proofs.MonthLemmas.{next_year}
 use Rattle.recalc_engine.proofs.months.MonthsIterator.next.Goals as goal
 

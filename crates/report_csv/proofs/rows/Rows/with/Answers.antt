@@ -1,7 +1,7 @@
 use Rattle.std.proofs.Common.{◌≢◌, ◌++◌, ◌∙◌, ap, map}
 use Rattle.csv.specs.Writing.{row_text, writer_setup}
 use Rattle.csv.specs.declared.writer.QuoteStyle.TheVariants as style
-use Rattle.report_csv.specs.Views.{written}
+use Rattle.report_csv.specs.private.Views.{written}
 use Rattle.report_csv.proofs.RowLemmas.{written_row}
 use Rattle.report_csv.proofs.rows.Rows.with.Goals as goal
 

@@ -1,7 +1,7 @@
 use Rattle.std.proofs.Common.{◌≡◌, ◌≤◌, take}
 use Rattle.std.specs.Prelude.{is_some}
-use Rattle.script_run.specs.RunClauses.{shown_beside}
-use Rattle.script_run.specs.RunViews.{GoesOn}
+use Rattle.script_run.specs.private.RunClauses.{shown_beside}
+use Rattle.script_run.specs.private.RunViews.{GoesOn}
 use Rattle.script_run.proofs.reading.Reading.feed.Given as goal
 
 abbrev pub invariant-loop-byte : goal.invariant-loop-byte

@@ -3,7 +3,7 @@ use Rattle.std.specs.Prelude.{Err}
 use Rattle.std.proofs.lemmas.Result.{err_from_is_err_and}
 use Rattle.script_steps.specs.declared.stop.LineStop.TheVariants.{Memory}
 use Rattle.script_run.specs.Limits.{most_line}
-use Rattle.script_run.specs.RunClauses.{shown_beside}
+use Rattle.script_run.specs.private.RunClauses.{shown_beside}
 use Rattle.script_run.proofs.KeepingLaws.{says_kept, kept_some, kept_none, not_empty, empty}
 use Rattle.script_run.proofs.StepLaws.{answered_lost, delivered_same, broken_same, closes_none, closes_on, closes_broken, closes_at, stays_none, stays_on}
 use Rattle.script_run.proofs.reading.Reading.last_line.Goals as goal

@@ -1,0 +1,2 @@
+pub mod RedoneClauses
+pub mod Views

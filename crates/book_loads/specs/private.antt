@@ -1,0 +1,4 @@
+pub mod Drafts
+pub mod Groups
+pub mod Merges
+pub mod Puts

@@ -1,0 +1,3 @@
+pub mod ChainClauses
+pub mod Records
+pub mod YearClauses

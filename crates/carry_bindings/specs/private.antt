@@ -1,0 +1,2 @@
+pub mod OutputViews
+pub mod Views

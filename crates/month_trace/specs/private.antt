@@ -1,0 +1,3 @@
+pub mod OperationViews
+pub mod ValueViews
+pub mod WalkViews

@@ -1,0 +1,12 @@
+-- A request of the program, as the form that it stands for.
+use Rattle.std.specs.Prelude.{⊤}
+use Rattle.pap_cli.specs.declared.words.Request.TheVariants as requests
+use Rattle.pap_cli.specs.Words.{Form, check, once, run, sample, save}
+
+-- the source's script is read
+abbrev pub ReadsScript : Form → Type 0
+ReadsScript (check plan limits) = ⊥
+ReadsScript (once plan limits values) = ⊥
+ReadsScript run = ⊤
+ReadsScript (sample employees) = ⊥
+ReadsScript save = ⊤

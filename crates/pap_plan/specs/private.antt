@@ -1,0 +1,3 @@
+pub mod AcceptanceClauses
+pub mod BindingViews
+pub mod JudgedViews

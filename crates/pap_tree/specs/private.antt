@@ -1,0 +1,4 @@
+pub mod Expressions
+pub mod NumberingViews
+pub mod PrintingViews
+pub mod TreeViews

@@ -1,0 +1,6 @@
+pub mod CheckViews
+pub mod DeclarationViews
+pub mod NameViews
+pub mod PlanViews
+pub mod ScopeViews
+pub mod StatementViews

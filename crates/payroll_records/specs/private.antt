@@ -1,0 +1,4 @@
+pub mod CellViews
+pub mod RowViews
+pub mod TableViews
+pub mod ValueViews

@@ -1,0 +1,2 @@
+pub mod FoundViews
+pub mod SiteViews

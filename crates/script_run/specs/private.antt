@@ -1,0 +1,3 @@
+pub mod RefusedLines
+pub mod RunClauses
+pub mod RunViews

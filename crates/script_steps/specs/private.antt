@@ -1,0 +1,3 @@
+pub mod PlanViews
+pub mod Replies
+pub mod StepViews
