@@ -62,13 +62,13 @@ client-java: build
 rows:
 	@test -f ../shared/run_rows.py || { echo 'rows: the worked examples (../shared) are not part of the repository' >&2; exit 1; }
 	$(MAKE) build
-	python3 ../shared/run_rows.py --bin "$(CURDIR)/build/papcalc" --stage 20 --words check,once,run,sample,save \
-	    --lines plan,drop,add,change,withdraw,load,report,work,trace,file,owed,open,try --prefixes
+	tools/worked_rows.sh "$(CURDIR)/build/papcalc"
 	python3 tools/call_rows.py build/papcalc ../shared/rows/calls.json
 
-# Tries the wrong bodies of all crates or of those of CRATES="a b", also those that the gate leaves out.
+# Tries the wrong bodies of all crates or of those of CRATES="a b", also those that the gate leaves out, and says by which goals each is
+# refused. What is known of an edit is kept, so a run that was cut off is gone on with.
 wrong-bodies:
-	tools/wrong_bodies.sh $(CRATES)
+	python3 tools/wrong_bodies.py $(CRATES)
 
 decimal-tool:
 	cd crates/decimal_tool && rt run < stdin > /dev/null

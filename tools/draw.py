@@ -129,7 +129,7 @@ def main():
                 sys.exit(f"draw: {name} isn't what tools/draw.py writes")
         else:
             open(name, "w").write(text)
-    print("draw: docs/layers.svg and docs/correction.svg are up to date")
+    print("draw: 2 pictures, docs/layers.svg and docs/correction.svg, are up to date")
 
 
 if __name__ == "__main__":

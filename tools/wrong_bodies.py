@@ -1,0 +1,288 @@
+#!/usr/bin/env python3
+"""Tries wrong bodies, and says by which goals the prover refuses each: wrong_bodies.py [CRATE ..] [--anew], from the top of the repository.
+
+An edit of crates/NAME/must-fail/ or crates/NAME/wrong-bodies/ changes what a function means, and has to be refused by a goal of a contract:
+what a function ensures (`returns..`), what a callee requires (`..-requires..`), an invariant (`..-init`, `..-preserved`, `invariant_of..`),
+what the language itself demands (an index within its bounds, a sum that fits ..), or, where the edit is of a definition, the law that gets
+false. It doesn't count where the check only fails at an answer of a proof that names what the edit took away: a harmless edit fails so too.
+Where an answer has another type than its goal, the edit is tried once more without that answer: only a goal that then stays open counts.
+An edit of crates/NAME/harmless/ meets every clause: it stays proved, or fails by names alone.
+
+What an edit came to is kept in build/wrong-bodies/ by the sums of all that it was tried on, so that a run that was cut off is gone on with;
+--anew tries all. `wrong_bodies.py --read LOG` tries nothing: it judges the lines that `rt ci` wrote of the edits of must-fail/.
+
+The crates below must be proved (`make build`, `make author`). Each result comes as soon as it is there."""
+import glob
+import hashlib
+import os
+import re
+import shutil
+import subprocess
+import sys
+import tempfile
+from concurrent.futures import ThreadPoolExecutor
+
+sys.path.insert(0, os.path.dirname(os.path.abspath(__file__)))
+import build  # noqa: E402
+
+FOLDERS = ("must-fail", "wrong-bodies", "harmless")
+KEPT = "build/wrong-bodies"
+GIGABYTES_A_LANE = 3
+
+CONTRACT = re.compile(r"returns\b|returns-|.*-requires\b|.*-(?:init|preserved|smaller)\b|invariant_of-|(?:overflow|bounds|slice_bounds|nonzero|offset_bounds)_?\w*-")
+GONE = re.compile(r"has no field|is not in scope|has no `|was not admitted|was rejected|is no name|no longer has a goal|there is no goal|names no goal")
+OPEN = re.compile(r"`search` did not prove ((?:`[^`]+`(?:, | and )?)+)")
+ANSWER = re.compile(r"(?:\./)?(proofs/\S+?\.antt):(\d+):\d+: error: (?:`([^`]+)`: )?(.*)")
+NOTE = re.compile(r"note: (src/\S+?):(\d+):\d+: .*\(`([^`]+)`\)")
+UNPROVED = re.compile(r"note: src/\S+: it is not proved that")
+FUNCTION = re.compile(r"fn (\S+): no proof")
+BY_MACHINE = re.compile(r"^`(?:grind|search|omega|simp|cc|arith)`|does not follow|did not prove|is not proved")
+
+
+class Verdict:
+    """What a try of an edit came to."""
+
+    def __init__(self, kind, goals):
+        self.kind, self.goals = kind, goals
+
+    def counts(self, harmless):
+        return self.kind in ("proved", "names") if harmless else self.kind in ("contract", "law")
+
+    def text(self):
+        said = {
+            "contract": "refused by the contract",
+            "law": "refused: a law is false",
+            "names": "refused by names alone, which says nothing of the contract",
+            "answer": "refused by an answer that no longer fits",
+            "proved": "still proved",
+            "bad": "can't be applied or read",
+            "limit": "refused by a limit of the prover",
+        }[self.kind]
+        return said + (": " + "; ".join(self.goals[:4]) + (f"; and {len(self.goals) - 4} more" if len(self.goals) > 4 else "") if self.goals else "")
+
+
+def edited(edit, folder):
+    """The texts of the files that an edit changes, by their path in the crate, or why it can't be applied."""
+    texts, path, old = {}, None, None
+    for line in open(edit, encoding="utf-8").read().split("\n"):
+        if line.startswith("file: "):
+            path = line[6:].strip()
+        elif line.startswith("old: "):
+            old = line[5:]
+        elif line.startswith("new:") and path and old:
+            if path not in texts:
+                texts[path] = open(f"{folder}/{path}", encoding="utf-8").read()
+            if texts[path].count(old) != 1:
+                return None, f"its `old:` text stands in {path} {texts[path].count(old)} times"
+            texts[path] = texts[path].replace(old, line[4:].removeprefix(" "))
+            old = None
+    return (texts, None) if texts else (None, "it has no `old:` and `new:` text")
+
+
+def told(output):
+    """The failures of a check: the goal or lemma, what is said of it, and the proof's file and line where an answer by hand fails."""
+    found = []
+    for line in output.split("\n"):
+        function, opened = FUNCTION.match(line), OPEN.search(line)
+        if answer := ANSWER.match(line):
+            found.append((answer.group(3), answer.group(4), answer.group(1), int(answer.group(2))))
+        elif function and opened:
+            found += [(goal, "did not prove", None, function.group(1)) for goal in re.findall(r"`([^`]+)`", opened.group(1))]
+    if not found:
+        notes = filter(None, map(NOTE.match, output.split("\n")))
+        found = [(note.group(3), "is not proved", None, f"{note.group(1)}:{note.group(2)}") for note in notes]
+    return found
+
+
+def judged(output, of_specs):
+    """What a failed check comes to, and the answers by hand that don't fit, by their files."""
+    contract, laws, names, misfits = [], [], [], []
+    for goal, said, file, where in told(output):
+        place = f"{file[len('proofs/'):]} `{goal}`" if file else f"{where} `{goal}`"
+        is_answer = file is None or os.path.basename(file) in ("Answers.antt", "Invariants.antt", "Proof.antt")
+        if GONE.search(said):
+            names.append(place)
+        elif not is_answer:
+            laws.append(place)
+        elif goal and CONTRACT.match(goal) and (file is None or BY_MACHINE.search(said)):
+            contract.append(place)
+        elif goal:
+            misfits.append((file, goal, place))
+    if contract:
+        return Verdict("contract", list(dict.fromkeys(contract))), []
+    if laws and of_specs:
+        return Verdict("law", list(dict.fromkeys(laws))), []
+    if misfits:
+        return Verdict("answer", [place for _, _, place in misfits]), misfits
+    return Verdict("names", list(dict.fromkeys(names or laws))), []
+
+
+def without(text, goal):
+    """A file of answers without that of a goal."""
+    return re.sub(rf"^(?:--[^\n]*\n)*pub {re.escape(goal)} :.*?(?=^(?:--[^\n]*\n)*pub |\Z)", "", text, flags=re.M | re.S)
+
+
+def copied(folder, to):
+    """Copies a room, what was proved by links: a check replaces such a file, and changes none."""
+
+    def copy(one, other):
+        if one.endswith(".oantt") or "/out/rlib/" in one:
+            return os.link(one, other)
+        return shutil.copy2(one, other)
+
+    shutil.copytree(folder, to, copy_function=copy, symlinks=True)
+
+
+def checked(room, crate):
+    """Checks a crate in its room; gives whether it is proved, and what was said."""
+    words = [sys.executable, build.RT, "check", "--jobs", "1"]
+    ran = subprocess.run(words, cwd=f"{room}/crates/{crate}", stdin=subprocess.DEVNULL, stdout=subprocess.PIPE, stderr=subprocess.STDOUT, errors="replace")
+    return ran.returncode == 0, ran.stdout
+
+
+def change(room, crate, texts):
+    for path, text in texts.items():
+        file = f"{room}/crates/{crate}/{path}"
+        os.unlink(file)
+        with open(file, "w", encoding="utf-8") as out:
+            out.write(text)
+
+
+def tried(seed, crate, edit):
+    """Tries one edit in a room of its own."""
+    texts, why = edited(edit, f"crates/{crate}")
+    if why:
+        return Verdict("bad", [why])
+    with tempfile.TemporaryDirectory(prefix="wrong-body-") as place:
+        room = f"{place}/room"
+        copied(seed, room)
+        change(room, crate, texts)
+        proved, output = checked(room, crate)
+        if proved:
+            return Verdict("proved", [])
+        if re.search(r"\berror\[[\w-]+\]", output) or "logic=" not in output:
+            return Verdict("bad", [line for line in output.split("\n") if "error" in line][:1])
+        of_specs = any(path.startswith("specs/") for path in texts)
+        verdict, misfits = judged(output, of_specs)
+        if not misfits:
+            return verdict
+        answers = {}
+        for file, goal, _ in misfits:
+            answers[file] = without(answers.get(file) or open(f"{room}/crates/{crate}/{file}", encoding="utf-8").read(), goal)
+        change(room, crate, answers)
+        proved, output = checked(room, crate)
+        if proved:
+            return Verdict("answer", verdict.goals)
+        again, _ = judged(output, of_specs)
+        return again if again.kind in ("contract", "law") else verdict
+
+
+def sum_of(crate, below, edit):
+    """The sum of all that a try of an edit stands on."""
+    total = hashlib.sha256(open(edit, "rb").read())
+    for name in [*below, crate]:
+        for path in sorted(glob.glob(f"crates/{name}/s*/**/*.*t", recursive=True) + glob.glob(f"crates/{name}/proofs/**/*.antt", recursive=True)):
+            total.update(path.encode() + open(path, "rb").read())
+    total.update(open(os.path.abspath(__file__), "rb").read())
+    return total.hexdigest()
+
+
+def kept(crate, edit, total):
+    """What an earlier run found of the same, if it did."""
+    path = f"{KEPT}/{crate}.{os.path.basename(edit)}"
+    if os.path.exists(path):
+        was, kind, *goals = open(path, encoding="utf-8").read().rstrip("\n").split("\n")
+        if was == total:
+            return Verdict(kind, goals)
+    return None
+
+
+def keep(crate, edit, total, verdict):
+    os.makedirs(KEPT, exist_ok=True)
+    with open(f"{KEPT}/{crate}.{os.path.basename(edit)}", "w", encoding="utf-8") as out:
+        out.write("\n".join([total, verdict.kind, *verdict.goals]) + "\n")
+
+
+def report(crate, edit, verdict):
+    """Says what an edit came to; gives whether that is as it must be."""
+    folder = os.path.basename(os.path.dirname(edit))
+    well = verdict.counts(folder == "harmless")
+    print(f"{'ok   ' if well else 'FAULT'} {crate}/{folder}/{os.path.basename(edit)[:-5]}: {verdict.text()}", flush=True)
+    return well
+
+
+def try_crate(pool, crate, stands_on, anew):
+    """Tries the edits of a crate, in a room whose crate is proved first; gives whether each is as it must be."""
+    edits = sorted(edit for folder in FOLDERS for edit in glob.glob(f"crates/{crate}/{folder}/*.edit"))
+    below = build.below(crate, stands_on, [])
+    sums = {edit: sum_of(crate, below, edit) for edit in edits}
+    known = {} if anew else {edit: verdict for edit in edits if (verdict := kept(crate, edit, sums[edit]))}
+    results = [report(crate, edit, verdict) for edit, verdict in known.items()]
+    left = [edit for edit in edits if edit not in known]
+    if not left:
+        return results
+    lacking = [name for name in below if not os.path.isdir(f"crates/{name}/out/rlib")]
+    if lacking:
+        sys.exit(f"wrong_bodies: {', '.join(lacking)} below {crate} must be proved first: make build, make author")
+    with tempfile.TemporaryDirectory(prefix="wrong-bodies-") as place:
+        room = f"{place}/room"
+        build.furnish(room, crate, below)
+        proved, output = checked(room, crate)
+        if not proved:
+            print(f"FAULT {crate}: it isn't proved as it stands", *output.split("\n")[-12:], sep="\n  ", flush=True)
+            return [*results, False]
+        begun = {edit: pool.submit(tried, room, crate, edit) for edit in left}
+        for edit, one in begun.items():
+            verdict = one.result()
+            keep(crate, edit, sums[edit], verdict)
+            results.append(report(crate, edit, verdict))
+    return results
+
+
+def read(log):
+    """Judges what `rt ci` wrote of the edits of must-fail/: each line's first failure has to be that of a contract's goal or of a law."""
+    results = []
+    for crate, edit, said in re.findall(r"^(?:rt: )?must-fail (\w+)/(\S+)\.edit: (.*)$", open(log, encoding="utf-8").read(), re.M):
+        failure = re.search(r"refused, as it must be: (.*)", said)
+        first = failure.group(1) if failure else ""
+        answer = ANSWER.match(first)
+        well = not GONE.search(first) and bool(answer and answer.group(3) and CONTRACT.match(answer.group(3)) or UNPROVED.match(first))
+        if first and not well and "Answers.antt" not in first:
+            well = any(line.startswith("file: specs/") for line in open(f"crates/{crate}/must-fail/{edit}.edit", encoding="utf-8"))
+        if not well:
+            print(f"FAULT {crate}/must-fail/{edit}: {said}")
+        results.append(well)
+    wanted = len(glob.glob("crates/*/must-fail/*.edit"))
+    if len(results) != wanted:
+        print(f"FAULT {wanted} edits stand in must-fail/, and the log has {len(results)}")
+    return summed(results) or len(results) != wanted
+
+
+def summed(results):
+    print(f"wrong_bodies: {sum(results)} of {len(results)} edits are as they must be")
+    return 0 if results and all(results) else 1
+
+
+def lanes():
+    free = next(int(line.split()[1]) for line in open("/proc/meminfo") if line.startswith("MemAvailable"))
+    return max(1, min(os.cpu_count() or 1, free // (GIGABYTES_A_LANE << 20)))
+
+
+def main(words):
+    if words[:1] == ["--read"]:
+        return read(words[1])
+    anew, named = "--anew" in words, [word for word in words if word != "--anew"]
+    stands_on = build.crates()
+    have = [crate for crate in stands_on if any(glob.glob(f"crates/{crate}/{folder}/*.edit") for folder in FOLDERS)]
+    if strange := [crate for crate in named if crate not in have]:
+        print(f"wrong_bodies: no wrong bodies in {', '.join(strange)}", file=sys.stderr)
+        return 2
+    results = []
+    with ThreadPoolExecutor(lanes()) as pool:
+        for crate in named or have:
+            results += try_crate(pool, crate, stands_on, anew)
+    return summed(results)
+
+
+if __name__ == "__main__":
+    sys.exit(main(sys.argv[1:]))
