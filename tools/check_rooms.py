@@ -17,8 +17,8 @@ ITEM = re.compile(r"^\s*pub (?:unsafe |const )*(fn|struct|enum|trait|type|const)
 
 
 def words(text):
-    """The words of a text of specs, without its comments."""
-    return set(WORD.findall(re.sub(r"(?:--|//).*", "", text)))
+    """The words of a text of specs, without its comments and the content of its texts."""
+    return set(WORD.findall(re.sub(r"(?:--|//).*", "", re.sub(r'"[^"\n]*"', '""', text))))
 
 
 def imports(text):

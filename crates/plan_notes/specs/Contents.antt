@@ -1,5 +1,5 @@
 -- What a plan's file has beside white space, in its order: comments and tags.
-use Rattle.std.specs.Prelude.{◌≡◌, ℕ, ◌-◌, true, List, [], ◌∷◌, length, map, filter, codes}
+use Rattle.std.specs.Prelude.{◌≡◌, ℕ, ◌-◌, true, List, [], ◌∷◌, ◌++◌, length, map, filter, codes}
 use Rattle.std.specs.List.{fold, flat_map}
 use Rattle.pap_tree.specs.White.{is_white}
 use Rattle.pap_reader.specs.declared.element.Element.TheVariants.{Pap}
