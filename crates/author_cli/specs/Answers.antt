@@ -1,4 +1,4 @@
--- What is written on the bytes of a plan's file and of a range file (docs/DEFINITIONS.md).
+-- What is written on the bytes of a plan's file and of a range file.
 use Rattle.std.specs.Prelude.{◌≡◌, ◌≤◌, ◌⊎◌, ℕ, List, length, Option, Some, None, option_map}
 use Rattle.outside.specs.Told.{FileMap}
 use Rattle.pap_reader.specs.declared.fault.ReadFault.{ReadFault}
@@ -50,6 +50,8 @@ pub record IsUnread (plan : NamedText) (answer : Answer) : Type 0 where
   pub reason : answer.reason ≡ Some words
   pub tells : TellsPlan (files_with plan None) words
 
+-- this is the answer of `ranges` on the bytes of a plan's file: the range file to begin with, or the refusal of a file
+-- that isn't read as a plan
 abbrev pub IsRanges : NamedText → Answer → Type 0
 IsRanges plan answer = IsBegun plan answer ⊎ IsUnread plan answer
 

@@ -1,4 +1,4 @@
--- What a call leaves, as it ended (docs/DEFINITIONS.md).
+-- What a call leaves, as it ended.
 use Rattle.std.specs.Prelude.{◌≡◌, ◌≢◌, ℕ, List, ◌++◌, Option, Some, Ok, Err, String}
 use Rattle.std.specs.Option.{ForSome}
 use Rattle.std.specs.declared.alloc.Global.{Global}
@@ -26,7 +26,7 @@ pub record IsWholeAnswer (form : Form) (before after : Outside) (words : Option 
   pub answers : ForSome before.files (λ files. Answers form files (record { text = text; reason = words }))
   pub kept : after.failed ≡ before.failed
 
--- a front of the answer was written, and not the whole
+-- a prefix of the answer was written, and not the whole
 pub record IsCutShort (form : Form) (before after : Outside) : Type 0 where
   pub answer : Answer
   pub written : AppendsShort before.written after.written answer.text
@@ -43,6 +43,8 @@ pub record IsUnwritten (before after : Outside) : Type 0 where
   pub written : after.written ≡ before.written
   pub kept : after.failed ≡ before.failed
 
+-- what a call leaves, by how it ended: the whole answer, nothing where a file couldn't be read or memory ran
+-- out, a prefix where the sink failed
 abbrev pub Leaves : Form → Outside → Outside → Ended → Type 0
 Leaves form before after (Ok reason) = IsWholeAnswer form before after (words_of reason)
 Leaves form before after (Err stops.Words) = ⊥

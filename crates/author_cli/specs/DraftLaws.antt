@@ -23,5 +23,6 @@ pub record IsTaken (kind : Kind) (limit : InputLimit) : Type 0 where
   pub sound : HasSoundBounds limit
   pub suits : SuitsLimit kind limit
 
+-- the range with which an input begins is one that a range file may have for an input of its type
 abbrev pub WidestSuit : Type 0
 WidestSuit = (kind : Kind) (limit : InputLimit) → IsWidest kind limit → IsTaken kind limit

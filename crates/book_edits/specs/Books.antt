@@ -22,6 +22,7 @@ pub record YearRuns : Type 0 where
   pub key : YearKey
   pub runs : List Record
 
+-- the employee and the year of some runs
 abbrev pub runs_key : YearRuns → YearKey
 runs_key y = y.key
 
@@ -33,6 +34,7 @@ year_cmp = then_cmp (on (λ k. k.employee) (slice_cmp nat_cmp)) (on (λ k. k.yea
 abbrev pub year_of : Key → YearKey
 year_of k = record { employee = k.employee; year = k.day.year }
 
+-- the runs of a year, and none of a year that isn't there
 abbrev pub runs_or_none : Option YearRuns → List Record
 runs_or_none None = []
 runs_or_none (Some y) = y.runs
@@ -86,9 +88,11 @@ loaded (r ∷ rs) years = loaded rs (added r years)
 
 -- ---- the run that an edit means
 
+-- the day lies in a month of this number
 abbrev pub is_in_month : ℕ → Day → Bool
 is_in_month month d = d.month == month
 
+-- the key of the only run of a list, or that the list has none or several
 abbrev pub only_one : List Record → InMonth
 only_one [] = Empty
 only_one (r ∷ []) = One (key_of r)
@@ -113,11 +117,12 @@ withdrawal years e (when.Day d) =
     if is_some (run_at years k) then One k else Empty
 withdrawal years e (when.Month m) = in_month years e m.year m.month
 
--- the years after a change, and after a withdrawal
+-- the years after a change; as they were where none or several runs are meant
 abbrev pub changed_from : InMonth → Record → List YearRuns → List YearRuns
 changed_from (One k) r years = changed k.day r years
 changed_from _ r years = years
 
+-- the runs without the one that is meant; all runs where none or several are meant
 abbrev pub withdrawn_from : InMonth → List YearRuns → List YearRuns
 withdrawn_from (One k) years = withdrawn k years
 withdrawn_from _ years = years

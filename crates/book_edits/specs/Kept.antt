@@ -14,6 +14,7 @@ use Rattle.book_edits.specs.declared.years.Years.{Years}
 use Rattle.book_edits.specs.Books.{AreInOrder, YearRuns, runs_of, run_count, year_cmp}
 use Rattle.book_edits.specs.Refusals.{most_records}
 
+-- a year that is kept, as its key and its records
 abbrev pub runs_in_year : Year → YearRuns
 runs_in_year y = record { key = y.key; runs = y.records.items }
 
@@ -21,12 +22,15 @@ runs_in_year y = record { key = y.key; runs = y.records.items }
 abbrev pub runs_in : List Year → List YearRuns
 runs_in years = map runs_in_year years
 
+-- all years that are kept, each as its key and its records
 abbrev pub years_of : Years → List YearRuns
 years_of ys = runs_in ys.list.items
 
+-- the employee and the year of a year that is kept
 abbrev pub kept_key : Year → YearKey
 kept_key y = y.key
 
+-- the year has a run
 abbrev pub HasRuns : Year → Type 0
 HasRuns y = 0 < length y.records.items
 
@@ -45,10 +49,11 @@ abbrev pub jobs_in : Planned → Planned → List YearRuns → List YearRuns →
 jobs_in before after old years =
     flat_map (λ y. year_jobs before after (runs_of old y.key) y.runs) years
 
--- those of an edit of the runs where this is the calendar, and their cost
+-- the jobs that an edit of the runs makes new, where this is the calendar
 abbrev pub edit_jobs : List (Entry Accepted) → List YearRuns → List YearRuns → List Job
 edit_jobs plans old new = jobs_in (pick plans) (pick plans) old new
 
+-- the steps of the jobs that an edit of the runs makes new
 abbrev pub edit_cost : List (Entry Accepted) → Years → List YearRuns → ℕ
 edit_cost plans old new = total_cost (edit_jobs plans (years_of old) new)
 

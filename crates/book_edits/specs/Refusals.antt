@@ -22,6 +22,8 @@ pub record HasMostRecords (years : List YearRuns) (r : Record) : Type 0 where
   pub free : IsNone (run_at years (key_of r))
   pub full : most_records < run_count years + 1
 
+-- this stands against adding the run: its key has a run, or there are as many runs as a book may have; memory
+-- may run out only where neither does
 abbrev pub IsAddRefused : List YearRuns → Record → EditRefusal → Type 0
 IsAddRefused years r (refusal.Present k) = (k ≡ key_of r) × IsSome (run_at years k)
 IsAddRefused years r refusal.Records = HasMostRecords years r
@@ -38,6 +40,8 @@ abbrev pub IsMonthOf : Day → When → Type 0
 IsMonthOf d (when.Month m) = (m.year ≡ d.year) × (m.month ≡ d.month)
 IsMonthOf d (when.Day e) = ⊥
 
+-- this stands against changing the run: the record means no run, or several of its month; memory may run out
+-- only where it means one
 abbrev pub IsChangeRefused : List YearRuns → Record → EditRefusal → Type 0
 IsChangeRefused years r (refusal.Absent e w) =
     (e ≡ r.employee) × IsMonthOf r.day w × (source_of years r ≡ Empty)
@@ -46,6 +50,8 @@ IsChangeRefused years r (refusal.Several e m) =
 IsChangeRefused years r (refusal.Memory e) = IsOne (source_of years r)
 IsChangeRefused years r _ = ⊥
 
+-- this stands against withdrawing the run: the day or month means no run, or several; memory may run out only
+-- where it means one
 abbrev pub IsWithdrawRefused : List YearRuns → List ℕ → When → EditRefusal → Type 0
 IsWithdrawRefused years e w (refusal.Absent e' w') =
     (e' ≡ e) × (w' ≡ w) × (withdrawal years e w ≡ Empty)
@@ -56,7 +62,8 @@ IsWithdrawRefused years e w _ = ⊥
 
 -- ---- steps
 
--- exactly so many where the edit was made, at most so many where memory ran out, none with any other refusal
+-- a counter rose by exactly so many steps where the edit was made, by at most so many where memory ran out,
+-- and by none with any other refusal
 abbrev pub CountsEdit : {T : Type 0} → Result T EditRefusal → ℕ → ℕ → ℕ → Type 0
 CountsEdit (Ok w) before now total = now ≡ before + total
 CountsEdit (Err (refusal.Memory e)) before now total = (before ≤ now) × (now ≤ before + total)

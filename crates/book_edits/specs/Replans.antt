@@ -13,10 +13,11 @@ use Rattle.book_edits.specs.declared.refusal.EditRefusal.TheVariants as refusal
 use Rattle.book_edits.specs.Books.{YearRuns}
 use Rattle.book_edits.specs.Kept.{AreYears, jobs_in, years_of}
 
--- the runs whose job is new where the calendar becomes this one, and their cost
+-- the jobs that are new where the calendar becomes this one and the runs stay
 abbrev pub replan_jobs : List (Entry Accepted) → List (Entry Accepted) → List YearRuns → List Job
 replan_jobs old new years = jobs_in (pick old) (pick new) years years
 
+-- the steps of the jobs that another calendar makes new
 abbrev pub replan_cost : List (Entry Accepted) → List (Entry Accepted) → Years → ℕ
 replan_cost old new years = total_cost (replan_jobs old new (years_of years))
 
@@ -37,11 +38,14 @@ pub record HasMostPlans (plans : List (Entry Accepted)) (day : Day) : Type 0 whe
   pub free : IsNone (entry_at plans day)
   pub full : most_plans < length plans + 1
 
+-- this stands against putting a plan at a day: there are as many plans as a calendar may have; memory may run
+-- out only where there aren't
 abbrev pub IsPutRefused : List (Entry Accepted) → Day → EditRefusal → Type 0
 IsPutRefused plans day refusal.Plans = HasMostPlans plans day
 IsPutRefused plans day (refusal.Memory e) = HasMostPlans plans day → ⊥
 IsPutRefused plans day _ = ⊥
 
+-- this stands against dropping the plan of a day: that day has no plan; memory may run out only where it has one
 abbrev pub IsDropRefused : List (Entry Accepted) → Day → EditRefusal → Type 0
 IsDropRefused plans day (refusal.NoPlanThere d) = (d ≡ day) × IsNone (entry_at plans day)
 IsDropRefused plans day (refusal.Memory e) = IsSome (entry_at plans day)

@@ -12,7 +12,7 @@ use Rattle.book_file.specs.declared.refusal.SaveRefusal.{SaveRefusal}
 abbrev pub TextsSaySomething : Type 0
 TextsSaySomething = (bytes : List ℕ) → (said : Result Contents BookFault) × BookSays bytes said
 
--- and nothing else
+-- no text says two things
 abbrev pub TextsSayOneThing : Type 0
 TextsSayOneThing =
     (bytes : List ℕ) (a b : Result Contents BookFault) → BookSays bytes a → BookSays bytes b → a ≡ b
@@ -33,5 +33,6 @@ abbrev pub BooksAreSavedOneWay : Type 0
 BooksAreSavedOneWay =
     (book : Contents) (a b : Result (List ℕ) SaveRefusal) → SaveSays book a → SaveSays book b → a ≡ b
 
+-- every book has an answer to being saved: its text, or that this is too long
 abbrev pub BooksAreSaved : Type 0
 BooksAreSaved = (book : Contents) → (said : Result (List ℕ) SaveRefusal) × SaveSays book said

@@ -12,10 +12,11 @@ use Rattle.book_file.specs.Limits.{most_book_text}
 use Rattle.book_file.specs.declared.refusal.BookFault.{BookFault}
 use Rattle.book_file.specs.declared.refusal.BookFault.TheVariants as fault
 
--- the two texts of a plan are accepted, and they are refused
+-- the two texts of a saved plan are accepted
 abbrev pub IsAcceptable : SavedPlan → Type 0
 IsAcceptable p = (m : Meaning) × IsAccepted p.plan p.limits m
 
+-- the plan of a saved book is refused
 abbrev pub IsUnacceptable : SavedPlan → Type 0
 IsUnacceptable p = (why : PlanRefusal) × IsRefused p.plan p.limits why
 
@@ -49,8 +50,8 @@ pub record HasRefusedPlan (bytes : List ℕ) (day : Day) : Type 0 where
   pub says : TextSays bytes said
   pub first : IsFirstRefused (plans_read said) day
 
--- the book whose text these bytes are, or what is wrong with them: they are too many, or else the first item that is wrong;
--- want of memory is nothing that a text says
+-- the book whose text these bytes are, or what is wrong with them: they are too many, or else the first item that is
+-- wrong; a text never says that memory ran out
 abbrev pub BookSays : List ℕ → Result Contents BookFault → Type 0
 BookSays bytes (Ok book) = IsTextOf bytes book
 BookSays bytes (Err fault.Long) = most_book_text < length bytes

@@ -21,7 +21,7 @@ saved_of book =
       records = runs_listed book;
     }
 
--- the text of it
+-- the text of a saved book
 abbrev pub book_text : Contents → List ℕ
 book_text book = saved_text (saved_of book)
 

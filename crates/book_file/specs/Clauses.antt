@@ -7,7 +7,7 @@ use Rattle.book_file.specs.Limits.{most_book_text}
 use Rattle.book_file.specs.declared.refusal.BookFault.{BookFault}
 use Rattle.book_file.specs.declared.refusal.BookFault.TheVariants as fault
 
--- the fault is what the text says; want of memory comes whatever it says, unless it is too long
+-- the fault is what the text says, or memory ran out, which may be at any text that isn't too long
 abbrev pub IsBookFaultOrMemory : List ℕ → BookFault → Type 0
 IsBookFaultOrMemory bytes (fault.Memory e) = length bytes ≤ most_book_text
 IsBookFaultOrMemory bytes why = BookSays bytes (Err why)

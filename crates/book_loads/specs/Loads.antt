@@ -22,7 +22,8 @@ pub record IsOver (years : List YearRuns) (items : List Record) : Type 0 where
   pub free : first_present years items ≡ None
   pub over : most_records < run_count years + length items
 
--- what stands against a load; want of memory does only where nothing else does
+-- this stands against a load: a run at a record's key, or too many runs; memory may run out only where
+-- neither does
 abbrev pub IsLoadRefused : List YearRuns → List Record → EditRefusal → Type 0
 IsLoadRefused years items (refusal.Present k) = first_present years items ≡ Some k
 IsLoadRefused years items refusal.Records = IsOver years items

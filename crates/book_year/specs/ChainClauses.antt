@@ -32,6 +32,8 @@ pub record AreNew
   pub few : took.runs ≤ length records
   pub cheap : took.steps ≤ length records * most_steps
 
+-- the outcomes of a recalculation are those of all records computed anew, and its work is that of the jobs
+-- that are new
 abbrev pub IsRecalculated : Planned → (Day → Option Job) → List Record → Recalculated → Type 0
 IsRecalculated planned old records r = AreNew planned old records r.outcomes.items r.work
 
@@ -44,5 +46,6 @@ abbrev pub chain_cost : Picks → Old → List (Bor Record) → ℕ
 chain_cost picks old items =
     total_cost (new_jobs (old_jobs picks old) (year_rows (after picks) (records_of items)))
 
+-- the runs of a year, computed anew with the plans after an edit, come to this
 abbrev pub IsChain : Picks → Old → List (Bor Record) → Recalculated → Type 0
 IsChain picks old items r = IsRecalculated (after picks) (old_jobs picks old) (records_of items) r

@@ -20,6 +20,7 @@ has_texts p q = bytes_eq p.plan q.plan && bytes_eq p.limits q.limits
 abbrev pub same_decimal : Decimal → Decimal → Bool
 same_decimal a b = int_eq (numerator_of a) (numerator_of b) && nat_eq (scale_of a) (scale_of b)
 
+-- the inputs are the same one by one, numerator and scale
 abbrev pub same_inputs : List Decimal → List Decimal → Bool
 same_inputs a b = pointwise same_decimal a b
 
@@ -41,13 +42,15 @@ job_at rows d = option_and_then (λ row. row.job) (at_key day_cmp (λ row. row.d
 abbrev pub new_jobs : (Day → Option Job) → List Row → List Job
 new_jobs old rows = flat_map (λ row. new_job (old row.day) row.job) rows
 
+-- the steps of a job's run
 abbrev pub job_cost : Job → ℕ
 job_cost j = run_cost j.plan j.inputs
 
+-- the sum of the steps of some jobs
 abbrev pub total_cost : List Job → ℕ
 total_cost jobs = sum_by job_cost jobs
 
--- how many they are, and the steps that they take
+-- the work of some jobs: how many they are, and the steps that they take
 abbrev pub work_of : List Job → Work
 work_of jobs = record { runs = length jobs; steps = total_cost jobs }
 

@@ -31,6 +31,7 @@ pub record AreKept
   pub rising : IsRising day_cmp record_day records
   pub few : length records ≤ most_runs
 
+-- what was kept before an edit is what computing its runs anew gives
 abbrev pub IsOld : Planned → Old → Type 0
 IsOld planned old = AreKept planned old.records.now old.outcomes.now
 

@@ -22,14 +22,16 @@ lent_entry p = (p.0, accepted p.1.now)
 abbrev pub entry_of : Edit → Option (Entry Accepted)
 entry_of e = option_map lent_entry e.entry
 
--- the plan of each day before the edit, and after it
+-- the plan of each day before the edit
 abbrev pub before : Picks → Planned
 before p d = pick (plans_in p.plans.now) d
 
+-- the plan of a day in a calendar, after an edit of it if there is one
 abbrev pub after_by : List (Entry Accepted) → Option Edit → Planned
 after_by plans None d = pick plans d
 after_by plans (Some e) d = picked_after plans e.day (entry_of e) d
 
+-- the plan of each day after the edit
 abbrev pub after : Picks → Planned
 after p d = after_by (plans_in p.plans.now) p.edit d
 
@@ -43,14 +45,16 @@ same_plan None now = false
 same_plan (Some a) None = false
 same_plan (Some a) (Some b) = has_texts (plan_of a) (plan_of b)
 
+-- what the plan of an entry means, if there is an entry
 abbrev pub meaning_of : Option (Entry Accepted) → Option Meaning
 meaning_of o = option_map (λ (e : Entry Accepted). (plan_of e).meaning) o
 
--- whether a plan kept its texts: it then means what it meant
+-- an edit knows whether its plan has the texts of the one before, and then both mean the same
 pub record KnowsSame (was now : Option (Entry Accepted)) (same : Bool) : Type 0 where
   pub texts : same ≡ same_plan was now
   pub means : same ≡ true → meaning_of was ≡ meaning_of now
 
+-- where there is an edit, it knows whether its plan has the texts of the one before
 abbrev pub IsEdit : List (Entry Accepted) → Option Edit → Type 0
 IsEdit plans None = ⊤
 IsEdit plans (Some e) = KnowsSame (pick plans e.day) (entry_of e) e.same
@@ -59,5 +63,6 @@ IsEdit plans (Some e) = KnowsSame (pick plans e.day) (entry_of e) e.same
 abbrev pub ArePicks : Picks → Type 0
 ArePicks p = IsEdit (plans_in p.plans.now) p.edit
 
+-- a picked plan as an entry of the calendar
 abbrev pub picked_entry : Picked → Entry Accepted
 picked_entry p = (p.day, accepted p.plan.now)

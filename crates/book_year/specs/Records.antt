@@ -9,6 +9,7 @@ use Rattle.payroll_records.specs.declared.day.Day.{Day}
 use Rattle.payroll_records.specs.declared.record.Record.{Record}
 use Rattle.payroll_records.specs.Orders.{day_cmp}
 
+-- the day of a record
 abbrev pub record_day : Record → Day
 record_day r = r.day
 
@@ -28,6 +29,7 @@ pub record AreBefore (day : Day) (rs : List Record) (count : ℕ) : Type 0 where
 
 -- ---- references
 
+-- the records that references lend
 abbrev pub records_of : List (Bor Record) → List Record
 records_of items = map (λ r. r.now) items
 

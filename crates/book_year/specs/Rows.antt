@@ -22,6 +22,7 @@ pub record Job : Type 0 where
   pub plan : Accepted
   pub inputs : List Decimal
 
+-- the job of a plan on inputs
 abbrev pub job_of : Accepted → List Decimal → Job
 job_of p inputs = record { plan = p; inputs = inputs }
 
@@ -32,6 +33,7 @@ pub record Row : Type 0 where
   pub job : Option Job
   pub state : State
 
+-- a row of these parts
 abbrev pub row_with : Day → Option Day → Option Job → State → Row
 row_with d plan job s = record { day = d; plan = plan; job = job; state = s }
 
@@ -44,6 +46,7 @@ outputs_in _ = None
 abbrev pub read_of : Day → State → Earlier
 read_of d s = record { day = d; outputs = outputs_in s }
 
+-- what later runs of the year may read of a row
 abbrev pub earlier_of : Row → Earlier
 earlier_of row = read_of row.day row.state
 

@@ -41,6 +41,7 @@ abbrev pub IsReplanned : Picks → Year → Recalculated → Type 0
 IsReplanned picks y r =
     IsRecalculated (after picks) (job_by (before picks) y.records.items) y.records.items r
 
+-- the steps of the jobs that the calendar's edit makes new in a year
 abbrev pub replan_cost : Picks → Year → ℕ
 replan_cost picks y =
     total_cost (year_jobs (before picks) (after picks) y.records.items y.records.items)

@@ -62,6 +62,6 @@ pub record AreClosed (f : Flowchart) : Type 0 where
       → expanded_of f.methods longest_chain m ≡ expanded (expanded_of f.methods longest_chain) b
   pub longer : (n : ℕ) → longest_chain ≤ n → IsSameBound f n
 
--- of a well-typed plan none of whose chains is too long
+-- in a well-typed plan none of whose chains is too long the methods are closed
 abbrev pub ChainsClose : Type 0
 ChainsClose = (f : Flowchart) → IsWellTyped f → HasShortChains f → AreClosed f

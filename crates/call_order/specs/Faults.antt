@@ -37,7 +37,8 @@ pub record IsTooLong (f : Flowchart) (count : ℕ) : Type 0 where
   pub long : most_expanded < expanded_in f
   pub counted : min (expanded_in f) last_count ≡ count
 
--- why a plan is refused; the definition knows no want of memory
+-- why a plan's methods have no order, or why the plan is too long; memory that ran out is none of these
+-- reasons
 abbrev pub HasOrderFault : Flowchart → OrderFault → Type 0
 HasOrderFault f (Cycle name) = IsFirstMethod f (ReachesItself (graph_of f.methods)) name
 HasOrderFault f (Chain name) = HasLongChain f name

@@ -1,5 +1,5 @@
 -- Which methods a list of statements executes, by number: the methods other than MAIN are numbered from 0 in declared
--- order.
+-- order. Source: the usual notions of a directed graph, its paths, cycles and topological order.
 use Rattle.std.specs.Prelude.{ℕ, List, [], ◌++◌, map}
 use Rattle.std.specs.List.{cons_option}
 use Rattle.pap_tree.specs.Flowchart.{Body, done, eval, branch, execute, Routine}

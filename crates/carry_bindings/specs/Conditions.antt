@@ -11,6 +11,6 @@ abbrev pub AreBounded : Option (List NamedValue) → Type 0
 AreBounded None = ⊤
 AreBounded (Some outputs) = AllByRecursion (λ v. IsWithinBound v.value) outputs
 
--- the limit of a `double` is one for that
+-- the limit of a `double` input keeps the rule for limits of a `double`
 abbrev pub KeepsFactorLimit : Slot → Type 0
 KeepsFactorLimit s = s.kind ≡ Factor → IsFactorLimit s.limit

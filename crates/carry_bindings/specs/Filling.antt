@@ -46,6 +46,8 @@ abbrev pub value_by : Option Carry → Option Decimal → List Earlier → Optio
 value_by (Some carry) given earlier = Some (carried carry earlier)
 value_by None given earlier = given
 
+-- an input's value: what it carries over from earlier runs, or the record's value, or its default; none where it has
+-- none of these
 abbrev pub value_of : List NamedValue → List Earlier → Slot → Option Decimal
 value_of values earlier s = value_by s.carry (given values s) earlier
 
@@ -71,6 +73,8 @@ abbrev pub inputs : List Slot → List NamedValue → List Earlier → List Deci
 inputs slots values earlier =
     filter_map (λ s. option_map (kept_as s.kind) (value_of values earlier s)) slots
 
+-- the inputs, or the first of the four reasons that there is: a run waits, a value is unknown, one is missing, one is
+-- outside its limit
 abbrev pub first_of :
     Option Day → Option (List ℕ) → Option (List ℕ) → Option (List ℕ) → List Decimal → Filled
 first_of (Some day) unknown missing outside values = filled.State (blocked.Waits day)
@@ -79,7 +83,7 @@ first_of None None (Some name) outside values = filled.State (blocked.Missing na
 first_of None None None (Some name) values = filled.State (blocked.Range name)
 first_of None None None None values = filled.Inputs values
 
--- the first that applies
+-- the inputs of a run, or the first of the four reasons why it has none
 abbrev pub filled_by : List Slot → List NamedValue → List Earlier → Filled
 filled_by slots values earlier =
     first_of (waits slots earlier) (unknown slots values) (missing slots values earlier)
@@ -88,5 +92,6 @@ filled_by slots values earlier =
 
 -- ---- a law: `fits` is true exactly where the value fits the limit
 
+-- the test `fits` is true exactly where the value fits the limit
 abbrev pub FitsIsTold : Type 0
 FitsIsTold = (limit : InputLimit) (value : Decimal) → IsTrue (fits limit value) ↔ Fits limit value

@@ -18,12 +18,15 @@ pub record Drawn : Type 0 where
   pub is_refused : Bool
   pub text : List ℕ
 
+-- a drawn statement of these parts
 abbrev pub drawn : ℕ → Bool → List ℕ → Drawn
 drawn number is_refused text = record { number = number; is_refused = is_refused; text = text }
 
+-- a statement of a box or a test, as it is drawn
 abbrev pub drawn_statement : Statement → Drawn
 drawn_statement s = drawn s.number s.is_refused s.written.text.items
 
+-- an EXECUTE, as it is drawn
 abbrev pub drawn_call : Execute → Drawn
 drawn_call c = drawn c.number c.is_refused c.method
 
@@ -34,11 +37,13 @@ abbrev pub joined : List (List Drawn) → List Drawn
 joined [] = []
 joined (l ∷ ls) = l ++ joined ls
 
--- the same from the last to the first
+-- the lists one after the other, from the last to the first
 abbrev pub joined_back : List (List Drawn) → List Drawn
 joined_back [] = []
 joined_back (l ∷ ls) = joined_back ls ++ l
 
+-- the drawn statements of a figure: of a box its statements, of a call one, of a choice those of its parts, of a note
+-- none
 abbrev pub figure_step : Figure-F (List Drawn) (List Drawn) (List Drawn) (List Drawn) → List Drawn
 figure_step (Note n) = []
 figure_step (Box row) = map drawn_statement row.items
@@ -53,9 +58,11 @@ arm_step a = drawn_statement a.test ∷ a.then
 abbrev pub choice_step : Choice-F (List Drawn) (List Drawn) (List Drawn) (List Drawn) → List Drawn
 choice_step c = c.first ++ (joined_back c.later.items ++ c.otherwise)
 
+-- the drawn statements of a body: those of its figures, one after another
 abbrev pub body_step : Body-F (List Drawn) (List Drawn) (List Drawn) (List Drawn) → List Drawn
 body_step b = joined b.figures.items
 
+-- the drawn statements of a method's figures, in order
 abbrev pub body_statements : Body → List Drawn
 body_statements = fold-Body (List Drawn) (List Drawn) (List Drawn) (List Drawn) figure_step arm_step choice_step body_step
 
@@ -65,12 +72,14 @@ IsBlank b = (out-Body b).figures.items ≡ []
 
 -- ---- of a drawing
 
+-- the drawn statements of a row of a drawing
 abbrev pub row_statements : Row → List Drawn
 row_statements (rows.Box x y width height row) = map drawn_statement row.now
 row_statements (rows.Test x y test) = drawn_statement test.now ∷ []
 row_statements (rows.Call x y call) = drawn_call call.now ∷ []
 row_statements _ = []
 
+-- the drawn statements of a part of a drawing, one row after another
 abbrev pub part_statements : Part → List Drawn
 part_statements p = flat_map row_statements p.rows.items
 

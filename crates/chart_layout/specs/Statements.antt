@@ -28,12 +28,14 @@ spelled (tree term) = spelling term
 spelled (assignment name term) = name ++ (codes " = " ++ spelling term)
 spelled _ = []
 
--- an expression is drawn in its canonical spelling; a text that is none, as it is written
+-- an expression is drawn in its canonical spelling, and a text that isn't an expression as it is written
 abbrev pub IsSpelledAs : Line → List ℕ → List ℕ → Type 0
 IsSpelledAs line written text =
     ((x : Meaning) × IsAccepted line written x × (text ≡ spelled x))
     ⊎ ((cause : Cause) × (at : ℕ) × IsWrong line written cause at × (text ≡ written))
 
+-- the text is what is drawn for the statement: the expression in its canonical spelling, or the name that an EXECUTE
+-- has
 abbrev pub IsDrawnAs : FileStatement → List ℕ → Type 0
 IsDrawnAs (expression line written) text = IsSpelledAs line written text
 IsDrawnAs (execution name) text = text ≡ name

@@ -1,4 +1,4 @@
--- A ledger, what filing a month does to it, and why it is refused.
+-- A ledger, what filing a month does to it, and why it is refused. Source: docs/PROFILE.md, "Filings and corrections".
 use Rattle.std.specs.Prelude.{◌≡◌, ◌≢◌, ◌+◌, ◌<◌, ◌≤◌, ℕ, List, ◌++◌, Option, Some, None, Result, Ok, Err, length, map, IfSome}
 use Rattle.std.specs.declared.cmp.Ordering.TheVariants.{Less}
 use Rattle.payroll_records.specs.declared.month.Month.{Month}
@@ -50,7 +50,8 @@ pub record HasTooMany (rows : List KeyedRow) (month : Month) (old : Filings) : T
   pub owed : IsOwed rows old.entries month dues
   pub many : most_entries < length old.entries + length dues
 
--- why a month isn't filed, in this order; want of memory is free where nothing stands against it but the number of entries
+-- why a month isn't filed, in this order; memory may run out only where nothing but the number of entries stands
+-- against it
 abbrev pub IsFileRefused : List KeyedRow → Month → Filings → FileRefusal → Type 0
 IsFileRefused rows month old (file.Early last) =
     (old.last ≡ Some last) × (month_cmp last month ≢ Less)
@@ -59,7 +60,8 @@ IsFileRefused rows month old (file.Open key) =
 IsFileRefused rows month old file.Entries = HasTooMany rows month old
 IsFileRefused rows month old (file.Memory error) = IsClosed rows month old.last
 
--- what filing a month answers: the filings with it and the number of new entries, or why it isn't filed, which is never want of memory
+-- what filing a month answers: the filings with it and the number of new entries, or why it isn't filed; it never
+-- answers that memory ran out
 abbrev pub FilingSays : List KeyedRow → Month → Filings → Result (Filings × ℕ) FileRefusal → Type 0
 FilingSays rows month old (Ok made) = IsFiling rows month old made.0 made.1
 FilingSays rows month old (Err (file.Memory error)) = ⊥
@@ -72,7 +74,8 @@ pub record IsOwedNow (rows : List KeyedRow) (now : Filings) (dues : List Due) : 
   pub closed : first_open month rows ≡ None
   pub owed : IsOwed rows now.entries month dues
 
--- why it isn't known what is owed; want of memory is free where a month was filed and all runs up to the last one are ok
+-- why it isn't known what is owed; memory may run out only where a month was filed and all runs up to the last one are
+-- ok
 abbrev pub IsOwedRefused : List KeyedRow → Filings → OwedRefusal → Type 0
 IsOwedRefused rows now owed.NothingFiled = now.last ≡ None
 IsOwedRefused rows now (owed.Open key) =
@@ -80,7 +83,7 @@ IsOwedRefused rows now (owed.Open key) =
 IsOwedRefused rows now (owed.Memory error) =
     (month : Month) × (now.last ≡ Some month) × (first_open month rows ≡ None)
 
--- what is answered to the question what is owed: that, or why it isn't known, which is never want of memory
+-- the answer to the question what is owed: the list, or why it isn't known; it never answers that memory ran out
 abbrev pub OwedSays : List KeyedRow → Filings → Result (List Due) OwedRefusal → Type 0
 OwedSays rows now (Ok dues) = IsOwedNow rows now dues
 OwedSays rows now (Err (owed.Memory error)) = ⊥

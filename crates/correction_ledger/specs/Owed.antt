@@ -1,4 +1,5 @@
--- What is owed up to a month: where a book reports other values than were filed, the difference.
+-- What is owed up to a month: where a book reports other values than were filed, the difference. Source:
+-- docs/PROFILE.md, "Filings and corrections".
 use Rattle.std.specs.Prelude.{◌≡◌, ◌≢◌, ◌↔◌, ℕ, List, Option, IsTrue, Contains, filter, map, option_and_then, unwrap_or, Bool}
 use Rattle.std.specs.declared.cmp.Ordering.TheVariants.{Equal}
 use Rattle.std.specs.Ordering.{is_eq}

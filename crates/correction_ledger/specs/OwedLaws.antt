@@ -19,7 +19,7 @@ pub record HasOneOwed (rows : List KeyedRow) (entries : List Entry) (month : Mon
   pub owed : IsOwed rows entries month dues
   pub alone : (other : List Due) → IsOwed rows entries month other → other ≡ dues
 
--- so for every book's rows, entries and month
+-- every book's rows, entries and month have exactly one list of all that is owed
 abbrev pub OwedIsOne : Type 0
 OwedIsOne =
     (rows : List KeyedRow) (entries : List Entry) (month : Month) → HasOneOwed rows entries month
@@ -52,7 +52,7 @@ FilingsHaveOneAnswer =
     (rows : List KeyedRow) (month : Month) (old : Filings)
     → HasOneAnswer (Result (Filings × ℕ) FileRefusal) (FilingSays rows month old)
 
--- and so has the question what is owed
+-- the question what is owed has one answer, whatever the book's rows and the filings are
 abbrev pub OwedHasOneAnswer : Type 0
 OwedHasOneAnswer =
     (rows : List KeyedRow) (now : Filings)

@@ -33,20 +33,20 @@ HasOneRefusal l = (ts : List Spot) (end : ℕ) (c d : Cause) (m n : ℕ) → IsR
 abbrev pub HasAnswer : Line → Type 0
 HasAnswer l = (ts : List Spot) (end : ℕ) → ((x : Meaning) × IsTaken l ts x) ⊎ ((c : Cause) × (at : ℕ) × IsRefusedAt l ts end c at)
 
--- the machine reads exactly the fronts
+-- the machine reads exactly the prefixes of texts
 abbrev pub ReadsFronts : Line → Type 0
 ReadsFronts l = (ts : List Token) → ((s : State) × (steps (start l) ts ≡ Some s)) ↔ IsFront l ts
 
--- and its levels are the most that are open
+-- the machine's levels are the most that are open in a prefix
 abbrev pub CountsLevels : Line → Type 0
 CountsLevels l = (ts : List Token) (s : State) → steps (start l) ts ≡ Some s
     → ((i : Option Item) × Front l ts (level_of s) i) × ((n : ℕ) (i : Option Item) → Front l ts n i → n ≤ level_of s)
 
--- each beginning of a front is a front
+-- each beginning of a prefix of a text is one too
 abbrev pub BeginsFronts : Line → Type 0
 BeginsFronts l = (a b : List Token) → IsFront l (a ++ b) → IsFront l a
 
--- and each beginning of a text
+-- each beginning of a text is a prefix of a text
 abbrev pub BeginsTexts : Line → Type 0
 BeginsTexts l = (a b : List Token) (x : Meaning) → Text l (a ++ b) x → IsFront l a
 
@@ -54,7 +54,7 @@ BeginsTexts l = (a b : List Token) (x : Meaning) → Text l (a ++ b) x → IsFro
 abbrev pub GivesMeaning : Line → Type 0
 GivesMeaning l = (ts : List Spot) (end : ℕ) (x : Meaning) → (answer l end ts ≡ Ok x) ↔ IsTaken l ts x
 
--- and the cause and the place, exactly where they are refused
+-- the machine gives the cause and the place, exactly where the tokens are refused
 abbrev pub GivesRefusal : Line → Type 0
 GivesRefusal l = (ts : List Spot) (end : ℕ) (r : Refusal) → (answer l end ts ≡ Err r) ↔ IsRefusedAt l ts end r.cause r.at
 
@@ -62,7 +62,7 @@ GivesRefusal l = (ts : List Spot) (end : ℕ) (r : Refusal) → (answer l end ts
 abbrev pub IsSized : Line → Type 0
 IsSized l = (ts : List Token) (x : Meaning) → Text l ts x → size x ≤ length ts
 
--- so it has at most 1,000 where the reading of a line with limits isn't stopped
+-- a tree has at most 1,000 nodes where the reading of a line with limits isn't stopped
 abbrev pub IsBounded : Line → Type 0
 IsBounded l = (ts : List Token) (x : Meaning) → IsTrue (has_limits l) → Text l ts x → IsRead l ts → size x ≤ most_tokens
 
@@ -70,7 +70,8 @@ IsBounded l = (ts : List Token) (x : Meaning) → IsTrue (has_limits l) → Text
 abbrev pub KeepsPlaces : Line → Type 0
 KeepsPlaces l = (ts : List Token) (x : Meaning) → ArePlaced ts → Text l ts x → IsKeeping x
 
--- which they have in each text of bytes
+-- in each text of bytes the literals with a point have a place, so that trees read from bytes keep their
+-- places
 abbrev pub KeepsPlacesOfBytes : Line → Type 0
 KeepsPlacesOfBytes l = (bytes : List ℕ) (x : Meaning) → IsText l bytes x → IsKeeping x
 

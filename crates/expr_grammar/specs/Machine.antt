@@ -73,6 +73,7 @@ pub data Holder : Type 0 where
   the_decimal : Holder
   the_mode : Holder
 
+-- what the machine waits for between two tokens, with the stack of partial trees
 pub data State : Type 0 where
   -- an expression is due
   Want : List Frame → State
@@ -120,16 +121,19 @@ level (Left o x ∷ k) = level k
 level (Assigning w ∷ k) = level k
 level (f ∷ k) = suc (level k)
 
+-- the levels that are open while a scale is due
 abbrev pub level_of_job : Job → ℕ
 level_of_job (valuing x k) = suc (level k)
 level_of_job (rounding r k) = suc (level k)
 level_of_job (declaring i r) = 1
 
+-- the levels that are open while a literal of a constant is due
 abbrev pub level_of_slot : Slot → ℕ
 level_of_slot OfLine = 0
 level_of_slot (OfValue r) = 1
 level_of_slot (OfNew r) = 1
 
+-- the levels that are open in a state
 abbrev pub level_of : State → ℕ
 level_of (Want k) = level k
 level_of (Have x k) = level k
@@ -165,12 +169,14 @@ pub data Method : Type 0 where
   magnitude : Method
   rescaled : Method
 
+-- the word of a method on a decimal
 abbrev pub method_word : Method → List ℕ
 method_word (applied c) = call_word c
 method_word opposite = codes "negate"
 method_word magnitude = codes "abs"
 method_word rescaled = codes "setScale"
 
+-- the method on a decimal that a word names
 abbrev pub method_of : List ℕ → Option Method
 method_of w = pick method_word w
     (applied calls.Add ∷ applied calls.Subtract ∷ applied calls.Multiply ∷ applied calls.DivideExact ∷ applied calls.CompareTo
@@ -181,24 +187,30 @@ pub data Constancy : Type 0 where
   constant : Known → Constancy
   of_number : Constancy
 
+-- the word of what may follow `BigDecimal.`
 abbrev pub constancy_word : Constancy → List ℕ
 constancy_word (constant k) = known_word k
 constancy_word of_number = codes "valueOf"
 
+-- what may follow `BigDecimal.`, by its word
 abbrev pub constancy_of : List ℕ → Option Constancy
 constancy_of w = pick constancy_word w (constant knowns.Zero ∷ constant knowns.One ∷ constant knowns.Ten ∷ of_number ∷ [])
 
+-- the word of a class that holds rounding modes
 abbrev pub holder_word : Holder → List ℕ
 holder_word the_decimal = codes "BigDecimal"
 holder_word the_mode = codes "RoundingMode"
 
+-- the class that holds rounding modes, by its word
 abbrev pub holder_of : List ℕ → Option Holder
 holder_of w = pick holder_word w (the_decimal ∷ the_mode ∷ [])
 
+-- the word of a rounding mode in one of the two classes
 abbrev pub held_word : Holder → Mode → List ℕ
 held_word the_decimal m = round_word m
 held_word the_mode m = mode_word m
 
+-- the rounding mode of a word in one of the two classes
 abbrev pub mode_of : Holder → List ℕ → Option Mode
 mode_of h w = pick (held_word h) w
     (modes.Down ∷ modes.Up ∷ modes.Floor ∷ modes.Ceiling ∷ modes.HalfUp ∷ modes.HalfDown ∷ modes.HalfEven ∷ [])
@@ -208,13 +220,16 @@ pub data Head : Type 0 where
   the_class : Head
   a_new : Head
 
+-- the word with which a decimal's constant begins
 abbrev pub head_word : Head → List ℕ
 head_word the_class = codes "BigDecimal"
 head_word a_new = codes "new"
 
+-- what begins with a word: a name of the class, or `new`
 abbrev pub head_of : List ℕ → Option Head
 head_of w = pick head_word w (the_class ∷ a_new ∷ [])
 
+-- both are the same mark or the same word
 abbrev pub same_token : Token → Token → Bool
 same_token (Mark a) (Mark b) = bytes_eq (sign_text a) (sign_text b)
 same_token (Word v) (Word w) = bytes_eq v w
@@ -238,6 +253,7 @@ made (Left o y) x = two (operator o) y x
 made (Otherwise c a) x = choice c a x
 made _ x = x
 
+-- a frame of this level is closed by a token that binds so tightly, if it binds at all
 abbrev pub closes : ℕ → Option ℕ → Bool
 closes n None = false
 closes n (Some m) = nat_le n m
@@ -270,23 +286,28 @@ ended (Chosen c) Colon x k = Some (Want (Otherwise c x ∷ k))
 ended (Assigning w) Semicolon x k = Some (Done (assignment w x))
 ended _ _ _ _ = None
 
+-- a bracket or comma ends what the innermost frame waits for
 abbrev pub ended_in : List Frame → Sign → Term → Option State
 ended_in [] s x = None
 ended_in (f ∷ k) s x = ended f s x k
 
+-- a mark behind an expression: a dot, a question mark, or one that ends a frame
 abbrev pub marked : Sign → Term → List Frame → Option State
 marked Dot x k = Some (Member x k)
 marked Question x k = Some (Want (Chosen x ∷ k))
 marked s x k = ended_in k s x
 
+-- a token behind an expression whose tighter frames are closed
 abbrev pub joined : Token → Term × List Frame → Option State
 joined (Operator o) r = Some (Want (Left o r.0 ∷ r.1))
 joined (Mark s) r = marked s r.0 r.1
 joined _ r = None
 
+-- the step behind an expression
 abbrev pub have_step : Term → List Frame → Token → Option State
 have_step x k t = joined t (close (tightness t) x k)
 
+-- the step behind a name: its item begins, or it is an expression
 abbrev pub named_step : List ℕ → List Frame → Token → Option State
 named_step w k (Mark OpenItem) = Some (Want (InItem w ∷ k))
 named_step w k t = have_step (leaf (named w)) k t
@@ -301,18 +322,22 @@ abbrev pub literal_step : List Frame → Number → Option State
 literal_step (Negating ∷ k) n = taken k n (negative_of n)
 literal_step k n = taken k n (leaf_of n)
 
+-- the step of a quoted decimal, which stands behind `new BigDecimal(` alone
 abbrev pub quoted_step : List Frame → Decimal → Option State
 quoted_step (InNew ∷ k) d = Some (Due (suc (level k)) (Mark Close) (Have (leaf (text d)) k))
 quoted_step k d = None
 
+-- the step of a word that begins a constant of the class
 abbrev pub begun : List Frame → Option Head → Option State
 begun k (Some the_class) = Some (Due (level k) (Mark Dot) (Static k))
 begun k (Some a_new) = Some (Due (level k) (Word (codes "BigDecimal")) (Due (level k) (Mark Open) (Want (InNew ∷ k))))
 begun k None = None
 
+-- the step of a word where an expression is due
 abbrev pub word_step : List Frame → List ℕ → Option State
 word_step k w = if is_name w then Some (Named w k) else begun k (head_of w)
 
+-- the step where an expression is due
 abbrev pub want_step : List Frame → Token → Option State
 want_step k (Literal n) = literal_step k n
 want_step k (Quoted d) = quoted_step k d
@@ -322,20 +347,24 @@ want_step k (Mark Bang) = Some (Want (Denying ∷ k))
 want_step k (Mark Open) = Some (Want (InBrackets ∷ k))
 want_step k _ = None
 
+-- a method's call is due behind its dot
 abbrev pub called : Term → List Frame → Method → State
 called x k (applied c) = Due (level k) (Mark Open) (Want (InCall c x ∷ k))
 called x k opposite = Due (level k) (Mark Open) (Due (suc (level k)) (Mark Close) (Have (one (unary unaries.Negate) x) k))
 called x k magnitude = Due (level k) (Mark Open) (Due (suc (level k)) (Mark Close) (Have (one (unary unaries.Abs) x) k))
 called x k rescaled = Due (level k) (Mark Open) (ScaleDue (rounding (setting x) k))
 
+-- the step behind the dot of an expression
 abbrev pub member_step : Term → List Frame → Token → Option State
 member_step x k (Word w) = option_map (called x k) (method_of w)
 member_step x k _ = None
 
+-- what is due behind a constant's word
 abbrev pub of_class : List Frame → Constancy → State
 of_class k (constant c) = Have (leaf (known c)) k
 of_class k of_number = Due (level k) (Mark Open) (Want (InValue ∷ k))
 
+-- the step behind `BigDecimal.`
 abbrev pub static_step : List Frame → Token → Option State
 static_step k (Word w) = option_map (of_class k) (constancy_of w)
 static_step k _ = None
@@ -345,43 +374,53 @@ abbrev pub settled : Room → Decimal → State
 settled Alone d = Done (declared (big d))
 settled (InTable ds) d = Listed (ds ++ (d ∷ []))
 
+-- a scale is read, and what is due behind it
 abbrev pub scaled : Job → ℕ → State
 scaled (valuing x k) s = Due (suc (level k)) (Mark Close) (Have (one (value_of_scaled s) x) k)
 scaled (rounding r k) s = Parting r s k
 scaled (declaring i r) s = Due 1 (Mark Close) (settled r (decimal i s))
 
+-- the step where a scale is due
 abbrev pub scale_step : Job → Token → Option State
 scale_step j (Literal (tokens.int s)) = if nat_le s most_places then Some (scaled j s) else None
 scale_step j _ = None
 
+-- the step where the comma before a rounding mode is due
 abbrev pub comma_step : Rounded → ℕ → List Frame → Token → Option State
 comma_step r s k (Mark Comma) = Some (Moding r s k)
 comma_step r s k _ = None
 
+-- a class of rounding modes is read, and its dot is due
 abbrev pub held : Rounded → ℕ → List Frame → Holder → State
 held r s k h = Due (suc (level k)) (Mark Dot) (Moded h r s k)
 
+-- the step where a class of rounding modes is due
 abbrev pub mode_step : Rounded → ℕ → List Frame → Token → Option State
 mode_step r s k (Word w) = option_map (held r s k) (holder_of w)
 mode_step r s k _ = None
 
+-- the rounded division or the set scale with its scale and mode
 abbrev pub rounded : Rounded → ℕ → Mode → Term
 rounded (dividing x y) s m = two (divide s m) x y
 rounded (setting x) s m = one (set_scale s m) x
 
+-- a rounding mode is read, and its closing bracket is due
 abbrev pub moded : Rounded → ℕ → List Frame → Mode → State
 moded r s k m = Due (suc (level k)) (Mark Close) (Have (rounded r s m) k)
 
+-- the step where a rounding mode is due
 abbrev pub moded_step : Holder → Rounded → ℕ → List Frame → Token → Option State
 moded_step h r s k (Word w) = option_map (moded r s k) (mode_of h w)
 moded_step h r s k _ = None
 
+-- the step where an assignment's name is due
 abbrev pub naming_step : Token → Option State
 naming_step (Word w) = if is_name w then Some (Due 0 (Mark Equals) (Want (Assigning w ∷ []))) else None
 naming_step _ = None
 
 -- ---- constants
 
+-- a literal of a constant is read, in the slot that it fills
 abbrev pub filled : Slot → Leaf → Option State
 filled OfLine l = Some (Done (declared (number l)))
 filled (OfValue r) (whole i) = Some (ValuedInt i r)
@@ -389,18 +428,22 @@ filled (OfValue r) (point d) = Some (ValuedPoint d r)
 filled (OfNew r) (whole i) = Some (Due 1 (Mark Close) (settled r (decimal i 0)))
 filled _ _ = None
 
+-- a decimal's constant begins with the class, or with `new`
 abbrev pub big_begun : Room → Head → State
 big_begun r the_class = Due 0 (Mark Dot) (Settling r)
 big_begun r a_new = Due 0 (Word (codes "BigDecimal")) (Due 0 (Mark Open) (Signed (OfNew r)))
 
+-- the step of the word with which a decimal's constant begins
 abbrev pub big_step : Room → List ℕ → Option State
 big_step r w = option_map (big_begun r) (head_of w)
 
+-- the step where a declared decimal or a table is due
 abbrev pub line_step : Token → Option State
 line_step (Word w) = big_step Alone w
 line_step (Mark OpenTable) = Some (Listing [])
 line_step _ = None
 
+-- the step where the quoted decimal of `new BigDecimal(` is due
 abbrev pub new_step : Room → Token → Option State
 new_step r (Quoted d) = Some (Due 1 (Mark Close) (settled r d))
 new_step r _ = None
@@ -411,36 +454,44 @@ other_step OfLine t = line_step t
 other_step (OfValue r) t = None
 other_step (OfNew r) t = new_step r t
 
+-- the step where a literal is due that may have a sign
 abbrev pub signed_step : Slot → Token → Option State
 signed_step s (Literal n) = filled s (leaf_of n)
 signed_step s (Operator binaries.Sub) = Some (Minus s)
 signed_step s t = other_step s t
 
+-- the step behind a literal's sign
 abbrev pub minus_step : Slot → Token → Option State
 minus_step s (Literal n) = filled s (negative_of n)
 minus_step s _ = None
 
+-- the step behind the whole number of `valueOf(`
 abbrev pub int_step : ℤ → Room → Token → Option State
 int_step i r (Mark Close) = Some (settled r (decimal i 0))
 int_step i r (Mark Comma) = Some (ScaleDue (declaring i r))
 int_step i r _ = None
 
+-- the step behind the number with a point of `valueOf(`
 abbrev pub point_step : Decimal → Room → Token → Option State
 point_step d r (Mark Close) = option_map (settled r) (shortened d)
 point_step d r _ = None
 
+-- what is due behind a constant's word in a declared decimal
 abbrev pub settling : Room → Constancy → State
 settling r (constant c) = settled r (known_value c)
 settling r of_number = Due 0 (Mark Open) (Signed (OfValue r))
 
+-- the step behind `BigDecimal.` in a declared decimal
 abbrev pub settling_step : Room → Token → Option State
 settling_step r (Word w) = option_map (settling r) (constancy_of w)
 settling_step r _ = None
 
+-- the step where an item of a table is due
 abbrev pub listing_step : List Decimal → Token → Option State
 listing_step ds (Word w) = big_step (InTable ds) w
 listing_step ds _ = None
 
+-- the step behind an item of a table
 abbrev pub listed_step : List Decimal → Token → Option State
 listed_step ds (Mark Comma) = Some (Listing ds)
 listed_step ds (Mark CloseTable) = Some (Done (declared (table ds)))
@@ -448,6 +499,7 @@ listed_step ds _ = None
 
 -- ---- the machine
 
+-- the machine's step from a state by a token, or none where the token can't come next
 abbrev pub step : State → Token → Option State
 step (Want k) t = want_step k t
 step (Have x k) t = have_step x k t
@@ -469,11 +521,13 @@ step (Listing ds) t = listing_step ds t
 step (Listed ds) t = listed_step ds t
 step (Done x) t = None
 
+-- what a line stands for whose frames are all closed
 abbrev pub whole_of : Term → List Frame → Option Meaning
 whole_of x [] = Some (tree x)
 whole_of x (Assigning w ∷ k) = Some (assignment w x)
 whole_of x _ = None
 
+-- what a line stands for that ends with this expression, where nothing waits on the stack
 abbrev pub whole_line : Term × List Frame → Option Meaning
 whole_line r = whole_of r.0 r.1
 

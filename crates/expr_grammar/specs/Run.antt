@@ -12,14 +12,16 @@ pub record Refusal : Type 0 where
   pub cause : Cause
   pub at : ℕ
 
+-- a refusal for this cause at this token
 abbrev pub refusal : Cause → ℕ → Refusal
 refusal c n = record { cause = c; at = n }
 
--- why a token that the state has no step for is refused
+-- why a whole number can't come next
 abbrev pub int_cause : State → Cause
 int_cause (ScaleDue j) = number
 int_cause _ = syntax
 
+-- why a number with a point can't come next: a `double` where a decimal is made, or else syntax
 abbrev pub point_cause : State → Cause
 point_cause (Want (InNew ∷ k)) = binary_fraction
 point_cause (Want (Negating ∷ InNew ∷ k)) = binary_fraction
@@ -27,13 +29,16 @@ point_cause (Signed (OfNew r)) = binary_fraction
 point_cause (Minus (OfNew r)) = binary_fraction
 point_cause _ = syntax
 
+-- why a word can't be a method's or a constant's name
 abbrev pub name_cause : List ℕ → Cause
 name_cause w = if is_name w then unsupported else syntax
 
+-- why a class can't stand where a scale is due
 abbrev pub class_cause : Option Holder → Cause
 class_cause (Some h) = unsupported
 class_cause None = syntax
 
+-- why a word can't come next
 abbrev pub word_cause : State → List ℕ → Cause
 word_cause (Member x k) w = name_cause w
 word_cause (Static k) w = name_cause w
@@ -42,10 +47,12 @@ word_cause (Settling r) w = name_cause w
 word_cause (ScaleDue (rounding (dividing x y) k)) w = class_cause (holder_of w)
 word_cause _ w = syntax
 
+-- why a closing bracket can't come next
 abbrev pub close_cause : State → Cause
 close_cause (Parting (setting x) s k) = unsupported
 close_cause _ = syntax
 
+-- why a token can't come next in a state
 abbrev pub cause_of : State → Token → Cause
 cause_of s Beyond = number
 cause_of s (Literal (int n)) = int_cause s
@@ -54,6 +61,7 @@ cause_of s (Word w) = word_cause s w
 cause_of s (Mark Close) = close_cause s
 cause_of s _ = syntax
 
+-- what there is, or else this refusal
 abbrev pub or_refusal : {A : Type 0} → Refusal → Option A → Result A Refusal
 or_refusal f None = Err f
 or_refusal f (Some x) = Ok x
@@ -62,6 +70,7 @@ or_refusal f (Some x) = Ok x
 abbrev pub is_over : Line → State → Bool
 is_over l s = has_limits l && nat_lt most_levels (level_of s)
 
+-- the run goes on behind a token, unless it can't come next or too many levels are open
 abbrev pub next : Line → Spot → Refusal → Option State → (State → Result Meaning Refusal) → Result Meaning Refusal
 next l t f None go = Err f
 next l t f (Some s) go = if is_over l s then Err (refusal deep t.at) else go s

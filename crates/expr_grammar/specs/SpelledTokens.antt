@@ -15,6 +15,7 @@ use Rattle.pap_tree.specs.Texts.{begins_point}
 abbrev pub bracketed : Bool → List Token → List Token
 bracketed needed ts = if needed then Mark Open ∷ (ts ++ (Mark Close ∷ [])) else ts
 
+-- the tokens of an operand, in brackets where it binds less tightly than is wanted
 abbrev pub at_level : ℕ → ℕ → List Token → List Token
 at_level wanted own ts = bracketed (nat_lt own wanted) ts
 
@@ -24,18 +25,22 @@ begins_signed (Literal n ∷ ts) = true
 begins_signed (Operator Sub ∷ ts) = true
 begins_signed _ = false
 
+-- the tokens of an `int`, of which a sign is one
 abbrev pub int_tokens : ℤ → List Token
 int_tokens (pos n) = Literal (int n) ∷ []
 int_tokens (negsuc n) = Operator Sub ∷ Literal (int (suc n)) ∷ []
 
+-- the tokens of a `long`, of which a sign is one
 abbrev pub long_tokens : ℤ → List Token
 long_tokens (pos n) = Literal (long n) ∷ []
 long_tokens (negsuc n) = Operator Sub ∷ Literal (long (suc n)) ∷ []
 
+-- the tokens of a number with a point, of which a sign is one
 abbrev pub point_tokens : ℤ → ℕ → List Token
 point_tokens (pos n) s = Literal (point (decimal (pos n) s)) ∷ []
 point_tokens (negsuc n) s = Operator Sub ∷ Literal (point (decimal (pos (suc n)) s)) ∷ []
 
+-- the tokens of a literal, a constant of `BigDecimal` or a name
 abbrev pub leaf_tokens : Leaf → List Token
 leaf_tokens (terms.whole i) = int_tokens i
 leaf_tokens (terms.long i) = long_tokens i
@@ -48,9 +53,11 @@ leaf_tokens (terms.named x) = Word x ∷ []
 abbrev pub rounding_tokens : ℕ → Mode → List Token
 rounding_tokens s m = Literal (int s) ∷ Mark Comma ∷ Word (codes "BigDecimal") ∷ Mark Dot ∷ Word (round_word m) ∷ Mark Close ∷ []
 
+-- the tokens of a method's call, up to its bracket, before what stands in it
 abbrev pub method_tokens : List ℕ → List Token → List Token
 method_tokens w more = Mark Dot ∷ Word w ∷ Mark Open ∷ more
 
+-- the tokens of `BigDecimal.valueOf(`, before what stands in it
 abbrev pub value_of_tokens : List Token → List Token
 value_of_tokens more = Word (codes "BigDecimal") ∷ Mark Dot ∷ Word (codes "valueOf") ∷ Mark Open ∷ more
 
@@ -65,11 +72,13 @@ one_tokens (value_of_scaled s) n a = value_of_tokens (a ++ (Mark Comma ∷ Liter
 one_tokens new_big n a = Word (codes "new") ∷ Word (codes "BigDecimal") ∷ Mark Open ∷ (bracketed (begins_point a) a ++ (Mark Close ∷ []))
 one_tokens (set_scale s m) n a = at_level 8 n a ++ method_tokens (codes "setScale") (rounding_tokens s m)
 
+-- the tokens of an operation on two operands, of which each has its level and its tokens
 abbrev pub two_tokens : Two → ℕ → List Token → ℕ → List Token → List Token
 two_tokens (operator o) m a n b = at_level (level_of_operator o) m a ++ (Operator o ∷ at_level (level_of_operator o + 1) n b)
 two_tokens (method c) m a n b = at_level 8 m a ++ method_tokens (call_word c) (b ++ (Mark Close ∷ []))
 two_tokens (divide s r) m a n b = at_level 8 m a ++ method_tokens (codes "divide") (b ++ (Mark Comma ∷ rounding_tokens s r))
 
+-- the tokens of a tree's canonical spelling
 abbrev pub spelled_tokens : Term → List Token
 spelled_tokens (leaf l) = leaf_tokens l
 spelled_tokens (item x a) = Word x ∷ Mark OpenItem ∷ (spelled_tokens a ++ (Mark CloseItem ∷ []))

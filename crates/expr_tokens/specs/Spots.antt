@@ -45,9 +45,10 @@ token_of (tokens.Operator o) = pure.Operator o
 token_of (tokens.Mark s) = pure.Mark (sign_of s)
 token_of tokens.Alien = pure.Alien
 
--- such a token with its place
+-- the token that one of the program's stands for, with its place
 abbrev pub spot_of : Placed → Spot
 spot_of p = record { token = token_of p.token; at = p.at }
 
+-- the tokens that a list of the program's stands for, each with its place
 abbrev pub spots_of : List Placed → List Spot
 spots_of ps = map spot_of ps

@@ -7,6 +7,7 @@ use Rattle.chart_layout.specs.Statements.{statements_of, AreDrawn}
 use Rattle.flowchart_methods.specs.Escapes.{escaped}
 use Rattle.flowchart_methods.specs.Sites.{NamedStatement, number_in}
 
+-- a method's name, as the page has it above its drawing
 abbrev pub heading : List ℕ → List ℕ
 heading name = codes "<h3 id=\"h-" ++ (name ++ (codes "\">" ++ (name ++ codes "</h3>")))
 
@@ -23,6 +24,7 @@ caption_end is_refused = if is_refused then codes "\" class=\"s bad\">" else cod
 abbrev pub statement_caption : List ℕ → Drawn → List ℕ
 statement_caption method d = caption_start method d.number ++ (escaped d.text ++ caption_end d.is_refused)
 
+-- the captions of a method's drawn statements
 abbrev pub statement_captions : List ℕ → List Drawn → List (List ℕ)
 statement_captions method ds = map (statement_caption method) ds
 
@@ -30,8 +32,8 @@ statement_captions method ds = map (statement_caption method) ds
 abbrev pub method_captions : List ℕ → List Drawn → List (List ℕ)
 method_captions name ds = heading name ∷ statement_captions name ds
 
--- those of some methods, one method after the other: each has a caption for each statement of its text, and the refused
--- statement, where there is one, is marked
+-- the headings and captions of some methods, one method after the other: each has a caption for each statement of its
+-- text, and the refused statement, where there is one, is marked
 abbrev pub AreCaptions : Option NamedStatement → List RawRoutine → List (List ℕ) → Type 0
 AreCaptions refused [] captions = captions ≡ []
 AreCaptions refused (m ∷ ms) captions =

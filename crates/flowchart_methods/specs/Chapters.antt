@@ -8,6 +8,7 @@ use Rattle.plan_notes.specs.StartTags.{comments_before}
 use Rattle.flowchart_methods.specs.declared.chapter.Chapter.{Chapter}
 use Rattle.flowchart_methods.specs.Captions.{method_captions}
 
+-- the heading and the captions of a method of the page
 abbrev pub chapter_captions : Chapter → List (List ℕ)
 chapter_captions c = method_captions c.text.name (body_statements c.text.body)
 

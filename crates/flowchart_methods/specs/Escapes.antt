@@ -1,4 +1,4 @@
--- Texts in a page.
+-- Texts in a page. Source: HTML, its marks and their names.
 use Rattle.std.specs.Prelude.{ℕ, Bool, List, ◌==◌, ◌||◌, not, if◌then◌else◌, codes, ◌∷◌, []}
 use Rattle.std.specs.List.{flat_map}
 

@@ -7,14 +7,15 @@ use Rattle.flowchart_methods.specs.Sites.{NamedStatement, named_statement}
 use Rattle.flowchart_page.specs.Verdicts.{lacks_limit}
 use Rattle.flowchart_page.specs.Sites.{named_by}
 
--- it is accepted, and this is what it means; it is in order as far as can be said without a range file; or it is
--- refused
+-- what is found of a plan: it is accepted and means this; it is in order as far as can be said without a range file;
+-- or it is refused
 pub data Finding : Type 0 where
   accepted : Meaning → Finding
   in_order : Finding
   refused : PlanRefusal → Finding
 
--- this is found: without a range file the plan is judged with an empty one, and an input without a limit is no refusal
+-- this is found of a plan: without a range file it is judged with an empty one, where an input without a limit isn't
+-- refused
 abbrev pub IsFound : List ℕ → Option (List ℕ) → Finding → Type 0
 IsFound plan (Some limits) (accepted m) = IsAccepted plan limits m
 IsFound plan (Some limits) in_order = ⊥

@@ -13,10 +13,11 @@ use Rattle.flowchart_methods.specs.Turns.{StandInTurn}
 use Rattle.flowchart_methods.specs.Captions.{AreCaptions, methods_of}
 use Rattle.flowchart_page.specs.Findings.{Finding, accepted, in_order, refused, IsFound, marked}
 
--- how a page begins and how it ends
+-- how a page begins
 abbrev pub page_start : List ℕ
 page_start = codes "<!DOCTYPE html>\n<html lang=\"en\">\n<head>\n<meta charset=\"utf-8\">\n"
 
+-- the last line of a page
 abbrev pub page_end : List ℕ
 page_end = codes "</body></html>\n"
 
@@ -28,14 +29,17 @@ pub record IsWholePage (texts : List (List ℕ)) (page : List ℕ) : Type 0 wher
 
 -- ---- what is said of the plan
 
+-- what a page says of an accepted plan, with its bound
 abbrev pub accepted_text : ℕ → List ℕ
 accepted_text bound =
     codes "<b>Accepted.</b> On every input within the ranges a run is safe and takes at most <b>"
     ++ (decimal bound ++ codes "</b> steps.")
 
+-- what a page says of a plan without a range file, as far as it is in order
 abbrev pub in_order_text : List ℕ
 in_order_text = codes "<b>In order</b>, as far as it can be said without a range file"
 
+-- what a page has before the words of a refusal
 abbrev pub refused_text : List ℕ
 refused_text = codes "<b>Refused.</b> "
 

@@ -20,10 +20,12 @@ use Rattle.flowchart_methods.specs.declared.site.Site.TheVariants.{Statement, Me
 abbrev pub statement_of : Place → Site
 statement_of place = Statement place.method place.stmt
 
+-- what the place of an expression's text names
 abbrev pub named_by_spot : Spot → Site
 named_by_spot (spots.Statement method stmt) = Statement method stmt
 named_by_spot (spots.Declared name) = Declared name
 
+-- what a fault of names and kinds names
 abbrev pub named_by_types : TypeFault → Site
 named_by_types (types.Twice name) = Declared name
 named_by_types (types.Unknown name place) = statement_of place
@@ -37,6 +39,7 @@ named_by_types (types.Memory e) = Nowhere
 abbrev pub named_by_key : List ℕ → Site
 named_by_key key = if is_name key then Declared key else Nowhere
 
+-- what a refusal names: the statement of its place, a method, a declared name, or nothing
 abbrev pub named_by : PlanRefusal → Site
 named_by (refusals.Expr spot fault) = named_by_spot spot
 named_by (refusals.Types fault) = named_by_types fault

@@ -15,6 +15,7 @@ unless refused cause answer = if refused then Err cause else answer
 abbrev pub is_beyond : ℤ → Bool
 is_beyond n = nat_lt limit (unsigned_abs n)
 
+-- an end is beyond the limit of kept numbers
 abbrev pub ends_beyond : Interval → Bool
 ends_beyond a = is_beyond a.lo || is_beyond a.hi
 
@@ -22,10 +23,11 @@ ends_beyond a = is_beyond a.lo || is_beyond a.hi
 abbrev pub kept : Interval → Result Interval RangeCause
 kept a = unless (ends_beyond a) Wide (Ok a)
 
--- the same interval with its ends at scale q, which is no less than its greatest
+-- the same interval with its ends at scale q, which is at least its greatest scale
 abbrev pub at_scale : ℕ → Interval → Interval
 at_scale q a = interval (a.lo *ℤ ten_to (q - a.s_hi)) (a.hi *ℤ ten_to (q - a.s_hi)) a.s_lo q
 
+-- the scale to which two intervals are aligned: the greater of their greatest scales
 abbrev pub greater_scale : Interval → Interval → ℕ
 greater_scale a b = max a.s_hi b.s_hi
 
@@ -41,10 +43,12 @@ pub record Align (a b : Interval) : Type 0 where
   pub left : HasKeptEnds (at_scale (greater_scale a b) a)
   pub right : HasKeptEnds (at_scale (greater_scale a b) b)
 
+-- the least of some whole numbers
 abbrev pub least : List ℤ → ℤ
 least [] = pos 0
 least (n ∷ ns) = fold int_min n ns
 
+-- the greatest of some whole numbers
 abbrev pub greatest : List ℤ → ℤ
 greatest [] = pos 0
 greatest (n ∷ ns) = fold int_max n ns
@@ -61,6 +65,7 @@ corners f a b = f a.lo b.lo ∷ (f a.lo b.hi ∷ (f a.hi b.lo ∷ (f a.hi b.hi �
 abbrev pub most : Interval → ℤ
 most a = pos (max (unsigned_abs a.lo) (unsigned_abs a.hi))
 
+-- zero lies between the ends
 abbrev pub has_zero : Interval → Bool
 has_zero a = int_le a.lo (pos 0) && int_le (pos 0) a.hi
 

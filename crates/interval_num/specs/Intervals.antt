@@ -1,4 +1,6 @@
--- Intervals of decimals, over unbounded whole numbers.
+-- Intervals of decimals, over unbounded whole numbers. An interval has two ends, numerators at its greatest
+-- scale, and its least and greatest scale; it contains the decimals whose scale and value lie between.
+-- Source: interval arithmetic by ends, over the decimals of java.math.BigDecimal.
 use Rattle.std.specs.Prelude.{◌≡◌, ℕ, ◌≤◌, ℤ, ◌≤ℤ◌}
 use Rattle.scaled_decimal.specs.Decimals.{Decimal, scale_of, numerator_at}
 use Rattle.scaled_decimal.specs.Limits.{IsWithinLimit, most_places}
@@ -11,6 +13,7 @@ pub record Interval : Type 0 where
   pub s_lo : ℕ
   pub s_hi : ℕ
 
+-- the interval of these ends and scales
 abbrev pub interval : ℤ → ℤ → ℕ → ℕ → Interval
 interval lo hi s_lo s_hi = record { lo = lo; hi = hi; s_lo = s_lo; s_hi = s_hi }
 

@@ -32,15 +32,20 @@ is_apart e allowed whole = whole && (allowed.minus && (allowed.plus && (not allo
 abbrev pub past : ℤ → ℤ → ℤ
 past n low = if int_eq low n then low +ℤ pos 1 else low
 
+-- the high end, one less where it is this number
 abbrev pub short_of : ℤ → ℤ → ℤ
 short_of n high = if int_eq high n then high -ℤ pos 1 else high
 
+-- the interval without a number that is one of its ends
 abbrev pub without : ℤ → Interval → Interval
 without n v = interval (past n v.lo) (short_of n v.hi) v.s_lo v.s_hi
 
+-- the interval, or none where its ends have crossed
 abbrev pub unless_empty : Interval → Option Interval
 unless_empty v = if int_le v.lo v.hi then Some v else None
 
+-- what is left of v where a comparison with e has one of the allowed signs, or none: an end moves to e's end
+-- where the sign towards it isn't allowed, and one past it where whole numbers must differ
 abbrev pub refined : Interval → Interval → SignSet → Bool → Option Interval
 refined v e allowed whole =
     let part = interval (low_end v e allowed whole) (high_end v e allowed whole) v.s_lo v.s_hi in

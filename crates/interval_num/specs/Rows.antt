@@ -1,5 +1,5 @@
 -- What each operation makes of intervals: one row an operation, with its ends, its scales and its causes of refusal in
--- the order Divisor, Index, Scale, Wide.
+-- the order Divisor, Index, Scale, Wide. Source: docs/PROFILE.md, "Ranges of values".
 use Rattle.std.specs.Prelude.{ℕ, Bool, ◌+◌, ◌-◌, max, min, suc, nat_lt, ◌||◌, ℤ, pos, ◌+ℤ◌, ◌-ℤ◌, ◌*ℤ◌, neg_ℤ, int_le, int_lt, unsigned_abs, List, [], ◌∷◌, map, fold, length, slice_range, Result, Ok, if◌then◌else◌, not}
 use Rattle.std.specs.List.{list_any, list_all}
 use Rattle.std.specs.Int.{int_min, int_max}
@@ -43,18 +43,23 @@ comparison_of x y = Ok (interval (least_sign (signs_at x y)) (greatest_sign (sig
 abbrev pub join_of : Interval → Interval → Answer
 join_of x y = Ok (interval (int_min x.lo y.lo) (int_max x.hi y.hi) (min x.s_lo y.s_lo) x.s_hi)
 
+-- the interval of all sums; Wide where an aligned or a resulting end is beyond the limit
 abbrev pub sum_row : Interval → Interval → Answer
 sum_row = aligned sum_of
 
+-- the interval of all differences; Wide where an aligned or a resulting end is beyond the limit
 abbrev pub difference_row : Interval → Interval → Answer
 difference_row = aligned difference_of
 
+-- the interval of all lesser operands; Wide where an aligned end is beyond the limit
 abbrev pub min_row : Interval → Interval → Answer
 min_row = aligned min_of
 
+-- the interval of all greater operands; Wide where an aligned end is beyond the limit
 abbrev pub max_row : Interval → Interval → Answer
 max_row = aligned max_of
 
+-- the interval of all signs of comparisons; Wide where an aligned end is beyond the limit
 abbrev pub comparison_row : Interval → Interval → Answer
 comparison_row = aligned comparison_of
 
@@ -62,15 +67,19 @@ comparison_row = aligned comparison_of
 abbrev pub join_row : Interval → Interval → Answer
 join_row = aligned join_of
 
+-- the interval of all products, from the four products of ends; Scale where the scales' sum is above the limit, Wide
+-- where the product of the greatest magnitudes is beyond it
 abbrev pub product_row : Interval → Interval → Answer
 product_row a b =
     unless (nat_lt most_places (a.s_hi + b.s_hi)) Scale (
     unless (is_beyond (most a *ℤ most b)) Wide (
     Ok (hull (corners (λ m n. m *ℤ n) a b) (a.s_lo + b.s_lo) (a.s_hi + b.s_hi))))
 
+-- the interval of all opposites
 abbrev pub negated_row : Interval → Interval
 negated_row a = interval (neg_ℤ a.hi) (neg_ℤ a.lo) a.s_lo a.s_hi
 
+-- the interval of all magnitudes
 abbrev pub magnitude_row : Interval → Interval
 magnitude_row a = interval (least_magnitude a) (most a) a.s_lo a.s_hi
 
@@ -88,6 +97,8 @@ quotient_is_wide s a b =
 abbrev pub end_quotient : Mode → ℕ → Interval → Interval → ℤ → ℤ → ℤ
 end_quotient mode s a b m n = numerator_of (quotient mode s (decimal m a.s_hi) (decimal n b.s_hi))
 
+-- the interval of all quotients rounded to scale s, from the four quotients of ends; Divisor where b has zero in it,
+-- Wide where a working number is beyond the limit
 abbrev pub quotient_row : Mode → ℕ → Interval → Interval → Answer
 quotient_row mode s a b =
     unless (has_zero b) Divisor (
@@ -104,15 +115,18 @@ exact_quotient_row d a =
 abbrev pub end_value : Mode → ℕ → Interval → ℤ → ℤ
 end_value mode s a m = numerator_of (rescaled mode s (decimal m a.s_hi))
 
+-- the interval of all values rounded to scale s; Wide where a working number is beyond the limit
 abbrev pub rescaled_row : Mode → ℕ → Interval → Answer
 rescaled_row mode s a =
     unless (is_beyond (most a *ℤ ten_to (s - a.s_hi))) Wide (
     Ok (interval (end_value mode s a a.lo) (end_value mode s a a.hi) s s))
 
+-- the least scale of some decimals
 abbrev pub least_scale : List Decimal → ℕ
 least_scale [] = 0
 least_scale (d ∷ ds) = fold min (scale_of d) (map scale_of ds)
 
+-- the greatest scale of some decimals
 abbrev pub greatest_scale : List Decimal → ℕ
 greatest_scale ds = fold max 0 (map scale_of ds)
 
@@ -140,9 +154,12 @@ whole_hull bits ends = unless (not (list_all (is_of_bits bits) ends)) Wide (Ok (
 abbrev pub whole_row : ℕ → (ℤ → ℤ → ℤ) → Interval → Interval → Answer
 whole_row bits operation a b = whole_hull bits (corners operation a b)
 
+-- the interval of all opposites of whole numbers; Wide where an end has more bits
 abbrev pub whole_opposite_row : ℕ → Interval → Answer
 whole_opposite_row bits a = whole_hull bits (neg_ℤ a.hi ∷ (neg_ℤ a.lo ∷ []))
 
+-- the interval of all quotients of whole numbers, cut towards zero; Divisor where b has zero in it, Wide where an end
+-- has more bits
 abbrev pub whole_quotient_row : ℕ → Interval → Interval → Answer
 whole_quotient_row bits a b = unless (has_zero b) Divisor (whole_hull bits (corners whole_quotient a b))
 
@@ -150,9 +167,11 @@ whole_quotient_row bits a b = unless (has_zero b) Divisor (whole_hull bits (corn
 abbrev pub least_remainder : (low m : ℤ) → ℤ
 least_remainder low m = if int_le (pos 0) low then pos 0 else int_max low (neg_ℤ m)
 
+-- the greatest remainder of dividends up to this, by divisors whose magnitude less one is at most m
 abbrev pub greatest_remainder : (high m : ℤ) → ℤ
 greatest_remainder high m = if int_le high (pos 0) then pos 0 else int_min high m
 
+-- the interval of all remainders of whole numbers, each with the dividend's sign; Divisor where b has zero in it
 abbrev pub whole_remainder_row : Interval → Interval → Answer
 whole_remainder_row a b =
     let m = most b -ℤ pos 1 in

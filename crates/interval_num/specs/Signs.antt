@@ -11,6 +11,7 @@ use Rattle.interval_num.specs.Alignment.{at_scale, greater_scale}
 abbrev pub signs_at : Interval → Interval → SignSet
 signs_at x y = record { minus = int_lt x.lo y.hi; zero = int_le x.lo y.hi && int_le y.lo x.hi; plus = int_lt y.lo x.hi }
 
+-- the signs that a comparison of decimals of two intervals may have, once these are aligned
 abbrev pub signs_of : Interval → Interval → SignSet
 signs_of a b = signs_at (at_scale (greater_scale a b) a) (at_scale (greater_scale a b) b)
 
@@ -18,9 +19,11 @@ signs_of a b = signs_at (at_scale (greater_scale a b) a) (at_scale (greater_scal
 abbrev pub least_sign : SignSet → ℤ
 least_sign s = if s.minus then negsuc 0 else if s.zero then pos 0 else pos 1
 
+-- the greatest sign of a set, as a number
 abbrev pub greatest_sign : SignSet → ℤ
 greatest_sign s = if s.plus then pos 1 else if s.zero then pos 0 else negsuc 0
 
+-- the set has the sign of this order
 abbrev pub HasOrder : SignSet → Ordering → Type 0
 HasOrder s Less = IsTrue s.minus
 HasOrder s Equal = IsTrue s.zero

@@ -1,4 +1,5 @@
--- The walk of a whole plan from the limits of its inputs, and what it answers.
+-- The walk of a whole plan from the limits of its inputs, and what it answers. Source: abstract interpretation by
+-- intervals, with tests that refine them (docs/PROFILE.md, "Ranges of values").
 use Rattle.std.specs.Prelude.{◌&&◌, not, nat_le, Bool, ◌++◌, map, length, take, drop, unsigned_abs, ℤ, Result, Ok, Err}
 use Rattle.std.specs.List.{find}
 use Rattle.std.specs.Option.{option_map_or}

@@ -1,5 +1,5 @@
 -- What the walk over ranges is asked for. It refuses outright, whatever the ranges are, a truth where a number is asked, a test
--- that is none, a method that isn't there, one behind too long a chain, and branches of unlike variables; a plan that is well
+-- that isn't one, a method that isn't there, one behind too long a chain, and branches of unlike variables; a plan that is well
 -- typed and in order asks for none of these.
 use Rattle.std.specs.Prelude.{◌≡◌, ℕ, zero, suc, is_ok, IsTrue, IfSome, List, Some, Ok, ⊤}
 use Rattle.pap_tree.specs.declared.expression.Unary.TheVariants.{Not}
@@ -54,7 +54,8 @@ module _ (scope : Scope) where
 
   -- ---- statements
 
-  -- such an expression in each assignment, a test in each branch, and each method that is executed is entered
+  -- each assigned expression of a list of statements can have a range, each test can have branches, and each method
+  -- that is executed is entered
   abbrev pub CanBeWalked : (List ℕ → Type 0) → Body → Type 0
   CanBeWalked Enters done = ⊤
   CanBeWalked Enters (eval x e rest) = CanHaveRange e × CanBeWalked Enters rest
@@ -70,7 +71,7 @@ module _ (scope : Scope) where
 
 -- ---- where branches meet
 
--- the same variables, in the same order
+-- both are ranges of the same variables, in the same order
 abbrev pub AreNamedAs : Ranges → Ranges → Type 0
 AreNamedAs rs ss = names_in ss ≡ names_in rs
 

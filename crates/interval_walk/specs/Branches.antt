@@ -62,7 +62,7 @@ narrowed_name whole allowed x e env None = Some env
 narrowed_name whole allowed x e env (Some v) =
     option_map (put_range env x) (refined v e allowed whole)
 
--- the same of a side, which is refined where it is a variable's name
+-- the variables where a side has an allowed sign against a decimal of e: it is refined where it is a variable's name
 abbrev pub narrowed : Bool → SignSet → Term → Interval → Ranges → Option Ranges
 narrowed whole allowed (leaf (named x)) e env =
     narrowed_name whole allowed x e env (range_named env x)

@@ -53,7 +53,7 @@ abbrev pub read_leaf : NodeKind → Option Interval → Answer
 read_leaf k (Some a) = read_range k a
 read_leaf k None = Err Wide
 
--- the same, where it is a range of its kind
+-- the range of a literal or a name, where it is one of its kind
 abbrev pub leaf_range : Scope → Leaf → Ranges → Answer
 leaf_range scope l env = read_leaf (leaf_kind scope l) (leaf_interval scope l env)
 

@@ -38,17 +38,17 @@ HoldsLeaf (point d) = HasFewPlaces d
 HoldsLeaf (text d) = HasFewPlaces d
 HoldsLeaf _ = ⊤
 
--- the same of a declared literal
+-- a declared literal is a number of its type
 abbrev pub HoldsLiteral : DeclaredLiteral → Type 0
 HoldsLiteral (number l) = HoldsLeaf l
 HoldsLiteral (big d) = HasFewPlaces d
 HoldsLiteral (table ds) = All HasFewPlaces ds
 
--- each declared literal is so
+-- each declared literal of a plan is a number of its type
 abbrev pub HoldsNumbers : Flowchart → Type 0
 HoldsNumbers f = All (λ d. IfSome d.value HoldsLiteral) (declarations_of f)
 
--- and each literal of an expression
+-- each literal of an expression is a number of its type
 abbrev pub HoldsTerm : Term → Type 0
 HoldsTerm (leaf l) = HoldsLeaf l
 HoldsTerm (item x e) = HoldsTerm e
@@ -56,7 +56,7 @@ HoldsTerm (one op e) = HoldsTerm e
 HoldsTerm (two op e f) = HoldsTerm e × HoldsTerm f
 HoldsTerm (choice c e f) = HoldsTerm c × HoldsTerm e × HoldsTerm f
 
--- of each expression of a list of statements
+-- each literal in a list of statements is a number of its type
 abbrev pub HoldsBody : Body → Type 0
 HoldsBody done = ⊤
 HoldsBody (eval x e rest) = HoldsTerm e × HoldsBody rest
@@ -76,11 +76,11 @@ pub record AreShaped (scope : Scope) (rs : Ranges) : Type 0 where
   pub names : names_in rs ≡ names_of scope.variables
   pub shapes : All (λ v. HasShape (name_kind scope v.name) v.range) rs
 
--- such ranges, where there are some
+-- the ranges, where there are some, have the shapes of their variables' kinds
 abbrev pub IsShapedIf : Scope → Option Ranges → Type 0
 IsShapedIf scope o = IfSome o (AreShaped scope)
 
--- such ranges in each branch that can be reached
+-- the ranges of each branch that can be reached have the shapes of their variables' kinds
 pub record AreBranchesShaped (scope : Scope) (br : Branches) : Type 0 where
   pub holds : IsShapedIf scope br.holds
   pub fails : IsShapedIf scope br.fails

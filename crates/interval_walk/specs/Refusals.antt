@@ -67,7 +67,7 @@ module _ (scope : Scope) where
         (ranged scope f (at + nodes c + nodes e))
         (λ a b. at_node (at + nodes c + nodes e + nodes f) (join_row a b) ≡ Err x))
 
-    -- or in that of a test
+    -- A row refuses in the walk of a test whose nodes are numbered from `at`.
     pub TestRefuses : Term → ℕ → Ranges → NodeFault → Type 0
     TestRefuses (one (unary Not) e) at rs x = TestRefuses e at rs x
     TestRefuses (two (operator And) e f) at rs x =
@@ -97,7 +97,7 @@ AtStatement name at Refuses x =
 
 module _ (scope : Scope) (call : RangeCalls) (CallRefuses : List ℕ → Ranges → WalkFault → Type 0)
     (name : List ℕ) (x : WalkFault) where
-  -- in the walk of a list of statements, which are numbered from `at`
+  -- A row refuses in the walk of a list of statements, which are numbered from `at`.
   abbrev pub BodyRefuses : ℕ → Body → Ranges → Type 0
   BodyRefuses at done rs = ⊥
   BodyRefuses at (eval y e rest) rs =
@@ -117,7 +117,7 @@ module _ (scope : Scope) (call : RangeCalls) (CallRefuses : List ℕ → Ranges 
   BodyRefuses at (execute m rest) rs =
       InTurn (CallRefuses m rs x) (call m rs) (BodyRefuses (at + 1) rest)
 
--- in that of a method, where a chain of them has at most so many
+-- a row refuses in the walk of a method, where a chain of methods has at most so many
 unfoldable pub CallsRefuse : Scope → List Routine → ℕ → List ℕ → Ranges → WalkFault → Type 0
 CallsRefuse scope ms zero m rs x = ⊥
 CallsRefuse scope ms (suc n) m rs x =
@@ -126,7 +126,7 @@ CallsRefuse scope ms (suc n) m rs x =
 
 -- ---- the law
 
--- in that of a plan; or, where all of it is passed, an output is beyond its bound
+-- a row refuses in the walk of a plan; or all of it is passed, and an output is beyond its bound
 abbrev pub PlanRefuses : Flowchart → Limits → WalkFault → Type 0
 PlanRefuses f limits x =
     InTurn
@@ -135,8 +135,8 @@ PlanRefuses f limits x =
     (walked (scope_of f) (range_calls_in f) main_name 0 f.main (start_ranges f limits))
     (λ ends. unless_unbounded (output_ranges f ends) ≡ Err x)
 
--- Each refusal of a plan's ranges is so, where the plan is well typed, within its counts and in order, its literals are numbers
--- of their types, and its inputs have limits.
+-- Each refusal of a plan's ranges is that of a row, or of an output beyond its bound, where the plan is well typed,
+-- within its counts and in order, its literals are numbers of their types, and its inputs have limits.
 abbrev pub RefusalsAreRows : Type 0
 RefusalsAreRows =
     (f : Flowchart) (limits : Limits) (x : WalkFault)

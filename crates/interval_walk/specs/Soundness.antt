@@ -1,4 +1,5 @@
--- What the walk promises of the values that a run meets.
+-- What the walk promises of the values that a run meets. Source: the soundness of an abstract interpretation: what it
+-- answers holds of every run.
 use Rattle.std.specs.Prelude.{◌≡◌, ℕ, ◌≤◌, ◌≤ℤ◌, ◌||◌, IsTrue, is_some, All, IfSome, true, false, List, [], ◌∷◌, Option, Some, None, Ok, ⊤}
 use Rattle.scaled_decimal.specs.Decimals.{Decimal}
 use Rattle.pap_tree.specs.Term.{Term}
@@ -44,7 +45,7 @@ module _ (scope : Scope) where
     pub is : value scope t env ≡ Some gives
     pub inside : Contains r gives
 
-  -- the same of a test; the branch that its value takes can be reached
+  -- every evaluated node of a test is safe, and the branch that its value takes can be reached
   pub record TestHolds (t : Term) (env : Env) (br : Branches) : Type 0 where
     pub safe : IsSafe scope t env
     pub gives : Decimal
@@ -70,7 +71,8 @@ pub record RunHolds (f : Flowchart) (ranges : Ranges) (inputs : List Decimal) : 
   pub safe : IsSafeFor f inputs
   pub outputs : AreOutputs ranges (outputs_in f safe.ends)
 
--- where the walk of a well-typed plan passes, every list of admitted inputs is so
+-- where the walk of a well-typed plan passes, every list of admitted inputs is safe for the plan, and its outputs lie
+-- in their ranges
 abbrev pub AnalysisIsSound : Type 0
 AnalysisIsSound =
     (f : Flowchart) (limits : Limits) (ranges : Ranges) → IsWellTyped f → IsWithinCounts f
@@ -98,7 +100,7 @@ SomeBranchIsReached =
     → tested (scope_of f) t at rs ≡ Ok br
     → IsTrue (is_some br.holds || is_some br.fails)
 
--- such ranges in each branch that can be reached
+-- no range is empty in a branch that can be reached
 pub record AreBranchesFilled (scope : Scope) (br : Branches) : Type 0 where
   pub holds : IfSome br.holds (AreFilled scope)
   pub fails : IfSome br.fails (AreFilled scope)
@@ -117,7 +119,7 @@ pub record StaysFilled (f : Flowchart) : Type 0 where
       → AreFilled (scope_of f) rs → walked (scope_of f) (range_calls_in f) name at b rs ≡ Ok ends
       → AreFilled (scope_of f) ends
 
--- this holds of each well-typed plan within its limits
+-- in the walk of each well-typed plan within its limits no variable's range gets empty
 abbrev pub NoRangeGetsEmpty : Type 0
 NoRangeGetsEmpty = (f : Flowchart) → IsWellTyped f → IsWithinCounts f → StaysFilled f
 

@@ -29,7 +29,7 @@ pub record GoesOn (Holds Fails : Ranges → Type 0) (br : Branches) : Type 0 whe
   pub fails : IfSome br.fails Fails
 
 module _ (scope : Scope) where
-  -- so it does behind a test that it passes
+  -- the walk goes on behind a test that it passes
   abbrev pub GoesOnBehind : Term → Ranges → (Holds Fails : Ranges → Type 0) → Type 0
   GoesOnBehind t rs Holds Fails =
       (at : ℕ) (br : Branches) → tested scope t at rs ≡ Ok br → GoesOn Holds Fails br
@@ -61,7 +61,8 @@ module _ (scope : Scope) (call : RangeCalls) (ReadsCall : List ℕ → Ranges �
   ReadsBehind b rs Rest =
       (name : List ℕ) (at : ℕ) (ends : Ranges) → walked scope call name at b rs ≡ Ok ends → Rest ends
 
-  -- the same of a list of statements
+  -- in the walk of a list of statements nothing is refused where it is read, and some branch of each test can be
+  -- reached
   abbrev pub ReadsBody : Body → Ranges → Type 0
   ReadsBody done rs = ⊤
   ReadsBody (eval x e rest) rs =
@@ -72,7 +73,8 @@ module _ (scope : Scope) (call : RangeCalls) (ReadsCall : List ℕ → Ranges �
   ReadsBody (execute m rest) rs =
       ReadsCall m rs × ReadsBehind (execute m done) rs (ReadsBody rest)
 
--- of a method, where a chain of them has at most so many
+-- in the walk of a method, where a chain of methods has at most so many, nothing is refused where it is read, and some
+-- branch of each test can be reached
 unfoldable pub ReadsCalls : Scope → List Routine → ℕ → List ℕ → Ranges → Type 0
 ReadsCalls scope ms zero m rs = ⊤
 ReadsCalls scope ms (suc n) m rs =
@@ -80,7 +82,8 @@ ReadsCalls scope ms (suc n) m rs =
 
 -- ---- the law
 
--- of a plan, from its limits on
+-- in the walk of a plan, from its limits on, nothing is refused where it is read, and some branch of each test can be
+-- reached
 abbrev pub ReadsPlan : Flowchart → Limits → Type 0
 ReadsPlan f limits =
     ReadsBody (scope_of f) (range_calls_in f) (ReadsCalls (scope_of f) f.methods longest_chain) f.main

@@ -5,7 +5,7 @@ use Rattle.std.specs.Option.{option_or}
 use Rattle.toml.specs.Data.{Data, table, Members, no_members, member, get_member, as_str}
 use Rattle.pap_tree.specs.Names.{is_name}
 
--- which values the keys of such an entry may have, and which keys it needs
+-- the form of an entry: which values its keys may have, and which keys it needs
 pub record Form : Type 0 where
   pub suits : Members → List ℕ → Data → Bool
   pub needed : Members → List (List ℕ)
@@ -33,8 +33,8 @@ entry_of value = no_members
 abbrev pub has_needed_keys : Form → Members → Bool
 has_needed_keys form entry = list_all (has_key entry) (form.needed entry)
 
--- the key at which an entry fails: its own where it is no name or no table; else the first of its keys that is of no
--- use there or has a value that doesn't suit it; else its own where a key is missing
+-- the key at which an entry fails: its own where it isn't a name or the entry isn't a table; else the first of its
+-- keys that an entry doesn't have or whose value doesn't suit it; else its own where a key is missing
 abbrev pub failing_key : Form → List ℕ → Data → Option (List ℕ)
 failing_key form name (table entry) =
     if not (is_name name) then Some name

@@ -1,7 +1,8 @@
 -- What can be wrong with a range file.
 use Rattle.std.specs.Prelude.{ℕ, List}
 
--- a text of too many bytes, a text that is no TOML, or the label of a key or of an input
+-- the fault of a range file: its text has too many bytes or isn't TOML, or it is the label of a key or of an
+-- input
 pub data Fault : Type 0 where
   too_long : Fault
   no_toml : Fault

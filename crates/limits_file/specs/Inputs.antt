@@ -41,7 +41,7 @@ pub record IsBoundAt (key : List ℕ) (entry : Members) (bound : Decimal) : Type
   pub stands : get_member key entry ≡ Some value
   pub is : IsBound value bound
 
--- the key is missing, or its value is no bound
+-- the key is missing, or its value isn't a bound
 abbrev pub HasNoBoundAt : List ℕ → Members → Type 0
 HasNoBoundAt key entry = (bound : Decimal) → IsBoundAt key entry bound → ⊥
 
@@ -49,7 +49,7 @@ HasNoBoundAt key entry = (bound : Decimal) → IsBoundAt key entry bound → ⊥
 abbrev pub HasPlaces : Members → ℕ → Type 0
 HasPlaces entry places = get_member (codes "places") entry ≡ Some (integer (pos places))
 
--- the value of `places` is no whole number from 0 to 255
+-- the value of `places` isn't a whole number from 0 to 255
 abbrev pub HasNoPlaces : Members → Type 0
 HasNoPlaces entry = (places : ℕ) → places ≤ 255 → HasPlaces entry places → ⊥
 

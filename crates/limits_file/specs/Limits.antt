@@ -1,4 +1,5 @@
--- How long a range file is at most, which values a range admits, and the bound of outputs.
+-- How long a range file is at most, which values a range admits, and the bound of outputs. Source: docs/PROFILE.md,
+-- "Declared ranges".
 use Rattle.std.specs.Prelude.{◌≡◌, ℕ, ◌^◌, ◌≤◌, IsTrue, IsFalse, unsigned_abs, List, Any, Option}
 use Rattle.std.specs.List.{find}
 use Rattle.std.specs.Str.{bytes_eq}
@@ -9,7 +10,7 @@ use Rattle.pap_tree.specs.Scales.{is_kept_at}
 use Rattle.limits_file.specs.declared.limits.InputLimit.{InputLimit}
 use Rattle.limits_file.specs.declared.limits.Limits.{Limits}
 
--- the most bytes of a range file
+-- a range file has at most so many bytes
 abbrev pub longest_limits : ℕ
 longest_limits = 262144
 
@@ -47,10 +48,11 @@ pub record IsFactorLimit (limit : InputLimit) : Type 0 where
   pub low : IsTrue (is_kept_at 3 limit.low)
   pub high : IsTrue (is_kept_at 3 limit.high)
 
--- the most places of an output, and the greatest magnitude of its numerator at so many places
+-- an output has at most so many places
 abbrev pub output_places : ℕ
 output_places = 12
 
+-- the numerator of an output at `output_places` is at most so great
 abbrev pub output_limit : ℕ
 output_limit = 10 ^ 32
 

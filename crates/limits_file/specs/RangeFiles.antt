@@ -1,4 +1,5 @@
--- What a range file says: its limits, or its first fault (docs/PROFILE.md, "The range file").
+-- What a range file says: its limits, or its first fault (docs/PROFILE.md, "The range file"). Source:
+-- docs/PROFILE.md, "Declared ranges"; TOML is what the kit's `toml` reads (its grammar of TOML 1.1).
 use Rattle.std.specs.Prelude.{◌≡◌, ℕ, ◌<◌, ◌≤◌, List, [], length, map, flat_map, Some, None, Result, Err, codes, IsUtf8, MatchBool}
 use Rattle.std.specs.Cmp.Lexicographic.{slice_cmp}
 use Rattle.std.specs.Ordering.{nat_cmp}
@@ -16,10 +17,11 @@ use Rattle.limits_file.specs.Walks.{TableSays}
 use Rattle.limits_file.specs.Inputs.{InputSays}
 use Rattle.limits_file.specs.Bindings.{BindingSays}
 
--- limits of inputs and nothing else, and what inputs carry over and nothing else
+-- a range file's limits of inputs, as limits without bindings
 abbrev pub with_inputs : List InputLimit → Limits
 with_inputs inputs = record { inputs = inputs; bindings = [] }
 
+-- a range file's bindings, as limits without inputs
 abbrev pub with_bindings : List Binding → Limits
 with_bindings bindings = record { inputs = []; bindings = bindings }
 
@@ -38,12 +40,12 @@ SectionSays n key (table entries) answer =
     (answer ≡ Err (bad_key (label_of key))))
 SectionSays n key value answer = answer ≡ Err (bad_key (label_of key))
 
--- the text, which isn't too long, is no TOML
+-- the text isn't too long, and isn't TOML
 pub record IsNoToml (bytes : List ℕ) : Type 0 where
   pub short : length bytes ≤ longest_limits
   pub refused : IsUtf8 bytes → parse_document bytes ≡ None
 
--- the text, which isn't too long, is this TOML table
+-- the text isn't too long, and is this TOML table
 pub record IsToml (bytes : List ℕ) (file : Members) : Type 0 where
   pub short : length bytes ≤ longest_limits
   pub text : IsUtf8 bytes

@@ -16,7 +16,7 @@ module _ {A : Type 0} (Says : ℕ → List ℕ → Data → Result A Fault → T
       Says n key value (Err fault)
       ⊎ ((first : A) × Says n key value (Ok first) × AllOrFirstFault (suc n) rest (Err fault))
 
-  -- the same of a whole table, with what its keys say put together
+  -- what all keys of a table say, put together, or the fault of the first that has one
   abbrev pub TableSays : {B : Type 0} → (List A → B) → Members → Result B Fault → Type 0
   TableSays together entries (Ok whole) =
       (said : List A) × AllOrFirstFault 0 entries (Ok said) × (whole ≡ together said)

@@ -19,7 +19,7 @@ use Rattle.month_trace.specs.Traces.{Trace, trace_of}
 abbrev pub run_meant : Contents → List ℕ → When → InMonth
 run_meant book e w = withdrawal book.years e w
 
--- its key, or why no run is meant
+-- the key of the run that is meant, or why no run is meant
 abbrev pub key_meant : List ℕ → When → InMonth → Result Key TraceRefusal
 key_meant e w (One k) = Ok k
 key_meant e (when.Month m) Several = Err (refusal.Several e m)
@@ -33,6 +33,7 @@ job_trace j = trace_of j.plan.meaning.flowchart j.inputs
 abbrev pub run_said : Contents → Key → Result (List TraceStep) TraceRefusal
 run_said book k = ok_or (option_and_then job_trace (job_of_key book k)) (refusal.NotDone k)
 
+-- what a book answers to the trace of a run: the steps of this key's run, or why no run is meant
 abbrev pub key_said : Contents → Result Key TraceRefusal → Result (List TraceStep) TraceRefusal
 key_said book (Ok k) = run_said book k
 key_said book (Err why) = Err why

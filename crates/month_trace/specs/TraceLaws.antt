@@ -42,7 +42,7 @@ pub record HasOneTrace (f : Flowchart) (inputs : List Decimal) : Type 0 where
   pub are : trace_of f inputs ≡ Some steps
   pub only : (others : List TraceStep) → trace_of f inputs ≡ Some others → others ≡ steps
 
--- its outputs are those that stand behind the trace
+-- the run's outputs are those that stand behind its trace
 abbrev pub TellsOutputs : Flowchart → List Decimal → Type 0
 TellsOutputs f inputs =
     (steps : List TraceStep) → trace_of f inputs ≡ Some steps → outputs_of f inputs ≡ Some (outputs_behind f steps)
@@ -61,7 +61,7 @@ pub record EndsInReport
   pub told : trace_said book e w ≡ Ok steps
   pub done : IsDoneWith (named_values f.outputs (outputs_behind f steps)) (row_at book k)
 
--- so it is of each run that is meant and has a job
+-- each run that is meant and has a job has a trace, and is done with the values that stand behind it
 abbrev pub TracesEndInReports : Type 0
 TracesEndInReports =
     (book : Contents) (e : List ℕ) (w : When) (k : Key) (j : Job) → IsBook book → HaveKeptValues book

@@ -7,7 +7,7 @@ use Rattle.outside.specs.Values.{FilesInMemory, SourceInMemory, SinkInMemory, Su
 abbrev pub FilesFail : FilesInMemory → List ℕ → Type 0
 FilesFail old name = IsListed old.fails old.calls ⊎ (file_named old.files name ≡ None)
 
--- the call read the file, or memory was wanting
+-- the call read the file, or memory ran out
 abbrev pub files_after_call : FilesInMemory → FilesInMemory
 files_after_call old = record old { calls = next_count old.calls }
 

@@ -4,6 +4,7 @@ use Rattle.outside.specs.declared.file_fault.FileFault.{FileFault}
 use Rattle.outside.specs.declared.file_fault.FileFault.TheVariants.{Missing, Forbidden, Folder, Unreadable}
 use Rattle.outside.specs.declared.file_fault.FailedFile.{FailedFile}
 
+-- why a file isn't read, in words
 abbrev pub fault_text : FileFault → List ℕ
 fault_text Missing = codes "there is no such file"
 fault_text Forbidden = codes "permission denied"

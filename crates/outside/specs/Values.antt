@@ -1,7 +1,7 @@
 -- What contracts see of the objects that hold their bytes in memory.
 use Rattle.std.specs.Prelude.{ℕ, List, Option}
 
--- of `MemFiles`
+-- what contracts see of `MemFiles`
 pub record FilesInMemory : Type 0 where
   -- the name and the content of each file
   pub files : List (List ℕ × List ℕ)
@@ -13,7 +13,7 @@ pub record FilesInMemory : Type 0 where
   -- the name that the last failed call asked for
   pub failed : Option (List ℕ)
 
--- of `MemSource`
+-- what contracts see of `MemSource`
 pub record SourceInMemory : Type 0 where
   -- the bytes that are left
   pub left : List ℕ
@@ -25,7 +25,7 @@ pub record SourceInMemory : Type 0 where
   pub calls : ℕ
   pub faults : ℕ
 
--- of `MemSink`
+-- what contracts see of `MemSink`
 pub record SinkInMemory : Type 0 where
   -- the bytes that were written
   pub written : List ℕ
@@ -39,7 +39,7 @@ pub record SinkInMemory : Type 0 where
   pub calls : ℕ
   pub faults : ℕ
 
--- of `SureSource`
+-- what contracts see of `SureSource`
 pub record SureBytes : Type 0 where
   -- the bytes that are left
   pub left : List ℕ

@@ -17,7 +17,7 @@ use Rattle.pap_cli.specs.ScriptClauses.{LeavesOnScript, HeadlineOnScript}
 use Rattle.pap_cli.specs.SampleClauses.{LeavesOnSample, HeadlineOnSample}
 use Rattle.pap_cli.specs.SaveClauses.{LeavesOnSave, HeadlineOnSave}
 
--- the status says that the words have no form exactly where they have none, unless memory runs out
+-- the status is `BadWords` exactly where the words have no form, unless memory ran out
 pub record TellsBadWords (words : List (List ℕ)) (status : Status) : Type 0 where
   pub told : IsBad words → status ≢ NoMemory → status ≡ BadWords
   pub alone : status ≡ BadWords → IsBad words
@@ -30,13 +30,13 @@ pub record TouchesOnly {F R W : Type 0} (words : List (List ℕ)) (before after 
   pub files_same : (employees : ℕ) → HasForm words (sample employees) → after.files ≡ before.files
   pub steps_same : (plan limits : List ℕ) → HasForm words (check plan limits) → after.steps ≡ before.steps
 
--- a fault is told only where its object's count rose
+-- a fault is answered only where its object's count rose
 pub record IsCaused (before after : Outside) (status : Status) : Type 0 where
   pub file : status ≡ FileFault → Rose before.file_faults after.file_faults
   pub read : status ≡ ReadFault → Rose before.source_faults after.source_faults
   pub write : status ≡ WriteFault → Rose before.sink_faults after.sink_faults
 
--- what each status says of the text, of the counter, of the failed name and of what is told of refused lines
+-- what each status says of the text, of the counter, of the failed name and of the refused lines
 abbrev pub Leaves : Form → Outside → Outside → RefusedLines → Status → Type 0
 Leaves (check plan limits) before after told status =
     LeavesOnFiles CheckAnswers plan limits (shown_of before) (shown_of after) status
@@ -46,7 +46,7 @@ Leaves run before after told status = LeavesOnScript before after told status
 Leaves (sample employees) before after told status = LeavesOnSample employees (output_of before) (output_of after) status
 Leaves save before after told status = LeavesOnSave before after told status
 
--- while memory is there and no outside call fails, what is written is the defined answer, or the transcript
+-- while memory is there and no outside call fails, what was written is the defined answer, or the transcript
 abbrev pub Headline : Form → Outside → Outside → Status → Type 0
 Headline (check plan limits) before after status = HeadlineOnFiles CheckAnswers plan limits before after status
 Headline (once plan limits values) before after status = HeadlineOnFiles (OnceAnswers values) plan limits before after status
@@ -59,10 +59,9 @@ pub record Carries (form : Form) (before after : Outside) (told : RefusedLines) 
   pub leaves : Leaves form before after told status
   pub headline : Headline form before after status
 
--- all that a call meets which tells this of refused lines: words without a form are told, and nothing is called; what the
--- words don't ask for stays, and the files are only read; a fault is told only where its object's count rose; and, by the
--- form that the words have, what each status says of the text, the counter, the source, the failed name and the refused
--- lines, and the headline
+-- what `papcalc_told` meets, which tells this of refused lines: words without a form are answered so, and nothing is
+-- called; what the words don't ask for stays, and the files are only read; a fault is answered only where its object's
+-- count rose; and words that have a form leave what `Carries` says
 pub record CallTells
     {F R W : Type 0} (of_files : FilesTell F) (of_source : SourceTells R) (of_sink : SinkTells W)
     (words : List (List ℕ)) (before after : Objects F R W) (told : RefusedLines) (status : Status) : Type 0 where
@@ -74,7 +73,7 @@ pub record CallTells
   pub carries : (form : Form) → HasForm words form → Carries form
       (outside_of of_files of_source of_sink before) (outside_of of_files of_source of_sink after) told status
 
--- the same, whatever would be told
+-- what `papcalc` meets: all of `CallTells`, whichever refused lines would be told
 abbrev pub CallMeets : {F R W : Type 0} → FilesTell F → SourceTells R → SinkTells W
     → List (List ℕ) → Objects F R W → Objects F R W → Status → Type 0
 CallMeets of_files of_source of_sink words before after status =

@@ -1,4 +1,4 @@
--- What a call leaves that answers on a plan's file and a range file, by its status (docs/DEFINITIONS.md).
+-- What a call leaves that answers on a plan's file and a range file, by its status.
 use Rattle.std.specs.Prelude.{◌≡◌, ◌≢◌, ◌⊎◌, ℕ, ◌+◌, ◌-◌, ◌≤◌, ◌<◌, List, [], ◌++◌, length, take, Some}
 use Rattle.std.specs.Option.{ForSome}
 use Rattle.outside.specs.Causes.{Still}
@@ -11,7 +11,7 @@ use Rattle.plan_answers.specs.Answers.{Answer}
 use Rattle.plan_answers.specs.Fronts.{IsMissing}
 use Rattle.pap_cli.specs.Outside.{Outside}
 
--- which answer the bytes of a plan and of a range file have
+-- a relation between the bytes of a plan, those of a range file, and an answer
 abbrev pub Answering : Type 1
 Answering = List ℕ → List ℕ → Answer → Type 0
 
@@ -31,7 +31,7 @@ pub record IsWrittenWhole (IsAnswer : Answer → Type 0) (out : List ℕ) (spent
   pub cost : spent ≡ answer.steps
   pub ended : status ≡ done_status answer.refused
 
--- a front of the defined text was written, and not the whole; the counter rose by the run's steps
+-- a prefix of the defined text was written, and not the whole; the counter rose by the run's steps
 pub record IsWrittenShort (IsAnswer : Answer → Type 0) (out : List ℕ) (spent : ℕ) : Type 0 where
   pub answer : Answer
   pub is : IsAnswer answer
@@ -91,7 +91,8 @@ pub record IsAnsweredOnFiles (Answers : Answering) (plan limits : List ℕ) (fil
   pub cost : after.steps ≡ before.steps + answer.steps
   pub ended : status ≡ done_status answer.refused
 
--- the headline: where the files and the sink tell what they hold, while memory is there and no call of them fails
+-- where the files and the sink tell what they hold, while memory is there and no call of them fails, the answer on both
+-- files was written whole
 abbrev pub HeadlineOnFiles : Answering → List ℕ → List ℕ → Outside → Outside → Status → Type 0
 HeadlineOnFiles Answers plan limits before after status =
     ForSome before.files (λ files. ForSome before.written (λ written.

@@ -50,7 +50,7 @@ SavedScriptsGoOn =
     → IsTranscript files script first → IsTranscript files long whole → IsTranscript later short next
     → GoOnAlike first whole next
 
--- and `save` writes for the short one what it writes for the long one
+-- `save` writes for the short one of two such scripts what it writes for the long one
 abbrev pub SavedScriptsAreSaved : Type 0
 SavedScriptsAreSaved =
     (files later : FileMap) (script opening long short : List ℕ) (answer other : Answer)

@@ -25,6 +25,7 @@ pub record Objects (F R W : Type 0) : Type 0 where
   pub sink : W
   pub steps : ℕ
 
+-- the four objects of a call, as one record
 abbrev pub objects : {F R W : Type 0} → F → R → W → ℕ → Objects F R W
 objects files source sink steps = record {
   files = files;
@@ -33,7 +34,7 @@ objects files source sink steps = record {
   steps = steps;
 }
 
--- what they show
+-- what the four objects show
 abbrev pub outside_of : {F R W : Type 0} → FilesTell F → SourceTells R → SinkTells W → Objects F R W → Outside
 outside_of of_files of_source of_sink o = record {
   files = of_files.told o.files;
@@ -55,8 +56,10 @@ pub record Output : Type 0 where
   pub written : Option (List ℕ)
   pub steps : ℕ
 
+-- what a sink and a counter show, as one record
 abbrev pub output : Option (List ℕ) → ℕ → Output
 output written steps = record { written = written; steps = steps }
 
+-- what the sink and the counter show of an outside
 abbrev pub output_of : Outside → Output
 output_of o = output o.written o.steps

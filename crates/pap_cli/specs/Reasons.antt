@@ -18,14 +18,15 @@ use Rattle.pap_cli.specs.Words.{Form, check, once}
 abbrev pub bytes_of : List (Vec ℕ Global) → List (List ℕ)
 bytes_of given = map (λ bytes. bytes.items) given
 
--- there is an answer of this kind, and it is told whether it is a refusal
+-- there is an answer of this kind, and the truth value says whether it is a refusal
 pub record SaysRefused (IsAnswer : Answer → Type 0) (told : Bool) : Type 0 where
   pub answer : Answer
   pub is : IsAnswer answer
   pub refused : told ≡ answer.refused
 
--- it is told whether the answer on the given bytes, the plan's and then those of its range file, is a refusal; the answers of
--- a script tell themselves what is refused, and where no two files were given there is no answer
+-- the truth value says whether the answer on the given bytes, the plan's and then those of its range file, is a
+-- refusal; the answers of a script say themselves what is refused, and where two files weren't given there isn't an
+-- answer
 abbrev pub SaysRefusedOn : Form → List (List ℕ) → Bool → Type 0
 SaysRefusedOn (check plan limits) (bytes ∷ ranges ∷ more) told = SaysRefused (CheckAnswers bytes ranges) told
 SaysRefusedOn (once plan limits values) (bytes ∷ ranges ∷ more) told = SaysRefused (OnceAnswers values bytes ranges) told
@@ -40,7 +41,8 @@ files_on plan limits bytes ranges = record {
   ranges = record { name = limits; bytes = ranges };
 }
 
--- these files are accepted, and a run on these values has no inputs: one line, that begins with the place of that, and says why
+-- these files are accepted, and a run on these values has no inputs: the words are one line that begins with the place
+-- of that and says why
 pub record TellsState (values : List NamedValue) (files : PlanFiles) (words : List ℕ) : Type 0 where
   pub meaning : Meaning
   pub accepted : IsAccepted files.plan.bytes files.ranges.bytes meaning
@@ -50,8 +52,8 @@ pub record TellsState (values : List NamedValue) (files : PlanFiles) (words : Li
   pub line : IsOneLine words
   pub begins : SaysState files state words
 
--- the words are one line, that begins with the place of what is refused in the given bytes, the plan's and then those of its
--- range file
+-- the words are one line that begins with the place of what is refused in the given bytes, the plan's and then those of
+-- its range file
 abbrev pub TellsReason : Form → List (List ℕ) → List ℕ → Type 0
 TellsReason (check plan limits) (bytes ∷ ranges ∷ more) words = TellsPlan (files_on plan limits bytes ranges) words
 TellsReason (once plan limits values) (bytes ∷ ranges ∷ more) words =

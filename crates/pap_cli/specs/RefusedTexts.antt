@@ -17,5 +17,6 @@ more_line told =
     let first = length told.first.items in
     if nat_lt first told.count then codes "and " ++ (number (told.count - first) ++ (codes " more" ++ (10 ∷ []))) else []
 
+-- the lines of standard error: one for each refused line that is told, and one for how many more there are
 abbrev pub refused_text : RefusedLines → List ℕ
 refused_text told = flat_map refused_line told.first.items ++ more_line told

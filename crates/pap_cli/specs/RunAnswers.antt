@@ -1,4 +1,4 @@
--- What is written of a run on the bytes of a plan and of a range file (docs/DEFINITIONS.md).
+-- What is written of a run on the bytes of a plan and of a range file.
 use Rattle.std.specs.Prelude.{◌≡◌, ℕ, List, [], ◌++◌, codes, false, Result, Ok, Err, Some}
 use Rattle.scaled_decimal.specs.Decimals.{Decimal}
 use Rattle.pap_tree.specs.Flowchart.{Flowchart}

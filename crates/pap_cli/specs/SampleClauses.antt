@@ -1,4 +1,4 @@
--- What `sample N` leaves, by its status (docs/DEFINITIONS.md).
+-- What `sample N` leaves, by its status.
 use Rattle.std.specs.Prelude.{◌≡◌, ◌≢◌, ℕ, ◌+◌, ◌-◌, ◌≤◌, List, [], ◌++◌, Some}
 use Rattle.std.specs.Option.{ForSome}
 use Rattle.outside.specs.Causes.{Still}
@@ -47,7 +47,8 @@ pub record IsSampledWhole (employees : ℕ) (written : List ℕ) (before after :
   pub cost : after.steps ≡ before.steps + answer.steps
   pub ended : status ≡ done_status answer.refused
 
--- the headline: where the sink tells what it holds, while memory is there and no call of it fails
+-- where the sink tells what it holds, while memory is there and no call of it fails, the answer of `sample` was
+-- written whole
 abbrev pub HeadlineOnSample : ℕ → Outside → Outside → Status → Type 0
 HeadlineOnSample employees before after status =
     ForSome before.written (λ written.

@@ -15,15 +15,17 @@ pub record Written : Type 0 where
   pub text : List ℕ
   pub refused : Bool
 
+-- what `save` writes where a line is refused or the book can't be saved
 abbrev pub refused_with : List ℕ → Written
 refused_with text = record { text = text; refused = true }
 
--- the text of the book, or that it is too long; want of memory is nothing that a book answers
+-- `save` writes the text of the book, or that it is too long; a book never answers that memory ran out
 abbrev pub IsVerdict : Result (List ℕ) SaveRefusal → Written → Type 0
 IsVerdict (Ok text) written = written ≡ record { text = text; refused = false }
 IsVerdict (Err unsaved.Long) written = written ≡ refused_with (refusal_line (codes "book Long"))
 IsVerdict (Err (unsaved.Memory e)) written = ⊥
 
+-- `save` writes the saved text of a book, or why the book isn't saved
 pub record IsBookWritten (book : Contents) (written : Written) : Type 0 where
   pub verdict : Result (List ℕ) SaveRefusal
   pub says : SaveSays book verdict
@@ -35,6 +37,7 @@ IsSave true filed refusals book written = written ≡ refused_with refusals
 IsSave false true refusals book written = written ≡ refused_with (refusal_line (codes "book Filed"))
 IsSave false false refusals book written = IsBookWritten book written
 
+-- a month was filed
 abbrev pub was_filed : Standing → Bool
 was_filed standing = is_some standing.filings.last
 

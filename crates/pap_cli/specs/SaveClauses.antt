@@ -1,4 +1,4 @@
--- What `save` leaves and tells, by its status (docs/DEFINITIONS.md).
+-- What `save` leaves and tells, by its status.
 use Rattle.std.specs.Prelude.{◌≡◌, ◌≢◌, ◌⊎◌, ℕ, ◌+◌, ◌-◌, ◌≤◌, List, [], ◌++◌, length, Some, None, Ok, Err}
 use Rattle.std.specs.Option.{ForSome}
 use Rattle.outside.specs.Causes.{Still}
@@ -21,7 +21,7 @@ use Rattle.pap_cli.specs.SaveAnswers.{SaveAnswers}
 abbrev pub unwritten : Outside → OutsideShown
 unwritten o = shown o.files o.failed None o.steps
 
--- the script was answered to its end: the answer was written whole, or a front of it where the sink failed
+-- the script was answered to its end: the answer was written whole, or a prefix of it where the sink failed
 pub record IsSaveEnd (before after : Outside) (out : List ℕ) (status : Status) : Type 0 where
   pub ended : IsDone status ⊎ (status ≡ statuses.WriteFault)
   pub whole : IsDone status → ForSome before.left (λ script. ForSome before.files (λ files.
@@ -35,6 +35,7 @@ pub record IsSaveStop (out : List ℕ) (status : Status) (stop : Stop) : Type 0 
   pub ended : status ≡ status_of (Err stop)
   pub not_at_sink : stop ≢ stops.Write
 
+-- what `save` leaves, by how the run of its script ended
 abbrev pub SaveEnds : Outside → Outside → List ℕ → Status → RunResult → Type 0
 SaveEnds before after out status (Ok told) = IsSaveEnd before after out status
 SaveEnds before after out status (Err stopped) = IsSaveStop out status stopped.stop
@@ -63,8 +64,8 @@ pub record IsSavedWhole
   pub cost : after.steps ≡ before.steps + answer.steps
   pub ended : status ≡ done_status answer.refused
 
--- the headline: where the files, the source and the sink tell what they hold, while memory is there, no call of them fails and
--- the script has at most 67,108,864 bytes
+-- where the files, the source and the sink tell what they hold, while memory is there, no call of them fails and the
+-- script has at most 67,108,864 bytes, the answer of `save` was written whole
 abbrev pub HeadlineOnSave : Outside → Outside → Status → Type 0
 HeadlineOnSave before after status =
     ForSome before.files (λ files. ForSome before.left (λ script. ForSome before.written (λ written.

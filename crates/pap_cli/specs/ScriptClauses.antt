@@ -1,4 +1,4 @@
--- What `run` leaves and tells, by its status (docs/DEFINITIONS.md).
+-- What `run` leaves and tells, by its status.
 use Rattle.std.specs.Prelude.{◌≡◌, ◌≢◌, ℕ, ◌+◌, ◌≤◌, List, [], ◌++◌, length, All, Some}
 use Rattle.std.specs.Option.{ForSome}
 use Rattle.outside.specs.Causes.{Still}
@@ -36,8 +36,8 @@ pub record IsTranscribed
   pub cost : after.steps ≡ before.steps + session.steps
   pub ended : status ≡ done_status session.refused
 
--- the headline: where the files, the source and the sink tell what they hold, while memory is there, no call of them fails and
--- the script has at most 67,108,864 bytes
+-- where the files, the source and the sink tell what they hold, while memory is there, no call of them fails and the
+-- script has at most 67,108,864 bytes, its transcript was written whole
 abbrev pub HeadlineOnScript : Outside → Outside → Status → Type 0
 HeadlineOnScript before after status =
     ForSome before.files (λ files. ForSome before.left (λ script. ForSome before.written (λ written.

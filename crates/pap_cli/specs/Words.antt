@@ -6,6 +6,7 @@ use Rattle.payroll_records.specs.declared.values.NamedValue.{NamedValue}
 use Rattle.payroll_records.specs.ValueWords.{AreValueWords}
 use Rattle.script_run.specs.Limits.{most_employees}
 
+-- the words as their bytes
 abbrev pub texts : List (String Global) → List (List ℕ)
 texts words = map (λ word. string_bytes word) words
 
@@ -22,6 +23,7 @@ pub data Form : Type 0 where
   -- save
   save : Form
 
+-- the words are `once`, the names of two files, and value words that give these values
 pub record HasOnceForm (words : List (List ℕ)) (plan limits : List ℕ) (values : List NamedValue) : Type 0 where
   pub rest : List (List ℕ)
   pub words_are : words ≡ codes "once" ∷ plan ∷ limits ∷ rest

@@ -26,6 +26,7 @@ use Rattle.pap_compiler.specs.Depths.{depth_of}
 
 -- ---- how many instructions there are
 
+-- how many instructions an expression has: one for each node, and one more for each jump of a conditional
 abbrev pub term_length : Term → ℕ
 term_length (leaf l) = 1
 term_length (item x e) = term_length e + 1
@@ -33,6 +34,7 @@ term_length (one op e) = term_length e + 1
 term_length (two op e f) = term_length e + term_length f + 1
 term_length (choice c e f) = term_length c + 1 + term_length e + 1 + term_length f
 
+-- how many instructions a list of statements has
 abbrev pub body_length : Body → ℕ
 body_length done = 0
 body_length (eval x e rest) = term_length e + 1 + body_length rest
@@ -41,6 +43,7 @@ body_length (execute m rest) = 1 + body_length rest
 
 -- ---- expressions
 
+-- the instruction of an operation on one operand
 abbrev pub instr_of_one : One → Instr
 instr_of_one (unary Minus) = i.IntNeg
 instr_of_one (unary Not) = i.Not
@@ -144,6 +147,7 @@ factor_code (leaf (whole n)) code = i.Lit (at_factor_scale (decimal n 0)) ∷ []
 factor_code (leaf (point d)) code = if has_few_places d then i.Lit (at_factor_scale d) ∷ [] else code
 factor_code _ code = code
 
+-- the code of an assigned expression; a value that goes to a `double` gets its three places
 abbrev pub assigned_code : NodeKind → Term → List Instr → List Instr
 assigned_code Factor e code = factor_code e code
 assigned_code _ e code = code
@@ -183,6 +187,7 @@ entry at ms x = option_map_or (slice_index (entries_from at ms)) (number_of (met
 abbrev pub first_method : Flowchart → ℕ
 first_method f = body_length f.main + 1
 
+-- the code of a plan: MAIN's, the end, and then each method's
 abbrev pub code_of : Flowchart → List Instr
 code_of f =
     body_code (scope_of f) (entry (first_method f) f.methods) 0 f.main
@@ -193,6 +198,7 @@ abbrev pub numbers_from : ℕ → List Declaration → List ℕ
 numbers_from k [] = []
 numbers_from k (d ∷ ds) = k ∷ numbers_from (k + 1) ds
 
+-- the program of a plan
 abbrev pub compiled : Flowchart → Program
 compiled f = record {
   instrs = code_of f;

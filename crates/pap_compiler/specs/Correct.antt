@@ -1,4 +1,4 @@
--- What the code of a plan does.
+-- What the code of a plan does. Source: the meaning of plans (`pap_types`) and the runs of code (`pap_machine`).
 use Rattle.std.specs.Prelude.{◌≡◌, List, length, Some}
 use Rattle.scaled_decimal.specs.Decimals.{Decimal}
 use Rattle.pap_tree.specs.Flowchart.{Flowchart}

@@ -17,5 +17,6 @@ unfoldable pub method_depth : List Routine → ℕ → List ℕ → ℕ
 method_depth ms zero m = 0
 method_depth ms (suc n) m = option_map_or (body_depth (method_depth ms n)) (body_named ms m) 0
 
+-- the greatest number of calls that are open in a run of the plan
 abbrev pub depth_of : Flowchart → ℕ
 depth_of f = body_depth (method_depth f.methods longest_chain) f.main

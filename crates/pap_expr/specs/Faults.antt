@@ -6,7 +6,7 @@ use Rattle.pap_tree.specs.Expressions.{IsWrong}
 use Rattle.pap_expr.specs.declared.fault.ExprFault.{ExprFault}
 use Rattle.pap_expr.specs.declared.fault.ExprFault.TheVariants as faults
 
--- the bytes are wrong for this cause at this byte; want of memory says nothing of them
+-- the bytes are wrong for this cause at this byte; or memory ran out, which says nothing of the bytes
 abbrev pub IsFaultOf : Line → List ℕ → ExprFault → Type 0
 IsFaultOf l bytes (faults.Syntax n) = IsWrong l bytes syntax n
 IsFaultOf l bytes (faults.Unsupported n) = IsWrong l bytes unsupported n

@@ -71,7 +71,8 @@ IsLimitsFault bytes (ranges.Bound label) = FileSays bytes (Err (bad_bound label)
 IsLimitsFault bytes ranges.LimitsLong = FileSays bytes (Err too_long)
 IsLimitsFault bytes (ranges.Memory e) = ⊥
 
--- why two texts are refused; want of memory is nothing that texts say
+-- why two texts are refused: the first stage that they don't pass, and for which cause; texts never say that memory ran
+-- out
 abbrev pub IsRefused : List ℕ → List ℕ → PlanRefusal → Type 0
 IsRefused plan limits (refusals.Read fault) = IsPlanFault plan (texts.Read fault)
 IsRefused plan limits (refusals.Expr spot fault) = IsPlanFault plan (texts.Expr spot fault)
@@ -93,7 +94,7 @@ abbrev pub Answers : List ℕ → List ℕ → Result Meaning PlanRefusal → Ty
 Answers plan limits (Ok m) = IsAccepted plan limits m
 Answers plan limits (Err r) = IsRefused plan limits r
 
--- the same of a refusal that is answered: want of memory comes whatever the texts are
+-- why a call refuses two texts: they are refused so, or memory ran out, which may be at any texts
 abbrev pub IsRefusedOrMemory : List ℕ → List ℕ → PlanRefusal → Type 0
 IsRefusedOrMemory plan limits refusals.Memory = ⊤
 IsRefusedOrMemory plan limits r = IsRefused plan limits r

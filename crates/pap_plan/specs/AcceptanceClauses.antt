@@ -13,7 +13,7 @@ pub record IsAcceptedAs (plan limits : List ℕ) (p : Seen) : Type 0 where
   pub limits_bytes : p.limits ≡ limits
   pub accepted : IsAccepted plan limits (meaning p)
 
--- the text is no plan's; want of memory comes whatever it is
+-- the text isn't a plan's, or memory ran out, which may be at any text
 abbrev pub IsUnread : List ℕ → PlanRefusal → Type 0
 IsUnread plan (refusals.Read fault) = IsPlanFault plan (texts.Read fault)
 IsUnread plan (refusals.Expr spot fault) = IsPlanFault plan (texts.Expr spot fault)

@@ -21,7 +21,7 @@ use Rattle.pap_plan.specs.Acceptance.{Meaning, IsOrderedPlan, HasBindings, IsAcc
 abbrev pub HaveAnAnswer : Type 0
 HaveAnAnswer = (plan limits : List ℕ) → (a : Result Meaning PlanRefusal) × Answers plan limits a
 
--- and no other
+-- no two texts have two answers
 abbrev pub HaveOneAnswer : Type 0
 HaveOneAnswer =
     (plan limits : List ℕ) (a b : Result Meaning PlanRefusal) → Answers plan limits a → Answers plan limits b → a ≡ b

@@ -16,12 +16,15 @@ use Rattle.interval_walk.specs.Admission.{SuitsLimit}
 
 -- ---- names
 
+-- some limit has this name
 abbrev pub has_limit : Limits → List ℕ → Bool
 has_limit l x = is_some (limit_named l x)
 
+-- some input has this name
 abbrev pub is_input : Flowchart → List ℕ → Bool
 is_input f x = has_name (names_of f.inputs) x
 
+-- some output has this name
 abbrev pub is_output : Flowchart → List ℕ → Bool
 is_output f x = has_name (names_of f.outputs) x
 
@@ -29,7 +32,7 @@ is_output f x = has_name (names_of f.outputs) x
 abbrev pub input_without_limit : Flowchart → Limits → Option (List ℕ)
 input_without_limit f l = option_map (λ d. d.name) (find (λ d. not (has_limit l d.name)) f.inputs)
 
--- the first limit of a name that is no input
+-- the first limit whose name isn't an input's
 abbrev pub limit_without_input : Flowchart → Limits → Option (List ℕ)
 limit_without_input f l = option_map (λ i. i.name) (find (λ i. not (is_input f i.name)) l.inputs)
 
@@ -63,6 +66,7 @@ carries_output f (Sum output) = is_output f output
 carries_output f (Last output) = is_output f output
 carries_output f Count = true
 
+-- the binding is of an input and carries an output over
 abbrev pub is_bound : Flowchart → Limits → Binding → Bool
 is_bound f l b = has_limit l b.input && carries_output f b.carry
 

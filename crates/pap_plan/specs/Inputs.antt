@@ -22,5 +22,6 @@ pub record IsSlot (l : Limits) (d : Declaration) (s : Slot) : Type 0 where
   pub value : s.value ≡ option_map literal_decimal d.value
   pub carry : s.carry ≡ carry_named l d.name
 
+-- these are the inputs of a plan in declared order, each with its limit
 abbrev pub AreSlots : Limits → List Declaration → List Slot → Type 0
 AreSlots l declarations slots = AllZip (IsSlot l) declarations slots

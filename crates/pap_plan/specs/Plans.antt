@@ -19,13 +19,16 @@ pub record Seen : Type 0 where
   pub outputs : List OutputRange
   pub code : Program
 
+-- what contracts see of a plan, of these parts
 abbrev pub seen : List ℕ → List ℕ → PlanText → Limits → List OutputRange → Program → Seen
 seen plan limits text ranges outputs code =
     record { plan = plan; limits = limits; text = text; ranges = ranges; outputs = outputs; code = code }
 
+-- the flowchart of an accepted plan
 abbrev pub flowchart : Seen → Flowchart
 flowchart p = flowchart_of p.text
 
+-- what an accepted plan means
 abbrev pub meaning : Seen → Meaning
 meaning p = record { flowchart = flowchart p; limits = p.ranges; outputs = map named_range p.outputs }
 

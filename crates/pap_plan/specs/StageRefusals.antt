@@ -21,23 +21,28 @@ use Rattle.interval_analysis.specs.declared.fault.RangeFault.TheVariants as rang
 use Rattle.pap_plan.specs.declared.refusal.PlanRefusal.{PlanRefusal}
 use Rattle.pap_plan.specs.declared.refusal.PlanRefusal.TheVariants as refusals
 
+-- a fault of the plan's text, as a refusal
 abbrev pub text_refusal : PlanFault → PlanRefusal
 text_refusal (texts.Read f) = refusals.Read f
 text_refusal (texts.Expr spot f) = refusals.Expr spot f
 text_refusal texts.Memory = refusals.Memory
 
+-- a fault of names and kinds, as a refusal
 abbrev pub type_refusal : TypeFault → PlanRefusal
 type_refusal (types.Memory e) = refusals.Memory
 type_refusal f = refusals.Types f
 
+-- a fault of the methods' order, as a refusal
 abbrev pub order_refusal : OrderFault → PlanRefusal
 order_refusal (orders.Memory e) = refusals.Memory
 order_refusal f = refusals.Order f
 
+-- a fault of the range file, as a refusal
 abbrev pub limits_refusal : LimitsFault → PlanRefusal
 limits_refusal (limits.Memory e) = refusals.Memory
 limits_refusal f = refusals.Limits f
 
+-- a fault of the walk over ranges, as a refusal
 abbrev pub range_refusal : RangeFault → PlanRefusal
 range_refusal (ranges.Memory e) = refusals.Memory
 range_refusal f = refusals.Range f

@@ -1,4 +1,6 @@
--- Which texts are plans' element texts, with which tree, and what is wrong with the others.
+-- Which texts are plans' element texts, with which tree, and what is wrong with the others. Source: docs/PROFILE.md,
+-- "Element texts": the part of XML in which the published flowcharts (Programmablaufplan Lohnsteuer as pseudocode) are
+-- written.
 use Rattle.std.specs.Prelude.{◌≡◌, ℕ, ◌<◌, ◌≤◌, ◌-◌, ◌⊎◌, true, List, [], length}
 use Rattle.std.specs.List.{list_all}
 use Rattle.pap_reader.specs.declared.fault.Which.TheVariants as which

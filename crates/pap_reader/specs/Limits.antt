@@ -37,11 +37,12 @@ abbrev pub counts : Which → Shape → Bool
 counts w (opens e) = is_counted w e
 counts w _ = false
 
--- whether the shape begins an IF, and whether it ends one
+-- the tag begins an IF
 abbrev pub begins_if : Shape → Bool
 begins_if (opens If) = true
 begins_if _ = false
 
+-- the tag ends an IF
 abbrev pub ends_if : Shape → Bool
 ends_if (closes If) = true
 ends_if _ = false

@@ -73,6 +73,6 @@ shape (begins e attributes) = opens e
 shape (ends e) = closes e
 shape alien = foreign
 
--- the same, attributes aside
+-- what tags begin and end, in their order, their attributes aside
 abbrev pub shapes : List PlacedTag → List Shape
 shapes ts = map shape (marks ts)

@@ -62,15 +62,17 @@ both p q = record {
   no = later p.no q.no;
 }
 
--- what stands where there is none: an empty text, no statements, the type `int`
+-- the text, or an empty one where none is written
 abbrev pub or_empty : Option (List ℕ) → List ℕ
 or_empty None = []
 or_empty (Some v) = v
 
+-- the statements, or an empty list of them
 abbrev pub or_done : Option RawBody → RawBody
 or_done None = done
 or_done (Some b) = b
 
+-- the type, or `int` where none is written
 abbrev pub or_int : Option Kind → Kind
 or_int None = kinds.Int
 or_int (Some k) = k

@@ -30,6 +30,6 @@ pub record IsDocument (ss : List Shape) : Type 0 where
   pub root : fits None kinds ≡ true
   pub once : count_by opens_internals ss ≤ 1
 
--- A front of a whole text: some shapes after it make one.
+-- A prefix of a whole text: some shapes after it make one.
 abbrev pub BeginsDocument : List Shape → Type 0
 BeginsDocument ss = (more : List Shape) × IsDocument (ss ++ more)

@@ -70,12 +70,14 @@ NoTag bytes = (t : Tag) (rest : List ℕ) → IsTag bytes t rest → ⊥
 
 -- ---- as the code has them
 
--- the attribute, and the tag, that those of the program stand for
+-- the attribute that a written one stands for
 abbrev pub attribute_of : WrittenAttribute → Attribute
 attribute_of a = record { name = a.name.now; written = a.written; value = a.value.items }
 
+-- the attributes that written ones stand for
 abbrev pub attributes_of : List WrittenAttribute → List Attribute
 attributes_of attributes = map attribute_of attributes
 
+-- the tag that a written one stands for
 abbrev pub tag_of : WrittenTag → Tag
 tag_of t = record { form = t.form; name = t.name.now; attributes = attributes_of t.attributes.items }

@@ -17,11 +17,12 @@ raw_nesting (eval x rest) = raw_nesting rest
 raw_nesting (branch x a b rest) = max (1 + max (raw_nesting a) (raw_nesting b)) (raw_nesting rest)
 raw_nesting (execute x rest) = raw_nesting rest
 
--- the same of the bodies of methods: all statements, and the greatest nesting
+-- how many statements the methods have as they are written
 abbrev pub methods_written : List RawRoutine → ℕ
 methods_written [] = 0
 methods_written (m ∷ ms) = raw_written m.body + methods_written ms
 
+-- how deep the IFs of the methods are nested at most
 abbrev pub methods_nesting : List RawRoutine → ℕ
 methods_nesting [] = 0
 methods_nesting (m ∷ ms) = max (raw_nesting m.body) (methods_nesting ms)

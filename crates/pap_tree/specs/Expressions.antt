@@ -12,14 +12,15 @@ pub record IsText (l : Line) (bytes : List ℕ) (x : Meaning) : Type 0 where
   pub tokens : Tokens 0 bytes spots
   pub text : Text l (plain spots) x
 
--- the three relations between bytes and a tree
+-- the bytes are a test that stands for this expression
 abbrev pub IsTest : List ℕ → Term → Type 0
 IsTest bytes x = IsText (Level 0) bytes (tree x)
 
+-- the bytes are an assignment of this expression to this name
 abbrev pub IsAssignment : List ℕ → List ℕ → Term → Type 0
 IsAssignment bytes name x = IsText Assignment bytes (assignment name x)
 
--- the same, and no token stops the reading
+-- the bytes are a text of the line that stands for this, and no token stops the reading
 pub record IsAccepted (l : Line) (bytes : List ℕ) (x : Meaning) : Type 0 where
   pub spots : List Spot
   pub tokens : Tokens 0 bytes spots

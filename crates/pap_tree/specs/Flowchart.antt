@@ -1,4 +1,5 @@
--- A plan as it is written, without pointers.
+-- A plan as it is written, without pointers. Source: the elements of the published flowcharts
+-- (Programmablaufplan Lohnsteuer as pseudocode).
 use Rattle.std.specs.Prelude.{ℕ, List, [], ◌∷◌, map}
 use Rattle.pap_tree.specs.declared.plan.Stmt.{Stmt, Eval, If', Execute, Row_of-Stmt, end_of-Stmt, more_of-Stmt}
 use Rattle.pap_tree.specs.declared.plan.Method.{Method}

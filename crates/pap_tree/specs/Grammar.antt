@@ -1,4 +1,5 @@
--- The grammar as one table: each way through a line, with what it means.
+-- The grammar as one table: each way through a line, with what it means. Source: docs/PROFILE.md, "Expressions":
+-- the part of Java's expressions that the published flowcharts (Programmablaufplan Lohnsteuer) use.
 use Rattle.std.specs.Prelude.{◌≡◌, ℕ, suc, ◌≤◌, ◌<◌, List, [], ◌∷◌, ℤ, pos, neg_ℤ, codes, IsTrue}
 use Rattle.scaled_decimal.specs.Decimals.{Decimal, decimal, negated}
 use Rattle.scaled_decimal.specs.Limits.{most_places}
@@ -70,40 +71,47 @@ pub data Item : Type 0 where
   -- a text of a line that stands for this
   Part : Guard → Line → Meaning → Item
 
--- items that ways often have: an expression of a level, a word, a sign, a sign that opens a level, a rounding mode,
--- a literal of a form, and a decimal
+-- the item that is an expression of a level
 abbrev pub at : ℕ → Term → Item
 at n x = Part free (Level n) (tree x)
 
+-- the item that is this word
 abbrev pub word : List ℕ → Item
 word w = Is (Word w)
 
+-- the item that is this sign
 abbrev pub sign : Sign → Item
 sign s = Is (Mark s)
 
+-- the item that is this sign and opens a level
 abbrev pub opens : Sign → Item
 opens s = Opens (Mark s)
 
+-- the item that is a rounding mode of either class
 abbrev pub rounding : Mode → Item
 rounding m = Part free Rounding (mode m)
 
+-- the item that is a literal with or without a sign
 abbrev pub signed : Form → Leaf → Item
 signed f l = Part free (Signed f) (literal l)
 
+-- the item that is a declared decimal
 abbrev pub a_big : Decimal → Item
 a_big d = Part free Big (declared (big d))
 
--- of a literal its form, what it is in an expression, and what it is there with a - before it
+-- the form of a literal
 abbrev pub form_of : Number → Form
 form_of (tokens.int n) = an_int
 form_of (tokens.long n) = a_long
 form_of (tokens.point d) = a_point
 
+-- the literal of a number
 abbrev pub leaf_of : Number → Leaf
 leaf_of (tokens.int n) = whole (pos n)
 leaf_of (tokens.long n) = long (pos n)
 leaf_of (tokens.point d) = point d
 
+-- the literal of a number behind a minus sign
 abbrev pub negative_of : Number → Leaf
 negative_of (tokens.int n) = whole (neg_ℤ (pos n))
 negative_of (tokens.long n) = long (neg_ℤ (pos n))

@@ -19,6 +19,7 @@ OneKeepsScale (value_of_scaled s) = s ≤ most_places
 OneKeepsScale (set_scale s mode) = s ≤ most_places
 OneKeepsScale _ = ⊤
 
+-- the scale of a rounded division is at most 30
 abbrev pub TwoKeepsScale : Two → Type 0
 TwoKeepsScale (divide s mode) = s ≤ most_places
 TwoKeepsScale _ = ⊤

@@ -1,4 +1,4 @@
--- The token that stops the reading of a line, and why.
+-- The token that stops the reading of a line, and why. Source: docs/PROFILE.md, "Expressions".
 use Rattle.std.specs.Prelude.{◌≡◌, ℕ, ◌≤◌, ◌<◌, ◌⊎◌, Bool, true, false, IsTrue, Option, Some, List, [], ◌∷◌, ◌++◌, length, codes, ⊤}
 use Rattle.scaled_decimal.specs.Decimals.{Decimal}
 use Rattle.scaled_decimal.specs.Limits.{most_places}

@@ -1,4 +1,6 @@
 -- The tokens of a text: from the left, each as long as can be, with white space before, between and after them.
+-- Source: docs/PROFILE.md, "Tokens of expressions"; for literals of int and long The Java Language
+-- Specification, 3.10.1.
 use Rattle.std.specs.Prelude.{◌≡◌, ℕ, ◌+◌, ◌≤◌, ◌<◌, Bool, true, false, ◌&&◌, nat_lt, List, [], ◌∷◌, ◌++◌, length, map, codes, pos}
 use Rattle.std.specs.List.{list_all}
 use Rattle.std.specs.Str.Parse.{AllDigits, digits_value}
@@ -10,7 +12,7 @@ use Rattle.pap_tree.specs.White.{is_white}
 use Rattle.pap_tree.specs.declared.expression.Binary.{Binary}
 use Rattle.pap_tree.specs.Words.{operator_text}
 
--- the signs that are no operators between two operands
+-- the signs that aren't operators between two operands
 pub data Sign : Type 0 where
   Equals : Sign
   Bang : Sign
@@ -62,10 +64,11 @@ pub data Token : Type 0 where
   -- a byte at which no token begins
   Alien : Token
 
--- the greatest `int`, and the greatest `long`
+-- the greatest `int` of Java
 abbrev pub greatest_int : ℕ
 greatest_int = 2147483647
 
+-- the greatest `long` of Java
 abbrev pub greatest_long : ℕ
 greatest_long = 9223372036854775807
 
@@ -124,7 +127,7 @@ abbrev pub TakesMost : List ℕ → List ℕ → Type 0
 TakesMost text rest =
     (more left : List ℕ) (t : Token) → rest ≡ more ++ left → IsToken (text ++ more) t → more ≡ []
 
--- no front of the bytes spells a token
+-- no prefix of the bytes spells a token
 abbrev pub SpellsNoToken : List ℕ → Type 0
 SpellsNoToken bytes = (front left : List ℕ) (t : Token) → bytes ≡ front ++ left → IsToken front t → ⊥
 

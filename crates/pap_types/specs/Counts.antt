@@ -30,11 +30,12 @@ nesting (eval x e rest) = nesting rest
 nesting (branch t a b rest) = max (1 + max (nesting a) (nesting b)) (nesting rest)
 nesting (execute m rest) = nesting rest
 
--- the same of the bodies of methods: all statements, and the greatest nesting
+-- how many statements the methods have as they are written
 abbrev pub methods_written : List Routine → ℕ
 methods_written [] = 0
 methods_written (m ∷ ms) = written m.body + methods_written ms
 
+-- how deep the IFs of the methods are nested at most
 abbrev pub methods_nesting : List Routine → ℕ
 methods_nesting [] = 0
 methods_nesting (m ∷ ms) = max (nesting m.body) (methods_nesting ms)

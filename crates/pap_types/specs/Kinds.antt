@@ -1,4 +1,5 @@
--- The kinds of an expression's nodes, and which operands each operation takes (docs/PROFILE.md, "Kinds").
+-- The kinds of an expression's nodes, and which operands each operation takes (docs/PROFILE.md, "Kinds"). Source:
+-- docs/PROFILE.md, "Kinds".
 use Rattle.std.specs.Prelude.{ℕ, ◌^◌, ◌%◌, ◌==◌, Bool, true, false, ◌&&◌, ◌||◌, nat_lt, List, Option, Some, None, ℤ, pos, negsuc}
 use Rattle.std.specs.Option.{option_and_then, option_map_or}
 use Rattle.scaled_decimal.specs.Decimals.{Decimal, decimal, numerator_of, scale_of}
@@ -17,32 +18,38 @@ use Rattle.pap_types.specs.declared.kinds.NodeKind.{NodeKind}
 use Rattle.pap_types.specs.declared.kinds.NodeKind.TheVariants.{Int, Long, Big, Truth, Fraction, Factor, Table}
 use Rattle.pap_types.specs.Scopes.{Scope, declared_as, declaration_in, factor_places}
 
--- the kinds of whole numbers, and each other kind by itself
+-- the kind is that of a whole number: `int` or `long`
 abbrev pub is_whole : NodeKind → Bool
 is_whole Int = true
 is_whole Long = true
 is_whole _ = false
 
+-- the kind is that of an `int`
 abbrev pub is_int : NodeKind → Bool
 is_int Int = true
 is_int _ = false
 
+-- the kind is that of a `BigDecimal`
 abbrev pub is_big : NodeKind → Bool
 is_big Big = true
 is_big _ = false
 
+-- the kind is that of a truth
 abbrev pub is_truth : NodeKind → Bool
 is_truth Truth = true
 is_truth _ = false
 
+-- the kind is that of a table
 abbrev pub is_table : NodeKind → Bool
 is_table Table = true
 is_table _ = false
 
+-- the kind is that of a `double`
 abbrev pub is_factor : NodeKind → Bool
 is_factor Factor = true
 is_factor _ = false
 
+-- the kind is that of a literal with a point
 abbrev pub is_fraction : NodeKind → Bool
 is_fraction Fraction = true
 is_fraction _ = false
@@ -118,7 +125,7 @@ abbrev pub is_plain_number : ℤ → Bool
 is_plain_number (pos n) = nat_lt 0 n && ((10 ^ most_places) % n == 0)
 is_plain_number (negsuc n) = false
 
--- the same of a decimal, which has no places
+-- a decimal without places is a plain divisor
 abbrev pub is_plain_divisor : Decimal → Bool
 is_plain_divisor d = (scale_of d == 0) && is_plain_number (numerator_of d)
 

@@ -1,4 +1,5 @@
--- The meaning of a plan: its outputs on a list of inputs, what the run costs, and when it is safe.
+-- The meaning of a plan: its outputs on a list of inputs, what the run costs, and when it is safe. Source:
+-- docs/PROFILE.md, "What an expression gives" and "Answers".
 use Rattle.std.specs.Prelude.{◌≡◌, ℕ, ◌+◌, List, [], ◌∷◌, ◌++◌, map, length, drop, take, Option, Some, ⊤}
 use Rattle.std.specs.Option.{option_map}
 use Rattle.scaled_decimal.specs.Decimals.{Decimal, scale_of}

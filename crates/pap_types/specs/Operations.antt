@@ -1,5 +1,6 @@
--- What each operation of the flowchart's expressions gives, over unbounded numbers: Java's arithmetic on whole numbers (The
--- Java Language Specification, 15.15 to 15.24) and that of java.math.BigDecimal. A truth is 1 or 0, a whole number has scale 0.
+-- What each operation of the flowchart's expressions gives, over unbounded numbers: Java's arithmetic on whole numbers
+-- (The Java Language Specification, 15.15 to 15.24) and that of java.math.BigDecimal. A truth is 1 or 0, a whole number
+-- has scale 0. Source: these, by the definitions of `scaled_decimal`.
 use Rattle.std.specs.Prelude.{ℕ, Bool, false, not, ◌||◌, if◌then◌else◌, Option, Some, None, pos}
 use Rattle.std.specs.Ordering.{int_eq, is_lt, is_gt}
 use Rattle.std.specs.declared.cmp.Ordering.{Ordering}

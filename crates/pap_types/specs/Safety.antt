@@ -30,7 +30,7 @@ OneFits (value_of_scaled s) k a = s ≤ most_places
 OneFits (set_scale s mode) k a = RescaleFits mode a s
 OneFits _ k a = ⊤
 
--- the same of an operator
+-- the numbers that an operator works with are within their limits
 abbrev pub OperatorFits : Binary → NodeKind → Decimal → Decimal → Type 0
 OperatorFits binaries.Mul k a b = IsOfBits (bits_of k) (whole_product (numerator_of a) (numerator_of b))
 OperatorFits binaries.Div k a b = IsOfBits (bits_of k) (whole_quotient (numerator_of a) (numerator_of b))
@@ -41,7 +41,7 @@ OperatorFits binaries.And k a b = ⊤
 OperatorFits binaries.Or k a b = ⊤
 OperatorFits _ k a b = ComparisonFits a b
 
--- the same of a method of one argument
+-- the numbers that a method of one argument works with are within their limits
 abbrev pub MethodFits : Call → Decimal → Decimal → Type 0
 MethodFits calls.Add a b = SumFits a b
 MethodFits calls.Subtract a b = DifferenceFits a b
@@ -49,7 +49,7 @@ MethodFits calls.Multiply a b = ProductFits a b
 MethodFits calls.DivideExact a b = ExactQuotientFits a (numerator_of b)
 MethodFits _ a b = ComparisonFits a b
 
--- the same of any operation of two operands
+-- the numbers that an operation on two operands works with are within their limits
 abbrev pub TwoFits : Two → NodeKind → Decimal → Decimal → Type 0
 TwoFits (operator o) k a b = OperatorFits o k a b
 TwoFits (method m) k a b = MethodFits m a b

@@ -61,6 +61,7 @@ leaf_decimal (text d) = d
 leaf_decimal (known k) = zero
 leaf_decimal (named x) = zero
 
+-- the decimal of a declared literal; 0 for a table
 abbrev pub literal_decimal : DeclaredLiteral → Decimal
 literal_decimal (number l) = leaf_decimal l
 literal_decimal (big d) = d
@@ -77,6 +78,7 @@ abbrev pub declared_decimal : Option DeclaredLiteral → Decimal
 declared_decimal None = zero
 declared_decimal (Some l) = literal_decimal l
 
+-- the items that a declaration writes; none where it declares no table
 abbrev pub declared_table : Option DeclaredLiteral → List Decimal
 declared_table None = []
 declared_table (Some l) = literal_table l
@@ -89,7 +91,7 @@ first_value d = kept_as d.kind (declared_decimal d.value)
 abbrev pub constant_in : Scope → List ℕ → Option Decimal
 constant_in scope x = option_map first_value (declared_as scope.constants x)
 
--- the items of a table; a name that is none has no items
+-- the items of a table; a name that isn't a table has no items
 abbrev pub items_of : Option Declaration → List Decimal
 items_of None = []
 items_of (Some d) = declared_table d.value

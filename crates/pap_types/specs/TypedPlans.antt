@@ -6,6 +6,7 @@ use Rattle.pap_types.specs.Checks.{IsWellTyped}
 use Rattle.pap_types.specs.Counts.{IsWithinCounts}
 use Rattle.pap_types.specs.NumberedNames.{IsNumbered}
 
+-- the plan is well typed and within its limits, and these are the numbers of its names
 pub record IsTyped (plan : PlanText) (names : Names) : Type 0 where
   pub well_typed : IsWellTyped (flowchart_of plan)
   pub counted : IsWithinCounts (flowchart_of plan)

@@ -32,6 +32,7 @@ slot_with l d limit = record {
   carry = carry_named l d.name;
 }
 
+-- an input of a plan with its limit, if it has one
 abbrev pub slot_of : Limits → Declaration → Option Slot
 slot_of l d = option_map (slot_with l d) (limit_named l d.name)
 
@@ -61,6 +62,7 @@ run_cost p inputs = cost_of p.meaning.flowchart inputs
 
 -- ---- a law: a run that has inputs is defined
 
+-- the value is a decimal that 128 bits keep
 abbrev pub IsKeptValue : NamedValue → Type 0
 IsKeptValue v = IsKept v.value
 

@@ -1,4 +1,4 @@
--- The rows of a CSV text.
+-- The rows of a CSV text. Source: RFC 4180, as the kit's `csv` reads it with its default settings.
 use Rattle.std.specs.Prelude.{ℕ, List}
 use Rattle.csv.specs.Reading.{default_config, records, strip_bom}
 

@@ -1,4 +1,5 @@
--- Months and days of the calendar, and their written forms (ISO 8601: YYYY-MM and YYYY-MM-DD).
+-- Months and days of the calendar, and their written forms (ISO 8601: YYYY-MM and YYYY-MM-DD). Source: ISO
+-- 8601; the days of the calendar are those of `jiff` (`IsDate`).
 use Rattle.std.specs.Prelude.{◌≡◌, ℕ, ◌+◌, ◌/◌, ◌%◌, ◌≤◌, List, [], ◌∷◌, ◌++◌, pos}
 use Rattle.jiff.specs.Words.{IsDate}
 
@@ -25,6 +26,7 @@ two_digits n = (48 + n / 10) ∷ (48 + n % 10) ∷ []
 abbrev pub month_text : ℕ → ℕ → List ℕ
 month_text year month = two_digits (year / 100) ++ two_digits (year % 100) ++ 45 ∷ two_digits month
 
+-- a day as it is written: YYYY-MM-DD
 abbrev pub day_text : ℕ → ℕ → ℕ → List ℕ
 day_text year month day = month_text year month ++ 45 ∷ two_digits day
 
@@ -42,5 +44,6 @@ pub record IsDayText (text : List ℕ) (year month day : ℕ) : Type 0 where
 abbrev pub IsMonthSpelled : List ℕ → Type 0
 IsMonthSpelled text = (year : ℕ) × (month : ℕ) × IsMonthText text year month
 
+-- the text is that of some day of the calendar
 abbrev pub IsDaySpelled : List ℕ → Type 0
 IsDaySpelled text = (year : ℕ) × (month : ℕ) × (day : ℕ) × IsDayText text year month day

@@ -12,6 +12,7 @@ use Rattle.payroll_records.specs.declared.values.NamedValue.{NamedValue}
 abbrev pub name_cmp : List ℕ → List ℕ → Ordering
 name_cmp = slice_cmp nat_cmp
 
+-- the name of a value
 abbrev pub name_of : NamedValue → List ℕ
 name_of v = v.name
 

@@ -16,9 +16,11 @@ use Rattle.payroll_records.specs.declared.table.TableFault.{TableFault}
 use Rattle.payroll_records.specs.declared.table.TableFault.TheVariants as fault
 use Rattle.payroll_records.specs.declared.values.NamedValue.{NamedValue}
 
+-- a text as its bytes
 abbrev pub Text : Type 0
 Text = List ℕ
 
+-- the name of a numbered column; empty past the last one
 abbrev pub name_at : List Text → ℕ → Text
 name_at names i = slice_index_or names i []
 
@@ -29,10 +31,11 @@ pub record IsHeader (row names : List Text) : Type 0 where
   pub different : AllPairs (λ m n. m ≢ n) names
   pub few : length names ≤ most_values
 
--- a row's field at a place, and its cell in a column of values
+-- a row's field at a place; empty past the last one
 abbrev pub field_of : List Text → ℕ → Text
 field_of row i = slice_index_or row i []
 
+-- the cell of a row under a numbered value column
 abbrev pub cell_of : List Text → ℕ → Text
 cell_of row i = field_of row (3 + i)
 
@@ -51,20 +54,24 @@ pub record Supplies (names row : List Text) (v : NamedValue) : Type 0 where
   pub named : name_at names column ≡ v.name
   pub spelled : IsNumberText (cell_of row column) v.value
 
--- what stands before the values: the width, an employee, a month, and a day in that month
+-- the row has as many cells as the header
 abbrev pub IsWide : List Text → List Text → Type 0
 IsWide names row = length row ≡ 3 + length names
 
+-- the first cell of a row is an employee's text
 abbrev pub HasEmployee : List Text → Type 0
 HasEmployee row = IsTrue (is_employee (field_of row 0))
 
+-- the second cell of a row is that of a month
 abbrev pub HasMonth : List Text → Type 0
 HasMonth row = IsMonthSpelled (field_of row 1)
 
+-- the third cell of a row is that of this day, and the second that of its month
 abbrev pub HasDayOf : List Text → ℕ → ℕ → ℕ → Type 0
 HasDayOf row year month day =
     IsDayText (field_of row 2) year month day × IsMonthText (field_of row 1) year month
 
+-- the third cell of a row is that of some day in the month of the second
 abbrev pub HasDay : List Text → Type 0
 HasDay row = (year : ℕ) × (month : ℕ) × (day : ℕ) × HasDayOf row year month day
 
@@ -78,6 +85,7 @@ pub record IsRecordOf (names row : List Text) (r : Record) : Type 0 where
   pub in_order : AreValues r.values
   pub values : (v : NamedValue) → Contains r.values v ↔ Supplies names row v
 
+-- the employee and the day of a record
 abbrev pub key_of : Record → Key
 key_of r = record { employee = r.employee; day = r.day }
 
@@ -100,16 +108,20 @@ pub record IsTable (bytes : List ℕ) (records : List Record) : Type 0 where
   pub is_header : IsHeader header names
   pub are_records : AreRecordsOf names rows records
 
--- what is wrong with a row by itself, where no earlier fault is
+-- the row doesn't have as many cells as the header
 abbrev pub WrongWidth : List Text → List Text → Type 0
 WrongWidth names row = IsWide names row → ⊥
 
+-- the row has as many cells as the header, and its employee is wrong
 abbrev pub WrongEmployee : List Text → List Text → Type 0
 WrongEmployee names row = IsWide names row × (HasEmployee row → ⊥)
 
+-- the row has as many cells as the header and a right employee, and its month is wrong
 abbrev pub WrongMonth : List Text → List Text → Type 0
 WrongMonth names row = IsWide names row × HasEmployee row × (HasMonth row → ⊥)
 
+-- the row has as many cells as the header, a right employee and a right month, and its day is wrong or lies
+-- in another month
 abbrev pub WrongDay : List Text → List Text → Type 0
 WrongDay names row = IsWide names row × HasEmployee row × HasMonth row × (HasDay row → ⊥)
 
@@ -146,7 +158,8 @@ pub record IsFirstFault (names : List Text) (rows : List (List Text)) (number : 
   pub are_records : AreRecordsOf names before records
   pub faulty : Fault names records row
 
--- the same of a table's text, its rows counted after the header
+-- the row of this number, counted from 1 after the header, is the first of a table's text with a fault, and
+-- has this one
 pub record BreaksAt (bytes : List ℕ) (number : ℕ)
     (Fault : List Text → List Record → List Text → Type 0) : Type 0 where
   pub short : length bytes ≤ longest_table
@@ -157,12 +170,12 @@ pub record BreaksAt (bytes : List ℕ) (number : ℕ)
   pub is_header : IsHeader header names
   pub first : IsFirstFault names rows number Fault
 
--- there is no first row, or it is no header
+-- there is no first row, or it isn't a header
 abbrev pub IsNoHeader : List (List Text) → Type 0
 IsNoHeader [] = ⊤
 IsNoHeader (row ∷ rows) = (names : List Text) → IsHeader row names → ⊥
 
--- why a table is refused; want of memory is nothing that a text says
+-- why a table is refused; a text never says that memory ran out
 abbrev pub IsTableFault : List ℕ → TableFault → Type 0
 IsTableFault bytes fault.TableLong = longest_table < length bytes
 IsTableFault bytes fault.Header = (length bytes ≤ longest_table) × IsNoHeader (csv_rows bytes)
@@ -174,7 +187,7 @@ IsTableFault bytes (fault.Value row name) = BreaksAt bytes row (ByItself (WrongV
 IsTableFault bytes (fault.Repeat row) = BreaksAt bytes row Repeats
 IsTableFault bytes (fault.Memory error) = ⊥
 
--- the same of a refusal that is answered: want of memory comes whatever the text is
+-- why a call refuses a table: what its text says, or memory ran out, which may be at any text
 abbrev pub IsTableFaultOrMemory : List ℕ → TableFault → Type 0
 IsTableFaultOrMemory bytes (fault.Memory error) = ⊤
 IsTableFaultOrMemory bytes other = IsTableFault bytes other

@@ -1,4 +1,4 @@
--- Words that give values: NAME=VALUE.
+-- Words that give values: NAME=VALUE. Source: docs/PROFILE.md, "Scripts".
 use Rattle.std.specs.Prelude.{◌≡◌, ℕ, List, ◌++◌, codes, IsTrue}
 use Rattle.std.specs.List.{AllZip}
 use Rattle.std.specs.List.Sorted.{IsPermutation}

@@ -4,6 +4,7 @@ use Rattle.payroll_records.specs.declared.when.When.{When}
 use Rattle.payroll_records.specs.declared.when.When.TheVariants as when
 use Rattle.payroll_records.specs.Days.{IsMonthText, IsDayText, month_text, day_text}
 
+-- a month or a day as it is written
 abbrev pub when_text : When → List ℕ
 when_text (when.Month m) = month_text m.year m.month
 when_text (when.Day d) = day_text d.year d.month d.day

@@ -26,10 +26,12 @@ excess_help counted.Statements = codes "take out what isn't used, and put what s
 excess_help counted.Depth = codes "put inner IFs into a METHOD"
 excess_help _ = codes "take out what isn't used"
 
+-- what helps where the file has too many of something
 abbrev pub read_help : ReadFault → Option (List ℕ)
 read_help (reads.Many which) = Some (excess_help which)
 read_help _ = None
 
+-- what helps against the fault of an expression
 abbrev pub expression_help : ExprFault → Option (List ℕ)
 expression_help (expressions.BinaryFraction at) =
     Some (codes "write the number in quotation marks, as in new BigDecimal(\"0.4\"), or BigDecimal.valueOf(0.4)")
@@ -39,6 +41,7 @@ expression_help (expressions.Number at) =
 expression_help (expressions.Deep at) = Some (codes "split it into several statements")
 expression_help _ = None
 
+-- what helps against a fault of names and kinds
 abbrev pub type_help : TypeFault → Option (List ℕ)
 type_help (types.Twice name) = Some (codes "rename one of the two, or take it out")
 type_help (types.Unknown name place) =
@@ -47,17 +50,20 @@ type_help (types.ConstantWritten place) = Some (codes "make it an INTERNAL, or a
 type_help (types.NoMethod place) = Some (codes "correct the name, or add the METHOD")
 type_help _ = None
 
+-- what helps where methods have no order or the plan is too long
 abbrev pub order_help : OrderFault → Option (List ℕ)
 order_help (orders.Cycle method) = Some (codes "a run might have no end; take one EXECUTE out of that circle")
 order_help (orders.Chain method) = Some (codes "put the statements of some into the method that executes them")
 order_help (orders.TooLong count) = Some (codes "execute methods in fewer places")
 order_help (orders.Memory e) = None
 
+-- what helps against the fault of a range file
 abbrev pub limits_help : LimitsFault → Option (List ℕ)
 limits_help limits.Toml = Some (codes "correct what stands there, or before it")
 limits_help limits.LimitsLong = Some (codes "take out what no input needs")
 limits_help _ = None
 
+-- what helps against the cause of a range fault
 abbrev pub cause_help : RangeCause → List ℕ
 cause_help causes.Wide =
     codes "an int has 32 bits, a long 64, and a BigDecimal is at most 10^37 without its point: "
@@ -70,6 +76,7 @@ cause_help causes.Divisor =
     ++ codes "or narrow the ranges in the range file so that it can't be 0")
 cause_help causes.Index = codes "test the index in an IF before it, or narrow the ranges in the range file"
 
+-- what helps where a node may fail, or an output may be too great
 abbrev pub range_help : RangeFault → Option (List ℕ)
 range_help (ranges.At place cause) = Some (cause_help cause)
 range_help (ranges.Output name) = Some (codes "round it by setScale, or narrow the ranges in the range file")

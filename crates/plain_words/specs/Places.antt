@@ -9,6 +9,7 @@ pub record NamedText : Type 0 where
   pub name : List ℕ
   pub bytes : List ℕ
 
+-- a file as its name and its bytes
 abbrev pub named_text : TextFile → NamedText
 named_text file = record { name = file.name.now; bytes = file.bytes.now }
 
@@ -19,19 +20,21 @@ place_text file None = file.name
 
 -- ---- the two files of a plan
 
+-- the flowchart's file and its range file
 pub record PlanFiles : Type 0 where
   pub plan : NamedText
   pub ranges : NamedText
 
+-- two files as the two of a plan
 abbrev pub files_of : TextFile → TextFile → PlanFiles
 files_of plan ranges = record { plan = named_text plan; ranges = named_text ranges }
 
--- a place in one of them: a byte, or the file as a whole
+-- a place in one of the two files of a plan: a byte, or the file as a whole
 pub data PlanPlace : Type 0 where
   in_plan : Option ℕ → PlanPlace
   in_ranges : Option ℕ → PlanPlace
 
--- as the words name it
+-- the place as the words name it
 abbrev pub place_in_words : PlanFiles → PlanPlace → List ℕ
 place_in_words files (in_plan at) = place_text files.plan at
 place_in_words files (in_ranges at) = place_text files.ranges at

@@ -21,7 +21,7 @@ abbrev pub IsInPlan : PlanPlace → Type 0
 IsInPlan (in_plan at) = ⊤
 IsInPlan (in_ranges at) = ⊥
 
--- the same of the range file
+-- the place is one in the range file, whichever
 abbrev pub IsInRanges : PlanPlace → Type 0
 IsInRanges (in_plan at) = ⊥
 IsInRanges (in_ranges at) = ⊤
@@ -75,8 +75,8 @@ pub record BeginsAtRefusal (files : PlanFiles) (refusal : PlanRefusal) (words : 
   pub begins : BeginsAt files place words
   pub helps : IfSome (help_of refusal) (λ help. EndsWith (codes "; " ++ help) words)
 
--- what is said of a refused plan: one line, that begins with the place of the refusal in the file in which it stands, and goes
--- on with a reason
+-- what is said of a refused plan: one line that begins with the place of the refusal in the file in which it stands,
+-- and goes on with a reason
 pub record TellsPlan (files : PlanFiles) (words : List ℕ) : Type 0 where
   pub refusal : PlanRefusal
   pub refused : IsRefused files.plan.bytes files.ranges.bytes refusal

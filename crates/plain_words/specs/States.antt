@@ -6,6 +6,7 @@ use Rattle.carry_bindings.specs.declared.filling.Blocked.TheVariants as blocked
 use Rattle.plain_words.specs.Places.{PlanFiles, PlanPlace, in_plan, words_at}
 use Rattle.plain_words.specs.Refusals.{IsInPlan, IsInRanges}
 
+-- why a run has no inputs, in words
 abbrev pub state_text : Blocked → List ℕ
 state_text (blocked.Waits day) =
     codes "the run waits, since an input carries over from the employee's earlier runs of the year and the run of "

@@ -1,4 +1,4 @@
--- What is written on the bytes of a plan and of a range file, and how it is refused (docs/DEFINITIONS.md).
+-- What is written on the bytes of a plan and of a range file, and how it is refused.
 use Rattle.std.specs.Prelude.{◌≡◌, ℕ, List, ◌++◌, Bool, true, false, Result, Ok, Err}
 use Rattle.pap_types.specs.Meaning.{bound_of}
 use Rattle.pap_plan.specs.declared.refusal.PlanRefusal.{PlanRefusal}
@@ -16,6 +16,7 @@ pub record Answer : Type 0 where
 abbrev pub refusal : List ℕ → Answer
 refusal detail = record { text = refusal_line detail; refused = true; steps = 0 }
 
+-- the answer is the line of this refusal
 pub record IsRefusal (plan : List ℕ) (r : PlanRefusal) (answer : Answer) : Type 0 where
   pub detail : List ℕ
   pub has : HasDetail plan r detail
@@ -31,6 +32,7 @@ acceptance m = record {
   steps = 0;
 }
 
+-- the answer is that of `check` on this verdict: the bound and the ranges, or the refusal's line
 abbrev pub IsChecked : List ℕ → Result Meaning PlanRefusal → Answer → Type 0
 IsChecked plan (Ok m) answer = answer ≡ acceptance m
 IsChecked plan (Err r) answer = IsRefusal plan r answer

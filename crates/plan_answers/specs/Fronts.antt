@@ -6,7 +6,7 @@ use Rattle.pap_reader.specs.declared.fault.Which.TheVariants.{Bytes}
 use Rattle.pap_reader.specs.Limits.{most}
 use Rattle.limits_file.specs.Limits.{longest_limits}
 
--- both files are there, and these are their fronts, of at most one byte more than their limits
+-- both files are there, and these are their first bytes: of each at most one byte more than its limit
 pub record AreFronts (files : FileMap) (plan limits plan_front limits_front : List ℕ) : Type 0 where
   pub plan_bytes : List ℕ
   pub limits_bytes : List ℕ

@@ -9,6 +9,7 @@ use Rattle.interval_walk.specs.Ranges.{NamedRange, Ranges}
 abbrev pub spaced : List ℕ → List ℕ → List ℕ
 spaced text after = text ++ (32 ∷ after)
 
+-- the text as a line
 abbrev pub line : List ℕ → List ℕ
 line text = text ++ (10 ∷ [])
 
@@ -24,6 +25,7 @@ range_line o =
     (spaced (plain_text (decimal o.range.hi o.range.s_hi))
     (spaced (number o.range.s_lo) (number o.range.s_hi)))))
 
+-- a line for each output's range
 abbrev pub range_lines : Ranges → List ℕ
 range_lines [] = []
 range_lines (o ∷ os) = range_line o ++ range_lines os

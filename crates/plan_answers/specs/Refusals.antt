@@ -36,6 +36,7 @@ use Rattle.plan_answers.specs.Lines.{spaced}
 
 -- ---- the elements of a plan
 
+-- the word for what there are too many of
 abbrev pub which_word : Which → List ℕ
 which_word which.Bytes = codes "Bytes"
 which_word which.Inputs = codes "Inputs"
@@ -46,6 +47,7 @@ which_word which.Methods = codes "Methods"
 which_word which.Statements = codes "Statements"
 which_word which.Depth = codes "Depth"
 
+-- what is written of a fault of the elements
 abbrev pub read_detail : ReadFault → List ℕ
 read_detail (reads.Text at) = codes "plan Text " ++ number at
 read_detail (reads.Element at) = codes "plan Element " ++ number at
@@ -59,6 +61,7 @@ read_detail reads.Memory = []
 abbrev pub spot_and_byte : Spot → ℕ → List ℕ
 spot_and_byte spot at = spaced (spot_text spot) (number at)
 
+-- what is written of a fault of an expression: its name, the place of its text and the byte in it
 abbrev pub expr_detail : Spot → ExprFault → List ℕ
 expr_detail spot (exprs.Syntax at) = codes "plan Syntax " ++ spot_and_byte spot at
 expr_detail spot (exprs.Unsupported at) = codes "plan Unsupported " ++ spot_and_byte spot at
@@ -73,6 +76,7 @@ expr_detail spot exprs.Memory = []
 abbrev pub text_of : Place → List ℕ
 text_of p = place_text p.method p.stmt p.node
 
+-- what is written of a fault of names and kinds
 abbrev pub type_detail : TypeFault → List ℕ
 type_detail (types.Twice name) = codes "plan Twice " ++ name
 type_detail (types.Unknown name place) = codes "plan Unknown " ++ spaced name (text_of place)
@@ -82,6 +86,7 @@ type_detail (types.NoMethod place) = codes "plan NoMethod " ++ text_of place
 type_detail (types.Value name) = codes "plan Value " ++ name
 type_detail (types.Memory e) = []
 
+-- what is written of a fault of the methods' order
 abbrev pub order_detail : OrderFault → List ℕ
 order_detail (orders.Cycle method) = codes "plan Cycle " ++ method
 order_detail (orders.Chain method) = codes "plan Chain " ++ method
@@ -90,6 +95,7 @@ order_detail (orders.Memory e) = []
 
 -- ---- the range file
 
+-- what is written of a fault of the range file
 abbrev pub limits_detail : LimitsFault → List ℕ
 limits_detail ranges.Toml = codes "limits Toml"
 limits_detail (ranges.Key label) = codes "limits Key " ++ label
@@ -99,6 +105,7 @@ limits_detail (ranges.Memory e) = []
 
 -- ---- the ranges of values
 
+-- the word for why a node may fail
 abbrev pub cause_word : RangeCause → List ℕ
 cause_word Wide = codes "Wide"
 cause_word Scale = codes "Scale"
@@ -109,12 +116,12 @@ cause_word Index = codes "Index"
 abbrev pub body_in : Flowchart → List ℕ → Option Body
 body_in f method = if bytes_eq method main_name then Some f.main else body_named f.methods method
 
--- the node of a place
+-- the node of a place in a flowchart
 abbrev pub node_at : Flowchart → Place → Option Term
 node_at f p =
     option_and_then (λ body. option_and_then (λ t. node_of t p.node) (term_at body p.stmt)) (body_in f p.method)
 
--- its canonical spelling; a place without a node has none
+-- the canonical spelling of the node of a place; empty where there is no node
 abbrev pub spelling_at : Flowchart → Place → List ℕ
 spelling_at f p = option_map_or spelling (node_at f p) []
 

@@ -1,4 +1,5 @@
--- The plan of a day: plans hold from their day on, within its calendar year.
+-- The plan of a day: plans hold from their day on, within its calendar year. Source: docs/PROFILE.md, "Which
+-- plan holds".
 use Rattle.std.specs.Prelude.{◌≡◌, List, [], ◌∷◌, Option, Some, None, ◌≤◌, length, Bool, true, false, not, ◌&&◌, ◌==◌, if◌then◌else◌}
 use Rattle.std.specs.List.{Contains, AllByRecursion}
 use Rattle.std.specs.Option.{option_or}
@@ -12,9 +13,11 @@ use Rattle.plan_calendar.specs.Limits.{most_plans}
 abbrev pub Entry : Type 0 → Type 0
 Entry P = Day × P
 
+-- the day of an entry
 abbrev pub day_of : {P : Type 0} → Entry P → Day
 day_of e = e.0
 
+-- the plan of an entry
 abbrev pub plan_of : {P : Type 0} → Entry P → P
 plan_of e = e.1
 
@@ -23,13 +26,15 @@ pub record AreEntries {P : Type 0} (es : List (Entry P)) : Type 0 where
   pub rising : IsRising day_cmp day_of es
   pub few : length es ≤ most_plans
 
--- the entry of a day, the entries with one more, and those without a day's
+-- the entry of a day, if there is one
 abbrev pub entry_at : {P : Type 0} → List (Entry P) → Day → Option (Entry P)
 entry_at es d = at_key day_cmp day_of es d
 
+-- the entries with one more, which takes the place of one of its day
 abbrev pub with_entry : {P : Type 0} → Entry P → List (Entry P) → List (Entry P)
 with_entry e es = put day_cmp day_of e es
 
+-- the entries without that of a day
 abbrev pub without_day : {P : Type 0} → Day → List (Entry P) → List (Entry P)
 without_day d es = without day_cmp day_of d es
 
@@ -37,7 +42,7 @@ without_day d es = without day_cmp day_of d es
 abbrev pub serves : Day → Day → Bool
 serves a d = (a.year == d.year) && not (is_gt (day_cmp a d))
 
--- the same, where a is before d
+-- a plan of day a may serve day d, and a is before d
 abbrev pub serves_before : Day → Day → Bool
 serves_before a d = (a.year == d.year) && is_lt (day_cmp a d)
 

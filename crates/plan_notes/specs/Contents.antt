@@ -51,6 +51,7 @@ abbrev pub items_by : Token → List Item
 items_by (remark inside) = map line (filter is_some_text (line_text inside ∷ []))
 items_by (tagged t) = map place (edges_by t.at (marks_of t.tag))
 
+-- what is told of some tokens, in their order
 abbrev pub items_of : List Token → List Item
 items_of ts = flat_map items_by ts
 
@@ -59,6 +60,7 @@ abbrev pub root_at : List Attribute → Mark → List Attribute
 root_at before (begins Pap attributes) = attributes
 root_at before _ = before
 
+-- the attributes of the last PAP up to this token
 abbrev pub root_by : List Attribute → Token → List Attribute
 root_by before (remark inside) = before
 root_by before (tagged t) = fold root_at before (marks_of t.tag)

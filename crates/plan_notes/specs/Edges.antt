@@ -10,6 +10,7 @@ pub record Edge : Type 0 where
   pub is_end : Bool
   pub at : ℕ
 
+-- an element begins or ends at this byte
 abbrev pub edge : Element → Bool → ℕ → Edge
 edge element is_end at = record { element = element; is_end = is_end; at = at }
 

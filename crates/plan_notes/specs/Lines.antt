@@ -9,6 +9,7 @@ use Rattle.std.specs.Str.Lossy.{utf8_lossy}
 abbrev pub is_blank : ℕ → Bool
 is_blank c = nat_le c 0x20 || is_in_range 0x7F 0xA0 c || c == 0x2028 || c == 0x2029
 
+-- the text isn't empty
 abbrev pub is_some_text : List ℕ → Bool
 is_some_text [] = false
 is_some_text (c ∷ cs) = true

@@ -13,7 +13,7 @@ HaveInTurn from [] to = from ≡ to
 HaveInTurn from (mark ∷ marks) to =
     (mark.first ≡ from) × ((mark.first ≤ mark.last) × HaveInTurn mark.last marks to)
 
--- of so many comments each stands before one of the tags, but those behind the last tag; the tags have them in their order
+-- each of so many comments stands before one of the tags, in their order, or behind the last tag
 pub record HaveComments (marks : List Mark) (count : ℕ) : Type 0 where
   pub behind : ℕ
   pub in_turn : HaveInTurn 0 marks behind

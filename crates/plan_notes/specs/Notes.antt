@@ -12,6 +12,7 @@ use Rattle.plan_notes.specs.Marks.{edge_of, HaveInTurn}
 use Rattle.plan_notes.specs.Walks.{comments_at}
 use Rattle.plan_notes.specs.Contents.{Token, HasTokens, Item, line, place, items_of, root_of}
 
+-- comments as what is told of a file
 abbrev pub lines_of : List (String Global) → List Item
 lines_of comments = map (λ comment. line (string_bytes comment)) comments
 

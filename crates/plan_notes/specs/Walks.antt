@@ -19,6 +19,7 @@ notes_of walk = walk.notes.now
 abbrev pub marks_left : Walk → List Mark
 marks_left walk = walk.left.now
 
+-- the element is a statement
 abbrev pub is_statement : Element → Bool
 is_statement Eval = true
 is_statement Execute = true

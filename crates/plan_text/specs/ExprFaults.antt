@@ -1,4 +1,4 @@
--- What is wrong with a text that is no expression.
+-- What is wrong with a text that isn't an expression.
 use Rattle.std.specs.Prelude.{ℕ, List}
 use Rattle.pap_tree.specs.Grammar.{Line}
 use Rattle.pap_tree.specs.Stopping.{syntax, unsupported, binary_fraction, number, deep}
@@ -6,7 +6,8 @@ use Rattle.pap_tree.specs.Expressions.{IsWrong}
 use Rattle.pap_expr.specs.declared.fault.ExprFault.{ExprFault}
 use Rattle.pap_expr.specs.declared.fault.ExprFault.TheVariants as faults
 
--- the text is refused as a text of the line for this cause, at this byte; want of memory is free
+-- the text is refused as a text of the line for this cause, at this byte; or memory ran out, which may be at
+-- any text
 abbrev pub IsExprFault : Line → List ℕ → ExprFault → Type 0
 IsExprFault l text (faults.Syntax at) = IsWrong l text syntax at
 IsExprFault l text (faults.Unsupported at) = IsWrong l text unsupported at

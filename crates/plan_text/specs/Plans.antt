@@ -23,13 +23,13 @@ pub record IsDeclaration (raw : RawDeclaration) (d : Declaration) : Type 0 where
   pub kind : d.kind ≡ raw.kind
   pub value : IsValue raw.value d.value
 
--- such declarations, one by one
+-- the declarations are those that are written, one by one, with their literals read
 abbrev pub AreDeclarations : List RawDeclaration → List Declaration → Type 0
 AreDeclarations [] [] = ⊤
 AreDeclarations (raw ∷ raws) (d ∷ ds) = IsDeclaration raw d × AreDeclarations raws ds
 AreDeclarations _ _ = ⊥
 
--- the same statements, each text with its expression
+-- the statements are those that are written, each text with its expression
 abbrev pub IsBody : RawBody → Body → Type 0
 IsBody done tree.done = ⊤
 IsBody (eval text rest) (tree.eval x e more) = IsAccepted Assignment text (assignment x e) × IsBody rest more
@@ -38,7 +38,7 @@ IsBody (branch text a b rest) (tree.branch t first second more) =
 IsBody (execute m rest) (tree.execute name more) = (name ≡ m) × IsBody rest more
 IsBody _ _ = ⊥
 
--- such methods, one by one
+-- the methods are those that are written, one by one
 abbrev pub AreRoutines : List RawRoutine → List Routine → Type 0
 AreRoutines [] [] = ⊤
 AreRoutines (raw ∷ raws) (m ∷ ms) = (m.name ≡ raw.name) × IsBody raw.body m.body × AreRoutines raws ms
@@ -59,7 +59,7 @@ pub record IsPlan (bytes : List ℕ) (f : Flowchart) : Type 0 where
   pub read : IsElements bytes elements
   pub flowchart : HasFlowchart elements f
 
--- what is wrong with the bytes: their elements, or the first expression that is none
+-- what is wrong with the bytes: their elements, or the first text that isn't an expression
 abbrev pub IsPlanFault : List ℕ → PlanFault → Type 0
 IsPlanFault bytes (faults.Read f) = IsFault bytes f
 IsPlanFault bytes (faults.Expr spot f) =

@@ -1,5 +1,5 @@
 -- The texts of a plan's expressions, in the order in which they are read: the declared literals of inputs, outputs, internals
--- and constants, then the expressions of MAIN's statements and of the methods', and the first that is none.
+-- and constants, then the expressions of MAIN's statements and of the methods', and the first that isn't one.
 use Rattle.std.specs.Prelude.{◌≡◌, ℕ, ◌+◌, List, [], ◌∷◌, ◌++◌, All}
 use Rattle.std.specs.Option.{option_map_or}
 use Rattle.pap_tree.specs.Grammar.{Line, Level, Assignment, Constant, Meaning}
@@ -26,14 +26,14 @@ site line text spot = record { line = line; text = text; spot = spot }
 abbrev pub literal_sites : RawDeclaration → List Site
 literal_sites d = option_map_or (λ text. site Constant text (Declared d.name) ∷ []) d.value []
 
--- those of declarations, in their order
+-- the sites of some declarations' literals, in their order
 abbrev pub declared_sites : List RawDeclaration → List Site
 declared_sites [] = []
 declared_sites (d ∷ ds) = literal_sites d ++ declared_sites ds
 
 -- the expressions of a method's statements, which are numbered in the order of the text
 module _ (method : List ℕ) where
-  -- those of statements that are numbered from `at`
+  -- the sites of statements that are numbered from `at`
   abbrev pub body_sites : ℕ → RawBody → List Site
   body_sites at done = []
   body_sites at (eval text rest) = site Assignment text (Statement method at) ∷ body_sites (at + 1) rest
@@ -43,12 +43,12 @@ module _ (method : List ℕ) where
       ++ (body_sites (at + 1 + raw_written a) b ++ body_sites (at + 1 + raw_written a + raw_written b) rest))
   body_sites at (execute m rest) = body_sites (at + 1) rest
 
--- those of methods, in their order
+-- the sites of methods, in their order
 abbrev pub routine_sites : List RawRoutine → List Site
 routine_sites [] = []
 routine_sites (m ∷ ms) = body_sites m.name 0 m.body ++ routine_sites ms
 
--- all of them, in the order in which they are read
+-- all sites of a plan, in the order in which they are read
 abbrev pub sites_of : ElementTree → List Site
 sites_of x =
     declared_sites x.inputs
@@ -56,7 +56,7 @@ sites_of x =
     ++ (declared_sites x.internals
     ++ (declared_sites x.constants ++ (body_sites main_name 0 x.main ++ routine_sites x.methods))))
 
--- its text is an expression of its line
+-- the site's text is an expression of its line
 abbrev pub IsReadable : Site → Type 0
 IsReadable s = (x : Meaning) × IsAccepted s.line s.text x
 

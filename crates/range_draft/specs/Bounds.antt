@@ -1,4 +1,5 @@
--- The widest range that makes sense for an input, by its type.
+-- The widest range that makes sense for an input, by its type. Source: the bounds of int and long are those of The Java
+-- Language Specification, 4.2.1.
 use Rattle.std.specs.Prelude.{ℕ, List, codes}
 use Rattle.pap_tree.specs.declared.declaration.Kind.{Kind}
 use Rattle.pap_tree.specs.declared.declaration.Kind.TheVariants.{Int, Long, Factor}
@@ -11,21 +12,22 @@ least Long = codes "-9223372036854775808"
 least Factor = codes "\"-999999.999\""
 least _ = codes "\"-999999999999.99\""
 
--- the greatest: 2^31 - 1 of an int and 2^63 - 1 of a long
+-- the greatest value, as a range file spells it: 2^31 - 1 of an int and 2^63 - 1 of a long; less than a million million
+-- of an amount, and less than a million of a factor
 abbrev pub greatest : Kind → List ℕ
 greatest Int = codes "2147483647"
 greatest Long = codes "9223372036854775807"
 greatest Factor = codes "\"999999.999\""
 greatest _ = codes "\"999999999999.99\""
 
--- the most digits after the point
+-- the most digits after the point, by the input's type
 abbrev pub most_places : Kind → ℕ
 most_places Int = 0
 most_places Long = 0
 most_places Factor = 3
 most_places _ = 2
 
--- what to narrow
+-- what to narrow, by the input's type
 abbrev pub advice : Kind → List ℕ
 advice Int = codes "int: narrow low and high to the values that occur"
 advice Long = codes "long: narrow low and high to the values that occur"

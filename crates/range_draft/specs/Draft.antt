@@ -1,4 +1,4 @@
--- The text of a range file to begin with.
+-- The text of a range file to begin with. Source: TOML, for the form of tables and of comments.
 use Rattle.std.specs.Prelude.{◌≡◌, ℕ, zero, suc, ◌-◌, Bool, true, false, not, ◌&&◌, ◌==◌, nat_lt, nat_le, if◌then◌else◌, List, [], ◌∷◌, ◌++◌, length, map, codes, encode_utf8, string_bytes}
 use Rattle.std.specs.List.{list_any}
 use Rattle.std.specs.Str.{bytes_eq, chars}
@@ -38,7 +38,8 @@ is_comment_char c = nat_le 0x20 c && not (c == 0x7F)
 abbrev pub shown_char : ℕ → ℕ
 shown_char c = if is_comment_char c then c else 0x20
 
--- the front of these characters that has room, each with at most 4 bytes; `..` stands for those that are left out
+-- the prefix of these characters that has room, each with at most 4 bytes; `..` stands for those that are left
+-- out
 abbrev pub front : ℕ → List ℕ → List ℕ
 front room [] = []
 front room (c ∷ text) =

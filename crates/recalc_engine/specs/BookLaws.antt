@@ -27,7 +27,7 @@ use Rattle.recalc_engine.specs.MonthRows.{KeyedRow, keyed_row, month_rows}
 abbrev pub IsAcceptedPlan : Accepted → Type 0
 IsAcceptedPlan p = IsAccepted p.plan p.limits p.meaning
 
--- so it is of each plan of a calendar
+-- each plan of a calendar has accepted texts, with what they mean
 abbrev pub AreAcceptedPlans : List (Entry Accepted) → Type 0
 AreAcceptedPlans es = AllByRecursion (λ (e : Entry Accepted). IsAcceptedPlan (plan_of e)) es
 
@@ -95,7 +95,7 @@ pub record PutsTheSame (book : Contents) (e : Entry Accepted) : Type 0 where
   pub jobs : jobs_between book (edited_book (put e) book) ≡ []
   pub book_is : edited_book (put e) book ≡ idle book
 
--- so it is of each plan put in place of one with its texts
+-- a plan put in place of one with its texts makes no job new, and leaves the book as it is
 abbrev pub SameTextsChangeNothing : Type 0
 SameTextsChangeNothing =
     (book : Contents) (e : Entry Accepted) → IsBook book → IsAcceptedPlan (plan_of e)
@@ -125,7 +125,7 @@ JobsAreDone =
 abbrev pub HasKeptValues : Record → Type 0
 HasKeptValues r = All IsKeptValue r.values
 
--- so it is of each run of the book
+-- each value of each run of the book is a decimal that 128 bits keep
 abbrev pub HaveKeptValues : Contents → Type 0
 HaveKeptValues book = AllByRecursion HasKeptValues (runs_listed book)
 
@@ -134,7 +134,7 @@ pub record IsSafeJob (j : Job) : Type 0 where
   pub plan : IsAcceptedPlan j.plan
   pub runs : RunsToItsEnd j.plan.meaning j.inputs
 
--- so is each job of a book whose values are kept
+-- each job of a book whose values are kept is safe
 abbrev pub JobsAreSafe : Type 0
 JobsAreSafe =
     (book : Contents) (k : Key) (j : Job) → IsBook book → HaveKeptValues book

@@ -12,6 +12,7 @@ use Rattle.book_year.specs.Rows.{Job, Row, year_rows}
 use Rattle.book_edits.specs.Books.{YearRuns, loaded, runs_of, year_of}
 use Rattle.book_edits.specs.Kept.{jobs_in}
 
+-- a book: its runs year by year, its plans by day, and the work of its last edit
 pub record Contents : Type 0 where
   pub years : List YearRuns
   pub plans : List (Entry Accepted)
@@ -27,10 +28,11 @@ row_at book k =
 abbrev pub jobs_between : Contents → Contents → List Job
 jobs_between old new = jobs_in (pick old.plans) (pick new.plans) old.years new.years
 
--- the book with other runs, and with other plans
+-- the book with other runs
 abbrev pub with_years : List YearRuns → Contents → Contents
 with_years years book = record { years = years; plans = book.plans; last = book.last }
 
+-- the book with other plans
 abbrev pub with_plans : List (Entry Accepted) → Contents → Contents
 with_plans plans book = record { years = book.years; plans = plans; last = book.last }
 
@@ -42,6 +44,7 @@ book_of runs plans last = record { years = loaded runs []; plans = plans; last =
 abbrev pub without_runs : Contents → Contents
 without_runs book = with_years [] book
 
+-- the steps of the jobs that are new in the second book
 abbrev pub cost_between : Contents → Contents → ℕ
 cost_between old new = total_cost (jobs_between old new)
 
@@ -49,6 +52,6 @@ cost_between old new = total_cost (jobs_between old new)
 abbrev pub whole_cost : Contents → ℕ
 whole_cost book = cost_between (without_runs book) book
 
--- how many they are, with that cost
+-- the work of a book: how many jobs it has, and their cost
 abbrev pub whole_work : Contents → Work
 whole_work book = work_of (jobs_between (without_runs book) book)

@@ -58,7 +58,7 @@ IsEditRefused book (load rs) why = IsLoadRefused book.years rs why
 IsEditRefused book (put e) why = IsPutRefused book.plans (day_of e) why
 IsEditRefused book (drop d) why = IsDropRefused book.plans d why
 
--- the book that comes of an edit, or why it is refused; want of memory is nothing that a book answers
+-- the book that comes of an edit, or why it is refused; a book never answers that memory ran out
 abbrev pub EditAnswers : Contents → Edit → Result Contents EditRefusal → Type 0
 EditAnswers book e (Ok next) = CanEdit book e × (next ≡ edited_book e book)
 EditAnswers book e (Err (refusal.Memory error)) = ⊥
@@ -79,6 +79,6 @@ IsEdited old e new (Err why) = EditAnswers old e (Err why) × (new ≡ old)
 
 -- ---- a law
 
--- so it is of every edit of every book
+-- every edit of every book has one answer
 abbrev pub EditsHaveOneAnswer : Type 0
 EditsHaveOneAnswer = (book : Contents) (e : Edit) → HasOneAnswer book e

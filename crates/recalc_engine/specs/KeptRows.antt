@@ -11,14 +11,17 @@ use Rattle.recalc_engine.specs.MonthRows.{KeyedRow}
 abbrev pub kept_row : Record → Outcome → KeyedRow
 kept_row r o = record { key = key_of r; plan = o.plan; state = o.state }
 
+-- the rows of records with what is kept of each
 abbrev pub kept_rows : List Record → List Outcome → List KeyedRow
 kept_rows [] outcomes = []
 kept_rows (r ∷ rs) [] = []
 kept_rows (r ∷ rs) (o ∷ os) = kept_row r o ∷ kept_rows rs os
 
+-- the rows of a year, as they are kept
 abbrev pub rows_kept_in : Year → List KeyedRow
 rows_kept_in y = kept_rows y.records.items y.outcomes.items
 
+-- the rows of all years, as they are kept
 abbrev pub rows_kept : List Year → List KeyedRow
 rows_kept years = flat_map rows_kept_in years
 
@@ -27,5 +30,6 @@ pub record IsPaired (y : Year) : Type 0 where
   pub some : 0 < length y.records.items
   pub paired : length y.records.items ≡ length y.outcomes.items
 
+-- each year keeps an outcome for each of its records
 abbrev pub ArePaired : List Year → Type 0
 ArePaired years = AllByRecursion IsPaired years

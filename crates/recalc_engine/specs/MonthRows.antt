@@ -16,6 +16,7 @@ pub record KeyedRow : Type 0 where
   pub plan : Option Day
   pub state : State
 
+-- a row of an employee's year with its whole key
 abbrev pub keyed_row : YearKey → Row → KeyedRow
 keyed_row k row =
     record {

@@ -15,14 +15,16 @@ use Rattle.recalc_engine.specs.MonthRows.{KeyedRow}
 abbrev pub HaveNames : List NamedValue → Type 0
 HaveNames values = AreDistinct (map name_of values)
 
--- so have the outputs, where there are any
+-- the outputs of a run, where there are any, have different names
 abbrev pub AreNamed : Option (List NamedValue) → Type 0
 AreNamed None = ⊤
 AreNamed (Some outputs) = HaveNames outputs
 
+-- each output of a row is within the bound of outputs
 abbrev pub HasBound : KeyedRow → Type 0
 HasBound row = AreBounded (outputs_in row.state)
 
+-- the outputs of a row have different names
 abbrev pub HasNames : KeyedRow → Type 0
 HasNames row = AreNamed (outputs_in row.state)
 

@@ -1,4 +1,5 @@
--- The report: a row for each output of a run that is ok, and one row for any other run.
+-- The report: a row for each output of a run that is ok, and one row for any other run. Source:
+-- docs/PROFILE.md, "Reports".
 use Rattle.std.specs.Prelude.{ℕ, List, [], ◌∷◌, ◌++◌, Option, Some, None, map, codes}
 use Rattle.std.specs.List.{flat_map, join_with_byte}
 use Rattle.scaled_decimal.specs.PlainTexts.{plain_text}
@@ -11,12 +12,15 @@ use Rattle.carry_bindings.specs.declared.filling.Blocked.TheVariants as blocked
 use Rattle.book_year.specs.declared.outcome.State.{State}
 use Rattle.book_year.specs.declared.outcome.State.TheVariants as state
 
+-- a text as its bytes
 abbrev pub Text : Type 0
 Text = List ℕ
 
+-- the byte of a comma
 abbrev pub comma : ℕ
 comma = 44
 
+-- the byte that ends a row
 abbrev pub line_feed : ℕ
 line_feed = 10
 
@@ -24,12 +28,12 @@ line_feed = 10
 abbrev pub row_line : List Text → Text
 row_line fields = join_with_byte comma fields ++ line_feed ∷ []
 
--- the first row
+-- the first row of a report
 abbrev pub header : List Text
 header =
     codes "employee" ∷ codes "month" ∷ codes "day" ∷ codes "plan" ∷ codes "state" ∷ codes "name" ∷ codes "value" ∷ []
 
--- the day from which a plan holds, and nothing where there is no plan
+-- the day from which a plan holds, and nothing where the run has no plan
 abbrev pub plan_text : Option Day → Text
 plan_text None = []
 plan_text (Some d) = day_text d.year d.month d.day
@@ -52,6 +56,7 @@ blocked_fields front (blocked.Unknown n) = row_fields front (codes "unknown") n 
 blocked_fields front (blocked.Missing n) = row_fields front (codes "missing") n []
 blocked_fields front (blocked.Range n) = row_fields front (codes "range") n []
 
+-- the fields of an output's row: state `ok`, its name and its value
 abbrev pub output_fields : List Text → NamedValue → List Text
 output_fields front v = row_fields front (codes "ok") v.name (plain_text v.value)
 
@@ -61,5 +66,6 @@ state_rows front state.NoPlan = row_fields front (codes "noplan") [] [] ∷ []
 state_rows front (state.Blocked why) = blocked_fields front why ∷ []
 state_rows front (state.Done outputs) = map (output_fields front) outputs
 
+-- the rows of a run
 abbrev pub run_text : Key → Option Day → State → Text
 run_text k plan s = flat_map row_line (state_rows (run_front k plan) s)

@@ -9,6 +9,7 @@ abbrev pub at_key : {K X : Type 0} → (K → K → Ordering) → (X → K) → 
 at_key cmp key [] k = None
 at_key cmp key (x ∷ xs) k = if is_eq (cmp (key x) k) then Some x else at_key cmp key xs k
 
+-- what putting an element leaves at the list's first element, by the order of their keys
 abbrev pub put_by : {X : Type 0} → Ordering → X → X → List X → List X → List X
 put_by Less y x xs rest = y ∷ (x ∷ xs)
 put_by Equal y x xs rest = y ∷ xs

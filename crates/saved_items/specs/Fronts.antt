@@ -10,6 +10,7 @@ use Rattle.payroll_records.specs.Limits.{most_records}
 use Rattle.plan_calendar.specs.Limits.{most_plans}
 use Rattle.saved_items.specs.SavedBooks.{SavedPlan, day_of, IsWork, ArePlans, IsRun, title_text, work_text, head_text, plan_text, run_count_text, run_text}
 
+-- what the first items of a text have said, by how far they reach
 pub data Front : Type 0 where
   nothing : Front
   titled : Front
@@ -36,6 +37,7 @@ plans_in (worked runs steps) = []
 plans_in (planning runs steps count plans) = plans
 plans_in (running runs steps plans count records) = plans
 
+-- the text of these first items
 abbrev pub front_text : Front → Text
 front_text nothing = []
 front_text titled = title_text

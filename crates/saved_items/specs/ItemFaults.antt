@@ -8,9 +8,11 @@ use Rattle.saved_items.specs.declared.items.PlanItem.{PlanItem}
 use Rattle.saved_items.specs.declared.items.ItemFault.{ItemFault}
 use Rattle.saved_items.specs.declared.items.ItemFault.TheVariants as fault
 
+-- a plan that was read, as its day and its texts
 abbrev pub plan_in : PlanItem → SavedPlan
 plan_in p = saved_plan p.day p.plan.now p.limits.now
 
+-- the items that were read, as a saved book
 abbrev pub saved_in : Items → Saved
 saved_in items = record {
   runs = items.runs;
@@ -19,7 +21,8 @@ saved_in items = record {
   records = items.records.items;
 }
 
--- why a text is refused; want of memory is free
+-- why a call refuses a text: the first item that isn't of its form, or memory ran out, which may be at any
+-- text
 abbrev pub IsItemFaultOrMemory : Text → ItemFault → Type 0
 IsItemFaultOrMemory bytes (fault.Form item plans) =
     StopsAt bytes (record { item = item; plans = map plan_in plans.items })

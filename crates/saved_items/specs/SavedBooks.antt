@@ -29,9 +29,11 @@ pub record Saved : Type 0 where
   pub plans : List SavedPlan
   pub records : List Record
 
+-- a plan of a saved book of these parts
 abbrev pub saved_plan : Day → Text → Text → SavedPlan
 saved_plan day plan limits = record { day = day; plan = plan; limits = limits }
 
+-- the day of a saved plan
 abbrev pub day_of : SavedPlan → Day
 day_of p = p.day
 
@@ -72,6 +74,7 @@ pub record IsSaved (s : Saved) : Type 0 where
 abbrev pub line_of : List Text → Text
 line_of words = join_with_byte 32 words ++ (10 ∷ [])
 
+-- a day as it is written
 abbrev pub day_word : Day → Text
 day_word d = day_text d.year d.month d.day
 
@@ -83,18 +86,23 @@ value_word v = v.name ++ (codes "=" ++ plain_text v.value)
 abbrev pub title_words : List Text
 title_words = codes "papbook" ∷ codes "1" ∷ []
 
+-- the first line of a saved book
 abbrev pub title_text : Text
 title_text = line_of title_words
 
+-- the words of the line with the last work
 abbrev pub work_words : ℕ → ℕ → List Text
 work_words runs steps = codes "work" ∷ whole_text runs ∷ whole_text steps ∷ []
 
+-- the line with the runs and steps of the last work
 abbrev pub work_text : ℕ → ℕ → Text
 work_text runs steps = line_of (work_words runs steps)
 
+-- the line that says how many plans there are
 abbrev pub plan_count_text : ℕ → Text
 plan_count_text count = line_of (codes "plans" ∷ whole_text count ∷ [])
 
+-- the first three lines of a saved book
 abbrev pub head_text : ℕ → ℕ → ℕ → Text
 head_text runs steps count = title_text ++ (work_text runs steps ++ plan_count_text count)
 
@@ -102,6 +110,7 @@ head_text runs steps count = title_text ++ (work_text runs steps ++ plan_count_t
 abbrev pub plan_words : Day → ℕ → ℕ → List Text
 plan_words day plan limits = codes "plan" ∷ day_word day ∷ whole_text plan ∷ whole_text limits ∷ []
 
+-- a plan: a line with its day and the lengths of its texts, and both texts
 abbrev pub plan_text : SavedPlan → Text
 plan_text p =
     line_of (plan_words p.day (length p.plan) (length p.limits))
@@ -111,12 +120,15 @@ plan_text p =
 abbrev pub run_count_text : ℕ → Text
 run_count_text count = line_of (codes "runs" ∷ whole_text count ∷ [])
 
+-- the words of a pay run's line
 abbrev pub run_words : Record → List Text
 run_words r = codes "run" ∷ r.employee ∷ day_word r.day ∷ map value_word r.values
 
+-- the line of a pay run
 abbrev pub run_text : Record → Text
 run_text r = line_of (run_words r)
 
+-- the last line of a saved book
 abbrev pub end_text : Text
 end_text = line_of (codes "end" ∷ [])
 

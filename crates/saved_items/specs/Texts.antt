@@ -25,6 +25,7 @@ pub record StopsAt (bytes : Text) (stop : Stop) : Type 0 where
   pub stuck : (longer : Front) → Shows bytes longer → items_in longer ≢ stop.item
   pub unfinished : (s : Saved) → IsText bytes s → ⊥
 
+-- what a text says: a saved book, or the first item that isn't of its form
 abbrev pub TextSays : Text → Result Saved Stop → Type 0
 TextSays bytes (Ok s) = IsText bytes s
 TextSays bytes (Err stop) = StopsAt bytes stop

@@ -1,4 +1,6 @@
 -- Decimals and their exact operations over unbounded whole numbers, as java.math.BigDecimal documents them.
+-- Source: the documentation of java.math.BigDecimal (add, subtract, multiply, negate, abs, compareTo, min,
+-- max, setScale, divide).
 use Rattle.std.specs.Prelude.{◌≡◌, ℕ, ◌+◌, ◌-◌, ◌^◌, max, if◌then◌else◌, ℤ, pos, negsuc, ◌+ℤ◌, ◌-ℤ◌, ◌*ℤ◌, neg_ℤ, unsigned_abs}
 use Rattle.std.specs.Ordering.{int_cmp, is_lt, is_gt}
 use Rattle.std.specs.declared.cmp.Ordering.{Ordering}
@@ -14,9 +16,11 @@ Decimal = ℤ × ℕ
 abbrev pub decimal : ℤ → ℕ → Decimal
 decimal n s = (n, s)
 
+-- the numerator of a decimal
 abbrev pub numerator_of : Decimal → ℤ
 numerator_of d = d.0
 
+-- the scale of a decimal
 abbrev pub scale_of : Decimal → ℕ
 scale_of d = d.1
 

@@ -1,4 +1,5 @@
--- The exact quotient by a plain divisor, as divide of java.math.BigDecimal gives it where it has an end.
+-- The exact quotient by a plain divisor, as divide of java.math.BigDecimal gives it where it has an end. Source: the
+-- documentation of java.math.BigDecimal (divide of one argument).
 use Rattle.std.specs.Prelude.{◌≡◌, ◌≤◌, ℤ, pos, ◌*ℤ◌, ◌≤ℤ◌}
 use Rattle.scaled_decimal.specs.Decimals.{Decimal, numerator_of, scale_of, ten_to}
 use Rattle.scaled_decimal.specs.Limits.{most_places}

@@ -1,4 +1,4 @@
--- The limits of kept decimals.
+-- The limits of kept decimals. Source: this project.
 use Rattle.std.specs.Prelude.{ℕ, ◌^◌, ◌≤◌, ℤ, unsigned_abs}
 use Rattle.scaled_decimal.specs.Decimals.{Decimal, numerator_of, scale_of}
 
@@ -6,6 +6,7 @@ use Rattle.scaled_decimal.specs.Decimals.{Decimal, numerator_of, scale_of}
 abbrev pub limit : ℕ
 limit = 10 ^ 37
 
+-- a kept decimal has at most so many digits after its point
 abbrev pub most_places : ℕ
 most_places = 30
 

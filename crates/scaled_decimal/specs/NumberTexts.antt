@@ -48,7 +48,7 @@ pub record IsBeginning (front : List ℕ) : Type 0 where
   pub number : Decimal
   pub spells : Spells (front ++ rest) number
 
--- the first so many bytes are the longest front of the text that begins a number
+-- the first so many bytes are the longest prefix of the text that begins a number
 pub record IsLongestFront (text : List ℕ) (at : ℕ) : Type 0 where
   pub within : at ≤ length text
   pub begins : IsBeginning (take at text)

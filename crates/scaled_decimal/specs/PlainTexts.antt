@@ -1,4 +1,5 @@
--- The plain text of a decimal, as toPlainString of java.math.BigDecimal gives it: no exponent, and a digit after the point for each place.
+-- The plain text of a decimal, as toPlainString of java.math.BigDecimal gives it: no exponent, and a digit after the
+-- point for each place. Source: the documentation of java.math.BigDecimal (toPlainString).
 use Rattle.std.specs.Prelude.{ℕ, zero, suc, ◌+◌, ◌/◌, ◌%◌, ◌^◌, ◌==◌, List, [], ◌∷◌, ◌++◌, map, codes, if◌then◌else◌, pos, int_lt, unsigned_abs}
 use Rattle.std.specs.Int.Digits.{digits_of}
 use Rattle.scaled_decimal.specs.Decimals.{Decimal, numerator_of, scale_of}

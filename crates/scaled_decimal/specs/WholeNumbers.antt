@@ -1,5 +1,6 @@
 -- Whole numbers as Java's int and long compute with them, before a width bounds the result (The Java Language
--- Specification, 15.15.4, 15.17 and 15.18).
+-- Specification, 15.15.4, 15.17 and 15.18). Source: The Java Language Specification, 15.15.4, 15.17 and
+-- 15.18.
 use Rattle.std.specs.Prelude.{ℕ, ◌-◌, ◌^◌, Bool, ◌&&◌, if◌then◌else◌, List, Option, None, slice_get, ℤ, pos, negsuc, ◌+ℤ◌, ◌-ℤ◌, ◌*ℤ◌, neg_ℤ, ◌≤ℤ◌, ◌<ℤ◌, int_le, int_lt, int_div, int_rem}
 use Rattle.scaled_decimal.specs.Decimals.{Decimal, decimal, numerator_of}
 
@@ -7,6 +8,7 @@ use Rattle.scaled_decimal.specs.Decimals.{Decimal, decimal, numerator_of}
 abbrev pub int_bits : ℕ
 int_bits = 32
 
+-- the bits of a `long` of Java
 abbrev pub long_bits : ℕ
 long_bits = 64
 
@@ -15,7 +17,7 @@ pub record IsOfBits (bits : ℕ) (n : ℤ) : Type 0 where
   pub low : neg_ℤ (pos (2 ^ (bits - 1))) ≤ℤ n
   pub high : n <ℤ pos (2 ^ (bits - 1))
 
--- the same as a test
+-- the test whether a whole number has so many bits
 abbrev pub is_of_bits : ℕ → ℤ → Bool
 is_of_bits bits n = int_le (neg_ℤ (pos (2 ^ (bits - 1)))) n && int_lt n (pos (2 ^ (bits - 1)))
 

@@ -31,6 +31,7 @@ pub data Asked : Type 0 where
   -- what the plan and the limits of these files would change if they stood from a day on; its line begins with `try`
   trial : Day → Text → Text → Asked
 
+-- what a command of the program asks for
 abbrev pub asked_of : Command → Asked
 asked_of code.Nothing = nothing
 asked_of (code.Plan day file limits) = plan day (string_bytes file) (string_bytes limits)

@@ -26,6 +26,7 @@ pub data Field : Type 0 where
 abbrev pub name_in : Text → Text
 name_in word = before_first (λ b. b == 61) word
 
+-- the word is as the field asks
 abbrev pub IsGood : Field → Type 0
 IsGood (employee word) = IsTrue (is_employee word)
 IsGood (month word) = IsMonthSpelled word
@@ -35,6 +36,7 @@ IsGood (day_in first second) =
 IsGood (value number word) = (v : NamedValue) × IsValueWord word v
 IsGood (new_name before word) = AllByRecursion (λ other. name_in other ≢ name_in word) before
 
+-- the fault of a line whose word isn't as the field asks
 abbrev pub fault_of : Field → LineFault
 fault_of (employee word) = fault.Employee
 fault_of (month word) = fault.Month

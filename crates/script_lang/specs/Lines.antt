@@ -24,13 +24,14 @@ use Rattle.script_lang.specs.declared.fault.LineFault.TheVariants as fault
 abbrev pub IsShort : Text → Type 0
 IsShort line = length line ≤ most_line
 
--- no words, or a comment: its first word begins with `#`
+-- the line has no words, or is a comment: its first word begins with `#`
 abbrev pub IsSilent : List Text → Type 0
 IsSilent [] = ⊤
 IsSilent (word ∷ words) = slice_index word 0 ≡ 35
 
 -- ---- what a line asks for
 
+-- the word is that of this day
 abbrev pub IsDayWord : Text → Day → Type 0
 IsDayWord word d = IsDayText word d.year d.month d.day
 
@@ -118,6 +119,7 @@ pub data Verb : Type 0 where
   opening : Verb
   trial : Verb
 
+-- the first word of a command's line
 abbrev pub text_of : Verb → Text
 text_of plan = codes "plan"
 text_of drop = codes "drop"
@@ -217,7 +219,7 @@ pub record HaveFirstFault (words : List Text) (f : LineFault) : Type 0 where
   pub taken : IsTrue (takes verb rest)
   pub first : IsFirstFault (fields_of verb rest) f
 
--- what is wrong with the words; want of memory is free
+-- this is wrong with the words; or memory ran out, which may be at any words
 abbrev pub AreWrong : List Text → LineFault → Type 0
 AreWrong words fault.LineLong = ⊥
 AreWrong words fault.Command = HaveNoVerb words
@@ -225,13 +227,13 @@ AreWrong words fault.Words = AreNotTaken words
 AreWrong words (fault.Memory error) = ⊤
 AreWrong words other = HaveFirstFault words other
 
--- why a line is refused; want of memory is nothing that a line says
+-- why a line is refused; a line never says that memory ran out
 abbrev pub IsLineFault : Text → LineFault → Type 0
 IsLineFault line fault.LineLong = most_line < length line
 IsLineFault line (fault.Memory error) = ⊥
 IsLineFault line other = IsShort line × AreWrong (words_of line) other
 
--- the same of a refusal that is answered: want of memory comes whatever a line says that is not too long
+-- why a call refuses a line: what the line says, or memory ran out, which may be at any line that isn't too long
 abbrev pub IsLineFaultOrMemory : Text → LineFault → Type 0
 IsLineFaultOrMemory line (fault.Memory error) = IsShort line
 IsLineFaultOrMemory line other = IsLineFault line other

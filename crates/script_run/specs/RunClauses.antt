@@ -1,4 +1,4 @@
--- What a run over a script that is told leaves, by its result.
+-- What a run leaves by its result, over a source that tells its script.
 use Rattle.std.specs.Prelude.{◌≡◌, ◌≢◌, ◌⊎◌, ℕ, ◌+◌, ◌-◌, ◌<◌, ◌≤◌, Bool, List, [], ◌∷◌, ◌++◌, length, take, All, Option, Some, Result, Ok, Err, ⊤}
 use Rattle.std.specs.Option.{ForSome}
 use Rattle.outside.specs.Told.{FileMap, Appends}
@@ -15,8 +15,8 @@ use Rattle.script_run.specs.RefusedLines.{IsToldOf, tells_one}
 use Rattle.script_run.specs.declared.refused_lines.RefusedLines.{RefusedLines}
 use Rattle.script_run.specs.declared.stop.Stop.TheVariants as stops
 
--- how far a run came: the script, what was taken of it and what is left, what was written and counted since it began, and
--- what is told of refused lines
+-- how far a run came: the script, what was taken of it and what is left, what was written and counted since it began,
+-- and what it tells of refused lines
 pub record Course : Type 0 where
   pub script : List ℕ
   pub taken : List ℕ
@@ -25,14 +25,14 @@ pub record Course : Type 0 where
   pub spent : ℕ
   pub told : RefusedLines
 
--- what was written is a front of this session's text, and at most its steps were counted
+-- what was written is a prefix of this session's text, and at most its steps were counted
 pub record IsFrontOfSession (session : Session) (out : List ℕ) (spent : ℕ) : Type 0 where
   pub later : List ℕ
   pub text : session.text ≡ out ++ later
   pub cost : spent ≤ session.steps
 
--- what was written are the answers to exactly these lines, exactly their steps were counted, and it is told which of them
--- were refused
+-- what was written are the answers to exactly these lines, exactly their steps were counted, and the run tells which of
+-- them were refused
 pub record IsExactly (files : FileMap) (lines : List (List ℕ)) (course : Course) : Type 0 where
   pub session : Session
   pub answered : AreAnswered files lines session
@@ -40,8 +40,8 @@ pub record IsExactly (files : FileMap) (lines : List (List ℕ)) (course : Cours
   pub cost : course.spent ≡ session.steps
   pub told_is : IsToldOf session.lines session.refused_lines course.told
 
--- what was written is the whole transcript, whose lines all name files that are there; exactly its steps were counted, this
--- says whether an answer is a refusal, and it is told which lines were refused
+-- what was written is the whole transcript, whose lines all name files that are there; exactly its steps were counted,
+-- the truth value says whether an answer is a refusal, and the run tells which lines were refused
 pub record IsWholeTranscript (files : FileMap) (course : Course) (refused : Bool) : Type 0 where
   pub session : Session
   pub is : IsTranscript files course.script session
@@ -51,8 +51,8 @@ pub record IsWholeTranscript (files : FileMap) (course : Course) (refused : Bool
   pub mark : refused ≡ session.refused
   pub told_is : IsToldOf session.lines session.refused_lines course.told
 
--- what was written are the answers to these lines and a front of the next one's, which isn't the whole; exactly the
--- steps of all these answers were counted, and it is told which of the lines before that one were refused
+-- what was written are the answers to these lines and a prefix of the next one's, which isn't the whole; exactly the
+-- steps of all these answers were counted, and the run tells which of the lines before that one were refused
 pub record IsCutAt (files : FileMap) (before : List (List ℕ)) (line : List ℕ) (course : Course) : Type 0 where
   pub session : Session
   pub answered : AreAnswered files before session
@@ -118,8 +118,8 @@ pub record IsEnd (told : Option FileMap) (course : Course) (refused : Bool) : Ty
   pub read : course.rest ≡ []
   pub whole : ForSome told (λ files. IsWholeTranscript files course refused)
 
--- what each result says; where a line stops the run, at most so many bytes were taken after its end; where memory ran out
--- nothing is said, also not of what is told
+-- what each result says; where a line stops the run, at most so many bytes were taken after its end; where memory ran
+-- out nothing is said, and nothing of the refused lines either
 abbrev pub RunSays : ℕ → Option FileMap → Course → Option (List ℕ) → Result Bool Stop → Type 0
 RunSays most told course failed (Ok refused) = IsEnd told course refused
 RunSays most told course failed (Err stops.File) = IsFileStop most told course failed
@@ -132,7 +132,7 @@ RunSays most told course failed (Err stops.Long) = IsLongStop told course
 abbrev pub RunResult : Type 0
 RunResult = Result RefusedLines Stopped
 
--- what it tells
+-- what a run tells of refused lines
 abbrev pub told_of : RunResult → RefusedLines
 told_of (Ok told) = told
 told_of (Err stopped) = stopped.refused_lines
@@ -142,8 +142,8 @@ abbrev pub ended_of : RunResult → Result Bool Stop
 ended_of (Ok told) = Ok (tells_one told)
 ended_of (Err stopped) = Err stopped.stop
 
--- what a run wrote, counted and told that took this of a script and left the rest: always a front of the transcript, and
--- what its result says
+-- what a run wrote, counted and told that took this of a script and left the rest: always a prefix of the transcript,
+-- and what its result says
 pub record RunLeaves (most : ℕ) (before after : OutsideShown) (script taken rest : List ℕ)
     (result : RunResult) : Type 0 where
   pub out : List ℕ
@@ -162,8 +162,7 @@ pub record RunLeaves (most : ℕ) (before after : OutsideShown) (script taken re
       })
       after.failed (ended_of result)
 
--- what a run leaves over a source that tells this script: what was taken is a front of it, within
--- the limit of scripts
+-- what a run leaves over a source that tells this script: what was taken is a prefix of it, within the limit of scripts
 pub record RunMeets (before after : OutsideShown) (script : List ℕ) (left : Option (List ℕ))
     (result : RunResult) : Type 0 where
   pub taken : List ℕ
@@ -178,12 +177,12 @@ abbrev pub by_stop : {T : Type 0} → Result T Stopped → Result T Stop
 by_stop (Ok value) = Ok value
 by_stop (Err stopped) = Err stopped.stop
 
--- a run's result, where the value at its end has what is told
+-- the result of a call as a run's, where the value at its end has what the run tells
 abbrev pub run_result : {T : Type 0} → (T → RefusedLines) → Result T Stopped → RunResult
 run_result told_in (Ok value) = Ok (told_in value)
 run_result told_in (Err stopped) = Err stopped
 
--- the lines of a script whose answers weren't written have made this at last
+-- the lines of a script whose answers weren't written have left this, and these were its refusals
 pub record EndsUnwritten (files : FileMap) (script : List ℕ) (ended : Unwritten) : Type 0 where
   pub session : Session
   pub is : IsTranscript files script session
@@ -192,7 +191,7 @@ pub record EndsUnwritten (files : FileMap) (script : List ℕ) (ended : Unwritte
   pub refusals : (ended.refusals).items ≡ session.refusals
   pub left : ended.script ≡ session.standing
 
--- the script was answered whole: this is what its transcript says
+-- the script was answered whole, and this is what its transcript says
 pub record IsFinished (files : FileMap) (script : List ℕ) (began steps : ℕ)
     (ended : Ended) : Type 0 where
   pub session : Session

@@ -45,5 +45,6 @@ sample_limits = script_of (
 abbrev pub named_texts : List (List ℕ × List ℕ)
 named_texts = (codes "p2.xml", sample_plan) ∷ (codes "l2.toml", sample_limits) ∷ []
 
+-- the two files of the sample, by their names
 abbrev pub sample_files : FileMap
 sample_files = file_named named_texts

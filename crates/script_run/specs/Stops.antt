@@ -12,7 +12,7 @@ stop_of line.File = stops.File
 stop_of line.Write = stops.Write
 stop_of line.Memory = stops.Memory
 
--- and for that of the files
+-- the run stops for the files' reason
 abbrev pub stop_of_file : FileAnswer → Stop
 stop_of_file files.Failed = stops.File
 stop_of_file files.Memory = stops.Memory

@@ -4,7 +4,7 @@ use Rattle.outside.specs.Told.{FileMap}
 use Rattle.script_steps.specs.GoingOn.{IsSavable}
 use Rattle.script_run.specs.Transcripts.{Session, IsTranscript}
 
--- a transcript of a script
+-- the script has a transcript
 pub record HasTranscript (files : FileMap) (script : List ℕ) : Type 0 where
   pub session : Session
   pub is : IsTranscript files script session
@@ -13,7 +13,7 @@ pub record HasTranscript (files : FileMap) (script : List ℕ) : Type 0 where
 abbrev pub ScriptsHaveATranscript : Type 0
 ScriptsHaveATranscript = (files : FileMap) (script : List ℕ) → HasTranscript files script
 
--- and no other
+-- no script has two transcripts
 abbrev pub ScriptsHaveOneTranscript : Type 0
 ScriptsHaveOneTranscript =
     (files : FileMap) (script : List ℕ) (session other : Session)

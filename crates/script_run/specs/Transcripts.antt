@@ -1,4 +1,4 @@
--- What a script answers over files that stay as they are, line by line.
+-- What a script answers over files that stay as they are, line by line. Source: docs/PROFILE.md, "Scripts".
 use Rattle.std.specs.Prelude.{◌≡◌, ℕ, Bool, ◌==◌, if◌then◌else◌, List, [], ◌∷◌, ◌++◌, length, map, filter, flat_map, sum_by, ⊤}
 use Rattle.std.specs.List.{enumerate_from, list_any, slice_split}
 use Rattle.std.specs.Str.Lines.{lines, strip_carriage_return}

@@ -65,21 +65,21 @@ ScriptsMakeBooks =
     (files : FileMap) (lines : List (List ℕ)) (answers : List Answer) (to : Standing)
     → AreSteps files first_standing lines to answers → IsSavable to.book
 
--- and each job of it is safe: its plan is accepted, and its run gets to its end
+-- each job of a book that lines make is safe: its plan is accepted, and its run gets to its end
 abbrev pub ScriptJobsAreSafe : Type 0
 ScriptJobsAreSafe =
     (files : FileMap) (lines : List (List ℕ)) (answers : List Answer) (to : Standing)
     → AreSteps files first_standing lines to answers
     → (k : Key) (j : Job) → job_of_key to.book k ≡ Some j → IsSafeJob j
 
--- what lines answer follows from the book and from what was filed: not from the work of the edits before
+-- what lines answer follows from the book and from what was filed, and not from the work of the edits before
 abbrev pub AnswersFollowBooks : Type 0
 AnswersFollowBooks =
     (files : FileMap) (from other : Standing) (lines : List (List ℕ)) (answers : List Answer)
     → from.book ≡ other.book → from.filings ≡ other.filings
     → HaveAnswers files from lines answers → HaveAnswers files other lines answers
 
--- nor from files that the lines don't name
+-- what lines answer doesn't depend on files that they don't name
 abbrev pub AnswersFollowFiles : Type 0
 AnswersFollowFiles =
     (files other : FileMap) (from : Standing) (lines : List (List ℕ)) (answers : List Answer)

@@ -35,6 +35,8 @@ IsEditAnswered text from (Ok book) to answer =
     (to ≡ after_edit from book) × (answer ≡ answered text book.last.steps)
 IsEditAnswered text from (Err why) to answer = Stays from to (refusal (edit_detail why)) answer
 
+-- the edit leads from what the lines before have left to this, with this answer: the text where it is made, or the
+-- refusal, where nothing changes
 pub record IsEditStep (text : List ℕ) (from : Standing) (e : Edit) (to : Standing) (answer : Answer) : Type 0 where
   pub verdict : Result Contents EditRefusal
   pub says : EditAnswers from.book e verdict
@@ -42,7 +44,7 @@ pub record IsEditStep (text : List ℕ) (from : Standing) (e : Edit) (to : Stand
 
 -- ---- a line that names a file: load FILE, open FILE
 
--- what is done with the bytes of the file
+-- the step of a line that reads a file: what is done with the bytes of the file
 pub record IsReadStep
     (Step : List ℕ → Doing) (files : FileMap) (file : List ℕ) (to : Standing) (answer : Answer) : Type 0 where
   pub bytes : List ℕ
@@ -68,20 +70,20 @@ pub record IsTableStep (from : Standing) (table : List ℕ) (to : Standing) (ans
 abbrev pub PlanUse : Type 1
 PlanUse = Standing → Entry Accepted → Doing
 
--- it is done with this plan; or the plan is refused, and nothing changes
+-- the plan is accepted and used so; or it is refused, and nothing changes
 abbrev pub IsUsed : PlanUse → Standing → Day → List ℕ → List ℕ → Result Meaning PlanRefusal → Standing → Answer → Type 0
 IsUsed Use from day plan limits (Ok m) to answer =
     Use from (day, record { plan = plan; limits = limits; meaning = m }) to answer
 IsUsed Use from day plan limits (Err why) to answer = (to ≡ from) × IsRefusal plan why answer
 
--- the plan of these two texts
+-- the step of a line that has the two texts of a plan
 pub record IsTextsStep
     (Use : PlanUse) (from : Standing) (day : Day) (plan limits : List ℕ) (to : Standing) (answer : Answer) : Type 0 where
   pub verdict : Result Meaning PlanRefusal
   pub says : Answers plan limits verdict
   pub is : IsUsed Use from day plan limits verdict to answer
 
--- the plan of these two files
+-- the step of a line that names the two files of a plan
 pub record IsPlanStep
     (Use : PlanUse) (files : FileMap) (from : Standing) (day : Day) (plan limits : List ℕ)
     (to : Standing) (answer : Answer) : Type 0 where
@@ -91,11 +93,11 @@ pub record IsPlanStep
   pub limits_there : files limits ≡ Some limits_bytes
   pub is : IsTextsStep Use from day plan_bytes limits_bytes to answer
 
--- the line of its bound
+-- the line of an accepted plan's bound
 abbrev pub bound_text : Entry Accepted → List ℕ
 bound_text e = bound_line (bound_of (plan_of e).meaning.flowchart)
 
--- `plan`: it is put at its day, and its bound is answered
+-- `plan`: the plan is put at its day, and its bound is answered
 abbrev pub IsPut : PlanUse
 IsPut from e to answer = IsEditStep (bound_text e) from (edits.put e) to answer
 
@@ -105,7 +107,7 @@ trial_answer book e (Ok next) =
     answered (bound_text e ++ trial_text (trial_of book e)) (trial_of book e).work.steps
 trial_answer book e (Err why) = refusal (edit_detail why)
 
--- and nothing changes
+-- `try`: the plan is accepted and tried, or refused; nothing changes
 pub record IsTrialStep (from : Standing) (e : Entry Accepted) (to : Standing) (answer : Answer) : Type 0 where
   pub verdict : Result Contents EditRefusal
   pub says : EditAnswers from.book (edits.put e) verdict
@@ -141,7 +143,7 @@ Does files from (Ok (asked.opening file)) to answer = IsReadStep (IsOpenStep fro
 Does files from (Ok (asked.trial day plan limits)) to answer =
     IsPlanStep IsTrialStep files from day plan limits to answer
 
--- the files that are asked for
+-- the line asks for this file
 abbrev pub IsFileOf : Asked → List ℕ → Type 0
 IsFileOf (asked.plan day plan limits) name = (name ≡ plan) ⊎ (name ≡ limits)
 IsFileOf (asked.load file) name = name ≡ file
@@ -149,11 +151,11 @@ IsFileOf (asked.opening file) name = name ≡ file
 IsFileOf (asked.trial day plan limits) name = (name ≡ plan) ⊎ (name ≡ limits)
 IsFileOf _ name = ⊥
 
--- it is the plan's, or the range file's where the plan's is there
+-- the next file of a plan that is read: its flowchart, or the range file where the flowchart is there
 abbrev pub IsNextOfPlan : FileMap → List ℕ → List ℕ → List ℕ → Type 0
 IsNextOfPlan files plan limits name = (name ≡ plan) ⊎ ((name ≡ limits) × IsSome (files plan))
 
--- this one is asked for, and those that are read before it are there
+-- the line asks for this file, and those that are read before it are there
 abbrev pub IsNextFile : FileMap → Asked → List ℕ → Type 0
 IsNextFile files (asked.plan day plan limits) name = IsNextOfPlan files plan limits name
 IsNextFile files (asked.load file) name = name ≡ file

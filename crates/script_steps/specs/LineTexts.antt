@@ -37,7 +37,7 @@ use Rattle.plan_answers.specs.Lines.{spaced, line}
 abbrev pub ok_line : List ℕ
 ok_line = line (codes "ok")
 
--- the last line of a report
+-- the last line of a report, a trace and of what is owed
 abbrev pub end_line : List ℕ
 end_line = line (codes "end")
 
@@ -47,7 +47,7 @@ work_line w = line (codes "work " ++ spaced (number w.runs) (number w.steps))
 
 -- ---- traces
 
--- METHOD:STMT
+-- a statement as it is written: METHOD:STMT
 abbrev pub site : List ℕ → ℕ → List ℕ
 site method stmt = method ++ (58 ∷ number stmt)
 
@@ -117,7 +117,7 @@ would_line w = line (codes "would " ++ spaced (number w.runs) (number w.steps))
 abbrev pub trial_text : Trial → List ℕ
 trial_text t = flat_map trial_line t.rows ++ would_line t.work
 
--- ---- what is written after `refused`: the group, the name and the details; want of memory has none
+-- ---- what is written after `refused`: the group, the name and the details; memory that ran out has none
 
 -- why a line is refused
 abbrev pub line_detail : LineFault → List ℕ
@@ -153,7 +153,7 @@ edit_detail edits.Plans = codes "edit Plans"
 edit_detail (edits.NoPlanThere d) = codes "edit NoPlanThere " ++ day_word d
 edit_detail (edits.Memory e) = []
 
--- why no trace is told
+-- why a trace is refused
 abbrev pub trace_detail : TraceRefusal → List ℕ
 trace_detail (traces.Absent e w) = codes "trace Absent " ++ spaced e (when_text w)
 trace_detail (traces.Several e m) = codes "trace Several " ++ spaced e (month_text m.year m.month)

@@ -13,7 +13,7 @@ pub record IsEmpty (book : Contents) : Type 0 where
   pub runs : run_count book.years ≡ 0
   pub plans : book.plans ≡ []
 
--- nor was a month filed
+-- the book has no run and no plan, and no month was filed
 pub record IsFresh (from : Standing) : Type 0 where
   pub book : IsEmpty from.book
   pub filings : from.filings.last ≡ None
@@ -34,6 +34,7 @@ OpenSays from text (Err filed) = IsEmpty from.book × (from.filings.last ≢ Non
 OpenSays from text (Err (faulty why)) = IsFresh from × BookSays text (Err why)
 OpenSays from text (Ok book) = IsFresh from × BookSays text (Ok book)
 
+-- what is written of the refusal of `open`
 abbrev pub open_detail : OpenRefusal → List ℕ
 open_detail not_empty = codes "book NotEmpty"
 open_detail filed = codes "book Filed"

@@ -11,6 +11,7 @@ pub record OutsideShown : Type 0 where
   pub written : Option (List ℕ)
   pub steps : ℕ
 
+-- what the files, the sink and the counter show, of these parts
 abbrev pub shown : Option FileMap → Option (List ℕ) → Option (List ℕ) → ℕ → OutsideShown
 shown files failed written steps = record {
   files = files;

@@ -34,7 +34,7 @@ with_book from book = record { book = book; filings = from.filings; made = from.
 abbrev pub after_filing : Standing → Filings → Standing
 after_filing from filings = record { book = from.book; filings = filings; made = from.made }
 
--- before the first line
+-- what stands before the first line: an empty book, of which nothing was filed, and no work
 abbrev pub first_standing : Standing
 first_standing = record {
   book = record { years = []; plans = []; last = record { runs = 0; steps = 0 } };
@@ -42,7 +42,7 @@ first_standing = record {
   made = record { runs = 0; steps = 0 };
 }
 
--- an answer that is no refusal: its text, and the steps that it counts
+-- an answer that isn't a refusal: its text, and the steps that it counts
 abbrev pub answered : List ℕ → ℕ → Answer
 answered text steps = record { text = text; refused = false; steps = steps }
 

@@ -27,7 +27,7 @@ pub record IsUnbegun (old new : OutsideShown) : Type 0 where
   pub nothing : Appends old.written new.written []
   pub uncounted : new.steps ≡ old.steps
 
--- the line has this step; a front of its answer was written, and at most its steps were counted
+-- the line has this step; a prefix of its answer was written, and at most its steps were counted
 pub record IsPart (old new : OutsideShown) (from : Standing) (line : List ℕ) : Type 0 where
   pub to : Standing
   pub answer : Answer
@@ -36,8 +36,8 @@ pub record IsPart (old new : OutsideShown) (from : Standing) (line : List ℕ) :
   pub within : new.steps ≤ old.steps + answer.steps
   pub is : ToldStep old.files from line to answer
 
--- the sink failed: the line has this step, and the script is what it leaves; a front of its answer was written, and not
--- the whole, and its steps were counted
+-- the sink failed: the line has this step, and the script is what it leaves; a prefix of its answer was written, and
+-- not the whole, and its steps were counted
 pub record IsUnfinished (old new : OutsideShown) (from to : Standing) (line : List ℕ) : Type 0 where
   pub answer : Answer
   pub part : AppendsShort old.written new.written answer.text

@@ -20,7 +20,7 @@ abbrev pub LinesHaveAStep : Type 0
 LinesHaveAStep =
     (files : FileMap) (from : Standing) (line : List ℕ) → AreThere files line → HasStep files from line
 
--- and no other; and a line that has a step has its files
+-- no line has two steps, and a line that has a step has its files
 abbrev pub LinesHaveOneStep : Type 0
 LinesHaveOneStep =
     (files : FileMap) (from : Standing) (line : List ℕ) (to to' : Standing) (answer answer' : Answer)
@@ -44,7 +44,7 @@ LongLinesAreOne =
     → most_line < length line → most_line < length other
     → IsStep files from line to answer → IsStep files from other to answer
 
--- and name no file
+-- lines that are too long name no file
 abbrev pub LongLinesNameNoFile : Type 0
 LongLinesNameNoFile = (line name : List ℕ) → most_line < length line → Names line name → ⊥
 

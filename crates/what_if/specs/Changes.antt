@@ -55,6 +55,7 @@ shown_cause (blocked.Unknown n) = shown.Unknown
 shown_cause (blocked.Missing n) = shown.Missing
 shown_cause (blocked.Range n) = shown.Range
 
+-- the state of a run as a trial shows it
 abbrev pub shown_state : State → Shown
 shown_state state.NoPlan = shown.NoPlan
 shown_state (state.Blocked b) = shown_cause b
@@ -103,6 +104,7 @@ run_changes k before after =
 abbrev pub row_state : KeyedRow → State
 row_state row = row.state
 
+-- the state of the run at a key, if there is one
 abbrev pub state_of : Contents → Key → Option State
 state_of book k = option_map row_state (at_key key_cmp row_key (month_rows book) k)
 

@@ -14,7 +14,7 @@ use Rattle.what_if.specs.declared.trial.TrialRow.TheVariants.{Changed, Value}
 use Rattle.what_if.specs.Changes.{state_of, state_outputs, same_state, shown_state}
 use Rattle.what_if.specs.Trials.{book_with, trial_of}
 
--- two states are told the same exactly where they are
+-- the test of two states is true exactly where they are the same
 abbrev pub SameStatesAreOne : Type 0
 SameStatesAreOne = (a b : State) → IsTrue (same_state a b) ↔ (a ≡ b)
 
@@ -55,7 +55,7 @@ TellsBoth old new (Changed k before after) =
 TellsBoth old new (Value k name before after) =
     (before ≡ named name (outputs_at old k)) × (after ≡ named name (outputs_at new k)) × (before ≢ after)
 
--- so it is of each row of a trial
+-- what each row of a trial tells is so before and after
 abbrev pub RowsTellBoth : Type 0
 RowsTellBoth =
     (book : Contents) (e : Entry Accepted)

@@ -1,4 +1,5 @@
--- The trial of a plan: what putting it at its day would change of a book.
+-- The trial of a plan: what putting it at its day would change of a book. Source: docs/PROFILE.md, "Scripts", the
+-- line `try`.
 use Rattle.std.specs.Prelude.{ℕ, ◌≡◌, ◌+◌, ◌≤◌, Result, Ok, Err}
 use Rattle.plan_calendar.specs.Picking.{Entry, day_of}
 use Rattle.book_year.specs.Accepted.{Accepted}
