@@ -18,7 +18,7 @@ pub record IsWidest (kind : Kind) (limit : InputLimit) : Type 0 where
   pub high : Spells (unquoted (greatest kind)) limit.high
   pub places : limit.places ≡ most_places kind
 
--- it keeps the rule for bounds, and suits the type
+-- a limit that keeps the rule for bounds, and suits the type
 pub record IsTaken (kind : Kind) (limit : InputLimit) : Type 0 where
   pub sound : HasSoundBounds limit
   pub suits : SuitsLimit kind limit

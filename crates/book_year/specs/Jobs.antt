@@ -12,11 +12,11 @@ use Rattle.book_year.specs.Accepted.{Accepted}
 use Rattle.book_year.specs.declared.outcome.Work.{Work}
 use Rattle.book_year.specs.Rows.{Job, Row}
 
--- both texts are the same
+-- two plans have the same texts
 abbrev pub has_texts : Accepted → Accepted → Bool
 has_texts p q = bytes_eq p.plan q.plan && bytes_eq p.limits q.limits
 
--- the same numerator and the same scale
+-- two decimals have the same numerator and the same scale
 abbrev pub same_decimal : Decimal → Decimal → Bool
 same_decimal a b = int_eq (numerator_of a) (numerator_of b) && nat_eq (scale_of a) (scale_of b)
 
@@ -24,7 +24,7 @@ same_decimal a b = int_eq (numerator_of a) (numerator_of b) && nat_eq (scale_of 
 abbrev pub same_inputs : List Decimal → List Decimal → Bool
 same_inputs a b = pointwise same_decimal a b
 
--- the same texts and the same inputs
+-- two jobs have the same texts and the same inputs
 abbrev pub same_job : Job → Job → Bool
 same_job i j = has_texts i.plan j.plan && same_inputs i.inputs j.inputs
 

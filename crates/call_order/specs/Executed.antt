@@ -23,6 +23,6 @@ pub record CallsStand (f : Flowchart) (order : List ℕ) : Type 0 where
       → EachExecuted (StandsIn f (take k order)) m.body
   pub main : EachExecuted (StandsIn f order) f.main
 
--- each order of a well-typed plan is such
+-- in each order of a well-typed plan what a method executes stands before it
 abbrev pub OrdersHaveCalls : Type 0
 OrdersHaveCalls = (f : Flowchart) (order : List ℕ) → IsWellTyped f → IsOrdered f order → CallsStand f order

@@ -19,7 +19,7 @@ is_beyond n = nat_lt limit (unsigned_abs n)
 abbrev pub ends_beyond : Interval → Bool
 ends_beyond a = is_beyond a.lo || is_beyond a.hi
 
--- an interval, where its ends are within the limit
+-- the interval, or Wide where an end is beyond the limit
 abbrev pub kept : Interval → Result Interval RangeCause
 kept a = unless (ends_beyond a) Wide (Ok a)
 
@@ -53,7 +53,7 @@ abbrev pub greatest : List ℤ → ℤ
 greatest [] = pos 0
 greatest (n ∷ ns) = fold int_max n ns
 
--- from the least to the greatest of some numbers
+-- the interval from the least to the greatest of some numbers
 abbrev pub hull : List ℤ → ℕ → ℕ → Interval
 hull ns s_lo s_hi = interval (least ns) (greatest ns) s_lo s_hi
 

@@ -19,7 +19,7 @@ halved (r ∷ (s ∷ rs)) = joined r s ∷ halved rs
 abbrev pub single_rows : List Decimal → List Answer
 single_rows items = map (λ d. decimals_row (d ∷ [])) items
 
--- none where there is no level
+-- the first of some levels, or an empty one where there is none
 abbrev pub first_level : List (List Answer) → List Answer
 first_level [] = []
 first_level (level ∷ levels) = level

@@ -8,7 +8,7 @@ use Rattle.scaled_decimal.specs.RoundedDecimals.{rescaled}
 use Rattle.interval_num.specs.declared.sign_set.SignSet.{SignSet}
 use Rattle.interval_num.specs.Intervals.{Interval, interval}
 
--- whole numbers that must differ differ by at least one
+-- by how much values that must differ differ at least: by one where they are whole numbers
 abbrev pub gap : SignSet → Bool → ℤ
 gap allowed whole = if whole && not allowed.zero then pos 1 else pos 0
 
@@ -28,7 +28,7 @@ high_end v e allowed whole =
 abbrev pub is_apart : Interval → SignSet → Bool → Bool
 is_apart e allowed whole = whole && (allowed.minus && (allowed.plus && (not allowed.zero && int_eq e.lo e.hi)))
 
--- an end that is this number moves one inwards
+-- an end, one more where it is this number
 abbrev pub past : ℤ → ℤ → ℤ
 past n low = if int_eq low n then low +ℤ pos 1 else low
 

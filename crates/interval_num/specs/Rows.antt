@@ -19,23 +19,23 @@ use Rattle.interval_num.specs.Signs.{signs_at, least_sign, greatest_sign}
 abbrev pub Answer : Type 0
 Answer = Result Interval RangeCause
 
--- add, of two aligned intervals
+-- the sums of two aligned intervals
 abbrev pub sum_of : Interval → Interval → Answer
 sum_of x y = kept (interval (x.lo +ℤ y.lo) (x.hi +ℤ y.hi) (max x.s_lo y.s_lo) x.s_hi)
 
--- subtract, of two aligned intervals
+-- the differences of two aligned intervals
 abbrev pub difference_of : Interval → Interval → Answer
 difference_of x y = kept (interval (x.lo -ℤ y.hi) (x.hi -ℤ y.lo) (max x.s_lo y.s_lo) x.s_hi)
 
--- min, of two aligned intervals
+-- the lesser operands of two aligned intervals
 abbrev pub min_of : Interval → Interval → Answer
 min_of x y = Ok (interval (int_min x.lo y.lo) (int_min x.hi y.hi) (min x.s_lo y.s_lo) x.s_hi)
 
--- max, of two aligned intervals
+-- the greater operands of two aligned intervals
 abbrev pub max_of : Interval → Interval → Answer
 max_of x y = Ok (interval (int_max x.lo y.lo) (int_max x.hi y.hi) (min x.s_lo y.s_lo) x.s_hi)
 
--- compareTo, of two aligned intervals
+-- the comparisons of two aligned intervals
 abbrev pub comparison_of : Interval → Interval → Answer
 comparison_of x y = Ok (interval (least_sign (signs_at x y)) (greatest_sign (signs_at x y)) 0 0)
 
@@ -63,7 +63,7 @@ max_row = aligned max_of
 abbrev pub comparison_row : Interval → Interval → Answer
 comparison_row = aligned comparison_of
 
--- where two branches meet
+-- the least interval that contains both, where two branches meet; Wide where an aligned end is beyond the limit
 abbrev pub join_row : Interval → Interval → Answer
 join_row = aligned join_of
 
@@ -105,7 +105,8 @@ quotient_row mode s a b =
     unless (quotient_is_wide s a b) Wide (
     Ok (hull (corners (end_quotient mode s a b) a b) s s)))
 
--- d is a plain divisor
+-- the interval of all exact quotients by the plain divisor d; Scale where its places are too many, Wide where a
+-- resulting end is beyond the limit
 abbrev pub exact_quotient_row : ℤ → Interval → Answer
 exact_quotient_row d a =
     unless (nat_lt most_places (a.s_hi + divisor_places d)) Scale (
@@ -140,17 +141,19 @@ decimals_at q ds =
 abbrev pub decimals_row : List Decimal → Answer
 decimals_row ds = decimals_at (greatest_scale ds) ds
 
--- the items of a table from the least index on to the greatest
+-- the interval of the items of a table from the least index on to the greatest; Index where an index may be outside
+-- the table, Wide where an aligned item is beyond the limit
 abbrev pub item_row : List Decimal → Interval → Answer
 item_row items index =
     unless (int_lt index.lo (pos 0) || int_le (pos (length items)) index.hi) Index (
     decimals_row (slice_range items (unsigned_abs index.lo) (suc (unsigned_abs index.hi))))
 
--- whole numbers of so many bits: the results at the ends
+-- the interval of whole numbers from the least to the greatest result at the ends; Wide where one has more than so
+-- many bits
 abbrev pub whole_hull : ℕ → List ℤ → Answer
 whole_hull bits ends = unless (not (list_all (is_of_bits bits) ends)) Wide (Ok (hull ends 0 0))
 
--- +, - and *
+-- the interval of all results of +, - or * of whole numbers; Wide where an end has more bits
 abbrev pub whole_row : ℕ → (ℤ → ℤ → ℤ) → Interval → Interval → Answer
 whole_row bits operation a b = whole_hull bits (corners operation a b)
 
@@ -163,7 +166,7 @@ whole_opposite_row bits a = whole_hull bits (neg_ℤ a.hi ∷ (neg_ℤ a.lo ∷ 
 abbrev pub whole_quotient_row : ℕ → Interval → Interval → Answer
 whole_quotient_row bits a b = unless (has_zero b) Divisor (whole_hull bits (corners whole_quotient a b))
 
--- a remainder has the dividend's sign, is no greater than it, and is at most m in magnitude
+-- the least remainder of dividends from this on, by divisors whose magnitude less one is at most m
 abbrev pub least_remainder : (low m : ℤ) → ℤ
 least_remainder low m = if int_le (pos 0) low then pos 0 else int_max low (neg_ℤ m)
 

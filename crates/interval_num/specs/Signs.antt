@@ -15,7 +15,7 @@ signs_at x y = record { minus = int_lt x.lo y.hi; zero = int_le x.lo y.hi && int
 abbrev pub signs_of : Interval → Interval → SignSet
 signs_of a b = signs_at (at_scale (greater_scale a b) a) (at_scale (greater_scale a b) b)
 
--- the least and the greatest of the numbers -1, 0 and 1 of a set's signs
+-- the least sign of a set, as a number
 abbrev pub least_sign : SignSet → ℤ
 least_sign s = if s.minus then negsuc 0 else if s.zero then pos 0 else pos 1
 

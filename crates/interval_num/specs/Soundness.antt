@@ -65,7 +65,7 @@ NegationIsSound a r = (x : Decimal) → Contains a x → Contains r (negated x)
 abbrev pub MagnitudeIsSound : Interval → Interval → Type 0
 MagnitudeIsSound a r = (x : Decimal) → Contains a x → Contains r (magnitude x)
 
--- a join contains what either part contains
+-- each decimal of either part is contained in r
 pub record JoinIsSound (a b r : Interval) : Type 0 where
   pub left : (x : Decimal) → Contains a x → Contains r x
   pub right : (y : Decimal) → Contains b y → Contains r y
@@ -82,13 +82,13 @@ pub record HasItem (items : List Decimal) (index : ℤ) (r : Interval) : Type 0 
 abbrev pub ItemIsSound : List Decimal → Interval → Interval → Type 0
 ItemIsSound items index r = (i : ℤ) → Contains index (whole_decimal i) → HasItem items i r
 
--- an operation on whole numbers of so many bits
+-- the result of an operation on all contained whole numbers has so many bits and is contained in r
 abbrev pub WholeIsSound : ℕ → (ℤ → ℤ → ℤ) → Interval → Interval → Interval → Type 0
 WholeIsSound bits operation a b r =
     (m n : ℤ) → Contains a (whole_decimal m) → Contains b (whole_decimal n) →
     Covers r (IsOfBits bits (operation m n)) (λ z. z ≡ whole_decimal (operation m n))
 
--- / and %
+-- no contained divisor is 0, and the result of / or % has so many bits and is contained in r
 abbrev pub WholeQuotientIsSound : ℕ → (ℤ → ℤ → ℤ) → Interval → Interval → Interval → Type 0
 WholeQuotientIsSound bits operation a b r =
     (m n : ℤ) → Contains a (whole_decimal m) → Contains b (whole_decimal n) →
@@ -103,7 +103,7 @@ WholeOppositeIsSound bits opposite a r =
 abbrev pub SignsAreSound : Interval → Interval → SignSet → Type 0
 SignsAreSound a b s = (x y : Decimal) → Contains a x → Contains b y → HasSign s x y
 
--- a decimal of v that stands in an allowed sign to some decimal of e
+-- a decimal of v stands in an allowed sign to some decimal of e
 pub record IsAllowed (v e : Interval) (allowed : SignSet) (x : Decimal) : Type 0 where
   pub is : Contains v x
   pub other : Decimal

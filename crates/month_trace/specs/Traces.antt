@@ -35,6 +35,7 @@ module _ (scope : Scope) where
   -- Given what methods do and what their executions add to a trace: the trace of a list of statements of a method, the
   -- first of which has this number.
   module _ (calls : Calls) (inside : List ℕ → Env → Trace) (name : List ℕ) where
+    -- the trace of a list of statements, the first of which has this number
     abbrev pub traced : ℕ → Body → Env → Trace
     traced at done env = Some []
     traced at (eval x e rest) env =

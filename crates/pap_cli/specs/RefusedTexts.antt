@@ -6,12 +6,12 @@ use Rattle.plain_words.specs.Lines.{shown_text}
 use Rattle.script_run.specs.declared.refused_lines.RefusedLine.{RefusedLine}
 use Rattle.script_run.specs.declared.refused_lines.RefusedLines.{RefusedLines}
 
--- stdin:NUMBER: WHY
+-- a refused line of a script, on standard error: stdin:NUMBER: WHY
 abbrev pub refused_line : RefusedLine → List ℕ
 refused_line r =
     codes "stdin:" ++ (number r.number ++ (codes ": " ++ (shown_text (string_bytes r.wrong) ++ (10 ∷ []))))
 
--- how many more there are, where there are more
+-- how many more refused lines there are, where there are more: and N more
 abbrev pub more_line : RefusedLines → List ℕ
 more_line told =
     let first = length told.first.items in

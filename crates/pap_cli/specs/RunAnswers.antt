@@ -22,7 +22,7 @@ finished f outputs steps = record {
   steps = steps;
 }
 
--- the run on filled inputs; a run without earlier ones waits for none
+-- the answer of a run on filled inputs, or why it has none; a run without earlier ones waits for none
 abbrev pub IsRunOn : Flowchart → Filled → Answer → Type 0
 IsRunOn f (Inputs inputs) answer =
     (outputs : List Decimal) × (outputs_of f inputs ≡ Some outputs) × (answer ≡ finished f outputs (cost_of f inputs))

@@ -28,17 +28,17 @@ tax_sum book = total (filter_map tax_of (month_rows book))
 abbrev pub count_line : List ℕ → ℕ → List ℕ
 count_line name count = line (spaced name (number count))
 
--- how many lines the script has, and how many runs the book
+-- how many lines the script of a sample has, and how many runs its book
 abbrev pub book_lines : ℕ → Contents → List ℕ
 book_lines employees book =
     count_line (codes "lines") (length (sample_lines employees))
     ++ count_line (codes "records") (length (month_rows book))
 
--- what all edits had to run, and in how many steps
+-- what all edits of a sample had to run, and in how many steps
 abbrev pub work_lines : Work → List ℕ
 work_lines made = count_line (codes "runs") made.runs ++ count_line (codes "steps") made.steps
 
--- these, and the LST of the book
+-- what came of a sample: its lines, its runs, its work, and the LST of its book
 abbrev pub summary_text : ℕ → Standing → List ℕ
 summary_text employees standing =
     book_lines employees standing.book ++ work_lines standing.made

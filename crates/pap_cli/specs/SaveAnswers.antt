@@ -31,7 +31,8 @@ pub record IsBookWritten (book : Contents) (written : Written) : Type 0 where
   pub says : SaveSays book verdict
   pub is : IsVerdict verdict written
 
--- where an answer is a refusal: the refusals alone; else where a month was filed: that it was; else the last book
+-- what `save` writes: the refusals alone where an answer is a refusal; else that a month was filed, where one
+-- was; else the last book
 abbrev pub IsSave : Bool → Bool → List ℕ → Contents → Written → Type 0
 IsSave true filed refusals book written = written ≡ refused_with refusals
 IsSave false true refusals book written = written ≡ refused_with (refusal_line (codes "book Filed"))

@@ -54,7 +54,7 @@ instr_of_one (value_of_scaled s) = i.Scaled s
 instr_of_one new_big = i.Same
 instr_of_one (set_scale s mode) = i.Set s mode
 
--- && and || have none behind their right operand
+-- the instruction of an operator; && and || have none behind their right operand
 abbrev pub instr_of_operator : Binary → Instr
 instr_of_operator binaries.Mul = i.IntMul
 instr_of_operator binaries.Div = i.IntDiv
@@ -70,7 +70,7 @@ instr_of_operator binaries.Differs = i.Differs
 instr_of_operator binaries.And = i.Same
 instr_of_operator binaries.Or = i.Same
 
--- a literal with a point stands under valueOf without the zeros that end it
+-- the code of an operand of valueOf: a literal with a point stands there without the zeros that end it
 abbrev pub operand_code : One → Term → List Instr → List Instr
 operand_code value_of (leaf (point d)) code = i.Lit (shortened fewest_places d) ∷ []
 operand_code _ e code = code
@@ -80,7 +80,7 @@ module _ (scope : Scope) where
   abbrev pub slot : List ℕ → ℕ
   slot x = unwrap_or (number_of (names_of scope.variables) x) 0
 
-  -- a variable is read from its slot, and a constant stands in the code
+  -- the instruction of a name: a variable is read from its slot, and a constant stands in the code
   abbrev pub name_code : List ℕ → Instr
   name_code x =
       option_map_or (λ k. i.Load k) (number_of (names_of scope.variables) x) (i.Lit (unwrap_or (constant_in scope x) zero))
@@ -94,6 +94,7 @@ module _ (scope : Scope) where
       (option_map (λ k. length scope.variables + k) (number_of (names_of scope.constants) x)))
       0
 
+  -- the instruction of a literal or a name
   abbrev pub leaf_code : Leaf → Instr
   leaf_code (whole n) = i.Lit (decimal n 0)
   leaf_code (long n) = i.Lit (decimal n 0)
@@ -102,10 +103,11 @@ module _ (scope : Scope) where
   leaf_code (known k) = i.Lit (known_value k)
   leaf_code (named x) = name_code x
 
-  -- divide(d) has the number of the divisor that the text shows
+  -- the number of the divisor of divide(d) that the text shows
   abbrev pub shown_number : Term → ℤ
   shown_number d = option_map_or numerator_of (shown_divisor scope d) (pos 0)
 
+  -- the instruction of a method of one argument
   abbrev pub instr_of_method : Call → Term → Instr
   instr_of_method calls.Add d = i.Add
   instr_of_method calls.Subtract d = i.Sub
@@ -115,6 +117,7 @@ module _ (scope : Scope) where
   instr_of_method calls.Min d = i.Min
   instr_of_method calls.Max d = i.Max
 
+  -- the instruction of an operation on two operands
   abbrev pub instr_of_two : Two → Term → Instr
   instr_of_two (operator o) f = instr_of_operator o
   instr_of_two (method m) f = instr_of_method m f
@@ -141,7 +144,7 @@ module _ (scope : Scope) where
 
 -- ---- statements
 
--- a literal that goes to a `double` stands in the code with three places
+-- the code of what goes to a `double`: a literal stands in it with three places
 abbrev pub factor_code : Term → List Instr → List Instr
 factor_code (leaf (whole n)) code = i.Lit (at_factor_scale (decimal n 0)) ∷ []
 factor_code (leaf (point d)) code = if has_few_places d then i.Lit (at_factor_scale d) ∷ [] else code
@@ -168,6 +171,7 @@ module _ (scope : Scope) (to : List ℕ → ℕ) where
       ++ body_code (at + term_length t + 1 + body_length a + 1 + body_length b) rest))
   body_code at (execute m rest) = i.Call (to m) ∷ body_code (at + 1) rest
 
+  -- the code of each method, one after the other, with its return
   abbrev pub methods_code : ℕ → List Routine → List Instr
   methods_code at [] = []
   methods_code at (m ∷ ms) = body_code at m.body ++ i.Return ∷ methods_code (at + body_length m.body + 1) ms
@@ -183,7 +187,7 @@ entry at ms x = option_map_or (slice_index (entries_from at ms)) (number_of (met
 
 -- ---- the plan
 
--- the methods stand behind MAIN and the end
+-- the first instruction of the first method, behind those of MAIN and the end
 abbrev pub first_method : Flowchart → ℕ
 first_method f = body_length f.main + 1
 

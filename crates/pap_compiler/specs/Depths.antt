@@ -5,14 +5,14 @@ use Rattle.pap_tree.specs.Flowchart.{Body, done, eval, branch, execute, Routine,
 use Rattle.pap_types.specs.Routines.{body_named}
 use Rattle.pap_types.specs.Limits.{longest_chain}
 
--- that of a list of statements, given those of the methods
+-- the greatest number of open calls in a list of statements, given those of the methods
 abbrev pub body_depth : (List ℕ → ℕ) → Body → ℕ
 body_depth call done = 0
 body_depth call (eval x e rest) = body_depth call rest
 body_depth call (branch t a b rest) = max (max (body_depth call a) (body_depth call b)) (body_depth call rest)
 body_depth call (execute m rest) = max (call m + 1) (body_depth call rest)
 
--- that of a method, where a chain of methods has at most so many
+-- the greatest number of open calls in a method, where a chain of methods has at most so many
 unfoldable pub method_depth : List Routine → ℕ → List ℕ → ℕ
 method_depth ms zero m = 0
 method_depth ms (suc n) m = option_map_or (body_depth (method_depth ms n)) (body_named ms m) 0

@@ -5,7 +5,7 @@ use Rattle.pap_tree.specs.declared.expression.Binary.TheVariants as binaries
 use Rattle.pap_tree.specs.Term.{Term, leaf, item, one, two, choice, Two, operator}
 use Rattle.pap_tree.specs.Flowchart.{Body, done, eval, branch, execute, Routine, Flowchart}
 
--- that of a right operand: the value of the left one lies below it, but that of && and || is taken off
+-- the height of a right operand: the value of the left one lies below it, but that of && and || is taken off
 abbrev pub right_height : Two → ℕ → ℕ
 right_height (operator binaries.And) height = height
 right_height (operator binaries.Or) height = height

@@ -43,7 +43,7 @@ AcceptedPlansNeverFail =
     (plan limits : List ℕ) (m : Meaning) → IsAccepted plan limits m
     → (inputs : List Decimal) → AreAdmitted m.flowchart m.limits inputs → RunsToItsEnd m inputs
 
--- no accepted plan has a greater bound
+-- no accepted plan has a bound above `most_steps`
 abbrev pub BoundsAreSmall : Type 0
 BoundsAreSmall =
     (plan limits : List ℕ) (m : Meaning) → IsAccepted plan limits m → bound_of m.flowchart ≤ most_steps
@@ -55,8 +55,8 @@ RangesAreNamed =
 
 -- ---- what is judged
 
--- Where the ranges of a plan are judged, its walk refuses nothing where it is read, and behind each test that it passes it
--- goes on.
+-- Once a plan reaches the range analysis, its walk refuses nothing where it is read, and behind each test that it
+-- passes it goes on.
 abbrev pub JudgedPlansAreRead : Type 0
 JudgedPlansAreRead =
     (plan limits : List ℕ) (f : Flowchart) (l : Limits) → HasBindings plan limits f l → ReadsPlan f l
@@ -67,8 +67,8 @@ abbrev pub OrderedPlansCanBeWalked : Type 0
 OrderedPlansCanBeWalked =
     (plan : List ℕ) (f : Flowchart) → IsOrderedPlan plan f → RefusesNothingOutright f
 
--- Where the ranges of a plan are judged, each refusal is that of a row, at the place and for the cause that it names; or an
--- output is beyond its bound.
+-- Once a plan reaches the range analysis it is refused only by the row of an operation, at the place and for the cause
+-- that the refusal names, or because an output may be beyond its bound.
 abbrev pub JudgedPlansAreRefusedByRows : Type 0
 JudgedPlansAreRefusedByRows =
     (plan limits : List ℕ) (f : Flowchart) (l : Limits) (x : WalkFault)

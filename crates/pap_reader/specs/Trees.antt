@@ -56,6 +56,7 @@ abbrev mutual
   raw_stmt_then (raws.If' t m ys n zs) rest = branch t.items (raw_body_of_row ys) (raw_body_of_row zs) rest
   raw_stmt_then (raws.Execute x) rest = execute x rest
 
+  -- what the statements of a branch of the program stand for
   pub raw_body_of_row : {m : _} → Row_of-RawStmt m → RawBody
   raw_body_of_row end_of-RawStmt = done
   raw_body_of_row (more_of-RawStmt s rest) = raw_stmt_then s (raw_body_of_row rest)

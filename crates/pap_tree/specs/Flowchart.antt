@@ -25,6 +25,7 @@ abbrev mutual
   stmt_then (If' t m ys n zs) rest = branch (term_of t) (body_of_row ys) (body_of_row zs) rest
   stmt_then (Execute x) rest = execute x rest
 
+  -- what the statements of a branch of the program stand for
   pub body_of_row : {m : _} → Row_of-Stmt m → Body
   body_of_row end_of-Stmt = done
   body_of_row (more_of-Stmt s rest) = stmt_then s (body_of_row rest)

@@ -68,15 +68,15 @@ abbrev pub place : List ℕ → ℕ → ℕ → Place
 place name stmt node = record { method = name; stmt = stmt; node = node }
 
 module _ (scope : Scope) (at_node : ℕ → Place) where
-  -- a name is declared
+  -- the check that a name is declared
   abbrev pub known_check : List ℕ → ℕ → Check
   known_check x at = check (is_some (declaration_in scope x)) (faults.Unknown x (at_node at))
 
-  -- the operands of the node suit its operation
+  -- the check that the operands of a node suit its operation
   abbrev pub kind_check : Bool → ℕ → Check
   kind_check passes at = check passes (faults.Kind (at_node at))
 
-  -- a name is declared; a literal needs no check
+  -- the check of a name that it is declared; a literal needs no check
   abbrev pub leaf_checks : Leaf → ℕ → List Check
   leaf_checks (named x) at = known_check x at ∷ []
   leaf_checks _ at = []
@@ -109,7 +109,8 @@ abbrev pub target_kind : Scope → List ℕ → Option Kind
 target_kind scope x = option_map (λ d. d.kind) (declared_as scope.variables x)
 
 module _ (scope : Scope) (methods : List Routine) (name : List ℕ) where
-  -- an assignment: its target is declared and no constant, then its nodes, then the value suits the target
+  -- the checks of an assignment: its target is declared and isn't a constant, then its nodes, then the value suits the
+  -- target
   abbrev pub eval_checks : ℕ → List ℕ → Term → List Check
   eval_checks stmt x e =
       let last = place name stmt (last_node e) in
@@ -118,7 +119,7 @@ module _ (scope : Scope) (methods : List Routine) (name : List ℕ) where
       ∷ (node_checks scope (place name stmt) e 0
       ++ (check (option_map_or (λ k. suits k e (kind_of scope e)) (target_kind scope x) false) (faults.Kind last) ∷ [])))
 
-  -- a test: its nodes, then the whole is a truth
+  -- the checks of a test: its nodes, then the whole is a truth
   abbrev pub test_checks : ℕ → Term → List Check
   test_checks stmt t =
       node_checks scope (place name stmt) t 0 ++ (check (is_truth (kind_of scope t)) (faults.Kind (place name stmt (last_node t))) ∷ [])

@@ -9,14 +9,14 @@ use Rattle.pap_tree.specs.Statements.{written}
 
 -- ---- expressions
 
--- no more nodes than an expression has tokens
+-- an expression has no more nodes than an expression may have tokens
 pub record IsSmallTerm (e : Term) : Type 0 where
   pub size : nodes e ≤ most_tokens
   pub scales : KeepsScales e
 
 -- ---- statements
 
--- each expression of a list of statements
+-- each expression of a list of statements is small
 abbrev pub AreSmallTerms : Body → Type 0
 AreSmallTerms done = ⊤
 AreSmallTerms (eval x e rest) = IsSmallTerm e × AreSmallTerms rest

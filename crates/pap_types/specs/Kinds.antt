@@ -68,7 +68,7 @@ declared_kind declares.Big = Big
 declared_kind declares.Factor = Factor
 declared_kind declares.Table = Table
 
--- an unknown name, which no well-formed plan has, counts as an int
+-- the kind of a name; an unknown name, which no well-formed plan has, counts as an int
 abbrev pub name_kind : Scope → List ℕ → NodeKind
 name_kind scope x = option_map_or (λ d. declared_kind d.kind) (declaration_in scope x) Int
 
@@ -81,13 +81,13 @@ leaf_kind scope (text d) = Big
 leaf_kind scope (known k) = Big
 leaf_kind scope (named x) = name_kind scope x
 
--- what comes of an operation whose operands have these kinds
+-- the kind of an operation on one operand of this kind
 abbrev pub kind_of_one : One → NodeKind → NodeKind
 kind_of_one (unary Minus) k = k
 kind_of_one (unary Not) k = Truth
 kind_of_one _ k = Big
 
--- arithmetic is of whole numbers, and all else is a truth
+-- the kind of an operator's result: arithmetic is of whole numbers, and all else is a truth
 abbrev pub kind_of_operator : Binary → NodeKind → NodeKind → NodeKind
 kind_of_operator binaries.Mul j k = wider j k
 kind_of_operator binaries.Div j k = wider j k
@@ -96,7 +96,7 @@ kind_of_operator binaries.Plus j k = wider j k
 kind_of_operator binaries.Sub j k = wider j k
 kind_of_operator _ j k = Truth
 
--- compareTo gives an `int`, each other method a decimal
+-- the kind of an operation on two operands: compareTo gives an `int`, each other method a decimal
 abbrev pub kind_of_two : Two → NodeKind → NodeKind → NodeKind
 kind_of_two (operator o) j k = kind_of_operator o j k
 kind_of_two (method calls.CompareTo) j k = Int
@@ -155,11 +155,11 @@ shown_divisor scope _ = None
 abbrev pub shows_plain_divisor : Scope → Term → Bool
 shows_plain_divisor scope d = option_map_or is_plain_divisor (shown_divisor scope d) false
 
--- what BigDecimal.valueOf takes
+-- BigDecimal.valueOf takes a term of this kind
 abbrev pub is_convertible : NodeKind → Bool
 is_convertible k = is_whole k || (is_factor k || is_fraction k)
 
--- which operands an operation takes
+-- whether an operation on one operand takes a term of this kind
 abbrev pub takes_one : One → NodeKind → Bool
 takes_one (unary Minus) k = is_whole k
 takes_one (unary Not) k = is_truth k
@@ -170,12 +170,12 @@ takes_one (value_of_scaled s) k = is_whole k
 takes_one new_big k = is_whole k
 takes_one (set_scale s m) k = is_big k
 
--- Whole numbers are compared with whole numbers, and the name of a `double` with a literal.
+-- Two terms may be compared: whole numbers with whole numbers, and the name of a `double` with a literal.
 abbrev pub are_comparable : Term → NodeKind → Term → NodeKind → Bool
 are_comparable e j f k =
     (is_whole j && is_whole k) || (is_factor j && is_factor_literal f) || (is_factor_literal e && is_factor k)
 
--- which operands an operator takes: e and f of the kinds j and k
+-- whether an operator takes the operands e and f of the kinds j and k
 abbrev pub takes_operator : Binary → Term → NodeKind → Term → NodeKind → Bool
 takes_operator binaries.And e j f k = is_truth j && is_truth k
 takes_operator binaries.Or e j f k = is_truth j && is_truth k
@@ -186,7 +186,7 @@ takes_operator binaries.Plus e j f k = is_whole j && is_whole k
 takes_operator binaries.Sub e j f k = is_whole j && is_whole k
 takes_operator _ e j f k = are_comparable e j f k
 
--- which operands an operation of two takes; divide(d) takes only a plain divisor that the text shows
+-- whether an operation on two operands takes these; divide(d) takes only a plain divisor that the text shows
 abbrev pub takes_two : Scope → Two → Term → NodeKind → Term → NodeKind → Bool
 takes_two scope (operator o) e j f k = takes_operator o e j f k
 takes_two scope (method calls.DivideExact) e j f k = is_big j && (is_big k && shows_plain_divisor scope f)

@@ -52,14 +52,14 @@ cost_of f inputs = spent (scope_of f) (calls_in f) f.main (start f inputs) + 1
 abbrev pub bound_of : Flowchart → ℕ
 bound_of f = body_bound (method_bound f.methods longest_chain) f.main + 1
 
--- a kept decimal as an input of a kind has it
+-- a kept decimal is as an input of a kind has it
 abbrev pub SuitsKind : Kind → Decimal → Type 0
 SuitsKind declares.Int d = IsKept d × (scale_of d ≡ 0)
 SuitsKind declares.Long d = IsKept d × (scale_of d ≡ 0)
 SuitsKind declares.Factor d = IsKept d × (scale_of d ≡ factor_places)
 SuitsKind _ d = IsKept d
 
--- one such decimal for each declared input
+-- these are the values of the inputs: one suitable decimal for each declared input
 abbrev pub AreInputs : List Declaration → List Decimal → Type 0
 AreInputs [] [] = ⊤
 AreInputs (d ∷ ds) (v ∷ vs) = SuitsKind d.kind v × AreInputs ds vs

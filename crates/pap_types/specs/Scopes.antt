@@ -36,7 +36,7 @@ declaration_in scope x = option_or (declared_as scope.variables x) (declared_as 
 abbrev pub factor_places : ℕ
 factor_places = 3
 
--- a decimal with three places, which has no more
+-- a decimal of at most three places, at three places
 abbrev pub at_factor_scale : Decimal → Decimal
 at_factor_scale d = decimal (numerator_at factor_places d) factor_places
 
@@ -73,7 +73,7 @@ literal_table (number l) = []
 literal_table (big d) = []
 literal_table (table ds) = ds
 
--- the same where a literal is written; where none is, zero and no items
+-- the decimal that a declaration begins with: the written one, or zero
 abbrev pub declared_decimal : Option DeclaredLiteral → Decimal
 declared_decimal None = zero
 declared_decimal (Some l) = literal_decimal l

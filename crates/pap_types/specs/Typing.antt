@@ -14,7 +14,7 @@ use Rattle.pap_types.specs.Checks.{is_of_type}
 -- ---- expressions
 
 module _ (scope : Scope) where
-  -- a name is declared
+  -- a literal, or a name that is declared
   abbrev pub IsDeclaredLeaf : Leaf → Type 0
   IsDeclaredLeaf (named x) = IsTrue (is_some (declaration_in scope x))
   IsDeclaredLeaf _ = ⊤

@@ -50,8 +50,9 @@ module _ (scope : Scope) where
   leaf_value (known k) env = Some (known_value k)
   leaf_value (named x) env = named_value x env
 
-  -- The value, with no bound on any number, or none where it is undefined: at a zero divisor and at an index outside its
-  -- table. Operands are evaluated from the left; what needs no right operand doesn't ask for its value.
+  -- The value of an expression, with no bound on any number, or none where it is undefined: at a zero divisor and at an
+  -- index outside its table. Operands are evaluated from the left; what needs no right operand doesn't ask for its
+  -- value.
   abbrev pub value : Term → Env → Option Decimal
   value (leaf l) env = leaf_value l env
   value (item x e) env = option_and_then (λ i. item_at (table_in scope x) (numerator_of i)) (value e env)
@@ -60,7 +61,8 @@ module _ (scope : Scope) where
       option_and_then (λ a. if goes_right op a then option_and_then (λ b. of_two op a b) (value f env) else Some a) (value e env)
   value (choice c e f) env = option_and_then (λ t. if is_zero t then value f env else value e env) (value c env)
 
-  -- one step for each evaluated node, and one more for the first part of a conditional where it is taken
+  -- the cost of an expression: one step for each evaluated node, and one more for the first part of a conditional where
+  -- it is taken
   abbrev pub cost : Term → Env → ℕ
   cost (leaf l) env = 1
   cost (item x e) env = cost e env + 1

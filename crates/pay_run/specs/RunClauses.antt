@@ -11,7 +11,7 @@ use Rattle.pay_run.specs.Accepted.{Accepted}
 use Rattle.pay_run.specs.Runs.{run_outputs, run_cost}
 use Rattle.pay_run.specs.declared.outputs.Finished.{Finished}
 
--- inputs that a plan admits: each is kept, and within its limit
+-- the plan admits the inputs: each is kept, and within its limit
 abbrev pub AdmitsFilled : Accepted → Filled → Type 0
 AdmitsFilled p (filling.Inputs inputs) =
     AreAdmitted p.meaning.flowchart p.meaning.limits inputs

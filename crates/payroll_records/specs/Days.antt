@@ -22,7 +22,7 @@ pub record IsDay (year month day : ℕ) : Type 0 where
 abbrev pub two_digits : ℕ → List ℕ
 two_digits n = (48 + n / 10) ∷ (48 + n % 10) ∷ []
 
--- how a month and a day are written
+-- a month as it is written: YYYY-MM
 abbrev pub month_text : ℕ → ℕ → List ℕ
 month_text year month = two_digits (year / 100) ++ two_digits (year % 100) ++ 45 ∷ two_digits month
 
@@ -40,7 +40,7 @@ pub record IsDayText (text : List ℕ) (year month day : ℕ) : Type 0 where
   pub exists : IsDay year month day
   pub written : text ≡ day_text year month day
 
--- the text is that of some month, of some day
+-- the text is that of some month
 abbrev pub IsMonthSpelled : List ℕ → Type 0
 IsMonthSpelled text = (year : ℕ) × (month : ℕ) × IsMonthText text year month
 

@@ -9,6 +9,6 @@ most_records = 50000
 abbrev pub most_values : ℕ
 most_values = 256
 
--- the most bytes of a table
+-- a table has at most so many bytes
 abbrev pub longest_table : ℕ
 longest_table = 33554432

@@ -8,7 +8,7 @@ use Rattle.rising_lists.specs.Keyed.{at_key, put, IsRising}
 use Rattle.payroll_records.specs.Limits.{most_values}
 use Rattle.payroll_records.specs.declared.values.NamedValue.{NamedValue}
 
--- names in the order of their bytes
+-- the order of names by their bytes
 abbrev pub name_cmp : List ℕ → List ℕ → Ordering
 name_cmp = slice_cmp nat_cmp
 

@@ -14,6 +14,6 @@ abbrev pub IsWhenText : List ℕ → When → Type 0
 IsWhenText text (when.Month m) = IsMonthText text m.year m.month
 IsWhenText text (when.Day d) = IsDayText text d.year d.month d.day
 
--- what a month or a day is written as is its text, and that of no other
+-- the text of a month or a day is that of no other
 abbrev pub WhensAreKnownByTexts : Type 0
 WhensAreKnownByTexts = (a b : When) → IsWhenText (when_text a) b ↔ (a ≡ b)

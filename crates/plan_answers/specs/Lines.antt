@@ -13,11 +13,12 @@ spaced text after = text ++ (32 ∷ after)
 abbrev pub line : List ℕ → List ℕ
 line text = text ++ (10 ∷ [])
 
--- accepted steps B
+-- the bound on the steps of an accepted flowchart: accepted steps B
 abbrev pub bound_line : ℕ → List ℕ
 bound_line bound = line (codes "accepted steps " ++ number bound)
 
--- NAME LO HI SLO SHI: the ends as plain decimals at the greatest scale, then the least and the greatest scale
+-- an output with its range: NAME LO HI SLO SHI, the ends as plain decimals at the greatest scale, then the
+-- least and the greatest scale
 abbrev pub range_line : NamedRange → List ℕ
 range_line o =
     line (spaced o.name
@@ -30,6 +31,6 @@ abbrev pub range_lines : Ranges → List ℕ
 range_lines [] = []
 range_lines (o ∷ os) = range_line o ++ range_lines os
 
--- refused GROUP NAME DETAIL
+-- a refusal, the first word and then its detail: refused GROUP NAME DETAIL
 abbrev pub refusal_line : List ℕ → List ℕ
 refusal_line detail = line (codes "refused " ++ detail)

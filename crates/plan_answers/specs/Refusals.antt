@@ -72,7 +72,7 @@ expr_detail spot exprs.Memory = []
 
 -- ---- its names and kinds, and the order of its methods
 
--- METHOD:STATEMENT:NODE
+-- a place as it is written: METHOD:STATEMENT:NODE
 abbrev pub text_of : Place → List ℕ
 text_of p = place_text p.method p.stmt p.node
 
@@ -125,14 +125,15 @@ node_at f p =
 abbrev pub spelling_at : Flowchart → Place → List ℕ
 spelling_at f p = option_map_or spelling (node_at f p) []
 
--- CAUSE PLACE EXPR
+-- why a node may fail, where it stands and how it is spelled: CAUSE PLACE EXPR
 abbrev pub node_detail : Flowchart → Place → RangeCause → List ℕ
 node_detail f place cause =
     codes "plan " ++ spaced (cause_word cause) (spaced (text_of place) (spelling_at f place))
 
 -- ---- all refusals of a plan with its range file
 
--- what is written after `refused`; the spelling of a node is that of the plan's text
+-- what is written after `refused`, also of how a range file and its flowchart don't fit, and of an output
+-- beyond its bound; the spelling of a node is that of the plan's text
 abbrev pub HasDetail : List ℕ → PlanRefusal → List ℕ → Type 0
 HasDetail plan (refusals.Read fault) detail = detail ≡ read_detail fault
 HasDetail plan (refusals.Expr spot fault) detail = detail ≡ expr_detail spot fault

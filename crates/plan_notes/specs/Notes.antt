@@ -25,7 +25,7 @@ unfoldable pub noted : Notes → ℕ → List Item
 noted notes behind =
     flat_map (items_at notes.comments.items) notes.marks.items ++ lines_of (drop behind notes.comments.items)
 
--- The root's name and version are those of these attributes, in one line.
+-- The root's name and version are those of these attributes, each in one line.
 pub record SaysOfRoot (notes : Notes) (attributes : List Attribute) : Type 0 where
   pub name : option_map (λ text. string_bytes text) notes.name ≡ option_map line_text (value_of (codes "name") attributes)
   pub version : option_map (λ text. string_bytes text) notes.version ≡ option_map line_text (value_of (codes "version") attributes)

@@ -12,7 +12,7 @@ first gnil = gnil
 first (gnum n) = gnil
 first (gcons a b) = a
 
--- its second side
+-- the second side of a tree of numbers
 abbrev second : Gv → Gv
 second gnil = gnil
 second (gnum n) = gnil
@@ -41,7 +41,7 @@ module _ (leaves : Coded Leaf) (ones : Coded One) (twos : Coded Two) where
   term_tree (choice c a b) =
       gcons (gnum 4) (gcons (term_tree c) (gcons (term_tree a) (term_tree b)))
 
-  -- which tells expressions apart
+  -- expressions with the same tree are the same
   pub same_term : (s t : Term) → term_tree s ≡ term_tree t → s ≡ t
   unfolding term_tree
   same_term (leaf l) (leaf m) p = ap leaf (leaves.inj l m (ap second p))
@@ -73,7 +73,7 @@ module _ (leaves : Coded Leaf) (ones : Coded One) (twos : Coded Two) where
       gcons (gnum 2) (gcons (term_tree t) (gcons (body_tree a) (gcons (body_tree b) (body_tree c))))
   body_tree (execute x b) = gcons (gnum 3) (gcons (names.code x) (body_tree b))
 
-  -- which tells lists of statements apart
+  -- lists of statements with the same tree are the same
   pub same_body : (a b : Body) → body_tree a ≡ body_tree b → a ≡ b
   unfolding body_tree
   same_body done done p = λ i. done
@@ -94,6 +94,6 @@ module _ (leaves : Coded Leaf) (ones : Coded One) (twos : Coded Two) where
   same_body (branch t a b c) d p = absurd (differ (ap (λ g. nat_eq 2 (tag g)) p))
   same_body (execute x a) b p = absurd (differ (ap (λ g. nat_eq 3 (tag g)) p))
 
-  -- so statements have a code
+  -- lists of statements have a code
   abbrev pub body_code : Coded Body
   body_code = record { code = body_tree; inj = same_body }

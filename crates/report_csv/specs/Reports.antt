@@ -60,7 +60,8 @@ blocked_fields front (blocked.Range n) = row_fields front (codes "range") n []
 abbrev pub output_fields : List Text → NamedValue → List Text
 output_fields front v = row_fields front (codes "ok") v.name (plain_text v.value)
 
--- the rows of a run: one for each of its outputs, in declared order, or one where it isn't ok
+-- the rows of a run: one for each of its outputs, in declared order, or one where it isn't ok, `noplan` where
+-- it has no plan
 abbrev pub state_rows : List Text → State → List (List Text)
 state_rows front state.NoPlan = row_fields front (codes "noplan") [] [] ∷ []
 state_rows front (state.Blocked why) = blocked_fields front why ∷ []

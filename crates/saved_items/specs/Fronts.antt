@@ -21,7 +21,7 @@ pub data Front : Type 0 where
   -- the same with all plans, how many runs there will be, and the runs so far
   running : ℕ → ℕ → List SavedPlan → ℕ → List Record → Front
 
--- how many items they are
+-- how many items the first items are
 abbrev pub items_in : Front → ℕ
 items_in nothing = 0
 items_in titled = 1
@@ -29,7 +29,7 @@ items_in (worked runs steps) = 2
 items_in (planning runs steps count plans) = 3 + length plans
 items_in (running runs steps plans count records) = 4 + length plans + length records
 
--- the plans among them
+-- the plans among the first items
 abbrev pub plans_in : Front → List SavedPlan
 plans_in nothing = []
 plans_in titled = []
@@ -53,7 +53,7 @@ pub record IsPlanning (count : ℕ) (plans : List SavedPlan) : Type 0 where
   pub within : length plans ≤ count
   pub rising : IsRising day_cmp day_of plans
 
--- the same of runs, whose keys rise
+-- runs whose keys rise, of as many as a number within the limit says
 pub record IsRunning (count : ℕ) (records : List Record) : Type 0 where
   pub counted : count ≤ most_records
   pub within : length records ≤ count

@@ -82,7 +82,7 @@ day_word d = day_text d.year d.month d.day
 abbrev pub value_word : NamedValue → Text
 value_word v = v.name ++ (codes "=" ++ plain_text v.value)
 
--- the lines before the plans
+-- the words of the first line of a saved book
 abbrev pub title_words : List Text
 title_words = codes "papbook" ∷ codes "1" ∷ []
 
@@ -106,7 +106,7 @@ plan_count_text count = line_of (codes "plans" ∷ whole_text count ∷ [])
 abbrev pub head_text : ℕ → ℕ → ℕ → Text
 head_text runs steps count = title_text ++ (work_text runs steps ++ plan_count_text count)
 
--- a plan: its day and the lengths of its texts on a line, the two texts, and a line feed
+-- the words of a plan's line: its day and the lengths of its two texts
 abbrev pub plan_words : Day → ℕ → ℕ → List Text
 plan_words day plan limits = codes "plan" ∷ day_word day ∷ whole_text plan ∷ whole_text limits ∷ []
 
@@ -116,7 +116,7 @@ plan_text p =
     line_of (plan_words p.day (length p.plan) (length p.limits))
     ++ (p.plan ++ (p.limits ++ (10 ∷ [])))
 
--- the line before the runs, and a run
+-- the line that says how many runs there are
 abbrev pub run_count_text : ℕ → Text
 run_count_text count = line_of (codes "runs" ∷ whole_text count ∷ [])
 

@@ -12,7 +12,7 @@ use Rattle.scaled_decimal.specs.declared.rounding.Mode.{Mode}
 abbrev pub Decimal : Type 0
 Decimal = ℤ × ℕ
 
--- the decimal of a numerator and a scale, and these two parts of a decimal
+-- the decimal of a numerator and a scale
 abbrev pub decimal : ℤ → ℕ → Decimal
 decimal n s = (n, s)
 

@@ -2,7 +2,7 @@
 use Rattle.std.specs.Prelude.{ℕ, ◌^◌, ◌≤◌, ℤ, unsigned_abs}
 use Rattle.scaled_decimal.specs.Decimals.{Decimal, numerator_of, scale_of}
 
--- the greatest magnitude of a numerator, and the greatest scale
+-- the numerator of a kept decimal has at most this magnitude
 abbrev pub limit : ℕ
 limit = 10 ^ 37
 

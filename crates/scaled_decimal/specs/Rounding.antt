@@ -14,12 +14,12 @@ pub record IsCeiling (n d q : ℤ) : Type 0 where
   pub low : ((q -ℤ pos 1) *ℤ d) <ℤ n
   pub high : n ≤ℤ (q *ℤ d)
 
--- towards zero, d above 0
+-- q is n / d rounded towards zero, d above 0
 pub record IsDown (n d q : ℤ) : Type 0 where
   pub above : pos 0 ≤ℤ n → IsFloor n d q
   pub below : n <ℤ pos 0 → IsCeiling n d q
 
--- away from zero, d above 0
+-- q is n / d rounded away from zero, d above 0
 pub record IsUp (n d q : ℤ) : Type 0 where
   pub above : pos 0 ≤ℤ n → IsCeiling n d q
   pub below : n <ℤ pos 0 → IsFloor n d q

@@ -4,7 +4,7 @@
 use Rattle.std.specs.Prelude.{ℕ, ◌-◌, ◌^◌, Bool, ◌&&◌, if◌then◌else◌, List, Option, None, slice_get, ℤ, pos, negsuc, ◌+ℤ◌, ◌-ℤ◌, ◌*ℤ◌, neg_ℤ, ◌≤ℤ◌, ◌<ℤ◌, int_le, int_lt, int_div, int_rem}
 use Rattle.scaled_decimal.specs.Decimals.{Decimal, decimal, numerator_of}
 
--- how many bits an int has, and a long
+-- the bits of an `int` of Java
 abbrev pub int_bits : ℕ
 int_bits = 32
 

@@ -45,11 +45,11 @@ fault_of (day_in first second) = fault.Day
 fault_of (value number word) = fault.Value number
 fault_of (new_name before word) = fault.Twice (name_in word)
 
--- a month or a day: a word of 7 bytes is to be a month, any other a day
+-- what is asked of a word for a month or a day: a word of 7 bytes is to be a month, any other a day
 abbrev pub time_field : Text → Field
 time_field word = if length word == 7 then month word else day word
 
--- an employee, and a month or a day
+-- what is asked of the words that mean a run: an employee, and a month or a day
 abbrev pub run_fields : List Text → List Field
 run_fields (who ∷ time ∷ []) = employee who ∷ time_field time ∷ []
 run_fields _ = []
@@ -61,7 +61,7 @@ value_fields before [] = []
 value_fields before (word ∷ words) =
     value (length before + 5) word ∷ new_name before word ∷ value_fields (before ++ (word ∷ [])) words
 
--- an employee, a month, a day and values
+-- what is asked of the words of a pay run: an employee, a month, a day and values
 abbrev pub record_fields : List Text → List Field
 record_fields (who ∷ first ∷ second ∷ values) =
     employee who ∷ month first ∷ day_in first second ∷ value_fields [] values

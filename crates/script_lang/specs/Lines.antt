@@ -103,7 +103,7 @@ pub record IsLine (line : Text) (what : Asked) : Type 0 where
 
 -- ---- why a line is refused
 
--- the first words of commands
+-- the commands, each by its first word
 pub data Verb : Type 0 where
   plan : Verb
   drop : Verb
@@ -135,22 +135,22 @@ text_of owed = codes "owed"
 text_of opening = codes "open"
 text_of trial = codes "try"
 
--- an employee, a month, a day, and at most as many value words as a pay run has values
+-- the words are an employee, a month, a day, and at most as many value words as a pay run has values
 abbrev pub takes_record : List Text → Bool
 takes_record (employee ∷ month ∷ day ∷ values) = nat_le (length values) most_values
 takes_record _ = false
 
--- an employee, and a month or a day
+-- the words are an employee, and a month or a day
 abbrev pub takes_run : List Text → Bool
 takes_run (employee ∷ time ∷ []) = true
 takes_run _ = false
 
--- a day and two files
+-- the words are a day and two files
 abbrev pub takes_plan : List Text → Bool
 takes_plan (day ∷ file ∷ limits ∷ []) = is_file file && is_file limits
 takes_plan _ = false
 
--- a file
+-- the words are a file
 abbrev pub takes_file : List Text → Bool
 takes_file (file ∷ []) = is_file file
 takes_file _ = false
@@ -189,7 +189,7 @@ fields_of trial words = plan_fields words
 fields_of filing (month ∷ []) = field.month month ∷ []
 fields_of _ _ = []
 
--- there is a first word, no comment, and it is that of no command
+-- there is a first word, which isn't a comment, and no command begins with it
 pub record HaveNoVerb (words : List Text) : Type 0 where
   pub said : IsSilent words → ⊥
   pub unknown : (verb : Verb) (rest : List Text) → words ≢ text_of verb ∷ rest

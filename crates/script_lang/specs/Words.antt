@@ -7,7 +7,7 @@ use Rattle.payroll_records.specs.Tables.{Text}
 abbrev pub is_blank : ℕ → Bool
 is_blank b = (b == 32) || (b == 9)
 
--- the line is cut at each blank; its words are the parts that have a byte
+-- the words of a line: it is cut at each blank, and its words are the parts that have a byte
 abbrev pub words_of : Text → List Text
 words_of line = filter (λ part. not (length part == 0)) (slice_split is_blank line)
 

@@ -41,7 +41,7 @@ sample_limits = script_of (
     ∷ codes "output = \"LST\""
     ∷ [])
 
--- their names and texts
+-- the names and texts of the sample's files
 abbrev pub named_texts : List (List ℕ × List ℕ)
 named_texts = (codes "p2.xml", sample_plan) ∷ (codes "l2.toml", sample_limits) ∷ []
 

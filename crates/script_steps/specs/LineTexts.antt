@@ -33,7 +33,7 @@ use Rattle.what_if.specs.declared.trial.TrialRow.{TrialRow}
 use Rattle.what_if.specs.declared.trial.TrialRow.TheVariants.{Changed, Value}
 use Rattle.plan_answers.specs.Lines.{spaced, line}
 
--- an edit is accepted
+-- an edit was made
 abbrev pub ok_line : List ℕ
 ok_line = line (codes "ok")
 
@@ -41,7 +41,7 @@ ok_line = line (codes "ok")
 abbrev pub end_line : List ℕ
 end_line = line (codes "end")
 
--- work RUNS STEPS
+-- the work of the last edit: work RUNS STEPS
 abbrev pub work_line : Work → List ℕ
 work_line w = line (codes "work " ++ spaced (number w.runs) (number w.steps))
 
@@ -51,7 +51,7 @@ work_line w = line (codes "work " ++ spaced (number w.runs) (number w.steps))
 abbrev pub site : List ℕ → ℕ → List ℕ
 site method stmt = method ++ (58 ∷ number stmt)
 
--- set METHOD:STMT NAME VALUE, test METHOD:STMT yes or no, call METHOD:STMT METHOD
+-- a statement of a trace: set METHOD:STMT NAME VALUE, test METHOD:STMT yes or no, call METHOD:STMT METHOD
 abbrev pub step_line : TraceStep → List ℕ
 step_line (Set m n x v) = line (codes "set " ++ spaced (site m n) (spaced x (plain_text v)))
 step_line (Test m n true) = line (codes "test " ++ spaced (site m n) (codes "yes"))
@@ -64,16 +64,16 @@ trace_text steps = flat_map step_line steps ++ end_line
 
 -- ---- filings
 
--- EMP DAY NAME AMOUNT
+-- the words of an entry or an amount: EMP DAY NAME AMOUNT
 abbrev pub due_words : Due → List ℕ
 due_words d =
     spaced d.key.employee (spaced (day_word d.key.day) (spaced d.name (plain_text d.amount)))
 
--- due EMP DAY NAME AMOUNT
+-- an entry that is filed: due EMP DAY NAME AMOUNT
 abbrev pub due_line : Entry → List ℕ
 due_line e = line (codes "due " ++ due_words e.due)
 
--- owed EMP DAY NAME AMOUNT
+-- an amount that is owed: owed EMP DAY NAME AMOUNT
 abbrev pub owed_line : Due → List ℕ
 owed_line d = line (codes "owed " ++ due_words d)
 
@@ -87,7 +87,7 @@ owed_text dues = flat_map owed_line dues ++ end_line
 
 -- ---- trials
 
--- the state of a run
+-- the state of a run before and after a trial
 abbrev pub shown_word : Shown → List ℕ
 shown_word shown.NoPlan = codes "noplan"
 shown_word shown.Waits = codes "waits"
@@ -96,12 +96,13 @@ shown_word shown.Missing = codes "missing"
 shown_word shown.Range = codes "range"
 shown_word shown.Done = codes "ok"
 
--- the value of an output, or that there is none
+-- the value of an output in a trial, or `-` where it has none
 abbrev pub amount_word : Option Decimal → List ℕ
 amount_word None = codes "-"
 amount_word (Some v) = plain_text v
 
--- changed EMP DAY OLD NEW, value EMP DAY NAME OLD NEW
+-- what a trial would change, a run's state or an output's value: changed EMP DAY OLD NEW, value EMP DAY NAME
+-- OLD NEW
 abbrev pub trial_line : TrialRow → List ℕ
 trial_line (Changed k before after) =
     line (codes "changed " ++ spaced k.employee (spaced (day_word k.day) (spaced (shown_word before) (shown_word after))))
@@ -109,7 +110,7 @@ trial_line (Value k name before after) =
     line (codes "value " ++ spaced k.employee (spaced (day_word k.day)
     (spaced name (spaced (amount_word before) (amount_word after)))))
 
--- would RUNS STEPS: the work of putting the plan
+-- the work that putting the tried plan would have: would RUNS STEPS
 abbrev pub would_line : Work → List ℕ
 would_line w = line (codes "would " ++ spaced (number w.runs) (number w.steps))
 

@@ -27,7 +27,7 @@ use Rattle.what_if.specs.declared.trial.TrialRow.TheVariants.{Changed, Value}
 
 -- ---- the same state
 
--- the same cause, with the same day or the same name
+-- two causes are the same, with the same day or the same name
 abbrev pub same_cause : Blocked → Blocked → Bool
 same_cause (blocked.Waits d) (blocked.Waits e) = is_eq (day_cmp d e)
 same_cause (blocked.Unknown m) (blocked.Unknown n) = bytes_eq m n
@@ -35,11 +35,11 @@ same_cause (blocked.Missing m) (blocked.Missing n) = bytes_eq m n
 same_cause (blocked.Range m) (blocked.Range n) = bytes_eq m n
 same_cause _ _ = false
 
--- the same name, number and scale
+-- two outputs have the same name, number and scale
 abbrev pub same_output : NamedValue → NamedValue → Bool
 same_output v w = bytes_eq v.name w.name && same_decimal v.value w.value
 
--- no plan in both, the same cause, or the same outputs in the same order
+-- two states are the same: no plan in both, the same cause, or the same outputs in the same order
 abbrev pub same_state : State → State → Bool
 same_state state.NoPlan state.NoPlan = true
 same_state (state.Blocked b) (state.Blocked c) = same_cause b c
