@@ -31,7 +31,7 @@ def rows():
         cells = [cell.strip() for cell in re.split(r"(?<!\\)\|", line)[1:-1]]
         if len(cells) == 4 and cells[0].startswith("`"):
             words, names = ([span.replace("\\|", "|") for span in re.findall(r"`([^`]*)`", cell)] for cell in (cells[0], cells[2]))
-            yield words, names, cells[3].strip("`")
+            yield words, names, re.search(r"`([^`]*)`", cells[3]).group(1)
 
 
 def undocumented():
