@@ -2,7 +2,7 @@
 """The index of printed words at the head of docs/DEFINITIONS.md: check_index.py, from the top of the repository.
 
 Each text that the definitions of answers print (`codes ".."` in the specs/ of these crates) has a row; each row's words are printed by
-its definition, which stands in its file. Each first word of a script's line has its place in docs/USE.md and in the manual page."""
+its definition, which stands in its file."""
 import glob
 import re
 import sys
@@ -34,17 +34,8 @@ def rows():
             yield words, names, re.search(r"`([^`]*)`", cells[3]).group(1)
 
 
-def undocumented():
-    """The first words of lines that a document lacks."""
-    lines = open("crates/script_lang/specs/Lines.antt", encoding="utf-8").read()
-    for verb in re.findall(r'^text_of \S+ = codes "(\w+)"', lines, re.M):
-        for path, form in [("docs/USE.md", f"| `{verb}"), ("docs/papcalc.1", f".It Cm {verb}")]:
-            if not re.search(rf"^{re.escape(form)}\b", open(path, encoding="utf-8").read(), re.M):
-                yield f"the line {verb} isn't in {path}"
-
-
 def main():
-    wrong, indexed = list(undocumented()), set()
+    wrong, indexed = [], set()
     for words, names, path in rows():
         files = glob.glob(f"crates/{path}.antt")
         if not files:

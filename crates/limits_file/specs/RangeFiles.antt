@@ -1,5 +1,5 @@
--- What a range file says: its limits, or its first fault (docs/PROFILE.md, "The range file"). Source:
--- docs/PROFILE.md, "Declared ranges"; TOML is what the kit's `toml` reads (its grammar of TOML 1.1).
+-- What a range file says: its limits, or its first fault. Source: docs/PROFILE.md, "Declared ranges"; TOML is what the
+-- kit's `toml` reads (its grammar of TOML 1.1).
 use Rattle.std.specs.Prelude.{◌≡◌, ℕ, ◌<◌, ◌≤◌, List, [], length, map, flat_map, Some, None, Result, Err, codes, IsUtf8, MatchBool}
 use Rattle.std.specs.Cmp.Lexicographic.{slice_cmp}
 use Rattle.std.specs.Ordering.{nat_cmp}
