@@ -1,4 +1,8 @@
 //! The tokens of an expression's text.
+//!
+//! A word is cut after 32 bytes. A literal's range is settled when it is read, by the decimals' own reader, so a
+//! literal of any length is right. A token borrows nothing from the text: a word is kept as a name or as one of the
+//! three keywords.
 #![tactic(auto)]
 
 mod lexer;

@@ -1,4 +1,9 @@
 //! The ranges where two branches meet.
+//!
+//! Where two branches meet only what a branch has changed is joined: each change notes the range that it replaced.
+//! The shorter list of an IF is walked first and left again by its notes, which is noted too. Then the longer list
+//! is walked, and stays in place: its notes lead back to the ranges behind the shorter one, with which it is
+//! joined. A range that contains the other at the same scales is their join, and isn't computed.
 ghost use Rattle.std.specs.Prelude.{◌≡◌, ◌≤◌, length, drop};
 ghost use Rattle.interval_num.specs.Rows.{join_row};
 ghost use Rattle.interval_analysis.specs.private.Changes.{AreKept};

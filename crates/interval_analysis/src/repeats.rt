@@ -1,4 +1,7 @@
 //! The first notes of variables, among notes that may repeat one.
+//!
+//! A pass over notes drops those that repeat a variable, since the first one tells what range it had. It is made
+//! before each join, and once the notes of a list are more than twice as many as the variables.
 ghost use Rattle.std.specs.Prelude.{◌≡◌, ◌≤◌, length, take, List};
 ghost use Rattle.interval_num.specs.Intervals.{Interval};
 ghost use Rattle.interval_analysis.specs.private.Notes.{AreDistinct, ArePlaced, FirstAnswer, taken_back};

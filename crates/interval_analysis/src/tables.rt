@@ -1,4 +1,7 @@
 //! A plan with the ranges of its tables' items and the numbers of its variables, computed once before the walk.
+//!
+//! The ranges of a table's items are joined once, each two neighbours, then each two of these, so that an item
+//! whose index may be anything takes time with the logarithm of the table's length.
 ghost use Rattle.std.specs.Prelude.{◌≡◌, ◌++◌, IfOk, OnOk};
 ghost use Rattle.pap_types.specs.Scopes.{number_of, table_in};
 ghost use Rattle.pap_types.specs.private.ScopeViews.{scope_in, variables_in};

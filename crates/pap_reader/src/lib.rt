@@ -2,6 +2,10 @@
 //!
 //! The file is read once, from left to right, with a stack of open elements. What an element text is stands in
 //! `specs/Elements.antt`: tokens, their nesting after a table of elements, their attributes, and the tree that they say.
+//!
+//! What may stand at a place is decided by the tags before it, attributes aside, so a tag is refused for its place
+//! before its attributes are looked at. The names of a tag's attributes are kept in order, not by hashes: the
+//! standard hash has a fixed seed, so a file could make names that collide.
 #![tactic(auto)]
 
 mod attributes;

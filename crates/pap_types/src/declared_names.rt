@@ -1,4 +1,8 @@
 //! Declared names of one sort, by number.
+//!
+//! Names are looked up in the order of their bytes, not by hashes: the standard hash has a fixed seed, so a file
+//! could make 1,536 names that collide. Beside that order stand the names in declared order, since contracts speak
+//! of it.
 ghost use Rattle.std.specs.Prelude.{◌≡◌, [], IfOk, IfErr};
 ghost use Rattle.std.specs.Ordering.{nat_cmp};
 ghost use Rattle.std.specs.Cmp.Lexicographic.{slice_cmp};

@@ -1,4 +1,7 @@
 //! Comparing decimals by value.
+//!
+//! Decimals are brought to one scale only where the product is within the limit, which is told from a power of ten
+//! without a division. A product beyond it is beyond the other numerator, and its sign decides.
 ghost use Rattle.std.specs.Prelude.{◌≡◌, ◌≤◌, ◌↔◌, IsTrue, ◌*ℤ◌};
 ghost use Rattle.std.specs.Ordering.{int_cmp};
 ghost use Rattle.scaled_decimal.specs.Decimals.{ten_to, comparison, lesser, greater, value_order};
