@@ -1,7 +1,7 @@
 # `make look` runs the program on an example without a proof; `make build` proves and builds build/papcalc, `make demo` runs
 # that on the examples; `make install` puts it and its manual page under PREFIX; `make test` is the whole gate.
 .PHONY: build author look demo install uninstall test answers rows client-java wrong-bodies decimal-tool bench-decimal bench-machine bench-plan \
-    refused-memory bench-book bench-worst bench-intervals bench-processes check-java
+    refused-memory bench-book bench-worst bench-intervals bench-processes check-java embedded
 
 PREFIX ?= /usr/local
 
@@ -117,6 +117,11 @@ bench-worst: build
 # Nanoseconds of each operation on intervals.
 bench-intervals:
 	tools/bench.sh interval_bench intervals
+
+# A program that embeds the library (docs/EMBEDDING.md), compiled with tests at run time and without a proof.
+embedded:
+	TRY=1 tools/bench.sh embedded --data payroll_tax.xml=$(CURDIR)/examples/payroll_tax.xml \
+	    --data payroll_tax.toml=$(CURDIR)/examples/payroll_tax.toml -- payroll_tax.xml payroll_tax.toml
 
 # Pay runs a second with 1, 2 and 4 processes, each with a table of its own of 49,992 runs.
 bench-processes: build

@@ -1,6 +1,7 @@
 #!/usr/bin/env bash
 # Proves, builds and runs a bench: a program of tools/benches, which the gate doesn't read, since each of its files there ends in
-# `.txt`. It is laid out as a crate of a scratch copy. `tools/bench.sh NAME WORDS..`: the words are the program's.
+# `.txt`. It is laid out as a crate of a scratch copy. `tools/bench.sh NAME WORDS..`: the words are the program's. With TRY=1 it is run without
+# a proof, and the words are those of `rt try`.
 set -u
 cd "$(dirname "$0")/.." || exit 2
 rt=$PWD/tools/rt.py
@@ -21,4 +22,9 @@ echo "$name: $(cat "$bench/stands_on")" >> "$copy/crates.txt"
     mkdir -p "$copy/crates/$name/$(dirname "$file")"
     cp "$bench/$file" "$copy/crates/$name/${file%.txt}"
 done
-cd "$copy/crates/$name" && python3 "$rt" run -- "$@"
+cd "$copy/crates/$name" || exit 2
+if [ -n "${TRY:-}" ]; then
+    rt try "$@"
+else
+    python3 "$rt" run -- "$@"
+fi
