@@ -214,16 +214,17 @@ def contracts_page(faults):
 
 
 def main():
-    faults = []
+    faults, listed = [], []
     for path, page in [("docs/DEFINITIONS.md", definitions_page), ("docs/CONTRACTS.md", contracts_page)]:
         text = "\n".join(page(faults)).rstrip("\n") + "\n"
+        listed.append(len(re.findall(r"^- `", text, re.M)))
         if "--check" not in sys.argv:
             open(path, "w", encoding="utf-8").write(text)
         elif not glob.glob(path) or open(path, encoding="utf-8").read() != text:
             faults.append(f"{path} isn't what the sources say: python3 tools/definitions.py writes it")
     for fault in faults:
         print(f"definitions: {fault}")
-    print(f"definitions: {len(faults)} faults")
+    print(f"definitions: {listed[0]} definitions and {listed[1]} functions are listed, {len(faults)} faults")
     return 1 if faults else 0
 
 
