@@ -13,8 +13,9 @@ import check_rooms as rooms
 from check_index import ANSWERS, TAKEN, printed_of
 
 DEFINED = re.compile(r"(?P<indent>\s*)(?P<marks>(?:abbrev |unfoldable |pub )*)(?:(?P<kind>data|record) (?P<named>[^\s:()]+)|(?P<name>[^\s:(){}]+) :(?=\s|$))")
-FUNCTION = re.compile(r"(?P<indent>\s*)pub (?:unsafe |const )*fn (?P<name>\w+)")
+FUNCTION = re.compile(r"\s*(?P<public>pub )?(?:unsafe |const )*fn (?P<name>\w+)")
 CLAUSE = re.compile(r"\b(requires|ensures)\b(?: (\w+))?\s*\{")
+CLAUSES = "requires|ensures|ghost|decreases|also_owns|also_shares|captures"
 WRITTEN = "This page is made by `tools/definitions.py` of the comments in the sources. Change those, and run it."
 
 
@@ -164,26 +165,27 @@ def clauses_of(contract, brought):
 
 
 def functions_of(crate):
-    """Each public function of a crate: its name behind that of its type, its parameters, its result, its first sentence and its clauses."""
+    """Each public function of a crate: its name behind that of its type or trait, its parameters, its result, its comment and its clauses."""
     exported = rooms.exported(crate)
     for path in sorted(glob.glob(f"crates/{crate}/src/**/*.rt", recursive=True)):
         text = open(path, encoding="utf-8").read()
-        brought, owner, doc = rooms.imports(text), None, []
-        lines = text.split("\n")
+        lines, brought = text.split("\n"), rooms.imports(text)
+        owner, is_trait, doc = None, False, []
         for at, line in enumerate(lines):
             block = re.match(r"(?:pub )?(impl|trait)\b.*\{$", line)
             if block:
-                owner = rooms.type_of(line)[1] if block.group(1) == "impl" else re.search(r"trait (\w+)", line).group(1)
+                is_trait = block.group(1) == "trait"
+                owner = re.search(r"trait (\w+)", line).group(1) if is_trait else rooms.type_of(line)[1]
             elif line.startswith("}"):
-                owner = None
+                owner, is_trait = None, False
             found = FUNCTION.match(line)
-            if found and (owner or found["name"]) in exported:
+            if found and (found["public"] or is_trait) and (owner or found["name"]) in exported:
                 contract = rooms.contract(rooms.bare("\n".join(lines[at:])), 0)
-                signature = re.split(r"\b(?:requires|ensures|ghost|decreases|also_owns|also_shares|captures)\b|where ", contract)[0]
-                names, result = parameters(signature)
-                yield f"{owner}::{found['name']}" if owner else found["name"], names, result, " ".join(doc), list(clauses_of(contract, brought))
+                signature = re.split(rf"\b(?:{CLAUSES})\b|where ", contract)[0]
+                name = f"{owner}::{found['name']}" if owner else found["name"]
+                yield name, *parameters(signature), " ".join(doc), list(clauses_of(contract, brought))
             if line.strip().startswith("///"):
-                doc = doc + [line.strip()[3:].strip()] if doc is not None else []
+                doc.append(line.strip()[3:].strip())
             elif not line.strip().startswith("#["):
                 doc = []
 
