@@ -44,6 +44,9 @@ fn round_by_positive(n: i128, d: i128, mode: Mode) -> i128
     ensures { RoundsPositive mode n d result }
 {
     let towards_zero = cut_quotient(n, d);
+    if let Mode::Down = mode {
+        return towards_zero;
+    }
     let rest = (n - towards_zero * d).unsigned_abs();
     let odd = towards_zero.unsigned_abs() % 2 == 1;
     if rest == 0 {
