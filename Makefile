@@ -1,7 +1,7 @@
 # `make look` runs the program on an example without a proof; `make build` proves and builds build/papcalc, `make demo` runs
 # that on the examples; `make install` puts it and its manual page under PREFIX; `make test` is the whole gate.
 .PHONY: build author look demo install uninstall test answers rows client-java wrong-bodies decimal-tool bench-decimal bench-machine bench-plan \
-    refused-memory bench-book bench-worst bench-intervals bench-processes check-java embedded
+    refused-memory kill-trials bench-book bench-worst bench-intervals bench-processes check-java embedded
 
 PREFIX ?= /usr/local
 
@@ -29,16 +29,22 @@ demo: build
 	build/papcalc once examples/payroll_tax.xml examples/payroll_tax.toml PERIOD=2 PAY=450000 TAX_CLASS=1
 	build/papcalc run < examples/month.script
 
-# The program that `make build` made, and its manual page; pap_author too where `make author` made it. DESTDIR stands before PREFIX, for
-# packages.
+# The program that `make build` made, its manual page, and papledger, which keeps a year over it and needs Python 3.9; pap_author too where
+# `make author` made it. DESTDIR stands before PREFIX, for packages.
 install:
 	@test -x build/papcalc || { echo 'install: there is no build/papcalc yet: make build makes it' >&2; exit 1; }
 	install -D -m 755 build/papcalc '$(DESTDIR)$(PREFIX)/bin/papcalc'
 	install -D -m 644 docs/papcalc.1 '$(DESTDIR)$(PREFIX)/share/man/man1/papcalc.1'
 	if [ -x build/pap_author ]; then install -D -m 755 build/pap_author '$(DESTDIR)$(PREFIX)/bin/pap_author'; fi
+	rm -rf '$(DESTDIR)$(PREFIX)/share/papcalc/python'
+	install -d '$(DESTDIR)$(PREFIX)/share/papcalc/python/papledger'
+	install -m 644 clients/python/src/papledger/*.py clients/python/src/papledger/py.typed '$(DESTDIR)$(PREFIX)/share/papcalc/python/papledger'
+	install -D -m 755 clients/python/papledger '$(DESTDIR)$(PREFIX)/bin/papledger'
 
 uninstall:
 	rm -f '$(DESTDIR)$(PREFIX)/bin/papcalc' '$(DESTDIR)$(PREFIX)/share/man/man1/papcalc.1' '$(DESTDIR)$(PREFIX)/bin/pap_author'
+	rm -f '$(DESTDIR)$(PREFIX)/bin/papledger'
+	rm -rf '$(DESTDIR)$(PREFIX)/share/papcalc/python'
 
 test:
 	bash .ci/run
@@ -50,6 +56,10 @@ answers: build
 # Each piece of memory that the program asks for refused in turn, on small scripts and the other words (needs a C compiler).
 refused-memory: build
 	python3 tools/refused_memory.py build/papcalc
+
+# A program that keeps a year killed at 2,000 random moments.
+kill-trials: build
+	python3 tools/kill_trials.py build/papcalc 2000
 
 # The client in Java (needs a JDK) says the same as that in Python.
 client-java: build

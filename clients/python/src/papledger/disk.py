@@ -6,7 +6,12 @@ from __future__ import annotations
 import errno
 import os
 
-NEW_FILE = os.O_RDWR | os.O_CREAT | os.O_CLOEXEC
+
+
+def open_file(path: str, is_new: bool = False, read_only: bool = False) -> int:
+    """Opens a file, and makes it where it isn't there and may be new."""
+    how = os.O_RDONLY if read_only else os.O_RDWR
+    return os.open(path, how | os.O_CLOEXEC | (os.O_CREAT if is_new else 0), 0o666)
 
 
 def write_at(handle: int, data: bytes, offset: int) -> None:
@@ -51,7 +56,7 @@ def make_folder(folder: str) -> None:
 def put_file(path: str, content: bytes) -> None:
     """Puts a whole file under this name and brings it to the disk; after an error or a crash the name has what it had before."""
     draft = f"{path}.new"
-    handle = os.open(draft, NEW_FILE | os.O_TRUNC, 0o666)
+    handle = os.open(draft, os.O_WRONLY | os.O_CREAT | os.O_TRUNC | os.O_CLOEXEC, 0o666)
     try:
         try:
             write_at(handle, content, 0)

@@ -38,7 +38,7 @@ class Lock:
     """Held by the one process that writes to a year; the system lets go of it when the process ends, however that comes."""
 
     def __init__(self, folder: str) -> None:
-        self._handle = os.open(os.path.join(folder, LOCK), disk.NEW_FILE, 0o666)
+        self._handle = disk.open_file(os.path.join(folder, LOCK), is_new=True)
         try:
             fcntl.flock(self._handle, fcntl.LOCK_EX | fcntl.LOCK_NB)
         except OSError as fault:
@@ -66,9 +66,8 @@ class Journal:
         self._folder = folder
         self._is_torn = False
         self._digest: Optional[int] = None
-        how = os.O_RDONLY if read_only else os.O_RDWR
         try:
-            self._lines = os.open(os.path.join(folder, JOURNAL), how | os.O_CLOEXEC)
+            self._lines = disk.open_file(os.path.join(folder, JOURNAL), read_only=read_only)
         except (FileNotFoundError, NotADirectoryError) as fault:
             raise Damaged(f"{folder} is not a year: it has no file {JOURNAL}; `papledger {folder} new` begins one") from fault
         except OSError as fault:
@@ -88,7 +87,7 @@ class Journal:
             disk.cut(self._lines, self.size)
         path = os.path.join(self._folder, DIGEST)
         is_new = not os.path.exists(path)
-        self._digest = os.open(path, disk.NEW_FILE, 0o666)
+        self._digest = disk.open_file(path, is_new=True)
         if is_new:
             disk.sync_folder(self._folder)
 

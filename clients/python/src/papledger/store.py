@@ -48,6 +48,7 @@ class Store:
         self.folder = os.path.abspath(folder)
         self.notices: list[str] = []
         self._read_only = read_only
+        self._is_closed = False
         self._program = find_program(program)
         self._session: Optional[_Session] = None
         self._batch: Optional[_Session] = None
@@ -94,6 +95,8 @@ class Store:
 
     def _opened(self) -> _Session:
         """The session; where there is none, the program is started and carries out the journal."""
+        if self._is_closed:
+            raise LedgerError(f"the year {self.folder} is closed")
         if self._session is None:
             text = self._journal.text()
             for name in sorted(set(self._named(text))):
@@ -248,6 +251,8 @@ class Store:
 
     def close(self) -> None:
         """Ends the program, and lets another process write to the year."""
-        self._discard()
-        self._journal.close()
-        self._unlock()
+        if not self._is_closed:
+            self._is_closed = True
+            self._discard()
+            self._journal.close()
+            self._unlock()
