@@ -1,6 +1,6 @@
 # `make look` runs the program on an example without a proof; `make build` proves and builds build/papcalc, `make demo` runs
 # that on the examples; `make install` puts it and its manual page under PREFIX; `make test` is the whole gate.
-.PHONY: build author look demo install uninstall test answers rows client-java wrong-bodies decimal-tool bench-decimal bench-machine bench-plan \
+.PHONY: build author look demo install uninstall deb test answers rows client-java wrong-bodies decimal-tool bench-decimal bench-machine bench-plan \
     refused-memory kill-trials bench-book bench-worst bench-intervals bench-processes check-java embedded
 
 PREFIX ?= /usr/local
@@ -29,22 +29,37 @@ demo: build
 	build/papcalc once examples/payroll_tax.xml examples/payroll_tax.toml PERIOD=2 PAY=450000 TAX_CLASS=1
 	build/papcalc run < examples/month.script
 
-# The program that `make build` made, its manual page, and papledger, which keeps a year over it and needs Python 3.9; pap_author too where
-# `make author` made it. DESTDIR stands before PREFIX, for packages.
+# What users run: the program that `make build` made, pap_author where `make author` made it, papledger and the tools for large payrolls
+# and test tables (these need Python 3.9), completion for bash and zsh, the manual page, the documents, the clients and the examples.
+# DESTDIR stands before PREFIX, for packages.
+SHARE = $(DESTDIR)$(PREFIX)/share
+TOOLS_FOR_USERS = $(wildcard tools/split_table.py tools/parts.py tools/run_part.sh tools/compare_table.py)
 install:
 	@test -x build/papcalc || { echo 'install: there is no build/papcalc yet: make build makes it' >&2; exit 1; }
 	install -D -m 755 build/papcalc '$(DESTDIR)$(PREFIX)/bin/papcalc'
-	install -D -m 644 docs/papcalc.1 '$(DESTDIR)$(PREFIX)/share/man/man1/papcalc.1'
 	if [ -x build/pap_author ]; then install -D -m 755 build/pap_author '$(DESTDIR)$(PREFIX)/bin/pap_author'; fi
-	rm -rf '$(DESTDIR)$(PREFIX)/share/papcalc/python'
-	install -d '$(DESTDIR)$(PREFIX)/share/papcalc/python/papledger'
-	install -m 644 clients/python/src/papledger/*.py clients/python/src/papledger/py.typed '$(DESTDIR)$(PREFIX)/share/papcalc/python/papledger'
 	install -D -m 755 clients/python/papledger '$(DESTDIR)$(PREFIX)/bin/papledger'
+	install -D -m 644 docs/papcalc.1 '$(SHARE)/man/man1/papcalc.1'
+	install -D -m 644 packaging/papcalc.bash '$(SHARE)/bash-completion/completions/papcalc'
+	install -D -m 644 packaging/papcalc.bash '$(SHARE)/bash-completion/completions/pap_author'
+	install -D -m 644 packaging/_papcalc '$(SHARE)/zsh/site-functions/_papcalc'
+	rm -rf '$(SHARE)/papcalc'
+	install -d '$(SHARE)/papcalc/python/papledger' '$(SHARE)/papcalc/tools' '$(SHARE)/papcalc/doc' '$(SHARE)/papcalc/examples'
+	install -m 644 clients/python/src/papledger/*.py clients/python/src/papledger/py.typed '$(SHARE)/papcalc/python/papledger'
+	install -m 755 $(TOOLS_FOR_USERS) '$(SHARE)/papcalc/tools'
+	if [ -d tools/cluster ]; then cp -R tools/cluster '$(SHARE)/papcalc/tools'; fi
+	install -m 644 README.md docs/*.md docs/*.svg docs/*.png '$(SHARE)/papcalc/doc'
+	cp -R examples/. '$(SHARE)/papcalc/examples'
+	rm -rf '$(SHARE)/papcalc/examples/answers'
 
 uninstall:
-	rm -f '$(DESTDIR)$(PREFIX)/bin/papcalc' '$(DESTDIR)$(PREFIX)/share/man/man1/papcalc.1' '$(DESTDIR)$(PREFIX)/bin/pap_author'
-	rm -f '$(DESTDIR)$(PREFIX)/bin/papledger'
-	rm -rf '$(DESTDIR)$(PREFIX)/share/papcalc/python'
+	rm -f $(foreach name,papcalc pap_author papledger,'$(DESTDIR)$(PREFIX)/bin/$(name)') '$(SHARE)/man/man1/papcalc.1'
+	rm -f $(foreach name,papcalc pap_author,'$(SHARE)/bash-completion/completions/$(name)') '$(SHARE)/zsh/site-functions/_papcalc'
+	rm -rf '$(SHARE)/papcalc'
+
+# A Debian package of what `make install` installs, in build/: built once, it installs on machines without Rattle.
+deb:
+	tools/make_deb.sh
 
 test:
 	bash .ci/run

@@ -1,0 +1,47 @@
+# Completion of papcalc, pap_author and papledger for bash.
+
+# The files behind a word, those of a kind first.
+_papcalc_files() {
+    local IFS=$'\n'
+    compopt -o filenames 2> /dev/null
+    COMPREPLY=($(compgen -f -X "!*.$1" -- "$2") $(compgen -d -- "$2"))
+    [ "${#COMPREPLY[@]}" -gt 0 ] || COMPREPLY=($(compgen -f -- "$2"))
+}
+
+# The names of a flowchart's inputs, each with `=`.
+_papcalc_inputs() {
+    local names
+    names=$(grep -o '<INPUT [^>]*name="[A-Za-z0-9_]*"' -- "$1" 2> /dev/null | sed 's/.*name="\([^"]*\)".*/\1=/')
+    compopt -o nospace 2> /dev/null
+    COMPREPLY=($(compgen -W "$names" -- "$2"))
+}
+
+_papcalc() {
+    local word=${COMP_WORDS[COMP_CWORD]} command=${COMP_WORDS[1]}
+    COMPREPLY=()
+    if [ "$COMP_CWORD" -eq 1 ]; then
+        COMPREPLY=($(compgen -W 'check once run save sample --help --version' -- "$word"))
+        return
+    fi
+    case $command:$COMP_CWORD in
+        check:2 | once:2) _papcalc_files xml "$word" ;;
+        check:3 | once:3) _papcalc_files toml "$word" ;;
+        once:*) _papcalc_inputs "${COMP_WORDS[2]}" "$word" ;;
+    esac
+}
+
+_pap_author() {
+    local word=${COMP_WORDS[COMP_CWORD]} command=${COMP_WORDS[1]}
+    COMPREPLY=()
+    if [ "$COMP_CWORD" -eq 1 ]; then
+        COMPREPLY=($(compgen -W 'chart ranges --help --version' -- "$word"))
+        return
+    fi
+    case $command:$COMP_CWORD in
+        chart:2 | ranges:2) _papcalc_files xml "$word" ;;
+        chart:3) _papcalc_files toml "$word" ;;
+    esac
+}
+
+complete -F _papcalc papcalc
+complete -F _pap_author pap_author
