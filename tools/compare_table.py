@@ -166,8 +166,23 @@ def main(program, plan, limits, table, word=None):
             give_up(fault)
 
 
-if __name__ == "__main__":
-    if len(sys.argv) not in (5, 6):
+def carried_out(words):
+    """Carries out the words after the program's name; gives the status."""
+    if words in (["--help"], ["-h"]):
+        print(__doc__)
+        return 0
+    if len(words) not in (4, 5):
         print(__doc__, file=sys.stderr)
-        sys.exit(2)
-    sys.exit(main(*sys.argv[1:]))
+        return 2
+    return main(*words)
+
+
+if __name__ == "__main__":
+    try:
+        status = carried_out(sys.argv[1:])
+        sys.stdout.flush()
+    except BrokenPipeError:
+        # Who reads has enough: what is left goes nowhere.
+        os.dup2(os.open(os.devnull, os.O_WRONLY), sys.stdout.fileno())
+        status = 2
+    sys.exit(status)
