@@ -15,3 +15,4 @@ pub mod OrderLemmas
 pub mod KeyLemmas
 pub mod ValueLemmas
 pub mod ValueWordLemmas
+pub mod GivenLemmas

@@ -36,9 +36,16 @@ impl Names {
         if let Some(list) = list_of(before, self.as_slice()) {
             return Ok(Names::Shared(list.clone()?));
         }
+        Ok(Names::Shared(self.into_list()?))
+    }
+
+    /// The same names as a list that can be shared.
+    pub(crate) fn into_list(self) -> Result<RcSlice<Name>, AllocError>
+        ensures { IfOk result (λ list. rc_slice_items list ≡ listed self) }
+    {
         match self {
-            Names::Own(names) => Ok(Names::Shared(RcSlice::from_vec(names)?)),
-            Names::Shared(list) => Ok(Names::Shared(list)),
+            Names::Own(names) => RcSlice::from_vec(names),
+            Names::Shared(list) => Ok(list),
         }
     }
 

@@ -24,7 +24,7 @@ impl NamedValue {
 }
 
 /// How many bytes of a word stand before its first `=`.
-fn name_length(word: &[u8]) -> Option<usize>
+pub(crate) fn name_length(word: &[u8]) -> Option<usize>
     ensures { result ≡ position (λ b. b == 61) word.now }
 {
     word.iter().position(|b| *b == b'=')

@@ -1,9 +1,10 @@
 //! Values under names.
 ghost use Rattle.std.specs.Prelude.{◌≡◌, ◌↔◌, ◌<◌, ◌≤◌, [], length, map, IsSome, IsNone, OnOk, OnErr, IfOk, IfErr, IfSome, Err, option_map};
+ghost use Rattle.std.specs.Rc.{rc_slice_items};
 ghost use Rattle.rising_lists.specs.Places.{Finds, Misses};
 ghost use Rattle.payroll_records.specs.Limits.{most_values};
 ghost use Rattle.payroll_records.specs.NamedValues.{AreValues, name_cmp, name_of, place_at, value_at, with_value};
-ghost use Rattle.payroll_records.specs.KeptValues.{IsKeptAs, named_numbers};
+ghost use Rattle.payroll_records.specs.KeptValues.{AreNames, IsKeptAs, named_numbers};
 ghost use Rattle.payroll_records.specs.private.ValueViews.{goes_at, is_before, is_beyond, stands_at};
 
 use crate::MOST_VALUES;
@@ -12,6 +13,7 @@ use pap_tree::Name;
 use scaled_decimal::Dec;
 use std::alloc::{AllocError, Global};
 use std::marker::Model;
+use std::rc::RcSlice;
 use thiserror::Error;
 
 /// A value under a name: an input of a run, or an output.
@@ -105,6 +107,28 @@ impl Values {
         let Values { names, numbers } = self;
         let names = names.sharing(before.map(|values| &values.names))?;
         Ok(Values { names, numbers })
+    }
+
+    /// The same values, and the list of their names, which they share.
+    pub(crate) fn with_list(self) -> Result<(Values, RcSlice<Name>), AllocError>
+        ensures same { IfOk result (λ both. both.0 ≡ self) }
+        ensures names { IfOk result (λ both. AreNames (rc_slice_items both.1)) }
+    {
+        let Values { names, numbers } = self;
+        let list = names.into_list()?;
+        let names = Names::Shared(list.clone()?);
+        Ok((Values { names, numbers }, list))
+    }
+
+    /// The values of the names of a list, which they share, each at its place.
+    pub(crate) fn of_list(list: RcSlice<Name>, numbers: Vec<Dec>) -> Values
+        requires { IsKeptAs (rc_slice_items list) numbers.items }
+        ensures { result ≡ named_numbers (rc_slice_items list) numbers.items }
+    {
+        Values {
+            names: Names::Shared(list),
+            numbers,
+        }
     }
 
     /// The names of the values, in order.
