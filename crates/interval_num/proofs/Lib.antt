@@ -14,4 +14,5 @@ pub mod PairLemmas
 pub mod QuotientLemmas
 pub mod RefinementLemmas
 pub mod SteadyLemmas
+pub mod TogetherLemmas
 pub mod WholeLemmas

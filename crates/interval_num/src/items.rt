@@ -1,10 +1,11 @@
 //! The items of a table that an index may choose.
-ghost use Rattle.std.specs.Prelude.{◌≡◌, ◌<◌, ◌≤◌, ℕ, List, [], ◌∷◌, length, map, All, Ok, slice_get, slice_range, Some, IfOk};
+ghost use Rattle.std.specs.Prelude.{◌≡◌, ◌<◌, ◌≤◌, ℕ, List, [], ◌∷◌, length, map, All, Ok, slice_get, slice_range, Some, IfOk, IfErr, OnErr, true};
 ghost use Rattle.scaled_decimal.specs.Decimals.{Decimal};
+ghost use Rattle.interval_num.specs.declared.cause.RangeCause.TheVariants.{Index};
 ghost use Rattle.interval_num.specs.Intervals.{IsWhole};
 ghost use Rattle.interval_num.specs.Rows.{item_row, decimals_row};
 ghost use Rattle.interval_num.specs.ItemLevels.{joined, halved, single_rows, first_level, AreLevels, AreLevelsOf};
-ghost use Rattle.interval_num.specs.private.Views.{IsSome, items_of};
+ghost use Rattle.interval_num.specs.private.Views.{IsSome, items_of, may_be_outside, ArePlaces};
 ghost use Rattle.interval_num.specs.Soundness.{ItemIsSound};
 
 use crate::cause::RangeCause;
@@ -54,12 +55,46 @@ impl ItemRanges {
         ensures exact { result ≡ item_row self.now index }
         ensures sound { IfOk result (ItemIsSound self.now index) }
     {
-        if index.lo() < 0 || index.hi() >= self.items.len() as i128 {
-            return Err(RangeCause::Index);
-        }
-        let levels = self.levels.as_slice();
-        between(levels, index.lo() as usize, index.hi() as usize + 1)
+        let (first, end) = places(index, self.items.len())?;
+        between(self.levels.as_slice(), first, end)
     }
+}
+
+/// The least interval that contains each item from the least index on to the greatest, as `ItemRanges::chosen_by`.
+///
+/// Goes once over these items, and takes no memory: for a table of which a single range is asked.
+pub fn abs_item(items: &[Dec], index: Abs) -> Result<Abs, RangeCause>
+    requires { IsWhole index }
+    ensures exact { result ≡ item_row items.now index }
+    ensures sound { IfOk result (ItemIsSound items.now index) }
+{
+    let (first, end) = places(index, items.len())?;
+    together(&items[first..end])
+}
+
+/// The first place that an index may have and the one after the last; `Index` where some place may be outside.
+fn places(index: Abs, count: usize) -> Result<(usize, usize), RangeCause>
+    requires { IsWhole index }
+    ensures places { IfOk result (ArePlaces index count) }
+    ensures cause { IfErr result (λ cause. cause ≡ Index) }
+    ensures outside { OnErr result (may_be_outside index count ≡ true) }
+{
+    if index.lo() < 0 || index.hi() >= count as i128 {
+        return Err(RangeCause::Index);
+    }
+    Ok((index.lo() as usize, index.hi() as usize + 1))
+}
+
+/// The range of some items together.
+fn together(items: &[Dec]) -> Result<Abs, RangeCause>
+    requires { 0 < length items.now }
+    ensures { result ≡ decimals_row items.now }
+{
+    let mut range = Ok(single(items[0]));
+    for item in &items[1..] {
+        range = joined(range, Ok(single(*item)));
+    }
+    range
 }
 
 /// The ranges of runs of items, or why a run has none. Contracts see them as a list.

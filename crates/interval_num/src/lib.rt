@@ -16,7 +16,7 @@ mod wholes;
 pub use cause::RangeCause;
 pub use decimals::{abs_abs, abs_add, abs_cmp, abs_max, abs_min, abs_mul, abs_neg, abs_sub, join};
 pub use interval::Abs;
-pub use items::ItemRanges;
+pub use items::{ItemRanges, abs_item};
 pub use quotients::{abs_div, abs_div_exact, abs_set_scale};
 pub use refinement::refine;
 pub use sign_set::{SignSet, signs};
