@@ -9,3 +9,4 @@ pub mod AnswerLemmas
 pub mod OrderLemmas
 pub mod LoopLemmas
 pub mod ReadingLemmas
+pub mod DocumentLemmas

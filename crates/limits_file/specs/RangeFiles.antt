@@ -1,11 +1,11 @@
 -- What a range file says: its limits, or its first fault. Source: docs/PROFILE.md, "Declared ranges"; TOML is what the
 -- kit's `toml` reads (its grammar of TOML 1.1).
-use Rattle.std.specs.Prelude.{◌≡◌, ℕ, ◌<◌, ◌≤◌, List, [], length, map, flat_map, Some, None, Result, Err, codes, IsUtf8, MatchBool}
+use Rattle.std.specs.Prelude.{◌≡◌, ℕ, ◌<◌, ◌≤◌, List, [], length, map, flat_map, Some, None, Result, Err, codes, IsTrue, IsUtf8, MatchBool}
 use Rattle.std.specs.Cmp.Lexicographic.{slice_cmp}
 use Rattle.std.specs.Ordering.{nat_cmp}
 use Rattle.std.specs.List.Sorted.{IsStrictlySortedBy}
 use Rattle.std.specs.Str.{bytes_eq}
-use Rattle.toml.specs.Data.{Data, table, Members}
+use Rattle.toml.specs.Data.{Data, table, Members, members_are_sorted}
 use Rattle.toml.specs.Parse.{parse_document}
 use Rattle.limits_file.specs.declared.limits.InputLimit.{InputLimit}
 use Rattle.limits_file.specs.declared.limits.Binding.{Binding}
@@ -72,3 +72,7 @@ NamesAscend = IsStrictlySortedBy (slice_cmp nat_cmp)
 pub record AreInOrder (limits : Limits) : Type 0 where
   pub inputs : NamesAscend (map (λ limit. limit.name) limits.inputs)
   pub bindings : NamesAscend (map (λ binding. binding.input) limits.bindings)
+
+-- The keys of each file stand in the order of their bytes and none stands twice, and so do those of each table in it.
+abbrev pub FilesAreInOrder : Type 0
+FilesAreInOrder = (bytes : List ℕ) (file : Members) → IsToml bytes file → IsTrue (members_are_sorted file)

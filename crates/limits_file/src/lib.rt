@@ -17,5 +17,5 @@ pub use inputs::{bound_at, places_at, unsuited_input_key};
 pub use items::Items;
 pub use label::Label;
 pub use limits::{Binding, Carry, InputLimit, Limits};
-pub use reading::{LONGEST_LIMITS, each_text_has_one_answer, read_limits};
+pub use reading::{LONGEST_LIMITS, each_text_has_one_answer, files_are_in_order, read_limits};
 pub use slots::{Slot, Spec};

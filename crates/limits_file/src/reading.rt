@@ -4,7 +4,7 @@ ghost use Rattle.toml.specs.View.{table_view};
 ghost use Rattle.limits_file.specs.private.AnswerViews.{Tells, IsNoTomlOrMemory};
 ghost use Rattle.limits_file.specs.Faults.{no_toml, bad_key, bad_bound};
 ghost use Rattle.limits_file.specs.Limits.{longest_limits};
-ghost use Rattle.limits_file.specs.RangeFiles.{SectionSays, joined, IsToml, FileSays, AreInOrder, HasOneAnswer};
+ghost use Rattle.limits_file.specs.RangeFiles.{SectionSays, joined, IsToml, FileSays, FilesAreInOrder, AreInOrder, HasOneAnswer};
 ghost use Rattle.limits_file.specs.Walks.{TableSays};
 
 use crate::bindings::read_bindings;
@@ -42,6 +42,12 @@ pub fn read_limits(alloc: Global, bytes: &[u8]) -> Result<Limits, LimitsFault>
 /// A text has one answer: its limits or its first fault, and not both.
 pub fn each_text_has_one_answer()
     ensures { (bytes : List ℕ) → HasOneAnswer bytes }
+{}
+
+/// The keys of a range file stand in byte order, and none stands twice: the order in which they are read, which is that of the
+/// first fault.
+pub fn files_are_in_order()
+    ensures { FilesAreInOrder }
 {}
 
 /// The table of a text.
