@@ -69,7 +69,7 @@ def defined_verbs():
 def defined_words():
     """The first words of the program's forms, and those that `main` answers itself."""
     defined = re.findall(r'codes "(\w+)"', read("crates/pap_cli/specs/Words.antt"))
-    return list(dict.fromkeys(defined)) + re.findall(r'== "(--\w+)"', read(HELP))
+    return list(dict.fromkeys(defined)) + re.findall(r'"(--\w+)" [|=]', read(HELP))
 
 
 def forms():

@@ -12,8 +12,8 @@ use std::process::ExitCode;
 const USAGE: &str =
     "usage: pap_author chart PLAN | pap_author chart PLAN LIMITS | pap_author ranges PLAN";
 
-/// The answer to `--version`.
-const VERSION: &str = "pap_author 0.1.0";
+/// The answer to `--version`, with the checksum of the prover's rules by which the contracts are proved.
+const VERSION: &str = "pap_author 1.0.0 (rules dac8208d650f15bf)";
 
 /// The answer to `--help`.
 const HELP: &str = "pap_author draws a wage tax flowchart as a page, and begins its range file
@@ -50,9 +50,12 @@ fn words_of(rt: &HostRuntime) -> io::Result<Vec<String>> {
 
 /// What the program answers by itself: its help and its version, each as the only word.
 fn own_answer(words: &[String]) -> Option<&'static str> {
-    match words {
-        [word] if word.as_str() == "--help" => Some(HELP),
-        [word] if word.as_str() == "--version" => Some(VERSION),
+    let [word] = words else {
+        return None;
+    };
+    match word.as_str() {
+        "--help" | "-h" | "help" => Some(HELP),
+        "--version" | "-V" => Some(VERSION),
         _ => None,
     }
 }

@@ -3,10 +3,11 @@
 
 ghost use Rattle.std.specs.Prelude.{◌≡◌};
 
+mod wrong_words;
+
+use crate::wrong_words::what_is_wrong;
 use outside::{FailedFile, Files, RealFiles, Sink, Source, StdSink, StdSource};
-use pap_cli::{
-    KeptFiles, MOST_GIVEN, RefusedLines, Status, bad_value, papcalc_told, reason, refused_text,
-};
+use pap_cli::{KeptFiles, MOST_GIVEN, RefusedLines, Status, papcalc_told, reason, refused_text};
 use plain_words::one_line;
 use std::alloc::Global;
 use std::env;
@@ -16,10 +17,12 @@ use std::process::ExitCode;
 use std::sync::ledger::{Blank, Ledger};
 use steps::Steps;
 
-const USAGE: &str =
-    "usage: papcalc check PLAN LIMITS | papcalc once PLAN LIMITS NAME=VALUE .. | papcalc run < SCRIPT | \
-    papcalc save < SCRIPT | papcalc sample N (1 to 200) | papcalc --help; a VALUE is a number as 450000 or -12.50, without signs between \
-    thousands, and each NAME stands once";
+const USAGE: &str = "usage: papcalc check PLAN LIMITS
+       papcalc once PLAN LIMITS NAME=VALUE ..
+       papcalc run < SCRIPT
+       papcalc save < SCRIPT
+       papcalc sample N
+       papcalc --help";
 
 const UNSAVED_BOOK: &str =
     "papcalc: the book isn't saved: `refused book Filed` where a month was filed (save before the first `file`, and file again in the \
@@ -28,62 +31,59 @@ const UNSAVED_BOOK: &str =
 const UNSAVED_LINES: &str =
     "papcalc: the book isn't saved, since lines of the script are refused; their answers are written in its place";
 
-const VERSION: &str = "papcalc 0.1.0";
+/// The program's version, and the checksum of the prover's rules by which its contracts are proved.
+const VERSION: &str = "papcalc 1.0.0 (rules dac8208d650f15bf)";
 
-const HELP: &str =
-    "papcalc checks a wage tax flowchart, runs it, and keeps a payroll report up to date under corrections
+/// The answer to `--help`: a screen of 80 columns.
+const HELP: &str = "papcalc checks a German wage tax flowchart, runs it, and keeps a payroll report
+up to date under corrections.
 
 usage:
-  papcalc check PLAN LIMITS                  say whether every run of the flowchart is safe on inputs within their ranges
-  papcalc once PLAN LIMITS NAME=VALUE ..     run the flowchart once on these inputs, at most 256 of them
-  papcalc run < SCRIPT                       carry out a script line by line
-  papcalc save < SCRIPT                      carry out a script, and write the book that it leaves in place of its answers
-  papcalc sample N                           run a made-up payroll of N employees, 1 to 200, and write its sums
-  papcalc --help                             write this text
-  papcalc --version                          write the program's version
+  papcalc check PLAN LIMITS    say whether every run is safe on inputs within
+                               their ranges, and between which values each
+                               output lies
+  papcalc once PLAN LIMITS NAME=VALUE ..
+                               run the flowchart once on these inputs, at most
+                               256; one that isn't given has its default
+  papcalc run < SCRIPT         carry out a script line by line
+  papcalc save < SCRIPT        carry out a script, and write the book that it
+                               leaves in place of its answers
+  papcalc sample N             run a made-up payroll of N employees, 1 to 200
+  papcalc --help               write this text (-h and help do it too)
+  papcalc --version            write the program's version (-V does it too)
 
-PLAN is the file of a flowchart in the ministry's pseudocode (XML), LIMITS a range file (TOML): for each input the table
-[input.NAME] with low, high and places (digits after the point).
+PLAN is the file of a flowchart in the ministry's pseudocode (XML), LIMITS a
+range file (TOML): [input.NAME] with low, high and places (decimal places).
 
-check writes `accepted steps B` with the most steps of a run, and for each output a line NAME LO HI SLO SHI: the least and
-the greatest value, and the least and the greatest number of digits after the point. once writes a line NAME VALUE for each
-output, and then `steps N`. An input that isn't given has its default. Both write one line that begins with `refused`
-where the flowchart or its range file is refused, or where an input is unknown, missing or outside its range; a second
-line, on standard error, says in plain words what that means, where it is in the file, and what helps.
+lines of a script (DAY 2026-01-31, MONTH 2026-01, WHEN either, EMP a word):
+  plan DAY PLAN LIMITS         from this day on this flowchart holds, at most to
+                               the end of its year
+  drop DAY                     take the flowchart of this day away
+  add EMP MONTH DAY NAME=VALUE ..
+                               a pay run of the employee on this day
+  change EMP MONTH DAY NAME=VALUE ..
+                               in place of the run of this day, or else of the
+                               only one in the month
+  withdraw EMP WHEN            take that run away
+  load FILE                    the pay runs of a CSV table
+  open FILE                    a saved book, in place of an empty one
+  report                       all runs with their outputs, as CSV
+  work                         what the last edit had to run: runs and steps
+  trace EMP WHEN               each executed statement of a run
+  file MONTH                   the amounts that are filed with this month
+  owed                         what differs from what was filed
+  try DAY PLAN LIMITS          what `plan` would change, without changing it
+  # ..                         nothing: a comment
 
-save writes the runs and the flowcharts that the script leaves, as a text that the line `open FILE` reads. Where lines are
-refused it writes their answers and no book; where a month was filed, `refused book Filed`; where the text would have more
-than 268435456 bytes, `refused book Long`.
+A refusal is one line that begins with `refused`, and changes nothing. Standard
+error says in plain words what is wrong, where it is, and what helps.
 
-sample puts a flowchart, adds a run a month for each employee, corrects each one's March and makes the report, all in memory.
-It writes the lines `lines K` (of that script), `records K` (runs in the end), `runs K` and `steps K` (what all edits had to
-run) and `LST K` (the tax of all runs).
+It ends with 0 where all was written, 1 where something of that is a refusal,
+2 where the words are none of these, 3 where a file can't be read, 4 where
+standard input can't be read, 5 where the output can't be written, 6 where
+memory runs out, 7 where the script is longer than 67108864 bytes.
 
-lines of a script (DAY as 2026-01-31, MONTH as 2026-01, EMP a word for an employee):
-  plan DAY PLAN LIMITS                  from this day on, at most to the end of its year, this flowchart holds
-  drop DAY                              take the flowchart of this day away
-  add EMP MONTH DAY NAME=VALUE ..       a pay run of the employee on this day, with these inputs
-  change EMP MONTH DAY NAME=VALUE ..    in place of the run of this day, or else of the only one in the month
-  withdraw EMP DAY, withdraw EMP MONTH  take away the run of this day, or the only one in the month
-  load FILE                             the pay runs of a table: CSV with the columns employee,month,day and inputs' names
-  open FILE                             a saved book, in place of an empty one
-  report                                all runs with their outputs, as CSV, and then `end`
-  work                                  `work RUNS STEPS`: what the last edit had to run
-  trace EMP DAY, trace EMP MONTH        each executed statement of a run: `set METHOD:N NAME VALUE`, `test METHOD:N yes` or
-                                        `no`, `call METHOD:N METHOD`, and then `end`
-  file MONTH                            what is filed with this month: `due EMP DAY NAME AMOUNT` each, and then `filed N`
-  owed                                  what differs from what was filed, up to the last filed month: `owed EMP DAY NAME AMOUNT`
-                                        each, and then `end`
-  try DAY PLAN LIMITS                   what `plan` would change, without changing it: `accepted steps B`, what differs, and then
-                                        `would RUNS STEPS`
-  # ..                                  nothing: a comment
-An edit answers `ok`, and `plan` `accepted steps B`. A line that is refused answers `refused ..` and changes nothing; when the
-script has ended, standard error says of the first 20 such lines which they are and what is wrong. It ends before its last line
-where a line names a file that can't be read.
-
-It ends with 0 where all was written, 1 where something of that is a refusal, 2 where the words are none of these, 3 where a
-file can't be read, 4 where standard input can't be read, 5 where the output can't be written, 6 where memory runs out, 7
-where the script is longer than 67108864 bytes.";
+The manual page says more: man papcalc";
 
 /// Runs the words, and counts the steps of the run.
 fn counted<L: Ledger, F: Files, R: Source, W: Sink>(
@@ -114,9 +114,12 @@ fn words_of(rt: &HostRuntime) -> io::Result<Vec<String>> {
 
 /// What the program answers by itself: its help and its version, each as the only word.
 fn own_answer(words: &[String]) -> Option<&'static str> {
-    match words {
-        [word] if word.as_str() == "--help" => Some(HELP),
-        [word] if word.as_str() == "--version" => Some(VERSION),
+    let [word] = words else {
+        return None;
+    };
+    match word.as_str() {
+        "--help" | "-h" | "help" => Some(HELP),
+        "--version" | "-V" => Some(VERSION),
         _ => None,
     }
 }
@@ -126,8 +129,8 @@ fn explain(rt: &HostRuntime, status: Status, words: &[String]) {
     let _ = match status {
         Status::Done | Status::Refused | Status::FileFault => Ok(()),
         Status::BadWords => {
-            explain_bad_value(rt, words);
-            eprintln!(rt; "{USAGE}")
+            explain_words(rt, words);
+            Ok(())
         }
         Status::ReadFault => eprintln!(rt; "papcalc: standard input can't be read"),
         Status::WriteFault => eprintln!(rt; "papcalc: standard output can't be written"),
@@ -136,21 +139,12 @@ fn explain(rt: &HostRuntime, status: Status, words: &[String]) {
     };
 }
 
-/// Says on standard error which word of `once` gives no value, in one line whatever the word is. That this may fail changes nothing.
-fn explain_bad_value(rt: &HostRuntime, words: &[String]) {
-    let [command, _, _, values @ ..] = words else {
-        return;
-    };
-    if command.as_str() != "once" {
-        return;
+/// Says on standard error what is wrong with the words, and which there are. That this may fail changes nothing.
+fn explain_words(rt: &HostRuntime, words: &[String]) {
+    if let Ok(Some(said)) = what_is_wrong(rt.alloc(), words) {
+        let _ = eprintln!(rt; "papcalc: {said}");
     }
-    if let Some(word) = bad_value(values) {
-        if let Ok(word) = one_line(rt.alloc(), word) {
-            let _ = eprintln!(rt;
-                "papcalc: `{word}` is not of the form NAME=VALUE with a name and a number of at most 30 decimal places and at most 10^37 without its point; a number has a point before decimal places and nothing between thousands, as 2500.55"
-            );
-        }
-    }
+    let _ = eprintln!(rt; "{USAGE}");
 }
 
 /// Says on standard error which file can't be read and why, and which line of a script names it where one does, in one line
