@@ -25,8 +25,8 @@ pub fn always_one()
     ensures { (l : Line) → IsWhole l → HasAnswer l }
 {}
 
-/// The machine reads exactly the fronts of a line, and has the most levels open that the front can have. Each beginning of
-/// a front, or of a text, is a front.
+/// The machine reads exactly the prefixes of a line, and has the most levels open that the prefix can have. Each beginning of
+/// a prefix, or of a text, is a prefix.
 pub fn reads_fronts()
     ensures fronts { (l : Line) → IsWhole l → ReadsFronts l }
     ensures levels { (l : Line) → IsWhole l → CountsLevels l }

@@ -35,7 +35,7 @@ pub(crate) fn split_number(bytes: &[u8]) -> (Token, &[u8])
 }
 
 /// The number in quotation marks whose first byte stands first, and what follows it. Where there is none, the quotation
-/// mark alone is no token.
+/// mark alone isn't a token.
 pub(crate) fn split_quoted(bytes: &[u8]) -> (Token, &[u8])
     ensures { Begins (34 ∷ bytes.now) (token_of result.0) result.1.now }
 {

@@ -8,7 +8,7 @@ use crate::token::{Sign, Token};
 use pap_tree::Binary;
 
 /// The operator or sign that begins with a byte that stands before a text, and what follows it. Where there is none, the
-/// byte alone is no token.
+/// byte alone isn't a token.
 pub(crate) fn split_sign(first: u8, bytes: &[u8]) -> (Token, &[u8])
     requires { is_sign_byte first ≡ true }
     ensures { Begins (first ∷ bytes.now) (token_of result.0) result.1.now }

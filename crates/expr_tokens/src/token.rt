@@ -30,7 +30,7 @@ pub enum Token {
     Alien,
 }
 
-/// A word that is no name.
+/// A word that isn't a name.
 #[derive(Clone, Copy, Debug, PartialEq, Eq)]
 pub enum Keyword {
     /// `new`
@@ -41,7 +41,7 @@ pub enum Keyword {
     RoundingMode,
 }
 
-/// A sign that is no operator between two operands.
+/// A sign that isn't an operator between two operands.
 #[derive(Clone, Copy, Debug, PartialEq, Eq)]
 pub enum Sign {
     /// `=`

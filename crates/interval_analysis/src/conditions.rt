@@ -472,7 +472,7 @@ struct Connected<'a> {
     right: &'a Expr,
 }
 
-/// An operator that is no connective, with its sides.
+/// An operator that isn't a connective, with its sides.
 #[derive(Clone, Copy)]
 struct Comparison<'a> {
     op: Binary,
@@ -531,7 +531,7 @@ fn compared_sides<'a>(left: &'a Expr, right: &'a Expr) -> Option<Inner<'a>>
     }
 }
 
-/// An expression that is no test; no well-typed plan has one where a test stands.
+/// An expression that isn't a test; no well-typed plan has one where a test stands.
 fn no_test(at: u32) -> Stop
     ensures { result ≡ Stop.At at Wide }
 {

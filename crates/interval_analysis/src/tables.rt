@@ -19,7 +19,7 @@ use std::marker::Model;
 #[derive(Drop)]
 pub(crate) struct TabledPlan<'a> {
     typed: &'a Typed,
-    /// The tables of the variables by number, each empty where the variable is no table.
+    /// The tables of the variables by number, each empty where the variable isn't a table.
     variables: Vec<ItemRanges>,
     /// Those of the constants.
     constants: Vec<ItemRanges>,

@@ -34,7 +34,7 @@ impl Variables {
         }
     }
 
-    /// Gives a variable a new range, if that is another. There is no variable of a number past the last one.
+    /// Gives a variable a new range, if that is another. There isn't a variable of a number past the last one.
     pub fn put(&mut self, number: usize, range: Abs) -> Result<(), AllocError>
         requires { AreKept self.old.ranges.items }
         ensures value { OnOk result

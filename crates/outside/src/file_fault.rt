@@ -19,7 +19,7 @@ pub enum FileFault {
 }
 
 impl FileFault {
-    /// What an error of the system comes to. `None` is want of memory, which is no fault.
+    /// What an error of the system comes to. `None` is lack of memory, which isn't a fault.
     pub(crate) fn of(kind: ErrorKind) -> Option<FileFault>
         ensures { result ≡ fault_of kind }
     {

@@ -23,7 +23,7 @@ pub(crate) fn push_values(values: &mut Vec<Dec>, declared: &[Declared]) -> Resul
     Ok(())
 }
 
-/// Appends the items of each declared table; a name that is no table has none.
+/// Appends the items of each declared table; a name that isn't a table has none.
 #[tactic(auto, using(crate::proofs::ValueLemmas::tables_at))]
 pub(crate) fn push_tables(
     tables: &mut Vec<Vec<Dec>>,

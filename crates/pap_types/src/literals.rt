@@ -42,7 +42,7 @@ fn whole_value(kind: Kind, number: i32) -> Dec
     }
 }
 
-/// The items of a declared table; a name that is no table has none.
+/// The items of a declared table; a name that isn't a table has none.
 pub fn items_of(declared: &Declared) -> &[Dec]
     ensures { result.now ≡ declared_table (declaration_of declared.now).value }
 {

@@ -64,7 +64,7 @@ impl Statement<'_> {
         }
     }
 
-    /// What is wrong with a target that is no variable.
+    /// What is wrong with a target that isn't a variable.
     fn wrong_target(&self, target: &Name, place: Place) -> TypeFault
         requires numbered { HasNumbers self.now }
         ensures { IsWrongTarget (scope_of_statement self.now) target.now place result }

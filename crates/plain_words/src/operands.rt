@@ -108,7 +108,7 @@ fn pass(e: &Expr, walk: &mut Walk) {
     walk.nodes = walk.nodes.saturating_add(1);
 }
 
-/// Whether a token is an operand: a literal that is no scale, a constant of `BigDecimal`, a variable, or the table of an item.
+/// Whether a token is an operand: a literal that isn't a scale, a constant of `BigDecimal`, a variable, or the table of an item.
 fn is_operand(tokens: &[Placed], at: usize) -> bool {
     let Some(found) = tokens.get(at) else {
         return false;

@@ -22,7 +22,7 @@ use pap_plan::PlanRefusal;
 use std::alloc::{AllocError, Global};
 
 /// What is wrong with a plan or its range file, in one line of plain words that begins with the file and the place in it, as
-/// `plan.xml:12:7: `: the refusal's own text, what stands there, and behind `; ` what helps. Fails only for want of memory.
+/// `plan.xml:12:7: `: the refusal's own text, what stands there, and behind `; ` what helps. Fails only for lack of memory.
 pub fn plan_words(
     alloc: Global,
     plan: TextFile<'_>,

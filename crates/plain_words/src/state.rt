@@ -16,7 +16,7 @@ use pap_tree::Name;
 use std::alloc::{AllocError, Global};
 
 /// Why a run of a plan with its range file has no inputs, in one line of plain words that begins with the file and the place
-/// in it, and ends with what helps. Fails only for want of memory.
+/// in it, and ends with what helps. Fails only for lack of memory.
 pub fn state_words(
     alloc: Global,
     plan: TextFile<'_>,

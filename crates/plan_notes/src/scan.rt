@@ -29,7 +29,7 @@ struct Scan {
 
 /// The tags and comments of a plan's file, up to its end or to a place where neither a tag nor a comment nor white space
 /// stands. A tag of no element is passed over, and a comment that is blank. Takes time linear in the file, and fails only for
-/// want of memory.
+/// lack of memory.
 pub fn read_notes(alloc: Global, file: &[u8]) -> Result<Notes, AllocError>
     // The comments and the places, in the file's order, and what its root says.
     ensures notes { IfOk result (λ notes. HasNotes file.now notes) }

@@ -65,7 +65,7 @@ impl<T: Drop> From<AllocFailed<T>> for PlanFault {
     }
 }
 
-/// The fault of an expression's text; want of memory is its own.
+/// The fault of an expression's text; lack of memory is its own.
 pub(crate) fn expr_fault(spot: Spot, fault: ExprFault) -> PlanFault
     ensures { result ≡ fault_at spot fault }
 {

@@ -171,7 +171,7 @@ fn write_whole(words: &str, text: &mut String) -> Result<(), Fail> {
 }
 
 /// Writes an end: the status, and how many lines were written. Fails where what was written is no
-/// front of the whole answer.
+/// prefix of the whole answer.
 fn write_end(end: &End, whole: &[u8], text: &mut String) -> Result<(), Fail> {
     let written = end.sink.written();
     if !whole.starts_with(written) {

@@ -88,7 +88,7 @@ fn write_table(text: &mut String, input: &RawDeclared) -> Result<(), AllocError>
     )
 }
 
-/// Appends the line of a comment, of a long one the front that has room. Without any room there is no line.
+/// Appends the line of a comment, of a long one the prefix that has room. Without any room there is no line.
 fn write_comment(text: &mut String, comment: &str, room: usize) -> Result<(), AllocError>
     ensures { OnOk result (string_bytes text.new
         ≡ string_bytes text.old ++ comment_line room comment.now) }
@@ -101,7 +101,7 @@ fn write_comment(text: &mut String, comment: &str, room: usize) -> Result<(), Al
     text.push('\n')
 }
 
-/// Appends a text in one line, of a long one the front that has room.
+/// Appends a text in one line, of a long one the prefix that has room.
 fn write_front(text: &mut String, comment: &str, room: usize) -> Result<(), AllocError>
     ensures { OnOk result (string_bytes text.new
         ≡ string_bytes text.old ++ front room (map shown_char (chars comment.now))) }
