@@ -1,7 +1,7 @@
 # `make look` runs the program on an example without a proof; `make build` proves and builds build/papcalc, `make demo` runs
 # that on the examples; `make install` puts it and its manual page under PREFIX; `make test` is the whole gate.
 .PHONY: build author look demo install uninstall deb test answers rows client-java wrong-bodies decimal-tool bench-decimal bench-machine bench-plan \
-    refused-memory kill-trials bench-book bench-worst bench-intervals bench-processes check-java embedded
+    refused-memory kill-trials bench-book bench-worst bench-intervals bench-processes check-java embedded cluster-trials
 
 PREFIX ?= /usr/local
 
@@ -33,7 +33,7 @@ demo: build
 # and test tables (these need Python 3.9), completion for bash and zsh, the manual page, the documents, the clients and the examples.
 # DESTDIR stands before PREFIX, for packages.
 SHARE = $(DESTDIR)$(PREFIX)/share
-TOOLS_FOR_USERS = $(wildcard tools/split_table.py tools/parts.py tools/run_part.sh tools/compare_table.py)
+TOOLS_FOR_USERS = tools/split_table.py tools/table_parts.py tools/table_rows.py tools/parts.py tools/run_part.sh tools/compare_table.py
 install:
 	@test -x build/papcalc || { echo 'install: there is no build/papcalc yet: make build makes it' >&2; exit 1; }
 	install -D -m 755 build/papcalc '$(DESTDIR)$(PREFIX)/bin/papcalc'
@@ -151,3 +151,8 @@ embedded:
 # Pay runs a second with 1, 2 and 4 processes, each with a table of its own of 49,992 runs.
 bench-processes: build
 	python3 tools/bench_processes.py build/papcalc
+
+# A million pay runs in parts on one machine, by Slurm on one to three nodes and by Dask, with a node, a task and a worker killed and a disk
+# full on the way (needs Debian's slurm-wlm and python3-distributed, and root; RUNS=N for other tables).
+cluster-trials: build
+	python3 tools/cluster_trials.py build/papcalc $(RUNS)

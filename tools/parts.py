@@ -94,7 +94,7 @@ def read_manifests(folder):
     if not names:
         raise PartsFault(f"{folder} has no parts: split_table.py split makes them")
     held = [(name, read_manifest(f"{folder}/{name}")) for name in names]
-    faults = twice(held) or strangers(held) or gaps([manifest for _, manifest in held])
+    faults = twice(held) or misnamed(held) or strangers(held) or gaps([manifest for _, manifest in held])
     if faults:
         raise PartsFault(*faults)
     manifests = sorted((manifest for _, manifest in held), key=lambda manifest: manifest.part)
@@ -111,15 +111,19 @@ def twice(held):
     return [f"{part_name(number)} is there twice: {', '.join(names)}" for number, names in sorted(by_number.items()) if len(names) > 1]
 
 
+def misnamed(held):
+    return [f"{name} says that it is {manifest.name} of {manifest.parts}" for name, manifest in held
+            if name != f"{manifest.name}.json" or not 1 <= manifest.part <= manifest.parts]
+
+
 def strangers(held):
     """The parts that aren't as most of them are: of another split, with other flowcharts or another program."""
     faults = []
-    for what, of in [("another split of a table", lambda manifest: (manifest.split, manifest.parts)),
-                     ("other flowcharts or range files", lambda manifest: tuple(sorted(manifest.plans.items()))),
-                     ("another version of the program", lambda manifest: manifest.program)]:
+    for what, of in [("is of another split of a table", lambda manifest: (manifest.split, manifest.parts)),
+                     ("has other flowcharts or range files", lambda manifest: tuple(sorted(manifest.plans.items()))),
+                     ("has another version of the program", lambda manifest: manifest.program)]:
         usual = collections.Counter(of(manifest) for _, manifest in held).most_common(1)[0][0]
-        faults += [f"{name.removesuffix('.json')} is of {what} than most parts here" if what.startswith("another split")
-                   else f"{name.removesuffix('.json')} has {what} than most parts here" for name, manifest in held if of(manifest) != usual]
+        faults += [f"{manifest.name} {what} than most parts here" for _, manifest in held if of(manifest) != usual]
     return faults
 
 
@@ -258,7 +262,7 @@ def employees_between(file, start, end, employee):
     file.seek(start)
     first = file.readline()
     last = last_bytes(file, end)[:-1].rsplit(b"\n", 1)[-1]
-    return employee(first).decode("ascii"), employee(last).decode("ascii")
+    return employee(first).decode("ascii", "replace"), employee(last).decode("ascii", "replace")
 
 
 # ---- joining

@@ -258,6 +258,7 @@ def moved_employee(_):
 REFUSED_JOINS = [
     ("a manifest that isn't there", lambda _: os.remove("folder/part-0003.json"), "part-0003 is missing: it has no manifest"),
     ("a part twice", lambda _: shutil.copy("folder/part-0003.json", "folder/part-0003-b.json"), "part-0003 is there twice: part-0003-b.json, part-0003.json"),
+    ("a manifest under another name", lambda _: os.rename("folder/part-0003.json", "folder/part-0009.json"), "part-0009.json says that it is part-0003 of 4"),
     ("a manifest that is none", lambda _: put("folder/part-0003.json", "{"), "part-0003.json isn't the manifest of a part"),
     ("a manifest with another field", lambda _: changed_manifest(3, more=1), "part-0003.json isn't the manifest of a part"),
     ("a manifest of another form", lambda _: changed_manifest(3, rows="many"), "part-0003.json isn't a manifest of format 1: see rows"),

@@ -3,12 +3,14 @@ cut anew, by the exact numbers of its employees' runs."""
 import bisect
 import collections
 import hashlib
+import itertools
 import os
 import shutil
 import subprocess
 
 import parts
 import table_rows
+from parts import PartsFault
 from table_rows import LONGEST_TABLE, TableFault
 
 MOST_RUNS = 50_000
@@ -45,7 +47,8 @@ class Piece:
         first, last = min(self.names), max(self.names)
         self.first = first if self.first is None else min(first, self.first)
         self.last = last if self.last is None else max(last, self.last)
-        self.rows, self.names = [], []
+        self.rows.clear()
+        self.names.clear()
 
     def fits(self, most_runs):
         return self.runs <= most_runs and self.size <= LONGEST_TABLE
@@ -64,15 +67,14 @@ def distribute(table, cuts, pieces):
                 rows_there.append(row)
             waiting += sum(map(len, rows))
             if waiting > MOST_WAITING:
-                waiting = write_all(pieces)
-                targets = [(piece.names, piece.rows) for piece in pieces]
+                write_all(pieces)
+                waiting = 0
     write_all(pieces)
 
 
 def write_all(pieces):
     for piece in pieces:
         piece.write_rows()
-    return 0
 
 
 # ---- where to cut
@@ -98,17 +100,23 @@ def counted_cuts(table, most_runs):
 
 def sampled_cuts(table, most_runs):
     """Where to cut a table so that parts will be full by four fifths, as far as a sample tells; at least one cut."""
+    size = os.path.getsize(table)
     with open(table, "rb") as file:
         table_rows.header_of(file)
-        begin, size = file.tell(), os.path.getsize(table)
-        rows = [row for row in table_rows.cut_rows(file.read(table_rows.BLOCK), False)[0]] or [b" " * table_rows.BLOCK]
-        length = sum(map(len, rows)) / len(rows)
+        begin = file.tell()
+        rows, _ = table_rows.cut_rows(file.read(table_rows.BLOCK), False)
+        length = sum(map(len, rows)) / len(rows) if rows else table_rows.BLOCK
         count = 1 + int(size / min(most_runs * length, LONGEST_TABLE) / FULLNESS)
         names = sorted(sampled_names(file, begin, size, PLACES * count, int(ROWS_AT_PLACE * length)))
     if not names:
         return counted_cuts(table, most_runs)
     cuts = sorted({names[at * len(names) // count] for at in range(1, count)} - {names[0]})
-    return cuts or [names[0], names[0] + b"-"]
+    return cuts or just_around(names[0])
+
+
+def just_around(name):
+    """The cuts that leave an employee alone: `-` is the least byte of one."""
+    return [name, name + b"-"]
 
 
 def sampled_names(file, begin, size, places, length):
@@ -122,50 +130,50 @@ def sampled_names(file, begin, size, places, length):
 
 # ---- the whole
 
-def cut_table(table, size, folder, header, most_runs):
-    """The pieces of a table, each of which fits."""
+def cut_table(table, size, header, paths, most_runs):
+    """The pieces of a table in order, each of which fits. A piece lies at one of the paths, which don't end."""
     cuts = (counted_cuts if size <= COUNTED else sampled_cuts)(table, most_runs)
-    made = [Piece(f"{table if os.path.dirname(table) == folder else folder + '/piece'}-{at:04d}", header) for at in range(len(cuts) + 1)]
+    made = [Piece(next(paths), header) for _ in range(len(cuts) + 1)]
     distribute(table, cuts, made)
     for piece in made:
-        if piece.runs and not piece.fits(most_runs):
+        if piece.runs and piece.fits(most_runs):
+            yield piece
+            continue
+        if piece.runs:
             if piece.first == piece.last:
                 raise TableFault(f"the runs of {piece.first.decode()} are more than one part holds: {piece.runs} runs in {piece.size} bytes, "
                                  f"of at most {most_runs} in {LONGEST_TABLE}")
-            yield from cut_table(piece.path, piece.size, folder, header, most_runs)
-        elif piece.runs:
-            yield piece
-            continue
+            yield from cut_table(piece.path, piece.size, header, paths, most_runs)
         os.remove(piece.path)
 
 
 def make_parts(table, folder, plans, most_runs, program):
     """Makes the parts of a table in an empty folder: their tables, manifests and flowcharts. Gives the manifests."""
     if not 1 <= most_runs <= MOST_RUNS:
-        raise parts.PartsFault(f"{most_runs} isn't a number of runs from 1 to {MOST_RUNS}")
-    said = version_of(program)
-    files = copy_plans(plans, folder)
+        raise PartsFault(f"{most_runs} isn't a number of runs from 1 to {MOST_RUNS}")
+    said, files = version_of(program), copy_plans(plans, folder)
     with open(table, "rb") as file:
         header = table_rows.header_of(file)
-    pieces = list(cut_table(table, os.path.getsize(table), folder, header if header.endswith((b"\n", b"\r")) else header + b"\n", most_runs))
+    paths = (f"{folder}/piece-{number}" for number in itertools.count())
+    pieces = list(cut_table(table, os.path.getsize(table), header, paths, most_runs))
     if not pieces:
         raise TableFault("there is no run in it")
     split = hashlib.sha256("".join(piece.digest.hexdigest() for piece in pieces).encode()).hexdigest()
-    made = []
+    manifests = []
     for number, piece in enumerate(pieces, 1):
         name = f"{parts.part_name(number)}.csv"
         os.rename(piece.path, f"{folder}/{name}")
-        made.append(parts.Manifest(parts.FORMAT, number, len(pieces), split, piece.runs, piece.first.decode(), piece.last.decode(),
-                                   {name: piece.digest.hexdigest(), **files}, said))
-        parts.write_manifest(folder, made[-1])
-    return made
+        manifests.append(parts.Manifest(parts.FORMAT, number, len(pieces), split, piece.runs, piece.first.decode(), piece.last.decode(),
+                                        {name: piece.digest.hexdigest(), **files}, said))
+        parts.write_manifest(folder, manifests[-1])
+    return manifests
 
 
 def version_of(program):
     try:
         return subprocess.run([program, "--version"], stdout=subprocess.PIPE, check=True, encoding="ascii").stdout.strip()
     except (OSError, subprocess.CalledProcessError) as fault:
-        raise parts.PartsFault(f"the program isn't there: {fault}; --program names it") from None
+        raise PartsFault(f"the program isn't there: {fault}; --program names it") from None
 
 
 def copy_plans(plans, folder):
@@ -181,7 +189,7 @@ def copy_plans(plans, folder):
                     copy_plan(name, f"{folder}/{copy}", f"{plans}:{number}")
                 lines.append(" ".join(words[:2] + copies) + "\n")
             elif words and words[0] != "drop" and not words[0].startswith("#"):
-                raise parts.PartsFault(f"{plans}:{number}: only lines `plan DAY PLAN LIMITS`, `drop DAY` and comments stand in a script of flowcharts")
+                raise PartsFault(f"{plans}:{number}: only lines `plan DAY PLAN LIMITS`, `drop DAY` and comments stand in a script of flowcharts")
             else:
                 lines.append(line)
     with open(f"{folder}/{parts.PLANS}", "w", encoding="ascii", errors="surrogateescape") as script:
@@ -194,4 +202,4 @@ def copy_plan(name, copy, where):
     try:
         shutil.copyfile(name, copy)
     except OSError as fault:
-        raise parts.PartsFault(f"{where}: {name}: {fault.strerror}") from None
+        raise PartsFault(f"{where}: {name}: {fault.strerror}") from None

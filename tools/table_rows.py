@@ -73,7 +73,7 @@ def raw_rows(file):
 
 
 def header_of(file):
-    """The first row, which names the columns, without a byte order mark; the file stands behind it."""
+    """The first row, which names the columns, without a byte order mark and with a line end; the file stands behind it."""
     start = file.read(BLOCK)
     mark = len(BYTE_ORDER_MARK) if start.startswith(BYTE_ORDER_MARK) else 0
     rows, _ = cut_rows(start[mark:], len(start) < BLOCK)

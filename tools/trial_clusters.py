@@ -139,10 +139,11 @@ class Slurm(Daemons):
     def states(self):
         return self.command("sinfo", "-h", "-N", "-o", "%t").split()
 
-    def submit(self, count, *words, options=()):
-        """A job array of one task a part. Gives its number."""
+    def submit(self, numbers, *words, options=()):
+        """A job array of one task a part: a count of parts, or their numbers. Gives its own number."""
         script = os.path.join(os.path.dirname(os.path.abspath(__file__)), "cluster", "papcalc.sbatch")
-        said = self.command("sbatch", "--parsable", f"--array=1-{count}", f"--output={self.folder}/task-%a.log", *options, script, *words)
+        array = numbers if isinstance(numbers, str) else f"1-{numbers}"
+        said = self.command("sbatch", "--parsable", f"--array={array}", f"--output={self.folder}/task-%a.log", *options, script, *words)
         return said.strip()
 
     def tasks(self, job, *states):

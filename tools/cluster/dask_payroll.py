@@ -8,6 +8,7 @@ result there, by a rename once it is whole. With --send they share no files: tab
 results come back. PAPCALC is the program's name on the workers. A refused part isn't tried again; any other fault is, N times (3 where
 nothing is said), and Dask does again what was lost with a worker."""
 import argparse
+import asyncio
 import itertools
 import os
 import sys
@@ -16,6 +17,7 @@ sys.path.insert(0, os.path.join(os.path.dirname(os.path.abspath(__file__)), os.p
 import parts  # noqa: E402
 
 WIDTH = 40
+WAIT_SECONDS = 60
 
 
 # ---- on the workers, which have the standard library alone
@@ -166,8 +168,9 @@ def main():
     try:
         with Client(words.scheduler) as client:
             payroll = Payroll(client, words)
+            client.wait_for_workers(1, timeout=WAIT_SECONDS)
             payroll.run(as_completed)
-    except (parts.PartsFault, OSError) as fault:
+    except (parts.PartsFault, OSError, asyncio.TimeoutError) as fault:
         sys.exit(f"dask_payroll: {fault}")
     if payroll.faults:
         sys.exit("\n".join(f"dask_payroll: {fault}" for fault in sorted(payroll.faults)))
