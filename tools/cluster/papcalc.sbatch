@@ -20,6 +20,7 @@ attempt=${SLURM_RESTART_COUNT:-0}
 
 end_with() {
     echo "papcalc: $part: $2" >&2
+    rm -f "${made:-}"
     if [ "$1" -ne 1 ] && [ -n "${SLURM_JOB_ID:-}" ] && [ "$attempt" -lt "${RETRIES:-3}" ]; then
         scontrol requeue "${SLURM_ARRAY_JOB_ID}_$SLURM_ARRAY_TASK_ID" && sleep 60
     fi
@@ -27,6 +28,7 @@ end_with() {
 }
 
 cd "$folder" || end_with 3 "there is no folder $folder"
+[ -e "$part.csv" ] || end_with 1 "there is no $folder/$part.csv"
 edits=$part.edits
 [ -e "$edits" ] || edits=
 made=.$result.$(hostname).$$.$attempt
@@ -40,7 +42,8 @@ script() {
     cat plans.script && printf '\nload %s.csv\n' "$part" && { [ -z "$edits" ] || cat "$edits"; } && printf '\n%s\n' "$question"
 }
 
-{ receipt | sed 's/^/# /' && script | "$papcalc" run; } > "$made"
+receipt | sed 's/^/# /' > "$made" || end_with 3 "the part, its flowcharts or the program $papcalc can't be read"
+script | "$papcalc" run >> "$made"
 status=$?
 [ "$status" -eq 0 ] || end_with "$status" "status $status; nothing is put at $folder/$result"
-sync "$made" && mv -f "$made" "$result" || end_with 5 "the result can't be put at $folder/$result"
+{ sync "$made" && mv -f "$made" "$result"; } || end_with 5 "the result can't be put at $folder/$result"
