@@ -5,14 +5,14 @@ from __future__ import annotations
 
 import csv
 import io
-import re
 from dataclasses import dataclass, field
-from typing import Callable, Iterator, Optional, Sequence
+from typing import Callable, Iterator, Optional, Union
 
 from .errors import Misuse
-from .script import asks, words_of
 
 Values = dict[str, str]
+# The values of a run as a line has them, which are read when they are asked for, or as a table had them.
+Given = Union[bytes, Values]
 
 
 @dataclass(frozen=True)
@@ -29,56 +29,59 @@ class Book:
     """The runs by employee and day, and the flowcharts by day. `read` gives the content of a file that a line names."""
 
     read: Callable[[str], bytes]
-    runs: dict[str, dict[str, Values]] = field(default_factory=dict)
+    runs: dict[str, dict[str, Given]] = field(default_factory=dict)
     flowcharts: dict[str, Flowchart] = field(default_factory=dict)
 
-    def apply_all(self, script: bytes) -> None:
-        for line in script.split(b"\n"):
-            if asks(line):
-                self.apply(words_of(line.decode("ascii")))
+    def apply(self, line: bytes) -> None:
+        """Does what an accepted line did; nothing for a comment or an empty line."""
+        word, _, rest = line.strip().partition(b" ")
+        if word in (b"add", b"change"):
+            self._put(word == b"change", rest)
+        elif word in (b"plan", b"drop", b"withdraw", b"load", b"open"):
+            getattr(self, f"_{word.decode('ascii')}")(*rest.decode("ascii").split())
 
-    def apply(self, words: Sequence[str]) -> None:
-        """Does what an accepted line did."""
-        word, *rest = words
-        if word == "plan":
-            self.flowcharts[rest[0]] = Flowchart(*rest)
-        elif word == "drop":
-            del self.flowcharts[rest[0]]
-        elif word == "add":
-            self._put(rest[0], rest[2], rest[3:])
-        elif word == "change":
-            runs = self.runs[rest[0]]
-            del runs[rest[2] if rest[2] in runs else only_day(runs, rest[1])]
-            self._put(rest[0], rest[2], rest[3:])
-        elif word == "withdraw":
-            runs = self.runs[rest[0]]
-            del runs[only_day(runs, rest[1])]
-        elif word == "load":
-            self._load(self.read(rest[0]))
-        elif word == "open":
-            self._open(self.read(rest[0]))
+    def _put(self, is_change: bool, rest: bytes) -> None:
+        fields = rest.split(None, 3)
+        employee, month, day = (part.decode("ascii") for part in fields[:3])
+        runs = self.runs.setdefault(employee, {})
+        if is_change:
+            del runs[day if day in runs else only_day(runs, month)]
+        runs[day] = fields[3] if len(fields) > 3 else b""
 
-    def _put(self, employee: str, day: str, values: Sequence[str]) -> None:
-        self.runs.setdefault(employee, {})[day] = dict(split_value(word) for word in values)
+    def _withdraw(self, employee: str, when: str) -> None:
+        runs = self.runs[employee]
+        del runs[only_day(runs, when)]
 
-    def _load(self, table: bytes) -> None:
-        rows = table_rows(table)
+    def _plan(self, day: str, plan: str, limits: str) -> None:
+        self.flowcharts[day] = Flowchart(day, plan, limits)
+
+    def _drop(self, day: str) -> None:
+        del self.flowcharts[day]
+
+    def _load(self, table: str) -> None:
+        rows = table_rows(self.read(table))
         names = next(rows)[3:]
         for row in rows:
-            values = {name: cell for name, cell in zip(names, row[3:]) if cell}
-            self.runs.setdefault(row[0], {})[row[2]] = values
+            self.runs.setdefault(row[0], {})[row[2]] = {name: cell for name, cell in zip(names, row[3:]) if cell}
 
-    def _open(self, saved: bytes) -> None:
-        at = saved.index(b"plans ")
-        count, at = int(saved[at + 6:saved.index(b"\n", at)]), saved.index(b"\n", at) + 1
+    def _open(self, saved: str) -> None:
+        text = self.read(saved)
+        at = text.index(b"plans ")
+        count, at = int(text[at + 6:text.index(b"\n", at)]), text.index(b"\n", at) + 1
         for _ in range(count):
-            end = saved.index(b"\n", at)
-            _, day, plan, limits = saved[at:end].decode("ascii").split(" ")
+            end = text.index(b"\n", at)
+            _, day, plan, limits = text[at:end].decode("ascii").split(" ")
             self.flowcharts[day] = Flowchart(day, None, None)
             at = end + 1 + int(plan) + int(limits) + 1
-        for line in saved[at:].decode("ascii").splitlines()[1:-1]:
-            _, employee, day, *values = line.split(" ")
-            self._put(employee, day, values)
+        for line in text[at:].split(b"\n")[1:-2]:
+            _, _, run = line.partition(b" ")
+            employee, run_day, *words = run.split(b" ", 2)
+            self.runs.setdefault(employee.decode("ascii"), {})[run_day.decode("ascii")] = words[0] if words else b""
+
+    def values(self, employee: str, day: str) -> Values:
+        """The values that the employee's run of a day was given."""
+        given = self.runs[employee][day]
+        return values_of(given) if isinstance(given, bytes) else dict(given)
 
     def find(self, employee: str, when: str) -> str:
         """The day of the run that is meant by a day or a month."""
@@ -90,26 +93,21 @@ class Book:
         return days[0]
 
     def flowchart_of(self, day: str) -> Optional[Flowchart]:
-        """The flowchart that holds on a day: the last that was put before it in its calendar year."""
+        """The flowchart that holds on a day: the last that was put up to it in its calendar year."""
         days = [put for put in self.flowcharts if put[:4] == day[:4] and put <= day]
         return self.flowcharts[max(days)] if days else None
 
 
-def only_day(runs: dict[str, Values], when: str) -> str:
+def only_day(runs: dict[str, Given], when: str) -> str:
     """The one day of these runs that is this day or lies in this month."""
     return next(day for day in runs if when in (day, day[:7]))
 
 
-def split_value(word: str) -> tuple[str, str]:
-    name, value = word.split("=", 1)
-    return name, value
+def values_of(words: bytes) -> Values:
+    """The values of words NAME=VALUE."""
+    return dict(word.split("=", 1) for word in words.decode("ascii").split())
 
 
 def table_rows(table: bytes) -> Iterator[list[str]]:
     """The rows of a table that papcalc reads, its header first, without empty lines."""
     return (row for row in csv.reader(io.StringIO(table.decode("utf-8-sig"), newline="")) if row)
-
-
-def is_when(word: str) -> bool:
-    """Whether a word is written as a month or a day."""
-    return re.fullmatch(r"\d{4}-\d{2}(-\d{2})?", word) is not None

@@ -9,6 +9,7 @@ from typing import IO, Callable, Iterator, Optional, Sequence, Union
 
 from . import __version__
 from .errors import FileMissing, LedgerError, Misuse, NotReady, Refused
+from .german import make_table
 from .page import page_of
 from .tables import rows_to_set
 from .views import Run, Status
@@ -43,6 +44,8 @@ def parser() -> argparse.ArgumentParser:
     words.add_parser("new", help="begins a year in a folder that isn't there or is empty")
     load = words.add_parser("load", help="FILE: all pay runs of a table")
     load.add_argument("file", metavar="FILE")
+    load.add_argument("--german", action="store_true", help="semicolons, decimal commas, Latin-1, dates as 31.01.2026")
+    load.add_argument("--columns", metavar="NAMES", help="a file with a line `THEIRS = OURS` for each column that has another name")
     saved = words.add_parser("open", help="BOOK: begins the year with a saved book")
     saved.add_argument("book", metavar="BOOK")
     filed = saved.add_mutually_exclusive_group(required=True)
@@ -179,7 +182,13 @@ def do_trace(year: Year, asked: argparse.Namespace) -> int:
 
 
 def do_load(year: Year, asked: argparse.Namespace) -> int:
-    put(year.ask_words(["load", asked.file]))
+    table = asked.file
+    if asked.german or asked.columns:
+        table, changes = make_table(asked.file, asked.german, asked.columns)
+        note(f"{table} was made of {asked.file}:")
+        for change in changes:
+            note(change)
+    put(year.ask_words(["load", table]))
     return 0
 
 

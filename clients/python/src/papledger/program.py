@@ -79,7 +79,7 @@ class Program:
 
     def _answer(self, line: bytes) -> bytes:
         first = self._answers.readline()
-        last = LAST.get(line.split(None, 1)[0].decode("ascii", "replace"))
+        last = LAST.get(line.split(None, 1)[0])
         lines = [first]
         if last and not first.startswith(b"refused "):
             while lines[-1] and not lines[-1].startswith(last):

@@ -9,7 +9,7 @@ from .errors import Misuse
 # A line of this word changes the book or what was filed: it stands in the journal once it was accepted.
 KEPT = frozenset({"plan", "drop", "add", "change", "withdraw", "load", "open", "file"})
 # How the last line of an answer of several lines begins. Each other line is answered by one line.
-LAST = {"report": b"end\n", "trace": b"end\n", "owed": b"end\n", "file": b"filed ", "try": b"would "}
+LAST = {b"report": b"end\n", b"trace": b"end\n", b"owed": b"end\n", b"file": b"filed ", b"try": b"would "}
 # Without the line end.
 LONGEST_LINE = 65_536
 LONGEST_SCRIPT = 67_108_864

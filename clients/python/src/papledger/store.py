@@ -137,13 +137,26 @@ class Store:
         return Damaged(f"{self.folder}/{JOURNAL}: line {number} {how}: `{text}`. Either the journal was changed, or this papcalc "
                        "computes otherwise; nothing was changed now")
 
-    def ask(self, words: Sequence[str]) -> bytes:
+    def ask(self, words: Sequence[str], content: Optional[bytes] = None) -> bytes:
         """Sends a line of these words, and gives its answer. A line that changes the year is on the disk by then; within `batch` that is
-        so at the batch's end."""
+        so at the batch's end. Where a content is given, it is that of the one file which the line names."""
         if self._read_only and (words[0] in KEPT or words[0] in FILES):
             raise Misuse(f"the year is open for reading only: no line `{words[0]}` can be sent")
-        line = line_of(self._copied(words))
-        is_kept = words[0] in KEPT
+        line = line_of(self._copied(words, content))
+        return self._send(line, words[0] in KEPT)
+
+    def _copied(self, words: Sequence[str], content: Optional[bytes]) -> list[str]:
+        """The words with the names of copies in place of files. All files are read before the first is copied."""
+        places = files_of(words)
+        line_of([word for at, word in enumerate(words) if at not in places])
+        contents = [(at, read_named(words[at]) if content is None else content) for at in places]
+        sent = list(words)
+        for at, text in contents:
+            sent[at] = self._copies.put(FILES[words[0]].folder, words[at], text)
+        return sent
+
+    def _send(self, line: bytes, is_kept: bool) -> bytes:
+        """Sends a line, and keeps it where it is to be kept and is accepted."""
         session = self._with_room(line, is_kept)
         try:
             answer = session.program.ask(line)
@@ -153,7 +166,7 @@ class Store:
                 session.records.append(session.note(line, answer))
                 session.lines.append(line)
                 if session.book is not None:
-                    session.book.apply(line.decode("ascii").split())
+                    session.book.apply(line)
                 if self._batch is None:
                     self._commit(session)
         except Refused:
@@ -163,15 +176,21 @@ class Store:
             raise
         return answer
 
-    def _copied(self, words: Sequence[str]) -> list[str]:
-        """The words with the names of copies in place of files. All files are read before the first is copied."""
-        places = files_of(words)
-        line_of([word for at, word in enumerate(words) if at not in places])
-        contents = [(at, read_named(words[at])) for at in places]
-        sent = list(words)
-        for at, content in contents:
-            sent[at] = self._copies.put(FILES[words[0]].folder, words[at], content)
-        return sent
+    @property
+    def size(self) -> int:
+        """How many bytes the journal has."""
+        return self._journal.size
+
+    @property
+    def held(self) -> bytes:
+        """The lines of a batch that were accepted so far."""
+        return b"".join(self._opened().lines)
+
+    def send_again(self, lines: bytes) -> None:
+        """Keeps lines that this year accepted before, as they stand."""
+        with self.batch():
+            for line in lines.splitlines(keepends=True):
+                self._send(line, is_kept=True)
 
     def _with_room(self, line: bytes, is_kept: bool) -> _Session:
         """The session, whose program can still take the line."""
@@ -206,21 +225,24 @@ class Store:
 
     @contextmanager
     def batch(self) -> Iterator[None]:
-        """The lines within are brought to the disk together at its end. After an error within none of them is kept."""
-        if self._batch is not None:
-            raise Misuse("a batch stands in another")
-        self._batch = session = self._opened()
+        """The lines within are brought to the disk together at its end. After an error within none of them is kept. A batch in another is
+        part of it."""
+        is_inner = self._batch is not None
+        session = self._opened() if self._batch is None else self._batch
+        self._batch = session
         try:
             yield
             if self._session is not session:
                 raise LedgerError("the batch was broken off by an error before: none of its lines is kept")
-            self._commit(session)
+            if not is_inner:
+                self._commit(session)
         except BaseException:
-            if session.lines:
+            if session.lines and self._session is session:
                 self._discard()
             raise
         finally:
-            self._batch = None
+            if not is_inner:
+                self._batch = None
 
     def _discard(self) -> None:
         """Ends the program. The next line begins with the journal anew."""
@@ -245,7 +267,8 @@ class Store:
         session = self._opened()
         if session.book is None:
             book = Book(lambda name: read_named(os.path.join(self.folder, name)))
-            book.apply_all(self._journal.text() + b"".join(session.lines))
+            for line in [*self._journal.text().split(b"\n"), *session.lines]:
+                book.apply(line)
             session.book = book
         return session.book
 

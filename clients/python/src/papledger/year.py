@@ -147,7 +147,7 @@ class Year:
 
     def values(self, employee: str, when: str) -> Values:
         """The values that a run was given."""
-        return dict(self._store.book.runs[employee][self.day(employee, when)])
+        return self._store.book.values(employee, self.day(employee, when))
 
     def flowchart(self, day: str) -> Optional[Flowchart]:
         """The flowchart that holds on a day."""
@@ -159,7 +159,7 @@ class Year:
 
     def _set_words(self, employee: str, when: str, values: Mapping[str, Optional[Value]]) -> list[str]:
         day = self.day(employee, when)
-        merged: dict[str, Value] = dict(self._store.book.runs[employee][day])
+        merged: dict[str, Value] = dict(self._store.book.values(employee, day))
         for name, value in values.items():
             if value is None or value == "":
                 merged.pop(name, None)
