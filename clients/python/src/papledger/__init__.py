@@ -9,11 +9,12 @@
 from .answers import Amount, Change, Changed, Filing, Row, Step, Trial, Waiting, Work
 from .book import Flowchart
 from .errors import Busy, Damaged, FileMissing, LedgerError, Misuse, NotReady, NotSaved, ProgramFailed, Refused
+from .parts import Parts
 from .views import Cause, Run, Status, Total
 from .year import Value, Year
 
 __all__ = [
     "Amount", "Busy", "Cause", "Change", "Changed", "Damaged", "FileMissing", "Filing", "Flowchart", "LedgerError", "Misuse", "NotReady",
-    "NotSaved", "ProgramFailed", "Refused", "Row", "Run", "Status", "Step", "Total", "Trial", "Value", "Waiting", "Work", "Year",
+    "NotSaved", "Parts", "ProgramFailed", "Refused", "Row", "Run", "Status", "Step", "Total", "Trial", "Value", "Waiting", "Work", "Year",
 ]
 __version__ = "1.0.0"

@@ -11,6 +11,7 @@ from . import __version__
 from .errors import FileMissing, LedgerError, Misuse, NotReady, Refused
 from .german import make_table
 from .page import page_of
+from .parts import MOST_EMPLOYEES, Parts, is_of_parts
 from .tables import rows_to_set
 from .views import Run, Status
 from .year import Year, plain
@@ -27,6 +28,7 @@ PLAIN = {
     "try": "DAY PLAN LIMITS: what this flowchart would change",
     "file": "MONTH: the month is closed; nothing is filed where a run up to its end isn't ok",
 }
+AnyYear = Union[Year, Parts]
 READING = {"report", "work", "owed", "trace", "show", "status", "totals", "export"}
 GROUP = 1000
 
@@ -41,7 +43,9 @@ def parser() -> argparse.ArgumentParser:
     words = top.add_subparsers(dest="word", metavar="WORD", required=True)
     for word, text in PLAIN.items():
         words.add_parser(word, help=text.lstrip(": ")).add_argument("rest", nargs=argparse.REMAINDER)
-    words.add_parser("new", help="begins a year in a folder that isn't there or is empty")
+    new = words.add_parser("new", help="begins a year in a folder that isn't there or is empty")
+    new.add_argument("--split", metavar="TABLE", help="of several parts, among which the employees of this table are split")
+    new.add_argument("--employees", metavar="N", type=int, default=MOST_EMPLOYEES, help=f"the employees of a part ({MOST_EMPLOYEES})")
     load = words.add_parser("load", help="FILE: all pay runs of a table")
     load.add_argument("file", metavar="FILE")
     load.add_argument("--german", action="store_true", help="semicolons, decimal commas, Latin-1, dates as 31.01.2026")
@@ -106,7 +110,7 @@ def assigned(words: Sequence[str]) -> dict[str, str]:
     return values
 
 
-def do_set(year: Year, asked: argparse.Namespace) -> int:
+def do_set(year: AnyYear, asked: argparse.Namespace) -> int:
     if (asked.table is not None) == bool(asked.rest):
         raise Misuse("set takes EMP WHEN NAME=VALUE .., or --table FILE")
     if asked.table is not None:
@@ -120,7 +124,7 @@ def do_set(year: Year, asked: argparse.Namespace) -> int:
     return 0
 
 
-def do_open(year: Year, asked: argparse.Namespace) -> int:
+def do_open(year: AnyYear, asked: argparse.Namespace) -> int:
     filing = year.open_book(asked.book, asked.filed)
     put_lines(["ok"])
     if filing is not None:
@@ -139,7 +143,7 @@ def lines_of_run(run: Run) -> Iterator[str]:
         yield from (f"{word} {name} {plain(value)}" for name, value in values.items())
 
 
-def do_show(year: Year, asked: argparse.Namespace) -> int:
+def do_show(year: AnyYear, asked: argparse.Namespace) -> int:
     runs = year.show(asked.employee, asked.when)
     if not runs:
         raise Misuse(f"{asked.employee} has no run" + (f" in or on {asked.when}" if asked.when else ""))
@@ -156,19 +160,19 @@ def lines_of_status(status: Status) -> Iterator[str]:
     yield from (f"plan {put.day} {put.plan or '-'} {put.limits or '-'}" for put in status.flowcharts)
 
 
-def do_status(year: Year, _: argparse.Namespace) -> int:
+def do_status(year: AnyYear, _: argparse.Namespace) -> int:
     put_lines(list(lines_of_status(year.status())))
     return 0
 
 
-def do_totals(year: Year, asked: argparse.Namespace) -> int:
+def do_totals(year: AnyYear, asked: argparse.Namespace) -> int:
     put_lines(["month,name,reported,filed"])
     put_lines([f"{total.month},{total.name},{plain(total.reported)},{'' if total.filed is None else plain(total.filed)}"
                for total in year.totals(asked.month)])
     return 0
 
 
-def do_export(year: Year, asked: argparse.Namespace) -> int:
+def do_export(year: AnyYear, asked: argparse.Namespace) -> int:
     if asked.file is None:
         put(year.report_text()[:-len(b"end\n")])
     else:
@@ -176,12 +180,12 @@ def do_export(year: Year, asked: argparse.Namespace) -> int:
     return 0
 
 
-def do_trace(year: Year, asked: argparse.Namespace) -> int:
-    put(page_of(year, asked.employee, asked.when) if asked.page else year.ask_words(["trace", asked.employee, asked.when]))
+def do_trace(year: AnyYear, asked: argparse.Namespace) -> int:
+    put(page_of(year.year_of(asked.employee), asked.employee, asked.when) if asked.page else year.ask_words(["trace", asked.employee, asked.when]))
     return 0
 
 
-def do_load(year: Year, asked: argparse.Namespace) -> int:
+def do_load(year: AnyYear, asked: argparse.Namespace) -> int:
     table = asked.file
     if asked.german or asked.columns:
         table, changes = make_table(asked.file, asked.german, asked.columns)
@@ -192,7 +196,7 @@ def do_load(year: Year, asked: argparse.Namespace) -> int:
     return 0
 
 
-def do_script(year: Year, asked: argparse.Namespace) -> int:
+def do_script(year: AnyYear, asked: argparse.Namespace) -> int:
     """Sends the lines one by one. A refused line is told, and the next one sent."""
     if asked.batch < 1:
         raise Misuse("a batch has at least one line")
@@ -212,7 +216,7 @@ def script_lines(path: str) -> IO[str]:
         raise FileMissing(f"the file {path}: {fault.strerror}") from fault
 
 
-def send_group(year: Year, group: Sequence[str]) -> int:
+def send_group(year: AnyYear, group: Sequence[str]) -> int:
     """Sends lines that are brought to the disk together, and then tells their answers."""
     found: list[Union[bytes, Refused]] = []
     with year.batch():
@@ -229,25 +233,43 @@ def send_group(year: Year, group: Sequence[str]) -> int:
     return int(any(isinstance(answer, Refused) for answer in found))
 
 
-def do_plain(year: Year, asked: argparse.Namespace) -> int:
+def do_plain(year: AnyYear, asked: argparse.Namespace) -> int:
     put(year.ask_words([asked.word, *asked.rest]))
     return 0
 
 
-WORDS: dict[str, Callable[[Year, argparse.Namespace], int]] = {
+def do_new(asked: argparse.Namespace) -> int:
+    if asked.split is None:
+        Year.new(asked.folder, program=asked.program).close()
+    elif asked.employees < 1:
+        raise Misuse("a part has at least one employee")
+    else:
+        Parts.new(asked.folder, asked.split, asked.employees, program=asked.program).close()
+    return 0
+
+
+WORDS: dict[str, Callable[[AnyYear, argparse.Namespace], int]] = {
     "set": do_set, "open": do_open, "show": do_show, "status": do_status, "totals": do_totals, "export": do_export, "trace": do_trace,
     "load": do_load, "script": do_script,
 }
 
 
+def opened(asked: argparse.Namespace) -> AnyYear:
+    read_only = asked.word in READING
+    if is_of_parts(asked.folder):
+        return Parts(asked.folder, program=asked.program, read_only=read_only)
+    return Year(asked.folder, program=asked.program, read_only=read_only)
+
+
 def carry_out(asked: argparse.Namespace) -> int:
     if asked.word == "new":
-        Year.new(asked.folder, program=asked.program).close()
-        return 0
-    with Year(asked.folder, program=asked.program, read_only=asked.word in READING) as year:
-        for notice in year.notices:
-            note(notice)
-        return WORDS.get(asked.word, do_plain)(year, asked)
+        return do_new(asked)
+    with opened(asked) as year:
+        try:
+            return WORDS.get(asked.word, do_plain)(year, asked)
+        finally:
+            for notice in year.notices:
+                note(notice)
 
 
 def main(words: Optional[Sequence[str]] = None) -> int:

@@ -166,13 +166,21 @@ def read_from(handle: int) -> bytes:
         return file.read()
 
 
-def begin(folder: str) -> None:
-    """Makes an empty year of a folder that is new or empty."""
+def begin_folder(folder: str) -> None:
+    """Makes a folder for a year; it may be there where it is empty."""
     try:
         disk.make_folder(folder)
-        others = [name for name in os.listdir(folder) if name != LOCK and not name.endswith(".new")]
-        if others:
-            raise Damaged(f"{folder} isn't empty: it has {sorted(others)[0]}; a year begins in a folder of its own")
+        others = sorted(name for name in os.listdir(folder) if name != LOCK and not name.endswith(".new"))
+    except OSError as fault:
+        raise NotSaved(f"{folder} can't be made: {fault.strerror}") from fault
+    if others:
+        raise Damaged(f"{folder} isn't empty: it has {others[0]}; a year begins in a folder of its own")
+
+
+def begin(folder: str) -> None:
+    """Makes an empty year of a folder that isn't there or is empty."""
+    begin_folder(folder)
+    try:
         disk.put_file(os.path.join(folder, JOURNAL), HEAD)
     except OSError as fault:
         raise NotSaved(f"{folder} can't be written: {fault.strerror}") from fault

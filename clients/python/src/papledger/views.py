@@ -1,13 +1,16 @@
 """What is read off a report and off the filings: one employee's runs, the state of a year, and its sums."""
 from __future__ import annotations
 
+import os
 from collections import Counter
 from dataclasses import dataclass
 from decimal import Decimal
 from typing import Iterable, NamedTuple, Optional, Sequence
 
+from . import disk
 from .answers import Amount, Filing, Waiting, Work, row_of
 from .book import Flowchart, Values
+from .errors import NotSaved
 
 
 @dataclass(frozen=True)
@@ -113,6 +116,42 @@ def totals_of(report: bytes, filings: Sequence[Filing], month: Optional[str]) ->
     zero = Decimal(0)
     return [Total(at, name, reported.get((at, name), zero), filed.get((at, name), zero) if at in months else None)
             for at, name in sorted(keys, key=lambda key: key[0])]
+
+
+def status_of(parts: Sequence[Status]) -> Status:
+    """Where the parts of a year stand together."""
+    causes: dict[tuple[str, str], Cause] = {}
+    for cause in (cause for part in parts for cause in part.causes):
+        key = (cause.state, cause.name)
+        causes[key] = causes[key]._replace(runs=causes[key].runs + cause.runs) if key in causes else cause
+    work = Work(sum(part.work.runs for part in parts), sum(part.work.steps for part in parts))
+    return Status(sum(part.lines for part in parts), sum(part.runs for part in parts), tuple(causes[key] for key in sorted(causes)),
+                  parts[0].filed, work, parts[0].flowcharts)
+
+
+def sum_totals(parts: Sequence[Sequence[Total]]) -> list[Total]:
+    """The totals of parts added up, in order of month."""
+    found: dict[tuple[str, str], Total] = {}
+    for total in (total for part in parts for total in part):
+        key = (total.month, total.name)
+        before = found.get(key)
+        filed = total.filed if before is None else add(before.filed, total.filed)
+        found[key] = total._replace(reported=total.reported + (before.reported if before else 0), filed=filed)
+    return sorted(found.values(), key=lambda total: total.month)
+
+
+def add(one: Optional[Decimal], other: Optional[Decimal]) -> Optional[Decimal]:
+    return one if other is None else other if one is None else one + other
+
+
+def export(report: bytes, path: str) -> int:
+    """Writes a report as a CSV file, whole or not at all, and gives the number of its rows."""
+    lines = report.split(b"\n")[:-2]
+    try:
+        disk.put_file(os.path.abspath(path), b"\n".join(lines) + b"\n")
+    except OSError as fault:
+        raise NotSaved(f"{path} can't be written: {fault.strerror}") from fault
+    return len(lines) - 1
 
 
 def sums_of(amounts: Iterable[Amount], employee: str) -> dict[str, dict[str, Decimal]]:

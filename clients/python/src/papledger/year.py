@@ -7,9 +7,9 @@ from decimal import Decimal
 from types import TracebackType
 from typing import Iterable, Mapping, Optional, Sequence, Union
 
-from . import answers, disk, views
+from . import answers, views
 from .book import Flowchart, Values
-from .errors import Misuse, NotReady, NotSaved, Refused
+from .errors import Misuse, NotReady, Refused
 from .journal import begin
 from .script import words_of
 from .store import Store
@@ -89,6 +89,10 @@ class Year:
         """Adds all pay runs of a table."""
         self._store.ask(["load", table])
 
+    def load_content(self, name: str, content: bytes) -> None:
+        """Adds all pay runs of a table that isn't a file; its copy has this name."""
+        self._store.ask(["load", name], content)
+
     def open_book(self, saved: str, filed: Optional[str]) -> Optional[answers.Filing]:
         """Begins the year with a saved book. `filed` is the last month that was filed before it was saved, None where none was: the
         months up to it are filed here too, and their amounts, which are known already, given back."""
@@ -133,6 +137,26 @@ class Year:
     def try_plan(self, day: str, flowchart: str, limits: str) -> answers.Trial:
         """What `plan` of the same words would change. Nothing changes."""
         return answers.trial_of(self._store.ask(["try", day, flowchart, limits]))
+
+    # For a year of several parts.
+
+    def year_of(self, employee: str) -> "Year":
+        """The part in which an employee's runs stand: the year itself."""
+        return self
+
+    @property
+    def journal_size(self) -> int:
+        """How many bytes the journal has."""
+        return self._store.size
+
+    @property
+    def held(self) -> bytes:
+        """The lines of a batch that were accepted so far."""
+        return self._store.held
+
+    def send_again(self, lines: bytes) -> None:
+        """Keeps lines that this year accepted before, as they stand."""
+        self._store.send_again(lines)
 
     # What is made of these lines.
 
@@ -216,12 +240,7 @@ class Year:
 
     def export(self, path: str) -> int:
         """Writes the report as a CSV file, whole or not at all, and gives the number of its rows."""
-        lines = self.report_text().split(b"\n")[:-2]
-        try:
-            disk.put_file(os.path.abspath(path), b"\n".join(lines) + b"\n")
-        except OSError as fault:
-            raise NotSaved(f"{path} can't be written: {fault.strerror}") from fault
-        return len(lines) - 1
+        return views.export(self.report_text(), path)
 
 
 def value_words(values: Mapping[str, Value]) -> list[str]:
