@@ -2,9 +2,9 @@
 """What README.md and docs/ show is what comes: run_shown.py [--write] PROGRAM, from the top of the repository.
 
 A block that begins with ```console has commands behind `$ ` with what they write on standard output; its commands run one after the
-other, and those of one document in one scratch copy of the examples, with the program as build/papcalc and as papcalc on the path. A
-block that begins with ```session has lines of one script behind `> ` with their answers. Each is compared byte for byte. With --write
-the documents get what comes."""
+other, and those of one document in one scratch copy of the examples, with the program as build/papcalc, and papcalc and papledger on the
+path. A block that begins with ```session has lines of one script behind `> ` with their answers. Each is compared byte for byte. With
+--write the documents get what comes."""
 import glob
 import os
 import shutil
@@ -16,10 +16,11 @@ import tempfile
 def scratch_copy(program):
     """A folder with the examples, the tools and the program."""
     folder = tempfile.mkdtemp(prefix="papcalc-shown-")
-    for name in ["examples", "tools", "docs"]:
+    for name in ["examples", "tools", "docs", "clients"]:
         shutil.copytree(name, f"{folder}/{name}", ignore=shutil.ignore_patterns("__pycache__"))
     os.mkdir(f"{folder}/build")
     os.symlink(program, f"{folder}/build/papcalc")
+    os.symlink(f"{folder}/clients/python/papledger", f"{folder}/build/papledger")
     return folder
 
 
