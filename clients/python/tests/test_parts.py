@@ -20,7 +20,7 @@ class SeveralParts(Case):
 
     def test_the_parts(self) -> None:
         Parts.new("y", "employees.csv", 2).close()
-        self.assertEqual(Path("y/year.parts").read_text(), "part-0001 \npart-0002 chris\n")
+        self.assertEqual(Path("y/year.parts").read_text(), "part-0001\npart-0002 chris\n")
         with Parts("y") as parts:
             for employee, part in [("-", 1), ("ben", 1), ("c", 1), ("chris", 2), ("zoe", 2)]:
                 self.assertEqual(parts.year_of(employee).folder[-1], str(part))

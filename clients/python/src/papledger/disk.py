@@ -55,7 +55,7 @@ def make_folder(folder: str) -> None:
 
 def put_file(path: str, content: bytes) -> None:
     """Puts a whole file under this name and brings it to the disk; after an error or a crash the name has what it had before."""
-    draft = f"{path}.new"
+    draft = f"{path}.{os.getpid()}.new"
     handle = os.open(draft, os.O_WRONLY | os.O_CREAT | os.O_TRUNC | os.O_CLOEXEC, 0o666)
     try:
         try:

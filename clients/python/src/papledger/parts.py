@@ -72,7 +72,7 @@ class Parts:
         begin_folder(os.path.abspath(folder))
         for name in names:
             Year.new(os.path.join(folder, name), program=program).close()
-        text = "\n".join(" ".join(line) for line in zip(names, ["", *firsts[1:]])) + "\n"
+        text = "\n".join(" ".join(line).rstrip() for line in zip(names, ["", *firsts[1:]])) + "\n"
         try:
             disk.put_file(os.path.join(os.path.abspath(folder), PARTS), text.encode("ascii"))
         except OSError as fault:
@@ -241,12 +241,13 @@ class Parts:
             rows = list(table_rows(content))
         except (UnicodeDecodeError, csv.Error):
             rows = []
-        if not rows or any(not row[0] for row in rows):
-            return self._year(self._names[0]).ask_words(["load", table])
         pieces: dict[str, list[list[str]]] = {}
         for row in rows[1:]:
             pieces.setdefault(self._name_of(row[0]), [rows[0]]).append(row)
         with self.batch():
+            if not pieces or rows[0][:3] != ["employee", "month", "day"]:
+                self._year(self._names[0]).load_content(table, content)
+                raise Misuse(f"{table} has no row that could be split by employee; nothing was loaded")
             for name, piece in pieces.items():
                 self._year(name).load_content(table, csv_text(piece))
         return b"ok\n"
