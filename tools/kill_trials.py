@@ -2,8 +2,8 @@
 """Kills a program that keeps a year, at random moments: kill_trials.py PROGRAM [KILLS [SEED]], from the top of the repository.
 
 Each trial sends a random script to a year, line by line or in batches, by a process that is killed (kill -9) again and again until the script
-is through. After each kill the folder is opened: every line that was told done is there, nothing else but perhaps what was in flight, and the
-report is that of papcalc alone on these lines. The status is 1 where one trial fails or none was made."""
+is through. After each kill the folder is opened: every line that was told done is there, nothing else but perhaps the line or the
+whole batch in flight, and the report is that of papcalc alone on these lines. The status is 1 where one trial fails or none was made."""
 import concurrent.futures
 import itertools
 import os
@@ -87,7 +87,8 @@ class Trial:
         with Year(f"{self.folder}/y", program=self.program) as year:
             report = year.report_text().decode("ascii")
         there = journal_lines(f"{self.folder}/y")
-        found = next((count for count in range(done, min(done + self.batch, len(self.lines)) + 1) if self.kept_before(count) == there), None)
+        in_flight = min(done + self.batch, len(self.lines))
+        found = next((count for count in (done, in_flight) if self.kept_before(count) == there), None)
         if found is None:
             raise Lost(f"from line {start} on {done} lines were told done, and the journal has {there}")
         if report != report_of(self.program, there, self.folder):

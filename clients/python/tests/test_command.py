@@ -105,7 +105,7 @@ class Command(Case):
         self.begin()
         with Path("y/year.script").open("a") as journal:
             journal.write("add anna")
-        self.assertIn("the journal ended in the midst of a line", self.ledger("withdraw", "dora", "2026-01")[2])
+        self.assertIn("the journal ended in the midst of", self.ledger("withdraw", "dora", "2026-01")[2])
 
     def test_several_parts(self) -> None:
         status, _, _ = self.ledger("new", "--split", "t1.csv", "--employees", "2")

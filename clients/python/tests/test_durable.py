@@ -49,8 +49,23 @@ class Opening(Case):
         for torn in [b"a", b"add anna 2026-02 2026-02-28 PAY=1", b"\0" * 300]:
             with self.journal.open("ab") as journal:
                 journal.write(torn)
-            self.opens_as(LINES, "in the midst of a line")
+            self.opens_as(LINES, "in the midst of")
         self.assertEqual(journal_lines("y"), LINES)
+
+    def test_lines_that_belong_together_are_cut_together(self) -> None:
+        with Year("y") as year, year.batch():
+            year.ask("add anna 2026-02 2026-02-28 PAY=1")
+            year.ask("add ben 2026-02 2026-02-28 PAY=1")
+        whole, digest = self.journal.read_bytes(), self.digest.read_bytes()
+        first = whole.index(b"# together 2\n")
+        for end in [first + 1, first + 12, first + 13, first + 20, whole.index(b"\n", first + 13) + 1, len(whole) - 1]:
+            self.journal.write_bytes(whole[:end])
+            self.digest.write_bytes(digest[:-34])
+            self.opens_as(LINES, "in the midst of")
+            self.assertEqual(self.journal.read_bytes(), whole[:first])
+        self.journal.write_bytes(whole)
+        self.digest.write_bytes(digest)
+        self.opens_as([*LINES, "add anna 2026-02 2026-02-28 PAY=1", "add ben 2026-02 2026-02-28 PAY=1"])
 
     def test_a_digest_that_lacks_records_is_completed(self) -> None:
         whole = self.digest.read_bytes()
@@ -209,6 +224,7 @@ class EachCall(Case):
         except NotSaved:
             if stays:
                 raise
+            self.assertEqual(journal_lines("y"), self.done, "the journal is as it was")
             before = len([*year.report()])
             self.assertEqual(before, report_of(self.program, self.done).count("\n") - 2, "the year in memory is as it was")
             year.ask(line)

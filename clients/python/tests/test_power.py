@@ -12,22 +12,26 @@ from papledger import Year
 from tests.power import LossyOs, PowerCut
 from tests.support import Case, journal_lines, report_of
 
-LINES = ["plan 2026-01-01 p0.xml limits.toml", "load t1.csv", "add anna 2026-01 2026-01-28 PAY=1", "file 2026-01", "load t2.csv"]
+# Lines, and in their midst a batch.
+GROUPS = [["plan 2026-01-01 p0.xml limits.toml"], ["load t1.csv"], ["add anna 2026-01 2026-01-28 PAY=1", "add ben 2026-01 2026-01-28 PAY=2"],
+          ["file 2026-01"], ["load t2.csv"]]
 DRAWS = 4
 
 
 class PowerCuts(Case):
     def run_until(self, number: int) -> LossyOs:
-        """A year of the lines, cut at this call; `self.done` are the lines that were told done."""
+        """A year of the lines, cut at this call; `self.done` is the number of groups that were told done."""
         shutil.rmtree("y", ignore_errors=True)
-        self.done: list[str] = []
+        self.done = 0
         self.begun = False
         lossy = LossyOs("y", number)
         with mock.patch("papledger.disk.os", lossy), suppress(PowerCut), Year.new("y") as year:
             self.begun = True
-            for line in LINES:
-                year.ask(line)
-                self.done.append(line)
+            for group in GROUPS:
+                with year.batch():
+                    for line in group:
+                        year.ask(line)
+                self.done += 1
         return lossy
 
     def test_a_power_cut(self) -> None:
@@ -49,7 +53,7 @@ class PowerCuts(Case):
             return
         with Year("after") as year:
             there = journal_lines("after")
-            self.assertIn(there, [self.done, LINES[:len(self.done) + 1]], says)
+            self.assertIn(there, [sum(GROUPS[:count], []) for count in (self.done, self.done + 1)], says)
             self.assertEqual(year.report_text().decode(), report_of(self.program, there), says)
 
 

@@ -202,7 +202,8 @@ def do_script(year: AnyYear, asked: argparse.Namespace) -> int:
         raise Misuse("a batch has at least one line")
     status = 0
     with script_lines(asked.file) as lines:
-        while group := list(islice(lines, asked.batch)):
+        numbered = enumerate(lines, 1)
+        while group := list(islice(numbered, asked.batch)):
             status = max(status, send_group(year, group))
     return status
 
@@ -216,15 +217,17 @@ def script_lines(path: str) -> IO[str]:
         raise FileMissing(f"the file {path}: {fault.strerror}") from fault
 
 
-def send_group(year: AnyYear, group: Sequence[str]) -> int:
+def send_group(year: AnyYear, group: Sequence[tuple[int, str]]) -> int:
     """Sends lines that are brought to the disk together, and then tells their answers."""
     found: list[Union[bytes, Refused]] = []
     with year.batch():
-        for line in group:
+        for number, line in group:
             try:
                 found.append(year.ask(line))
             except Refused as refused:
                 found.append(refused)
+            except LedgerError as fault:
+                raise type(fault)(f"line {number}: {fault}; the lines before it that were answered are kept") from fault
     for answer in found:
         if isinstance(answer, Refused):
             tell_refusal(answer)

@@ -1,7 +1,8 @@
 """The durable files of a year: the journal of accepted lines, and beside it the digest of their answers.
 
 The journal `year.script` is a script: `papcalc run < year.script`, begun in the year's folder, carries out the whole year. A line is in
-it when it stands there with its line end; what stands behind the last line end was never handed on as done.
+it when it stands there with its line end; what stands behind the last line end was never handed on as done. Lines that were brought to the disk
+together stand behind a comment with their number, and are in it when all of them stand there.
 
 The digest `year.digest` has a record of 16 hexadecimal digits and a line end for each line that is answered: the beginning of a SHA-256 sum
 over the line, its answer and the sum before. It is written behind the journal, and may lack the last records."""
@@ -10,7 +11,8 @@ from __future__ import annotations
 import fcntl
 import hashlib
 import os
-from typing import Optional
+import re
+from typing import Optional, Sequence
 
 from . import disk
 from .errors import Busy, Damaged, NotSaved
@@ -19,6 +21,7 @@ JOURNAL = "year.script"
 DIGEST = "year.digest"
 LOCK = "year.lock"
 HEAD = b"# A year of pay runs: each line below was accepted by papcalc, and is on the disk since. papledger appends to it.\n"
+TOGETHER = re.compile(rb"\n# together (\d+)\n")
 RECORD = 17
 
 
@@ -74,7 +77,7 @@ class Journal:
             raise NotSaved(f"{os.path.join(folder, JOURNAL)} can't be opened: {fault.strerror}") from fault
         try:
             content = read_from(self._lines)
-            self.size = content.rfind(b"\n") + 1
+            self.size = whole_size(content)
             self.torn = content[self.size:]
             if not read_only:
                 self._begin_writing()
@@ -157,6 +160,21 @@ class Journal:
         for handle in (self._lines, self._digest):
             if handle is not None:
                 os.close(handle)
+
+
+def together(lines: Sequence[bytes]) -> bytes:
+    """The text of lines that are to be kept all or none."""
+    return (b"# together %d\n" % len(lines) if len(lines) > 1 else b"") + b"".join(lines)
+
+
+def whole_size(content: bytes) -> int:
+    """How many bytes at the beginning of a journal are whole lines, without the last ones where some that belong to them aren't there."""
+    size = content.rfind(b"\n") + 1
+    at = content.rfind(b"\n# together ", 0, size)
+    found = TOGETHER.match(content, at) if at >= 0 else None
+    if found and content.count(b"\n", found.end(), size) < int(found[1]):
+        return at + 1
+    return size
 
 
 def read_from(handle: int) -> bytes:

@@ -13,9 +13,9 @@ from .answers import Filing
 from .book import Book
 from .copies import Copies, read_named
 from .errors import Damaged, LedgerError, Misuse, NotSaved, Refused
-from .journal import JOURNAL, RECORD, Chain, Journal, Lock
+from .journal import JOURNAL, Chain, Journal, Lock, together
 from .program import Program, explain, find_program
-from .script import FILES, KEPT, LONGEST_SCRIPT, files_of, line_of
+from .script import FILES, KEPT, LONGEST_SCRIPT, asks, files_of, line_of
 
 RECORDS = re.compile(rb"(?:[0-9a-f]{16}\n)*")
 
@@ -80,8 +80,8 @@ class Store:
 
     def _begin(self) -> None:
         if self._journal.torn and not self._read_only:
-            torn = self._journal.torn[:80].decode("ascii", "replace")
-            self.notices.append(f"the journal ended in the midst of a line, which was never done; it was cut off: {torn}")
+            torn = " / ".join(self._journal.torn[:80].decode("ascii", "replace").splitlines())
+            self.notices.append(f"the journal ended in the midst of what was never told done; that was cut off: {torn}")
         self._opened()
         if not self._read_only:
             self._copies.sweep(set(self._named(self._journal.text())))
@@ -183,14 +183,15 @@ class Store:
 
     @property
     def held(self) -> bytes:
-        """The lines of a batch that were accepted so far."""
-        return b"".join(self._opened().lines)
+        """The lines of a batch that were accepted so far, as the journal will have them."""
+        return together(self._opened().lines)
 
     def send_again(self, lines: bytes) -> None:
         """Keeps lines that this year accepted before, as they stand."""
         with self.batch():
             for line in lines.splitlines(keepends=True):
-                self._send(line, is_kept=True)
+                if asks(line):
+                    self._send(line, is_kept=True)
 
     def _with_room(self, line: bytes, is_kept: bool) -> _Session:
         """The session, whose program can still take the line."""
@@ -218,7 +219,7 @@ class Store:
     def _commit(self, session: _Session) -> None:
         """Brings the accepted lines to the disk, and then their records into the digest."""
         if session.lines:
-            self._journal.append(b"".join(session.lines))
+            self._journal.append(together(session.lines))
             self._journal.record(session.count, b"".join(session.records))
             session.count += len(session.lines)
             session.lines, session.records = [], []

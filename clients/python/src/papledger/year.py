@@ -151,7 +151,7 @@ class Year:
 
     @property
     def held(self) -> bytes:
-        """The lines of a batch that were accepted so far."""
+        """The lines of a batch that were accepted so far, as the journal will have them."""
         return self._store.held
 
     def send_again(self, lines: bytes) -> None:
