@@ -5,6 +5,7 @@ Each trial sends a random script to a year, line by line or in batches, by a pro
 is through. After each kill the folder is opened: every line that was told done is there, nothing else but perhaps the line or the
 whole batch in flight, and the report is that of papcalc alone on these lines. The status is 1 where one trial fails or none was made."""
 import concurrent.futures
+import contextlib
 import itertools
 import os
 import random
@@ -36,7 +37,7 @@ def send(program, start, batch):
     with Year("y", program=program) as year:
         print(start, flush=True)
         for at in range(start, len(lines), batch):
-            with year.batch():
+            with year.batch() if batch > 1 else contextlib.nullcontext():
                 for line in lines[at:at + batch]:
                     try:
                         year.ask(line)

@@ -60,6 +60,16 @@ class Command(Case):
         self.assertEqual((status, out), (1, "waiting emil 2026-01-28 missing PAY\nrefused file Open emil 2026-01-28\n"))
         self.assertIn("waiting 1 missing PAY first emil 2026-01-28\n", self.ledger("status")[1])
 
+    def test_a_month_that_was_left_out_is_told(self) -> None:
+        self.begin()
+        for words in [["load", "t2.csv"], ["load", "t3.csv"]]:
+            self.ledger(*words)
+        self.assertEqual(self.ledger("file", "2026-02")[2], "papledger: 2026-01 wasn't filed by itself: its amounts are among those of 2026-02\n")
+        self.ledger("set", "dora", "2026-01", "PAY=5")
+        status, out, err = self.ledger("file", "2026-03")
+        self.assertEqual((status, err), (0, ""))
+        self.assertIn("due dora 2026-01-28 TAX", out)
+
     def test_values_from_a_table(self) -> None:
         self.begin()
         Path("raises.csv").write_text("employee,month,day,PAY,CHILDREN\ndora,2026-01,,2000,\nfay,2026-01,2026-01-28,,5\n")

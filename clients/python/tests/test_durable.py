@@ -242,6 +242,16 @@ class EachCall(Case):
             self.assertEqual(journal_lines("y"), LINES, self.says)
         self.assertGreater(total, 40)
 
+    def test_a_line_that_could_not_be_cut_off_again(self) -> None:
+        """It is cut off before the next line, which is shorter."""
+        with Year.new("y") as year:
+            year.ask(LINES[0])
+            with fault("pwrite", 1, stays=True, short=True), self.assertRaises(NotSaved):
+                year.ask("add anna 2026-01 2026-01-28 PAY=1000.00 CHILDREN=2")
+            self.assertFalse(Path("y/year.script").read_bytes().endswith(b"\n"))
+            year.ask("file 2026-01")
+            self.assertEqual(journal_lines("y"), [LINES[0], "file 2026-01"])
+
     def test_a_fault_that_stays(self) -> None:
         """As of a full disk, until the process ends. Then what was told done is there, and perhaps the line in flight."""
         for call, short in [*((call, False) for call in CALLS), ("pwrite", True)]:

@@ -50,6 +50,13 @@ class Exports(Case):
             year.load("export.papcalc.csv")
             self.assertEqual(year.values("4711", "2026-01"), {"PAY": "2469.12", "CHILDREN": "1"})
 
+    def test_a_value_that_each_row_gets(self) -> None:
+        text = self.made(EXPORT, COLUMNS.replace("Kinder = CHILDREN", "Kinder =\nCHILDREN = 2"))
+        self.assertEqual(text.splitlines()[:2], ["employee,month,day,PAY,CHILDREN", "4711,2026-01,2026-01-28,2469.12,2"])
+        self.assertIn("each row has CHILDREN=2", self.changes)
+        with self.assertRaises(Misuse):
+            self.made(EXPORT, COLUMNS + "CHILDREN = 2\n")
+
     def test_utf_8_is_read_as_such(self) -> None:
         text = self.made("\ufeff" + EXPORT, encoding="utf-8")
         self.assertIn("4712,2026-01,2026-01-28,-21,\n", text)

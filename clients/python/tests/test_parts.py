@@ -5,7 +5,7 @@ import random
 import unittest
 from pathlib import Path
 
-from papledger import Busy, LedgerError, Misuse, NotReady, NotSaved, Parts, Refused, Year
+from papledger import Busy, Damaged, LedgerError, Misuse, NotReady, NotSaved, Parts, Refused, Year
 from tests.faults import CALLS, describe, fault
 from tests.support import Case, random_script
 
@@ -75,7 +75,7 @@ class SeveralParts(Case):
         for call in CALLS:
             for number in range(1, 200):
                 folder = f"{call}{number}"
-                with Parts.new(folder, "employees.csv", 2) as parts:
+                with Parts.new(folder, "t1.csv", 2) as parts:
                     parts.ask(LINES[0])
                     try:
                         with fault(call, number, stays=True) as failing:
@@ -85,6 +85,9 @@ class SeveralParts(Case):
                 if not failing.has_failed:
                     break
                 cuts += 1
+                if Path(folder, "year.intent").exists():
+                    with self.assertRaisesRegex(Damaged, "in the midst of a line"):
+                        Year(f"{folder}/part-0001")
                 with Parts(folder) as parts:
                     self.assertIn(parts.status().runs, (0, 3), describe(call, number, True, False))
                     if not parts.status().runs:

@@ -8,6 +8,7 @@ from itertools import islice
 from typing import IO, Callable, Iterator, Optional, Sequence, Union
 
 from . import __version__
+from .answers import amounts_of
 from .errors import FileMissing, LedgerError, Misuse, NotReady, Refused
 from .german import make_table
 from .page import page_of
@@ -16,17 +17,18 @@ from .tables import rows_to_set
 from .views import Run, Status
 from .year import Year, plain
 
+# The lines of a script that are sent as they stand: their words, and what they do.
 PLAIN = {
-    "plan": "DAY PLAN LIMITS: from this day on this flowchart holds",
-    "drop": "DAY: the flowchart that was put on this day is taken away",
-    "add": "EMP MONTH DAY NAME=VALUE ..: one more pay run",
-    "change": "EMP MONTH DAY NAME=VALUE ..: this pay run in place of the one that is there; no value of the old one stays",
-    "withdraw": "EMP WHEN: the pay run of a day, or the only one of a month, is taken away",
-    "report": ": all runs with their amounts",
-    "work": ": how many runs the last accepted edit ran, and their steps",
-    "owed": ": what differs now from what was filed",
-    "try": "DAY PLAN LIMITS: what this flowchart would change",
-    "file": "MONTH: the month is closed; nothing is filed where a run up to its end isn't ok",
+    "plan": ("DAY PLAN LIMITS", "from this day on this flowchart holds"),
+    "drop": ("DAY", "the flowchart that was put on this day is taken away"),
+    "add": ("EMP MONTH DAY NAME=VALUE ..", "one more pay run"),
+    "change": ("EMP MONTH DAY NAME=VALUE ..", "this pay run in place of the one that is there; no value of the old one stays"),
+    "withdraw": ("EMP WHEN", "the pay run of a day, or the only one of a month, is taken away"),
+    "report": ("", "all runs with their amounts"),
+    "work": ("", "how many runs the last accepted edit ran, and their steps"),
+    "owed": ("", "what differs now from what was filed"),
+    "try": ("DAY PLAN LIMITS", "what this flowchart would change"),
+    "file": ("MONTH", "the month is closed; nothing is filed where a run up to its end isn't ok"),
 }
 AnyYear = Union[Year, Parts]
 READING = {"report", "work", "owed", "trace", "show", "status", "totals", "export"}
@@ -41,11 +43,13 @@ def parser() -> argparse.ArgumentParser:
     top.add_argument("--program", help="the program papcalc, where it isn't on the path and not named by PAPCALC in the environment")
     top.add_argument("folder", metavar="DIR", help="the year's folder")
     words = top.add_subparsers(dest="word", metavar="WORD", required=True)
-    for word, text in PLAIN.items():
-        words.add_parser(word, help=text.lstrip(": ")).add_argument("rest", nargs=argparse.REMAINDER)
     new = words.add_parser("new", help="begins a year in a folder that isn't there or is empty")
     new.add_argument("--split", metavar="TABLE", help="of several parts, among which the employees of this table are split")
     new.add_argument("--employees", metavar="N", type=int, default=MOST_EMPLOYEES, help=f"the employees of a part ({MOST_EMPLOYEES})")
+    for word, (form, text) in PLAIN.items():
+        usage = f"papledger DIR {word} {form}".rstrip()
+        plain_word = words.add_parser(word, help=f"{form}: {text}" if form else text, usage=usage)
+        plain_word.add_argument("rest", nargs=argparse.REMAINDER, help=argparse.SUPPRESS)
     load = words.add_parser("load", help="FILE: all pay runs of a table")
     load.add_argument("file", metavar="FILE")
     load.add_argument("--german", action="store_true", help="semicolons, decimal commas, Latin-1, dates as 31.01.2026")
@@ -237,8 +241,18 @@ def send_group(year: AnyYear, group: Sequence[tuple[int, str]]) -> int:
 
 
 def do_plain(year: AnyYear, asked: argparse.Namespace) -> int:
-    put(year.ask_words([asked.word, *asked.rest]))
+    before = year.last_filed() if asked.word == "file" else None
+    answer = year.ask_words([asked.word, *asked.rest])
+    put(answer)
+    if asked.word == "file":
+        for month in left_out(answer, before, asked.rest[0]):
+            note(f"{month} wasn't filed by itself: its amounts are among those of {asked.rest[0]}")
     return 0
+
+
+def left_out(answer: bytes, before: Optional[str], month: str) -> list[str]:
+    """The months between the last filed one and this one of which amounts are filed with it."""
+    return sorted({amount.day[:7] for amount in amounts_of(answer) if (before or "") < amount.day[:7] < month})
 
 
 def do_new(asked: argparse.Namespace) -> int:

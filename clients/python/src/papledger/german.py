@@ -26,6 +26,7 @@ PLAIN = re.compile(r"-?\d+(\.\d+)?", re.ASCII)
 DAY = re.compile(r"\d{4}-\d{2}-\d{2}", re.ASCII)
 GERMAN_DAY = re.compile(r"(\d{1,2})\.(\d{1,2})\.(\d{4})", re.ASCII)
 GERMAN_MONTH = re.compile(r"(\d{1,2})[./](\d{4})", re.ASCII)
+COLUMN = re.compile(r"([A-Za-z_]\w*|)(?:\s*\*\s*(\d+(?:\.\d+)?))?", re.ASCII)
 MOST_FAULTS = 20
 
 
@@ -34,6 +35,14 @@ class Column(NamedTuple):
 
     name: str
     factor: Decimal = Decimal(1)
+
+
+@dataclass(frozen=True)
+class Columns:
+    """What a file of columns says: what the columns of the export become, and the values that each row gets besides."""
+
+    named: dict[str, Column] = field(default_factory=dict)
+    fixed: dict[str, str] = field(default_factory=dict)
 
 
 @dataclass
@@ -47,20 +56,25 @@ class Report:
         return [f"{text} ({count} {'time' if count == 1 else 'times'})" if count else text for text, count in self.changes.items()]
 
 
-def read_columns(path: str) -> dict[str, Column]:
-    """A file of columns: a line `THEIRS = OURS` for each, as `Personalnummer = employee`, `Brutto = PAY * 100` for an amount in euros that the
-    flowchart takes in cents, and `Bemerkung =` for a column that is left out. Empty lines and those that begin with # say nothing."""
-    columns: dict[str, Column] = {}
+def read_columns(path: str) -> Columns:
+    """A file of columns, with a line for each: `Personalnummer = employee`; `Brutto = PAY * 100` for an amount in euros that the flowchart
+    takes in cents; `Bemerkung =` for a column that is left out; `PERIOD = 2` for a value that each row gets. Empty lines and those that begin
+    with # say nothing."""
+    columns = Columns()
     for number, line in enumerate(decoded(read_named(path))[0].splitlines(), 1):
         text = line.strip()
         if not text or text.startswith("#"):
             continue
-        theirs, mark, ours = (part.strip() for part in text.partition("="))
-        found = re.fullmatch(r"(\w*)(?:\s*\*\s*(\d+(?:\.\d+)?))?", ours, re.ASCII)
-        if not mark or not theirs or found is None or theirs in columns:
-            why = "this column stands twice" if theirs in columns else "it has to be as `Brutto = PAY`, `Brutto = PAY * 100` or `Bemerkung =`"
-            raise Misuse(f"{path}, line {number}: {why}: {text}")
-        columns[theirs] = Column(found[1], Decimal(found[2] or 1))
+        left, mark, right = (part.strip() for part in text.partition("="))
+        column = COLUMN.fullmatch(right)
+        if left in columns.named or left in columns.fixed:
+            raise Misuse(f"{path}, line {number}: {left} stands twice")
+        if mark and left and PLAIN.fullmatch(right):
+            columns.fixed[left] = right
+        elif mark and left and column:
+            columns.named[left] = Column(column[1], Decimal(column[2] or 1))
+        else:
+            raise Misuse(f"{path}, line {number}: `{text}` isn't as `Brutto = PAY`, `Brutto = PAY * 100`, `Bemerkung =` or `PERIOD = 2`")
     return columns
 
 
@@ -106,7 +120,7 @@ def plain_number(cell: str) -> Optional[str]:
 class Maker:
     """Makes a table of an export."""
 
-    def __init__(self, german: bool, columns: dict[str, Column]) -> None:
+    def __init__(self, german: bool, columns: Columns) -> None:
         self.columns = columns
         self.report = Report()
         self._number = number_of if german else plain_number
@@ -122,7 +136,7 @@ class Maker:
         if not rows:
             raise Misuse("the file has no row")
         header = self._header([cell.strip() for cell in rows[0]])
-        names = [*KEYS, *(column.name for column in header if column.name and column.name not in KEYS)]
+        names = [*KEYS, *(column.name for column in header if column.name and column.name not in KEYS), *self.columns.fixed]
         made = [names, *(self._row(number, header, row) for number, row in enumerate(rows[1:], 1))]
         out = io.StringIO()
         csv.writer(out, lineterminator="\n").writerows(made)
@@ -136,15 +150,17 @@ class Maker:
 
     def _header(self, cells: Sequence[str]) -> list[Column]:
         """What each column becomes. One that the file of columns doesn't name keeps its name."""
-        unknown = [theirs for theirs in self.columns if theirs not in cells]
+        unknown = [theirs for theirs in self.columns.named if theirs not in cells]
         if unknown:
             raise Misuse(f"the file has no column {unknown[0]}; its columns are {', '.join(cells)}")
-        found = [self.columns.get(cell, Column(cell)) for cell in cells]
+        found = [self.columns.named.get(cell, Column(cell)) for cell in cells]
         for cell, column in zip(cells, found):
             if column.name != cell:
                 self._note(f"the column {cell} is left out" if not column.name else f"the column {cell} is {column.name}"
                            + (f", times {column.factor}" if column.factor != 1 else ""))
-        names = [column.name for column in found if column.name]
+        for name, value in self.columns.fixed.items():
+            self._note(f"each row has {name}={value}")
+        names = [column.name for column in found if column.name] + list(self.columns.fixed)
         if len(set(names)) < len(names):
             raise Misuse(f"two columns are {next(name for name in names if names.count(name) > 1)}")
         if "employee" not in names or "day" not in names:
@@ -165,7 +181,7 @@ class Maker:
                 keys[column.name] = self._key(number, column.name, cell.strip())
             elif column.name:
                 values.append(self._value(number, column, cell.strip()))
-        return [keys["employee"], keys["month"] or keys["day"][:7], keys["day"], *values]
+        return [keys["employee"], keys["month"] or keys["day"][:7], keys["day"], *values, *self.columns.fixed.values()]
 
     def _key(self, number: int, name: str, cell: str) -> str:
         if name == "employee":
@@ -198,7 +214,7 @@ class Maker:
 
 def make_table(path: str, german: bool, columns: Optional[str]) -> tuple[str, list[str]]:
     """Writes the table of an export beside it, as FILE.papcalc.csv, and gives its name, and what was changed."""
-    maker = Maker(german, read_columns(columns) if columns else {})
+    maker = Maker(german, read_columns(columns) if columns else Columns())
     try:
         text = maker.table(read_named(path))
     except (Misuse, csv.Error) as fault:

@@ -20,6 +20,8 @@ from .errors import Busy, Damaged, NotSaved
 JOURNAL = "year.script"
 DIGEST = "year.digest"
 LOCK = "year.lock"
+# In the folder above a part of a year: what several parts are to keep together.
+INTENT = "year.intent"
 HEAD = b"# A year of pay runs: each line below was accepted by papcalc, and is on the disk since. papledger appends to it.\n"
 TOGETHER = re.compile(rb"\n# together (\d+)\n")
 RECORD = 17

@@ -20,12 +20,11 @@ from .answers import Filing, Work, work_of
 from .book import table_rows
 from .copies import read_named
 from .errors import Busy, Damaged, LedgerError, Misuse, NotReady, NotSaved, Refused
-from .journal import Lock, begin_folder
+from .journal import INTENT, Lock, begin_folder
 from .script import words_of
 from .year import Value, Year
 
 PARTS = "year.parts"
-INTENT = "year.intent"
 # Of these the second word is the employee, whose part does the line.
 OF_EMPLOYEE = frozenset({"add", "change", "withdraw", "trace"})
 OF_ALL = frozenset({"plan", "drop", "try", "file", "report", "owed"})
@@ -50,6 +49,8 @@ class Parts:
         lines = read_named(os.path.join(self.folder, PARTS)).decode("ascii").splitlines()
         self._names = [line.split()[0] for line in lines]
         self._firsts = [line.split()[1] for line in lines[1:]]
+        # Of each part that is yet to keep lines the size of its journal before, and the lines.
+        self._intent: dict[str, tuple[int, str]] = {}
         self._is_in_batch = False
         self._is_closed = False
         self._lock: Optional[Lock] = None
@@ -117,7 +118,8 @@ class Parts:
         if self._is_closed:
             raise LedgerError(f"the year {self.folder} is closed")
         if name not in self._years:
-            self._years[name] = Year(os.path.join(self.folder, name), program=self._program, read_only=self._read_only)
+            awaited = self._intent.get(name, (0, ""))[1].encode("ascii")
+            self._years[name] = Year(os.path.join(self.folder, name), program=self._program, read_only=self._read_only, awaited=awaited)
         return self._years[name]
 
     def year_of(self, employee: str) -> Year:
@@ -173,6 +175,7 @@ class Parts:
         return True
 
     def _forget_intent(self, is_intended: bool) -> None:
+        self._intent = {}
         if is_intended:
             disk.forget(os.path.join(self.folder, INTENT))
             disk.sync_folder(self.folder)
@@ -182,7 +185,8 @@ class Parts:
         path = os.path.join(self.folder, INTENT)
         if not os.path.exists(path):
             return
-        for name, (size, lines) in json.loads(read_named(path)).items():
+        self._intent = {name: (size, lines) for name, (size, lines) in json.loads(read_named(path)).items()}
+        for name, (size, lines) in self._intent.items():
             year = self._year(name)
             if year.journal_size == size:
                 year.send_again(lines.encode("ascii"))
@@ -251,6 +255,10 @@ class Parts:
             for name, piece in pieces.items():
                 self._year(name).load_content(table, csv_text(piece))
         return b"ok\n"
+
+    def last_filed(self) -> Optional[str]:
+        """The last month that was filed, in all parts."""
+        return self._year(self._names[0]).last_filed()
 
     def works(self) -> Mapping[str, Work]:
         """Of each part how many runs its last accepted edit ran, and their steps."""

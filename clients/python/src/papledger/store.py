@@ -13,7 +13,7 @@ from .answers import Filing
 from .book import Book
 from .copies import Copies, read_named
 from .errors import Damaged, LedgerError, Misuse, NotSaved, Refused
-from .journal import JOURNAL, Chain, Journal, Lock, together
+from .journal import INTENT, JOURNAL, Chain, Journal, Lock, together
 from .program import Program, explain, find_program
 from .script import FILES, KEPT, LONGEST_SCRIPT, asks, files_of, line_of
 
@@ -42,10 +42,12 @@ class _Session:
 
 
 class Store:
-    """A year's folder, opened. `notices` are what was found and mended at the opening."""
+    """A year's folder, opened. `notices` are what was found and mended at the opening. `awaited` are the lines that a part of a year is
+    about to keep, where the year opens it."""
 
-    def __init__(self, folder: str, program: Optional[str] = None, read_only: bool = False) -> None:
+    def __init__(self, folder: str, program: Optional[str] = None, read_only: bool = False, awaited: Optional[bytes] = None) -> None:
         self.folder = os.path.abspath(folder)
+        self._awaited = awaited
         self.notices: list[str] = []
         self._read_only = read_only
         self._is_closed = False
@@ -68,6 +70,9 @@ class Store:
     def _locked(self) -> Lock:
         if not os.path.exists(os.path.join(self.folder, JOURNAL)):
             raise Damaged(f"{self.folder} is not a year: it has no file {JOURNAL}; `papledger {self.folder} new` begins one")
+        above = os.path.dirname(self.folder)
+        if self._awaited is None and os.path.exists(os.path.join(above, INTENT)):
+            raise Damaged(f"{self.folder} is a part of the year {above}, which was left in the midst of a line; send a line to {above} first")
         try:
             return Lock(self.folder)
         except OSError as fault:
@@ -84,7 +89,7 @@ class Store:
             self.notices.append(f"the journal ended in the midst of what was never told done; that was cut off: {torn}")
         self._opened()
         if not self._read_only:
-            self._copies.sweep(set(self._named(self._journal.text())))
+            self._copies.sweep(set(self._named(self._journal.text() + (self._awaited or b""))))
 
     def _named(self, text: bytes) -> Iterator[str]:
         """The copied files that the lines of the journal name."""

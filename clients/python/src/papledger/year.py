@@ -21,11 +21,11 @@ class Year:
     """A year. Each method that changes it returns when its line is on the disk; `Refused` is raised where papcalc refuses the line.
 
     `notices` are what was found and mended when the folder was opened. A year that is opened `read_only` can be read while another
-    process writes to it."""
+    process writes to it. `awaited` is for `Parts`: the lines that this part of a year is about to keep."""
 
-    def __init__(self, folder: str, *, program: Optional[str] = None, read_only: bool = False) -> None:
+    def __init__(self, folder: str, *, program: Optional[str] = None, read_only: bool = False, awaited: Optional[bytes] = None) -> None:
         self.folder = folder
-        self._store = Store(folder, program, read_only)
+        self._store = Store(folder, program, read_only, awaited)
         self.notices: Sequence[str] = self._store.notices
 
     @classmethod
@@ -164,6 +164,10 @@ class Year:
     def filings(self) -> Sequence[answers.Filing]:
         """The months that were filed, in their order, with the amounts that were filed with each."""
         return self._store.filings
+
+    def last_filed(self) -> Optional[str]:
+        """The last month that was filed."""
+        return self.filings[-1].month if self.filings else None
 
     def day(self, employee: str, when: str) -> str:
         """The day of the employee's run that is meant by a day or a month."""
