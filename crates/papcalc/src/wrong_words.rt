@@ -5,17 +5,19 @@ use payroll_records::{InsertFault, NamedValue, Values};
 use plain_words::one_line;
 use std::alloc::{AllocError, Global};
 
-/// The words of a command behind its name.
-const FORMS: &str = "it takes a flowchart's file and a range file";
-
 /// Why words that have no form have none, in one line whatever they are. None where no single word can be blamed.
 pub fn what_is_wrong(alloc: Global, words: &[String]) -> Result<Option<String>, AllocError> {
     let [command, rest @ ..] = words else {
         return Ok(None);
     };
     let said = match command.as_str() {
-        "check" => number_of_words(alloc, "check", "and nothing else", rest)?,
-        "once" if rest.len() < 2 => number_of_words(alloc, "once", "and then values", rest)?,
+        "check" => {
+            let count = rest.len();
+            format!(in alloc; "`check` takes two words, PLAN and LIMITS, and not {count}")?
+        }
+        "once" if rest.len() < 2 => {
+            format!(in alloc; "`once` takes the words PLAN and LIMITS, and then values")?
+        }
         "once" => return wrong_value(alloc, &rest[2..]),
         "run" | "save" => format!(in alloc;
             "`{command}` reads its script from standard input, as papcalc {command} < SCRIPT, and takes no word behind it"
@@ -31,17 +33,6 @@ pub fn what_is_wrong(alloc: Global, words: &[String]) -> Result<Option<String>, 
         }
     };
     Ok(Some(said))
-}
-
-/// That a command on two files has another number of words.
-fn number_of_words(
-    alloc: Global,
-    command: &str,
-    more: &str,
-    rest: &[String],
-) -> Result<String, AllocError> {
-    let count = rest.len();
-    format!(in alloc; "`{command}` has {count} words behind it; {FORMS} {more}")
 }
 
 /// Which of the values of `once` is wrong, and why.
