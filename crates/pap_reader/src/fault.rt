@@ -2,6 +2,8 @@
 
 ghost use Rattle.std.specs.Prelude.{◌≡◌};
 ghost use Rattle.pap_reader.specs.declared.fault.ReadFault.TheVariants.{Memory};
+ghost use Rattle.pap_reader.specs.Amounts.{counted_words};
+ghost use Rattle.pap_reader.specs.Limits.{most};
 
 use crate::text::LONGEST_PLAN;
 use pap_tree::{
@@ -33,19 +35,51 @@ pub enum Which {
     Depth,
 }
 
+impl Which {
+    /// The most that there may be.
+    fn most(self) -> u32
+        ensures { result ≡ most self }
+    {
+        match self {
+            Which::Bytes => LONGEST_PLAN as u32,
+            Which::Inputs => MOST_INPUTS,
+            Which::Outputs => MOST_OUTPUTS,
+            Which::Internals => MOST_INTERNALS,
+            Which::Constants => MOST_CONSTANTS,
+            Which::Methods => MOST_METHODS,
+            Which::Statements => MOST_STATEMENTS,
+            Which::Depth => MOST_NESTING,
+        }
+    }
+
+    /// What there may be so much of.
+    fn words(self) -> &'static str
+        ensures { result.now ≡ counted_words self }
+    {
+        match self {
+            Which::Bytes => "bytes",
+            Which::Inputs => "INPUTs",
+            Which::Outputs => "OUTPUTs",
+            Which::Internals => "INTERNALs",
+            Which::Constants => "CONSTANTs",
+            Which::Methods => "METHODs beside MAIN",
+            Which::Statements => "EVALs, EXECUTEs and IFs",
+            Which::Depth => "IFs in one another",
+        }
+    }
+}
+
 impl fmt::Display for Which {
+    ghost use Rattle.std.specs.Prelude.{Some};
+    ghost use Rattle.pap_reader.specs.Amounts.{amount_text};
+
+    ghost output = { λ which. Some (amount_text which) };
+
+    /// The most that there may be, and of what.
     fn fmt<W: fmt::Write>(&self, f: &mut fmt::Formatter<W>) -> fmt::Result {
-        let (most, what) = match self {
-            Which::Bytes => (LONGEST_PLAN as u32, "bytes"),
-            Which::Inputs => (MOST_INPUTS, "INPUTs"),
-            Which::Outputs => (MOST_OUTPUTS, "OUTPUTs"),
-            Which::Internals => (MOST_INTERNALS, "INTERNALs"),
-            Which::Constants => (MOST_CONSTANTS, "CONSTANTs"),
-            Which::Methods => (MOST_METHODS, "METHODs beside MAIN"),
-            Which::Statements => (MOST_STATEMENTS, "EVALs, EXECUTEs and IFs"),
-            Which::Depth => (MOST_NESTING, "IFs in one another"),
-        };
-        write!(f, "{most} {what}")
+        let most = self.most();
+        let words = self.words();
+        write!(f, "{most} {words}")
     }
 }
 
