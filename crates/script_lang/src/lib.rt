@@ -9,4 +9,5 @@ mod words;
 
 pub use command::Command;
 pub use fault::LineFault;
-pub use line::{MOST_LINE, each_line_has_one_answer, read_line};
+pub use line::{MOST_LINE, each_line_has_one_answer, read_line, read_next_line};
+pub use payroll_records::NameOrder;

@@ -9,7 +9,7 @@ ghost use Rattle.script_lang.specs.private.Views.{Answers, IsFaultOf, texts};
 use crate::run::{read_day, read_employee, read_month, read_record, read_when};
 use crate::words::{Verb, file, read_verb, words};
 use crate::{Command, LineFault};
-use payroll_records::{Day, Employee, When};
+use payroll_records::{Day, Employee, NameOrder, When};
 use std::alloc::Global;
 
 /// The most bytes of a line.
@@ -22,11 +22,25 @@ pub fn read_line(alloc: Global, line: &[u8]) -> Result<Command, LineFault>
     ensures ok { IfOk result (λ command. IsLine line.now (asked_of command)) }
     ensures err { IfErr result (IsLineFaultOrMemory line.now) }
 {
+    read_next_line(alloc, line, &mut None)
+}
+
+/// Reads a line as [`read_line`] does. `order` is that of the names in an earlier line, and then in this one where it gives values: a line
+/// with the same names in the same order is read by it, which is faster, and shares the list of the names. The answer is the same whatever
+/// it is.
+pub fn read_next_line(
+    alloc: Global,
+    line: &[u8],
+    order: &mut Option<NameOrder>,
+) -> Result<Command, LineFault>
+    ensures ok { IfOk result (λ command. IsLine line.now (asked_of command)) }
+    ensures err { IfErr result (IsLineFaultOrMemory line.now) }
+{
     if line.len() > MOST_LINE {
         return Err(LineFault::LineLong);
     }
     let words = words(alloc, line)?;
-    read_words(alloc, words.as_slice())
+    read_words(alloc, words.as_slice(), order)
 }
 
 /// A line has one answer: what it asks for or why it is refused, and not both.
@@ -35,7 +49,11 @@ pub fn each_line_has_one_answer()
 {}
 
 /// What the words of a line ask for.
-fn read_words(alloc: Global, words: &[&[u8]]) -> Result<Command, LineFault>
+fn read_words(
+    alloc: Global,
+    words: &[&[u8]],
+    order: &mut Option<NameOrder>,
+) -> Result<Command, LineFault>
     ensures { Answers (texts words.now) result }
 {
     let [first, rest @ ..] = words else {
@@ -50,8 +68,8 @@ fn read_words(alloc: Global, words: &[&[u8]]) -> Result<Command, LineFault>
             Ok(Command::Plan { day, plan, limits })
         }
         Verb::Drop => read_drop(rest),
-        Verb::Add => Ok(Command::Add(read_record(alloc, rest)?)),
-        Verb::Change => Ok(Command::Change(read_record(alloc, rest)?)),
+        Verb::Add => Ok(Command::Add(read_record(alloc, rest, order)?)),
+        Verb::Change => Ok(Command::Change(read_record(alloc, rest, order)?)),
         Verb::Withdraw => {
             let (employee, when) = read_run(rest)?;
             Ok(Command::Withdraw { employee, when })

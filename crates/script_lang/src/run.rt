@@ -1,5 +1,5 @@
 //! The words of a pay run: an employee, a month and a day, and values.
-ghost use Rattle.std.specs.Prelude.{◌≡◌, ◌≤◌, [], ◌∷◌, IfErr, IfOk, IsTrue, MatchResult, length};
+ghost use Rattle.std.specs.Prelude.{◌≡◌, ◌≤◌, [], ◌∷◌, IfErr, IfOk, IfSome, IsTrue, MatchResult, length};
 ghost use Rattle.payroll_records.specs.Days.{IsMonthText};
 ghost use Rattle.payroll_records.specs.Employees.{is_employee};
 ghost use Rattle.payroll_records.specs.Limits.{most_values};
@@ -14,15 +14,20 @@ ghost use Rattle.script_lang.specs.private.Views.{Breaks, BreaksIn, IsFaultOf, t
 
 use crate::LineFault;
 use payroll_records::{
-    Day, Employee, InsertFault, MOST_VALUES, Month, NamedValue, Record, Values, When,
+    Day, Employee, InsertFault, MOST_VALUES, Month, NameOrder, NamedValue, Record, Values, When,
 };
-use std::alloc::Global;
+use std::alloc::{AllocError, Global};
 
 /// The number of a line's first value word.
 const FIRST_VALUE: u32 = 5;
 
-/// The words behind `add` and `change`: `EMP MONTH DAY NAME=VALUE ..`.
-pub(crate) fn read_record(alloc: Global, rest: &[&[u8]]) -> Result<Record, LineFault>
+/// The words behind `add` and `change`: `EMP MONTH DAY NAME=VALUE ..`. `order` is that of the names of an earlier line, and then of
+/// this one.
+pub(crate) fn read_record(
+    alloc: Global,
+    rest: &[&[u8]],
+    order: &mut Option<NameOrder>,
+) -> Result<Record, LineFault>
     ensures ok { (command : Text) → IfOk result (IsOfRecord command (command ∷ texts rest.now)) }
     ensures err { IfErr result (IsFaultOf lines.add (texts rest.now)) }
 {
@@ -34,7 +39,7 @@ pub(crate) fn read_record(alloc: Global, rest: &[&[u8]]) -> Result<Record, LineF
     }
     let employee = read_employee(employee)?;
     let day = read_day_in(month, day)?;
-    let values = read_values(alloc, values)?;
+    let values = read_values(alloc, values, order)?;
     Ok(Record {
         employee,
         day,
@@ -89,8 +94,41 @@ fn read_day_in(month: &[u8], day: &[u8]) -> Result<Day, LineFault>
     Ok(day)
 }
 
-/// The values of value words.
-fn read_values(alloc: Global, words: &[&[u8]]) -> Result<Values, LineFault>
+/// The values of value words, by the order of names of an earlier line where they have these names. Else it becomes their order.
+fn read_values(
+    alloc: Global,
+    words: &[&[u8]],
+    order: &mut Option<NameOrder>,
+) -> Result<Values, LineFault>
+    requires { length words.now ≤ most_values }
+    ensures ok { IfOk result (AreValueWords (texts words.now)) }
+    ensures err { IfErr result (BreaksIn (value_fields [] (texts words.now))) }
+{
+    if let Some(values) = read_by_order(alloc, words, order.as_ref())? {
+        return Ok(values);
+    }
+    let values = read_word_by_word(alloc, words)?;
+    let (values, of_words) = NameOrder::of_words(alloc, words, values)?;
+    *order = Some(of_words);
+    Ok(values)
+}
+
+/// The values of value words whose names have this order. `None` where they haven't, or a word is not readable.
+fn read_by_order(
+    alloc: Global,
+    words: &[&[u8]],
+    order: Option<&NameOrder>,
+) -> Result<Option<Values>, AllocError>
+    ensures { IfOk result (λ found. IfSome found (AreValueWords (texts words.now))) }
+{
+    match order {
+        Some(order) => order.read(alloc, words),
+        None => Ok(None),
+    }
+}
+
+/// The values of value words, whatever their names.
+fn read_word_by_word(alloc: Global, words: &[&[u8]]) -> Result<Values, LineFault>
     requires { length words.now ≤ most_values }
     ensures ok { IfOk result (AreValueWords (texts words.now)) }
     ensures err { IfErr result (BreaksIn (value_fields [] (texts words.now))) }

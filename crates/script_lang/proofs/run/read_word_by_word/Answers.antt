@@ -1,7 +1,7 @@
 use Rattle.std.proofs.Common.{◌∙◌, ap, arith}
 use Rattle.std.specs.Prelude.{Err}
 use Rattle.script_lang.proofs.ValueLemmas.{no_value_at, name_again_at, not_full_at, value_at_place}
-use Rattle.script_lang.proofs.run.read_values.Goals as goal
+use Rattle.script_lang.proofs.run.read_word_by_word.Goals as goal
 
 pub returns-in_default-clause-err : goal.returns-in_default-clause-err
 returns-in_default-clause-err c =
