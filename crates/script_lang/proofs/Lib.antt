@@ -5,3 +5,4 @@ pub mod WordLemmas
 pub mod OnceLemmas
 pub mod SomeLemmas
 pub mod Laws
+pub mod SplitLemmas

@@ -1,16 +1,21 @@
 //! The words of a line.
-ghost use Rattle.std.specs.Prelude.{◌≡◌, ◌≢◌, false, IfOk, IsTrue, MatchOption};
+ghost use Rattle.std.specs.Prelude.{◌≡◌, ◌≢◌, ◌++◌, false, IfOk, IsTrue, MatchOption};
 ghost use Rattle.std.specs.List.{list_all};
+ghost use Rattle.memchr.specs.Find.{IsFirstByte};
 ghost use Rattle.script_lang.specs.Lines as lines;
 ghost use Rattle.script_lang.specs.Lines.{text_of};
-ghost use Rattle.script_lang.specs.private.Views.{texts, verb_of};
+ghost use Rattle.script_lang.specs.private.Views.{counted, texts, verb_of};
 ghost use Rattle.script_lang.specs.Words.{is_blank, is_file, is_visible, words_of};
 
+use memchr::memchr2;
 use std::alloc::{AllocError, Global};
 use std::str;
 
 /// The most bytes of a file's name.
 const LONGEST_FILE: usize = 255;
+
+/// About how many bytes of a line with many words a word takes, with its blank. It only says how much room is made for words at first.
+const USUAL_WORD: usize = 8;
 
 /// The first word of a command.
 #[derive(Clone, Copy)]
@@ -34,16 +39,32 @@ pub(crate) enum Verb {
 pub(crate) fn words(alloc: Global, line: &[u8]) -> Result<Vec<&[u8]>, AllocError>
     ensures { IfOk result (λ words. texts words.items ≡ words_of line.now) }
 {
-    line.split(|b| is_blank(*b))
-        .filter(|part| !part.is_empty())
-        .collect(alloc)
+    let mut words = Vec::with_capacity(alloc, line.len() / USUAL_WORD + 1)?;
+    let mut rest = line;
+    'words: loop {
+        let Some(at) = first_blank(rest) else {
+            return with_word(words, rest);
+        };
+        words = with_word(words, &rest[..at])?;
+        rest = &rest[at + 1..];
+    }
 }
 
-/// A space or a tab.
-fn is_blank(byte: u8) -> bool
-    ensures { result ≡ is_blank byte }
+/// The words with one more part of the line, where it is a word.
+fn with_word<'a>(mut words: Vec<&'a [u8]>, part: &'a [u8]) -> Result<Vec<&'a [u8]>, AllocError>
+    ensures { IfOk result (λ more. texts more.items ≡ texts words.entry.items ++ counted part.now) }
 {
-    byte == b' ' || byte == b'\t'
+    if !part.is_empty() {
+        words.push(part)?;
+    }
+    Ok(words)
+}
+
+/// The place of the first space or tab.
+fn first_blank(text: &[u8]) -> Option<usize>
+    ensures { IsFirstByte is_blank text.now result }
+{
+    memchr2(b' ', b'\t', text)
 }
 
 /// The command that a first word is of.

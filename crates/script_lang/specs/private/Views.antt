@@ -1,5 +1,5 @@
 -- What the private functions say of words.
-use Rattle.std.specs.Prelude.{◌≡◌, false, List, map, IsTrue, Result, MatchResult, ⊤}
+use Rattle.std.specs.Prelude.{◌≡◌, false, List, [], ◌∷◌, map, IsTrue, Result, MatchResult, ⊤}
 use denote.Ref.{Bor}
 use Rattle.payroll_records.specs.Tables.{Text}
 use Rattle.script_lang.specs.Commands.{asked_of}
@@ -14,6 +14,11 @@ use Rattle.script_lang.specs.declared.words.Verb.TheVariants as code
 
 abbrev pub texts : List (Bor Text) → List Text
 texts words = map (λ word. word.now) words
+
+-- a part of a line is a word where it has a byte
+abbrev pub counted : Text → List Text
+counted [] = []
+counted (b ∷ part) = (b ∷ part) ∷ []
 
 abbrev pub verb_of : Verb → lines.Verb
 verb_of code.Plan = lines.plan
