@@ -4,13 +4,13 @@
 Each trial sends a random script to a year, line by line or in batches, by a process that is killed (kill -9) again and again until the script
 is through. After each kill the folder is opened: every line that was told done is there, nothing else but perhaps the line or the
 whole batch in flight, and the report is that of papcalc alone on these lines. The status is 1 where one trial fails or none was made."""
-import concurrent.futures
 import contextlib
 import itertools
+import multiprocessing
 import os
 import random
+import shutil
 import signal
-import subprocess
 import sys
 import tempfile
 import time
@@ -25,17 +25,20 @@ from tests.support import are_kept, journal_lines, random_script, report_of, wri
 LINES = 30
 # Seconds within which a year of so few lines is opened, and a line done.
 OPENING, LINE = 0.3, 0.01
+MOST_FAILED = 5
+# Side by side for each processor: a trial waits for the disk and for its processes most of the time.
+TRIALS = 4
 
 
 class Lost(Exception):
     """A line is gone, or one is there that shouldn't be."""
 
 
-def send(program, start, batch):
-    """What the killed process does: sends the lines from this one on, and says after each batch how many are done."""
-    lines = Path("script").read_text().splitlines()
+def send(program, folder, lines, start, batch, tell):
+    """What the killed process does: sends the lines from this one on, and tells after each batch how many are done."""
+    os.chdir(folder)
     with Year("y", program=program) as year:
-        print(start, flush=True)
+        tell(start)
         for at in range(start, len(lines), batch):
             with year.batch() if batch > 1 else contextlib.nullcontext():
                 for line in lines[at:at + batch]:
@@ -43,7 +46,7 @@ def send(program, start, batch):
                         year.ask(line)
                     except Refused:
                         pass
-            print(min(at + batch, len(lines)), flush=True)
+            tell(min(at + batch, len(lines)))
 
 
 class Trial:
@@ -56,31 +59,48 @@ class Trial:
         os.mkdir(folder)
         write_files(Path(folder))
         self.lines = random_script(self.rng, LINES)
-        Path(folder, "script").write_text("\n".join(self.lines) + "\n")
         self.kept = are_kept(program, self.lines, folder)
         Year.new(f"{folder}/y", program=program).close()
 
-    def run(self, wanted):
-        """Kills the process so many times, or as often as the script lasts."""
+    def run(self):
+        """Kills the process again and again until the script is through."""
         done = 0
-        while self.kills < wanted and done < len(self.lines):
+        while done < len(self.lines):
             done = self.check(done, self.killed(done))
+
+    def started(self, start):
+        """A process that sends the lines from this one on, and the end of a pipe by which it tells how many are done."""
+        reader, writer = os.pipe()
+        child = os.fork()
+        if child == 0:
+            try:
+                os.setsid()
+                os.close(reader)
+                send(self.program, self.folder, self.lines, start, self.batch, lambda done: os.write(writer, f"{done}\n".encode()))
+            finally:
+                os._exit(0)
+        os.close(writer)
+        return child, reader
 
     def killed(self, start):
         """Starts the process at a line and kills it. Gives how many lines were told done."""
-        with subprocess.Popen([sys.executable, __file__, "--send", self.program, str(start), str(self.batch)], cwd=self.folder,
-                              stdout=subprocess.PIPE, start_new_session=True, encoding="ascii") as child:
+        child, reader = self.started(start)
+        with open(reader, encoding="ascii") as told_lines:
             told = []
             if self.rng.random() < 0.2:
                 time.sleep(self.rng.uniform(0, OPENING))
             else:
-                told += itertools.islice(child.stdout, self.rng.randint(1, 8))
+                told += itertools.islice(told_lines, self.rng.randint(1, 8))
                 time.sleep(self.rng.choice([0, self.rng.uniform(0, LINE)]))
-            if child.poll() is None:
+            if os.waitpid(child, os.WNOHANG) == (0, 0):
                 self.kills += 1
-                # In some trials papcalc is killed with it.
-                (os.killpg if self.rng.random() < 0.3 else os.kill)(child.pid, signal.SIGKILL)
-            told += child.stdout
+                # In some trials papcalc is killed with it, if the process has come to be the first of a group of its own.
+                with contextlib.suppress(ProcessLookupError):
+                    if self.rng.random() < 0.3:
+                        os.killpg(child, signal.SIGKILL)
+                os.kill(child, signal.SIGKILL)
+                os.waitpid(child, 0)
+            told += told_lines
         return int(told[-1]) if told else start
 
     def check(self, start, done):
@@ -101,27 +121,27 @@ class Trial:
         return [line for line, is_kept in zip(self.lines[:count], self.kept[:count]) if is_kept]
 
 
-def trial(program, folder, seed, kills):
-    """How often a process was killed, and what failed."""
-    made = Trial(program, folder, seed)
+def trial(asked):
+    """How many processes a trial killed, and what failed."""
+    program, folder, seed = asked
+    made = Trial(program, f"{folder}/{seed}", seed)
     try:
-        made.run(kills)
+        made.run()
     except (Lost, LedgerError) as fault:
-        return made.kills, f"seed {seed}: {fault}"
-    return made.kills, None
+        return made.kills, [f"seed {seed}: {fault}"]
+    shutil.rmtree(made.folder)
+    return made.kills, []
 
 
 def main(program, kills=25, seed=1):
-    """Makes trials until so many processes were killed."""
-    made, failed, seeds = 0, [], itertools.count(seed)
-    with tempfile.TemporaryDirectory(prefix="papledger-") as folder, concurrent.futures.ThreadPoolExecutor(os.cpu_count()) as pool:
-        while made < kills and len(failed) < 5:
-            share = -(-(kills - made) // os.cpu_count())
-            jobs = [pool.submit(trial, program, f"{folder}/{number}", number, share) for number in itertools.islice(seeds, os.cpu_count())]
-            for job in jobs:
-                count, fault = job.result()
-                made += count
-                failed += [fault] if fault else []
+    """Makes trials until so many processes were killed, or several trials failed."""
+    made, failed = 0, []
+    with tempfile.TemporaryDirectory(prefix="papledger-") as folder, multiprocessing.Pool(TRIALS * (os.cpu_count() or 1)) as pool:
+        asked = ((program, folder, number) for number in range(seed, seed + kills))
+        for count, faults in pool.imap_unordered(trial, asked):
+            made, failed = made + count, failed + faults
+            if made >= kills or len(failed) >= MOST_FAILED:
+                break
     for fault in failed:
         print(f"kill_trials: failed: {fault}")
     print(f"kill_trials: {made} kills, {len(failed)} failed")
@@ -129,7 +149,4 @@ def main(program, kills=25, seed=1):
 
 
 if __name__ == "__main__":
-    if sys.argv[1] == "--send":
-        send(sys.argv[2], int(sys.argv[3]), int(sys.argv[4]))
-    else:
-        sys.exit(main(os.path.abspath(sys.argv[1]), *map(int, sys.argv[2:4])))
+    sys.exit(main(os.path.abspath(sys.argv[1]), *map(int, sys.argv[2:4])))
