@@ -1,5 +1,6 @@
 mod FrontLemmas
 mod JoinLemmas
+mod NumberLemmas
 mod PartLemmas
 mod PlainLemmas
 mod RowLemmas

@@ -1,14 +1,24 @@
--- The laws of reports: the rows of an employee depend on the plans and on that employee's own runs alone.
-use Rattle.std.specs.Prelude.{◌≡◌, List, [], ◌++◌}
-use Rattle.std.specs.List.{flat_map}
+-- The laws of reports: the rows of an employee depend on the plans and on that employee's own runs alone, and no field of a
+-- row needs quotes.
+use Rattle.std.specs.Prelude.{◌≡◌, ⊤, IsTrue, List, [], ◌++◌, Option}
+use Rattle.std.specs.List.{AllByRecursion, flat_map}
+use Rattle.csv.specs.Writing.{default_writer, row_text}
+use Rattle.pap_tree.specs.Names.{is_name}
+use Rattle.payroll_records.specs.declared.day.Day.{Day}
+use Rattle.payroll_records.specs.declared.record.Key.{Key}
 use Rattle.payroll_records.specs.declared.record.Record.{Record}
+use Rattle.payroll_records.specs.Employees.{is_employee}
+use Rattle.carry_bindings.specs.declared.filling.Blocked.{Blocked}
+use Rattle.carry_bindings.specs.declared.filling.Blocked.TheVariants as blocked
 use Rattle.plan_calendar.specs.Picking.{Entry, pick}
 use Rattle.book_year.specs.Accepted.{Accepted}
+use Rattle.book_year.specs.declared.outcome.State.{State}
+use Rattle.book_year.specs.declared.outcome.State.TheVariants as state
 use Rattle.book_edits.specs.Books.{YearRuns}
 use Rattle.recalc_engine.specs.Contents.{Contents, with_years}
 use Rattle.recalc_engine.specs.EditAnswers.{edited_book, load}
 use Rattle.recalc_engine.specs.MonthRows.{keyed_rows, month_rows}
-use Rattle.report_csv.specs.Reports.{Text, header, row_line}
+use Rattle.report_csv.specs.Reports.{Text, header, row_line, run_front, state_rows}
 use Rattle.report_csv.specs.ReportTexts.{months_text, report_text}
 use Rattle.report_csv.specs.TableParts.{AreParts}
 
@@ -40,3 +50,22 @@ ReportsOfPartsAreJoined =
     → AreParts table parts
     → report_text (edited_book (load table) book)
     ≡ row_line header ++ flat_map (table_text book) parts
+
+-- what a run lacks or doesn't take is under a name, and so is each of its outputs
+abbrev pub IsNamed : Blocked → Type 0
+IsNamed (blocked.Waits d) = ⊤
+IsNamed (blocked.Unknown n) = IsTrue (is_name n)
+IsNamed (blocked.Missing n) = IsTrue (is_name n)
+IsNamed (blocked.Range n) = IsTrue (is_name n)
+
+abbrev pub HasNames : State → Type 0
+HasNames state.NoPlan = ⊤
+HasNames (state.Blocked why) = IsNamed why
+HasNames (state.Done outputs) = AllByRecursion (λ v. IsTrue (is_name v.name)) outputs
+
+-- each row of a run is what `csv` writes of its fields with its default settings: no field needs quotes
+abbrev pub RowsNeedNoQuotes : Type 0
+RowsNeedNoQuotes =
+    (key : Key) (plan : Option Day) (s : State) → IsTrue (is_employee key.employee) → HasNames s
+    → AllByRecursion (λ fields. row_line fields ≡ row_text default_writer fields)
+    (state_rows (run_front key plan) s)

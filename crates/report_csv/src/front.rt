@@ -1,72 +1,44 @@
 //! What the rows of a run begin with.
-ghost use Rattle.std.specs.Prelude.{◌≡◌, ◌++◌, IfOk};
-ghost use Rattle.report_csv.specs.Reports.{row_fields, row_line, run_front};
-ghost use Rattle.report_csv.specs.private.Views.{IsPlain};
+ghost use Rattle.std.specs.Prelude.{◌≡◌, IfOk, OnOk, ◌∷◌, ◌++◌};
+ghost use Rattle.std.specs.List.{join_with_byte};
+ghost use Rattle.report_csv.specs.Reports.{comma, plan_text, run_front};
 
-use crate::rows::Rows;
-use crate::texts::{day_text, month_text, plan_text};
-use payroll_records::{Day, Employee, Key};
+use crate::texts::{day_text, month_text};
+use payroll_records::{Day, Key};
 use std::alloc::{AllocError, Global};
-use std::marker::Model;
 
-/// The first four fields of each row of a run: the employee, the month, the day, and the day of the plan.
-#[derive(Drop)]
-pub(crate) struct Front {
-    employee: Employee,
-    month: String,
-    day: String,
-    plan: String,
+/// Room for the longest front with the state of a run that is ok: 32 bytes of an employee, a month, two days, `ok`, and the
+/// commas between them.
+const ROOM: usize = 65;
+
+/// The first four fields of each row of a run, with commas between: the employee, the month, the day, and the day of the
+/// plan, where a plan pays the run.
+pub(crate) fn front_text(alloc: Global, key: &Key, plan: Option<Day>) -> Result<Vec<u8>, AllocError>
+    ensures { IfOk result
+        (λ front. front.items ≡ join_with_byte comma (run_front key.now plan)) }
+{
+    let mut text = Vec::with_capacity(alloc, ROOM)?;
+    text.extend_from_slice(key.employee.bytes())?;
+    put_field(&mut text, &month_text(key.day))?;
+    put_field(&mut text, &day_text(key.day))?;
+    put_plan(&mut text, plan)?;
+    Ok(text)
 }
 
-impl Model for Front {
-    ghost use Rattle.std.specs.Prelude.{ℕ, List, [], ◌∷◌, string_bytes};
-    ghost use Rattle.report_csv.specs.private.Views.{IsPlain};
-
-    ghost Value = { List (List ℕ) };
-
-    ghost view = { λ f.
-        f.employee ∷ string_bytes f.month ∷ string_bytes f.day ∷ string_bytes f.plan ∷ [] };
-
-    ghost invariant = { λ f.
-        IsPlain (string_bytes f.month) × IsPlain (string_bytes f.day)
-        × IsPlain (string_bytes f.plan) };
+/// Appends a comma and the day from which a plan holds, where there is a plan.
+fn put_plan(text: &mut Vec<u8>, plan: Option<Day>) -> Result<(), AllocError>
+    ensures { OnOk result (text.new.items ≡ text.old.items ++ comma ∷ plan_text plan) }
+{
+    match plan {
+        Some(day) => put_field(text, &day_text(day)),
+        None => put_field(text, b""),
+    }
 }
 
-impl Front {
-    /// What the rows of a run begin with, where the plan of this day pays it.
-    pub(crate) fn new(alloc: Global, key: &Key, plan: Option<Day>) -> Result<Front, AllocError>
-        ensures { IfOk result (λ front. front ≡ run_front key.now plan) }
-    {
-        Ok(Front {
-            employee: key.employee,
-            month: month_text(alloc, key.day)?,
-            day: day_text(alloc, key.day)?,
-            plan: plan_text(alloc, plan)?,
-        })
-    }
-
-    /// The rows with one more of the run.
-    pub(crate) fn row(
-        &self,
-        rows: Rows,
-        state: &[u8],
-        name: &[u8],
-        value: &[u8],
-    ) -> Result<Rows, AllocError>
-        requires state { IsPlain state.now }
-        requires name { IsPlain name.now }
-        requires value { IsPlain value.now }
-        ensures { IfOk result
-            (λ more. more ≡ rows ++ row_line (row_fields self.now state.now name.now value.now)) }
-    {
-        rows.with(&[
-            self.employee.bytes(),
-            self.month.as_bytes(),
-            self.day.as_bytes(),
-            self.plan.as_bytes(),
-            state,
-            name,
-            value,
-        ])
-    }
+/// Appends a comma and a field.
+pub(crate) fn put_field(text: &mut Vec<u8>, field: &[u8]) -> Result<(), AllocError>
+    ensures { OnOk result (text.new.items ≡ text.old.items ++ comma ∷ field.now) }
+{
+    text.push(b',')?;
+    text.extend_from_slice(field)
 }

@@ -2,7 +2,7 @@
 ghost use Rattle.std.specs.Prelude.{◌≡◌, ◌++◌, OnErr, OnOk};
 ghost use Rattle.outside.specs.Causes.{Caused};
 ghost use Rattle.outside.specs.Told.{Appends, AppendsFront};
-ghost use Rattle.report_csv.specs.ReportLaws.{ReportsAreJoined, ReportsAreTheirYears, ReportsOfPartsAreJoined};
+ghost use Rattle.report_csv.specs.ReportLaws.{ReportsAreJoined, ReportsAreTheirYears, ReportsOfPartsAreJoined, RowsNeedNoQuotes};
 ghost use Rattle.report_csv.specs.ReportTexts.{months_text, report_text};
 ghost use Rattle.report_csv.specs.declared.report.ReportFault.TheVariants.{Memory, Write};
 
@@ -93,9 +93,11 @@ fn put_rows<W: Sink>(rows: Rows, sink: &mut W) -> Result<Vec<u8>, ReportFault>
 /// The laws of reports: the rows of a book are those of its employees' years, one after another, each of which depends on the
 /// plans and on that employee's own runs alone; so the rows of two books with the same plans, between which the employees
 /// are split in order, are the rows of one book. And where a table is split so, part by part, and each part is loaded into a
-/// book of its own, the first row and then the rows of the parts, one after another, are the report of the whole table.
+/// book of its own, the first row and then the rows of the parts, one after another, are the report of the whole table. No
+/// field of a row needs quotes.
 pub fn report_laws()
     ensures years { ReportsAreTheirYears }
     ensures joined { ReportsAreJoined }
     ensures parts { ReportsOfPartsAreJoined }
+    ensures quotes { RowsNeedNoQuotes }
 {}

@@ -1,10 +1,8 @@
 //! Rows of a CSV text in memory.
 ghost use Rattle.std.specs.Prelude.{◌≡◌, ◌<◌, ◌≤◌, ◌++◌, [], IfOk, length, map};
-ghost use Rattle.std.specs.List.{AllByRecursion};
 ghost use Rattle.report_csv.specs.Reports.{row_line};
-ghost use Rattle.report_csv.specs.private.Views.{IsPlain};
 
-use csv::{Writer, WriterBuilder};
+use csv::{QuoteStyle, Writer, WriterBuilder};
 use std::alloc::{AllocError, Global};
 use std::marker::Model;
 
@@ -40,22 +38,25 @@ impl Rows {
     {
         let mut room = room;
         room.clear();
-        let writer = WriterBuilder::new().from_writer(room);
+        let writer = WriterBuilder::new()
+            .quote_style(QuoteStyle::Never)
+            .flexible(true)
+            .from_writer(room);
         Ok(Rows {
             writer: Box::new(alloc, writer)?,
         })
     }
 
-    /// The rows with one more, whose fields need no quotes. Over memory `csv` has no other fault than want of memory.
+    /// The rows with one more. A field may also be several, with commas between: no field of a report needs quotes, and `csv`
+    /// writes each as it stands. Over memory `csv` has no other fault than want of memory.
     pub(crate) fn with(self, fields: &[&[u8]]) -> Result<Rows, AllocError>
-        requires some { 1 < length fields.now }
-        requires plain { AllByRecursion (λ f. IsPlain f.now) fields.now }
+        requires { 1 < length fields.now }
         ensures { IfOk result (λ rows. rows ≡ self ++ row_line (map (λ f. f.now) fields.now)) }
     {
         let Rows { mut writer } = self;
         match writer.write_fields(fields) {
             Ok(()) => Ok(Rows { writer }),
-            Err(_) => Err(AllocError),
+            Err(_) => Err(without_memory(writer)),
         }
     }
 
@@ -76,4 +77,13 @@ impl Rows {
             Err(_) => Err(AllocError),
         }
     }
+}
+
+/// Drops a writer that had no memory for a row. This is a call of its own since a function that drops a writer has room on
+/// its stack for one.
+#[cold]
+#[inline(never)]
+fn without_memory(writer: Box<Writer<Vec<u8>>>) -> AllocError {
+    drop(writer);
+    AllocError
 }

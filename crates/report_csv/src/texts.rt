@@ -1,46 +1,58 @@
 //! The texts of fields.
-ghost use Rattle.std.specs.Prelude.{◌≡◌, IfOk, string_bytes};
+ghost use Rattle.std.specs.Prelude.{◌≡◌, ◌<◌, IfOk, IfSome, OnOk};
+ghost use Rattle.scaled_decimal.specs.Decimals.{decimal};
 ghost use Rattle.scaled_decimal.specs.PlainTexts.{plain_text};
-ghost use Rattle.payroll_records.specs.Days.{day_text, month_text};
-ghost use Rattle.report_csv.specs.Reports.{plan_text};
-ghost use Rattle.report_csv.specs.private.Views.{IsPlain};
+ghost use Rattle.payroll_records.specs.Days.{day_text, month_text, two_digits};
 
-use payroll_records::{Day, Month};
-use scaled_decimal::Dec;
+use itoa::Buffer;
+use payroll_records::Day;
+use scaled_decimal::{Dec, write_dec};
 use std::alloc::{AllocError, Global};
 
 /// A day, `YYYY-MM-DD`.
-pub(crate) fn day_text(alloc: Global, day: Day) -> Result<String, AllocError>
-    ensures text { IfOk result (λ text. string_bytes text ≡ day_text day.year day.month day.day) }
-    ensures plain { IfOk result (λ text. IsPlain (string_bytes text)) }
+pub(crate) fn day_text(day: Day) -> [u8; 10]
+    ensures { result ≡ day_text day.year day.month day.day }
 {
-    format!(in alloc; "{day}")
+    let [a, b, c, d, dash, e, f] = month_text(day);
+    let [g, h] = two_digits(day.day as u16);
+    [a, b, c, d, dash, e, f, b'-', g, h]
 }
 
 /// The month of a day, `YYYY-MM`.
-pub(crate) fn month_text(alloc: Global, day: Day) -> Result<String, AllocError>
-    ensures text { IfOk result (λ text. string_bytes text ≡ month_text day.year day.month) }
-    ensures plain { IfOk result (λ text. IsPlain (string_bytes text)) }
+pub(crate) fn month_text(day: Day) -> [u8; 7]
+    ensures { result ≡ month_text day.year day.month }
 {
-    let month = Month::of_day(day);
-    format!(in alloc; "{month}")
+    let [a, b] = two_digits(day.year / 100);
+    let [c, d] = two_digits(day.year % 100);
+    let [e, f] = two_digits(day.month as u16);
+    [a, b, c, d, b'-', e, f]
 }
 
-/// The day from which a plan holds, and nothing where there is no plan.
-pub(crate) fn plan_text(alloc: Global, plan: Option<Day>) -> Result<String, AllocError>
-    ensures text { IfOk result (λ text. string_bytes text ≡ plan_text plan) }
-    ensures plain { IfOk result (λ text. IsPlain (string_bytes text)) }
+/// The two digits of a number.
+fn two_digits(n: u16) -> [u8; 2]
+    requires { n < 1000 }
+    ensures { result ≡ two_digits n }
 {
-    match plan {
-        Some(day) => day_text(alloc, day),
-        None => Ok(String::new(alloc)),
+    [b'0' + (n / 10) as u8, b'0' + (n % 10) as u8]
+}
+
+/// Writes a number in plain digits over a text.
+pub(crate) fn put_number(alloc: Global, value: Dec, text: &mut Vec<u8>) -> Result<(), AllocError>
+    ensures { OnOk result (text.new.items ≡ plain_text value) }
+{
+    text.clear();
+    match whole_word(value) {
+        Some(n) => text.extend_from_slice(Buffer::new().format(n).as_bytes()),
+        None => write_dec(alloc, value, text),
     }
 }
 
-/// A number in plain digits.
-pub(crate) fn number_text(alloc: Global, value: Dec) -> Result<String, AllocError>
-    ensures text { IfOk result (λ text. string_bytes text ≡ plain_text value) }
-    ensures plain { IfOk result (λ text. IsPlain (string_bytes text)) }
+/// The number, where it has no places and 64 bits hold it.
+fn whole_word(value: Dec) -> Option<i64>
+    ensures { IfSome result (λ n. value ≡ decimal n 0) }
 {
-    format!(in alloc; "{value}")
+    if value.scale() != 0 {
+        return None;
+    }
+    i64::try_from(value.numerator()).ok()
 }

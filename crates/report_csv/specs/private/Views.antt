@@ -1,13 +1,17 @@
 -- What the private functions of the report say of its rows.
-use Rattle.std.specs.Prelude.{◌≡◌, ℕ, false, List, [], IsTrue, nat_le, Option, Some, None, Vec}
-use Rattle.std.specs.List.{list_all}
+use Rattle.std.specs.Prelude.{◌≡◌, ℕ, true, false, List, [], ◌∷◌, Option, Some, None, Vec}
 use Rattle.std.specs.declared.alloc.Global.{Global}
-use Rattle.csv.specs.Writing.{default_writer, fields_written, has_written, text_written, writer_setup}
+use Rattle.csv.specs.Writing.{default_writer, fields_written, has_written, text_written, with_flexible, with_style, writer_setup}
+use Rattle.csv.specs.declared.writer.QuoteStyle.TheVariants as style
 use Rattle.csv.specs.declared.writer.Writer.{Writer}
+use Rattle.csv.specs.declared.writer.WriterBuilder.{WriterBuilder}
+use Rattle.scaled_decimal.specs.PlainTexts.{plain_text}
+use Rattle.payroll_records.specs.declared.values.NamedValue.{NamedValue}
+use Rattle.report_csv.specs.Reports.{Text, row_line}
 
--- a text that needs no quotes: commas, quotes and line ends are bytes below that of `-`
-abbrev pub IsPlain : List ℕ → Type 0
-IsPlain text = IsTrue (list_all (nat_le 45) text)
+-- the row of an output, behind the text of its first five fields
+abbrev pub output_line : Text → NamedValue → Text
+output_line front v = row_line (front ∷ v.name ∷ plain_text v.value ∷ [])
 
 -- ---- the writer
 
@@ -19,9 +23,13 @@ text_or_none (Some text) = text
 abbrev pub written : Writer (Vec ℕ Global) → List ℕ
 written w = text_or_none (text_written (λ v. Some v.items) w)
 
--- a writer with the default settings between two rows
+-- the default settings, but with no quotes, and for rows of any number of fields
+abbrev pub bare_writer : WriterBuilder
+bare_writer = with_flexible (with_style default_writer style.Never) true
+
+-- a writer with these settings between two rows
 pub record IsBetweenRows (w : Writer (Vec ℕ Global)) : Type 0 where
-  pub setup : writer_setup w ≡ default_writer
+  pub setup : writer_setup w ≡ bare_writer
   pub fields : fields_written w ≡ 0
   pub clean : has_written w ≡ false
   pub known : text_written (λ v. Some v.items) w ≡ Some (written w)
