@@ -5,8 +5,15 @@ Books of 300 and of 49,992 runs (twelve months an employee), with the flowchart 
 (tools/full_plan.py, 25 values a run). Each time is that from a line to the end of its answer, in milliseconds; `adds and report` are all
 lines of a script, which a plain Java program (tools/BenchBook.java) carries out besides: its report has to be the same. `all runs anew` is a
 `plan` line with another text of the same flowchart, and beside it the Java program's first and best of ten rounds of all runs, whose inputs
-it has read before."""
+it has read before.
+
+Where valgrind is there, a table follows for each flowchart: how many instructions a run takes of a script of `add` lines with its report, by
+subject, as its callgrind counts them; what the same script takes without the runs is taken away. Times on a shared machine differ by half
+from one hour to the next, which counts of instructions don't."""
+import collections
 import random
+import re
+import shutil
 import subprocess
 import sys
 import tempfile
@@ -15,6 +22,22 @@ import time
 PROGRAM = sys.argv[1]
 EDITS = 20
 ROUNDS = 10
+# How many employees have the runs whose instructions are counted. valgrind makes a program some fifty times slower.
+COUNTED = 100
+# What a function's instructions are counted as, by its crate. A function that the compiler put into another counts as that one's.
+SUBJECTS = {
+    "the machine": ["pap_machine", "pap_plan", "pay_run"],
+    "decimals": ["scaled_decimal"],
+    "inputs filled": ["carry_bindings"],
+    "the book": ["book_year", "book_edits", "recalc_engine", "rising_lists", "plan_calendar"],
+    "lines and their values": ["script_lang", "payroll_records", "pap_tree"],
+    "script and answers": ["script_run", "script_steps", "pap_cli", "papcalc", "outside"],
+    "report rows": ["report_csv", "csv", "itoa"],
+}
+SUBJECT_OF = {crate: subject for subject, crates in SUBJECTS.items() for crate in crates}
+MEMORY = re.compile(r"malloc|calloc|realloc|free|rattle_alloc|unlink_chunk|sysmalloc|systrim")
+COPIES = re.compile(r"__mem(cpy|move|set|cmp)|__memmove|__memcpy")
+COUNT = re.compile(r"^\s*([\d,]+)\s+\([^)]*\)\s+\S*?:(\S+)")
 
 
 def small_values(rng):
@@ -99,6 +122,50 @@ def edits(plan, values, employees, folder):
     return told
 
 
+def script_file(plan, values, employees, folder):
+    """A script of `add` lines with its report."""
+    name = f"{folder}/adds.script"
+    with open(name, "w") as file:
+        file.write(f"plan 2026-01-01 {plan}.xml {plan}.toml\n")
+        for row in records(employees, values):
+            file.write(line_of("add", *row) + "\n")
+        file.write("report\n")
+    return name
+
+
+def subject_of(function):
+    """What the instructions of a function are counted as."""
+    if "::" in function:
+        crate = function.lstrip("<").split("::")[0]
+        return SUBJECT_OF.get(crate, crate)
+    if MEMORY.search(function):
+        return "memory taken and freed"
+    return "copies and comparisons" if COPIES.match(function) else "the rest"
+
+
+def counted(script, folder):
+    """The instructions of a script, by subject."""
+    kept = f"{folder}/callgrind.out"
+    with open(script) as lines:
+        words = ["valgrind", "--tool=callgrind", f"--callgrind-out-file={kept}", PROGRAM, "run"]
+        subprocess.run(words, stdin=lines, stdout=subprocess.DEVNULL, stderr=subprocess.DEVNULL, check=True)
+    words = ["callgrind_annotate", "--threshold=100", "--auto=no", kept]
+    told = subprocess.run(words, stdout=subprocess.PIPE, stderr=subprocess.DEVNULL, check=True, encoding="utf-8").stdout
+    instructions = collections.Counter()
+    for line in told.splitlines():
+        if found := COUNT.match(line):
+            instructions[subject_of(found[2])] += int(found[1].replace(",", ""))
+    return instructions
+
+
+def instructions_a_run(plan, values, folder):
+    """The instructions that a run takes of a script, by subject, the most first."""
+    whole = counted(script_file(plan, values, COUNTED, folder), folder)
+    whole.subtract(counted(script_file(plan, values, 0, folder), folder))
+    a_run = {subject: taken / (12 * COUNTED) for subject, taken in whole.most_common()}
+    return {"all": sum(a_run.values()), **a_run}
+
+
 def java_classes(plan, folder):
     """The Java program for a flowchart."""
     with open(f"{folder}/Plan.java", "w") as java:
@@ -108,12 +175,7 @@ def java_classes(plan, folder):
 
 def whole_script(plan, values, employees, folder):
     """Milliseconds of a script of `add` lines with its report, and of the Java program on it."""
-    name = f"{folder}/adds.script"
-    with open(name, "w") as file:
-        file.write(f"plan 2026-01-01 {plan}.xml {plan}.toml\n")
-        for row in records(employees, values):
-            file.write(line_of("add", *row) + "\n")
-        file.write("report\n")
+    name = script_file(plan, values, employees, folder)
     java_classes(plan, folder)
     told, reports = {}, []
     for who, words in [("adds and report", [PROGRAM, "run"]), ("the same in Java", ["java", "-cp", folder, "BenchBook", name])]:
@@ -137,6 +199,10 @@ def main():
                 print(f"{plan.rsplit('/', 1)[-1]}, {12 * employees} runs")
                 for name, spent in {**whole_script(plan, values, employees, folder), **edits(plan, values, employees, folder)}.items():
                     print(f"    {name:20} {spent:9.2f} ms")
+            if shutil.which("valgrind"):
+                print(f"{plan.rsplit('/', 1)[-1]}, instructions a run")
+                for subject, taken in instructions_a_run(plan, values, folder).items():
+                    print(f"    {subject:24} {taken:9.0f}")
 
 
 main()
