@@ -51,13 +51,14 @@ ReportsOfPartsAreJoined =
     → report_text (edited_book (load table) book)
     ≡ row_line header ++ flat_map (table_text book) parts
 
--- what a run lacks or doesn't take is under a name, and so is each of its outputs
+-- what a run lacks or doesn't take is under a name
 abbrev pub IsNamed : Blocked → Type 0
 IsNamed (blocked.Waits d) = ⊤
 IsNamed (blocked.Unknown n) = IsTrue (is_name n)
 IsNamed (blocked.Missing n) = IsTrue (is_name n)
 IsNamed (blocked.Range n) = IsTrue (is_name n)
 
+-- what a run came to has names alone: that of what it lacks or doesn't take, or that of each output
 abbrev pub HasNames : State → Type 0
 HasNames state.NoPlan = ⊤
 HasNames (state.Blocked why) = IsNamed why
