@@ -21,6 +21,7 @@ use call_order::order_methods;
 use interval_analysis::{Verdict, analyse};
 use limits_file::{Limits, read_limits};
 use pap_compiler::compile;
+use pap_machine::Prepared;
 use pap_tree::PlanText;
 use pap_types::{Typed, check_types};
 use std::alloc::{AllocError, Global};
@@ -110,6 +111,7 @@ fn compiled(
 {
     let spec = spec_of(alloc, typed.plan(), &judged.ranges)?;
     let code = compile(alloc, &typed, &judged.order)?;
+    let code = Prepared::new(alloc, code)?;
     let plan = Vec::from_slice(alloc, plan)?;
     let limits = Vec::from_slice(alloc, limits)?;
     let Judged {

@@ -3,7 +3,8 @@ ghost use Rattle.std.specs.Prelude.{◌≡◌, ◌≤◌, ◌+◌, ◌↔◌, Is
 ghost use Rattle.scaled_decimal.specs.Decimals.{Decimal};
 ghost use Rattle.pap_compiler.specs.CodeDecisions.{compiled};
 ghost use Rattle.pap_compiler.specs.Correct.{IsCodeOf};
-ghost use Rattle.pap_machine.specs.Machine.{IsMadeFor, HoldAt};
+ghost use Rattle.pap_machine.specs.Held.{IsMadeFor};
+ghost use Rattle.pap_machine.specs.Machine.{HoldAt};
 ghost use Rattle.pap_types.specs.Limits.{most_steps};
 ghost use Rattle.pap_types.specs.Meaning.{IsSafeFor, outputs_of, cost_of, bound_of};
 ghost use Rattle.pap_plan.specs.Acceptance.{IsAccepted};
@@ -13,7 +14,7 @@ ghost use Rattle.interval_walk.specs.Soundness.{AreOutputs};
 
 use interval_analysis::{OutputRange, Verdict};
 use limits_file::{Limits, Spec};
-use pap_machine::{Code, Machine};
+use pap_machine::{Code, Machine, Prepared};
 use pap_types::Typed;
 use scaled_decimal::Dec;
 use std::alloc::{AllocError, Global};
@@ -29,7 +30,7 @@ pub struct Plan {
     pub(crate) ranges: Limits,
     pub(crate) spec: Spec,
     pub(crate) verdict: Verdict,
-    pub(crate) code: Code,
+    pub(crate) code: Prepared,
 }
 
 impl Model for Plan {
@@ -135,7 +136,7 @@ impl Plan {
         ensures compiled { self.now.code ≡ compiled (flowchart self.now) }
         ensures of_text { IsCodeOf (flowchart self.now) self.now.code }
     {
-        &self.code
+        self.code.code()
     }
 
     /// A machine for this plan. Its slots hold the first values that the code gives them.
@@ -144,7 +145,7 @@ impl Plan {
         ensures slots { IfOk result (λ m. m.slots ≡ self.now.code.start) }
         ensures last { IfOk result (λ m. m.last ≡ 0) }
     {
-        Machine::new(alloc, &self.code)
+        self.code.machine(alloc)
     }
 
     /// Runs the plan on inputs that it admits: `outputs` are those of the flowchart's meaning, and the number of steps is
@@ -168,7 +169,8 @@ impl Plan {
         ensures last { m.new.last ≡ result }
         ensures slots { HoldAt m.new.slots self.now.code.outputs outputs.new }
     {
-        m.run(&self.code, inputs, outputs, steps)
+        let code = self.code.code();
+        m.run(code, inputs, outputs, steps)
     }
 }
 

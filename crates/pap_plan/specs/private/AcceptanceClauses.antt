@@ -2,7 +2,6 @@
 use Rattle.std.specs.Prelude.{◌≡◌, ℕ, List, All, Some, None}
 use Rattle.pap_tree.specs.Flowchart.{Flowchart}
 use Rattle.limits_file.specs.declared.limits.Limits.{Limits}
-use Rattle.plan_text.specs.declared.fault.PlanFault.TheVariants as texts
 use Rattle.plan_text.specs.Plans.{IsPlan}
 use Rattle.pap_types.specs.Checks.{type_fault}
 use Rattle.pap_plan.specs.declared.refusal.PlanRefusal.{PlanRefusal}
