@@ -14,8 +14,9 @@ pub use Rattle.recalc_engine.proofs.SameLemmas.{book_quiet, jobs_done, same_text
 -- The new jobs of a book are those of its keys; each job is safe.
 pub use Rattle.recalc_engine.proofs.KeyedJobLemmas.{jobs_by_key}
 pub use Rattle.recalc_engine.proofs.SafeLemmas.{jobs_safe}
--- An edit of the runs changes the run at its key alone.
+-- An edit of the runs changes the run at its key alone; so it is of each accepted edit of a book.
 pub use Rattle.recalc_engine.proofs.MapLemmas.{runs_mapped}
+pub use Rattle.recalc_engine.proofs.EditMapLemmas.{edits_mapped}
 -- What is kept of a year is the rows of its runs; the plan of each day is accepted; outputs of each run have different names.
 pub use Rattle.recalc_engine.proofs.MonthLemmas.{year_kept_by}
 pub use Rattle.recalc_engine.proofs.OutputLemmas.{no_names, picked_plan, rows_named}

@@ -4,6 +4,7 @@ mod JobLemmas
 mod KeyedJobLemmas
 pub mod Laws
 mod ListedLemmas
+mod EditMapLemmas
 mod MapLemmas
 mod MonthLemmas
 mod OutputLemmas

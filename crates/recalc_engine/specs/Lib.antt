@@ -5,6 +5,7 @@ pub mod EditAnswers
 pub mod MonthRows
 pub mod Jobs
 pub mod BookLaws
+pub mod EditMaps
 pub mod RunMaps
 pub mod RowLaws
 pub mod KeptRows

@@ -15,6 +15,7 @@ ghost use Rattle.recalc_engine.specs.EditAnswers.{EditsHaveOneAnswer, IsEdited, 
 ghost use Rattle.recalc_engine.specs.EditAnswers.{add, change, drop, load, put, withdraw};
 ghost use Rattle.recalc_engine.specs.MonthRows.{month_rows};
 ghost use Rattle.recalc_engine.specs.RowLaws.{AreBookRows};
+ghost use Rattle.recalc_engine.specs.EditMaps.{EditsAreMapped};
 ghost use Rattle.recalc_engine.specs.RunMaps.{RunsAreMapped};
 ghost use Rattle.recalc_engine.specs.Jobs.{AdmitsInputs, HasNoOutputs, job_of_key, lent_job};
 
@@ -303,7 +304,8 @@ pub fn edit_laws()
 /// Laws of the definitions: the rows of a book stand in order, one for each run; a book is the book of its runs, which have
 /// different keys, its plans and its last work; the new jobs of a book are those of its keys, each told from the job of its key
 /// in the old one; a plan with the texts that stand at its day changes nothing; a run that has a job is done, with the job's
-/// outputs; the run of each job gets to its end; an edit of the runs changes the run at its key alone.
+/// outputs; the run of each job gets to its end; an edit of the runs changes the run at its key alone, and an accepted edit of a
+/// book the runs that it means and nothing else.
 pub fn book_laws()
     ensures rise { RowsRise }
     ensures counted { RowsAreCounted }
@@ -315,4 +317,5 @@ pub fn book_laws()
     ensures done { JobsAreDone }
     ensures safe { JobsAreSafe }
     ensures mapped { RunsAreMapped }
+    ensures edits { EditsAreMapped }
 {}

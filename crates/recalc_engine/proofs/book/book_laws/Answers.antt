@@ -1,4 +1,5 @@
 use Rattle.recalc_engine.proofs.BookLemmas.{book_rows_counted, book_rows_rise, book_rows_runs}
+use Rattle.recalc_engine.proofs.EditMapLemmas.{edits_mapped}
 use Rattle.recalc_engine.proofs.KeyedJobLemmas.{jobs_by_key}
 use Rattle.recalc_engine.proofs.ListedLemmas.{parts_make, runs_distinct}
 use Rattle.recalc_engine.proofs.MapLemmas.{runs_mapped}
@@ -18,4 +19,5 @@ returns c = record {
   done = jobs_done;
   safe = jobs_safe;
   mapped = runs_mapped;
+  edits = edits_mapped;
 }
