@@ -26,7 +26,8 @@ class Cells(unittest.TestCase):
             self.assertEqual(number_of(cell), number, cell)
 
     def test_days_and_months(self) -> None:
-        for cell, day in {"31.01.2026": "2026-01-31", "1.2.2026": "2026-02-01", "2026-01-31": "2026-01-31", "31.01.26": None, "01/31/2026": None}.items():
+        for cell, day in {"31.01.2026": "2026-01-31", "1.2.2026": "2026-02-01", "2026-01-31": "2026-01-31", "31.01.26": None,
+                          "01/31/2026": None}.items():
             self.assertEqual(day_of(cell), day, cell)
         for cell, month in {"01.2026": "2026-01", "1/2026": "2026-01", "2026-01": "2026-01", "31.01.2026": "2026-01", "Januar": None}.items():
             self.assertEqual(month_of(cell), month, cell)
@@ -73,8 +74,8 @@ class Exports(Case):
         self.assertFalse(Path("export.papcalc.csv").exists())
 
     def test_columns_that_are_wrong(self) -> None:
-        for columns in ["Nummer = employee", "Personalnummer employee", "Kinder = a b", "Kinder = PAY\nKinder = PAY", "Kinder = employee\nPersonalnummer = employee",
-                        "Personalnummer = employee"]:
+        for columns in ["Nummer = employee", "Personalnummer employee", "Kinder = a b", "Kinder = PAY\nKinder = PAY",
+                        "Kinder = employee\nPersonalnummer = employee", "Personalnummer = employee"]:
             with self.assertRaises(Misuse):
                 self.made(EXPORT, columns)
         for export in ["", "\n\n"]:

@@ -28,6 +28,11 @@ class SeveralParts(Case):
                 Parts("y")
         with self.assertRaises(LedgerError):
             Parts.new("y", "employees.csv")
+        for table in [b"", b"employee\n", b"employee,month,day\nm\xfcller,,\n", "employee,month,day\nmüller,,\n".encode()]:
+            Path("wrong.csv").write_bytes(table)
+            with self.assertRaises(Misuse):
+                Parts.new("z", "wrong.csv")
+        self.assertFalse(Path("z").exists())
 
     def test_as_one_year(self) -> None:
         """Answers, reports, states and sums are those of one year."""

@@ -79,7 +79,8 @@ class Lines(Case):
         self.year.add("chris", "2026-02-28", {})
         with self.assertRaises(NotReady) as raised:
             self.year.file("2026-01")
-        self.assertEqual([(run.employee, run.state, run.name) for run in raised.exception.waiting], [("anna", "missing", "PAY"), ("ben", "missing", "PAY")])
+        waiting = [(run.employee, run.state, run.name) for run in raised.exception.waiting]
+        self.assertEqual(waiting, [("anna", "missing", "PAY"), ("ben", "missing", "PAY")])
         self.assertEqual(self.year.filings, [])
 
     def test_set_keeps_the_other_values(self) -> None:

@@ -38,7 +38,7 @@ GROUP = 1000
 def parser() -> argparse.ArgumentParser:
     """The words of the command."""
     top = argparse.ArgumentParser(prog="papledger", description="Keeps a year of pay runs in a folder.",
-                                  epilog="WHEN is a day as 2026-01-30, or a month with one run as 2026-01.")
+                                  epilog="WHEN is a day as 2026-01-30, or a month with one run as 2026-01. docs/YEAR.md has the whole.")
     top.add_argument("--version", action="version", version=f"papledger {__version__}")
     top.add_argument("--program", help="the program papcalc, where it isn't on the path and not named by PAPCALC in the environment")
     top.add_argument("folder", metavar="DIR", help="the year's folder")
@@ -50,6 +50,13 @@ def parser() -> argparse.ArgumentParser:
         usage = f"papledger DIR {word} {form}".rstrip()
         plain_word = words.add_parser(word, help=f"{form}: {text}" if form else text, usage=usage)
         plain_word.add_argument("rest", nargs=argparse.REMAINDER, help=argparse.SUPPRESS)
+    add_lines(words)
+    add_views(words)
+    return top
+
+
+def add_lines(words: "argparse._SubParsersAction[argparse.ArgumentParser]") -> None:
+    """The words that send lines, with options of their own."""
     load = words.add_parser("load", help="FILE: all pay runs of a table")
     load.add_argument("file", metavar="FILE")
     load.add_argument("--german", action="store_true", help="semicolons, decimal commas, Latin-1, dates as 31.01.2026")
@@ -59,13 +66,21 @@ def parser() -> argparse.ArgumentParser:
     filed = saved.add_mutually_exclusive_group(required=True)
     filed.add_argument("--filed", metavar="MONTH", help="the last month that was filed before the book was saved")
     filed.add_argument("--nothing-filed", action="store_true", help="no month was filed before the book was saved")
+    sets = words.add_parser("set", help="EMP WHEN NAME=VALUE ..: the run with these values changed, the others kept")
+    sets.add_argument("--table", metavar="FILE", help="values of many runs: employee,when,NAME .. with commas")
+    sets.add_argument("rest", nargs="*", metavar="EMP WHEN NAME=VALUE")
+    script = words.add_parser("script", help="FILE: the lines of a script, - for standard input")
+    script.add_argument("file", metavar="FILE")
+    script.add_argument("--batch", metavar="N", type=int, nargs="?", const=GROUP, default=1,
+                        help=f"brings N lines to the disk together ({GROUP} where no N is said), and answers them then")
+
+
+def add_views(words: "argparse._SubParsersAction[argparse.ArgumentParser]") -> None:
+    """The words that only read."""
     trace = words.add_parser("trace", help="EMP WHEN: each executed statement of a run")
     trace.add_argument("employee", metavar="EMP")
     trace.add_argument("when", metavar="WHEN")
     trace.add_argument("--page", action="store_true", help="as a page with the drawing of the flowchart, by pap_author")
-    sets = words.add_parser("set", help="EMP WHEN NAME=VALUE ..: the run with these values changed, the others kept")
-    sets.add_argument("--table", metavar="FILE", help="values of many runs: employee,when,NAME .. with commas")
-    sets.add_argument("rest", nargs="*", metavar="EMP WHEN NAME=VALUE")
     show = words.add_parser("show", help="EMP [WHEN]: values, amounts, flowchart, what was filed, what is owed")
     show.add_argument("employee", metavar="EMP")
     show.add_argument("when", metavar="WHEN", nargs="?")
@@ -73,11 +88,6 @@ def parser() -> argparse.ArgumentParser:
     totals = words.add_parser("totals", help="[MONTH]: sums by month and output, as they are now and as they were filed")
     totals.add_argument("month", metavar="MONTH", nargs="?")
     words.add_parser("export", help="[FILE]: the report as CSV").add_argument("file", metavar="FILE", nargs="?")
-    script = words.add_parser("script", help="FILE: the lines of a script, - for standard input")
-    script.add_argument("file", metavar="FILE")
-    script.add_argument("--batch", metavar="N", type=int, nargs="?", const=GROUP, default=1,
-                        help=f"brings N lines to the disk together ({GROUP} where no N is said), and answers them then")
-    return top
 
 
 def put(answer: bytes) -> None:
@@ -307,6 +317,9 @@ def main(words: Optional[Sequence[str]] = None) -> int:
     except OSError as fault:
         note(str(fault))
         return 5
+    except KeyboardInterrupt:
+        note("interrupted; what was answered is done")
+        return 130
 
 
 if __name__ == "__main__":

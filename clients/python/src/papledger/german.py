@@ -17,6 +17,7 @@ from typing import Callable, NamedTuple, Optional, Sequence
 from . import disk
 from .copies import read_named
 from .errors import Misuse, NotSaved
+from .tables import EMPLOYEE
 
 KEYS = ("employee", "month", "day")
 NUMBER = re.compile(r"-?\d+(,\d+)?|-?\d{1,3}(\.\d{3})+,\d+", re.ASCII)
@@ -185,7 +186,7 @@ class Maker:
 
     def _key(self, number: int, name: str, cell: str) -> str:
         if name == "employee":
-            if not re.fullmatch(r"[A-Za-z0-9_.-]{1,32}", cell):
+            if not EMPLOYEE.fullmatch(cell):
                 self._fault(f"row {number}: `{cell}` can't be an employee: 1 to 32 letters of ASCII, digits, `_`, `-` and `.`; take a number")
             return cell
         read: Callable[[str], Optional[str]] = day_of if name == "day" else month_of

@@ -22,6 +22,7 @@ from .copies import read_named
 from .errors import Busy, Damaged, LedgerError, Misuse, NotReady, NotSaved, Refused
 from .journal import INTENT, Lock, begin_folder
 from .script import words_of
+from .tables import employees_of
 from .year import Value, Year
 
 PARTS = "year.parts"
@@ -64,11 +65,7 @@ class Parts:
     def new(cls, folder: str, table: str, most_employees: int = MOST_EMPLOYEES, *, program: Optional[str] = None) -> "Parts":
         """Begins a year whose parts have so many of the employees of a table each. An employee who comes later belongs to the part where
         the name has its place in order of bytes."""
-        rows = table_rows(read_named(table))
-        if next(rows, [])[:3] != ["employee", "month", "day"]:
-            raise Misuse(f"{table}: the first row isn't employee,month,day and then names of inputs, with commas between them")
-        employees = sorted({row[0] for row in rows})
-        firsts = employees[::most_employees]
+        firsts = employees_of(table)[::most_employees]
         names = [f"part-{number:04d}" for number in range(1, max(len(firsts), 1) + 1)]
         begin_folder(os.path.abspath(folder))
         for name in names:
