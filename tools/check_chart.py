@@ -3,7 +3,8 @@
 
 Of each drawing: no line meets a symbol but where it enters or leaves it, no horizontal line crosses a vertical one, no two
 vertical lines lie over one another, no two symbols share a height, all is inside the drawing, and no cut goes through a
-symbol, a word or a comment. Of each page: each statement and each comment is there once, a statement's caption has the
+symbol, a word or a comment; and each line, followed from symbol to symbol by the words at its test's ways, leads where the file says
+(`chart_walk.py`). Pages whose words or lines are changed by hand are refused for that. Of each page: each statement and each comment is there once, a statement's caption has the
 characters of its lines, each link leads to a place of the page, each id stands once, and the drawings are well-formed XML; there is no
 script, and nothing that is fetched; what the verdict of a refused plan links to is marked, and of another nothing is. Of a range file
 that is begun for a plan of random inputs: the plan is accepted with it, and the page shows the range of each name."""
@@ -14,6 +15,20 @@ import subprocess
 import sys
 import tempfile
 import xml.etree.ElementTree as ET
+
+import chart_walk
+
+# Each change of the words or lines of its page makes a line lead elsewhere.
+CHANGED_PLAN = b"""<PAP><VARIABLES><INPUTS><INPUT name="x" type="int"/></INPUTS><OUTPUTS><OUTPUT name="o" type="int"/></OUTPUTS></VARIABLES>
+<INTERNALS><INTERNAL name="a" type="int"/></INTERNALS>
+<METHODS><MAIN><EVAL exec="a = 1"/><EVAL exec="a = 2"/>
+<IF expr="x == 1"><THEN><EVAL exec="a = 3"/></THEN></IF>
+<IF expr="x == 2"><THEN></THEN><ELSE><EXECUTE method="M"/></ELSE></IF>
+<IF expr="x == 3"><THEN><EVAL exec="a = 4"/></THEN><ELSE><EVAL exec="a = 5"/></ELSE></IF>
+<EXECUTE method="M"/></MAIN>
+<METHOD name="M"><IF expr="x == 1"><THEN><IF expr="x == 2"><THEN><EVAL exec="a = 1"/></THEN><ELSE><EVAL exec="a = 2"/></ELSE></IF></THEN>
+<ELSE><IF expr="x == 3"><THEN><EVAL exec="a = 3"/></THEN><ELSE><EVAL exec="a = 4"/><IF expr="x == 4"><THEN><EVAL exec="a = 5"/></THEN></IF>
+</ELSE></IF></ELSE></IF></METHOD></METHODS></PAP>"""
 
 LETTERS = "ABCDEFGHIJKLMNOPQRSTUVWXYZ"
 NUMBER = r"-?\d+"
@@ -244,7 +259,27 @@ def check_page(plan, status, page):
     for section in re.findall(r'<section class="m.*?</section>', text, re.S):
         parts = [Part(ET.fromstring(svg)) for svg in re.findall(r"<svg role.*?</svg>", section, re.S)]
         faults += check_drawing(parts)
-    return faults
+    return faults + chart_walk.line_faults(chart_walk.plan_lines(plan.text()), text)
+
+
+def draw(binary, folder, plan):
+    """What `chart` answers for a plan without a range file."""
+    path = os.path.join(folder, "plan.xml")
+    with open(path, "wb") as file:
+        file.write(plan)
+    return subprocess.run([binary, "chart", path], capture_output=True)
+
+
+def check_changed_pages(binary, folder):
+    """How many changed pages were refused, and how many there are."""
+    page, wanted = draw(binary, folder, CHANGED_PLAN).stdout.decode("utf-8"), chart_walk.plan_lines(CHANGED_PLAN)
+    if chart_walk.line_faults(wanted, page):
+        return 0, 1
+    refused, pages = 0, 0
+    for changed_pages in (chart_walk.with_words_changed, chart_walk.with_a_line_led_back, chart_walk.without_a_line):
+        found = [bool(chart_walk.line_faults(wanted, changed)) for changed in changed_pages(page)]
+        refused, pages = refused + sum(found), pages + max(1, len(found))
+    return refused, pages
 
 
 def plan_of_inputs(rng):
@@ -289,23 +324,23 @@ def main():
     binary = sys.argv[1]
     count = int(sys.argv[2]) if len(sys.argv) > 2 else 200
     rng = random.Random(int(sys.argv[3]) if len(sys.argv) > 3 else 1)
-    failed, parts = 0, 0
+    failed, parts, lines = 0, 0, 0
     with tempfile.TemporaryDirectory() as folder:
-        path = os.path.join(folder, "plan.xml")
         for case in range(count):
             plan = Plan(rng)
-            with open(path, "wb") as file:
-                file.write(plan.text())
-            done = subprocess.run([binary, "chart", path], capture_output=True)
+            done = draw(binary, folder, plan.text())
             faults = [] if done.returncode in (0, 1) else ["status %d %s" % (done.returncode, done.stderr)]
             faults += check_page(plan, done.returncode, done.stdout)
             parts += done.stdout.count(b", part ")
+            lines += sum(len(wanted) for wanted in chart_walk.plan_lines(plan.text()).values())
             faults += check_ranges(binary, folder, plan_of_inputs(rng))
             if faults:
                 failed += 1
                 print("case %d: %s" % (case, "; ".join(faults[:3])))
-    print("%d pages, %d with faults, %d parts of cut drawings" % (count, failed, parts))
-    sys.exit(1 if failed else 0)
+        refused, changed = check_changed_pages(binary, folder)
+    print("%d pages, %d with faults, %d lines followed, %d parts of cut drawings, %d of %d changed pages refused"
+          % (count, failed, lines, parts, refused, changed))
+    sys.exit(1 if failed or count == 0 or refused < changed else 0)
 
 
 if __name__ == "__main__":

@@ -10,10 +10,10 @@ use Rattle.pap_reader.proofs.Laws.{raw_stmt_then-If}
 use Rattle.pap_tree.specs.Grammar.{Level, Assignment}
 use Rattle.chart_layout.specs.declared.build.Numbering.{Numbering}
 use Rattle.chart_layout.specs.Drawn.{Drawn}
-use Rattle.chart_layout.specs.Statements.{FileStatement, expression, execution, statements_of, next_number, IsSpelledAs, IsDrawnAs, is_number, AreDrawn}
-use Rattle.chart_layout.specs.private.Statements.{statements_in, number_behind, after, numbering_behind, next_drawn, Adds}
+use Rattle.chart_layout.specs.Statements.{FileStatement, expression, execution, statements_of, next_number, number_behind, IsSpelledAs, IsDrawnAs, is_number, AreDrawn}
+use Rattle.chart_layout.specs.private.Statements.{statements_in, after, numbering_behind, next_drawn, Adds}
 
-behind_append : (number : ℕ) (ss ts : List FileStatement) → number_behind number (ss ++ ts) ≡ number_behind (number_behind number ss) ts
+pub behind_append : (number : ℕ) (ss ts : List FileStatement) → number_behind number (ss ++ ts) ≡ number_behind (number_behind number ss) ts
 behind_append number [] ts = refl
 behind_append number (s ∷ ss) ts = behind_append (next_number number) ss ts
 

@@ -3,8 +3,8 @@ use Rattle.std.proofs.Common.{◌≡◌, ℕ, ◌+◌, ◌-◌, ◌^◌, ◌≤�
 use Rattle.std.specs.Prelude.{min}
 use Rattle.chart_layout.specs.declared.build.Numbering.{Numbering}
 use Rattle.chart_layout.specs.Drawn.{Drawn}
-use Rattle.chart_layout.specs.Statements.{FileStatement, next_number}
-use Rattle.chart_layout.specs.private.Statements.{number_behind, Adds}
+use Rattle.chart_layout.specs.Statements.{FileStatement, next_number, number_behind}
+use Rattle.chart_layout.specs.private.Statements.{Adds}
 use Rattle.chart_layout.specs.Counts.{count_of}
 
 counted : (number : ℕ) (ss : List FileStatement) → number ≤ 2 ^ 32 - 1

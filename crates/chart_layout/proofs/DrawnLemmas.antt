@@ -17,32 +17,42 @@ use Rattle.chart_layout.specs.declared.figure.Figure.TheFolds.{fold-roll-Figure}
 use Rattle.chart_layout.specs.declared.figure.Body.{Body, out-Body, fold_out-Body}
 use Rattle.chart_layout.specs.declared.choice.Arm.{Arm, out-Arm, fold_out-Arm, Arm-F, roll-Arm, fold-roll-Arm}
 use Rattle.chart_layout.specs.declared.choice.Choice.{Choice, out-Choice, fold_out-Choice, Choice-F, roll-Choice, fold-roll-Choice}
-use Rattle.chart_layout.specs.Drawn.{Drawn, drawn_statement, drawn_call, joined, joined_back, figure_step, arm_step, choice_step, body_step, body_statements, row_statements, part_statements, drawing_statements}
+use Rattle.chart_layout.specs.Drawn.{Drawn, drawn_statement, drawn_call, joined, joined_back, figure_step, arm_step, choice_step, body_step, body_statements, row_statements, part_statements, drawing_statements, drawing_rows}
 use Rattle.chart_layout.specs.private.Drawn.{figure_statements, arm_statements, choice_statements, figures_statements}
 
 -- ---- parts
 
--- a part that shows what the one before it in its place showed
-pub same_part : (parts : List Part) (i : ℕ) (old new : Part) → old ≡ get_or parts i old → part_statements new ≡ part_statements old
-    → drawing_statements (set parts i new) ≡ drawing_statements parts
+-- a part that has the rows of the one before it in its place
+pub same_part : (parts : List Part) (i : ℕ) (old new : Part) → old ≡ get_or parts i old → new.rows.items ≡ old.rows.items
+    → drawing_rows (set parts i new) ≡ drawing_rows parts
 same_part [] i old new is same = refl
-same_part (p ∷ parts) zero old new is same = ap (λ l. l ++ drawing_statements parts) (same ∙ ap part_statements is)
-same_part (p ∷ parts) (suc i) old new is same = ap (λ l. part_statements p ++ l) (same_part parts i old new is same)
+same_part (p ∷ parts) zero old new is same = ap (λ l. l ++ drawing_rows parts) (same ∙ ap (λ q. q.rows.items) is)
+same_part (p ∷ parts) (suc i) old new is same = ap (λ l. p.rows.items ++ l) (same_part parts i old new is same)
 
--- the last part with more statements
-pub last_part : (parts : List Part) (i : ℕ) (old new : Part) (more : List Drawn) → 0 < length parts → i ≡ length parts - 1 → old ≡ get_or parts i old
-    → part_statements new ≡ part_statements old ++ more → drawing_statements (set parts i new) ≡ drawing_statements parts ++ more
-last_part [] i old new more some last is grown = absurd (omega (arith, some))
-last_part (p ∷ []) zero old new more some last is grown =
-    append-nil (part_statements new) ∙ grown ∙ ap (λ q. part_statements q ++ more) is ∙ ap (λ l. l ++ more) (sym (append-nil (part_statements p)))
-last_part (p ∷ q ∷ parts) zero old new more some last is grown = absurd (omega (arith, last))
-last_part (p ∷ parts) (suc i) old new more some last is grown =
-    ap (λ l. part_statements p ++ l) (last_part parts i old new more (omega (arith, last)) (omega (arith, last)) is grown)
-    ∙ sym (append_assoc (part_statements p) (drawing_statements parts) more)
+-- the last part with one row more
+pub last_part : (parts : List Part) (i : ℕ) (old new : Part) (row : Row) → 0 < length parts → i ≡ length parts - 1 → old ≡ get_or parts i old
+    → new.rows.items ≡ old.rows.items ++ row ∷ [] → drawing_rows (set parts i new) ≡ drawing_rows parts ++ row ∷ []
+last_part [] i old new row some last is grown = absurd (omega (arith, some))
+last_part (p ∷ []) zero old new row some last is grown =
+    append-nil new.rows.items ∙ grown ∙ ap (λ (q : Part). q.rows.items ++ row ∷ []) is ∙ ap (λ l. l ++ row ∷ []) (sym (append-nil p.rows.items))
+last_part (p ∷ q ∷ parts) zero old new row some last is grown = absurd (omega (arith, last))
+last_part (p ∷ parts) (suc i) old new row some last is grown =
+    ap (λ l. p.rows.items ++ l) (last_part parts i old new row (omega (arith, last)) (omega (arith, last)) is grown)
+    ∙ sym (append_assoc p.rows.items (drawing_rows parts) (row ∷ []))
 
-pub row_push : (old new : List Row) (row : Row) → new ≡ old ++ row ∷ []
-    → flat_map row_statements new ≡ flat_map row_statements old ++ row_statements row
-row_push old new row grown = ap (flat_map row_statements) grown ∙ sym (flat_map_more row_statements [] old row)
+pub row_push : {A : Type 0} (f : Row → List A) (old new : List Row) (row : Row) → new ≡ old ++ row ∷ []
+    → flat_map f new ≡ flat_map f old ++ f row
+row_push f old new row grown = ap (flat_map f) grown ∙ sym (flat_map_more f [] old row)
+
+flat_append : {A : Type 0} (f : Row → List A) (xs ys : List Row) → flat_map f (xs ++ ys) ≡ flat_map f xs ++ flat_map f ys
+flat_append f [] ys = refl
+flat_append f (x ∷ xs) ys = ap (λ l. f x ++ l) (flat_append f xs ys) ∙ sym (append_assoc (f x) (flat_map f xs) (flat_map f ys))
+
+-- the statements of the rows are those of the parts
+pub by_parts : (parts : List Part) → flat_map row_statements (drawing_rows parts) ≡ drawing_statements parts
+by_parts [] = refl
+by_parts (p ∷ parts) =
+    flat_append row_statements p.rows.items (drawing_rows parts) ∙ ap (λ l. part_statements p ++ l) (by_parts parts)
 
 -- ---- figures
 

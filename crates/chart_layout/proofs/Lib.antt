@@ -1,3 +1,5 @@
 pub mod DrawnLemmas
 pub mod AddingLemmas
 pub mod CountLemmas
+pub mod TreeLemmas
+pub mod LeadLemmas

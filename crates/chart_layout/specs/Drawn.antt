@@ -4,7 +4,6 @@ use Rattle.std.specs.List.{flat_map}
 use Rattle.chart_layout.specs.declared.statement.Statement.{Statement}
 use Rattle.chart_layout.specs.declared.statement.Call.{Call as Execute}
 use Rattle.chart_layout.specs.declared.figure.Body.{Body, out-Body}
-use Rattle.chart_layout.specs.declared.choice.Shape.TheVariants as shapes
 use Rattle.chart_layout.specs.declared.figure.Figure.TheOpen.{Figure-F, Note, Box, Call, Choice, Arm-F, Choice-F, Body-F}
 use Rattle.chart_layout.specs.declared.figure.Figure.TheFolds.{fold-Body}
 use Rattle.chart_layout.specs.declared.drawing.Row.{Row}
@@ -87,4 +86,6 @@ part_statements p = flat_map row_statements p.rows.items
 abbrev pub drawing_statements : List Part → List Drawn
 drawing_statements parts = flat_map part_statements parts
 
--- ---- of the ways of an IF
+-- the rows of a drawing's parts
+abbrev pub drawing_rows : List Part → List Row
+drawing_rows parts = flat_map (λ p. p.rows.items) parts

@@ -1,4 +1,6 @@
 pub mod Drawn
 pub mod Statements
+pub mod Trees
+pub mod Leads
 pub mod Counts
 pub mod private

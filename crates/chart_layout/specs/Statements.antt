@@ -44,6 +44,11 @@ IsDrawnAs (execution name) text = text ≡ name
 abbrev pub next_number : ℕ → ℕ
 next_number number = min (number + 1) (2 ^ 32 - 1)
 
+-- the number behind some statements, the first of which has one
+abbrev pub number_behind : ℕ → List FileStatement → ℕ
+number_behind number [] = number
+number_behind number (s ∷ ss) = number_behind (next_number number) ss
+
 -- whether the refused statement has this number
 abbrev pub is_number : Option ℕ → ℕ → Bool
 is_number refused number = option_eq nat_eq refused (Some number)
@@ -55,5 +60,3 @@ AreDrawn refused number (s ∷ ss) (d ∷ ds) =
     (d.number ≡ number) × (d.is_refused ≡ is_number refused number) × IsDrawnAs s d.text
     × AreDrawn refused (next_number number) ss ds
 AreDrawn _ _ _ _ = ⊥
-
--- ---- what a builder does

@@ -1,2 +1,4 @@
 pub mod Drawn
 pub mod Statements
+pub mod Trees
+pub mod Leads

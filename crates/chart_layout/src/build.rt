@@ -7,6 +7,8 @@ ghost use Rattle.chart_layout.specs.Drawn.{drawn_statement, body_statements};
 ghost use Rattle.chart_layout.specs.private.Drawn.{arm_statements, choice_statements, figures_statements};
 ghost use Rattle.chart_layout.specs.Statements.{expression, execution, statements_of, is_number, spelled, IsSpelledAs, AreDrawn};
 ghost use Rattle.chart_layout.specs.private.Statements.{statements_in, after, next_drawn, Adds};
+ghost use Rattle.chart_layout.specs.Trees.{stop, step, fork, above, drawing_of, row_tree, shown};
+ghost use Rattle.chart_layout.specs.private.Trees.{arm_tree, choice_tree, figures_tree, drawing_in};
 ghost use Rattle.chart_layout.specs.Counts.{count_of};
 
 use crate::choice::{Arm, Choice};
@@ -45,6 +47,9 @@ pub fn read_method(
     ensures name { IfOk result (λ method. method.name ≡ name) }
     ensures statements { IfOk result (λ method.
         AreDrawn refused 0 (statements_of (raw_body_of statements.now)) (body_statements method.body)) }
+    // What it shows is the file's body: the figures of THEN and of ELSE at their ways, and what follows behind both.
+    ensures tree { IfOk result (λ method.
+        shown method.body ≡ drawing_of 0 (raw_body_of statements.now)) }
     ensures count { IfOk result (λ method. method.count
         ≡ count_of (statements_of (raw_body_of statements.now))) }
 {
@@ -91,9 +96,12 @@ impl Builder<'_> {
         depth: u32,
         figures: &mut Vec<Figure>,
     ) -> Result<(), AllocError>
-        ensures { OnOk result (Adds self.old.numbering self.new.numbering
+        ensures statements { OnOk result (Adds self.old.numbering self.new.numbering
             (statements_of (raw_body_of statements.now))
             (figures_statements figures.old.items) (figures_statements figures.new.items)) }
+        ensures tree { OnOk result (figures_tree figures.new.items
+            ≡ above (figures_tree figures.old.items)
+            (drawing_of self.old.numbering.next (raw_body_of statements.now))) }
     {
         for statement in statements {
             self.statement(statement, depth, figures)?;
@@ -109,8 +117,10 @@ impl Builder<'_> {
         depth: u32,
         figures: &mut Vec<Figure>,
     ) -> Result<(), AllocError>
-        ensures { OnOk result (Adds self.old.numbering self.new.numbering (statements_in statement.now)
+        ensures statements { OnOk result (Adds self.old.numbering self.new.numbering (statements_in statement.now)
             (figures_statements figures.old.items) (figures_statements figures.new.items)) }
+        ensures tree { OnOk result (figures_tree figures.new.items
+            ≡ above (figures_tree figures.old.items) (drawing_in self.old.numbering.next statement.now)) }
     {
         self.next_tag(depth, figures)?;
         match statement {
@@ -133,9 +143,11 @@ impl Builder<'_> {
         depth: u32,
         figures: &mut Vec<Figure>,
     ) -> Result<(), AllocError>
-        ensures { OnOk result (Adds self.old.numbering self.new.numbering
+        ensures statements { OnOk result (Adds self.old.numbering self.new.numbering
             (expression Assignment exec.now ∷ [])
             (figures_statements figures.old.items) (figures_statements figures.new.items)) }
+        ensures tree { OnOk result (figures_tree figures.new.items
+            ≡ above (figures_tree figures.old.items) (step self.old.numbering.next stop)) }
     {
         let text = spelled_assignment(self.alloc, exec)?;
         let statement = self.written(text, depth, BOX_SIDE)?;
@@ -144,8 +156,10 @@ impl Builder<'_> {
 
     /// Appends the figure of an EXECUTE.
     fn execution(&mut self, method: Name, figures: &mut Vec<Figure>) -> Result<(), AllocError>
-        ensures { OnOk result (Adds self.old.numbering self.new.numbering (execution method ∷ [])
+        ensures statements { OnOk result (Adds self.old.numbering self.new.numbering (execution method ∷ [])
             (figures_statements figures.old.items) (figures_statements figures.new.items)) }
+        ensures tree { OnOk result (figures_tree figures.new.items
+            ≡ above (figures_tree figures.old.items) (step self.old.numbering.next stop)) }
     {
         let site = self.site();
         figures.push(Figure::Call(Call::new(site, method)))?;
@@ -160,8 +174,10 @@ impl Builder<'_> {
         depth: u32,
         is_alone: bool,
     ) -> Result<Vec<Figure>, AllocError>
-        ensures { IfOk result (λ figures. Adds self.old.numbering self.new.numbering
+        ensures statements { IfOk result (λ figures. Adds self.old.numbering self.new.numbering
             (statements_of (raw_body_of no.now)) [] (figures_statements figures.items)) }
+        ensures tree { IfOk result (λ figures. figures_tree figures.items
+            ≡ drawing_of self.old.numbering.next (raw_body_of no.now)) }
     {
         if no.is_empty() && !self.walk.is_at(Element::Else) {
             Ok(Vec::new(self.alloc))
@@ -173,8 +189,10 @@ impl Builder<'_> {
     /// The figures of a branch, with the comments before its start tag.
     #[cycle(build)]
     fn branch(&mut self, statements: &[RawStmt], depth: u32) -> Result<Vec<Figure>, AllocError>
-        ensures { IfOk result (λ figures. Adds self.old.numbering self.new.numbering
+        ensures statements { IfOk result (λ figures. Adds self.old.numbering self.new.numbering
             (statements_of (raw_body_of statements.now)) [] (figures_statements figures.items)) }
+        ensures tree { IfOk result (λ figures. figures_tree figures.items
+            ≡ drawing_of self.old.numbering.next (raw_body_of statements.now)) }
     {
         let mut figures = Vec::new(self.alloc);
         self.next_tag(depth, &mut figures)?;
@@ -187,6 +205,8 @@ impl Builder<'_> {
         ensures numbering { self.new.numbering ≡ self.old.numbering }
         ensures same { OnOk result
             (figures_statements figures.new.items ≡ figures_statements figures.old.items) }
+        ensures tree { OnOk result
+            (figures_tree figures.new.items ≡ figures_tree figures.old.items) }
     {
         let comments = self.walk.next_tag();
         push_comments(self.alloc, figures, comments, room_at(depth))
@@ -281,8 +301,10 @@ fn push_comments(
     comments: &[String],
     room: Px,
 ) -> Result<(), AllocError>
-    ensures { OnOk result
+    ensures statements { OnOk result
         (figures_statements figures.new.items ≡ figures_statements figures.old.items) }
+    ensures tree { OnOk result
+        (figures_tree figures.new.items ≡ figures_tree figures.old.items) }
 {
     if comments.is_empty() {
         return Ok(());
@@ -296,8 +318,10 @@ fn push_comments(
 /// Takes out the comments that stand last, if some do.
 #[tactic(auto, using(crate::proofs::DrawnLemmas::figures_push))]
 fn last_note(alloc: Global, figures: &mut Vec<Figure>) -> Result<Note, AllocError>
-    ensures { OnOk result
+    ensures statements { OnOk result
         (figures_statements figures.new.items ≡ figures_statements figures.old.items) }
+    ensures tree { OnOk result
+        (figures_tree figures.new.items ≡ figures_tree figures.old.items) }
 {
     match figures.pop() {
         Some(Figure::Note(note)) => return Ok(note),
@@ -317,10 +341,13 @@ fn push_choice(
     then: Vec<Figure>,
     otherwise: Vec<Figure>,
 ) -> Result<(), AllocError>
-    ensures { OnOk result (figures_statements figures.new.items
+    ensures statements { OnOk result (figures_statements figures.new.items
         ≡ figures_statements figures.old.items
         ++ (drawn_statement test
         ∷ (figures_statements then.items ++ figures_statements otherwise.items))) }
+    ensures tree { OnOk result (figures_tree figures.new.items
+        ≡ above (figures_tree figures.old.items)
+        (fork test.number (figures_tree then.items) (figures_tree otherwise.items) stop)) }
 {
     let choice = joined(alloc, test, Body::new(then), otherwise)?;
     figures.push(Figure::Choice(choice))?;
@@ -335,8 +362,10 @@ fn joined(
     then: Body,
     mut otherwise: Vec<Figure>,
 ) -> Result<Choice, AllocError>
-    ensures { IfOk result (λ choice. choice_statements choice
+    ensures statements { IfOk result (λ choice. choice_statements choice
         ≡ drawn_statement test ∷ (body_statements then ++ figures_statements otherwise.items)) }
+    ensures tree { IfOk result (λ choice. choice_tree choice
+        ≡ fork test.number (shown then) (figures_tree otherwise.items) stop) }
 {
     let first = Arm {
         note: None,
@@ -357,7 +386,8 @@ fn joined(
 
 /// Whether figures are comments at most.
 fn are_comments(figures: &[Figure]) -> bool
-    ensures { IsTrue result → figures_statements figures.now ≡ [] }
+    ensures statements { IsTrue result → figures_statements figures.now ≡ [] }
+    ensures tree { IsTrue result → figures_tree figures.now ≡ stop }
 {
     matches!(figures, [] | [Figure::Note(_)])
 }
@@ -372,8 +402,9 @@ fn note_of(figure: Option<Figure>) -> Option<Note> {
 
 /// An IF of one arm.
 fn one_arm(alloc: Global, first: Arm, otherwise: Vec<Figure>) -> Choice
-    ensures { choice_statements result
+    ensures statements { choice_statements result
         ≡ arm_statements first ++ figures_statements otherwise.items }
+    ensures tree { choice_tree result ≡ arm_tree first (figures_tree otherwise.items) }
 {
     Choice {
         first,
@@ -384,8 +415,10 @@ fn one_arm(alloc: Global, first: Arm, otherwise: Vec<Figure>) -> Choice
 
 /// An IF of an arm and those of the IF that stands alone in its ELSE, with the comments before that.
 fn cascade(first: Arm, note: Option<Note>, choice: Choice) -> Result<Choice, AllocError>
-    ensures { IfOk result (λ whole. choice_statements whole
+    ensures statements { IfOk result (λ whole. choice_statements whole
         ≡ arm_statements first ++ choice_statements choice) }
+    ensures tree { IfOk result (λ whole. choice_tree whole
+        ≡ arm_tree first (choice_tree choice)) }
 {
     let Choice {
         first: second,
@@ -411,8 +444,10 @@ fn push_evaluation(
     figures: &mut Vec<Figure>,
     statement: Statement,
 ) -> Result<(), AllocError>
-    ensures { OnOk result (figures_statements figures.new.items
+    ensures statements { OnOk result (figures_statements figures.new.items
         ≡ figures_statements figures.old.items ++ drawn_statement statement ∷ []) }
+    ensures tree { OnOk result (figures_tree figures.new.items
+        ≡ above (figures_tree figures.old.items) (step statement.number stop)) }
 {
     let mut row = last_box(alloc, figures, statement.height())?;
     row.push(statement)?;
@@ -421,14 +456,16 @@ fn push_evaluation(
 }
 
 /// Takes out the statements of the box that stands last, if it has room for one more of a height.
-#[tactic(auto, using(crate::proofs::DrawnLemmas::figures_push))]
+#[tactic(auto, using(crate::proofs::DrawnLemmas::figures_push, crate::proofs::TreeLemmas::tree_push, crate::proofs::TreeLemmas::above_stop))]
 fn last_box(
     alloc: Global,
     figures: &mut Vec<Figure>,
     height: Px,
 ) -> Result<Vec<Statement>, AllocError>
-    ensures { IfOk result (λ row. figures_statements figures.old.items
+    ensures statements { IfOk result (λ row. figures_statements figures.old.items
         ≡ figures_statements figures.new.items ++ map drawn_statement row.items) }
+    ensures tree { IfOk result (λ row. figures_tree figures.old.items
+        ≡ above (figures_tree figures.new.items) (row_tree row.items)) }
 {
     match figures.pop() {
         Some(Figure::Box(row)) => {

@@ -1,5 +1,8 @@
 //! An IF, with those that stand alone in its ELSE.
+ghost use Rattle.std.specs.Prelude.{◌≡◌, IsTrue};
+ghost use Rattle.chart_layout.specs.Trees.{stop};
 ghost use Rattle.chart_layout.specs.private.Drawn.{HasShape};
+ghost use Rattle.chart_layout.specs.private.Trees.{behind_arms};
 
 use crate::figure::{Body, End};
 use crate::measures::{RAIL_ROOM, STEP};
@@ -60,6 +63,13 @@ impl Choice {
     pub(crate) fn ends_in_branch(&self) -> bool {
         let last = self.later.first().unwrap_or(&self.first);
         self.otherwise.is_empty() && !last.then.is_empty()
+    }
+
+    /// Whether nothing comes behind the arm that stands before so many of the later ones.
+    pub(crate) fn is_end(&self, left: usize) -> bool
+        ensures { IsTrue result → behind_arms self.now left ≡ stop }
+    {
+        left == 0 && self.otherwise.is_empty()
     }
 
     /// The room inside its rail, or all where it has none.

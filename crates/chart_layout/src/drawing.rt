@@ -1,7 +1,7 @@
 //! A method's drawing: symbols and words in reading order, lines, arrowheads.
 ghost use Rattle.std.specs.Prelude.{◌≡◌, []};
-ghost use Rattle.chart_layout.specs.Drawn.{part_statements};
 
+use crate::leads::Lead;
 use crate::note::Note;
 use crate::px::Px;
 use crate::statement::{Call, Statement};
@@ -13,6 +13,8 @@ pub struct Drawing<'a> {
     pub width: Px,
     pub height: Px,
     pub parts: Vec<Part<'a>>,
+    /// Where its lines lead, in the order of what they lead to.
+    pub leads: Vec<Lead>,
 }
 
 /// A part of a drawing.
@@ -29,7 +31,7 @@ pub struct Part<'a> {
 impl<'a> Part<'a> {
     /// A part in which nothing stands.
     pub(crate) fn new(alloc: Global, top: Px) -> Part<'a>
-        ensures { part_statements result ≡ [] }
+        ensures { result.rows.items ≡ [] }
     {
         Part {
             top,
@@ -104,13 +106,15 @@ pub enum Row<'a> {
     Word {
         x: Px,
         y: Px,
+        /// The number of the test.
+        test: u32,
         word: Word,
         anchor: Anchor,
     },
 }
 
 /// Which way of a test a line is.
-#[derive(Clone, Copy)]
+#[derive(Clone, Copy, PartialEq)]
 pub enum Word {
     Yes,
     No,

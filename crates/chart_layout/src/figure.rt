@@ -1,7 +1,10 @@
 //! What a body is drawn as.
-ghost use Rattle.std.specs.Prelude.{◌≡◌, ◌↔◌, [], IsTrue};
+ghost use Rattle.std.specs.Prelude.{◌≡◌, ◌↔◌, ◌+◌, ◌<◌, [], IsTrue};
 ghost use Rattle.chart_layout.specs.Drawn.{body_statements, IsBlank};
+ghost use Rattle.chart_layout.specs.Trees.{shown, stop};
 ghost use Rattle.chart_layout.specs.private.Drawn.{figures_statements};
+ghost use Rattle.chart_layout.specs.private.Trees.{figures_tree};
+ghost use Rattle.chart_layout.specs.private.Leads.{end_behind};
 
 use crate::choice::Choice;
 use crate::measures::{LEAST_SYMBOL, STATEMENT_GAP, TEXT_DROP};
@@ -40,10 +43,21 @@ pub(crate) enum End {
     Rail,
 }
 
+impl End {
+    /// That of the figures of a body with this end up to one of a number, of so many: the last alone has it.
+    pub(crate) fn at(self, number: usize, count: usize) -> End
+        requires { number < count }
+        ensures { result ≡ end_behind (number + 1) count self }
+    {
+        if number + 1 < count { End::Spine } else { self }
+    }
+}
+
 impl Body {
     /// A body of these figures.
     pub(crate) fn new(figures: Vec<Figure>) -> Body
-        ensures { body_statements result ≡ figures_statements figures.items }
+        ensures statements { body_statements result ≡ figures_statements figures.items }
+        ensures tree { shown result ≡ figures_tree figures.items }
     {
         let mut front = Px(0);
         let mut alone = Px(0);
@@ -64,6 +78,7 @@ impl Body {
     pub fn is_empty(&self) -> bool
         ensures blank { IsTrue result ↔ IsBlank self.now }
         ensures statements { IsTrue result → body_statements self.now ≡ [] }
+        ensures tree { IsTrue result → shown self.now ≡ stop }
     {
         self.figures.is_empty()
     }

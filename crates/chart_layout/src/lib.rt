@@ -10,6 +10,7 @@ mod choice;
 mod drawing;
 mod figure;
 mod layout;
+mod leads;
 mod lines;
 mod measures;
 mod note;
@@ -23,6 +24,7 @@ pub use choice::Choice;
 pub use drawing::{Anchor, Drawing, Head, Part, Row, Stroke, Word};
 pub use figure::{Body, Figure};
 pub use layout::draw;
+pub use leads::{Entry, Exit, Lead, Way};
 pub use lines::Line;
 pub use measures::{
     BOX_SIDE, CALL_HEIGHT, CALL_SIDE, LINE_HEIGHT, NOTE_LINE, STATEMENT_GAP, TERMINATOR_HEIGHT,

@@ -1,8 +1,11 @@
 //! The pen that draws rows and lines.
 ghost use Rattle.std.specs.Prelude.{◌≡◌, ◌<◌, ◌++◌, [], OnOk, vec_len};
-ghost use Rattle.chart_layout.specs.Drawn.{drawing_statements, row_statements};
+ghost use Rattle.chart_layout.specs.Drawn.{drawing_rows, row_statements};
+ghost use Rattle.chart_layout.specs.private.Leads.{statements_in, ways_in};
+ghost use Rattle.chart_layout.specs.Leads.{leads, row_ways};
 
-use crate::drawing::{Anchor, Head, Part, Row, Stroke, Word};
+use crate::drawing::{Head, Part, Row, Stroke};
+use crate::leads::{Entry, Exit, Lead, Rail};
 use crate::px::Px;
 use std::alloc::{AllocError, Global};
 
@@ -11,26 +14,19 @@ use std::alloc::{AllocError, Global};
 pub(crate) struct Pen<'a> {
     pub alloc: Global,
     pub parts: Vec<Part<'a>>,
-    rails: Vec<Rail>,
-}
-
-/// A vertical line at the right, to which branches go.
-#[derive(Clone, Copy)]
-struct Rail {
-    x: Px,
-    /// Where the first branch meets it.
-    top: Option<Px>,
+    pub leads: Vec<Lead>,
 }
 
 impl<'a> Pen<'a> {
     /// A pen that has drawn nothing.
     pub(crate) fn new(alloc: Global) -> Pen<'a>
-        ensures { drawing_statements result.parts.items ≡ [] }
+        ensures rows { drawing_rows result.parts.items ≡ [] }
+        ensures leads { result.leads.items ≡ [] }
     {
         Pen {
             alloc,
             parts: Vec::new(alloc),
-            rails: Vec::new(alloc),
+            leads: Vec::new(alloc),
         }
     }
 
@@ -49,8 +45,9 @@ impl<'a> Pen<'a> {
 
     /// Begins a part.
     pub(crate) fn begin_part(&mut self, top: Px) -> Result<(), AllocError>
-        ensures same { OnOk result (drawing_statements self.new.parts.items
-            ≡ drawing_statements self.old.parts.items) }
+        ensures same { OnOk result (drawing_rows self.new.parts.items
+            ≡ drawing_rows self.old.parts.items) }
+        ensures leads { self.new.leads ≡ self.old.leads }
         ensures some { OnOk result (0 < vec_len self.new.parts) }
     {
         self.parts.push(Part::new(self.alloc, top))?;
@@ -59,8 +56,9 @@ impl<'a> Pen<'a> {
 
     /// Begins the first part, where there is none.
     fn begin(&mut self) -> Result<(), AllocError>
-        ensures same { OnOk result (drawing_statements self.new.parts.items
-            ≡ drawing_statements self.old.parts.items) }
+        ensures same { OnOk result (drawing_rows self.new.parts.items
+            ≡ drawing_rows self.old.parts.items) }
+        ensures leads { self.new.leads ≡ self.old.leads }
         ensures some { OnOk result (0 < vec_len self.new.parts) }
     {
         if self.parts.is_empty() {
@@ -72,8 +70,11 @@ impl<'a> Pen<'a> {
 
     /// Appends a symbol or a word to the last part; the first row begins one.
     pub(crate) fn row(&mut self, row: Row<'a>) -> Result<(), AllocError>
-        ensures { OnOk result (drawing_statements self.new.parts.items
-            ≡ drawing_statements self.old.parts.items ++ row_statements row.entry) }
+        ensures statements { OnOk result (statements_in (drawing_rows self.new.parts.items)
+            ≡ statements_in (drawing_rows self.old.parts.items) ++ row_statements row.entry) }
+        ensures ways { OnOk result (ways_in (drawing_rows self.new.parts.items)
+            ≡ ways_in (drawing_rows self.old.parts.items) ++ row_ways row.entry) }
+        ensures leads { self.new.leads ≡ self.old.leads }
     {
         self.begin()?;
         if let Some(part) = self.parts.last_mut() {
@@ -82,28 +83,11 @@ impl<'a> Pen<'a> {
         Ok(())
     }
 
-    /// Appends a word to a part.
-    pub(crate) fn word(
-        &mut self,
-        part: usize,
-        x: Px,
-        y: Px,
-        word: Word,
-        anchor: Anchor,
-    ) -> Result<(), AllocError>
-        ensures { OnOk result (drawing_statements self.new.parts.items
-            ≡ drawing_statements self.old.parts.items) }
-    {
-        if let Some(part) = self.parts.get_mut(part) {
-            part.rows.push(Row::Word { x, y, word, anchor })?;
-        }
-        Ok(())
-    }
-
     /// Draws a vertical line, cut where parts begin.
     pub(crate) fn vertical(&mut self, x: Px, y: Px, end: Px) -> Result<(), AllocError>
-        ensures { OnOk result (drawing_statements self.new.parts.items
-            ≡ drawing_statements self.old.parts.items) }
+        ensures same { OnOk result (drawing_rows self.new.parts.items
+            ≡ drawing_rows self.old.parts.items) }
+        ensures leads { self.new.leads ≡ self.old.leads }
     {
         let mut end = end;
         for number in (0..self.parts.len()).rev() {
@@ -126,8 +110,9 @@ impl<'a> Pen<'a> {
 
     /// Draws a vertical line in a part.
     fn piece(&mut self, part: usize, stroke: Stroke) -> Result<(), AllocError>
-        ensures { OnOk result (drawing_statements self.new.parts.items
-            ≡ drawing_statements self.old.parts.items) }
+        ensures same { OnOk result (drawing_rows self.new.parts.items
+            ≡ drawing_rows self.old.parts.items) }
+        ensures leads { self.new.leads ≡ self.old.leads }
     {
         if let Some(part) = self.parts.get_mut(part) {
             part.verticals.push(stroke)?;
@@ -137,8 +122,9 @@ impl<'a> Pen<'a> {
 
     /// Draws a horizontal line to the right.
     pub(crate) fn horizontal(&mut self, x: Px, y: Px, end: Px) -> Result<(), AllocError>
-        ensures { OnOk result (drawing_statements self.new.parts.items
-            ≡ drawing_statements self.old.parts.items) }
+        ensures same { OnOk result (drawing_rows self.new.parts.items
+            ≡ drawing_rows self.old.parts.items) }
+        ensures leads { self.new.leads ≡ self.old.leads }
     {
         if let Some(part) = self.parts.last_mut() {
             part.horizontals.push(Stroke { x, y, end })?;
@@ -148,8 +134,9 @@ impl<'a> Pen<'a> {
 
     /// Draws an arrowhead.
     pub(crate) fn head(&mut self, x: Px, y: Px, is_left: bool) -> Result<(), AllocError>
-        ensures { OnOk result (drawing_statements self.new.parts.items
-            ≡ drawing_statements self.old.parts.items) }
+        ensures same { OnOk result (drawing_rows self.new.parts.items
+            ≡ drawing_rows self.old.parts.items) }
+        ensures leads { self.new.leads ≡ self.old.leads }
     {
         if let Some(part) = self.parts.last_mut() {
             part.heads.push(Head { x, y, is_left })?;
@@ -159,55 +146,61 @@ impl<'a> Pen<'a> {
 
     /// Draws the line into a symbol from above.
     pub(crate) fn enter(&mut self, spine: Px, from: Px, y: Px) -> Result<(), AllocError>
-        ensures { OnOk result (drawing_statements self.new.parts.items
-            ≡ drawing_statements self.old.parts.items) }
+        ensures same { OnOk result (drawing_rows self.new.parts.items
+            ≡ drawing_rows self.old.parts.items) }
+        ensures leads { self.new.leads ≡ self.old.leads }
     {
         self.vertical(spine, from, y)?;
         self.head(spine, y, false)
     }
 
-    /// Puts up a rail, which nothing meets yet.
-    pub(crate) fn new_rail(&mut self, x: Px) -> Result<usize, AllocError>
-        ensures { OnOk result (drawing_statements self.new.parts.items
-            ≡ drawing_statements self.old.parts.items) }
+    /// Notes that these exits lead to an entry.
+    pub(crate) fn lead(&mut self, exits: &[Exit], entry: Entry) -> Result<(), AllocError>
+        ensures rows { self.new.parts ≡ self.old.parts }
+        ensures leads { OnOk result (self.new.leads.items
+            ≡ self.old.leads.items ++ leads exits.now entry) }
     {
-        let number = self.rails.len();
-        self.rails.push(Rail { x, top: None })?;
-        Ok(number)
+        for exit in exits {
+            self.leads.push(Lead { exit: *exit, entry })?;
+        }
+        Ok(())
     }
 
-    /// Draws the line from a branch to a rail.
-    pub(crate) fn meet_rail(&mut self, rail: usize, x: Px, y: Px) -> Result<(), AllocError>
-        ensures { OnOk result (drawing_statements self.new.parts.items
-            ≡ drawing_statements self.old.parts.items) }
+    /// Draws the line from a branch to a rail, where its exits go on.
+    pub(crate) fn meet_rail(
+        &mut self,
+        rail: &mut Rail,
+        x: Px,
+        y: Px,
+        exits: &[Exit],
+    ) -> Result<(), AllocError>
+        ensures same { OnOk result (drawing_rows self.new.parts.items
+            ≡ drawing_rows self.old.parts.items) }
+        ensures leads { self.new.leads ≡ self.old.leads }
+        ensures exits { OnOk result (rail.new.exits.items ≡ rail.old.exits.items ++ exits.now) }
     {
-        let Some(rail) = self.rails.get_mut(rail) else {
-            return Ok(());
-        };
         if rail.top.is_none() {
             rail.top = Some(y);
         }
-        let end = rail.x;
-        self.horizontal(x, y, end)
+        rail.exits.extend_from_slice(exits)?;
+        self.horizontal(x, y, rail.x)
     }
 
     /// Draws the rest of a spine, and the rail that comes back to it.
     pub(crate) fn close_rail(
         &mut self,
-        rail: usize,
+        rail: &Rail,
         spine: Px,
         from: Px,
         y: Px,
     ) -> Result<(), AllocError>
-        ensures { OnOk result (drawing_statements self.new.parts.items
-            ≡ drawing_statements self.old.parts.items) }
+        ensures same { OnOk result (drawing_rows self.new.parts.items
+            ≡ drawing_rows self.old.parts.items) }
+        ensures leads { self.new.leads ≡ self.old.leads }
     {
         if from < y {
             self.vertical(spine, from, y)?;
         }
-        let Some(rail) = self.rails.get(rail).copied() else {
-            return Ok(());
-        };
         if let Some(top) = rail.top {
             self.vertical(rail.x, top, y)?;
         }

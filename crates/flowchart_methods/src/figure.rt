@@ -160,6 +160,12 @@ fn write_row(page: &mut Page, subject: Subject<'_>, row: &Row<'_>) -> Result<(),
         Row::Start { x, y, width } => write_start(page, subject, *x, *y, *width),
         Row::End { x, y, width } => write_end(page, subject.name, *x, *y, *width),
         Row::Note { x, y, note } => write_note(page, *x, *y, note),
-        Row::Word { x, y, word, anchor } => write_word(page, *x, *y, *word, *anchor),
+        Row::Word {
+            x,
+            y,
+            word,
+            anchor,
+            ..
+        } => write_word(page, *x, *y, *word, *anchor),
     }
 }

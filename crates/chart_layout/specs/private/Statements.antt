@@ -1,14 +1,10 @@
 -- What private contracts cite beside the definitions of Statements.
-use Rattle.std.specs.Prelude.{◌≡◌, ℕ, List, [], ◌∷◌, ◌++◌}
+use Rattle.std.specs.Prelude.{◌≡◌, ℕ, List, ◌++◌}
 use Rattle.pap_reader.specs.declared.elements.RawStmt.{RawStmt}
 use Rattle.pap_reader.specs.Trees.{done, raw_stmt_then}
 use Rattle.chart_layout.specs.Drawn.{Drawn, drawn}
 use Rattle.chart_layout.specs.declared.build.Numbering.{Numbering}
-use Rattle.chart_layout.specs.Statements.{AreDrawn, FileStatement, is_number, next_number, statements_of}
-
-abbrev pub number_behind : ℕ → List FileStatement → ℕ
-number_behind number [] = number
-number_behind number (s ∷ ss) = number_behind (next_number number) ss
+use Rattle.chart_layout.specs.Statements.{AreDrawn, FileStatement, is_number, next_number, number_behind, statements_of}
 
 -- a statement without those that follow it, and what stands in it
 abbrev pub statements_in : RawStmt → List FileStatement

@@ -2,5 +2,5 @@ use Rattle.std.proofs.Common.{refl}
 use Rattle.chart_layout.proofs.DrawnLemmas.{same_part}
 use Rattle.chart_layout.proofs.pen.Pen.piece.Goals as goal
 
-pub returns-in_ok-push : goal.returns-in_ok-push
-returns-in_ok-push c = same_part c.args.self.now.parts.items c.args.part c.in-Some.part.now _ c.in-Some.ensures.value refl
+pub returns-in_ok-push-clause-same : goal.returns-in_ok-push-clause-same
+returns-in_ok-push-clause-same c = same_part c.args.self.now.parts.items c.args.part c.in-Some.part.now _ c.in-Some.ensures.value refl
