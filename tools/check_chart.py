@@ -3,11 +3,13 @@
 
 Of each drawing: no line meets a symbol but where it enters or leaves it, no horizontal line crosses a vertical one, no two
 vertical lines lie over one another, no two symbols share a height, all is inside the drawing, and no cut goes through a
-symbol, a word or a comment; and each line, followed from symbol to symbol by the words at its test's ways, leads where the file says
-(`chart_walk.py`). Pages whose words or lines are changed by hand are refused for that. Of each page: each statement and each comment is there once, a statement's caption has the
-characters of its lines, each link leads to a place of the page, each id stands once, and the drawings are well-formed XML; there is no
-script, and nothing that is fetched; what the verdict of a refused plan links to is marked, and of another nothing is. Of a range file
-that is begun for a plan of random inputs: the plan is accepted with it, and the page shows the range of each name."""
+symbol, a word or a comment. Each line, followed from symbol to symbol by the words at the ways of its test, leads where the file
+says (`chart_walk.py`). Of each page: each statement and each comment is there once, a statement's caption has the
+characters of its lines, each link leads to a place of the page, each id stands once, and the drawings are well-formed XML; there
+is no script, and nothing that is fetched; there is one verdict, and no element, attribute or comment that could hide it; what the
+verdict of a refused plan links to is marked, and of another nothing is. Pages that are changed so that a word, a line or the
+verdict is wrong have to be refused. Of a range file that is begun for a plan of random inputs: the plan is accepted with it, and
+the page shows the range of each name."""
 import os
 import random
 import re
@@ -29,6 +31,12 @@ CHANGED_PLAN = b"""<PAP><VARIABLES><INPUTS><INPUT name="x" type="int"/></INPUTS>
 <METHOD name="M"><IF expr="x == 1"><THEN><IF expr="x == 2"><THEN><EVAL exec="a = 1"/></THEN><ELSE><EVAL exec="a = 2"/></ELSE></IF></THEN>
 <ELSE><IF expr="x == 3"><THEN><EVAL exec="a = 3"/></THEN><ELSE><EVAL exec="a = 4"/><IF expr="x == 4"><THEN><EVAL exec="a = 5"/></THEN></IF>
 </ELSE></IF></ELSE></IF></METHOD></METHODS></PAP>"""
+
+VERDICTS = ("<b>Accepted.</b>", "<b>In order</b>", "<b>Refused.</b>")
+ELEMENTS = set("""a b body br code div g h1 h2 h3 head header html i li main meta nav p path rect section small span style svg table
+tbody td text th thead title tr tspan ul""".split())
+ATTRIBUTES = set("""aria-hidden aria-label aria-labelledby charset class colspan content d height href id lang name role rx scope
+viewBox width x y""".split())
 
 LETTERS = "ABCDEFGHIJKLMNOPQRSTUVWXYZ"
 NUMBER = r"-?\d+"
@@ -236,12 +244,29 @@ def check_marks(status, text):
             if not any(' id="%s"' % link in mark for mark in marks)]
 
 
+def check_verdict(text):
+    """Faults of the verdict: that there is another beside it, or that something could hide one: a comment, another element than the page's
+    own few, or another attribute than theirs."""
+    faults = []
+    if sum(text.count(verdict) for verdict in VERDICTS) != 1:
+        faults.append("there isn't one verdict")
+    if "<!--" in text or text.count('class="skip"') != 1:
+        faults.append("a comment of HTML, or an element that the style sheet hides")
+    for name, attributes in re.findall(r"<([a-zA-Z][a-zA-Z0-9]*)([^<>]*)>", text):
+        names = set(re.findall(r"\s([^\s=\"]+)", re.sub(r'"[^"]*"', '""', attributes.rstrip("/"))))
+        if name not in ELEMENTS or names - ATTRIBUTES:
+            faults.append("<%s%s> isn't the page's own" % (name, attributes))
+    if text.count("<") != len(re.findall(r"<(?:!DOCTYPE html|/?[a-zA-Z][a-zA-Z0-9]*)(?=[\s>/])", text)):
+        faults.append("a mark of HTML that begins no tag")
+    return faults
+
+
 def check_page(plan, status, page):
     faults = []
     text = page.decode("utf-8")
     for part in re.findall(r"<(?:script|link|img|image|iframe|object|embed|base|use)\b|@import|url\(|<[^>]*\s(?:src|on[a-z]+)=", text):
         faults.append("a script, or what is fetched: %s" % part)
-    faults += check_marks(status, text)
+    faults += check_marks(status, text) + check_verdict(text)
     ids = re.findall(r'\sid="([^"]*)"', text)
     twice = {i for i in ids if ids.count(i) > 1 and not i.startswith("name-")}
     if twice:
@@ -270,16 +295,24 @@ def draw(binary, folder, plan):
     return subprocess.run([binary, "chart", path], capture_output=True)
 
 
+def with_another_verdict(page):
+    """The page with a second verdict, and with its own hidden."""
+    paragraph = '<p class="ok">'
+    for changed in (paragraph + VERDICTS[2], "<p hidden>", '<p class="skip">', "<!--" + paragraph, "<dialog>" + paragraph):
+        yield page.replace(paragraph, changed, 1)
+
+
 def check_changed_pages(binary, folder):
     """How many changed pages were refused, and how many there are."""
     page, wanted = draw(binary, folder, CHANGED_PLAN).stdout.decode("utf-8"), chart_walk.plan_lines(CHANGED_PLAN)
-    if chart_walk.line_faults(wanted, page):
+    if chart_walk.line_faults(wanted, page) or check_verdict(page):
         return 0, 1
     refused, pages = 0, 0
     for changed_pages in (chart_walk.with_words_changed, chart_walk.with_a_line_led_back, chart_walk.without_a_line):
         found = [bool(chart_walk.line_faults(wanted, changed)) for changed in changed_pages(page)]
         refused, pages = refused + sum(found), pages + max(1, len(found))
-    return refused, pages
+    found = [bool(check_verdict(changed)) for changed in with_another_verdict(page)]
+    return refused + sum(found), pages + len(found)
 
 
 def plan_of_inputs(rng):
