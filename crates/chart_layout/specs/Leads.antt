@@ -57,9 +57,11 @@ word_ways test Yes = at_way test Yes ∷ []
 word_ways test No = at_way test No ∷ []
 word_ways test YesOrNo = at_way test Yes ∷ (at_way test No ∷ [])
 
+-- the ways of which a row of a drawing speaks, where it is a word
 abbrev pub row_ways : Row → List Exit
 row_ways (rows.Word x y test word anchor) = word_ways test word
 row_ways _ = []
 
+-- the ways of which the words of a drawing speak, in their order
 abbrev pub drawing_ways : List Part → List Exit
 drawing_ways parts = flat_map row_ways (drawing_rows parts)

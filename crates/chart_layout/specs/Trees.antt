@@ -46,6 +46,7 @@ abbrev pub row_tree : List Statement → Tree
 row_tree [] = stop
 row_tree (s ∷ ss) = step s.number (row_tree ss)
 
+-- what a figure shows, given what the parts of a test show
 abbrev pub figure_shows : Figure-F Tree (Tree → Tree) Tree Tree → Tree
 figure_shows (Note n) = stop
 figure_shows (Box row) = row_tree row.items
@@ -61,11 +62,14 @@ abbrev pub nested : List (Tree → Tree) → Tree → Tree
 nested [] otherwise = otherwise
 nested (arm ∷ arms) otherwise = nested arms (arm otherwise)
 
+-- what a test with its arms shows: each later arm stands on the way `no` of the one before
 abbrev pub choice_shows : Choice-F Tree (Tree → Tree) Tree Tree → Tree
 choice_shows c = c.first (nested c.later.items c.otherwise)
 
+-- what a body shows: its figures one above the other
 abbrev pub body_shows : Body-F Tree (Tree → Tree) Tree Tree → Tree
 body_shows b = stacked b.figures.items
 
+-- the tree that the figures of a body show
 abbrev pub shown : Body → Tree
 shown = fold-Body Tree (Tree → Tree) Tree Tree figure_shows arm_shows choice_shows body_shows
