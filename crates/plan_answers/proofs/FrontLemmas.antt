@@ -139,8 +139,9 @@ pub front_there : (o : Option (List ℕ)) (n : ℕ) (bytes : List ℕ) → Match
 front_there None n bytes h = absurd h
 front_there (Some content) n bytes h = (content, refl, h)
 
-pub fronts : (told told' : Option FileMap) (files : FileMap) (plan limits front front' : List ℕ) → told ≡ Some files → told' ≡ told → IsToldFront told plan 1048577 front → IsToldFront told' limits 262145 front' → AreFronts files plan limits front front'
-fronts told told' files plan limits front front' e same first second =
-    let p = front_there (files plan) 1048577 front (subst (λ t. IsToldFront t plan 1048577 front) e first) in
-    let l = front_there (files limits) 262145 front' (subst (λ t. IsToldFront t limits 262145 front') (same ∙ e) second) in
+-- what two calls read of files that tell this; what the files tell behind each call says what they told before it
+pub fronts : {first first' second second' : Option FileMap} (files : FileMap) (plan limits front front' : List ℕ) → first' ≡ first → IsToldFront first plan 1048577 front → first ≡ Some files → second' ≡ second → IsToldFront second limits 262145 front' → second ≡ Some files → AreFronts files plan limits front front'
+fronts files plan limits front front' same read told same' read' told' =
+    let p = front_there (files plan) 1048577 front (subst (λ t. IsToldFront t plan 1048577 front) told read) in
+    let l = front_there (files limits) 262145 front' (subst (λ t. IsToldFront t limits 262145 front') told' read') in
     record { plan_bytes = p.0; limits_bytes = l.0; plan_there = p.1; limits_there = l.1; plan_read = p.2; limits_read = l.2 }
