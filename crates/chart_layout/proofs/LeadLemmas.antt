@@ -1,7 +1,7 @@
 -- Where lines lead, of bodies one above another and of the arms of an IF.
 use Rattle.std.proofs.Common.{◌≡◌, ℕ, ◌+◌, ◌<◌, ◌≤◌, Bool, true, false, List, [], ◌∷◌, ◌++◌, map, drop, length, get_or, refl, sym, ap, subst, ◌∙◌, append_assoc, arith}
 use Rattle.std.specs.Prelude.{if◌then◌else◌, nat_lt}
-use Rattle.std.proofs.lemmas.Bool.{lt-ltb, ltb-false, le-ltb}
+use Rattle.std.proofs.lemmas.Bool.{lt-ltb, ltb-false}
 use Rattle.std.proofs.lemmas.List.{append-nil, drop_more, drop_all}
 use Rattle.chart_layout.specs.declared.statement.Statement.{Statement}
 use Rattle.chart_layout.specs.declared.drawing.Word.TheVariants.{Yes, No}
@@ -88,11 +88,6 @@ lines_next f xs i count x end now grown all old new here here' some is_count is 
     ∙ ap (λ l. lines here (stacked (map f l))) (sym (drop_more xs i x some)))
     ∙ so_far
 
--- a figure that no rail meets
-pub leaves_alone : (end : End) (rail here exits : List Exit) → here ≡ exits → Leaves end rail rail here exits
-leaves_alone Spine rail here exits is = (refl, is)
-leaves_alone Rail rail here exits is = ap (λ l. rail ++ l) is
-
 -- what leaves, behind one figure more: `more` says that others follow
 leaves_step : (more : Bool) (end : End) (before old new here here' all : List Exit) (t rest : Tree) → (more ≡ false → rest ≡ stop)
     → Leaves (if more then Spine else end) old new here' (leaving here t) → Leaves Spine before old (leaving here (above t rest)) all
@@ -126,33 +121,6 @@ leaves_next f xs i count x end before old new here here' all some is_count is on
     leaves_step (nat_lt (i + 1) count) end before old new here here' all (f x) rest (none_left f xs i count is_count) one
     (subst (λ l. Leaves Spine before old (leaving here (stacked (map f l))) all) first
     (subst (λ b. Leaves (if b then Spine else end) before old (leaving here (stacked (map f (drop i xs)))) all) under so_far))
-
--- before the first figure nothing has left
-pub leaves_first : (end : End) (i count : ℕ) (rail exits all : List Exit) → exits ≡ all → Leaves (end_behind i count end) rail rail exits all
-leaves_first end i count rail exits all is = leaves_alone (end_behind i count end) rail exits all is
-
--- behind the last figure
-pub leaves_last : {A : Type 0} (f : A → Tree) (xs : List A) (i count : ℕ) (end : End) (before rail here all : List Exit) → length xs ≤ i
-    → count ≡ length xs → Leaves (end_behind i count end) before rail (leaving here (stacked (map f (drop i xs)))) all
-    → Leaves end before rail here all
-leaves_last f xs i count end before rail here all done is_count so_far =
-    let past : nat_lt i count ≡ false = le-ltb i count (omega (arith, done, is_count)) in
-    subst (λ l. Leaves end before rail (leaving here (stacked (map f l))) all) (drop_all i xs done)
-    (subst (λ b. Leaves (if b then Spine else end) before rail (leaving here (stacked (map f (drop i xs)))) all) past so_far)
-
--- ---- the ways of a test
-
-pub lines_then : (exits : List Exit) (n : ℕ) (t : Tree) → lines exits (fork n t stop stop) ≡ leads exits (Into n) ++ lines (at_way n Yes ∷ []) t
-lines_then exits n t = ap (λ l. leads exits (Into n) ++ l) (append-nil (lines (at_way n Yes ∷ []) t))
-
-pub lines_else : (exits : List Exit) (n : ℕ) (t : Tree) → lines exits (fork n stop t stop) ≡ leads exits (Into n) ++ lines (at_way n No ∷ []) t
-lines_else exits n t = ap (λ l. leads exits (Into n) ++ l) (append-nil (lines (at_way n No ∷ []) t))
-
-pub ways_then : (n : ℕ) (t : Tree) → ways_of (fork n t stop stop) ≡ at_way n Yes ∷ (at_way n No ∷ ways_of t)
-ways_then n t = ap (λ l. at_way n Yes ∷ (at_way n No ∷ l)) (append-nil (ways_of t))
-
-pub ways_else : (n : ℕ) (t : Tree) → ways_of (fork n stop t stop) ≡ at_way n Yes ∷ (at_way n No ∷ ways_of t)
-ways_else n t = ap (λ l. at_way n Yes ∷ (at_way n No ∷ l)) (append-nil (ways_of t))
 
 -- ---- an arm, with what stands on its way `no`
 
@@ -228,18 +196,6 @@ row_lines_all row i now all here done so_far =
 
 pub row_leaving_all : (row : List Statement) (i : ℕ) (here all : List Exit) → length row ≤ i → leaving here (row_tree (drop i row)) ≡ all → here ≡ all
 row_leaving_all row i here all done so_far = ap (λ l. leaving here (row_tree l)) (sym (drop_all i row done)) ∙ so_far
-
--- ---- behind the last figure
-
-pub lines_all : {A : Type 0} (f : A → Tree) (xs : List A) (i : ℕ) (now all : List Lead) (here : List Exit) → length xs ≤ i
-    → now ++ lines here (stacked (map f (drop i xs))) ≡ all → now ≡ all
-lines_all f xs i now all here done so_far =
-    sym (append-nil now) ∙ ap (λ l. now ++ lines here (stacked (map f l))) (sym (drop_all i xs done)) ∙ so_far
-
-pub ways_all : {A : Type 0} (f : A → Tree) (xs : List A) (i : ℕ) (now all : List Exit) → length xs ≤ i
-    → now ++ ways_of (stacked (map f (drop i xs))) ≡ all → now ≡ all
-ways_all f xs i now all done so_far =
-    sym (append-nil now) ∙ ap (λ l. now ++ ways_of (stacked (map f l))) (sym (drop_all i xs done)) ∙ so_far
 
 pub statements_next : {A : Type 0} (f : A → List Drawn) (xs : List A) (i : ℕ) (x : A) (now new all : List Drawn) → i < length xs → x ≡ get_or xs i x
     → new ≡ now ++ f x → now ++ joined (map f (drop i xs)) ≡ all → new ++ joined (map f (drop (i + 1) xs)) ≡ all

@@ -14,7 +14,7 @@ use Rattle.chart_layout.specs.declared.figure.Figure.TheVariants as variants
 use Rattle.chart_layout.specs.declared.figure.Figure.TheVariants.{rolls-Note, rolls-Choice, rolls-Box, rolls-Call}
 use Rattle.chart_layout.specs.declared.figure.Figure.TheOpen as layers
 use Rattle.chart_layout.specs.declared.figure.Figure.TheFolds.{fold-roll-Figure}
-use Rattle.chart_layout.specs.declared.figure.Body.{Body, out-Body, fold_out-Body}
+use Rattle.chart_layout.specs.declared.figure.Body.{Body}
 use Rattle.chart_layout.specs.declared.choice.Arm.{Arm, out-Arm, fold_out-Arm, Arm-F, roll-Arm, fold-roll-Arm}
 use Rattle.chart_layout.specs.declared.choice.Choice.{Choice, out-Choice, fold_out-Choice, Choice-F, roll-Choice, fold-roll-Choice}
 use Rattle.chart_layout.specs.Statements.{statements_of, next_number, number_behind}
@@ -36,9 +36,6 @@ above_assoc (step n t) u v = ap (step n) (above_assoc t u v)
 above_assoc (fork n a b t) u v = ap (fork n a b) (above_assoc t u v)
 
 -- ---- what figures show, by their parts
-
-pub body_tree_is : (b : Body) → shown b ≡ figures_tree (out-Body b).figures.items
-body_tree_is = fold_out-Body Tree (Tree → Tree) Tree Tree figure_shows arm_shows choice_shows body_shows
 
 pub arm_tree_is : (a : Arm) (otherwise : Tree) → arm_tree a otherwise ≡ fork (out-Arm a).test.number (shown (out-Arm a).then) otherwise stop
 arm_tree_is a otherwise = ap (λ f. f otherwise) (fold_out-Arm Tree (Tree → Tree) Tree Tree figure_shows arm_shows choice_shows body_shows a)
