@@ -82,7 +82,7 @@ owed_answers rows now = let some = says_some rows now in
 
 -- ---- a month is filed, or why it isn't
 
-filings_same : (x y : Filings) → x.entries ≡ y.entries → x.last ≡ y.last → x ≡ y
+pub filings_same : (x y : Filings) → x.entries ≡ y.entries → x.last ≡ y.last → x ≡ y
 filings_same x y e l i = record { entries = e i; last = l i }
 
 module _ (rows : List KeyedRow) (month : Month) (old : Filings) where

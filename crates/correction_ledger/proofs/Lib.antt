@@ -9,4 +9,5 @@ mod AccountLemmas
 mod ReportedLemmas
 mod RisingLemmas
 mod SomeLemmas
+mod PartLemmas
 pub mod Laws

@@ -3,6 +3,7 @@ pub mod Months
 pub mod Accounts
 pub mod Owed
 pub mod Filings
+pub mod Parts
 pub mod OwedLaws
 pub mod Open
 pub mod FilingSums

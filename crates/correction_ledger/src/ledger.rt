@@ -6,6 +6,7 @@ ghost use Rattle.correction_ledger.specs.Filings.{IsClosed, IsFiling, IsFileRefu
 ghost use Rattle.correction_ledger.specs.Filings.{IsOwedNow, IsOwedRefused};
 ghost use Rattle.correction_ledger.specs.OwedLaws.{FilingSettles, OwedIsOne, OwedSettles};
 ghost use Rattle.correction_ledger.specs.OwedLaws.{FilingsHaveOneAnswer, OwedHasOneAnswer};
+ghost use Rattle.correction_ledger.specs.OwedLaws.{DuesAreJoined, FilingsAreJoined};
 
 use crate::balances::Balances;
 use crate::due::{Due, Entry};
@@ -178,11 +179,14 @@ fn admit(book: &Book, month: Month, last: Option<Month>) -> Result<(), FileRefus
 }
 
 /// The laws of what is owed: it is one list; with it filed, what was filed is what the book reports; so right after a
-/// filing nothing is owed. Filing a month has one answer, and so has the question what is owed.
+/// filing nothing is owed. Filing a month has one answer, and so has the question what is owed. Where a payroll is split by
+/// employee, what is owed is what is owed in its parts, one after the other, and so is what is filed.
 pub fn owed_laws()
     ensures one { OwedIsOne }
     ensures settles { OwedSettles }
     ensures nothing { FilingSettles }
     ensures filing { FilingsHaveOneAnswer }
     ensures owed { OwedHasOneAnswer }
+    ensures joined { DuesAreJoined }
+    ensures filings_joined { FilingsAreJoined }
 {}

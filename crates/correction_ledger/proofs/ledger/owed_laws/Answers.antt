@@ -1,5 +1,6 @@
 use Rattle.correction_ledger.proofs.AnswerLemmas.{filing_answers, owed_answers}
 use Rattle.correction_ledger.proofs.OwedLemmas.{filing_settles, owed_settles}
+use Rattle.correction_ledger.proofs.PartLemmas.{dues_joined, filings_joined}
 use Rattle.correction_ledger.proofs.SomeLemmas.{owed_one}
 use Rattle.correction_ledger.proofs.ledger.owed_laws.Goals as goal
 
@@ -17,3 +18,9 @@ returns-clause-filing c = filing_answers
 
 pub returns-clause-owed : goal.returns-clause-owed
 returns-clause-owed c = owed_answers
+
+pub returns-clause-joined : goal.returns-clause-joined
+returns-clause-joined c = dues_joined
+
+pub returns-clause-filings_joined : goal.returns-clause-filings_joined
+returns-clause-filings_joined c = filings_joined
