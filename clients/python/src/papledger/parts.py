@@ -13,7 +13,7 @@ from bisect import bisect_right
 from concurrent.futures import ThreadPoolExecutor
 from contextlib import ExitStack, contextmanager
 from types import TracebackType
-from typing import Callable, Iterable, Iterator, Mapping, Optional, Sequence, TypeVar
+from typing import Callable, Iterable, Iterator, Mapping, Optional, Sequence, TypeVar, Union
 
 from . import disk, views
 from .answers import Filing, Work, work_of
@@ -218,22 +218,20 @@ class Parts:
 
     def _sent(self, words: Sequence[str]) -> list[bytes]:
         """The answers of all parts. Where a month can't be filed the runs of all parts that stand in the way are named."""
-        faults: list[Refused] = []
-
-        def sent(year: Year) -> bytes:
+        def sent(year: Year) -> Union[bytes, Refused]:
             try:
                 return year.ask_words(words)
             except Refused as refused:
-                faults.append(refused)
-                return b""
+                return refused
 
         answers = self._each(sent)
+        faults = [answer for answer in answers if isinstance(answer, Refused)]
         waiting = [run for fault in faults if isinstance(fault, NotReady) for run in fault.waiting]
         if waiting:
-            raise NotReady(faults[0], sorted(waiting))
+            raise NotReady(faults[0], waiting)
         if faults:
             raise faults[0]
-        return answers
+        return [answer for answer in answers if isinstance(answer, bytes)]
 
     def _load(self, table: str) -> bytes:
         """Splits a table by employee, and loads each piece into its part."""
