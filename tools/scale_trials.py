@@ -216,7 +216,7 @@ def refused_splits():
             ("a script that asks", ["--plans", "more.script"], "more.script:2: only lines `plan DAY PLAN LIMITS`"),
             ("a program that isn't there", ["--plans", "plans.script", "--program", "./none"], "the program isn't there"),
             ("50,001 runs a part", ["--plans", "plans.script", "--rows", "50001"], "50001 isn't a number of runs from 1 to 50000"),
-            ("a table that isn't there", ["--plans", "plans.script"], "No such file or directory: 'none.csv'")]:
+            ("a table that isn't there", ["--plans", "plans.script"], "none.csv: No such file or directory")]:
         table = "none.csv" if "table" in name else "table.csv"
         status, _, why = tool("split", table, "folder", "--program", program, *words)
         count(f"{name} is refused", status == 1 and said in why and not any(at.startswith("folder") for at in os.listdir(".")))
@@ -240,45 +240,45 @@ def changed_result(change):
     put(name, change(bytes_of(name)))
 
 
-def other_flowchart(_):
+def other_flowchart():
     files = json.loads(bytes_of("folder/part-0003.json"))["files"]
     changed_manifest(3, files={**files, "plans/0001.xml": "0" * 64})
 
 
-def other_table(_):
+def other_table():
     put("folder/part-0003.csv", bytes_of("folder/part-0003.csv").replace(b",2,", b",1,", 1))
     run_here(3)
 
 
-def moved_employee(_):
+def moved_employee():
     put("folder/part-0003.edits", "add A 2026-01 2026-01-28 PERIOD=2 PAY=1 TAX_CLASS=1\n")
     run_here(3)
 
 
 REFUSED_JOINS = [
-    ("a manifest that isn't there", lambda _: os.remove("folder/part-0003.json"), "part-0003 is missing: it has no manifest"),
-    ("a part twice", lambda _: shutil.copy("folder/part-0003.json", "folder/part-0003-b.json"), "part-0003 is there twice: part-0003-b.json, part-0003.json"),
-    ("a manifest under another name", lambda _: os.rename("folder/part-0003.json", "folder/part-0009.json"), "part-0009.json says that it is part-0003 of 4"),
-    ("a manifest that is none", lambda _: put("folder/part-0003.json", "{"), "part-0003.json isn't the manifest of a part"),
-    ("a manifest with another field", lambda _: changed_manifest(3, more=1), "part-0003.json isn't the manifest of a part"),
-    ("a manifest of another form", lambda _: changed_manifest(3, rows="many"), "part-0003.json isn't a manifest of format 1: see rows"),
-    ("a manifest of another format", lambda _: changed_manifest(3, format=2), "part-0003.json isn't a manifest of format 1: see format"),
-    ("another split's part", lambda _: changed_manifest(3, split="0" * 64), "part-0003 is of another split of a table"),
+    ("a manifest that isn't there", lambda: os.remove("folder/part-0003.json"), "part-0003 is missing: it has no manifest"),
+    ("a part twice", lambda: shutil.copy("folder/part-0003.json", "folder/part-0003-b.json"), "part-0003 is there twice: part-0003-b.json, part-0003.json"),
+    ("a manifest under another name", lambda: os.rename("folder/part-0003.json", "folder/part-0009.json"), "part-0009.json says that it is part-0003 of 4"),
+    ("a manifest that is none", lambda: put("folder/part-0003.json", "{"), "part-0003.json isn't the manifest of a part"),
+    ("a manifest with another field", lambda: changed_manifest(3, more=1), "part-0003.json isn't the manifest of a part"),
+    ("a manifest of another form", lambda: changed_manifest(3, rows="many"), "part-0003.json isn't a manifest of format 1: see rows"),
+    ("a manifest of another format", lambda: changed_manifest(3, format=2), "part-0003.json isn't a manifest of format 1: see format"),
+    ("another split's part", lambda: changed_manifest(3, split="0" * 64), "part-0003 is of another split of a table"),
     ("another flowchart's part", other_flowchart, "part-0003 has other flowcharts or range files"),
-    ("another program's part", lambda _: changed_manifest(3, program="papcalc 0.0.9"), "part-0003 has another version of the program"),
-    ("an employee in two manifests", lambda _: changed_manifest(3, first=json.loads(bytes_of("folder/part-0002.json"))["last"]),
+    ("another program's part", lambda: changed_manifest(3, program="papcalc 0.0.9"), "part-0003 has another version of the program"),
+    ("an employee in two manifests", lambda: changed_manifest(3, first=json.loads(bytes_of("folder/part-0002.json"))["last"]),
      "part-0002 and part-0003 may both have runs of"),
     ("an employee in two results", moved_employee, "part-0002 and part-0003 may both have runs of A"),
-    ("a part that wasn't run", lambda _: os.remove("folder/part-0003.report"), "part-0003 has no result of `report`"),
-    ("a result that breaks off", lambda _: changed_result(lambda text: text[:-9]), "part-0003: part-0003.report has no whole report"),
-    ("a result without a report", lambda _: changed_result(lambda text: text[:text.index(b"employee")]), "part-0003: part-0003.report has no report"),
-    ("a result with a refusal", lambda _: changed_result(lambda text: text.replace(b"\nok\n", b"\nrefused table Header\n")),
+    ("a part that wasn't run", lambda: os.remove("folder/part-0003.report"), "part-0003 has no result of `report`"),
+    ("a result that breaks off", lambda: changed_result(lambda text: text[:-9]), "part-0003: part-0003.report has no whole report"),
+    ("a result without a report", lambda: changed_result(lambda text: text[:text.index(b"employee")]), "part-0003: part-0003.report has no report"),
+    ("a result with a refusal", lambda: changed_result(lambda text: text.replace(b"\nok\n", b"\nrefused table Header\n")),
      "part-0003: part-0003.report has a refused line: refused table Header"),
-    ("a result with two reports", lambda _: changed_result(lambda text: text + text[text.index(b"employee"):]), "part-0003: part-0003.report has a second report"),
-    ("a result of another part", lambda _: shutil.copy("folder/part-0002.report", "folder/part-0003.report"),
+    ("a result with two reports", lambda: changed_result(lambda text: text + text[text.index(b"employee"):]), "part-0003: part-0003.report has a second report"),
+    ("a result of another part", lambda: shutil.copy("folder/part-0002.report", "folder/part-0003.report"),
      "part-0003 was run with another part-0002.csv, part-0003.csv than is here"),
-    ("a result of another program", lambda _: changed_result(lambda text: text.replace(b"# papcalc 0.", b"# papcalc 7.")), "part-0003 was run as papcalc 7."),
-    ("a result of another question", lambda _: changed_result(lambda text: text.replace(b"# report\n", b"# owed\n")), "part-0003 was run as owed, papcalc"),
+    ("a result of another program", lambda: changed_result(lambda text: text.replace(b"# papcalc 0.", b"# papcalc 7.")), "part-0003 was run as papcalc 7."),
+    ("a result of another question", lambda: changed_result(lambda text: text.replace(b"# report\n", b"# owed\n")), "part-0003 was run as owed, papcalc"),
     ("a table that changed", other_table, "part-0003 was run with another part-0003.csv than is here"),
 ]
 
@@ -292,7 +292,7 @@ def refused_joins():
     for name, change, said in REFUSED_JOINS:
         shutil.rmtree("folder")
         shutil.copytree("whole", "folder")
-        change(None)
+        change()
         made, why = joined()
         count(f"{name} is refused", made is None and said in why)
     count("a folder without parts is refused", "has no parts" in tool("join", "whole/plans", "out")[2])
@@ -313,9 +313,9 @@ def run_by_dask(python):
     folder = os.path.abspath("folder")
     with trial_clusters.Dask(os.path.abspath("dask"), 1, python) as dask:
         split_small()
-        count("Dask runs all parts in a shared folder", dask.payroll(program, folder).wait(60) == 0)
+        count("Dask runs all parts in a shared folder", dask.payroll(program, folder).wait(trial_clusters.MOST_SECONDS) == 0)
         count("the report by Dask is that of one book", joined()[0] == report_of(one_book("report")))
-        count("Dask files all parts that it is sent", dask.payroll(program, "--send", folder, "file", "2026-01").wait(60) == 0)
+        count("Dask files all parts that it is sent", dask.payroll(program, "--send", folder, "file", "2026-01").wait(trial_clusters.MOST_SECONDS) == 0)
         count("the filing by Dask is that of one book", joined("--filing", "2026-01")[0] == last_filing(one_book("file 2026-01")))
 
 

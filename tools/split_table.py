@@ -51,7 +51,8 @@ def split(words):
         os.rename(made, words.folder)
     finally:
         shutil.rmtree(made, ignore_errors=True)
-    print(f"{len(made_parts)} parts, {sum(part.rows for part in made_parts)} runs: {made_parts[0].name} to {made_parts[-1].name}")
+    runs, number = sum(part.rows for part in made_parts), len(made_parts)
+    print(f"{number} part{'s' * (number > 1)}, {runs} runs: {made_parts[0].name} to {made_parts[-1].name}")
 
 
 def part(words):
@@ -75,7 +76,7 @@ def main(arguments):
     except PartsFault as fault:
         sys.exit("\n".join(f"split_table: {line}" for line in str(fault).splitlines()))
     except OSError as fault:
-        sys.exit(f"split_table: {fault}")
+        sys.exit(f"split_table: {fault.filename2 or fault.filename or words.folder}: {fault.strerror}")
 
 
 if __name__ == "__main__":

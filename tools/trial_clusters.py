@@ -4,6 +4,7 @@ is allowed, so that killing it kills its tasks as a machine that fails does."""
 import getpass
 import os
 import shutil
+import signal
 import socket
 import subprocess
 import sys
@@ -11,7 +12,7 @@ import time
 
 SLURM_PROGRAMS = ["munged", "slurmctld", "slurmd", "sbatch", "squeue", "scontrol"]
 NAMESPACE = ["unshare", "--pid", "--fork", "--kill-child", "--mount-proc"]
-MOST_SECONDS = 60
+MOST_SECONDS = 300
 CONFIG = """ClusterName=trial
 SlurmctldHost=localhost(127.0.0.1)
 SlurmctldPort={port}
@@ -90,7 +91,16 @@ class Daemons:
         process.kill()
         process.wait()
 
+    def begin(self):
+        """Starts the processes that a cluster begins with."""
+
     def __enter__(self):
+        signal.signal(signal.SIGTERM, lambda *_: sys.exit("stopped by a signal"))
+        try:
+            self.begin()
+        except BaseException:
+            self.__exit__()
+            raise
         return self
 
     def __exit__(self, *_):
@@ -105,13 +115,15 @@ class Slurm(Daemons):
         super().__init__(folder)
         self.nodes = [f"n{number}" for number in range(1, nodes + 1)]
         self.env = {**os.environ, "PATH": sbin_path(), "SLURM_CONF": f"{folder}/slurm.conf", "PAPCALC": program}
-        controller, *ports = free_ports(nodes + 1)
+
+    def begin(self):
+        controller, *ports = free_ports(len(self.nodes) + 1)
         self.write_config(controller, ports)
         self.start_munge()
         self.start("slurmctld", ["slurmctld", "-D"], self.env)
         for node in self.nodes:
             self.start_node(node)
-        wait_until(lambda: self.states().count("idle") == nodes, "the nodes are up")
+        wait_until(lambda: self.states().count("idle") == len(self.nodes), "the nodes are up")
 
     def write_config(self, controller, ports):
         for name in ["state", *self.nodes]:
@@ -169,13 +181,17 @@ class Dask(Daemons):
 
     def __init__(self, folder, workers, python):
         super().__init__(folder)
-        self.python = python
-        port, = free_ports(1)
-        self.address = f"tcp://127.0.0.1:{port}"
-        self.start("scheduler", [python, "-m", "distributed.cli.dask_scheduler", "--host", "127.0.0.1", "--port", str(port), "--no-dashboard"])
-        for number in range(1, workers + 1):
-            self.start(f"worker-{number}", [python, "-m", "distributed.cli.dask_worker", self.address, "--host", "127.0.0.1", "--nthreads", "1",
-                                            "--no-dashboard", "--no-nanny", "--local-directory", f"{folder}/worker-{number}"])
+        self.python, self.workers = python, workers
+        self.port, = free_ports(1)
+        self.address = f"tcp://127.0.0.1:{self.port}"
+
+    def begin(self):
+        scheduler = ["distributed.cli.dask_scheduler", "--host", "127.0.0.1", "--port", str(self.port), "--no-dashboard"]
+        self.start("scheduler", [self.python, "-m", *scheduler])
+        for name in [f"worker-{number}" for number in range(1, self.workers + 1)]:
+            worker = ["distributed.cli.dask_worker", self.address, "--host", "127.0.0.1", "--nthreads", "1", "--no-dashboard", "--no-nanny",
+                      "--local-directory", f"{self.folder}/{name}"]
+            self.start(name, [self.python, "-m", *worker])
 
     def payroll(self, program, *words):
         script = os.path.join(os.path.dirname(os.path.abspath(__file__)), "cluster", "dask_payroll.py")
