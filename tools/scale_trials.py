@@ -277,7 +277,7 @@ REFUSED_JOINS = [
     ("a result with two reports", lambda: changed_result(lambda text: text + text[text.index(b"employee"):]), "part-0003: part-0003.report has a second report"),
     ("a result of another part", lambda: shutil.copy("folder/part-0002.report", "folder/part-0003.report"),
      "part-0003 was run with another part-0002.csv, part-0003.csv than is here"),
-    ("a result of another program", lambda: changed_result(lambda text: text.replace(b"# papcalc 0.", b"# papcalc 7.")), "part-0003 was run as papcalc 7."),
+    ("a result of another program", lambda: changed_result(lambda text: text.replace(b"# papcalc ", b"# papcalc 0.0.9 not ")), "part-0003 was run as papcalc 0.0.9"),
     ("a result of another question", lambda: changed_result(lambda text: text.replace(b"# report\n", b"# owed\n")), "part-0003 was run as owed, papcalc"),
     ("a table that changed", other_table, "part-0003 was run with another part-0003.csv than is here"),
 ]
