@@ -28,9 +28,11 @@ class _Session:
         self.chain = Chain()
         self.filings: list[Filing] = []
         self.book: Optional[Book] = None
-        # How many lines of the journal are answered; then those that were accepted and aren't in it yet, with their records.
+        # How many lines of the journal are answered; then those that were accepted and aren't in it yet, with their records, and how many
+        # bytes they have.
         self.count = 0
         self.lines: list[bytes] = []
+        self.waiting = 0
         self.records: list[bytes] = []
 
     def note(self, line: bytes, answer: bytes) -> bytes:
@@ -170,6 +172,7 @@ class Store:
             if is_kept:
                 session.records.append(session.note(line, answer))
                 session.lines.append(line)
+                session.waiting += len(line)
                 if session.book is not None:
                     session.book.apply(line)
                 if self._batch is None:
@@ -203,7 +206,7 @@ class Store:
         if self._batch is not None and self._batch is not self._session:
             raise LedgerError("the batch was broken off by an error before: none of its lines is kept")
         session = self._opened()
-        size = self._journal.size + sum(map(len, session.lines))
+        size = self._journal.size + session.waiting
         if is_kept and size + len(line) > LONGEST_SCRIPT:
             raise NotSaved(f"the journal would have more than {LONGEST_SCRIPT:,} bytes, which papcalc doesn't read: begin another year, "
                            "or split it by employee")
@@ -227,7 +230,7 @@ class Store:
             self._journal.append(together(session.lines))
             self._journal.record(session.count, b"".join(session.records))
             session.count += len(session.lines)
-            session.lines, session.records = [], []
+            session.lines, session.records, session.waiting = [], [], 0
 
     @contextmanager
     def batch(self) -> Iterator[None]:
