@@ -29,7 +29,7 @@ FOLDERS = ("must-fail", "wrong-bodies", "harmless")
 KEPT = "build/wrong-bodies"
 GIGABYTES_A_LANE = 3
 
-CONTRACT = re.compile(r"returns\b|returns-|.*-requires\b|.*-(?:init|preserved|smaller)\b|invariant_of-|(?:overflow|bounds|slice_bounds|nonzero|offset_bounds)_?\w*-")
+CONTRACT = re.compile(r"(?:.*-)?returns\b|.*-requires\b|.*-(?:init|preserved|smaller)\b|invariant_of-|(?:overflow|bounds|slice_bounds|nonzero|offset_bounds)_?\w*-")
 GONE = re.compile(r"has no field|is not in scope|has no `|was not admitted|was rejected|is no name|no longer has a goal|there is no goal|names no goal")
 OPEN = re.compile(r"`search` did not prove ((?:`[^`]+`(?:, | and )?)+)")
 ANSWER = re.compile(r"(?:\./)?(proofs/\S+?\.antt):(\d+):\d+: error: (?:`([^`]+)`: )?(.*)")
