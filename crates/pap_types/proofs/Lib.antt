@@ -1,4 +1,3 @@
-pub mod NameLemmas
 pub mod ScopeLemmas
 pub mod CheckLemmas
 pub mod DeclarationLemmas

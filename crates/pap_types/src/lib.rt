@@ -8,6 +8,7 @@ mod kinds;
 mod limits;
 mod literals;
 mod meaning;
+mod name_hashes;
 mod nodes;
 mod scope;
 mod sizes;

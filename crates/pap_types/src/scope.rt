@@ -13,6 +13,7 @@ ghost use Rattle.pap_types.specs.private.DeclarationViews.{AreDeclared};
 use crate::TypeFault;
 use crate::declarations::{declare, name_methods};
 use crate::declared_names::DeclaredNames;
+use crate::name_hashes::NameHashes;
 use pap_tree::{Declared, Expr, Literal, Name, PlanText};
 use scaled_decimal::Dec;
 use std::alloc::Global;
@@ -32,12 +33,13 @@ impl Names {
     pub fn of_plan(alloc: Global, plan: &PlanText) -> Result<Names, TypeFault>
         ensures { IsNamed plan.now result }
     {
+        let hashes = NameHashes::of_plan(plan);
         let mut names = Names {
-            variables: DeclaredNames::new(alloc),
-            constants: DeclaredNames::new(alloc),
-            methods: DeclaredNames::new(alloc),
+            variables: DeclaredNames::new(alloc, hashes),
+            constants: DeclaredNames::new(alloc, hashes),
+            methods: DeclaredNames::new(alloc, hashes),
         };
-        let none = DeclaredNames::new(alloc);
+        let none = DeclaredNames::new(alloc, hashes);
         names.fill(&none, plan)?;
         Ok(names)
     }
