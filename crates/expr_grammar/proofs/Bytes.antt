@@ -6,7 +6,7 @@ use Rattle.pap_tree.specs.Texts.{Text}
 use Rattle.pap_tree.specs.Stopping.{Cause, IsRead, IsRefusedAt}
 use Rattle.pap_tree.specs.Expressions.{IsText, IsAccepted, IsWrong}
 use Rattle.expr_grammar.specs.Lines.{IsWhole}
-use Rattle.expr_grammar.specs.GrammarLaws.{IsTaken}
+use Rattle.expr_grammar.specs.GrammarLaws.{IsTakenAs}
 use Rattle.expr_grammar.proofs.Decided.{one_meaning, text_or_refusal, one_refusal, one_of_two}
 
 -- a text has one list of tokens at most, and one at least
@@ -31,7 +31,7 @@ one_wrong one l w bytes c d m n h k =
     let e = one bytes h.spots k.spots h.tokens k.tokens in
     one_refusal l k.spots (length bytes) c d m n (subst (λ ts. IsRefusedAt l ts (length bytes) c m) e h.refused) k.refused
 
-said : (l : Line) (bytes : List ℕ) (ts : List Spot) → Tokens 0 bytes ts → ((x : Meaning) × IsTaken l ts x) ⊎ ((c : Cause) × (at : ℕ) × IsRefusedAt l ts (length bytes) c at)
+said : (l : Line) (bytes : List ℕ) (ts : List Spot) → Tokens 0 bytes ts → ((x : Meaning) × IsTakenAs l ts x) ⊎ ((c : Cause) × (at : ℕ) × IsRefusedAt l ts (length bytes) c at)
     → ((x : Meaning) × IsAccepted l bytes x) ⊎ ((c : Cause) × (at : ℕ) × IsWrong l bytes c at)
 said l bytes ts t (inl h) = inl (h.0, record { spots = ts; tokens = t; text = h.1.0; read = h.1.1 })
 said l bytes ts t (inr h) = inr (h.0, h.1, record { spots = ts; tokens = t; refused = h.2 })

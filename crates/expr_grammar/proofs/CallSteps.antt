@@ -22,7 +22,7 @@ use Rattle.pap_tree.specs.Texts.{Text}
 use Rattle.pap_tree.specs.Fronts as fronts
 use Rattle.pap_tree.specs.Fronts.{Front}
 use Rattle.expr_grammar.specs.Machine as machine
-use Rattle.expr_grammar.specs.Machine.{Frame, InCall, InValue, Assigning, Rounded, setting, Job, valuing, declaring, Holder, the_decimal, the_mode, holder_word, holder_of, held_word, mode_of, Method, applied, opposite, magnitude, rescaled, method_word, method_of, Constancy, constant, of_number, constancy_word, constancy_of, State, Want, Have, Due, Member, Static, ScaleDue, Parting, Moding, Moded, Naming, level, called, scaled, held, moded, rounded, same_token, step}
+use Rattle.expr_grammar.specs.Machine.{Frame, InCall, InValue, Assigning, Rounded, setting, Job, valuing, declaring, Holder, the_decimal, the_mode, holder_word, holder_of, held_word, mode_of, Method, applied, opposite, magnitude, rescaled, method_word, method_of, Constancy, constant, of_number, constancy_word, constancy_of, State, Want, Have, Due, Member, Static, ScaleDue, Parting, Moding, Moded, Naming, level, called, scaled, class_held, moded, rounded, same_token, step}
 use Rattle.expr_grammar.proofs.Words.{picked, mapped, if_some, token_is}
 use Rattle.expr_grammar.proofs.Pending.{Pending, Plugs, pass_is, pass_opens, pass_scale, pass_part, finished, front_here, front_inside, further}
 use Rattle.expr_grammar.proofs.Levels.{some_term}
@@ -137,7 +137,7 @@ holder_front : (h : Holder) → Front Rounding (Word (holder_word h) ∷ []) 0 (
 holder_front the_decimal = fronts.by _ (grammar.old_mode modes.Up) (fronts.is fronts.here)
 holder_front the_mode = fronts.by _ (grammar.new_mode modes.Up) (fronts.is fronts.here)
 
-held_read : (line : Line) (q : Rounded) (s : ℕ) (k : List Frame) (h : Holder) (a : List Token) → Spelled line (Moding q s k) a → Spelled line (held q s k h) (a ++ (Word (holder_word h) ∷ []))
+held_read : (line : Line) (q : Rounded) (s : ℕ) (k : List Frame) (h : Holder) (a : List Token) → Spelled line (Moding q s k) a → Spelled line (class_held q s k h) (a ++ (Word (holder_word h) ∷ []))
 held_read line q s k h a p = (
   at_level line _ ((1 + 0) + level k) (suc (level k)) _ (omega arith)
       (front_inside (λ p. Stack line k p) k (Level 8) line (level k) free Rounding (mode modes.Up) _ 1 _ a (Word (holder_word h) ∷ []) 0 _ (plug_call line k) refl (holder_front h) (p modes.Up)),
@@ -148,7 +148,7 @@ held_read line q s k h a p = (
 pub mode_steps : (line : Line) (q : Rounded) (s : ℕ) (k : List Frame) (t : Token) (r : State) (a : List Token) → Spelled line (Moding q s k) a → step (Moding q s k) t ≡ Some r
     → Spelled line r (a ++ (t ∷ []))
 mode_steps line q s k (Word w) r a h e =
-    let (c, f, g) = mapped (held q s k) (holder_of w) r e in
+    let (c, f, g) = mapped (class_held q s k) (holder_of w) r e in
     subst (λ w. Spelled line r (a ++ (Word w ∷ []))) (sym (picked holder_word w (the_decimal ∷ the_mode ∷ []) c f))
     (subst (λ r. Spelled line r (a ++ (Word (holder_word c) ∷ []))) g (held_read line q s k c a h))
 mode_steps line q s k t r a h e = absurd cc

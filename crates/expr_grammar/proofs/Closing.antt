@@ -7,7 +7,7 @@ use Rattle.pap_tree.specs.declared.expression.Binary.TheVariants as binaries
 use Rattle.pap_tree.specs.Term.{Term}
 use Rattle.pap_tree.specs.Words.{level_of_operator}
 use Rattle.pap_tree.specs.Tokens.{Token}
-use Rattle.expr_grammar.specs.Machine.{Frame, InBrackets, InCall, InItem, InValue, InNew, Negating, Denying, Left, Chosen, Otherwise, Assigning, Have, binds, made, closes, close, tightness, joined, step, finish, whole_line}
+use Rattle.expr_grammar.specs.Machine.{Frame, InBrackets, InCall, InItem, InValue, InNew, Negating, Denying, Left, Chosen, Otherwise, Assigning, Have, binds, made, closes, close, tightness, behind_operand, step, finish, whole_line}
 use Rattle.expr_grammar.proofs.Holes.{hole}
 
 pub operator_low : (o : Binary) → 1 ≤ level_of_operator o
@@ -48,7 +48,7 @@ pub taking : (f : Frame) (m : ℕ) (x : Term) (k : List Frame) (t : Token) → b
     → step (Have x (f ∷ k)) t ≡ step (Have (made f x) k) t
 taking f m x k t e h =
     let c : closes (tightness t) (binds f) ≡ true = ap (closes (tightness t)) e ∙ h in
-    ap (λ c. joined t (cond c (close (tightness t) (made f x) k) (x, f ∷ k))) c
+    ap (λ c. behind_operand t (cond c (close (tightness t) (made f x) k) (x, f ∷ k))) c
 
 -- and at the end of the line
 pub taking_last : (f : Frame) (m : ℕ) (x : Term) (k : List Frame) → binds f ≡ Some m → finish (Have x (f ∷ k)) ≡ finish (Have (made f x) k)

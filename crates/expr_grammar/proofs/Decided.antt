@@ -10,7 +10,7 @@ use Rattle.pap_tree.specs.Stopping.{IsRead, HasCause, StopsBefore, IsRefusedAt, 
 use Rattle.expr_grammar.specs.Lines.{IsWhole}
 use Rattle.expr_grammar.specs.Machine.{start}
 use Rattle.expr_grammar.specs.Run.{Refusal, refusal, run, never, cut_answer, answer}
-use Rattle.expr_grammar.specs.GrammarLaws.{IsTaken}
+use Rattle.expr_grammar.specs.GrammarLaws.{IsTakenAs}
 use Rattle.expr_grammar.proofs.Reading.{text_ends, text_runs}
 use Rattle.expr_grammar.proofs.Exact.{plain_append, length_plain, Halts, Answers, stopped_deep, runs}
 
@@ -214,9 +214,9 @@ answer_err line w end ts f e = err_says line end ts f (answer line end ts) e (an
 pub err_answer : (line : Line) → IsWhole line → (end : ℕ) (ts : List Spot) (f : Refusal) → IsRefusedAt line ts end f.cause f.at → answer line end ts ≡ Err f
 err_answer line w end ts f h = says_err line end ts f (answer line end ts) (answered line w end ts) h
 
-said : (line : Line) (end : ℕ) (ts : List Spot) (r : Result Meaning Refusal) → Says line end ts r → ((x : Meaning) × IsTaken line ts x) ⊎ ((c : Cause) × (at : ℕ) × IsRefusedAt line ts end c at)
+said : (line : Line) (end : ℕ) (ts : List Spot) (r : Result Meaning Refusal) → Says line end ts r → ((x : Meaning) × IsTakenAs line ts x) ⊎ ((c : Cause) × (at : ℕ) × IsRefusedAt line ts end c at)
 said line end ts (Ok x) h = inl (x, h)
 said line end ts (Err e) h = inr (e.cause, e.at, h)
 
-pub one_of_two : (line : Line) → IsWhole line → (end : ℕ) (ts : List Spot) → ((x : Meaning) × IsTaken line ts x) ⊎ ((c : Cause) × (at : ℕ) × IsRefusedAt line ts end c at)
+pub one_of_two : (line : Line) → IsWhole line → (end : ℕ) (ts : List Spot) → ((x : Meaning) × IsTakenAs line ts x) ⊎ ((c : Cause) × (at : ℕ) × IsRefusedAt line ts end c at)
 one_of_two line w end ts = said line end ts (answer line end ts) (answered line w end ts)

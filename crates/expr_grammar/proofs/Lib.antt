@@ -29,4 +29,12 @@ pub mod Ranges
 pub mod SpelledTexts
 pub mod Runs
 pub mod Bytes
+pub mod Lexing
+pub mod Numerals
+pub mod Pieces
+pub mod Held
+pub mod Leaves
+pub mod Trees
+pub mod Nodes
+pub mod ReadingBack
 pub mod Laws

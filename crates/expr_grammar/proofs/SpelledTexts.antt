@@ -18,7 +18,7 @@ use Rattle.pap_tree.specs.Grammar as grammar
 use Rattle.pap_tree.specs.Grammar.{Level, tree, mode}
 use Rattle.pap_tree.specs.Texts as texts
 use Rattle.pap_tree.specs.Texts.{Text, begins_number, begins_point}
-use Rattle.expr_grammar.specs.SpelledTokens.{bracketed, at_level, begins_signed, int_tokens, long_tokens, point_tokens, leaf_tokens, one_tokens, two_tokens, spelled_tokens}
+use Rattle.expr_grammar.specs.SpelledTokens.{bracketed_tokens, tokens_at_level, begins_signed, int_tokens, long_tokens, point_tokens, leaf_tokens, one_tokens, two_tokens, spelled_tokens}
 use Rattle.pap_tree.specs.Scales.{OneKeepsScale, TwoKeepsScale}
 use Rattle.expr_grammar.proofs.Closing.{operator_high}
 use Rattle.expr_grammar.proofs.Levels.{looser}
@@ -55,12 +55,12 @@ in_brackets n x a h t = looser 9 n (Mark Open ∷ (a ++ (Mark Close ∷ []))) x 
 outermost : (x : Term) → IsSpelled x → Text (Level 0) (spelled_tokens x) (tree x)
 outermost x t = looser (level_of x) 0 (spelled_tokens x) x (omega arith) (tightest x) t
 
-by_brackets : (n : ℕ) (x : Term) (c : Bool) → nat_lt (level_of x) n ≡ c → n ≤ 9 → IsSpelled x → Text (Level n) (bracketed c (spelled_tokens x)) (tree x)
+by_brackets : (n : ℕ) (x : Term) (c : Bool) → nat_lt (level_of x) n ≡ c → n ≤ 9 → IsSpelled x → Text (Level n) (bracketed_tokens c (spelled_tokens x)) (tree x)
 by_brackets n x true e h t = in_brackets n x (spelled_tokens x) h (outermost x t)
 by_brackets n x false e h t = looser (level_of x) n (spelled_tokens x) x (ltb-false (level_of x) n e) (tightest x) t
 
 -- an operand where the grammar wants a level
-operand : (n : ℕ) (x : Term) → n ≤ 9 → IsSpelled x → Text (Level n) (at_level n (level_of x) (spelled_tokens x)) (tree x)
+operand : (n : ℕ) (x : Term) → n ≤ 9 → IsSpelled x → Text (Level n) (tokens_at_level n (level_of x) (spelled_tokens x)) (tree x)
 operand n x h t = by_brackets n x (nat_lt (level_of x) n) refl h t
 
 text_is : (n : ℕ) (a b : List Token) (x : Term) → a ≡ b → Text (Level n) a (tree x) → Text (Level n) b (tree x)
@@ -108,32 +108,32 @@ no_number (Literal n ∷ a) e = absurd cc
 no_number (t ∷ a) e = refl
 
 -- brackets stand where the operand would begin with a number or a -
-unsigned : (n : ℕ) (c : Bool) (a : List Token) → (nat_lt n 7 || begins_signed a) ≡ c → begins_number (bracketed c a) ≡ false
+unsigned : (n : ℕ) (c : Bool) (a : List Token) → (nat_lt n 7 || begins_signed a) ≡ c → begins_number (bracketed_tokens c a) ≡ false
 unsigned n true a e = refl
 unsigned n false a e = no_number a (neither (nat_lt n 7) (begins_signed a) e).1
 
 mode_text : (m : Mode) → Text grammar.Rounding (Word (codes "BigDecimal") ∷ Mark Dot ∷ Word (round_word m) ∷ []) (mode m)
 mode_text m = texts.by _ (grammar.old_mode m) (texts.is (texts.is (texts.is texts.done)))
 
-minus_operand : (x : Term) (c : Bool) → (nat_lt (level_of x) 7 || begins_signed (spelled_tokens x)) ≡ c → IsSpelled x → Text (Level 7) (bracketed c (spelled_tokens x)) (tree x)
+minus_operand : (x : Term) (c : Bool) → (nat_lt (level_of x) 7 || begins_signed (spelled_tokens x)) ≡ c → IsSpelled x → Text (Level 7) (bracketed_tokens c (spelled_tokens x)) (tree x)
 minus_operand x true e t = in_brackets 7 x (spelled_tokens x) (omega arith) (outermost x t)
 minus_operand x false e t = looser (level_of x) 7 (spelled_tokens x) x (ltb-false (level_of x) 7 (neither (nat_lt (level_of x) 7) (begins_signed (spelled_tokens x)) e).0) (tightest x) t
 
-new_operand : (x : Term) (c : Bool) → begins_point (spelled_tokens x) ≡ c → IsSpelled x → Text (Level 0) (bracketed c (spelled_tokens x)) (tree x)
+new_operand : (x : Term) (c : Bool) → begins_point (spelled_tokens x) ≡ c → IsSpelled x → Text (Level 0) (bracketed_tokens c (spelled_tokens x)) (tree x)
 new_operand x true e t = in_brackets 0 x (spelled_tokens x) (omega arith) (outermost x t)
 new_operand x false e t = outermost x t
 
-no_point : (a : List Token) (c : Bool) → begins_point a ≡ c → begins_point (bracketed c a) ≡ false
+no_point : (a : List Token) (c : Bool) → begins_point a ≡ c → begins_point (bracketed_tokens c a) ≡ false
 no_point a true e = refl
 no_point a false e = e
 
 one_text : (op : One) (x : Term) → OneKeepsScale op → IsSpelled x → Text (Level (level_of_one op)) (one_tokens op (level_of x) (spelled_tokens x)) (tree (one op x))
 one_text (unary Minus) x h t =
     let c = nat_lt (level_of x) 7 || begins_signed (spelled_tokens x) in
-    text_is 7 _ _ _ (ap (λ a. Operator Sub ∷ a) (append-nil (bracketed c (spelled_tokens x))))
+    text_is 7 _ _ _ (ap (λ a. Operator Sub ∷ a) (append-nil (bracketed_tokens c (spelled_tokens x))))
     (texts.by _ (grammar.minus x) (texts.opens (texts.part (unsigned (level_of x) c (spelled_tokens x) refl) (minus_operand x c refl t) texts.done)))
 one_text (unary Not) x h t =
-    text_is 7 _ _ _ (ap (λ a. Mark tokens.Bang ∷ a) (append-nil (at_level 7 (level_of x) (spelled_tokens x))))
+    text_is 7 _ _ _ (ap (λ a. Mark tokens.Bang ∷ a) (append-nil (tokens_at_level 7 (level_of x) (spelled_tokens x))))
     (texts.by _ (grammar.negation x) (texts.opens (texts.part refl (operand 7 x (omega arith) t) texts.done)))
 one_text (unary Negate) x h t =
     texts.by _ (grammar.plain_call Negate (codes "negate") x grammar.negate) (texts.part refl (operand 8 x (omega arith) t) (texts.is (texts.is (texts.opens (texts.is texts.done)))))
@@ -159,8 +159,8 @@ two_text : (op : Two) (x y : Term) → TwoKeepsScale op → IsSpelled x → IsSp
 two_text (operator o) x y h t u =
     let n = level_of_operator o in
     let le = operator_high o in
-    let left = at_level n (level_of x) (spelled_tokens x) in
-    let right = at_level (n + 1) (level_of y) (spelled_tokens y) in
+    let left = tokens_at_level n (level_of x) (spelled_tokens x) in
+    let right = tokens_at_level (n + 1) (level_of y) (spelled_tokens y) in
     let r : Text (Level (suc n)) right (tree y) = subst (λ m. Text (Level m) right (tree y)) (sym (next_level o)) (operand (n + 1) y (omega (arith, le)) u) in
     text_is n (left ++ (Operator o ∷ (right ++ []))) (left ++ (Operator o ∷ right)) _ (ap (λ b. left ++ (Operator o ∷ b)) (append-nil right))
     (texts.by _ (grammar.operation n o x y refl) (texts.part refl (operand n x (omega (arith, le)) t) (texts.is (texts.part refl r texts.done))))
@@ -174,7 +174,7 @@ two_text (divide s m) x y h t u =
 
 choice_text : (c x y : Term) → IsSpelled c → IsSpelled x → IsSpelled y → IsSpelled (choice c x y)
 choice_text c x y t u v =
-    let first = at_level 1 (level_of c) (spelled_tokens c) in
+    let first = tokens_at_level 1 (level_of c) (spelled_tokens c) in
     text_is 0 (first ++ (Mark Question ∷ (spelled_tokens x ++ (Mark Colon ∷ (spelled_tokens y ++ []))))) (first ++ (Mark Question ∷ (spelled_tokens x ++ (Mark Colon ∷ spelled_tokens y)))) _
     (ap (λ b. first ++ (Mark Question ∷ (spelled_tokens x ++ (Mark Colon ∷ b)))) (append-nil (spelled_tokens y)))
     (texts.by _ (grammar.choose c x y) (texts.part refl (operand 1 c (omega arith) t) (texts.opens (texts.part refl (outermost x u) (texts.is (texts.part refl (outermost y v) texts.done))))))

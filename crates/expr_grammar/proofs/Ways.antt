@@ -15,7 +15,7 @@ use Rattle.pap_tree.specs.Tokens as tokens
 use Rattle.pap_tree.specs.Tokens.{Number, Token, Literal, Word, Operator, Mark, Question, Dot, Open, Close}
 use Rattle.pap_tree.specs.Grammar as grammar
 use Rattle.pap_tree.specs.Grammar.{Item, Line, Level, Meaning, Way, leaf_of, negative_of}
-use Rattle.expr_grammar.specs.Machine.{Job, Head, the_class, a_new, head_word, head_of, big_begun, settling, of_number, applied, opposite, magnitude, rescaled, held, moded, Frame, InBrackets, InCall, InItem, InValue, InNew, Negating, Denying, Left, Chosen, Otherwise, Assigning, Room, Alone, InTable, rounding, dividing, setting, valuing, declaring, OfLine, OfValue, OfNew, the_decimal, the_mode, State, Want, Have, Named, Due, Member, Static, ScaleDue, Parting, Moding, Moded, Naming, Signed, Minus, ValuedInt, ValuedPoint, Settling, Listing, Listed, Done, level, level_of, binds, made, joined, tightness, called, of_class, taken, literal_step, begun, scaled, settled, step}
+use Rattle.expr_grammar.specs.Machine.{Job, Head, the_class, a_new, head_word, head_of, big_begun, settling, of_number, applied, opposite, magnitude, rescaled, class_held, moded, Frame, InBrackets, InCall, InItem, InValue, InNew, Negating, Denying, Left, Chosen, Otherwise, Assigning, Room, Alone, InTable, rounding, dividing, setting, valuing, declaring, OfLine, OfValue, OfNew, the_decimal, the_mode, State, Want, Have, Named, Due, Member, Static, ScaleDue, Parting, Moding, Moded, Naming, Signed, Minus, ValuedInt, ValuedPoint, Settling, Listing, Listed, Done, level, level_of, binds, made, behind_operand, tightness, called, of_class, taken, literal_step, begun, scaled, settled, step}
 use Rattle.expr_grammar.proofs.Holes.{hole, clashes, follows}
 use Rattle.expr_grammar.proofs.Handles as handles
 use Rattle.expr_grammar.proofs.Handles.{Suits, opening, after, Same, Follows, Handles}
@@ -46,13 +46,13 @@ closing m n f x k h b = record {
 
 -- before a sign that stands after a whole expression
 dotted : (x : Term) (k : List Frame) → step (Have x k) (Mark Dot) ≡ Some (Member x k)
-dotted x k = ap (joined (Mark Dot)) (stays_whole x k)
+dotted x k = ap (behind_operand (Mark Dot)) (stays_whole x k)
 
 asked : (c : Term) (k : List Frame) → hole k ≤ 0 → step (Have c k) (Mark Question) ≡ Some (Want (Chosen c ∷ k))
-asked c k h = ap (joined (Mark Question)) (stays 1 c k (omega (arith, h)) (omega arith) (omega arith))
+asked c k h = ap (behind_operand (Mark Question)) (stays 1 c k (omega (arith, h)) (omega arith) (omega arith))
 
 operated : (o : _) (x : Term) (k : List Frame) → hole k ≤ level_of_operator o → step (Have x k) (Operator o) ≡ Some (Want (Left o x ∷ k))
-operated o x k h = ap (joined (Operator o)) (stays (level_of_operator o) x k h (operator_low o) (operator_high o))
+operated o x k h = ap (behind_operand (Operator o)) (stays (level_of_operator o) x k h (operator_low o) (operator_high o))
 
 plain_literal : (k : List Frame) (n : Number) → clashes (Want k) (Literal n ∷ []) ≡ false → literal_step k n ≡ Some (Have (leaf (leaf_of n)) k)
 plain_literal [] n e = refl
@@ -245,12 +245,12 @@ ways (grammar.with_sign f (tokens.int n) g) _ (handles.int_new r) =
     (handles.is (Due 1 (Mark Close) (settled r (decimal (neg_ℤ (pos n)) 0))) (here 2) (λ e. refl) (handles.done (exact _ _) (omega arith)))
 ways (grammar.with_sign f n g) _ s = absurd cc
 ways (grammar.old_mode m) _ (handles.a_mode r s k) =
-    handles.is (held r s k the_decimal) (here _) (λ e. refl)
+    handles.is (class_held r s k the_decimal) (here _) (λ e. refl)
     (handles.is (Moded the_decimal r s k) (here _) (λ e. refl)
     (handles.is (moded r s k m) (here _) (λ e. ap (option_map (moded r s k)) (old_mode_is m))
     (handles.done (exact _ _) (here _))))
 ways (grammar.new_mode m) _ (handles.a_mode r s k) =
-    handles.is (held r s k the_mode) (here _) (λ e. refl)
+    handles.is (class_held r s k the_mode) (here _) (λ e. refl)
     (handles.is (Moded the_mode r s k) (here _) (λ e. refl)
     (handles.is (moded r s k m) (here _) (λ e. ap (option_map (moded r s k)) (new_mode_is m))
     (handles.done (exact _ _) (here _))))

@@ -12,7 +12,7 @@ use Rattle.pap_tree.specs.declared.expression.Call.TheVariants as calls
 use Rattle.pap_tree.specs.Words.{call_word, known_word, mode_word, round_word}
 use Rattle.pap_tree.specs.Tokens as tokens
 use Rattle.pap_tree.specs.Tokens.{Sign, Token, Word, Mark, sign_text}
-use Rattle.expr_grammar.specs.Machine.{State, same_token, pick, applied, method_of, constant, constancy_of, the_decimal, the_mode, mode_of}
+use Rattle.expr_grammar.specs.Machine.{State, same_token, first_with_word, applied, method_of, constant, constancy_of, the_decimal, the_mode, mode_of}
 
 pub call_is : (c : Call) → method_of (call_word c) ≡ Some (applied c)
 call_is calls.Add = refl
@@ -58,9 +58,9 @@ none_is a e = cc
 pub bytes_are : (v w : List ℕ) → bytes_eq v w ≡ true → v ≡ w
 bytes_are v w e = (bytes_eq-Decides v w).0 e
 
-pub picked : {A : Type 0} (word : A → List ℕ) (w : List ℕ) (all : List A) (a : A) → pick word w all ≡ Some a → w ≡ word a
+pub picked : {A : Type 0} (word : A → List ℕ) (w : List ℕ) (all : List A) (a : A) → first_with_word word w all ≡ Some a → w ≡ word a
 picked word w [] a e = absurd (none_is a e)
-picked word w (b ∷ more) a e = elim (word_cases (bytes_eq w (word b)) b a (pick word w more) e) as (λ z. w ≡ word a) [
+picked word w (b ∷ more) a e = elim (word_cases (bytes_eq w (word b)) b a (first_with_word word w more) e) as (λ z. w ≡ word a) [
   | inl f ↦ bytes_are w (word b) f.0 ∙ ap word f.1
   | inr f ↦ picked word w more a f.1
 ]

@@ -14,8 +14,8 @@ use Rattle.expr_grammar.specs.SpelledTokens.{spelled_tokens}
 use Rattle.expr_grammar.specs.Trees.{size, IsKeeping, ArePlaced}
 
 -- the tokens are a text of the line that stands for this, and none of them stops the reading
-abbrev pub IsTaken : Line → List Spot → Meaning → Type 0
-IsTaken l ts x = Text l (plain ts) x × IsRead l (plain ts)
+abbrev pub IsTakenAs : Line → List Spot → Meaning → Type 0
+IsTakenAs l ts x = Text l (plain ts) x × IsRead l (plain ts)
 
 -- a text of the line stands for one thing
 abbrev pub HasOneMeaning : Line → Type 0
@@ -23,7 +23,7 @@ HasOneMeaning l = (ts : List Token) (x y : Meaning) → Text l ts x → Text l t
 
 -- what is taken isn't refused
 abbrev pub TakesOrRefuses : Line → Type 0
-TakesOrRefuses l = (ts : List Spot) (end : ℕ) (x : Meaning) (c : Cause) (at : ℕ) → IsTaken l ts x → IsRefusedAt l ts end c at → ⊥
+TakesOrRefuses l = (ts : List Spot) (end : ℕ) (x : Meaning) (c : Cause) (at : ℕ) → IsTakenAs l ts x → IsRefusedAt l ts end c at → ⊥
 
 -- tokens are refused for one cause, at one place
 abbrev pub HasOneRefusal : Line → Type 0
@@ -31,7 +31,7 @@ HasOneRefusal l = (ts : List Spot) (end : ℕ) (c d : Cause) (m n : ℕ) → IsR
 
 -- all tokens are taken or refused
 abbrev pub HasAnswer : Line → Type 0
-HasAnswer l = (ts : List Spot) (end : ℕ) → ((x : Meaning) × IsTaken l ts x) ⊎ ((c : Cause) × (at : ℕ) × IsRefusedAt l ts end c at)
+HasAnswer l = (ts : List Spot) (end : ℕ) → ((x : Meaning) × IsTakenAs l ts x) ⊎ ((c : Cause) × (at : ℕ) × IsRefusedAt l ts end c at)
 
 -- the machine reads exactly the prefixes of texts
 abbrev pub ReadsFronts : Line → Type 0
@@ -52,7 +52,7 @@ BeginsTexts l = (a b : List Token) (x : Meaning) → Text l (a ++ b) x → IsFro
 
 -- the machine gives what the tokens stand for, exactly where they are taken
 abbrev pub GivesMeaning : Line → Type 0
-GivesMeaning l = (ts : List Spot) (end : ℕ) (x : Meaning) → (answer l end ts ≡ Ok x) ↔ IsTaken l ts x
+GivesMeaning l = (ts : List Spot) (end : ℕ) (x : Meaning) → (answer l end ts ≡ Ok x) ↔ IsTakenAs l ts x
 
 -- the machine gives the cause and the place, exactly where the tokens are refused
 abbrev pub GivesRefusal : Line → Type 0
@@ -63,8 +63,8 @@ abbrev pub IsSized : Line → Type 0
 IsSized l = (ts : List Token) (x : Meaning) → Text l ts x → size x ≤ length ts
 
 -- a tree has at most 1,000 nodes where the reading of a line with limits isn't stopped
-abbrev pub IsBounded : Line → Type 0
-IsBounded l = (ts : List Token) (x : Meaning) → IsTrue (has_limits l) → Text l ts x → IsRead l ts → size x ≤ most_tokens
+abbrev pub BoundsNodes : Line → Type 0
+BoundsNodes l = (ts : List Token) (x : Meaning) → IsTrue (has_limits l) → Text l ts x → IsRead l ts → size x ≤ most_tokens
 
 -- the scales of a tree are at most 30, and its literals with a point have a place where its text's have one
 abbrev pub KeepsPlaces : Line → Type 0

@@ -5,3 +5,4 @@ pub mod Lines
 pub mod Trees
 pub mod GrammarLaws
 pub mod SpelledTokens
+pub mod ReadingBack

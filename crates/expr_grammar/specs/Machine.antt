@@ -158,9 +158,9 @@ level_of (Done x) = 0
 -- ---- words
 
 -- the first of these that has the word
-abbrev pub pick : {A : Type 0} → (A → List ℕ) → List ℕ → List A → Option A
-pick word w [] = None
-pick word w (a ∷ more) = if bytes_eq w (word a) then Some a else pick word w more
+abbrev pub first_with_word : {A : Type 0} → (A → List ℕ) → List ℕ → List A → Option A
+first_with_word word w [] = None
+first_with_word word w (a ∷ more) = if bytes_eq w (word a) then Some a else first_with_word word w more
 
 -- what follows a point after an expression
 pub data Method : Type 0 where
@@ -178,7 +178,7 @@ method_word rescaled = codes "setScale"
 
 -- the method on a decimal that a word names
 abbrev pub method_of : List ℕ → Option Method
-method_of w = pick method_word w
+method_of w = first_with_word method_word w
     (applied calls.Add ∷ applied calls.Subtract ∷ applied calls.Multiply ∷ applied calls.DivideExact ∷ applied calls.CompareTo
     ∷ applied calls.Min ∷ applied calls.Max ∷ opposite ∷ magnitude ∷ rescaled ∷ [])
 
@@ -194,7 +194,7 @@ constancy_word of_number = codes "valueOf"
 
 -- what may follow `BigDecimal.`, by its word
 abbrev pub constancy_of : List ℕ → Option Constancy
-constancy_of w = pick constancy_word w (constant knowns.Zero ∷ constant knowns.One ∷ constant knowns.Ten ∷ of_number ∷ [])
+constancy_of w = first_with_word constancy_word w (constant knowns.Zero ∷ constant knowns.One ∷ constant knowns.Ten ∷ of_number ∷ [])
 
 -- the word of a class that holds rounding modes
 abbrev pub holder_word : Holder → List ℕ
@@ -203,7 +203,7 @@ holder_word the_mode = codes "RoundingMode"
 
 -- the class that holds rounding modes, by its word
 abbrev pub holder_of : List ℕ → Option Holder
-holder_of w = pick holder_word w (the_decimal ∷ the_mode ∷ [])
+holder_of w = first_with_word holder_word w (the_decimal ∷ the_mode ∷ [])
 
 -- the word of a rounding mode in one of the two classes
 abbrev pub held_word : Holder → Mode → List ℕ
@@ -212,7 +212,7 @@ held_word the_mode m = mode_word m
 
 -- the rounding mode of a word in one of the two classes
 abbrev pub mode_of : Holder → List ℕ → Option Mode
-mode_of h w = pick (held_word h) w
+mode_of h w = first_with_word (held_word h) w
     (modes.Down ∷ modes.Up ∷ modes.Floor ∷ modes.Ceiling ∷ modes.HalfUp ∷ modes.HalfDown ∷ modes.HalfEven ∷ [])
 
 -- the words that a decimal begins with
@@ -227,7 +227,7 @@ head_word a_new = codes "new"
 
 -- what begins with a word: a name of the class, or `new`
 abbrev pub head_of : List ℕ → Option Head
-head_of w = pick head_word w (the_class ∷ a_new ∷ [])
+head_of w = first_with_word head_word w (the_class ∷ a_new ∷ [])
 
 -- both are the same mark or the same word
 abbrev pub same_token : Token → Token → Bool
@@ -298,14 +298,14 @@ marked Question x k = Some (Want (Chosen x ∷ k))
 marked s x k = ended_in k s x
 
 -- a token behind an expression whose tighter frames are closed
-abbrev pub joined : Token → Term × List Frame → Option State
-joined (Operator o) r = Some (Want (Left o r.0 ∷ r.1))
-joined (Mark s) r = marked s r.0 r.1
-joined _ r = None
+abbrev pub behind_operand : Token → Term × List Frame → Option State
+behind_operand (Operator o) r = Some (Want (Left o r.0 ∷ r.1))
+behind_operand (Mark s) r = marked s r.0 r.1
+behind_operand _ r = None
 
 -- the step behind an expression
 abbrev pub have_step : Term → List Frame → Token → Option State
-have_step x k t = joined t (close (tightness t) x k)
+have_step x k t = behind_operand t (close (tightness t) x k)
 
 -- the step behind a name: its item begins, or it is an expression
 abbrev pub named_step : List ℕ → List Frame → Token → Option State
@@ -391,12 +391,12 @@ comma_step r s k (Mark Comma) = Some (Moding r s k)
 comma_step r s k _ = None
 
 -- a class of rounding modes is read, and its dot is due
-abbrev pub held : Rounded → ℕ → List Frame → Holder → State
-held r s k h = Due (suc (level k)) (Mark Dot) (Moded h r s k)
+abbrev pub class_held : Rounded → ℕ → List Frame → Holder → State
+class_held r s k h = Due (suc (level k)) (Mark Dot) (Moded h r s k)
 
 -- the step where a class of rounding modes is due
 abbrev pub mode_step : Rounded → ℕ → List Frame → Token → Option State
-mode_step r s k (Word w) = option_map (held r s k) (holder_of w)
+mode_step r s k (Word w) = option_map (class_held r s k) (holder_of w)
 mode_step r s k _ = None
 
 -- the rounded division or the set scale with its scale and mode

@@ -12,12 +12,12 @@ use Rattle.pap_tree.specs.Tokens.{Token, Literal, Quoted, Word, Operator, Mark, 
 use Rattle.pap_tree.specs.Texts.{begins_point}
 
 -- in round brackets where they are needed
-abbrev pub bracketed : Bool → List Token → List Token
-bracketed needed ts = if needed then Mark Open ∷ (ts ++ (Mark Close ∷ [])) else ts
+abbrev pub bracketed_tokens : Bool → List Token → List Token
+bracketed_tokens needed ts = if needed then Mark Open ∷ (ts ++ (Mark Close ∷ [])) else ts
 
 -- the tokens of an operand, in brackets where it binds less tightly than is wanted
-abbrev pub at_level : ℕ → ℕ → List Token → List Token
-at_level wanted own ts = bracketed (nat_lt own wanted) ts
+abbrev pub tokens_at_level : ℕ → ℕ → List Token → List Token
+tokens_at_level wanted own ts = bracketed_tokens (nat_lt own wanted) ts
 
 -- a number, or a -
 abbrev pub begins_signed : List Token → Bool
@@ -63,20 +63,20 @@ value_of_tokens more = Word (codes "BigDecimal") ∷ Mark Dot ∷ Word (codes "v
 
 -- an operation round its operand, which binds at a level and has these tokens
 abbrev pub one_tokens : One → ℕ → List Token → List Token
-one_tokens (unary Minus) n a = Operator Sub ∷ bracketed (nat_lt n 7 || begins_signed a) a
-one_tokens (unary Not) n a = Mark Bang ∷ at_level 7 n a
-one_tokens (unary Negate) n a = at_level 8 n a ++ method_tokens (codes "negate") (Mark Close ∷ [])
-one_tokens (unary Abs) n a = at_level 8 n a ++ method_tokens (codes "abs") (Mark Close ∷ [])
+one_tokens (unary Minus) n a = Operator Sub ∷ bracketed_tokens (nat_lt n 7 || begins_signed a) a
+one_tokens (unary Not) n a = Mark Bang ∷ tokens_at_level 7 n a
+one_tokens (unary Negate) n a = tokens_at_level 8 n a ++ method_tokens (codes "negate") (Mark Close ∷ [])
+one_tokens (unary Abs) n a = tokens_at_level 8 n a ++ method_tokens (codes "abs") (Mark Close ∷ [])
 one_tokens value_of n a = value_of_tokens (a ++ (Mark Close ∷ []))
 one_tokens (value_of_scaled s) n a = value_of_tokens (a ++ (Mark Comma ∷ Literal (int s) ∷ Mark Close ∷ []))
-one_tokens new_big n a = Word (codes "new") ∷ Word (codes "BigDecimal") ∷ Mark Open ∷ (bracketed (begins_point a) a ++ (Mark Close ∷ []))
-one_tokens (set_scale s m) n a = at_level 8 n a ++ method_tokens (codes "setScale") (rounding_tokens s m)
+one_tokens new_big n a = Word (codes "new") ∷ Word (codes "BigDecimal") ∷ Mark Open ∷ (bracketed_tokens (begins_point a) a ++ (Mark Close ∷ []))
+one_tokens (set_scale s m) n a = tokens_at_level 8 n a ++ method_tokens (codes "setScale") (rounding_tokens s m)
 
 -- the tokens of an operation on two operands, of which each has its level and its tokens
 abbrev pub two_tokens : Two → ℕ → List Token → ℕ → List Token → List Token
-two_tokens (operator o) m a n b = at_level (level_of_operator o) m a ++ (Operator o ∷ at_level (level_of_operator o + 1) n b)
-two_tokens (method c) m a n b = at_level 8 m a ++ method_tokens (call_word c) (b ++ (Mark Close ∷ []))
-two_tokens (divide s r) m a n b = at_level 8 m a ++ method_tokens (codes "divide") (b ++ (Mark Comma ∷ rounding_tokens s r))
+two_tokens (operator o) m a n b = tokens_at_level (level_of_operator o) m a ++ (Operator o ∷ tokens_at_level (level_of_operator o + 1) n b)
+two_tokens (method c) m a n b = tokens_at_level 8 m a ++ method_tokens (call_word c) (b ++ (Mark Close ∷ []))
+two_tokens (divide s r) m a n b = tokens_at_level 8 m a ++ method_tokens (codes "divide") (b ++ (Mark Comma ∷ rounding_tokens s r))
 
 -- the tokens of a tree's canonical spelling
 abbrev pub spelled_tokens : Term → List Token
@@ -84,4 +84,4 @@ spelled_tokens (leaf l) = leaf_tokens l
 spelled_tokens (item x a) = Word x ∷ Mark OpenItem ∷ (spelled_tokens a ++ (Mark CloseItem ∷ []))
 spelled_tokens (one op a) = one_tokens op (level_of a) (spelled_tokens a)
 spelled_tokens (two op a b) = two_tokens op (level_of a) (spelled_tokens a) (level_of b) (spelled_tokens b)
-spelled_tokens (choice c a b) = at_level 1 (level_of c) (spelled_tokens c) ++ (Mark Question ∷ (spelled_tokens a ++ (Mark Colon ∷ spelled_tokens b)))
+spelled_tokens (choice c a b) = tokens_at_level 1 (level_of c) (spelled_tokens c) ++ (Mark Question ∷ (spelled_tokens a ++ (Mark Colon ∷ spelled_tokens b)))

@@ -3,7 +3,7 @@
 
 ghost use Rattle.pap_tree.specs.Grammar.{Line};
 ghost use Rattle.expr_grammar.specs.Lines.{IsWhole};
-ghost use Rattle.expr_grammar.specs.GrammarLaws.{HasOneMeaning, TakesOrRefuses, HasOneRefusal, HasAnswer, ReadsFronts, CountsLevels, BeginsFronts, BeginsTexts, GivesMeaning, GivesRefusal, IsSized, IsBounded, KeepsPlaces, KeepsPlacesOfBytes, SpellsItself};
+ghost use Rattle.expr_grammar.specs.GrammarLaws.{HasOneMeaning, TakesOrRefuses, HasOneRefusal, HasAnswer, ReadsFronts, CountsLevels, BeginsFronts, BeginsTexts, GivesMeaning, GivesRefusal, IsSized, BoundsNodes, KeepsPlaces, KeepsPlacesOfBytes, SpellsItself};
 
 /// A text of a test, of an assignment or of a declared literal stands for one thing at most.
 pub fn one_tree()
@@ -43,7 +43,7 @@ pub fn decides()
 /// A tree has no more nodes than its text has tokens, and at most 1,000 where the line has limits and keeps them.
 pub fn sized()
     ensures tokens { (l : Line) → IsSized l }
-    ensures limit { (l : Line) → IsBounded l }
+    ensures limit { (l : Line) → BoundsNodes l }
 {}
 
 /// Each scale of a tree is at most 30, and each literal with a point has at least one place.

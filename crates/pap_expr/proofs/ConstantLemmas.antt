@@ -9,11 +9,11 @@ use Rattle.expr_grammar.specs.Shortened.{shortened}
 use Rattle.expr_grammar.specs.Run.{refusal, cause_of}
 use Rattle.pap_expr.specs.declared.constant.Due.{Due as CodeDue}
 use Rattle.pap_expr.specs.declared.fault.ExprFault.{ExprFault}
-use Rattle.pap_expr.specs.private.Constants.{Reaches, Moves}
+use Rattle.pap_expr.specs.private.Constants.{GivesNext, Moves}
 
 -- states that step alike, with like causes
 moved : (s q : State) (t : Spot) (r : Result CodeDue ExprFault) → step s t.token ≡ step q t.token → cause_of s t.token ≡ cause_of q t.token → Moves q t r → Moves s t r
-moved s q t r e g h = subst (λ o. Reaches o (refusal (cause_of s t.token) t.at) r) (sym e) (subst (λ c. Reaches (step q t.token) (refusal c t.at) r) (sym g) h)
+moved s q t r e g h = subst (λ o. GivesNext o (refusal (cause_of s t.token) t.at) r) (sym e) (subst (λ c. GivesNext (step q t.token) (refusal c t.at) r) (sym g) h)
 
 int_steps : (i : ℤ) (r : Room) (t : Token) → same_token (Mark Comma) t ≡ false → step (ValuedInt i r) t ≡ step (Due 0 (Mark Close) (settled r (decimal i 0))) t
 int_steps i r (Mark Comma) e = absurd cc

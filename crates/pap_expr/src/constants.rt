@@ -17,7 +17,7 @@ ghost use Rattle.pap_expr.specs.declared.fault.ExprFault.TheVariants.{Memory};
 ghost use Rattle.pap_expr.specs.declared.constant.Due.TheVariants.{NewClass};
 ghost use Rattle.pap_expr.specs.private.Views.{plain_cause};
 ghost use Rattle.pap_expr.specs.Faults.{IsFaultOf};
-ghost use Rattle.pap_expr.specs.private.Constants.{room_of, slot_of, due_of, big_of, Reaches, Moves, Gives};
+ghost use Rattle.pap_expr.specs.private.Constants.{room_of, slot_of, due_of, big_of, GivesNext, Moves, Gives};
 
 use crate::constant::{Due, Room, Slot};
 use crate::fault::ExprFault;
@@ -123,7 +123,7 @@ fn filled_int(slot: Slot, i: i32) -> Due
 
 /// A literal of `long` in its place.
 fn filled_long(slot: Slot, i: i64, found: &Placed) -> Result<Due, ExprFault>
-    ensures { Reaches (filled (slot_of slot) (long_leaf i)) (refusal syntax found.now.at) result }
+    ensures { GivesNext (filled (slot_of slot) (long_leaf i)) (refusal syntax found.now.at) result }
 {
     match slot {
         Slot::Line => Ok(Due::Done(Literal::Long(i))),
@@ -133,7 +133,7 @@ fn filled_long(slot: Slot, i: i64, found: &Placed) -> Result<Due, ExprFault>
 
 /// A literal with a point in its place.
 fn filled_point(slot: Slot, d: Dec, found: &Placed) -> Result<Due, ExprFault>
-    ensures { Reaches (filled (slot_of slot) (point_leaf d))
+    ensures { GivesNext (filled (slot_of slot) (point_leaf d))
         (refusal (point_cause (machine.Signed (slot_of slot))) found.now.at) result }
 {
     match slot {
@@ -145,7 +145,7 @@ fn filled_point(slot: Slot, d: Dec, found: &Placed) -> Result<Due, ExprFault>
 
 /// What may stand in the place of a literal.
 fn other(alloc: Global, slot: Slot, found: &Placed) -> Result<Due, ExprFault>
-    ensures { Reaches (other_step (slot_of slot) (token_of found.now.token))
+    ensures { GivesNext (other_step (slot_of slot) (token_of found.now.token))
         (refusal (plain_cause (token_of found.now.token)) found.now.at) result }
 {
     match slot {
@@ -161,7 +161,7 @@ fn other(alloc: Global, slot: Slot, found: &Placed) -> Result<Due, ExprFault>
 
 /// The word that begins a decimal.
 fn big(room: Room, found: &Placed) -> Result<Due, ExprFault>
-    ensures { Reaches (big_of (room_of room) (token_of found.now.token))
+    ensures { GivesNext (big_of (room_of room) (token_of found.now.token))
         (refusal (plain_cause (token_of found.now.token)) found.now.at) result }
 {
     match keyword(found) {

@@ -8,10 +8,9 @@ ghost use Rattle.pap_tree.specs.Grammar.{Line, Level, Meaning, tree};
 ghost use Rattle.pap_tree.specs.Stopping.{Cause, deep};
 ghost use Rattle.pap_tree.specs.Expressions.{IsText, IsTest, IsAccepted, IsWrong};
 ghost use Rattle.expr_grammar.specs.Lines.{IsWhole};
-ghost use Rattle.expr_spelling.specs.ReadingBack.{IsInText};
+ghost use Rattle.expr_grammar.specs.ReadingBack.{IsInText};
 
-use expr_grammar::reads_fronts;
-use expr_spelling::spelling_is_a_text;
+use expr_grammar::{reads_fronts, spelling_is_a_text};
 
 /// A text of a test, of an assignment or of a declared literal stands for one thing at most.
 pub fn each_text_has_one_tree()

@@ -25,7 +25,7 @@ abbrev pub Stops : (ℕ → Bool) → List ℕ → Type 0
 Stops p [] = ⊤
 Stops p (b ∷ bs) = p b ≡ false
 
--- the longest front of the bytes that passes the test, and the rest
+-- the longest prefix of the bytes that passes the test, and the rest
 pub record IsLongest (p : ℕ → Bool) (bytes front rest : List ℕ) : Type 0 where
   pub parts : bytes ≡ front ++ rest
   pub passes : list_all p front ≡ true

@@ -50,12 +50,12 @@ big_of r (Word w) = machine.big_step r w
 big_of r t = None
 
 -- the result is the next state, or there is none
-abbrev pub Reaches : Option machine.State → Refusal → Result Due ExprFault → Type 0
-Reaches o f (Ok s) = o ≡ Some (due_of s)
-Reaches o f (Err e) = Refuses o f e
+abbrev pub GivesNext : Option machine.State → Refusal → Result Due ExprFault → Type 0
+GivesNext o f (Ok s) = o ≡ Some (due_of s)
+GivesNext o f (Err e) = Refuses o f e
 
 abbrev pub Moves : machine.State → Spot → Result Due ExprFault → Type 0
-Moves s t r = Reaches (machine.step s t.token) (refusal (cause_of s t.token) t.at) r
+Moves s t r = GivesNext (machine.step s t.token) (refusal (cause_of s t.token) t.at) r
 
 -- the declared literal, or the refusal; or memory ran out
 abbrev pub Gives : Result Meaning Refusal → Result Literal ExprFault → Type 0

@@ -28,7 +28,7 @@ abbrev pub holder_view : Holder → machine.Holder
 holder_view holders.BigDecimal = machine.the_decimal
 holder_view holders.RoundingMode = machine.the_mode
 
--- why and where; for want of memory this says nothing
+-- why and where; where memory ran out this says nothing
 abbrev pub refusal_of : ExprFault → Refusal
 refusal_of (faults.Syntax n) = refusal syntax n
 refusal_of (faults.Unsupported n) = refusal unsupported n

@@ -18,12 +18,12 @@ use Rattle.plan_text.specs.declared.fault.PlanFault.TheVariants as faults
 use Rattle.plan_text.specs.Plans.{IsBody}
 use Rattle.plan_text.specs.Sites.{Site, body_sites, IsFirstFault}
 
--- the fault of an expression's text; want of memory is its own
+-- the fault of an expression's text; that memory ran out is a fault of its own
 abbrev pub fault_at : Spot → ExprFault → PlanFault
 fault_at spot exprs.Memory = faults.Memory
 fault_at spot f = faults.Expr spot f
 
--- the fault is the first of the texts; want of memory tells nothing
+-- the fault is the first of the texts; that memory ran out says nothing
 abbrev pub TellsFault : List Site → PlanFault → Type 0
 TellsFault sites (faults.Expr spot fault) = IsFirstFault sites spot fault
 TellsFault sites (faults.Read fault) = ⊥

@@ -14,7 +14,7 @@ use Rattle.expr_tokens.specs.private.Views.{NotFirst, is_sign_byte, IsNoPair}
 use Rattle.expr_tokens.proofs.Laws.{pair_begins, a_token}
 use Rattle.expr_grammar.specs.SpelledTokens as spelled
 use Rattle.expr_grammar.specs.SpelledTokens.{begins_signed}
-use Rattle.expr_spelling.proofs.Lexing.{Lex, Any, Cut, one, join, word_lex}
+use Rattle.expr_grammar.proofs.Lexing.{Lex, Any, Cut, one, join, word_lex}
 
 -- ---- signs
 
@@ -169,7 +169,7 @@ in_brackets a ts g = record {
   start = λ rest more e. absurd cc;
 }
 
-pub boxed : (c : Bool) (a : List ℕ) (ts : List Token) → Good a ts → Good (bytes.bracketed c a) (spelled.bracketed c ts)
+pub boxed : (c : Bool) (a : List ℕ) (ts : List Token) → Good a ts → Good (bytes.bracketed c a) (spelled.bracketed_tokens c ts)
 boxed true a ts g = in_brackets a ts g
 boxed false a ts g = g
 

@@ -22,11 +22,11 @@ use Rattle.pap_tree.specs.Texts.{begins_point}
 use Rattle.expr_grammar.specs.SpelledTokens as spelled
 use Rattle.expr_grammar.specs.SpelledTokens.{begins_signed, rounding_tokens, method_tokens, one_tokens, two_tokens, spelled_tokens}
 use Rattle.pap_tree.specs.Scales.{OneKeepsScale, TwoKeepsScale}
-use Rattle.expr_spelling.proofs.Lexing.{Lex, Cut, join, lead}
-use Rattle.expr_spelling.proofs.Numerals.{int_lex}
-use Rattle.expr_spelling.proofs.Pieces.{Good, NoEquals, Spaced, sign_then, word_then, point_sign, open_sign, close_sign, comma_sign, open_item, close_item, question_sign, colon_sign, minus_sign, bang_sign, operator_lex, more_good, in_brackets, boxed, number_alone, point_alone}
-use Rattle.expr_spelling.proofs.Held.{IsHeld}
-use Rattle.expr_spelling.proofs.Leaves.{leaf_good, word_good, name_word, other_start}
+use Rattle.expr_grammar.proofs.Lexing.{Lex, Cut, join, lead}
+use Rattle.expr_grammar.proofs.Numerals.{int_lex}
+use Rattle.expr_grammar.proofs.Pieces.{Good, NoEquals, Spaced, sign_then, word_then, point_sign, open_sign, close_sign, comma_sign, open_item, close_item, question_sign, colon_sign, minus_sign, bang_sign, operator_lex, more_good, in_brackets, boxed, number_alone, point_alone}
+use Rattle.expr_grammar.proofs.Held.{IsHeld}
+use Rattle.expr_grammar.proofs.Leaves.{leaf_good, word_good, name_word, other_start}
 
 -- ---- pieces
 
@@ -76,7 +76,7 @@ value_lex b us k =
     (sign_then Cut 46 (Mark Dot) (codes "valueOf(" ++ b) (Word (codes "valueOf") ∷ Mark Open ∷ us) point_sign
     (word_then Cut (codes "valueOf") (40 ∷ b) (Mark Open ∷ us) refl (λ rest c. refl) (sign_then Cut 40 (Mark Open) b us open_sign k)))
 
-at_level_good : (wanted own : ℕ) (a : List ℕ) (ts : List Token) → Good a ts → Good (bytes.at_level wanted own a) (spelled.at_level wanted own ts)
+at_level_good : (wanted own : ℕ) (a : List ℕ) (ts : List Token) → Good a ts → Good (bytes.at_level wanted own a) (spelled.tokens_at_level wanted own ts)
 at_level_good wanted own a ts g = boxed (nat_lt own wanted) a ts g
 
 -- ---- operations on one operand
@@ -114,8 +114,8 @@ minus_text a ts g e = record {
 }
 
 -- or in brackets
-minus_boxed : (n : ℕ) (a : List ℕ) (ts : List Token) (c : Bool) → (nat_lt n 7 || begins_signed ts) ≡ c → Good a ts → Good (codes "-" ++ bytes.bracketed c a) (Operator Sub ∷ spelled.bracketed c ts)
-minus_boxed n a ts true e g = minus_text (bytes.bracketed true a) (spelled.bracketed true ts) (in_brackets a ts g) (λ us. refl)
+minus_boxed : (n : ℕ) (a : List ℕ) (ts : List Token) (c : Bool) → (nat_lt n 7 || begins_signed ts) ≡ c → Good a ts → Good (codes "-" ++ bytes.bracketed c a) (Operator Sub ∷ spelled.bracketed_tokens c ts)
+minus_boxed n a ts true e g = minus_text (bytes.bracketed true a) (spelled.bracketed_tokens true ts) (in_brackets a ts g) (λ us. refl)
 minus_boxed n a ts false e g = minus_text a ts g (signed_more ts g (second (nat_lt n 7) (begins_signed ts) e))
   where
     second : (a b : Bool) → (a || b) ≡ false → b ≡ false
@@ -149,19 +149,19 @@ bang_good a ts g = record {
 
 one_good : (op : One) (n : ℕ) (a : List ℕ) (ts : List Token) → OneKeepsScale op → Good a ts → Good (spelled_one op n a) (one_tokens op n ts)
 one_good (unary Minus) n a ts h g = minus_good n a ts g
-one_good (unary Not) n a ts h g = bang_good (bytes.at_level 7 n a) (spelled.at_level 7 n ts) (at_level_good 7 n a ts g)
+one_good (unary Not) n a ts h g = bang_good (bytes.at_level 7 n a) (spelled.tokens_at_level 7 n ts) (at_level_good 7 n a ts g)
 one_good (unary Negate) n a ts h g =
-    more_good (bytes.at_level 8 n a) (codes ".negate()") (spelled.at_level 8 n ts) _ (at_level_good 8 n a ts g) (λ rest c. refl) (method_lex (codes "negate") (codes ")") (Mark Close ∷ []) refl close_lex)
+    more_good (bytes.at_level 8 n a) (codes ".negate()") (spelled.tokens_at_level 8 n ts) _ (at_level_good 8 n a ts g) (λ rest c. refl) (method_lex (codes "negate") (codes ")") (Mark Close ∷ []) refl close_lex)
 one_good (unary Abs) n a ts h g =
-    more_good (bytes.at_level 8 n a) (codes ".abs()") (spelled.at_level 8 n ts) _ (at_level_good 8 n a ts g) (λ rest c. refl) (method_lex (codes "abs") (codes ")") (Mark Close ∷ []) refl close_lex)
+    more_good (bytes.at_level 8 n a) (codes ".abs()") (spelled.tokens_at_level 8 n ts) _ (at_level_good 8 n a ts g) (λ rest c. refl) (method_lex (codes "abs") (codes ")") (Mark Close ∷ []) refl close_lex)
 one_good value_of n a ts h g = value_good (a ++ codes ")") (ts ++ (Mark Close ∷ [])) (closed_lex a ts g)
 one_good (value_of_scaled s) n a ts h g = value_good (a ++ (codes ", " ++ (whole_text s ++ codes ")"))) _ (scaled_lex a ts s h g)
 one_good new_big n a ts h g =
     let e = point_alone a ts g in
     subst (λ c. Good (codes "new BigDecimal(" ++ (bytes.bracketed c a ++ codes ")")) (one_tokens new_big n ts)) (sym e)
-    (new_good _ _ (closed_lex (bytes.bracketed (begins_point ts) a) (spelled.bracketed (begins_point ts) ts) (boxed (begins_point ts) a ts g)))
+    (new_good _ _ (closed_lex (bytes.bracketed (begins_point ts) a) (spelled.bracketed_tokens (begins_point ts) ts) (boxed (begins_point ts) a ts g)))
 one_good (set_scale s m) n a ts h g =
-    more_good (bytes.at_level 8 n a) (codes ".setScale(" ++ (scale_and_mode s m ++ codes ")")) (spelled.at_level 8 n ts) _ (at_level_good 8 n a ts g) (λ rest c. refl)
+    more_good (bytes.at_level 8 n a) (codes ".setScale(" ++ (scale_and_mode s m ++ codes ")")) (spelled.tokens_at_level 8 n ts) _ (at_level_good 8 n a ts g) (λ rest c. refl)
     (method_lex (codes "setScale") (scale_and_mode s m ++ codes ")") (rounding_tokens s m) refl (rounding_lex s m h))
 
 -- ---- operations on two
@@ -192,13 +192,13 @@ operator_then o b us k =
 
 two_good : (op : Two) (m n : ℕ) (a b : List ℕ) (ts us : List Token) → TwoKeepsScale op → Good a ts → Good b us → Good (spelled_two op m a n b) (two_tokens op m ts n us)
 two_good (operator o) m n a b ts us h g k =
-    more_good (bytes.at_level (level_of_operator o) m a) _ (spelled.at_level (level_of_operator o) m ts) _ (at_level_good (level_of_operator o) m a ts g) (λ rest c. refl)
+    more_good (bytes.at_level (level_of_operator o) m a) _ (spelled.tokens_at_level (level_of_operator o) m ts) _ (at_level_good (level_of_operator o) m a ts g) (λ rest c. refl)
     (operator_then o _ _ (at_level_good (level_of_operator o + 1) n b us k).lex)
 two_good (method c) m n a b ts us h g k =
-    more_good (bytes.at_level 8 m a) (codes "." ++ (call_word c ++ bytes.bracketed true b)) (spelled.at_level 8 m ts) _ (at_level_good 8 m a ts g) (λ rest e. call_cut c (bytes.bracketed true b) rest)
+    more_good (bytes.at_level 8 m a) (codes "." ++ (call_word c ++ bytes.bracketed true b)) (spelled.tokens_at_level 8 m ts) _ (at_level_good 8 m a ts g) (λ rest e. call_cut c (bytes.bracketed true b) rest)
     (method_lex (call_word c) (b ++ codes ")") (us ++ (Mark Close ∷ [])) (call_text c) (closed_lex b us k))
 two_good (divide s r) m n a b ts us h g k =
-    more_good (bytes.at_level 8 m a) (codes ".divide(" ++ (b ++ (codes ", " ++ (scale_and_mode s r ++ codes ")")))) (spelled.at_level 8 m ts) _ (at_level_good 8 m a ts g) (λ rest c. refl)
+    more_good (bytes.at_level 8 m a) (codes ".divide(" ++ (b ++ (codes ", " ++ (scale_and_mode s r ++ codes ")")))) (spelled.tokens_at_level 8 m ts) _ (at_level_good 8 m a ts g) (λ rest c. refl)
     (method_lex (codes "divide") (b ++ (codes ", " ++ (scale_and_mode s r ++ codes ")"))) _ refl
     (then_lex b (codes ", " ++ (scale_and_mode s r ++ codes ")")) us _ k (λ rest c. refl)
     (sign_then Cut 44 (Mark Comma) (32 ∷ (scale_and_mode s r ++ codes ")")) (rounding_tokens s r) comma_sign (lead Cut (32 ∷ []) (scale_and_mode s r ++ codes ")") (rounding_tokens s r) refl (rounding_lex s r h)))))
@@ -211,9 +211,9 @@ item_good x a ts w g =
     (sign_then Cut 91 (Mark OpenItem) (a ++ codes "]") _ open_item (then_lex a (codes "]") ts (Mark CloseItem ∷ []) g (λ rest c. refl) (λ w r us e c h. close_item w r us e tt h)))
 
 choice_good : (n : ℕ) (c a b : List ℕ) (ts us vs : List Token) → Good c ts → Good a us → Good b vs
-    → Good (bytes.at_level 1 n c ++ (codes " ? " ++ (a ++ (codes " : " ++ b)))) (spelled.at_level 1 n ts ++ (Mark Question ∷ (us ++ (Mark Colon ∷ vs))))
+    → Good (bytes.at_level 1 n c ++ (codes " ? " ++ (a ++ (codes " : " ++ b)))) (spelled.tokens_at_level 1 n ts ++ (Mark Question ∷ (us ++ (Mark Colon ∷ vs))))
 choice_good n c a b ts us vs f g k =
-    more_good (bytes.at_level 1 n c) (codes " ? " ++ (a ++ (codes " : " ++ b))) (spelled.at_level 1 n ts) _ (at_level_good 1 n c ts f) (λ rest c. refl)
+    more_good (bytes.at_level 1 n c) (codes " ? " ++ (a ++ (codes " : " ++ b))) (spelled.tokens_at_level 1 n ts) _ (at_level_good 1 n c ts f) (λ rest c. refl)
     (lead Cut (32 ∷ []) (63 ∷ (32 ∷ (a ++ (codes " : " ++ b)))) (Mark Question ∷ (us ++ (Mark Colon ∷ vs))) refl
     (sign_then Cut 63 (Mark Question) (32 ∷ (a ++ (codes " : " ++ b))) (us ++ (Mark Colon ∷ vs)) question_sign
     (lead Cut (32 ∷ []) (a ++ (codes " : " ++ b)) (us ++ (Mark Colon ∷ vs)) refl (then_lex a (codes " : " ++ b) us (Mark Colon ∷ vs) g (λ rest c. refl)

@@ -25,10 +25,10 @@ use Rattle.pap_tree.specs.Tokens.{Token, Literal, Quoted, Word, Operator, Mark, 
 use Rattle.expr_tokens.specs.private.Views.{First, Stops}
 use Rattle.expr_tokens.proofs.Laws.{all_digits, word_first}
 use Rattle.expr_grammar.specs.SpelledTokens.{leaf_tokens}
-use Rattle.expr_spelling.proofs.Lexing.{Lex, Any, Cut, join, lead, word_lex, cut_no_digit, cut_no_places}
-use Rattle.expr_spelling.proofs.Numerals.{int_lex, long_lex, point_lex, quoted_lex, place_text, digit_first, no_sign}
-use Rattle.expr_spelling.proofs.Pieces.{Good, NoEquals, sign_then, word_then, point_sign, open_sign, close_sign, minus_sign}
-use Rattle.expr_spelling.proofs.Held.{IsHeldLeaf}
+use Rattle.expr_grammar.proofs.Lexing.{Lex, Any, Cut, join, lead, word_lex, cut_no_digit, cut_no_places}
+use Rattle.expr_grammar.proofs.Numerals.{int_lex, long_lex, point_lex, quoted_lex, place_text, digit_first, no_sign}
+use Rattle.expr_grammar.proofs.Pieces.{Good, NoEquals, sign_then, word_then, point_sign, open_sign, close_sign, minus_sign}
+use Rattle.expr_grammar.proofs.Held.{IsHeldLeaf}
 
 -- ---- how digits begin
 

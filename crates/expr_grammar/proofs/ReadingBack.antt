@@ -10,14 +10,15 @@ use Rattle.pap_tree.specs.Texts as texts
 use Rattle.pap_tree.specs.Texts.{Text, Texts}
 use Rattle.pap_tree.specs.Expressions.{IsTest}
 use Rattle.expr_grammar.specs.SpelledTokens.{spelled_tokens}
-use Rattle.expr_grammar.proofs.Laws.{tree_ranged, spelling_text}
-use Rattle.expr_spelling.specs.ReadingBack as trees
-use Rattle.expr_spelling.specs.ReadingBack.{IsInText}
-use Rattle.expr_spelling.proofs.Lexing.{Lexes, lex_end}
-use Rattle.expr_spelling.proofs.Pieces.{Good}
-use Rattle.expr_spelling.proofs.Held.{IsHeld, right_held, tree_held}
-use Rattle.expr_spelling.proofs.Nodes.{GoesDown, node_has}
-use Rattle.expr_spelling.proofs.Trees.{good}
+use Rattle.expr_grammar.proofs.Ranges.{tree_ranged}
+use Rattle.expr_grammar.proofs.SpelledTexts.{spelling_text}
+use Rattle.expr_grammar.specs.ReadingBack as trees
+use Rattle.expr_grammar.specs.ReadingBack.{IsInText}
+use Rattle.expr_grammar.proofs.Lexing.{Lexes, lex_end}
+use Rattle.expr_grammar.proofs.Pieces.{Good}
+use Rattle.expr_grammar.proofs.Held.{IsHeld, right_held, tree_held}
+use Rattle.expr_grammar.proofs.Nodes.{GoesDown, node_has}
+use Rattle.expr_grammar.proofs.Trees.{good}
 
 -- ---- a tree whose parts are within their ranges, and whose spelling's tokens are a text of it
 

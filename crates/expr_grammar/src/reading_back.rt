@@ -3,7 +3,7 @@
 ghost use Rattle.pap_tree.specs.Term.{Term};
 ghost use Rattle.pap_tree.specs.Spelling.{spelling};
 ghost use Rattle.pap_tree.specs.Expressions.{IsTest};
-ghost use Rattle.expr_spelling.specs.ReadingBack.{IsInText};
+ghost use Rattle.expr_grammar.specs.ReadingBack.{IsInText};
 
 /// The canonical spelling of a tree that stands in some text, as a test, as the right side of an assignment or as a node
 /// of these, is a text of that tree.

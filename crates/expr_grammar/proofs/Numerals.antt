@@ -16,7 +16,7 @@ use Rattle.scaled_decimal.proofs.Laws.{length-last_digits, whole_some, digits_la
 use Rattle.pap_tree.specs.Tokens.{Literal, Quoted, int, long, point, greatest_int, greatest_long, IsNumeral, IsPoint}
 use Rattle.expr_tokens.specs.private.Views.{Begins, First, Stops, IsNumeralSplit}
 use Rattle.expr_tokens.proofs.Laws.{all_digits, int_begins, long_begins, point_begins, string_begins, number_no_quote}
-use Rattle.expr_spelling.proofs.Lexing.{Lex, Any, Cut, one, cut_no_digit, cut_no_long, cut_no_places}
+use Rattle.expr_grammar.proofs.Lexing.{Lex, Any, Cut, one, cut_no_digit, cut_no_long, cut_no_places}
 
 -- ---- numerals
 
