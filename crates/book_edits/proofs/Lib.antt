@@ -11,3 +11,14 @@ mod MergeLemmas
 mod RedoneLemmas
 mod PlanLemmas
 mod PlanEditLemmas
+mod PutLemmas
+mod FoldLemmas
+mod PresentLemmas
+mod OrderLemmas
+mod GroupLemmas
+mod RecordLemmas
+mod DraftLemmas
+mod LoadMergeLemmas
+mod NextLemmas
+mod ErrLemmas
+mod LoadLemmas

@@ -4,7 +4,7 @@ use Rattle.std.specs.List.{AllByRecursion}
 use Rattle.std.proofs.lemmas.Bool.{cases_lt}
 use Rattle.std.proofs.lemmas.List.{length-take-le, take_all}
 use Rattle.payroll_records.specs.declared.day.Day.{Day}
-use Rattle.saved_items.specs.SavedBooks.{IsText, Saved}
+use Rattle.saved_items.specs.SavedBooks.{IsSavedText, Saved}
 use Rattle.saved_items.specs.Texts.{Stop, TextSays}
 use Rattle.saved_items.proofs.Laws.{text_once, text_some}
 use Rattle.recalc_engine.specs.Contents.{Contents}
@@ -95,7 +95,7 @@ abbrev Answer : List ℕ → Type 0
 Answer bytes = (said : Result Contents BookFault) × BookSays bytes said
 
 module _ (bytes : List ℕ) (few : length bytes ≤ most_book_text) where
-  whole : (s : Saved) → IsText bytes s → AllByRecursion IsAcceptable s.plans ⊎ ((day : Day) × IsFirstRefused s.plans day) → Answer bytes
+  whole : (s : Saved) → IsSavedText bytes s → AllByRecursion IsAcceptable s.plans ⊎ ((day : Day) × IsFirstRefused s.plans day) → Answer bytes
   whole s h (inl all) = (let es = entries_for s.plans all in (
     Ok (book_of_saved s es.0),
     made_text bytes s es.0 few h es.1,

@@ -5,7 +5,7 @@ use Rattle.std.proofs.lemmas.List.Sums.{sum_by-cons}
 use Rattle.rising_lists.specs.Keyed.{IsRising}
 use Rattle.payroll_records.specs.Orders.{day_cmp}
 use Rattle.plan_calendar.specs.Picking.{AreEntries, Entry}
-use Rattle.saved_items.specs.SavedBooks.{IsSaved, IsText, Saved}
+use Rattle.saved_items.specs.SavedBooks.{IsSaved, IsSavedText, Saved}
 use Rattle.saved_items.specs.SavedBooks as saved
 use Rattle.book_year.specs.Accepted.{Accepted}
 use Rattle.book_edits.specs.Books.{YearRuns, loaded, run_count}
@@ -37,7 +37,7 @@ count_listed (y ∷ ys) =
 
 are_entries : (s : Saved) (es : List (Entry Accepted)) → IsSaved s → map saved_entry es ≡ s.plans → AreEntries es
 are_entries s es h texts = record {
-  rising = rising_map day_cmp saved.day_of saved_entry es (subst (IsRising day_cmp saved.day_of) (sym texts) h.plans.rising);
+  rising = rising_map day_cmp saved.saved_day saved_entry es (subst (IsRising day_cmp saved.saved_day) (sym texts) h.plans.rising);
   few = subst (λ t. t ≤ 64) (sym (ap length texts) ∙ length-map es saved_entry) h.plans.few;
 }
 
@@ -62,10 +62,10 @@ made_saved s es h e = λ i. record {
 }
 
 -- the text of what is saved is the book's
-pub made_text : (bytes : List ℕ) (s : Saved) (es : List (Entry Accepted)) → length bytes ≤ most_book_text → IsText bytes s →
+pub made_text : (bytes : List ℕ) (s : Saved) (es : List (Entry Accepted)) → length bytes ≤ most_book_text → IsSavedText bytes s →
     AreEntriesOf s.plans es → IsTextOf bytes (book_of_saved s es)
 made_text bytes s es few h e = record {
   few = few;
   book_is = made_book s es h.sound e;
-  text = subst (IsText bytes) (sym (made_saved s es h.sound e)) h;
+  text = subst (IsSavedText bytes) (sym (made_saved s es h.sound e)) h;
 }

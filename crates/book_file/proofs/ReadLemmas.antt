@@ -11,10 +11,10 @@ use Rattle.payroll_records.specs.declared.day.Day.{Day}
 use Rattle.payroll_records.specs.Orders.{day_cmp}
 use Rattle.payroll_records.proofs.Laws.{day_total}
 use Rattle.plan_calendar.specs.Picking.{Entry, day_of, plan_of, with_entry}
-use Rattle.saved_items.specs.Fronts.{Front, nothing, titled, worked, planning, running, IsFront, plans_in as front_plans}
-use Rattle.saved_items.specs.SavedBooks.{IsText, Saved, SavedPlan, ArePlans}
+use Rattle.saved_items.specs.Fronts.{FirstItems, nothing, titled, worked, planning, running, AreFirstItems, plans_of_first as front_plans}
+use Rattle.saved_items.specs.SavedBooks.{IsSavedText, Saved, SavedPlan, ArePlans}
 use Rattle.saved_items.specs.SavedBooks as saved
-use Rattle.saved_items.specs.Texts.{Stop, StopsAt}
+use Rattle.saved_items.specs.Texts.{Stop, StopsAtItem}
 use Rattle.saved_items.specs.ItemFaults.{plan_in}
 use Rattle.saved_items.specs.declared.items.PlanItem.{PlanItem}
 use Rattle.pap_plan.specs.Acceptance.{IsAccepted}
@@ -58,7 +58,7 @@ err_more (Err e) P Q f h = f e h
 
 -- ---- one plan more
 
-below_entries : (es : List (Entry Accepted)) (d : Day) → AllByRecursion (λ p. day_cmp (saved.day_of p) d ≡ Less) (map saved_entry es) →
+below_entries : (es : List (Entry Accepted)) (d : Day) → AllByRecursion (λ p. day_cmp (saved.saved_day p) d ≡ Less) (map saved_entry es) →
     AllByRecursion (λ (e : Entry Accepted). day_cmp (day_of e) d ≡ Less) es
 below_entries [] d h = tt
 below_entries (e ∷ es) d h = (h.0, below_entries es d h.1)
@@ -69,15 +69,15 @@ all_more (f ∷ es) e h k = (h.0, all_more es e h.1 k)
 
 module _ (front : List SavedPlan) (p : SavedPlan) (more : List SavedPlan) where
   -- it goes behind the others
-  put_behind : (es : List (Entry Seen)) (seen : Seen) → IsRising day_cmp saved.day_of (front ++ p ∷ more) → AreEntriesOf front (plans_in es) →
+  put_behind : (es : List (Entry Seen)) (seen : Seen) → IsRising day_cmp saved.saved_day (front ++ p ∷ more) → AreEntriesOf front (plans_in es) →
       plans_in (with_entry (p.day, seen) es) ≡ plans_in es ++ (p.day, accepted seen) ∷ []
   put_behind es seen rising are =
-      let below = front_below day_cmp day_total saved.day_of front p more rising in
-      let texts = subst (AllByRecursion (λ t. day_cmp (saved.day_of t) p.day ≡ Less)) (sym are.texts) below in
+      let below = front_below day_cmp day_total saved.saved_day front p more rising in
+      let texts = subst (AllByRecursion (λ t. day_cmp (saved.saved_day t) p.day ≡ Less)) (sym are.texts) below in
       map_put day_cmp day_of accepted_entry (p.day, seen) es
       ∙ put_end day_cmp day_total day_of (p.day, accepted seen) (plans_in es) (below_entries (plans_in es) p.day texts)
 
-  pub next_entries : (es : List (Entry Seen)) (seen : Seen) → IsRising day_cmp saved.day_of (front ++ p ∷ more) → AreEntriesOf front (plans_in es) →
+  pub next_entries : (es : List (Entry Seen)) (seen : Seen) → IsRising day_cmp saved.saved_day (front ++ p ∷ more) → AreEntriesOf front (plans_in es) →
       IsPlanOf p seen → AreEntriesOf (front ++ p ∷ []) (plans_in (with_entry (p.day, seen) es))
   next_entries es seen rising are of =
       let e : Entry Accepted = (p.day, accepted seen) in
@@ -130,14 +130,14 @@ module _ (items : List PlanItem) (i : ℕ) (item : PlanItem) (within : i < lengt
       subst (λ t. AreEntriesOf (map plan_in (take t items)) (plans_in new)) next
       (subst (λ t. AreEntriesOf t (plans_in new)) (sym with_one)
       (subst (λ t. AreEntriesOf (before ++ plan_in item ∷ []) (plans_in t)) (sym e)
-      (next_entries before (plan_in item) after es seen (subst (IsRising day_cmp saved.day_of) parted h.rising) are of)))
+      (next_entries before (plan_in item) after es seen (subst (IsRising day_cmp saved.saved_day) parted h.rising) are of)))
 
   pub item_refused : (es : List (Entry Seen)) (f : BookFault) → AreEntriesOf before (plans_in es) → IsNoPlan (plan_in item) f → HasNoPlan (map plan_in items) f
   item_refused es f are bad = subst (λ t. HasNoPlan t f) (sym parted) (first_no_plan before (plan_in item) after (plans_in es) f are bad)
 
 -- ---- the plans of a front are at most 64, and their days rise
 
-front_plans_are : (f : Front) → IsFront f → ArePlans (front_plans f)
+front_plans_are : (f : FirstItems) → AreFirstItems f → ArePlans (front_plans f)
 front_plans_are nothing h = record { rising = tt; few = omega arith }
 front_plans_are titled h = record { rising = tt; few = omega arith }
 front_plans_are (worked runs steps) h = record { rising = tt; few = omega arith }
@@ -166,20 +166,20 @@ counts_made s es r why error q f before now are is memory was counts =
 -- ---- what the text says
 
 module _ (bytes : List ℕ) (few : length bytes ≤ most_book_text) where
-  pub unread_whole : (s : Saved) (f : BookFault) → IsText bytes s → HasNoPlan s.plans f → IsBookFaultOrMemory bytes f
+  pub unread_whole : (s : Saved) (f : BookFault) → IsSavedText bytes s → HasNoPlan s.plans f → IsBookFaultOrMemory bytes f
   unread_whole s (fault.Plan day) h bad = record { few = few; said = Ok s; says = h; first = bad }
   unread_whole s (fault.Memory e) h bad = few
   unread_whole s fault.Long h bad = absurd bad
   unread_whole s (fault.Form item) h bad = absurd bad
 
-  pub unread_broken : (stop : Stop) (f : BookFault) → StopsAt bytes stop → HasNoPlan stop.plans f →
+  pub unread_broken : (stop : Stop) (f : BookFault) → StopsAtItem bytes stop → HasNoPlan stop.plans f →
       IsBookFaultOrMemory bytes f
   unread_broken stop (fault.Plan day) h bad = record { few = few; said = Err stop; says = h; first = bad }
   unread_broken stop (fault.Memory e) h bad = few
   unread_broken stop fault.Long h bad = absurd bad
   unread_broken stop (fault.Form item) h bad = absurd bad
 
-  pub breaks : (stop : Stop) (es : List (Entry Accepted)) → StopsAt bytes stop → AreEntriesOf stop.plans es → BreaksAtItem bytes stop.item
+  pub breaks : (stop : Stop) (es : List (Entry Accepted)) → StopsAtItem bytes stop → AreEntriesOf stop.plans es → BreaksAtItem bytes stop.item
   breaks stop es h are = record {
     few = few;
     stop = stop;
@@ -188,14 +188,14 @@ module _ (bytes : List ℕ) (few : length bytes ≤ most_book_text) where
     item_is = refl;
   }
 
-  pub says_book : (s : Saved) (book : Contents) → IsText bytes s → IsBookOf s book → IsTextOf bytes book
+  pub says_book : (s : Saved) (book : Contents) → IsSavedText bytes s → IsBookOf s book → IsTextOf bytes book
   says_book s book h of = subst (IsTextOf bytes) (sym of.book_is) (made_text bytes s of.entries few h of.are)
 
   abbrev Said : Type 0
   Said = Result Contents BookFault
 
   -- the counter
-  within : (s : Saved) (old now : ℕ) → IsText bytes s → (now ≡ old) ⊎ IsPartlyMade s old now → (said : Said) → BookSays bytes said → now ≤ old + said_cost said
+  within : (s : Saved) (old now : ℕ) → IsSavedText bytes s → (now ≡ old) ⊎ IsPartlyMade s old now → (said : Said) → BookSays bytes said → now ≤ old + said_cost said
   within s old now h (inl same) said says = omega (arith, same)
   within s old now h (inr part) said says =
       subst (λ t. now ≤ old + said_cost t) (one bytes (Ok part.book) said (says_book s part.book h part.of) says) part.most
@@ -204,7 +204,7 @@ module _ (bytes : List ℕ) (few : length bytes ≤ most_book_text) where
   later s old now (inl same) = omega (arith, same)
   later s old now (inr part) = part.later
 
-  pub counts_read : (s : Saved) (result : Result RestoredBook BookFault) (old now : ℕ) → IsText bytes s →
+  pub counts_read : (s : Saved) (result : Result RestoredBook BookFault) (old now : ℕ) → IsSavedText bytes s →
       CountsMade s result old now → CountsRead bytes result old now
   counts_read s (Ok restored) old now h c = c
   counts_read s (Err (fault.Memory e)) old now h c = (later s old now c, within s old now h c)

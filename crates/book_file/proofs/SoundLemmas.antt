@@ -32,7 +32,7 @@ all_runs (y ∷ ys) h =
 
 plans_are : (es : List (Entry Accepted)) → AreEntries es → ArePlans (map saved_entry es)
 plans_are es h = record {
-  rising = map_rising day_cmp saved.day_of saved_entry es h.rising;
+  rising = map_rising day_cmp saved.saved_day saved_entry es h.rising;
   few = subst (λ t. t ≤ 64) (sym (length-map es saved_entry)) h.few;
 }
 

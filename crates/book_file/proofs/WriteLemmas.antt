@@ -6,7 +6,7 @@ use Rattle.std.proofs.Math.Seq.{take-suc}
 use Rattle.std.proofs.lemmas.Bool.{cases_lt}
 use Rattle.std.proofs.lemmas.List.{append-nil, get_or_default, length-map, take-append-drop}
 use Rattle.std.proofs.lemmas.List.Folds.{flat_map-map}
-use Rattle.saved_items.specs.SavedBooks.{end_text, head_text, plan_text, run_count_text, run_text, saved_plan}
+use Rattle.saved_items.specs.SavedBooks.{end_text, head_text, saved_plan_text, run_count_text, saved_run_text, saved_plan}
 use Rattle.payroll_records.specs.declared.record.Record.{Record}
 use Rattle.plan_calendar.specs.Picking.{Entry}
 use Rattle.pap_plan.specs.Plans.{Seen}
@@ -27,13 +27,13 @@ use Rattle.book_file.specs.declared.refusal.SaveRefusal.TheVariants as refusal
 use Rattle.book_file.proofs.BookLemmas.{count_listed}
 use Rattle.book_file.proofs.RunLemmas.{listed}
 
-entries_text : (es : List (Entry Accepted)) → flat_map entry_text es ≡ flat_map plan_text (map saved_entry es)
+entries_text : (es : List (Entry Accepted)) → flat_map entry_text es ≡ flat_map saved_plan_text (map saved_entry es)
 entries_text [] = refl
 entries_text (e ∷ es) = ap (λ t. entry_text e ++ t) (entries_text es)
 
-years_text : (ys : List YearRuns) → flat_map year_text ys ≡ flat_map run_text (listed ys)
+years_text : (ys : List YearRuns) → flat_map year_text ys ≡ flat_map saved_run_text (listed ys)
 years_text [] = refl
-years_text (y ∷ ys) = ap (λ t. year_text y ++ t) (years_text ys) ∙ sym (flat_map-append run_text y.runs (listed ys))
+years_text (y ∷ ys) = ap (λ t. year_text y ++ t) (years_text ys) ∙ sym (flat_map-append saved_run_text y.runs (listed ys))
 
 -- ---- one entry more, one year more
 
@@ -55,25 +55,25 @@ more_text f before text new xs i x within is said more =
     more ∙ ap (λ t. t ++ f x) said ∙ append_assoc before (flat_map f (take i xs)) (f x) ∙ ap (λ t. before ++ t) (sym one)
 
 pub more_runs : (before text new : List ℕ) (rs : List Record) (i : ℕ) (r : Record) → i < length rs → r ≡ get_or rs i r →
-    text ≡ before ++ flat_map run_text (take i rs) → new ≡ text ++ run_text r → new ≡ before ++ flat_map run_text (take (i + 1) rs)
+    text ≡ before ++ flat_map saved_run_text (take i rs) → new ≡ text ++ saved_run_text r → new ≡ before ++ flat_map saved_run_text (take (i + 1) rs)
 more_runs before text new rs i r within is said more =
     let next : suc i ≡ i + 1 = omega arith in
-    more_text run_text before text new rs i r within is said more ∙ ap (λ n. before ++ flat_map run_text (take n rs)) next
+    more_text saved_run_text before text new rs i r within is said more ∙ ap (λ n. before ++ flat_map saved_run_text (take n rs)) next
 
 pub more_plans : (before text new : List ℕ) (es : List (Entry Seen)) (i : ℕ) (e : Entry Seen) (plan limits : List ℕ) → i < length es →
     e ≡ get_or es i e → plan ≡ e.1.plan → limits ≡ e.1.limits → text ≡ before ++ flat_map entry_text (plans_in (take i es)) →
-    new ≡ text ++ plan_text (saved_plan e.0 plan limits) → new ≡ before ++ flat_map entry_text (plans_in (take (i + 1) es))
+    new ≡ text ++ saved_plan_text (saved_plan e.0 plan limits) → new ≡ before ++ flat_map entry_text (plans_in (take (i + 1) es))
 more_plans before text new es i e plan limits within is p l said more =
     let f : Entry Seen → List ℕ = λ e. entry_text (accepted_entry e) in
     let here : text ≡ before ++ flat_map f (take i es) = said ∙ ap (λ t. before ++ t) (flat_map-map entry_text accepted_entry (take i es)) in
-    let there : new ≡ text ++ f e = more ∙ (λ k. text ++ plan_text (saved_plan e.0 (p k) (l k))) in
+    let there : new ≡ text ++ f e = more ∙ (λ k. text ++ saved_plan_text (saved_plan e.0 (p k) (l k))) in
     let next : suc i ≡ i + 1 = omega arith in
     more_text f before text new es i e within is here there
     ∙ ap (λ t. before ++ t) (sym (flat_map-map entry_text accepted_entry (take (suc i) es)))
     ∙ ap (λ t. before ++ flat_map entry_text (plans_in (take t es))) next
 
 pub more_years : (before text new : List ℕ) (ys : List Year) (i : ℕ) (y : Year) → i < length ys → y ≡ get_or ys i y →
-    text ≡ before ++ flat_map year_text (runs_in (take i ys)) → new ≡ text ++ flat_map run_text y.records.items →
+    text ≡ before ++ flat_map year_text (runs_in (take i ys)) → new ≡ text ++ flat_map saved_run_text y.records.items →
     new ≡ before ++ flat_map year_text (runs_in (take (i + 1) ys))
 more_years before text new ys i y within is said more =
     let f : Year → List ℕ = λ y. year_text (runs_in_year y) in
@@ -84,7 +84,7 @@ more_years before text new ys i y within is said more =
     ∙ ap (λ n. before ++ flat_map year_text (runs_in (take n ys))) next
 
 pub years_cut : (before text new : List ℕ) (ys : List Year) (i : ℕ) (y : Year) → i < length ys → y ≡ get_or ys i y →
-    text ≡ before ++ flat_map year_text (runs_in (take i ys)) → new ≡ text ++ flat_map run_text y.records.items →
+    text ≡ before ++ flat_map year_text (runs_in (take i ys)) → new ≡ text ++ flat_map saved_run_text y.records.items →
     most_book_text < length new → most_book_text < length (before ++ flat_map year_text (runs_in ys))
 years_cut before text new ys i y within is said more long =
     let f : Year → List ℕ = λ y. year_text (runs_in_year y) in

@@ -1,7 +1,7 @@
 -- The text as which a book is saved.
 use Rattle.std.specs.Prelude.{◌≤◌, ℕ, List, length, map}
 use Rattle.plan_calendar.specs.Picking.{Entry, day_of, plan_of}
-use Rattle.saved_items.specs.SavedBooks.{IsText, Saved, SavedPlan, saved_text}
+use Rattle.saved_items.specs.SavedBooks.{IsSavedText, Saved, SavedPlan, saved_text}
 use Rattle.book_year.specs.Accepted.{Accepted}
 use Rattle.recalc_engine.specs.BookLaws.{IsBook, runs_listed}
 use Rattle.recalc_engine.specs.Contents.{Contents}
@@ -29,4 +29,4 @@ book_text book = saved_text (saved_of book)
 pub record IsTextOf (bytes : List ℕ) (book : Contents) : Type 0 where
   pub few : length bytes ≤ most_book_text
   pub book_is : IsBook book
-  pub text : IsText bytes (saved_of book)
+  pub text : IsSavedText bytes (saved_of book)

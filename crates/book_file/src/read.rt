@@ -12,7 +12,7 @@ ghost use Rattle.book_file.specs.private.Views.{CountsMade, HasNoPlan, IsBookOf}
 use crate::plans::accept_plans;
 use crate::{BookFault, MOST_BOOK_TEXT};
 use recalc_engine::{Book, RestoredBook, Work};
-use saved_items::{ItemFault, Items, read_items};
+use saved_items::{ItemFault, SavedBook, read_items};
 use std::alloc::Global;
 use std::sync::ledger::Ledger;
 use steps::Steps;
@@ -47,7 +47,7 @@ pub fn read_book<L: Ledger>(
 /// The book of what is saved, once its plans are accepted, and the work of running all its jobs.
 fn restore<L: Ledger>(
     alloc: Global,
-    items: Items<'_>,
+    items: SavedBook<'_>,
     steps: &mut Steps<L>,
 ) -> Result<RestoredBook, BookFault>
     requires { IsSaved (saved_in items) }

@@ -1,7 +1,7 @@
 //! The text of a book.
 ghost use Rattle.std.specs.Prelude.{◌≡◌, ◌++◌, All, IfOk, IfErr, OnOk, Ok};
 ghost use Rattle.std.specs.List.{flat_map};
-ghost use Rattle.saved_items.specs.SavedBooks.{IsRun, IsWork, run_text};
+ghost use Rattle.saved_items.specs.SavedBooks.{IsRun, IsWork, saved_run_text};
 ghost use Rattle.book_year.specs.Accepted.{plans_in};
 ghost use Rattle.book_edits.specs.Kept.{runs_in};
 ghost use Rattle.book_file.specs.BookLaws.{BooksAreSaved, BooksAreSavedOneWay};
@@ -78,7 +78,7 @@ fn write_years(text: &mut Vec<u8>, years: &[Year]) -> Result<(), SaveRefusal>
 /// Appends these runs, each of which has a text.
 fn write_runs(text: &mut Vec<u8>, runs: &[Record]) -> Result<(), AllocError>
     ensures runs { OnOk result (All IsRun runs.now) }
-    ensures ok { OnOk result (text.new.items ≡ text.old.items ++ flat_map run_text runs.now) }
+    ensures ok { OnOk result (text.new.items ≡ text.old.items ++ flat_map saved_run_text runs.now) }
 {
     for run in runs {
         run_law(run);

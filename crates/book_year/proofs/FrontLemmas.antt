@@ -28,7 +28,8 @@ use Rattle.book_year.proofs.RowLemmas.{rows_append, row_of_day}
 use Rattle.book_year.proofs.OldLemmas.{next, rows_length}
 use Rattle.book_year.proofs.QuietLemmas.{IsFound, own_rows, none_new, rows_agree}
 use Rattle.book_year.proofs.BeforeLemmas.{IsBefore, day_back}
-use Rattle.book_year.proofs.ChainLemmas.{IsWalk, is_bounded}
+use Rattle.book_year.specs.private.ChainClauses.{lent_if}
+use Rattle.book_year.proofs.ChainLemmas.{IsWalk, is_bounded, lent_bounded}
 
 -- ---- plans
 
@@ -125,9 +126,9 @@ bounded_read : (xs : List Row) → AllByRecursion IsBounded (map kept xs) → Al
 bounded_read [] h = tt
 bounded_read (x ∷ xs) h = (h.0, bounded_read xs h.1)
 
-pub walk_front : (p : Picks) (old : Old) (items : List (Bor Record)) (n : ℕ) (earlier : List Earlier) (began now : ℕ) → IsOld (before p) old → KeepsFront p old items n →
-    earlier ≡ map earlier_of (take n (year_rows (before p) old.records.now)) → now ≡ began → IsWalk (after p) (old_jobs p old) (take n (records_of items)) (take n old.outcomes.now) earlier 0 0 began now
-walk_front p old items n earlier began now is front are same =
+pub walk_front : (p : Picks) (old : Old) (reads : Bool) (items : List (Bor Record)) (n : ℕ) (earlier : List Earlier) (began now : ℕ) → IsOld (before p) old → KeepsFront p old items n →
+    earlier ≡ lent_if reads (map earlier_of (take n (year_rows (before p) old.records.now))) → now ≡ began → IsWalk (after p) (old_jobs p old) reads (take n (records_of items)) (take n old.outcomes.now) earlier 0 0 began now
+walk_front p old reads items n earlier began now is front are same =
     let rs = old.records.now in
     let all = year_rows (before p) rs in
     let these : year_rows (after p) (take n (records_of items)) ≡ take n all =
@@ -138,9 +139,9 @@ walk_front p old items n earlier began now is front are same =
     let bounded = all_front IsBounded old.outcomes.now n is.bounded in
     record {
       outcomes_are = first ∙ ap (map kept) (sym these);
-      earlier_are = are ∙ ap (map earlier_of) (sym these);
+      earlier_are = are ∙ ap (λ t. lent_if reads (map earlier_of t)) (sym these);
       kept_bounded = bounded;
-      bounded = subst (λ t. AllByRecursion is_bounded t) (sym are) (bounded_read (take n all) (subst (λ t. AllByRecursion IsBounded t) first bounded));
+      bounded = subst (λ t. AllByRecursion is_bounded t) (sym are) (lent_bounded reads (map earlier_of (take n all)) (bounded_read (take n all) (subst (λ t. AllByRecursion IsBounded t) first bounded)));
       runs_are = sym (ap length none);
       taken_are = sym (ap total_cost none);
       runs_few = omega arith;

@@ -1,5 +1,6 @@
 //! The walk along a year's runs, in order of day.
-ghost use Rattle.std.specs.Prelude.{◌≡◌, ◌≤◌, length, Option, Some, None, IfOk};
+ghost use Rattle.std.specs.Prelude.{◌≡◌, ◌≤◌, All, length, Option, Some, None, IfOk};
+ghost use Rattle.std.specs.Bool.{OnFalse};
 ghost use Rattle.std.specs.List.{AllByRecursion};
 ghost use Rattle.std.specs.Option.{option_map};
 ghost use Rattle.payroll_records.specs.declared.day.Day.{Day as Date};
@@ -15,15 +16,15 @@ ghost use Rattle.book_year.specs.Kept.{IsOld};
 ghost use Rattle.book_year.specs.Picks.{before, after, KnowsSame, ArePicks, picked_entry};
 ghost use Rattle.book_year.specs.private.ChainClauses.{old_parts, outcome_job, IsOldJob, KeepsOutputs, IsRan, CountsRun};
 ghost use Rattle.book_year.specs.ChainClauses.{old_jobs, chain_cost, IsChain, KeepsFront};
-ghost use Rattle.book_year.specs.private.ChainClauses.{IsChainRest};
+ghost use Rattle.book_year.specs.private.ChainClauses.{IsChainRest, PlanReadsNothing};
 
-use crate::done::{Done, copied, copy_of, front};
+use crate::done::{Done, copied, copy_of, lent_front};
 use crate::outcome::{Outcome, State, Work};
 use crate::picks::{Picked, Picks};
 use crate::records::place_run;
 use carry_bindings::{Earlier, Filled};
 use limits_file::Items;
-use pay_run::{filled, run};
+use pay_run::{filled, reads_earlier, run};
 use payroll_records::{Day, NamedValue, Record};
 use scaled_decimal::Dec;
 use std::alloc::{AllocError, Global};
@@ -119,24 +120,51 @@ pub(crate) fn recalculate_rest<L: Ledger>(
     ensures counted { Counts result steps.old steps.new
         (chain_cost picks.now old.entry records.now) }
 {
-    let earlier = front(alloc, old, kept)?;
+    let runs_left = &records[kept..];
+    let reads = some_reads(picks, runs_left);
+    let earlier = lent_front(alloc, old, kept, reads)?;
     let mut done = Done {
         outcomes: Vec::new(alloc),
         earlier,
     };
     let mut runs = 0;
     let mut taken = 0;
-    for item in &records[kept..] {
+    for item in runs_left {
         let ran = next_run(alloc, picks, old, item, done.earlier.as_slice(), steps)?;
         runs += ran.work.runs;
         taken += ran.work.steps;
-        done.push(alloc, item.day, ran.outcome)?;
+        done.push(alloc, item.day, ran.outcome, reads)?;
     }
     Ok(Rest {
         kept,
         outcomes: done.outcomes,
         work: Work { runs, steps: taken },
     })
+}
+
+/// Whether the plan of some run's day reads what earlier runs came to.
+fn some_reads(picks: &Picks, records: &[&Record]) -> bool
+    requires { ArePicks picks.now }
+    ensures { OnFalse result
+        (All (λ item. PlanReadsNothing (after picks.now item.now.day)) records.now) }
+{
+    for item in records {
+        if plan_reads(picks, item.day) {
+            return true;
+        }
+    }
+    false
+}
+
+/// Whether a day has a plan that reads what earlier runs came to.
+fn plan_reads(picks: &Picks, day: Day) -> bool
+    requires { ArePicks picks.now }
+    ensures { OnFalse result (PlanReadsNothing (after picks.now day)) }
+{
+    match picks.pick(day) {
+        Some(picked) => reads_earlier(picked.plan),
+        None => false,
+    }
 }
 
 /// Whether the inputs are the same, with the same scales.

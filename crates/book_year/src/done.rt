@@ -2,6 +2,7 @@
 ghost use Rattle.std.specs.Prelude.{◌≡◌, ◌≤◌, ◌++◌, [], ◌∷◌, length, map, take, IfOk, OnOk};
 ghost use Rattle.book_year.specs.Kept.{IsOld};
 ghost use Rattle.book_year.specs.Rows.{Planned, earlier_of, outputs_in, read_of, year_rows};
+ghost use Rattle.book_year.specs.private.ChainClauses.{lent_if};
 
 use crate::chain::Old;
 use crate::outcome::{Outcome, State};
@@ -11,7 +12,7 @@ use payroll_records::{Day, NamedValue};
 use scaled_decimal::Dec;
 use std::alloc::{AllocError, Global};
 
-/// What the runs behind a front came to, and what later ones read of all that are done.
+/// What the runs behind a front came to, and what later ones read of all that are done: nothing where no plan reads it.
 #[derive(Drop)]
 pub(crate) struct Done {
     pub(crate) outcomes: Vec<Outcome>,
@@ -19,26 +20,47 @@ pub(crate) struct Done {
 }
 
 impl Done {
-    /// Puts one run more behind them.
+    /// Puts one run more behind them. Its outputs are kept for later ones only where these read them.
     pub(crate) fn push(
         &mut self,
         alloc: Global,
         day: Day,
         outcome: Outcome,
+        reads: bool,
     ) -> Result<(), AllocError>
         ensures outcomes { OnOk result
             (self.new.outcomes.items ≡ self.old.outcomes.items ++ outcome ∷ []) }
-        ensures earlier { OnOk result
-            (self.new.earlier.items ≡ self.old.earlier.items ++ read_of day outcome.state ∷ []) }
+        ensures earlier { OnOk result (self.new.earlier.items
+            ≡ self.old.earlier.items ++ lent_if reads (read_of day outcome.state ∷ [])) }
     {
-        let outputs = outputs_of(alloc, &outcome.state)?;
-        self.earlier.push(Earlier { day, outputs })?;
+        if reads {
+            let outputs = outputs_of(alloc, &outcome.state)?;
+            self.earlier.push(Earlier { day, outputs })?;
+        }
         Ok(self.outcomes.push(outcome)?)
     }
 }
 
+/// What later runs read of the first `count` runs of a year, where they read anything.
+pub(crate) fn lent_front(
+    alloc: Global,
+    old: Old,
+    count: usize,
+    reads: bool,
+) -> Result<Vec<Earlier>, AllocError>
+    requires within { count ≤ length old.records.now }
+    requires each { length old.outcomes.now ≡ length old.records.now }
+    ensures { (planned : Planned) → IsOld planned old.entry → IfOk result (λ read. read.items
+        ≡ lent_if reads (map earlier_of (take count (year_rows planned old.entry.records.now)))) }
+{
+    if reads {
+        return front(alloc, old, count);
+    }
+    Ok(Vec::new(alloc))
+}
+
 /// What later runs read of the first `count` runs of a year.
-pub(crate) fn front(alloc: Global, old: Old, count: usize) -> Result<Vec<Earlier>, AllocError>
+fn front(alloc: Global, old: Old, count: usize) -> Result<Vec<Earlier>, AllocError>
     requires within { count ≤ length old.records.now }
     requires each { length old.outcomes.now ≡ length old.records.now }
     ensures { (planned : Planned) → IsOld planned old.entry → IfOk result (λ read. read.items

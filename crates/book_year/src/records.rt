@@ -39,11 +39,11 @@ fn place_reference(runs: &[&Record], day: Day) -> Result<usize, usize>
     runs.binary_search_by_key(&day, |r| r.day)
 }
 
-/// References to all records.
+/// References to all records, with room for one more.
 pub fn references(alloc: Global, records: &[Record]) -> Result<Vec<&Record>, AllocError>
     ensures { IfOk result (λ runs. ReferTo records.now runs.items) }
 {
-    let mut runs = Vec::new(alloc);
+    let mut runs = Vec::with_capacity(alloc, records.len() + 1)?;
     for run in records {
         runs.push(run)?;
     }

@@ -1,4 +1,5 @@
 pub mod AmountLemmas
+pub mod CarryLemmas
 pub mod FitLemmas
 pub mod NameLemmas
 pub mod OutputLemmas

@@ -1,5 +1,5 @@
 -- The inputs of a run, or what it waits for or lacks: the first answer that applies (docs/PROFILE.md, "The inputs of a run").
-use Rattle.std.specs.Prelude.{◌↔◌, IsTrue, ℕ, List, Option, Some, None, Bool, true, not, ◌&&◌, nat_le, if◌then◌else◌, is_some, is_none, option_map}
+use Rattle.std.specs.Prelude.{◌≡◌, ◌↔◌, IsTrue, ℕ, List, [], Option, Some, None, Bool, true, not, ◌&&◌, nat_le, if◌then◌else◌, is_some, is_none, option_map}
 use Rattle.std.specs.Option.{option_or, option_map_or}
 use Rattle.std.specs.List.{find, filter_map, list_any}
 use Rattle.std.specs.Ordering.{is_gt}
@@ -89,6 +89,12 @@ filled_by slots values earlier =
     first_of (waits slots earlier) (unknown slots values) (missing slots values earlier)
     (outside slots values earlier)
     (inputs slots values earlier)
+
+-- what is filled in is the same whatever the earlier runs came to
+abbrev pub ReadsNothing : List Slot → Type 0
+ReadsNothing slots =
+    (values : List NamedValue) (earlier : List Earlier)
+    → filled_by slots values earlier ≡ filled_by slots values []
 
 -- ---- a law: `fits` is true exactly where the value fits the limit
 

@@ -1,9 +1,10 @@
 //! The inputs of a run.
 ghost use Rattle.std.specs.Prelude.{◌≡◌, ◌≤◌, IfOk, None, length};
+ghost use Rattle.std.specs.Bool.{OnFalse};
 ghost use Rattle.std.specs.List.{AllByRecursion};
 ghost use Rattle.carry_bindings.specs.Conditions.{AreBounded, KeepsFactorLimit};
 ghost use Rattle.carry_bindings.specs.Limits.{most_runs};
-ghost use Rattle.carry_bindings.specs.Filling.{FitsIsTold, filled_by, first_of, given, has_carry, inputs, missing, outside};
+ghost use Rattle.carry_bindings.specs.Filling.{FitsIsTold, ReadsNothing, filled_by, first_of, given, has_carry, inputs, missing, outside};
 ghost use Rattle.carry_bindings.specs.Filling.{value_of, waits};
 ghost use Rattle.carry_bindings.specs.private.OutputViews.{AreAlike};
 ghost use Rattle.carry_bindings.specs.private.Views.{places_of};
@@ -72,6 +73,14 @@ pub fn fill(
         return Ok(Filled::State(Blocked::Missing(name)));
     }
     inputs(alloc, slots, places.as_slice(), &item.values, earlier)
+}
+
+/// Whether some input carries. Where none does, a run reads nothing of the earlier ones of its year.
+pub fn reads_earlier(spec: &Spec) -> bool
+    ensures exact { result ≡ has_carry spec.now.slots }
+    ensures none { OnFalse result (ReadsNothing spec.now.slots) }
+{
+    has_carry(spec.slots.as_slice())
 }
 
 /// The day that the run waits for.

@@ -7,4 +7,4 @@ mod names;
 mod outputs;
 
 pub use carried::Earlier;
-pub use filling::{Blocked, Filled, fill, fill_laws};
+pub use filling::{Blocked, Filled, fill, fill_laws, reads_earlier};

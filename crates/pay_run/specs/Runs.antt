@@ -44,6 +44,12 @@ slots_of p = filter_map (slot_of p.meaning.limits) p.meaning.flowchart.inputs
 unfoldable pub filled : Accepted → List NamedValue → List Earlier → Filled
 filled p values earlier = filled_by (slots_of p) values earlier
 
+-- the inputs of a run are the same whatever the earlier runs came to
+abbrev pub ReadsNothing : Accepted → Type 0
+ReadsNothing p =
+    (values : List NamedValue) (earlier : List Earlier)
+    → filled p values earlier ≡ filled p values []
+
 -- values under the names of declarations, one for each
 abbrev pub named_values : List Declaration → List Decimal → List NamedValue
 named_values [] vs = []

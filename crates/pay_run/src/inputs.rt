@@ -1,12 +1,13 @@
 //! The inputs of a run.
 ghost use Rattle.std.specs.Prelude.{◌≤◌, All, IfOk, length};
+ghost use Rattle.std.specs.Bool.{OnFalse};
 ghost use Rattle.std.specs.List.{AllByRecursion};
 ghost use Rattle.scaled_decimal.specs.Limits.{IsKept};
 ghost use Rattle.carry_bindings.specs.Conditions.{AreBounded};
 ghost use Rattle.carry_bindings.specs.Limits.{most_runs};
 ghost use Rattle.pay_run.specs.Accepted.{accepted};
 ghost use Rattle.pay_run.specs.RunClauses.{Fills};
-ghost use Rattle.pay_run.specs.Runs.{filled, FilledRunsAreSafe};
+ghost use Rattle.pay_run.specs.Runs.{filled, FilledRunsAreSafe, ReadsNothing};
 
 use carry_bindings::{Earlier, Filled, fill};
 use pap_plan::Plan;
@@ -34,6 +35,13 @@ pub fn filled(
         }
         Filled::State(why) => Ok(Filled::State(why)),
     }
+}
+
+/// Whether the plan's runs read what earlier ones of their year came to.
+pub fn reads_earlier(plan: &Plan) -> bool
+    ensures { OnFalse result (ReadsNothing (accepted plan.now)) }
+{
+    carry_bindings::reads_earlier(plan.spec())
 }
 
 /// Each decimal is within the limits of kept ones, as its type says.

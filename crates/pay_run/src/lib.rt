@@ -4,5 +4,5 @@
 mod inputs;
 mod outputs;
 
-pub use inputs::{each_is_kept, filled, run_laws};
+pub use inputs::{each_is_kept, filled, reads_earlier, run_laws};
 pub use outputs::{Finished, run};

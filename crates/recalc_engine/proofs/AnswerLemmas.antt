@@ -21,9 +21,9 @@ use Rattle.book_edits.specs.declared.refusal.EditRefusal.TheVariants as refusal
 use Rattle.book_edits.specs.Books.{run_at, run_count, source_of, withdrawal}
 use Rattle.book_edits.specs.Refusals.{CanAdd, HasMostRecords, IsMonthOf, IsOne, most_records}
 use Rattle.book_edits.specs.Replans.{HasMostPlans, most_plans}
-use Rattle.book_loads.specs.Loads.{CanLoad, IsOver, first_present}
+use Rattle.book_edits.specs.Loads.{CanLoad, IsOver, first_present}
 use Rattle.recalc_engine.specs.Contents.{Contents}
-use Rattle.recalc_engine.specs.EditAnswers.{add, change, withdraw, load, put, drop, EditAnswers, EditsHaveOneAnswer, HasOneAnswer, edited_book}
+use Rattle.recalc_engine.specs.EditAnswers.{add, change, withdraw, load, put, drop, EditAnswers, EditsHaveOneAnswer, EditHasOneAnswer, edited_book}
 
 none_or_some : {X : Type 0} (o : Option X) → IsNone o → IsSome o → ⊥
 none_or_some None n s = cc
@@ -35,7 +35,7 @@ Answer = Result Contents EditRefusal
 -- ---- a run added
 
 module _ (book : Contents) (r : Record) where
-  add_taken : IsSome (run_at book.years (key_of r)) → HasOneAnswer book (add r)
+  add_taken : IsSome (run_at book.years (key_of r)) → EditHasOneAnswer book (add r)
   add_taken there = record { answer = Err (refusal.Present (key_of r)); says = (refl, there); alone = by }
     where
       by : (other : Answer) → EditAnswers book (add r) other → other ≡ Err (refusal.Present (key_of r))
@@ -48,7 +48,7 @@ module _ (book : Contents) (r : Record) where
       by (Err refusal.Plans) h = absurd h
       by (Err (refusal.NoPlanThere d)) h = absurd h
 
-  add_full : HasMostRecords book.years r → HasOneAnswer book (add r)
+  add_full : HasMostRecords book.years r → EditHasOneAnswer book (add r)
   add_full full = record { answer = Err refusal.Records; says = full; alone = by }
     where
       by : (other : Answer) → EditAnswers book (add r) other → other ≡ Err refusal.Records
@@ -62,7 +62,7 @@ module _ (book : Contents) (r : Record) where
       by (Err refusal.Plans) h = absurd h
       by (Err (refusal.NoPlanThere d)) h = absurd h
 
-  add_made : CanAdd book.years r → HasOneAnswer book (add r)
+  add_made : CanAdd book.years r → EditHasOneAnswer book (add r)
   add_made can = record { answer = Ok (edited_book (add r) book); says = (can, refl); alone = by }
     where
       by : (other : Answer) → EditAnswers book (add r) other → other ≡ Ok (edited_book (add r) book)
@@ -76,16 +76,16 @@ module _ (book : Contents) (r : Record) where
       by (Err refusal.Plans) h = absurd h
       by (Err (refusal.NoPlanThere d)) h = absurd h
 
-  add_free : IsNone (run_at book.years (key_of r)) → HasOneAnswer book (add r)
+  add_free : IsNone (run_at book.years (key_of r)) → EditHasOneAnswer book (add r)
   add_free free = elim (cases_lt most_records (run_count book.years + 1)) [
     | inl over ↦ add_full (record { free = free; full = over })
     | inr not_over ↦ add_made (record { free = free; room = omega arith })
   ]
 
-  add_once : HasOneAnswer book (add r)
+  add_once : EditHasOneAnswer book (add r)
   add_once = by (run_at book.years (key_of r)) refl
     where
-      by : (o : Option Record) → run_at book.years (key_of r) ≡ o → HasOneAnswer book (add r)
+      by : (o : Option Record) → run_at book.years (key_of r) ≡ o → EditHasOneAnswer book (add r)
       by None e = add_free (subst IsNone (sym e) refl)
       by (Some s) e = add_taken (subst IsSome (sym e) refl)
 
@@ -116,7 +116,7 @@ month_is d (when.Month m) h =
 month_is d (when.Day e) h = absurd h
 
 module _ (book : Contents) (r : Record) where
-  change_absent : source_of book.years r ≡ Empty → HasOneAnswer book (change r)
+  change_absent : source_of book.years r ≡ Empty → EditHasOneAnswer book (change r)
   change_absent none =
       record { answer = Err (refusal.Absent r.employee (when.Month (month_of r.day))); says = (refl, (refl, refl), none); alone = by }
     where
@@ -131,7 +131,7 @@ module _ (book : Contents) (r : Record) where
       by (Err refusal.Plans) h = absurd h
       by (Err (refusal.NoPlanThere d)) h = absurd h
 
-  change_several : source_of book.years r ≡ Several → HasOneAnswer book (change r)
+  change_several : source_of book.years r ≡ Several → EditHasOneAnswer book (change r)
   change_several some =
       record { answer = Err (refusal.Several r.employee (month_of r.day)); says = (refl, (refl, refl), some); alone = by }
     where
@@ -147,7 +147,7 @@ module _ (book : Contents) (r : Record) where
       by (Err refusal.Plans) h = absurd h
       by (Err (refusal.NoPlanThere d)) h = absurd h
 
-  change_made : (k : Key) → source_of book.years r ≡ One k → HasOneAnswer book (change r)
+  change_made : (k : Key) → source_of book.years r ≡ One k → EditHasOneAnswer book (change r)
   change_made k one =
       record { answer = Ok (edited_book (change r) book); says = (subst IsOne (sym one) tt, refl); alone = by }
     where
@@ -161,10 +161,10 @@ module _ (book : Contents) (r : Record) where
       by (Err refusal.Plans) h = absurd h
       by (Err (refusal.NoPlanThere d)) h = absurd h
 
-  change_once : HasOneAnswer book (change r)
+  change_once : EditHasOneAnswer book (change r)
   change_once = by (source_of book.years r) refl
     where
-      by : (found : InMonth) → source_of book.years r ≡ found → HasOneAnswer book (change r)
+      by : (found : InMonth) → source_of book.years r ≡ found → EditHasOneAnswer book (change r)
       by Empty e = change_absent e
       by (One k) e = change_made k e
       by Several e = change_several e
@@ -172,7 +172,7 @@ module _ (book : Contents) (r : Record) where
 -- ---- a run taken away
 
 module _ (book : Contents) (e : List ℕ) (w : When) where
-  withdraw_absent : withdrawal book.years e w ≡ Empty → HasOneAnswer book (withdraw e w)
+  withdraw_absent : withdrawal book.years e w ≡ Empty → EditHasOneAnswer book (withdraw e w)
   withdraw_absent none = record { answer = Err (refusal.Absent e w); says = (refl, refl, none); alone = by }
     where
       by : (other : Answer) → EditAnswers book (withdraw e w) other → other ≡ Err (refusal.Absent e w)
@@ -185,7 +185,7 @@ module _ (book : Contents) (e : List ℕ) (w : When) where
       by (Err refusal.Plans) h = absurd h
       by (Err (refusal.NoPlanThere d)) h = absurd h
 
-  withdraw_made : (k : Key) → withdrawal book.years e w ≡ One k → HasOneAnswer book (withdraw e w)
+  withdraw_made : (k : Key) → withdrawal book.years e w ≡ One k → EditHasOneAnswer book (withdraw e w)
   withdraw_made k one =
       record { answer = Ok (edited_book (withdraw e w) book); says = (subst IsOne (sym one) tt, refl); alone = by }
     where
@@ -200,7 +200,7 @@ module _ (book : Contents) (e : List ℕ) (w : When) where
       by (Err (refusal.NoPlanThere d)) h = absurd h
 
   withdraw_several : (m : Month) → w ≡ when.Month m → withdrawal book.years e w ≡ Several →
-      HasOneAnswer book (withdraw e w)
+      EditHasOneAnswer book (withdraw e w)
   withdraw_several m month some = record { answer = Err (refusal.Several e m); says = (refl, month, some); alone = by }
     where
       one_month : (a b : Month) → when.Month a ≡ when.Month b → a ≡ b
@@ -221,16 +221,16 @@ not_several true k h = cc
 not_several false k h = cc
 
 withdraw_of_several : (book : Contents) (e : List ℕ) (w : When) → withdrawal book.years e w ≡ Several →
-    HasOneAnswer book (withdraw e w)
+    EditHasOneAnswer book (withdraw e w)
 withdraw_of_several book e (when.Month m) h = withdraw_several book e (when.Month m) m refl h
 withdraw_of_several book e (when.Day d) h =
     let k : Key = record { employee = e; day = d } in
     absurd (not_several (is_some (run_at book.years k)) k h)
 
-withdraw_once : (book : Contents) (e : List ℕ) (w : When) → HasOneAnswer book (withdraw e w)
+withdraw_once : (book : Contents) (e : List ℕ) (w : When) → EditHasOneAnswer book (withdraw e w)
 withdraw_once book e w = by (withdrawal book.years e w) refl
   where
-    by : (found : InMonth) → withdrawal book.years e w ≡ found → HasOneAnswer book (withdraw e w)
+    by : (found : InMonth) → withdrawal book.years e w ≡ found → EditHasOneAnswer book (withdraw e w)
     by Empty h = withdraw_absent book e w h
     by (One k) h = withdraw_made book e w k h
     by Several h = withdraw_of_several book e w h
@@ -238,7 +238,7 @@ withdraw_once book e w = by (withdrawal book.years e w) refl
 -- ---- many runs loaded
 
 module _ (book : Contents) (items : List Record) where
-  load_taken : (k : Key) → first_present book.years items ≡ Some k → HasOneAnswer book (load items)
+  load_taken : (k : Key) → first_present book.years items ≡ Some k → EditHasOneAnswer book (load items)
   load_taken k first = record { answer = Err (refusal.Present k); says = first; alone = by }
     where
       by : (other : Answer) → EditAnswers book (load items) other → other ≡ Err (refusal.Present k)
@@ -251,7 +251,7 @@ module _ (book : Contents) (items : List Record) where
       by (Err refusal.Plans) h = absurd h
       by (Err (refusal.NoPlanThere d)) h = absurd h
 
-  load_over : IsOver book.years items → HasOneAnswer book (load items)
+  load_over : IsOver book.years items → EditHasOneAnswer book (load items)
   load_over over = record { answer = Err refusal.Records; says = over; alone = by }
     where
       by : (other : Answer) → EditAnswers book (load items) other → other ≡ Err refusal.Records
@@ -264,7 +264,7 @@ module _ (book : Contents) (items : List Record) where
       by (Err refusal.Plans) h = absurd h
       by (Err (refusal.NoPlanThere d)) h = absurd h
 
-  load_made : CanLoad book.years items → HasOneAnswer book (load items)
+  load_made : CanLoad book.years items → EditHasOneAnswer book (load items)
   load_made can = record { answer = Ok (edited_book (load items) book); says = (can, refl); alone = by }
     where
       by : (other : Answer) → EditAnswers book (load items) other → other ≡ Ok (edited_book (load items) book)
@@ -277,23 +277,23 @@ module _ (book : Contents) (items : List Record) where
       by (Err refusal.Plans) h = absurd h
       by (Err (refusal.NoPlanThere d)) h = absurd h
 
-  load_free : first_present book.years items ≡ None → HasOneAnswer book (load items)
+  load_free : first_present book.years items ≡ None → EditHasOneAnswer book (load items)
   load_free free = elim (cases_lt most_records (run_count book.years + length items)) [
     | inl over ↦ load_over (record { free = free; over = over })
     | inr not_over ↦ load_made (record { free = free; room = omega arith })
   ]
 
-  load_once : HasOneAnswer book (load items)
+  load_once : EditHasOneAnswer book (load items)
   load_once = by (first_present book.years items) refl
     where
-      by : (o : Option Key) → first_present book.years items ≡ o → HasOneAnswer book (load items)
+      by : (o : Option Key) → first_present book.years items ≡ o → EditHasOneAnswer book (load items)
       by (Some k) e = load_taken k e
       by None e = load_free e
 
 -- ---- plans
 
 module _ (book : Contents) (p : Entry Accepted) where
-  put_full : HasMostPlans book.plans (day_of p) → HasOneAnswer book (put p)
+  put_full : HasMostPlans book.plans (day_of p) → EditHasOneAnswer book (put p)
   put_full full = record { answer = Err refusal.Plans; says = full; alone = by }
     where
       by : (other : Answer) → EditAnswers book (put p) other → other ≡ Err refusal.Plans
@@ -306,7 +306,7 @@ module _ (book : Contents) (p : Entry Accepted) where
       by (Err (refusal.Several e m)) h = absurd h
       by (Err (refusal.NoPlanThere d)) h = absurd h
 
-  put_made : (HasMostPlans book.plans (day_of p) → ⊥) → HasOneAnswer book (put p)
+  put_made : (HasMostPlans book.plans (day_of p) → ⊥) → EditHasOneAnswer book (put p)
   put_made room = record { answer = Ok (edited_book (put p) book); says = (room, refl); alone = by }
     where
       by : (other : Answer) → EditAnswers book (put p) other → other ≡ Ok (edited_book (put p) book)
@@ -319,22 +319,22 @@ module _ (book : Contents) (p : Entry Accepted) where
       by (Err (refusal.Several e m)) h = absurd h
       by (Err (refusal.NoPlanThere d)) h = absurd h
 
-  put_new : IsNone (entry_at book.plans (day_of p)) → HasOneAnswer book (put p)
+  put_new : IsNone (entry_at book.plans (day_of p)) → EditHasOneAnswer book (put p)
   put_new free = elim (cases_lt most_plans (length book.plans + 1)) [
     | inl over ↦ put_full (record { free = free; full = over })
     | inr not_over ↦ put_made (λ full. absurd (omega (arith, full.full)))
   ]
 
-  put_once : HasOneAnswer book (put p)
+  put_once : EditHasOneAnswer book (put p)
   put_once = by (entry_at book.plans (day_of p)) refl
     where
-      by : (o : Option (Entry Accepted)) → entry_at book.plans (day_of p) ≡ o → HasOneAnswer book (put p)
+      by : (o : Option (Entry Accepted)) → entry_at book.plans (day_of p) ≡ o → EditHasOneAnswer book (put p)
       by None e = put_new (subst IsNone (sym e) refl)
       by (Some q) e =
           put_made (λ full. none_or_some (entry_at book.plans (day_of p)) full.free (subst IsSome (sym e) refl))
 
 module _ (book : Contents) (d : Day) where
-  drop_none : IsNone (entry_at book.plans d) → HasOneAnswer book (drop d)
+  drop_none : IsNone (entry_at book.plans d) → EditHasOneAnswer book (drop d)
   drop_none none = record { answer = Err (refusal.NoPlanThere d); says = (refl, none); alone = by }
     where
       by : (other : Answer) → EditAnswers book (drop d) other → other ≡ Err (refusal.NoPlanThere d)
@@ -347,7 +347,7 @@ module _ (book : Contents) (d : Day) where
       by (Err (refusal.Absent e w)) h = absurd h
       by (Err (refusal.Several e m)) h = absurd h
 
-  drop_made : IsSome (entry_at book.plans d) → HasOneAnswer book (drop d)
+  drop_made : IsSome (entry_at book.plans d) → EditHasOneAnswer book (drop d)
   drop_made there = record { answer = Ok (edited_book (drop d) book); says = (there, refl); alone = by }
     where
       by : (other : Answer) → EditAnswers book (drop d) other → other ≡ Ok (edited_book (drop d) book)
@@ -360,10 +360,10 @@ module _ (book : Contents) (d : Day) where
       by (Err (refusal.Absent e w)) h = absurd h
       by (Err (refusal.Several e m)) h = absurd h
 
-  drop_once : HasOneAnswer book (drop d)
+  drop_once : EditHasOneAnswer book (drop d)
   drop_once = by (entry_at book.plans d) refl
     where
-      by : (o : Option (Entry Accepted)) → entry_at book.plans d ≡ o → HasOneAnswer book (drop d)
+      by : (o : Option (Entry Accepted)) → entry_at book.plans d ≡ o → EditHasOneAnswer book (drop d)
       by None e = drop_none (subst IsNone (sym e) refl)
       by (Some q) e = drop_made (subst IsSome (sym e) refl)
 

@@ -23,7 +23,7 @@ use Rattle.book_edits.proofs.Laws.{found_each, runs_rising, year_same}
 use Rattle.recalc_engine.specs.BookLaws.{HasOwnRuns, IsBook}
 use Rattle.recalc_engine.specs.Contents.{Contents}
 use Rattle.recalc_engine.specs.EditAnswers as edits
-use Rattle.recalc_engine.specs.EditMaps.{EditsAreMapped, ReplacesOne, TakesOne}
+use Rattle.recalc_engine.specs.EditMaps.{EditsAreMapped, ReplacesOne, TakesMeantRun}
 use Rattle.recalc_engine.specs.RunMaps.{on_day, with_none, with_run}
 use Rattle.recalc_engine.proofs.MapLemmas.{runs_mapped}
 
@@ -131,7 +131,7 @@ change_maps old new r good (One from) meant one is =
 change_maps old new r good Empty meant one is = absurd one
 change_maps old new r good Several meant one is = absurd one
 
-withdraw_maps : (old new : Contents) (e : List ℕ) (w : When) → IsBook old → (o : InMonth) → withdrawal old.years e w ≡ o → IsOne o → new ≡ edits.edited_book (edits.withdraw e w) old → TakesOne old new e w
+withdraw_maps : (old new : Contents) (e : List ℕ) (w : When) → IsBook old → (o : InMonth) → withdrawal old.years e w ≡ o → IsOne o → new ≡ edits.edited_book (edits.withdraw e w) old → TakesMeantRun old new e w
 withdraw_maps old new e w good (One from) meant one is =
     let years : new.years ≡ withdrawn from old.years = ap (λ (b : Contents). b.years) is ∙ ap (λ o. withdrawn_from o old.years) meant in
     record {

@@ -12,7 +12,7 @@ use Rattle.book_edits.specs.declared.refusal.EditRefusal.TheVariants as refusal
 use Rattle.book_edits.specs.Books.{added, loaded, source_of, withdrawal}
 use Rattle.book_edits.specs.Refusals.{CanAdd, IsAddRefused, IsChangeRefused, IsOne, IsWithdrawRefused}
 use Rattle.book_edits.specs.Replans.{IsDropRefused, HasMostPlans, IsPutRefused}
-use Rattle.book_loads.specs.Loads.{CanLoad, IsLoadRefused}
+use Rattle.book_edits.specs.Loads.{CanLoad, IsLoadRefused}
 use Rattle.recalc_engine.specs.Contents.{Contents, jobs_between, with_plans, with_years}
 use Rattle.recalc_engine.specs.Edits.{with_change, with_withdrawal}
 
@@ -65,7 +65,7 @@ EditAnswers book e (Err (refusal.Memory error)) = ⊥
 EditAnswers book e (Err why) = IsEditRefused book e why
 
 -- an edit has one answer
-pub record HasOneAnswer (book : Contents) (e : Edit) : Type 0 where
+pub record EditHasOneAnswer (book : Contents) (e : Edit) : Type 0 where
   pub answer : Result Contents EditRefusal
   pub says : EditAnswers book e answer
   pub alone : (other : Result Contents EditRefusal) → EditAnswers book e other → other ≡ answer
@@ -81,4 +81,4 @@ IsEdited old e new (Err why) = EditAnswers old e (Err why) × (new ≡ old)
 
 -- every edit of every book has one answer
 abbrev pub EditsHaveOneAnswer : Type 0
-EditsHaveOneAnswer = (book : Contents) (e : Edit) → HasOneAnswer book e
+EditsHaveOneAnswer = (book : Contents) (e : Edit) → EditHasOneAnswer book e

@@ -22,8 +22,7 @@ ghost use Rattle.recalc_engine.specs.Jobs.{AdmitsInputs, HasNoOutputs, job_of_ke
 use crate::job::{Job, inputs_on, job_of, year_at};
 use crate::months::Months;
 use crate::values::each_year_is_kept;
-use book_edits::{EditRefusal, InMonth, Years, drop_plan, put_plan};
-use book_loads::{RestoredYears, load, restore};
+use book_edits::{EditRefusal, InMonth, RestoredYears, Years, drop_plan, load, put_plan, restore};
 use book_year::Work;
 use pap_plan::Plan;
 use payroll_records::{Day, Employee, Key, Month, Record, When};

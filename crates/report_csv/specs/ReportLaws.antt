@@ -59,14 +59,14 @@ IsNamed (blocked.Missing n) = IsTrue (is_name n)
 IsNamed (blocked.Range n) = IsTrue (is_name n)
 
 -- what a run came to has names alone: that of what it lacks or doesn't take, or that of each output
-abbrev pub HasNames : State → Type 0
-HasNames state.NoPlan = ⊤
-HasNames (state.Blocked why) = IsNamed why
-HasNames (state.Done outputs) = AllByRecursion (λ v. IsTrue (is_name v.name)) outputs
+abbrev pub RowsHaveNames : State → Type 0
+RowsHaveNames state.NoPlan = ⊤
+RowsHaveNames (state.Blocked why) = IsNamed why
+RowsHaveNames (state.Done outputs) = AllByRecursion (λ v. IsTrue (is_name v.name)) outputs
 
 -- each row of a run is what `csv` writes of its fields with its default settings: no field needs quotes
 abbrev pub RowsNeedNoQuotes : Type 0
 RowsNeedNoQuotes =
-    (key : Key) (plan : Option Day) (s : State) → IsTrue (is_employee key.employee) → HasNames s
+    (key : Key) (plan : Option Day) (s : State) → IsTrue (is_employee key.employee) → RowsHaveNames s
     → AllByRecursion (λ fields. row_line fields ≡ row_text default_writer fields)
     (state_rows (run_front key plan) s)

@@ -42,7 +42,7 @@ impl From<AllocError> for ReportFault {
 }
 
 /// Writes the report of a book: the first row, and then the rows of each run, in order of employee and day. After a refusal
-/// a front of the report was written; `Write` comes only where the sink's count of faults rose.
+/// a prefix of the report was written; `Write` comes only where the sink's count of faults rose.
 pub fn write_report<W: Sink>(alloc: Global, book: &Book, sink: &mut W) -> Result<(), ReportFault>
     ensures ok { OnOk result
         (Appends (W.written sink.old) (W.written sink.new) (report_text book.now)) }

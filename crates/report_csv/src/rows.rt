@@ -48,7 +48,7 @@ impl Rows {
     }
 
     /// The rows with one more. A field may also be several, with commas between: no field of a report needs quotes, and `csv`
-    /// writes each as it stands. Over memory `csv` has no other fault than want of memory.
+    /// writes each as it stands. Over memory `csv` has no other fault than that memory ran out.
     pub(crate) fn with(self, fields: &[&[u8]]) -> Result<Rows, AllocError>
         requires { 1 < length fields.now }
         ensures { IfOk result (λ rows. rows ≡ self ++ row_line (map (λ f. f.now) fields.now)) }

@@ -20,7 +20,7 @@ use Rattle.book_file.specs.declared.refusal.BookFault.TheVariants as fault
 abbrev pub IsPlanOf : SavedPlan → Seen → Type 0
 IsPlanOf p seen = IsAcceptedAs p.plan p.limits seen
 
--- the fault is the day of the plan, whose texts are refused; want of memory is free
+-- the fault is the day of the plan, whose texts are refused; that memory ran out may be answered of any
 abbrev pub IsNoPlan : SavedPlan → BookFault → Type 0
 IsNoPlan p (fault.Plan day) = IsUnacceptable p × (day ≡ p.day)
 IsNoPlan p (fault.Memory e) = ⊤
@@ -31,7 +31,7 @@ pub record AreEntriesOf (ps : List SavedPlan) (es : List (Entry Accepted)) : Typ
   pub plans : AreAcceptedPlans es
   pub texts : map saved_entry es ≡ ps
 
--- the fault is the day of the first plan whose texts are refused; want of memory is free
+-- the fault is the day of the first plan whose texts are refused; that memory ran out may be answered of any
 abbrev pub HasNoPlan : List SavedPlan → BookFault → Type 0
 HasNoPlan ps (fault.Plan day) = IsFirstRefused ps day
 HasNoPlan ps (fault.Memory e) = ⊤

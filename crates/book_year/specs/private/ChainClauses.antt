@@ -1,5 +1,5 @@
 -- What private contracts cite beside the definitions of ChainClauses.
-use Rattle.std.specs.Prelude.{ℕ, ◌≡◌, ◌+◌, ◌≤◌, List, [], ◌∷◌, ◌++◌, Option, Some, None, take, Result, MatchResult}
+use Rattle.std.specs.Prelude.{ℕ, ◌≡◌, ◌+◌, ◌≤◌, ⊤, Bool, true, false, List, [], ◌∷◌, ◌++◌, Option, Some, None, take, Result, MatchResult}
 use Rattle.std.specs.Option.{option_map}
 use Rattle.std.specs.Borrow.{Bor}
 use Rattle.scaled_decimal.specs.Decimals.{Decimal}
@@ -9,7 +9,8 @@ use Rattle.payroll_records.specs.declared.record.Record.{Record}
 use Rattle.payroll_records.specs.declared.values.NamedValue.{NamedValue}
 use Rattle.plan_calendar.specs.Picking.{Entry, plan_of}
 use Rattle.carry_bindings.specs.Conditions.{AreBounded}
-use Rattle.pay_run.specs.Runs.{run_outputs}
+use Rattle.carry_bindings.specs.declared.carried.Earlier.{Earlier}
+use Rattle.pay_run.specs.Runs.{ReadsNothing, run_outputs}
 use Rattle.book_year.specs.Accepted.{Accepted}
 use Rattle.book_year.specs.declared.outcome.Outcome.{Outcome}
 use Rattle.book_year.specs.declared.chain.Old.{Old}
@@ -23,6 +24,16 @@ use Rattle.book_year.specs.Jobs.{new_job, work_of}
 use Rattle.book_year.specs.Kept.{kept}
 use Rattle.book_year.specs.Picks.{before, after}
 use Rattle.book_year.specs.ChainClauses.{AreNew, old_jobs}
+
+-- the plan of a day, if it has one, reads nothing of earlier runs
+abbrev pub PlanReadsNothing : Option (Entry Accepted) → Type 0
+PlanReadsNothing None = ⊤
+PlanReadsNothing (Some e) = ReadsNothing (plan_of e)
+
+-- the earlier runs where some plan reads them, and otherwise none
+abbrev pub lent_if : Bool → List Earlier → List Earlier
+lent_if true earlier = earlier
+lent_if false earlier = []
 
 -- the inputs and outputs of an outcome that has both
 abbrev pub outcome_parts :

@@ -7,4 +7,4 @@ use Rattle.book_year.proofs.chain.recalculate_rest.Given as goal
 
 abbrev pub invariant-loop-item : goal.invariant-loop-item
 invariant-loop-item g l =
-    IsWalk (after l.picks) (old_jobs l.picks l.old) (take (l.kept + l.item-index) (records_of l.records)) (take l.kept l.old.outcomes.now ++ l.done.outcomes.items) l.done.earlier.items l.runs l.taken l.initial.steps l.steps
+    IsWalk (after l.picks) (old_jobs l.picks l.old) l.reads (take (l.kept + l.item-index) (records_of l.records)) (take l.kept l.old.outcomes.now ++ l.done.outcomes.items) l.done.earlier.items l.runs l.taken l.initial.steps l.steps

@@ -1,4 +1,0 @@
-pub mod Drafts
-pub mod Groups
-pub mod Merges
-pub mod Puts
