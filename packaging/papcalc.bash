@@ -34,12 +34,14 @@ _pap_author() {
     local word=${COMP_WORDS[COMP_CWORD]} command=${COMP_WORDS[1]}
     COMPREPLY=()
     if [ "$COMP_CWORD" -eq 1 ]; then
-        COMPREPLY=($(compgen -W 'chart ranges --help --version' -- "$word"))
+        COMPREPLY=($(compgen -W 'chart ranges text --help --version' -- "$word"))
         return
     fi
     case $command:$COMP_CWORD in
         chart:2 | ranges:2) _papcalc_files xml "$word" ;;
         chart:3) _papcalc_files toml "$word" ;;
+        text:2) COMPREPLY=($(compgen -W 'compare' -- "$word")) ;;
+        text:3 | text:4) _papcalc_files xml "$word" ;;
     esac
 }
 

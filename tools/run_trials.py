@@ -83,16 +83,16 @@ for word in ["run", "save"]:
     check(f"the refused lines of {word} before a file that isn't there are told", done.returncode == 3 and done.stderr.decode() == said)
 with tempfile.TemporaryDirectory() as folder:
     TABLES = [
-        ("employee;month;day;PAY\nanna;2026-01;2026-01-30;1\n", "semicolons"),
-        ("employee,month,day,PAY\nanna,2026-01,2026-01-30,\"2500,55\"\n", "2500.55"),
+        ("employee;month;day;PAY\nanna;2026-01;2026-01-30;1\n", 1, "semicolons"),
+        ("employee,month,day,PAY\nanna,2026-01,2026-01-30,\"2500,55\"\n", 2, "2500.55"),
     ]
-    for text, helps in TABLES:
+    for text, line, helps in TABLES:
         table = os.path.join(folder, "table.csv")
         with open(table, "w", encoding="utf-8") as file:
             file.write(text)
         done = subprocess.run([program, "run"], input=f"load {table}\n".encode(), capture_output=True, timeout=300)
         first = done.stderr.decode().splitlines()[0]
-        check(f"a table with {text!r}", done.returncode == 1 and first.startswith(f"stdin:1: {table}: ") and helps in first)
+        check(f"a table with {text!r}", done.returncode == 1 and first.startswith(f"stdin:1: {table}:{line}: ") and helps in first)
 check("a longest line", run(b"#" * 65_536 + b"\r\nwork\n") == (0, b"work 0 0\n"))
 for name in failed:
     print(f"run_trials: failed: {name}")

@@ -6,7 +6,6 @@ use Rattle.outside.specs.Told.{FileMap, Appends, AppendsShort}
 use Rattle.outside.proofs.Laws.{Appends-nothing}
 use Rattle.outside.specs.declared.traits.FileAnswer.{FileAnswer}
 use Rattle.outside.specs.declared.traits.FileAnswer.TheVariants as files
-use Rattle.plan_answers.specs.declared.reply.Reply.{Reply}
 use Rattle.pap_cli.specs.declared.status.Status.{Status}
 use Rattle.pap_cli.specs.declared.status.Status.TheVariants.{Done, Refused, BadWords, FileFault, ReadFault, WriteFault, NoMemory, ScriptLong}
 use Rattle.script_run.specs.declared.refused_lines.RefusedLines.{RefusedLines}
@@ -19,7 +18,6 @@ use Rattle.pap_cli.specs.declared.words.Command.TheVariants.{Check, Once}
 use Rattle.pap_cli.specs.Statuses.{done_status, status_of}
 use Rattle.plan_answers.specs.Answers.{Answer, CheckAnswers}
 use Rattle.pap_cli.specs.RunAnswers.{OnceAnswers}
-use Rattle.plan_answers.specs.Replies.{reply_of}
 use Rattle.pap_cli.specs.private.AnswerViews.{answers_of}
 use Rattle.pap_cli.specs.Outside.{Outside, shown_of}
 use Rattle.pap_cli.specs.FileClauses.{Answering, AnswersFiles, EndsOnFiles, EndsWhole, IsCounted, LeavesOnFiles, HeadlineOnFiles}
@@ -65,16 +63,16 @@ module _ (Answers : Answering) (plan limits : List ℕ) (told told' : Option Fil
   Left status = LeavesOnFiles Answers plan limits (shown told failed first began) (shown told' failed' written steps) status
 
   -- an answer that was made
-  module _ (reply : Reply) (is : (files : FileMap) → told ≡ Some files → AnswersFiles Answers plan limits files (reply_of reply)) (counted : steps ≡ began + reply.steps) (kept : failed' ≡ failed) where
+  module _ (answer : Answer) (is : (files : FileMap) → told ≡ Some files → AnswersFiles Answers plan limits files answer) (counted : steps ≡ began + answer.steps) (kept : failed' ≡ failed) where
     -- it was written whole
-    pub leaves_whole : Appends first written reply.text.items → Left (done_status reply.refused)
+    pub leaves_whole : Appends first written answer.text → Left (done_status answer.refused)
     leaves_whole appended = record {
-      out = reply.text.items;
+      out = answer.text;
       appended = appended;
       counted = omega arith;
       ends = ends_whole Answers plan limits (shown told failed first began) (shown told' failed' written steps)
-          reply.text.items reply.refused (λ files e. record {
-            answer = reply_of reply;
+          answer.text answer.refused (λ files e. record {
+            answer = answer;
             is = is files e;
             text = refl;
             cost = omega arith;
@@ -84,13 +82,13 @@ module _ (Answers : Answering) (plan limits : List ℕ) (told told' : Option Fil
     }
 
     -- the sink failed
-    pub leaves_cut : AppendsShort first written reply.text.items → Left WriteFault
+    pub leaves_cut : AppendsShort first written answer.text → Left WriteFault
     leaves_cut part = record {
-      out = take part.count reply.text.items;
+      out = take part.count answer.text;
       appended = part.appended;
       counted = omega arith;
       ends = λ files t. record {
-        answer = reply_of reply;
+        answer = answer;
         is = is files t;
         count = part.count;
         within = part.within;

@@ -1,80 +1,77 @@
--- Whether the answer on two texts is a refusal, and where the words of its reason begin.
-use Rattle.std.proofs.Common.{◌≡◌, ◌≢◌, ◌<◌, ◌≤◌, ℕ, Bool, true, false, List, [], ◌∷◌, length, get_or, refl, sym, ap, subst, inl, inr, arith}
-use Rattle.std.specs.Prelude.{Ok, Err, Vec, Option, Some, None, IfSome}
+-- The reason of a refusal, and the notes that it is put to.
+use Rattle.std.proofs.Common.{◌≡◌, ◌≢◌, ◌∙◌, ℕ, ◌∷◌, ◌++◌, Bool, true, false, List, [], refl, sym, ap, subst, inl, inr, arith}
+use Rattle.std.specs.Prelude.{⊤, Option, Some, None, IfSome, is_some, Result, Ok, Err, OnOk, String, string_bytes}
 use Rattle.std.specs.declared.alloc.Global.{Global}
-use Rattle.scaled_decimal.specs.Decimals.{Decimal}
+use Rattle.std.proofs.lemmas.Bool.{false≢true}
+use Rattle.outside.specs.Causes.{HasCause}
+use Rattle.outside.specs.Told.{FileMap, Appends}
+use Rattle.outside.specs.declared.traits.Sink.{Ghosts as SinkTells}
 use Rattle.pap_tree.specs.Flowchart.{Flowchart}
 use Rattle.payroll_records.specs.declared.values.NamedValue.{NamedValue}
-use Rattle.carry_bindings.specs.declared.filling.Filled.TheVariants.{Inputs, State}
+use Rattle.carry_bindings.specs.declared.filling.Filled.TheVariants.{State}
 use Rattle.carry_bindings.specs.declared.filling.Blocked.{Blocked}
 use Rattle.carry_bindings.specs.declared.filling.Blocked.TheVariants as blocked
 use Rattle.pap_plan.specs.declared.refusal.PlanRefusal.{PlanRefusal}
 use Rattle.pap_plan.specs.declared.refusal.PlanRefusal.TheVariants as refusals
-use Rattle.pap_plan.specs.Acceptance.{Meaning, IsRefused as IsRefusedPlan, IsRefusedOrMemory}
+use Rattle.pap_plan.specs.Acceptance.{IsRefused, IsRefusedOrMemory}
 use Rattle.pap_plan.specs.AcceptanceClauses.{IsAcceptedAs}
-use Rattle.pap_plan.specs.Plans.{Seen, flowchart, meaning}
-use Rattle.pap_plan.proofs.Laws as plans
+use Rattle.pap_plan.specs.Plans.{Seen, meaning}
 use Rattle.pay_run.specs.Accepted.{accepted}
 use Rattle.pay_run.specs.Runs.{filled}
-use Rattle.pap_cli.specs.declared.words.Command.{Command}
-use Rattle.pap_cli.specs.declared.words.Command.TheVariants.{Check, Once}
-use Rattle.pap_cli.specs.Words.{Form, check, once, HasForm}
-use Rattle.pap_cli.specs.private.WordViews.{form_by, IsOnFiles}
-use Rattle.plan_answers.specs.Answers.{Answer, IsRefusal, IsChecked, CheckAnswers}
-use Rattle.pap_cli.specs.RunAnswers.{IsRunOn, IsOnce, OnceAnswers}
-use Rattle.pap_cli.specs.private.AnswerViews.{answers_of, IsRunWith, MarksRefusals}
 use Rattle.plain_words.specs.Places.{PlanFiles}
 use Rattle.plain_words.specs.Refusals.{TellsPlan}
-use Rattle.pap_cli.specs.Reasons.{bytes_of, SaysRefused, SaysRefusedOn, files_on, TellsReason}
-use Rattle.pap_cli.specs.private.ReasonViews.{TellsOn, TellsFilled}
-use Rattle.plan_answers.proofs.Laws.{check_answers}
-use Rattle.pap_cli.proofs.AnswerLemmas.{once_answers, words_kept}
+use Rattle.plan_answers.specs.Answers.{Answer}
+use Rattle.plan_answers.specs.Fronts.{AreFronts}
+use Rattle.script_run.specs.declared.stop.Stop.{Stop}
+use Rattle.script_run.specs.declared.stop.Stop.TheVariants as stops
+use Rattle.pap_cli.specs.declared.status.Status.{Status}
+use Rattle.pap_cli.specs.declared.status.Status.TheVariants.{NoMemory, Refused}
+use Rattle.pap_cli.specs.declared.words.Command.{Command}
+use Rattle.pap_cli.specs.declared.words.Command.TheVariants.{Check, Once}
+use Rattle.pap_cli.specs.Notes.{NotesShown, NotesTell, AreNoted, HasReason}
+use Rattle.pap_cli.specs.Reasons.{IsReasonLine, TellsOnce, files_on}
+use Rattle.pap_cli.specs.RunAnswers.{IsRunOn}
+use Rattle.pap_cli.specs.ScriptWords.{AsksOfFiles}
+use Rattle.pap_cli.specs.Statuses.{status_of}
+use Rattle.pap_cli.specs.Words.{Form, HasForm}
+use Rattle.pap_cli.specs.private.ReasonViews.{HasReasonOn, IsLineOf, IsPlanReason, IsStateReason, TellsFilled, TellsOn}
+use Rattle.pap_cli.specs.private.WordViews.{form_by}
+use Rattle.pap_cli.proofs.StatusLemmas.{rose_and_still}
+use Rattle.pap_cli.proofs.WordLemmas.{one_form}
 
-refused_by : {a b : Answer} → a ≡ b → b.refused ≡ a.refused
-refused_by e = sym (ap (λ (x : Answer). x.refused) e)
+-- ---- a run without inputs
 
--- ---- a run
-
-told_run : (f : Flowchart) (vs : List Decimal) (a : Answer) → IsRunOn f (Inputs vs) a → false ≡ a.refused
-told_run f vs a (outs, e, is) = refused_by is
-
-told_blocked : (f : Flowchart) (b : Blocked) (a : Answer) → IsRunOn f (State b) a → true ≡ a.refused
-told_blocked f (blocked.Unknown name) a h = refused_by h
-told_blocked f (blocked.Missing name) a h = refused_by h
-told_blocked f (blocked.Range name) a h = refused_by h
+told_blocked : (f : Flowchart) (b : Blocked) (a : Answer) → IsRunOn f (State b) a → a.refused ≡ true
+told_blocked f (blocked.Unknown name) a h = ap (λ (x : Answer). x.refused) h
+told_blocked f (blocked.Missing name) a h = ap (λ (x : Answer). x.refused) h
+told_blocked f (blocked.Range name) a h = ap (λ (x : Answer). x.refused) h
 told_blocked f (blocked.Waits day) a h = absurd h
 
--- filled inputs are no refusal
-pub told_inputs : (values : List NamedValue) (p : Seen) (vs : List Decimal) → filled (accepted p) values [] ≡ Inputs vs → MarksRefusals (IsRunWith values p) false
-told_inputs values p vs is a h = told_run (flowchart p) vs a (subst (λ x. IsRunOn (flowchart p) x a) is h)
+-- its answer is a refusal
+pub state_answer : (f : Flowchart) (b : Blocked) (text : List ℕ) (refused : Bool) (steps : ℕ)
+    → IsRunOn f (State b) (record { text = text; refused = refused; steps = steps })
+    → IsRunOn f (State b) (record { text = text; refused = true; steps = steps })
+state_answer f b text refused steps h =
+    subst (λ (r : Bool). IsRunOn f (State b) (record { text = text; refused = r; steps = steps })) (told_blocked f b _ h) h
 
--- a run without inputs is one
-pub told_state : (values : List NamedValue) (p : Seen) (b : Blocked) → filled (accepted p) values [] ≡ State b → MarksRefusals (IsRunWith values p) true
-told_state values p b is a h = told_blocked (flowchart p) b a (subst (λ x. IsRunOn (flowchart p) x a) is h)
+-- ---- words as a line
 
--- ---- two texts
+pub line_map : (P Q : List ℕ → Type 0) (text : List ℕ) → ((words : List ℕ) → P words → Q words) → IsLineOf P text → IsLineOf Q text
+line_map P Q text f h = record { words = h.words; says = f h.words h.says; is = h.is }
 
-told_checked : (plan : List ℕ) (m : Meaning) (a : Answer) → IsChecked plan (Ok m) a → false ≡ a.refused
-told_checked plan m a h = refused_by h
+pub if_some_map : {A : Type 0} (o : Option A) (P Q : A → Type 0) → ((a : A) → P a → Q a) → IfSome o P → IfSome o Q
+if_some_map None P Q f h = h
+if_some_map (Some a) P Q f h = f a h
 
-told_refusal : (plan : List ℕ) (r : PlanRefusal) (a : Answer) → IsRefusal plan r a → true ≡ a.refused
-told_refusal plan r a h = refused_by h.is
+some_is : {A : Type 0} (a : A) → ◌≢◌ {A = Option A} (Some a) None
+some_is a e = cc
 
--- accepted texts are no refusal of `check`
-pub told_accepted : (plan limits : List ℕ) (p : Seen) → IsAcceptedAs plan limits p → MarksRefusals (CheckAnswers plan limits) false
-told_accepted plan limits p h a k =
-    let same = plans.one plan limits k.verdict (Ok (meaning p)) k.accepted h.accepted in
-    told_checked plan (meaning p) a (subst (λ v. IsChecked plan v a) same k.is)
-
--- nor of `once` but where the run is one
-pub told_once : (values : List NamedValue) (plan limits : List ℕ) (p : Seen) (told : Bool) → IsAcceptedAs plan limits p → MarksRefusals (IsRunWith values p) told → MarksRefusals (OnceAnswers values plan limits) told
-told_once values plan limits p told h t a k =
-    let same = plans.one plan limits k.verdict (Ok (meaning p)) k.accepted h.accepted in
-    let is = subst (λ v. IsOnce values plan limits v a) same k.is in
-    t a (subst (λ l. IsOnce values p.plan l (Ok (meaning p)) a) (sym h.limits_bytes) (subst (λ b. IsOnce values b limits (Ok (meaning p)) a) (sym h.plan_bytes) is))
+pub if_some_none : {A : Type 0} (o : Option A) (P : A → Type 0) → o ≡ None → IfSome o P
+if_some_none None P e = tt
+if_some_none (Some a) P e = absurd (some_is a e)
 
 -- a refusal that isn't want of memory
-pub refused_is : (plan limits : List ℕ) (r : PlanRefusal) → r ≢ refusals.Memory → IsRefusedOrMemory plan limits r → IsRefusedPlan plan limits r
+pub refused_is : (plan limits : List ℕ) (r : PlanRefusal) → r ≢ refusals.Memory → IsRefusedOrMemory plan limits r → IsRefused plan limits r
 refused_is plan limits (refusals.Read fault) other h = h
 refused_is plan limits (refusals.Expr spot fault) other h = h
 refused_is plan limits (refusals.Types fault) other h = h
@@ -86,104 +83,90 @@ refused_is plan limits (refusals.Bind name) other h = h
 refused_is plan limits (refusals.Range fault) other h = h
 refused_is plan limits refusals.Memory other h = absurd (other refl)
 
--- refused texts are one
-pub told_refused : (c : Command) (plan limits : List ℕ) (r : PlanRefusal) → IsRefusedPlan plan limits r → MarksRefusals (answers_of c plan limits) true
-told_refused Check plan limits r h a k =
-    let same = plans.one plan limits k.verdict (Err r) k.accepted h in
-    told_refusal plan r a (subst (λ v. IsChecked plan v a) same k.is)
-told_refused (Once values) plan limits r h a k =
-    let same = plans.one plan limits k.verdict (Err r) k.accepted h in
-    told_refusal plan r a (subst (λ v. IsOnce values plan limits v a) same k.is)
-
--- ---- two files
-
-HasAnswer : Command → List ℕ → List ℕ → Type 0
-HasAnswer c plan limits = (a : Answer) × answers_of c plan limits a
-
--- the words' answer on every two texts
-some_answer : (c : Command) (words : List (List ℕ)) (plan limits front front' : List ℕ) → HasForm words (form_by c plan limits) → HasAnswer c front front'
-unfolding HasAnswer
-some_answer Check words plan limits front front' h = (check_answers front front').some
-some_answer (Once values) words plan limits front front' h = (once_answers values (words_kept h.rest values h.values_are) front front').some
-
--- there is an answer on two texts
-says_refused : (c : Command) (words : List (List ℕ)) (plan limits bytes ranges : List ℕ) (told : Bool) → HasForm words (form_by c plan limits)
-    → MarksRefusals (answers_of c bytes ranges) told → SaysRefused (answers_of c bytes ranges) told
-unfolding HasAnswer
-says_refused c words plan limits bytes ranges told has t =
-    let a = some_answer c words plan limits bytes ranges has in
-    record { answer = a.0; is = a.1; refused = t a.0 a.1 }
-
-says_of_form : (c : Command) (plan limits bytes ranges : List ℕ) (more : List (List ℕ)) (told : Bool) → SaysRefused (answers_of c bytes ranges) told
-    → SaysRefusedOn (form_by c plan limits) (bytes ∷ ranges ∷ more) told
-says_of_form Check plan limits bytes ranges more told h = h
-says_of_form (Once values) plan limits bytes ranges more told h = h
-
--- the bytes of the first two files
-first_two : (given : List (Vec ℕ Global)) (plan limits : Vec ℕ Global) → 2 ≤ length given → plan ≡ get_or given 0 plan → limits ≡ get_or given 1 limits
-    → (more : List (List ℕ)) × (bytes_of given ≡ plan.items ∷ limits.items ∷ more)
-first_two [] plan limits few is is' = absurd (omega arith)
-first_two (a ∷ []) plan limits few is is' = absurd (omega arith)
-first_two (a ∷ b ∷ more) plan limits few is is' = (bytes_of more, cc)
-
--- what is told on two texts is told on what was given, where they are its first two
-pub told_given : (c : Command) (words : List (List ℕ)) (plan limits : List ℕ) (given : List (Vec ℕ Global)) (bytes ranges : Vec ℕ Global) (told : Bool)
-    → HasForm words (form_by c plan limits) → 2 ≤ length given → bytes ≡ get_or given 0 bytes → ranges ≡ get_or given 1 ranges
-    → MarksRefusals (answers_of c bytes.items ranges.items) told → SaysRefusedOn (form_by c plan limits) (bytes_of given) told
-told_given c words plan limits given bytes ranges told has few is is' t =
-    let first = first_two given bytes ranges few is is' in
-    let says = says_refused c words plan limits bytes.items ranges.items told has t in
-    subst (λ g. SaysRefusedOn (form_by c plan limits) g told) (sym first.1) (says_of_form c plan limits bytes.items ranges.items first.0 told says)
-
--- where no two files were given there is no answer
-pub none_given : (form : Form) (given : List (Vec ℕ Global)) → length given < 2 → SaysRefusedOn form (bytes_of given) false
-none_given (check plan limits) [] few = refl
-none_given (check plan limits) (a ∷ []) few = refl
-none_given (check plan limits) (a ∷ b ∷ more) few = absurd (omega arith)
-none_given (once plan limits values) [] few = refl
-none_given (once plan limits values) (a ∷ []) few = refl
-none_given (once plan limits values) (a ∷ b ∷ more) few = absurd (omega arith)
-none_given _ given few = refl
-
--- words that ask for no answer on two files
-pub none_asked : (form : Form) (given : List (List ℕ)) → ¬ (IsOnFiles form) → SaysRefusedOn form given false
-none_asked (check plan limits) given not = absurd (not tt)
-none_asked (once plan limits values) given not = absurd (not tt)
-none_asked _ given not = refl
-
--- ---- the words
-
-pub if_some_map : {A : Type 0} (o : Option A) (P Q : A → Type 0) → ((a : A) → P a → Q a) → IfSome o P → IfSome o Q
-if_some_map None P Q f h = h
-if_some_map (Some a) P Q f h = f a h
+-- the words of a refused plan
+pub tells_plan : (c : Command) (files : PlanFiles) (refusal : PlanRefusal) → IsRefused files.plan.bytes files.ranges.bytes refusal
+    → (words : List ℕ) → IsPlanReason files refusal words → TellsOn c files words
+tells_plan Check files refusal refused words h = record { refusal = refusal; refused = refused; line = h.line; begins = h.begins }
+tells_plan (Once values) files refusal refused words h =
+    inl (record { refusal = refusal; refused = refused; line = h.line; begins = h.begins })
 
 -- the words of a run without inputs
-pub tells_state : (values : List NamedValue) (plan limits bytes ranges : List ℕ) (p : Seen) (words : List ℕ) → IsAcceptedAs bytes ranges p
-    → TellsFilled values (accepted p) (files_on plan limits bytes ranges) words → TellsOn (Once values) (files_on plan limits bytes ranges) words
-tells_state values plan limits bytes ranges p words h t = inr (record {
+pub tells_state : (values : List NamedValue) (files : PlanFiles) (p : Seen) → IsAcceptedAs files.plan.bytes files.ranges.bytes p
+    → (words : List ℕ) → TellsFilled values (accepted p) files words → TellsOn (Once values) files words
+tells_state values files p h words t = inr (record {
   meaning = meaning p;
   accepted = h.accepted;
   state = t.state;
-  blocked = subst (λ l. filled (record { plan = bytes; limits = l; meaning = meaning p }) values [] ≡ State t.state) h.limits_bytes
+  blocked = subst (λ l. filled (record { plan = files.plan.bytes; limits = l; meaning = meaning p }) values [] ≡ State t.state) h.limits_bytes
       (subst (λ b. filled (record { plan = b; limits = p.limits; meaning = meaning p }) values [] ≡ State t.state) h.plan_bytes t.blocked);
-  line = t.line;
-  begins = t.begins;
+  line = t.says.line;
+  begins = t.says.begins;
 })
 
--- the words of a refused plan
-pub tells_plan : (c : Command) (files : PlanFiles) (words : List ℕ) → TellsPlan files words → TellsOn c files words
-tells_plan Check files words h = h
-tells_plan (Once values) files words h = inl h
+pub tells_filled : (values : List NamedValue) (p : Seen) (files : PlanFiles) (state : Blocked) → filled (accepted p) values [] ≡ State state
+    → (words : List ℕ) → IsStateReason files state words → TellsFilled values (accepted p) files words
+tells_filled values p files state is words h = record { state = state; blocked = is; says = h }
 
-tells_of_form : (c : Command) (plan limits bytes ranges : List ℕ) (more : List (List ℕ)) (words : List ℕ)
-    → TellsOn c (files_on plan limits bytes ranges) words → TellsReason (form_by c plan limits) (bytes ∷ ranges ∷ more) words
-tells_of_form Check plan limits bytes ranges more words h = h
-tells_of_form (Once values) plan limits bytes ranges more words h = h
+-- ---- two files
 
--- what is told of two texts is told of what was given, where they are its first two
-pub tells_given : (c : Command) (plan limits : List ℕ) (given : List (Vec ℕ Global)) (bytes ranges : Vec ℕ Global) (words : List ℕ)
-    → 2 ≤ length given → bytes ≡ get_or given 0 bytes → ranges ≡ get_or given 1 ranges
-    → TellsOn c (files_on plan limits bytes.items ranges.items) words → TellsReason (form_by c plan limits) (bytes_of given) words
-tells_given c plan limits given bytes ranges words few is is' t =
-    let first = first_two given bytes ranges few is is' in
-    subst (λ g. TellsReason (form_by c plan limits) g words) (sym first.1) (tells_of_form c plan limits bytes.items ranges.items first.0 words t)
+pub reason_line : (Tells : PlanFiles → List ℕ → Type 0) (plan limits : List ℕ) (told : Option FileMap) (bytes ranges : List ℕ)
+    → ((files : FileMap) → told ≡ Some files → AreFronts files plan limits bytes ranges)
+    → (text : List ℕ) → IsLineOf (Tells (files_on plan limits bytes ranges)) text → IsReasonLine Tells plan limits told text
+reason_line Tells plan limits told bytes ranges read text h =
+    record { bytes = bytes; ranges = ranges; read = read; words = h.words; tells = h.says; is = h.is }
+
+-- ---- notes
+
+-- what was put to them, where no call failed
+pub noted : {E : Type 0} (r : Result ⊤ E) (before after : NotesShown) (text : List ℕ) → OnOk r (Appends before.written after.written text)
+    → HasCause before.faults after.faults r → AreNoted before after text
+noted (Ok x) before after text ok cause = record { later = cause.later; put = λ still. ok }
+noted (Err e) before after text ok cause =
+    record { later = cause.later; put = λ still. absurd (rose_and_still before.faults after.faults cause.failed still) }
+
+pub put_on : (reason : Option (String Global)) (c : Command) (plan limits : List ℕ) (told : Option FileMap) (before after : NotesShown)
+    → is_some reason ≡ true
+    → IfSome reason (λ line. IsReasonLine (TellsOn c) plan limits told (string_bytes line))
+    → IfSome reason (λ line. AreNoted before after (string_bytes line)) → HasReasonOn c plan limits told before after
+put_on None c plan limits told before after some is put = absurd (false≢true some)
+put_on (Some line) c plan limits told before after some is put = record { line = string_bytes line; is = is; put = put }
+
+pub nothing_put : {A : Type 0} (o : Option A) → is_some o ≢ true → o ≡ None
+nothing_put None h = refl
+nothing_put (Some a) h = absurd (h refl)
+
+pub ok_same : {E A : Type 0} {a b : A} → ◌≡◌ {A = Result A E} (Ok a) (Ok b) → a ≡ b
+ok_same e = cc
+
+-- ---- by form
+
+pub reason_of_form : (c : Command) (plan limits : List ℕ) (told : Option FileMap) (before after : NotesShown)
+    → HasReasonOn c plan limits told before after → HasReason (form_by c plan limits) told before after
+reason_of_form Check plan limits told before after h = record { line = h.line; is = h.is; put = h.put }
+reason_of_form (Once values) plan limits told before after h = record { line = h.line; is = h.is; put = h.put }
+
+pub asks_of_files : (c : Command) (plan limits : List ℕ) → AsksOfFiles (form_by c plan limits)
+asks_of_files Check plan limits = tt
+asks_of_files (Once values) plan limits = tt
+
+-- a refusal's status is that of an answer that is one
+pub refused_ok : (r : Result Bool Stop) → status_of r ≡ Refused → r ≡ Ok true
+refused_ok (Ok true) e = refl
+refused_ok (Ok false) e = cc
+refused_ok (Err stops.File) e = cc
+refused_ok (Err stops.Read) e = cc
+refused_ok (Err stops.Write) e = cc
+refused_ok (Err stops.Memory) e = cc
+refused_ok (Err stops.Long) e = cc
+
+pub not_refused : NoMemory ≢ Refused
+not_refused e = cc
+
+-- words that ask for no answer on two files put nothing to the notes
+pub notes_kept : {N : Type 0} (of_notes : SinkTells N) (words : List (List ℕ)) (told : Option FileMap) (notes : N) (status : Status) (own : Form)
+    → HasForm words own → ¬ (AsksOfFiles own) → NotesTell of_notes words told notes notes status
+notes_kept of_notes words told notes status own is not = record {
+  reason = λ form has asked refused. absurd (not (subst AsksOfFiles (one_form words form own has is) asked));
+  silent = λ other. refl;
+  other = λ form has none. refl;
+}

@@ -12,7 +12,7 @@ use Rattle.carry_bindings.specs.declared.filling.Blocked.{Blocked}
 use Rattle.carry_bindings.specs.declared.filling.Blocked.TheVariants as blocked
 use Rattle.carry_bindings.specs.Filling.{first_of, has_carry, waits, unknown, missing, outside, inputs}
 use Rattle.pap_plan.specs.declared.refusal.PlanRefusal.{PlanRefusal}
-use Rattle.pap_plan.specs.Acceptance.{IsRefusedOrMemory}
+use Rattle.pap_plan.specs.Acceptance.{IsRefusedOrMemory, Meaning}
 use Rattle.pap_plan.specs.AcceptanceClauses.{IsAcceptedAs}
 use Rattle.pap_plan.specs.Plans.{Seen, flowchart, meaning}
 use Rattle.pap_tree.specs.Flowchart.{Flowchart}
@@ -22,9 +22,11 @@ use Rattle.pay_run.specs.Runs.{slots_of, filled}
 use Rattle.pay_run.specs.RunClauses.{HasRun}
 use Rattle.pay_run.specs.declared.outputs.Finished.{Finished}
 use Rattle.pay_run.proofs.Laws.{outputs_are, cost_is}
-use Rattle.plan_answers.specs.Answers.{Answer, IsRefusal}
+use Rattle.plan_answers.specs.Answers.{Answer, CheckAnswers, IsRefusal, acceptance}
 use Rattle.plan_answers.proofs.Laws.{refused_is}
-use Rattle.pap_cli.specs.private.AnswerViews.{IsRunWith}
+use Rattle.pap_cli.specs.declared.words.Command.{Command}
+use Rattle.pap_cli.specs.declared.words.Command.TheVariants.{Check, Once}
+use Rattle.pap_cli.specs.private.AnswerViews.{answers_of, IsRunWith}
 use Rattle.pap_cli.specs.RunLines.{value_lines, steps_line}
 use Rattle.pap_cli.specs.private.RunViews.{named_lines}
 use Rattle.pap_cli.specs.RunAnswers.{IsRunOn, IsOnce, OnceAnswers, finished}
@@ -110,3 +112,16 @@ once_accepted values plan limits p a h k = record {
   accepted = h.accepted;
   is = subst (λ l. IsOnce values plan l (Ok (meaning p)) a) h.limits_bytes (subst (λ t. IsOnce values t p.limits (Ok (meaning p)) a) h.plan_bytes k);
 }
+
+-- ---- the answers of both commands
+
+pub check_accepted : (plan limits : List ℕ) (p : Seen) (a : Answer) → IsAcceptedAs plan limits p → a ≡ acceptance (meaning p) → CheckAnswers plan limits a
+check_accepted plan limits p a h e = record { verdict = Ok (meaning p); accepted = h.accepted; is = e }
+
+-- nothing is run
+pub no_steps : (m : Meaning) (a : Answer) → a ≡ acceptance m → a.steps ≡ 0
+no_steps m a e = ap (λ (x : Answer). x.steps) e
+
+pub answer_refused : (c : Command) (plan limits : List ℕ) (r : PlanRefusal) (a : Answer) → IsRefusedOrMemory plan limits r → IsRefusal plan r a → answers_of c plan limits a
+answer_refused Check plan limits r a h k = record { verdict = Err r; accepted = refused_is plan limits r a h k; is = k }
+answer_refused (Once values) plan limits r a h k = once_refused values plan limits r a h k

@@ -11,7 +11,7 @@ pub mod Laws
 pub mod RunLines
 pub mod Outside
 pub mod Statuses
-pub mod Kept
+pub mod Notes
 pub mod Reasons
 pub mod RefusedTexts
 pub mod Words

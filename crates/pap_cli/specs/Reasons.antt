@@ -1,6 +1,7 @@
--- On which bytes an answer is a refusal, so that it has a reason, and where the reason's words begin.
-use Rattle.std.specs.Prelude.{◌≡◌, ◌⊎◌, ℕ, List, [], ◌∷◌, Bool, false, Vec, map}
-use Rattle.std.specs.declared.alloc.Global.{Global}
+-- Why an answer on two files is a refusal, in plain words.
+use Rattle.std.specs.Prelude.{◌≡◌, ◌⊎◌, ℕ, List, [], ◌∷◌, ◌++◌, Option}
+use Rattle.std.specs.Option.{ForSome}
+use Rattle.outside.specs.Told.{FileMap}
 use Rattle.payroll_records.specs.declared.values.NamedValue.{NamedValue}
 use Rattle.carry_bindings.specs.declared.filling.Blocked.{Blocked}
 use Rattle.carry_bindings.specs.declared.filling.Filled.TheVariants.{State}
@@ -10,29 +11,8 @@ use Rattle.plain_words.specs.Lines.{IsOneLine}
 use Rattle.plain_words.specs.Places.{PlanFiles}
 use Rattle.plain_words.specs.Refusals.{TellsPlan}
 use Rattle.plain_words.specs.States.{SaysState}
-use Rattle.plan_answers.specs.Answers.{Answer, CheckAnswers}
-use Rattle.pap_cli.specs.RunAnswers.{OnceAnswers}
+use Rattle.plan_answers.specs.Fronts.{AreFronts}
 use Rattle.pap_cli.specs.Words.{Form, check, once}
-
--- the bytes of each file, in the order in which they were given
-abbrev pub bytes_of : List (Vec ℕ Global) → List (List ℕ)
-bytes_of given = map (λ bytes. bytes.items) given
-
--- there is an answer of this kind, and the truth value says whether it is a refusal
-pub record SaysRefused (IsAnswer : Answer → Type 0) (told : Bool) : Type 0 where
-  pub answer : Answer
-  pub is : IsAnswer answer
-  pub refused : told ≡ answer.refused
-
--- the truth value says whether the answer on the given bytes, the plan's and then those of its range file, is a
--- refusal; the answers of a script say themselves what is refused, and where two files weren't given there isn't an
--- answer
-abbrev pub SaysRefusedOn : Form → List (List ℕ) → Bool → Type 0
-SaysRefusedOn (check plan limits) (bytes ∷ ranges ∷ more) told = SaysRefused (CheckAnswers bytes ranges) told
-SaysRefusedOn (once plan limits values) (bytes ∷ ranges ∷ more) told = SaysRefused (OnceAnswers values bytes ranges) told
-SaysRefusedOn _ _ told = told ≡ false
-
--- ---- the words of a reason
 
 -- two files of these names, with these bytes
 abbrev pub files_on : List ℕ → List ℕ → List ℕ → List ℕ → PlanFiles
@@ -52,10 +32,22 @@ pub record TellsState (values : List NamedValue) (files : PlanFiles) (words : Li
   pub line : IsOneLine words
   pub begins : SaysState files state words
 
--- the words are one line that begins with the place of what is refused in the given bytes, the plan's and then those of
--- its range file
-abbrev pub TellsReason : Form → List (List ℕ) → List ℕ → Type 0
-TellsReason (check plan limits) (bytes ∷ ranges ∷ more) words = TellsPlan (files_on plan limits bytes ranges) words
-TellsReason (once plan limits values) (bytes ∷ ranges ∷ more) words =
-    TellsPlan (files_on plan limits bytes ranges) words ⊎ TellsState values (files_on plan limits bytes ranges) words
-TellsReason _ _ words = ⊥
+-- the words say why the plan is refused, or why its run on these values has no inputs
+abbrev pub TellsOnce : List NamedValue → PlanFiles → List ℕ → Type 0
+TellsOnce values files words = TellsPlan files words ⊎ TellsState values files words
+
+-- the text is a line of words that tell such a thing of what was read of the two files: where the files tell what they
+-- hold, these are its first bytes
+pub record IsReasonLine (Tells : PlanFiles → List ℕ → Type 0) (plan limits : List ℕ) (told : Option FileMap) (text : List ℕ) : Type 0 where
+  pub bytes : List ℕ
+  pub ranges : List ℕ
+  pub read : ForSome told (λ files. AreFronts files plan limits bytes ranges)
+  pub words : List ℕ
+  pub tells : Tells (files_on plan limits bytes ranges) words
+  pub is : text ≡ words ++ 10 ∷ []
+
+-- the text is a line that says why the answer of this form is a refusal
+abbrev pub IsReasonFor : Form → Option FileMap → List ℕ → Type 0
+IsReasonFor (check plan limits) told text = IsReasonLine TellsPlan plan limits told text
+IsReasonFor (once plan limits values) told text = IsReasonLine (TellsOnce values) plan limits told text
+IsReasonFor _ told text = ⊥

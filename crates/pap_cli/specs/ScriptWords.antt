@@ -1,4 +1,4 @@
--- A request of the program, as the form that it stands for.
+-- What the forms of words ask for.
 use Rattle.std.specs.Prelude.{⊤}
 use Rattle.pap_cli.specs.declared.words.Request.TheVariants as requests
 use Rattle.pap_cli.specs.Words.{Form, check, once, run, sample, save}
@@ -10,3 +10,11 @@ ReadsScript (once plan limits values) = ⊥
 ReadsScript run = ⊤
 ReadsScript (sample employees) = ⊥
 ReadsScript save = ⊤
+
+-- an answer on a plan's file and a range file is asked for
+abbrev pub AsksOfFiles : Form → Type 0
+AsksOfFiles (check plan limits) = ⊤
+AsksOfFiles (once plan limits values) = ⊤
+AsksOfFiles run = ⊥
+AsksOfFiles (sample employees) = ⊥
+AsksOfFiles save = ⊥

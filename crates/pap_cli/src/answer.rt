@@ -1,16 +1,25 @@
 //! The answer on two files.
-ghost use Rattle.std.specs.Prelude.{◌≡◌, ◌+◌, IfOk, OnErr};
+ghost use Rattle.std.specs.Prelude.{◌≡◌, ◌≢◌, ◌+◌, true, None, Ok, IfOk, IfSome, OnErr, is_some, string_bytes};
 ghost use Rattle.outside.specs.Causes.{Caused};
-ghost use Rattle.plan_answers.specs.Replies.{reply_of};
+ghost use Rattle.plain_words.specs.Places.{files_of};
+ghost use Rattle.plan_answers.specs.Answers.{IsRefusal};
+ghost use Rattle.plan_answers.specs.Refusals.{HasItsPlan};
 ghost use Rattle.script_steps.specs.Shown.{shown};
-ghost use Rattle.pap_cli.specs.private.AnswerViews.{answers_of};
 ghost use Rattle.pap_cli.specs.FileClauses.{IsCounted, LeavesOnFiles};
+ghost use Rattle.pap_cli.specs.Notes.{AreNoted, notes_shown};
+ghost use Rattle.pap_cli.specs.Reasons.{IsReasonLine};
 ghost use Rattle.pap_cli.specs.Statuses.{status_of};
+ghost use Rattle.pap_cli.specs.private.AnswerViews.{answer_of, answers_of, refused_of};
+ghost use Rattle.pap_cli.specs.private.ReasonViews.{HasReasonOn, IsLineOf, IsPlanReason, TellsOn};
 
-use crate::once::once_reply;
+use crate::check::check_reply;
+use crate::once::run_reply;
+use crate::reply::{FileReply, as_line};
 use crate::words::{Command, FileRequest};
 use outside::{Files, Sink, put_all};
-use plan_answers::{Reply, check_reply, read_both};
+use pap_plan::{PlanRefusal, accept};
+use plain_words::{TextFile, plan_words};
+use plan_answers::{Reply, read_both, refused};
 use script_run::Stop;
 use std::alloc::{AllocError, Global};
 use std::sync::ledger::Ledger;
@@ -20,29 +29,118 @@ use steps::Steps;
 fn reply_on_bytes<L: Ledger>(
     alloc: Global,
     command: Command,
-    plan: &[u8],
-    limits: &[u8],
+    plan: TextFile<'_>,
+    limits: TextFile<'_>,
     steps: &mut Steps<L>,
-) -> Result<Reply, AllocError>
-    ensures answer { IfOk result
-        (λ reply. answers_of command plan.now limits.now (reply_of reply)) }
+) -> Result<FileReply, AllocError>
+    ensures answer { IfOk result (λ reply.
+        answers_of command plan.entry.bytes.now limits.entry.bytes.now (answer_of reply)) }
+    ensures reason { IfOk result (λ reply. IfSome reply.reason (λ line.
+        IsLineOf (TellsOn command (files_of plan.entry limits.entry)) (string_bytes line))) }
     ensures counted { IfOk result (λ reply. steps.new ≡ steps.old + reply.steps) }
-    ensures memory { OnErr result
-        (IsCounted (answers_of command plan.now limits.now) steps.old steps.new) }
+    ensures memory { OnErr result (IsCounted
+        (answers_of command plan.entry.bytes.now limits.entry.bytes.now) steps.old steps.new) }
     ensures check { command ≡ Command.Check → steps.new ≡ steps.old }
 {
-    match command {
-        Command::Check => check_reply(alloc, plan, limits),
-        Command::Once(values) => once_reply(alloc, values, plan, limits, steps),
+    match accept(alloc, plan.bytes, limits.bytes) {
+        Ok(accepted) => match command {
+            Command::Check => check_reply(alloc, &accepted),
+            Command::Once(values) => run_reply(alloc, plan, limits, &accepted, values, steps),
+        },
+        Err(PlanRefusal::Memory) => Err(AllocError),
+        Err(fault) => refused_reply(alloc, plan, limits, &fault),
     }
 }
 
-/// Writes the answer that is asked for. `Ok` says whether it is a refusal.
-pub(crate) fn answer<F: Files, W: Sink, L: Ledger>(
+/// The refusal of a plan and its range file, with its reason.
+fn refused_reply(
+    alloc: Global,
+    plan: TextFile<'_>,
+    limits: TextFile<'_>,
+    fault: &PlanRefusal,
+) -> Result<FileReply, AllocError>
+    requires { HasItsPlan plan.bytes.now fault.now }
+    ensures answer { IfOk result
+        (λ reply. IsRefusal plan.entry.bytes.now fault.now (answer_of reply)) }
+    ensures reason { IfOk result (λ reply. IfSome reply.reason (λ line.
+        IsLineOf (IsPlanReason (files_of plan.entry limits.entry) fault.now) (string_bytes line))) }
+{
+    let Reply { text, steps, .. } = refused(alloc, plan.bytes, fault)?;
+    let words = plan_words(alloc, plan, limits, fault)?;
+    let reason = as_line(words)?;
+    Ok(FileReply {
+        text,
+        reason: Some(reason),
+        steps,
+    })
+}
+
+/// Writes the answer that is asked for. `Ok` has its reason where it is a refusal: a line of plain words.
+fn write_answer<F: Files, W: Sink, L: Ledger>(
     alloc: Global,
     request: FileRequest<'_>,
     files: &mut F,
     sink: &mut W,
+    steps: &mut Steps<L>,
+) -> Result<Option<String>, Stop>
+    ensures leaves { LeavesOnFiles (answers_of request.entry.command)
+        request.entry.plan.now request.entry.limits.now
+        (shown (F.told files.old) (F.failed files.old) (W.written sink.old) steps.old)
+        (shown (F.told files.new) (F.failed files.new) (W.written sink.new) steps.new)
+        (status_of (refused_of result)) }
+    ensures reason { IfOk result (λ reason. IfSome reason (λ line.
+        IsReasonLine (TellsOn request.entry.command) request.entry.plan.now
+        request.entry.limits.now (F.told files.old) (string_bytes line))) }
+    ensures check { request.entry.command ≡ Command.Check → steps.new ≡ steps.old }
+    ensures same { F.told files.new ≡ F.told files.old }
+    ensures file { Caused Stop.File (F.faults files.old) (F.faults files.new) result }
+    ensures write { Caused Stop.Write (W.faults sink.old) (W.faults sink.new) result }
+{
+    let FileRequest {
+        plan: plan_name,
+        limits: limits_name,
+        command,
+    } = request;
+    let (plan_bytes, limits_bytes) = read_both(alloc, plan_name, limits_name, files)?;
+    let plan = TextFile {
+        name: plan_name,
+        bytes: &plan_bytes,
+    };
+    let limits = TextFile {
+        name: limits_name,
+        bytes: &limits_bytes,
+    };
+    let reply = reply_on_bytes(alloc, command, plan, limits, steps)?;
+    match put_all(sink, &reply.text) {
+        Ok(()) => Ok(reply.reason),
+        Err(_) => Err(Stop::Write),
+    }
+}
+
+/// Puts the reason of a refusal to the notes, where there is one, and says whether there is. That a call of the notes may fail
+/// changes nothing.
+fn put_reason<N: Sink>(notes: &mut N, reason: Option<String>) -> bool
+    ensures marked { result ≡ is_some reason }
+    ensures silent { reason ≡ None → notes.new ≡ notes.old }
+    ensures put { IfSome reason (λ line. AreNoted
+        (notes_shown N.Sink notes.old) (notes_shown N.Sink notes.new) (string_bytes line)) }
+{
+    match reason {
+        Some(line) => {
+            let _ = put_all(notes, line.as_bytes());
+            true
+        }
+        None => false,
+    }
+}
+
+/// Writes the answer that is asked for, and then puts its reason to the notes where it is a refusal, which `Ok` says.
+pub(crate) fn answer<F: Files, W: Sink, N: Sink, L: Ledger>(
+    alloc: Global,
+    request: FileRequest<'_>,
+    files: &mut F,
+    sink: &mut W,
+    notes: &mut N,
     steps: &mut Steps<L>,
 ) -> Result<bool, Stop>
     ensures leaves { LeavesOnFiles (answers_of request.entry.command)
@@ -50,20 +148,17 @@ pub(crate) fn answer<F: Files, W: Sink, L: Ledger>(
         (shown (F.told files.old) (F.failed files.old) (W.written sink.old) steps.old)
         (shown (F.told files.new) (F.failed files.new) (W.written sink.new) steps.new)
         (status_of result) }
+    ensures reason { result ≡ Ok true → HasReasonOn request.entry.command
+        request.entry.plan.now request.entry.limits.now (F.told files.old)
+        (notes_shown N.Sink notes.old) (notes_shown N.Sink notes.new) }
+    ensures silent { result ≢ Ok true → notes.new ≡ notes.old }
     ensures check { request.entry.command ≡ Command.Check → steps.new ≡ steps.old }
     ensures same { F.told files.new ≡ F.told files.old }
     ensures file { Caused Stop.File (F.faults files.old) (F.faults files.new) result }
     ensures write { Caused Stop.Write (W.faults sink.old) (W.faults sink.new) result }
 {
-    let FileRequest {
-        plan,
-        limits,
-        command,
-    } = request;
-    let (plan_bytes, limits_bytes) = read_both(alloc, plan, limits, files)?;
-    let reply = reply_on_bytes(alloc, command, &plan_bytes, &limits_bytes, steps)?;
-    match put_all(sink, &reply.text) {
-        Ok(()) => Ok(reply.refused),
-        Err(_) => Err(Stop::Write),
+    match write_answer(alloc, request, files, sink, steps) {
+        Ok(reason) => Ok(put_reason(notes, reason)),
+        Err(stop) => Err(stop),
     }
 }

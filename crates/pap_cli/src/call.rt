@@ -3,6 +3,7 @@ ghost use Rattle.std.specs.Prelude.{◌≡◌};
 ghost use Rattle.pap_cli.specs.Words.{texts};
 ghost use Rattle.pap_cli.specs.Outside.{objects};
 ghost use Rattle.pap_cli.specs.CallClauses.{AskForScript, CallMeets, CallTells};
+ghost use Rattle.pap_cli.specs.Notes.{NotesTell};
 ghost use Rattle.pap_cli.specs.Statuses.{status_of};
 ghost use Rattle.script_run.specs.RunClauses.{ended_of, told_of};
 ghost use Rattle.plan_answers.specs.Laws.{CheckHasOneAnswer};
@@ -14,7 +15,7 @@ use crate::answer::answer;
 use crate::sample::sample;
 use crate::save::save;
 use crate::words::{Request, read_words};
-use outside::{Files, Sink, Source};
+use outside::{Files, Sink, Source, SureSink};
 use script_run::{RefusedLines, Stop, Stopped, run};
 use std::alloc::Global;
 use std::sync::ledger::Ledger;
@@ -76,28 +77,44 @@ pub fn papcalc<F: Files, R: Source, W: Sink, L: Ledger>(
         (objects files.old source.old sink.old steps.old)
         (objects files.new source.new sink.new steps.new) result }
 {
+    let mut notes = SureSink::new();
     let mut untold = RefusedLines::new(alloc);
-    papcalc_told(alloc, words, files, source, sink, &mut untold, steps)
+    papcalc_told(
+        alloc,
+        words,
+        files,
+        source,
+        sink,
+        &mut notes,
+        &mut untold,
+        steps,
+    )
 }
 
-/// Does what [`papcalc`] does, and tells of the script that `run` or `save` carries out which of its lines were refused, and why,
-/// also where it stops before its end: then of the lines that were answered. Under all other words the list stays as it was.
-pub fn papcalc_told<F: Files, R: Source, W: Sink, L: Ledger>(
+/// Does what [`papcalc`] does, and says why something is refused. Where the answer on two files is a refusal, its reason is put to
+/// the notes behind it: a line of plain words, which begins with the file and the place in it. That a call of the notes may fail
+/// changes nothing else. Of the script that `run` or `save` carries out it tells which lines were refused, and why, also where it
+/// stops before its end: then of the lines that were answered. Under all other words that list stays as it was.
+pub fn papcalc_told<F: Files, R: Source, W: Sink, N: Sink, L: Ledger>(
     alloc: Global,
     words: &[String],
     files: &mut F,
     source: &mut R,
     sink: &mut W,
+    notes: &mut N,
     refused_lines: &mut RefusedLines,
     steps: &mut Steps<L>,
 ) -> Status
     ensures meets { CallTells F.Files R.Source W.Sink (texts words.now)
         (objects files.old source.old sink.old steps.old)
         (objects files.new source.new sink.new steps.new) refused_lines.new result }
+    ensures notes { NotesTell N.Sink (texts words.now) (F.told files.old) notes.old notes.new result }
     ensures untold { ¬ (AskForScript (texts words.now)) → refused_lines.new ≡ refused_lines.old }
 {
     match read_words(alloc, words) {
-        Ok(Some(Request::Files(request))) => status(answer(alloc, request, files, sink, steps)),
+        Ok(Some(Request::Files(request))) => {
+            status(answer(alloc, request, files, sink, notes, steps))
+        },
         Ok(Some(Request::Run)) => {
             status(tell(run(alloc, files, source, sink, steps), refused_lines))
         },

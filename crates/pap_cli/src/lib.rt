@@ -4,10 +4,10 @@
 mod answer;
 mod bad_words;
 mod call;
-mod kept;
+mod check;
 mod once;
-mod reasons;
 mod refused;
+mod reply;
 mod sample;
 mod save;
 mod status;
@@ -15,8 +15,6 @@ mod words;
 
 pub use bad_words::bad_value;
 pub use call::{answer_laws, papcalc, papcalc_told, word_laws};
-pub use kept::KeptFiles;
-pub use reasons::{MOST_GIVEN, reason};
 pub use refused::refused_text;
 pub use save::save_laws;
 pub use script_run::RefusedLines;

@@ -1,67 +1,80 @@
-//! The answer of `once`.
-ghost use Rattle.std.specs.Prelude.{◌≡◌, ◌≢◌, ◌+◌, ◌++◌, IfOk, OnOk, OnErr, string_bytes};
+//! The answer of `once` on an accepted plan.
+ghost use Rattle.std.specs.Prelude.{◌≡◌, ◌≢◌, ◌+◌, ◌++◌, None, IfOk, IfSome, OnOk, OnErr, string_bytes};
 ghost use Rattle.pap_plan.specs.Plans.{Admits, flowchart};
+ghost use Rattle.pay_run.specs.Accepted.{accepted};
+ghost use Rattle.plain_words.specs.Places.{files_of};
 ghost use Rattle.pap_cli.specs.private.RunViews.{named_lines};
-ghost use Rattle.pap_cli.specs.RunAnswers.{OnceAnswers, IsRunOn};
-ghost use Rattle.pap_cli.specs.private.AnswerViews.{IsRunWith};
+ghost use Rattle.pap_cli.specs.RunAnswers.{IsRunOn};
+ghost use Rattle.pap_cli.specs.private.AnswerViews.{answer_of, IsRunWith};
+ghost use Rattle.pap_cli.specs.private.ReasonViews.{IsLineOf, IsStateReason, TellsFilled};
 ghost use Rattle.plan_answers.specs.Replies.{reply_of};
 ghost use Rattle.pap_cli.specs.FileClauses.{IsCounted};
 ghost use Rattle.carry_bindings.specs.declared.filling.Filled.TheVariants.{Inputs, State};
 ghost use Rattle.payroll_records.specs.declared.day.Day.{Day as Date};
 ghost use Rattle.pap_tree.specs.Flowchart.{Flowchart};
 
+use crate::reply::{FileReply, as_line};
 use carry_bindings::{Blocked, Filled};
-use pap_plan::{Plan, PlanRefusal, accept};
+use pap_plan::Plan;
 use pay_run::{filled, run};
 use payroll_records::{Day, Employee, NamedValue, Record, Values};
-use plan_answers::{Reply, refusal, refused};
+use plain_words::{TextFile, state_words};
+use plan_answers::{Reply, refusal};
 use scaled_decimal::Dec;
 use std::alloc::{AllocError, Global};
 use std::sync::ledger::Ledger;
 use steps::Steps;
 
-/// The answer of `once` on the bytes of a plan and of a range file. Where memory runs out the run may have been counted.
-pub(crate) fn once_reply<L: Ledger>(
+/// The answer of `once` on an accepted plan: its run on the values of a record without earlier runs.
+pub(crate) fn run_reply<L: Ledger>(
     alloc: Global,
-    values: Values,
-    plan: &[u8],
-    limits: &[u8],
-    steps: &mut Steps<L>,
-) -> Result<Reply, AllocError>
-    ensures answer { IfOk result
-        (λ reply. OnceAnswers values plan.now limits.now (reply_of reply)) }
-    ensures counted { IfOk result (λ reply. steps.new ≡ steps.old + reply.steps) }
-    ensures memory { OnErr result
-        (IsCounted (OnceAnswers values plan.now limits.now) steps.old steps.new) }
-{
-    match accept(alloc, plan, limits) {
-        Ok(plan) => run_reply(alloc, &plan, values, steps),
-        Err(PlanRefusal::Memory) => Err(AllocError),
-        Err(fault) => refused(alloc, plan, &fault),
-    }
-}
-
-/// The run of an accepted plan on the values of a record without earlier runs.
-fn run_reply<L: Ledger>(
-    alloc: Global,
-    plan: &Plan,
+    plan: TextFile<'_>,
+    limits: TextFile<'_>,
+    judged: &Plan,
     values: Values,
     steps: &mut Steps<L>,
-) -> Result<Reply, AllocError>
-    ensures answer { IfOk result (λ reply. IsRunWith values plan.now (reply_of reply)) }
+) -> Result<FileReply, AllocError>
+    ensures answer { IfOk result (λ reply. IsRunWith values judged.now (answer_of reply)) }
+    ensures reason { IfOk result (λ reply. IfSome reply.reason (λ line.
+        IsLineOf (TellsFilled values (accepted judged.now) (files_of plan.entry limits.entry))
+        (string_bytes line))) }
     ensures counted { IfOk result (λ reply. steps.new ≡ steps.old + reply.steps) }
     ensures memory { OnErr result
-        (IsCounted (IsRunWith values plan.now) steps.old steps.new) }
+        (IsCounted (IsRunWith values judged.now) steps.old steps.new) }
 {
     let record = record_of(values);
-    match filled(alloc, plan, &record, &[])? {
-        Filled::Inputs(inputs) => finished(alloc, plan, inputs.as_slice(), steps),
-        Filled::State(state) => state_reply(alloc, &state),
+    match filled(alloc, judged, &record, &[])? {
+        Filled::Inputs(inputs) => finished(alloc, judged, inputs.as_slice(), steps),
+        Filled::State(state) => state_reply(alloc, plan, limits, &state),
     }
 }
 
-/// The refusal of a run that has no inputs. A run without earlier ones waits for none.
-fn state_reply(alloc: Global, state: &Blocked) -> Result<Reply, AllocError>
+/// The refusal of a run that has no inputs, with its reason. A run without earlier ones waits for none.
+fn state_reply(
+    alloc: Global,
+    plan: TextFile<'_>,
+    limits: TextFile<'_>,
+    state: &Blocked,
+) -> Result<FileReply, AllocError>
+    requires { (day : Date) → state.now ≢ Blocked.Waits day }
+    ensures answer { (f : Flowchart) → IfOk result
+        (λ reply. IsRunOn f (State state.now) (answer_of reply)) }
+    ensures reason { IfOk result (λ reply. IfSome reply.reason (λ line.
+        IsLineOf (IsStateReason (files_of plan.entry limits.entry) state.now)
+        (string_bytes line))) }
+{
+    let reply = state_refusal(alloc, state)?;
+    let words = state_words(alloc, plan, limits, state)?;
+    let reason = as_line(words)?;
+    Ok(FileReply {
+        text: reply.text,
+        reason: Some(reason),
+        steps: reply.steps,
+    })
+}
+
+/// The refusal of a run that has no inputs.
+fn state_refusal(alloc: Global, state: &Blocked) -> Result<Reply, AllocError>
     requires { (day : Date) → state.now ≢ Blocked.Waits day }
     ensures { (f : Flowchart) → IfOk result
         (λ reply. IsRunOn f (State state.now) (reply_of reply)) }
@@ -76,7 +89,7 @@ fn state_reply(alloc: Global, state: &Blocked) -> Result<Reply, AllocError>
 }
 
 /// The record of a run that stands alone: its employee and its day play no part.
-pub(crate) fn record_of(values: Values) -> Record
+fn record_of(values: Values) -> Record
     ensures { result.values ≡ values }
 {
     Record {
@@ -92,10 +105,11 @@ fn finished<L: Ledger>(
     plan: &Plan,
     inputs: &[Dec],
     steps: &mut Steps<L>,
-) -> Result<Reply, AllocError>
+) -> Result<FileReply, AllocError>
     requires { Admits plan.now inputs.now }
     ensures answer { IfOk result
-        (λ reply. IsRunOn (flowchart plan.now) (Inputs inputs.now) (reply_of reply)) }
+        (λ reply. IsRunOn (flowchart plan.now) (Inputs inputs.now) (answer_of reply)) }
+    ensures silent { IfOk result (λ reply. reply.reason ≡ None) }
     ensures counted { IfOk result (λ reply. steps.new ≡ steps.old + reply.steps) }
     ensures memory { OnErr result
         (IsCounted (IsRunOn (flowchart plan.now) (Inputs inputs.now)) steps.old steps.new) }
@@ -105,9 +119,9 @@ fn finished<L: Ledger>(
     let mut text = String::new(alloc);
     write_values(&mut text, ran.outputs.as_slice())?;
     write!(text, "steps {cost}\n")?;
-    Ok(Reply {
+    Ok(FileReply {
         text: text.into_bytes(),
-        refused: false,
+        reason: None,
         steps: cost,
     })
 }

@@ -7,7 +7,7 @@ mod wrong_words;
 
 use crate::wrong_words::what_is_wrong;
 use outside::{FailedFile, Files, RealFiles, Sink, Source, StdSink, StdSource};
-use pap_cli::{KeptFiles, MOST_GIVEN, RefusedLines, Status, papcalc_told, reason, refused_text};
+use pap_cli::{RefusedLines, Status, papcalc_told, refused_text};
 use plain_words::one_line;
 use std::alloc::Global;
 use std::env;
@@ -86,12 +86,13 @@ memory runs out, 7 where the script is longer than 67108864 bytes.
 The manual page says more: man papcalc";
 
 /// Runs the words, and counts the steps of the run.
-fn counted<L: Ledger, F: Files, R: Source, W: Sink>(
+fn counted<L: Ledger, F: Files, R: Source, W: Sink, N: Sink>(
     alloc: Global,
     words: &[String],
     files: &mut F,
     source: &mut R,
     sink: &mut W,
+    notes: &mut N,
     refused_lines: &mut RefusedLines,
     blank: Blank,
 ) -> Status
@@ -100,7 +101,16 @@ fn counted<L: Ledger, F: Files, R: Source, W: Sink>(
     requires one { blank.parts ≡ 1 }
 {
     let mut steps = Steps::<L>::new(blank);
-    papcalc_told(alloc, words, files, source, sink, refused_lines, &mut steps)
+    papcalc_told(
+        alloc,
+        words,
+        files,
+        source,
+        sink,
+        notes,
+        refused_lines,
+        &mut steps,
+    )
 }
 
 /// The words after the program's name.
@@ -170,14 +180,6 @@ fn failed_line(words: &[String], refused_lines: &RefusedLines) -> Option<u64> {
     }
 }
 
-/// Says on standard error why the answer is a refusal, in one line, from the bytes that were given for it. That this may fail
-/// changes nothing.
-fn explain_refusal(rt: &HostRuntime, words: &[String], given: &[Vec<u8>]) {
-    if let Ok(Some(reason)) = reason(rt.alloc(), words, given) {
-        let _ = eprintln!(rt; "{reason}");
-    }
-}
-
 /// Says on standard error which lines of a script are refused, and why, also where it stopped, unless memory ran out; and of
 /// `save` that the book isn't saved. That this may fail changes nothing.
 fn explain_script(rt: &HostRuntime, word: &str, status: Status, refused_lines: &RefusedLines) {
@@ -202,28 +204,28 @@ fn end(rt: &HostRuntime, status: Status, words: &[String]) -> ExitCode {
     ExitCode::from(status.number())
 }
 
-/// Carries out the words over the system's files and streams, and says why an answer is a refusal.
+/// Carries out the words over the system's files and streams, and says on standard error why an answer is a refusal.
 fn carried_out(rt: &HostRuntime, words: &[String]) -> ExitCode {
-    let mut files = KeptFiles::new(rt.alloc(), RealFiles::new(rt), MOST_GIVEN);
+    let mut files = RealFiles::new(rt);
     let mut source = StdSource::new(rt.reader());
     let mut sink = StdSink::new(io::writer(rt));
+    let mut notes = StdSink::new(rt.stderr());
     let mut refused_lines = RefusedLines::new(rt.alloc());
-    let status = counted::<Brand, _, _, _>(
+    let status = counted::<Brand, _, _, _, _>(
         rt.alloc(),
         words,
         &mut files,
         &mut source,
         &mut sink,
+        &mut notes,
         &mut refused_lines,
         Blank::new(1),
     );
-    match words {
-        [word] => explain_script(rt, word, status, &refused_lines),
-        words if status == Status::Refused => explain_refusal(rt, words, files.fronts()),
-        _ => {}
+    if let [word] = words {
+        explain_script(rt, word, status, &refused_lines);
     }
     if status == Status::FileFault
-        && let Some(file) = files.inner().failed_file()
+        && let Some(file) = files.failed_file()
     {
         explain_file_fault(rt, file, failed_line(words, &refused_lines));
     }

@@ -1,5 +1,5 @@
 -- What is shown of texts that stand one behind another, and of what helps.
-use Rattle.std.proofs.Common.{◌≡◌, ◌≢◌, ℕ, List, [], ◌∷◌, ◌++◌, refl, sym, ap, ◌∙◌, append_assoc}
+use Rattle.std.proofs.Common.{◌≡◌, ◌≢◌, ℕ, List, [], ◌++◌, refl, sym, ap, ◌∙◌, append_assoc}
 use Rattle.std.specs.Prelude.{Option, None, Some, IfSome, Result, Ok, Err, IfOk, map, codes, encode_utf8_all}
 use Rattle.std.specs.Char.{encode_utf8}
 use Rattle.std.specs.Str.{IsUtf8, chars}
@@ -27,7 +27,7 @@ use Rattle.pap_plan.specs.declared.refusal.PlanRefusal.TheVariants as refusals
 use Rattle.carry_bindings.specs.declared.filling.Blocked.{Blocked}
 use Rattle.plain_words.specs.declared.found.Found.{Found}
 use Rattle.plain_words.specs.Lines.{shown_char, shown_text, EndsWith}
-use Rattle.plain_words.specs.Places.{PlanFiles, words_at, IsReason}
+use Rattle.plain_words.specs.Places.{PlanFiles, words_at}
 use Rattle.plain_words.specs.Helps.{read_help, expression_help, type_help, order_help, limits_help, cause_help}
 use Rattle.plain_words.specs.Helps.{range_help, help_of}
 use Rattle.plain_words.specs.Refusals.{IsPlaceOf, BeginsAtRefusal}
@@ -45,18 +45,15 @@ unfolding encode_utf8
 utf8_colon = (codes ": ", (refl, refl))
 
 -- the last of some texts ends what is shown of them
-pub shown_end : (place wrong quote end text : List ℕ) → IsUtf8 place → IsUtf8 wrong → IsUtf8 quote
-    → text ≡ place ++ (codes ": " ++ (wrong ++ (quote ++ end))) → EndsWith (shown_text end) (shown_text text)
-shown_end place wrong quote end text p w q is =
-    let said = wrong ++ quote in
-    let front = place ++ (codes ": " ++ said) in
-    let behind : IsUtf8 (codes ": " ++ said) =
-    IsUtf8-append (codes ": ") said utf8_colon (IsUtf8-append wrong quote w q) in
-    let whole : IsUtf8 front = IsUtf8-append place (codes ": " ++ said) p behind in
+pub shown_end : (place wrong end text : List ℕ) → IsUtf8 place → IsUtf8 wrong
+    → text ≡ place ++ (codes ": " ++ (wrong ++ end)) → EndsWith (shown_text end) (shown_text text)
+shown_end place wrong end text p w is =
+    let front = place ++ (codes ": " ++ wrong) in
+    let behind : IsUtf8 (codes ": " ++ wrong) = IsUtf8-append (codes ": ") wrong utf8_colon w in
+    let whole : IsUtf8 front = IsUtf8-append place (codes ": " ++ wrong) p behind in
     let parts : text ≡ front ++ end =
-    is ∙ ap (λ x. place ++ (codes ": " ++ x)) (sym (append_assoc wrong quote end))
-    ∙ ap (λ x. place ++ x) (sym (append_assoc (codes ": ") said end))
-    ∙ sym (append_assoc place (codes ": " ++ said) end) in
+    is ∙ ap (λ x. place ++ x) (sym (append_assoc (codes ": ") wrong end))
+    ∙ sym (append_assoc place (codes ": " ++ wrong) end) in
     (shown_text front, ap shown_text parts ∙ shown-append front end whole)
 
 -- ---- what helps is shown as it is
@@ -140,27 +137,14 @@ ends_with_help r found words helps ends = by (help_of r) helps (help_shown r)
     by (Some h) is shown =
         (ends.0, ends.1 ∙ ap (λ x. ends.0 ++ shown_text (codes "; " ++ x)) is ∙ ap (λ x. ends.0 ++ x) shown)
 
--- what is wrong, with what is quoted of it, and what helps are a reason
-a_reason : (wrong quote help : List ℕ) → wrong ≢ [] → IsReason (wrong ++ (quote ++ (codes "; " ++ help)))
-a_reason wrong quote help some = record {
-  wrong = wrong ++ quote;
-  help = help;
-  some = some_front wrong some;
-  is = sym (append_assoc wrong quote (codes "; " ++ help));
-}
-  where
-    some_front : (front : List ℕ) → front ≢ [] → front ++ quote ≢ []
-    some_front [] none = absurd (none refl)
-    some_front (c ∷ front) some = λ same. cc
-
-pub begins_at_refusal : (files : PlanFiles) (r : PlanRefusal) (found : Found) (wrong quote words : List ℕ)
+pub begins_at_refusal : (files : PlanFiles) (r : PlanRefusal) (found : Found) (wrong words : List ℕ)
     → IsPlaceOf files.plan.bytes r (place_of found) → HelpsAs (help_of r) found → wrong ≢ []
-    → words ≡ words_at files (place_of found) (wrong ++ (quote ++ (codes "; " ++ help_text found)))
+    → words ≡ words_at files (place_of found) (wrong ++ (codes "; " ++ help_text found))
     → EndsWith (shown_text (codes "; " ++ help_text found)) words → BeginsAtRefusal files r words
-begins_at_refusal files r found wrong quote words is helps some says ends = record {
+begins_at_refusal files r found wrong words is helps some says ends = record {
   place = place_of found;
   is = is;
-  begins = (_, (a_reason wrong quote (help_text found) some, says));
+  begins = (_, (record { wrong = wrong; help = help_text found; some = some; is = refl }, says));
   helps = ends_with_help r found words helps ends;
 }
 

@@ -1,11 +1,13 @@
 //! Where the elements of a plan's file are refused.
-ghost use Rattle.std.specs.Prelude.{IfOk, IfSome};
+ghost use Rattle.std.specs.Prelude.{◌≡◌, Some, IfOk, IfSome};
+ghost use Rattle.plain_words.specs.Places.{in_plan};
 ghost use Rattle.plain_words.specs.Refusals.{IsPlaceOfFault, IsPlaceOfExcess};
 ghost use Rattle.plain_words.specs.private.FoundViews.{place_of, HasTag, IsExcessByte};
 
 use crate::found::Found;
 use crate::place::TextFile;
 use crate::quotes::write_quoted;
+use crate::tags::{first_line, tag_stop, write_attribute_fault};
 use pap_reader::{ReadFault, Which};
 use pap_tree::{
     MOST_CONSTANTS, MOST_INPUTS, MOST_INTERNALS, MOST_METHODS, MOST_OUTPUTS, MOST_STATEMENTS,
@@ -13,45 +15,97 @@ use pap_tree::{
 use plan_notes::{Element, Starts, element_name, read_notes};
 use std::alloc::{AllocError, Global};
 
-/// Where the elements of a plan's file are refused; what stands there is appended.
+/// Where the elements of a plan's file are refused; what is wrong there is appended.
 pub(crate) fn find_element(
     plan: TextFile<'_>,
     fault: &ReadFault,
-    quote: &mut String,
+    told: &mut String,
 ) -> Result<Found, AllocError>
     ensures { IfOk result (λ found. IsPlaceOfFault fault.now (place_of found)) }
 {
-    let (at, help, also) = match fault {
-        ReadFault::Text { at } => (*at, text_help(line_from(plan.bytes, *at)), ""),
-        ReadFault::Element { at } => (*at, misplaced_help(line_from(plan.bytes, *at)), ""),
-        ReadFault::Attribute { at } => {
-            let element = element_at(line_from(plan.bytes, *at));
-            (*at, needed_attributes(element), name_form(element))
+    let found = match fault {
+        ReadFault::Text { at } => find_text(plan, *at, told)?,
+        ReadFault::Element { at } => {
+            let text = text_from(plan.bytes, *at);
+            write!(told, "{fault}")?;
+            write_line(told, text)?;
+            Found::in_plan(Some(*at)).with_help(misplaced_help(text))
         }
-        ReadFault::Many { which } => return find_excess(plan, *which, quote),
+        ReadFault::Attribute { at } => find_attribute(plan, *at, told)?,
+        ReadFault::Many { which } => {
+            write!(told, "{fault}")?;
+            return find_excess(plan, *which, told);
+        }
         ReadFault::Memory => return Err(AllocError),
     };
-    let line = line_from(plan.bytes, at);
-    if !line.is_empty() {
-        quote.push_str(", at ")?;
-        write_quoted(quote, line, 0)?;
-    }
-    let found = Found::in_plan(Some(at)).with_help(help);
-    Ok(Found { also, ..found })
+    Ok(found)
 }
 
-/// What helps where no tag, comment or white space begins with a text.
-fn text_help(text: &[u8]) -> &'static str {
+/// Where no tag, comment or white space begins; what is wrong there is appended.
+fn find_text(plan: TextFile<'_>, at: usize, told: &mut String) -> Result<Found, AllocError>
+    ensures { IfOk result (λ found. place_of found ≡ in_plan (Some at)) }
+{
+    let text = text_from(plan.bytes, at);
+    let found = Found::in_plan(Some(at));
+    if let Some(help) = text_help(text) {
+        told.push_str("expected a tag, a comment or white space")?;
+        write_line(told, text)?;
+        return Ok(found.with_help(help));
+    }
+    let stop = tag_stop(text);
+    stop.write(told)?;
+    if stop.attribute.is_some() {
+        told.push_str(", in the tag ")?;
+        write_quoted(told, first_line(text), 0)?;
+    }
+    Ok(found.with_help(stop.help()))
+}
+
+/// Where a tag has an attribute that isn't as its element needs it; what is wrong with it is appended.
+fn find_attribute(plan: TextFile<'_>, at: usize, told: &mut String) -> Result<Found, AllocError>
+    ensures { IfOk result (λ found. place_of found ≡ in_plan (Some at)) }
+{
+    let text = text_from(plan.bytes, at);
+    write_attribute_fault(told, text)?;
+    write_line(told, text)?;
+    let element = element_at(text);
+    let found = Found::in_plan(Some(at)).with_help(needed_attributes(element));
+    Ok(Found {
+        also: name_form(element),
+        ..found
+    })
+}
+
+/// Appends what stands in the line with which a text begins.
+fn write_line(told: &mut String, text: &[u8]) -> Result<(), AllocError> {
+    let line = first_line(text);
+    if line.is_empty() {
+        return Ok(());
+    }
+    told.push_str(", at ")?;
+    write_quoted(told, line, 0)
+}
+
+/// What helps where no tag begins with a text. `None` where a tag that isn't well formed does.
+fn text_help(text: &[u8]) -> Option<&'static str> {
     if text.starts_with(b"<!--") {
-        "the comment has no end; write --> behind it"
+        Some("the comment has no end; write --> behind it")
     } else if text.starts_with(b"<!") {
-        "a plan has no DOCTYPE, CDATA or the like; take it out"
+        Some("a plan has no DOCTYPE, CDATA or the like; take it out")
     } else if text.starts_with(b"<?") {
-        "only one <?xml .. ?> may stand, at the very beginning of the file, and it ends with ?>"
+        Some(
+            "only one <?xml .. ?> may stand, at the very beginning of the file, and it ends with ?>",
+        )
     } else if text.starts_with(b"<") {
-        "the tag isn't well formed; see its name, the quotation marks of its attributes, a < in a value (write &lt;), the escapes that begin with &, and its end"
+        None
+    } else if text.starts_with(b"[input") || text.starts_with(b"[bind") {
+        Some(
+            "this is a range file, it seems; the flowchart's file comes first, then its range file",
+        )
     } else {
-        "text outside of a tag stands in comments alone; write it as a comment, or as an attribute of a tag"
+        Some(
+            "text outside of a tag stands in comments alone; write it as a comment, or as an attribute of a tag",
+        )
     }
 }
 
@@ -100,16 +154,9 @@ fn home_of(element: Option<Element>) -> &'static str {
     }
 }
 
-/// The text from a place on, up to the end of its line.
-fn line_from(file: &[u8], at: usize) -> &[u8] {
-    let Some(rest) = file.get(at..) else {
-        return &[];
-    };
-    let count = rest
-        .iter()
-        .take_while(|byte| **byte != b'\n' && **byte != b'\r')
-        .count();
-    &rest[..count]
+/// The text from a place on.
+fn text_from(file: &[u8], at: usize) -> &[u8] {
+    file.get(at..).unwrap_or(&[])
 }
 
 /// Which attributes an element needs.
@@ -148,12 +195,12 @@ fn name_form(element: Option<Element>) -> &'static str {
 }
 
 /// Where the first one too many of something stands, which is said behind.
-fn find_excess(plan: TextFile<'_>, which: Which, quote: &mut String) -> Result<Found, AllocError>
+fn find_excess(plan: TextFile<'_>, which: Which, told: &mut String) -> Result<Found, AllocError>
     ensures { IfOk result (λ found. IsPlaceOfExcess which (place_of found)) }
 {
-    let at = excess_tag(*quote.allocator(), plan.bytes, which)?;
+    let at = excess_tag(*told.allocator(), plan.bytes, which)?;
     if at.is_some() {
-        quote.push_str(", and this is one more")?;
+        told.push_str(", and this is one more")?;
     }
     Ok(Found::in_plan(at))
 }

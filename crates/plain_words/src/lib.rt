@@ -23,9 +23,13 @@ mod section;
 mod sites;
 mod state;
 mod statements;
+mod table;
+mod table_row;
+mod tags;
 
 pub use counting::position;
 pub use lines::one_line;
 pub use place::{Position, TextFile};
 pub use plan::plan_words;
 pub use state::state_words;
+pub use table::table_words;

@@ -33,58 +33,60 @@ pub fn plan_words(
     ensures place { IfOk result (λ words.
         BeginsAtRefusal (files_of plan.entry limits.entry) refusal.now (string_bytes words)) }
 {
-    let mut quote = String::new(alloc);
-    let found = find_refusal(plan, limits, refusal, &mut quote)?;
-    let wrong = wrong_text(alloc, refusal)?;
-    reason_line(alloc, plan, limits, found, &wrong, &quote)
+    let mut told = String::new(alloc);
+    let found = find_refusal(plan, limits, refusal, &mut told)?;
+    let wrong = some_text(told)?;
+    reason_line(alloc, plan, limits, found, &wrong)
 }
 
-/// What is wrong, as the refusal displays it. It is never empty, whatever that is.
-fn wrong_text(alloc: Global, refusal: &PlanRefusal) -> Result<String, AllocError>
+/// What is wrong, which is never empty.
+fn some_text(told: String) -> Result<String, AllocError>
     ensures { IfOk result (λ wrong. string_bytes wrong ≢ []) }
 {
-    let wrong = refusal.to_string(alloc)?;
-    if wrong.is_empty() {
-        return String::from_str(alloc, "the plan is refused");
+    if told.is_empty() {
+        return String::from_str(*told.allocator(), "the plan is refused");
     }
-    Ok(wrong)
+    Ok(told)
 }
 
-/// Where a plan or its range file is refused, and what helps; what stands there is appended.
+/// Where a plan or its range file is refused, and what helps; what is wrong is appended.
 fn find_refusal(
     plan: TextFile<'_>,
     limits: TextFile<'_>,
     refusal: &PlanRefusal,
-    quote: &mut String,
+    told: &mut String,
 ) -> Result<Found, AllocError>
     ensures place { IfOk result
         (λ found. IsPlaceOf plan.entry.bytes.now refusal.now (place_of found)) }
     ensures help { IfOk result (λ found. HelpsAs (help_of refusal.now) found) }
 {
-    let found = find_place(plan, limits, refusal, quote)?;
+    let found = find_place(plan, limits, refusal, told)?;
     match help_of(refusal) {
         Some(help) => Ok(found.with_help(help)),
         None => Ok(found),
     }
 }
 
-/// Where a plan or its range file is refused, and what helps where the refusal alone doesn't decide it; what stands there is
+/// Where a plan or its range file is refused, and what helps where the refusal alone doesn't decide it; what is wrong is
 /// appended.
 fn find_place(
     plan: TextFile<'_>,
     limits: TextFile<'_>,
     refusal: &PlanRefusal,
-    quote: &mut String,
+    told: &mut String,
 ) -> Result<Found, AllocError>
     ensures { IfOk result (λ found. IsPlaceOf plan.entry.bytes.now refusal.now (place_of found)) }
 {
     match refusal {
-        PlanRefusal::Read(fault) => find_element(plan, fault, quote),
-        PlanRefusal::Limits(fault) => find_entry(limits, fault, quote),
+        PlanRefusal::Read(fault) => find_element(plan, fault, told),
+        PlanRefusal::Limits(fault) => find_entry(limits, fault, told),
         PlanRefusal::Memory => Err(AllocError),
         PlanRefusal::LimitName { .. } | PlanRefusal::LimitKind { .. } | PlanRefusal::Bind { .. } =>
-            find_beside(*quote.allocator(), plan, limits, refusal),
-        _ => find_within(plan, refusal, quote),
+            find_beside(plan, limits, refusal, told),
+        _ => {
+            write!(told, "{refusal}")?;
+            find_within(plan, refusal, told)
+        }
     }
 }
 
@@ -92,41 +94,41 @@ fn find_place(
 fn find_within(
     plan: TextFile<'_>,
     refusal: &PlanRefusal,
-    quote: &mut String,
+    told: &mut String,
 ) -> Result<Found, AllocError>
     ensures { IfOk result (λ found. IsOfPlan found) }
 {
-    let Some(outline) = Outline::read(*quote.allocator(), plan)? else {
+    let Some(outline) = Outline::read(*told.allocator(), plan)? else {
         return Ok(Found::in_plan(None));
     };
     let source = outline.source(plan);
     match refusal {
-        PlanRefusal::Expr { spot, fault } => find_expression(source, spot, fault, quote),
-        PlanRefusal::Types(fault) => find_kind(source, fault, quote),
+        PlanRefusal::Expr { spot, fault } => find_expression(source, spot, fault, told),
+        PlanRefusal::Types(fault) => find_kind(source, fault, told),
         PlanRefusal::Order(fault) => find_order(source, fault),
-        PlanRefusal::Range(fault) => find_range(source, fault, quote),
+        PlanRefusal::Range(fault) => find_range(source, fault, told),
         _ => Ok(Found::in_plan(None)),
     }
 }
 
-/// Where a plan whose elements are read and its range file don't fit each other.
+/// Where a plan whose elements are read and its range file don't fit each other; what is wrong is appended.
 fn find_beside(
-    alloc: Global,
     plan: TextFile<'_>,
     limits: TextFile<'_>,
     refusal: &PlanRefusal,
+    told: &mut String,
 ) -> Result<Found, AllocError>
     ensures { IfOk result
         (λ found. IsPlaceBeside plan.entry.bytes.now refusal.now (place_of found)) }
 {
-    let Some(outline) = Outline::read(alloc, plan)? else {
+    let Some(outline) = Outline::read(*told.allocator(), plan)? else {
         return Ok(Found::in_ranges(None));
     };
     let source = outline.source(plan);
     match refusal {
-        PlanRefusal::LimitName { name } => find_limit_name(alloc, source, limits, name),
-        PlanRefusal::LimitKind { name } => find_limit_kind(alloc, source, limits, name),
-        PlanRefusal::Bind { name } => find_binding(alloc, source, limits, name),
+        PlanRefusal::LimitName { name } => find_limit_name(source, limits, name, told),
+        PlanRefusal::LimitKind { name } => find_limit_kind(source, limits, name, told),
+        PlanRefusal::Bind { name } => find_binding(source, limits, name, told),
         _ => Ok(Found::in_ranges(None)),
     }
 }

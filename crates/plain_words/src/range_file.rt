@@ -7,50 +7,57 @@ ghost use Rattle.plain_words.specs.private.SiteViews.{declares_input};
 
 use crate::found::Found;
 use crate::place::TextFile;
-use crate::section::{SECTIONS, Section, entry_byte};
+use crate::section::{SECTIONS, Section, entry_byte, section_byte};
 use crate::sites::{Source, declaration_of, declares_input, named_byte};
 use limits_file::{Label, LimitsFault, bound_at, places_at};
 use pap_tree::{Kind, Name, is_kept_at};
 use scaled_decimal::{Dec, MOST_PLACES};
-use std::alloc::{AllocError, Global};
+use std::alloc::AllocError;
 use std::cmp::Ordering;
 use toml::{Table, Value};
 
-/// Where a range file is refused by itself; what its reader says, or the entry, is appended.
+/// Where a range file is refused by itself; what is wrong is appended.
 pub(crate) fn find_entry(
     limits: TextFile<'_>,
     fault: &LimitsFault,
-    quote: &mut String,
+    told: &mut String,
 ) -> Result<Found, AllocError>
     ensures { IfOk result (λ found. IsPlaceOfLimits fault.now (place_of found)) }
 {
     match fault {
-        LimitsFault::Toml => find_toml(limits, quote),
-        LimitsFault::Key { name } => find_key(limits, name, quote),
-        LimitsFault::Bound { name } => find_bounds(*quote.allocator(), limits, name),
-        LimitsFault::LimitsLong => Ok(Found::in_ranges(None)),
+        LimitsFault::Toml => find_toml(limits, told),
+        LimitsFault::Key { name } => find_key(limits, name, told),
+        LimitsFault::Bound { name } => find_bounds(limits, name, told),
+        LimitsFault::LimitsLong => {
+            write!(told, "{fault}")?;
+            Ok(Found::in_ranges(None))
+        }
         LimitsFault::Memory(_) => Err(AllocError),
     }
 }
 
-/// Where a key isn't allowed, or an entry lacks one; the entry is appended.
-fn find_key(limits: TextFile<'_>, label: &Label, quote: &mut String) -> Result<Found, AllocError>
+/// Where a key isn't allowed, or an entry lacks one; what is wrong with it is appended.
+fn find_key(limits: TextFile<'_>, label: &Label, told: &mut String) -> Result<Found, AllocError>
     ensures { IfOk result (λ found. IsOfRanges found) }
 {
-    if let Ok(table) = toml::table_from_slice(*quote.allocator(), limits.bytes) {
+    if let Ok(table) = toml::table_from_slice(*told.allocator(), limits.bytes) {
         for section in SECTIONS {
             if let Some(Value::Table(entries)) = table.get(section.name())
-                && let Some(entry) = entry_of(entries, section, label)
+                && let Some(name) = entry_of(entries, section, label)
             {
-                let name = section.name();
-                write!(quote, ", in the entry [{name}.{entry}]")?;
-                let at = entry_byte(*quote.allocator(), limits, section, entry)?;
-                return Ok(Found::in_ranges(at).with_help(entry_rule(section, entry)));
+                section.write_fault(told, name, entries.get(name))?;
+                let at = entry_byte(*told.allocator(), limits, section, name)?;
+                return Ok(Found::in_ranges(at).with_help(entry_rule(section, name)));
             }
         }
     }
+    write!(
+        told,
+        "the key {label} isn't one of a range file, or has no entries"
+    )?;
     let help = "a range file has entries [input.NAME] and [bind.NAME] alone";
-    Ok(Found::in_ranges(None).with_help(help))
+    let at = section_byte(limits.bytes, label.as_str().as_bytes());
+    Ok(Found::in_ranges(at).with_help(help))
 }
 
 /// What is told of an entry of a section.
@@ -99,18 +106,20 @@ fn is_shown_as(key: &str, label: &Label) -> bool {
     Label::of(key).as_str() == label.as_str()
 }
 
-/// Where the bounds of an input break their rule, or an input is one too many.
-fn find_bounds(alloc: Global, limits: TextFile<'_>, label: &Label) -> Result<Found, AllocError>
+/// Where the bounds of an input break their rule, or an input is one too many; which of these it is is appended.
+fn find_bounds(limits: TextFile<'_>, label: &Label, told: &mut String) -> Result<Found, AllocError>
     ensures { IfOk result (λ found. IsOfRanges found) }
 {
+    let alloc = *told.allocator();
     let name = label.as_str();
     let at = entry_byte(alloc, limits, Section::Input, name)?;
+    write!(told, "in the entry [input.{name}] ")?;
     let help = match toml::table_from_slice(alloc, limits.bytes) {
         Ok(table) => match input_entry(&table, name) {
-            Some(entry) => bounds_help(entry),
-            None => "correct the entry",
+            Some(entry) => write_bounds_fault(told, entry)?,
+            None => write_help(told, "a bound breaks its rule", "correct the entry")?,
         },
-        Err(_) => "correct the entry",
+        Err(_) => write_help(told, "a bound breaks its rule", "correct the entry")?,
     };
     Ok(Found::in_ranges(at).with_help(help))
 }
@@ -124,58 +133,105 @@ fn input_entry<'a>(table: &'a Table, name: &str) -> Option<&'a Table> {
         .as_table()
 }
 
-/// What is wrong with the bounds of an input's entry.
-fn bounds_help(entry: &Table) -> &'static str {
+/// What helps against a bound that is none of the numbers that may stand there.
+const BOUND_HELP: &str =
+    "write a whole number, or a decimal in quotation marks with at most 30 digits after its point and at most 10^37 without it";
+
+/// Appends what is wrong, and gives what helps.
+fn write_help(
+    told: &mut String,
+    wrong: &str,
+    help: &'static str,
+) -> Result<&'static str, AllocError> {
+    told.push_str(wrong)?;
+    Ok(help)
+}
+
+/// Appends what is wrong with the bounds of an input's entry, and gives what helps.
+fn write_bounds_fault(told: &mut String, entry: &Table) -> Result<&'static str, AllocError> {
     let Some(low) = bound_at(entry, "low") else {
-        return "here low is none of the numbers that may stand there: a whole number, or a decimal in quotation marks with at most 30 digits after its point and at most 10^37 without it";
+        return write_help(told, "low isn't a number that may stand there", BOUND_HELP);
     };
     let Some(high) = bound_at(entry, "high") else {
-        return "here high is none of the numbers that may stand there: a whole number, or a decimal in quotation marks with at most 30 digits after its point and at most 10^37 without it";
+        return write_help(told, "high isn't a number that may stand there", BOUND_HELP);
     };
     match places_at(entry) {
-        Some(places) if places <= MOST_PLACES => range_help(low, high, places),
-        _ => "here places isn't from 0 to 30",
+        Some(places) if places <= MOST_PLACES => write_range_fault(told, low, high, places),
+        _ => write_help(
+            told,
+            "places isn't from 0 to 30",
+            "places is the number of digits that a value may have after its point",
+        ),
     }
 }
 
-/// What is wrong with a range of so many places. Where nothing is, there are too many inputs.
-fn range_help(low: Dec, high: Dec, places: u8) -> &'static str
+/// Appends what is wrong with a range of so many places, and gives what helps. Where nothing is, there are too many inputs.
+fn write_range_fault(
+    told: &mut String,
+    low: Dec,
+    high: Dec,
+    places: u8,
+) -> Result<&'static str, AllocError>
     requires { places ≤ most_places }
 {
     if low.compare(high) == Ordering::Greater {
-        "here low is above high"
-    } else if !is_kept_at(low, places) {
-        "here low has more digits after its point than places, or is beyond 10^37 with so many"
-    } else if !is_kept_at(high, places) {
-        "here high has more digits after its point than places, or is beyond 10^37 with so many"
-    } else {
-        "a range file has at most 256 inputs: take out what the flowchart doesn't have"
+        write!(told, "low, which is {low}, is above high, which is {high}")?;
+        return Ok("exchange them, or correct one of them");
     }
+    if !is_kept_at(low, places) {
+        return write_places_fault(told, "low", low, places);
+    }
+    if !is_kept_at(high, places) {
+        return write_places_fault(told, "high", high, places);
+    }
+    write_help(
+        told,
+        "nothing is wrong but that it is the 257th input",
+        "a range file has at most 256 inputs: take out what the flowchart doesn't have",
+    )
+}
+
+/// Appends that a bound has no such number of places, and gives what helps.
+fn write_places_fault(
+    told: &mut String,
+    key: &str,
+    bound: Dec,
+    places: u8,
+) -> Result<&'static str, AllocError> {
+    write!(
+        told,
+        "{key}, which is {bound}, has more digits after its point than places, which is {places}, or is beyond 10^37 with so many"
+    )?;
+    Ok("write more places, or a bound that has no more")
 }
 
 /// Where a text is no TOML; what its reader says is appended.
-fn find_toml(limits: TextFile<'_>, quote: &mut String) -> Result<Found, AllocError>
+fn find_toml(limits: TextFile<'_>, told: &mut String) -> Result<Found, AllocError>
     ensures { IfOk result (λ found. IsOfRanges found) }
 {
-    match toml::table_from_slice(*quote.allocator(), limits.bytes) {
+    told.push_str("the range file is not valid TOML")?;
+    match toml::table_from_slice(*told.allocator(), limits.bytes) {
         Ok(_) => Ok(Found::in_ranges(None)),
         Err(error) => {
             let Some(span) = error.span() else {
                 return Err(AllocError);
             };
             let message = error.message();
-            write!(quote, ": {message}")?;
+            write!(told, ": {message}")?;
+            if limits.bytes.starts_with(b"<") {
+                told.push_str(", and it begins as a flowchart's file does, which comes first")?;
+            }
             Ok(Found::in_ranges(Some(span.start)))
         }
     }
 }
 
-/// Where an input is declared without a limit, or a limit of no input stands.
+/// Where an input is declared without a limit, or a limit of no input stands; which of these it is is appended.
 pub(crate) fn find_limit_name(
-    alloc: Global,
     source: Source<'_>,
     limits: TextFile<'_>,
     name: &Name,
+    told: &mut String,
 ) -> Result<Found, AllocError>
     ensures input { declares_input source.entry.elements.now name.now ≡ true
         → IfOk result (λ found. IsOfPlan found) }
@@ -183,23 +239,35 @@ pub(crate) fn find_limit_name(
         → IfOk result (λ found. IsOfRanges found) }
 {
     if declares_input(source, name) {
-        let help = "add the entry with low, high and places to the range file";
+        write!(
+            told,
+            "the INPUT {name} has no entry [input.{name}] in the range file"
+        )?;
+        let help = "add the entry with low, high and places";
         return Ok(Found::in_plan(named_byte(source, name)).with_help(help));
     }
-    let at = entry_byte(alloc, limits, Section::Input, name.as_str())?;
+    write!(
+        told,
+        "the entry [input.{name}] is of no INPUT of the flowchart"
+    )?;
+    let at = entry_byte(*told.allocator(), limits, Section::Input, name.as_str())?;
     Ok(Found::in_ranges(at).with_help("correct the name, or take the entry out"))
 }
 
-/// Where the range of an input stands that doesn't suit its type.
+/// Where the range of an input stands that doesn't suit its type; that is appended.
 pub(crate) fn find_limit_kind(
-    alloc: Global,
     source: Source<'_>,
     limits: TextFile<'_>,
     name: &Name,
+    told: &mut String,
 ) -> Result<Found, AllocError>
     ensures { IfOk result (λ found. IsOfRanges found) }
 {
-    let at = entry_byte(alloc, limits, Section::Input, name.as_str())?;
+    write!(
+        told,
+        "the range of the entry [input.{name}] doesn't suit the type of the INPUT {name}"
+    )?;
+    let at = entry_byte(*told.allocator(), limits, Section::Input, name.as_str())?;
     let rule = match declaration_of(source, name) {
         Some(found) => kind_rule(found.declared.kind),
         None => "see its type",
@@ -219,19 +287,27 @@ fn kind_rule(kind: Kind) -> &'static str {
     }
 }
 
-/// Where a binding of no input stands, or one to no output.
+/// Where a binding of no input stands, or one to no output; which of these it is is appended.
 pub(crate) fn find_binding(
-    alloc: Global,
     source: Source<'_>,
     limits: TextFile<'_>,
     name: &Name,
+    told: &mut String,
 ) -> Result<Found, AllocError>
     ensures { IfOk result (λ found. IsOfRanges found) }
 {
-    let at = entry_byte(alloc, limits, Section::Bind, name.as_str())?;
+    let at = entry_byte(*told.allocator(), limits, Section::Bind, name.as_str())?;
     let help = if declares_input(source, name) {
+        write!(
+            told,
+            "the entry [bind.{name}] names no OUTPUT of the flowchart"
+        )?;
         "correct the name of the output"
     } else {
+        write!(
+            told,
+            "the entry [bind.{name}] is of no INPUT of the flowchart"
+        )?;
         "correct the name of the entry, or take it out"
     };
     Ok(Found::in_ranges(at).with_help(help))

@@ -10,25 +10,24 @@ use crate::lines::one_line;
 use crate::place::{TextFile, place_text};
 use std::alloc::{AllocError, Global};
 
-/// The reason of a refusal in one line: the place, what is wrong, what is quoted of it, and what helps.
+/// The reason of a refusal in one line: the place, what is wrong, and what helps.
 pub(crate) fn reason_line(
     alloc: Global,
     plan: TextFile<'_>,
     limits: TextFile<'_>,
     found: Found,
     wrong: &str,
-    quote: &str,
 ) -> Result<String, AllocError>
     ensures line { IfOk result (λ words. IsOneLine (string_bytes words)) }
     ensures text { IfOk result (λ words. string_bytes words
         ≡ words_at (files_of plan.entry limits.entry) (place_of found)
-        (wrong.now ++ (quote.now ++ (codes "; " ++ help_text found)))) }
+        (wrong.now ++ (codes "; " ++ help_text found))) }
     ensures end { IfOk result (λ words.
         EndsWith (shown_text (codes "; " ++ help_text found)) (string_bytes words)) }
 {
     let place = found_place(alloc, plan, limits, found)?;
     let Found { help, also, .. } = found;
-    let text = format!(in alloc; "{place}: {wrong}{quote}; {help}{also}")?;
+    let text = format!(in alloc; "{place}: {wrong}; {help}{also}")?;
     one_line(alloc, &text)
 }
 

@@ -1,8 +1,9 @@
 //! The sections of a range file, and the headings of their entries.
 use crate::place::TextFile;
 use limits_file::{unsuited_binding_key, unsuited_input_key};
+use pap_tree::{Name, is_word};
 use std::alloc::{AllocError, Global};
-use toml::Table;
+use toml::{Table, Value};
 
 /// A section of a range file.
 #[derive(Clone, Copy)]
@@ -37,6 +38,71 @@ impl Section {
         }
     }
 
+    /// The keys that an entry needs, whatever else it has.
+    fn needed_keys(self) -> &'static [&'static str] {
+        match self {
+            Section::Bind => &["kind", "output"],
+            Section::Input => &["low", "high", "places"],
+        }
+    }
+
+    /// Whether an entry may have this key.
+    fn has_key(self, key: &str) -> bool {
+        match self {
+            Section::Bind => key == "kind" || key == "output",
+            Section::Input => key == "low" || key == "high" || key == "places",
+        }
+    }
+
+    /// Appends what is wrong with an entry of a name, of which something is.
+    pub(crate) fn write_fault(
+        self,
+        told: &mut String,
+        name: &str,
+        value: Option<&Value>,
+    ) -> Result<(), AllocError> {
+        let section = self.name();
+        let Some(Value::Table(entry)) = value else {
+            return write!(
+                told,
+                "[{section}.{name}] isn't an entry with keys of its own"
+            );
+        };
+        if Name::read(name.as_bytes()).is_none() {
+            return write!(
+                told,
+                "the entry [{section}.{name}] doesn't have the name of an input"
+            );
+        }
+        match self.unsuited_key(entry) {
+            Some(key) if self.has_key(key) => write!(
+                told,
+                "in the entry [{section}.{name}] the value of {key} isn't of its form"
+            ),
+            Some(key) => {
+                write!(
+                    told,
+                    "the entry [{section}.{name}] has a key {key}, which isn't one of its keys"
+                )
+            }
+            None => self.write_lacking(told, name, entry),
+        }
+    }
+
+    /// Appends which key an entry lacks.
+    fn write_lacking(self, told: &mut String, name: &str, entry: &Table) -> Result<(), AllocError> {
+        let section = self.name();
+        for key in self.needed_keys() {
+            if entry.get(*key).is_none() {
+                return write!(told, "the entry [{section}.{name}] lacks the key {key}");
+            }
+        }
+        write!(
+            told,
+            "the entry [{section}.{name}] lacks a key, or one has a value that isn't there"
+        )
+    }
+
     /// The first key of an entry that isn't allowed there, or whose value isn't of its form.
     pub(crate) fn unsuited_key(self, entry: &Table) -> Option<&str> {
         match self {
@@ -56,6 +122,26 @@ pub(crate) fn entry_byte(
     let name = section.name();
     let front = format!(in alloc; "[{name}.")?;
     Ok(heading_byte(limits.bytes, front.as_bytes(), entry.as_bytes()))
+}
+
+/// The byte at which the first line does that begins with a key of the range file itself, as `[inputs.RE4]` does with `inputs`,
+/// or `other = 1` with `other`.
+pub(crate) fn section_byte(limits: &[u8], key: &[u8]) -> Option<usize> {
+    let mut at = 0usize;
+    for text in limits.split(|byte| *byte == b'\n') {
+        let word = text.trim_ascii_start();
+        let word = match word.strip_prefix(b"[") {
+            Some(inner) => inner.strip_prefix(b"[").unwrap_or(inner),
+            None => word,
+        };
+        if let Some(rest) = word.strip_prefix(key)
+            && !rest.first().is_some_and(|byte| is_word(*byte))
+        {
+            return Some(at);
+        }
+        at = at.saturating_add(text.len()).saturating_add(1);
+    }
+    None
 }
 
 /// The byte at which the first line does that begins with a front and then with a heading's key of a name.

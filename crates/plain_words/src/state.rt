@@ -30,7 +30,7 @@ pub fn state_words(
     let mut wrong = String::new(alloc);
     write_blocked(&mut wrong, state)?;
     let found = find_blocked(alloc, plan, limits, state)?.with_help(state_help(state));
-    reason_line(alloc, plan, limits, found, &wrong, "")
+    reason_line(alloc, plan, limits, found, &wrong)
 }
 
 /// Appends why a run has no inputs.

@@ -35,17 +35,24 @@ pub fn refused(alloc: Global, plan: &[u8], fault: &PlanRefusal) -> Result<Reply,
     refusal(alloc, &detail)
 }
 
-/// The bound of an accepted plan, and the ranges of its outputs.
+/// The answer on an accepted plan.
 fn acceptance(alloc: Global, plan: &Plan) -> Result<Reply, AllocError>
     ensures { IfOk result (λ reply. reply_of reply ≡ acceptance (meaning plan.now)) }
 {
-    let mut text = bound_line(alloc, plan)?.into_bytes();
-    write_ranges(alloc, plan.outputs(), &mut text)?;
     Ok(Reply {
-        text,
+        text: accepted_text(alloc, plan)?,
         refused: false,
         steps: 0,
     })
+}
+
+/// The bound of an accepted plan, and the ranges of its outputs.
+pub fn accepted_text(alloc: Global, plan: &Plan) -> Result<Vec<u8>, AllocError>
+    ensures { IfOk result (λ text. text.items ≡ (acceptance (meaning plan.now)).text) }
+{
+    let mut text = bound_line(alloc, plan)?.into_bytes();
+    write_ranges(alloc, plan.outputs(), &mut text)?;
+    Ok(text)
 }
 
 /// The line of an accepted plan's bound.

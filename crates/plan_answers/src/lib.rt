@@ -7,6 +7,6 @@ mod places;
 mod refusals;
 mod reply;
 
-pub use check::{bound_line, check_reply, refused};
+pub use check::{accepted_text, bound_line, check_reply, refused};
 pub use fronts::read_both;
 pub use reply::{Reply, refusal};

@@ -85,7 +85,7 @@ savable book h = record {
   saved = record {
     work = h.work;
     plans = record {
-      rising = map_rising day_cmp saved.day_of saved_entry book.plans h.entries.rising;
+      rising = map_rising day_cmp saved.saved_day saved_entry book.plans h.entries.rising;
       few = omega (arith, length-map book.plans saved_entry, h.entries.few);
     };
     records = record {

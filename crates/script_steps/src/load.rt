@@ -15,6 +15,7 @@ use crate::script::Script;
 use crate::stop::LineStop;
 use outside::Files;
 use payroll_records::{LONGEST_TABLE, TableFault, read_table};
+use plain_words::TextFile;
 use std::alloc::{AllocError, Global};
 use std::sync::ledger::Ledger;
 use steps::Steps;
@@ -66,6 +67,12 @@ fn load_table<L: Ledger>(
             edit_reply(alloc, &mut script.made, OK, made)
         }
         Err(TableFault::Memory(error)) => Err(error),
-        Err(fault) => table_refusal(alloc, file, &fault),
+        Err(fault) => {
+            let file = TextFile {
+                name: file,
+                bytes: table,
+            };
+            table_refusal(alloc, file, &fault)
+        }
     }
 }

@@ -10,6 +10,7 @@ use book_file::BookFault;
 use correction_ledger::{FileRefusal, OwedRefusal};
 use month_trace::TraceRefusal;
 use payroll_records::{MOST_RECORDS, TableFault};
+use plain_words::{TextFile, table_words};
 use recalc_engine::EditRefusal;
 use script_lang::LineFault;
 use std::alloc::{AllocError, Global};
@@ -25,26 +26,13 @@ pub(crate) fn line_refusal(alloc: Global, fault: &LineFault) -> Result<LineReply
 /// The refusal of the table of this file.
 pub(crate) fn table_refusal(
     alloc: Global,
-    file: &str,
+    file: TextFile<'_>,
     fault: &TableFault,
 ) -> Result<LineReply, AllocError>
     ensures { IfOk result (λ reply. IsTableRefusal fault.now (reply_of reply)) }
 {
     let detail = table_detail(alloc, fault)?;
     refused(alloc, detail.as_bytes(), table_words(alloc, file, fault)?)
-}
-
-/// What is wrong with the table of this file, and what helps, in plain words.
-fn table_words(alloc: Global, file: &str, fault: &TableFault) -> Result<String, AllocError> {
-    match fault {
-        TableFault::Header => {
-            format!(in alloc; "{file}: {fault}; commas stand between the fields, not semicolons")
-        }
-        TableFault::Value { .. } => format!(in alloc;
-            "{file}: {fault}; it has a point before decimal places and nothing between thousands, as 2500.55"
-        ),
-        fault => format!(in alloc; "{file}: {fault}"),
-    }
 }
 
 /// The refusal of an edit of the book.

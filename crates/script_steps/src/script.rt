@@ -4,6 +4,7 @@ ghost use Rattle.script_steps.specs.Standings.{first_standing};
 
 use correction_ledger::Ledger;
 use recalc_engine::{Book, Work};
+use script_lang::NameOrder;
 use std::alloc::Global;
 use std::marker::Model;
 
@@ -13,6 +14,8 @@ pub struct Script {
     pub(crate) book: Book,
     pub(crate) ledger: Ledger,
     pub(crate) made: Work,
+    /// The order of the names in the last line that gave values, by which the next line is read faster. No answer depends on it.
+    pub(crate) order: Option<NameOrder>,
 }
 
 impl Model for Script {
@@ -39,6 +42,7 @@ impl Script {
             book: Book::new(alloc),
             ledger: Ledger::new(alloc),
             made: Work { runs: 0, steps: 0 },
+            order: None,
         }
     }
 

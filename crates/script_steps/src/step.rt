@@ -15,7 +15,7 @@ use crate::reply::write_reply;
 use crate::script::Script;
 use crate::stop::LineStop;
 use outside::{Files, Sink};
-use script_lang::{LineFault, read_line};
+use script_lang::{LineFault, read_next_line};
 use std::alloc::Global;
 use std::sync::ledger::Ledger;
 use steps::Steps;
@@ -45,7 +45,7 @@ pub fn answer_line<F: Files, W: Sink, L: Ledger>(
     ensures write { Caused LineStop.Write (W.faults sink.old) (W.faults sink.new) result }
     ensures kept { result ≢ Err LineStop.File → F.failed files.new ≡ F.failed files.old }
 {
-    match read_line(alloc, line) {
+    match read_next_line(alloc, line, &mut script.order) {
         Ok(command) => answer_command(alloc, script, command, files, sink, steps),
         Err(LineFault::Memory(_)) => Err(LineStop::Memory),
         Err(fault) => answer_fault(alloc, &fault, sink),

@@ -5,7 +5,7 @@ import argparse
 import os
 import sys
 from itertools import islice
-from typing import IO, Callable, Iterator, Optional, Sequence, Union
+from typing import IO, Callable, Iterator, Optional, Sequence, TextIO, Union
 
 from . import __version__
 from .answers import amounts_of
@@ -299,7 +299,7 @@ def carry_out(asked: argparse.Namespace) -> int:
                 note(notice)
 
 
-def main(words: Optional[Sequence[str]] = None) -> int:
+def status_of(words: Optional[Sequence[str]]) -> int:
     """Carries out the words of the command, and gives its status."""
     asked = parser().parse_args(words)
     try:
@@ -308,9 +308,7 @@ def main(words: Optional[Sequence[str]] = None) -> int:
         tell_refusal(refused)
         return refused.status
     except BrokenPipeError:
-        # Whoever read the output has gone. What was done stays done.
-        os.dup2(os.open(os.devnull, os.O_WRONLY), sys.stdout.fileno())
-        return 5
+        raise
     except LedgerError as fault:
         note(str(fault))
         return fault.status
@@ -320,6 +318,34 @@ def main(words: Optional[Sequence[str]] = None) -> int:
     except KeyboardInterrupt:
         note("interrupted; what was answered is done")
         return 130
+
+
+def main(words: Optional[Sequence[str]] = None) -> int:
+    """Carries out the words of the command, and gives its status. Where nobody reads its output any more it says nothing: what was done stays
+    done."""
+    if sys.stdout is None or sys.stderr is None:
+        return 5
+    try:
+        try:
+            status = status_of(words)
+        except SystemExit as end:
+            status = end.code if isinstance(end.code, int) else 0
+        sys.stdout.flush()
+        return status
+    except OSError as fault:
+        for stream in (sys.stdout, sys.stderr):
+            silence(stream)
+        if not isinstance(fault, BrokenPipeError):
+            note(f"standard output: {fault.strerror}")
+        return 5
+
+
+def silence(stream: TextIO) -> None:
+    """Leaves out what of a stream can't be written."""
+    try:
+        stream.flush()
+    except OSError:
+        os.dup2(os.open(os.devnull, os.O_WRONLY), stream.fileno())
 
 
 if __name__ == "__main__":

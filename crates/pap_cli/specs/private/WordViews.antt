@@ -1,5 +1,5 @@
 -- What private contracts cite beside the definitions of ScriptWords.
-use Rattle.std.specs.Prelude.{◌≡◌, ◌≤◌, ℕ, List, ⊤}
+use Rattle.std.specs.Prelude.{◌≡◌, ◌≤◌, ℕ, List}
 use Rattle.std.specs.Fmt.{decimal as number}
 use Rattle.script_run.specs.Limits.{most_employees}
 use Rattle.pap_cli.specs.declared.words.FileRequest.{FileRequest}
@@ -7,6 +7,7 @@ use Rattle.pap_cli.specs.declared.words.Request.{Request}
 use Rattle.pap_cli.specs.declared.words.Request.TheVariants as requests
 use Rattle.pap_cli.specs.declared.words.Command.{Command}
 use Rattle.pap_cli.specs.declared.words.Command.TheVariants.{Check, Once}
+use Rattle.pap_cli.specs.ScriptWords.{AsksOfFiles}
 use Rattle.pap_cli.specs.Words.{Form, check, once, run, sample, save, HasForm}
 
 abbrev pub form_by : Command → List ℕ → List ℕ → Form
@@ -21,14 +22,6 @@ form_of (requests.Files request) = form_on_files request
 form_of requests.Run = run
 form_of (requests.Sample employees) = sample employees
 form_of requests.Save = save
-
--- an answer on the file of a plan and a range file is asked for, and no script is read
-abbrev pub IsOnFiles : Form → Type 0
-IsOnFiles (check plan limits) = ⊤
-IsOnFiles (once plan limits values) = ⊤
-IsOnFiles run = ⊥
-IsOnFiles (sample employees) = ⊥
-IsOnFiles save = ⊥
 
 -- a number of employees of a sample
 pub record IsInRange (employees : ℕ) : Type 0 where
@@ -47,4 +40,4 @@ AskNoSample words = (employees : ℕ) → ¬ (HasForm words (sample employees))
 
 -- the words ask for no answer on two files
 abbrev pub AskNoFiles : List (List ℕ) → Type 0
-AskNoFiles words = (form : Form) → IsOnFiles form → ¬ (HasForm words form)
+AskNoFiles words = (form : Form) → AsksOfFiles form → ¬ (HasForm words form)

@@ -1,47 +1,30 @@
-use Rattle.std.proofs.Common.{◌∙◌, ap, subst}
-use Rattle.std.specs.Prelude.{Err}
-use Rattle.std.proofs.lemmas.Result.{err_from_is_err_and}
-use Rattle.outside.specs.Told.{Appends, AppendsShort}
-use Rattle.plan_answers.specs.Replies.{reply_of}
+use Rattle.std.proofs.Common.{◌∙◌, sym, ap, subst}
+use Rattle.std.specs.Prelude.{Ok}
+use Rattle.script_steps.specs.Shown.{shown}
+use Rattle.pap_cli.specs.FileClauses.{LeavesOnFiles}
+use Rattle.pap_cli.specs.Notes.{notes_shown}
+use Rattle.pap_cli.specs.Statuses.{status_of}
 use Rattle.pap_cli.specs.private.AnswerViews.{answers_of}
-use Rattle.pap_cli.specs.FileClauses.{IsCounted}
-use Rattle.pap_cli.proofs.FrontLemmas.{answers_both}
-use Rattle.pap_cli.proofs.LeavesLemmas.{leaves_answer, leaves_want, leaves_whole, leaves_cut}
+use Rattle.pap_cli.proofs.ReasonLemmas.{nothing_put, ok_same, put_on}
 use Rattle.pap_cli.proofs.answer.answer.Goals as goal
-
-pub returns-in_err-plan_bytes-clause-leaves : goal.returns-in_err-plan_bytes-clause-leaves
-returns-in_err-plan_bytes-clause-leaves g c =
-    let p = err_from_is_err_and c.from_residual.result c.from_residual.ensures.1 in
-    leaves_answer (answers_of c.args.request.command) c.args.request.plan.now c.args.request.limits.now (g.F.Files.told c.args.files.now) (g.F.Files.told c.read_both.new.files) (g.F.Files.failed c.args.files.now) (g.F.Files.failed c.read_both.new.files) (g.W.Sink.written c.args.sink.now) c.args.steps.now c.in_err-plan_bytes.field-0.0
-    (λ e. c.in_err-plan_bytes.ensures.failed (ap (λ f. Err f) e)) (λ e. c.in_err-plan_bytes.ensures.kept_memory (ap (λ f. Err f) e)) c.from_residual.result (p.1 ∙ ap (λ s. Err s) p.2)
-
-pub returns-in_err-reply-clause-leaves : goal.returns-in_err-reply-clause-leaves
-returns-in_err-reply-clause-leaves g c =
-    let p = err_from_is_err_and c.from_residual-in_err-reply.result c.from_residual-in_err-reply.ensures.1 in
-    let cmd = c.args.request.command in
-    let first = subst (λ b. IsCounted (answers_of cmd b c.deref-2.result.now) c.args.steps.now c.reply_on_bytes.new.steps) c.deref.ensures.value c.in_err-reply.ensures.memory in
-    let both = subst (λ b. IsCounted (answers_of cmd c.in_ok-plan_bytes.plan_bytes.items b) c.args.steps.now c.reply_on_bytes.new.steps) c.deref-2.ensures.value first in
-    leaves_want cmd c.args.request.plan.now c.args.request.limits.now c.in_ok-plan_bytes.plan_bytes.items c.in_ok-plan_bytes.limits_bytes.items (g.F.Files.told c.args.files.now) (g.F.Files.told c.read_both.new.files) (g.F.Files.failed c.args.files.now) (g.F.Files.failed c.read_both.new.files) (g.W.Sink.written c.args.sink.now) c.args.steps.now c.reply_on_bytes.new.steps
-    c.in_ok-plan_bytes.ensures.kept c.in_ok-plan_bytes.ensures.read both c.from_residual-in_err-reply.result (p.1 ∙ ap (λ s. Err s) p.2)
 
 pub returns-in-Ok-clause-leaves : goal.returns-in-Ok-clause-leaves
 returns-in-Ok-clause-leaves g c =
-    let cmd = c.args.request.command in
-    let reply = c.in_ok-reply.reply in
-    let first = subst (λ b. answers_of cmd b c.deref-2.result.now (reply_of reply)) c.deref.ensures.value c.in_ok-reply.ensures.answer in
-    let both = subst (λ b. answers_of cmd c.in_ok-plan_bytes.plan_bytes.items b (reply_of reply)) c.deref-2.ensures.value first in
-    let text = c.deref-3.ensures.value in
-    leaves_whole (answers_of cmd) c.args.request.plan.now c.args.request.limits.now (g.F.Files.told c.args.files.now) (g.F.Files.told c.read_both.new.files) (g.F.Files.failed c.args.files.now) (g.F.Files.failed c.read_both.new.files) (g.W.Sink.written c.args.sink.now) (g.W.Sink.written c.put_all.new.sink) c.args.steps.now c.reply_on_bytes.new.steps reply
-    (λ files e. answers_both cmd c.args.request.plan.now c.args.request.limits.now c.in_ok-plan_bytes.plan_bytes.items c.in_ok-plan_bytes.limits_bytes.items files (reply_of reply) (c.in_ok-plan_bytes.ensures.read files e) both)
-    c.in_ok-reply.ensures.counted c.in_ok-plan_bytes.ensures.kept (subst (λ t. Appends (g.W.Sink.written c.args.sink.now) (g.W.Sink.written c.put_all.new.sink) t) text c.in-Ok.ensures.ok)
+    let left = c.in-Ok.ensures.leaves in
+    subst (λ r. LeavesOnFiles (answers_of c.args.request.command) c.args.request.plan.now c.args.request.limits.now
+    (shown (g.F.Files.told c.args.files.now) (g.F.Files.failed c.args.files.now) (g.W.Sink.written c.args.sink.now) c.args.steps.now)
+    (shown (g.F.Files.told c.write_answer.new.files) (g.F.Files.failed c.write_answer.new.files) (g.W.Sink.written c.write_answer.new.sink) c.write_answer.new.steps)
+    (status_of (Ok r))) (sym c.put_reason.ensures.marked) left
 
-pub returns-clause-leaves : goal.returns-clause-leaves
-returns-clause-leaves g c =
-    let cmd = c.args.request.command in
-    let reply = c.in_ok-reply.reply in
-    let first = subst (λ b. answers_of cmd b c.deref-2.result.now (reply_of reply)) c.deref.ensures.value c.in_ok-reply.ensures.answer in
-    let both = subst (λ b. answers_of cmd c.in_ok-plan_bytes.plan_bytes.items b (reply_of reply)) c.deref-2.ensures.value first in
-    let text = c.deref-3.ensures.value in
-    leaves_cut (answers_of cmd) c.args.request.plan.now c.args.request.limits.now (g.F.Files.told c.args.files.now) (g.F.Files.told c.read_both.new.files) (g.F.Files.failed c.args.files.now) (g.F.Files.failed c.read_both.new.files) (g.W.Sink.written c.args.sink.now) (g.W.Sink.written c.put_all.new.sink) c.args.steps.now c.reply_on_bytes.new.steps reply
-    (λ files e. answers_both cmd c.args.request.plan.now c.args.request.limits.now c.in_ok-plan_bytes.plan_bytes.items c.in_ok-plan_bytes.limits_bytes.items files (reply_of reply) (c.in_ok-plan_bytes.ensures.read files e) both)
-    c.in_ok-reply.ensures.counted c.in_ok-plan_bytes.ensures.kept (subst (λ t. AppendsShort (g.W.Sink.written c.args.sink.now) (g.W.Sink.written c.put_all.new.sink) t) text c.in-Err.ensures.err)
+pub returns-in-Ok-clause-reason : goal.returns-in-Ok-clause-reason
+returns-in-Ok-clause-reason g c = λ e.
+    put_on c.in-Ok.reason c.args.request.command c.args.request.plan.now c.args.request.limits.now (g.F.Files.told c.args.files.now)
+    (notes_shown g.N.Sink c.args.notes.now) (notes_shown g.N.Sink c.put_reason.new.notes)
+    (sym c.put_reason.ensures.marked ∙ ok_same e) c.in-Ok.ensures.reason c.put_reason.ensures.put
+
+pub returns-in-Ok-clause-silent : goal.returns-in-Ok-clause-silent
+returns-in-Ok-clause-silent g c = λ other.
+    c.put_reason.ensures.silent (nothing_put c.in-Ok.reason (λ e. other (ap (λ r. Ok r) (c.put_reason.ensures.marked ∙ e))))
+
+pub returns-in-Err-clause-leaves : goal.returns-in-Err-clause-leaves
+returns-in-Err-clause-leaves g c = c.in-Err.ensures.leaves

@@ -1,15 +1,110 @@
-use Rattle.std.proofs.Common.{sym, subst}
-use Rattle.std.specs.Prelude.{IfOk, OnErr}
-use Rattle.plan_answers.specs.Replies.{reply_of}
-use Rattle.pap_cli.specs.private.AnswerViews.{answers_of}
+use Rattle.std.proofs.Common.{rules, refl, ◌≡◌, ◌≢◌, ◌+◌, inl, arith}
+use Rattle.std.specs.Prelude.{IfSome, string_bytes}
+use Rattle.pap_plan.specs.Plans.{meaning}
+use Rattle.pap_plan.specs.declared.refusal.PlanRefusal.TheVariants as refusals
+use Rattle.pay_run.specs.Accepted.{accepted}
+use Rattle.plain_words.specs.Places.{files_of}
+use Rattle.plan_answers.specs.Answers.{acceptance, CheckAnswers, IsRefusal}
+use Rattle.plan_answers.proofs.Laws.{if_ok_map, its_plan, on_err_any, on_err_map, refusal_steps}
 use Rattle.pap_cli.specs.FileClauses.{IsCounted}
+use Rattle.pap_cli.specs.RunAnswers.{OnceAnswers}
+use Rattle.pap_cli.specs.declared.words.Command.TheVariants as commands
+use Rattle.pap_cli.specs.private.AnswerViews.{answer_of, answers_of, IsRunWith}
+use Rattle.pap_cli.specs.private.ReasonViews.{IsLineOf, IsPlanReason, TellsFilled, TellsOn}
+use Rattle.pap_cli.proofs.ReasonLemmas.{if_some_map, if_some_none, line_map, refused_is, tells_plan, tells_state}
+use Rattle.pap_cli.proofs.RunLemmas.{answer_refused, counted_map, check_accepted, no_steps, once_accepted}
 use Rattle.pap_cli.proofs.answer.reply_on_bytes.Goals as goal
 
+pub refused_reply-requires : goal.refused_reply-requires
+refused_reply-requires g c = its_plan c.args.plan.bytes.now c.args.limits.bytes.now c.in-Err.fault c.in-Err.ensures.refused
+
+-- ---- `check` on an accepted plan
+
 pub returns-in-Check-clause-answer : goal.returns-in-Check-clause-answer
-returns-in-Check-clause-answer g c = subst (λ k. IfOk c.check_reply.result (λ reply. answers_of k c.args.plan.now c.args.limits.now (reply_of reply))) (sym c.in-Check.is) c.check_reply.ensures
+returns-in-Check-clause-answer g c =
+    let plan = c.args.plan.bytes.now in
+    let limits = c.args.limits.bytes.now in
+    let judged = c.in-Ok.accepted in
+    rw c.in-Check.is
+    (if_ok_map c.check_reply.result (λ reply. answer_of reply ≡ acceptance (meaning judged)) (λ reply. CheckAnswers plan limits (answer_of reply))
+    (λ reply h. check_accepted plan limits judged (answer_of reply) c.in-Ok.ensures.accepted h) c.check_reply.ensures.answer)
 
-pub returns-in-Once-clause-answer : goal.returns-in-Once-clause-answer
-returns-in-Once-clause-answer g c = subst (λ k. IfOk c.once_reply.result (λ reply. answers_of k c.args.plan.now c.args.limits.now (reply_of reply))) (sym c.in-Once.is) c.once_reply.ensures.answer
+pub returns-in-Check-clause-reason : goal.returns-in-Check-clause-reason
+returns-in-Check-clause-reason g c =
+    if_ok_map c.check_reply.result _ _ (λ reply silent. if_some_none reply.reason _ silent) c.check_reply.ensures.silent
 
-pub returns-in-Once-clause-memory : goal.returns-in-Once-clause-memory
-returns-in-Once-clause-memory g c = subst (λ k. OnErr c.once_reply.result (IsCounted (answers_of k c.args.plan.now c.args.limits.now) c.args.steps.now c.once_reply.new.steps)) (sym c.in-Once.is) c.once_reply.ensures.memory
+pub returns-in-Check-clause-counted : goal.returns-in-Check-clause-counted
+returns-in-Check-clause-counted g c =
+    if_ok_map c.check_reply.result (λ reply. answer_of reply ≡ acceptance (meaning c.in-Ok.accepted)) (λ reply. c.args.steps.now ≡ c.args.steps.now + reply.steps)
+    (λ reply h. let none = no_steps (meaning c.in-Ok.accepted) (answer_of reply) h in omega (arith, none)) c.check_reply.ensures.answer
+
+-- ---- `once` on an accepted plan
+
+pub returns-in-Ok-clause-answer : goal.returns-in-Ok-clause-answer
+returns-in-Ok-clause-answer g c =
+    let plan = c.args.plan.bytes.now in
+    let limits = c.args.limits.bytes.now in
+    let values = c.in-Once.values in
+    let judged = c.in-Ok.accepted in
+    rw c.in-Once.is
+    (if_ok_map c.run_reply.result (λ reply. IsRunWith values judged (answer_of reply)) (λ reply. OnceAnswers values plan limits (answer_of reply))
+    (λ reply h. once_accepted values plan limits judged (answer_of reply) c.in-Ok.ensures.accepted h) c.run_reply.ensures.answer)
+
+pub returns-in-Ok-clause-reason : goal.returns-in-Ok-clause-reason
+returns-in-Ok-clause-reason g c =
+    let values = c.in-Once.values in
+    let judged = c.in-Ok.accepted in
+    let files = files_of c.args.plan c.args.limits in
+    let Tells = TellsFilled values (accepted judged) files in
+    let Says = TellsOn (commands.Once values) files in
+    rw c.in-Once.is
+    (if_ok_map c.run_reply.result (λ reply. IfSome reply.reason (λ line. IsLineOf Tells (string_bytes line)))
+    (λ reply. IfSome reply.reason (λ line. IsLineOf Says (string_bytes line)))
+    (λ reply h. if_some_map reply.reason (λ line. IsLineOf Tells (string_bytes line)) (λ line. IsLineOf Says (string_bytes line))
+    (λ line t. line_map Tells Says (string_bytes line) (tells_state values files judged c.in-Ok.ensures.accepted) t) h)
+    c.run_reply.ensures.reason)
+
+pub returns-in-Ok-clause-memory : goal.returns-in-Ok-clause-memory
+returns-in-Ok-clause-memory g c =
+    let plan = c.args.plan.bytes.now in
+    let limits = c.args.limits.bytes.now in
+    let values = c.in-Once.values in
+    let judged = c.in-Ok.accepted in
+    let IsRun = IsRunWith values judged in
+    let IsAnswer = OnceAnswers values plan limits in
+    rw c.in-Once.is
+    (on_err_map c.run_reply.result (IsCounted IsRun c.args.steps.now c.run_reply.new.steps) (IsCounted IsAnswer c.args.steps.now c.run_reply.new.steps)
+    (counted_map IsRun IsAnswer c.args.steps.now c.run_reply.new.steps (λ a h. once_accepted values plan limits judged a c.in-Ok.ensures.accepted h)) c.run_reply.ensures.memory)
+
+-- ---- a refused plan
+
+pub returns-clause-answer : goal.returns-clause-answer
+returns-clause-answer g c =
+    let plan = c.args.plan.bytes.now in
+    let limits = c.args.limits.bytes.now in
+    let fault = c.in-Err.fault in
+    if_ok_map c.refused_reply.result (λ reply. IsRefusal plan fault (answer_of reply)) (λ reply. answers_of c.args.command plan limits (answer_of reply))
+    (λ reply h. answer_refused c.args.command plan limits fault (answer_of reply) c.in-Err.ensures.refused h) c.refused_reply.ensures.answer
+
+pub returns-clause-reason : goal.returns-clause-reason
+returns-clause-reason g c =
+    let other : c.in-Err.fault ≢ refusals.Memory = search rules in
+    let fault = c.in-Err.fault in
+    let files = files_of c.args.plan c.args.limits in
+    let Tells = IsPlanReason files fault in
+    let Says = TellsOn c.args.command files in
+    let refused = refused_is c.args.plan.bytes.now c.args.limits.bytes.now fault other c.in-Err.ensures.refused in
+    if_ok_map c.refused_reply.result (λ reply. IfSome reply.reason (λ line. IsLineOf Tells (string_bytes line)))
+    (λ reply. IfSome reply.reason (λ line. IsLineOf Says (string_bytes line)))
+    (λ reply h. if_some_map reply.reason (λ line. IsLineOf Tells (string_bytes line)) (λ line. IsLineOf Says (string_bytes line))
+    (λ line t. line_map Tells Says (string_bytes line) (tells_plan c.args.command files fault refused) t) h)
+    c.refused_reply.ensures.reason
+
+pub returns-clause-counted : goal.returns-clause-counted
+returns-clause-counted g c =
+    let plan = c.args.plan.bytes.now in
+    if_ok_map c.refused_reply.result (λ reply. IsRefusal plan c.in-Err.fault (answer_of reply)) (λ reply. c.args.steps.now ≡ c.args.steps.now + reply.steps)
+    (λ reply h. let none = refusal_steps plan c.in-Err.fault (answer_of reply) h in omega (arith, none)) c.refused_reply.ensures.answer
+
+pub returns-clause-memory : goal.returns-clause-memory
+returns-clause-memory g c = on_err_any c.refused_reply.result _ (inl refl)

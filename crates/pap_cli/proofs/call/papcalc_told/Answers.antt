@@ -1,9 +1,11 @@
-use Rattle.std.proofs.Common.{◌∙◌, ap, refl, subst}
+use Rattle.std.proofs.Common.{◌∙◌, ap, refl, subst, sym}
 use Rattle.script_run.specs.declared.stop.Stop.TheVariants as stops
 use Rattle.pap_cli.specs.Words.{texts, run, sample, save}
 use Rattle.pap_cli.specs.private.WordViews.{form_on_files}
 use Rattle.pap_cli.specs.Outside.{objects, outside_of, shown_of}
 use Rattle.pap_cli.specs.CallClauses.{Carries}
+use Rattle.pap_cli.specs.Notes.{HasReason, notes_shown}
+use Rattle.pap_cli.specs.ScriptWords.{AsksOfFiles}
 use Rattle.pap_cli.specs.ScriptClauses.{LeavesOnScript}
 use Rattle.pap_cli.specs.Statuses.{status_of}
 use Rattle.pap_cli.proofs.CallLemmas.{caused_by, files_no_sample, tells_good, touches_own}
@@ -13,6 +15,7 @@ use Rattle.pap_cli.proofs.ScriptLemmas.{ended_by, headline_script, script_kept}
 use Rattle.pap_cli.proofs.SampleLemmas.{headline_sample, reads_no_file, samples_no_script}
 use Rattle.pap_cli.proofs.SaveLemmas.{headline_save}
 use Rattle.pap_cli.proofs.LeavesLemmas.{leaves_form, carries_none, headline_form, reads_no_script}
+use Rattle.pap_cli.proofs.ReasonLemmas.{asks_of_files, not_refused, notes_kept, reason_of_form, refused_ok}
 use Rattle.pap_cli.proofs.call.papcalc_told.Goals as goal
 
 -- ---- all that the call meets, by what the words ask for
@@ -184,3 +187,51 @@ pub returns-in-Ok-Some-Save-clause-untold : goal.returns-in-Ok-Some-Save-clause-
 returns-in-Ok-Some-Save-clause-untold g c = λ none.
     let own = rw c.in-Ok-Some-Save.field-0-0-is at (rw c.in-Ok-Some-Save.field-0-is at c.in-Ok-Some-Save.ensures) in
     absurd (none (record { form = save; has = own; reads = tt }))
+
+-- ---- of two files the reason of a refusal is put to the notes, of other words nothing
+
+pub returns-in-Ok-Some-Files-clause-notes : goal.returns-in-Ok-Some-Files-clause-notes
+returns-in-Ok-Some-Files-clause-notes g c =
+    let words = texts c.args.words.now in
+    let request = c.in-Ok-Some-Files.request in
+    let command = request.command in
+    let plan = request.plan.now in
+    let limits = request.limits.now in
+    let mine = form_on_files request in
+    let own = rw c.in-Ok-Some-Files.field-0-0-is at (rw c.in-Ok-Some-Files.field-0-is at c.in-Ok-Some-Files.ensures) in
+    let told = g.F.Files.told c.args.files.now in
+    let before = notes_shown g.N.Sink c.args.notes.now in
+    let after = notes_shown g.N.Sink c.answer.new.notes in
+    record {
+      reason = λ form has asked refused.
+          subst (λ f. HasReason f told before after) (one_form words mine form own has)
+          (reason_of_form command plan limits told before after
+          (c.answer.ensures.reason (refused_ok c.answer.result (sym c.status.ensures ∙ refused))));
+      silent = λ other. c.answer.ensures.silent (λ e. other (c.status.ensures ∙ ap (λ r. status_of r) e));
+      other = λ form has none.
+          absurd (none (subst AsksOfFiles (one_form words mine form own has) (asks_of_files command plan limits)));
+    }
+
+pub returns-in-Ok-Some-Run-clause-notes : goal.returns-in-Ok-Some-Run-clause-notes
+returns-in-Ok-Some-Run-clause-notes g c =
+    let own = rw c.in-Ok-Some-Run.field-0-0-is at (rw c.in-Ok-Some-Run.field-0-is at c.in-Ok-Some-Run.ensures) in
+    notes_kept g.N.Sink (texts c.args.words.now) (g.F.Files.told c.args.files.now) c.args.notes.now c.status-in-Ok-Some-Run.result run own (λ asked. asked)
+
+pub returns-in-Ok-Some-Sample-clause-notes : goal.returns-in-Ok-Some-Sample-clause-notes
+returns-in-Ok-Some-Sample-clause-notes g c =
+    let own = rw c.in-Ok-Some-Sample.field-0-0-is at (rw c.in-Ok-Some-Sample.field-0-is at c.in-Ok-Some-Sample.ensures) in
+    notes_kept g.N.Sink (texts c.args.words.now) (g.F.Files.told c.args.files.now) c.args.notes.now c.status-in-Ok-Some-Sample.result (sample c.in-Ok-Some-Sample.employees) own (λ asked. asked)
+
+pub returns-in-Ok-Some-Save-clause-notes : goal.returns-in-Ok-Some-Save-clause-notes
+returns-in-Ok-Some-Save-clause-notes g c =
+    let own = rw c.in-Ok-Some-Save.field-0-0-is at (rw c.in-Ok-Some-Save.field-0-is at c.in-Ok-Some-Save.ensures) in
+    notes_kept g.N.Sink (texts c.args.words.now) (g.F.Files.told c.args.files.now) c.args.notes.now c.status-in-Ok-Some-Save.result save own (λ asked. asked)
+
+pub returns-in-Ok-None-clause-notes : goal.returns-in-Ok-None-clause-notes
+returns-in-Ok-None-clause-notes g c =
+    let bad = rw c.in-Ok-None.field-0-is at c.in-Ok-None.ensures in
+    record { reason = λ form has asked refused. absurd (bad form has); silent = λ other. refl; other = λ form has none. refl }
+
+pub returns-in-Err-clause-notes : goal.returns-in-Err-clause-notes
+returns-in-Err-clause-notes g c =
+    record { reason = λ form has asked refused. absurd (not_refused refused); silent = λ other. refl; other = λ form has none. refl }

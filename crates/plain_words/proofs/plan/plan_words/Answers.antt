@@ -10,6 +10,6 @@ returns-clause-place c =
     let found = c.in_ok-found.ensures in
     let some = subst (λ wrong. wrong ≢ []) (sym c.deref.ensures) c.in_ok-wrong.ensures in
     if_ok_both c.reason_line.result _ _ _
-    (λ words says ends. begins_at_refusal files c.args.refusal.now c.in_ok-found.found _ _ (string_bytes words)
+    (λ words says ends. begins_at_refusal files c.args.refusal.now c.in_ok-found.found _ (string_bytes words)
     found.place found.help some says ends)
     c.reason_line.ensures.text c.reason_line.ensures.end

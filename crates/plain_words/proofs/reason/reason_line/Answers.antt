@@ -11,7 +11,7 @@ pub returns-clause-end : goal.returns-clause-end
 returns-clause-end c =
     let end = codes "; " ++ help_text c.args.found in
     let place = c.in_ok-place.place in
-    let ends = shown_end (string_bytes place) c.args.wrong.now c.args.quote.now end c.deref.result.now
-    (IsUtf8-string_bytes place) c.utf8.wrong c.utf8.quote (c.deref.ensures ∙ c.in_ok-text.ensures.ok) in
+    let ends = shown_end (string_bytes place) c.args.wrong.now end c.deref.result.now
+    (IsUtf8-string_bytes place) c.utf8.wrong (c.deref.ensures ∙ c.in_ok-text.ensures.ok) in
     IfOk-weaker c.one_line.result _ _ (λ words is. subst (EndsWith (shown_text end)) (sym is) ends)
     c.one_line.ensures.text

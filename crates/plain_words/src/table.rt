@@ -1,0 +1,210 @@
+//! What is wrong with a table of pay runs.
+ghost use Rattle.std.specs.Prelude.{IfOk};
+ghost use Rattle.std.specs.String.{string_bytes};
+ghost use Rattle.plain_words.specs.Lines.{IsOneLine};
+
+use crate::lines::one_line;
+use crate::place::TextFile;
+use crate::position;
+use crate::quotes::write_quoted;
+use crate::table_row::{TableRow, earlier_row, find_row};
+use pap_tree::Name;
+use payroll_records::{MOST_VALUES, TableFault};
+use std::alloc::{AllocError, Global};
+use std::collections::BTreeSet;
+
+/// The fields with which a header begins.
+const FIRST_FIELDS: [&str; 3] = ["employee", "month", "day"];
+
+/// What a header is, and how its fields are separated.
+const HEADER_HELP: &str =
+    "the first row is employee,month,day and then at most 256 different names of inputs, with commas between them";
+
+/// What is wrong with the table of a file, in one line of plain words that begins with the file and the line in it, and ends with
+/// what helps. Lines are counted from 1, with the header and empty lines. Fails only for lack of memory.
+pub fn table_words(
+    alloc: Global,
+    file: TextFile<'_>,
+    fault: &TableFault,
+) -> Result<String, AllocError>
+    ensures { IfOk result (λ words. IsOneLine (string_bytes words)) }
+{
+    let name = file.name;
+    let mut told = format!(in alloc; "{name}")?;
+    match fault {
+        TableFault::TableLong => write!(
+            told,
+            ": {fault}; split it by employee into several files"
+        )?,
+        TableFault::Header => write_header_fault(&mut told, file.bytes)?,
+        TableFault::Width { row }
+        | TableFault::Employee { row }
+        | TableFault::Month { row }
+        | TableFault::Day { row }
+        | TableFault::Value { row, .. }
+        | TableFault::Repeat { row } => write_row_fault(&mut told, file.bytes, *row, fault)?,
+        TableFault::Memory(_) => return Err(AllocError),
+    }
+    one_line(alloc, &told)
+}
+
+/// Appends the line of a row, counted from 1 behind the header, what is wrong there, and what helps.
+fn write_row_fault(
+    told: &mut String,
+    table: &[u8],
+    number: u64,
+    fault: &TableFault,
+) -> Result<(), AllocError> {
+    let Some(row) = find_row(*told.allocator(), table, number)? else {
+        return write!(told, ": {fault}");
+    };
+    let line = position(table, row.at).line;
+    write!(told, ":{line}: row {number}: ")?;
+    match fault {
+        TableFault::Width { .. } => write_width_fault(told, table, &row),
+        TableFault::Employee { .. } => {
+            told.push_str("the employee is ")?;
+            write_quoted(told, row.field(0), 0)?;
+            told.push_str(
+                ", and not 1 to 32 ASCII letters, digits, `_`, `-` and `.`; correct it, also in later files, since runs are found by it",
+            )
+        }
+        TableFault::Month { .. } => {
+            told.push_str("the month is ")?;
+            write_quoted(told, row.field(1), 0)?;
+            told.push_str(
+                ", and not of the form YYYY-MM, or not of the years 1900 to 2999; write it as 2025-01",
+            )
+        }
+        TableFault::Day { .. } => write_day_fault(told, &row),
+        TableFault::Value { name, .. } => write_value_fault(told, table, &row, *name),
+        _ => write_repeat(told, table, &row, number),
+    }
+}
+
+/// Appends how many fields a row has, and how many the header has, and what helps.
+fn write_width_fault(told: &mut String, table: &[u8], row: &TableRow) -> Result<(), AllocError> {
+    let found = row.len();
+    let wanted = match find_row(*told.allocator(), table, 0)? {
+        Some(header) => header.len(),
+        None => 0,
+    };
+    write!(told, "it has {found} fields, and the header has {wanted}; ")?;
+    told.push_str(if found == wanted.saturating_add(1) && row.field(wanted).is_empty() {
+        "take out the comma at its end"
+    } else if row.field(0).contains(&b';') {
+        "write commas between the fields, not semicolons, and a point before decimal places"
+    } else if found > wanted {
+        "a value has a point before its decimal places, not a comma, and nothing between thousands, as 2500.55"
+    } else {
+        "a field without a value is empty, and its comma stands"
+    })
+}
+
+/// Appends what a row has in place of a day, and what helps.
+fn write_day_fault(told: &mut String, row: &TableRow) -> Result<(), AllocError> {
+    told.push_str("the day is ")?;
+    write_quoted(told, row.field(2), 0)?;
+    told.push_str(
+        ", and not of the form YYYY-MM-DD, not in the calendar, not of the years 1900 to 2999 or not in the month ",
+    )?;
+    write_quoted(told, row.field(1), 0)?;
+    told.push_str(if row.field(2).contains(&b'.') {
+        "; write the year first, then month and day with - between them, as 2025-01-31"
+    } else {
+        "; write it as 2025-01-31"
+    })
+}
+
+/// Appends what a row has in place of a number under a name, and what helps.
+fn write_value_fault(
+    told: &mut String,
+    table: &[u8],
+    row: &TableRow,
+    name: Name,
+) -> Result<(), AllocError> {
+    write!(told, "the value of {name} is ")?;
+    if let Some(header) = find_row(*told.allocator(), table, 0)?
+        && let Some(place) = header.place_of(name.bytes())
+    {
+        write_quoted(told, row.field(place), 0)?;
+        told.push_str(", and ")?;
+    }
+    told.push_str(
+        "no number of at most 30 decimal places and at most 10^37 without its point; write a point before decimal places and nothing between thousands, as 2500.55",
+    )
+}
+
+/// Appends which earlier row has the employee and the day of a row, and what helps.
+fn write_repeat(
+    told: &mut String,
+    table: &[u8],
+    row: &TableRow,
+    number: u64,
+) -> Result<(), AllocError> {
+    match earlier_row(*told.allocator(), table, row, number)? {
+        Some(earlier) => write!(told, "row {earlier} has the same employee and day")?,
+        None => told.push_str("an earlier row has the same employee and day")?,
+    }
+    told.push_str("; an employee has one run on a day: take one of them out, or correct its day")
+}
+
+/// Appends what is wrong with the first row, and what helps.
+fn write_header_fault(told: &mut String, table: &[u8]) -> Result<(), AllocError> {
+    if table.starts_with(&[0xFF, 0xFE]) || table.starts_with(&[0xFE, 0xFF]) {
+        return told.push_str(": the table is written in UTF-16; save it as CSV in UTF-8");
+    }
+    let Some(header) = find_row(*told.allocator(), table, 0)? else {
+        return write!(told, ": the table is empty; {HEADER_HELP}");
+    };
+    let line = position(table, header.at).line;
+    write!(told, ":{line}: ")?;
+    write_heading(told, &header)?;
+    write!(told, "; {HEADER_HELP}")
+}
+
+/// Appends what is wrong with the first row, which isn't empty.
+fn write_heading(told: &mut String, header: &TableRow) -> Result<(), AllocError> {
+    if header.len() < FIRST_FIELDS.len() {
+        return told.push_str(if header.field(0).contains(&b';') {
+            "semicolons stand between the fields of the first row"
+        } else if header.field(0).contains(&b'\t') {
+            "tabs stand between the fields of the first row"
+        } else {
+            "the first row has fewer than three fields"
+        });
+    }
+    for (place, word) in FIRST_FIELDS.iter().enumerate() {
+        let field = header.field(place);
+        if field != word.as_bytes() {
+            let number = place.saturating_add(1);
+            write!(told, "field {number} of the first row is ")?;
+            write_quoted(told, field, 0)?;
+            return write!(told, ", and not `{word}`");
+        }
+    }
+    write_columns(told, header)
+}
+
+/// Appends what is wrong with the names of a first row, whose first fields are right.
+fn write_columns(told: &mut String, header: &TableRow) -> Result<(), AllocError> {
+    let mut seen = BTreeSet::new(*told.allocator());
+    for place in FIRST_FIELDS.len()..header.len() {
+        let field = header.field(place);
+        let number = place.saturating_add(1);
+        if field.is_empty() {
+            return write!(told, "field {number} of the first row is empty");
+        }
+        let wrong = if Name::read(field).is_none() {
+            "isn't a name"
+        } else if !seen.insert(field)? {
+            "stands there twice"
+        } else {
+            continue;
+        };
+        write!(told, "field {number} of the first row, ")?;
+        write_quoted(told, field, 0)?;
+        return write!(told, ", {wrong}");
+    }
+    write!(told, "the first row has more than {MOST_VALUES} names")
+}
